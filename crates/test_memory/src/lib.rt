@@ -1,0 +1,85 @@
+//! For tests: memory that is used up, so that the next growth is refused.
+#![tactic(auto)]
+
+use std::alloc::{AllocError, Global};
+
+/// The largest block that is tried, in bytes: half of what a process can address.
+const LARGEST: usize = 1 << 46;
+
+/// More blocks than it takes.
+const MOST_BLOCKS: usize = 1 << 17;
+
+/// Memory that a test holds, so that nobody else gets any. It comes back where this is dropped.
+#[derive(Drop)]
+pub struct UsedUp {
+    blocks: Vec<Vec<u8>>,
+    spare: Vec<Vec<u8>>,
+}
+
+impl UsedUp {
+    /// Takes all the memory that there is. The blocks are never written, so they cost little.
+    pub fn new(alloc: Global) -> Result<UsedUp, AllocError> {
+        let mut blocks = Vec::with_capacity(alloc, MOST_BLOCKS)?;
+        let mut size = LARGEST;
+        for _ in 0..MOST_BLOCKS {
+            if size == 0 {
+                break;
+            }
+            match Vec::with_capacity(alloc, size) {
+                Ok(block) => blocks.push(block)?,
+                Err(_) => size /= 2,
+            }
+        }
+        Ok(UsedUp {
+            blocks,
+            spare: Vec::new(alloc),
+        })
+    }
+
+    /// The same, but leaves blocks of these sizes, in bytes: growths that fit them are given, the
+    /// next one is refused.
+    pub fn but_for(alloc: Global, sizes: &[usize]) -> Result<UsedUp, AllocError> {
+        let mut spare = Vec::with_capacity(alloc, sizes.len())?;
+        for size in sizes {
+            spare.push(Vec::with_capacity(alloc, *size)?)?;
+        }
+        let mut used_up = UsedUp::new(alloc)?;
+        spare.clear();
+        used_up.spare = spare;
+        Ok(used_up)
+    }
+
+    /// How many blocks are held.
+    pub fn count(&self) -> usize {
+        self.blocks.len()
+    }
+}
+
+#[cfg(test)]
+mod tests {
+    use super::*;
+
+    #[test]
+    fn nothing_is_left(rt: HostRuntime) -> Result<(), AllocError> {
+        let used_up = UsedUp::new(rt.alloc())?;
+        let mut more: Vec<u8> = Vec::new(rt.alloc());
+        let pushed = more.push(1).is_err();
+        let count = used_up.count();
+        drop(used_up);
+        assert!(rt; pushed, "{count}");
+        more.push(1)?;
+        Ok(())
+    }
+
+    #[test]
+    fn what_is_left_is_given(rt: HostRuntime) -> Result<(), AllocError> {
+        let used_up = UsedUp::but_for(rt.alloc(), &[100, 40])?;
+        let first: Result<Vec<u8>, AllocError> = Vec::with_capacity(rt.alloc(), 40);
+        let second: Result<Vec<u8>, AllocError> = Vec::with_capacity(rt.alloc(), 100);
+        let third: Result<Vec<u8>, AllocError> = Vec::with_capacity(rt.alloc(), 100);
+        let answers = (first.is_ok(), second.is_ok(), third.is_err());
+        drop(used_up);
+        assert_eq!(rt; answers, (true, true, true));
+        Ok(())
+    }
+}

@@ -1,0 +1,10 @@
+pub mod Defaults
+pub mod Kept
+pub mod Names
+pub mod Nodes
+pub mod Pointing
+pub mod Ranges
+pub mod Stamp
+pub mod Tables
+pub mod ValueText
+pub mod Values

@@ -1,0 +1,419 @@
+-- The table of fields (ISO/IEC 19775-1, the node types of each component; which rows there are is our choice).
+use Rattle.std.specs.Prelude.{◌≡◌, ⊤, MatchOption, ℕ, ◌+◌, ◌==◌, ◌&&◌, ℤ, pos, negsuc, Bool, true, is_none, List, [], ◌∷◌, Option, Some, None, codes, if◌then◌else◌, nat_eq}
+use Rattle.std.specs.Option.{option_map}
+use Rattle.std.specs.Cmp.Lexicographic.{pointwise}
+use Rattle.x3d_values.specs.declared.default.FieldDefault.{FieldDefault}
+use Rattle.x3d_values.specs.declared.default.FieldDefault.TheVariants.{Empty, True, Int32, Float, Time, Vec3f, Color, PlainStyle, SerifFamily, BeginJustify, StandardAvatar, ExamineAny, BlackSky}
+use Rattle.x3d_values.specs.declared.field_type.Access.{Access}
+use Rattle.x3d_values.specs.declared.field_type.Access.TheVariants.{InputOnly, OutputOnly, InputOutput, InitializeOnly}
+use Rattle.x3d_values.specs.declared.field_type.FieldType.{FieldType}
+use Rattle.x3d_values.specs.declared.field_type.FieldType.TheVariants.{SFBool, SFInt32, SFFloat, SFTime, SFString, SFVec2f, SFVec3f, SFColor, SFNode, MFBool, MFInt32, MFFloat, MFString, MFVec2f, MFVec3f, MFColor, MFNode, SFRotation}
+use Rattle.x3d_values.specs.declared.node_type.NodeType.{NodeType}
+use Rattle.x3d_values.specs.declared.node_type.NodeType.TheVariants.{Group, Transform, Switch, WorldInfo, Shape, Appearance, Material, ImageTexture, Box, Sphere, Cone, Cylinder, IndexedFaceSet, Text, Coordinate, Color, Normal, TextureCoordinate, FontStyle, Viewpoint, NavigationInfo, Background, DirectionalLight, PointLight, MetadataString, MetadataInteger, MetadataFloat, MetadataSet, TimeSensor, TouchSensor, ScalarInterpolator, PositionInterpolator, PositionInterpolator2D, CoordinateInterpolator, BooleanSequencer, IntegerSequencer, BooleanFilter, BooleanToggle, BooleanTrigger, IntegerTrigger, TimeTrigger, Script}
+use Rattle.x3d_values.specs.declared.node_type.NodeKind.{NodeKind}
+use Rattle.x3d_values.specs.declared.node_type.NodeKind.TheVariants as kind
+use Rattle.x3d_values.specs.declared.rows.Field.{Field}
+use Rattle.x3d_values.specs.declared.vector.Vec3.{Vec3}
+use Rattle.x3d_values.specs.declared.vector.Color as colors
+use Rattle.x3d_values.specs.declared.table.FieldRow.{FieldRow}
+use Rattle.x3d_values.specs.Defaults.{default_value}
+use Rattle.x3d_values.specs.Values.{type_of}
+
+-- a row of the table: a field's name, and how it may be used
+pub record Entry : Type 0 where
+  pub name : List ℕ
+  pub access : Access
+  pub field_type : FieldType
+  pub default : Option FieldDefault
+  pub kind : Option NodeKind
+
+-- a field of the program's table as a row
+abbrev pub entry : Field → Entry
+entry f = record { name = f.name.now; access = f.access; field_type = f.field_type; default = f.default; kind = f.kind }
+
+-- ---- the kinds of rows
+
+abbrev pub exposed : List ℕ → FieldType → FieldDefault → Entry
+exposed name field_type value = record { name = name; access = InputOutput; field_type = field_type; default = Some value; kind = None }
+
+abbrev pub initial : List ℕ → FieldType → FieldDefault → Entry
+initial name field_type value = record { name = name; access = InitializeOnly; field_type = field_type; default = Some value; kind = None }
+
+abbrev pub input : List ℕ → FieldType → Entry
+input name field_type = record { name = name; access = InputOnly; field_type = field_type; default = None; kind = None }
+
+abbrev pub output : List ℕ → FieldType → Entry
+output name field_type = record { name = name; access = OutputOnly; field_type = field_type; default = None; kind = None }
+
+-- a rotation is read and dropped, so it holds nothing
+abbrev pub rotation : List ℕ → Entry
+rotation name = record { name = name; access = InputOutput; field_type = SFRotation; default = None; kind = None }
+
+abbrev pub node : List ℕ → NodeKind → Entry
+node name k = record { name = name; access = InputOutput; field_type = SFNode; default = Some Empty; kind = Some k }
+
+abbrev pub nodes : List ℕ → NodeKind → Entry
+nodes name k = record { name = name; access = InputOutput; field_type = MFNode; default = Some Empty; kind = Some k }
+
+abbrev pub vector : ℤ → ℤ → ℤ → Vec3
+vector x y z = record { x = x; y = y; z = z }
+
+abbrev pub color : ℤ → ℤ → ℤ → colors.Color
+color r g b = record { red = r; green = g; blue = b }
+
+abbrev pub metadata : Entry
+metadata = node (codes "metadata") kind.Metadata
+
+abbrev pub box_center : Entry
+box_center = initial (codes "bboxCenter") SFVec3f Empty
+
+abbrev pub box_size : Entry
+box_size = initial (codes "bboxSize") SFVec3f (Vec3f (vector (negsuc 999999) (negsuc 999999) (negsuc 999999)))
+
+abbrev pub children : Entry
+children = nodes (codes "children") kind.Child
+
+-- ---- the table: numbers are in millionths
+
+abbrev pub rows : NodeType → List Entry
+rows Group =
+    metadata
+    ∷ box_center
+    ∷ box_size
+    ∷ children
+    ∷ []
+rows Transform =
+    metadata
+    ∷ box_center
+    ∷ box_size
+    ∷ exposed (codes "center") SFVec3f Empty
+    ∷ children
+    ∷ rotation (codes "rotation")
+    ∷ exposed (codes "scale") SFVec3f (Vec3f (vector (pos 1000000) (pos 1000000) (pos 1000000)))
+    ∷ rotation (codes "scaleOrientation")
+    ∷ exposed (codes "translation") SFVec3f Empty
+    ∷ []
+rows Switch =
+    metadata
+    ∷ box_center
+    ∷ box_size
+    ∷ children
+    ∷ exposed (codes "whichChoice") SFInt32 (Int32 (negsuc 0))
+    ∷ []
+rows WorldInfo =
+    metadata
+    ∷ exposed (codes "info") MFString Empty
+    ∷ exposed (codes "title") SFString Empty
+    ∷ []
+rows Shape =
+    metadata
+    ∷ node (codes "appearance") kind.Appearance
+    ∷ box_center
+    ∷ box_size
+    ∷ node (codes "geometry") kind.Geometry
+    ∷ []
+rows Appearance =
+    metadata
+    ∷ node (codes "material") kind.Material
+    ∷ node (codes "texture") kind.Texture
+    ∷ []
+rows Material =
+    metadata
+    ∷ exposed (codes "ambientIntensity") SFFloat (Float (pos 200000))
+    ∷ exposed (codes "diffuseColor") SFColor (Color (color (pos 800000) (pos 800000) (pos 800000)))
+    ∷ exposed (codes "emissiveColor") SFColor Empty
+    ∷ exposed (codes "shininess") SFFloat (Float (pos 200000))
+    ∷ exposed (codes "specularColor") SFColor Empty
+    ∷ exposed (codes "transparency") SFFloat Empty
+    ∷ []
+rows ImageTexture =
+    metadata
+    ∷ initial (codes "repeatS") SFBool True
+    ∷ initial (codes "repeatT") SFBool True
+    ∷ exposed (codes "url") MFString Empty
+    ∷ []
+rows Box =
+    metadata
+    ∷ initial (codes "size") SFVec3f (Vec3f (vector (pos 2000000) (pos 2000000) (pos 2000000)))
+    ∷ initial (codes "solid") SFBool True
+    ∷ []
+rows Sphere =
+    metadata
+    ∷ initial (codes "radius") SFFloat (Float (pos 1000000))
+    ∷ initial (codes "solid") SFBool True
+    ∷ []
+rows Cone =
+    metadata
+    ∷ initial (codes "bottom") SFBool True
+    ∷ initial (codes "bottomRadius") SFFloat (Float (pos 1000000))
+    ∷ initial (codes "height") SFFloat (Float (pos 2000000))
+    ∷ initial (codes "side") SFBool True
+    ∷ initial (codes "solid") SFBool True
+    ∷ []
+rows Cylinder =
+    metadata
+    ∷ initial (codes "bottom") SFBool True
+    ∷ initial (codes "height") SFFloat (Float (pos 2000000))
+    ∷ initial (codes "radius") SFFloat (Float (pos 1000000))
+    ∷ initial (codes "side") SFBool True
+    ∷ initial (codes "solid") SFBool True
+    ∷ initial (codes "top") SFBool True
+    ∷ []
+rows IndexedFaceSet =
+    metadata
+    ∷ node (codes "color") kind.Colors
+    ∷ node (codes "coord") kind.Coordinates
+    ∷ node (codes "normal") kind.Normals
+    ∷ node (codes "texCoord") kind.TextureCoordinates
+    ∷ initial (codes "ccw") SFBool True
+    ∷ initial (codes "colorPerVertex") SFBool True
+    ∷ initial (codes "convex") SFBool True
+    ∷ initial (codes "normalPerVertex") SFBool True
+    ∷ initial (codes "solid") SFBool True
+    ∷ initial (codes "creaseAngle") SFFloat Empty
+    ∷ initial (codes "colorIndex") MFInt32 Empty
+    ∷ initial (codes "coordIndex") MFInt32 Empty
+    ∷ initial (codes "normalIndex") MFInt32 Empty
+    ∷ initial (codes "texCoordIndex") MFInt32 Empty
+    ∷ []
+rows Text =
+    metadata
+    ∷ node (codes "fontStyle") kind.FontStyle
+    ∷ exposed (codes "length") MFFloat Empty
+    ∷ exposed (codes "maxExtent") SFFloat Empty
+    ∷ initial (codes "solid") SFBool Empty
+    ∷ exposed (codes "string") MFString Empty
+    ∷ []
+rows Coordinate =
+    metadata
+    ∷ exposed (codes "point") MFVec3f Empty
+    ∷ []
+rows Color =
+    metadata
+    ∷ exposed (codes "color") MFColor Empty
+    ∷ []
+rows Normal =
+    metadata
+    ∷ exposed (codes "vector") MFVec3f Empty
+    ∷ []
+rows TextureCoordinate =
+    metadata
+    ∷ exposed (codes "point") MFVec2f Empty
+    ∷ []
+rows FontStyle =
+    metadata
+    ∷ initial (codes "family") MFString SerifFamily
+    ∷ initial (codes "horizontal") SFBool True
+    ∷ initial (codes "justify") MFString BeginJustify
+    ∷ initial (codes "language") SFString Empty
+    ∷ initial (codes "leftToRight") SFBool True
+    ∷ initial (codes "size") SFFloat (Float (pos 1000000))
+    ∷ initial (codes "spacing") SFFloat (Float (pos 1000000))
+    ∷ initial (codes "style") SFString PlainStyle
+    ∷ initial (codes "topToBottom") SFBool True
+    ∷ []
+rows Viewpoint =
+    metadata
+    ∷ exposed (codes "centerOfRotation") SFVec3f Empty
+    ∷ exposed (codes "description") SFString Empty
+    ∷ exposed (codes "fieldOfView") SFFloat (Float (pos 785398))
+    ∷ exposed (codes "jump") SFBool True
+    ∷ rotation (codes "orientation")
+    ∷ exposed (codes "position") SFVec3f (Vec3f (vector (pos 0) (pos 0) (pos 10000000)))
+    ∷ exposed (codes "retainUserOffsets") SFBool Empty
+    ∷ []
+rows NavigationInfo =
+    metadata
+    ∷ exposed (codes "avatarSize") MFFloat StandardAvatar
+    ∷ exposed (codes "headlight") SFBool True
+    ∷ exposed (codes "speed") SFFloat (Float (pos 1000000))
+    ∷ exposed (codes "type") MFString ExamineAny
+    ∷ exposed (codes "visibilityLimit") SFFloat Empty
+    ∷ []
+rows Background =
+    metadata
+    ∷ exposed (codes "groundAngle") MFFloat Empty
+    ∷ exposed (codes "groundColor") MFColor Empty
+    ∷ exposed (codes "skyAngle") MFFloat Empty
+    ∷ exposed (codes "skyColor") MFColor BlackSky
+    ∷ exposed (codes "backUrl") MFString Empty
+    ∷ exposed (codes "bottomUrl") MFString Empty
+    ∷ exposed (codes "frontUrl") MFString Empty
+    ∷ exposed (codes "leftUrl") MFString Empty
+    ∷ exposed (codes "rightUrl") MFString Empty
+    ∷ exposed (codes "topUrl") MFString Empty
+    ∷ exposed (codes "transparency") SFFloat Empty
+    ∷ []
+rows DirectionalLight =
+    metadata
+    ∷ exposed (codes "ambientIntensity") SFFloat Empty
+    ∷ exposed (codes "color") SFColor (Color (color (pos 1000000) (pos 1000000) (pos 1000000)))
+    ∷ exposed (codes "direction") SFVec3f (Vec3f (vector (pos 0) (pos 0) (negsuc 999999)))
+    ∷ exposed (codes "global") SFBool Empty
+    ∷ exposed (codes "intensity") SFFloat (Float (pos 1000000))
+    ∷ exposed (codes "on") SFBool True
+    ∷ []
+rows PointLight =
+    metadata
+    ∷ exposed (codes "ambientIntensity") SFFloat Empty
+    ∷ exposed (codes "attenuation") SFVec3f (Vec3f (vector (pos 1000000) (pos 0) (pos 0)))
+    ∷ exposed (codes "color") SFColor (Color (color (pos 1000000) (pos 1000000) (pos 1000000)))
+    ∷ exposed (codes "global") SFBool True
+    ∷ exposed (codes "intensity") SFFloat (Float (pos 1000000))
+    ∷ exposed (codes "location") SFVec3f Empty
+    ∷ exposed (codes "on") SFBool True
+    ∷ exposed (codes "radius") SFFloat (Float (pos 100000000))
+    ∷ []
+rows MetadataString =
+    metadata
+    ∷ exposed (codes "name") SFString Empty
+    ∷ exposed (codes "reference") SFString Empty
+    ∷ exposed (codes "value") MFString Empty
+    ∷ []
+rows MetadataInteger =
+    metadata
+    ∷ exposed (codes "name") SFString Empty
+    ∷ exposed (codes "reference") SFString Empty
+    ∷ exposed (codes "value") MFInt32 Empty
+    ∷ []
+rows MetadataFloat =
+    metadata
+    ∷ exposed (codes "name") SFString Empty
+    ∷ exposed (codes "reference") SFString Empty
+    ∷ exposed (codes "value") MFFloat Empty
+    ∷ []
+rows MetadataSet =
+    metadata
+    ∷ exposed (codes "name") SFString Empty
+    ∷ exposed (codes "reference") SFString Empty
+    ∷ nodes (codes "value") kind.Metadata
+    ∷ []
+rows TimeSensor =
+    metadata
+    ∷ exposed (codes "cycleInterval") SFTime (Time (pos 1000000))
+    ∷ exposed (codes "enabled") SFBool True
+    ∷ exposed (codes "loop") SFBool Empty
+    ∷ exposed (codes "pauseTime") SFTime Empty
+    ∷ exposed (codes "resumeTime") SFTime Empty
+    ∷ exposed (codes "startTime") SFTime Empty
+    ∷ exposed (codes "stopTime") SFTime Empty
+    ∷ output (codes "isActive") SFBool
+    ∷ output (codes "isPaused") SFBool
+    ∷ output (codes "cycleTime") SFTime
+    ∷ output (codes "fraction_changed") SFFloat
+    ∷ output (codes "elapsedTime") SFTime
+    ∷ output (codes "time") SFTime
+    ∷ []
+rows TouchSensor =
+    metadata
+    ∷ exposed (codes "description") SFString Empty
+    ∷ exposed (codes "enabled") SFBool True
+    ∷ output (codes "isOver") SFBool
+    ∷ output (codes "hitPoint_changed") SFVec3f
+    ∷ output (codes "isActive") SFBool
+    ∷ output (codes "touchTime") SFTime
+    ∷ []
+rows ScalarInterpolator =
+    metadata
+    ∷ exposed (codes "key") MFFloat Empty
+    ∷ exposed (codes "keyValue") MFFloat Empty
+    ∷ input (codes "set_fraction") SFFloat
+    ∷ output (codes "value_changed") SFFloat
+    ∷ []
+rows PositionInterpolator =
+    metadata
+    ∷ exposed (codes "key") MFFloat Empty
+    ∷ exposed (codes "keyValue") MFVec3f Empty
+    ∷ input (codes "set_fraction") SFFloat
+    ∷ output (codes "value_changed") SFVec3f
+    ∷ []
+rows PositionInterpolator2D =
+    metadata
+    ∷ exposed (codes "key") MFFloat Empty
+    ∷ exposed (codes "keyValue") MFVec2f Empty
+    ∷ input (codes "set_fraction") SFFloat
+    ∷ output (codes "value_changed") SFVec2f
+    ∷ []
+rows CoordinateInterpolator =
+    metadata
+    ∷ exposed (codes "key") MFFloat Empty
+    ∷ exposed (codes "keyValue") MFVec3f Empty
+    ∷ input (codes "set_fraction") SFFloat
+    ∷ output (codes "value_changed") MFVec3f
+    ∷ []
+rows BooleanSequencer =
+    metadata
+    ∷ exposed (codes "key") MFFloat Empty
+    ∷ exposed (codes "keyValue") MFBool Empty
+    ∷ input (codes "next") SFBool
+    ∷ input (codes "previous") SFBool
+    ∷ input (codes "set_fraction") SFFloat
+    ∷ output (codes "value_changed") SFBool
+    ∷ []
+rows IntegerSequencer =
+    metadata
+    ∷ exposed (codes "key") MFFloat Empty
+    ∷ exposed (codes "keyValue") MFInt32 Empty
+    ∷ input (codes "next") SFBool
+    ∷ input (codes "previous") SFBool
+    ∷ input (codes "set_fraction") SFFloat
+    ∷ output (codes "value_changed") SFInt32
+    ∷ []
+rows BooleanFilter =
+    metadata
+    ∷ input (codes "set_boolean") SFBool
+    ∷ output (codes "inputTrue") SFBool
+    ∷ output (codes "inputFalse") SFBool
+    ∷ output (codes "inputNegate") SFBool
+    ∷ []
+rows BooleanToggle =
+    metadata
+    ∷ input (codes "set_boolean") SFBool
+    ∷ exposed (codes "toggle") SFBool Empty
+    ∷ []
+rows BooleanTrigger =
+    metadata
+    ∷ input (codes "set_triggerTime") SFTime
+    ∷ output (codes "triggerTrue") SFBool
+    ∷ []
+rows IntegerTrigger =
+    metadata
+    ∷ input (codes "set_boolean") SFBool
+    ∷ exposed (codes "integerKey") SFInt32 (Int32 (negsuc 0))
+    ∷ output (codes "triggerValue") SFInt32
+    ∷ []
+rows TimeTrigger =
+    metadata
+    ∷ input (codes "set_boolean") SFBool
+    ∷ output (codes "triggerTime") SFTime
+    ∷ []
+rows Script =
+    metadata
+    ∷ exposed (codes "url") MFString Empty
+    ∷ initial (codes "directOutput") SFBool Empty
+    ∷ initial (codes "mustEvaluate") SFBool Empty
+    ∷ []
+
+-- ---- finding a row
+
+-- a row by its number among the fields of its node
+abbrev pub numbered : ℕ → Entry → FieldRow
+numbered n e = record { number = n; access = e.access; field_type = e.field_type; default = e.default; kind = e.kind }
+
+-- the first row of that name, numbered from n
+abbrev pub row_named : ℕ → List ℕ → List Entry → Option FieldRow
+row_named n name [] = None
+row_named n name (e ∷ others) = if pointwise nat_eq name e.name then Some (numbered n e) else row_named (n + 1) name others
+
+-- the name of no row stands again behind it
+abbrev pub are_distinct : List Entry → Bool
+are_distinct [] = true
+are_distinct (e ∷ others) = is_none (row_named 0 e.name others) && are_distinct others
+
+-- the default, if there is one, is a value of the field's type
+abbrev pub IsTyped : Entry → Type 0
+IsTyped e = MatchOption e.default ⊤ (λ value. option_map type_of (default_value e.field_type value) ≡ Some e.field_type)
+
+abbrev pub AreTyped : List Entry → Type 0
+AreTyped [] = ⊤
+AreTyped (e ∷ others) = IsTyped e × AreTyped others
