@@ -2,6 +2,7 @@ use crate::{NumeralFault, millionths, push_number};
 use std::alloc::Global;
 use std::process::Abort;
 use std::test::Fail;
+use test_memory::UsedUp;
 
 fn reads(rt: &impl Abort, text: &str, number: i64) {
     assert_eq!(rt; millionths(text.as_bytes()), Ok(number), "{text}");
@@ -148,4 +149,14 @@ fn texts_of_numbers(rt: HostRuntime) -> Result<(), Fail> {
         -999_999_999_999_999_999,
         "-999999999999.999999",
     )
+}
+
+#[test]
+fn a_refused_growth_is_answered(rt: HostRuntime) -> Result<(), Fail> {
+    let mut out = Vec::new(rt.alloc());
+    let used_up = UsedUp::new(rt.alloc())?;
+    let refused = push_number(-1_500_000, &mut out).is_err();
+    drop(used_up);
+    assert!(rt; refused);
+    Ok(())
 }
