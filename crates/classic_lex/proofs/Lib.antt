@@ -1,0 +1,11 @@
+pub mod CutLemmas
+pub mod Cutting
+pub mod FrontLemmas
+pub mod Fronts
+pub mod HeadLemmas
+pub mod Runs
+pub mod SpanLemmas
+pub mod StringLemmas
+pub mod Strings
+pub mod TokenLemmas
+pub mod Utf8Lemmas

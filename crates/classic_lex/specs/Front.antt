@@ -1,0 +1,74 @@
+-- What stands at the front of a text: white space, a comment, a token, or what is none of these.
+use Rattle.std.specs.Prelude.{ℕ, ℤ, suc, ◌<◌, ◌≤◌, ◌+◌, List, [], ◌∷◌, take, Bool, true, false, not, ◌||◌, ◌&&◌, ◌==◌, Option, Some, None, option_map, Result, Ok, Err, if◌then◌else◌}
+use Rattle.std.specs.List.{prefix_len}
+use Rattle.x3d_numerals.specs.Reading.{numeral}
+use Rattle.x3d_numerals.specs.declared.fault.NumeralFault.{NumeralFault}
+use Rattle.x3d_numerals.specs.declared.fault.NumeralFault.TheVariants as numeral_fault
+use Rattle.classic_lex.specs.declared.fault.LexFaultKind.TheVariants.{OpenString, BadNumeral, NumberRange, BadCharacter}
+use Rattle.classic_lex.specs.declared.token.TokenKind.TheVariants.{Identifier, Numeral, Text, OpenBracket, CloseBracket, OpenBrace, CloseBrace, Point}
+use Rattle.classic_lex.specs.declared.front.Start.{Start}
+use Rattle.classic_lex.specs.declared.front.Start.TheVariants.{Blank, Piece, Bad}
+use Rattle.classic_lex.specs.Bytes.{is_space, is_line_end, is_digit, ends_numeral, continues_name, begins_name}
+
+-- ---- strings
+
+-- how many bytes there are up to the quote that closes a string, with it; the flag says that a backslash stands before
+unfoldable pub closing : Bool → List ℕ → Option ℕ
+closing escaped [] = None
+closing true (b ∷ bs) = option_map suc (closing false bs)
+closing false (b ∷ bs) = if b == 34 then Some 1 else option_map suc (closing (b == 92) bs)
+
+abbrev pub string_front : Option ℕ → Start
+string_front None = Bad OpenString
+string_front (Some n) = Piece Text (n + 1)
+
+-- ---- numerals
+
+abbrev pub begins_digit : List ℕ → Bool
+begins_digit [] = false
+begins_digit (b ∷ bs) = is_digit b
+
+-- a digit, a sign, or a point before a digit
+unfoldable pub begins_numeral : ℕ → List ℕ → Bool
+begins_numeral b bs = is_digit b || b == 43 || b == 45 || (b == 46 && begins_digit bs)
+
+-- the bytes up to the first that no numeral holds
+abbrev pub numeral_len : List ℕ → ℕ
+numeral_len bs = prefix_len (λ b. not (ends_numeral b)) bs
+
+abbrev pub numeral_piece : ℕ → Result ℤ NumeralFault → Start
+numeral_piece n (Ok value) = Piece Numeral n
+numeral_piece n (Err numeral_fault.NotNumeral) = Bad BadNumeral
+numeral_piece n (Err numeral_fault.NumberRange) = Bad NumberRange
+
+-- the run of so many bytes, if it is a numeral
+abbrev pub numeral_front : ℕ → List ℕ → Start
+numeral_front n text = numeral_piece n (numeral (take n text))
+
+-- ---- the front
+
+-- a bracket, a brace or a point
+unfoldable pub mark : ℕ → Start
+mark b =
+    if b == 123 then Piece OpenBrace 1 else (if b == 125 then Piece CloseBrace 1 else (if b == 91 then Piece OpenBracket 1 else
+    (if b == 93 then Piece CloseBracket 1 else (if b == 46 then Piece Point 1 else Bad BadCharacter))))
+
+-- what begins with this byte before the others
+unfoldable pub front_at : ℕ → List ℕ → Start
+front_at b bs =
+    if is_space b then Blank 1
+    else (if b == 35 then Blank (prefix_len (λ c. not (is_line_end c)) bs + 1)
+    else (if b == 34 then string_front (closing false bs)
+    else (if begins_numeral b bs then numeral_front (numeral_len bs + 1) (b ∷ bs)
+    else (if begins_name b then Piece Identifier (prefix_len continues_name bs + 1)
+    else mark b))))
+
+abbrev pub front : List ℕ → Start
+front [] = Blank 0
+front (b ∷ bs) = front_at b bs
+
+-- it has a byte, and ends within a text of this length
+abbrev pub IsWithin : ℕ → Start → Type 0
+IsWithin len (Blank n) = (0 < n) × (n ≤ len)
+IsWithin len (Piece k n) = (0 < n) × (n ≤ len)
+IsWithin len (Bad f) = Unit {0}

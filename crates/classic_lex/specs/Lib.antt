@@ -1,0 +1,7 @@
+pub mod Bytes
+pub mod FaultName
+pub mod Front
+pub mod Header
+pub mod Lexed
+pub mod Spans
+pub mod Tokens

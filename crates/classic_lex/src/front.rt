@@ -1,0 +1,131 @@
+//! What stands at the front of a text.
+
+ghost use Rattle.std.specs.Prelude.{◌≡◌, ◌≤◌, ◌<◌, length, false, not, IfSome};
+ghost use Rattle.std.specs.List.{prefix_len};
+ghost use Rattle.classic_lex.specs.Front as spec;
+ghost use Rattle.classic_lex.specs.Bytes as Bytes;
+
+use crate::bytes;
+use crate::fault::LexFaultKind;
+use crate::token::TokenKind;
+use x3d_numerals::{NumeralFault, millionths};
+
+/// White space or a comment of so many bytes, a token of so many bytes, or what is neither.
+#[derive(Clone, Copy, Debug, PartialEq, Eq)]
+pub(crate) enum Start {
+    Blank(usize),
+    Piece(TokenKind, usize),
+    Bad(LexFaultKind),
+}
+
+/// How many bytes there are up to the quote that closes a string, with it.
+fn closing(text: &[u8]) -> Option<usize>
+    ensures value { result ≡ spec.closing false text.now }
+    ensures within { IfSome result (λ n. n ≤ length text.now) }
+{
+    let mut escaped = false;
+    for (i, b) in text.iter().enumerate() {
+        if escaped {
+            escaped = false;
+        } else if *b == b'"' {
+            return Some(i + 1);
+        } else {
+            escaped = *b == b'\\';
+        }
+    }
+    None
+}
+
+fn name_len(text: &[u8]) -> usize
+    ensures value { result ≡ prefix_len Bytes.continues_name text.now }
+    ensures within { result ≤ length text.now }
+{
+    text.iter()
+        .take_while(|b| bytes::continues_name(**b))
+        .count()
+}
+
+fn numeral_len(text: &[u8]) -> usize
+    ensures value { result ≡ spec.numeral_len text.now }
+    ensures within { result ≤ length text.now }
+{
+    text.iter()
+        .take_while(|b| !bytes::ends_numeral(**b))
+        .count()
+}
+
+fn comment_len(text: &[u8]) -> usize
+    ensures value { result ≡ prefix_len (λ c. not (Bytes.is_line_end c)) text.now }
+    ensures within { result ≤ length text.now }
+{
+    text.iter().take_while(|b| !bytes::is_line_end(**b)).count()
+}
+
+#[tactic(auto, unfolding(crate::specs::Front::begins_numeral))]
+fn begins_numeral(first: u8, rest: &[u8]) -> bool
+    ensures { result ≡ spec.begins_numeral first rest.now }
+{
+    if bytes::is_digit(first) || first == b'+' || first == b'-' {
+        return true;
+    }
+    match rest {
+        [] => false,
+        [b, ..] => first == b'.' && bytes::is_digit(*b),
+    }
+}
+
+/// The numeral of so many bytes at the front.
+fn numeral_front(text: &[u8], len: usize) -> Start
+    requires some { 0 < len }
+    requires room { len ≤ length text.now }
+    ensures value { result ≡ spec.numeral_front len text.now }
+    ensures within { spec.IsWithin (length text.now) result }
+{
+    match millionths(&text[..len]) {
+        Ok(_) => Start::Piece(TokenKind::Numeral, len),
+        Err(NumeralFault::NotNumeral) => Start::Bad(LexFaultKind::BadNumeral),
+        Err(NumeralFault::NumberRange) => Start::Bad(LexFaultKind::NumberRange),
+    }
+}
+
+#[tactic(auto, unfolding(crate::specs::Front::mark))]
+fn mark(b: u8) -> Start
+    ensures value { result ≡ spec.mark b }
+    ensures within { spec.IsWithin 1 result }
+{
+    match b {
+        b'{' => Start::Piece(TokenKind::OpenBrace, 1),
+        b'}' => Start::Piece(TokenKind::CloseBrace, 1),
+        b'[' => Start::Piece(TokenKind::OpenBracket, 1),
+        b']' => Start::Piece(TokenKind::CloseBracket, 1),
+        b'.' => Start::Piece(TokenKind::Point, 1),
+        _ => Start::Bad(LexFaultKind::BadCharacter),
+    }
+}
+
+/// What stands at the front of a text that is not empty.
+#[tactic(auto, unfolding(crate::specs::Front::front_at))]
+pub(crate) fn front(text: &[u8]) -> Start
+    requires { 0 < length text.now }
+    ensures value { result ≡ spec.front text.now }
+    ensures within { spec.IsWithin (length text.now) result }
+{
+    let first = text[0];
+    let rest = &text[1..];
+    if bytes::is_space(first) {
+        Start::Blank(1)
+    } else if first == b'#' {
+        Start::Blank(comment_len(rest) + 1)
+    } else if first == b'"' {
+        match closing(rest) {
+            None => Start::Bad(LexFaultKind::OpenString),
+            Some(n) => Start::Piece(TokenKind::Text, n + 1),
+        }
+    } else if begins_numeral(first, rest) {
+        numeral_front(text, numeral_len(rest) + 1)
+    } else if bytes::begins_name(first) {
+        Start::Piece(TokenKind::Identifier, name_len(rest) + 1)
+    } else {
+        mark(first)
+    }
+}
