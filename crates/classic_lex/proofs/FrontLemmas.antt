@@ -4,6 +4,7 @@ use Rattle.std.proofs.Math.Numerals.{add-one}
 use Rattle.std.proofs.Math.Seq.{take-append_seam}
 use Rattle.std.specs.Prelude.{nat_le}
 use Rattle.std.proofs.lemmas.Bool.{and_parts, or_parts, eq-eqb, ne_eqb, leb-true, leb-false, not-true, or_left, or_right, and_from}
+use Rattle.x3d_numerals.proofs.Numerals.{numeral_complete}
 use Rattle.x3d_numerals.specs.Reading.{numeral}
 use Rattle.classic_lex.specs.declared.token.TokenKind.{TokenKind}
 use Rattle.classic_lex.specs.declared.token.TokenKind.TheVariants.{Identifier, Numeral, Text, OpenBracket, CloseBracket, OpenBrace, CloseBrace, Point}
@@ -124,7 +125,7 @@ unfolding front_at
 number_front [] rest h = absurd h
 number_front (b ∷ bs) rest h =
     let f = numeral_byte b bs h.0 in
-    rw (f.space, f.comment, f.quote, begins_front b bs rest h.0) (whole_run b bs rest (numeral_len (bs ++ rest)) h.2.0 (prefix_len-IsRun (λ c. not (ends_numeral c)) bs rest h.1) h.2.1)
+    rw (f.space, f.comment, f.quote, begins_front b bs rest h.0) (whole_run b bs rest (numeral_len (bs ++ rest)) h.2.0 (prefix_len-IsRun (λ c. not (ends_numeral c)) bs rest h.1) (numeral_complete (b ∷ bs) h.2.0 h.2.1))
 
 -- ---- the front
 

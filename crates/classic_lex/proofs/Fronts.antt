@@ -5,6 +5,7 @@ use Rattle.std.specs.List.{prefix_len}
 use Rattle.std.specs.Prelude.{nat_le}
 use Rattle.std.proofs.lemmas.Bool.{cond_both, or_cases, or_parts, and_parts, eqb-true, eq-eqb, ne_eqb, leb-true}
 use Rattle.std.proofs.lemmas.List.Sums.{prefix_len-le-length}
+use Rattle.x3d_numerals.proofs.Numerals.{numeral_sound}
 use Rattle.x3d_numerals.specs.Reading.{numeral}
 use Rattle.x3d_numerals.specs.declared.fault.NumeralFault.{NumeralFault}
 use Rattle.x3d_numerals.specs.declared.fault.NumeralFault.TheVariants as numeral_fault
@@ -82,7 +83,7 @@ numeral_told : (b : ℕ) (bs : List ℕ) → begins_numeral b bs ≡ true → (r
 numeral_told b bs h (Ok n) is =
     let p : ℕ → Bool = λ c. not (ends_numeral c) in
     let w = prefix_len-le-length p bs in
-    (omega arith, omega arith, (begins b bs h, IsRun-prefix p bs, (n, is)))
+    (omega arith, omega arith, (begins b bs h, IsRun-prefix p bs, (n, numeral_sound (b ∷ take (numeral_len bs) bs) n is)))
 numeral_told b bs h (Err numeral_fault.NotNumeral) is = tt
 numeral_told b bs h (Err numeral_fault.NumberRange) is = tt
 

@@ -1,8 +1,8 @@
 -- Which tokens a text has, as the standard says it (ISO/IEC 19776-2): a head, and then white space, comments and tokens.
 -- What ends a piece is said of the rest of the text behind it.
-use Rattle.std.specs.Prelude.{◌≡◌, ◌≢◌, ◌⊎◌, ℕ, ◌≤◌, ℤ, Bool, not, List, [], ◌∷◌, ◌++◌, length, IsTrue, IsFalse, Ok, IsUtf8, codes}
+use Rattle.std.specs.Prelude.{◌≡◌, ◌≢◌, ◌⊎◌, ℕ, ◌≤◌, ℤ, Bool, not, List, [], ◌∷◌, ◌++◌, length, IsTrue, IsFalse, IsUtf8, codes}
 use Rattle.std.specs.List.{list_all, flat_map}
-use Rattle.x3d_numerals.specs.Reading.{numeral}
+use Rattle.x3d_numerals.specs.Numeral as stands
 use Rattle.classic_lex.specs.declared.token.TokenKind.{TokenKind}
 use Rattle.classic_lex.specs.declared.token.TokenKind.TheVariants.{Identifier, Numeral, Text, OpenBracket, CloseBracket, OpenBrace, CloseBrace, Point}
 use Rattle.classic_lex.specs.declared.versions.Version.{Version}
@@ -50,7 +50,7 @@ BeginsNumeral b bs = IsTrue (is_digit b) ⊎ ((b ≡ 43) ⊎ ((b ≡ 45) ⊎ ((b
 -- number (our choice: a run that stands for none is a fault)
 abbrev pub IsNumeral : List ℕ → List ℕ → Type 0
 IsNumeral [] rest = ⊥
-IsNumeral (b ∷ bs) rest = BeginsNumeral b bs × IsRun (λ c. not (ends_numeral c)) bs rest × ((n : ℤ) × (numeral (b ∷ bs) ≡ Ok n))
+IsNumeral (b ∷ bs) rest = BeginsNumeral b bs × IsRun (λ c. not (ends_numeral c)) bs rest × ((n : ℤ) × stands.IsNumeral (b ∷ bs) n)
 
 -- what stands behind the quote that opens a string, up to the one that closes it, with it: bytes other than a quote and
 -- a backslash, and pairs of a backslash and any byte

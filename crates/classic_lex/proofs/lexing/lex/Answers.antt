@@ -1,5 +1,5 @@
 use Rattle.std.proofs.Common.{map}
-use Rattle.classic_lex.specs.Lexed.{seen, lexed}
+use Rattle.classic_lex.specs.Lexed.{seen}
 use Rattle.classic_lex.proofs.TokenLemmas.{HasTokens-Gives, Gives-HasTokens}
 use Rattle.classic_lex.proofs.lexing.lex.Goals as goal
 
