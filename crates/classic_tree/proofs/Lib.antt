@@ -1,0 +1,3 @@
+pub mod Equations
+pub mod Joined
+pub mod Mapped

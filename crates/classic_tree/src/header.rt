@@ -1,0 +1,86 @@
+//! The head of a text: its header line and its header statements, one a line.
+
+ghost use Rattle.std.specs.Prelude.{◌≡◌, ◌++◌, OnOk};
+ghost use Rattle.std.specs.List.{flat_map};
+ghost use Rattle.x3d_lists.specs.Extends.{Extends};
+ghost use Rattle.classic_tree.specs.Writing.{header_line, profile_line, component_line, meta_line};
+
+use crate::show::Show;
+use crate::tree::{Document, Meta};
+use classic_lex::Version;
+use std::alloc::AllocError;
+use x3d_values::Text;
+
+fn push_header(version: Version, out: &mut Vec<u8>) -> Result<(), AllocError>
+    ensures ok { OnOk result (out.new.items ≡ out.old.items ++ header_line version) }
+    ensures kept { Extends out.old.items out.new.items }
+{
+    out.extend_from_slice(b"#X3D V")?;
+    out.extend_from_slice(version.text().as_bytes())?;
+    out.extend_from_slice(b" utf8\n")
+}
+
+fn push_profile(profile: &Option<Text>, out: &mut Vec<u8>) -> Result<(), AllocError>
+    ensures ok { OnOk result (out.new.items ≡ out.old.items ++ profile_line profile.now) }
+    ensures kept { Extends out.old.items out.new.items }
+{
+    if let Some(name) = profile {
+        out.extend_from_slice(b"PROFILE ")?;
+        out.extend_from_slice(name.as_bytes())?;
+        out.push(b'\n')?;
+    }
+    Ok(())
+}
+
+fn push_component(component: &Text, out: &mut Vec<u8>) -> Result<(), AllocError>
+    ensures ok { OnOk result (out.new.items ≡ out.old.items ++ component_line component.now) }
+    ensures kept { Extends out.old.items out.new.items }
+{
+    out.extend_from_slice(b"COMPONENT ")?;
+    out.extend_from_slice(component.as_bytes())?;
+    out.push(b'\n')?;
+    Ok(())
+}
+
+fn push_components(components: &[Text], out: &mut Vec<u8>) -> Result<(), AllocError>
+    ensures ok { OnOk result (out.new.items ≡ out.old.items ++ flat_map component_line components.now) }
+    ensures kept { Extends out.old.items out.new.items }
+{
+    for component in components {
+        push_component(component, out)?;
+    }
+    Ok(())
+}
+
+fn push_meta(meta: &Meta, out: &mut Vec<u8>) -> Result<(), AllocError>
+    ensures ok { OnOk result (out.new.items ≡ out.old.items ++ meta_line meta.now) }
+    ensures kept { Extends out.old.items out.new.items }
+{
+    out.extend_from_slice(b"META ")?;
+    meta.key.show(out)?;
+    out.push(b' ')?;
+    meta.content.show(out)?;
+    out.push(b'\n')?;
+    Ok(())
+}
+
+fn push_metas(metas: &[Meta], out: &mut Vec<u8>) -> Result<(), AllocError>
+    ensures ok { OnOk result (out.new.items ≡ out.old.items ++ flat_map meta_line metas.now) }
+    ensures kept { Extends out.old.items out.new.items }
+{
+    for meta in metas {
+        push_meta(meta, out)?;
+    }
+    Ok(())
+}
+
+/// The header line and the header statements.
+pub(crate) fn push_top(document: &Document, out: &mut Vec<u8>) -> Result<(), AllocError>
+    ensures ok { OnOk result (out.new.items ≡ out.old.items ++ (header_line document.now.version ++ profile_line document.now.profile ++ flat_map component_line document.now.components ++ flat_map meta_line document.now.metas)) }
+    ensures kept { Extends out.old.items out.new.items }
+{
+    push_header(document.version, out)?;
+    push_profile(&document.profile, out)?;
+    push_components(document.components.as_slice(), out)?;
+    push_metas(document.metas.as_slice(), out)
+}

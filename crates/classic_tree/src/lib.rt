@@ -1,0 +1,19 @@
+//! The tree of a Classic text, and the text of such a tree.
+//!
+//! The tree is what the grammar says (ISO/IEC 19776-2), before any type is known. `write` gives it
+//! one text of the many that stand for it.
+#![tactic(auto)]
+
+mod header;
+mod parts;
+mod show;
+#[cfg(test)]
+mod tests;
+mod tree;
+mod writer;
+
+pub use tree::{
+    BodyItem, Declaration, Document, Given, Meta, NodeText, Place, ProtoText, RawValue, RouteText,
+    Statement,
+};
+pub use writer::write;

@@ -1,0 +1,115 @@
+//! A Classic text as a tree, before any type is known (ISO/IEC 19776-2, grammar). Each node, field,
+//! declaration and ROUTE has the line of its first word.
+
+use classic_lex::Version;
+use x3d_values::{Access, FieldType, Items, Text};
+
+/// `node.field`, an end of a ROUTE.
+#[derive(Debug, Drop)]
+pub struct Place {
+    pub node: Text,
+    pub field: Text,
+}
+
+/// `ROUTE source TO target`.
+#[derive(Debug, Drop)]
+pub struct RouteText {
+    pub line: u32,
+    pub source: Place,
+    pub target: Place,
+}
+
+/// The value of a field as it is written; `N` is a node in it. Numerals are whole millionths,
+/// strings without their escapes. `Numbers` is a run of one numeral or more without brackets, and
+/// the lists but `EmptyList` have an item or more.
+#[derive(Debug, Drop)]
+pub enum RawValue<N> {
+    Null,
+    Truth(bool),
+    String(Text),
+    Numbers(Items<i64>),
+    Node(N),
+    EmptyList,
+    TruthList(Items<bool>),
+    StringList(Items<Text>),
+    NumberList(Items<i64>),
+    NodeList(Items<N>),
+}
+
+/// What a field or a declaration is given.
+#[derive(Debug, Drop)]
+pub enum Given<N> {
+    /// A declaration without a value.
+    Nothing,
+    Value(RawValue<N>),
+    /// `IS name`.
+    Is(Text),
+}
+
+/// A field of the interface of a PROTO or a Script.
+#[derive(Debug, Drop)]
+pub struct Declaration<N> {
+    pub line: u32,
+    pub access: Access,
+    pub field_type: FieldType,
+    pub name: Text,
+    pub given: Given<N>,
+}
+
+/// What stands between the braces of a node.
+#[cycle(tree)]
+#[derive(Drop)]
+pub enum BodyItem {
+    /// The line and the name of a field, and its value or `IS name`.
+    Field(u32, Text, Given<NodeText>),
+    Declaration(Declaration<NodeText>),
+    Route(RouteText),
+    Proto(ProtoText),
+}
+
+/// A statement of a text or of the body of a PROTO.
+#[cycle(tree)]
+#[derive(Drop)]
+pub enum Statement {
+    Node(NodeText),
+    Route(RouteText),
+    Proto(ProtoText),
+}
+
+/// A node where it stands.
+#[cycle(tree)]
+#[derive(Drop)]
+pub enum NodeText {
+    /// `USE name`, with its line.
+    Use(u32, Text),
+    /// The line, the name given by DEF, the type and the body.
+    Full(u32, Option<Text>, Text, Items<BodyItem>),
+}
+
+/// A prototype's declaration.
+#[cycle(tree)]
+#[derive(Drop)]
+pub struct ProtoText {
+    pub line: u32,
+    pub name: Text,
+    pub interface: Items<Declaration<NodeText>>,
+    pub body: Items<Statement>,
+}
+
+/// `META "key" "content"`.
+#[derive(Debug, Drop)]
+pub struct Meta {
+    pub key: Text,
+    pub content: Text,
+}
+
+/// A whole text: its version, its header statements and its statements.
+#[derive(Drop)]
+pub struct Document {
+    pub version: Version,
+    pub profile: Option<Text>,
+    /// Each a name, a colon and a level, as `Navigation:2`.
+    pub components: Items<Text>,
+    pub metas: Items<Meta>,
+    pub statements: Items<Statement>,
+}

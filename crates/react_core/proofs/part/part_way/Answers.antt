@@ -1,0 +1,27 @@
+use Rattle.std.proofs.Common.{◌∙◌, sym, ap, ◌≤ℤ◌, ◌<ℤ◌, ◌-ℤ◌, ◌+ℤ◌, pos, arith}
+use Rattle.std.proofs.lemmas.Int.{ints, to_z-of_z}
+use mir.Syntax.{w64}
+use mir.Val.{SFits}
+use Rattle.react_core.specs.Interpolation.{part_way}
+use Rattle.react_core.proofs.PartLemmas.{is_up_within, down_part}
+use Rattle.react_core.proofs.part.part_way.Goals as goal
+
+pub moved_up-requires : goal.moved_up-requires
+moved_up-requires c =
+    let f = c.ranges.from in
+    let t = c.ranges.to in
+    let e = simp to_z-of_z at c.abs_diff.ensures in
+    let h : c.args.from ≤ℤ c.args.to = omega (arith, ints) in
+    simp to_z-of_z (is_up_within c.args.from c.args.to c.args.part c.args.whole c.abs_diff.result h e c.requires.is_part c.requires.is_whole)
+
+pub returns-else-product-eq0 : goal.returns-else-product-eq0
+unfolding part_way
+returns-else-product-eq0 c =
+    let f = c.ranges.from in
+    let t = c.ranges.to in
+    let e = simp to_z-of_z at c.abs_diff.ensures in
+    let h : (c.args.to -ℤ c.args.from) <ℤ pos 0 = omega (arith, ints) in
+    let down = down_part (c.args.to -ℤ c.args.from) c.abs_diff.result c.args.part c.args.whole h e c.if-product-eq0.false in
+    let moved = simp to_z-of_z at c.moved_down.ensures in
+    let r : SFits w64 c.moved_down.result = record { sfits = c.moved_down.type_inv } in
+    simp to_z-of_z (moved ∙ ap (λ z. c.args.from +ℤ z) (sym down))

@@ -1,0 +1,153 @@
+//! Values between those of keys.
+
+ghost use Rattle.std.specs.Prelude.{◌≡◌, ◌≢◌, ◌<◌, ◌≤◌, ◌+◌, ◌*◌, length, map, slice_get, IfOk, IsOk};
+ghost use Rattle.std.specs.List.{zip};
+ghost use Rattle.react_core.specs.Interpolation.{number_between, point_between, vector_between, vectors_way, vectors_between, interpolated};
+ghost use Rattle.x3d_values.specs.declared.node_type.NodeType.TheVariants.{CoordinateInterpolator};
+
+use crate::part::part_way;
+use crate::place::{Place, place_of, point_way, vector_way};
+use crate::stored::{numbers_of, points_of, vectors_of};
+use std::alloc::{AllocError, Global};
+use x3d_values::{Items, NodeType, Value, Vec2, Vec3};
+
+fn item<T: Copy>(values: &[T], at: usize) -> Option<T>
+    ensures { result ≡ slice_get values.now at }
+{
+    values.get(at).copied()
+}
+
+/// The number at a fraction, where there is one for each key.
+#[tactic(auto, using(crate::proofs::PlaceLemmas::passed), unfolding(crate::specs::Interpolation::between))]
+fn number_between(keys: &[i64], values: &[i64], fraction: i64) -> Option<i64>
+    ensures { result ≡ number_between keys.now values.now fraction }
+{
+    if values.len() != keys.len() {
+        return None;
+    }
+    let place = place_of(keys, fraction)?;
+    let from = item(values, place.from)?;
+    let to = item(values, place.to)?;
+    Some(part_way(place.part, place.whole, from, to))
+}
+
+/// The point at a fraction, where there is one for each key.
+#[tactic(auto, using(crate::proofs::PlaceLemmas::passed), unfolding(crate::specs::Interpolation::between))]
+fn point_between(keys: &[i64], values: &[Vec2], fraction: i64) -> Option<Vec2>
+    ensures { result ≡ point_between keys.now values.now fraction }
+{
+    if values.len() != keys.len() {
+        return None;
+    }
+    let place = place_of(keys, fraction)?;
+    let from = item(values, place.from)?;
+    let to = item(values, place.to)?;
+    Some(point_way(place, from, to))
+}
+
+/// The vector at a fraction, where there is one for each key.
+#[tactic(auto, using(crate::proofs::PlaceLemmas::passed), unfolding(crate::specs::Interpolation::between))]
+fn vector_between(keys: &[i64], values: &[Vec3], fraction: i64) -> Option<Vec3>
+    ensures { result ≡ vector_between keys.now values.now fraction }
+{
+    if values.len() != keys.len() {
+        return None;
+    }
+    let place = place_of(keys, fraction)?;
+    let from = item(values, place.from)?;
+    let to = item(values, place.to)?;
+    Some(vector_way(place, from, to))
+}
+
+/// The vectors that far on the way between two lists.
+fn vectors_way(
+    alloc: Global,
+    place: Place,
+    from: &[Vec3],
+    to: &[Vec3],
+) -> Result<Vec<Vec3>, AllocError>
+    requires is_part { place.part ≤ place.whole }
+    requires is_whole { 0 < place.whole }
+    ensures { IfOk result (λ vectors. vectors.items ≡ vectors_way place from.now to.now) }
+{
+    from.iter()
+        .zip(to)
+        .map(|(one, other)| vector_way(place, *one, *other))
+        .collect(alloc)
+}
+
+/// The vectors at a fraction, where there are equally many for each key, and at least one.
+#[tactic(auto, unfolding(crate::specs::Interpolation::vectors_between))]
+fn vectors_between(
+    alloc: Global,
+    keys: &[i64],
+    values: &[Vec3],
+    fraction: i64,
+) -> Result<Option<Items<Vec3>>, AllocError>
+    ensures { IfOk result (λ vectors. vectors ≡ vectors_between keys.now values.now fraction) }
+{
+    let Some(place) = place_of(keys, fraction) else {
+        return Ok(None);
+    };
+    if values.is_empty() || values.len() % keys.len() != 0 {
+        return Ok(None);
+    }
+    let many = values.len() / keys.len();
+    let from = &values[place.from * many..place.from * many + many];
+    let to = &values[place.to * many..place.to * many + many];
+    let vectors = vectors_way(alloc, place, from, to)?;
+    Ok(Some(Items::from_vec(vectors)))
+}
+
+/// What an interpolator of single values answers; a CoordinateInterpolator answers by lists.
+fn interpolate_one(
+    node_type: NodeType,
+    keys: &[i64],
+    values: &Value,
+    fraction: i64,
+) -> Option<Value>
+    requires { node_type ≢ CoordinateInterpolator }
+    ensures { result ≡ interpolated node_type keys.now values.now fraction }
+{
+    match node_type {
+        NodeType::ScalarInterpolator => {
+            let numbers = numbers_of(values)?;
+            Some(Value::SFFloat(number_between(keys, numbers.as_slice(), fraction)?))
+        }
+        NodeType::PositionInterpolator => {
+            let vectors = vectors_of(values)?;
+            Some(Value::SFVec3f(vector_between(keys, vectors.as_slice(), fraction)?))
+        }
+        NodeType::PositionInterpolator2D => {
+            let points = points_of(values)?;
+            Some(Value::SFVec2f(point_between(keys, points.as_slice(), fraction)?))
+        }
+        _ => None,
+    }
+}
+
+/// What an interpolator of these keys and values answers to a fraction; nothing where there are no
+/// keys, where a key is below the one before it, where the count of values isn't that of the keys
+/// (or a multiple of it, for a CoordinateInterpolator), and for a node that doesn't interpolate.
+pub fn interpolate(
+    alloc: Global,
+    node_type: NodeType,
+    keys: &[i64],
+    values: &Value,
+    fraction: i64,
+) -> Result<Option<Value>, AllocError>
+    ensures value { IfOk result (λ value. value ≡ interpolated node_type keys.now values.now fraction) }
+    ensures no_memory { node_type ≢ CoordinateInterpolator → IsOk result }
+{
+    let NodeType::CoordinateInterpolator = node_type else {
+        return Ok(interpolate_one(node_type, keys, values, fraction));
+    };
+    let Some(vectors) = vectors_of(values) else {
+        return Ok(None);
+    };
+    let between = vectors_between(alloc, keys, vectors.as_slice(), fraction)?;
+    match between {
+        Some(vectors) => Ok(Some(Value::MFVec3f(vectors))),
+        None => Ok(None),
+    }
+}

@@ -1,0 +1,33 @@
+//! What one node sends at one event.
+
+ghost use Rattle.std.specs.Prelude.{◌≡◌, false};
+ghost use Rattle.x3d_values.specs.declared.value.Value.TheVariants.{SFBool};
+
+use arrayvec::ArrayVec;
+use x3d_values::Value;
+
+/// The most events that a node sends at once: those of a TimeSensor that starts.
+pub const MAX_REPLIES: usize = 5;
+
+/// An event that a node sends by one of its outputs.
+#[derive(Debug, Drop, PartialEq, Eq)]
+pub struct Reply {
+    /// The number of the output among the node's fields.
+    pub field: u16,
+    pub value: Value,
+}
+
+/// What stands in an unused place of an outbox.
+impl Default for Reply {
+    ghost is_default = { λ reply. reply ≡ record { field = 0; value = SFBool false } };
+
+    fn default() -> Reply {
+        Reply {
+            field: 0,
+            value: Value::SFBool(false),
+        }
+    }
+}
+
+/// The events that a node sends, in order. `Outbox::new()` takes no memory.
+pub type Outbox = ArrayVec<Reply, MAX_REPLIES>;

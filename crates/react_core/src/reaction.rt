@@ -1,0 +1,117 @@
+//! What a node does when an event comes in.
+
+ghost use Rattle.std.specs.Prelude.{◌≡◌, ◌≢◌, [], IsTrue, IsOk, OnOk, OnErr};
+ghost use Rattle.x3d_values.specs.declared.node_type.NodeType.TheVariants.{CoordinateInterpolator};
+ghost use Rattle.react_core.specs.Access.{leave_by_outputs};
+ghost use Rattle.react_core.specs.Reaction.{reaction, answer, keeps};
+ghost use Rattle.react_core.specs.Stored.{is_plain};
+
+use crate::access::is_kept;
+use crate::copies::copy_of;
+use crate::interpolator::interpolator;
+use crate::outbox::{Outbox, Reply};
+use crate::sequence::{boolean_step, integer_step, step_to};
+use crate::utilities::{boolean_trigger, filter, integer_trigger, time_trigger, toggle};
+use std::alloc::{AllocError, Global};
+use x3d_values::{Fields, NodeType, Value};
+
+/// Sets a field, and sends it.
+fn keep(
+    alloc: Global,
+    fields: &mut Fields,
+    input: u16,
+    value: &Value,
+    out: &mut Outbox,
+) -> Result<(), AllocError>
+    requires empty { out.old.items ≡ [] }
+    ensures fields { OnOk result (fields.new ≡ (keeps fields.old input value.now).fields) }
+    ensures replies { OnOk result (out.new.items ≡ (keeps fields.old input value.now).replies) }
+    ensures refused_fields { OnErr result (fields.new ≡ fields.old) }
+    ensures refused_replies { OnErr result (out.new.items ≡ []) }
+    ensures no_memory { IsTrue (is_plain value.now) → IsOk result }
+{
+    let kept = copy_of(alloc, value)?;
+    let sent = copy_of(alloc, value)?;
+    fields.set(input, kept);
+    out.push(Reply {
+        field: input,
+        value: sent,
+    });
+    Ok(())
+}
+
+/// What a node does at an event that sets no field.
+fn answer(
+    alloc: Global,
+    node_type: NodeType,
+    fields: &mut Fields,
+    input: u16,
+    value: &Value,
+    time: i64,
+    out: &mut Outbox,
+) -> Result<(), AllocError>
+    requires empty { out.old.items ≡ [] }
+    ensures fields { OnOk result (fields.new ≡ (answer node_type fields.old input value.now time).fields) }
+    ensures replies { OnOk result (out.new.items ≡ (answer node_type fields.old input value.now time).replies) }
+    ensures refused_fields { OnErr result (fields.new ≡ fields.old) }
+    ensures refused_replies { OnErr result (out.new.items ≡ []) }
+    ensures no_memory { node_type ≢ CoordinateInterpolator → IsOk result }
+{
+    match node_type {
+        NodeType::ScalarInterpolator => interpolator(alloc, node_type, fields, input, value, out)?,
+        NodeType::PositionInterpolator => interpolator(
+            alloc, node_type, fields, input, value, out,
+        )?,
+        NodeType::PositionInterpolator2D => interpolator(
+            alloc, node_type, fields, input, value, out,
+        )?,
+        NodeType::CoordinateInterpolator => interpolator(
+            alloc, node_type, fields, input, value, out,
+        )?,
+        NodeType::BooleanSequencer => step_to(boolean_step(fields, input, value), fields, out),
+        NodeType::IntegerSequencer => step_to(integer_step(fields, input, value), fields, out),
+        NodeType::BooleanFilter => filter(fields, input, value, out),
+        NodeType::BooleanToggle => toggle(fields, input, value, out),
+        NodeType::BooleanTrigger => boolean_trigger(fields, input, value, out),
+        NodeType::IntegerTrigger => integer_trigger(fields, input, value, out),
+        NodeType::TimeTrigger => time_trigger(fields, input, value, time, out),
+        _ => {}
+    }
+    Ok(())
+}
+
+/// Does what a node of that type does when an event comes in, at a time in microseconds: changes
+/// its fields, and puts what it sends into the outbox.
+///
+/// A TimeSensor and an input or a value that the node doesn't take do nothing here; of a
+/// TouchSensor only its fields are set and sent.
+#[tactic(auto, unfolding(crate::specs::Reaction::reaction))]
+pub fn react(
+    alloc: Global,
+    node_type: NodeType,
+    fields: &mut Fields,
+    input: u16,
+    value: &Value,
+    time: i64,
+    out: &mut Outbox,
+) -> Result<(), AllocError>
+    requires empty { out.old.items ≡ [] }
+    // On success the fields and what is sent are those of the definition.
+    ensures fields { OnOk result (fields.new ≡ (reaction node_type fields.old input value.now time).fields) }
+    ensures replies { OnOk result (out.new.items ≡ (reaction node_type fields.old input value.now time).replies) }
+    // Where memory is refused nothing was changed, and nothing is sent.
+    ensures refused_fields { OnErr result (fields.new ≡ fields.old) }
+    ensures refused_replies { OnErr result (out.new.items ≡ []) }
+    // Only strings and lists take memory, and so does what a CoordinateInterpolator sends.
+    ensures no_memory { IsTrue (is_plain value.now) → node_type ≢ CoordinateInterpolator → IsOk result }
+    // All leaves by outputs of the node.
+    ensures outputs { IsTrue (leave_by_outputs node_type out.new.items) }
+{
+    if node_type == NodeType::TimeSensor {
+        return Ok(());
+    }
+    if is_kept(node_type, input, value) {
+        return keep(alloc, fields, input, value, out);
+    }
+    answer(alloc, node_type, fields, input, value, time, out)
+}

@@ -1,0 +1,76 @@
+-- What a TimeSensor keeps (ISO/IEC 19775-1, time component; the ranges are our choice).
+use Rattle.std.specs.Prelude.{ℕ, ◌^◌, ℤ, pos, int_lt, unsigned_abs, nat_le, nat_lt, Bool, true, ◌&&◌, Option, Some, None, if◌then◌else◌}
+use Rattle.std.specs.Option.{option_and_then}
+use Rattle.x3d_values.specs.declared.fields.Fields.{Fields}
+use Rattle.x3d_values.specs.declared.value.Value.TheVariants.{SFBool, SFTime}
+use Rattle.x3d_values.specs.Kept.{with_value}
+use Rattle.react_core.specs.Reaction.{stored}
+use Rattle.react_core.specs.Stored.{time_of, truth_of}
+use Rattle.sensor_core.specs.declared.numbers.TheConstants.{CYCLE_INTERVAL, ENABLED, LOOP, PAUSE_TIME, RESUME_TIME, START_TIME, STOP_TIME}
+
+-- the values of its inputOutput fields, times in microseconds
+pub record Timing : Type 0 where
+  pub cycle_interval : ℤ
+  pub enabled : Bool
+  pub looping : Bool
+  pub pause_time : ℤ
+  pub resume_time : ℤ
+  pub start_time : ℤ
+  pub stop_time : ℤ
+
+-- a time is up to 10^18 microseconds from 0
+abbrev pub is_time : ℤ → Bool
+is_time time = nat_le (unsigned_abs time) (10 ^ 18)
+
+-- a cycle takes time
+abbrev pub is_interval : ℤ → Bool
+is_interval time = int_lt (pos 0) time && is_time time
+
+abbrev pub are_times : ℤ → ℤ → Bool
+are_times one other = is_time one && is_time other
+
+abbrev pub is_timing : Timing → Bool
+is_timing t = is_interval t.cycle_interval && (are_times t.pause_time t.resume_time && are_times t.start_time t.stop_time)
+
+-- cycles are numbered in 63 bits
+abbrev pub is_state : Option ℕ → Bool
+is_state None = true
+is_state (Some cycle) = nat_lt cycle (2 ^ 63)
+
+-- a field that keeps a time, or a truth value
+unfoldable pub time_at : Fields → ℕ → Option ℤ
+time_at fields field = stored time_of fields field
+
+unfoldable pub truth_at : Fields → ℕ → Option Bool
+truth_at fields field = stored truth_of fields field
+
+infixl 10 ◌>>=◌
+abbrev ◌>>=◌ : {A B : Type 0} → Option A → (A → Option B) → Option B
+o >>= f = option_and_then f o
+
+-- the values in their ranges
+unfoldable pub checked : Timing → Option Timing
+checked t = if is_timing t then Some t else None
+
+-- what these fields keep of a TimeSensor, if they hold a value of its range for each field
+unfoldable pub timing_of : Fields → Option Timing
+timing_of fields = do
+  interval ← time_at fields CYCLE_INTERVAL
+  enabled ← truth_at fields ENABLED
+  looping ← truth_at fields LOOP
+  pause ← time_at fields PAUSE_TIME
+  resume ← time_at fields RESUME_TIME
+  start ← time_at fields START_TIME
+  stop ← time_at fields STOP_TIME
+  checked (record { cycle_interval = interval; enabled = enabled; looping = looping; pause_time = pause; resume_time = resume; start_time = start; stop_time = stop })
+
+-- the fields with these values
+unfoldable pub with_timing : Fields → Timing → Fields
+with_timing fields t =
+    let interval = with_value fields CYCLE_INTERVAL (SFTime t.cycle_interval) in
+    let enabled = with_value interval ENABLED (SFBool t.enabled) in
+    let looping = with_value enabled LOOP (SFBool t.looping) in
+    let pause = with_value looping PAUSE_TIME (SFTime t.pause_time) in
+    let resume = with_value pause RESUME_TIME (SFTime t.resume_time) in
+    let start = with_value resume START_TIME (SFTime t.start_time) in
+    with_value start STOP_TIME (SFTime t.stop_time)

@@ -1,0 +1,195 @@
+//! What a TimeSensor keeps.
+
+ghost use Rattle.std.specs.Prelude.{◌≡◌};
+ghost use Rattle.sensor_core.specs.Timing.{is_time, is_interval, are_times, is_timing, time_at, truth_at, checked};
+ghost use Rattle.sensor_core.specs.Reading.{timing_read};
+
+use crate::numbers::{
+    CYCLE_INTERVAL, ENABLED, LOOP, PAUSE_TIME, RESUME_TIME, START_TIME, STOP_TIME,
+};
+use std::marker::Model;
+use x3d_values::{Fields, Value};
+
+/// The largest size of a time, in microseconds.
+pub const MAX_TIME: i64 = 1_000_000_000_000_000_000;
+
+/// The values of a TimeSensor's inputOutput fields. Times are in microseconds, up to `MAX_TIME`
+/// from 0, and a cycle takes time.
+#[derive(Clone, Copy, Debug, PartialEq, Eq)]
+pub struct TimeFields {
+    pub(crate) cycle_interval: i64,
+    pub(crate) enabled: bool,
+    pub(crate) looping: bool,
+    pub(crate) pause_time: i64,
+    pub(crate) resume_time: i64,
+    pub(crate) start_time: i64,
+    pub(crate) stop_time: i64,
+}
+
+impl Model for TimeFields {
+    ghost use Rattle.std.specs.Prelude.{IsTrue};
+    ghost use Rattle.sensor_core.specs.Timing.{Timing, is_timing};
+
+    ghost Value = { Timing };
+
+    ghost view = { λ f. record { cycle_interval = f.cycle_interval; enabled = f.enabled; looping = f.looping; pause_time = f.pause_time; resume_time = f.resume_time; start_time = f.start_time; stop_time = f.stop_time } };
+
+    ghost invariant = { λ f. IsTrue (is_timing (record { cycle_interval = f.cycle_interval; enabled = f.enabled; looping = f.looping; pause_time = f.pause_time; resume_time = f.resume_time; start_time = f.start_time; stop_time = f.stop_time })) };
+
+    ghost inverse = { λ f. record { cycle_interval = f.cycle_interval; enabled = f.enabled; looping = f.looping; pause_time = f.pause_time; resume_time = f.resume_time; start_time = f.start_time; stop_time = f.stop_time } };
+}
+
+/// Whether it is a time up to `MAX_TIME` from 0.
+pub fn is_time(time: i64) -> bool
+    ensures { result ≡ is_time time }
+{
+    time.unsigned_abs() <= MAX_TIME as u64
+}
+
+/// Whether a cycle may take that time.
+pub fn is_interval(time: i64) -> bool
+    ensures { result ≡ is_interval time }
+{
+    time > 0 && is_time(time)
+}
+
+#[tactic(auto, unfolding(crate::specs::Timing::time_at))]
+fn time_at(fields: &Fields, field: u16) -> Option<i64>
+    ensures { result ≡ time_at fields.now field }
+{
+    match fields.value(field)? {
+        Value::SFTime(time) => Some(*time),
+        _ => None,
+    }
+}
+
+#[tactic(auto, unfolding(crate::specs::Timing::truth_at))]
+fn truth_at(fields: &Fields, field: u16) -> Option<bool>
+    ensures { result ≡ truth_at fields.now field }
+{
+    match fields.value(field)? {
+        Value::SFBool(truth) => Some(*truth),
+        _ => None,
+    }
+}
+
+/// What fields hold, in any range.
+#[derive(Clone, Copy, Drop)]
+pub(crate) struct Readings {
+    pub(crate) cycle_interval: i64,
+    pub(crate) enabled: bool,
+    pub(crate) looping: bool,
+    pub(crate) pause_time: i64,
+    pub(crate) resume_time: i64,
+    pub(crate) start_time: i64,
+    pub(crate) stop_time: i64,
+}
+
+fn are_times(one: i64, other: i64) -> bool
+    ensures { result ≡ are_times one other }
+{
+    is_time(one) && is_time(other)
+}
+
+fn is_timing(read: Readings) -> bool
+    ensures { result ≡ is_timing (timing_read read) }
+{
+    is_interval(read.cycle_interval)
+        && are_times(read.pause_time, read.resume_time)
+        && are_times(read.start_time, read.stop_time)
+}
+
+/// What was read, where each is in its range.
+#[tactic(auto, unfolding(crate::specs::Timing::checked))]
+pub(crate) fn checked(read: Readings) -> Option<TimeFields>
+    ensures { result ≡ checked (timing_read read) }
+{
+    if !is_timing(read) {
+        return None;
+    }
+    Some(TimeFields {
+        cycle_interval: read.cycle_interval,
+        enabled: read.enabled,
+        looping: read.looping,
+        pause_time: read.pause_time,
+        resume_time: read.resume_time,
+        start_time: read.start_time,
+        stop_time: read.stop_time,
+    })
+}
+
+impl TimeFields {
+    ghost use Rattle.std.specs.Prelude.{◌≡◌, ◌^◌, pos, ◌<ℤ◌, ◌≤ℤ◌};
+    ghost use Rattle.sensor_core.specs.Cycles.{IsNear};
+    ghost use Rattle.sensor_core.specs.Timing.{timing_of, with_timing};
+
+    /// What a TimeSensor's fields hold, where each is there and in its range.
+    #[tactic(auto, unfolding(crate::specs::Timing::timing_of))]
+    pub fn from_fields(fields: &Fields) -> Option<TimeFields>
+        ensures { result ≡ timing_of fields.now }
+    {
+        let cycle_interval = time_at(fields, CYCLE_INTERVAL)?;
+        let enabled = truth_at(fields, ENABLED)?;
+        let looping = truth_at(fields, LOOP)?;
+        let pause_time = time_at(fields, PAUSE_TIME)?;
+        let resume_time = time_at(fields, RESUME_TIME)?;
+        let start_time = time_at(fields, START_TIME)?;
+        let stop_time = time_at(fields, STOP_TIME)?;
+        checked(Readings {
+            cycle_interval,
+            enabled,
+            looping,
+            pause_time,
+            resume_time,
+            start_time,
+            stop_time,
+        })
+    }
+
+    pub fn start_time(&self) -> i64
+        ensures value { result ≡ self.now.start_time }
+        ensures near { IsNear result }
+    {
+        self.start_time
+    }
+
+    pub fn cycle_interval(&self) -> i64
+        ensures value { result ≡ self.now.cycle_interval }
+        ensures some { pos 0 <ℤ result }
+        ensures short { result ≤ℤ pos (10 ^ 18) }
+    {
+        self.cycle_interval
+    }
+
+    pub fn stop_time(&self) -> i64
+        ensures { result ≡ self.now.stop_time }
+    {
+        self.stop_time
+    }
+
+    pub fn is_enabled(&self) -> bool
+        ensures { result ≡ self.now.enabled }
+    {
+        self.enabled
+    }
+
+    pub fn is_looping(&self) -> bool
+        ensures { result ≡ self.now.looping }
+    {
+        self.looping
+    }
+
+    /// Puts the values where a TimeSensor's fields hold them.
+    #[tactic(auto, unfolding(crate::specs::Timing::with_timing))]
+    pub fn write_to(&self, fields: &mut Fields)
+        ensures { fields.new ≡ with_timing fields.old self.now }
+    {
+        fields.set(CYCLE_INTERVAL, Value::SFTime(self.cycle_interval));
+        fields.set(ENABLED, Value::SFBool(self.enabled));
+        fields.set(LOOP, Value::SFBool(self.looping));
+        fields.set(PAUSE_TIME, Value::SFTime(self.pause_time));
+        fields.set(RESUME_TIME, Value::SFTime(self.resume_time));
+        fields.set(START_TIME, Value::SFTime(self.start_time));
+        fields.set(STOP_TIME, Value::SFTime(self.stop_time));
+    }
+}
