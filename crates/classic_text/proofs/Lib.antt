@@ -1,0 +1,10 @@
+pub mod CursorLemmas
+pub mod Documents
+pub mod Heads
+pub mod LevelLemmas
+pub mod Nodes
+pub mod Steps
+pub mod StringLemmas
+pub mod Turns
+pub mod Utf8Lemmas
+pub mod Values

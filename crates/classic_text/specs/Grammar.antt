@@ -1,0 +1,209 @@
+-- The grammar, as it is read from left to right (ISO/IEC 19776-2, grammar).
+use Rattle.std.specs.Prelude.{ℕ, ℤ, zero, suc, Bool, ◌||◌, if◌then◌else◌, List, [], ◌∷◌, ◌++◌, length, Option, Some, None, Ok, Err, codes}
+use Rattle.classic_lex.specs.Lexed.{Tok}
+use Rattle.classic_tree.specs.declared.tree.Place.{Place}
+use Rattle.classic_tree.specs.declared.tree.RouteText.{RouteText}
+use Rattle.classic_tree.specs.declared.tree.RawValue.{RawValue}
+use Rattle.classic_tree.specs.declared.tree.RawValue.TheVariants as v
+use Rattle.classic_tree.specs.declared.tree.Given.{Given}
+use Rattle.classic_tree.specs.declared.tree.Given.TheVariants as given
+use Rattle.classic_tree.specs.declared.tree.BodyItem.{BodyItem}
+use Rattle.classic_tree.specs.declared.tree.BodyItem.TheVariants as held
+use Rattle.classic_tree.specs.declared.tree.NodeText.{NodeText}
+use Rattle.classic_tree.specs.declared.tree.NodeText.TheVariants as made
+use Rattle.classic_tree.specs.declared.tree.Statement.{Statement}
+use Rattle.classic_tree.specs.declared.tree.Statement.TheVariants as stands
+use Rattle.classic_text.specs.declared.refusal.Refusal.{Refusal}
+use Rattle.classic_text.specs.declared.refusal.Refusal.TheVariants.{TooDeep, Unsupported}
+use Rattle.classic_text.specs.declared.terminal.Terminal.{Terminal}
+use Rattle.classic_text.specs.declared.terminal.Terminal.TheVariants as t
+use Rattle.classic_text.specs.Input.{Parser, ◌>>=◌, and_then, pure, refuse, refusal, peek, here, expect, name, string, truth, number, sees, sees_word, at_end, line, next}
+
+unfoldable pub place : Parser Place
+place = do
+  n ← name
+  _ ← expect t.Point
+  f ← name
+  pure (record { node = n; field = f })
+
+unfoldable pub route : Parser RouteText
+route = do
+  at ← here
+  _ ← expect t.Route
+  source ← place
+  _ ← expect t.To
+  target ← place
+  pure (record { line = at; source = source; target = target })
+
+-- ---- runs and lists
+
+-- The number bounds the turns: each takes a token, so the count of the tokens is enough.
+unfoldable pub numbers_from : ℕ → List ℤ → Parser (List ℤ)
+numbers_from zero found = pure found
+numbers_from (suc n) found = λ ts. if sees t.Numeral ts then and_then (number ts) (λ x. numbers_from n (found ++ x ∷ [])) else Ok (found, ts)
+
+-- numerals up to what is none
+unfoldable pub numbers : Parser (List ℤ)
+numbers = λ ts. numbers_from (length ts) [] ts
+
+unfoldable pub until_from : {A : Type 0} → Terminal → Parser A → ℕ → List A → Parser (List A)
+until_from k item zero found = refuse
+until_from k item (suc n) found = λ ts. if sees k ts then Ok (found, next ts) else and_then (item ts) (λ x. until_from k item n (found ++ x ∷ []))
+
+-- items up to a token of this kind, which is passed over
+unfoldable pub until : {A : Type 0} → Terminal → Parser A → Parser (List A)
+until k item = λ ts. until_from k item (length ts) [] ts
+
+-- ---- what isn't read yet
+
+-- what begins with PROTO, a word of access or EXTERNPROTO
+unfoldable pub begins_unread_item : List Tok → Bool
+begins_unread_item ts = sees t.Proto ts || sees t.Access ts || sees_word (codes "EXTERNPROTO") ts
+
+-- what begins with PROTO, EXTERNPROTO, IMPORT, EXPORT or UNIT
+unfoldable pub begins_unread_statement : List Tok → Bool
+begins_unread_statement ts =
+    sees t.Proto ts || sees_word (codes "EXTERNPROTO") ts || sees_word (codes "IMPORT") ts || sees_word (codes "EXPORT") ts || sees_word (codes "UNIT") ts
+
+abbrev pub unsupported : {A : Type 0} → Parser A
+unsupported = λ ts. Err (Unsupported (line ts))
+
+-- ---- values, by how a node in them is read
+
+module _ (inner : Parser NodeText) where
+  abbrev pub list_by : Terminal → Parser (RawValue NodeText)
+  list_by t.CloseBracket = do
+    _ ← expect t.CloseBracket
+    pure v.EmptyList
+  list_by t.True = do
+    xs ← until t.CloseBracket truth
+    pure (v.TruthList xs)
+  list_by t.False = do
+    xs ← until t.CloseBracket truth
+    pure (v.TruthList xs)
+  list_by t.String = do
+    xs ← until t.CloseBracket string
+    pure (v.StringList xs)
+  list_by t.Numeral = do
+    xs ← until t.CloseBracket number
+    pure (v.NumberList xs)
+  list_by _ = do
+    xs ← until t.CloseBracket inner
+    pure (v.NodeList xs)
+
+  -- a list behind its bracket
+  unfoldable pub list : Parser (RawValue NodeText)
+  list = peek >>= list_by
+
+  abbrev pub value_by : Terminal → Parser (RawValue NodeText)
+  value_by t.Null = do
+    _ ← expect t.Null
+    pure v.Null
+  value_by t.True = do
+    b ← truth
+    pure (v.Truth b)
+  value_by t.False = do
+    b ← truth
+    pure (v.Truth b)
+  value_by t.String = do
+    s ← string
+    pure (v.String s)
+  value_by t.Numeral = do
+    ns ← numbers
+    pure (v.Numbers ns)
+  value_by t.OpenBracket = do
+    _ ← expect t.OpenBracket
+    list
+  value_by _ = do
+    n ← inner
+    pure (v.Node n)
+
+  unfoldable pub value : Parser (RawValue NodeText)
+  value = peek >>= value_by
+
+  unfoldable pub what_is : Parser (Given NodeText)
+  what_is = do
+    _ ← expect t.Is
+    n ← name
+    pure (given.Is n)
+
+  unfoldable pub one_given : Parser (Given NodeText)
+  one_given = λ ts. if sees t.Is ts then what_is ts else (value >>= λ x. pure (given.Value x)) ts
+
+  unfoldable pub field : Parser BodyItem
+  field = do
+    at ← here
+    f ← name
+    x ← one_given
+    pure (held.Field at f x)
+
+  abbrev pub field_or_unread : Parser BodyItem
+  field_or_unread = λ ts. if begins_unread_item ts then unsupported ts else field ts
+
+  -- what stands in a body
+  unfoldable pub one_item : Parser BodyItem
+  one_item = λ ts. if sees t.Route ts then (route >>= λ r. pure (held.Route r)) ts else field_or_unread ts
+
+  abbrev pub items : Parser (List BodyItem)
+  items = until t.CloseBrace one_item
+
+  unfoldable pub body : Parser (List BodyItem)
+  body = do
+    _ ← expect t.OpenBrace
+    items
+
+-- ---- nodes
+
+unfoldable pub def_name : Parser (Option (List ℕ))
+def_name = λ ts. if sees t.Def ts then (expect t.Def >>= λ _. name >>= λ n. pure (Some n)) ts else Ok (None, ts)
+
+unfoldable pub use_node : Parser NodeText
+use_node = do
+  at ← here
+  _ ← expect t.Use
+  n ← name
+  pure (made.Use at n)
+
+unfoldable pub full_node : Parser (List BodyItem) → Parser NodeText
+full_node inside = do
+  at ← here
+  def ← def_name
+  k ← name
+  is ← inside
+  pure (made.Full at def k is)
+
+-- a node, by how its body is read
+abbrev pub node_with : Parser (List BodyItem) → Parser NodeText
+node_with inside = λ ts. if sees t.Use ts then use_node ts else full_node inside ts
+
+unfoldable pub begins_node : List Tok → Bool
+begins_node ts = sees t.Use ts || sees t.Def ts || sees t.Name ts
+
+-- where no node may stand any more
+unfoldable pub deep_refusal : List Tok → Refusal
+deep_refusal ts = if begins_node ts then TooDeep (line ts) else refusal ts
+
+-- a node in which nodes nest no deeper than the number, itself counted
+unfoldable pub node_at : ℕ → Parser NodeText
+node_at zero = λ ts. Err (deep_refusal ts)
+node_at (suc depth) = node_with (body (node_at depth))
+
+-- nodes nest at most 64 deep (our choice)
+abbrev pub max_depth : ℕ
+max_depth = 64
+
+-- ---- statements
+
+abbrev pub node_or_unread : Parser Statement
+node_or_unread = λ ts. if begins_unread_statement ts then unsupported ts else (node_at max_depth >>= λ n. pure (stands.Node n)) ts
+
+unfoldable pub one_statement : Parser Statement
+one_statement = λ ts. if sees t.Route ts then (route >>= λ r. pure (stands.Route r)) ts else node_or_unread ts
+
+unfoldable pub statements_from : ℕ → List Statement → Parser (List Statement)
+statements_from zero found = pure found
+statements_from (suc n) found = λ ts.
+    if at_end ts then Ok (found, ts) else and_then (one_statement ts) (λ x. statements_from n (found ++ x ∷ []))
+
+unfoldable pub statements : Parser (List Statement)
+statements = λ ts. statements_from (length ts) [] ts

@@ -1,0 +1,10 @@
+pub mod Cursor
+pub mod FaultName
+pub mod Grammar
+pub mod Head
+pub mod Input
+pub mod Levels
+pub mod Reading
+pub mod Spells
+pub mod Strings
+pub mod Terminal

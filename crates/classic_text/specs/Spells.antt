@@ -1,0 +1,245 @@
+-- Which tokens spell which tree, rule by rule (ISO/IEC 19776-2, grammar). Each relation takes the tokens, and what is left
+-- of them behind what it speaks of.
+use Rattle.std.specs.Prelude.{◌≡◌, ◌≢◌, ◌⊎◌, ℕ, ℤ, zero, suc, Bool, true, false, IsFalse, List, [], ◌∷◌, Option, Some, None, codes}
+use Rattle.x3d_numerals.specs.Numeral.{IsNumeral}
+use Rattle.classic_lex.specs.Lexed.{Tok}
+use Rattle.classic_lex.specs.Tokens.{HasTokens, HasVersion}
+use Rattle.classic_tree.specs.declared.tree.Place.{Place}
+use Rattle.classic_tree.specs.declared.tree.RouteText.{RouteText}
+use Rattle.classic_tree.specs.declared.tree.RawValue.{RawValue}
+use Rattle.classic_tree.specs.declared.tree.RawValue.TheVariants as v
+use Rattle.classic_tree.specs.declared.tree.Given.{Given}
+use Rattle.classic_tree.specs.declared.tree.Given.TheVariants as given
+use Rattle.classic_tree.specs.declared.tree.BodyItem.{BodyItem}
+use Rattle.classic_tree.specs.declared.tree.BodyItem.TheVariants as held
+use Rattle.classic_tree.specs.declared.tree.NodeText.{NodeText}
+use Rattle.classic_tree.specs.declared.tree.NodeText.TheVariants as made
+use Rattle.classic_tree.specs.declared.tree.Statement.{Statement}
+use Rattle.classic_tree.specs.declared.tree.Statement.TheVariants as stands
+use Rattle.classic_tree.specs.declared.tree.Meta.{Meta}
+use Rattle.classic_tree.specs.declared.tree.Document.{Document}
+use Rattle.classic_text.specs.declared.terminal.Terminal.{Terminal}
+use Rattle.classic_text.specs.declared.terminal.Terminal.TheVariants as t
+use Rattle.classic_text.specs.Terminal.{terminal_of}
+use Rattle.classic_text.specs.Levels.{HasLevel}
+use Rattle.classic_text.specs.Strings.{unquoted}
+use Rattle.classic_text.specs.Input.{kind, line, sees_word}
+use Rattle.classic_text.specs.Grammar.{max_depth, begins_unread_item, begins_unread_statement}
+
+-- one token of this kind
+abbrev pub Is : Terminal → List Tok → List Tok → Type 0
+Is k [] rest = ⊥
+Is k (x ∷ ts) rest = (terminal_of x.kind x.text ≡ k) × (rest ≡ ts)
+
+-- one token of this kind, whose text is so
+abbrev pub IsSuch : Terminal → (List ℕ → Type 0) → List Tok → List Tok → Type 0
+IsSuch k P [] rest = ⊥
+IsSuch k P (x ∷ ts) rest = (terminal_of x.kind x.text ≡ k) × P x.text × (rest ≡ ts)
+
+abbrev pub IsName : List ℕ → List Tok → List Tok → Type 0
+IsName n ts rest = IsSuch t.Name (λ text. text ≡ n) ts rest
+
+abbrev pub IsString : List ℕ → List Tok → List Tok → Type 0
+IsString s ts rest = IsSuch t.String (λ text. unquoted text ≡ s) ts rest
+
+-- a numeral of this many millionths
+abbrev pub IsNumber : ℤ → List Tok → List Tok → Type 0
+IsNumber n ts rest = IsSuch t.Numeral (λ text. IsNumeral text n) ts rest
+
+abbrev pub IsTruth : Bool → List Tok → List Tok → Type 0
+IsTruth true ts rest = Is t.True ts rest
+IsTruth false ts rest = Is t.False ts rest
+
+-- `node.field`
+abbrev pub IsPlace : Place → List Tok → List Tok → Type 0
+IsPlace p ts rest = (a : List Tok) × (b : List Tok) × IsName p.node ts a × Is t.Point a b × IsName p.field b rest
+
+-- numerals up to what is none
+abbrev pub AreNumbers : List ℤ → List Tok → List Tok → Type 0
+AreNumbers [] ts rest = (kind ts ≢ t.Numeral) × (rest ≡ ts)
+AreNumbers (n ∷ ns) ts rest = (a : List Tok) × IsNumber n ts a × AreNumbers ns a rest
+
+-- at least one
+abbrev pub AreSomeNumbers : List ℤ → List Tok → List Tok → Type 0
+AreSomeNumbers [] ts rest = ⊥
+AreSomeNumbers (n ∷ ns) ts rest = AreNumbers (n ∷ ns) ts rest
+
+-- items, and then a token of this kind
+abbrev pub AreUntil : {A : Type 0} → Terminal → (A → List Tok → List Tok → Type 0) → List A → List Tok → List Tok → Type 0
+AreUntil k Item [] ts rest = Is k ts rest
+AreUntil k Item (x ∷ xs) ts rest = (a : List Tok) × Item x ts a × AreUntil k Item xs a rest
+
+-- at least one item, and then the bracket that closes a list
+abbrev pub AreListed : {A : Type 0} → (A → List Tok → List Tok → Type 0) → List A → List Tok → List Tok → Type 0
+AreListed Item [] ts rest = ⊥
+AreListed Item (x ∷ xs) ts rest = AreUntil t.CloseBracket Item (x ∷ xs) ts rest
+
+-- `DEF name`, or nothing
+abbrev pub HasDef : Option (List ℕ) → List Tok → List Tok → Type 0
+HasDef None ts rest = rest ≡ ts
+HasDef (Some n) ts rest = (a : List Tok) × Is t.Def ts a × IsName n a rest
+
+-- ---- the head
+
+-- one token that is this word
+abbrev pub IsWord : List ℕ → List Tok → List Tok → Type 0
+IsWord w [] rest = ⊥
+IsWord w (x ∷ ts) rest = (x.text ≡ w) × (rest ≡ ts)
+
+-- `PROFILE name`, or another word that begins something else
+abbrev pub IsProfile : Option (List ℕ) → List Tok → List Tok → Type 0
+IsProfile None ts rest = IsFalse (sees_word (codes "PROFILE") ts) × (rest ≡ ts)
+IsProfile (Some n) ts rest = (a : List Tok) × IsWord (codes "PROFILE") ts a × IsName n a rest
+
+-- `COMPONENT name:level`
+abbrev pub IsComponent : List ℕ → List Tok → List Tok → Type 0
+IsComponent c ts rest = (a : List Tok) × IsWord (codes "COMPONENT") ts a × IsSuch t.Name (λ text. (text ≡ c) × HasLevel text) a rest
+
+-- `META "key" "content"`
+abbrev pub IsMeta : Meta → List Tok → List Tok → Type 0
+IsMeta m ts rest = (a : List Tok) × (b : List Tok) × IsWord (codes "META") ts a × IsString m.key a b × IsString m.content b rest
+
+-- items up to where that word stands no more
+abbrev pub AreEach : {A : Type 0} → List ℕ → (A → List Tok → List Tok → Type 0) → List A → List Tok → List Tok → Type 0
+AreEach w Item [] ts rest = IsFalse (sees_word w ts) × (rest ≡ ts)
+AreEach w Item (x ∷ xs) ts rest = (a : List Tok) × Item x ts a × AreEach w Item xs a rest
+
+-- ---- values and nodes
+
+-- values, by what spells a node in them
+module _ (Inner : NodeText → List Tok → List Tok → Type 0) where
+  -- a list behind its bracket
+  abbrev pub IsList : RawValue NodeText → List Tok → List Tok → Type 0
+  IsList v.EmptyList ts rest = Is t.CloseBracket ts rest
+  IsList (v.TruthList bs) ts rest = AreListed IsTruth bs ts rest
+  IsList (v.StringList ss) ts rest = AreListed IsString ss ts rest
+  IsList (v.NumberList ns) ts rest = AreListed IsNumber ns ts rest
+  IsList (v.NodeList ns) ts rest = AreListed Inner ns ts rest
+  IsList _ ts rest = ⊥
+
+  abbrev pub IsBracketed : RawValue NodeText → List Tok → List Tok → Type 0
+  IsBracketed x ts rest = (a : List Tok) × Is t.OpenBracket ts a × IsList x a rest
+
+  abbrev pub IsValue : RawValue NodeText → List Tok → List Tok → Type 0
+  IsValue v.Null ts rest = Is t.Null ts rest
+  IsValue (v.Truth b) ts rest = IsTruth b ts rest
+  IsValue (v.String s) ts rest = IsString s ts rest
+  IsValue (v.Numbers ns) ts rest = AreSomeNumbers ns ts rest
+  IsValue (v.Node n) ts rest = Inner n ts rest
+  IsValue x ts rest = IsBracketed x ts rest
+
+  -- a value, or `IS name`
+  abbrev pub IsGiven : Given NodeText → List Tok → List Tok → Type 0
+  IsGiven given.Nothing ts rest = ⊥
+  IsGiven (given.Value x) ts rest = IsValue x ts rest
+  IsGiven (given.Is n) ts rest = (a : List Tok) × Is t.Is ts a × IsName n a rest
+
+-- by which lines a tree may have for a token of a line
+module _ (At : ℕ → ℕ → Type 0) where
+  -- `ROUTE source TO target`
+  abbrev pub IsRoute : RouteText → List Tok → List Tok → Type 0
+  IsRoute r ts rest =
+      (a : List Tok) × (b : List Tok) × (c : List Tok) × At (line ts) r.line × Is t.Route ts a × IsPlace r.source a b × Is t.To b c × IsPlace r.target c rest
+
+  -- what stands in a body, by what spells a node in it
+  module _ (Inner : NodeText → List Tok → List Tok → Type 0) where
+    -- a field's name, and then its value or `IS name`
+    pub record IsField (item : BodyItem) (ts rest : List Tok) : Type 0 where
+      pub at : ℕ
+      pub name : List ℕ
+      pub value : Given NodeText
+      pub is : item ≡ held.Field at name value
+      pub lined : At (line ts) at
+      pub behind : List Tok
+      pub named : IsName name ts behind
+      pub spelled : IsGiven Inner value behind rest
+      pub read : IsFalse (begins_unread_item ts)
+
+    pub record IsRouteItem (item : BodyItem) (ts rest : List Tok) : Type 0 where
+      pub route : RouteText
+      pub is : item ≡ held.Route route
+      pub spelled : IsRoute route ts rest
+
+    -- PROTOs and declarations are not read yet
+    abbrev pub IsItem : BodyItem → List Tok → List Tok → Type 0
+    IsItem item ts rest = IsField item ts rest ⊎ IsRouteItem item ts rest
+
+    abbrev pub IsBody : List BodyItem → List Tok → List Tok → Type 0
+    IsBody items ts rest = (a : List Tok) × Is t.OpenBrace ts a × AreUntil t.CloseBrace IsItem items a rest
+
+  -- `USE name`
+  pub record IsUse (node : NodeText) (ts rest : List Tok) : Type 0 where
+    pub at : ℕ
+    pub name : List ℕ
+    pub is : node ≡ made.Use at name
+    pub lined : At (line ts) at
+    pub behind : List Tok
+    pub word : Is t.Use ts behind
+    pub named : IsName name behind rest
+
+  -- a node with a body, by what spells the body
+  pub record IsFull (Body : List BodyItem → List Tok → List Tok → Type 0) (node : NodeText) (ts rest : List Tok) : Type 0 where
+    pub at : ℕ
+    pub def : Option (List ℕ)
+    pub name : List ℕ
+    pub items : List BodyItem
+    pub is : node ≡ made.Full at def name items
+    pub lined : At (line ts) at
+    pub behind_def : List Tok
+    pub behind_name : List Tok
+    pub defined : HasDef def ts behind_def
+    pub named : IsName name behind_def behind_name
+    pub body : Body items behind_name rest
+
+  abbrev pub IsLayer : (List BodyItem → List Tok → List Tok → Type 0) → NodeText → List Tok → List Tok → Type 0
+  IsLayer Body node ts rest = IsUse node ts rest ⊎ IsFull Body node ts rest
+
+  -- a node in which nodes nest no deeper than the number, itself counted
+  unfoldable pub IsNode : ℕ → NodeText → List Tok → List Tok → Type 0
+  IsNode zero node ts rest = ⊥
+  IsNode (suc depth) node ts rest = IsLayer (IsBody (IsNode depth)) node ts rest
+
+  pub record IsNodeStatement (statement : Statement) (ts rest : List Tok) : Type 0 where
+    pub node : NodeText
+    pub is : statement ≡ stands.Node node
+    pub spelled : IsNode max_depth node ts rest
+    pub read : IsFalse (begins_unread_statement ts)
+
+  pub record IsRouteStatement (statement : Statement) (ts rest : List Tok) : Type 0 where
+    pub route : RouteText
+    pub is : statement ≡ stands.Route route
+    pub spelled : IsRoute route ts rest
+
+  -- PROTOs are not read yet
+  abbrev pub IsStatement : Statement → List Tok → List Tok → Type 0
+  IsStatement s ts rest = IsNodeStatement s ts rest ⊎ IsRouteStatement s ts rest
+
+  -- all of the tokens
+  abbrev pub AreStatements : List Statement → List Tok → Type 0
+  AreStatements [] ts = ts ≡ []
+  AreStatements (s ∷ ss) ts = (a : List Tok) × IsStatement s ts a × AreStatements ss a
+
+  -- the tokens of a text spell the document
+  pub record IsSpelling (tokens : List Tok) (d : Document) : Type 0 where
+    pub behind_profile : List Tok
+    pub behind_components : List Tok
+    pub behind_metas : List Tok
+    pub profile : IsProfile d.profile tokens behind_profile
+    pub components : AreEach (codes "COMPONENT") IsComponent d.components behind_profile behind_components
+    pub metas : AreEach (codes "META") IsMeta d.metas behind_components behind_metas
+    pub statements : AreStatements d.statements behind_metas
+
+  -- The text spells the document.
+  pub record IsSpelled (text : List ℕ) (d : Document) : Type 0 where
+    pub version : HasVersion text d.version
+    pub tokens : List Tok
+    pub has : HasTokens text tokens
+    pub spelling : IsSpelling tokens d
+
+-- The text spells the document, lines included.
+abbrev pub Spells : List ℕ → Document → Type 0
+Spells text d = IsSpelled ◌≡◌ text d
+
+-- The text spells the document, but for the lines in it.
+abbrev pub SpellsButLines : List ℕ → Document → Type 0
+SpellsButLines text d = IsSpelled (λ there here. Unit {0}) text d

@@ -1,0 +1,19 @@
+//! Reads a text of the Classic VRML encoding (ISO/IEC 19776-2) as a tree.
+#![tactic(auto)]
+
+mod fault;
+mod grammar;
+mod head;
+mod laws;
+mod level;
+mod reading;
+mod refusal;
+mod strings;
+mod terminal;
+#[cfg(test)]
+mod tests;
+mod tokens;
+
+pub use fault::{ReadFault, ReadFaultKind};
+pub use laws::texts_spell_one_document;
+pub use reading::read;

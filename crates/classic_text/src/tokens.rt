@@ -1,0 +1,244 @@
+//! A cursor over the tokens of a text.
+
+ghost use Rattle.std.specs.Prelude.{◌≡◌, map, length, All, IsUtf8};
+ghost use Rattle.classic_lex.specs.Lexed.{seen};
+ghost use Rattle.classic_text.specs.Cursor.{IsPlaced};
+ghost use Rattle.classic_text.specs.Input as spec;
+ghost use Rattle.classic_text.specs.Input.{Reads};
+
+use crate::level::has_level;
+use crate::refusal::Refusal;
+use crate::strings::unquoted;
+use crate::terminal::{Terminal, same, terminal_of};
+use classic_lex::Token;
+use std::alloc::Global;
+use std::marker::Model;
+use x3d_values::{Text, millionths};
+
+#[derive(Drop)]
+pub(crate) struct Tokens<'a> {
+    text: &'a [u8],
+    rest: &'a [Token],
+}
+
+impl<'a> Model for Tokens<'a> {
+    ghost use Rattle.std.specs.Prelude.{List};
+    ghost use Rattle.classic_lex.specs.Lexed.{Tok};
+    ghost use Rattle.classic_text.specs.Cursor.{shown, IsReady};
+
+    ghost Value = { List Tok };
+
+    ghost view = { shown };
+
+    ghost invariant = { IsReady };
+}
+
+impl<'a> Tokens<'a> {
+    pub(crate) fn new(text: &'a [u8], rest: &'a [Token]) -> Tokens<'a>
+        requires { All (IsPlaced text.now) rest.now }
+        ensures { result ≡ map (seen text.now) rest.now }
+    {
+        Tokens { text, rest }
+    }
+
+    /// How many tokens are left.
+    pub(crate) fn left(&self) -> usize
+        ensures { result ≡ length self.now }
+    {
+        self.rest.len()
+    }
+
+    #[tactic(auto, unfolding(crate::specs::Input::at_end))]
+    pub(crate) fn at_end(&self) -> bool
+        ensures { result ≡ spec.at_end self.now }
+    {
+        match self.rest {
+            [] => true,
+            [_, ..] => false,
+        }
+    }
+
+    /// The next token as it stands in the text.
+    #[tactic(auto, unfolding(crate::specs::Input::spelling))]
+    fn spelling(&self) -> &'a [u8]
+        ensures value { result.now ≡ spec.spelling self.now }
+        ensures utf8 { IsUtf8 result.now }
+    {
+        match self.rest {
+            [] => &[],
+            [token, ..] => &self.text[token.start as usize..token.end as usize],
+        }
+    }
+
+    #[tactic(auto, unfolding(crate::specs::Input::kind))]
+    pub(crate) fn peek(&self) -> Terminal
+        ensures { result ≡ spec.kind self.now }
+    {
+        match self.rest {
+            [] => Terminal::End,
+            [token, ..] => terminal_of(
+                token.kind,
+                &self.text[token.start as usize..token.end as usize],
+            ),
+        }
+    }
+
+    /// The line of the next token, or 0 behind the last.
+    #[tactic(auto, unfolding(crate::specs::Input::line))]
+    pub(crate) fn line(&self) -> u32
+        ensures { result ≡ spec.line self.now }
+    {
+        match self.rest {
+            [] => 0,
+            [token, ..] => token.line,
+        }
+    }
+
+    #[tactic(auto, unfolding(crate::specs::Input::refusal))]
+    pub(crate) fn refuse(&self) -> Refusal
+        ensures { result ≡ spec.refusal self.now }
+    {
+        match self.rest {
+            [] => Refusal::UnexpectedEnd,
+            [token, ..] => Refusal::Unexpected(token.line),
+        }
+    }
+
+    #[tactic(auto, unfolding(crate::specs::Input::next))]
+    pub(crate) fn advance(&mut self)
+        ensures { self.new ≡ spec.next self.old }
+    {
+        if let [_, rest @ ..] = self.rest {
+            self.rest = rest;
+        }
+    }
+
+    #[tactic(auto, unfolding(crate::specs::Input::sees))]
+    pub(crate) fn sees(&self, kind: Terminal) -> bool
+        ensures { result ≡ spec.sees kind self.now }
+    {
+        same(self.peek(), kind)
+    }
+
+    /// The next token is that word, reserved or not.
+    #[tactic(auto, unfolding(crate::specs::Input::sees_word))]
+    pub(crate) fn sees_word(&self, word: &[u8]) -> bool
+        ensures { result ≡ spec.sees_word word.now self.now }
+    {
+        self.spelling() == word
+    }
+
+    #[tactic(auto, unfolding(crate::specs::Input::expect))]
+    pub(crate) fn expect(&mut self, kind: Terminal) -> Result<(), Refusal>
+        ensures { Reads (spec.expect kind self.old) result self.new }
+    {
+        if self.sees(kind) {
+            self.advance();
+            Ok(())
+        } else {
+            Err(self.refuse())
+        }
+    }
+
+    #[tactic(auto, unfolding(crate::specs::Input::expect_word))]
+    pub(crate) fn expect_word(&mut self, word: &[u8]) -> Result<(), Refusal>
+        ensures { Reads (spec.expect_word word.now self.old) result self.new }
+    {
+        if self.sees_word(word) {
+            self.advance();
+            Ok(())
+        } else {
+            Err(self.refuse())
+        }
+    }
+
+    /// A copy of the next token.
+    #[tactic(auto, unfolding(crate::specs::Input::spelling))]
+    fn copy(&self, alloc: Global) -> Result<Text, Refusal>
+        ensures { Reads (spec.copied self.now) result self.now }
+    {
+        match std::str::from_utf8(self.spelling()) {
+            Ok(text) => Ok(Text::from_str(alloc, text)?),
+            Err(_) => unreachable!(),
+        }
+    }
+
+    #[tactic(auto, unfolding(crate::specs::Input::name))]
+    pub(crate) fn name(&mut self, alloc: Global) -> Result<Text, Refusal>
+        ensures { Reads (spec.name self.old) result self.new }
+    {
+        if self.sees(Terminal::Name) {
+            let name = self.copy(alloc)?;
+            self.advance();
+            Ok(name)
+        } else {
+            Err(self.refuse())
+        }
+    }
+
+    /// A name with a level, as `Navigation:2`.
+    #[tactic(auto, unfolding(crate::specs::Input::component_name))]
+    pub(crate) fn component_name(&mut self, alloc: Global) -> Result<Text, Refusal>
+        ensures { Reads (spec.component_name self.old) result self.new }
+    {
+        if self.sees(Terminal::Name) && has_level(self.spelling()) {
+            let name = self.copy(alloc)?;
+            self.advance();
+            Ok(name)
+        } else {
+            Err(self.refuse())
+        }
+    }
+
+    /// The string that the next token holds.
+    #[tactic(auto, unfolding(crate::specs::Input::spelling))]
+    fn held(&self, alloc: Global) -> Result<Text, Refusal>
+        ensures { Reads (spec.held_string self.now) result self.now }
+    {
+        Ok(unquoted(alloc, self.spelling())?)
+    }
+
+    #[tactic(auto, unfolding(crate::specs::Input::string))]
+    pub(crate) fn string(&mut self, alloc: Global) -> Result<Text, Refusal>
+        ensures { Reads (spec.string self.old) result self.new }
+    {
+        if self.sees(Terminal::String) {
+            let string = self.held(alloc)?;
+            self.advance();
+            Ok(string)
+        } else {
+            Err(self.refuse())
+        }
+    }
+
+    #[tactic(auto, unfolding(crate::specs::Input::truth))]
+    pub(crate) fn truth(&mut self) -> Result<bool, Refusal>
+        ensures { Reads (spec.truth self.old) result self.new }
+    {
+        if self.sees(Terminal::True) {
+            self.advance();
+            Ok(true)
+        } else if self.sees(Terminal::False) {
+            self.advance();
+            Ok(false)
+        } else {
+            Err(self.refuse())
+        }
+    }
+
+    #[tactic(auto, unfolding(crate::specs::Input::number))]
+    pub(crate) fn number(&mut self) -> Result<i64, Refusal>
+        ensures { Reads (spec.number self.old) result self.new }
+    {
+        if !self.sees(Terminal::Numeral) {
+            return Err(self.refuse());
+        }
+        match millionths(self.spelling()) {
+            Ok(number) => {
+                self.advance();
+                Ok(number)
+            }
+            Err(_) => Err(self.refuse()),
+        }
+    }
+}
