@@ -408,15 +408,38 @@ fn faults_and_versions_are_shown(rt: HostRuntime) -> Result<(), AllocError> {
     Ok(())
 }
 
-#[test]
-fn a_refused_growth_is_memory_without_a_line(rt: HostRuntime) -> Result<(), Fail> {
-    let used_up = UsedUp::new(rt.alloc())?;
-    let answer = lex(rt.alloc(), b"#X3D V3.0 utf8\nGroup {}");
+/// Whether a text is cut where one block of so many bytes is left; a refusal is `Memory`.
+fn cuts_with(
+    rt: &impl Abort,
+    alloc: Global,
+    text: &[u8],
+    spare: usize,
+) -> Result<bool, AllocError> {
+    let used_up = UsedUp::but_for(alloc, &[spare])?;
+    let answer = lex(alloc, text);
     drop(used_up);
     let memory = LexFault {
         kind: LexFaultKind::Memory,
         line: 0,
     };
-    assert_eq!(rt; answer.err(), Some(memory));
+    match answer {
+        Ok(_) => Ok(true),
+        Err(fault) => {
+            assert_eq!(rt; fault, memory, "{spare}");
+            Ok(false)
+        }
+    }
+}
+
+#[test]
+fn each_refused_growth_is_memory_without_a_line(rt: HostRuntime) -> Result<(), Fail> {
+    let mut text = Vec::from_slice(rt.alloc(), b"#X3D V3.0 utf8\n")?;
+    for _ in 0..100 {
+        text.extend_from_slice(b"Group {}\n")?;
+    }
+    // The first growth, a later one, and none.
+    assert!(rt; !cuts_with(&rt, rt.alloc(), text.as_slice(), 0)?);
+    assert!(rt; !cuts_with(&rt, rt.alloc(), text.as_slice(), 2048)?);
+    assert!(rt; cuts_with(&rt, rt.alloc(), text.as_slice(), 65536)?);
     Ok(())
 }

@@ -323,21 +323,37 @@ fn a_boolean_sequencer_counts_a_position_past_the_end_as_none(rt: HostRuntime) -
     Ok(())
 }
 
-#[test]
-fn a_refused_growth_changes_nothing(rt: HostRuntime) -> Result<(), Fail> {
-    let alloc = rt.alloc();
-    let mut lamp = keyed(alloc, &[0, 1], numbers(alloc, &[5, 6])?)?;
-    let keys = numbers(alloc, &[0, 1, 2])?;
-    let node_type = NodeType::ScalarInterpolator;
-    let mut nothing = Outbox::new();
+/// An event at a node where so many bytes of memory are left.
+fn reacts_with(
+    alloc: Global,
+    node_type: NodeType,
+    input: u16,
+    value: &Value,
+    spare: usize,
+) -> Result<bool, AllocError> {
+    let vectors = [Vec3 { x: 1, y: 2, z: 3 }; 40];
+    let points = Value::MFVec3f(Items::from_slice(alloc, &vectors)?);
+    let mut node = keyed(alloc, &[0, 1_000_000], points)?;
     let mut out = Outbox::new();
-    let used_up = UsedUp::new(alloc)?;
-    let refused = react(alloc, node_type, &mut lamp, 1, &keys, 0, &mut nothing).is_err();
-    let fraction = Value::SFFloat(0);
-    let answered = react(alloc, node_type, &mut lamp, 3, &fraction, 0, &mut out).is_ok();
+    let used_up = UsedUp::but_for(alloc, &[spare])?;
+    let answer = react(alloc, node_type, &mut node, input, value, 0, &mut out);
     drop(used_up);
-    assert!(rt; refused);
-    assert!(rt; answered);
-    assert_eq!(rt; out.len(), 1);
+    Ok(answer.is_ok() && out.len() == 1)
+}
+
+/// As the memory that is left grows, each growth is the first one refused in its turn.
+#[test]
+fn each_refused_growth_is_answered(rt: HostRuntime) -> Result<(), Fail> {
+    let alloc = rt.alloc();
+    let node_type = NodeType::CoordinateInterpolator;
+    let keys = numbers(alloc, &[7; 40])?;
+    let fraction = Value::SFFloat(500_000);
+    assert!(rt; !reacts_with(alloc, node_type, 1, &keys, 0)?);
+    // One of the two copies of the list.
+    assert!(rt; !reacts_with(alloc, node_type, 1, &keys, 400)?);
+    assert!(rt; reacts_with(alloc, node_type, 1, &keys, 4096)?);
+    assert!(rt; !reacts_with(alloc, node_type, 3, &fraction, 0)?);
+    assert!(rt; !reacts_with(alloc, node_type, 3, &fraction, 200)?);
+    assert!(rt; reacts_with(alloc, node_type, 3, &fraction, 4096)?);
     Ok(())
 }
