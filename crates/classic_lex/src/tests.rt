@@ -437,6 +437,8 @@ fn each_refused_growth_is_memory_without_a_line(rt: HostRuntime) -> Result<(), F
     for _ in 0..100 {
         text.extend_from_slice(b"Group {}\n")?;
     }
+    // With 2048 bytes the first growths are given: a short text is cut.
+    assert!(rt; cuts_with(&rt, rt.alloc(), b"#X3D V3.0 utf8\nGroup {}", 2048)?);
     // The first growth, a later one, and none.
     assert!(rt; !cuts_with(&rt, rt.alloc(), text.as_slice(), 0)?);
     assert!(rt; !cuts_with(&rt, rt.alloc(), text.as_slice(), 2048)?);

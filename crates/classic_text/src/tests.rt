@@ -346,7 +346,8 @@ fn reads_with(
     }
 }
 
-/// As the memory that is left grows, each growth is the first one refused in its turn.
+/// As the memory that is left grows, later growths are the first ones refused. Below 1032 bytes malloc
+/// gives a block to requests of its own size alone, so only refusals above that are of later growths.
 #[test]
 fn each_refused_growth_is_memory(rt: HostRuntime) -> Result<(), Fail> {
     let mut is_read = false;
@@ -359,6 +360,6 @@ fn each_refused_growth_is_memory(rt: HostRuntime) -> Result<(), Fail> {
         }
     }
     assert!(rt; is_read, "each read was refused");
-    assert!(rt; last_refused > 5, "refused up to turn {last_refused}");
+    assert!(rt; last_refused > 9, "refused up to turn {last_refused}");
     Ok(())
 }

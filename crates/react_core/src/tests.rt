@@ -331,7 +331,7 @@ fn reacts_with(
     value: &Value,
     spare: usize,
 ) -> Result<bool, AllocError> {
-    let vectors = [Vec3 { x: 1, y: 2, z: 3 }; 40];
+    let vectors = [Vec3 { x: 1, y: 2, z: 3 }; 200];
     let points = Value::MFVec3f(Items::from_slice(alloc, &vectors)?);
     let mut node = keyed(alloc, &[0, 1_000_000], points)?;
     let mut out = Outbox::new();
@@ -341,19 +341,25 @@ fn reacts_with(
     Ok(answer.is_ok() && out.len() == 1)
 }
 
-/// As the memory that is left grows, each growth is the first one refused in its turn.
+/// A set of a list copies it twice, and a CoordinateInterpolator makes one list: each growth is
+/// refused once. Lists are above 1032 bytes, since malloc keeps smaller blocks that were given back.
 #[test]
 fn each_refused_growth_is_answered(rt: HostRuntime) -> Result<(), Fail> {
     let alloc = rt.alloc();
     let node_type = NodeType::CoordinateInterpolator;
-    let keys = numbers(alloc, &[7; 40])?;
+    let keys = numbers(alloc, &[7; 200])?;
     let fraction = Value::SFFloat(500_000);
+    let used_up = UsedUp::but_for(alloc, &[2048])?;
+    let one_copy = copy_of(alloc, &keys).is_ok();
+    drop(used_up);
+    assert!(rt; one_copy, "one copy has room");
     assert!(rt; !reacts_with(alloc, node_type, 1, &keys, 0)?);
-    // One of the two copies of the list.
-    assert!(rt; !reacts_with(alloc, node_type, 1, &keys, 400)?);
-    assert!(rt; reacts_with(alloc, node_type, 1, &keys, 4096)?);
+    assert!(rt;
+        !reacts_with(alloc, node_type, 1, &keys, 2048)?,
+        "the second copy has none"
+    );
+    assert!(rt; reacts_with(alloc, node_type, 1, &keys, 8192)?);
     assert!(rt; !reacts_with(alloc, node_type, 3, &fraction, 0)?);
-    assert!(rt; !reacts_with(alloc, node_type, 3, &fraction, 200)?);
-    assert!(rt; reacts_with(alloc, node_type, 3, &fraction, 4096)?);
+    assert!(rt; reacts_with(alloc, node_type, 3, &fraction, 8192)?);
     Ok(())
 }
