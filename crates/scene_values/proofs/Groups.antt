@@ -1,0 +1,51 @@
+-- One more group of numerals.
+use Rattle.std.proofs.Common.{◌≡◌, ◌&&◌, false, suc, ℕ, ◌+◌, ◌-◌, ◌<◌, ◌≤◌, ℤ, pos, Bool, true, List, [], ◌∷◌, ◌++◌, length, get_or, take, drop, map, sym, ap, append_assoc, add-one, arith}
+use Rattle.std.proofs.lemmas.List.{take_rest}
+use Rattle.std.proofs.Math.Seq.{drop-cons}
+use Rattle.std.specs.List.{list_all}
+use Rattle.x3d_values.specs.declared.vector.Vec3.{Vec3}
+use Rattle.x3d_values.specs.declared.vector.Color.{Color}
+use Rattle.scene_values.specs.Grouping.{vectors, colors}
+
+-- ---- three at a time
+
+vectors-cons : (s : List ℤ) → 3 ≤ length s →
+    vectors s ≡ record { x = get_or s 0 (pos 0); y = get_or s 1 (pos 0); z = get_or s 2 (pos 0) } ∷ vectors (take (length s - 3) (drop 3 s))
+vectors-cons [] long = absurd (omega arith)
+vectors-cons (x ∷ []) long = absurd (omega arith)
+vectors-cons (x ∷ (y ∷ [])) long = absurd (omega arith)
+vectors-cons (x ∷ (y ∷ (z ∷ rest))) long = ap (λ more. record { x = x; y = y; z = z } ∷ vectors more) (sym (take_rest (x ∷ (y ∷ (z ∷ rest))) 3))
+
+-- the items that stood before, one more, and what the numerals behind it make
+pub vectors_grow : (start before after : List Vec3) (s : List ℤ) (x y z : ℤ) → 3 ≤ length s →
+    x ≡ get_or s 0 (pos 0) → y ≡ get_or s 1 (pos 0) → z ≡ get_or s 2 (pos 0) →
+    start ≡ before ++ vectors s → after ≡ before ++ record { x = x; y = y; z = z } ∷ [] →
+    start ≡ after ++ vectors (take (length s - 3) (drop 3 s))
+vectors_grow start before after s x y z long ex ey ez is grown = rw (is, grown, ex, ey, ez, vectors-cons s long, append_assoc)
+
+colors-cons : (s : List ℤ) → 3 ≤ length s →
+    colors s ≡ record { red = get_or s 0 (pos 0); green = get_or s 1 (pos 0); blue = get_or s 2 (pos 0) } ∷ colors (take (length s - 3) (drop 3 s))
+colors-cons [] long = absurd (omega arith)
+colors-cons (x ∷ []) long = absurd (omega arith)
+colors-cons (x ∷ (y ∷ [])) long = absurd (omega arith)
+colors-cons (x ∷ (y ∷ (z ∷ rest))) long =
+    ap (λ more. record { red = x; green = y; blue = z } ∷ colors more) (sym (take_rest (x ∷ (y ∷ (z ∷ rest))) 3))
+
+pub colors_grow : (start before after : List Color) (s : List ℤ) (x y z : ℤ) → 3 ≤ length s →
+    x ≡ get_or s 0 (pos 0) → y ≡ get_or s 1 (pos 0) → z ≡ get_or s 2 (pos 0) →
+    start ≡ before ++ colors s → after ≡ before ++ record { red = x; green = y; blue = z } ∷ [] →
+    start ≡ after ++ colors (take (length s - 3) (drop 3 s))
+colors_grow start before after s x y z long ex ey ez is grown = rw (is, grown, ex, ey, ez, colors-cons s long, append_assoc)
+
+-- ---- one at a time
+
+pub mapped_grow : (f : ℤ → ℤ) (start before after : List ℤ) (s : List ℤ) (i : ℕ) (x : ℤ) → i < length s → x ≡ f (get_or s i (pos 0)) →
+    start ≡ before ++ map f (drop i s) → after ≡ before ++ x ∷ [] → start ≡ after ++ map f (drop (i + 1) s)
+mapped_grow f start before after s i x short ex is grown = rw (is, grown, ex, drop-cons s i (pos 0) short, append_assoc, add-one)
+
+first_holds : (p : ℤ → Bool) (x : ℤ) (xs : List ℤ) → list_all p (x ∷ xs) ≡ true → list_all p xs ≡ true
+first_holds p x xs all = elim (p x) as (λ b. (b && list_all p xs) ≡ true → list_all p xs ≡ true) [ true ↦ λ h. h | false ↦ λ h. absurd (cc) ] all
+
+-- what holds of all the items left holds of those behind the first
+pub rest_holds : (p : ℤ → Bool) (s : List ℤ) (i : ℕ) → i < length s → list_all p (drop i s) ≡ true → list_all p (drop (i + 1) s) ≡ true
+rest_holds p s i short all = rw add-one (first_holds p (get_or s i (pos 0)) (drop (suc i) s) (rw (drop-cons s i (pos 0) short) at all))

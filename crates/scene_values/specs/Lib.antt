@@ -1,0 +1,5 @@
+pub mod FaultName
+pub mod Grouping
+pub mod Quantities
+pub mod Rotations
+pub mod Typing
