@@ -14,6 +14,10 @@ mod terminal;
 mod tests;
 mod tokens;
 
+pub use classic_tree::{
+    BodyItem, Declaration, Document, Given, Meta, NodeText, Place, ProtoText, RawValue, RouteText,
+    Statement,
+};
 pub use fault::{ReadFault, ReadFaultKind};
 pub use laws::texts_spell_one_document;
 pub use reading::read;

@@ -1,0 +1,13 @@
+pub mod Documents
+pub mod Heads
+pub mod Nodes
+pub mod Numbers
+pub mod Pieces
+pub mod Routes
+pub mod Spelled
+pub mod Statements
+pub mod Strings
+pub mod Told
+pub mod Tokens
+pub mod Values
+pub mod Words

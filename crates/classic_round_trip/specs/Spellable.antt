@@ -1,0 +1,175 @@
+-- Which documents have a spelling, lines apart (ISO/IEC 19776-2, grammar): their names are names, their strings are UTF-8,
+-- their numbers are within the limit, their nodes nest no deeper than allowed, and no statement begins with a word that means
+-- something else there.
+use Rattle.std.specs.Prelude.{◌≡◌, ◌≢◌, ◌⊎◌, ℕ, zero, suc, Bool, List, [], ◌∷◌, ◌++◌, Option, Some, None, IsUtf8, codes}
+use Rattle.std.specs.List.{AllByRecursion}
+use Rattle.x3d_numerals.specs.NumberText.{IsLimited}
+use Rattle.classic_lex.specs.Tokens.{IsIdentifier}
+use Rattle.classic_tree.specs.declared.tree.RouteText.{RouteText}
+use Rattle.classic_tree.specs.declared.tree.RawValue.{RawValue}
+use Rattle.classic_tree.specs.declared.tree.RawValue.TheVariants as v
+use Rattle.classic_tree.specs.declared.tree.Given.{Given}
+use Rattle.classic_tree.specs.declared.tree.Given.TheVariants as given
+use Rattle.classic_tree.specs.declared.tree.BodyItem.{BodyItem}
+use Rattle.classic_tree.specs.declared.tree.BodyItem.TheVariants as held
+use Rattle.classic_tree.specs.declared.tree.NodeText.{NodeText}
+use Rattle.classic_tree.specs.declared.tree.NodeText.TheVariants as made
+use Rattle.classic_tree.specs.declared.tree.Statement.{Statement}
+use Rattle.classic_tree.specs.declared.tree.Statement.TheVariants as stands
+use Rattle.classic_tree.specs.declared.tree.Meta.{Meta}
+use Rattle.classic_tree.specs.declared.tree.Document.{Document}
+use Rattle.classic_text.specs.Levels.{HasLevel}
+use Rattle.classic_text.specs.Grammar.{max_depth}
+
+-- ---- names and values
+
+-- none of these words
+abbrev pub IsNoneOf : List (List ℕ) → List ℕ → Type 0
+IsNoneOf words name = AllByRecursion (λ word. name ≢ word) words
+
+-- the words of the grammar
+abbrev pub grammar_words : List (List ℕ)
+grammar_words = codes "DEF" ∷ codes "USE" ∷ codes "ROUTE" ∷ codes "TO" ∷ codes "PROTO" ∷ codes "IS" ∷ codes "NULL" ∷ codes "TRUE" ∷ codes "FALSE" ∷ []
+
+-- the words of access, and the older ones for the same (our choice)
+abbrev pub access_words : List (List ℕ)
+access_words =
+    codes "inputOnly" ∷ codes "outputOnly" ∷ codes "inputOutput" ∷ codes "initializeOnly"
+    ∷ codes "eventIn" ∷ codes "eventOut" ∷ codes "exposedField" ∷ codes "field" ∷ []
+
+-- an identifier that is no reserved word
+pub record IsFreeName (name : List ℕ) : Type 0 where
+  pub is : IsIdentifier name []
+  pub no_word : IsNoneOf grammar_words name
+  pub no_access : IsNoneOf access_words name
+  pub utf8 : IsUtf8 name
+
+abbrev pub IsSpellableRoute : RouteText → Type 0
+IsSpellableRoute r = IsFreeName r.source.node × IsFreeName r.source.field × IsFreeName r.target.node × IsFreeName r.target.field
+
+-- one or more, and each is so
+abbrev pub AreSome : {A : Type 0} → (A → Type 0) → List A → Type 0
+AreSome P [] = ⊥
+AreSome P (x ∷ xs) = AllByRecursion P (x ∷ xs)
+
+-- a value, by which nodes in it are spellable
+module _ (Inner : NodeText → Type 0) where
+  abbrev pub IsSpellableValue : RawValue NodeText → Type 0
+  IsSpellableValue v.Null = Unit {0}
+  IsSpellableValue (v.Truth b) = Unit {0}
+  IsSpellableValue (v.String s) = IsUtf8 s
+  IsSpellableValue (v.Numbers ns) = AreSome IsLimited ns
+  IsSpellableValue (v.Node n) = Inner n
+  IsSpellableValue v.EmptyList = Unit {0}
+  IsSpellableValue (v.TruthList bs) = AreSome (λ (b : Bool). Unit {0}) bs
+  IsSpellableValue (v.StringList ss) = AreSome IsUtf8 ss
+  IsSpellableValue (v.NumberList ns) = AreSome IsLimited ns
+  IsSpellableValue (v.NodeList ns) = AreSome Inner ns
+
+  abbrev pub IsSpellableGiven : Given NodeText → Type 0
+  IsSpellableGiven given.Nothing = ⊥
+  IsSpellableGiven (given.Value x) = IsSpellableValue x
+  IsSpellableGiven (given.Is n) = IsFreeName n
+
+  -- ---- what stands in a body
+
+  pub record IsSpellableField (item : BodyItem) : Type 0 where
+    pub at : ℕ
+    pub name : List ℕ
+    pub value : Given NodeText
+    pub is : item ≡ held.Field at name value
+    pub named : IsFreeName name
+    pub other : IsNoneOf (codes "EXTERNPROTO" ∷ []) name
+    pub given : IsSpellableGiven value
+
+  pub record IsSpellableRouteItem (item : BodyItem) : Type 0 where
+    pub route : RouteText
+    pub is : item ≡ held.Route route
+    pub spellable : IsSpellableRoute route
+
+  -- PROTOs and declarations are not read yet
+  abbrev pub IsSpellableItem : BodyItem → Type 0
+  IsSpellableItem item = IsSpellableField item ⊎ IsSpellableRouteItem item
+
+-- ---- nodes
+
+pub record IsSpellableUse (node : NodeText) : Type 0 where
+  pub at : ℕ
+  pub name : List ℕ
+  pub is : node ≡ made.Use at name
+  pub named : IsFreeName name
+
+-- a name, or none
+abbrev pub IsNameOrNone : Option (List ℕ) → Type 0
+IsNameOrNone None = Unit {0}
+IsNameOrNone (Some name) = IsFreeName name
+
+-- without a DEF the type is the first word, which is none of these
+abbrev pub BeginsWithNoneOf : List (List ℕ) → Option (List ℕ) → List ℕ → Type 0
+BeginsWithNoneOf words None name = IsNoneOf words name
+BeginsWithNoneOf words (Some def) name = Unit {0}
+
+-- a node with a body that begins with none of these words, by which items are spellable
+pub record IsSpellableFull (Item : BodyItem → Type 0) (words : List (List ℕ)) (node : NodeText) : Type 0 where
+  pub at : ℕ
+  pub def : Option (List ℕ)
+  pub name : List ℕ
+  pub items : List BodyItem
+  pub is : node ≡ made.Full at def name items
+  pub defined : IsNameOrNone def
+  pub named : IsFreeName name
+  pub begins : BeginsWithNoneOf words def name
+  pub body : AllByRecursion Item items
+
+-- a node that begins with none of these words, and in which nodes nest no deeper than the number, itself counted
+unfoldable pub IsSpellableNode : ℕ → List (List ℕ) → NodeText → Type 0
+IsSpellableNode zero words node = ⊥
+IsSpellableNode (suc depth) words node = IsSpellableUse node ⊎ IsSpellableFull (IsSpellableItem (IsSpellableNode depth [])) words node
+
+-- ---- statements
+
+pub record IsSpellableNodeStatement (words : List (List ℕ)) (statement : Statement) : Type 0 where
+  pub node : NodeText
+  pub is : statement ≡ stands.Node node
+  pub spellable : IsSpellableNode max_depth words node
+
+pub record IsSpellableRouteStatement (statement : Statement) : Type 0 where
+  pub route : RouteText
+  pub is : statement ≡ stands.Route route
+  pub spellable : IsSpellableRoute route
+
+-- PROTOs are not read yet
+abbrev pub IsSpellableStatement : List (List ℕ) → Statement → Type 0
+IsSpellableStatement words s = IsSpellableNodeStatement words s ⊎ IsSpellableRouteStatement s
+
+-- words that begin a statement which is not read yet
+abbrev pub unread_words : List (List ℕ)
+unread_words = codes "EXTERNPROTO" ∷ codes "IMPORT" ∷ codes "EXPORT" ∷ codes "UNIT" ∷ []
+
+-- words that would be read as a part of the head where the first statement stands: META, COMPONENT where there is no META,
+-- and PROFILE where there is nothing before it
+abbrev pub head_words : List Meta → List (List ℕ) → Option (List ℕ) → List (List ℕ)
+head_words (m ∷ ms) components profile = codes "META" ∷ []
+head_words [] (c ∷ cs) profile = codes "META" ∷ codes "COMPONENT" ∷ []
+head_words [] [] (Some name) = codes "META" ∷ codes "COMPONENT" ∷ []
+head_words [] [] None = codes "META" ∷ codes "COMPONENT" ∷ codes "PROFILE" ∷ []
+
+-- the first of the statements begins with none of these words either
+abbrev pub AreSpellableStatements : List (List ℕ) → List Statement → Type 0
+AreSpellableStatements words [] = Unit {0}
+AreSpellableStatements words (s ∷ ss) = IsSpellableStatement (words ++ unread_words) s × AllByRecursion (IsSpellableStatement unread_words) ss
+
+-- ---- the head, and a whole document
+
+abbrev pub IsSpellableComponent : List ℕ → Type 0
+IsSpellableComponent component = IsFreeName component × HasLevel component
+
+abbrev pub IsSpellableMeta : Meta → Type 0
+IsSpellableMeta meta = IsUtf8 meta.key × IsUtf8 meta.content
+
+-- What any text spells is so, and what is written of such a document spells it, lines and the length of what is written apart.
+pub record IsSpellable (d : Document) : Type 0 where
+  pub profile : IsNameOrNone d.profile
+  pub components : AllByRecursion IsSpellableComponent d.components
+  pub metas : AllByRecursion IsSpellableMeta d.metas
+  pub statements : AreSpellableStatements (head_words d.metas d.components d.profile) d.statements

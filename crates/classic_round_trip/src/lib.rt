@@ -1,0 +1,10 @@
+//! What is written of a tree is a text that spells it, if any text does.
+#![tactic(auto)]
+
+mod laws;
+#[cfg(test)]
+mod tests;
+mod writing;
+
+pub use laws::{spellable_documents_are_written, spelled_documents_are_spellable};
+pub use writing::write;
