@@ -1,0 +1,5 @@
+pub mod FaultName
+pub mod Held
+pub mod Machine
+pub mod Meaning
+pub mod Whole

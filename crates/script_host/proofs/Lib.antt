@@ -1,0 +1,4 @@
+pub mod AttachLemmas
+pub mod OutputLemmas
+pub mod PairLemmas
+pub mod RestoreLemmas

@@ -1,0 +1,10 @@
+pub mod Attaching
+pub mod Behaviour
+pub mod Events
+pub mod Faults
+pub mod Growing
+pub mod Hosting
+pub mod Outputs
+pub mod Pairs
+pub mod Restoring
+pub mod States

@@ -1,0 +1,83 @@
+//! Whether boxes are those that a world's scripts ask for.
+
+ghost use Rattle.std.specs.Prelude.{◌≡◌, ◌↔◌, length, map, slice_get, IsSomeAnd, IsTrue, IfOk, MatchOption, Some, None};
+ghost use Rattle.script_host.specs.Attaching.{KnownBelow, Meets, IsMismatch, Fits, Refuses};
+ghost use Rattle.script_host.specs.Hosting.{fresh_record};
+
+use crate::behaviour::Behaviour;
+use crate::fault::AttachFault;
+use std::alloc::{AllocError, Global};
+use x3d_values::{Kind, ScriptSpec};
+
+/// The first script whose kind is not known.
+pub fn first_unknown(specs: &[ScriptSpec]) -> Option<usize>
+    ensures { MatchOption result
+        (KnownBelow specs.now (length specs.now))
+        (λ k. KnownBelow specs.now k × IsSomeAnd (slice_get specs.now k) (λ s. s.kind ≡ None)) }
+{
+    for (k, spec) in specs.iter().enumerate() {
+        if spec.kind.is_none() {
+            return Some(k);
+        }
+    }
+    None
+}
+
+fn is_of_kind(spec: &ScriptSpec, kind: Kind) -> bool
+    ensures { IsTrue result ↔ (spec.now.kind ≡ Some kind) }
+{
+    spec.kind == Some(kind)
+}
+
+fn starts_in(spec: &ScriptSpec, state: &[i64]) -> bool
+    ensures { IsTrue result ↔ (state.now ≡ spec.now.start) }
+{
+    state == spec.start.as_slice()
+}
+
+/// Why the box at place `k` isn't what its script asks for. `state` is room to work in.
+fn mismatch<B: Behaviour>(
+    k: usize,
+    spec: &ScriptSpec,
+    script: &B,
+    state: &mut Vec<i64>,
+) -> Result<Option<AttachFault>, AllocError>
+    ensures { IfOk result (λ answer. MatchOption answer
+        (Meets spec.now (fresh_record B.kind_of B.numbers script.now))
+        (λ fault. IsMismatch fault k spec.now (fresh_record B.kind_of B.numbers script.now))) }
+{
+    if !is_of_kind(spec, script.kind()) {
+        return Ok(Some(AttachFault::KindDiffers(k)));
+    }
+    if !spec.fits {
+        return Ok(Some(AttachFault::InterfaceMismatch(k)));
+    }
+    state.clear();
+    script.state(state)?;
+    if starts_in(spec, state.as_slice()) {
+        Ok(None)
+    } else {
+        Ok(Some(AttachFault::StartMismatch(k)))
+    }
+}
+
+/// The fault of the first box that isn't what its script asks for.
+pub fn first_mismatch<B: Behaviour>(
+    alloc: Global,
+    specs: &[ScriptSpec],
+    scripts: &[B],
+) -> Result<Option<AttachFault>, AllocError>
+    requires count { length specs.now ≡ length scripts.now }
+    requires known { KnownBelow specs.now (length specs.now) }
+    ensures { IfOk result (λ answer. MatchOption answer
+        (Fits specs.now (map (fresh_record B.kind_of B.numbers) scripts.now))
+        (λ fault. Refuses fault specs.now (map (fresh_record B.kind_of B.numbers) scripts.now))) }
+{
+    let mut state = Vec::new(alloc);
+    for (k, spec) in specs.iter().enumerate() {
+        if let Some(fault) = mismatch(k, spec, &scripts[k], &mut state)? {
+            return Ok(Some(fault));
+        }
+    }
+    Ok(None)
+}

@@ -1,0 +1,50 @@
+//! What scripts may be given.
+
+ghost use Rattle.std.specs.Prelude.{◌≡◌, slice_get};
+ghost use Rattle.script_host.specs.Events.{input_types, number_fits, event_fits, takes_event, time_fits};
+
+use x3d_values::{FieldType, Kind, coordinate_fits};
+
+/// The largest size of a time, in microseconds.
+const MAX_TIME: u64 = 1_000_000_000_000_000_000;
+
+fn input_types(kind: Kind) -> &'static [FieldType]
+    ensures { result.now ≡ input_types kind }
+{
+    match kind {
+        Kind::Counter => &[FieldType::SFBool],
+        Kind::Gate => &[FieldType::SFBool, FieldType::SFTime],
+        Kind::Adder => &[FieldType::SFFloat, FieldType::SFFloat],
+        Kind::Batch => &[FieldType::SFBool],
+        Kind::Mover => &[FieldType::SFFloat],
+        Kind::Meter => &[FieldType::SFFloat],
+    }
+}
+
+fn number_fits(field_type: FieldType, number: i64) -> bool
+    ensures { result ≡ number_fits field_type number }
+{
+    match field_type {
+        FieldType::SFBool => number == 0 || number == 1,
+        FieldType::SFFloat => coordinate_fits(number),
+        FieldType::SFTime => number.unsigned_abs() <= MAX_TIME,
+        _ => false,
+    }
+}
+
+fn event_fits(field_type: FieldType, event: [i64; 3]) -> bool
+    ensures { result ≡ event_fits field_type event }
+{
+    let [first, second, third] = event;
+    number_fits(field_type, first) && second == 0 && third == 0
+}
+
+/// Whether an event is a value of the type of that input; an input that the kind lacks takes any.
+pub fn takes_event(kind: Kind, input: u32, event: [i64; 3]) -> bool
+    ensures { result ≡ takes_event kind input event }
+{
+    match input_types(kind).get(input as usize) {
+        Some(field_type) => event_fits(*field_type, event),
+        None => true,
+    }
+}

@@ -1,0 +1,22 @@
+//! Scripts behind one contract: a script is its kind and its state, a list of whole numbers, and
+//! what each call does with them is said once for each kind. The host keeps the scripts of one
+//! world in order, and is generic in the box that holds a script.
+#![tactic(auto)]
+
+mod attach;
+mod behaviour;
+mod boxed;
+mod event;
+mod fault;
+mod laws;
+mod reply;
+mod restore;
+mod scripts;
+mod slot;
+
+pub use behaviour::Behaviour;
+pub use event::takes_event;
+pub use fault::{AttachFault, ReplaceFault, StateFault};
+pub use laws::outputs_law;
+pub use reply::{MAX_REPLIES, Replies, Reply};
+pub use scripts::Scripts;

@@ -1,0 +1,196 @@
+//! The scripts of one world, in order.
+
+ghost use Rattle.std.specs.Prelude.{◌≡◌, ◌<◌, ◌↔◌, ◌++◌, [], length, map, IsTrue, OnOk, OnErr, IfOk, IfErr, IsOkUnless, IsSomeAnd, slice_get, Some};
+ghost use Rattle.script_host.specs.Attaching.{Fits, Refuses, RefusesPlace};
+ghost use Rattle.script_host.specs.Behaviour.{Initialize, Receive, Settle};
+ghost use Rattle.script_host.specs.Growing.{Grows};
+ghost use Rattle.script_host.specs.Hosting.{fresh_record, CalledAt, TakesAt};
+ghost use Rattle.script_host.specs.Pairs.{PairsBelow};
+ghost use Rattle.script_host.specs.Restoring.{AreStates, IsStateOf, RefusesStates, with_states};
+ghost use Rattle.script_host.specs.declared.fault.AttachFault.TheVariants.{Memory};
+
+use crate::behaviour::Behaviour;
+use crate::fault::{AttachFault, ReplaceFault, StateFault};
+use crate::reply::Replies;
+use crate::slot::Slot;
+use crate::{attach, restore};
+use std::alloc::{AllocError, Global};
+use std::marker::Model;
+use x3d_values::{Items, Kind, ScriptSpec};
+
+/// The scripts of a world. Callers see of each its kind, its state and whether it counts as
+/// initialized.
+///
+/// Where this is dropped or closed, the scripts that count as initialized are shut down in order,
+/// and then all are dropped.
+pub struct Scripts<B: Behaviour> {
+    slots: Vec<Slot<B>>,
+}
+
+impl<B: Behaviour> Model for Scripts<B> {
+    ghost use Rattle.std.specs.Prelude.{List};
+    ghost use Rattle.script_host.specs.Hosting.{ScriptRecord};
+
+    ghost Value = { List ScriptRecord };
+
+    ghost view = { λ s. s.slots.items };
+}
+
+impl<B: Behaviour> Scripts<B> {
+    fn from_boxes(alloc: Global, boxes: Vec<B>) -> Result<Scripts<B>, AllocError>
+        ensures { IfOk result (λ scripts.
+            scripts ≡ map (fresh_record B.kind_of B.numbers) boxes.items) }
+    {
+        let mut slots = Vec::new(alloc);
+        for script in boxes {
+            slots.push(Slot::new(script))?;
+        }
+        Ok(Scripts { slots })
+    }
+
+    /// Takes the boxes that a world's scripts ask for; none of them is initialized. Where they are
+    /// refused they are dropped without a call that changes them.
+    pub fn attach(
+        alloc: Global,
+        specs: &[ScriptSpec],
+        boxes: Vec<B>,
+    ) -> Result<Scripts<B>, AttachFault>
+        // What is attached are the boxes, and they are what is asked for.
+        ensures boxes { IfOk result (λ scripts.
+            scripts ≡ map (fresh_record B.kind_of B.numbers) boxes.items) }
+        ensures fits { IfOk result (λ scripts. Fits specs.now scripts) }
+
+        // Boxes that are what is asked for are refused for memory alone, others for the first
+        // fault.
+        ensures takes { Fits specs.now (map (fresh_record B.kind_of B.numbers) boxes.items)
+            → IsOkUnless result Memory }
+        ensures refused { IfErr result (λ fault.
+            Refuses fault specs.now (map (fresh_record B.kind_of B.numbers) boxes.items)) }
+    {
+        if let Some(k) = attach::first_unknown(specs) {
+            return Err(AttachFault::UnknownScript(k));
+        }
+        if specs.len() != boxes.len() {
+            return Err(AttachFault::WrongCount);
+        }
+        if let Some(fault) = attach::first_mismatch(alloc, specs, boxes.as_slice())? {
+            return Err(fault);
+        }
+        Ok(Scripts::from_boxes(alloc, boxes)?)
+    }
+
+    pub fn len(&self) -> usize
+        ensures { result ≡ length self.now }
+    {
+        self.slots.len()
+    }
+
+    pub fn is_empty(&self) -> bool
+        ensures { IsTrue result ↔ (self.now ≡ []) }
+    {
+        self.slots.is_empty()
+    }
+
+    pub fn kind(&self, k: usize) -> Kind
+        requires { k < length self.now }
+        ensures { IsSomeAnd (slice_get self.now k) (λ r. result ≡ r.kind) }
+    {
+        self.slots[k].kind()
+    }
+
+    pub fn call_initialize(&mut self, k: usize) -> Replies
+        requires { k < length self.old }
+        ensures { CalledAt Initialize k self.old self.new result.items }
+    {
+        self.slots[k].initialize()
+    }
+
+    /// `takes_event` of the script's kind is the test that it takes the event.
+    pub fn call_receive(&mut self, k: usize, input: u32, event: [i64; 3]) -> Replies
+        requires there { k < length self.old }
+        requires fits { TakesAt k input event self.old }
+        ensures { CalledAt (Receive input event) k self.old self.new result.items }
+    {
+        self.slots[k].receive(input, event)
+    }
+
+    /// The events of a timestamp were received.
+    pub fn call_settle(&mut self, k: usize) -> Replies
+        requires { k < length self.old }
+        ensures { CalledAt Settle k self.old self.new result.items }
+    {
+        self.slots[k].settle()
+    }
+
+    fn push_states(&self, out: &mut Vec<Items<i64>>) -> Result<(), AllocError>
+        ensures ok { OnOk result (out.new.items ≡ out.old.items ++ map (λ r. r.state) self.now) }
+        ensures fit { OnOk result
+            (PairsBelow IsStateOf self.now (map (λ r. r.state) self.now) (length self.now)) }
+        ensures kept { Grows out.old.items out.new.items }
+    {
+        let alloc = *out.allocator();
+        for slot in &self.slots {
+            out.push(slot.state(alloc)?)?;
+        }
+        Ok(())
+    }
+
+    /// Appends the states of all scripts, or leaves the buffer as it was.
+    pub fn states(&self, out: &mut Vec<Items<i64>>) -> Result<(), AllocError>
+        ensures ok { OnOk result (out.new.items ≡ out.old.items ++ map (λ r. r.state) self.now) }
+        ensures fit { OnOk result (AreStates self.now (map (λ r. r.state) self.now)) }
+        ensures err { OnErr result (out.new.items ≡ out.old.items) }
+    {
+        let len = out.len();
+        let pushed = self.push_states(out);
+        if pushed.is_err() {
+            out.truncate(len);
+        }
+        pushed
+    }
+
+    /// Gives each script the state of its place in a list of states, by `restore`.
+    pub fn restore_all(&mut self, states: &[Items<i64>]) -> Result<(), StateFault>
+        ensures fit { OnOk result (AreStates self.old states.now) }
+        ensures ok { OnOk result (self.new ≡ with_states self.old states.now) }
+        ensures refused { IfErr result (λ fault. RefusesStates fault self.old states.now self.new) }
+    {
+        if self.slots.len() != states.len() {
+            return Err(StateFault::StateLength);
+        }
+        restore::all_fit(self.slots.as_slice(), states)?;
+        restore::restore_each(self.slots.as_mut_slice(), states)?;
+        Ok(())
+    }
+
+    /// Puts a box of the same kind in the place of the k-th one, in its state. The old one is shut
+    /// down where it counts as initialized, and dropped; the new one then counts as that without a
+    /// call. Where the new one is refused it is dropped.
+    pub fn replace(&mut self, k: usize, script: B) -> Result<(), ReplaceFault>
+        ensures same { self.new ≡ self.old }
+        ensures ok { OnOk result
+            (IsSomeAnd (slice_get self.old k) (λ r. B.kind_of script ≡ r.kind)) }
+        ensures refused { IfErr result (λ fault.
+            RefusesPlace fault (slice_get self.old k) (B.kind_of script)) }
+    {
+        let alloc = *self.slots.allocator();
+        if k >= self.slots.len() {
+            return Err(ReplaceFault::NoSuchScript);
+        }
+        self.slots[k].replace(alloc, script)
+    }
+
+    /// Shuts down what counts as initialized, in order, and then drops the boxes.
+    pub fn close(self) {
+        drop(self);
+    }
+}
+
+impl<B: Behaviour> Drop for Scripts<B> {
+    fn drop(self) {
+        let Scripts { mut slots } = self;
+        for slot in slots.iter_mut() {
+            slot.shutdown();
+        }
+    }
+}
