@@ -363,3 +363,16 @@ fn each_refused_growth_is_memory(rt: HostRuntime) -> Result<(), Fail> {
     assert!(rt; last_refused > 9, "refused up to turn {last_refused}");
     Ok(())
 }
+
+#[test]
+fn faults_are_shown(rt: HostRuntime) -> Result<(), AllocError> {
+    let unexpected = ReadFault {
+        kind: ReadFaultKind::Unexpected,
+        line: 3,
+    };
+    let shown = format!(in rt.alloc(); "{unexpected}")?;
+    assert_eq!(rt; shown.as_str(), "line 3: this may not stand here");
+    let shown = format!(in rt.alloc(); "{MEMORY}")?;
+    assert_eq!(rt; shown.as_str(), "memory was refused");
+    Ok(())
+}
