@@ -1,5 +1,5 @@
 -- Fields by the names that routes give them (ISO/IEC 19775-1, field semantics: `set_` and `_changed`).
-use Rattle.std.specs.Prelude.{ℕ, ◌-◌, Bool, List, codes, length, take, drop, nat_eq, Option, Some, None, if◌then◌else◌}
+use Rattle.std.specs.Prelude.{ℕ, ◌-◌, List, codes, length, take, drop, nat_eq, Option, Some, None, if◌then◌else◌}
 use Rattle.std.specs.Option.{option_and_then, option_or}
 use Rattle.std.specs.List.{starts_with, ends_with}
 use denote.Enum.Bare.{sameb}

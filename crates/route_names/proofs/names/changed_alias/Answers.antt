@@ -1,7 +1,6 @@
-use Rattle.std.proofs.Common.{rules, ◌≡◌, Bool, true, false, nat_eq, List, codes, sym, if◌then◌else◌}
+use Rattle.std.proofs.Common.{rules, ◌≡◌, false, nat_eq, codes}
 use Rattle.std.specs.List.{ends_with}
 use Rattle.std.proofs.lemmas.Str.Pattern.{ends_text}
-use Rattle.route_names.specs.Names.{changed_alias}
 use Rattle.route_names.proofs.names.changed_alias.Goals as goal
 
 -- src/names.rt:42:16
