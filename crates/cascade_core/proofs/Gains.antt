@@ -1,0 +1,99 @@
+-- A turn adds to the trace a line for each output that sends, and each output sends once.
+use Rattle.std.proofs.Common.{◌≡◌, ℕ, ℤ, ◌+◌, Bool, true, false, not, ◌&&◌, ◌||◌, List, [], ◌∷◌, ◌++◌, ◌∙◌, ap, sym, refl, append_assoc}
+use Rattle.x3d_values.specs.declared.stamped.Event.{Event}
+use Rattle.x3d_values.specs.declared.stamped.Event.TheVariants.{Clock, Pointer}
+use Rattle.std.proofs.lemmas.List.{map-append, append-nil}
+use Rattle.std.proofs.lemmas.List.Folds.{list_any-append}
+use Rattle.cascade_core.specs.Ends.{has_sent, same_end}
+use Rattle.cascade_core.specs.World.{record_event}
+use Rattle.cascade_core.specs.Answers.{ticked, with_answer, Answer}
+use Rattle.cascade_core.specs.Apply.{clock, clocks_of, happen, tick_node}
+use Rattle.cascade_core.specs.Cascade.{send}
+use Rattle.cascade_core.specs.Outputs.{outputs_of}
+use Rattle.cascade_core.specs.Work.{all_differ, sources_of}
+use Rattle.cascade_core.proofs.Folds.{fold-keeps, all_free}
+use Rattle.cascade_core.proofs.Keeps.{send-keeps}
+use Rattle.cascade_core.proofs.Fuel.{same_end-is, same_end-self}
+use Rattle.x3d_values.specs.declared.node_type.NodeType.{NodeType}
+use Rattle.x3d_values.specs.declared.value.Value.{Value}
+use Rattle.react_core.specs.declared.outbox.Reply.{Reply}
+use Rattle.scene_core.specs.declared.scene.End.{End}
+use Rattle.scene_core.specs.declared.scene.Route.{Route}
+use Rattle.cascade_core.specs.declared.world.TraceLine.{TraceLine}
+use Rattle.cascade_core.specs.declared.world.Turn.{Turn}
+
+-- the trace is the one at the start and a line for each output that has sent, all different
+pub record IsGain (start : List TraceLine) (turn : Turn) : Type 0 where
+  pub lines : List TraceLine
+  pub gained : turn.world.trace ≡ start ++ lines
+  pub sources : sources_of lines ≡ turn.sent
+  pub differ : all_differ turn.sent ≡ true
+
+and_true : (a b : Bool) → a ≡ true → b ≡ true → (a && b) ≡ true
+and_true a b p q = rw (p, q) refl
+
+split : (a b : Bool) → (not a && b) ≡ true → (a ≡ false) × (b ≡ true)
+split true b h = cc
+split false b h = (refl, h)
+
+neither : (a b : Bool) → (a || b) ≡ false → (a ≡ false) × (b ≡ false)
+neither true b h = cc
+neither false b h = (refl, h)
+
+-- the test goes both ways
+other_way : (a b : End) → same_end a b ≡ false → same_end b a ≡ false
+other_way a b h = cases (same_end b a) refl
+  where
+    cases : (t : Bool) → same_end b a ≡ t → same_end b a ≡ false
+    cases false e = e
+    cases true e =
+        let same : b ≡ a = same_end-is b a e in
+        let no : same_end a b ≡ true = rw same (same_end-self a) in
+        cc
+
+differ-push : (es : List End) (e : End) → all_differ es ≡ true → has_sent es e ≡ false → all_differ (es ++ e ∷ []) ≡ true
+differ-push [] e d h = refl
+differ-push (x ∷ es) e d h =
+    let (first, rest) = split (has_sent es x) (all_differ es) d in
+    let (apart, later) = neither (same_end x e) (has_sent es e) h in
+    let more : has_sent (es ++ e ∷ []) x ≡ false = rw (list_any-append (λ y. same_end y x) es (e ∷ []), first, other_way x e apart) refl in
+    rw more (differ-push es e rest later)
+
+gain-record : (start : List TraceLine) (turn : Turn) (source : End) (v : Value) → has_sent turn.sent source ≡ false → IsGain start turn → IsGain start (record_event turn source v)
+gain-record start turn source v h g =
+    let line : TraceLine = record { input = turn.world.applied; time = turn.world.last_time; source = source; value = v } in
+    record {
+      lines = g.lines ++ line ∷ [];
+      gained = rw (g.gained) (append_assoc start g.lines (line ∷ []));
+      sources = map-append (λ (l : TraceLine). l.source) g.lines (line ∷ []) ∙ ap (λ (es : List End). es ++ source ∷ []) g.sources;
+      differ = differ-push turn.sent source g.differ h;
+    }
+
+gain-state : (start : List TraceLine) (turn : Turn) (a : Answer) → IsGain start turn → IsGain start (with_answer turn a)
+gain-state start turn a g = record { lines = g.lines; gained = g.gained; sources = g.sources; differ = g.differ }
+
+module _ (kinds : List NodeType) (routes : List Route) (start : List TraceLine) where
+  gain-send : (depth : ℕ) (turn : Turn) (source : End) (v : Value) → IsGain start turn → IsGain start (send kinds routes depth turn source v)
+  gain-send depth turn source v g = send-keeps kinds routes (IsGain start) (gain-record start) (gain-state start) depth turn source v g
+
+  gain-node : (now : ℤ) (turn : Turn) (node : ℕ) → IsGain start turn → IsGain start (tick_node kinds routes now turn node)
+  unfolding tick_node
+  gain-node now turn node g =
+      let t = ticked turn.world node now in
+      fold-keeps (IsGain start) (λ (r : Reply). Unit {0})
+      (λ (s : Turn) (r : Reply). send kinds routes (outputs_of kinds + 1) s (record { node = node; field = r.field }) r.value)
+      (λ s r q p. gain-send (outputs_of kinds + 1) s (record { node = node; field = r.field }) r.value p)
+      (with_answer turn t) t.replies (all_free t.replies) (gain-state start turn t g)
+
+  pub gain-clock : (now : ℤ) (turn : Turn) → IsGain start turn → IsGain start (clock kinds routes now turn)
+  gain-clock now turn g =
+      fold-keeps (IsGain start) (λ (n : ℕ). Unit {0}) (tick_node kinds routes now) (λ t n q p. gain-node now t n p)
+      turn (clocks_of kinds) (all_free (clocks_of kinds)) g
+
+  pub gain-happen : (now : ℤ) (turn : Turn) (event : Event) → IsGain start turn → IsGain start (happen kinds routes now turn event)
+  gain-happen now turn Clock g = gain-clock now turn g
+  gain-happen now turn (Pointer p) g = g
+
+  -- a turn that begins
+  pub gain-begin : (turn : Turn) → turn.world.trace ≡ start → turn.sent ≡ [] → IsGain start turn
+  gain-begin turn t s = record { lines = []; gained = t ∙ sym (append-nil start); sources = sym s; differ = rw s refl }

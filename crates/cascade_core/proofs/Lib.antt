@@ -1,0 +1,14 @@
+pub mod Folds
+pub mod Sends
+pub mod Keeps
+pub mod Runs
+pub mod Senders
+pub mod SensorReplies
+pub mod SceneOutputs
+pub mod Fuel
+pub mod RoutePlaces
+pub mod Tasks
+pub mod Gains
+pub mod ClockNumbers
+pub mod Marks
+pub mod Counting

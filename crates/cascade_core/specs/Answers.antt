@@ -1,0 +1,83 @@
+-- What one node does in a world, when an event comes to it or the clock ticks (ISO/IEC 19775-1, event model; time component).
+use Rattle.std.specs.Prelude.{ℕ, ℤ, List, [], Option, Some, None, slice_get, slice_set, if◌then◌else◌}
+use Rattle.x3d_values.specs.declared.fields.Fields.{Fields}
+use Rattle.x3d_values.specs.declared.node_type.NodeType.{NodeType}
+use Rattle.x3d_values.specs.declared.value.Value.{Value}
+use Rattle.react_core.specs.declared.outbox.Reply.{Reply}
+use Rattle.react_core.specs.Reaction.{reaction, is_time_sensor}
+use Rattle.sensor_core.specs.Timing.{Timing, timing_of, with_timing}
+use Rattle.sensor_core.specs.Events.{set}
+use Rattle.sensor_core.specs.Ticks.{tick}
+use Rattle.scene_core.specs.declared.scene.End.{End}
+use Rattle.cascade_core.specs.declared.world.WorldData.{WorldData}
+use Rattle.cascade_core.specs.declared.world.Turn.{Turn}
+
+-- what the nodes keep and the time sensors do after an answer, and what is sent, in order
+pub record Answer : Type 0 where
+  pub fields : List Fields
+  pub sensors : List (Option ℕ)
+  pub replies : List Reply
+
+-- nothing happens
+abbrev pub nothing : WorldData → Answer
+nothing w = record { fields = w.fields; sensors = w.sensors; replies = [] }
+
+-- the world after an answer
+abbrev pub answered : WorldData → Answer → WorldData
+answered w a = record w { fields = a.fields; sensors = a.sensors }
+
+abbrev pub with_answer : Turn → Answer → Turn
+with_answer turn a = record turn { world = answered turn.world a }
+
+-- ---- an event comes to a node
+
+-- a node of this type with these fields reacts, at the time of the input
+abbrev pub reacting : WorldData → End → Value → NodeType → Option Fields → Answer
+reacting w target v kind (Some fields) =
+    let r = reaction kind fields target.field v w.last_time in
+    record { fields = slice_set w.fields target.node r.fields; sensors = w.sensors; replies = r.replies }
+reacting w target v kind None = nothing w
+
+-- a time sensor goes by rules of its own: it keeps these values, and this cycle runs or none
+abbrev pub setting : WorldData → End → Value → Fields → Option Timing → Option (Option ℕ) → Answer
+setting w target v fields (Some timing) (Some cycle) =
+    let a = set cycle timing target.field v in
+    record {
+      fields = slice_set w.fields target.node (with_timing fields a.timing);
+      sensors = slice_set w.sensors target.node a.cycle;
+      replies = a.replies;
+    }
+setting w target v fields (Some timing) None = nothing w
+setting w target v fields None cycle = nothing w
+
+abbrev pub setting_at : WorldData → End → Value → Option Fields → Answer
+setting_at w target v (Some fields) = setting w target v fields (timing_of fields) (slice_get w.sensors target.node)
+setting_at w target v None = nothing w
+
+abbrev pub answer_as : WorldData → End → Value → Option NodeType → Answer
+answer_as w target v (Some kind) =
+    if is_time_sensor kind
+    then setting_at w target v (slice_get w.fields target.node)
+    else reacting w target v kind (slice_get w.fields target.node)
+answer_as w target v None = nothing w
+
+-- what the target of an event does; where there is no such node nothing happens
+unfoldable pub answer : List NodeType → WorldData → End → Value → Answer
+answer kinds w target v = answer_as w target v (slice_get kinds target.node)
+
+-- ---- the clock ticks
+
+-- a time sensor ticks: it keeps these values, and this cycle runs or none
+abbrev pub ticking : WorldData → ℕ → ℤ → Option Timing → Option (Option ℕ) → Answer
+ticking w node now (Some timing) (Some cycle) =
+    let t = tick cycle timing now in record { fields = w.fields; sensors = slice_set w.sensors node t.cycle; replies = t.replies }
+ticking w node now (Some timing) None = nothing w
+ticking w node now None cycle = nothing w
+
+abbrev pub ticking_at : WorldData → ℕ → ℤ → Option Fields → Answer
+ticking_at w node now (Some fields) = ticking w node now (timing_of fields) (slice_get w.sensors node)
+ticking_at w node now None = nothing w
+
+-- what a time sensor does when the clock ticks, by the fields that it has then
+unfoldable pub ticked : WorldData → ℕ → ℤ → Answer
+ticked w node now = ticking_at w node now (slice_get w.fields node)

@@ -1,0 +1,82 @@
+-- A stage holds the world of its scene, or is spoiled with the number of inputs that it had applied.
+use Rattle.std.specs.Prelude.{ℕ, Bool, true, false, List, [], Option, Some, None, if◌then◌else◌, ◌+◌, ◌==◌, int_lt, not}
+use Rattle.std.specs.List.{fold}
+use Rattle.x3d_values.specs.declared.node_type.NodeType.{NodeType}
+use Rattle.x3d_values.specs.Stamp.{Stamp}
+use Rattle.scene_core.specs.declared.scene.Route.{Route}
+use Rattle.scene_core.specs.Scene.{SceneView, types_of}
+use Rattle.cascade_core.specs.Apply.{apply}
+use Rattle.cascade_core.specs.declared.fault.ApplyFault.{ApplyFault}
+use Rattle.cascade_core.specs.declared.fault.ApplyFault.TheVariants as fault
+use Rattle.cascade_core.specs.declared.world.TraceLine.{TraceLine}
+use Rattle.cascade_core.specs.declared.world.WorldData.{WorldData}
+
+pub data Held : Type 0 where
+  Running : WorldData → Held
+  Spoiled : ℕ → Held
+
+-- a scene, its routes, and what became of its world
+pub record StageView : Type 0 where
+  pub scene : SceneView
+  pub routes : List Route
+  pub held : Held
+
+-- what a stage holds, by its world and its mark
+abbrev pub held_of : Option ℕ → WorldData → Held
+held_of None w = Running w
+held_of (Some n) w = Spoiled n
+
+-- a fact about the world of a stage that isn't spoiled
+abbrev pub IfRunning : Held → (WorldData → Type 0) → Type 0
+IfRunning (Running w) P = P w
+IfRunning (Spoiled n) P = Unit {0}
+
+-- a fact about a stage that is spoiled
+abbrev pub IfSpoiled : Held → Type 0 → Type 0
+IfSpoiled (Running w) P = Unit {0}
+IfSpoiled (Spoiled n) P = P
+
+abbrev pub is_spoiled : Held → Bool
+is_spoiled (Running w) = false
+is_spoiled (Spoiled n) = true
+
+-- how many inputs a stage has applied, or had when it was spoiled
+abbrev pub applied_of : Held → ℕ
+applied_of (Running w) = w.applied
+applied_of (Spoiled n) = n
+
+-- the trace of a stage
+abbrev pub trace_of : Held → List TraceLine
+trace_of (Running w) = w.trace
+trace_of (Spoiled n) = []
+
+-- why a world refuses an input: the first that holds
+abbrev pub world_refusal : WorldData → Stamp → Option ApplyFault
+world_refusal w input =
+    if not (input.number == w.applied + 1)
+    then Some fault.NotNext
+    else (if int_lt w.last_time input.time then None else Some fault.TimeNotLater)
+
+abbrev pub refusal_of : Held → Stamp → Option ApplyFault
+refusal_of (Running w) input = world_refusal w input
+refusal_of (Spoiled n) input = Some fault.Spoiled
+
+-- the stage with this in it
+abbrev pub holding : StageView → Held → StageView
+holding stage held = record stage { held = held }
+
+abbrev pub after_held : List NodeType → List Route → Held → Stamp → Held
+after_held kinds routes (Running w) input = Running (apply kinds routes w input)
+after_held kinds routes (Spoiled n) input = Spoiled n
+
+-- the stage after an input that it takes
+abbrev pub after : StageView → Stamp → StageView
+after stage input = holding stage (after_held (types_of stage.scene) stage.routes stage.held input)
+
+-- the stage after a list of inputs that it takes
+abbrev pub after_all : StageView → List Stamp → StageView
+after_all stage inputs = fold after stage inputs
+
+-- the stage when memory was refused
+abbrev pub spoiled : StageView → StageView
+spoiled stage = holding stage (Spoiled (applied_of stage.held))

@@ -1,0 +1,12 @@
+pub mod Ends
+pub mod Outputs
+pub mod World
+pub mod Answers
+pub mod Cascade
+pub mod Apply
+pub mod Held
+pub mod Work
+pub mod Texts
+pub mod Stack
+pub mod Bits
+pub mod FaultNames

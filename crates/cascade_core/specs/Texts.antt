@@ -1,0 +1,37 @@
+-- The texts of a world: its trace, one line for each event that was sent, and its scene (which texts there are is our choice).
+use Rattle.std.specs.Prelude.{ℕ, ◌++◌, List, [], ◌∷◌, decimal, slice_get}
+use Rattle.std.specs.List.{flat_map}
+use Rattle.std.specs.Option.{option_map_or, option_and_then}
+use Rattle.x3d_values.specs.declared.node_type.NodeType.{NodeType}
+use Rattle.x3d_values.specs.declared.value.Value.TheVariants.{SFTime}
+use Rattle.x3d_values.specs.Tables.{rows}
+use Rattle.x3d_values.specs.ValueText.{value_text}
+use Rattle.scene_core.specs.declared.scene.End.{End}
+use Rattle.scene_core.specs.Scene.{SceneView, types_of, label_of}
+use Rattle.scene_text.specs.SceneText.{scene_text as text_of_scene}
+use Rattle.cascade_core.specs.declared.world.TraceLine.{TraceLine}
+use Rattle.cascade_core.specs.declared.world.WorldData.{WorldData}
+
+-- the plain name of a field, by the table of fields
+unfoldable pub field_name : List NodeType → End → List ℕ
+field_name kinds e = option_map_or (λ row. row.name) (option_and_then (λ kind. slice_get (rows kind) e.field) (slice_get kinds e.node)) []
+
+-- `<input> <seconds> `
+unfoldable pub stamp_text : TraceLine → List ℕ
+stamp_text line = decimal line.input ++ 32 ∷ value_text (SFTime line.time) ++ 32 ∷ []
+
+-- `<label>.<field>`
+unfoldable pub source_text : SceneView → End → List ℕ
+source_text scene source = label_of scene source.node ++ 46 ∷ field_name (types_of scene) source
+
+-- `<input> <seconds> <label>.<field> <value>` and a line feed
+unfoldable pub line_text : SceneView → TraceLine → List ℕ
+line_text scene line = stamp_text line ++ source_text scene line.source ++ 32 ∷ value_text line.value ++ 10 ∷ []
+
+-- all events in the order in which they were sent
+unfoldable pub trace_text : SceneView → WorldData → List ℕ
+trace_text scene w = flat_map (line_text scene) w.trace
+
+-- the scene with what its nodes keep
+unfoldable pub scene_text : SceneView → WorldData → List ℕ
+scene_text scene w = text_of_scene scene w.fields

@@ -1,0 +1,25 @@
+-- What an input gave rise to, by the lines that the trace gained.
+use Rattle.std.specs.Prelude.{Bool, ◌≡◌, true, not, ◌&&◌, ◌++◌, List, [], ◌∷◌, length, map, count_by}
+use Rattle.scene_core.specs.declared.scene.End.{End}
+use Rattle.scene_core.specs.declared.scene.Route.{Route}
+use Rattle.cascade_core.specs.Ends.{has_sent}
+use Rattle.cascade_core.specs.declared.work.Work.{Work}
+use Rattle.cascade_core.specs.declared.world.TraceLine.{TraceLine}
+
+-- the ends are different from each other
+abbrev pub all_differ : List End → Bool
+all_differ [] = true
+all_differ (e ∷ es) = not (has_sent es e) && all_differ es
+
+-- the outputs that sent
+abbrev pub sources_of : List TraceLine → List End
+sources_of lines = map (λ line. line.source) lines
+
+-- the trace gained these lines, of different outputs; the work counts them, and the routes whose source sent; there is no script to settle
+pub record IsWork (routes : List Route) (old new : List TraceLine) (work : Work) : Type 0 where
+  pub lines : List TraceLine
+  pub gained : new ≡ old ++ lines
+  pub differ : all_differ (sources_of lines) ≡ true
+  pub sends : work.sends ≡ length lines
+  pub deliveries : work.deliveries ≡ count_by (λ r. has_sent (sources_of lines) r.source) routes
+  pub settles : work.settles ≡ 0

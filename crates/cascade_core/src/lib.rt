@@ -1,0 +1,25 @@
+//! One viewer's world: inputs start event cascades, which change what the nodes keep and are told
+//! in a trace (ISO/IEC 19775-1, event model).
+#![tactic(auto)]
+
+mod answer;
+mod clock;
+mod deliveries;
+mod fault;
+mod nodes;
+mod places;
+mod scripts;
+mod sent;
+mod stack;
+mod stage;
+mod state;
+mod texts;
+mod work;
+mod world;
+
+pub use fault::{ApplyFault, LoadFault, TextFault};
+pub use scripts::Scripts;
+pub use stage::{Stage, run};
+pub use state::State;
+pub use work::Work;
+pub use world::{TraceLine, WorldData};

@@ -1,0 +1,79 @@
+//! The places of outputs among the bits of a scene.
+
+ghost use Rattle.std.specs.Prelude.{◌≡◌, ◌≤◌, OnOk, false, length, All};
+ghost use Rattle.cascade_core.specs.Bits.{IsRising, place_of};
+ghost use Rattle.cascade_core.specs.Ends.{same_end};
+
+use crate::nodes::count_of;
+use scene_core::{End, Scene};
+use std::alloc::AllocError;
+use x3d_values::{NodeType, fields_of};
+
+/// Whether two ends are the same.
+pub fn same_end(one: End, other: End) -> bool
+    ensures { result ≡ same_end one other }
+{
+    one.node == other.node && one.field == other.field
+}
+
+/// The place of an end, where each node has a start.
+#[tactic(auto, unfolding(crate::specs::Bits::place_of))]
+pub fn place_of(starts: &[usize], end: End) -> Option<usize>
+    ensures { result ≡ place_of starts.now end }
+{
+    let node = end.node as usize;
+    let start = *starts.get(node)?;
+    let next = *starts.get(node + 1)?;
+    let field = end.field as usize;
+    if field < next.saturating_sub(start) {
+        Some(start + field)
+    } else {
+        None
+    }
+}
+
+/// Bits that aren't set are put at the end.
+fn push_unset(bits: &mut Vec<bool>, count: usize) -> Result<(), AllocError>
+    requires unset { All (λ bit. bit ≡ false) bits.old.items }
+    ensures unset { OnOk result (All (λ bit. bit ≡ false) bits.new.items) }
+    ensures longer { length bits.old.items ≤ length bits.new.items }
+{
+    for _ in 0..count {
+        bits.push(false)?;
+    }
+    Ok(())
+}
+
+/// A node starts behind the bits that are there, and has one for each of its fields.
+fn push_node(
+    node_type: NodeType,
+    starts: &mut Vec<usize>,
+    bits: &mut Vec<bool>,
+) -> Result<(), AllocError>
+    requires rising { IsRising starts.old.items (length bits.old.items) }
+    requires unset { All (λ bit. bit ≡ false) bits.old.items }
+    ensures rising { OnOk result (IsRising starts.new.items (length bits.new.items)) }
+    ensures unset { OnOk result (All (λ bit. bit ≡ false) bits.new.items) }
+{
+    starts.push(bits.len())?;
+    push_unset(bits, fields_of(node_type).len())
+}
+
+/// The starts of all nodes, and where the bits of the last one end.
+pub fn push_starts(
+    scene: &Scene,
+    starts: &mut Vec<usize>,
+    bits: &mut Vec<bool>,
+) -> Result<(), AllocError>
+    requires rising { IsRising starts.old.items (length bits.old.items) }
+    requires unset { All (λ bit. bit ≡ false) bits.old.items }
+    ensures rising { OnOk result (IsRising starts.new.items (length bits.new.items)) }
+    ensures unset { OnOk result (All (λ bit. bit ≡ false) bits.new.items) }
+{
+    let count = count_of(scene)?;
+    for node in 0..count {
+        push_node(scene.node_type(node), starts, bits)?;
+    }
+    starts.push(bits.len())?;
+    Ok(())
+}

@@ -1,0 +1,145 @@
+//! A cascade by a stack of tasks, whose depth is bounded by memory alone.
+
+ghost use Rattle.std.specs.Prelude.{◌≡◌, ◌+◌, ◌≤◌, ◌<◌, ◌^◌, ◌++◌, [], ◌∷◌, true, IfSome, OnOk, length, map, reverse, slice_get};
+ghost use Rattle.std.specs.List.{AllByRecursion};
+ghost use Rattle.scene_core.specs.Scene.{types_of};
+ghost use Rattle.cascade_core.specs.Ends.{targets_of};
+ghost use Rattle.cascade_core.specs.Outputs.{is_scene_output};
+ghost use Rattle.cascade_core.specs.Stack.{send_full, do_task, finish, IsReady, weight, work_left, send_by};
+
+use crate::world::Turn;
+use react_core::Outbox;
+use route_core::Routes;
+use scene_core::{End, Scene};
+use std::alloc::AllocError;
+use x3d_values::Value;
+
+/// Something that is still to be done.
+#[derive(Debug, Drop, PartialEq, Eq)]
+pub enum Task {
+    /// An event is sent by an output.
+    Send(End, Value),
+    /// The routes of an output are followed, from this place among them on.
+    Follow(End, Value, usize),
+}
+
+/// Does all tasks, the last first.
+pub fn run_tasks(
+    scene: &Scene,
+    routes: &Routes,
+    tasks: &mut Vec<Task>,
+    turn: &mut Turn,
+) -> Result<(), AllocError>
+    requires ready { AllByRecursion (IsReady (types_of scene.now)) tasks.old.items }
+    ensures turn { OnOk result (turn.new ≡ finish (types_of scene.now) routes.now turn.old tasks.old.items) }
+    ensures empty { OnOk result (tasks.new.items ≡ []) }
+{
+    while let Some(task) = tasks.pop() {
+        step(scene, routes, tasks, turn, task)?;
+    }
+    Ok(())
+}
+
+/// Does one task, which may leave others.
+fn step(
+    scene: &Scene,
+    routes: &Routes,
+    tasks: &mut Vec<Task>,
+    turn: &mut Turn,
+    task: Task,
+) -> Result<(), AllocError>
+    requires task { IsReady (types_of scene.now) task }
+    requires tasks { AllByRecursion (IsReady (types_of scene.now)) tasks.old.items }
+    ensures done { OnOk result (finish (types_of scene.now) routes.now turn.new tasks.new.items ≡ finish (types_of scene.now) routes.now (do_task (types_of scene.now) routes.now turn.old task) tasks.old.items) }
+    ensures ready { OnOk result (AllByRecursion (IsReady (types_of scene.now)) tasks.new.items) }
+    ensures fewer { OnOk result (work_left (types_of scene.now) routes.now turn.new tasks.new.items + 1 ≤ work_left (types_of scene.now) routes.now turn.old tasks.old.items + weight routes.now task) }
+{
+    match task {
+        Task::Send(source, value) => begin(scene, routes, tasks, turn, source, value),
+        Task::Follow(source, value, next) => follow(
+            scene, routes, tasks, turn, source, value, next,
+        ),
+    }
+}
+
+/// An output sends, unless it has sent before.
+fn begin(
+    scene: &Scene,
+    routes: &Routes,
+    tasks: &mut Vec<Task>,
+    turn: &mut Turn,
+    source: End,
+    value: Value,
+) -> Result<(), AllocError>
+    requires task { is_scene_output (types_of scene.now) source ≡ true }
+    requires tasks { AllByRecursion (IsReady (types_of scene.now)) tasks.old.items }
+    ensures done { OnOk result (finish (types_of scene.now) routes.now turn.new tasks.new.items ≡ finish (types_of scene.now) routes.now (send_full (types_of scene.now) routes.now turn.old source value) tasks.old.items) }
+    ensures ready { OnOk result (AllByRecursion (IsReady (types_of scene.now)) tasks.new.items) }
+    ensures fewer { OnOk result (work_left (types_of scene.now) routes.now turn.new tasks.new.items + 1 ≤ work_left (types_of scene.now) routes.now turn.old tasks.old.items + 1) }
+{
+    if turn.sent.contains(source) {
+        return Ok(());
+    }
+    let alloc = *tasks.allocator();
+    turn.record_event(alloc, source, &value)?;
+    tasks.push(Task::Follow(source, value, 0))?;
+    Ok(())
+}
+
+/// The route at this place among those of the output is followed, and the rest are left.
+fn follow(
+    scene: &Scene,
+    routes: &Routes,
+    tasks: &mut Vec<Task>,
+    turn: &mut Turn,
+    source: End,
+    value: Value,
+    next: usize,
+) -> Result<(), AllocError>
+    requires tasks { AllByRecursion (IsReady (types_of scene.now)) tasks.old.items }
+    ensures done { OnOk result (finish (types_of scene.now) routes.now turn.new tasks.new.items ≡ finish (types_of scene.now) routes.now (do_task (types_of scene.now) routes.now turn.old (Task.Follow source value next)) tasks.old.items) }
+    ensures ready { OnOk result (AllByRecursion (IsReady (types_of scene.now)) tasks.new.items) }
+    ensures fewer { OnOk result (work_left (types_of scene.now) routes.now turn.new tasks.new.items + 1 ≤ work_left (types_of scene.now) routes.now turn.old tasks.old.items + weight routes.now (Task.Follow source value next)) }
+{
+    let Some(target) = target_at(routes, source, next) else {
+        return Ok(());
+    };
+    let mut replies = Outbox::new();
+    let alloc = *tasks.allocator();
+    turn.world
+        .answer(alloc, scene, target, &value, &mut replies)?;
+    tasks.push(Task::Follow(source, value, next + 1))?;
+    push_replies(tasks, target.node, replies)?;
+    Ok(())
+}
+
+/// Where the route at this place among those of the output leads, if there are so many.
+fn target_at(routes: &Routes, source: End, next: usize) -> Option<End>
+    ensures value { result ≡ slice_get (targets_of routes.now source) next }
+    ensures few { IfSome result (λ target. next < 2 ^ 63) }
+{
+    let places = routes.from_output(source);
+    if next >= places.len() {
+        return None;
+    }
+    Some(routes.route(places[next]).target)
+}
+
+/// Each reply is to be sent, the first of them next.
+pub fn push_replies(tasks: &mut Vec<Task>, node: u32, mut replies: Outbox) -> Result<(), AllocError>
+    ensures tasks { OnOk result (tasks.new.items ≡ tasks.old.items ++ map (send_by node) (reverse replies.items)) }
+    ensures few { length replies.items ≤ 5 }
+{
+    // The slice says how few they are.
+    let _few = replies.as_slice().len();
+    while let Some(reply) = replies.pop() {
+        tasks.push(Task::Send(
+            End {
+                node,
+                field: reply.field,
+            },
+            reply.value,
+        ))?;
+    }
+    Ok(())
+}

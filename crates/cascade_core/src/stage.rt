@@ -1,0 +1,219 @@
+//! A stage holds the world of a scene, and applies inputs to it.
+
+ghost use Rattle.std.specs.Prelude.{◌≡◌, ◌++◌, IfOk, IfErr, IfNone, IfSome, None, OnOk, OnErr, map};
+ghost use Rattle.cascade_core.specs.Held.{Running};
+ghost use Rattle.cascade_core.specs.Apply.{opening, world};
+
+use crate::clock::advance;
+use crate::fault::{ApplyFault, LoadFault, TextFault};
+use crate::nodes::clocks_of;
+use crate::scripts::Scripts;
+use crate::sent::SentBits;
+use crate::stack::Task;
+use crate::state::State;
+use crate::texts::push_trace;
+use crate::work::Work;
+use crate::world::{Turn, WorldData};
+use route_core::Routes;
+use scene_core::Scene;
+use scene_text::write_scene;
+use sensor_core::TimeState;
+use std::alloc::{AllocError, Global};
+use std::marker::Model;
+use x3d_lists::Items;
+use x3d_values::{Fields, Stamped};
+
+/// A scene with its world, which moves on by inputs.
+#[derive(Drop)]
+pub struct Stage<B> {
+    scene: Scene,
+    routes: Routes,
+    scripts: Scripts<B>,
+    clocks: Vec<u32>,
+    turn: Turn,
+    tasks: Vec<Task>,
+    spoiled: Option<u32>,
+}
+
+impl<B> Model for Stage<B> {
+    ghost use Rattle.std.specs.Prelude.{◌≡◌};
+    ghost use Rattle.scene_core.specs.Scene.{types_of};
+    ghost use Rattle.cascade_core.specs.Apply.{clocks_of};
+    ghost use Rattle.cascade_core.specs.Held.{StageView, held_of};
+
+    ghost Value = { StageView };
+
+    ghost view = { λ s. record { scene = s.scene; routes = s.routes; held = held_of s.spoiled s.turn.world } };
+
+    ghost invariant = { λ s. s.clocks.items ≡ clocks_of (types_of s.scene) };
+}
+
+/// No node runs a cycle.
+fn idle_sensors(alloc: Global, fields: &[Fields]) -> Result<Items<TimeState>, AllocError>
+    ensures { IfOk result (λ sensors. sensors ≡ map (λ fields. None) fields.now) }
+{
+    let mut sensors = Items::new(alloc);
+    for _kept in fields {
+        sensors.push(TimeState::inactive())?;
+    }
+    Ok(sensors)
+}
+
+/// The world of a scene before any input.
+fn opening(alloc: Global, scene: &Scene) -> Result<WorldData, AllocError>
+    ensures { IfOk result (λ w. w ≡ opening scene.now) }
+{
+    let fields = scene.state(alloc)?;
+    let sensors = idle_sensors(alloc, &fields)?;
+    Ok(WorldData {
+        applied: 0,
+        last_time: 0,
+        fields: State::from_vec(fields),
+        sensors,
+        trace: Items::new(alloc),
+    })
+}
+
+impl<B> Stage<B> {
+    ghost use Rattle.std.specs.Prelude.{◌≡◌, ◌++◌, IfOk, IfErr, IfNone, IfSome, OnOk, OnErr};
+    ghost use Rattle.cascade_core.specs.Held.{Running, after, refusal_of, spoiled as spoiled_of, applied_of, after_all, IfRunning, IfSpoiled, is_spoiled, trace_of};
+    ghost use Rattle.cascade_core.specs.Apply.{opening};
+    ghost use Rattle.cascade_core.specs.Texts.{trace_text, scene_text};
+    ghost use Rattle.cascade_core.specs.Work.{IsWork};
+
+    /// The stage of a scene with its routes and scripts, before any input.
+    pub fn load(
+        alloc: Global,
+        scene: Scene,
+        routes: Routes,
+        scripts: Scripts<B>,
+    ) -> Result<Stage<B>, LoadFault>
+        ensures { IfOk result (λ stage. stage ≡ record { scene = scene; routes = routes; held = Running (opening scene) }) }
+    {
+        let clocks = clocks_of(alloc, &scene)?;
+        let world = opening(alloc, &scene)?;
+        let sent = SentBits::new(alloc, &scene)?;
+        Ok(Stage {
+            scene,
+            routes,
+            scripts,
+            clocks,
+            turn: Turn { world, sent },
+            tasks: Vec::new(alloc),
+            spoiled: None,
+        })
+    }
+
+    /// How many inputs were applied, or had been when the stage was spoiled.
+    pub fn applied(&self) -> u32
+        ensures { result ≡ applied_of self.now.held }
+    {
+        match self.spoiled {
+            Some(count) => count,
+            None => self.turn.world.applied,
+        }
+    }
+
+    /// Whether memory was refused at an input.
+    pub fn spoiled(&self) -> bool
+        ensures { result ≡ is_spoiled self.now.held }
+    {
+        self.spoiled.is_some()
+    }
+
+    /// Applies the next input.
+    pub fn apply(&mut self, input: &Stamped) -> Result<Work, ApplyFault>
+        // Whatever can be said before the work starts is answered then, and the stage is as it was.
+        ensures refused { IfSome (refusal_of self.old.held input.now) (λ fault. (result ≡ Err fault) × (self.new ≡ self.old)) }
+        ensures ok { OnOk result (self.new ≡ after self.old input.now) }
+        ensures work { IfOk result (IsWork self.old.routes (trace_of self.old.held) (trace_of self.new.held)) }
+        // Where memory was refused the stage is spoiled, with the inputs that it had applied.
+        ensures memory { IfNone (refusal_of self.old.held input.now) (OnErr result ((result ≡ Err ApplyFault.Memory) × (self.new ≡ spoiled_of self.old))) }
+    {
+        if self.spoiled.is_some() {
+            return Err(ApplyFault::Spoiled);
+        }
+        let before = self.turn.world.applied;
+        if input.number() - 1 != before {
+            return Err(ApplyFault::NotNext);
+        }
+        if input.time() <= self.turn.world.last_time {
+            return Err(ApplyFault::TimeNotLater);
+        }
+        match advance(
+            &self.scene,
+            &self.routes,
+            &self.clocks,
+            &mut self.tasks,
+            &mut self.turn,
+            input,
+        ) {
+            Ok(work) => Ok(work),
+            Err(_) => {
+                self.spoiled = Some(before);
+                Err(ApplyFault::Memory)
+            }
+        }
+    }
+
+    /// Applies inputs in order, up to the first that is refused.
+    fn apply_all(&mut self, inputs: &[Stamped]) -> Result<(), ApplyFault>
+        ensures ok { OnOk result (self.new ≡ after_all self.old inputs.now) }
+    {
+        for input in inputs {
+            self.apply(input)?;
+        }
+        Ok(())
+    }
+
+    /// Appends the text of the trace; on a refusal the buffer is as it was.
+    #[tactic(auto, unfolding(crate::specs::Texts::trace_text))]
+    pub fn trace_text(&self, out: &mut Vec<u8>) -> Result<(), TextFault>
+        ensures refused { IfSpoiled self.now.held (result ≡ Err TextFault.Spoiled) }
+        ensures ok { IfRunning self.now.held (λ w. OnOk result (out.new.items ≡ out.old.items ++ trace_text self.now.scene w)) }
+        ensures memory { IfRunning self.now.held (λ w. IfErr result (λ fault. fault ≡ TextFault.Memory)) }
+        ensures err { OnErr result (out.new.items ≡ out.old.items) }
+    {
+        if self.spoiled.is_some() {
+            return Err(TextFault::Spoiled);
+        }
+        push_trace(&self.scene, self.turn.world.trace.as_slice(), out)?;
+        Ok(())
+    }
+
+    /// Appends the text of the scene as it is now; on a refusal the buffer is as it was.
+    #[tactic(auto, unfolding(crate::specs::Texts::scene_text))]
+    pub fn scene_text(&self, out: &mut Vec<u8>) -> Result<(), TextFault>
+        ensures refused { IfSpoiled self.now.held (result ≡ Err TextFault.Spoiled) }
+        ensures ok { IfRunning self.now.held (λ w. OnOk result (out.new.items ≡ out.old.items ++ scene_text self.now.scene w)) }
+        ensures memory { IfRunning self.now.held (λ w. IfErr result (λ fault. fault ≡ TextFault.Memory)) }
+        ensures err { OnErr result (out.new.items ≡ out.old.items) }
+    {
+        if self.spoiled.is_some() {
+            return Err(TextFault::Spoiled);
+        }
+        write_scene(&self.scene, self.turn.world.fields.as_slice(), out)?;
+        Ok(())
+    }
+
+    /// Ends the stage with its scripts.
+    pub fn close(self) {}
+}
+
+/// The stage of a scene after these inputs, up to the first that is refused.
+#[tactic(auto, using(crate::proofs::Runs::after_all_running))]
+pub fn run<B>(
+    alloc: Global,
+    scene: Scene,
+    routes: Routes,
+    scripts: Scripts<B>,
+    inputs: &[Stamped],
+) -> Result<Stage<B>, ApplyFault>
+    ensures { IfOk result (λ stage. stage ≡ record { scene = scene; routes = routes; held = Running (world scene routes inputs.now) }) }
+{
+    let Ok(mut stage) = Stage::load(alloc, scene, routes, scripts) else {
+        return Err(ApplyFault::Memory);
+    };
+    stage.apply_all(inputs)?;
+    Ok(stage)
+}

@@ -1,0 +1,76 @@
+//! The state of a scene after some inputs, and in the course of one.
+
+ghost use Rattle.std.specs.Prelude.{◌≡◌, OnOk};
+ghost use Rattle.cascade_core.specs.Apply.{begin as begin_of};
+ghost use Rattle.cascade_core.specs.World.{record_event};
+
+use crate::sent::SentBits;
+use crate::state::State;
+use scene_core::End;
+use sensor_core::TimeState;
+use std::alloc::{AllocError, Global};
+use x3d_lists::Items;
+use x3d_values::{Stamped, Value, clone_value};
+
+/// One event that was sent.
+#[derive(Debug, Drop, PartialEq, Eq)]
+pub struct TraceLine {
+    /// The number of the input.
+    pub input: u32,
+    /// In microseconds.
+    pub time: i64,
+    /// The output.
+    pub source: End,
+    pub value: Value,
+}
+
+/// The state of a scene after some inputs.
+#[derive(Drop)]
+pub struct WorldData {
+    /// How many inputs were applied.
+    pub applied: u32,
+    /// The time of the last of them in microseconds, or 0.
+    pub last_time: i64,
+    pub fields: State,
+    /// Which cycle each node runs, by its number: none but a TimeSensor runs one.
+    pub sensors: Items<TimeState>,
+    /// All events that were sent, in order.
+    pub trace: Items<TraceLine>,
+}
+
+/// The world in the course of one input.
+#[derive(Drop)]
+pub struct Turn {
+    pub world: WorldData,
+    pub sent: SentBits,
+}
+
+impl Turn {
+    /// The turn of an input begins: no output has sent yet.
+    pub fn begin(&mut self, input: &Stamped)
+        ensures { self.new ≡ begin_of self.old.world input.now }
+    {
+        self.world.applied = input.number();
+        self.world.last_time = input.time();
+        self.sent.clear();
+    }
+
+    /// Records an event: it stands in the trace, and its output has sent.
+    pub fn record_event(
+        &mut self,
+        alloc: Global,
+        source: End,
+        value: &Value,
+    ) -> Result<(), AllocError>
+        ensures { OnOk result (self.new ≡ record_event self.old source value.now) }
+    {
+        let line = TraceLine {
+            input: self.world.applied,
+            time: self.world.last_time,
+            source,
+            value: clone_value(alloc, value)?,
+        };
+        self.world.trace.push(line)?;
+        self.sent.push(source)
+    }
+}

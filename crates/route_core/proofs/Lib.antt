@@ -1,0 +1,6 @@
+pub mod Counts
+pub mod Fields
+pub mod Lists
+pub mod Repeats
+pub mod Tables
+pub mod Sources

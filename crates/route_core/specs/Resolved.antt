@@ -1,0 +1,52 @@
+-- The routes of a document in its scene (ISO/IEC 19775-1, ROUTE).
+use Rattle.std.specs.Prelude.{ℕ, ◌&&◌, Bool, List, [], ◌∷◌, ◌++◌, Result, Ok, Err, take, if◌then◌else◌}
+use Rattle.std.specs.List.{fold, list_any}
+use Rattle.proto_expand.specs.declared.flat.Flat.{Flat}
+use Rattle.proto_expand.specs.declared.flat.FlatRoute.{FlatRoute}
+use Rattle.scene_core.specs.Scene.{SceneView}
+use Rattle.scene_core.specs.declared.scene.Route.{Route}
+use Rattle.route_core.specs.Outputs.{same_end}
+use Rattle.route_core.specs.Ends.{route_of}
+use Rattle.route_core.specs.declared.resolving.TheConstants.{MOST_ROUTES}
+use Rattle.route_core.specs.declared.fault.RouteFault.{RouteFault}
+use Rattle.route_core.specs.declared.fault.RouteFaultKind.{RouteFaultKind}
+use Rattle.route_core.specs.declared.fault.RouteFaultKind.TheVariants.{Memory}
+
+-- memory was refused
+abbrev pub memory : RouteFault
+memory = record { kind = Memory; line = 0 }
+
+-- a fault stands on the line of its ROUTE
+abbrev pub at_line : ℕ → Result Route RouteFaultKind → Result Route RouteFault
+at_line line (Ok route) = Ok route
+at_line line (Err kind) = Err (record { kind = kind; line = line })
+
+-- the route stands before the others, its fault in their place
+abbrev pub before_others : Result Route RouteFault → Result (List Route) RouteFault → Result (List Route) RouteFault
+before_others (Err fault) others = Err fault
+before_others (Ok route) (Err fault) = Err fault
+before_others (Ok route) (Ok others) = Ok (route ∷ others)
+
+-- each route in the order of the text, or the first fault
+abbrev pub each_of : SceneView → List FlatRoute → Result (List Route) RouteFault
+each_of scene [] = Ok []
+each_of scene (r ∷ rs) = before_others (at_line r.line (route_of scene r)) (each_of scene rs)
+
+abbrev pub same_route : Route → Route → Bool
+same_route a b = same_end a.source b.source && same_end a.target b.target
+
+-- the route behind the others, unless it is among them
+abbrev pub added : List Route → Route → List Route
+added routes r = if list_any (same_route r) routes then routes else routes ++ r ∷ []
+
+-- each route where it stands first; an expanded document has no more than are kept
+abbrev pub without_repeats : List Route → List Route
+without_repeats routes = take MOST_ROUTES (fold added [] routes)
+
+abbrev pub firsts_of : Result (List Route) RouteFault → Result (List Route) RouteFault
+firsts_of (Err fault) = Err fault
+firsts_of (Ok routes) = Ok (without_repeats routes)
+
+-- the routes of the document
+abbrev pub resolved : Flat → SceneView → Result (List Route) RouteFault
+resolved flat scene = firsts_of (each_of scene flat.routes)

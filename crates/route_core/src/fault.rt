@@ -1,0 +1,80 @@
+//! Why a document's routes are no routes of its scene.
+
+ghost use Rattle.std.specs.Prelude.{◌≡◌};
+ghost use Rattle.route_core.specs.FaultName.{fault_name};
+ghost use Rattle.route_core.specs.declared.fault.RouteFaultKind.TheVariants.{Memory};
+
+use std::alloc::AllocError;
+use std::{error, fmt};
+use thiserror::Error;
+
+/// Why a route is none of the scene, and on which line its ROUTE stands.
+#[derive(Clone, Copy, Debug, PartialEq, Eq)]
+pub struct RouteFault {
+    pub kind: RouteFaultKind,
+    /// From 1, or 0 where the fault has no place in the text.
+    pub line: u32,
+}
+
+/// The faults of routes. Of the first faulty route its source's is answered, then its target's,
+/// then one of both.
+#[derive(Clone, Copy, Debug, PartialEq, Eq, Error)]
+pub enum RouteFaultKind {
+    #[error("no node of this name stands before the ROUTE")]
+    NoSuchNode,
+    #[error("the node has no such field")]
+    NoSuchField,
+    /// A source that sends nothing.
+    #[error("the field is no output")]
+    NotOutput,
+    /// A destination that receives nothing.
+    #[error("the field is no input")]
+    NotInput,
+    #[error("the fields have different types")]
+    TypesDiffer,
+    /// Nodes aren't sent.
+    #[error("the fields hold nodes")]
+    NodeEvent,
+    #[error("memory was refused")]
+    Memory,
+}
+
+impl RouteFaultKind {
+    /// The name of the variant.
+    pub fn name(self) -> &'static str
+        ensures { result.now ≡ fault_name self }
+    {
+        match self {
+            RouteFaultKind::NoSuchNode => "NoSuchNode",
+            RouteFaultKind::NoSuchField => "NoSuchField",
+            RouteFaultKind::NotOutput => "NotOutput",
+            RouteFaultKind::NotInput => "NotInput",
+            RouteFaultKind::TypesDiffer => "TypesDiffer",
+            RouteFaultKind::NodeEvent => "NodeEvent",
+            RouteFaultKind::Memory => "Memory",
+        }
+    }
+}
+
+impl fmt::Display for RouteFault {
+    fn fmt<W: fmt::Write>(&self, f: &mut fmt::Formatter<W>) -> fmt::Result {
+        if self.line == 0 {
+            write!(f, "{}", self.kind)
+        } else {
+            write!(f, "line {}: {}", self.line, self.kind)
+        }
+    }
+}
+
+impl error::Error for RouteFault {}
+
+impl From<AllocError> for RouteFault {
+    ghost from_gives = { λ _ fault. fault ≡ record { kind = Memory; line = 0 } };
+
+    fn from(_refused: AllocError) -> RouteFault {
+        RouteFault {
+            kind: RouteFaultKind::Memory,
+            line: 0,
+        }
+    }
+}

@@ -1,0 +1,74 @@
+//! From the routes of a document to those of its scene.
+
+ghost use Rattle.std.specs.Prelude.{◌≡◌, ◌^◌, IfOk, All, take};
+ghost use Rattle.x3d_lists.specs.Answers.{Gives};
+ghost use Rattle.route_core.specs.Ends as ends;
+ghost use Rattle.route_core.specs.Ends.{IsKnown, field_counts};
+ghost use Rattle.route_core.specs.Resolved.{at_line, each_of, memory, without_repeats};
+
+use crate::ends::route_of;
+use crate::fault::RouteFault;
+use indexmap::IndexSet;
+use proto_expand::FlatRoute;
+use scene_core::{Route, Scene};
+use std::alloc::{AllocError, Global};
+use x3d_lists::Items;
+use x3d_values::fields_of;
+
+/// More routes aren't kept. An expanded document has no more.
+pub const MOST_ROUTES: usize = 65_536;
+
+/// More nodes have no numbers of 32 bits.
+const MOST_NODES: usize = 1 << 32;
+
+fn one_of(scene: &Scene, route: &FlatRoute) -> Result<Route, RouteFault>
+    ensures exact { result ≡ at_line route.now.line (ends.route_of scene.now route.now) }
+    ensures known { IfOk result (λ r. IsKnown scene.now r.source) }
+{
+    match route_of(scene, route) {
+        Ok(route) => Ok(route),
+        Err(kind) => Err(RouteFault {
+            kind,
+            line: route.line,
+        }),
+    }
+}
+
+/// Each route in the order of the text, or the first fault.
+pub(crate) fn each_of(
+    alloc: Global,
+    scene: &Scene,
+    routes: &[FlatRoute],
+) -> Result<Items<Route>, RouteFault>
+    ensures exact { Gives memory (λ all. all) result (each_of scene.now routes.now) }
+    ensures known { IfOk result (λ all. All (λ r. IsKnown scene.now r.source) all) }
+{
+    let mut all = Items::new(alloc);
+    for route in routes {
+        all.push(one_of(scene, route)?)?;
+    }
+    Ok(all)
+}
+
+/// Each route where it stands first.
+pub(crate) fn without_repeats(alloc: Global, routes: &[Route]) -> Result<Items<Route>, AllocError>
+    ensures { IfOk result (λ firsts. firsts ≡ without_repeats routes.now) }
+{
+    let mut firsts = IndexSet::new(alloc);
+    for route in routes {
+        firsts.insert(*route)?;
+    }
+    let count = MOST_ROUTES.min(firsts.len());
+    Items::from_slice(alloc, &firsts.as_slice()[..count])
+}
+
+/// How many fields each node of the scene has.
+pub(crate) fn field_counts(alloc: Global, scene: &Scene) -> Result<Vec<u16>, AllocError>
+    ensures { IfOk result (λ counts. counts.items ≡ take (2 ^ 32) (field_counts scene.now)) }
+{
+    let mut counts = Vec::new(alloc);
+    for node in 0..scene.node_count().min(MOST_NODES) {
+        counts.push(fields_of(scene.node_type(node as u32)).len() as u16)?;
+    }
+    Ok(counts)
+}

@@ -1,0 +1,61 @@
+-- The names that nodes keep (our choice): DEF names that one node alone has, and that are no names of other nodes by their numbers.
+use Rattle.std.specs.Prelude.{ℕ, Bool, true, false, not, ◌&&◌, ◌==◌, length, nat_le, List, [], ◌∷◌, Option, Some, None, slice_get, is_none, if◌then◌else◌}
+use Rattle.std.specs.List.{filter_map, count_by, list_all, fold}
+use Rattle.std.specs.Option.{option_and_then}
+use Rattle.std.specs.Str.{bytes_eq}
+use Rattle.indexmap.specs.IndexMap.{IndexMap, get_by}
+use Rattle.proto_expand.specs.declared.flat.FlatNode.{FlatNode}
+use Rattle.scene_core.specs.declared.labels.Marks.{Marks}
+
+abbrev pub name_at : List FlatNode → ℕ → Option (List ℕ)
+name_at nodes n = option_and_then (λ (node : FlatNode). node.name) (slice_get nodes n)
+
+-- the names that the nodes of a scene have
+abbrev pub names_of : List FlatNode → List ℕ → List (List ℕ)
+names_of nodes order = filter_map (name_at nodes) order
+
+abbrev pub is_digit : ℕ → Bool
+is_digit c = nat_le 48 c && nat_le c 57
+
+abbrev pub are_digits : List ℕ → Bool
+are_digits text = not (length text == 0) && list_all is_digit text
+
+-- `N` and one digit or more
+abbrev pub is_numbered : List ℕ → Bool
+is_numbered [] = false
+is_numbered (c ∷ rest) = if c == 78 then are_digits rest else false
+
+-- one node alone has the name
+abbrev pub is_alone : List (List ℕ) → List ℕ → Bool
+is_alone names name = count_by (λ other. bytes_eq other name) names == 1
+
+-- the name that a node keeps
+abbrev pub label_by : (List ℕ → Bool) → Option (List ℕ) → Option (List ℕ)
+label_by alone (Some name) = if alone name && not (is_numbered name) then Some name else None
+label_by alone None = None
+
+-- ---- what is known of names after some of them: whether one was alone
+
+abbrev pub Known : Type 0
+Known = List ℕ → Option Bool
+
+abbrev pub unknown : Known
+unknown name = None
+
+abbrev pub marked : List ℕ → Bool → Known → Known
+marked given alone known name = if bytes_eq given name then Some alone else known name
+
+abbrev pub mark : Known → List ℕ → Known
+mark known given = marked given (is_none (known given)) known
+
+abbrev pub mark_any : Known → Option (List ℕ) → Known
+mark_any known None = known
+mark_any known (Some given) = mark known given
+
+abbrev pub known_alone : Option Bool → Bool
+known_alone (Some alone) = alone
+known_alone None = false
+
+-- the map as a function of names
+unfoldable pub known_of : Marks → Known
+known_of marks name = get_by (λ k. bytes_eq name k.now) marks.alone

@@ -1,0 +1,11 @@
+pub mod Building
+pub mod Deep
+pub mod Faults
+pub mod Labels
+pub mod Numbers
+pub mod Parts
+pub mod Places
+pub mod Routes
+pub mod Scene
+pub mod Tasks
+pub mod Typed

@@ -1,0 +1,33 @@
+-- Which number each node has in a scene (our choice of order): from the roots in order, each node's node fields in table order, children
+-- first, a node is numbered from 0 when it closes at its first appearance; then the helpers likewise.
+use Rattle.std.specs.Prelude.{ℕ, zero, suc, ◌+◌, ◌++◌, Bool, true, false, not, List, [], ◌∷◌, length, replicate, slice_index_or, slice_set, if◌then◌else◌}
+use Rattle.std.specs.List.{fold}
+use Rattle.proto_expand.specs.declared.flat.Flat.{Flat}
+use Rattle.proto_expand.specs.declared.flat.FlatNode.{FlatNode}
+use Rattle.scene_core.specs.declared.numbering.Numbering.{Numbering}
+use Rattle.scene_core.specs.Parts.{parts_of}
+
+-- the node has not appeared yet
+abbrev pub is_new : Numbering → ℕ → Bool
+is_new s n = not (slice_index_or s.opened n true)
+
+abbrev pub appear : Numbering → ℕ → Numbering
+appear s n = record s { opened = slice_set s.opened n true }
+
+-- the node gets the next number
+abbrev pub close : Numbering → ℕ → Numbering
+close s n = record s { numbers = slice_set s.numbers n (length s.order); order = s.order ++ n ∷ [] }
+
+-- a node at an appearance: at its first the nodes inside come before it. Each step inward opens a node, so as much fuel as there are
+-- nodes is never used up.
+unfoldable pub visit : ℕ → List FlatNode → Numbering → ℕ → Numbering
+visit zero nodes s n = s
+visit (suc fuel) nodes s n = if is_new s n then close (fold (visit fuel nodes) (appear s n) (parts_of nodes n)) n else s
+
+-- no node has a number
+abbrev pub unnumbered : List FlatNode → Numbering
+unnumbered nodes = record { opened = replicate (length nodes) false; order = []; numbers = replicate (length nodes) 0 }
+
+-- the numbers of a document's nodes
+unfoldable pub numbering : List FlatNode → List ℕ → List ℕ → Numbering
+numbering nodes roots helpers = fold (visit (length nodes + 1) nodes) (unnumbered nodes) (roots ++ helpers)

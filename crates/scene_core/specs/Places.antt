@@ -1,0 +1,61 @@
+-- Places and sensors (the limits of their numbers are our choice). A place is a root, or a child of a place by a list `children`: one node
+-- has as many places as there are paths to it.
+use Rattle.std.specs.Prelude.{ℕ, ◌+◌, ◌++◌, ◌==◌, zero, suc, Bool, false, ◌||◌, nat_lt, min, List, [], ◌∷◌, length, map, Option, Some, None, codes, slice_get, slice_index_or, if◌then◌else◌}
+use Rattle.std.specs.List.{list_any, fold, sum_by}
+use Rattle.std.specs.Option.{option_and_then, option_map_or}
+use denote.Enum.Bare.{sameb}
+use Rattle.x3d_values.specs.contracts.node_type.NodeType as node_types
+use Rattle.x3d_values.specs.declared.node_type.NodeType.TheVariants.{TouchSensor}
+use Rattle.x3d_values.specs.declared.table.FieldRow.{FieldRow}
+use Rattle.x3d_values.specs.Tables.{rows, row_named}
+use Rattle.scene_core.specs.declared.scene.SceneNode.{SceneNode}
+use Rattle.scene_core.specs.Scene.{nodes_in}
+
+-- the list `children` of a grouping node
+abbrev pub children_at : SceneNode → Option FieldRow → List ℕ
+children_at node None = []
+children_at node (Some row) = nodes_in (option_and_then (λ v. v) (slice_get node.values row.number))
+
+abbrev pub own_children : SceneNode → List ℕ
+own_children node = children_at node (row_named 0 (codes "children") (rows node.node_type))
+
+-- of each node, how many places there are from one place of it down, itself included, that many levels deep
+unfoldable pub places_below : List SceneNode → ℕ → List ℕ
+places_below nodes zero = map (λ _. 0) nodes
+places_below nodes (suc d) = map (λ node. 1 + sum_by (λ n. slice_index_or (places_below nodes d) n 0) (own_children node)) nodes
+
+-- the places of a scene whose chains are no longer than that
+abbrev pub places : ℕ → List SceneNode → List ℕ → ℕ
+places depth nodes roots = sum_by (λ n. slice_index_or (places_below nodes depth) n 0) roots
+
+abbrev pub max_places : ℕ
+max_places = 65536
+
+-- counts go no further than to where there are too many
+abbrev pub enough : ℕ
+enough = 65537
+
+abbrev pub counted : List ℕ → SceneNode → ℕ
+counted counts node = min (1 + min (sum_by (λ n. slice_index_or counts n 0) (own_children node)) enough) enough
+
+-- ---- sensors in one list
+
+abbrev pub max_sensors : ℕ
+max_sensors = 64
+
+abbrev pub is_sensor : List SceneNode → ℕ → Bool
+is_sensor nodes n = option_map_or (λ (node : SceneNode). sameb node_types.the_type node.node_type TouchSensor) (slice_get nodes n) false
+
+-- the node behind the sensors so far, if it is a sensor that is not among them
+abbrev pub with_sensor : List SceneNode → List ℕ → ℕ → List ℕ
+with_sensor nodes sensors n = if is_sensor nodes n then (if list_any (λ m. m == n) sensors then sensors else sensors ++ n ∷ []) else sensors
+
+-- the sensors of a list, each once
+abbrev pub sensors_in : List SceneNode → List ℕ → List ℕ
+sensors_in nodes ns = fold (with_sensor nodes) [] ns
+
+abbrev pub is_crowded : List SceneNode → List ℕ → Bool
+is_crowded nodes ns = nat_lt max_sensors (length (sensors_in nodes ns))
+
+abbrev pub any_crowded : List SceneNode → List ℕ → Bool
+any_crowded nodes roots = is_crowded nodes roots || list_any (λ node. is_crowded nodes (own_children node)) nodes

@@ -1,0 +1,62 @@
+//! Chains of nodes, each in a node field of the one before.
+
+ghost use Rattle.std.specs.Prelude.{◌≡◌, IfOk, false, map, slice_index_or};
+ghost use Rattle.std.specs.List.{list_any};
+ghost use Rattle.scene_core.specs.Deep as spec;
+
+use crate::at::flag_at;
+use crate::scene::SceneNode;
+use std::alloc::{AllocError, Global};
+use x3d_values::Value;
+
+/// The most nodes that a chain may have.
+pub(crate) const MAX_DEPTH: usize = 64;
+
+/// The nodes in a field.
+fn linked(value: &Option<Value>) -> &[u32]
+    ensures { result.now ≡ spec.linked value.now }
+{
+    match value {
+        Some(Value::SFNode(Some(node))) => std::slice::from_ref(node),
+        Some(Value::MFNode(nodes)) => nodes.as_slice(),
+        _ => &[],
+    }
+}
+
+fn holds_one(these: &[bool], value: &Option<Value>) -> bool
+    ensures { result ≡ list_any (λ n. slice_index_or these.now n false) (spec.linked value.now) }
+{
+    linked(value).iter().any(|n| flag_at(these, *n))
+}
+
+/// Whether a node of these is in a field of the node.
+fn leads_to(these: &[bool], node: &SceneNode) -> bool
+    ensures { result ≡ spec.leads_to these.now node.now }
+{
+    node.values
+        .as_slice()
+        .iter()
+        .any(|value| holds_one(these, value))
+}
+
+/// The nodes whose chains are longer by one.
+fn one_deeper(alloc: Global, nodes: &[SceneNode], these: &[bool]) -> Result<Vec<bool>, AllocError>
+    ensures { IfOk result (λ deeper. deeper.items ≡ map (spec.leads_to these.now) nodes.now) }
+{
+    let mut deeper = Vec::with_capacity(alloc, nodes.len())?;
+    for node in nodes {
+        deeper.push(leads_to(these, node))?;
+    }
+    Ok(deeper)
+}
+
+/// Whether a chain is too long.
+pub(crate) fn is_too_deep(alloc: Global, nodes: &[SceneNode]) -> Result<bool, AllocError>
+    ensures { IfOk result (λ deep. deep ≡ spec.too_deep nodes.now) }
+{
+    let mut these = vec![in alloc; true; nodes.len()]?;
+    for _level in 0..MAX_DEPTH {
+        these = one_deeper(alloc, nodes, these.as_slice())?;
+    }
+    Ok(these.iter().any(|deep| *deep))
+}

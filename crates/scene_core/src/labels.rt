@@ -1,0 +1,162 @@
+//! The names that nodes keep.
+
+ghost use Rattle.std.specs.Prelude.{◌≡◌, ◌++◌, OnOk, IfOk, slice_get};
+ghost use Rattle.std.specs.List.{fold, list_all};
+ghost use Rattle.std.specs.Option.{option_and_then, option_copied};
+ghost use Rattle.x3d_lists.specs.Extends.{Extends};
+ghost use Rattle.scene_core.specs.Scene.{label_or};
+ghost use Rattle.scene_core.specs.declared.scene.SceneNode.{SceneNode};
+ghost use Rattle.scene_core.specs.Labels as spec;
+ghost use Rattle.scene_core.specs.Labels.{known_of};
+
+use crate::scene::SceneNode;
+use indexmap::IndexMap;
+use itoa::Buffer;
+use proto_expand::FlatNode;
+use std::alloc::{AllocError, AllocFailed, Global};
+use x3d_lists::{Duplicate, Text};
+
+/// Of each name whether one node alone has it.
+#[derive(Drop)]
+pub struct Marks<'a> {
+    pub alone: IndexMap<&'a str, bool>,
+}
+
+fn name_at(nodes: &[FlatNode], n: u32) -> Option<&Text>
+    ensures { option_copied result ≡ spec.name_at nodes.now n }
+{
+    nodes.get(n as usize)?.name.as_ref()
+}
+
+#[tactic(auto, unfolding(crate::specs::Labels::known_of))]
+fn known(marks: &Marks<'_>, name: &Text) -> Option<bool>
+    ensures { result ≡ known_of marks.now name.now }
+{
+    marks.alone.get(name.as_str()).copied()
+}
+
+fn no_marks<'a>(alloc: Global) -> Marks<'a>
+    ensures { known_of result ≡ spec.unknown }
+{
+    Marks {
+        alone: IndexMap::new(alloc),
+    }
+}
+
+fn mark_as<'a>(
+    marks: &mut Marks<'a>,
+    name: &'a Text,
+    alone: bool,
+) -> Result<(), AllocFailed<(&'a str, bool)>>
+    ensures { IfOk result (λ _. known_of marks.new ≡ spec.marked name.now alone (known_of marks.old)) }
+{
+    marks.alone.insert(name.as_str(), alone)?;
+    Ok(())
+}
+
+fn mark<'a>(marks: &mut Marks<'a>, name: &'a Text) -> Result<(), AllocError>
+    ensures { IfOk result (λ _. known_of marks.new ≡ spec.mark (known_of marks.old) name.now) }
+{
+    let alone = known(marks, name).is_none();
+    mark_as(marks, name, alone)?;
+    Ok(())
+}
+
+fn mark_at<'a>(marks: &mut Marks<'a>, nodes: &'a [FlatNode], n: u32) -> Result<(), AllocError>
+    ensures { IfOk result (λ _. known_of marks.new ≡ spec.mark_any (known_of marks.old) (spec.name_at nodes.now n)) }
+{
+    if let Some(name) = name_at(nodes, n) {
+        mark(marks, name)?;
+    }
+    Ok(())
+}
+
+/// Which names one node alone has, among the nodes of these numbers.
+pub(crate) fn marked<'a>(
+    alloc: Global,
+    nodes: &'a [FlatNode],
+    order: &[u32],
+) -> Result<Marks<'a>, AllocError>
+    ensures { IfOk result (λ marks. known_of marks ≡ fold spec.mark spec.unknown (spec.names_of nodes.now order.now)) }
+{
+    let mut marks = no_marks(alloc);
+    for n in order {
+        mark_at(&mut marks, nodes, *n)?;
+    }
+    Ok(marks)
+}
+
+fn is_digit(c: u8) -> bool
+    ensures { result ≡ spec.is_digit c }
+{
+    b'0' <= c && c <= b'9'
+}
+
+fn all_digits(text: &[u8]) -> bool
+    ensures { result ≡ list_all spec.is_digit text.now }
+{
+    text.iter().all(|c| is_digit(*c))
+}
+
+/// Whether a text is one digit or more.
+fn are_digits(text: &[u8]) -> bool
+    ensures { result ≡ spec.are_digits text.now }
+{
+    !text.is_empty() && all_digits(text)
+}
+
+/// Whether a text is an `N` before one digit or more.
+fn is_numbered(name: &[u8]) -> bool
+    ensures { result ≡ spec.is_numbered name.now }
+{
+    match name {
+        [first, rest @ ..] => {
+            if *first == b'N' {
+                are_digits(rest)
+            } else {
+                false
+            }
+        }
+        [] => false,
+    }
+}
+
+/// The name that a node keeps.
+pub(crate) fn label_of(
+    alloc: Global,
+    marks: &Marks<'_>,
+    name: &Option<Text>,
+) -> Result<Option<Text>, AllocError>
+    ensures { IfOk result (λ label. label ≡ spec.label_by (λ n. spec.known_alone (known_of marks.now n)) name.now) }
+{
+    let Some(name) = name else {
+        return Ok(None);
+    };
+    if known(marks, name) != Some(true) || is_numbered(name.as_bytes()) {
+        return Ok(None);
+    }
+    Ok(Some(name.duplicate(alloc)?))
+}
+
+/// Appends the name of a node; on a refusal perhaps a part of it.
+pub(crate) fn push_label(
+    nodes: &[SceneNode],
+    node: u32,
+    out: &mut Vec<u8>,
+) -> Result<(), AllocError>
+    ensures ok { OnOk result (out.new.items ≡ out.old.items ++ label_or node (option_and_then (λ (n : SceneNode). n.label) (slice_get nodes.now node))) }
+    ensures kept { Extends out.old.items out.new.items }
+{
+    if let Some(name) = own_label(nodes, node) {
+        return out.extend_from_slice(name.as_bytes());
+    }
+    out.push(b'N')?;
+    let mut digits = Buffer::new();
+    out.extend_from_slice(digits.format(node).as_bytes())
+}
+
+fn own_label(nodes: &[SceneNode], node: u32) -> Option<&Text>
+    ensures { option_copied result ≡ option_and_then (λ (n : SceneNode). n.label) (slice_get nodes.now node) }
+{
+    nodes.get(node as usize)?.label.as_ref()
+}

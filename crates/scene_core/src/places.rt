@@ -1,0 +1,147 @@
+//! Places and sensors.
+
+ghost use Rattle.std.specs.Prelude.{◌≡◌, ◌+◌, ◌<◌, ◌≤◌, ◌==◌, true, false, min, map, length, IfOk, nat_lt, slice_index_or};
+ghost use Rattle.std.specs.List.{list_any, sum_by};
+ghost use Rattle.scene_core.specs.Deep.{max_depth};
+ghost use Rattle.scene_core.specs.Places as spec;
+
+use crate::at::number_at;
+use crate::deep::MAX_DEPTH;
+use crate::scene::SceneNode;
+use arrayvec::ArrayVec;
+use std::alloc::{AllocError, Global};
+use x3d_values::{NodeType, Value, field_of};
+
+/// The most places that a scene may have. Counts stop at one more.
+const MAX_PLACES: u32 = 65_536;
+
+const ENOUGH: u32 = 65_537;
+
+/// The most sensors that a list may have.
+const MAX_SENSORS: usize = 64;
+
+/// The list `children` of a grouping node.
+pub(crate) fn own_children(node: &SceneNode) -> &[u32]
+    ensures { result.now ≡ spec.own_children node.now }
+{
+    let Some(row) = field_of(node.node_type, "children") else {
+        return &[];
+    };
+    match node.values.get(row.number as usize) {
+        Some(Some(Value::MFNode(nodes))) => nodes.as_slice(),
+        _ => &[],
+    }
+}
+
+/// The smaller of the sum and `ENOUGH`.
+fn plus(a: u32, b: u32) -> u32
+    ensures { result ≡ min (a + b) ENOUGH }
+{
+    a.saturating_add(b).min(ENOUGH)
+}
+
+/// The counts of these nodes together, or `ENOUGH` where that is less.
+fn together(counts: &[u32], nodes: &[u32]) -> u32
+    ensures { result ≡ min (sum_by (λ n. slice_index_or counts.now n 0) nodes.now) ENOUGH }
+{
+    let mut sum = 0;
+    for n in nodes {
+        sum = plus(sum, number_at(counts, *n));
+    }
+    sum
+}
+
+/// The places from a place of the node down.
+fn counted(counts: &[u32], node: &SceneNode) -> u32
+    ensures { result ≡ spec.counted counts.now node.now }
+{
+    plus(1, together(counts, own_children(node)))
+}
+
+/// The places one level deeper.
+fn one_deeper(alloc: Global, nodes: &[SceneNode], counts: &[u32]) -> Result<Vec<u32>, AllocError>
+    ensures { IfOk result (λ more. more.items ≡ map (spec.counted counts.now) nodes.now) }
+{
+    let mut more = Vec::with_capacity(alloc, nodes.len())?;
+    for node in nodes {
+        more.push(counted(counts, node))?;
+    }
+    Ok(more)
+}
+
+/// Whether there are too many places, where no chain is too long.
+pub(crate) fn has_too_many_places(
+    alloc: Global,
+    nodes: &[SceneNode],
+    roots: &[u32],
+) -> Result<bool, AllocError>
+    ensures { IfOk result (λ many. many ≡ nat_lt spec.max_places (spec.places max_depth nodes.now roots.now)) }
+{
+    let mut counts = vec![in alloc; 0; nodes.len()]?;
+    for _level in 0..MAX_DEPTH {
+        counts = one_deeper(alloc, nodes, counts.as_slice())?;
+    }
+    Ok(MAX_PLACES < together(counts.as_slice(), roots))
+}
+
+fn is_sensor(nodes: &[SceneNode], n: u32) -> bool
+    ensures { result ≡ spec.is_sensor nodes.now n }
+{
+    match nodes.get(n as usize) {
+        Some(node) => node.node_type == NodeType::TouchSensor,
+        None => false,
+    }
+}
+
+fn is_in(sensors: &[u32], n: u32) -> bool
+    ensures { result ≡ list_any (λ m. m == n) sensors.now }
+{
+    sensors.iter().any(|sensor| *sensor == n)
+}
+
+/// Puts a sensor behind those so far, unless it is among them; false where it has no room.
+fn add_sensor(nodes: &[SceneNode], sensors: &mut ArrayVec<u32, MAX_SENSORS>, n: u32) -> bool
+    requires { length sensors.old.items ≤ 64 }
+    ensures few { length sensors.new.items ≤ 64 }
+    ensures fits { result ≡ true → sensors.new.items ≡ spec.with_sensor nodes.now sensors.old.items n }
+    ensures full { result ≡ false → spec.max_sensors < length (spec.with_sensor nodes.now sensors.old.items n) }
+{
+    if !is_sensor(nodes, n) {
+        return true;
+    }
+    if is_in(sensors.as_slice(), n) {
+        return true;
+    }
+    match sensors.try_push(n) {
+        Ok(()) => true,
+        Err(_) => false,
+    }
+}
+
+/// Whether a list has too many sensors, each counted once.
+fn is_crowded(nodes: &[SceneNode], list: &[u32]) -> bool
+    ensures { result ≡ spec.is_crowded nodes.now list.now }
+{
+    let mut sensors: ArrayVec<u32, MAX_SENSORS> = ArrayVec::new();
+    for n in list {
+        if !add_sensor(nodes, &mut sensors, *n) {
+            return true;
+        }
+    }
+    false
+}
+
+fn has_crowded(nodes: &[SceneNode]) -> bool
+    ensures { result ≡ list_any (λ node. spec.is_crowded nodes.now (spec.own_children node)) nodes.now }
+{
+    nodes
+        .iter()
+        .any(|node| is_crowded(nodes, own_children(node)))
+}
+
+/// Whether the list of the roots or a list of children has too many sensors.
+pub(crate) fn is_any_crowded(nodes: &[SceneNode], roots: &[u32]) -> bool
+    ensures { result ≡ spec.any_crowded nodes.now roots.now }
+{
+    is_crowded(nodes, roots) || has_crowded(nodes)
+}

@@ -1,0 +1,199 @@
+//! A scene and what is asked of it.
+
+ghost use Rattle.std.specs.Prelude.{◌≡◌, ◌<◌, Some, IfOk, length, slice_get, ◌++◌, OnOk, OnErr};
+ghost use Rattle.std.specs.Option.{option_copied};
+ghost use Rattle.x3d_lists.specs.Answers.{Gives};
+ghost use Rattle.scene_core.specs.Building.{scene_of};
+ghost use Rattle.scene_core.specs.Faults.{memory};
+ghost use Rattle.scene_core.specs.Scene.{types_of, value_at, children_of, state_of, label_of, name_at};
+
+use crate::build::{called, check_limits, header_copy, nodes_of};
+use crate::fault::SceneFault;
+use crate::labels::push_label;
+use crate::numbering::numbered;
+use crate::places::own_children;
+use crate::routes::routes_of;
+use crate::state::state_of;
+use crate::values::check_children;
+use proto_expand::{Flat, Header};
+use std::alloc::{AllocError, Global};
+use std::marker::Model;
+use x3d_lists::{Items, Text};
+use x3d_values::{Fields, NodeType, Value};
+
+/// A field of a node of a scene.
+#[derive(Clone, Copy, Debug, PartialEq, Eq, Hash)]
+pub struct End {
+    pub node: u32,
+    /// The field's number among the fields of the node.
+    pub field: u16,
+}
+
+/// A route from an output to an input.
+#[derive(Clone, Copy, Debug, PartialEq, Eq, Hash)]
+pub struct Route {
+    pub source: End,
+    pub target: End,
+}
+
+/// A node as it stands before any event.
+#[derive(Debug, Drop)]
+pub struct SceneNode {
+    pub node_type: NodeType,
+    /// Its DEF name, where no other node has it and it isn't an `N` before digits.
+    pub label: Option<Text>,
+    /// The values of its inputOutput and initializeOnly fields by the fields' numbers, and nothing at
+    /// the numbers of other fields and of rotations. Nodes in them are numbers of nodes of the scene.
+    pub values: Items<Option<Value>>,
+}
+
+/// The nodes of a scene by number, its roots, and what its text needs.
+#[derive(Drop)]
+pub struct Scene {
+    header: Header,
+    nodes: Items<SceneNode>,
+    roots: Items<u32>,
+    helpers: Items<u32>,
+    routes: Items<Route>,
+    numbers: Items<u32>,
+}
+
+impl Model for Scene {
+    ghost use Rattle.scene_core.specs.Scene.{SceneView};
+
+    ghost Value = { SceneView };
+
+    ghost view = { λ s. record { header = s.header; nodes = s.nodes; roots = s.roots; helpers = s.helpers; routes = s.routes; numbers = s.numbers } };
+}
+
+impl Scene {
+    ghost use Rattle.std.specs.Prelude.{◌≡◌, ◌<◌, Some, IfOk, length, slice_get, ◌++◌, OnOk, OnErr};
+    ghost use Rattle.std.specs.Option.{option_copied};
+    ghost use Rattle.x3d_lists.specs.Answers.{Gives};
+    ghost use Rattle.scene_core.specs.Building.{scene_of};
+    ghost use Rattle.scene_core.specs.Faults.{memory};
+    ghost use Rattle.scene_core.specs.Scene.{types_of, value_at, children_of, state_of, label_of, name_at};
+
+    pub fn node_count(&self) -> usize
+        ensures { result ≡ length self.now.nodes }
+    {
+        self.nodes.len()
+    }
+
+    /// The type of the node of that number.
+    pub fn node_type(&self, node: u32) -> NodeType
+        requires { node < length self.now.nodes }
+        ensures { slice_get (types_of self.now) node ≡ Some result }
+    {
+        self.nodes.as_slice()[node as usize].node_type
+    }
+
+    /// The opening value of a field of a node; none where it holds no value.
+    pub fn value(&self, node: u32, field: u16) -> Option<&Value>
+        ensures { option_copied result ≡ value_at self.now node field }
+    {
+        match self.nodes.get(node as usize)?.values.get(field as usize) {
+            Some(Some(value)) => Some(value),
+            _ => None,
+        }
+    }
+
+    pub fn roots(&self) -> &[u32]
+        ensures { result.now ≡ self.now.roots }
+    {
+        self.roots.as_slice()
+    }
+
+    /// The nodes of prototype bodies behind the first of each.
+    pub fn helpers(&self) -> &[u32]
+        ensures { result.now ≡ self.now.helpers }
+    {
+        self.helpers.as_slice()
+    }
+
+    /// The header of the text that the scene was read from.
+    pub fn header(&self) -> &Header
+        ensures { result.now ≡ self.now.header }
+    {
+        &self.header
+    }
+
+    /// The routes of the text whose ends name fields, without repeats.
+    pub fn routes(&self) -> &[Route]
+        ensures { result.now ≡ self.now.routes }
+    {
+        self.routes.as_slice()
+    }
+
+    /// Which number the nodes of the expanded document have in the scene.
+    pub fn numbers(&self) -> &[u32]
+        ensures { result.now ≡ self.now.numbers }
+    {
+        self.numbers.as_slice()
+    }
+
+    /// The name of a node that no other node has: its DEF name, where it is alone, or else `N` and
+    /// its number.
+    #[tactic(auto, unfolding(crate::specs::Scene::label_of))]
+    pub fn label(&self, node: u32, out: &mut Vec<u8>) -> Result<(), AllocError>
+        ensures ok { OnOk result (out.new.items ≡ out.old.items ++ label_of self.now node) }
+        ensures err { OnErr result (out.new.items ≡ out.old.items) }
+    {
+        let len = out.len();
+        let pushed = push_label(self.nodes.as_slice(), node, out);
+        if pushed.is_err() {
+            out.truncate(len);
+        }
+        pushed
+    }
+
+    /// The DEF name of a node, where it is its label.
+    pub fn def_name(&self, node: u32) -> Option<&Text>
+        ensures { option_copied result ≡ name_at self.now node }
+    {
+        self.nodes.get(node as usize)?.label.as_ref()
+    }
+
+    /// What each node keeps before any event, by their numbers.
+    #[tactic(auto, unfolding(crate::specs::Scene::state_of))]
+    pub fn state(&self, alloc: Global) -> Result<Vec<Fields>, AllocError>
+        ensures { IfOk result (λ fields. fields.items ≡ state_of self.now) }
+    {
+        state_of(alloc, self.nodes.as_slice())
+    }
+
+    /// The nodes in the list `children` of a node, none where it has no such list.
+    pub fn children(&self, node: u32) -> &[u32]
+        ensures { result.now ≡ children_of self.now node }
+    {
+        match self.nodes.get(node as usize) {
+            Some(node) => own_children(node),
+            None => &[],
+        }
+    }
+
+    /// The scene of a document: its nodes are numbered, their values typed and checked.
+    #[tactic(auto, unfolding(crate::specs::Building::scene_of))]
+    pub fn build(alloc: Global, flat: &Flat) -> Result<Scene, SceneFault>
+        ensures { Gives memory (λ s. s) result (scene_of flat.now) }
+    {
+        let nodes = flat.nodes.as_slice();
+        let numbering = numbered(alloc, nodes, flat.roots.as_slice(), flat.helpers.as_slice())?;
+        let made = nodes_of(alloc, nodes, &numbering)?;
+        check_children(nodes, flat.roots.as_slice())?;
+        check_children(nodes, flat.helpers.as_slice())?;
+        let roots = called(alloc, numbering.numbers.as_slice(), flat.roots.as_slice())?;
+        check_limits(alloc, made.as_slice(), roots.as_slice())?;
+        let helpers = called(alloc, numbering.numbers.as_slice(), flat.helpers.as_slice())?;
+        let routes = routes_of(alloc, nodes, &numbering, flat.routes.as_slice())?;
+        let header = header_copy(alloc, &flat.header)?;
+        Ok(Scene {
+            header,
+            nodes: made,
+            roots,
+            helpers,
+            routes,
+            numbers: numbering.numbers,
+        })
+    }
+}

@@ -1,0 +1,29 @@
+use Rattle.std.proofs.Common.{◌∙◌, List, map, true, ap, sym, refl, arith}
+use Rattle.std.specs.Prelude.{slice_set}
+use Rattle.std.proofs.lemmas.List.{get_or-map, length-map}
+use Rattle.classic_tree.specs.declared.tree.BodyItem.{BodyItem}
+use Rattle.scene_text.specs.Tree.{Shown, field_tree, node_tree}
+use Rattle.scene_text.specs.Views.{plan_of, shown_of}
+use Rattle.scene_text.proofs.Trees.{step_of, each_more, node_tree_made}
+use Rattle.scene_text.proofs.tree.+tree.Goals as goal
+
+pub field_trees-loop-field-preserved : goal.field_trees-loop-field-preserved
+field_trees-loop-field-preserved t c =
+    let element = get_or-map shown_of c.args.shown.now c.loop-field.field-index c.field-item.result (shown_of c.field-item.result) c.loop-field-test.true in
+    ap {A = List BodyItem} (λ ws. step_of c.field_tree.new.seen.items ws) c.in_ok-push.ensures.items
+    ∙ each_more (field_tree (node_tree c.args.depth (plan_of c.args.plan.now))) c.args.seen.now.items (map shown_of c.args.shown.now) c.loop-field.field-index (shown_of c.field-item.result)
+    (step_of c.loop-field.seen.items c.loop-field.items.items) (step_of c.field_tree.new.seen.items c.in_ok-field_tree.field-0)
+    (omega (arith, length-map c.args.shown.now shown_of, c.loop-field-test.true))
+    c.loop-field.invariant
+    (c.in_ok-field_tree.ensures ∙ ap (λ (w : Shown). field_tree (node_tree c.args.depth (plan_of c.args.plan.now)) c.loop-field.seen.items w) (ap shown_of c.field-item.is ∙ sym element))
+
+pub node_tree-returns : goal.node_tree-returns
+node_tree-returns t c =
+    node_tree_made c.args.depth (plan_of c.args.plan.now) c.args.seen.now.items c.args.node c.in-Some.node_type
+    (step_of c.field_trees.new.seen.items c.in_ok-items.items.items) (slice_set c.args.seen.now.items c.args.node true) (map shown_of c.as_slice-2.result.now) c.in_ok-full_tree.field-0
+    (omega (arith, c.if-depth-eq0.false))
+    (cc (c.new_type.ensures.is, c.in-Some.is, c.as_slice.ensures.value))
+    c.in_ok-items.ensures
+    refl
+    (cc (c.in_ok-shown.ensures, c.as_slice-2.ensures.value))
+    c.in_ok-full_tree.ensures

@@ -1,0 +1,68 @@
+-- The document that a scene is written as.
+use Rattle.std.specs.Prelude.{ℕ, Bool, false, List, [], ◌∷◌, ◌++◌, None, codes, length, map, replicate, slice_get, unwrap_or, option_and_then, option_map}
+use Rattle.x3d_values.specs.declared.fields.Fields.{Fields}
+use Rattle.x3d_values.specs.Tables.{Entry, rows}
+use Rattle.classic_tree.specs.declared.tree.Document.{Document}
+use Rattle.classic_tree.specs.declared.tree.Place.{Place}
+use Rattle.classic_tree.specs.declared.tree.RouteText.{RouteText}
+use Rattle.classic_tree.specs.declared.tree.RawValue.TheVariants as raw
+use Rattle.classic_tree.specs.declared.tree.Given.TheVariants as given
+use Rattle.classic_tree.specs.declared.tree.BodyItem.TheVariants as item
+use Rattle.classic_tree.specs.declared.tree.NodeText.{NodeText}
+use Rattle.classic_tree.specs.declared.tree.NodeText.TheVariants as node
+use Rattle.classic_tree.specs.declared.tree.Statement.{Statement}
+use Rattle.classic_tree.specs.declared.tree.Statement.TheVariants as statement
+use Rattle.scene_core.specs.declared.scene.End.{End}
+use Rattle.scene_core.specs.declared.scene.Route.{Route}
+use Rattle.scene_core.specs.Scene.{SceneView, label_of, type_at}
+use Rattle.scene_text.specs.Places.{named}
+use Rattle.scene_text.specs.Tree.{PlanView, Step, Makes, each, node_tree}
+
+-- ---- routes, by labels and the fields' own names
+
+abbrev pub field_name : SceneView → End → List ℕ
+field_name s end = unwrap_or (option_and_then (λ t. option_map (λ (e : Entry). e.name) (slice_get (rows t) end.field)) (type_at s end.node)) []
+
+abbrev pub place_of : SceneView → End → Place
+place_of s end = record { node = label_of s end.node; field = field_name s end }
+
+abbrev pub route_of : SceneView → Route → RouteText
+route_of s r = record { line = 0; source = place_of s r.source; target = place_of s r.target }
+
+-- ---- nodes: roots, and in a last one the helpers
+
+abbrev pub most_nested : ℕ
+most_nested = 64
+
+abbrev pub switch_of : List NodeText → NodeText
+switch_of trees = node.Full 0 None (codes "Switch") (item.Field 0 (codes "children") (given.Value (raw.NodeList trees)) ∷ [])
+
+-- helpers, where there are some, are the children of a Switch, which shows none
+abbrev pub helper_root : List NodeText → List Statement
+helper_root [] = []
+helper_root (tree ∷ trees) = statement.Node (switch_of (tree ∷ trees)) ∷ []
+
+abbrev pub root_tree : Makes ℕ NodeText → Makes ℕ Statement
+root_tree tree seen n = let m = tree seen n in record { seen = m.seen; made = statement.Node m.made }
+
+abbrev pub roots_of : PlanView → Step (List Statement)
+roots_of p = each (root_tree (node_tree most_nested p)) (replicate (length p.scene.nodes) false) p.scene.roots
+
+abbrev pub helpers_of : PlanView → List Bool → Step (List NodeText)
+helpers_of p seen = each (node_tree most_nested p) seen p.scene.helpers
+
+abbrev pub routes_of : SceneView → List Statement
+routes_of s = map (λ r. statement.Route (route_of s r)) s.routes
+
+unfoldable pub statements_of : PlanView → List Statement
+statements_of p = (roots_of p).made ++ helper_root (helpers_of p (roots_of p).seen).made ++ routes_of p.scene
+
+-- header statements as they were read, roots, helpers and routes
+unfoldable pub scene_document : SceneView → List Fields → Document
+scene_document s state = record {
+  version = s.header.version;
+  profile = s.header.profile;
+  components = s.header.components;
+  metas = s.header.metas;
+  statements = statements_of (record { scene = s; state = state; named = named s });
+}

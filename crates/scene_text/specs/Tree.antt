@@ -1,0 +1,122 @@
+-- The trees of the nodes of a scene: a node's first appearance in full, later ones by USE (ISO/IEC 19776-2, DEF and USE).
+use Rattle.std.specs.Prelude.{ℕ, zero, suc, ◌+◌, Bool, true, false, not, ◌&&◌, List, [], ◌∷◌, ◌++◌, Option, Some, None, get_or, slice_get, slice_set, fold, option_and_then, if◌then◌else◌}
+use Rattle.std.specs.Option.{option_or}
+use denote.Enum.Bare.{sameb}
+use Rattle.x3d_values.specs.contracts.field_type.Access as accesses
+use Rattle.x3d_values.specs.declared.field_type.Access.TheVariants.{InputOutput}
+use Rattle.x3d_values.specs.declared.default.FieldDefault.{FieldDefault}
+use Rattle.x3d_values.specs.declared.node_type.NodeType.{NodeType}
+use Rattle.x3d_values.specs.declared.fields.Fields.{Fields}
+use Rattle.x3d_values.specs.declared.value.Value.{Value}
+use Rattle.x3d_values.specs.declared.value.Value.TheVariants.{SFNode, MFNode}
+use Rattle.x3d_values.specs.Kept.{field_value}
+use Rattle.x3d_values.specs.Names.{node_type_name}
+use Rattle.x3d_values.specs.Tables.{Entry, rows}
+use Rattle.classic_tree.specs.declared.tree.RawValue.{RawValue}
+use Rattle.classic_tree.specs.declared.tree.RawValue.TheVariants as raw
+use Rattle.classic_tree.specs.declared.tree.Given.TheVariants as given
+use Rattle.classic_tree.specs.declared.tree.BodyItem.{BodyItem}
+use Rattle.classic_tree.specs.declared.tree.BodyItem.TheVariants as item
+use Rattle.classic_tree.specs.declared.tree.NodeText.{NodeText}
+use Rattle.classic_tree.specs.declared.tree.NodeText.TheVariants as node
+use Rattle.scene_core.specs.Scene.{SceneView, is_node_type, label_of, type_at, value_at}
+use Rattle.scene_text.specs.Defaulted.{is_default}
+use Rattle.scene_text.specs.Raw.{plain}
+
+-- a scene, what its nodes keep, and by node number which first appearances have a DEF
+pub record PlanView : Type 0 where
+  pub scene : SceneView
+  pub state : List Fields
+  pub named : List Bool
+
+-- ---- the fields of a node that stand in the text
+
+-- a field and its present value
+pub record Shown : Type 0 where
+  pub name : List ℕ
+  pub value : Value
+
+-- what the node keeps of an inputOutput field without nodes
+abbrev pub kept_value : PlanView → ℕ → ℕ → Entry → Option Value
+kept_value p n number e =
+    if sameb accesses.the_type e.access InputOutput && not (is_node_type e.field_type)
+    then option_and_then (λ (fields : Fields). field_value fields number) (slice_get p.state n)
+    else None
+
+-- and otherwise what the scene gives
+abbrev pub present_value : PlanView → ℕ → ℕ → Entry → Option Value
+present_value p n number e = option_or (kept_value p n number e) (value_at p.scene n number)
+
+abbrev pub shown_if : Bool → List ℕ → Value → List Shown
+shown_if stands name value = if stands then record { name = name; value = value } ∷ [] else []
+
+-- a field stands where it can hold a value, and holds another than its default
+abbrev pub shown_field : List ℕ → Option FieldDefault → Option Value → List Shown
+shown_field name (Some default) (Some value) = shown_if (not (is_default default value)) name value
+shown_field name _ _ = []
+
+-- in the order of the table, the first of these rows being of that number
+abbrev pub shown_from : PlanView → ℕ → ℕ → List Entry → List Shown
+shown_from p n number [] = []
+shown_from p n number (e ∷ others) = shown_field e.name e.default (present_value p n number e) ++ shown_from p n (number + 1) others
+
+unfoldable pub shown_fields : PlanView → ℕ → NodeType → List Shown
+shown_fields p n t = shown_from p n 0 (rows t)
+
+-- ---- trees, by which nodes have appeared
+
+-- which nodes have appeared, and what was made
+pub record Step (A : Type 0) : Type 0 where
+  pub seen : List Bool
+  pub made : A
+
+abbrev pub Makes : Type 0 → Type 0 → Type 0
+Makes A B = List Bool → A → Step B
+
+abbrev pub one_more : {A B : Type 0} → Makes A B → Step (List B) → A → Step (List B)
+one_more make s x = let m = make s.seen x in record { seen = m.seen; made = s.made ++ m.made ∷ [] }
+
+-- something of each in turn
+abbrev pub each : {A B : Type 0} → Makes A B → Makes (List A) (List B)
+each make seen xs = fold (one_more make) (record { seen = seen; made = [] }) xs
+
+abbrev pub as_node : {N : Type 0} → Step N → Step (RawValue N)
+as_node m = record { seen = m.seen; made = raw.Node m.made }
+
+abbrev pub as_nodes : {N : Type 0} → Step (List N) → Step (RawValue N)
+as_nodes m = record { seen = m.seen; made = raw.NodeList m.made }
+
+abbrev pub node_list : Makes ℕ NodeText → Makes (List ℕ) (RawValue NodeText)
+node_list tree seen [] = record { seen = seen; made = raw.EmptyList }
+node_list tree seen (n ∷ others) = as_nodes (each tree seen (n ∷ others))
+
+abbrev pub value_tree : Makes ℕ NodeText → Makes Value (RawValue NodeText)
+value_tree tree seen (SFNode (Some n)) = as_node (tree seen n)
+value_tree tree seen (MFNode ns) = node_list tree seen ns
+value_tree tree seen value = record { seen = seen; made = plain value }
+
+abbrev pub field_tree : Makes ℕ NodeText → Makes Shown BodyItem
+field_tree tree seen shown = let m = value_tree tree seen shown.value in record { seen = m.seen; made = item.Field 0 shown.name (given.Value m.made) }
+
+-- the type of a node that has not appeared
+abbrev pub new_type : PlanView → List Bool → ℕ → Option NodeType
+new_type p seen n = if get_or seen n true then None else type_at p.scene n
+
+abbrev pub use_tree : PlanView → ℕ → NodeText
+use_tree p n = node.Use 0 (label_of p.scene n)
+
+abbrev pub def_name : PlanView → ℕ → Option (List ℕ)
+def_name p n = if get_or p.named n false then Some (label_of p.scene n) else None
+
+abbrev pub full_tree : PlanView → ℕ → NodeType → Step (List BodyItem) → Step NodeText
+full_tree p n t m = record { seen = m.seen; made = node.Full 0 (def_name p n) (node_type_name t) m.made }
+
+-- the type is that of a node that appears for the first time
+abbrev pub opened : PlanView → Makes ℕ NodeText → List Bool → ℕ → Option NodeType → Step NodeText
+opened p tree seen n (Some t) = full_tree p n t (each (field_tree tree) (slice_set seen n true) (shown_fields p n t))
+opened p tree seen n None = record { seen = seen; made = use_tree p n }
+
+-- nodes nested deeper than the depth would be written by USE; no scene has such nodes at a depth of 64
+unfoldable pub node_tree : ℕ → PlanView → Makes ℕ NodeText
+node_tree zero p seen n = record { seen = seen; made = use_tree p n }
+node_tree (suc depth) p seen n = opened p (node_tree depth p) seen n (new_type p seen n)

@@ -1,0 +1,117 @@
+//! The statements of a scene: its roots, its helpers and its routes.
+
+ghost use Rattle.std.specs.Prelude.{◌≡◌, ◌++◌, IfOk, OnOk};
+ghost use Rattle.scene_text.specs.Statements.{field_name, place_of, route_of, root_tree, helper_root, helpers_of, roots_of, routes_of, statements_of, switch_of, most_nested};
+ghost use Rattle.scene_text.specs.Tree.{each, node_tree};
+ghost use Rattle.scene_text.specs.Views.{plan_of};
+
+use crate::plan::{Plan, label};
+use crate::tree::{node_tree, node_trees};
+use classic_tree::{BodyItem, Given, NodeText, Place, RawValue, RouteText, Statement};
+use scene_core::{End, Route, Scene};
+use std::alloc::{AllocError, Global};
+use x3d_values::{Items, Text, fields_of};
+
+/// No scene has nodes nested deeper.
+const MOST_NESTED: u32 = 64;
+
+/// The field's own name.
+#[tactic(auto, using(crate::proofs::Ranges::names))]
+fn field_name(scene: &Scene, end: &End) -> &'static str
+    ensures { result.now ≡ field_name scene.now end.now }
+{
+    if (end.node as usize) < scene.node_count() {
+        match fields_of(scene.node_type(end.node)).get(end.field as usize) {
+            Some(field) => field.name,
+            None => "",
+        }
+    } else {
+        ""
+    }
+}
+
+fn place_of(scene: &Scene, alloc: Global, end: &End) -> Result<Place, AllocError>
+    ensures { IfOk result (λ place. place ≡ place_of scene.now end.now) }
+{
+    Ok(Place {
+        node: label(scene, alloc, end.node)?,
+        field: Text::from_str(alloc, field_name(scene, end))?,
+    })
+}
+
+fn route_of(scene: &Scene, alloc: Global, route: &Route) -> Result<RouteText, AllocError>
+    ensures { IfOk result (λ text. text ≡ route_of scene.now route.now) }
+{
+    Ok(RouteText {
+        line: 0,
+        source: place_of(scene, alloc, &route.source)?,
+        target: place_of(scene, alloc, &route.target)?,
+    })
+}
+
+fn push_routes(scene: &Scene, alloc: Global, out: &mut Vec<Statement>) -> Result<(), AllocError>
+    ensures { OnOk result (out.new.items ≡ out.old.items ++ routes_of scene.now) }
+{
+    for route in scene.routes() {
+        out.push(Statement::Route(route_of(scene, alloc, route)?))?;
+    }
+    Ok(())
+}
+
+/// The roots, where no node has appeared that is not marked as seen.
+fn roots_of(
+    plan: &Plan<'_>,
+    alloc: Global,
+    seen: &mut Vec<bool>,
+) -> Result<Vec<Statement>, AllocError>
+    ensures { IfOk result (λ made. record { seen = seen.new.items; made = made.items } ≡ each (root_tree (node_tree most_nested (plan_of plan.now))) seen.old.items plan.now.scene.now.roots) }
+{
+    let mut roots = Vec::new(alloc);
+    for root in plan.scene.roots() {
+        let tree = node_tree(plan, alloc, seen, MOST_NESTED, *root)?;
+        roots.push(Statement::Node(tree))?;
+    }
+    Ok(roots)
+}
+
+/// A Switch with these nodes as its children.
+fn switch_of(alloc: Global, children: Vec<NodeText>) -> Result<NodeText, AllocError>
+    ensures { IfOk result (λ made. made ≡ switch_of children.items) }
+{
+    let mut items = Vec::new(alloc);
+    let name = Text::from_str(alloc, "children")?;
+    let value = RawValue::NodeList(Items::from_vec(children));
+    items.push(BodyItem::Field(0, name, Given::Value(value)))?;
+    let word = Text::from_str(alloc, "Switch")?;
+    Ok(NodeText::Full(0, None, word, Items::from_vec(items)))
+}
+
+/// The helpers, where there are some, as one root more.
+#[tactic(auto, using(crate::proofs::Trees::helper_steps))]
+fn push_helpers(
+    plan: &Plan<'_>,
+    alloc: Global,
+    seen: &mut Vec<bool>,
+    out: &mut Vec<Statement>,
+) -> Result<(), AllocError>
+    ensures { OnOk result (out.new.items ≡ out.old.items ++ helper_root (helpers_of (plan_of plan.now) seen.old.items).made) }
+{
+    let trees = node_trees(plan, alloc, seen, MOST_NESTED, plan.scene.helpers())?;
+    if trees.is_empty() {
+        return Ok(());
+    }
+    out.push(Statement::Node(switch_of(alloc, trees)?))?;
+    Ok(())
+}
+
+/// All statements of the scene.
+#[tactic(auto, unfolding(crate::specs::Statements::statements_of))]
+pub(crate) fn statements_of(plan: &Plan<'_>, alloc: Global) -> Result<Vec<Statement>, AllocError>
+    ensures { IfOk result (λ made. made.items ≡ statements_of (plan_of plan.now)) }
+{
+    let mut seen = vec![in alloc; false; plan.scene.node_count()]?;
+    let mut statements = roots_of(plan, alloc, &mut seen)?;
+    push_helpers(plan, alloc, &mut seen, &mut statements)?;
+    push_routes(plan.scene, alloc, &mut statements)?;
+    Ok(statements)
+}

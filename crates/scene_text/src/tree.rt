@@ -1,0 +1,157 @@
+//! The trees of nodes: a node's first appearance in full, later ones by USE.
+
+ghost use Rattle.std.specs.Prelude.{◌≡◌, ◌<◌, IfOk, IfSome, length, map};
+ghost use Rattle.scene_core.specs.Scene.{label_of};
+ghost use Rattle.scene_text.specs.Tree.{new_type, use_tree, each, node_list, value_tree, field_tree, node_tree, def_name};
+ghost use Rattle.scene_text.specs.Views.{plan_of, shown_of};
+ghost use Rattle.x3d_values.specs.Names.{node_type_name};
+ghost use Rattle.classic_tree.specs.declared.tree.NodeText.TheVariants as text;
+
+use crate::plan::{Plan, ShownField, def_name, label, shown_fields};
+use crate::raw::plain;
+use classic_tree::{BodyItem, Given, NodeText, RawValue};
+use std::alloc::{AllocError, Global};
+use x3d_values::{Items, NodeType, Text, Value};
+
+/// The type of a node that has not appeared.
+fn new_type(plan: &Plan<'_>, seen: &[bool], node: u32) -> Option<NodeType>
+    ensures is { result ≡ new_type (plan_of plan.now) seen.now node }
+    ensures within { IfSome result (λ t. node < length seen.now) }
+{
+    match seen.get(node as usize) {
+        Some(false) if (node as usize) < plan.scene.node_count() => {
+            Some(plan.scene.node_type(node))
+        }
+        _ => None,
+    }
+}
+
+fn use_tree(plan: &Plan<'_>, alloc: Global, node: u32) -> Result<NodeText, AllocError>
+    ensures { IfOk result (λ made. made ≡ use_tree (plan_of plan.now) node) }
+{
+    Ok(NodeText::Use(0, label(plan.scene, alloc, node)?))
+}
+
+fn full_tree(
+    plan: &Plan<'_>,
+    alloc: Global,
+    node: u32,
+    node_type: NodeType,
+    items: Vec<BodyItem>,
+) -> Result<NodeText, AllocError>
+    ensures { IfOk result (λ made. made ≡ text.Full 0 (def_name (plan_of plan.now) node) (node_type_name node_type) items.items) }
+{
+    let name = def_name(plan, alloc, node)?;
+    let word = Text::from_str(alloc, node_type.name())?;
+    Ok(NodeText::Full(0, name, word, Items::from_vec(items)))
+}
+
+/// The tree of a node where nodes may be nested to that depth.
+#[cycle(tree)]
+#[tactic(auto, using(crate::proofs::Trees::node_steps))]
+pub(crate) fn node_tree(
+    plan: &Plan<'_>,
+    alloc: Global,
+    seen: &mut Vec<bool>,
+    depth: u32,
+    node: u32,
+) -> Result<NodeText, AllocError>
+    ensures { IfOk result (λ made. record { seen = seen.new.items; made = made } ≡ node_tree depth (plan_of plan.now) seen.old.items node) }
+{
+    if depth == 0 {
+        return Ok(use_tree(plan, alloc, node)?);
+    }
+    let Some(node_type) = new_type(plan, seen.as_slice(), node) else {
+        return Ok(use_tree(plan, alloc, node)?);
+    };
+    seen[node as usize] = true;
+    let shown = shown_fields(plan, alloc, node, node_type)?;
+    let items = field_trees(plan, alloc, seen, depth - 1, shown.as_slice())?;
+    Ok(full_tree(plan, alloc, node, node_type, items)?)
+}
+
+#[cycle(tree)]
+fn field_trees(
+    plan: &Plan<'_>,
+    alloc: Global,
+    seen: &mut Vec<bool>,
+    depth: u32,
+    shown: &[ShownField<'_>],
+) -> Result<Vec<BodyItem>, AllocError>
+    ensures { IfOk result (λ made. record { seen = seen.new.items; made = made.items } ≡ each (field_tree (node_tree depth (plan_of plan.now))) seen.old.items (map shown_of shown.now)) }
+{
+    let mut items = Vec::new(alloc);
+    for field in shown {
+        items.push(field_tree(plan, alloc, seen, depth, field)?)?;
+    }
+    Ok(items)
+}
+
+#[cycle(tree)]
+fn field_tree(
+    plan: &Plan<'_>,
+    alloc: Global,
+    seen: &mut Vec<bool>,
+    depth: u32,
+    shown: &ShownField<'_>,
+) -> Result<BodyItem, AllocError>
+    ensures { IfOk result (λ made. record { seen = seen.new.items; made = made } ≡ field_tree (node_tree depth (plan_of plan.now)) seen.old.items (shown_of shown.now)) }
+{
+    let value = value_tree(plan, alloc, seen, depth, shown.value)?;
+    let name = Text::from_str(alloc, shown.name)?;
+    Ok(BodyItem::Field(0, name, Given::Value(value)))
+}
+
+#[cycle(tree)]
+fn value_tree(
+    plan: &Plan<'_>,
+    alloc: Global,
+    seen: &mut Vec<bool>,
+    depth: u32,
+    value: &Value,
+) -> Result<RawValue<NodeText>, AllocError>
+    ensures { IfOk result (λ made. record { seen = seen.new.items; made = made } ≡ value_tree (node_tree depth (plan_of plan.now)) seen.old.items value.now) }
+{
+    match value {
+        Value::SFNode(Some(node)) => {
+            Ok(RawValue::Node(node_tree(plan, alloc, seen, depth, *node)?))
+        }
+        Value::MFNode(nodes) => node_list(plan, alloc, seen, depth, nodes.as_slice()),
+        _ => Ok(plain(alloc, value)?),
+    }
+}
+
+#[cycle(tree)]
+#[tactic(auto, using(crate::proofs::Trees::list_steps))]
+fn node_list(
+    plan: &Plan<'_>,
+    alloc: Global,
+    seen: &mut Vec<bool>,
+    depth: u32,
+    nodes: &[u32],
+) -> Result<RawValue<NodeText>, AllocError>
+    ensures { IfOk result (λ made. record { seen = seen.new.items; made = made } ≡ node_list (node_tree depth (plan_of plan.now)) seen.old.items nodes.now) }
+{
+    if nodes.is_empty() {
+        return Ok(RawValue::EmptyList);
+    }
+    let trees = node_trees(plan, alloc, seen, depth, nodes)?;
+    Ok(RawValue::NodeList(Items::from_vec(trees)))
+}
+
+#[cycle(tree)]
+pub(crate) fn node_trees(
+    plan: &Plan<'_>,
+    alloc: Global,
+    seen: &mut Vec<bool>,
+    depth: u32,
+    nodes: &[u32],
+) -> Result<Vec<NodeText>, AllocError>
+    ensures { IfOk result (λ made. record { seen = seen.new.items; made = made.items } ≡ each (node_tree depth (plan_of plan.now)) seen.old.items nodes.now) }
+{
+    let mut trees = Vec::new(alloc);
+    for node in nodes {
+        trees.push(node_tree(plan, alloc, seen, depth, *node)?)?;
+    }
+    Ok(trees)
+}
