@@ -1,8 +1,25 @@
-# `make test` is the gate: every proof from nothing, the must-fail edits, the tests.
-.PHONY: test check format
+# `make run` shows the program at work, `make test` is the gate.
+SHELL := bash
+.SHELLFLAGS := -eu -o pipefail -c
+.PHONY: run try test check format install
 
+JOB ?= examples/two-clocks.job
+PREFIX ?= /usr/local
+
+# Proves and builds the program, and runs a job: its trace, and then its scene.
+run:
+	@job=$$(realpath $(JOB)); cd crates/x3d_share && rt run -- run < "$$job"
+
+# The same without a proof, in half a minute.
+try:
+	@job=$$(realpath $(JOB)); cd crates/x3d_share && rt try -- run < "$$job"
+
+# The gate: every proof from nothing, the must-fail edits, the tests; and then the examples.
 test:
-	@rt ci
+	@log=$$(mktemp); trap 'rm -f "$$log"' EXIT; \
+	rt ci 2>&1 | tee "$$log"; \
+	(cd crates/x3d_share && rt try --cases ../../examples); \
+	tail -n 1 "$$log"
 
 # While you edit: every crate, over what earlier checks kept.
 check:
@@ -10,3 +27,8 @@ check:
 
 format:
 	@for crate in crates/*; do (cd $$crate && rt fmt) || exit 1; done
+
+# Puts the proved program on the path.
+install:
+	@cd crates/x3d_share && rt run -- --version
+	@install -D crates/x3d_share/out/x3d_share $(DESTDIR)$(PREFIX)/bin/x3d_share

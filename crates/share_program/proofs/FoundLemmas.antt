@@ -1,0 +1,130 @@
+-- A job that is answered, in the words of its lines.
+use Rattle.std.proofs.Common.{◌≡◌, ℕ, ◌+◌, ℤ, List, [], ◌∷◌, ◌++◌, length, take, drop, Bool, true, false, codes, Option, Some, None, Result, Ok}
+use Rattle.std.proofs.Common.{Err, refl, sym, ap, ◌∙◌, inl, inr, append_assoc, append-nil, take-append-drop}
+use Rattle.std.specs.Option.{option_and_then}
+use Rattle.std.specs.Result.{result_ok}
+use Rattle.std.specs.List.{fold, list_any, before_first, AllZip}
+use Rattle.std.specs.Str.{bytes_eq}
+use Rattle.std.specs.Str.Lines.{lines}
+use Rattle.std.specs.Cmp.Lexicographic.{same_text}
+use Rattle.std.proofs.lemmas.Bool.{cases_Bool}
+use Rattle.x3d_numerals.specs.Numeral.{IsNumeral}
+use Rattle.x3d_numerals.specs.Reading.{numeral}
+use Rattle.x3d_numerals.proofs.Numerals.{value_iff}
+use Rattle.x3d_values.specs.Stamp.{Stamp}
+use Rattle.share_program.specs.declared.fault.JobFault.{JobFault}
+use Rattle.share_program.specs.declared.fault.JobFault.TheVariants.{BadJob}
+use Rattle.share_program.specs.Job.{Lined, IsClock, IsJob, is_taken, clock_at, clock_time, next_input, with_line, with_scene, is_scene, job_lines}
+use Rattle.share_program.proofs.JobLemmas.{fold-err, before-cons_no, before-cons_yes}
+
+-- ---- a line that asks for an input is `clock T`
+
+ok_from : {X E : Type 0} (r : Result X E) (x : X) → result_ok r ≡ Some x → r ≡ Ok x
+ok_from (Ok y) x e = let same : y ≡ x = cc in ap Ok same
+ok_from (Err f) x e = absurd (cc)
+
+clock_from : (line : List ℕ) (t : ℤ) → clock_time line ≡ Some t → (text : List ℕ) × (line ≡ codes "clock " ++ text) × IsNumeral text t
+unfolding clock_time
+clock_from line t e = elim (cases_Bool (bytes_eq (take 6 line) (codes "clock "))) [
+  | inl passes ↦
+      let read : result_ok (numeral (drop 6 line)) ≡ Some t = rw passes at e in
+      let word : take 6 line ≡ codes "clock " = same_text (take 6 line) (codes "clock ") (sym passes) in
+      let whole : line ≡ codes "clock " ++ drop 6 line = sym (take-append-drop 6 line) ∙ ap (λ w. w ++ drop 6 line) word in
+      (drop 6 line, whole, (value_iff (drop 6 line) (numeral (drop 6 line)) refl t).0 (ok_from _ t read))
+  | inr fails ↦ let none = rw fails at e in absurd (cc)
+]
+
+next_time : (given : List Stamp) (time : Option ℤ) (input : Stamp) → option_and_then (clock_at given) time ≡ Some input → time ≡ Some input.time
+next_time given None input e = absurd (cc)
+next_time given (Some t) input e = elim (cases_Bool (is_taken given t)) [
+  | inl passes ↦
+      let same = rw passes at e in
+      let same_time : t ≡ input.time = cc in
+      ap Some same_time
+  | inr fails ↦ let none = rw fails at e in absurd (cc)
+]
+
+clock_is : (given : List Stamp) (line : List ℕ) (input : Stamp) → next_input given line ≡ Some input → IsClock line input
+unfolding next_input
+clock_is given line input e = clock_from line input.time (next_time given (clock_time line) input e)
+
+-- ---- the steps
+
+record Grown (given : List Stamp) (steps : List (List ℕ)) (inputs : List Stamp) : Type 0 where
+  more : List Stamp
+  is : inputs ≡ given ++ more
+  each : AllZip IsClock steps more
+
+grown_by : (given : List Stamp) (line : List ℕ) (steps : List (List ℕ)) (inputs : List Stamp) (input : Stamp) → IsClock line input
+    → Grown (given ++ input ∷ []) steps inputs → Grown given (line ∷ steps) inputs
+grown_by given line steps inputs input step g = record {
+  more = input ∷ g.more;
+  is = g.is ∙ append_assoc given (input ∷ []) g.more;
+  each = (step, g.each);
+}
+
+grown_with : (given : List Stamp) (line : List ℕ) (steps : List (List ℕ)) (inputs : List Stamp) (next : Option Stamp) → next ≡ next_input given line
+    → ((other : List Stamp) → fold with_line (Ok other) steps ≡ Ok inputs → Grown other steps inputs)
+    → fold with_line (with_line (Ok given) line) steps ≡ Ok inputs → Grown given (line ∷ steps) inputs
+grown_with given line steps inputs None same go e =
+    let bad = rw (← same) at e in
+    let err : Err (BadJob (length given + 1)) ≡ Ok inputs = sym (fold-err (BadJob (length given + 1)) steps) ∙ bad in
+    absurd (cc)
+grown_with given line steps inputs (Some input) same go e =
+    let more = rw (← same) at e in
+    grown_by given line steps inputs input (clock_is given line input (sym same)) (go (given ++ input ∷ []) more)
+
+grown : (given : List Stamp) (steps : List (List ℕ)) (inputs : List Stamp) → fold with_line (Ok given) steps ≡ Ok inputs → Grown given steps inputs
+grown given [] inputs e = let same : given ≡ inputs = cc in record { more = []; is = sym same ∙ sym (append-nil given); each = tt }
+grown given (line ∷ steps) inputs e = grown_with given line steps inputs (next_input given line) refl (λ other h. grown other steps inputs h) e
+
+-- ---- the line behind them
+
+record Split {A : Type 0} (p : A → Bool) (xs : List A) : Type 0 where
+  found : A
+  rest : List A
+  is : xs ≡ before_first p xs ++ found ∷ rest
+  passes : p found ≡ true
+
+split_first : {A : Type 0} (p : A → Bool) (xs : List A) → list_any p xs ≡ true → Split p xs
+split_first p [] h = absurd (cc)
+split_first p (x ∷ xs) h = elim (cases_Bool (p x)) [
+  | inl passes ↦ record { found = x; rest = xs; is = rw (before-cons_yes p x xs passes) refl; passes = passes }
+  | inr fails ↦
+      let later : list_any p xs ≡ true = rw fails at h in
+      let s = split_first p xs later in
+      record {
+        found = s.found;
+        rest = s.rest;
+        is = ap (λ l. x ∷ l) s.is ∙ ap (λ l. l ++ s.found ∷ s.rest) (sym (before-cons_no p x xs fails));
+        passes = s.passes;
+      }
+]
+
+record Scened (there : Bool) (scene : List ℕ) (r : Result (List Stamp) JobFault) (job : Lined) : Type 0 where
+  is_there : there ≡ true
+  inputs : r ≡ Ok job.inputs
+  scene_is : job.scene ≡ scene
+
+scened_from : (line : ℕ) (there : Bool) (scene : List ℕ) (r : Result (List Stamp) JobFault) (job : Lined) → with_scene line there scene r ≡ Ok job
+    → Scened there scene r job
+scened_from line there scene (Err f) job e = absurd (cc)
+scened_from line false scene (Ok inputs) job e = absurd (cc)
+scened_from line true scene (Ok inputs) job e =
+    let same : record { inputs = inputs; scene = scene } ≡ job = cc in
+    record { is_there = refl; inputs = ap Ok (ap (λ (j : Lined). j.inputs) same); scene_is = sym (ap (λ (j : Lined). j.scene) same) }
+
+pub found : (bytes : List ℕ) (job : Lined) → job_lines bytes ≡ Ok job → IsJob bytes job
+unfolding job_lines
+found bytes job e =
+    let s = scened_from _ _ _ _ job e in
+    let first = split_first is_scene (lines bytes) s.is_there in
+    let g = grown [] (before_first is_scene (lines bytes)) job.inputs s.inputs in
+    let word : first.found ≡ codes "scene" = same_text first.found (codes "scene") (sym first.passes) in
+    record {
+      steps = before_first is_scene (lines bytes);
+      rest = first.rest;
+      lines = first.is ∙ ap (λ w. before_first is_scene (lines bytes) ++ w ∷ first.rest) word;
+      each = rw g.is g.each;
+      scene = s.scene_is;
+    }

@@ -1,0 +1,209 @@
+-- A job line by line: what is left to answer where these inputs were read.
+use Rattle.std.proofs.Common.{◌≡◌, ℕ, suc, ◌+◌, ◌-◌, ◌^◌, ◌<◌, ◌≤◌, ◌<ℤ◌, ℤ, pos, List, [], ◌∷◌, ◌++◌, length, take, Bool, true, false, Option}
+use Rattle.std.proofs.Common.{Some, None, Result, Ok, Err, slice_get, refl, sym, ap, ◌∙◌, inl, inr, arith, zero-add}
+use Rattle.std.specs.Option.{option_and_then, option_map_or}
+use Rattle.std.specs.List.{fold, list_any, position_or_len, before_first}
+use Rattle.std.specs.Str.Lines.{lines}
+use Rattle.std.proofs.lemmas.Bool.{cases_Bool, ltb-true, and_parts}
+use Rattle.std.proofs.lemmas.Float.{T_from_true}
+use Rattle.std.proofs.lemmas.List.{length-append}
+use Rattle.x3d_values.specs.Stamp.{Stamp}
+use Rattle.share_program.specs.declared.fault.JobFault.{JobFault}
+use Rattle.share_program.specs.declared.fault.JobFault.TheVariants.{BadJob}
+use Rattle.share_program.specs.Lines.{first_line, behind_line}
+use Rattle.share_program.specs.Job.{Lined, Follow, AreInTurn, last_time, is_taken, clock_at, clock_time, next_input, with_line, with_scene}
+use Rattle.share_program.specs.Job.{is_scene, behind_lines, job_lines}
+use Rattle.share_program.proofs.LineLemmas.{cut}
+
+-- ---- the lines before the first that passes
+
+position-cons_no : {A : Type 0} (p : A → Bool) (x : A) (xs : List A) → p x ≡ false → position_or_len p (x ∷ xs) ≡ suc (position_or_len p xs)
+position-cons_no p x xs e = rw e (omega arith)
+
+pub before-cons_no : {A : Type 0} (p : A → Bool) (x : A) (xs : List A) → p x ≡ false → before_first p (x ∷ xs) ≡ x ∷ before_first p xs
+before-cons_no p x xs e = ap (λ k. take k (x ∷ xs)) (position-cons_no p x xs e)
+
+pub before-cons_yes : {A : Type 0} (p : A → Bool) (x : A) (xs : List A) → p x ≡ true → before_first p (x ∷ xs) ≡ []
+before-cons_yes p x xs e = rw e refl
+
+any-cons_no : {A : Type 0} (p : A → Bool) (x : A) (xs : List A) → p x ≡ false → list_any p (x ∷ xs) ≡ list_any p xs
+any-cons_no p x xs e = rw e refl
+
+any-cons_yes : {A : Type 0} (p : A → Bool) (x : A) (xs : List A) → p x ≡ true → list_any p (x ∷ xs) ≡ true
+any-cons_yes p x xs e = rw e refl
+
+-- ---- what is left
+
+scened : ℕ → Bool → (ℕ → List ℕ) → List (List ℕ) → List Stamp → Result Lined JobFault
+scened number there behind steps given = with_scene (number + (length steps + 1)) there (behind (length steps + 1)) (fold with_line (Ok given) steps)
+
+-- the answer where these inputs were read and these lines are left
+pub left : List Stamp → List (List ℕ) → (ℕ → List ℕ) → Result Lined JobFault
+left given all behind = scened (length given) (list_any is_scene all) behind (before_first is_scene all) given
+
+pub fold-err : (fault : JobFault) (all : List (List ℕ)) → fold with_line (Err fault) all ≡ Err fault
+fold-err fault [] = refl
+fold-err fault (line ∷ all) = fold-err fault all
+
+scened-step : (given : List Stamp) (there : Bool) (line : List ℕ) (steps : List (List ℕ)) (behind more : ℕ → List ℕ) (input : Stamp)
+    → next_input given line ≡ Some input
+    → ((k : ℕ) → behind (suc k) ≡ more k)
+    → scened (length given) there behind (line ∷ steps) given ≡ scened (length (given ++ input ∷ [])) there more steps (given ++ input ∷ [])
+unfolding scened
+scened-step given there line steps behind more input e same =
+    let number : length given + (length (line ∷ steps) + 1) ≡ length (given ++ input ∷ []) + (length steps + 1) =
+    omega (arith, length-append given (input ∷ [])) in
+    let scene : behind (length (line ∷ steps) + 1) ≡ more (length steps + 1) = ap behind (omega arith) ∙ same (length steps + 1) in
+    rw (number, scene, e) refl
+
+scened-bad : (given : List Stamp) (there : Bool) (line : List ℕ) (steps : List (List ℕ)) (behind : ℕ → List ℕ) → next_input given line ≡ None
+    → scened (length given) there behind (line ∷ steps) given ≡ Err (BadJob (length given + 1))
+unfolding scened
+scened-bad given there line steps behind e = rw (e, fold-err (BadJob (length given + 1)) steps) refl
+
+left-step : (given : List Stamp) (line : List ℕ) (all : List (List ℕ)) (behind more : ℕ → List ℕ) (input : Stamp) → is_scene line ≡ false
+    → next_input given line ≡ Some input
+    → ((k : ℕ) → behind (suc k) ≡ more k) → left given (line ∷ all) behind ≡ left (given ++ input ∷ []) all more
+unfolding left
+left-step given line all behind more input fails e same =
+    ap (λ b. scened (length given) b behind (before_first is_scene (line ∷ all)) given) (any-cons_no is_scene line all fails)
+    ∙ ap (λ steps. scened (length given) (list_any is_scene all) behind steps given) (before-cons_no is_scene line all fails)
+    ∙ scened-step given (list_any is_scene all) line (before_first is_scene all) behind more input e same
+
+left-bad : (given : List Stamp) (line : List ℕ) (all : List (List ℕ)) (behind : ℕ → List ℕ) → is_scene line ≡ false → next_input given line ≡ None
+    → left given (line ∷ all) behind ≡ Err (BadJob (length given + 1))
+unfolding left
+left-bad given line all behind fails e =
+    ap (λ steps. scened (length given) (list_any is_scene (line ∷ all)) behind steps given) (before-cons_no is_scene line all fails)
+    ∙ scened-bad given (list_any is_scene (line ∷ all)) line (before_first is_scene all) behind e
+
+left-scene : (given : List Stamp) (line : List ℕ) (all : List (List ℕ)) (behind : ℕ → List ℕ) → is_scene line ≡ true
+    → left given (line ∷ all) behind ≡ Ok (record { inputs = given; scene = behind 1 })
+unfolding left scened
+left-scene given line all behind passes =
+    ap (λ b. scened (length given) b behind (before_first is_scene (line ∷ all)) given) (any-cons_yes is_scene line all passes)
+    ∙ ap (λ steps. scened (length given) true behind steps given) (before-cons_yes is_scene line all passes)
+
+-- ---- the same of a text
+
+abbrev pub left_of : List Stamp → List ℕ → Result Lined JobFault
+left_of given text = left given (lines text) (λ n. behind_lines n text)
+
+pub at_start : (bytes : List ℕ) → job_lines bytes ≡ left_of [] bytes
+unfolding job_lines left scened
+at_start bytes = let steps : List (List ℕ) = before_first is_scene (lines bytes) in
+    ap (λ n. with_scene n (list_any is_scene (lines bytes)) (behind_lines (length steps + 1) bytes) (fold with_line (Ok []) steps))
+    (sym (zero-add (length steps + 1)))
+
+pub at_end : (given : List Stamp) (text : List ℕ) → length text ≡ 0 → left_of given text ≡ Err (BadJob (length given + 1))
+unfolding left scened
+at_end given [] h = refl
+at_end given (b ∷ text) h = absurd (omega arith)
+
+pub at_step : (given : List Stamp) (text : List ℕ) (input : Stamp) → 0 < length text → is_scene (first_line text) ≡ false
+    → next_input given (first_line text) ≡ Some input
+    → left_of given text ≡ left_of (given ++ input ∷ []) (behind_line text)
+at_step given text input some fails e =
+    let c = cut text some in
+    ap (λ all. left given all (λ n. behind_lines n text)) c.lines
+    ∙ left-step given (first_line text) (lines (behind_line text)) (λ n. behind_lines n text) (λ n. behind_lines n (behind_line text))
+    input fails e c.behind
+
+pub at_bad : (given : List Stamp) (text : List ℕ) → 0 < length text → is_scene (first_line text) ≡ false → next_input given (first_line text) ≡ None
+    → left_of given text ≡ Err (BadJob (length given + 1))
+at_bad given text some fails e =
+    let c = cut text some in
+    ap (λ all. left given all (λ n. behind_lines n text)) c.lines
+    ∙ left-bad given (first_line text) (lines (behind_line text)) (λ n. behind_lines n text) fails e
+
+pub at_scene : (given : List Stamp) (text : List ℕ) → 0 < length text → is_scene (first_line text) ≡ true
+    → left_of given text ≡ Ok (record { inputs = given; scene = behind_line text })
+at_scene given text some passes =
+    let c = cut text some in
+    ap (λ all. left given all (λ n. behind_lines n text)) c.lines
+    ∙ left-scene given (first_line text) (lines (behind_line text)) (λ n. behind_lines n text) passes
+    ∙ ap (λ scene. Ok (record { inputs = given; scene = scene })) c.whole
+
+-- ---- inputs in turn
+
+-- the time of the last, or this time where there is none
+last_from : ℤ → List Stamp → ℤ
+last_from t [] = t
+last_from t (x ∷ xs) = last_from x.time xs
+
+last_from-get : (t : ℤ) (x : Stamp) (xs : List Stamp) (other : ℤ)
+    → option_map_or (λ s. s.time) (slice_get (x ∷ xs) (length xs)) other ≡ last_from t (x ∷ xs)
+unfolding last_from
+last_from-get t x [] other = refl
+last_from-get t x (y ∷ ys) other = last_from-get x.time y ys other
+
+front_len : (x : Stamp) (xs : List Stamp) → length (x ∷ xs) - 1 ≡ length xs
+front_len x xs = omega arith
+
+last_from-last : (given : List Stamp) → last_time given ≡ last_from (pos 0) given
+unfolding last_time last_from
+last_from-last [] = refl
+last_from-last (x ∷ xs) = ap (λ k. option_map_or (λ s. s.time) (slice_get (x ∷ xs) k) (pos 0)) (front_len x xs) ∙ last_from-get (pos 0) x xs (pos 0)
+
+follow_more : (n : ℕ) (t : ℤ) (xs : List Stamp) (s : Stamp) → Follow n t xs → s.number ≡ n + length xs + 1 → last_from t xs <ℤ s.time
+    → Follow n t (xs ++ s ∷ [])
+unfolding last_from
+follow_more n t [] s h e later = (omega arith, later, tt)
+follow_more n t (x ∷ xs) s h e later =
+    let first : x.number ≡ n + 1 = h.0 in
+    let number : s.number ≡ x.number + length xs + 1 = omega arith in
+    (h.0, h.1, follow_more x.number x.time xs s h.2 number later)
+
+-- a host numbers the input behind these
+pub record IsNext (given : List Stamp) (input : Stamp) : Type 0 where
+  pub number : input.number ≡ length given + 1
+  pub few : length given < 2 ^ 20
+  pub later : last_time given <ℤ input.time
+
+next_from : (given : List Stamp) (time : Option ℤ) (input : Stamp) → option_and_then (clock_at given) time ≡ Some input → IsNext given input
+next_from given None input e = absurd (cc)
+next_from given (Some t) input e = elim (cases_Bool (is_taken given t)) [
+  | inl passes ↦
+      let same = rw passes at e in
+      let same_time : t ≡ input.time = cc in
+      let number : input.number ≡ length given + 1 = cc in
+      let tests = and_parts _ _ passes in
+      let later = and_parts _ _ tests.1 in
+      record {
+        number = number;
+        few = ltb-true (length given) (2 ^ 20) tests.0;
+        later = record { lt = T_from_true _ (rw (← same_time) later.0) };
+      }
+  | inr fails ↦ let none = rw fails at e in absurd (cc)
+]
+
+pub next_is : (given : List Stamp) (line : List ℕ) (input : Stamp) → next_input given line ≡ Some input → IsNext given input
+unfolding next_input
+next_is given line input e = next_from given (clock_time line) input e
+
+pub in_turn_more : (given : List Stamp) (input : Stamp) → AreInTurn given → IsNext given input → AreInTurn (given ++ input ∷ [])
+in_turn_more given input h next =
+    let number : input.number ≡ 0 + length given + 1 = omega (arith, next.number) in
+    let later : last_from (pos 0) given <ℤ input.time = rw (last_from-last given) at next.later in
+    follow_more 0 (pos 0) given input h number later
+
+-- ---- a turn of the loop, by the line that was cut off
+
+pub scene_found : (bytes : List ℕ) (given : List Stamp) (text line behind : List ℕ) → job_lines bytes ≡ left_of given text → 0 < length text
+    → line ≡ first_line text → behind ≡ behind_line text → is_scene line ≡ true → job_lines bytes ≡ Ok (record { inputs = given; scene = behind })
+scene_found bytes given text line behind answer some at_line at_behind passes =
+    answer ∙ at_scene given text some (rw at_line at passes) ∙ ap (λ scene. Ok (record { inputs = given; scene = scene })) (sym at_behind)
+
+pub step_refused : (bytes : List ℕ) (given : List Stamp) (text line : List ℕ) → job_lines bytes ≡ left_of given text → 0 < length text
+    → line ≡ first_line text → is_scene line ≡ false → next_input given line ≡ None → job_lines bytes ≡ Err (BadJob (length given + 1))
+step_refused bytes given text line answer some at_line fails e = answer ∙ at_bad given text some (rw at_line at fails) (rw at_line at e)
+
+pub step_taken : (bytes : List ℕ) (given : List Stamp) (text line behind : List ℕ) (input : Stamp) → job_lines bytes ≡ left_of given text
+    → 0 < length text
+    → line ≡ first_line text → behind ≡ behind_line text → is_scene line ≡ false → next_input given line ≡ Some input
+    → job_lines bytes ≡ left_of (given ++ input ∷ []) behind
+step_taken bytes given text line behind input answer some at_line at_behind fails e =
+    answer ∙ at_step given text input some (rw at_line at fails) (rw at_line at e) ∙ ap (λ t. left_of (given ++ input ∷ []) t) (sym at_behind)
+
+pub few_more : (given : List Stamp) (input : Stamp) → IsNext given input → length (given ++ input ∷ []) ≤ 2 ^ 20
+few_more given input next = omega (arith, length-append given (input ∷ []), next.few)

@@ -1,0 +1,5 @@
+pub mod WordLemmas
+pub mod Passed
+pub mod LineLemmas
+pub mod JobLemmas
+pub mod FoundLemmas

@@ -1,0 +1,14 @@
+use Rattle.std.proofs.Common.{◌≡◌, ◌≤◌, ◌^◌, length}
+use Rattle.share_program.specs.Job.{AreInTurn, job_lines}
+use Rattle.share_program.proofs.JobLemmas.{left_of}
+use Rattle.share_program.proofs.job.job_of.Given as goal
+
+abbrev pub invariant-loop-rest : goal.invariant-loop-rest
+invariant-loop-rest l = record {
+  answer : job_lines l.bytes ≡ left_of l.inputs l.rest;
+  in_turn : AreInTurn l.inputs;
+  few : length l.inputs ≤ 2 ^ 20;
+}
+
+abbrev pub decreases-loop-rest : goal.decreases-loop-rest
+decreases-loop-rest l = length l.rest

@@ -1,0 +1,7 @@
+pub mod Job
+pub mod Lines
+pub mod Refusal
+pub mod Words
+pub mod Faults
+pub mod Opening
+pub mod Running

@@ -1,0 +1,45 @@
+-- The scene of a text, and the job of a byte list: what each layer makes of it, one after the other.
+use Rattle.std.specs.Prelude.{ℕ, List, Result, Ok, Err}
+use Rattle.x3d_values.specs.Stamp.{Stamp}
+use Rattle.classic_text.specs.Reading.{read_text}
+use Rattle.proto_expand.specs.Whole.{flat}
+use Rattle.proto_expand.specs.declared.flat.Flat.{Flat}
+use Rattle.scene_core.specs.Building.{scene_of}
+use Rattle.scene_core.specs.Scene.{SceneView}
+use Rattle.scene_core.specs.declared.scene.Route.{Route}
+use Rattle.route_core.specs.Resolved.{resolved}
+use Rattle.share_program.specs.Job.{job_lines}
+use Rattle.share_program.specs.Faults.{of_read, of_expand, of_scene, of_route}
+use Rattle.share_program.specs.declared.fault.JobFault.{JobFault}
+use Rattle.share_program.specs.declared.open.Opened.{Opened}
+use Rattle.share_program.specs.declared.open.Job.{Job}
+
+-- the answer of a layer, with its fault as one of the job; and then what the next layer answers
+abbrev pub next : {X Y E : Type 0} → (E → JobFault) → Result X E → (X → Result Y JobFault) → Result Y JobFault
+next fault (Ok x) f = f x
+next fault (Err e) f = Err (fault e)
+
+abbrev pub with_routes : SceneView → List Route → Result Opened JobFault
+with_routes scene routes = Ok (record { scene = scene; routes = routes })
+
+-- a scene with the routes of its document
+abbrev pub routed : Flat → SceneView → Result Opened JobFault
+routed f s = next of_route (resolved f s) (with_routes s)
+
+-- the scene of a document, and its routes
+abbrev pub built : Flat → Result Opened JobFault
+built f = next of_scene (scene_of f) (routed f)
+
+-- the scene of a text, and its routes
+unfoldable pub opened : List ℕ → Result Opened JobFault
+opened text = next of_read (read_text text) (λ d. next of_expand (flat d) built)
+
+abbrev pub with_inputs : List Stamp → Opened → Result Job JobFault
+with_inputs inputs o = Ok (record { inputs = inputs; scene = o.scene; routes = o.routes })
+
+abbrev pub same : JobFault → JobFault
+same fault = fault
+
+-- the steps of the lines before the first line `scene`, and the scene behind it
+unfoldable pub opened_job : List ℕ → Result Job JobFault
+opened_job bytes = next same (job_lines bytes) (λ l. next same (opened l.scene) (with_inputs l.inputs))

@@ -1,0 +1,105 @@
+-- The status and the line of each fault.
+use Rattle.std.specs.Prelude.{ℕ, List, [], ◌++◌, codes, decimal, nat_eq, if◌then◌else◌}
+use Rattle.classic_text.specs.declared.fault.ReadFaultKind.{ReadFaultKind}
+use Rattle.classic_text.specs.declared.fault.ReadFaultKind.TheVariants as read
+use Rattle.classic_text.specs.FaultName.{fault_name}
+use Rattle.proto_expand.specs.declared.fault.ExpandFaultKind.{ExpandFaultKind}
+use Rattle.proto_expand.specs.declared.fault.ExpandFaultKind.TheVariants as expand
+use Rattle.proto_expand.specs.FaultName.{fault_name as expand_fault_name}
+use Rattle.scene_core.specs.declared.fault.SceneFaultKind.{SceneFaultKind}
+use Rattle.scene_core.specs.declared.fault.SceneFaultKind.TheVariants as scene
+use Rattle.scene_core.specs.Faults.{fault_name as scene_fault_name}
+use Rattle.route_core.specs.declared.fault.RouteFaultKind.{RouteFaultKind}
+use Rattle.route_core.specs.declared.fault.RouteFaultKind.TheVariants as route
+use Rattle.route_core.specs.FaultName.{fault_name as route_fault_name}
+use Rattle.share_program.specs.declared.stream.StreamFault.{StreamFault}
+use Rattle.share_program.specs.declared.stream.StreamFault.TheVariants as stream
+use Rattle.share_program.specs.declared.order.OrderFault.TheVariants as order
+use Rattle.share_program.specs.declared.fault.JobFault.{JobFault}
+use Rattle.share_program.specs.declared.fault.JobFault.TheVariants as job
+use Rattle.share_program.specs.declared.fault.RunFault.{RunFault}
+use Rattle.share_program.specs.declared.fault.RunFault.TheVariants as run
+use Rattle.share_program.specs.declared.refusal.Failure.{Failure}
+use Rattle.share_program.specs.declared.refusal.Failure.TheVariants.{Order, Job, Run}
+
+-- ---- what a fault of reading or writing is to a job and to its run
+
+abbrev pub job_fault_of : StreamFault → JobFault
+job_fault_of stream.Device = job.Device
+job_fault_of stream.Memory = job.Memory
+
+abbrev pub run_fault_of : StreamFault → RunFault
+run_fault_of stream.Device = run.Device
+run_fault_of stream.Memory = run.Memory
+
+-- ---- statuses: 1 for scenes, 2 for words and jobs, 4 for devices, 5 for memory
+
+abbrev pub read_status : ReadFaultKind → ℕ
+read_status read.Memory = 5
+read_status _ = 1
+
+abbrev pub expand_status : ExpandFaultKind → ℕ
+expand_status expand.Memory = 5
+expand_status _ = 1
+
+abbrev pub scene_status : SceneFaultKind → ℕ
+scene_status scene.Memory = 5
+scene_status _ = 1
+
+abbrev pub route_status : RouteFaultKind → ℕ
+route_status route.Memory = 5
+route_status _ = 1
+
+abbrev pub job_status : JobFault → ℕ
+job_status job.Device = 4
+job_status (job.BadJob _) = 2
+job_status (job.Read fault) = read_status fault.kind
+job_status (job.Expand fault) = expand_status fault.kind
+job_status (job.Scene fault) = scene_status fault.kind
+job_status (job.Route fault) = route_status fault.kind
+job_status job.Memory = 5
+
+abbrev pub status : Failure → ℕ
+status (Order order.Words) = 2
+status (Order order.Memory) = 5
+status (Job fault) = job_status fault
+status (Run run.Device) = 4
+status (Run run.Memory) = 5
+
+-- ---- names: that of the innermost fault
+
+abbrev pub job_fault_name : JobFault → List ℕ
+job_fault_name job.Device = codes "Device"
+job_fault_name (job.BadJob _) = codes "BadJob"
+job_fault_name (job.Read fault) = fault_name fault.kind
+job_fault_name (job.Expand fault) = expand_fault_name fault.kind
+job_fault_name (job.Scene fault) = scene_fault_name fault.kind
+job_fault_name (job.Route fault) = route_fault_name fault.kind
+job_fault_name job.Memory = codes "Memory"
+
+abbrev pub failure_name : Failure → List ℕ
+failure_name (Order order.Words) = codes "Words"
+failure_name (Order order.Memory) = codes "Memory"
+failure_name (Job fault) = job_fault_name fault
+failure_name (Run run.Device) = codes "Device"
+failure_name (Run run.Memory) = codes "Memory"
+
+-- ---- lines, and 0 for a fault without one
+
+abbrev pub job_fault_line : JobFault → ℕ
+job_fault_line (job.BadJob line) = line
+job_fault_line (job.Read fault) = fault.line
+job_fault_line (job.Expand fault) = fault.line
+job_fault_line (job.Scene fault) = fault.line
+job_fault_line (job.Route fault) = fault.line
+job_fault_line _ = 0
+
+abbrev pub failure_line : Failure → ℕ
+failure_line (Job fault) = job_fault_line fault
+failure_line _ = 0
+
+-- `refused NAME`, and ` line N` where there is a line other than 0
+abbrev pub refusal_text : Failure → List ℕ
+refusal_text f =
+    codes "refused " ++ failure_name f
+    ++ (if nat_eq (failure_line f) 0 then [] else codes " line " ++ decimal (failure_line f))

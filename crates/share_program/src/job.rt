@@ -1,0 +1,113 @@
+//! The lines of a job: steps, a line `scene`, then the scene.
+
+ghost use Rattle.std.specs.Prelude.{◌≡◌, IfOk, Option, length};
+ghost use Rattle.x3d_lists.specs.Answers.{Gives};
+ghost use Rattle.share_program.specs.Job.{clock_time, last_time, is_taken, clock_at, next_input};
+ghost use Rattle.share_program.specs.Job.{is_scene, job_lines, IsJob, AreInTurn};
+ghost use Rattle.share_program.specs.declared.fault.JobFault.TheVariants.{Memory};
+
+use crate::fault::JobFault;
+use crate::line::cut_line;
+use std::alloc::Global;
+use x3d_lists::Items;
+use x3d_numerals::millionths;
+use x3d_values::{Event, Stamped, is_input_time};
+
+/// A world takes so many inputs.
+const MOST_INPUTS: usize = 1 << 20;
+
+/// What the lines of a job ask for.
+#[derive(Debug, Drop)]
+pub struct Steps<'a> {
+    /// Numbered from 1, each later than the one before it.
+    pub inputs: Items<Stamped>,
+    /// The bytes behind the line `scene`.
+    pub scene: &'a [u8],
+}
+
+/// The time of a line `clock T`: T seconds in millionths, which are microseconds.
+#[tactic(auto, using(crate::proofs::Passed::passed), unfolding(crate::specs::Job::clock_time))]
+fn clock_time(line: &[u8]) -> Option<i64>
+    ensures { result ≡ clock_time line.now }
+{
+    match line.strip_prefix(b"clock ") {
+        Some(numeral) => millionths(numeral).ok(),
+        None => None,
+    }
+}
+
+/// The time of the last input, at first 0.
+#[tactic(auto, using(crate::proofs::Passed::passed), unfolding(crate::specs::Job::last_time))]
+fn last_time(inputs: &[Stamped]) -> i64
+    ensures { result ≡ last_time inputs.now }
+{
+    match inputs.last() {
+        Some(input) => input.time(),
+        None => 0,
+    }
+}
+
+/// Whether a host would number an input of this time behind these.
+#[tactic(auto, using(crate::proofs::Passed::passed))]
+fn is_taken(inputs: &[Stamped], time: i64) -> bool
+    ensures { result ≡ is_taken inputs.now time }
+{
+    inputs.len() < MOST_INPUTS && last_time(inputs) < time && is_input_time(time)
+}
+
+#[tactic(auto, using(crate::proofs::Passed::passed))]
+fn clock_at(inputs: &[Stamped], time: i64) -> Option<Stamped>
+    ensures { result ≡ clock_at inputs.now time }
+{
+    if !is_taken(inputs, time) {
+        return None;
+    }
+    let number = inputs.len() as u32 + 1;
+    Some(Stamped::new(number, time, Event::Clock))
+}
+
+/// The input that a line asks for behind these.
+#[tactic(auto, using(crate::proofs::Passed::passed), unfolding(crate::specs::Job::next_input))]
+fn next_input(inputs: &[Stamped], line: &[u8]) -> Option<Stamped>
+    ensures { result ≡ next_input inputs.now line.now }
+{
+    match clock_time(line) {
+        Some(time) => clock_at(inputs, time),
+        None => None,
+    }
+}
+
+fn is_scene(line: &[u8]) -> bool
+    ensures { result ≡ is_scene line.now }
+{
+    line == b"scene".as_slice()
+}
+
+/// The steps of a job's lines, and its scene.
+pub fn job_of(alloc: Global, bytes: &[u8]) -> Result<Steps<'_>, JobFault>
+    // The steps and the scene, or the first line that isn't one, memory aside.
+    ensures exact { Gives Memory (λ s. record { inputs = s.inputs; scene = s.scene.now }) result
+        (job_lines bytes.now) }
+    // Each line before `scene` is a step, and gives one input.
+    ensures found { IfOk result
+        (λ s. IsJob bytes.now (record { inputs = s.inputs; scene = s.scene.now })) }
+    ensures in_turn { IfOk result (λ s. AreInTurn s.inputs) }
+{
+    let mut inputs: Items<Stamped> = Items::new(alloc);
+    let mut rest = bytes;
+    while !rest.is_empty() {
+        let (line, behind) = cut_line(rest);
+        if is_scene(line) {
+            return Ok(Steps {
+                inputs,
+                scene: behind,
+            });
+        }
+        let Some(input) = next_input(inputs.as_slice(), line) else {
+            return Err(JobFault::BadJob(inputs.len() as u32 + 1));
+        };
+        inputs.push(input)?;
+        rest = behind;
+    }
+    Err(JobFault::BadJob(inputs.len() as u32 + 1))
+}

@@ -1,0 +1,26 @@
+//! The program's calls: its command words, its input and output, the lines of a job, and what a
+//! refusal prints.
+#![tactic(auto)]
+
+#[cfg(test)]
+mod examples;
+mod fault;
+mod job;
+mod line;
+mod open;
+mod order;
+mod refusal;
+mod runs;
+mod stream;
+#[cfg(test)]
+mod tests;
+mod words;
+
+pub use fault::{JobFault, RunFault};
+pub use job::{Steps, job_of};
+pub use open::{Job, Opened, open_job, open_scene, read_job};
+pub use order::{Order, OrderFault};
+pub use refusal::{Failure, refusal_line, status_of};
+pub use runs::run;
+pub use stream::{MAX_READS, StreamFault, read_whole, write_whole};
+pub use words::{command_of, help_of};

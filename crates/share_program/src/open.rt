@@ -1,0 +1,86 @@
+//! From the bytes of a job to a scene that can be run.
+
+ghost use Rattle.std.specs.Prelude.{◌≡◌, IfOk, IfErr, OnOk, List, ℕ};
+ghost use Rattle.std.specs.Io.KnownBytes.{Consumes, IsAtEnd};
+ghost use Rattle.x3d_lists.specs.Answers.{Gives};
+ghost use Rattle.share_program.specs.Job.{AreInTurn};
+ghost use Rattle.share_program.specs.Opening.{routed, built, opened, opened_job};
+ghost use Rattle.share_program.specs.declared.fault.JobFault.TheVariants.{Memory};
+
+use crate::fault::JobFault;
+use crate::job::job_of;
+use crate::stream::read_whole;
+use classic_text::read;
+use proto_expand::{Flat, expand};
+use route_core::Routes;
+use scene_core::Scene;
+use std::alloc::Global;
+use std::io::Read;
+use x3d_lists::Items;
+use x3d_values::Stamped;
+
+/// A scene with its routes.
+#[derive(Drop)]
+pub struct Opened {
+    pub scene: Scene,
+    pub routes: Routes,
+}
+
+/// A scene with its routes, and the inputs to apply to it, numbered from 1, each later than the one
+/// before it.
+#[derive(Drop)]
+pub struct Job {
+    pub inputs: Items<Stamped>,
+    pub scene: Scene,
+    pub routes: Routes,
+}
+
+/// A scene with the routes of its document.
+fn routed(alloc: Global, flat: &Flat, scene: Scene) -> Result<Opened, JobFault>
+    ensures { Gives Memory (λ o. o) result (routed flat.now scene) }
+{
+    let routes = Routes::resolve(alloc, flat, &scene)?;
+    Ok(Opened { scene, routes })
+}
+
+/// The scene of a document, and its routes.
+fn built(alloc: Global, flat: &Flat) -> Result<Opened, JobFault>
+    ensures { Gives Memory (λ o. o) result (built flat.now) }
+{
+    let scene = Scene::build(alloc, flat)?;
+    routed(alloc, flat, scene)
+}
+
+/// The scene of a text, and its routes.
+#[tactic(auto, unfolding(crate::specs::Opening::opened))]
+pub fn open_scene(alloc: Global, text: &[u8]) -> Result<Opened, JobFault>
+    ensures { Gives Memory (λ o. o) result (opened text.now) }
+{
+    let document = read(alloc, text)?;
+    let flat = expand(alloc, document)?;
+    built(alloc, &flat)
+}
+
+/// The job of these bytes: first its lines, then its scene.
+#[tactic(auto, unfolding(crate::specs::Opening::opened_job))]
+pub fn open_job(alloc: Global, bytes: &[u8]) -> Result<Job, JobFault>
+    ensures exact { Gives Memory (λ j. j) result (opened_job bytes.now) }
+    ensures in_turn { IfOk result (λ j. AreInTurn j.inputs) }
+{
+    let steps = job_of(alloc, bytes)?;
+    let opened = open_scene(alloc, steps.scene)?;
+    Ok(Job {
+        inputs: steps.inputs,
+        scene: opened.scene,
+        routes: opened.routes,
+    })
+}
+
+/// The job that a reader has left, which is read to its end first.
+pub fn read_job<R: Read>(alloc: Global, reader: &mut R) -> Result<Job, JobFault>
+    ensures job { IfOk result (λ j. (bytes : List ℕ) × Consumes (R.remaining reader.old) (R.remaining reader.new) bytes × IsAtEnd (R.remaining reader.new) × (opened_job bytes ≡ Ok j)) }
+    ensures in_turn { IfOk result (λ j. AreInTurn j.inputs) }
+{
+    let bytes = read_whole(alloc, reader)?;
+    open_job(alloc, bytes.as_slice())
+}

@@ -1,0 +1,113 @@
+//! What a refusal prints, and the status that the program then ends with.
+
+ghost use Rattle.std.specs.Prelude.{◌≡◌, ◌≤◌, length};
+ghost use Rattle.share_program.specs.Refusal.{status, job_status, refusal_text};
+ghost use Rattle.share_program.specs.Refusal.{failure_name, job_fault_name, failure_line};
+
+use crate::fault::{JobFault, RunFault};
+use crate::order::OrderFault;
+use arrayvec::ArrayString;
+use classic_text::ReadFaultKind;
+use proto_expand::ExpandFaultKind;
+use route_core::RouteFaultKind;
+use scene_core::SceneFaultKind;
+use thiserror::Error;
+
+/// Every fault of the program: of its words, of its job and of the work itself.
+#[derive(Clone, Copy, Debug, PartialEq, Eq, Error)]
+pub enum Failure {
+    #[error(transparent)]
+    Order(#[from] OrderFault),
+    #[error(transparent)]
+    Job(#[from] JobFault),
+    #[error(transparent)]
+    Run(#[from] RunFault),
+}
+
+fn job_status(fault: &JobFault) -> u8
+    ensures { result ≡ job_status fault.now }
+{
+    match fault {
+        JobFault::Device => 4,
+        JobFault::BadJob(_) => 2,
+        JobFault::Read(fault) if fault.kind == ReadFaultKind::Memory => 5,
+        JobFault::Expand(fault) if fault.kind == ExpandFaultKind::Memory => 5,
+        JobFault::Scene(fault) if fault.kind == SceneFaultKind::Memory => 5,
+        JobFault::Route(fault) if fault.kind == RouteFaultKind::Memory => 5,
+        JobFault::Read(_) => 1,
+        JobFault::Expand(_) => 1,
+        JobFault::Scene(_) => 1,
+        JobFault::Route(_) => 1,
+        JobFault::Memory => 5,
+    }
+}
+
+/// 1 for a scene that is refused, 2 for words and jobs, 4 for devices, 5 for memory.
+pub fn status_of(failure: &Failure) -> u8
+    ensures { result ≡ status failure.now }
+{
+    match failure {
+        Failure::Order(OrderFault::Words) => 2,
+        Failure::Order(OrderFault::Memory) => 5,
+        Failure::Job(fault) => job_status(fault),
+        Failure::Run(RunFault::Device) => 4,
+        Failure::Run(RunFault::Memory) => 5,
+    }
+}
+
+fn job_fault_name(fault: &JobFault) -> &'static str
+    ensures name { result.now ≡ job_fault_name fault.now }
+    ensures short { length result.now ≤ 20 }
+{
+    match fault {
+        JobFault::Device => "Device",
+        JobFault::BadJob(_) => "BadJob",
+        JobFault::Read(fault) => fault.kind.name(),
+        JobFault::Expand(fault) => fault.kind.name(),
+        JobFault::Scene(fault) => fault.kind.name(),
+        JobFault::Route(fault) => fault.kind.name(),
+        JobFault::Memory => "Memory",
+    }
+}
+
+fn name_of(failure: &Failure) -> &'static str
+    ensures name { result.now ≡ failure_name failure.now }
+    ensures short { length result.now ≤ 20 }
+{
+    match failure {
+        Failure::Order(OrderFault::Words) => "Words",
+        Failure::Order(OrderFault::Memory) => "Memory",
+        Failure::Job(fault) => job_fault_name(fault),
+        Failure::Run(RunFault::Device) => "Device",
+        Failure::Run(RunFault::Memory) => "Memory",
+    }
+}
+
+fn line_of(failure: &Failure) -> u32
+    ensures { result ≡ failure_line failure.now }
+{
+    match failure {
+        Failure::Job(JobFault::BadJob(line)) => *line,
+        Failure::Job(JobFault::Read(fault)) => fault.line,
+        Failure::Job(JobFault::Expand(fault)) => fault.line,
+        Failure::Job(JobFault::Scene(fault)) => fault.line,
+        Failure::Job(JobFault::Route(fault)) => fault.line,
+        _ => 0,
+    }
+}
+
+/// `refused NAME`, and ` line N` where there is a line other than 0.
+pub fn refusal_line(failure: &Failure) -> ArrayString<64>
+    ensures { result.bytes ≡ refusal_text failure.now }
+{
+    let mut text = ArrayString::new();
+    text.push_str("refused ");
+    text.push_str(name_of(failure));
+    let line = line_of(failure);
+    if line != 0 {
+        text.push_str(" line ");
+        let mut buffer = itoa::Buffer::new();
+        text.push_str(buffer.format(line));
+    }
+    text
+}

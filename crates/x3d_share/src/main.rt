@@ -1,0 +1,66 @@
+//! The program: its words, its input, and what it prints.
+#![tactic(auto)]
+
+use cascade_core::Scripts;
+use share_program::{
+    Failure, JobFault, Order, OrderFault, RunFault, StreamFault, command_of, help_of, read_job,
+    refusal_line, run, status_of, write_whole,
+};
+use std::alloc::{AllocError, Global};
+use std::io;
+use std::process::ExitCode;
+use std::rt::Env;
+
+/// The program's own name and its words.
+fn own_words<R: Env + AllocGlobal>(rt: &R) -> Result<Vec<String>, Failure> {
+    let Ok(words) = std::env::args(rt) else {
+        return Err(Failure::Order(OrderFault::Words));
+    };
+    words
+        .collect(rt.alloc())
+        .map_err(|_| Failure::Order(OrderFault::Memory))
+}
+
+fn views<'a>(alloc: Global, words: &'a [String]) -> Result<Vec<&'a str>, AllocError> {
+    words.iter().map(|word| word.as_str()).collect(alloc)
+}
+
+/// What a fault of the output is to a run.
+fn output_failure(fault: StreamFault) -> Failure {
+    Failure::Run(RunFault::from(fault))
+}
+
+/// Reads a job, runs it and prints what came of it.
+fn run_job<R: AllocGlobal + Input + Print>(rt: &R) -> Result<(), Failure> {
+    let job = read_job(rt.alloc(), &mut rt.reader())?;
+    let scripts: Scripts<()> = Scripts::none();
+    run(rt.alloc(), job, scripts, &mut io::writer(rt))?;
+    Ok(())
+}
+
+fn obey<R: AllocGlobal + Input + Print>(rt: &R, words: &[&str]) -> Result<(), Failure> {
+    match command_of(rt.alloc(), words)? {
+        Order::Run => run_job(rt),
+    }
+}
+
+fn work<R: Env + AllocGlobal + Input + Print>(rt: &R) -> Result<(), Failure> {
+    let own = own_words(rt)?;
+    let Ok(words) = views(rt.alloc(), own.as_slice()) else {
+        return Err(Failure::Order(OrderFault::Memory));
+    };
+    if let Ok(Some(help)) = help_of(rt.alloc(), words.as_slice()) {
+        return write_whole(&mut io::writer(rt), help.as_bytes()).map_err(output_failure);
+    }
+    obey(rt, words.as_slice())
+}
+
+fn main(rt: HostRuntime) -> ExitCode {
+    match work(&rt) {
+        Ok(()) => ExitCode::SUCCESS,
+        Err(failure) => {
+            let _ = rt.eprintln(refusal_line(&failure).as_str());
+            ExitCode::from(status_of(&failure))
+        }
+    }
+}
