@@ -176,7 +176,7 @@ ROUTE F2.inputTrue TO G2.set_boolean
 3 5 T.time 5
 3 5 T.isActive FALSE
 #X3D V3.0 utf8
-TimeSensor {
+DEF T TimeSensor {
   startTime 1
 }
 ",
