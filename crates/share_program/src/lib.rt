@@ -15,6 +15,8 @@ mod stream;
 #[cfg(test)]
 mod tests;
 mod words;
+#[cfg(test)]
+mod works;
 
 pub use fault::{JobFault, RunFault};
 pub use job::{Steps, job_of};
