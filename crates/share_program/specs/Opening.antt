@@ -1,5 +1,5 @@
 -- The scene of a text, and the job of a byte list: what each layer makes of it, one after the other.
-use Rattle.std.specs.Prelude.{ℕ, List, Result, Ok, Err}
+use Rattle.std.specs.Prelude.{◌≡◌, ◌⊎◌, Option, ℕ, List, Result, Ok, Err}
 use Rattle.x3d_values.specs.Stamp.{Stamp}
 use Rattle.classic_text.specs.Reading.{read_text}
 use Rattle.proto_expand.specs.Whole.{flat}
@@ -10,7 +10,9 @@ use Rattle.scene_core.specs.declared.scene.Route.{Route}
 use Rattle.route_core.specs.Resolved.{resolved}
 use Rattle.share_program.specs.Job.{job_lines}
 use Rattle.share_program.specs.Faults.{of_read, of_expand, of_scene, of_route}
+use Rattle.std.specs.Io.KnownBytes.{Consumes, IsAtEnd}
 use Rattle.share_program.specs.declared.fault.JobFault.{JobFault}
+use Rattle.share_program.specs.declared.fault.JobFault.TheVariants.{Device, Memory}
 use Rattle.share_program.specs.declared.open.Opened.{Opened}
 use Rattle.share_program.specs.declared.open.Job.{Job}
 
@@ -43,3 +45,11 @@ same fault = fault
 -- the steps of the lines before the first line `scene`, and the scene behind it
 unfoldable pub opened_job : List ℕ → Result Job JobFault
 opened_job bytes = next same (job_lines bytes) (λ l. next same (opened l.scene) (with_inputs l.inputs))
+
+-- the fault of a device, or of memory
+abbrev pub IsDeviceOrMemory : JobFault → Type 0
+IsDeviceOrMemory fault = (fault ≡ Device) ⊎ (fault ≡ Memory)
+
+-- a reader was read to its end, and what it had is no job for this reason
+abbrev pub IsNoJob : Option (List ℕ) → Option (List ℕ) → JobFault → Type 0
+IsNoJob old new fault = (bytes : List ℕ) × Consumes old new bytes × IsAtEnd new × (opened_job bytes ≡ Err fault)

@@ -1,10 +1,10 @@
 //! From the bytes of a job to a scene that can be run.
 
-ghost use Rattle.std.specs.Prelude.{◌≡◌, IfOk, IfErr, OnOk, List, ℕ};
+ghost use Rattle.std.specs.Prelude.{◌≡◌, IfOk, IfErr, ◌⊎◌, List, ℕ};
 ghost use Rattle.std.specs.Io.KnownBytes.{Consumes, IsAtEnd};
 ghost use Rattle.x3d_lists.specs.Answers.{Gives};
 ghost use Rattle.share_program.specs.Job.{AreInTurn};
-ghost use Rattle.share_program.specs.Opening.{routed, built, opened, opened_job};
+ghost use Rattle.share_program.specs.Opening.{routed, built, opened, opened_job, IsDeviceOrMemory, IsNoJob};
 ghost use Rattle.share_program.specs.declared.fault.JobFault.TheVariants.{Memory};
 
 use crate::fault::JobFault;
@@ -80,6 +80,7 @@ pub fn open_job(alloc: Global, bytes: &[u8]) -> Result<Job, JobFault>
 pub fn read_job<R: Read>(alloc: Global, reader: &mut R) -> Result<Job, JobFault>
     ensures job { IfOk result (λ j. (bytes : List ℕ) × Consumes (R.remaining reader.old) (R.remaining reader.new) bytes × IsAtEnd (R.remaining reader.new) × (opened_job bytes ≡ Ok j)) }
     ensures in_turn { IfOk result (λ j. AreInTurn j.inputs) }
+    ensures refused { IfErr result (λ f. IsDeviceOrMemory f ⊎ IsNoJob (R.remaining reader.old) (R.remaining reader.new) f) }
 {
     let bytes = read_whole(alloc, reader)?;
     open_job(alloc, bytes.as_slice())

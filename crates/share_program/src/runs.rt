@@ -1,9 +1,10 @@
 //! Runs a job.
 
-ghost use Rattle.std.specs.Prelude.{◌≡◌, ◌++◌, OnOk, IfOk};
-ghost use Rattle.std.specs.Io.KnownBytes.{Appends};
+ghost use Rattle.std.specs.Prelude.{◌≡◌, ◌++◌, OnOk, IfOk, IfErr};
+ghost use Rattle.std.specs.Io.KnownBytes.{Appends, Keeps};
 ghost use Rattle.cascade_core.specs.Held.{IfRunning};
 ghost use Rattle.share_program.specs.Running.{texts, run_text};
+ghost use Rattle.share_program.specs.declared.fault.RunFault.TheVariants.{Memory};
 
 use crate::fault::RunFault;
 use crate::open::Job;
@@ -53,6 +54,7 @@ pub fn run<B, W: Write>(
     writer: &mut W,
 ) -> Result<(), RunFault>
     ensures ok { OnOk result (Appends (W.contents writer.old) (W.contents writer.new) (run_text job)) }
+    ensures nothing { IfErr result (λ f. f ≡ Memory → Keeps (W.contents writer.old) (W.contents writer.new)) }
 {
     let text = text_of(alloc, job, scripts)?;
     write_whole(writer, text.as_slice())?;

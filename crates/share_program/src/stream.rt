@@ -1,8 +1,8 @@
 //! Reading an input whole, and writing an output whole.
 
-ghost use Rattle.std.specs.Prelude.{◌≡◌, ◌++◌, IfOk, OnOk, IfSome, List, ℕ};
+ghost use Rattle.std.specs.Prelude.{◌≡◌, ◌++◌, IfOk, IfErr, OnOk, IfSome, List, ℕ};
 ghost use Rattle.std.specs.Io.KnownBytes.{Appends, Consumes, IsAtEnd};
-ghost use Rattle.share_program.specs.declared.stream.StreamFault.TheVariants.{Memory};
+ghost use Rattle.share_program.specs.declared.stream.StreamFault.TheVariants.{Device, Memory};
 
 use std::alloc::{AllocError, Global};
 use std::io::{ErrorKind, Read, Write};
@@ -52,7 +52,8 @@ pub fn read_whole<R: Read>(alloc: Global, reader: &mut R) -> Result<Vec<u8>, Str
 
 /// Writes all bytes, and leaves none in a buffer. It takes no memory.
 pub fn write_whole<W: Write>(writer: &mut W, bytes: &[u8]) -> Result<(), StreamFault>
-    ensures { OnOk result (Appends (W.contents writer.old) (W.contents writer.new) bytes.now) }
+    ensures ok { OnOk result (Appends (W.contents writer.old) (W.contents writer.new) bytes.now) }
+    ensures device { IfErr result (λ f. f ≡ Device) }
 {
     let Ok(()) = writer.write_all(bytes) else {
         return Err(StreamFault::Device);
