@@ -1,5 +1,5 @@
 -- A stage holds the world of its scene, or is spoiled with the number of inputs that it had applied.
-use Rattle.std.specs.Prelude.{ℕ, Bool, true, false, List, [], Option, Some, None, if◌then◌else◌, ◌+◌, ◌==◌, int_lt, not}
+use Rattle.std.specs.Prelude.{ℕ, Bool, true, false, List, [], ◌∷◌, Option, Some, None, if◌then◌else◌, ◌+◌, ◌==◌, int_lt, not}
 use Rattle.std.specs.List.{fold}
 use Rattle.x3d_values.specs.declared.node_type.NodeType.{NodeType}
 use Rattle.x3d_values.specs.Stamp.{Stamp}
@@ -76,6 +76,16 @@ after stage input = holding stage (after_held (types_of stage.scene) stage.route
 -- the stage after a list of inputs that it takes
 abbrev pub after_all : StageView → List Stamp → StageView
 after_all stage inputs = fold after stage inputs
+
+-- the first of two refusals, if there is one
+abbrev pub first_refusal : Option ApplyFault → Option ApplyFault → Option ApplyFault
+first_refusal None later = later
+first_refusal (Some f) later = Some f
+
+-- why a list of inputs is refused: by the first of them that the stage after those before it refuses
+abbrev pub refusal_in : StageView → List Stamp → Option ApplyFault
+refusal_in stage [] = None
+refusal_in stage (input ∷ inputs) = first_refusal (refusal_of stage.held input) (refusal_in (after stage input) inputs)
 
 -- the stage when memory was refused
 abbrev pub spoiled : StageView → StageView

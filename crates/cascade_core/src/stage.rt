@@ -1,7 +1,7 @@
 //! A stage holds the world of a scene, and applies inputs to it.
 
-ghost use Rattle.std.specs.Prelude.{◌≡◌, ◌++◌, IfOk, IfErr, IfNone, IfSome, None, OnOk, OnErr, map};
-ghost use Rattle.cascade_core.specs.Held.{Running};
+ghost use Rattle.std.specs.Prelude.{◌≡◌, ◌++◌, ◌⊎◌, IfOk, IfErr, IfNone, IfSome, None, Some, OnOk, OnErr, map};
+ghost use Rattle.cascade_core.specs.Held.{Running, refusal_in};
 ghost use Rattle.cascade_core.specs.Apply.{opening, world};
 
 use crate::clock::advance;
@@ -75,8 +75,8 @@ fn opening(alloc: Global, scene: &Scene) -> Result<WorldData, AllocError>
 }
 
 impl<B> Stage<B> {
-    ghost use Rattle.std.specs.Prelude.{◌≡◌, ◌++◌, IfOk, IfErr, IfNone, IfSome, OnOk, OnErr};
-    ghost use Rattle.cascade_core.specs.Held.{Running, after, refusal_of, spoiled as spoiled_of, applied_of, after_all, IfRunning, IfSpoiled, is_spoiled, trace_of};
+    ghost use Rattle.std.specs.Prelude.{◌≡◌, ◌++◌, ◌⊎◌, IfOk, IfErr, IfNone, IfSome, None, Some, OnOk, OnErr};
+    ghost use Rattle.cascade_core.specs.Held.{Running, after, refusal_of, refusal_in, spoiled as spoiled_of, applied_of, after_all, IfRunning, IfSpoiled, is_spoiled, trace_of};
     ghost use Rattle.cascade_core.specs.Apply.{opening};
     ghost use Rattle.cascade_core.specs.Texts.{trace_text, scene_text};
     ghost use Rattle.cascade_core.specs.Work.{IsWork};
@@ -127,6 +127,8 @@ impl<B> Stage<B> {
         ensures refused { IfSome (refusal_of self.old.held input.now) (λ fault. (result ≡ Err fault) × (self.new ≡ self.old)) }
         ensures ok { OnOk result (self.new ≡ after self.old input.now) }
         ensures work { IfOk result (IsWork self.old.routes (trace_of self.old.held) (trace_of self.new.held)) }
+        ensures taken { OnOk result (refusal_of self.old.held input.now ≡ None) }
+        ensures err { IfErr result (λ fault. (fault ≡ ApplyFault.Memory) ⊎ (refusal_of self.old.held input.now ≡ Some fault)) }
         // Where memory was refused the stage is spoiled, with the inputs that it had applied.
         ensures memory { IfNone (refusal_of self.old.held input.now) (OnErr result ((result ≡ Err ApplyFault.Memory) × (self.new ≡ spoiled_of self.old))) }
     {
@@ -159,6 +161,8 @@ impl<B> Stage<B> {
     /// Applies inputs in order, up to the first that is refused.
     fn apply_all(&mut self, inputs: &[Stamped]) -> Result<(), ApplyFault>
         ensures ok { OnOk result (self.new ≡ after_all self.old inputs.now) }
+        ensures taken { OnOk result (refusal_in self.old inputs.now ≡ None) }
+        ensures err { IfErr result (λ fault. (fault ≡ ApplyFault.Memory) ⊎ (refusal_in self.old inputs.now ≡ Some fault)) }
     {
         for input in inputs {
             self.apply(input)?;
@@ -209,7 +213,10 @@ pub fn run<B>(
     scripts: Scripts<B>,
     inputs: &[Stamped],
 ) -> Result<Stage<B>, ApplyFault>
-    ensures { IfOk result (λ stage. stage ≡ record { scene = scene; routes = routes; held = Running (world scene routes inputs.now) }) }
+    ensures ok { IfOk result (λ stage. stage ≡ record { scene = scene; routes = routes; held = Running (world scene routes inputs.now) }) }
+    // It answers no input's fault but that of the first that is refused.
+    ensures taken { OnOk result (refusal_in (record { scene = scene; routes = routes; held = Running (opening scene) }) inputs.now ≡ None) }
+    ensures err { IfErr result (λ fault. (fault ≡ ApplyFault.Memory) ⊎ (refusal_in (record { scene = scene; routes = routes; held = Running (opening scene) }) inputs.now ≡ Some fault)) }
 {
     let Ok(mut stage) = Stage::load(alloc, scene, routes, scripts) else {
         return Err(ApplyFault::Memory);

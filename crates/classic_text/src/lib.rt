@@ -10,8 +10,6 @@ mod reading;
 mod refusal;
 mod strings;
 mod terminal;
-#[cfg(test)]
-mod tests;
 mod tokens;
 
 pub use classic_tree::{

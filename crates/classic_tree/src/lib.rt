@@ -7,8 +7,6 @@
 mod header;
 mod parts;
 mod show;
-#[cfg(test)]
-mod tests;
 mod tree;
 mod writer;
 

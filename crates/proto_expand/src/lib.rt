@@ -6,8 +6,6 @@ mod fault;
 mod flat;
 mod heap;
 mod steps;
-#[cfg(test)]
-mod tests;
 mod walk;
 mod whole;
 

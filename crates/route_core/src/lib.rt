@@ -13,5 +13,3 @@ pub use resolving::MOST_ROUTES;
 pub use routes::Routes;
 pub use scene_core::{End, Route};
 
-#[cfg(test)]
-mod tests;

@@ -17,5 +17,3 @@ mod values;
 pub use fault::{SceneFault, SceneFaultKind};
 pub use scene::{End, Route, Scene, SceneNode};
 
-#[cfg(test)]
-mod tests;

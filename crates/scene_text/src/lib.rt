@@ -6,8 +6,6 @@ mod places;
 mod plan;
 mod raw;
 mod statements;
-#[cfg(test)]
-mod tests;
 mod tree;
 mod write;
 

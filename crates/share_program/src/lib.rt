@@ -2,8 +2,6 @@
 //! refusal prints.
 #![tactic(auto)]
 
-#[cfg(test)]
-mod examples;
 mod fault;
 mod job;
 mod line;
@@ -12,11 +10,7 @@ mod order;
 mod refusal;
 mod runs;
 mod stream;
-#[cfg(test)]
-mod tests;
 mod words;
-#[cfg(test)]
-mod works;
 
 pub use fault::{JobFault, RunFault};
 pub use job::{Steps, job_of};

@@ -14,12 +14,16 @@ use std::alloc::Global;
 use std::io::Write;
 
 impl From<ApplyFault> for RunFault {
+    ghost from_gives = { λ _ fault. fault ≡ Memory };
+
     fn from(_fault: ApplyFault) -> RunFault {
         RunFault::Memory
     }
 }
 
 impl From<TextFault> for RunFault {
+    ghost from_gives = { λ _ fault. fault ≡ Memory };
+
     fn from(_fault: TextFault) -> RunFault {
         RunFault::Memory
     }
@@ -27,7 +31,8 @@ impl From<TextFault> for RunFault {
 
 /// Appends the trace and then the scene of a stage.
 fn push_texts<B>(stage: &Stage<B>, out: &mut Vec<u8>) -> Result<(), RunFault>
-    ensures { IfRunning stage.now.held (λ w. OnOk result (out.new.items ≡ out.old.items ++ texts stage.now.scene w)) }
+    ensures ok { IfRunning stage.now.held (λ w. OnOk result (out.new.items ≡ out.old.items ++ texts stage.now.scene w)) }
+    ensures err { IfErr result (λ f. f ≡ Memory) }
 {
     stage.trace_text(out)?;
     stage.scene_text(out)?;
@@ -37,7 +42,8 @@ fn push_texts<B>(stage: &Stage<B>, out: &mut Vec<u8>) -> Result<(), RunFault>
 /// The trace and then the scene of a job's world after its inputs.
 #[tactic(auto, unfolding(crate::specs::Running::run_text))]
 fn text_of<B>(alloc: Global, job: Job, scripts: Scripts<B>) -> Result<Vec<u8>, RunFault>
-    ensures { IfOk result (λ text. text.items ≡ run_text job) }
+    ensures ok { IfOk result (λ text. text.items ≡ run_text job) }
+    ensures err { IfErr result (λ f. f ≡ Memory) }
 {
     let stage = cascade_core::run(alloc, job.scene, job.routes, scripts, job.inputs.as_slice())?;
     let mut text = Vec::new(alloc);

@@ -1,6 +1,9 @@
 //! The program: its words, its input, and what it prints.
 #![tactic(auto)]
 
+#[cfg(test)]
+mod tests;
+
 use cascade_core::Scripts;
 use share_program::{
     Failure, JobFault, Order, OrderFault, RunFault, StreamFault, command_of, help_of, read_job,

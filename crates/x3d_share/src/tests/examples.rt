@@ -1,14 +1,13 @@
 //! Worked examples as jobs, with what they print or how they are refused, by hand.
 
-use super::*;
 use cascade_core::Scripts;
+use share_program::{Failure, read_job, refusal_line, run, status_of};
 use std::alloc::Global;
 use std::process::Abort;
 use std::test::Fail;
-use test_memory::UsedUp;
 
 /// What a job prints.
-fn printed(alloc: Global, job: &[u8]) -> Result<Vec<u8>, Failure> {
+pub(super) fn printed(alloc: Global, job: &[u8]) -> Result<Vec<u8>, Failure> {
     let mut reader = job;
     let job = read_job(alloc, &mut reader)?;
     let scripts: Scripts<()> = Scripts::none();
@@ -32,15 +31,17 @@ fn are_refused(rt: &impl Abort, alloc: Global, jobs: &[(&str, &str, u8)]) {
     for (job, wanted, status) in jobs {
         match printed(alloc, job.as_bytes()) {
             Ok(_text) => assert!(rt; wanted.is_empty(), "no refusal of {job}"),
-            Err(failure) => {
-                assert_eq!(rt; refusal_line(&failure).as_str(), *wanted, "of {job}");
-                assert_eq!(rt; status_of(&failure), *status, "of {job}");
-            }
+            Err(failure) => is_said(rt, job, &failure, wanted, *status),
         }
     }
 }
 
-const CLOCKS: [(&str, &str); 6] = [
+pub(super) fn is_said(rt: &impl Abort, job: &str, failure: &Failure, wanted: &str, status: u8) {
+    assert_eq!(rt; refusal_line(failure).as_str(), wanted, "of {job}");
+    assert_eq!(rt; status_of(failure), status, "of {job}");
+}
+
+const CLOCKS: [(&str, &str); 8] = [
     // empty-scene
     ("scene\n#X3D V3.0 utf8", "#X3D V3.0 utf8\n"),
     // two-clocks with its third step
@@ -218,6 +219,72 @@ ROUTE B.triggerTrue TO I.set_boolean
 ROUTE I.triggerValue TO S1.whichChoice
 ROUTE S1.whichChoice TO S2.whichChoice
 ROUTE S2.whichChoice TO S1.whichChoice
+",
+    ),
+    // A name of two nodes labels neither, and a route ends at the nearest one before it.
+    (
+        "clock 1\nscene
+#X3D V3.0 utf8
+DEF T TimeSensor { startTime 1 } DEF B BooleanTrigger {} DEF G BooleanToggle {}
+ROUTE T.cycleTime TO B.set_triggerTime ROUTE B.triggerTrue TO G.set_boolean
+DEF G BooleanToggle { toggle TRUE } ROUTE B.triggerTrue TO G.set_boolean",
+        "1 1 T.isActive TRUE
+1 1 T.cycleTime 1
+1 1 B.triggerTrue TRUE
+1 1 N2.toggle TRUE
+1 1 N3.toggle FALSE
+1 1 T.fraction_changed 0
+1 1 T.elapsedTime 0
+1 1 T.time 1
+#X3D V3.0 utf8
+DEF T TimeSensor {
+  startTime 1
+}
+DEF B BooleanTrigger {}
+DEF N2 BooleanToggle {
+  toggle TRUE
+}
+DEF N3 BooleanToggle {}
+ROUTE T.cycleTime TO B.set_triggerTime
+ROUTE B.triggerTrue TO N2.set_boolean
+ROUTE B.triggerTrue TO N3.set_boolean
+",
+    ),
+    // Fields that are given their defaults aren't written.
+    (
+        "scene
+#X3D V3.0 utf8
+Transform { center 0 0 0 scale 1 1 1 rotation 0 0 1 0 children [] } Switch { whichChoice -1 }
+Shape { geometry Box { size 2 2 2 } appearance Appearance { material Material {
+ambientIntensity 0.2 diffuseColor 0.8 0.8 0.8 transparency 0 } } }
+Shape { geometry Text { fontStyle FontStyle { family [ \"SERIF\" ] justify \"BEGIN\"
+language \"\" style \"PLAIN\" horizontal TRUE } } }
+NavigationInfo { type [ \"EXAMINE\" \"ANY\" ] avatarSize [ 0.25 1.6 0.75 ] headlight TRUE }
+Background { skyColor 0 0 0 groundAngle [] } Viewpoint { fieldOfView 0.785398 position 0 0 10 }
+TimeSensor { cycleInterval 1 loop FALSE enabled TRUE } BooleanSequencer { key [] keyValue [] }
+WorldInfo { title \"\" metadata MetadataSet { name \"\" value [] } }",
+        "#X3D V3.0 utf8
+Transform {}
+Switch {}
+Shape {
+  appearance Appearance {
+    material Material {}
+  }
+  geometry Box {}
+}
+Shape {
+  geometry Text {
+    fontStyle FontStyle {}
+  }
+}
+NavigationInfo {}
+Background {}
+Viewpoint {}
+TimeSensor {}
+BooleanSequencer {}
+WorldInfo {
+  metadata MetadataSet {}
+}
 ",
     ),
 ];
@@ -720,34 +787,5 @@ fn every_node_is_written_as_it_was_read(rt: HostRuntime) -> Result<(), Fail> {
         Ok(text) => assert_eq!(rt; text.as_slice(), EVERY_NODE.as_bytes()),
         Err(failure) => assert!(rt; job.is_empty(), "{failure}"),
     }
-    Ok(())
-}
-
-/// Runs scene A with one block of so many bytes left: whether memory was refused.
-fn is_refused_with(rt: &impl Abort, alloc: Global, spare: usize) -> Result<bool, Fail> {
-    let (job, _wanted) = CLOCKS[1];
-    let used_up = UsedUp::but_for(alloc, &[spare])?;
-    let answer = printed(alloc, job.as_bytes());
-    drop(used_up);
-    match answer {
-        Ok(_text) => Ok(false),
-        Err(failure) => {
-            assert_eq!(rt; refusal_line(&failure).as_str(), "refused Memory");
-            assert_eq!(rt; status_of(&failure), 5);
-            Ok(true)
-        }
-    }
-}
-
-#[test]
-fn each_refused_growth_is_memory(rt: HostRuntime) -> Result<(), Fail> {
-    let mut refused = 0;
-    for turn in 0..40 {
-        if is_refused_with(&rt, rt.alloc(), turn * 512)? {
-            refused = turn;
-        }
-    }
-    assert!(rt; refused > 2, "refused up to turn {refused}");
-    assert!(rt; !is_refused_with(&rt, rt.alloc(), 1 << 20)?);
     Ok(())
 }

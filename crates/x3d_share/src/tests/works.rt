@@ -1,7 +1,7 @@
 //! What inputs cost, and which are refused.
 
-use super::*;
-use cascade_core::{ApplyFault, Scripts, Stage, Work};
+use super::growths::loaded;
+use cascade_core::{ApplyFault, Stage, Work};
 use std::alloc::Global;
 use std::process::Abort;
 use std::test::Fail;
@@ -14,26 +14,26 @@ ROUTE T.cycleTime TO B.set_triggerTime ROUTE B.triggerTrue TO F1.set_boolean
 ROUTE B.triggerTrue TO F2.set_boolean ROUTE F1.inputTrue TO G.set_boolean
 ROUTE F2.inputTrue TO G.set_boolean";
 
-/// What the first clock of a scene costs, at one second; none where the scene is refused.
-fn first_work(alloc: Global, text: &[u8]) -> Option<Work> {
-    let Ok(opened) = open_scene(alloc, text) else {
-        return None;
-    };
-    let scripts: Scripts<()> = Scripts::none();
-    let Ok(mut stage) = Stage::load(alloc, opened.scene, opened.routes, scripts) else {
-        return None;
-    };
-    stage.apply(&Stamped::new(1, 1_000_000, Event::Clock)).ok()
+/// What the first clock of a scene costs, at one second.
+fn first_work(rt: &impl Abort, alloc: Global, text: &[u8], wanted: Work) -> Result<(), Fail> {
+    let mut stage = loaded(alloc, text)?;
+    costs(rt, &mut stage, wanted);
+    Ok(())
+}
+
+fn costs(rt: &impl Abort, stage: &mut Stage<()>, wanted: Work) {
+    let first = Stamped::new(1, 1_000_000, Event::Clock);
+    assert_eq!(rt; stage.apply(&first), Ok(wanted));
 }
 
 #[test]
-fn diamond(rt: HostRuntime) {
+fn diamond(rt: HostRuntime) -> Result<(), Fail> {
     let wanted = Work {
         sends: 11,
         deliveries: 5,
         settles: 0,
     };
-    assert_eq!(rt; first_work(rt.alloc(), DIAMOND.as_bytes()), Some(wanted));
+    first_work(&rt, rt.alloc(), DIAMOND.as_bytes(), wanted)
 }
 
 /// A chain of 20,000 filters.
@@ -57,26 +57,24 @@ ROUTE B.triggerTrue TO F0.set_boolean\n",
         deliveries: 20_001,
         settles: 0,
     };
-    assert_eq!(rt; first_work(rt.alloc(), text.as_slice()), Some(wanted));
-    Ok(())
-}
-
-fn is_refused(rt: &impl Abort, stage: &mut Stage<()>, input: &Stamped, wanted: ApplyFault) {
-    match stage.apply(input) {
-        Ok(_work) => assert!(rt; stage.spoiled(), "the input was applied"),
-        Err(fault) => assert_eq!(rt; fault, wanted),
-    }
+    first_work(&rt, rt.alloc(), text.as_slice(), wanted)
 }
 
 #[test]
 fn inputs_in_turn(rt: HostRuntime) -> Result<(), Fail> {
-    let opened = open_scene(rt.alloc(), DIAMOND.as_bytes())?;
-    let mut stage = Stage::load(rt.alloc(), opened.scene, opened.routes, Scripts::none())?;
-    stage.apply(&Stamped::new(1, 1_000_000, Event::Clock))?;
-    let early = Stamped::new(2, 1_000_000, Event::Clock);
-    is_refused(&rt, &mut stage, &early, ApplyFault::TimeNotLater);
-    let skipped = Stamped::new(3, 2_000_000, Event::Clock);
-    is_refused(&rt, &mut stage, &skipped, ApplyFault::NotNext);
-    assert_eq!(rt; (stage.applied(), stage.spoiled()), (1, false));
+    let mut stage = loaded(rt.alloc(), DIAMOND.as_bytes())?;
+    are_taken_in_turn(&rt, &mut stage);
     Ok(())
+}
+
+/// The first clock is taken; one at the same time and one that skips a number are refused, and
+/// leave the stage as it was.
+fn are_taken_in_turn(rt: &impl Abort, stage: &mut Stage<()>) {
+    let first = Stamped::new(1, 1_000_000, Event::Clock);
+    let early = Stamped::new(2, 1_000_000, Event::Clock);
+    let skipped = Stamped::new(3, 2_000_000, Event::Clock);
+    assert!(rt; stage.apply(&first).is_ok());
+    assert_eq!(rt; stage.apply(&early), Err(ApplyFault::TimeNotLater));
+    assert_eq!(rt; stage.apply(&skipped), Err(ApplyFault::NotNext));
+    assert_eq!(rt; (stage.applied(), stage.spoiled()), (1, false));
 }

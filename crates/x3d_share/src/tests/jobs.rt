@@ -1,7 +1,10 @@
 //! Jobs, words and refusals by hand, devices that fail, and memory that is refused.
 
-use super::*;
 use classic_text::{ReadFault, ReadFaultKind};
+use share_program::{
+    Failure, JobFault, Order, OrderFault, RunFault, StreamFault, command_of, help_of, job_of,
+    read_whole, refusal_line, status_of, write_whole,
+};
 use std::alloc::{AllocError, Global};
 use std::io::{self, ErrorKind, Read, Write};
 use std::process::Abort;

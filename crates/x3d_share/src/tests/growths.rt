@@ -1,0 +1,380 @@
+//! Each call of a world on scene A with ever more memory left: it is refused as Memory and changes
+//! nothing, until there is enough.
+
+use super::examples::{is_said, printed};
+use cascade_core::{ApplyFault, Scripts, Stage, TextFault};
+use classic_text::{ReadFaultKind, read};
+use classic_tree::write;
+use proto_expand::{ExpandFaultKind, Flat, expand};
+use route_core::{RouteFaultKind, Routes};
+use scene_core::{Scene, SceneFaultKind};
+use share_program::open_scene;
+use std::alloc::Global;
+use std::process::Abort;
+use std::test::Fail;
+use test_memory::UsedUp;
+use x3d_values::{Event, Stamped};
+
+const SCENE: &str = "#X3D V3.0 utf8
+DEF T TimeSensor { cycleInterval 2 loop TRUE startTime 1 } DEF B BooleanTrigger {}
+DEF G BooleanToggle {} ROUTE T.cycleTime TO B.set_triggerTime
+ROUTE B.triggerTrue TO G.set_boolean";
+
+/// How often each call is tried.
+const TURNS: usize = 24;
+
+/// The length of a buffer that can't grow where it is.
+const FULL: usize = 4096;
+
+/// A buffer that has room for nothing more.
+fn full(alloc: Global) -> Result<Vec<u8>, Fail> {
+    let mut out = Vec::with_capacity(alloc, FULL)?;
+    for _ in 0..out.capacity() {
+        out.push(b'x')?;
+    }
+    Ok(out)
+}
+
+/// The stage of a scene after no input.
+pub(super) fn loaded(alloc: Global, text: &[u8]) -> Result<Stage<()>, Fail> {
+    let opened = open_scene(alloc, text)?;
+    let scripts: Scripts<()> = Scripts::none();
+    Ok(Stage::load(alloc, opened.scene, opened.routes, scripts)?)
+}
+
+/// Reading with one block of so many bytes: whether it worked.
+fn reads(rt: &impl Abort, alloc: Global, spare: usize) -> Result<bool, Fail> {
+    let used_up = UsedUp::but_for(alloc, &[spare])?;
+    let answer = read(alloc, SCENE.as_bytes());
+    drop(used_up);
+    match answer {
+        Ok(_document) => Ok(true),
+        Err(fault) => {
+            assert_eq!(rt; (fault.kind, fault.line), (ReadFaultKind::Memory, 0));
+            Ok(false)
+        }
+    }
+}
+
+/// The same of writing what was read behind a full buffer.
+fn rewrites(rt: &impl Abort, alloc: Global, spare: usize) -> Result<bool, Fail> {
+    let document = read(alloc, SCENE.as_bytes())?;
+    let mut out = full(alloc)?;
+    let len = out.len();
+    let used_up = UsedUp::but_for(alloc, &[spare])?;
+    let answer = write(&document, &mut out);
+    drop(used_up);
+    assert!(rt; answer.is_ok() || out.len() == len);
+    Ok(answer.is_ok())
+}
+
+/// The same of expanding.
+fn expands(rt: &impl Abort, alloc: Global, spare: usize) -> Result<bool, Fail> {
+    let document = read(alloc, SCENE.as_bytes())?;
+    let used_up = UsedUp::but_for(alloc, &[spare])?;
+    let answer = expand(alloc, document);
+    drop(used_up);
+    match answer {
+        Ok(_flat) => Ok(true),
+        Err(fault) => {
+            assert_eq!(rt; (fault.kind, fault.line), (ExpandFaultKind::Memory, 0));
+            Ok(false)
+        }
+    }
+}
+
+/// The same of building.
+fn builds(rt: &impl Abort, alloc: Global, spare: usize) -> Result<bool, Fail> {
+    let flat = expand(alloc, read(alloc, SCENE.as_bytes())?)?;
+    build_of(rt, alloc, &flat, spare)
+}
+
+fn build_of(rt: &impl Abort, alloc: Global, flat: &Flat, spare: usize) -> Result<bool, Fail> {
+    let used_up = UsedUp::but_for(alloc, &[spare])?;
+    let answer = Scene::build(alloc, flat);
+    drop(used_up);
+    match answer {
+        Ok(_scene) => Ok(true),
+        Err(fault) => {
+            assert_eq!(rt; (fault.kind, fault.line), (SceneFaultKind::Memory, 0));
+            Ok(false)
+        }
+    }
+}
+
+/// The same of resolving.
+fn resolves(rt: &impl Abort, alloc: Global, spare: usize) -> Result<bool, Fail> {
+    let flat = expand(alloc, read(alloc, SCENE.as_bytes())?)?;
+    resolve_in(rt, alloc, &flat, spare)
+}
+
+fn resolve_in(rt: &impl Abort, alloc: Global, flat: &Flat, spare: usize) -> Result<bool, Fail> {
+    let scene = Scene::build(alloc, flat)?;
+    resolve_of(rt, alloc, flat, &scene, spare)
+}
+
+fn resolve_of(
+    rt: &impl Abort,
+    alloc: Global,
+    flat: &Flat,
+    scene: &Scene,
+    spare: usize,
+) -> Result<bool, Fail> {
+    let used_up = UsedUp::but_for(alloc, &[spare])?;
+    let answer = Routes::resolve(alloc, flat, scene);
+    drop(used_up);
+    match answer {
+        Ok(routes) => {
+            assert_eq!(rt; routes.len(), 2);
+            Ok(true)
+        }
+        Err(fault) => {
+            assert_eq!(rt; (fault.kind, fault.line), (RouteFaultKind::Memory, 0));
+            Ok(false)
+        }
+    }
+}
+
+/// The same of the fields that a scene begins with.
+fn begins(alloc: Global, spare: usize) -> Result<bool, Fail> {
+    let opened = open_scene(alloc, SCENE.as_bytes())?;
+    state_of(alloc, &opened.scene, spare)
+}
+
+fn state_of(alloc: Global, scene: &Scene, spare: usize) -> Result<bool, Fail> {
+    let used_up = UsedUp::but_for(alloc, &[spare])?;
+    let answer = scene.state(alloc);
+    drop(used_up);
+    Ok(answer.is_ok())
+}
+
+/// The same of a node's label behind a full buffer.
+fn labels(rt: &impl Abort, alloc: Global, spare: usize) -> Result<bool, Fail> {
+    let opened = open_scene(alloc, SCENE.as_bytes())?;
+    label_of(rt, alloc, &opened.scene, spare)
+}
+
+fn label_of(rt: &impl Abort, alloc: Global, scene: &Scene, spare: usize) -> Result<bool, Fail> {
+    let mut out = full(alloc)?;
+    let len = out.len();
+    let used_up = UsedUp::but_for(alloc, &[spare])?;
+    let answer = scene.label(0, &mut out);
+    drop(used_up);
+    assert!(rt; answer.is_ok() || out.len() == len);
+    Ok(answer.is_ok())
+}
+
+/// The same of loading a stage.
+fn loads(rt: &impl Abort, alloc: Global, spare: usize) -> Result<bool, Fail> {
+    let opened = open_scene(alloc, SCENE.as_bytes())?;
+    let scripts: Scripts<()> = Scripts::none();
+    let used_up = UsedUp::but_for(alloc, &[spare])?;
+    let answer = Stage::load(alloc, opened.scene, opened.routes, scripts);
+    drop(used_up);
+    match answer {
+        Ok(stage) => {
+            assert_eq!(rt; stage.applied(), 0);
+            Ok(true)
+        }
+        Err(_memory) => Ok(false),
+    }
+}
+
+/// Whatever a spoiled stage is asked for is refused.
+fn is_spoiled(rt: &impl Abort, alloc: Global, stage: &mut Stage<()>) {
+    let next = Stamped::new(1, 1_000_000, Event::Clock);
+    let mut out = Vec::new(alloc);
+    assert_eq!(rt; stage.trace_text(&mut out), Err(TextFault::Spoiled));
+    assert_eq!(rt; stage.scene_text(&mut out), Err(TextFault::Spoiled));
+    assert_eq!(rt; stage.apply(&next), Err(ApplyFault::Spoiled));
+    assert!(rt; stage.spoiled() && stage.applied() == 0 && out.is_empty());
+}
+
+/// The same of the first clock. A stage that was refused memory there stays spoiled, with no input
+/// applied.
+fn applies(rt: &impl Abort, alloc: Global, spare: usize) -> Result<bool, Fail> {
+    let mut stage = loaded(alloc, SCENE.as_bytes())?;
+    clock_of(rt, alloc, &mut stage, spare)
+}
+
+fn clock_of(
+    rt: &impl Abort,
+    alloc: Global,
+    stage: &mut Stage<()>,
+    spare: usize,
+) -> Result<bool, Fail> {
+    let first = Stamped::new(1, 1_000_000, Event::Clock);
+    let used_up = UsedUp::but_for(alloc, &[spare])?;
+    let answer = stage.apply(&first);
+    drop(used_up);
+    match answer {
+        Ok(_work) => Ok(true),
+        Err(fault) => {
+            assert_eq!(rt; fault, ApplyFault::Memory);
+            is_spoiled(rt, alloc, stage);
+            Ok(false)
+        }
+    }
+}
+
+/// The same of the two texts behind a full buffer.
+fn writes(rt: &impl Abort, alloc: Global, spare: usize) -> Result<bool, Fail> {
+    let mut stage = loaded(alloc, SCENE.as_bytes())?;
+    texts_of(rt, alloc, &mut stage, spare)
+}
+
+/// After the first clock.
+fn texts_of(
+    rt: &impl Abort,
+    alloc: Global,
+    stage: &mut Stage<()>,
+    spare: usize,
+) -> Result<bool, Fail> {
+    let first = Stamped::new(1, 1_000_000, Event::Clock);
+    assert!(rt; stage.apply(&first).is_ok());
+    let is_traced = trace_of(rt, alloc, stage, spare)?;
+    let is_shown = scene_of(rt, alloc, stage, spare)?;
+    Ok(is_traced && is_shown)
+}
+
+fn trace_of(rt: &impl Abort, alloc: Global, stage: &Stage<()>, spare: usize) -> Result<bool, Fail> {
+    let mut out = full(alloc)?;
+    let len = out.len();
+    let used_up = UsedUp::but_for(alloc, &[spare])?;
+    let answer = stage.trace_text(&mut out);
+    drop(used_up);
+    assert!(rt; answer.is_ok() || (out.len() == len && !stage.spoiled()));
+    Ok(answer.is_ok())
+}
+
+fn scene_of(rt: &impl Abort, alloc: Global, stage: &Stage<()>, spare: usize) -> Result<bool, Fail> {
+    let mut out = full(alloc)?;
+    let len = out.len();
+    let used_up = UsedUp::but_for(alloc, &[spare])?;
+    let answer = stage.scene_text(&mut out);
+    drop(used_up);
+    assert!(rt; answer.is_ok() || (out.len() == len && !stage.spoiled()));
+    Ok(answer.is_ok())
+}
+
+/// The same of a whole job of two clocks.
+fn prints(rt: &impl Abort, alloc: Global, spare: usize) -> Result<bool, Fail> {
+    let mut job = Vec::new(alloc);
+    job.extend_from_slice(b"clock 1\nclock 2\nscene\n")?;
+    job.extend_from_slice(SCENE.as_bytes())?;
+    let used_up = UsedUp::but_for(alloc, &[spare])?;
+    let answer = printed(alloc, job.as_slice());
+    drop(used_up);
+    match answer {
+        Ok(_text) => Ok(true),
+        Err(failure) => {
+            is_said(rt, "the two clocks", &failure, "refused Memory", 5);
+            Ok(false)
+        }
+    }
+}
+
+/// What may be refused memory.
+#[derive(Clone, Copy)]
+enum Call {
+    Read,
+    Rewrite,
+    Expand,
+    Build,
+    Resolve,
+    Begin,
+    Label,
+    Load,
+    Apply,
+    Write,
+    Print,
+}
+
+fn works(rt: &impl Abort, alloc: Global, call: Call, spare: usize) -> Result<bool, Fail> {
+    match call {
+        Call::Read => reads(rt, alloc, spare),
+        Call::Rewrite => rewrites(rt, alloc, spare),
+        Call::Expand => expands(rt, alloc, spare),
+        Call::Build => builds(rt, alloc, spare),
+        Call::Resolve => resolves(rt, alloc, spare),
+        Call::Begin => begins(alloc, spare),
+        Call::Label => labels(rt, alloc, spare),
+        Call::Load => loads(rt, alloc, spare),
+        Call::Apply => applies(rt, alloc, spare),
+        Call::Write => writes(rt, alloc, spare),
+        Call::Print => prints(rt, alloc, spare),
+    }
+}
+
+/// How many of these turns refuse the call, each with so many bytes more than the one before: the
+/// first, with none, does, and with a mebibyte the call works.
+fn refusals(rt: &impl Abort, alloc: Global, call: Call, step: usize) -> Result<usize, Fail> {
+    let mut refused: usize = 0;
+    let mut spare: usize = 0;
+    for _turn in 0..TURNS {
+        if !works(rt, alloc, call, spare)? {
+            refused = refused.saturating_add(1);
+        }
+        spare = spare.saturating_add(step);
+    }
+    assert!(rt; !works(rt, alloc, call, 0)?);
+    assert!(rt; works(rt, alloc, call, 1 << 20)?);
+    Ok(refused)
+}
+
+#[test]
+fn each_growth_of_reading_is_refused(rt: HostRuntime) -> Result<(), Fail> {
+    let refused = refusals(&rt, rt.alloc(), Call::Read, 128)?;
+    assert!(rt; refused > 5, "{refused}");
+    let refused = refusals(&rt, rt.alloc(), Call::Rewrite, 512)?;
+    assert!(rt; refused > 3, "{refused}");
+    Ok(())
+}
+
+#[test]
+fn each_growth_of_expanding_is_refused(rt: HostRuntime) -> Result<(), Fail> {
+    let refused = refusals(&rt, rt.alloc(), Call::Expand, 96)?;
+    assert!(rt; refused > 5, "{refused}");
+    Ok(())
+}
+
+#[test]
+fn each_growth_of_building_is_refused(rt: HostRuntime) -> Result<(), Fail> {
+    let refused = refusals(&rt, rt.alloc(), Call::Build, 96)?;
+    assert!(rt; refused > 5, "{refused}");
+    let refused = refusals(&rt, rt.alloc(), Call::Resolve, 48)?;
+    assert!(rt; refused > 3, "{refused}");
+    Ok(())
+}
+
+#[test]
+fn each_growth_of_a_state_and_a_label_is_refused(rt: HostRuntime) -> Result<(), Fail> {
+    let refused = refusals(&rt, rt.alloc(), Call::Begin, 48)?;
+    assert!(rt; refused > 3, "{refused}");
+    let refused = refusals(&rt, rt.alloc(), Call::Label, 512)?;
+    assert!(rt; refused > 3, "{refused}");
+    Ok(())
+}
+
+#[test]
+fn each_growth_of_a_stage_is_refused(rt: HostRuntime) -> Result<(), Fail> {
+    let refused = refusals(&rt, rt.alloc(), Call::Load, 48)?;
+    assert!(rt; refused > 3, "{refused}");
+    let refused = refusals(&rt, rt.alloc(), Call::Apply, 96)?;
+    assert!(rt; refused > 3, "{refused}");
+    Ok(())
+}
+
+#[test]
+fn each_growth_of_the_texts_is_refused(rt: HostRuntime) -> Result<(), Fail> {
+    let refused = refusals(&rt, rt.alloc(), Call::Write, 512)?;
+    assert!(rt; refused > 3, "{refused}");
+    Ok(())
+}
+
+#[test]
+fn each_growth_of_a_job_is_refused(rt: HostRuntime) -> Result<(), Fail> {
+    let refused = refusals(&rt, rt.alloc(), Call::Print, 512)?;
+    assert!(rt; refused > 5, "{refused}");
+    Ok(())
+}
