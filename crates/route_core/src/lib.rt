@@ -12,4 +12,3 @@ pub use fault::{RouteFault, RouteFaultKind};
 pub use resolving::MOST_ROUTES;
 pub use routes::Routes;
 pub use scene_core::{End, Route};
-

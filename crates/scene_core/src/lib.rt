@@ -16,4 +16,3 @@ mod values;
 
 pub use fault::{SceneFault, SceneFaultKind};
 pub use scene::{End, Route, Scene, SceneNode};
-
