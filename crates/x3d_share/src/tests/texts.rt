@@ -387,6 +387,26 @@ fn limits_of_use(rt: HostRuntime) -> Result<(), Fail> {
     Ok(())
 }
 
+/// So many TouchSensors in the list of roots.
+fn sensors(alloc: Global, count: usize) -> Result<Vec<u8>, AllocError> {
+    let mut text = Vec::new(alloc);
+    text.extend_from_slice(b"#X3D V3.0 utf8\n")?;
+    for _sensor in 0..count {
+        text.extend_from_slice(b"TouchSensor {}\n")?;
+    }
+    Ok(text)
+}
+
+/// 64 TouchSensors in one list are a scene, and 65 are refused.
+#[test]
+fn limits_of_sensors(rt: HostRuntime) -> Result<(), Fail> {
+    let most = sensors(rt.alloc(), 64)?;
+    assert!(rt; open_scene(rt.alloc(), most.as_slice()).is_ok());
+    let more = sensors(rt.alloc(), 65)?;
+    is_refused(&rt, rt.alloc(), more.as_slice(), "refused TooMany");
+    Ok(())
+}
+
 #[test]
 fn faults_of_a_text_are_shown(rt: HostRuntime) -> Result<(), Fail> {
     let unexpected = ReadFault {
