@@ -2,6 +2,7 @@ pub mod Folds
 pub mod Sends
 pub mod Keeps
 pub mod Runs
+pub mod Turns
 pub mod Senders
 pub mod SensorReplies
 pub mod SceneOutputs

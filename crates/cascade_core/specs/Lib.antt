@@ -5,6 +5,7 @@ pub mod Answers
 pub mod Cascade
 pub mod Apply
 pub mod Held
+pub mod InTurn
 pub mod Work
 pub mod Texts
 pub mod Stack

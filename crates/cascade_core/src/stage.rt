@@ -3,6 +3,7 @@
 ghost use Rattle.std.specs.Prelude.{◌≡◌, ◌++◌, ◌⊎◌, IfOk, IfErr, IfNone, IfSome, None, Some, OnOk, OnErr, map};
 ghost use Rattle.cascade_core.specs.Held.{Running, refusal_in};
 ghost use Rattle.cascade_core.specs.Apply.{opening, world};
+ghost use Rattle.cascade_core.specs.InTurn.{AreInTurn};
 
 use crate::clock::advance;
 use crate::fault::{ApplyFault, LoadFault, TextFault};
@@ -205,7 +206,7 @@ impl<B> Stage<B> {
 }
 
 /// The stage of a scene after these inputs, up to the first that is refused.
-#[tactic(auto, using(crate::proofs::Runs::after_all_running))]
+#[tactic(auto, using(crate::proofs::Runs::after_all_running, crate::proofs::Turns::follows_taken))]
 pub fn run<B>(
     alloc: Global,
     scene: Scene,
@@ -217,6 +218,8 @@ pub fn run<B>(
     // It answers no input's fault but that of the first that is refused.
     ensures taken { OnOk result (refusal_in (record { scene = scene; routes = routes; held = Running (opening scene) }) inputs.now ≡ None) }
     ensures err { IfErr result (λ fault. (fault ≡ ApplyFault.Memory) ⊎ (refusal_in (record { scene = scene; routes = routes; held = Running (opening scene) }) inputs.now ≡ Some fault)) }
+    // Of inputs in turn none is refused.
+    ensures in_turn { AreInTurn inputs.now → IfErr result (λ fault. fault ≡ ApplyFault.Memory) }
 {
     let Ok(mut stage) = Stage::load(alloc, scene, routes, scripts) else {
         return Err(ApplyFault::Memory);

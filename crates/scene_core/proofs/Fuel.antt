@@ -1,5 +1,5 @@
 -- A visit opens nodes and closes none, so it goes no deeper than there are nodes that have not appeared.
-use Rattle.std.proofs.Common.{◌≡◌, ℕ, ◌+◌, ◌<◌, ◌≤◌, Bool, true, false, not, List, [], ◌∷◌, ◌++◌, ◌∙◌, ap, sym, zero, suc, refl, arith, length, get_or, set, Some, None}
+use Rattle.std.proofs.Common.{◌≡◌, ℕ, ◌+◌, ◌<◌, ◌≤◌, Bool, true, false, not, List, [], ◌∷◌, ◌∙◌, ap, sym, zero, suc, refl, arith, length, get_or, set, None}
 use Rattle.std.specs.Prelude.{slice_get}
 use Rattle.std.specs.List.{fold}
 use Rattle.std.proofs.Math.Numerals.{add-one}

@@ -1,14 +1,14 @@
 -- Each step of the work stack keeps what the tasks come to, and leaves less to do.
-use Rattle.std.proofs.Common.{◌≡◌, ℕ, ◌+◌, ◌<◌, ◌≤◌, Bool, true, false, List, [], ◌∷◌, ◌++◌, ◌∙◌, ap, sym, zero, suc, refl, arith, map, reverse, length, length-append, replicate}
+use Rattle.std.proofs.Common.{◌≡◌, ℕ, ◌+◌, ◌≤◌, true, false, List, [], ◌∷◌, ◌++◌, ◌∙◌, ap, sym, zero, suc, refl, arith, map, reverse, length, length-append, replicate}
 use Rattle.std.specs.List.{fold}
 use Rattle.std.proofs.lemmas.List.{reverse-append, length-reverse, reverse-reverse, length-map}
 use Rattle.proto_expand.specs.declared.flat.FlatNode.{FlatNode}
 use Rattle.scene_core.specs.declared.numbering.Numbering.{Numbering}
 use Rattle.scene_core.specs.declared.numbering.Task.{Task}
 use Rattle.scene_core.specs.declared.numbering.Task.TheVariants.{Visit, Close}
-use Rattle.scene_core.specs.Numbers.{is_new, appear, close, visit, unnumbered, numbering}
+use Rattle.scene_core.specs.Numbers.{is_new, appear, visit, unnumbered, numbering}
 use Rattle.scene_core.specs.Parts.{parts_of}
-use Rattle.scene_core.specs.Tasks.{do_task, finish, unopened, to_come, work_left}
+use Rattle.scene_core.specs.Tasks.{do_task, finish, unopened, work_left}
 use Rattle.scene_core.proofs.Fuel.{visit-new, visit-old, appear-fewer, appear-less_to_come}
 
 reverse-push : {X : Type 0} (xs : List X) (x : X) → reverse (xs ++ x ∷ []) ≡ x ∷ reverse xs

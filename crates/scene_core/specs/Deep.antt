@@ -1,5 +1,5 @@
 -- Chains of nodes, each in a node field of the one before (the limit of their length is our choice).
-use Rattle.std.specs.Prelude.{ℕ, zero, suc, Bool, true, false, List, [], ◌∷◌, map, Option, Some, None, slice_index_or}
+use Rattle.std.specs.Prelude.{ℕ, zero, suc, Bool, true, false, List, [], ◌∷◌, map, Option, Some, slice_index_or}
 use Rattle.std.specs.List.{list_any}
 use Rattle.x3d_values.specs.declared.value.Value.{Value}
 use Rattle.x3d_values.specs.declared.value.Value.TheVariants.{SFNode, MFNode}

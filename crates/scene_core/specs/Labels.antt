@@ -1,9 +1,9 @@
 -- The names that nodes keep (our choice): DEF names that one node alone has, and that are no names of other nodes by their numbers.
-use Rattle.std.specs.Prelude.{ℕ, Bool, true, false, not, ◌&&◌, ◌==◌, length, nat_le, List, [], ◌∷◌, Option, Some, None, slice_get, is_none, if◌then◌else◌}
-use Rattle.std.specs.List.{filter_map, count_by, list_all, fold}
+use Rattle.std.specs.Prelude.{ℕ, Bool, false, not, ◌&&◌, ◌==◌, length, nat_le, List, [], ◌∷◌, Option, Some, None, slice_get, is_none, if◌then◌else◌}
+use Rattle.std.specs.List.{filter_map, count_by, list_all}
 use Rattle.std.specs.Option.{option_and_then}
 use Rattle.std.specs.Str.{bytes_eq}
-use Rattle.indexmap.specs.IndexMap.{IndexMap, get_by}
+use Rattle.indexmap.specs.IndexMap.{get_by}
 use Rattle.proto_expand.specs.declared.flat.FlatNode.{FlatNode}
 use Rattle.scene_core.specs.declared.labels.Marks.{Marks}
 

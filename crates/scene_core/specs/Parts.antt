@@ -1,11 +1,10 @@
 -- The nodes that stand in the node fields of a node (ISO/IEC 19775-1, scene graph).
-use Rattle.std.specs.Prelude.{ℕ, ◌+◌, ◌==◌, ◌++◌, List, [], ◌∷◌, Option, Some, None, slice_get, if◌then◌else◌}
+use Rattle.std.specs.Prelude.{ℕ, ◌+◌, ◌==◌, ◌++◌, List, [], ◌∷◌, Option, slice_get, if◌then◌else◌}
 use Rattle.std.specs.List.{find}
 use Rattle.std.specs.Option.{option_map_or}
 use Rattle.x3d_values.specs.Tables.{Entry, rows}
 use Rattle.classic_tree.specs.declared.tree.RawValue.{RawValue}
 use Rattle.classic_tree.specs.declared.tree.RawValue.TheVariants.{Node, NodeList}
-use Rattle.proto_expand.specs.declared.flat.Flat.{Flat}
 use Rattle.proto_expand.specs.declared.flat.FlatNode.{FlatNode}
 use Rattle.proto_expand.specs.declared.flat.FlatField.{FlatField}
 use Rattle.scene_core.specs.Scene.{is_node_type}

@@ -1,5 +1,5 @@
 -- The values that the fields of a node have before any event (ISO/IEC 19775-1, field semantics).
-use Rattle.std.specs.Prelude.{ℕ, ◌+◌, ◌++◌, pos, Bool, true, false, not, ◌||◌, ◌&&◌, nat_eq, int_lt, List, [], ◌∷◌, codes, Option, Some, None, Result, Ok, Err, slice_get, if◌then◌else◌}
+use Rattle.std.specs.Prelude.{ℕ, ◌+◌, ◌++◌, pos, Bool, true, false, not, ◌||◌, nat_eq, int_lt, List, [], ◌∷◌, codes, Option, Some, None, Result, Ok, Err, slice_get, if◌then◌else◌}
 use Rattle.std.specs.Option.{option_and_then}
 use Rattle.std.specs.List.{list_all}
 use Rattle.std.specs.Cmp.Lexicographic.{pointwise}

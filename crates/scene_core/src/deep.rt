@@ -50,13 +50,25 @@ fn one_deeper(alloc: Global, nodes: &[SceneNode], these: &[bool]) -> Result<Vec<
     Ok(deeper)
 }
 
+/// Of each node, whether a chain of more than `MAX_DEPTH` nodes begins there.
+fn deep_nodes(alloc: Global, nodes: &[SceneNode]) -> Result<Vec<bool>, AllocError>
+    ensures { IfOk result (λ these. these.items ≡ spec.deeper_than nodes.now spec.max_depth) }
+{
+    let mut these = vec![in alloc; true; nodes.len()]?;
+    for _level in 0..MAX_DEPTH {
+        let deeper = one_deeper(alloc, nodes, these.as_slice())?;
+        if deeper == these {
+            return Ok(these);
+        }
+        these = deeper;
+    }
+    Ok(these)
+}
+
 /// Whether a chain is too long.
 pub(crate) fn is_too_deep(alloc: Global, nodes: &[SceneNode]) -> Result<bool, AllocError>
     ensures { IfOk result (λ deep. deep ≡ spec.too_deep nodes.now) }
 {
-    let mut these = vec![in alloc; true; nodes.len()]?;
-    for _level in 0..MAX_DEPTH {
-        these = one_deeper(alloc, nodes, these.as_slice())?;
-    }
+    let these = deep_nodes(alloc, nodes)?;
     Ok(these.iter().any(|deep| *deep))
 }

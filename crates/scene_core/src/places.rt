@@ -69,6 +69,21 @@ fn one_deeper(alloc: Global, nodes: &[SceneNode], counts: &[u32]) -> Result<Vec<
     Ok(more)
 }
 
+/// Of each node, the places from one place of it down, or `ENOUGH` where that is less.
+fn counts_of(alloc: Global, nodes: &[SceneNode]) -> Result<Vec<u32>, AllocError>
+    ensures { IfOk result (λ counts. counts.items ≡ map (λ k. min k spec.enough) (spec.places_below nodes.now max_depth)) }
+{
+    let mut counts = vec![in alloc; 0; nodes.len()]?;
+    for _level in 0..MAX_DEPTH {
+        let more = one_deeper(alloc, nodes, counts.as_slice())?;
+        if more == counts {
+            return Ok(counts);
+        }
+        counts = more;
+    }
+    Ok(counts)
+}
+
 /// Whether there are too many places, where no chain is too long.
 pub(crate) fn has_too_many_places(
     alloc: Global,
@@ -77,10 +92,7 @@ pub(crate) fn has_too_many_places(
 ) -> Result<bool, AllocError>
     ensures { IfOk result (λ many. many ≡ nat_lt spec.max_places (spec.places max_depth nodes.now roots.now)) }
 {
-    let mut counts = vec![in alloc; 0; nodes.len()]?;
-    for _level in 0..MAX_DEPTH {
-        counts = one_deeper(alloc, nodes, counts.as_slice())?;
-    }
+    let counts = counts_of(alloc, nodes)?;
     Ok(MAX_PLACES < together(counts.as_slice(), roots))
 }
 

@@ -11,7 +11,8 @@ use Rattle.x3d_values.specs.Stamp.{Stamp}
 use Rattle.share_program.specs.declared.fault.JobFault.{JobFault}
 use Rattle.share_program.specs.declared.fault.JobFault.TheVariants.{BadJob}
 use Rattle.share_program.specs.Lines.{first_line, behind_line}
-use Rattle.share_program.specs.Job.{Lined, Follow, AreInTurn, last_time, is_taken, clock_at, clock_time, next_input, with_line, with_scene}
+use Rattle.cascade_core.specs.InTurn.{Follow, AreInTurn}
+use Rattle.share_program.specs.Job.{Lined, last_time, is_taken, clock_at, clock_time, next_input, with_line, with_scene}
 use Rattle.share_program.specs.Job.{is_scene, behind_lines, job_lines}
 use Rattle.share_program.proofs.LineLemmas.{cut}
 

@@ -1,6 +1,6 @@
 -- A job: lines of steps, a line `scene`, then the scene (our choice).
-use Rattle.std.specs.Prelude.{◌≡◌, ℕ, ◌+◌, ◌-◌, ◌^◌, ◌&&◌, nat_lt, ℤ, pos, int_lt, ◌<ℤ◌, Bool, List, [], ◌∷◌, ◌++◌, length, take, drop, slice_get}
-use Rattle.std.specs.Prelude.{codes, Option, Some, None, Result, Ok, Err, if◌then◌else◌, ⊤}
+use Rattle.std.specs.Prelude.{◌≡◌, ℕ, ◌+◌, ◌-◌, ◌^◌, ◌&&◌, nat_lt, ℤ, pos, int_lt, Bool, List, [], ◌∷◌, ◌++◌, length, take, drop, slice_get}
+use Rattle.std.specs.Prelude.{codes, Option, Some, None, Result, Ok, Err, if◌then◌else◌}
 use Rattle.std.specs.Option.{option_and_then, option_map_or}
 use Rattle.std.specs.Result.{result_ok}
 use Rattle.std.specs.List.{AllZip, fold, list_any, before_first, slice_split, join_with_byte}
@@ -78,15 +78,6 @@ job_lines bytes =
     with_scene (length steps + 1) (list_any is_scene (lines bytes)) (behind_lines (length steps + 1) bytes) (inputs_of steps)
 
 -- ---- what holds of inputs
-
--- behind an input of this number and time these follow, each with the next number and a later time
-abbrev pub Follow : ℕ → ℤ → List Stamp → Type 0
-Follow number time [] = ⊤
-Follow number time (s ∷ rest) = (s.number ≡ number + 1) × (time <ℤ s.time) × Follow s.number s.time rest
-
--- numbered from 1, and each later than the one before, the first later than 0
-abbrev pub AreInTurn : List Stamp → Type 0
-AreInTurn inputs = Follow 0 (pos 0) inputs
 
 -- the line is `clock T`, where T is a numeral of seconds that is the input's time in microseconds
 abbrev pub IsClock : List ℕ → Stamp → Type 0

@@ -6,6 +6,10 @@ use Rattle.clap.specs.declared.error.kind.ErrorKind.TheVariants as kind
 use Rattle.clap.specs.Simple.{on_top}
 use Rattle.share_program.specs.declared.order.Order.{Order}
 use Rattle.share_program.specs.declared.order.Order.TheVariants.{Run}
+use Rattle.share_program.specs.declared.order.OrderFault.{OrderFault}
+use Rattle.share_program.specs.declared.order.OrderFault.TheVariants.{Words, Memory}
+use Rattle.std.specs.declared.io.ErrorKind.{ErrorKind as IoErrorKind}
+use Rattle.std.specs.declared.io.ErrorKind.TheVariants.{OutOfMemory}
 
 -- the program without its commands: one of them has to be named, and all know `--version`
 abbrev pub bare_program : App
@@ -24,6 +28,11 @@ program = with_subcommand bare_program run_app.top
 -- the command of this name with these matches asks for this
 abbrev pub Asks : Order → Text × List Row → Type 0
 Asks Run p = p.0 ≡ codes "run"
+
+-- why the process's own words can't be had: memory was refused, or one of them is no text
+abbrev pub order_fault_of : IoErrorKind → OrderFault
+order_fault_of OutOfMemory = Memory
+order_fault_of _ = Words
 
 -- `clap` takes the words, and the command that they name asks for this
 pub record Means (words : List Text) (order : Order) : Type 0 where

@@ -3,10 +3,12 @@
 ghost use Rattle.std.specs.Prelude.{◌≡◌, IfOk, Option, length};
 ghost use Rattle.x3d_lists.specs.Answers.{Gives};
 ghost use Rattle.share_program.specs.Job.{clock_time, last_time, is_taken, clock_at, next_input};
-ghost use Rattle.share_program.specs.Job.{is_scene, job_lines, IsJob, AreInTurn};
+ghost use Rattle.share_program.specs.Job.{is_scene, job_lines, IsJob};
+ghost use Rattle.cascade_core.specs.InTurn.{AreInTurn};
 ghost use Rattle.share_program.specs.declared.fault.JobFault.TheVariants.{Memory};
 
 use crate::fault::JobFault;
+use crate::inputs::Inputs;
 use crate::line::cut_line;
 use std::alloc::Global;
 use x3d_lists::Items;
@@ -19,8 +21,7 @@ const MOST_INPUTS: usize = 1 << 20;
 /// What the lines of a job ask for.
 #[derive(Debug, Drop)]
 pub struct Steps<'a> {
-    /// Numbered from 1, each later than the one before it.
-    pub inputs: Items<Stamped>,
+    pub inputs: Inputs,
     /// The bytes behind the line `scene`.
     pub scene: &'a [u8],
 }
@@ -99,7 +100,7 @@ pub fn job_of(alloc: Global, bytes: &[u8]) -> Result<Steps<'_>, JobFault>
         let (line, behind) = cut_line(rest);
         if is_scene(line) {
             return Ok(Steps {
-                inputs,
+                inputs: Inputs::new(inputs),
                 scene: behind,
             });
         }

@@ -3,6 +3,7 @@
 #![tactic(auto)]
 
 mod fault;
+mod inputs;
 mod job;
 mod line;
 mod open;
@@ -13,6 +14,7 @@ mod stream;
 mod words;
 
 pub use fault::{JobFault, RunFault};
+pub use inputs::Inputs;
 pub use job::{Steps, job_of};
 pub use open::{Job, Opened, open_job, open_scene, read_job};
 pub use order::{Order, OrderFault};

@@ -3,11 +3,12 @@
 ghost use Rattle.std.specs.Prelude.{◌≡◌, IfOk, IfErr, ◌⊎◌, List, ℕ};
 ghost use Rattle.std.specs.Io.KnownBytes.{Consumes, IsAtEnd};
 ghost use Rattle.x3d_lists.specs.Answers.{Gives};
-ghost use Rattle.share_program.specs.Job.{AreInTurn};
+ghost use Rattle.cascade_core.specs.InTurn.{AreInTurn};
 ghost use Rattle.share_program.specs.Opening.{routed, built, opened, opened_job, IsDeviceOrMemory, IsNoJob};
 ghost use Rattle.share_program.specs.declared.fault.JobFault.TheVariants.{Memory};
 
 use crate::fault::JobFault;
+use crate::inputs::Inputs;
 use crate::job::job_of;
 use crate::stream::read_whole;
 use classic_text::read;
@@ -16,8 +17,6 @@ use route_core::Routes;
 use scene_core::Scene;
 use std::alloc::Global;
 use std::io::Read;
-use x3d_lists::Items;
-use x3d_values::Stamped;
 
 /// A scene with its routes.
 #[derive(Drop)]
@@ -26,11 +25,10 @@ pub struct Opened {
     pub routes: Routes,
 }
 
-/// A scene with its routes, and the inputs to apply to it, numbered from 1, each later than the one
-/// before it.
+/// A scene with its routes, and the inputs to apply to it.
 #[derive(Drop)]
 pub struct Job {
-    pub inputs: Items<Stamped>,
+    pub inputs: Inputs,
     pub scene: Scene,
     pub routes: Routes,
 }

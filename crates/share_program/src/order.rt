@@ -1,5 +1,10 @@
 //! What a command line asks for.
 
+ghost use Rattle.std.specs.Prelude.{◌≡◌};
+ghost use Rattle.std.specs.IoError.{error_kind};
+ghost use Rattle.share_program.specs.Words.{order_fault_of};
+
+use std::io;
 use thiserror::Error;
 
 /// A command with its numbers.
@@ -16,4 +21,16 @@ pub enum OrderFault {
     Words,
     #[error("memory was refused")]
     Memory,
+}
+
+/// Why the process's own words could not be had.
+impl From<io::Error> for OrderFault {
+    ghost from_gives = { λ error fault. fault ≡ order_fault_of (error_kind error) };
+
+    fn from(error: io::Error) -> OrderFault {
+        match error.kind() {
+            io::ErrorKind::OutOfMemory => OrderFault::Memory,
+            _ => OrderFault::Words,
+        }
+    }
 }

@@ -2,7 +2,9 @@
 
 ghost use Rattle.std.specs.Prelude.{◌≡◌, ◌++◌, OnOk, IfOk, IfErr};
 ghost use Rattle.std.specs.Io.KnownBytes.{Appends, Keeps};
-ghost use Rattle.cascade_core.specs.Held.{IfRunning};
+ghost use Rattle.cascade_core.specs.Apply.{world};
+ghost use Rattle.cascade_core.specs.Held.{Running, IfRunning};
+ghost use Rattle.cascade_core.specs.declared.fault.TextFault.TheVariants as TextFault;
 ghost use Rattle.share_program.specs.Running.{texts, run_text};
 ghost use Rattle.share_program.specs.declared.fault.RunFault.TheVariants.{Memory};
 
@@ -13,26 +15,22 @@ use cascade_core::{ApplyFault, Scripts, Stage, TextFault};
 use std::alloc::Global;
 use std::io::Write;
 
-impl From<ApplyFault> for RunFault {
-    ghost from_gives = { λ _ fault. fault ≡ Memory };
-
-    fn from(_fault: ApplyFault) -> RunFault {
-        RunFault::Memory
-    }
-}
-
-impl From<TextFault> for RunFault {
-    ghost from_gives = { λ _ fault. fault ≡ Memory };
-
-    fn from(_fault: TextFault) -> RunFault {
-        RunFault::Memory
+/// The stage of a job after its inputs, which are in turn: only memory can be refused.
+fn stage_of<B>(alloc: Global, job: Job, scripts: Scripts<B>) -> Result<Stage<B>, RunFault>
+    ensures ok { IfOk result (λ stage. stage ≡ record { scene = job.scene; routes = job.routes; held = Running (world job.scene job.routes job.inputs) }) }
+    ensures err { IfErr result (λ f. f ≡ Memory) }
+{
+    match cascade_core::run(alloc, job.scene, job.routes, scripts, job.inputs.as_slice()) {
+        Ok(stage) => Ok(stage),
+        Err(ApplyFault::Memory) => Err(RunFault::Memory),
+        Err(_) => unreachable!(),
     }
 }
 
 /// Appends the trace and then the scene of a stage.
-fn push_texts<B>(stage: &Stage<B>, out: &mut Vec<u8>) -> Result<(), RunFault>
+fn push_texts<B>(stage: &Stage<B>, out: &mut Vec<u8>) -> Result<(), TextFault>
     ensures ok { IfRunning stage.now.held (λ w. OnOk result (out.new.items ≡ out.old.items ++ texts stage.now.scene w)) }
-    ensures err { IfErr result (λ f. f ≡ Memory) }
+    ensures memory { IfRunning stage.now.held (λ w. IfErr result (λ fault. fault ≡ TextFault.Memory)) }
 {
     stage.trace_text(out)?;
     stage.scene_text(out)?;
@@ -45,10 +43,14 @@ fn text_of<B>(alloc: Global, job: Job, scripts: Scripts<B>) -> Result<Vec<u8>, R
     ensures ok { IfOk result (λ text. text.items ≡ run_text job) }
     ensures err { IfErr result (λ f. f ≡ Memory) }
 {
-    let stage = cascade_core::run(alloc, job.scene, job.routes, scripts, job.inputs.as_slice())?;
+    let stage = stage_of(alloc, job, scripts)?;
     let mut text = Vec::new(alloc);
-    push_texts(&stage, &mut text)?;
-    Ok(text)
+    match push_texts(&stage, &mut text) {
+        Ok(()) => Ok(text),
+        Err(TextFault::Memory) => Err(RunFault::Memory),
+        // A stage that was run to the end of its inputs is not spoiled.
+        Err(TextFault::Spoiled) => unreachable!(),
+    }
 }
 
 /// Applies the inputs of a job to its scene, and writes the trace and then the scene. Both texts are

@@ -14,20 +14,10 @@ use std::io;
 use std::process::ExitCode;
 use std::rt::Env;
 
-/// Why the process's own words are not read: memory was refused, or one of them is no text.
-fn words_failure(error: io::Error) -> Failure {
-    if error.kind() == io::ErrorKind::OutOfMemory {
-        return Failure::Order(OrderFault::Memory);
-    }
-    Failure::Order(OrderFault::Words)
-}
-
 /// The program's own name and its words.
-fn own_words<R: Env + AllocGlobal>(rt: &R) -> Result<Vec<String>, Failure> {
-    let words = std::env::args(rt).map_err(words_failure)?;
-    words
-        .collect(rt.alloc())
-        .map_err(|_| Failure::Order(OrderFault::Memory))
+fn own_words<R: Env + AllocGlobal>(rt: &R) -> Result<Vec<String>, OrderFault> {
+    let words = std::env::args(rt)?;
+    words.collect(rt.alloc()).map_err(|_| OrderFault::Memory)
 }
 
 fn views<'a>(alloc: Global, words: &'a [String]) -> Result<Vec<&'a str>, AllocError> {

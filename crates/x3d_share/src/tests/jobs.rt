@@ -93,7 +93,7 @@ fn jobs_have_their_steps_and_scene(rt: HostRuntime) -> Result<(), Fail> {
             return Ok(());
         };
         let last = steps.inputs.as_slice().last();
-        assert_eq!(rt; steps.inputs.len(), count, "{job:?}");
+        assert_eq!(rt; steps.inputs.as_slice().len(), count, "{job:?}");
         assert_eq!(rt; last.map_or(0, |input| input.time()), time, "{job:?}");
         assert!(rt;
             last.is_none_or(|input| input.event() == Event::Clock),
@@ -121,7 +121,7 @@ fn many_steps(alloc: Global, count: u32) -> Result<Vec<u8>, AllocError> {
 fn a_world_takes_a_million_inputs(rt: HostRuntime) -> Result<(), Fail> {
     let most = many_steps(rt.alloc(), 1 << 20)?;
     let taken = job_of(rt.alloc(), most.as_slice());
-    assert!(rt; matches!(&taken, Ok(steps) if steps.inputs.len() == 1 << 20));
+    assert!(rt; matches!(&taken, Ok(steps) if steps.inputs.as_slice().len() == 1 << 20));
     let more = many_steps(rt.alloc(), (1 << 20) + 1)?;
     let refused = job_of(rt.alloc(), more.as_slice());
     assert!(rt; matches!(&refused, Err(fault) if *fault == JobFault::BadJob((1 << 20) + 1)));

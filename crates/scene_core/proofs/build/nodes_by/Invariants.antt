@@ -1,6 +1,5 @@
-use Rattle.std.proofs.Common.{◌≡◌, drop, [], List}
+use Rattle.std.proofs.Common.{◌≡◌, drop, []}
 use Rattle.std.specs.Prelude.{slice_get}
-use Rattle.scene_core.specs.declared.scene.SceneNode.{SceneNode}
 use Rattle.scene_core.specs.Building.{with_node}
 use Rattle.scene_core.specs.Faults.{through}
 use Rattle.scene_core.specs.Labels.{known_of, known_alone}

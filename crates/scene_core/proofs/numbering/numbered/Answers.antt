@@ -1,4 +1,4 @@
-use Rattle.std.proofs.Common.{rules, ◌≡◌, ◌∙◌, false, length, replicate}
+use Rattle.std.proofs.Common.{rules, ◌≡◌, false, length, replicate}
 use Rattle.scene_core.proofs.TaskLemmas.{unnumbered-few, numbering-done}
 use Rattle.scene_core.proofs.numbering.numbered.Goals as goal
 

@@ -1,4 +1,4 @@
-use Rattle.std.proofs.Common.{◌≡◌, ◌∙◌, sym, arith, [], ◌∷◌}
+use Rattle.std.proofs.Common.{◌≡◌, ◌∙◌, sym, arith, []}
 use Rattle.std.proofs.lemmas.Grind.{common_steps}
 use Rattle.scene_core.proofs.TaskLemmas.{finish-push, finish-none, work-push}
 use Rattle.scene_core.proofs.numbering.run.Goals as goal

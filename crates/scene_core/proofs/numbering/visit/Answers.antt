@@ -1,5 +1,4 @@
-use Rattle.std.proofs.Common.{◌≡◌, ◌∙◌, sym, true, false, rules}
-use Rattle.scene_core.specs.Numbers.{is_new}
+use Rattle.std.proofs.Common.{◌∙◌, sym}
 use Rattle.scene_core.proofs.TaskLemmas.{old-done, new-done, new-few, new-fewer}
 use Rattle.scene_core.proofs.numbering.visit.Goals as goal
 

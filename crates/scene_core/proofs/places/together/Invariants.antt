@@ -1,4 +1,4 @@
-use Rattle.std.proofs.Common.{◌≡◌, ◌≤◌, take}
+use Rattle.std.proofs.Common.{◌≡◌, take}
 use Rattle.std.specs.Prelude.{min, slice_index_or}
 use Rattle.std.specs.List.{sum_by}
 use Rattle.scene_core.proofs.places.together.Given as goal

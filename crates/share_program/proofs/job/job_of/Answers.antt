@@ -11,7 +11,7 @@ pub returns-then-is_scene-clause-exact : goal.returns-then-is_scene-clause-exact
 returns-then-is_scene-clause-exact c =
     let some : 0 < length c.loop-rest.rest.now = search rules in
     let passes : is_scene c.cut_line.result.0.now ≡ true = search rules in
-    scene_found _ _ _ _ _ c.loop-rest.invariant.answer some c.cut_line.ensures.line c.cut_line.ensures.behind passes
+    rw c.new.ensures (scene_found _ _ _ _ _ c.loop-rest.invariant.answer some c.cut_line.ensures.line c.cut_line.ensures.behind passes)
 
 pub returns-then-is_scene-clause-found : goal.returns-then-is_scene-clause-found
 returns-then-is_scene-clause-found c = found _ _ (returns-then-is_scene-clause-exact c)

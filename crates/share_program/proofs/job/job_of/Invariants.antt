@@ -1,5 +1,6 @@
 use Rattle.std.proofs.Common.{◌≡◌, ◌≤◌, ◌^◌, length}
-use Rattle.share_program.specs.Job.{AreInTurn, job_lines}
+use Rattle.cascade_core.specs.InTurn.{AreInTurn}
+use Rattle.share_program.specs.Job.{job_lines}
 use Rattle.share_program.proofs.JobLemmas.{left_of}
 use Rattle.share_program.proofs.job.job_of.Given as goal
 
