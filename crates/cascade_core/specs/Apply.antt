@@ -1,5 +1,5 @@
 -- What an input does (ISO/IEC 19775-1, event model: execution model; that the clock goes to the time sensors in number order is our choice).
-use Rattle.std.specs.Prelude.{ℕ, ℤ, ◌+◌, pos, Bool, false, List, [], None, slice_get, length, map}
+use Rattle.std.specs.Prelude.{ℕ, ℤ, ◌+◌, pos, Bool, false, List, [], None, slice_get, length, replicate}
 use Rattle.std.specs.List.{fold, filter, range_with_len}
 use Rattle.std.specs.Option.{option_map_or}
 use Rattle.x3d_values.specs.declared.node_type.NodeType.{NodeType}
@@ -53,7 +53,7 @@ world_after kinds routes w inputs = fold (apply kinds routes) w inputs
 -- the world before any input: the scene's own fields, no sensor active, and nothing sent
 abbrev pub opening : SceneView → WorldData
 opening scene =
-    record { applied = 0; last_time = pos 0; fields = state_of scene; sensors = map (λ fields. None) (state_of scene); trace = [] }
+    record { applied = 0; last_time = pos 0; fields = state_of scene; sensors = replicate (length (state_of scene)) None; trace = [] }
 
 -- the world of a scene and a list of inputs
 abbrev pub world : SceneView → List Route → List Stamp → WorldData

@@ -1,6 +1,6 @@
 //! A stage holds the world of a scene, and applies inputs to it.
 
-ghost use Rattle.std.specs.Prelude.{◌≡◌, ◌++◌, ◌⊎◌, IfOk, IfErr, IfNone, IfSome, None, Some, OnOk, OnErr, map};
+ghost use Rattle.std.specs.Prelude.{◌≡◌, ◌++◌, ◌⊎◌, IfOk, IfErr, IfNone, IfSome, None, Some, OnOk, OnErr, replicate};
 ghost use Rattle.cascade_core.specs.Held.{Running, refusal_in};
 ghost use Rattle.cascade_core.specs.Apply.{opening, world};
 ghost use Rattle.cascade_core.specs.InTurn.{AreInTurn};
@@ -22,7 +22,7 @@ use sensor_core::TimeState;
 use std::alloc::{AllocError, Global};
 use std::marker::Model;
 use x3d_lists::Items;
-use x3d_values::{Fields, Stamped};
+use x3d_values::Stamped;
 
 /// A scene with its world, which moves on by inputs.
 #[derive(Drop)]
@@ -50,14 +50,11 @@ impl<B> Model for Stage<B> {
 }
 
 /// No node runs a cycle.
-fn idle_sensors(alloc: Global, fields: &[Fields]) -> Result<Items<TimeState>, AllocError>
-    ensures { IfOk result (λ sensors. sensors ≡ map (λ fields. None) fields.now) }
+fn idle_sensors(alloc: Global, nodes: usize) -> Result<Items<TimeState>, AllocError>
+    ensures { IfOk result (λ sensors. sensors ≡ replicate nodes None) }
 {
-    let mut sensors = Items::new(alloc);
-    for _kept in fields {
-        sensors.push(TimeState::inactive())?;
-    }
-    Ok(sensors)
+    let sensors = vec![in alloc; TimeState::inactive(); nodes]?;
+    Ok(Items::from_vec(sensors))
 }
 
 /// The world of a scene before any input.
@@ -65,7 +62,7 @@ fn opening(alloc: Global, scene: &Scene) -> Result<WorldData, AllocError>
     ensures { IfOk result (λ w. w ≡ opening scene.now) }
 {
     let fields = scene.state(alloc)?;
-    let sensors = idle_sensors(alloc, &fields)?;
+    let sensors = idle_sensors(alloc, fields.len())?;
     Ok(WorldData {
         applied: 0,
         last_time: 0,

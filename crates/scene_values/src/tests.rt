@@ -214,8 +214,7 @@ static LIST_FAULTS: [(FieldType, &[i64], ValueFault); 14] = [
     (FieldType::MFColor, &[0, 0, 0, 0], ValueFault::WrongType),
 ];
 
-/// The raw value is one of that type, which is written so.
-fn is_typed(
+fn shows(
     rt: &impl Abort,
     alloc: Global,
     field_type: FieldType,
@@ -223,11 +222,36 @@ fn is_typed(
     text: &str,
 ) -> Result<(), Fail> {
     let value = typed(alloc, field_type, raw, &NUMBERS)?;
-    assert!(rt; value.field_type() == field_type, "{text}");
+    let answer = is_shown(rt, alloc, field_type, &value, text);
+    drop(value);
+    answer
+}
+
+fn is_shown(
+    rt: &impl Abort,
+    alloc: Global,
+    field_type: FieldType,
+    value: &Value,
+    text: &str,
+) -> Result<(), Fail> {
     let mut shown = Vec::new(alloc);
-    show_value(&value, &mut shown)?;
+    show_value(value, &mut shown)?;
+    assert!(rt; value.field_type() == field_type, "{text}");
     assert!(rt; shown.as_slice() == text.as_bytes(), "{text}");
     Ok(())
+}
+
+/// The raw value is one of that type, which is written so.
+fn is_typed(
+    rt: &impl Abort,
+    alloc: Global,
+    field_type: FieldType,
+    raw: RawValue<u32>,
+    text: &str,
+) -> Result<(), Fail> {
+    let answer = shows(rt, alloc, field_type, &raw, text);
+    drop(raw);
+    answer
 }
 
 /// The raw value is none of that type, for that cause.
@@ -235,10 +259,11 @@ fn is_refused(
     rt: &impl Abort,
     alloc: Global,
     field_type: FieldType,
-    raw: &RawValue<u32>,
+    raw: RawValue<u32>,
     fault: ValueFault,
 ) {
-    let answer = typed(alloc, field_type, raw, &NUMBERS).err();
+    let answer = typed(alloc, field_type, &raw, &NUMBERS).err();
+    drop(raw);
     assert!(rt; answer == Some(fault), "{field_type:?} {fault:?}");
 }
 
@@ -254,10 +279,10 @@ fn list(alloc: Global, numbers: &[i64]) -> Result<RawValue<u32>, AllocError> {
 fn numerals_of_the_right_form_are_values(rt: HostRuntime) -> Result<(), Fail> {
     let alloc = rt.alloc();
     for (field_type, numbers, text) in &RUNS {
-        is_typed(&rt, alloc, *field_type, &run(alloc, *numbers)?, *text)?;
+        is_typed(&rt, alloc, *field_type, run(alloc, *numbers)?, *text)?;
     }
     for (field_type, numbers, text) in &LISTS {
-        is_typed(&rt, alloc, *field_type, &list(alloc, *numbers)?, *text)?;
+        is_typed(&rt, alloc, *field_type, list(alloc, *numbers)?, *text)?;
     }
     Ok(())
 }
@@ -266,125 +291,104 @@ fn numerals_of_the_right_form_are_values(rt: HostRuntime) -> Result<(), Fail> {
 fn numerals_of_another_form_are_none(rt: HostRuntime) -> Result<(), Fail> {
     let alloc = rt.alloc();
     for (field_type, numbers, fault) in &RUN_FAULTS {
-        is_refused(&rt, alloc, *field_type, &run(alloc, *numbers)?, *fault);
+        is_refused(&rt, alloc, *field_type, run(alloc, *numbers)?, *fault);
     }
     for (field_type, numbers, fault) in &LIST_FAULTS {
-        is_refused(&rt, alloc, *field_type, &list(alloc, *numbers)?, *fault);
+        is_refused(&rt, alloc, *field_type, list(alloc, *numbers)?, *fault);
     }
     Ok(())
+}
+
+fn truths(alloc: Global) -> Result<RawValue<u32>, AllocError> {
+    Ok(RawValue::TruthList(Items::from_slice(alloc, &[true, false])?))
 }
 
 #[test]
 fn truth_values(rt: HostRuntime) -> Result<(), Fail> {
+    use FieldType::{MFBool, SFBool, SFInt32};
     let alloc = rt.alloc();
-    let truths = RawValue::TruthList(Items::from_slice(alloc, &[true, false])?);
-    is_typed(
-        &rt,
-        alloc,
-        FieldType::SFBool,
-        &RawValue::Truth(true),
-        "TRUE",
-    )?;
-    is_typed(
-        &rt,
-        alloc,
-        FieldType::MFBool,
-        &RawValue::Truth(false),
-        "[FALSE]",
-    )?;
-    is_typed(&rt, alloc, FieldType::MFBool, &truths, "[TRUE FALSE]")?;
-    is_typed(&rt, alloc, FieldType::MFBool, &RawValue::EmptyList, "[]")?;
-    is_refused(
-        &rt,
-        alloc,
-        FieldType::SFBool,
-        &truths,
-        ValueFault::WrongType,
-    );
-    is_refused(
-        &rt,
-        alloc,
-        FieldType::SFInt32,
-        &RawValue::Truth(true),
-        ValueFault::WrongType,
-    );
+    is_typed(&rt, alloc, SFBool, RawValue::Truth(true), "TRUE")?;
+    is_typed(&rt, alloc, MFBool, RawValue::Truth(false), "[FALSE]")?;
+    is_typed(&rt, alloc, MFBool, truths(alloc)?, "[TRUE FALSE]")?;
+    is_typed(&rt, alloc, MFBool, RawValue::EmptyList, "[]")?;
+    is_refused(&rt, alloc, SFBool, truths(alloc)?, ValueFault::WrongType);
+    let truth = RawValue::Truth(true);
+    is_refused(&rt, alloc, SFInt32, truth, ValueFault::WrongType);
     Ok(())
 }
 
-fn words(alloc: Global) -> Result<Items<Text>, AllocError> {
-    let mut items = Items::new(alloc);
+fn push_words(alloc: Global, items: &mut Items<Text>) -> Result<(), AllocError> {
     items.push(Text::from_str(alloc, "door")?)?;
     items.push(Text::from_str(alloc, "lamp")?)?;
-    Ok(items)
+    Ok(())
+}
+
+fn words(alloc: Global) -> Result<RawValue<u32>, AllocError> {
+    let mut items = Items::new(alloc);
+    push_words(alloc, &mut items)?;
+    Ok(RawValue::StringList(items))
+}
+
+fn word(alloc: Global) -> Result<RawValue<u32>, AllocError> {
+    Ok(RawValue::String(Text::from_str(alloc, "key")?))
 }
 
 #[test]
 fn strings(rt: HostRuntime) -> Result<(), Fail> {
+    use FieldType::{MFBool, MFString, SFString};
     let alloc = rt.alloc();
-    let text = RawValue::String(Text::from_str(alloc, "key")?);
-    let texts = RawValue::StringList(words(alloc)?);
-    is_typed(&rt, alloc, FieldType::SFString, &text, "\"key\"")?;
-    is_typed(&rt, alloc, FieldType::MFString, &text, "[\"key\"]")?;
-    is_typed(
-        &rt,
-        alloc,
-        FieldType::MFString,
-        &texts,
-        "[\"door\" \"lamp\"]",
-    )?;
-    is_typed(&rt, alloc, FieldType::MFString, &RawValue::EmptyList, "[]")?;
-    is_refused(
-        &rt,
-        alloc,
-        FieldType::SFString,
-        &texts,
-        ValueFault::WrongType,
-    );
-    is_refused(&rt, alloc, FieldType::MFBool, &text, ValueFault::WrongType);
+    is_typed(&rt, alloc, SFString, word(alloc)?, "\"key\"")?;
+    is_typed(&rt, alloc, MFString, word(alloc)?, "[\"key\"]")?;
+    is_typed(&rt, alloc, MFString, words(alloc)?, "[\"door\" \"lamp\"]")?;
+    is_typed(&rt, alloc, MFString, RawValue::EmptyList, "[]")?;
+    is_refused(&rt, alloc, SFString, words(alloc)?, ValueFault::WrongType);
+    is_refused(&rt, alloc, MFBool, word(alloc)?, ValueFault::WrongType);
     Ok(())
 }
 
-/// The value of that type that the raw value is, where it is one.
-fn value(alloc: Global, field_type: FieldType, raw: &RawValue<u32>) -> Option<Value> {
-    typed(alloc, field_type, raw, &NUMBERS).ok()
+/// The raw value is that value.
+fn is_value(
+    rt: &impl Abort,
+    alloc: Global,
+    field_type: FieldType,
+    raw: RawValue<u32>,
+    wanted: Value,
+) {
+    let value = typed(alloc, field_type, &raw, &NUMBERS).ok();
+    let same = value.as_ref() == Some(&wanted);
+    drop((value, raw, wanted));
+    assert!(rt; same, "{field_type:?}");
 }
 
 #[test]
 fn nodes_get_their_numbers(rt: HostRuntime) -> Result<(), Fail> {
+    use FieldType::{MFNode, SFNode};
     let alloc = rt.alloc();
-    let nodes = RawValue::NodeList(Items::from_slice(alloc, &[2, 0, 3])?);
+    let numbers = Value::MFNode(Items::from_slice(alloc, &[11])?);
+    is_value(&rt, alloc, MFNode, RawValue::Node(1), numbers);
+    let single = Value::SFNode(Some(11));
+    is_value(&rt, alloc, SFNode, RawValue::Node(1), single);
+    lists_get_their_numbers(&rt, alloc)
+}
+
+fn lists_get_their_numbers(rt: &impl Abort, alloc: Global) -> Result<(), Fail> {
     let numbers = Items::from_slice(alloc, &[12, 10, 0])?;
-    assert!(rt; value(alloc, FieldType::MFNode, &nodes) == Some(Value::MFNode(numbers)));
-    let one = Items::from_slice(alloc, &[11])?;
-    assert!(rt; value(alloc, FieldType::MFNode, &RawValue::Node(1)) == Some(Value::MFNode(one)));
-    let single = value(alloc, FieldType::SFNode, &RawValue::Node(1));
-    assert!(rt; single == Some(Value::SFNode(Some(11))));
+    let nodes = RawValue::NodeList(Items::from_slice(alloc, &[2, 0, 3])?);
+    is_value(rt, alloc, FieldType::MFNode, nodes, Value::MFNode(numbers));
     Ok(())
 }
 
 #[test]
 fn null_is_a_node_and_no_item(rt: HostRuntime) -> Result<(), Fail> {
+    use FieldType::{MFNode, SFNode, SFString};
     let alloc = rt.alloc();
-    let none = value(alloc, FieldType::SFNode, &RawValue::Null);
-    assert!(rt; none == Some(Value::SFNode(None)));
-    let empty = value(alloc, FieldType::MFNode, &RawValue::EmptyList);
-    assert!(rt; empty == Some(Value::MFNode(Items::new(alloc))));
-    is_refused(
-        &rt,
-        alloc,
-        FieldType::MFNode,
-        &RawValue::Null,
-        ValueFault::WrongType,
-    );
-    is_refused(
-        &rt,
-        alloc,
-        FieldType::SFString,
-        &RawValue::Null,
-        ValueFault::WrongType,
-    );
+    is_value(&rt, alloc, SFNode, RawValue::Null, Value::SFNode(None));
+    let empty = Value::MFNode(Items::new(alloc));
+    is_value(&rt, alloc, MFNode, RawValue::EmptyList, empty);
+    is_refused(&rt, alloc, MFNode, RawValue::Null, ValueFault::WrongType);
+    is_refused(&rt, alloc, SFString, RawValue::Null, ValueFault::WrongType);
     let nodes = RawValue::NodeList(Items::from_slice(alloc, &[2])?);
-    is_refused(&rt, alloc, FieldType::SFNode, &nodes, ValueFault::WrongType);
+    is_refused(&rt, alloc, SFNode, nodes, ValueFault::WrongType);
     Ok(())
 }
 
@@ -400,22 +404,12 @@ fn the_empty_list_is_of_each_list_type(rt: HostRuntime) -> Result<(), Fail> {
         FieldType::MFColor,
     ];
     for field_type in types {
-        is_typed(&rt, alloc, field_type, &RawValue::EmptyList, "[]")?;
+        is_typed(&rt, alloc, field_type, RawValue::EmptyList, "[]")?;
     }
-    is_refused(
-        &rt,
-        alloc,
-        FieldType::SFVec3f,
-        &RawValue::EmptyList,
-        ValueFault::WrongType,
-    );
-    is_refused(
-        &rt,
-        alloc,
-        FieldType::SFRotation,
-        &RawValue::EmptyList,
-        ValueFault::WrongType,
-    );
+    for field_type in [FieldType::SFVec3f, FieldType::SFRotation] {
+        let empty = RawValue::EmptyList;
+        is_refused(&rt, alloc, field_type, empty, ValueFault::WrongType);
+    }
     Ok(())
 }
 
@@ -493,9 +487,9 @@ fn a_refused_growth_is_answered_of_numerals(rt: HostRuntime) -> Result<(), Fail>
 #[test]
 fn a_refused_growth_is_answered_of_what_has_none(rt: HostRuntime) -> Result<(), Fail> {
     let alloc = rt.alloc();
-    let truths = RawValue::TruthList(Items::from_slice(alloc, &[true, false])?);
-    let text = RawValue::String(Text::from_str(alloc, "key")?);
-    let texts = RawValue::StringList(words(alloc)?);
+    let truths = truths(alloc)?;
+    let text = word(alloc)?;
+    let texts = words(alloc)?;
     let nodes = RawValue::NodeList(Items::from_slice(alloc, &[2, 0])?);
     let used_up = UsedUp::new(alloc)?;
     let refused = (

@@ -3,27 +3,47 @@
 ghost use Rattle.std.specs.Prelude.{◌≡◌, ◌++◌, OnOk, IfOk, IfErr};
 ghost use Rattle.std.specs.Io.KnownBytes.{Appends, Keeps};
 ghost use Rattle.cascade_core.specs.Apply.{world};
-ghost use Rattle.cascade_core.specs.Held.{Running, IfRunning};
+ghost use Rattle.cascade_core.specs.Held.{Running, IfRunning, IfSpoiled};
+ghost use Rattle.cascade_core.specs.declared.fault.ApplyFault.TheVariants as ApplyFault;
 ghost use Rattle.cascade_core.specs.declared.fault.TextFault.TheVariants as TextFault;
 ghost use Rattle.share_program.specs.Running.{texts, run_text};
 ghost use Rattle.share_program.specs.declared.fault.RunFault.TheVariants.{Memory};
 
 use crate::fault::RunFault;
+use crate::inputs::Inputs;
 use crate::open::Job;
 use crate::stream::write_whole;
 use cascade_core::{ApplyFault, Scripts, Stage, TextFault};
+use route_core::Routes;
+use scene_core::Scene;
 use std::alloc::Global;
 use std::io::Write;
 
-/// The stage of a job after its inputs, which are in turn: only memory can be refused.
-fn stage_of<B>(alloc: Global, job: Job, scripts: Scripts<B>) -> Result<Stage<B>, RunFault>
-    ensures ok { IfOk result (λ stage. stage ≡ record { scene = job.scene; routes = job.routes; held = Running (world job.scene job.routes job.inputs) }) }
+/// Why inputs in turn were not applied.
+fn memory_alone(fault: ApplyFault) -> RunFault
+    requires { fault ≡ ApplyFault.Memory }
+    ensures { result ≡ Memory }
+{
+    match fault {
+        ApplyFault::Memory => RunFault::Memory,
+        _ => unreachable!(),
+    }
+}
+
+/// The stage of a scene after inputs in turn.
+fn stage_of<B>(
+    alloc: Global,
+    scene: Scene,
+    routes: Routes,
+    scripts: Scripts<B>,
+    inputs: &Inputs,
+) -> Result<Stage<B>, RunFault>
+    ensures ok { IfOk result (λ stage. stage ≡ record { scene = scene; routes = routes; held = Running (world scene routes inputs.now) }) }
     ensures err { IfErr result (λ f. f ≡ Memory) }
 {
-    match cascade_core::run(alloc, job.scene, job.routes, scripts, job.inputs.as_slice()) {
+    match cascade_core::run(alloc, scene, routes, scripts, inputs.as_slice()) {
         Ok(stage) => Ok(stage),
-        Err(ApplyFault::Memory) => Err(RunFault::Memory),
-        Err(_) => unreachable!(),
+        Err(fault) => Err(memory_alone(fault)),
     }
 }
 
@@ -37,20 +57,33 @@ fn push_texts<B>(stage: &Stage<B>, out: &mut Vec<u8>) -> Result<(), TextFault>
     Ok(())
 }
 
+/// The trace and then the scene of a stage that isn't spoiled.
+fn texts_of<B>(alloc: Global, stage: &Stage<B>) -> Result<Vec<u8>, RunFault>
+    requires { IfSpoiled stage.now.held ⊥ }
+    ensures ok { IfRunning stage.now.held (λ w. IfOk result (λ text. text.items ≡ texts stage.now.scene w)) }
+    ensures err { IfErr result (λ f. f ≡ Memory) }
+{
+    let mut text = Vec::new(alloc);
+    match push_texts(stage, &mut text) {
+        Ok(()) => Ok(text),
+        Err(TextFault::Memory) => Err(RunFault::Memory),
+        Err(TextFault::Spoiled) => unreachable!(),
+    }
+}
+
 /// The trace and then the scene of a job's world after its inputs.
 #[tactic(auto, unfolding(crate::specs::Running::run_text))]
 fn text_of<B>(alloc: Global, job: Job, scripts: Scripts<B>) -> Result<Vec<u8>, RunFault>
     ensures ok { IfOk result (λ text. text.items ≡ run_text job) }
     ensures err { IfErr result (λ f. f ≡ Memory) }
 {
-    let stage = stage_of(alloc, job, scripts)?;
-    let mut text = Vec::new(alloc);
-    match push_texts(&stage, &mut text) {
-        Ok(()) => Ok(text),
-        Err(TextFault::Memory) => Err(RunFault::Memory),
-        // A stage that was run to the end of its inputs is not spoiled.
-        Err(TextFault::Spoiled) => unreachable!(),
-    }
+    let Job {
+        inputs,
+        scene,
+        routes,
+    } = job;
+    let stage = stage_of(alloc, scene, routes, scripts, &inputs)?;
+    texts_of(alloc, &stage)
 }
 
 /// Applies the inputs of a job to its scene, and writes the trace and then the scene. Both texts are

@@ -43,15 +43,24 @@ fn obey<R: AllocGlobal + Input + Print>(rt: &R, words: &[&str]) -> Result<(), Fa
     }
 }
 
-fn work<R: Env + AllocGlobal + Input + Print>(rt: &R) -> Result<(), Failure> {
-    let own = own_words(rt)?;
-    let Ok(words) = views(rt.alloc(), own.as_slice()) else {
-        return Err(Failure::Order(OrderFault::Memory));
-    };
-    if let Ok(Some(help)) = help_of(rt.alloc(), words.as_slice()) {
+/// Prints the help that words ask for, or obeys them.
+fn answer<R: AllocGlobal + Input + Print>(rt: &R, words: &[&str]) -> Result<(), Failure> {
+    if let Ok(Some(help)) = help_of(rt.alloc(), words) {
         return write_whole(&mut io::writer(rt), help.as_bytes()).map_err(output_failure);
     }
-    obey(rt, words.as_slice())
+    obey(rt, words)
+}
+
+fn answer_own<R: AllocGlobal + Input + Print>(rt: &R, own: &[String]) -> Result<(), Failure> {
+    let Ok(words) = views(rt.alloc(), own) else {
+        return Err(Failure::Order(OrderFault::Memory));
+    };
+    answer(rt, words.as_slice())
+}
+
+fn work<R: Env + AllocGlobal + Input + Print>(rt: &R) -> Result<(), Failure> {
+    let own = own_words(rt)?;
+    answer_own(rt, own.as_slice())
 }
 
 fn main(rt: HostRuntime) -> ExitCode {

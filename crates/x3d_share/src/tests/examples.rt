@@ -6,13 +6,18 @@ use std::alloc::Global;
 use std::process::Abort;
 use std::test::Fail;
 
-/// What a job prints.
-pub(super) fn printed(alloc: Global, job: &[u8]) -> Result<Vec<u8>, Failure> {
+fn push_printed(alloc: Global, job: &[u8], out: &mut Vec<u8>) -> Result<(), Failure> {
     let mut reader = job;
     let job = read_job(alloc, &mut reader)?;
     let scripts: Scripts<()> = Scripts::none();
+    run(alloc, job, scripts, out)?;
+    Ok(())
+}
+
+/// What a job prints.
+pub(super) fn printed(alloc: Global, job: &[u8]) -> Result<Vec<u8>, Failure> {
     let mut out = Vec::new(alloc);
-    run(alloc, job, scripts, &mut out)?;
+    push_printed(alloc, job, &mut out)?;
     Ok(out)
 }
 
@@ -29,9 +34,9 @@ fn print(rt: &impl Abort, alloc: Global, jobs: &[(&str, &str)]) {
 /// Each job is refused with that line and that status.
 fn are_refused(rt: &impl Abort, alloc: Global, jobs: &[(&str, &str, u8)]) {
     for (job, wanted, status) in jobs {
-        match printed(alloc, job.as_bytes()) {
-            Ok(_text) => assert!(rt; wanted.is_empty(), "no refusal of {job}"),
-            Err(failure) => is_said(rt, job, &failure, wanted, *status),
+        match printed(alloc, job.as_bytes()).err() {
+            None => assert!(rt; wanted.is_empty(), "no refusal of {job}"),
+            Some(failure) => is_said(rt, job, &failure, wanted, *status),
         }
     }
 }

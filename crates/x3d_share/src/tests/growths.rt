@@ -45,15 +45,13 @@ pub(super) fn loaded(alloc: Global, text: &[u8]) -> Result<Stage<()>, Fail> {
 /// Reading with one block of so many bytes: whether it worked.
 fn reads(rt: &impl Abort, alloc: Global, spare: usize) -> Result<bool, Fail> {
     let used_up = UsedUp::but_for(alloc, &[spare])?;
-    let answer = read(alloc, SCENE.as_bytes());
+    let fault = read(alloc, SCENE.as_bytes()).err();
     drop(used_up);
-    match answer {
-        Ok(_document) => Ok(true),
-        Err(fault) => {
-            assert_eq!(rt; (fault.kind, fault.line), (ReadFaultKind::Memory, 0));
-            Ok(false)
-        }
-    }
+    let Some(fault) = fault else {
+        return Ok(true);
+    };
+    assert_eq!(rt; (fault.kind, fault.line), (ReadFaultKind::Memory, 0));
+    Ok(false)
 }
 
 /// The same of writing what was read behind a full buffer.
@@ -71,46 +69,48 @@ fn rewrites(rt: &impl Abort, alloc: Global, spare: usize) -> Result<bool, Fail> 
 /// The same of expanding.
 fn expands(rt: &impl Abort, alloc: Global, spare: usize) -> Result<bool, Fail> {
     let document = read(alloc, SCENE.as_bytes())?;
-    let used_up = UsedUp::but_for(alloc, &[spare])?;
-    let answer = expand(alloc, document);
+    let used_up = UsedUp::but_for(alloc, &[spare]);
+    let fault = expand(alloc, document).err();
     drop(used_up);
-    match answer {
-        Ok(_flat) => Ok(true),
-        Err(fault) => {
-            assert_eq!(rt; (fault.kind, fault.line), (ExpandFaultKind::Memory, 0));
-            Ok(false)
-        }
-    }
+    let Some(fault) = fault else {
+        return Ok(true);
+    };
+    assert_eq!(rt; (fault.kind, fault.line), (ExpandFaultKind::Memory, 0));
+    Ok(false)
 }
 
 /// The same of building.
 fn builds(rt: &impl Abort, alloc: Global, spare: usize) -> Result<bool, Fail> {
     let flat = expand(alloc, read(alloc, SCENE.as_bytes())?)?;
-    build_of(rt, alloc, &flat, spare)
+    let answer = build_of(rt, alloc, &flat, spare);
+    drop(flat);
+    answer
 }
 
 fn build_of(rt: &impl Abort, alloc: Global, flat: &Flat, spare: usize) -> Result<bool, Fail> {
     let used_up = UsedUp::but_for(alloc, &[spare])?;
-    let answer = Scene::build(alloc, flat);
+    let fault = Scene::build(alloc, flat).err();
     drop(used_up);
-    match answer {
-        Ok(_scene) => Ok(true),
-        Err(fault) => {
-            assert_eq!(rt; (fault.kind, fault.line), (SceneFaultKind::Memory, 0));
-            Ok(false)
-        }
-    }
+    let Some(fault) = fault else {
+        return Ok(true);
+    };
+    assert_eq!(rt; (fault.kind, fault.line), (SceneFaultKind::Memory, 0));
+    Ok(false)
 }
 
 /// The same of resolving.
 fn resolves(rt: &impl Abort, alloc: Global, spare: usize) -> Result<bool, Fail> {
     let flat = expand(alloc, read(alloc, SCENE.as_bytes())?)?;
-    resolve_in(rt, alloc, &flat, spare)
+    let answer = resolve_in(rt, alloc, &flat, spare);
+    drop(flat);
+    answer
 }
 
 fn resolve_in(rt: &impl Abort, alloc: Global, flat: &Flat, spare: usize) -> Result<bool, Fail> {
     let scene = Scene::build(alloc, flat)?;
-    resolve_of(rt, alloc, flat, &scene, spare)
+    let answer = resolve_of(rt, alloc, flat, &scene, spare);
+    drop(scene);
+    answer
 }
 
 fn resolve_of(
@@ -121,18 +121,13 @@ fn resolve_of(
     spare: usize,
 ) -> Result<bool, Fail> {
     let used_up = UsedUp::but_for(alloc, &[spare])?;
-    let answer = Routes::resolve(alloc, flat, scene);
+    let fault = Routes::resolve(alloc, flat, scene).err();
     drop(used_up);
-    match answer {
-        Ok(routes) => {
-            assert_eq!(rt; routes.len(), 2);
-            Ok(true)
-        }
-        Err(fault) => {
-            assert_eq!(rt; (fault.kind, fault.line), (RouteFaultKind::Memory, 0));
-            Ok(false)
-        }
-    }
+    let Some(fault) = fault else {
+        return Ok(true);
+    };
+    assert_eq!(rt; (fault.kind, fault.line), (RouteFaultKind::Memory, 0));
+    Ok(false)
 }
 
 /// The same of the fields that a scene begins with.
@@ -143,9 +138,9 @@ fn begins(alloc: Global, spare: usize) -> Result<bool, Fail> {
 
 fn state_of(alloc: Global, scene: &Scene, spare: usize) -> Result<bool, Fail> {
     let used_up = UsedUp::but_for(alloc, &[spare])?;
-    let answer = scene.state(alloc);
+    let fault = scene.state(alloc).err();
     drop(used_up);
-    Ok(answer.is_ok())
+    Ok(fault.is_none())
 }
 
 /// The same of a node's label behind a full buffer.
@@ -165,38 +160,48 @@ fn label_of(rt: &impl Abort, alloc: Global, scene: &Scene, spare: usize) -> Resu
 }
 
 /// The same of loading a stage.
-fn loads(rt: &impl Abort, alloc: Global, spare: usize) -> Result<bool, Fail> {
+fn loads(alloc: Global, spare: usize) -> Result<bool, Fail> {
     let opened = open_scene(alloc, SCENE.as_bytes())?;
     let scripts: Scripts<()> = Scripts::none();
-    let used_up = UsedUp::but_for(alloc, &[spare])?;
-    let answer = Stage::load(alloc, opened.scene, opened.routes, scripts);
+    let used_up = UsedUp::but_for(alloc, &[spare]);
+    let fault = Stage::load(alloc, opened.scene, opened.routes, scripts).err();
     drop(used_up);
-    match answer {
-        Ok(stage) => {
-            assert_eq!(rt; stage.applied(), 0);
-            Ok(true)
-        }
-        Err(_memory) => Ok(false),
-    }
+    Ok(fault.is_none())
 }
 
 /// Whatever a spoiled stage is asked for is refused.
 fn is_spoiled(rt: &impl Abort, alloc: Global, stage: &mut Stage<()>) {
     let next = Stamped::new(1, 1_000_000, Event::Clock);
     let mut out = Vec::new(alloc);
-    assert_eq!(rt; stage.trace_text(&mut out), Err(TextFault::Spoiled));
-    assert_eq!(rt; stage.scene_text(&mut out), Err(TextFault::Spoiled));
-    assert_eq!(rt; stage.apply(&next), Err(ApplyFault::Spoiled));
-    assert!(rt; stage.spoiled() && stage.applied() == 0 && out.is_empty());
+    let texts = (stage.trace_text(&mut out), stage.scene_text(&mut out));
+    assert!(rt; texts == (Err(TextFault::Spoiled), Err(TextFault::Spoiled)));
+    let fault = stage.apply(&next).err();
+    assert!(rt; fault == Some(ApplyFault::Spoiled) && out.is_empty());
+    assert!(rt; stage.spoiled() && stage.applied() == 0);
 }
 
-/// The same of the first clock. A stage that was refused memory there stays spoiled, with no input
-/// applied.
-fn applies(rt: &impl Abort, alloc: Global, spare: usize) -> Result<bool, Fail> {
+/// The same of a stage's first clock and of its texts.
+fn works_on(rt: &impl Abort, alloc: Global, call: Call, spare: usize) -> Result<bool, Fail> {
     let mut stage = loaded(alloc, SCENE.as_bytes())?;
-    clock_of(rt, alloc, &mut stage, spare)
+    let answer = works_in(rt, alloc, &mut stage, call, spare);
+    stage.close();
+    answer
 }
 
+fn works_in(
+    rt: &impl Abort,
+    alloc: Global,
+    stage: &mut Stage<()>,
+    call: Call,
+    spare: usize,
+) -> Result<bool, Fail> {
+    match call {
+        Call::Apply => clock_of(rt, alloc, stage, spare),
+        _ => texts_of(rt, alloc, stage, spare),
+    }
+}
+
+/// A stage that was refused memory at its first clock stays spoiled, with no input applied.
 fn clock_of(
     rt: &impl Abort,
     alloc: Global,
@@ -217,13 +222,7 @@ fn clock_of(
     }
 }
 
-/// The same of the two texts behind a full buffer.
-fn writes(rt: &impl Abort, alloc: Global, spare: usize) -> Result<bool, Fail> {
-    let mut stage = loaded(alloc, SCENE.as_bytes())?;
-    texts_of(rt, alloc, &mut stage, spare)
-}
-
-/// After the first clock.
+/// The two texts after the first clock, behind a full buffer.
 fn texts_of(
     rt: &impl Abort,
     alloc: Global,
@@ -257,21 +256,23 @@ fn scene_of(rt: &impl Abort, alloc: Global, stage: &Stage<()>, spare: usize) -> 
     Ok(answer.is_ok())
 }
 
+fn prints_job(rt: &impl Abort, alloc: Global, job: &[u8], spare: usize) -> bool {
+    let used_up = UsedUp::but_for(alloc, &[spare]);
+    let failure = printed(alloc, job).err();
+    drop(used_up);
+    let Some(failure) = failure else {
+        return true;
+    };
+    is_said(rt, "the two clocks", &failure, "refused Memory", 5);
+    false
+}
+
 /// The same of a whole job of two clocks.
 fn prints(rt: &impl Abort, alloc: Global, spare: usize) -> Result<bool, Fail> {
     let mut job = Vec::new(alloc);
     job.extend_from_slice(b"clock 1\nclock 2\nscene\n")?;
     job.extend_from_slice(SCENE.as_bytes())?;
-    let used_up = UsedUp::but_for(alloc, &[spare])?;
-    let answer = printed(alloc, job.as_slice());
-    drop(used_up);
-    match answer {
-        Ok(_text) => Ok(true),
-        Err(failure) => {
-            is_said(rt, "the two clocks", &failure, "refused Memory", 5);
-            Ok(false)
-        }
-    }
+    Ok(prints_job(rt, alloc, job.as_slice(), spare))
 }
 
 /// What may be refused memory.
@@ -299,9 +300,8 @@ fn works(rt: &impl Abort, alloc: Global, call: Call, spare: usize) -> Result<boo
         Call::Resolve => resolves(rt, alloc, spare),
         Call::Begin => begins(alloc, spare),
         Call::Label => labels(rt, alloc, spare),
-        Call::Load => loads(rt, alloc, spare),
-        Call::Apply => applies(rt, alloc, spare),
-        Call::Write => writes(rt, alloc, spare),
+        Call::Load => loads(alloc, spare),
+        Call::Apply | Call::Write => works_on(rt, alloc, call, spare),
         Call::Print => prints(rt, alloc, spare),
     }
 }

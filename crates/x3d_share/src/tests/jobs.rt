@@ -365,9 +365,9 @@ fn refusals_have_a_line_and_a_status(rt: HostRuntime) {
         (Failure::Run(RunFault::Device), 4, "refused Device"),
         (Failure::Run(RunFault::Memory), 5, "refused Memory"),
     ];
-    for (failure, status, line) in cases {
-        assert_eq!(rt; refusal_line(&failure).as_str(), line);
-        assert_eq!(rt; status_of(&failure), status, "{line}");
+    for (failure, status, line) in &cases {
+        assert_eq!(rt; refusal_line(failure).as_str(), *line);
+        assert_eq!(rt; status_of(failure), *status, "{line}");
     }
 }
 

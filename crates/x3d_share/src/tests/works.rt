@@ -14,16 +14,28 @@ ROUTE T.cycleTime TO B.set_triggerTime ROUTE B.triggerTrue TO F1.set_boolean
 ROUTE B.triggerTrue TO F2.set_boolean ROUTE F1.inputTrue TO G.set_boolean
 ROUTE F2.inputTrue TO G.set_boolean";
 
-/// What the first clock of a scene costs, at one second.
+/// What the first clock of a scene costs, at one second. Then one at the same time and one that
+/// skips a number are refused.
 fn first_work(rt: &impl Abort, alloc: Global, text: &[u8], wanted: Work) -> Result<(), Fail> {
     let mut stage = loaded(alloc, text)?;
     costs(rt, &mut stage, wanted);
+    are_refused(rt, &mut stage);
+    stage.close();
     Ok(())
 }
 
 fn costs(rt: &impl Abort, stage: &mut Stage<()>, wanted: Work) {
     let first = Stamped::new(1, 1_000_000, Event::Clock);
     assert_eq!(rt; stage.apply(&first), Ok(wanted));
+}
+
+/// Each leaves the stage as it was.
+fn are_refused(rt: &impl Abort, stage: &mut Stage<()>) {
+    let early = Stamped::new(2, 1_000_000, Event::Clock);
+    let skipped = Stamped::new(3, 2_000_000, Event::Clock);
+    assert_eq!(rt; stage.apply(&early).err(), Some(ApplyFault::TimeNotLater));
+    assert_eq!(rt; stage.apply(&skipped).err(), Some(ApplyFault::NotNext));
+    assert_eq!(rt; (stage.applied(), stage.spoiled()), (1, false));
 }
 
 #[test]
@@ -58,23 +70,4 @@ ROUTE B.triggerTrue TO F0.set_boolean\n",
         settles: 0,
     };
     first_work(&rt, rt.alloc(), text.as_slice(), wanted)
-}
-
-#[test]
-fn inputs_in_turn(rt: HostRuntime) -> Result<(), Fail> {
-    let mut stage = loaded(rt.alloc(), DIAMOND.as_bytes())?;
-    are_taken_in_turn(&rt, &mut stage);
-    Ok(())
-}
-
-/// The first clock is taken; one at the same time and one that skips a number are refused, and
-/// leave the stage as it was.
-fn are_taken_in_turn(rt: &impl Abort, stage: &mut Stage<()>) {
-    let first = Stamped::new(1, 1_000_000, Event::Clock);
-    let early = Stamped::new(2, 1_000_000, Event::Clock);
-    let skipped = Stamped::new(3, 2_000_000, Event::Clock);
-    assert!(rt; stage.apply(&first).is_ok());
-    assert_eq!(rt; stage.apply(&early), Err(ApplyFault::TimeNotLater));
-    assert_eq!(rt; stage.apply(&skipped), Err(ApplyFault::NotNext));
-    assert_eq!(rt; (stage.applied(), stage.spoiled()), (1, false));
 }
