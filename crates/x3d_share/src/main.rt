@@ -6,8 +6,8 @@ mod tests;
 
 use cascade_core::Scripts;
 use share_program::{
-    Failure, JobFault, Order, OrderFault, RunFault, StreamFault, command_of, help_of, read_job,
-    refusal_line, run, status_of, write_whole,
+    Failure, Order, OrderFault, RunFault, StreamFault, command_of, help_of, read_job, refusal_line,
+    run, status_of, write_whole,
 };
 use std::alloc::{AllocError, Global};
 use std::io;
