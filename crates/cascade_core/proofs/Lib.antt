@@ -13,3 +13,5 @@ pub mod Gains
 pub mod ClockNumbers
 pub mod Marks
 pub mod Counting
+mod Traces
+mod Told

@@ -100,6 +100,18 @@ module _ (kinds : List NodeType) (routes : List Route) where
   follow-done turn source v next target tasks h =
       answer-done turn target v (tasks ++ Follow source v (next + 1) ∷ []) ∙ follow-one turn source v next target tasks h
 
+  -- the last route is followed, and no other is left
+  pub last-done : (turn : Turn) (source : End) (v : Value) (next : ℕ) (target : End) (tasks : List Task) → slice_get (targets_of routes source) next ≡ Some target →
+      slice_get (targets_of routes source) (next + 1) ≡ None →
+      finish kinds routes (with_answer turn (answer kinds turn.world target v)) (tasks ++ map (send_by target.node) (reverse (answer kinds turn.world target v).replies))
+      ≡ finish kinds routes (do_task kinds routes turn (Follow source v next)) tasks
+  last-done turn source v next target tasks h last =
+      let after : Turn = deliver (send_full kinds routes) kinds v turn target in
+      answer-done turn target v tasks
+      ∙ ap (λ (t : Turn). finish kinds routes t tasks) (sym (follow-none after source v (next + 1) last))
+      ∙ sym (finish-push after tasks (Follow source v (next + 1)))
+      ∙ follow-one turn source v next target tasks h
+
   weights-append : (xs ys : List Task) → weights routes (xs ++ ys) ≡ weights routes xs + weights routes ys
   unfolding weights
   weights-append [] ys = omega arith
@@ -139,6 +151,13 @@ module _ (kinds : List NodeType) (routes : List Route) where
         weights-sends node (reverse replies),
         length-reverse replies,
       )
+
+  pub last-fewer : (turn : Turn) (a : Answer) (source : End) (v : Value) (next node : ℕ) (replies : List Reply) (tasks : List Task) → length replies ≤ 5 → next < length routes →
+      work_left kinds routes (with_answer turn a) (tasks ++ map (send_by node) (reverse replies)) + 1
+      ≤ work_left kinds routes turn tasks + weight routes (Follow source v next)
+  unfolding work_left
+  last-fewer turn a source v next node replies tasks h n =
+      omega (arith, weights-append tasks (map (send_by node) (reverse replies)), weights-sends node (reverse replies), length-reverse replies)
 
 -- what holds of each of two lists
 pub all-append : {X : Type 0} (P : X → Type 0) (xs ys : List X) → AllByRecursion P xs → AllByRecursion P ys → AllByRecursion P (xs ++ ys)

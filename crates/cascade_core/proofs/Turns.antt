@@ -1,5 +1,5 @@
--- A world takes inputs that follow in turn: after each it has that input's number and time.
-use Rattle.std.proofs.Common.{rules, ◌≡◌, ℕ, ℤ, ◌+◌, ◌<ℤ◌, List, [], ◌∷◌, None, refl, sym, subst}
+-- After an input a world has one input more, and the input's time; so it takes inputs that follow in turn.
+use Rattle.std.proofs.Common.{rules, ◌≡◌, ℕ, ℤ, ◌+◌, ◌<ℤ◌, List, [], ◌∷◌, None, refl, sym, ◌∙◌, subst}
 use Rattle.x3d_values.specs.declared.node_type.NodeType.{NodeType}
 use Rattle.x3d_values.specs.declared.stamped.Event.{Event}
 use Rattle.x3d_values.specs.declared.stamped.Event.TheVariants.{Clock, Pointer}
@@ -19,7 +19,7 @@ use Rattle.cascade_core.proofs.Folds.{fold-keeps, all_free}
 use Rattle.cascade_core.proofs.Keeps.{send-keeps}
 
 module _ (kinds : List NodeType) (routes : List Route) (number : ℕ) (time : ℤ) where
-  -- the last input of the world had this number and this time
+  -- the world has had this many inputs, the last at this time
   abbrev IsAt : Turn → Type 0
   IsAt turn = (turn.world.applied ≡ number) × (turn.world.last_time ≡ time)
 
@@ -36,10 +36,10 @@ module _ (kinds : List NodeType) (routes : List Route) (number : ℕ) (time : �
       fold-keeps IsAt (λ (n : ℕ). Unit {0}) (tick_node kinds routes now) (λ u n q p. ticks-keeps now u n p) turn (clocks_of kinds) (all_free (clocks_of kinds)) at
   happen-keeps now turn (Pointer p) at = at
 
-apply-at : (kinds : List NodeType) (routes : List Route) (w : WorldData) (input : Stamp) →
-    ((apply kinds routes w input).applied ≡ input.number) × ((apply kinds routes w input).last_time ≡ input.time)
+pub apply-at : (kinds : List NodeType) (routes : List Route) (w : WorldData) (input : Stamp) →
+    ((apply kinds routes w input).applied ≡ w.applied + 1) × ((apply kinds routes w input).last_time ≡ input.time)
 unfolding apply
-apply-at kinds routes w input = happen-keeps kinds routes input.number input.time input.time (begin w input) input.event (refl, refl)
+apply-at kinds routes w input = happen-keeps kinds routes (w.applied + 1) input.time input.time (begin w input) input.event (refl, refl)
 
 taken : (w : WorldData) (input : Stamp) → input.number ≡ w.applied + 1 → w.last_time <ℤ input.time → world_refusal w input ≡ None
 taken w input number later = search rules
@@ -52,5 +52,5 @@ follows_taken scene routes w (input ∷ inputs) follow =
     let at = apply-at (types_of scene) routes w input in
     rw (taken w input follow.0 follow.1)
     (follows_taken scene routes (apply (types_of scene) routes w input) inputs
-    (subst (λ n. Follow n (apply (types_of scene) routes w input).last_time inputs) (sym at.0)
+    (subst (λ n. Follow n (apply (types_of scene) routes w input).last_time inputs) (follow.0 ∙ sym at.0)
     (subst (λ t. Follow input.number t inputs) (sym at.1) follow.2)))

@@ -38,9 +38,9 @@ abbrev pub happen : List NodeType → List Route → ℤ → Turn → Event → 
 happen kinds routes now turn Clock = clock kinds routes now turn
 happen kinds routes now turn (Pointer p) = turn
 
--- no output has sent yet at this input
+-- one input more, at its time; no output has sent yet
 abbrev pub begin : WorldData → Stamp → Turn
-begin w input = record { world = record w { applied = input.number; last_time = input.time }; sent = [] }
+begin w input = record { world = record w { applied = w.applied + 1; last_time = input.time }; sent = [] }
 
 -- the world after an input
 unfoldable pub apply : List NodeType → List Route → WorldData → Stamp → WorldData

@@ -1,6 +1,7 @@
 pub mod Ends
 pub mod Outputs
 pub mod World
+pub mod Trace
 pub mod Answers
 pub mod Cascade
 pub mod Apply

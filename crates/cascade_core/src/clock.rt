@@ -1,6 +1,6 @@
 //! An input happens: the clock ticks for each TimeSensor in number order.
 
-ghost use Rattle.std.specs.Prelude.{◌≡◌, [], IfOk, OnOk, true, length};
+ghost use Rattle.std.specs.Prelude.{◌≡◌, ◌+◌, [], IfOk, OnOk, true, length};
 ghost use Rattle.scene_core.specs.Scene.{types_of};
 ghost use Rattle.cascade_core.specs.Apply.{apply, clock as clock_of, clocks_of, happen, is_clock, tick_node as tick_node_of};
 ghost use Rattle.cascade_core.specs.Work.{IsWork, all_differ};
@@ -21,18 +21,20 @@ fn tick_node(
     routes: &Routes,
     tasks: &mut Vec<Task>,
     turn: &mut Turn,
+    replies: &mut Outbox,
     node: u32,
     input: &Stamped,
 ) -> Result<(), AllocError>
     requires empty { tasks.old.items ≡ [] }
+    requires none { replies.old.items ≡ [] }
     requires clock { is_clock (types_of scene.now) node ≡ true }
     ensures turn { OnOk result (turn.new ≡ tick_node_of (types_of scene.now) routes.now input.now.time turn.old node) }
     ensures empty { OnOk result (tasks.new.items ≡ []) }
+    ensures none { OnOk result (replies.new.items ≡ []) }
 {
-    let mut replies = Outbox::new();
-    turn.world.tick(node, input, &mut replies);
+    turn.world.tick(node, input, replies);
     push_replies(tasks, node, replies)?;
-    run_tasks(scene, routes, tasks, turn)?;
+    run_tasks(scene, routes, tasks, turn, replies)?;
     Ok(())
 }
 
@@ -49,8 +51,9 @@ fn clock(
     requires clocks { clocks.now ≡ clocks_of (types_of scene.now) }
     ensures { OnOk result (turn.new ≡ clock_of (types_of scene.now) routes.now input.now.time turn.old) }
 {
+    let mut replies = Outbox::new();
     for node in clocks {
-        tick_node(scene, routes, tasks, turn, *node, input)?;
+        tick_node(scene, routes, tasks, turn, &mut replies, *node, input)?;
     }
     Ok(())
 }
@@ -85,15 +88,15 @@ pub fn advance(
     input: &Stamped,
 ) -> Result<Work, AllocError>
     requires clocks { clocks.now ≡ clocks_of (types_of scene.now) }
+    requires next { input.now.number ≡ turn.old.world.applied + 1 }
     ensures world { OnOk result (turn.new.world ≡ apply (types_of scene.now) routes.now turn.old.world input.now) }
     ensures work { IfOk result (IsWork routes.now turn.old.world.trace turn.new.world.trace) }
 {
     tasks.clear();
     turn.begin(input);
-    let before = turn.world.trace.len();
     happen(scene, routes, clocks, tasks, turn, input)?;
     Ok(Work {
-        sends: turn.world.trace.len().saturating_sub(before),
+        sends: turn.sent.as_slice().len(),
         deliveries: deliveries(routes, turn.sent.as_slice()),
         settles: 0,
     })

@@ -14,6 +14,7 @@ mod stack;
 mod stage;
 mod state;
 mod texts;
+mod trace;
 mod work;
 mod world;
 
@@ -21,5 +22,6 @@ pub use fault::{ApplyFault, LoadFault, TextFault};
 pub use scripts::Scripts;
 pub use stage::{Stage, run};
 pub use state::State;
+pub use trace::Trace;
 pub use work::Work;
 pub use world::{TraceLine, WorldData};

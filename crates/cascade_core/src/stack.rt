@@ -1,6 +1,6 @@
 //! A cascade by a stack of tasks, whose depth is bounded by memory alone.
 
-ghost use Rattle.std.specs.Prelude.{◌≡◌, ◌+◌, ◌≤◌, ◌<◌, ◌^◌, ◌++◌, [], ◌∷◌, true, IfSome, OnOk, length, map, reverse, slice_get};
+ghost use Rattle.std.specs.Prelude.{◌≡◌, ◌+◌, ◌≤◌, ◌<◌, ◌^◌, ◌++◌, [], ◌∷◌, true, false, None, Some, IfNone, IfSome, OnOk, length, map, reverse, slice_get};
 ghost use Rattle.std.specs.List.{AllByRecursion};
 ghost use Rattle.scene_core.specs.Scene.{types_of};
 ghost use Rattle.cascade_core.specs.Ends.{targets_of};
@@ -29,13 +29,16 @@ pub fn run_tasks(
     routes: &Routes,
     tasks: &mut Vec<Task>,
     turn: &mut Turn,
+    replies: &mut Outbox,
 ) -> Result<(), AllocError>
+    requires none { replies.old.items ≡ [] }
     requires ready { AllByRecursion (IsReady (types_of scene.now)) tasks.old.items }
     ensures turn { OnOk result (turn.new ≡ finish (types_of scene.now) routes.now turn.old tasks.old.items) }
     ensures empty { OnOk result (tasks.new.items ≡ []) }
+    ensures none { OnOk result (replies.new.items ≡ []) }
 {
     while let Some(task) = tasks.pop() {
-        step(scene, routes, tasks, turn, task)?;
+        step(scene, routes, tasks, turn, replies, task)?;
     }
     Ok(())
 }
@@ -46,18 +49,21 @@ fn step(
     routes: &Routes,
     tasks: &mut Vec<Task>,
     turn: &mut Turn,
+    replies: &mut Outbox,
     task: Task,
 ) -> Result<(), AllocError>
+    requires none { replies.old.items ≡ [] }
     requires task { IsReady (types_of scene.now) task }
     requires tasks { AllByRecursion (IsReady (types_of scene.now)) tasks.old.items }
     ensures done { OnOk result (finish (types_of scene.now) routes.now turn.new tasks.new.items ≡ finish (types_of scene.now) routes.now (do_task (types_of scene.now) routes.now turn.old task) tasks.old.items) }
     ensures ready { OnOk result (AllByRecursion (IsReady (types_of scene.now)) tasks.new.items) }
     ensures fewer { OnOk result (work_left (types_of scene.now) routes.now turn.new tasks.new.items + 1 ≤ work_left (types_of scene.now) routes.now turn.old tasks.old.items + weight routes.now task) }
+    ensures none { OnOk result (replies.new.items ≡ []) }
 {
     match task {
-        Task::Send(source, value) => begin(scene, routes, tasks, turn, source, value),
+        Task::Send(source, value) => begin(scene, routes, tasks, turn, replies, source, value),
         Task::Follow(source, value, next) => follow(
-            scene, routes, tasks, turn, source, value, next,
+            scene, routes, tasks, turn, replies, source, value, next,
         ),
     }
 }
@@ -68,21 +74,24 @@ fn begin(
     routes: &Routes,
     tasks: &mut Vec<Task>,
     turn: &mut Turn,
+    replies: &mut Outbox,
     source: End,
     value: Value,
 ) -> Result<(), AllocError>
+    requires none { replies.old.items ≡ [] }
     requires task { is_scene_output (types_of scene.now) source ≡ true }
     requires tasks { AllByRecursion (IsReady (types_of scene.now)) tasks.old.items }
     ensures done { OnOk result (finish (types_of scene.now) routes.now turn.new tasks.new.items ≡ finish (types_of scene.now) routes.now (send_full (types_of scene.now) routes.now turn.old source value) tasks.old.items) }
     ensures ready { OnOk result (AllByRecursion (IsReady (types_of scene.now)) tasks.new.items) }
     ensures fewer { OnOk result (work_left (types_of scene.now) routes.now turn.new tasks.new.items + 1 ≤ work_left (types_of scene.now) routes.now turn.old tasks.old.items + 1) }
+    ensures none { OnOk result (replies.new.items ≡ []) }
 {
     if turn.sent.contains(source) {
         return Ok(());
     }
     let alloc = *tasks.allocator();
     turn.record_event(alloc, source, &value)?;
-    tasks.push(Task::Follow(source, value, 0))?;
+    follow(scene, routes, tasks, turn, replies, source, value, 0)?;
     Ok(())
 }
 
@@ -92,43 +101,66 @@ fn follow(
     routes: &Routes,
     tasks: &mut Vec<Task>,
     turn: &mut Turn,
+    replies: &mut Outbox,
     source: End,
     value: Value,
     next: usize,
 ) -> Result<(), AllocError>
+    requires none { replies.old.items ≡ [] }
     requires tasks { AllByRecursion (IsReady (types_of scene.now)) tasks.old.items }
     ensures done { OnOk result (finish (types_of scene.now) routes.now turn.new tasks.new.items ≡ finish (types_of scene.now) routes.now (do_task (types_of scene.now) routes.now turn.old (Task.Follow source value next)) tasks.old.items) }
     ensures ready { OnOk result (AllByRecursion (IsReady (types_of scene.now)) tasks.new.items) }
     ensures fewer { OnOk result (work_left (types_of scene.now) routes.now turn.new tasks.new.items + 1 ≤ work_left (types_of scene.now) routes.now turn.old tasks.old.items + weight routes.now (Task.Follow source value next)) }
+    ensures none { OnOk result (replies.new.items ≡ []) }
 {
-    let Some(target) = target_at(routes, source, next) else {
+    let Some(hop) = hop_at(routes, source, next) else {
         return Ok(());
     };
-    let mut replies = Outbox::new();
     let alloc = *tasks.allocator();
     turn.world
-        .answer(alloc, scene, target, &value, &mut replies)?;
-    tasks.push(Task::Follow(source, value, next + 1))?;
-    push_replies(tasks, target.node, replies)?;
+        .answer(alloc, scene, hop.target, &value, replies)?;
+    if hop.more {
+        tasks.push(Task::Follow(source, value, next + 1))?;
+        push_replies(tasks, hop.target.node, replies)?;
+        return Ok(());
+    }
+    push_replies(tasks, hop.target.node, replies)?;
     Ok(())
 }
 
+/// Where a route leads, and whether its output has more of them.
+#[derive(Clone, Copy)]
+struct Hop {
+    target: End,
+    more: bool,
+}
+
 /// Where the route at this place among those of the output leads, if there are so many.
-fn target_at(routes: &Routes, source: End, next: usize) -> Option<End>
-    ensures value { result ≡ slice_get (targets_of routes.now source) next }
-    ensures few { IfSome result (λ target. next < 2 ^ 63) }
+fn hop_at(routes: &Routes, source: End, next: usize) -> Option<Hop>
+    ensures none { IfNone result (slice_get (targets_of routes.now source) next ≡ None) }
+    ensures target { IfSome result (λ hop. slice_get (targets_of routes.now source) next ≡ Some hop.target) }
+    ensures last { IfSome result (λ hop. hop.more ≡ false → slice_get (targets_of routes.now source) (next + 1) ≡ None) }
+    ensures few { IfSome result (λ hop. next < 2 ^ 63) }
 {
     let places = routes.from_output(source);
     if next >= places.len() {
         return None;
     }
-    Some(routes.route(places[next]).target)
+    Some(Hop {
+        target: routes.route(places[next]).target,
+        more: places.len() - next > 1,
+    })
 }
 
 /// Each reply is to be sent, the first of them next.
-pub fn push_replies(tasks: &mut Vec<Task>, node: u32, mut replies: Outbox) -> Result<(), AllocError>
-    ensures tasks { OnOk result (tasks.new.items ≡ tasks.old.items ++ map (send_by node) (reverse replies.items)) }
-    ensures few { length replies.items ≤ 5 }
+pub fn push_replies(
+    tasks: &mut Vec<Task>,
+    node: u32,
+    replies: &mut Outbox,
+) -> Result<(), AllocError>
+    ensures tasks { OnOk result (tasks.new.items ≡ tasks.old.items ++ map (send_by node) (reverse replies.old.items)) }
+    ensures none { OnOk result (replies.new.items ≡ []) }
+    ensures few { length replies.old.items ≤ 5 }
 {
     // The slice says how few they are.
     let _few = replies.as_slice().len();

@@ -13,6 +13,7 @@ use crate::sent::SentBits;
 use crate::stack::Task;
 use crate::state::State;
 use crate::texts::push_trace;
+use crate::trace::Trace;
 use crate::work::Work;
 use crate::world::{Turn, WorldData};
 use route_core::Routes;
@@ -68,7 +69,7 @@ fn opening(alloc: Global, scene: &Scene) -> Result<WorldData, AllocError>
         last_time: 0,
         fields: State::from_vec(fields),
         sensors,
-        trace: Items::new(alloc),
+        trace: Trace::new(alloc),
     })
 }
 
@@ -179,7 +180,7 @@ impl<B> Stage<B> {
         if self.spoiled.is_some() {
             return Err(TextFault::Spoiled);
         }
-        push_trace(&self.scene, self.turn.world.trace.as_slice(), out)?;
+        push_trace(&self.scene, &self.turn.world.trace, out)?;
         Ok(())
     }
 

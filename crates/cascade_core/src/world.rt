@@ -1,16 +1,17 @@
 //! The state of a scene after some inputs, and in the course of one.
 
-ghost use Rattle.std.specs.Prelude.{◌≡◌, OnOk};
+ghost use Rattle.std.specs.Prelude.{◌≡◌, ◌+◌, OnOk};
 ghost use Rattle.cascade_core.specs.Apply.{begin as begin_of};
 ghost use Rattle.cascade_core.specs.World.{record_event};
 
 use crate::sent::SentBits;
 use crate::state::State;
+use crate::trace::Trace;
 use scene_core::End;
 use sensor_core::TimeState;
 use std::alloc::{AllocError, Global};
 use x3d_lists::Items;
-use x3d_values::{Stamped, Value, clone_value};
+use x3d_values::{Stamped, Value};
 
 /// One event that was sent.
 #[derive(Debug, Drop, PartialEq, Eq)]
@@ -35,7 +36,7 @@ pub struct WorldData {
     /// Which cycle each node runs, by its number: none but a TimeSensor runs one.
     pub sensors: Items<TimeState>,
     /// All events that were sent, in order.
-    pub trace: Items<TraceLine>,
+    pub trace: Trace,
 }
 
 /// The world in the course of one input.
@@ -48,6 +49,7 @@ pub struct Turn {
 impl Turn {
     /// The turn of an input begins: no output has sent yet.
     pub fn begin(&mut self, input: &Stamped)
+        requires next { input.now.number ≡ self.old.world.applied + 1 }
         ensures { self.new ≡ begin_of self.old.world input.now }
     {
         self.world.applied = input.number();
@@ -64,13 +66,8 @@ impl Turn {
     ) -> Result<(), AllocError>
         ensures { OnOk result (self.new ≡ record_event self.old source value.now) }
     {
-        let line = TraceLine {
-            input: self.world.applied,
-            time: self.world.last_time,
-            source,
-            value: clone_value(alloc, value)?,
-        };
-        self.world.trace.push(line)?;
+        let (input, time) = (self.world.applied, self.world.last_time);
+        self.world.trace.push(alloc, input, time, source, value)?;
         self.sent.push(source)
     }
 }

@@ -1,4 +1,5 @@
-use Rattle.std.proofs.Common.{◌≡◌, ◌∙◌, ◌+◌, List, ap, arith, length, length-append, refl}
+use Rattle.std.proofs.Common.{◌≡◌, ◌∙◌, List, ap, sym, length, refl}
+use Rattle.std.proofs.lemmas.List.{length-map}
 use Rattle.scene_core.specs.Scene.{types_of}
 use Rattle.cascade_core.specs.declared.world.Turn.{Turn}
 use Rattle.cascade_core.specs.declared.world.TraceLine.{TraceLine}
@@ -14,7 +15,7 @@ deliveries-requires c =
     (gain-happen (types_of c.args.scene.now) c.args.routes.now start c.args.input.now.time c.begin.new.self c.args.input.now.event
     (gain-begin (types_of c.args.scene.now) c.args.routes.now start c.begin.new.self same (ap (λ (t : Turn). t.sent) c.begin.ensures)))
     in
-    record { differ = rw c.as_slice.ensures g.differ }
+    record { differ = rw c.as_slice-2.ensures g.differ }
 
 pub returns-clause-work : goal.returns-clause-work
 returns-clause-work c =
@@ -29,10 +30,7 @@ returns-clause-work c =
       lines = g.lines;
       gained = g.gained;
       differ = rw g.sources g.differ;
-      sends =
-          let long : length c.happen.new.turn.world.trace ≡ length start + length g.lines = ap length g.gained ∙ length-append start g.lines in
-          let short : length c.begin.new.self.world.trace ≡ length start = ap length same in
-          omega (arith, c.saturating_sub.ensures, c.len.ensures, c.len-before.ensures);
-      deliveries = rw g.sources (rw c.as_slice.ensures at c.deliveries.ensures);
+      sends = ap length c.as_slice.ensures ∙ sym (ap length g.sources) ∙ length-map g.lines (λ (l : TraceLine). l.source);
+      deliveries = rw g.sources (rw c.as_slice-2.ensures at c.deliveries.ensures);
       settles = refl;
     }

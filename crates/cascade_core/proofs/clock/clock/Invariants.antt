@@ -8,5 +8,6 @@ use Rattle.cascade_core.proofs.clock.clock.Given as goal
 abbrev pub invariant-loop-node : goal.invariant-loop-node
 invariant-loop-node l = record {
   empty : l.tasks.items ≡ [];
+  none : l.replies.items ≡ [];
   done : fold (tick_node_of (types_of l.scene) l.routes l.input.time) l.turn (drop l.node-index l.clocks) ≡ clock_of (types_of l.scene) l.routes l.input.time l.fn.turn;
 }

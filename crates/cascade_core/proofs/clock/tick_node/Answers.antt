@@ -7,6 +7,7 @@ use Rattle.cascade_core.proofs.clock.tick_node.Goals as goal
 
 pub run_tasks-requires : goal.run_tasks-requires
 run_tasks-requires c = record {
+  none = c.in_ok-push_replies.ensures.none;
   ready =
       rw (c.in_ok-push_replies.ensures.tasks, c.requires.empty, c.tick.ensures.replies)
       (ticked-ready (types_of c.args.scene.now) c.args.turn.now.world c.args.node c.args.input.now.time c.requires.clock);

@@ -20,6 +20,7 @@ loop-task-smaller c =
 
 pub loop-task-preserved : goal.loop-task-preserved
 loop-task-preserved c = record {
+  none = c.in_ok-step.ensures.none;
   ready = c.in_ok-step.ensures.ready;
   done =
       c.in_ok-step.ensures.done

@@ -1,4 +1,4 @@
-use Rattle.std.proofs.Common.{◌≡◌}
+use Rattle.std.proofs.Common.{◌≡◌, []}
 use Rattle.std.specs.List.{AllByRecursion}
 use Rattle.scene_core.specs.Scene.{types_of}
 use Rattle.cascade_core.specs.Stack.{finish, IsReady, work_left}
@@ -7,6 +7,7 @@ use Rattle.cascade_core.proofs.stack.run_tasks.Given as goal
 -- the turn now, with the tasks that are left done by the definition, is what the definition gives for all
 abbrev pub invariant-loop-task : goal.invariant-loop-task
 invariant-loop-task l = record {
+  none : l.replies.items ≡ [];
   ready : AllByRecursion (IsReady (types_of l.scene)) l.tasks.items;
   done : finish (types_of l.scene) l.routes l.turn l.tasks.items ≡ finish (types_of l.scene) l.routes l.fn.turn l.fn.tasks.items;
 }
