@@ -6,17 +6,12 @@ use Rattle.x3d_values.specs.declared.value.Value.TheVariants.{SFBool, SFTime}
 use Rattle.x3d_values.specs.Kept.{with_value}
 use Rattle.react_core.specs.Reaction.{stored}
 use Rattle.react_core.specs.Stored.{time_of, truth_of}
+use Rattle.sensor_core.specs.declared.timing.Times.{Times}
 use Rattle.sensor_core.specs.declared.numbers.TheConstants.{CYCLE_INTERVAL, ENABLED, LOOP, PAUSE_TIME, RESUME_TIME, START_TIME, STOP_TIME}
 
 -- the values of its inputOutput fields, times in microseconds
-pub record Timing : Type 0 where
-  pub cycle_interval : ℤ
-  pub enabled : Bool
-  pub looping : Bool
-  pub pause_time : ℤ
-  pub resume_time : ℤ
-  pub start_time : ℤ
-  pub stop_time : ℤ
+abbrev pub Timing : Type 0
+Timing = Times
 
 -- a time is up to 10^18 microseconds from 0
 abbrev pub is_time : ℤ → Bool

@@ -35,23 +35,23 @@ fn with_time(fields: &TimeFields, input: u16, time: i64) -> Option<TimeFields>
 {
     let mut new = *fields;
     if input == CYCLE_INTERVAL {
-        new.cycle_interval = time;
+        new.times.cycle_interval = time;
         return Some(new);
     }
     if input == PAUSE_TIME {
-        new.pause_time = time;
+        new.times.pause_time = time;
         return Some(new);
     }
     if input == RESUME_TIME {
-        new.resume_time = time;
+        new.times.resume_time = time;
         return Some(new);
     }
     if input == START_TIME {
-        new.start_time = time;
+        new.times.start_time = time;
         return Some(new);
     }
     if input == STOP_TIME {
-        new.stop_time = time;
+        new.times.stop_time = time;
         return Some(new);
     }
     None
@@ -62,11 +62,11 @@ fn with_truth(fields: &TimeFields, input: u16, truth: bool) -> Option<TimeFields
 {
     let mut new = *fields;
     if input == ENABLED {
-        new.enabled = truth;
+        new.times.enabled = truth;
         return Some(new);
     }
     if input == LOOP {
-        new.looping = truth;
+        new.times.looping = truth;
         return Some(new);
     }
     None

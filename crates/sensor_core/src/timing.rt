@@ -2,7 +2,6 @@
 
 ghost use Rattle.std.specs.Prelude.{◌≡◌};
 ghost use Rattle.sensor_core.specs.Timing.{is_time, is_interval, are_times, is_timing, time_at, truth_at, checked};
-ghost use Rattle.sensor_core.specs.Reading.{timing_read};
 
 use crate::numbers::{
     CYCLE_INTERVAL, ENABLED, LOOP, PAUSE_TIME, RESUME_TIME, START_TIME, STOP_TIME,
@@ -13,17 +12,22 @@ use x3d_values::{Fields, Value};
 /// The largest size of a time, in microseconds.
 pub const MAX_TIME: i64 = 1_000_000_000_000_000_000;
 
-/// The values of a TimeSensor's inputOutput fields. Times are in microseconds, up to `MAX_TIME`
-/// from 0, and a cycle takes time.
+/// The values of a TimeSensor's inputOutput fields, times in microseconds.
+#[derive(Clone, Copy, Debug, PartialEq, Eq)]
+pub struct Times {
+    pub cycle_interval: i64,
+    pub enabled: bool,
+    pub looping: bool,
+    pub pause_time: i64,
+    pub resume_time: i64,
+    pub start_time: i64,
+    pub stop_time: i64,
+}
+
+/// The same in their ranges: times up to `MAX_TIME` from 0, and a cycle takes time.
 #[derive(Clone, Copy, Debug, PartialEq, Eq)]
 pub struct TimeFields {
-    pub(crate) cycle_interval: i64,
-    pub(crate) enabled: bool,
-    pub(crate) looping: bool,
-    pub(crate) pause_time: i64,
-    pub(crate) resume_time: i64,
-    pub(crate) start_time: i64,
-    pub(crate) stop_time: i64,
+    pub(crate) times: Times,
 }
 
 impl Model for TimeFields {
@@ -32,11 +36,11 @@ impl Model for TimeFields {
 
     ghost Value = { Timing };
 
-    ghost view = { λ f. record { cycle_interval = f.cycle_interval; enabled = f.enabled; looping = f.looping; pause_time = f.pause_time; resume_time = f.resume_time; start_time = f.start_time; stop_time = f.stop_time } };
+    ghost view = { λ f. f.times };
 
-    ghost invariant = { λ f. IsTrue (is_timing (record { cycle_interval = f.cycle_interval; enabled = f.enabled; looping = f.looping; pause_time = f.pause_time; resume_time = f.resume_time; start_time = f.start_time; stop_time = f.stop_time })) };
+    ghost invariant = { λ f. IsTrue (is_timing f.times) };
 
-    ghost inverse = { λ f. record { cycle_interval = f.cycle_interval; enabled = f.enabled; looping = f.looping; pause_time = f.pause_time; resume_time = f.resume_time; start_time = f.start_time; stop_time = f.stop_time } };
+    ghost inverse = { λ times. record { times = times } };
 }
 
 /// Whether it is a time up to `MAX_TIME` from 0.
@@ -73,49 +77,29 @@ fn truth_at(fields: &Fields, field: u16) -> Option<bool>
     }
 }
 
-/// What fields hold, in any range.
-#[derive(Clone, Copy, Drop)]
-pub(crate) struct Readings {
-    pub(crate) cycle_interval: i64,
-    pub(crate) enabled: bool,
-    pub(crate) looping: bool,
-    pub(crate) pause_time: i64,
-    pub(crate) resume_time: i64,
-    pub(crate) start_time: i64,
-    pub(crate) stop_time: i64,
-}
-
 fn are_times(one: i64, other: i64) -> bool
     ensures { result ≡ are_times one other }
 {
     is_time(one) && is_time(other)
 }
 
-fn is_timing(read: Readings) -> bool
-    ensures { result ≡ is_timing (timing_read read) }
+fn is_timing(times: Times) -> bool
+    ensures { result ≡ is_timing times }
 {
-    is_interval(read.cycle_interval)
-        && are_times(read.pause_time, read.resume_time)
-        && are_times(read.start_time, read.stop_time)
+    is_interval(times.cycle_interval)
+        && are_times(times.pause_time, times.resume_time)
+        && are_times(times.start_time, times.stop_time)
 }
 
 /// What was read, where each is in its range.
 #[tactic(auto, unfolding(crate::specs::Timing::checked))]
-pub(crate) fn checked(read: Readings) -> Option<TimeFields>
-    ensures { result ≡ checked (timing_read read) }
+pub(crate) fn checked(times: Times) -> Option<TimeFields>
+    ensures { result ≡ checked times }
 {
-    if !is_timing(read) {
+    if !is_timing(times) {
         return None;
     }
-    Some(TimeFields {
-        cycle_interval: read.cycle_interval,
-        enabled: read.enabled,
-        looping: read.looping,
-        pause_time: read.pause_time,
-        resume_time: read.resume_time,
-        start_time: read.start_time,
-        stop_time: read.stop_time,
-    })
+    Some(TimeFields { times })
 }
 
 impl TimeFields {
@@ -135,7 +119,7 @@ impl TimeFields {
         let resume_time = time_at(fields, RESUME_TIME)?;
         let start_time = time_at(fields, START_TIME)?;
         let stop_time = time_at(fields, STOP_TIME)?;
-        checked(Readings {
+        checked(Times {
             cycle_interval,
             enabled,
             looping,
@@ -150,7 +134,7 @@ impl TimeFields {
         ensures value { result ≡ self.now.start_time }
         ensures near { IsNear result }
     {
-        self.start_time
+        self.times.start_time
     }
 
     pub fn cycle_interval(&self) -> i64
@@ -158,25 +142,25 @@ impl TimeFields {
         ensures some { pos 0 <ℤ result }
         ensures short { result ≤ℤ pos (10 ^ 18) }
     {
-        self.cycle_interval
+        self.times.cycle_interval
     }
 
     pub fn stop_time(&self) -> i64
         ensures { result ≡ self.now.stop_time }
     {
-        self.stop_time
+        self.times.stop_time
     }
 
     pub fn is_enabled(&self) -> bool
         ensures { result ≡ self.now.enabled }
     {
-        self.enabled
+        self.times.enabled
     }
 
     pub fn is_looping(&self) -> bool
         ensures { result ≡ self.now.looping }
     {
-        self.looping
+        self.times.looping
     }
 
     /// Puts the values where a TimeSensor's fields hold them.
@@ -184,12 +168,12 @@ impl TimeFields {
     pub fn write_to(&self, fields: &mut Fields)
         ensures { fields.new ≡ with_timing fields.old self.now }
     {
-        fields.set(CYCLE_INTERVAL, Value::SFTime(self.cycle_interval));
-        fields.set(ENABLED, Value::SFBool(self.enabled));
-        fields.set(LOOP, Value::SFBool(self.looping));
-        fields.set(PAUSE_TIME, Value::SFTime(self.pause_time));
-        fields.set(RESUME_TIME, Value::SFTime(self.resume_time));
-        fields.set(START_TIME, Value::SFTime(self.start_time));
-        fields.set(STOP_TIME, Value::SFTime(self.stop_time));
+        fields.set(CYCLE_INTERVAL, Value::SFTime(self.times.cycle_interval));
+        fields.set(ENABLED, Value::SFBool(self.times.enabled));
+        fields.set(LOOP, Value::SFBool(self.times.looping));
+        fields.set(PAUSE_TIME, Value::SFTime(self.times.pause_time));
+        fields.set(RESUME_TIME, Value::SFTime(self.times.resume_time));
+        fields.set(START_TIME, Value::SFTime(self.times.start_time));
+        fields.set(STOP_TIME, Value::SFTime(self.times.stop_time));
     }
 }
