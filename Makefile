@@ -1,7 +1,7 @@
 # `make run` shows the program at work, `make test` is the gate.
 SHELL := bash
 .SHELLFLAGS := -eu -o pipefail -c
-.PHONY: run try test check format install
+.PHONY: run try test check definitions format install
 
 JOB ?= examples/two-clocks.job
 PREFIX ?= /usr/local
@@ -15,15 +15,19 @@ try:
 	@job=$$(realpath $(JOB)); cd crates/x3d_share && rt try -- run < "$$job"
 
 # The gate: every proof from nothing, the must-fail edits, the tests; and then the examples.
-test:
+test: definitions
 	@log=$$(mktemp); trap 'rm -f "$$log"' EXIT; \
 	rt ci 2>&1 | tee "$$log"; \
 	(cd crates/x3d_share && rt try --cases ../../examples); \
 	tail -n 1 "$$log"
 
 # While you edit: every crate, over what earlier checks kept.
-check:
+check: definitions
 	@rt all check
+
+# Whether docs/DEFINITIONS.md lists every file that a definition to believe uses.
+definitions:
+	@scripts/definitions
 
 format:
 	@for crate in crates/*; do (cd $$crate && rt fmt) || exit 1; done
