@@ -1,7 +1,7 @@
 # `make run` shows the program at work, `make test` is the gate.
 SHELL := bash
 .SHELLFLAGS := -eu -o pipefail -c
-.PHONY: run try test check definitions format install
+.PHONY: run try test check definitions bench format install
 
 JOB ?= examples/two-clocks.job
 PREFIX ?= /usr/local
@@ -36,3 +36,8 @@ format:
 install:
 	@cd crates/x3d_share && rt run -- --version
 	@install -D crates/x3d_share/out/x3d_share $(DESTDIR)$(PREFIX)/bin/x3d_share
+
+# Measures the proved program beside plain C kernels of the same work; wants a C compiler.
+bench:
+	@cd crates/x3d_share && rt run -- --version > /dev/null
+	@bench/run
