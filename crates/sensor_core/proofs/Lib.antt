@@ -1,1 +1,2 @@
 pub mod CycleLemmas
+pub mod PartLemmas

@@ -1,17 +1,32 @@
-//! The sensors of shared worlds: how a TimeSensor starts, runs and ends with the clock.
+//! The sensors of shared worlds: how a TimeSensor starts, runs and ends with the clock, and how a
+//! TouchSensor answers the pointers of several viewers.
+//!
+//! | Module | Has |
+//! |---|---|
+//! | `tick`, `set` | what a TimeSensor does when the clock ticks, and when an event comes in |
+//! | `timing`, `state`, `cycles` | what it keeps, whether it runs, and the arithmetic of its cycles |
+//! | `touch` | what a TouchSensor does with a pointer, and when it is disabled |
+//! | `parts` | both states in plain numbers |
+//! | `numbers`, `touch_numbers`, `laws` | the numbers of the fields, and their names |
 #![tactic(auto)]
 
 mod cycles;
 mod laws;
 mod numbers;
+mod parts;
 mod set;
 mod state;
 mod tick;
 mod timing;
+mod touch;
+mod touch_numbers;
 
-pub use laws::numbers_law;
+pub use laws::{numbers_law, touch_numbers_law, two_pointers_law};
+pub use parts::{TimeParts, TouchParts};
 pub use state::TimeState;
 pub use timing::{MAX_TIME, TimeFields, is_interval, is_time};
+pub use touch::TouchState;
+pub use touch_numbers::TOUCH_ENABLED;
 
 #[cfg(test)]
 mod tests;

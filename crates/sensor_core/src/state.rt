@@ -1,5 +1,6 @@
 //! Whether a TimeSensor runs.
 
+use crate::parts::TimeParts;
 use std::marker::Model;
 
 /// Whether a TimeSensor runs, and in which cycle, from 0. Contracts see the number of the cycle
@@ -24,6 +25,7 @@ impl Model for TimeState {
 
 impl TimeState {
     ghost use Rattle.std.specs.Prelude.{◌≡◌, ◌<◌, ◌^◌, Some, None, is_some, IfSome};
+    ghost use Rattle.sensor_core.specs.Parts.{parts_of_cycle, cycle_of_parts};
 
     pub fn inactive() -> TimeState
         ensures { result ≡ None }
@@ -44,6 +46,41 @@ impl TimeState {
         ensures fits { IfSome result (λ cycle. cycle < 2 ^ 63) }
     {
         self.cycle
+    }
+
+    /// What a snapshot has of it.
+    #[tactic(auto, unfolding(crate::specs::Parts::parts_of_cycle))]
+    pub fn parts(&self) -> TimeParts
+        ensures { result ≡ parts_of_cycle self.now }
+    {
+        match self.cycle {
+            Some(cycle) => TimeParts {
+                active: true,
+                cycle: cycle as i64,
+            },
+            None => TimeParts {
+                active: false,
+                cycle: 0,
+            },
+        }
+    }
+
+    /// The state that these are the parts of: the cycle isn't below 0, and 0 where the sensor isn't
+    /// active.
+    #[tactic(auto, unfolding(crate::specs::Parts::cycle_of_parts))]
+    pub fn from_parts(parts: TimeParts) -> Option<TimeState>
+        ensures { result ≡ cycle_of_parts parts }
+    {
+        if parts.active {
+            if parts.cycle < 0 {
+                return None;
+            }
+            return Some(TimeState::active(parts.cycle as u64));
+        }
+        if parts.cycle != 0 {
+            return None;
+        }
+        Some(TimeState::inactive())
     }
 
     pub fn is_active(&self) -> bool

@@ -1,14 +1,14 @@
 //! The worked examples' TimeSensors, and ticks by hand from the rules.
 
 use super::*;
-use crate::timing::{Readings, checked};
+use crate::timing::{Times, checked};
 use react_core::{Outbox, Reply};
 use std::alloc::Global;
 use std::test::Fail;
 use x3d_values::{Fields, Items, Position, Value};
 
 fn timing(interval: i64, looping: bool, start: i64, stop: i64) -> Result<TimeFields, Fail> {
-    Ok(checked(Readings {
+    Ok(checked(Times {
         cycle_interval: interval,
         enabled: true,
         looping,
