@@ -1,0 +1,13 @@
+pub mod Choosing
+pub mod Entering
+pub mod Fractions
+pub mod Moves
+pub mod Order
+pub mod Passed
+pub mod Picking
+pub mod Rows
+pub mod SameLocal
+pub mod Seen
+pub mod Spans
+pub mod Trails
+pub mod Unique

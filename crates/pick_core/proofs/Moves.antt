@@ -1,0 +1,70 @@
+-- What fits in the arithmetic of transforms.
+use Rattle.std.proofs.Common.{◌≡◌, ℕ, ◌-◌, ◌^◌, ◌<◌, ◌≤◌, ℤ, pos, negsuc, neg_ℤ, ◌+ℤ◌, ◌-ℤ◌, ◌*ℤ◌, ◌≤ℤ◌, ap, sym, subst, unsigned_abs, arith}
+use Rattle.std.proofs.lemmas.Int.{ints, clamps, fits_signed_mul, fits_signed_from_abs}
+use Rattle.std.specs.Int.{int_div_euclid}
+use mir.Syntax.{w64, w128}
+use mir.Val.{SFits}
+use Rattle.pick_core.specs.Motion.{clamped, half}
+
+pub abs_within : (z : ℤ) (n : ℕ) → z ≤ℤ pos n → neg_ℤ (pos n) ≤ℤ z → unsigned_abs z ≤ n
+abs_within (pos k) n h l = omega (arith, ints)
+abs_within (negsuc k) n h l = omega (arith, ints)
+
+pub wide : (z : ℤ) → SFits w64 z → SFits w128 z
+wide (pos k) h = record { sfits = omega arith }
+wide (negsuc k) h = record { sfits = omega arith }
+
+pub difference_fits : (a b : ℤ) → SFits w64 a → SFits w64 b → SFits w128 (a -ℤ b)
+difference_fits a b f g =
+    fits_signed_from_abs w128 (a -ℤ b) (let k : unsigned_abs (a -ℤ b) ≤ 2 ^ 64 - 1 = abs_within (a -ℤ b) (2 ^ 64 - 1) (omega (arith, ints)) (omega (arith, ints)) in omega arith)
+
+pub product_fits : (s a b : ℤ) → SFits w64 s → SFits w64 a → SFits w64 b → SFits w128 (s *ℤ (a -ℤ b))
+product_fits s a b e f g =
+    fits_signed_mul w128 s (a -ℤ b) (2 ^ 63) (2 ^ 64 - 1) (abs_within s (2 ^ 63) (omega (arith, ints)) (omega (arith, ints))) (abs_within (a -ℤ b) (2 ^ 64 - 1) (omega (arith, ints)) (omega (arith, ints))) (omega arith)
+
+pub quotient_small : (p : ℤ) → SFits w128 p → unsigned_abs (int_div_euclid p (pos 1000000)) ≤ 2 ^ 108
+quotient_small (pos a) h = omega arith
+quotient_small (negsuc a) h = omega arith
+
+pub sum_fits : (t c q : ℤ) → SFits w64 t → SFits w64 c → unsigned_abs q ≤ 2 ^ 108 → SFits w128 (t +ℤ c +ℤ q)
+sum_fits t c (pos q) e f g = fits_signed_from_abs w128 (t +ℤ c +ℤ pos q) (let k : unsigned_abs (t +ℤ c +ℤ pos q) ≤ 2 ^ 109 = abs_within (t +ℤ c +ℤ pos q) (2 ^ 109) (omega (arith, ints)) (omega (arith, ints)) in omega arith)
+sum_fits t c (negsuc q) e f g = fits_signed_from_abs w128 (t +ℤ c +ℤ negsuc q) (let k : unsigned_abs (t +ℤ c +ℤ negsuc q) ≤ 2 ^ 109 = abs_within (t +ℤ c +ℤ negsuc q) (2 ^ 109) (omega (arith, ints)) (omega (arith, ints)) in omega arith)
+
+pub clamped_fits : (z : ℤ) → SFits w64 (clamped z)
+clamped_fits z = fits_signed_from_abs w64 (clamped z) (let k : unsigned_abs (clamped z) ≤ 10 ^ 15 = abs_within (clamped z) (10 ^ 15) (omega (arith, ints, clamps)) (omega (arith, ints, clamps)) in omega arith)
+
+pub half_turned : (z q : ℤ) → q ≡ half z → pos 0 -ℤ q ≡ neg_ℤ (half z)
+half_turned z q e = omega (arith, ints, ap neg_ℤ e)
+
+half_small : (z : ℤ) → SFits w64 z → unsigned_abs (half z) ≤ 2 ^ 62
+half_small (pos a) h = omega arith
+half_small (negsuc a) h = omega arith
+
+turned_fits : (q : ℤ) → unsigned_abs q ≤ 2 ^ 62 → SFits w64 (pos 0 -ℤ q)
+turned_fits (pos q) h = fits_signed_from_abs w64 (pos 0 -ℤ pos q) (let k : unsigned_abs (pos 0 -ℤ pos q) ≤ 2 ^ 62 = abs_within (pos 0 -ℤ pos q) (2 ^ 62) (omega (arith, ints)) (omega (arith, ints)) in omega arith)
+turned_fits (negsuc q) h = fits_signed_from_abs w64 (pos 0 -ℤ negsuc q) (let k : unsigned_abs (pos 0 -ℤ negsuc q) ≤ 2 ^ 62 = abs_within (pos 0 -ℤ negsuc q) (2 ^ 62) (omega (arith, ints)) (omega (arith, ints)) in omega arith)
+
+pub half_fits : (z q : ℤ) → SFits w64 z → q ≡ half z → SFits w64 (pos 0 -ℤ q)
+half_fits z q f e = turned_fits q (subst (λ x. unsigned_abs x ≤ 2 ^ 62) (sym e) (half_small z f))
+
+-- ---- a point in the coordinates inside a transform
+
+pub way_fits : (origin way : ℤ) → SFits w64 origin → unsigned_abs way ≤ 2 ^ 127 - 2 ^ 63 → SFits w128 (origin +ℤ way)
+way_fits (pos o) (pos w) f h = record { sfits = (let k : o < 2 ^ 63 = f.sfits in omega arith) }
+way_fits (negsuc o) (negsuc w) f h = record { sfits = (let k : o < 2 ^ 63 = f.sfits in omega arith) }
+way_fits (pos o) (negsuc w) f h =
+    let l : o < 2 ^ 63 = f.sfits in
+    fits_signed_from_abs w128 (pos o +ℤ negsuc w) (let k : unsigned_abs (pos o +ℤ negsuc w) ≤ 2 ^ 127 - 1 = abs_within (pos o +ℤ negsuc w) (2 ^ 127 - 1) (omega (arith, ints)) (omega (arith, ints)) in omega arith)
+way_fits (negsuc o) (pos w) f h =
+    let l : o < 2 ^ 63 = f.sfits in
+    fits_signed_from_abs w128 (negsuc o +ℤ pos w) (let k : unsigned_abs (negsuc o +ℤ pos w) ≤ 2 ^ 127 - 1 = abs_within (negsuc o +ℤ pos w) (2 ^ 127 - 1) (omega (arith, ints)) (omega (arith, ints)) in omega arith)
+
+pub two_small : (a t c : ℤ) → SFits w64 a → SFits w64 t → SFits w64 c → unsigned_abs (a -ℤ t -ℤ c) ≤ 2 ^ 65
+two_small a t c e f g = abs_within (a -ℤ t -ℤ c) (2 ^ 65) (omega (arith, ints)) (omega (arith, ints))
+
+pub two_fits : (a t c : ℤ) → SFits w64 a → SFits w64 t → SFits w64 c → SFits w128 (a -ℤ t -ℤ c)
+two_fits a t c e f g = fits_signed_from_abs w128 (a -ℤ t -ℤ c) (let k = two_small a t c e f g in omega arith)
+
+pub away_fits : (a t c : ℤ) → SFits w64 a → SFits w64 t → SFits w64 c → SFits w128 ((a -ℤ t -ℤ c) *ℤ pos 1000000)
+away_fits a t c e f g =
+    fits_signed_mul w128 (a -ℤ t -ℤ c) (pos 1000000) (2 ^ 65) 1000000 (two_small a t c e f g) (omega arith) (omega arith)

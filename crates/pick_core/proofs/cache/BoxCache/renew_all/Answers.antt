@@ -1,0 +1,17 @@
+use Rattle.std.proofs.Common.{◌≡◌, ◌≤◌, ◌∙◌, map, drop, length, ap, arith, take_all}
+use Rattle.std.proofs.lemmas.List.{take-append-le, length-map}
+use Rattle.pick_core.specs.Sites.{fresh}
+use Rattle.pick_core.proofs.Rows.{fresh-rows}
+use Rattle.pick_core.proofs.cache.BoxCache.renew_all.Goals as goal
+
+pub returns : goal.returns
+returns c before h =
+    let scene = c.args.scene.now in
+    let state = c.args.state.now in
+    let old = c.self.inside.rows in
+    let new = c.refresh_all.new.rows in
+    let mapped : new ≡ map (fresh scene state) old.items = c.refresh_all.ensures ∙ ap (map (fresh scene state)) c.as_mut_slice.ensures.value in
+    let long : length new ≡ length c.as_mut_slice.result.now = ap length c.refresh_all.ensures ∙ simp length-map in
+    let most : old.len ≤ length new = omega (arith, c.as_mut_slice.ensures.len) in
+    let least : length new ≤ old.len = omega (arith, c.as_mut_slice.ensures.len) in
+    take-append-le old.len new (drop (length new) old.items) most ∙ (take_all old.len new least ∙ (mapped ∙ fresh-rows scene before state old.items (c.self.view_is ∙ h)))

@@ -1,0 +1,13 @@
+pub mod Boxes
+pub mod Entry
+pub mod Hits
+pub mod Local
+pub mod Looks
+pub mod Motion
+pub mod Nearest
+pub mod Numbers
+pub mod Picked
+pub mod Sensors
+pub mod Sites
+pub mod Spread
+pub mod Trail

@@ -1,0 +1,33 @@
+-- One hit out of a list of boxes: the earlier box is kept unless a later one is strictly nearer.
+use Rattle.std.specs.Prelude.{◌*◌, nat_lt, Bool, true, List, Option, Some, None, if◌then◌else◌}
+use Rattle.std.specs.List.{fold}
+use Rattle.x3d_values.specs.declared.fields.Fields.{Fields}
+use Rattle.x3d_values.specs.Pointing.{Sight}
+use Rattle.scene_core.specs.Scene.{SceneView}
+use Rattle.pick_core.specs.Boxes.{Placed, boxes}
+use Rattle.pick_core.specs.Entry.{entry_of}
+use Rattle.pick_core.specs.Nearest.{IsPicked}
+use Rattle.pick_core.specs.declared.bounds.Fraction.{Fraction}
+use Rattle.pick_core.specs.declared.hit.Hit.{Hit}
+
+abbrev pub is_nearer : Fraction → Option Hit → Bool
+is_nearer at None = true
+is_nearer at (Some hit) = nat_lt (at.n * hit.m) (hit.n * at.m)
+
+abbrev pub hit_at : Placed → Fraction → Hit
+hit_at b at = record { path = b.path; n = at.n; m = at.m }
+
+abbrev pub closer : Placed → Option Hit → Option Fraction → Option Hit
+closer b best None = best
+closer b best (Some at) = if is_nearer at best then Some (hit_at b at) else best
+
+unfoldable pub nearer : Sight → Option Hit → Placed → Option Hit
+nearer ray best b = closer b best (entry_of b.bounds ray)
+
+-- the hit that is picked out of boxes
+abbrev pub picked : Sight → List Placed → Option Hit
+picked ray bs = fold (nearer ray) None bs
+
+-- it is the nearest of a scene's boxes
+abbrev pub PicksNearest : Type 0
+PicksNearest = (scene : SceneView) (state : List Fields) (ray : Sight) → IsPicked ray (boxes scene state) (picked ray (boxes scene state))

@@ -1,0 +1,104 @@
+-- The places of boxes, shown or not, and the rows that a cache keeps of them.
+use Rattle.std.specs.Prelude.{◌≡◌, ℕ, zero, suc, pos, negsuc, ℤ, List, [], ◌∷◌, ◌++◌, map, slice_get, Some, None, Bool, true, false, ◌==◌, ◌&&◌, if◌then◌else◌}
+use Rattle.std.specs.List.{list_any}
+use Rattle.x3d_values.specs.declared.fields.Fields.{Fields}
+use Rattle.x3d_values.specs.declared.vector.Vec3.{Vec3}
+use Rattle.scene_core.specs.Scene.{SceneView}
+use Rattle.pick_core.specs.Boxes.{Placed}
+use Rattle.pick_core.specs.Looks.{kind_of, listed, choice_of}
+use Rattle.pick_core.specs.Motion.{box_of}
+use Rattle.pick_core.specs.Spread.{spread}
+use Rattle.pick_core.specs.Trail.{carried, positions}
+use Rattle.pick_core.specs.declared.row.Row.{Row}
+use Rattle.pick_core.specs.declared.look.Kind.{Kind}
+use Rattle.pick_core.specs.declared.look.Kind.TheVariants.{Group, Transform, Switch, Shape, Other}
+use Rattle.pick_core.specs.declared.trail.Place.{Place}
+
+-- a box of a size at the end of a trail
+pub record Site : Type 0 where
+  pub trail : List Place
+  pub size : Vec3
+
+abbrev pub site_under : ℕ → ℕ → Site → Site
+site_under position node s = record { trail = record { position = position; node = node } ∷ s.trail; size = s.size }
+
+abbrev pub site_layer : (ℕ → List Site) → Kind → List ℕ → List Site
+site_layer inside Group children = spread site_under inside 0 children
+site_layer inside Transform children = spread site_under inside 0 children
+site_layer inside Switch children = spread site_under inside 0 children
+site_layer inside (Shape None) children = []
+site_layer inside (Shape (Some size)) children = record { trail = []; size = size } ∷ []
+site_layer inside Other children = []
+
+unfoldable pub sites_in : SceneView → ℕ → ℕ → List Site
+sites_in scene zero node = []
+sites_in scene (suc depth) node = site_layer (sites_in scene depth) (kind_of scene node) (listed scene node)
+
+-- all places of boxes
+unfoldable pub sites : SceneView → List Site
+sites scene = spread site_under (sites_in scene 64) 0 scene.roots
+
+-- a Switch shows one child
+abbrev pub shows : ℤ → ℕ → Bool
+shows (pos which) position = which == position
+shows (negsuc which) position = false
+
+abbrev pub allows_as : ℤ → Kind → ℕ → Bool
+allows_as which Switch position = shows which position
+allows_as which Group position = true
+allows_as which Transform position = true
+allows_as which (Shape size) position = true
+allows_as which Other position = true
+
+-- whether a node shows its child at a position
+unfoldable pub allows : SceneView → List Fields → ℕ → ℕ → Bool
+allows scene state node position = allows_as (choice_of (slice_get state node)) (kind_of scene node) position
+
+-- whether all below a node up to the end of a trail is shown
+unfoldable pub is_shown : SceneView → List Fields → ℕ → List Place → Bool
+is_shown scene state node [] = true
+is_shown scene state node (p ∷ ps) = allows scene state node p.position && is_shown scene state p.node ps
+
+-- the same from the roots
+abbrev pub is_shown_from_roots : SceneView → List Fields → List Place → Bool
+is_shown_from_roots scene state [] = true
+is_shown_from_roots scene state (p ∷ ps) = is_shown scene state p.node ps
+
+-- ---- rows
+
+-- what a row says of a box of a size at the end of a trail
+abbrev pub row_of : SceneView → List Fields → List Place → Vec3 → Row
+row_of scene state trail size =
+    record { trail = trail; size = size; bounds = carried scene state trail (box_of size); shown = is_shown_from_roots scene state trail }
+
+-- the row of a box below the end of a trail
+abbrev pub row_at : SceneView → List Fields → List Place → Site → Row
+row_at scene state trail s = row_of scene state (trail ++ s.trail) s.size
+
+-- the rows of a state
+unfoldable pub rows_of : SceneView → List Fields → List Row
+rows_of scene state = map (λ (s : Site). row_of scene state s.trail s.size) (sites scene)
+
+abbrev pub placed_row : Row → Placed
+placed_row r = record { path = positions r.trail; bounds = r.bounds }
+
+-- the boxes of the rows that are shown
+unfoldable pub shown_rows : List Row → List Placed
+shown_rows [] = []
+shown_rows (r ∷ rs) = if r.shown then placed_row r ∷ shown_rows rs else shown_rows rs
+
+-- a row in a state
+abbrev pub fresh : SceneView → List Fields → Row → Row
+fresh scene state r = row_of scene state r.trail r.size
+
+-- whether a trail leads through a node
+abbrev pub touches : ℕ → List Place → Bool
+touches node trail = list_any (λ (p : Place). p.node == node) trail
+
+-- a row in a state that differs at a node
+abbrev pub renewed : SceneView → List Fields → ℕ → Row → Row
+renewed scene state node r = if touches node r.trail then fresh scene state r else r
+
+-- two states are the same but at a node
+abbrev pub IsSameBut : ℕ → List Fields → List Fields → Type 0
+IsSameBut node before after = (k : ℕ) → (k ≡ node → ⊥) → slice_get before k ≡ slice_get after k

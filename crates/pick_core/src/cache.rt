@@ -1,0 +1,91 @@
+//! The boxes of a scene in a state, kept so that a ray needs no walk.
+
+ghost use Rattle.std.specs.Prelude.{◌≡◌, [], ◌∷◌, None};
+ghost use Rattle.std.specs.List.{fold};
+ghost use Rattle.pick_core.specs.Picked.{nearer};
+ghost use Rattle.pick_core.specs.Sites as spec;
+
+use crate::gather::gathered;
+use crate::hit::Hit;
+use crate::nearest::keep_nearer;
+use crate::row::{Row, refresh_all, renew_rows};
+use scene_core::Scene;
+use std::alloc::{AllocError, Global};
+use std::marker::Model;
+use x3d_values::{Fields, Ray};
+
+/// The boxes of a scene in a state.
+#[derive(Drop)]
+pub struct BoxCache {
+    rows: Vec<Row>,
+}
+
+impl Model for BoxCache {
+    ghost use Rattle.std.specs.Prelude.{List};
+    ghost use Rattle.pick_core.specs.declared.row.Row.{Row};
+
+    ghost Value = { List Row };
+
+    ghost view = { λ c. c.rows.items };
+}
+
+impl BoxCache {
+    ghost use Rattle.std.specs.Prelude.{◌≡◌, IfOk, List};
+    ghost use Rattle.x3d_values.specs.declared.fields.Fields.{Fields as FieldsOf};
+    ghost use Rattle.scene_core.specs.Scene.{SceneView};
+    ghost use Rattle.pick_core.specs.Boxes.{boxes};
+    ghost use Rattle.pick_core.specs.Nearest.{IsPicked};
+    ghost use Rattle.pick_core.specs.Picked.{picked};
+    ghost use Rattle.pick_core.specs.Sites as spec;
+
+    /// The boxes of the scene in a state: what each of its nodes keeps, by number.
+    pub fn new(alloc: Global, scene: &Scene, state: &[Fields]) -> Result<BoxCache, AllocError>
+        ensures { IfOk result (λ cache. cache ≡ spec.rows_of scene.now state.now) }
+    {
+        Ok(BoxCache {
+            rows: gathered(alloc, scene, state)?,
+        })
+    }
+
+    /// The nearest box that the ray hits, in the state for which the cache stands. It takes no
+    /// memory.
+    pub fn pick(&self, ray: Ray) -> Option<Hit>
+        ensures nearest { (scene : SceneView) → (state : List FieldsOf) → self.now ≡ spec.rows_of scene state → IsPicked ray (boxes scene state) result }
+        ensures value { (scene : SceneView) → (state : List FieldsOf) → self.now ≡ spec.rows_of scene state → result ≡ picked ray (boxes scene state) }
+    {
+        pick_rows(self.rows.as_slice(), ray)
+    }
+
+    /// Where the cache stood for a state that differs from this one at most at the node, it stands
+    /// for this one. It takes no memory.
+    pub fn renew(&mut self, scene: &Scene, state: &[Fields], node: u32)
+        ensures { (before : List FieldsOf) → self.old ≡ spec.rows_of scene.now before → spec.IsSameBut node before state.now → self.new ≡ spec.rows_of scene.now state.now }
+    {
+        renew_rows(scene, state, node, self.rows.as_mut_slice());
+    }
+
+    /// Where the cache stood for any state of the scene, it stands for this one. It takes no memory.
+    pub fn renew_all(&mut self, scene: &Scene, state: &[Fields])
+        ensures { (before : List FieldsOf) → self.old ≡ spec.rows_of scene.now before → self.new ≡ spec.rows_of scene.now state.now }
+    {
+        refresh_all(scene, state, self.rows.as_mut_slice());
+    }
+}
+
+fn pick_row(row: &Row, ray: Ray, best: &mut Option<Hit>)
+    ensures { best.new ≡ fold (nearer ray) best.old (spec.shown_rows (row.now ∷ [])) }
+{
+    if row.shown {
+        keep_nearer(row.trail.as_slice(), row.bounds, ray, best);
+    }
+}
+
+fn pick_rows(rows: &[Row], ray: Ray) -> Option<Hit>
+    ensures { result ≡ fold (nearer ray) None (spec.shown_rows rows.now) }
+{
+    let mut best = None;
+    for row in rows {
+        pick_row(row, ray, &mut best);
+    }
+    best
+}

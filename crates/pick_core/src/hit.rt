@@ -1,0 +1,54 @@
+//! What a ray hits.
+
+ghost use Rattle.std.specs.Prelude.{◌≡◌, ◌≤◌, length, map};
+ghost use Rattle.pick_core.specs.Trail.{positions};
+
+use crate::trail::Place;
+use arrayvec::ArrayVec;
+use std::marker::Model;
+
+/// The positions that lead from the roots of a scene down to a Shape, from 0, the root's first.
+#[derive(Debug, Drop)]
+pub struct Path {
+    positions: ArrayVec<usize, 64>,
+}
+
+impl Model for Path {
+    ghost use Rattle.std.specs.Prelude.{ℕ, List};
+
+    ghost Value = { List ℕ };
+
+    ghost view = { λ p. p.positions.items };
+}
+
+/// A box that a ray hits, by its path, and the place `n / m` of the way along the ray's direction
+/// where it enters the box. `m` is above 0.
+#[derive(Debug, Drop)]
+pub struct Hit {
+    pub path: Path,
+    pub n: u64,
+    pub m: u64,
+}
+
+impl Path {
+    ghost use Rattle.std.specs.Prelude.{◌≡◌, ◌≤◌, length};
+    ghost use Rattle.pick_core.specs.Trail.{positions};
+
+    /// The positions of a trail.
+    pub(crate) fn along(trail: &[Place]) -> Path
+        requires { length trail.now ≤ 64 }
+        ensures { result ≡ positions trail.now }
+    {
+        let mut path = ArrayVec::new();
+        for place in trail {
+            path.push(place.position);
+        }
+        Path { positions: path }
+    }
+
+    pub fn as_slice(&self) -> &[usize]
+        ensures { result.now ≡ self.now }
+    {
+        self.positions.as_slice()
+    }
+}

@@ -1,0 +1,26 @@
+//! What holds of hits, and of the numbers of fields.
+
+ghost use Rattle.pick_core.specs.Local.{OneLocal};
+ghost use Rattle.pick_core.specs.Nearest.{OneNearest};
+ghost use Rattle.pick_core.specs.Numbers.{Numbers};
+ghost use Rattle.pick_core.specs.Picked.{PicksNearest};
+
+/// The hit that keeps the earlier box unless a later one is strictly nearer is the nearest.
+pub fn picks_nearest_law()
+    ensures { PicksNearest }
+{}
+
+/// There is one nearest hit: two have the same path and the same value of the fraction.
+pub fn one_nearest_law()
+    ensures { OneNearest }
+{}
+
+/// Where a hit lies for a sensor depends on its path and the value of its fraction alone.
+pub fn one_local_law()
+    ensures { OneLocal }
+{}
+
+/// The numbers of fields that picking uses are those of their names in the table of fields.
+pub fn numbers_law()
+    ensures { Numbers }
+{}

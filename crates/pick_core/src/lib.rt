@@ -1,0 +1,29 @@
+//! What a viewer's ray hits: the nearest Box of a scene, which sensors that concerns, and where it
+//! lies for them.
+#![tactic(auto)]
+
+mod bounds;
+mod cache;
+mod crossing;
+mod gather;
+mod hit;
+mod laws;
+mod local;
+mod look;
+mod motion;
+mod nearest;
+mod numbers;
+mod row;
+mod sensors;
+mod trail;
+mod walk;
+
+pub use bounds::{Bounds, Fraction};
+pub use cache::BoxCache;
+pub use hit::{Hit, Path};
+pub use laws::{numbers_law, one_local_law, one_nearest_law, picks_nearest_law};
+pub use local::local_point;
+pub use row::Row;
+pub use sensors::{MAX_SENSORS, sensors_of};
+pub use trail::Place;
+pub use walk::pick;

@@ -1,0 +1,153 @@
+//! Where a hit lies for a sensor.
+
+ghost use Rattle.std.specs.Prelude.{◌≡◌, ◌-◌, ◌<◌, ◌==◌, ◌^◌, ◌≤◌, pos, ◌-ℤ◌, ◌*ℤ◌, unsigned_abs, Some, None, if◌then◌else◌};
+ghost use Rattle.std.specs.Int.{int_div_euclid};
+ghost use Rattle.std.specs.List.{list_any};
+ghost use Rattle.pick_core.specs.Local as spec;
+ghost use Rattle.pick_core.specs.Sensors.{siblings_in as siblings_of};
+
+use crate::hit::Hit;
+use crate::look::{Kind, Motion, kind_of, motion_of};
+use crate::motion::clamped;
+use crate::sensors::{contains, list_of, siblings_in};
+use scene_core::Scene;
+use x3d_values::{Fields, Ray, Vec3};
+
+/// The point where the ray hits the box, in millionths, in the coordinates of a sensor of the hit.
+#[tactic(auto, unfolding(crate::specs::Local::local_of))]
+pub fn local_point(scene: &Scene, state: &[Fields], hit: &Hit, ray: Ray, sensor: u32) -> Vec3
+    requires { 0 < hit.now.m }
+    ensures { result ≡ spec.local_of scene.now state.now hit.now ray sensor }
+{
+    let world = point_of(ray, hit.n, hit.m);
+    match local_along(scene, state, sensor, None, hit.path.as_slice(), world) {
+        Some(point) => point,
+        None => world,
+    }
+}
+
+/// A part of a direction, rounded down.
+fn way(dir: i64, n: u64, m: u64) -> i128
+    requires { 0 < m }
+    ensures value { result ≡ int_div_euclid (pos n *ℤ dir) (pos m) }
+    ensures fits { unsigned_abs result ≤ 2 ^ 127 - 2 ^ 63 }
+{
+    (n as i128 * dir as i128).div_euclid(m as i128)
+}
+
+/// A coordinate on a ray.
+#[tactic(auto, unfolding(crate::specs::Local::reached))]
+fn reached(origin: i64, dir: i64, n: u64, m: u64) -> i64
+    requires { 0 < m }
+    ensures { result ≡ spec.reached origin dir n m }
+{
+    clamped(origin as i128 + way(dir, n, m))
+}
+
+#[tactic(auto, using(crate::proofs::Passed::passed), unfolding(crate::specs::Local::point_of))]
+fn point_of(ray: Ray, n: u64, m: u64) -> Vec3
+    requires { 0 < m }
+    ensures { result ≡ spec.point_of ray n m }
+{
+    let (origin, dir) = (ray.origin(), ray.dir());
+    Vec3 {
+        x: reached(origin.x, dir.x, n, m),
+        y: reached(origin.y, dir.y, n, m),
+        z: reached(origin.z, dir.z, n, m),
+    }
+}
+
+/// Rounded down; 0 where the scale is 0.
+fn quotient(z: i128, scale: i64) -> i128
+    requires { unsigned_abs z ≤ 2 ^ 100 }
+    ensures value { result ≡ spec.quotient z scale }
+    ensures fits { unsigned_abs result ≤ 2 ^ 100 }
+{
+    let scale = scale as i128;
+    if scale < 0 {
+        return (-z).div_euclid(-scale);
+    }
+    if scale > 0 {
+        return z.div_euclid(scale);
+    }
+    0
+}
+
+/// How far a coordinate lies from the centre of a Transform, times a million.
+fn away(translation: i64, center: i64, at: i64) -> i128
+    ensures value { result ≡ (at -ℤ translation -ℤ center) *ℤ pos 1000000 }
+    ensures fits { unsigned_abs result ≤ 2 ^ 100 }
+{
+    (at as i128 - translation as i128 - center as i128) * 1_000_000
+}
+
+/// A coordinate inside a Transform.
+#[tactic(auto, unfolding(crate::specs::Local::back_along))]
+fn back_along(translation: i64, scale: i64, center: i64, at: i64) -> i64
+    ensures { result ≡ spec.back_along translation scale center at }
+{
+    let away = away(translation, center, at);
+    clamped(center as i128 + quotient(away, scale))
+}
+
+/// A point inside a Transform.
+#[tactic(auto, using(crate::proofs::Passed::passed), unfolding(crate::specs::Local::moved_back))]
+fn moved_back(motion: Motion, at: Vec3) -> Vec3
+    ensures { result ≡ spec.moved_back motion at }
+{
+    let (t, s, c) = (motion.translation, motion.scale, motion.center);
+    Vec3 {
+        x: back_along(t.x, s.x, c.x, at.x),
+        y: back_along(t.y, s.y, c.y, at.y),
+        z: back_along(t.z, s.z, c.z, at.z),
+    }
+}
+
+/// A point round a node, in the coordinates inside it.
+#[tactic(auto, unfolding(crate::specs::Local::entered))]
+fn entered(scene: &Scene, state: &[Fields], node: u32, at: Vec3) -> Vec3
+    ensures { result ≡ spec.entered scene.now state.now node at }
+{
+    match kind_of(scene, node) {
+        Kind::Transform => moved_back(motion_of(state.get(node as usize)), at),
+        Kind::Group | Kind::Switch | Kind::Shape(_) | Kind::Other => at,
+    }
+}
+
+/// The point, if the sensor is in the list.
+fn if_held(scene: &Scene, owner: Option<u32>, sensor: u32, at: Vec3) -> Option<Vec3>
+    ensures { result ≡ (if list_any (λ n. n == sensor) (siblings_of scene.now owner) then Some at else None) }
+{
+    if contains(siblings_in(scene, owner), sensor) {
+        return Some(at);
+    }
+    None
+}
+
+/// A point in the coordinates of the lowest list along a path that holds the sensor, from a list on.
+#[tactic(auto, unfolding(crate::specs::Local::local_along))]
+fn local_along(
+    scene: &Scene,
+    state: &[Fields],
+    sensor: u32,
+    owner: Option<u32>,
+    path: &[usize],
+    at: Vec3,
+) -> Option<Vec3>
+    ensures { result ≡ spec.local_along scene.now state.now sensor owner path.now at }
+{
+    match path {
+        [] => None,
+        [position, rest @ ..] => {
+            let Some(child) = list_of(scene, owner).get(*position) else {
+                return if_held(scene, owner, sensor, at);
+            };
+            let inside = entered(scene, state, *child, at);
+            let lower = local_along(scene, state, sensor, Some(*child), rest, inside);
+            if lower.is_some() {
+                return lower;
+            }
+            if_held(scene, owner, sensor, at)
+        }
+    }
+}

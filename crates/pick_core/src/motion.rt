@@ -1,0 +1,100 @@
+//! Boxes in the systems round transforms.
+
+ghost use Rattle.std.specs.Prelude.{◌≡◌};
+ghost use Rattle.std.specs.Option.{option_copied};
+ghost use Rattle.pick_core.specs.Motion.{along_of, clamped, moved_at, moved, moved_box, box_of, sides_along};
+
+use crate::bounds::Bounds;
+use crate::look::{Kind, Motion, kind_of, motion_of};
+use scene_core::Scene;
+use x3d_values::{Fields, Vec3};
+
+/// The largest size of a coordinate.
+const LIMIT: i128 = 1_000_000_000_000_000;
+
+/// A box inside a node, in the system round it.
+#[tactic(auto, unfolding(crate::specs::Motion::moved_at))]
+pub(crate) fn move_box(scene: &Scene, state: &[Fields], node: u32, bounds: Bounds) -> Bounds
+    ensures { result ≡ moved_at scene.now state.now node bounds }
+{
+    match kind_of(scene, node) {
+        Kind::Transform => moved_box(motion_of(state.get(node as usize)), bounds),
+        Kind::Group | Kind::Switch | Kind::Shape(_) | Kind::Other => bounds,
+    }
+}
+
+/// A box in the system round a transform.
+#[tactic(auto, unfolding(crate::specs::Motion::moved_box))]
+fn moved_box(motion: Motion, bounds: Bounds) -> Bounds
+    ensures { result ≡ moved_box motion bounds }
+{
+    bounds_between(
+        move_point(motion, bounds.low),
+        move_point(motion, bounds.high),
+    )
+}
+
+/// A coordinate in the system round a transform.
+fn along(translation: i64, scale: i64, center: i64, at: i64) -> i64
+    ensures { result ≡ along_of translation scale center at }
+{
+    let product = scale as i128 * (at as i128 - center as i128);
+    let sum = translation as i128 + center as i128 + product.div_euclid(1_000_000);
+    sum.clamp(-LIMIT, LIMIT) as i64
+}
+
+/// At most 10^15 in size.
+pub(crate) fn clamped(coordinate: i128) -> i64
+    ensures { result ≡ clamped coordinate }
+{
+    coordinate.clamp(-LIMIT, LIMIT) as i64
+}
+
+/// The place of a point in the system round a transform.
+fn move_point(motion: Motion, at: Vec3) -> Vec3
+    ensures { result ≡ moved motion at }
+{
+    let (t, s, c) = (motion.translation, motion.scale, motion.center);
+    Vec3 {
+        x: along(t.x, s.x, c.x, at.x),
+        y: along(t.y, s.y, c.y, at.y),
+        z: along(t.z, s.z, c.z, at.z),
+    }
+}
+
+/// The box between two corners, however they lie.
+fn bounds_between(a: Vec3, b: Vec3) -> Bounds
+    ensures { result ≡ sides_along a b }
+{
+    Bounds {
+        low: Vec3 {
+            x: a.x.min(b.x),
+            y: a.y.min(b.y),
+            z: a.z.min(b.z),
+        },
+        high: Vec3 {
+            x: a.x.max(b.x),
+            y: a.y.max(b.y),
+            z: a.z.max(b.z),
+        },
+    }
+}
+
+/// The Box of a size round the origin.
+pub(crate) fn box_round(size: Vec3) -> Bounds
+    ensures { result ≡ box_of size }
+{
+    let (x, y, z) = (
+        size.x.div_euclid(2),
+        size.y.div_euclid(2),
+        size.z.div_euclid(2),
+    );
+    Bounds {
+        low: Vec3 {
+            x: -x,
+            y: -y,
+            z: -z,
+        },
+        high: Vec3 { x, y, z },
+    }
+}

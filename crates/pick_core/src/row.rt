@@ -1,0 +1,125 @@
+//! A box at its place, as a cache keeps it.
+
+ghost use Rattle.std.specs.Prelude.{◌≡◌, ◌≤◌, length, map, slice_get, IfOk};
+ghost use Rattle.pick_core.specs.Sites as spec;
+
+use crate::bounds::Bounds;
+use crate::look::{Kind, choice_of, kind_of};
+use crate::motion::box_round;
+use crate::trail::{Place, Trail, carry};
+use scene_core::Scene;
+use std::alloc::{AllocError, Global};
+use x3d_values::{Fields, Vec3};
+
+/// A Box of a size at the end of a trail, with its corners in the world, shown or not.
+#[derive(Drop)]
+pub struct Row {
+    pub(crate) bounds: Bounds,
+    pub(crate) shown: bool,
+    pub(crate) size: Vec3,
+    pub(crate) trail: Trail,
+}
+
+/// The row of a Box of this size at the end of a trail.
+pub(crate) fn row_of(
+    alloc: Global,
+    scene: &Scene,
+    state: &[Fields],
+    trail: &[Place],
+    size: Vec3,
+) -> Result<Row, AllocError>
+    requires { length trail.now ≤ 64 }
+    ensures { IfOk result (λ row. row ≡ spec.row_of scene.now state.now trail.now size) }
+{
+    Ok(Row {
+        bounds: carry(scene, state, trail, box_round(size)),
+        shown: is_shown_from_roots(scene, state, trail),
+        size,
+        trail: Trail::of(alloc, trail)?,
+    })
+}
+
+/// Whether a node that shows this child shows the one at a position.
+fn shows(which: i32, position: usize) -> bool
+    ensures { result ≡ spec.shows which position }
+{
+    which >= 0 && which as usize == position
+}
+
+/// Whether a node shows its child at a position.
+#[tactic(auto, unfolding(crate::specs::Sites::allows))]
+fn allows(scene: &Scene, state: &[Fields], node: u32, position: usize) -> bool
+    ensures { result ≡ spec.allows scene.now state.now node position }
+{
+    match kind_of(scene, node) {
+        Kind::Switch => shows(choice_of(state.get(node as usize)), position),
+        Kind::Group | Kind::Transform | Kind::Shape(_) | Kind::Other => true,
+    }
+}
+
+/// Whether all below a node up to the end of a trail is shown.
+#[tactic(auto, unfolding(crate::specs::Sites::is_shown))]
+fn is_shown(scene: &Scene, state: &[Fields], node: u32, trail: &[Place]) -> bool
+    ensures { result ≡ spec.is_shown scene.now state.now node trail.now }
+{
+    match trail {
+        [] => true,
+        [place, rest @ ..] => {
+            if allows(scene, state, node, place.position) {
+                is_shown(scene, state, place.node, rest)
+            } else {
+                false
+            }
+        }
+    }
+}
+
+/// Whether all along a trail from the roots is shown.
+fn is_shown_from_roots(scene: &Scene, state: &[Fields], trail: &[Place]) -> bool
+    ensures { result ≡ spec.is_shown_from_roots scene.now state.now trail.now }
+{
+    match trail {
+        [] => true,
+        [place, rest @ ..] => is_shown(scene, state, place.node, rest),
+    }
+}
+
+/// The row then is that of this state.
+pub(crate) fn refresh(scene: &Scene, state: &[Fields], row: &mut Row)
+    ensures { row.new ≡ spec.fresh scene.now state.now row.old }
+{
+    row.bounds = carry(scene, state, row.trail.as_slice(), box_round(row.size));
+    row.shown = is_shown_from_roots(scene, state, row.trail.as_slice());
+}
+
+pub(crate) fn refresh_all(scene: &Scene, state: &[Fields], rows: &mut [Row])
+    ensures { rows.new ≡ map (spec.fresh scene.now state.now) rows.old }
+{
+    for row in rows.iter_mut() {
+        refresh(scene, state, row);
+    }
+}
+
+/// Whether a trail leads through a node.
+fn touches(node: u32, trail: &[Place]) -> bool
+    ensures { result ≡ spec.touches node trail.now }
+{
+    trail.iter().any(|place| place.node == node)
+}
+
+fn renew_row(scene: &Scene, state: &[Fields], node: u32, row: &mut Row)
+    ensures { row.new ≡ spec.renewed scene.now state.now node row.old }
+{
+    if touches(node, row.trail.as_slice()) {
+        refresh(scene, state, row);
+    }
+}
+
+/// The rows that lead through the node then are those of this state.
+pub(crate) fn renew_rows(scene: &Scene, state: &[Fields], node: u32, rows: &mut [Row])
+    ensures { rows.new ≡ map (spec.renewed scene.now state.now node) rows.old }
+{
+    for row in rows.iter_mut() {
+        renew_row(scene, state, node, row);
+    }
+}

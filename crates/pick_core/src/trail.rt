@@ -1,0 +1,69 @@
+//! The way from the roots of a scene down to a node.
+
+ghost use Rattle.std.specs.Prelude.{◌≡◌};
+ghost use Rattle.pick_core.specs.Trail.{carried};
+
+use crate::bounds::Bounds;
+use crate::motion::move_box;
+use scene_core::Scene;
+use std::alloc::{AllocError, Global};
+use std::marker::Model;
+use x3d_lists::Items;
+use x3d_values::Fields;
+
+/// A node and its position among its siblings, from 0.
+#[derive(Clone, Copy, Debug, Default)]
+pub struct Place {
+    pub position: usize,
+    pub node: u32,
+}
+
+/// The places from a root of a scene down to a node, at most 64.
+#[derive(Drop)]
+pub(crate) struct Trail {
+    places: Items<Place>,
+}
+
+impl Model for Trail {
+    ghost use Rattle.std.specs.Prelude.{◌≤◌, List, length};
+    ghost use Rattle.pick_core.specs.declared.trail.Place.{Place};
+
+    ghost Value = { List Place };
+
+    ghost view = { λ t. t.places };
+
+    ghost invariant = { λ t. length t.places ≤ 64 };
+}
+
+impl Trail {
+    ghost use Rattle.std.specs.Prelude.{◌≡◌, ◌≤◌, length, IfOk};
+
+    pub(crate) fn of(alloc: Global, places: &[Place]) -> Result<Trail, AllocError>
+        requires { length places.now ≤ 64 }
+        ensures { IfOk result (λ trail. trail ≡ places.now) }
+    {
+        Ok(Trail {
+            places: Items::from_slice(alloc, places)?,
+        })
+    }
+
+    pub(crate) fn as_slice(&self) -> &[Place]
+        ensures value { result.now ≡ self.now }
+        ensures fits { length result.now ≤ 64 }
+    {
+        self.places.as_slice()
+    }
+}
+
+/// A box at the end of a trail, in the world.
+pub(crate) fn carry(scene: &Scene, state: &[Fields], trail: &[Place], bounds: Bounds) -> Bounds
+    ensures { result ≡ carried scene.now state.now trail.now bounds }
+{
+    let mut bounds = bounds;
+    let mut left = trail.len();
+    while left > 0 {
+        left -= 1;
+        bounds = move_box(scene, state, trail[left].node, bounds);
+    }
+    bounds
+}
