@@ -1,0 +1,9 @@
+//! A flat document: its nodes by number, with names and prototypes resolved (ISO/IEC 19775-1,
+//! prototypes and run-time name scope), and why a document has none.
+#![tactic(auto)]
+
+mod fault;
+mod flat;
+
+pub use fault::{ExpandFault, ExpandFaultKind};
+pub use flat::{Flat, FlatEnd, FlatField, FlatNode, FlatRoute, Header};
