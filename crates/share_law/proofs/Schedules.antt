@@ -1,9 +1,8 @@
 -- Worked schedules. Each answer was written by hand, and `refl` compares it with the definitions.
-use Rattle.std.proofs.Common.{◌≡◌, ℕ, zero, suc, ◌+◌, ◌*◌, ℤ, pos, negsuc, true, List, [], ◌∷◌, ◌++◌, length, map, refl}
+use Rattle.std.proofs.Common.{◌≡◌, ℕ, zero, suc, ◌*◌, pos, negsuc, true, List, [], ◌∷◌, ◌++◌, length, map, refl}
 use Rattle.std.specs.Prelude.{slice_get, Option, Ok, Err, Some, None}
 use Rattle.std.specs.Option.{option_map}
 use Rattle.x3d_values.specs.declared.pointing.Point.{Point}
-use Rattle.x3d_values.specs.declared.stamped.Event.{Event}
 use Rattle.x3d_values.specs.declared.stamped.Event.TheVariants.{Clock, Pointer}
 use Rattle.x3d_values.specs.Stamp.{Stamp}
 use Rattle.share_wire.specs.declared.message.Body.{Body}
@@ -19,7 +18,7 @@ use Rattle.share_law.specs.declared.step.Step.{Step}
 use Rattle.share_law.specs.declared.step.Step.TheVariants.{HostClock, HostPacket, HostAck, HostTake, ViewerOffer, ViewerResend, ViewerAsk, ViewerTake, ViewerSave, ViewerRewind}
 use Rattle.share_law.specs.Machine.{Machine}
 use Rattle.share_law.specs.Host.{HostState, number_fault as fault_of, last_time, host_take, new_host}
-use Rattle.share_law.specs.Viewer.{View, Spoiled, Running, begun, applied_in, empty_window, viewer_take, pointing_by}
+use Rattle.share_law.specs.Viewer.{View, Spoiled, Running, applied_in, empty_window, viewer_take, pointing_by}
 use Rattle.share_law.specs.Network.{Network, Seat, Answer, Clocked, Offered, Sent, HostTook, ViewerTook, Saved, Rewound, NoSuch, step, refused, start}
 use Rattle.share_law.specs.Rounds.{after_rounds}
 
