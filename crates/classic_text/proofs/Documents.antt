@@ -11,47 +11,23 @@ use Rattle.classic_lex.specs.Tokens.{HasTokens, HasVersion}
 use Rattle.classic_lex.proofs.HeadLemmas.{IsHeaded-version_of, version_of-IsHeaded}
 use Rattle.classic_lex.proofs.TokenLemmas.{HasTokens-lexed, lexed-HasTokens}
 use Rattle.classic_tree.specs.declared.tree.Statement.{Statement}
-use Rattle.classic_tree.specs.declared.tree.Statement.TheVariants as stands
 use Rattle.classic_tree.specs.declared.tree.Document.{Document}
 use Rattle.classic_text.specs.declared.fault.ReadFault.{ReadFault}
-use Rattle.classic_text.specs.declared.refusal.Refusal.TheVariants.{Unsupported}
-use Rattle.classic_text.specs.declared.terminal.Terminal.TheVariants as t
-use Rattle.classic_text.specs.Input.{Outcome, and_then, kind, line, sees, at_end}
-use Rattle.classic_text.specs.Grammar.{route, node_at, max_depth, begins_unread_statement, node_or_unread, one_statement, statements_from, statements}
+use Rattle.classic_text.specs.Input.{Outcome, at_end}
+use Rattle.classic_text.specs.Grammar.{node_at, proto_at, top_statement, statements_from, statements}
 use Rattle.classic_text.specs.Head.{profile, component, meta, each, whole}
-use Rattle.classic_text.specs.Spells.{IsStatement, AreStatements, IsComponent, IsMeta, IsSpelling, Spells}
+use Rattle.classic_text.specs.Spells.{max_depth, IsNode, IsProto, IsTopStatement, AreStatements, IsComponent, IsMeta, IsSpelling, Spells}
 use Rattle.classic_text.specs.Reading.{memory, document_of, by_tokens, by_version, read_text}
-use Rattle.classic_text.proofs.Steps.{ok_is, both, chosen, see, not_see, found_route, only_route, IsRoute-kind, IsRoute-shorter}
-use Rattle.classic_text.proofs.Heads.{found_profile, only_profile, known_component, known_meta, found_each, only_each, component_begins, meta_begins, no_component, no_meta}
-use Rattle.classic_text.proofs.Values.{BeginsNode}
-use Rattle.classic_text.proofs.Nodes.{not_refused, known_node, node_begins}
+use Rattle.classic_text.proofs.Steps.{ok_is, both}
+use Rattle.classic_text.proofs.Heads.{found_profile, only_profile, known_component, known_meta, found_each, only_each, component_begins, meta_begins}
+use Rattle.classic_text.proofs.Values.{Knows}
+use Rattle.classic_text.proofs.Items.{known_statement}
+use Rattle.classic_text.proofs.Nodes.{known_node, node_begins, known_proto, proto_begins}
 
 -- ---- statements
 
-found_node : (s : Statement) (ts rest : List Tok) → begins_unread_statement ts ≡ false → and_then (node_at max_depth ts) (λ n a. Ok (stands.Node n, a)) ≡ Ok (s, rest) → IsStatement ◌≡◌ s ts rest
-found_node s ts rest free h =
-    both (node_at max_depth ts) _ (s, rest) h (λ n a e h.
-    subst (λ (y : Statement × List Tok). IsStatement ◌≡◌ y.0 ts y.1) (ok_is (stands.Node n, a) (s, rest) h) (inl (record { node = n; is = refl; spelled = (known_node max_depth).found n ts a e; read = free })))
-
-found_statement : (s : Statement) (ts rest : List Tok) → one_statement ts ≡ Ok (s, rest) → IsStatement ◌≡◌ s ts rest
-unfolding one_statement
-found_statement s ts rest h =
-    ⊎_elim (λ c. both (route ts) _ (s, rest) c.1 (λ r a e h.
-    subst (λ (y : Statement × List Tok). IsStatement ◌≡◌ y.0 ts y.1) (ok_is (stands.Route r, a) (s, rest) h) (inr (record { route = r; is = refl; spelled = found_route r ts a e }))))
-    (λ c. let g = not_refused (begins_unread_statement ts) (Unsupported (line ts)) (and_then (node_at max_depth ts) (λ n a. Ok (stands.Node n, a))) (s, rest) c.1 in found_node s ts rest g.0 g.1)
-    (chosen (sees t.Route ts) (and_then (route ts) (λ r a. Ok (stands.Route r, a))) (node_or_unread ts) (Ok (s, rest)) h)
-
-only_statement : (s : Statement) (ts rest : List Tok) → IsStatement ◌≡◌ s ts rest → one_statement ts ≡ Ok (s, rest)
-unfolding one_statement
-only_statement s ts rest (inl h) =
-    let b : BeginsNode (kind ts) = node_begins max_depth h.node ts rest h.spelled in
-    let no_route : sees t.Route ts ≡ false = not_see t.Route ts (λ e. subst BeginsNode e b) in
-    rw (no_route, h.read, (known_node max_depth).only h.node ts rest h.spelled, h.is) refl
-only_statement s ts rest (inr h) = rw (see t.Route ts (IsRoute-kind h.route ts rest h.spelled), only_route h.route ts rest h.spelled, h.is) refl
-
-IsStatement-shorter : (s : Statement) (ts rest : List Tok) → IsStatement ◌≡◌ s ts rest → length rest < length ts
-IsStatement-shorter s ts rest (inl h) = (known_node max_depth).shorter h.node ts rest h.spelled
-IsStatement-shorter s ts rest (inr h) = IsRoute-shorter h.route ts rest h.spelled
+known_top : Knows top_statement (IsTopStatement ◌≡◌)
+known_top = known_statement (node_at max_depth) (IsNode ◌≡◌ max_depth) (known_node max_depth) (node_begins max_depth) (proto_at max_depth) (IsProto ◌≡◌ max_depth) (known_proto max_depth) (proto_begins max_depth)
 
 found_from : (n : ℕ) (found ss : List Statement) (ts rest : List Tok) → length ts ≤ n → statements_from n found ts ≡ Ok (ss, rest) → (more : List Statement) × (ss ≡ found ++ more) × AreStatements ◌≡◌ more ts
 unfolding statements_from at_end
@@ -59,20 +35,20 @@ found_from zero found ss [] rest fits h = ([], ap (λ p. p.0) (sym (ok_is (found
 found_from zero found ss (x ∷ ts) rest fits h = absurd (omega arith)
 found_from (suc n) found ss [] rest fits h = ([], ap (λ p. p.0) (sym (ok_is (found, []) (ss, rest) h)) ∙ sym (append-nil found), refl)
 found_from (suc n) found ss (x ∷ ts) rest fits h =
-    both (one_statement (x ∷ ts)) (λ s. statements_from n (found ++ s ∷ [])) (ss, rest) h (λ s a e r.
-    let is = found_statement s (x ∷ ts) a e in
-    let m = found_from n (found ++ s ∷ []) ss a rest (omega (arith, IsStatement-shorter s (x ∷ ts) a is)) r in
+    both (top_statement (x ∷ ts)) (λ s. statements_from n (found ++ s ∷ [])) (ss, rest) h (λ s a e r.
+    let is = known_top.found s (x ∷ ts) a e in
+    let m = found_from n (found ++ s ∷ []) ss a rest (omega (arith, known_top.shorter s (x ∷ ts) a is)) r in
     (s ∷ m.0, m.1 ∙ append_assoc found (s ∷ []) m.0, (a, is, m.2)))
 
 only_from : (n : ℕ) (found more : List Statement) (ts : List Tok) → length ts ≤ n → AreStatements ◌≡◌ more ts → statements_from n found ts ≡ Ok (found ++ more, [])
 unfolding statements_from at_end
 only_from zero found [] ts fits h = rw (append-nil found, h) refl
 only_from (suc n) found [] ts fits h = rw (append-nil found, h) refl
-only_from n found (s ∷ more) [] fits h = absurd (omega (arith, IsStatement-shorter s [] h.0 h.1))
+only_from n found (s ∷ more) [] fits h = absurd (omega (arith, known_top.shorter s [] h.0 h.1))
 only_from zero found (s ∷ more) (x ∷ ts) fits h = absurd (omega arith)
 only_from (suc n) found (s ∷ more) (x ∷ ts) fits h =
-    rw (only_statement s (x ∷ ts) h.0 h.1)
-    (only_from n (found ++ s ∷ []) more h.0 (omega (arith, IsStatement-shorter s (x ∷ ts) h.0 h.1)) h.2 ∙ ap (λ (ss : List Statement). Ok (ss, [])) (append_assoc found (s ∷ []) more))
+    rw (known_top.only s (x ∷ ts) h.0 h.1)
+    (only_from n (found ++ s ∷ []) more h.0 (omega (arith, known_top.shorter s (x ∷ ts) h.0 h.1)) h.2 ∙ ap (λ (ss : List Statement). Ok (ss, [])) (append_assoc found (s ∷ []) more))
 
 found_statements : (ss : List Statement) (ts rest : List Tok) → statements ts ≡ Ok (ss, rest) → AreStatements ◌≡◌ ss ts
 unfolding statements
@@ -95,8 +71,8 @@ found_whole version d ts rest h =
         behind_components = b;
         behind_metas = c;
         profile = found_profile p ts a e;
-        components = found_each (codes "COMPONENT") component IsComponent known_component component_begins no_component cs a b f;
-        metas = found_each (codes "META") meta IsMeta known_meta meta_begins no_meta ms b c g;
+        components = found_each (codes "COMPONENT") component IsComponent known_component component_begins tt cs a b f;
+        metas = found_each (codes "META") meta IsMeta known_meta meta_begins tt ms b c g;
         statements = found_statements ss c r i;
       },
     )))))
@@ -106,8 +82,8 @@ unfolding whole
 only_whole d ts h =
     rw (
       only_profile d.profile ts h.behind_profile h.profile,
-      only_each (codes "COMPONENT") component IsComponent known_component component_begins no_component d.components h.behind_profile h.behind_components h.components,
-      only_each (codes "META") meta IsMeta known_meta meta_begins no_meta d.metas h.behind_components h.behind_metas h.metas,
+      only_each (codes "COMPONENT") component IsComponent known_component component_begins tt d.components h.behind_profile h.behind_components h.components,
+      only_each (codes "META") meta IsMeta known_meta meta_begins tt d.metas h.behind_components h.behind_metas h.metas,
       only_statements d.statements h.behind_metas h.statements,
     )
     refl

@@ -3,7 +3,6 @@ use Rattle.std.proofs.Common.{◌≡◌, ℕ, zero, suc, ◌<◌, ◌≤◌, Lis
 use Rattle.std.specs.Prelude.{codes}
 use Rattle.std.specs.Str.{bytes_eq}
 use Rattle.std.proofs.lemmas.Bool.{and_parts}
-use Rattle.std.proofs.lemmas.Slice.Eq.{bytes_eq-Decides}
 use Rattle.std.proofs.lemmas.List.{append-nil}
 use Rattle.classic_lex.specs.Lexed.{Tok}
 use Rattle.classic_tree.specs.declared.tree.Meta.{Meta}
@@ -13,21 +12,11 @@ use Rattle.classic_text.specs.Input.{Parser, and_then, kind, next, spelling, see
 use Rattle.classic_text.specs.Head.{profile, component, meta, each_from, each}
 use Rattle.classic_text.specs.Spells.{IsWord, IsProfile, IsComponent, IsMeta, AreEach, IsSuch}
 use Rattle.classic_text.proofs.LevelLemmas.{HasLevel-has_level, has_level-HasLevel}
-use Rattle.classic_text.proofs.Steps.{ok_is, both, guarded, chosen, seen, see, IsSuch-shorter, found_name, only_name, found_string, only_string}
+use Rattle.classic_text.proofs.Seen.{seen, see, same_word, word_same, IsSome, not_word_ahead, word_not_ahead}
+use Rattle.classic_text.proofs.Steps.{ok_is, both, guarded, chosen, IsSuch-shorter, found_name, only_name, found_string, only_string}
 use Rattle.classic_text.proofs.Values.{Knows, IsString-shorter}
 
 -- ---- words
-
-same_word : (s w : List ℕ) → bytes_eq s w ≡ true → s ≡ w
-same_word s w h = (bytes_eq-Decides s w).0 h
-
-word_same : (s w : List ℕ) → s ≡ w → bytes_eq s w ≡ true
-word_same s w e = (bytes_eq-Decides s w).1 e
-
--- a word has a byte
-abbrev IsSome : List ℕ → Type 0
-IsSome [] = ⊥
-IsSome (b ∷ bs) = Unit {0}
 
 found_word : (w : List ℕ) (ts rest : List Tok) → IsSome w → expect_word w ts ≡ Ok (tt, rest) → IsWord w ts rest
 unfolding expect_word sees_word spelling next
@@ -60,12 +49,12 @@ unfolding profile
 found_profile p ts rest h =
     ⊎_elim (λ c. both (expect_word (codes "PROFILE") ts) _ (p, rest) c.1 (λ u a e h. both (name a) _ (p, rest) h (λ n b f h.
     subst (λ (y : Option (List ℕ) × List Tok). IsProfile y.0 ts y.1) (ok_is (Some n, b) (p, rest) h) (a, found_word (codes "PROFILE") ts a tt e, found_name n a b f))))
-    (λ c. subst (λ (y : Option (List ℕ) × List Tok). IsProfile y.0 ts y.1) (ok_is (None, ts) (p, rest) c.1) (c.0, refl))
+    (λ c. subst (λ (y : Option (List ℕ) × List Tok). IsProfile y.0 ts y.1) (ok_is (None, ts) (p, rest) c.1) (not_word_ahead (codes "PROFILE") ts c.0, refl))
     (chosen (sees_word (codes "PROFILE") ts) (and_then (expect_word (codes "PROFILE") ts) (λ u a. and_then (name a) (λ n b. Ok (Some n, b)))) (Ok (None, ts)) (Ok (p, rest)) h)
 
 pub only_profile : (p : Option (List ℕ)) (ts rest : List Tok) → IsProfile p ts rest → profile ts ≡ Ok (p, rest)
 unfolding profile
-only_profile None ts rest h = rw (h.0, h.1) refl
+only_profile None ts rest h = rw (word_not_ahead (codes "PROFILE") ts tt h.0, h.1) refl
 only_profile (Some n) ts rest h = rw (IsWord-seen (codes "PROFILE") ts h.0 h.1, only_word (codes "PROFILE") ts h.0 h.1, only_name n h.0 rest h.2) refl
 
 -- ---- COMPONENT and META
@@ -105,25 +94,25 @@ known_meta = record {
 
 -- ---- each of them
 
-module _ {A : Type 0} (w : List ℕ) (item : Parser A) (Item : A → List Tok → List Tok → Type 0) (known : Knows item Item) (begins : (x : A) (ts rest : List Tok) → Item x ts rest → sees_word w ts ≡ true) (nowhere : sees_word w [] ≡ false) where
+module _ {A : Type 0} (w : List ℕ) (item : Parser A) (Item : A → List Tok → List Tok → Type 0) (known : Knows item Item) (begins : (x : A) (ts rest : List Tok) → Item x ts rest → sees_word w ts ≡ true) (some : IsSome w) where
   found_each_from : (n : ℕ) (found xs : List A) (ts rest : List Tok) → length ts ≤ n → each_from w item n found ts ≡ Ok (xs, rest) → (more : List A) × (xs ≡ found ++ more) × AreEach w Item more ts rest
   unfolding each_from
   found_each_from zero found xs [] rest fits h =
       let e = ok_is (found, []) (xs, rest) h in
-      ([], ap (λ p. p.0) (sym e) ∙ sym (append-nil found), (nowhere, ap (λ p. p.1) (sym e)))
+      ([], ap (λ p. p.0) (sym e) ∙ sym (append-nil found), (tt, ap (λ p. p.1) (sym e)))
   found_each_from zero found xs (x ∷ ts) rest fits h = absurd (omega arith)
   found_each_from (suc n) found xs ts rest fits h =
       ⊎_elim (λ c. both (item ts) (λ x. each_from w item n (found ++ x ∷ [])) (xs, rest) c.1 (λ x a e r.
       let is = known.found x ts a e in
       let m = found_each_from n (found ++ x ∷ []) xs a rest (omega (arith, known.shorter x ts a is)) r in
       (x ∷ m.0, m.1 ∙ append_assoc found (x ∷ []) m.0, (a, is, m.2))))
-      (λ c. let e = ok_is (found, ts) (xs, rest) c.1 in ([], ap (λ p. p.0) (sym e) ∙ sym (append-nil found), (c.0, ap (λ p. p.1) (sym e))))
+      (λ c. let e = ok_is (found, ts) (xs, rest) c.1 in ([], ap (λ p. p.0) (sym e) ∙ sym (append-nil found), (not_word_ahead w ts c.0, ap (λ p. p.1) (sym e))))
       (chosen (sees_word w ts) (and_then (item ts) (λ x. each_from w item n (found ++ x ∷ []))) (Ok (found, ts)) (Ok (xs, rest)) h)
 
   only_each_from : (n : ℕ) (found more : List A) (ts rest : List Tok) → length ts ≤ n → AreEach w Item more ts rest → each_from w item n found ts ≡ Ok (found ++ more, rest)
   unfolding each_from
   only_each_from zero found [] ts rest fits h = rw (append-nil found, h.1) refl
-  only_each_from (suc n) found [] ts rest fits h = rw (h.0, append-nil found, h.1) refl
+  only_each_from (suc n) found [] ts rest fits h = rw (word_not_ahead w ts some h.0, append-nil found, h.1) refl
   only_each_from zero found (m ∷ more) ts rest fits h = absurd (omega (arith, known.shorter m ts h.0 h.1))
   only_each_from (suc n) found (m ∷ more) ts rest fits h =
       rw (begins m ts h.0 h.1, known.only m ts h.0 h.1)
@@ -142,11 +131,3 @@ component_begins c ts rest h = IsWord-seen (codes "COMPONENT") ts h.0 h.1
 
 pub meta_begins : (m : Meta) (ts rest : List Tok) → IsMeta m ts rest → sees_word (codes "META") ts ≡ true
 meta_begins m ts rest h = IsWord-seen (codes "META") ts h.0 h.2
-
-pub no_component : sees_word (codes "COMPONENT") [] ≡ false
-unfolding sees_word spelling
-no_component = refl
-
-pub no_meta : sees_word (codes "META") [] ≡ false
-unfolding sees_word spelling
-no_meta = refl

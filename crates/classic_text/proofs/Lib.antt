@@ -1,8 +1,12 @@
 pub mod CursorLemmas
+pub mod Declarations
 pub mod Documents
 pub mod Heads
+pub mod HeldLemmas
+pub mod Items
 pub mod LevelLemmas
 pub mod Nodes
+pub mod Seen
 pub mod Steps
 pub mod StringLemmas
 pub mod Turns

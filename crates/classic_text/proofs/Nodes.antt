@@ -1,70 +1,22 @@
--- Bodies, and nodes at each depth: what is read is spelled so, and what is spelled so is read.
+-- Bodies, and nodes and prototypes at each depth: what is read is spelled so, and what is spelled so is read.
 use Rattle.std.proofs.Common.{◌≡◌, ℕ, zero, suc, ◌<◌, ◌≤◌, List, length, Bool, true, false, cond, Option, Some, None, Ok, Err, refl, sym, ap, ◌∙◌, subst, ◌⊎◌, inl, inr, ⊎_elim, arith}
 use Rattle.classic_lex.specs.Lexed.{Tok}
 use Rattle.classic_tree.specs.declared.tree.BodyItem.{BodyItem}
-use Rattle.classic_tree.specs.declared.tree.BodyItem.TheVariants as held
 use Rattle.classic_tree.specs.declared.tree.NodeText.{NodeText}
 use Rattle.classic_tree.specs.declared.tree.NodeText.TheVariants as made
-use Rattle.classic_text.specs.declared.refusal.Refusal.{Refusal}
-use Rattle.classic_text.specs.declared.refusal.Refusal.TheVariants.{Unsupported}
+use Rattle.classic_tree.specs.declared.tree.ProtoText.{ProtoText}
+use Rattle.classic_tree.specs.declared.tree.Statement.{Statement}
 use Rattle.classic_text.specs.declared.terminal.Terminal.{Terminal}
 use Rattle.classic_text.specs.declared.terminal.Terminal.TheVariants as t
-use Rattle.classic_text.specs.Input.{Outcome, Parser, and_then, kind, line, sees, expect, name}
-use Rattle.classic_text.specs.Grammar.{route, begins_unread_item, one_given, field, field_or_unread, one_item, body, def_name, use_node, full_node, node_with, node_at}
-use Rattle.classic_text.specs.Spells.{HasDef, IsItem, IsBody, IsLayer, IsNode}
-use Rattle.classic_text.proofs.Steps.{ok_is, both, chosen, see, not_see, Is-kind, Is-shorter, IsName-kind, IsName-shorter, found_expect, only_expect, found_name, only_name, found_route, only_route, IsRoute-kind, IsRoute-shorter}
-use Rattle.classic_text.proofs.Values.{Knows, BeginsNode, found_until, only_until, AreUntil-shorter, found_given, only_given, IsGiven-shorter}
-
--- ---- what stands in a body
-
--- what is not refused
-pub not_refused : {A : Type 0} (b : Bool) (e : Refusal) (x : Outcome A) (y : A × List Tok) → cond b (Err e) x ≡ Ok y → (b ≡ false) × (x ≡ Ok y)
-not_refused true e x y h = cc
-not_refused false e x y h = (refl, h)
-
-module _ (inner : Parser NodeText) (Inner : NodeText → List Tok → List Tok → Type 0) (known : Knows inner Inner) (begins : (n : NodeText) (ts rest : List Tok) → Inner n ts rest → BeginsNode (kind ts)) where
-  found_field : (x : BodyItem) (ts rest : List Tok) → begins_unread_item ts ≡ false → field inner ts ≡ Ok (x, rest) → IsItem ◌≡◌ Inner x ts rest
-  unfolding field
-  found_field x ts rest free h =
-      both (name ts) _ (x, rest) h (λ f a e h. both (one_given inner a) _ (x, rest) h (λ g b i h.
-      let whole = ok_is (held.Field (line ts) f g, b) (x, rest) h in
-      subst (λ (p : BodyItem × List Tok). IsItem ◌≡◌ Inner p.0 ts p.1) whole
-      (inl (record { at = line ts; name = f; value = g; is = refl; lined = refl; behind = a; named = found_name f ts a e; spelled = found_given inner Inner known begins g a b i; read = free }))))
-
-  found_item : (x : BodyItem) (ts rest : List Tok) → one_item inner ts ≡ Ok (x, rest) → IsItem ◌≡◌ Inner x ts rest
-  unfolding one_item
-  found_item x ts rest h =
-      ⊎_elim (λ c. both (route ts) _ (x, rest) c.1 (λ r a e h.
-      subst (λ (p : BodyItem × List Tok). IsItem ◌≡◌ Inner p.0 ts p.1) (ok_is (held.Route r, a) (x, rest) h) (inr (record { route = r; is = refl; spelled = found_route r ts a e }))))
-      (λ c. let g = not_refused (begins_unread_item ts) (Unsupported (line ts)) (field inner ts) (x, rest) c.1 in found_field x ts rest g.0 g.1)
-      (chosen (sees t.Route ts) (and_then (route ts) (λ r a. Ok (held.Route r, a))) (field_or_unread inner ts) (Ok (x, rest)) h)
-
-  only_item : (x : BodyItem) (ts rest : List Tok) → IsItem ◌≡◌ Inner x ts rest → one_item inner ts ≡ Ok (x, rest)
-  unfolding one_item field
-  only_item x ts rest (inl h) =
-      let k : kind ts ≡ t.Name = IsName-kind h.name ts h.behind h.named in
-      let no_route : sees t.Route ts ≡ false = not_see t.Route ts (λ e. let c : t.Name ≡ t.Route = sym k ∙ e in cc) in
-      rw (no_route, h.read, only_name h.name ts h.behind h.named, only_given inner Inner known begins h.value h.behind rest h.spelled, h.lined, h.is) refl
-  only_item x ts rest (inr h) = rw (see t.Route ts (IsRoute-kind h.route ts rest h.spelled), only_route h.route ts rest h.spelled, h.is) refl
-
-  apart_item : (x : BodyItem) (ts rest : List Tok) → IsItem ◌≡◌ Inner x ts rest → kind ts ≡ t.CloseBrace → ⊥
-  apart_item x ts rest (inl h) e = let c : t.Name ≡ t.CloseBrace = sym (IsName-kind h.name ts h.behind h.named) ∙ e in cc
-  apart_item x ts rest (inr h) e = let c : t.Route ≡ t.CloseBrace = sym (IsRoute-kind h.route ts rest h.spelled) ∙ e in cc
-
-  IsItem-shorter : (x : BodyItem) (ts rest : List Tok) → IsItem ◌≡◌ Inner x ts rest → length rest < length ts
-  IsItem-shorter x ts rest (inl h) = omega (arith, IsName-shorter h.name ts h.behind h.named, IsGiven-shorter inner Inner known begins h.value h.behind rest h.spelled)
-  IsItem-shorter x ts rest (inr h) = IsRoute-shorter h.route ts rest h.spelled
-
-  known_item : Knows (one_item inner) (IsItem ◌≡◌ Inner)
-  known_item = record { found = found_item; only = only_item; shorter = IsItem-shorter }
-
-  known_body : Knows (body inner) (IsBody ◌≡◌ Inner)
-  unfolding body
-  known_body = record {
-    found = λ is ts rest h. both (expect t.OpenBrace ts) _ (is, rest) h (λ u a e h. (a, found_expect t.OpenBrace ts a (λ e. cc) e, found_until t.CloseBrace (one_item inner) (IsItem ◌≡◌ Inner) known_item (λ e. cc) is a rest h));
-    only = λ is ts rest h. rw (only_expect t.OpenBrace ts h.0 h.1) (only_until t.CloseBrace (one_item inner) (IsItem ◌≡◌ Inner) known_item (λ e. cc) apart_item is h.0 rest h.2);
-    shorter = λ is ts rest h. omega (arith, Is-shorter t.OpenBrace ts h.0 h.1, AreUntil-shorter t.CloseBrace (one_item inner) (IsItem ◌≡◌ Inner) known_item (λ e. cc) is h.0 rest h.2);
-  }
+use Rattle.classic_text.specs.Terminal.{line}
+use Rattle.classic_text.specs.Input.{Parser, and_then, kind, sees, expect, name}
+use Rattle.classic_text.specs.Grammar.{is_script, body, proto_body, def_name, use_node, full_node, node_with, node_at, proto_body_at, proto_at, proto_with}
+use Rattle.classic_text.specs.Spells.{HasDef, IsBody, IsProtoBody, IsLayer, IsProtoBy, IsNode, IsProtoBodyAt, IsProto}
+use Rattle.classic_text.proofs.Seen.{see, not_see}
+use Rattle.classic_text.proofs.Steps.{ok_is, both, chosen, Is-kind, Is-shorter, IsName-kind, IsName-shorter, found_expect, only_expect, found_name, only_name}
+use Rattle.classic_text.proofs.Values.{Knows, BeginsNode}
+use Rattle.classic_text.proofs.Declarations as declarations
+use Rattle.classic_text.proofs.Items.{known_body, known_proto_body}
 
 -- ---- names of nodes
 
@@ -91,7 +43,7 @@ begins_def (Some n) ts rest h k = inr (Is-kind t.Def ts h.0 h.1)
 
 -- ---- one layer of a node
 
-module _ (inside : Parser (List BodyItem)) (Body : List BodyItem → List Tok → List Tok → Type 0) (known : Knows inside Body) where
+module _ (inside : Bool → Parser (List BodyItem)) (Body : List ℕ → List BodyItem → List Tok → List Tok → Type 0) (known : (type : List ℕ) → Knows (inside (is_script type)) (Body type)) where
   found_use : (n : NodeText) (ts rest : List Tok) → use_node ts ≡ Ok (n, rest) → IsLayer ◌≡◌ Body n ts rest
   unfolding use_node
   found_use n ts rest h =
@@ -102,9 +54,9 @@ module _ (inside : Parser (List BodyItem)) (Body : List BodyItem → List Tok �
   found_full : (n : NodeText) (ts rest : List Tok) → full_node inside ts ≡ Ok (n, rest) → IsLayer ◌≡◌ Body n ts rest
   unfolding full_node
   found_full n ts rest h =
-      both (def_name ts) _ (n, rest) h (λ d a e h. both (name a) _ (n, rest) h (λ k b f h. both (inside b) _ (n, rest) h (λ is c g h.
+      both (def_name ts) _ (n, rest) h (λ d a e h. both (name a) _ (n, rest) h (λ k b f h. both (inside (is_script k) b) _ (n, rest) h (λ is c g h.
       subst (λ (y : NodeText × List Tok). IsLayer ◌≡◌ Body y.0 ts y.1) (ok_is (made.Full (line ts) d k is, c) (n, rest) h)
-      (inr (record { at = line ts; def = d; name = k; items = is; is = refl; lined = refl; behind_def = a; behind_name = b; defined = found_def d ts a e; named = found_name k a b f; body = known.found is b c g })))))
+      (inr (record { at = line ts; def = d; node_type = k; items = is; is = refl; lined = refl; behind_def = a; behind_type = b; defined = found_def d ts a e; typed = found_name k a b f; body = (known k).found is b c g })))))
 
   found_layer : (n : NodeText) (ts rest : List Tok) → node_with inside ts ≡ Ok (n, rest) → IsLayer ◌≡◌ Body n ts rest
   found_layer n ts rest h =
@@ -115,25 +67,45 @@ module _ (inside : Parser (List BodyItem)) (Body : List BodyItem → List Tok �
   only_layer n ts rest (inl h) =
       rw (see t.Use ts (Is-kind t.Use ts h.behind h.word), only_expect t.Use ts h.behind h.word, only_name h.name h.behind rest h.named, h.lined, h.is) refl
   only_layer n ts rest (inr h) =
-      let is : kind h.behind_def ≡ t.Name = IsName-kind h.name h.behind_def h.behind_name h.named in
+      let is : kind h.behind_def ≡ t.Name = IsName-kind h.node_type h.behind_def h.behind_type h.typed in
       let no_use : sees t.Use ts ≡ false = not_see t.Use ts (λ e. ⊎_elim (λ n. let c : t.Name ≡ t.Use = sym n ∙ e in cc) (λ d. let c : t.Def ≡ t.Use = sym d ∙ e in cc) (begins_def h.def ts h.behind_def h.defined is)) in
-      rw (no_use, only_def h.def ts h.behind_def t.Name is (λ e. cc) h.defined, only_name h.name h.behind_def h.behind_name h.named, known.only h.items h.behind_name rest h.body, h.lined, h.is) refl
+      rw (no_use, only_def h.def ts h.behind_def t.Name is (λ e. cc) h.defined, only_name h.node_type h.behind_def h.behind_type h.typed, (known h.node_type).only h.items h.behind_type rest h.body, h.lined, h.is) refl
 
   IsLayer-shorter : (n : NodeText) (ts rest : List Tok) → IsLayer ◌≡◌ Body n ts rest → length rest < length ts
   IsLayer-shorter n ts rest (inl h) = omega (arith, Is-shorter t.Use ts h.behind h.word, IsName-shorter h.name h.behind rest h.named)
-  IsLayer-shorter n ts rest (inr h) = omega (arith, HasDef-shorter h.def ts h.behind_def h.defined, IsName-shorter h.name h.behind_def h.behind_name h.named, known.shorter h.items h.behind_name rest h.body)
+  IsLayer-shorter n ts rest (inr h) = omega (arith, HasDef-shorter h.def ts h.behind_def h.defined, IsName-shorter h.node_type h.behind_def h.behind_type h.typed, (known h.node_type).shorter h.items h.behind_type rest h.body)
 
   layer_begins : (n : NodeText) (ts rest : List Tok) → IsLayer ◌≡◌ Body n ts rest → BeginsNode (kind ts)
   layer_begins n ts rest (inl h) = rw (Is-kind t.Use ts h.behind h.word) tt
-  layer_begins n ts rest (inr h) = ⊎_elim (λ n. rw n tt) (λ d. rw d tt) (begins_def h.def ts h.behind_def h.defined (IsName-kind h.name h.behind_def h.behind_name h.named))
+  layer_begins n ts rest (inr h) = ⊎_elim (λ n. rw n tt) (λ d. rw d tt) (begins_def h.def ts h.behind_def h.defined (IsName-kind h.node_type h.behind_def h.behind_type h.typed))
 
   known_layer : Knows (node_with inside) (IsLayer ◌≡◌ Body)
   known_layer = record { found = found_layer; only = only_layer; shorter = IsLayer-shorter }
 
--- ---- nodes at each depth
+-- ---- nodes and prototypes at each depth
+
+-- bodies of nodes and prototypes that are known at a depth, one deeper
+module _ (depth : ℕ) (known : Knows (node_at depth) (IsNode ◌≡◌ depth)) (begins : (n : NodeText) (ts rest : List Tok) → IsNode ◌≡◌ depth n ts rest → BeginsNode (kind ts)) (known_inside : (at : ℕ) → Knows (proto_body_at depth at) (IsProtoBodyAt ◌≡◌ depth)) where
+  protos : Knows (proto_at depth) (IsProto ◌≡◌ depth)
+  protos = declarations.known_proto (node_at depth) (IsNode ◌≡◌ depth) known begins (proto_body_at depth) (IsProtoBodyAt ◌≡◌ depth) known_inside
+
+  protos_begin : (p : ProtoText) (ts rest : List Tok) → IsProto ◌≡◌ depth p ts rest → kind ts ≡ t.Proto
+  protos_begin = declarations.proto_begins (node_at depth) (IsNode ◌≡◌ depth) known begins (proto_body_at depth) (IsProtoBodyAt ◌≡◌ depth) known_inside
+
+  bodies : (type : List ℕ) → Knows (body (node_at depth) (proto_at depth) (is_script type)) (IsBody ◌≡◌ (IsNode ◌≡◌ depth) (IsProto ◌≡◌ depth) type)
+  bodies = known_body (node_at depth) (IsNode ◌≡◌ depth) known begins (proto_at depth) (IsProto ◌≡◌ depth) protos protos_begin
+
+  deeper_node : Knows (node_with (body (node_at depth) (proto_at depth))) (IsLayer ◌≡◌ (IsBody ◌≡◌ (IsNode ◌≡◌ depth) (IsProto ◌≡◌ depth)))
+  deeper_node = known_layer (body (node_at depth) (proto_at depth)) (IsBody ◌≡◌ (IsNode ◌≡◌ depth) (IsProto ◌≡◌ depth)) bodies
+
+  deeper_begins : (n : NodeText) (ts rest : List Tok) → IsLayer ◌≡◌ (IsBody ◌≡◌ (IsNode ◌≡◌ depth) (IsProto ◌≡◌ depth)) n ts rest → BeginsNode (kind ts)
+  deeper_begins = layer_begins (body (node_at depth) (proto_at depth)) (IsBody ◌≡◌ (IsNode ◌≡◌ depth) (IsProto ◌≡◌ depth)) bodies
+
+  deeper_inside : Knows (proto_body (node_at depth) (proto_at depth)) (IsProtoBody ◌≡◌ (IsNode ◌≡◌ depth) (IsProto ◌≡◌ depth))
+  deeper_inside = known_proto_body (node_at depth) (IsNode ◌≡◌ depth) known begins (proto_at depth) (IsProto ◌≡◌ depth) protos protos_begin
 
 mutual
-  unfolding node_at IsNode
+  unfolding node_at proto_body_at IsNode IsProtoBodyAt
 
   pub known_node : (depth : ℕ) → Knows (node_at depth) (IsNode ◌≡◌ depth)
   known_node zero = record {
@@ -141,8 +113,22 @@ mutual
     only = λ n ts rest h. absurd h;
     shorter = λ n ts rest h. absurd h;
   }
-  known_node (suc depth) = known_layer (body (node_at depth)) (IsBody ◌≡◌ (IsNode ◌≡◌ depth)) (known_body (node_at depth) (IsNode ◌≡◌ depth) (known_node depth) (node_begins depth))
+  known_node (suc depth) = deeper_node depth (known_node depth) (node_begins depth) (known_inside depth)
+
+  pub known_inside : (depth at : ℕ) → Knows (proto_body_at depth at) (IsProtoBodyAt ◌≡◌ depth)
+  known_inside zero at = record {
+    found = λ ss ts rest h. cc;
+    only = λ ss ts rest h. absurd h;
+    shorter = λ ss ts rest h. absurd h;
+  }
+  known_inside (suc depth) at = deeper_inside depth (known_node depth) (node_begins depth) (known_inside depth)
 
   pub node_begins : (depth : ℕ) (n : NodeText) (ts rest : List Tok) → IsNode ◌≡◌ depth n ts rest → BeginsNode (kind ts)
   node_begins zero n ts rest h = absurd h
-  node_begins (suc depth) n ts rest h = layer_begins (body (node_at depth)) (IsBody ◌≡◌ (IsNode ◌≡◌ depth)) (known_body (node_at depth) (IsNode ◌≡◌ depth) (known_node depth) (node_begins depth)) n ts rest h
+  node_begins (suc depth) n ts rest h = deeper_begins depth (known_node depth) (node_begins depth) (known_inside depth) n ts rest h
+
+pub known_proto : (depth : ℕ) → Knows (proto_at depth) (IsProto ◌≡◌ depth)
+known_proto depth = protos depth (known_node depth) (node_begins depth) (known_inside depth)
+
+pub proto_begins : (depth : ℕ) (p : ProtoText) (ts rest : List Tok) → IsProto ◌≡◌ depth p ts rest → kind ts ≡ t.Proto
+proto_begins depth = protos_begin depth (known_node depth) (node_begins depth) (known_inside depth)

@@ -1,21 +1,24 @@
 -- The steps of the grammar read what they speak of, and nothing else.
-use Rattle.std.proofs.Common.{◌≡◌, ℕ, ℤ, ◌<◌, List, [], ◌∷◌, length, Bool, true, false, cond, Result, Ok, Err, refl, sym, ap, subst, ◌⊎◌, inl, inr, ⊎_elim, ◌∙◌, arith, rules}
-use denote.Enum.Bare.{same_true, same_false, true_same, false_same}
+use Rattle.std.proofs.Common.{◌≡◌, ℕ, ℤ, ◌<◌, List, [], ◌∷◌, length, ◌&&◌, Bool, true, false, cond, Option, Some, None, Result, Ok, Err, refl, sym, ap, subst, ◌⊎◌, inl, inr, ⊎_elim, ◌∙◌, arith, rules}
+use Rattle.std.proofs.lemmas.Bool.{and_parts}
 use Rattle.x3d_numerals.specs.Reading.{numeral}
 use Rattle.x3d_numerals.specs.declared.fault.NumeralFault.{NumeralFault}
 use Rattle.x3d_numerals.proofs.Numerals.{numeral_sound, numeral_complete}
+use Rattle.x3d_values.specs.declared.field_type.Access.{Access}
+use Rattle.x3d_values.specs.declared.field_type.FieldType.{FieldType}
+use Rattle.x3d_values.specs.Names.{access_named, field_type_named}
 use Rattle.classic_lex.specs.Lexed.{Tok}
 use Rattle.classic_tree.specs.declared.tree.Place.{Place}
 use Rattle.classic_tree.specs.declared.tree.RouteText.{RouteText}
-use Rattle.classic_text.specs.contracts.terminal.Terminal.{the_type}
 use Rattle.classic_text.specs.declared.refusal.Refusal.{Refusal}
 use Rattle.classic_text.specs.declared.terminal.Terminal.{Terminal}
 use Rattle.classic_text.specs.declared.terminal.Terminal.TheVariants as t
-use Rattle.classic_text.specs.Terminal.{same}
-use Rattle.classic_text.specs.Strings.{unquoted}
-use Rattle.classic_text.specs.Input.{Outcome, Parser, and_then, kind, spelling, next, sees, refusal, expect, name, string, truth, number, number_by}
+use Rattle.classic_text.specs.Unquoted.{unquoted, is_quoted}
+use Rattle.classic_text.specs.Input.{Outcome, Parser, and_then, kind, spelling, next, sees, sees_string, refusal, expect, name, access, access_by, field_type, type_by, string, truth, number, number_by}
 use Rattle.classic_text.specs.Grammar.{place, route}
-use Rattle.classic_text.specs.Spells.{Is, IsSuch, IsName, IsString, IsNumber, IsTruth, IsPlace, IsRoute}
+use Rattle.classic_text.specs.Spells.{Is, IsSuch, IsName, IsString, IsNumber, IsTruth, IsAccess, IsFieldType, IsPlace, IsRoute}
+use Rattle.classic_text.proofs.HeldLemmas.{unquoted-Holds, Holds-quoted, Holds-unquoted}
+use Rattle.classic_text.proofs.Seen.{seen, see, not_see}
 
 -- ---- tools
 
@@ -35,22 +38,6 @@ guarded false x y e h = cc
 pub chosen : {A : Type 0} (b : Bool) (x y z : A) → cond b x y ≡ z → ((b ≡ true) × (x ≡ z)) ⊎ ((b ≡ false) × (y ≡ z))
 chosen true x y z h = inl (refl, h)
 chosen false x y z h = inr (refl, h)
-
-pub seen : (k : Terminal) (ts : List Tok) → sees k ts ≡ true → kind ts ≡ k
-unfolding sees same
-seen k ts h = same_true the_type (search rules) (kind ts) k h
-
-pub see : (k : Terminal) (ts : List Tok) → kind ts ≡ k → sees k ts ≡ true
-unfolding sees same
-see k ts h = true_same the_type (kind ts) k h
-
-pub unseen : (k : Terminal) (ts : List Tok) → sees k ts ≡ false → kind ts ≡ k → ⊥
-unfolding sees same
-unseen k ts h = same_false the_type (kind ts) k h
-
-pub not_see : (k : Terminal) (ts : List Tok) → (kind ts ≡ k → ⊥) → sees k ts ≡ false
-unfolding sees same
-not_see k ts h = false_same the_type (search rules) (kind ts) k h
 
 -- ---- what a token is, and what is left behind it
 
@@ -117,16 +104,20 @@ only_name n [] rest h = absurd h
 only_name n (x ∷ ts) rest h = rw (see t.Name (x ∷ ts) h.0, h.1, h.2) refl
 
 pub found_string : (s : List ℕ) (ts rest : List Tok) → string ts ≡ Ok (s, rest) → IsString s ts rest
-unfolding string next kind spelling
-found_string s [] rest h = absurd (let e : t.End ≡ t.String = seen t.String [] (guarded (sees t.String []) (unquoted [], []) (s, rest) (refusal []) h).0 in cc)
+unfolding string sees_string next kind spelling
+found_string s [] rest h =
+    let g = guarded (sees t.String [] && is_quoted []) (unquoted [], []) (s, rest) (refusal []) h in
+    let p = and_parts (sees t.String []) (is_quoted []) g.0 in
+    let e : t.End ≡ t.String = seen t.String [] p.0 in cc
 found_string s (x ∷ ts) rest h =
-    let g = guarded (sees t.String (x ∷ ts)) (unquoted x.text, ts) (s, rest) (refusal (x ∷ ts)) h in
-    (seen t.String (x ∷ ts) g.0, ap (λ p. p.0) g.1, ap (λ p. p.1) (sym g.1))
+    let g = guarded (sees t.String (x ∷ ts) && is_quoted x.text) (unquoted x.text, ts) (s, rest) (refusal (x ∷ ts)) h in
+    let p = and_parts (sees t.String (x ∷ ts)) (is_quoted x.text) g.0 in
+    (seen t.String (x ∷ ts) p.0, unquoted-Holds x.text s p.1 (ap (λ q. q.0) g.1), ap (λ q. q.1) (sym g.1))
 
 pub only_string : (s : List ℕ) (ts rest : List Tok) → IsString s ts rest → string ts ≡ Ok (s, rest)
-unfolding string next kind spelling
+unfolding string sees_string next kind spelling
 only_string s [] rest h = absurd h
-only_string s (x ∷ ts) rest h = rw (see t.String (x ∷ ts) h.0, h.1, h.2) refl
+only_string s (x ∷ ts) rest h = rw (see t.String (x ∷ ts) h.0, Holds-quoted x.text s h.1, Holds-unquoted x.text s h.1, h.2) refl
 
 pub found_truth : (b : Bool) (ts rest : List Tok) → truth ts ≡ Ok (b, rest) → IsTruth b ts rest
 unfolding truth
@@ -165,6 +156,59 @@ pub only_number : (n : ℤ) (ts rest : List Tok) → IsNumber n ts rest → numb
 unfolding number next kind spelling
 only_number n [] rest h = absurd h
 only_number n (x ∷ ts) rest h = rw (see t.Numeral (x ∷ ts) h.0, numeral_complete x.text n h.1, h.2) refl
+
+-- ---- access and types
+
+by_access : (o : Option Access) (a : Access) (ts rest : List Tok) → access_by o ts ≡ Ok (a, rest) → (o ≡ Some a) × (rest ≡ next ts)
+by_access (Some b) a ts rest h = let e = ok_is (b, next ts) (a, rest) h in (ap (λ p. Some p.0) e, ap (λ p. p.1) (sym e))
+by_access None a ts rest h = cc
+
+access_is : (o : Option Access) (a : Access) (ts : List Tok) → o ≡ Some a → access_by o ts ≡ Ok (a, next ts)
+access_is o a ts h = ap (λ p. access_by p ts) h
+
+pub found_access : (a : Access) (ts rest : List Tok) → access ts ≡ Ok (a, rest) → IsAccess a ts rest
+unfolding access next kind spelling
+found_access a [] rest h =
+    ⊎_elim (λ c. absurd (let e : t.End ≡ t.Access = seen t.Access [] c.0 in cc)) (λ c. let e = c.1 in cc)
+    (chosen (sees t.Access []) (access_by (access_named []) []) (Err (refusal [])) (Ok (a, rest)) h)
+found_access a (x ∷ ts) rest h =
+    ⊎_elim (λ c. let g = by_access (access_named x.text) a (x ∷ ts) rest c.1 in (seen t.Access (x ∷ ts) c.0, g.0, g.1)) (λ c. let e = c.1 in cc)
+    (chosen (sees t.Access (x ∷ ts)) (access_by (access_named x.text) (x ∷ ts)) (Err (refusal (x ∷ ts))) (Ok (a, rest)) h)
+
+pub only_access : (a : Access) (ts rest : List Tok) → IsAccess a ts rest → access ts ≡ Ok (a, rest)
+unfolding access next kind spelling
+only_access a [] rest h = absurd h
+only_access a (x ∷ ts) rest h = rw (see t.Access (x ∷ ts) h.0, h.2) (access_is (access_named x.text) a (x ∷ ts) h.1)
+
+by_type : (o : Option FieldType) (f : FieldType) (ts rest : List Tok) → type_by o ts ≡ Ok (f, rest) → (o ≡ Some f) × (rest ≡ next ts)
+by_type (Some g) f ts rest h = let e = ok_is (g, next ts) (f, rest) h in (ap (λ p. Some p.0) e, ap (λ p. p.1) (sym e))
+by_type None f ts rest h = cc
+
+type_is : (o : Option FieldType) (f : FieldType) (ts : List Tok) → o ≡ Some f → type_by o ts ≡ Ok (f, next ts)
+type_is o f ts h = ap (λ p. type_by p ts) h
+
+pub found_type : (f : FieldType) (ts rest : List Tok) → field_type ts ≡ Ok (f, rest) → IsFieldType f ts rest
+unfolding field_type next kind spelling
+found_type f [] rest h =
+    ⊎_elim (λ c. absurd (let e : t.End ≡ t.Name = seen t.Name [] c.0 in cc)) (λ c. let e = c.1 in cc)
+    (chosen (sees t.Name []) (type_by (field_type_named []) []) (Err (refusal [])) (Ok (f, rest)) h)
+found_type f (x ∷ ts) rest h =
+    ⊎_elim (λ c. let g = by_type (field_type_named x.text) f (x ∷ ts) rest c.1 in (seen t.Name (x ∷ ts) c.0, g.0, g.1)) (λ c. let e = c.1 in cc)
+    (chosen (sees t.Name (x ∷ ts)) (type_by (field_type_named x.text) (x ∷ ts)) (Err (refusal (x ∷ ts))) (Ok (f, rest)) h)
+
+pub only_type : (f : FieldType) (ts rest : List Tok) → IsFieldType f ts rest → field_type ts ≡ Ok (f, rest)
+unfolding field_type next kind spelling
+only_type f [] rest h = absurd h
+only_type f (x ∷ ts) rest h = rw (see t.Name (x ∷ ts) h.0, h.2) (type_is (field_type_named x.text) f (x ∷ ts) h.1)
+
+pub IsAccess-kind : (a : Access) (ts rest : List Tok) → IsAccess a ts rest → kind ts ≡ t.Access
+IsAccess-kind a ts rest h = IsSuch-kind t.Access (λ text. access_named text ≡ Some a) ts rest h
+
+pub IsAccess-shorter : (a : Access) (ts rest : List Tok) → IsAccess a ts rest → length rest < length ts
+IsAccess-shorter a ts rest h = IsSuch-shorter t.Access (λ text. access_named text ≡ Some a) ts rest h
+
+pub IsFieldType-shorter : (f : FieldType) (ts rest : List Tok) → IsFieldType f ts rest → length rest < length ts
+IsFieldType-shorter f ts rest h = IsSuch-shorter t.Name (λ text. field_type_named text ≡ Some f) ts rest h
 
 -- ---- places and routes
 

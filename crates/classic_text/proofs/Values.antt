@@ -10,11 +10,12 @@ use Rattle.classic_tree.specs.declared.tree.Given.TheVariants as given
 use Rattle.classic_tree.specs.declared.tree.NodeText.{NodeText}
 use Rattle.classic_text.specs.declared.terminal.Terminal.{Terminal}
 use Rattle.classic_text.specs.declared.terminal.Terminal.TheVariants as t
-use Rattle.classic_text.specs.Strings.{unquoted}
+use Rattle.classic_text.specs.Strings.{Holds}
 use Rattle.classic_text.specs.Input.{Parser, and_then, kind, next, sees, expect, name, string, truth, number}
 use Rattle.classic_text.specs.Grammar.{numbers, numbers_from, until, until_from, list_by, list, value_by, value, what_is, one_given}
 use Rattle.classic_text.specs.Spells.{Is, IsString, IsNumber, IsTruth, AreNumbers, AreSomeNumbers, AreUntil, AreListed, IsList, IsBracketed, IsValue, IsGiven}
-use Rattle.classic_text.proofs.Steps.{ok_is, both, chosen, see, unseen, not_see, Is-kind, IsSuch-kind, Is-shorter, IsSuch-shorter, IsName-shorter, found_expect, only_expect, closes, close, found_name, only_name, found_string, only_string, found_truth, only_truth, IsTruth-shorter, found_number, only_number}
+use Rattle.classic_text.proofs.Seen.{see, unseen, not_see, not_ahead, ahead_not}
+use Rattle.classic_text.proofs.Steps.{ok_is, both, chosen, Is-kind, IsSuch-kind, Is-shorter, IsSuch-shorter, IsName-shorter, found_expect, only_expect, closes, close, found_name, only_name, found_string, only_string, found_truth, only_truth, IsTruth-shorter, found_number, only_number}
 
 -- ---- numerals
 
@@ -25,29 +26,29 @@ pub IsNumber-shorter : (n : ℤ) (ts rest : List Tok) → IsNumber n ts rest →
 IsNumber-shorter n ts rest h = IsSuch-shorter t.Numeral (λ text. IsNumeral text n) ts rest h
 
 pub IsString-kind : (s : List ℕ) (ts rest : List Tok) → IsString s ts rest → kind ts ≡ t.String
-IsString-kind s ts rest h = IsSuch-kind t.String (λ text. unquoted text ≡ s) ts rest h
+IsString-kind s ts rest h = IsSuch-kind t.String (λ text. Holds text s) ts rest h
 
 pub IsString-shorter : (s : List ℕ) (ts rest : List Tok) → IsString s ts rest → length rest < length ts
-IsString-shorter s ts rest h = IsSuch-shorter t.String (λ text. unquoted text ≡ s) ts rest h
+IsString-shorter s ts rest h = IsSuch-shorter t.String (λ text. Holds text s) ts rest h
 
 found_numbers_from : (n : ℕ) (found ns : List ℤ) (ts rest : List Tok) → length ts ≤ n → numbers_from n found ts ≡ Ok (ns, rest) → (more : List ℤ) × (ns ≡ found ++ more) × AreNumbers more ts rest
 unfolding numbers_from kind
 found_numbers_from zero found ns [] rest fits h =
     let e = ok_is (found, []) (ns, rest) h in
-    ([], ap (λ p. p.0) (sym e) ∙ sym (append-nil found), ((λ k. cc), ap (λ p. p.1) (sym e)))
+    ([], ap (λ p. p.0) (sym e) ∙ sym (append-nil found), (tt, ap (λ p. p.1) (sym e)))
 found_numbers_from zero found ns (x ∷ ts) rest fits h = absurd (omega arith)
 found_numbers_from (suc n) found ns ts rest fits h =
     ⊎_elim (λ c. both (number ts) (λ x. numbers_from n (found ++ x ∷ [])) (ns, rest) c.1 (λ x a e r.
     let is = found_number x ts a e in
     let m = found_numbers_from n (found ++ x ∷ []) ns a rest (omega (arith, IsNumber-shorter x ts a is)) r in
     (x ∷ m.0, m.1 ∙ append_assoc found (x ∷ []) m.0, (a, is, m.2))))
-    (λ c. let e = ok_is (found, ts) (ns, rest) c.1 in ([], ap (λ p. p.0) (sym e) ∙ sym (append-nil found), (unseen t.Numeral ts c.0, ap (λ p. p.1) (sym e))))
+    (λ c. let e = ok_is (found, ts) (ns, rest) c.1 in ([], ap (λ p. p.0) (sym e) ∙ sym (append-nil found), (not_ahead t.Numeral ts (unseen t.Numeral ts c.0), ap (λ p. p.1) (sym e))))
     (chosen (sees t.Numeral ts) (and_then (number ts) (λ x. numbers_from n (found ++ x ∷ []))) (Ok (found, ts)) (Ok (ns, rest)) h)
 
 only_numbers_from : (n : ℕ) (found more : List ℤ) (ts rest : List Tok) → length ts ≤ n → AreNumbers more ts rest → numbers_from n found ts ≡ Ok (found ++ more, rest)
 unfolding numbers_from
 only_numbers_from zero found [] ts rest fits h = rw (append-nil found, h.1) refl
-only_numbers_from (suc n) found [] ts rest fits h = rw (not_see t.Numeral ts h.0, append-nil found, h.1) refl
+only_numbers_from (suc n) found [] ts rest fits h = rw (not_see t.Numeral ts (ahead_not t.Numeral ts (λ e. cc) h.0), append-nil found, h.1) refl
 only_numbers_from zero found (m ∷ more) ts rest fits h = absurd (omega (arith, IsNumber-shorter m ts h.0 h.1))
 only_numbers_from (suc n) found (m ∷ more) ts rest fits h =
     rw (see t.Numeral ts (IsNumber-kind m ts h.0 h.1), only_number m ts h.0 h.1)
@@ -61,7 +62,7 @@ found_numbers ns ts rest k h =
     some r.0 ns r.1 r.2
   where
     some : (more ns : List ℤ) → ns ≡ more → AreNumbers more ts rest → AreSomeNumbers ns ts rest
-    some [] ns e n = absurd (n.0 k)
+    some [] ns e n = absurd (ahead_not t.Numeral ts (λ e. cc) n.0 k)
     some (m ∷ more) ns e n = rw e n
 
 only_numbers : (ns : List ℤ) (ts rest : List Tok) → AreSomeNumbers ns ts rest → numbers ts ≡ Ok (ns, rest)
@@ -310,7 +311,7 @@ module _ (inner : Parser NodeText) (Inner : NodeText → List Tok → List Tok �
   IsBracketed-shorter : (x : RawValue NodeText) (ts rest : List Tok) → IsBracketed Inner x ts rest → length rest < length ts
   IsBracketed-shorter x ts rest h = omega (arith, Is-shorter t.OpenBracket ts h.0 h.1, IsList-shorter x h.0 rest h.2)
 
-  IsValue-shorter : (x : RawValue NodeText) (ts rest : List Tok) → IsValue Inner x ts rest → length rest < length ts
+  pub IsValue-shorter : (x : RawValue NodeText) (ts rest : List Tok) → IsValue Inner x ts rest → length rest < length ts
   IsValue-shorter v.Null ts rest h = Is-shorter t.Null ts rest h
   IsValue-shorter (v.Truth b) ts rest h = IsTruth-shorter b ts rest h
   IsValue-shorter (v.String s) ts rest h = IsString-shorter s ts rest h
@@ -323,7 +324,7 @@ module _ (inner : Parser NodeText) (Inner : NodeText → List Tok → List Tok �
   IsValue-shorter (v.NodeList ns) ts rest h = IsBracketed-shorter (v.NodeList ns) ts rest h
 
   -- no value begins with IS
-  value_apart : (x : RawValue NodeText) (ts rest : List Tok) → IsValue Inner x ts rest → kind ts ≡ t.Is → ⊥
+  pub value_apart : (x : RawValue NodeText) (ts rest : List Tok) → IsValue Inner x ts rest → kind ts ≡ t.Is → ⊥
   value_apart v.Null ts rest h e = let c : t.Null ≡ t.Is = sym (Is-kind t.Null ts rest h) ∙ e in cc
   value_apart (v.Truth true) ts rest h e = let c : t.True ≡ t.Is = sym (Is-kind t.True ts rest h) ∙ e in cc
   value_apart (v.Truth false) ts rest h e = let c : t.False ≡ t.Is = sym (Is-kind t.False ts rest h) ∙ e in cc
@@ -344,7 +345,7 @@ module _ (inner : Parser NodeText) (Inner : NodeText → List Tok → List Tok �
       ⊎_elim (λ c. both (expect t.Is ts) _ (x, rest) c.1 (λ u a e h. both (name a) _ (x, rest) h (λ n b f h.
       subst (λ (y : Given NodeText × List Tok). IsGiven Inner y.0 ts y.1) (ok_is _ _ h) (a, found_expect t.Is ts a (λ e. cc) e, found_name n a b f))))
       (λ c. both (value inner ts) _ (x, rest) c.1 (λ y a e h. subst (λ (y : Given NodeText × List Tok). IsGiven Inner y.0 ts y.1) (ok_is _ _ h) (found_value y ts a e)))
-      (chosen (sees t.Is ts) (what_is inner ts) (and_then (value inner ts) (λ y a. Ok (given.Value y, a))) (Ok (x, rest)) h)
+      (chosen (sees t.Is ts) (what_is ts) (and_then (value inner ts) (λ y a. Ok (given.Value y, a))) (Ok (x, rest)) h)
 
   pub only_given : (x : Given NodeText) (ts rest : List Tok) → IsGiven Inner x ts rest → one_given inner ts ≡ Ok (x, rest)
   unfolding one_given what_is

@@ -1,5 +1,8 @@
 -- The grammar, as it is read from left to right (ISO/IEC 19776-2, grammar).
-use Rattle.std.specs.Prelude.{ℕ, ℤ, zero, suc, Bool, ◌||◌, if◌then◌else◌, List, [], ◌∷◌, ◌++◌, length, Option, Some, None, Ok, Err, codes}
+use Rattle.std.specs.Prelude.{ℕ, ℤ, zero, suc, Bool, true, false, ◌||◌, ◌&&◌, if◌then◌else◌, List, [], ◌∷◌, ◌++◌, length, Option, Some, None, Ok, Err, codes}
+use Rattle.std.specs.Str.{bytes_eq}
+use Rattle.x3d_values.specs.declared.field_type.Access.{Access}
+use Rattle.x3d_values.specs.declared.field_type.Access.TheVariants as access_is
 use Rattle.classic_lex.specs.Lexed.{Tok}
 use Rattle.classic_tree.specs.declared.tree.Place.{Place}
 use Rattle.classic_tree.specs.declared.tree.RouteText.{RouteText}
@@ -7,6 +10,8 @@ use Rattle.classic_tree.specs.declared.tree.RawValue.{RawValue}
 use Rattle.classic_tree.specs.declared.tree.RawValue.TheVariants as v
 use Rattle.classic_tree.specs.declared.tree.Given.{Given}
 use Rattle.classic_tree.specs.declared.tree.Given.TheVariants as given
+use Rattle.classic_tree.specs.declared.tree.Declaration.{Declaration}
+use Rattle.classic_tree.specs.declared.tree.ProtoText.{ProtoText, roll-ProtoText}
 use Rattle.classic_tree.specs.declared.tree.BodyItem.{BodyItem}
 use Rattle.classic_tree.specs.declared.tree.BodyItem.TheVariants as held
 use Rattle.classic_tree.specs.declared.tree.NodeText.{NodeText}
@@ -17,7 +22,9 @@ use Rattle.classic_text.specs.declared.refusal.Refusal.{Refusal}
 use Rattle.classic_text.specs.declared.refusal.Refusal.TheVariants.{TooDeep, Unsupported}
 use Rattle.classic_text.specs.declared.terminal.Terminal.{Terminal}
 use Rattle.classic_text.specs.declared.terminal.Terminal.TheVariants as t
-use Rattle.classic_text.specs.Input.{Parser, ◌>>=◌, and_then, pure, refuse, refusal, peek, here, expect, name, string, truth, number, sees, sees_word, at_end, line, next}
+use Rattle.classic_text.specs.Input.{Parser, ◌>>=◌, and_then, pure, refuse, refusal, peek, here, expect, name, access, field_type, string, truth, number, sees, sees_word, at_end, next}
+use Rattle.classic_text.specs.Terminal.{line}
+use Rattle.classic_text.specs.Spells.{max_depth}
 
 unfoldable pub place : Parser Place
 place = do
@@ -54,21 +61,37 @@ until_from k item (suc n) found = λ ts. if sees k ts then Ok (found, next ts) e
 unfoldable pub until : {A : Type 0} → Terminal → Parser A → Parser (List A)
 until k item = λ ts. until_from k item (length ts) [] ts
 
--- ---- what isn't read yet
+-- ---- what isn't read
 
--- what begins with PROTO, a word of access or EXTERNPROTO
-unfoldable pub begins_unread_item : List Tok → Bool
-begins_unread_item ts = sees t.Proto ts || sees t.Access ts || sees_word (codes "EXTERNPROTO") ts
-
--- what begins with PROTO, EXTERNPROTO, IMPORT, EXPORT or UNIT
+-- what begins with EXTERNPROTO, IMPORT, EXPORT or UNIT
 unfoldable pub begins_unread_statement : List Tok → Bool
 begins_unread_statement ts =
-    sees t.Proto ts || sees_word (codes "EXTERNPROTO") ts || sees_word (codes "IMPORT") ts || sees_word (codes "EXPORT") ts || sees_word (codes "UNIT") ts
+    sees_word (codes "EXTERNPROTO") ts || sees_word (codes "IMPORT") ts || sees_word (codes "EXPORT") ts || sees_word (codes "UNIT") ts
 
 abbrev pub unsupported : {A : Type 0} → Parser A
 unsupported = λ ts. Err (Unsupported (line ts))
 
 -- ---- values, by how a node in them is read
+
+-- a field of that access holds a value
+unfoldable pub holds_value : Access → Bool
+holds_value access_is.InputOnly = false
+holds_value access_is.OutputOnly = false
+holds_value access_is.InputOutput = true
+holds_value access_is.InitializeOnly = true
+
+unfoldable pub is_script : List ℕ → Bool
+is_script word = bytes_eq word (codes "Script")
+
+unfoldable pub what_is : Parser (Given NodeText)
+what_is = do
+  _ ← expect t.Is
+  n ← name
+  pure (given.Is n)
+
+-- in the declaration of a field, in a Script alone
+unfoldable pub joined : Bool → Parser (Given NodeText)
+joined script = λ ts. if script then what_is ts else refuse ts
 
 module _ (inner : Parser NodeText) where
   abbrev pub list_by : Terminal → Parser (RawValue NodeText)
@@ -121,12 +144,6 @@ module _ (inner : Parser NodeText) where
   unfoldable pub value : Parser (RawValue NodeText)
   value = peek >>= value_by
 
-  unfoldable pub what_is : Parser (Given NodeText)
-  what_is = do
-    _ ← expect t.Is
-    n ← name
-    pure (given.Is n)
-
   unfoldable pub one_given : Parser (Given NodeText)
   one_given = λ ts. if sees t.Is ts then what_is ts else (value >>= λ x. pure (given.Value x)) ts
 
@@ -137,20 +154,62 @@ module _ (inner : Parser NodeText) where
     x ← one_given
     pure (held.Field at f x)
 
-  abbrev pub field_or_unread : Parser BodyItem
-  field_or_unread = λ ts. if begins_unread_item ts then unsupported ts else field ts
+  -- ---- declarations
 
-  -- what stands in a body
-  unfoldable pub one_item : Parser BodyItem
-  one_item = λ ts. if sees t.Route ts then (route >>= λ r. pure (held.Route r)) ts else field_or_unread ts
+  -- `IS name`, and else a value where the field holds one
+  unfoldable pub declared : Bool → Access → Parser (Given NodeText)
+  declared script a = λ ts. if sees t.Is ts then joined script ts else (if holds_value a then (value >>= λ x. pure (given.Value x)) ts else Ok (given.Nothing, ts))
 
-  abbrev pub items : Parser (List BodyItem)
-  items = until t.CloseBrace one_item
+  unfoldable pub declaration : Bool → Parser (Declaration NodeText)
+  declaration script = do
+    at ← here
+    a ← access
+    f ← field_type
+    n ← name
+    x ← declared script a
+    pure (record { line = at; access = a; field_type = f; name = n; given = x })
 
-  unfoldable pub body : Parser (List BodyItem)
-  body = do
+  -- the body is read by the line of the first word
+  unfoldable pub proto_with : (ℕ → Parser (List Statement)) → Parser ProtoText
+  proto_with inside = do
+    at ← here
+    _ ← expect t.Proto
+    n ← name
+    _ ← expect t.OpenBracket
+    ds ← until t.CloseBracket (declaration false)
+    ss ← inside at
+    pure (roll-ProtoText (record { line = at; name = n; interface = ds; body = ss }))
+
+  -- a declaration, or a field; EXTERNPROTO is not supported
+  unfoldable pub other_item : Bool → Parser BodyItem
+  other_item script = λ ts.
+      if sees_word (codes "EXTERNPROTO") ts then unsupported ts
+      else (if script && sees t.Access ts then (declaration true >>= λ d. pure (held.Declaration d)) ts else field ts)
+
+  unfoldable pub node_statement : Parser Statement
+  node_statement = λ ts. if begins_unread_statement ts then unsupported ts else (inner >>= λ n. pure (stands.Node n)) ts
+
+module _ (inner : Parser NodeText) (proto : Parser ProtoText) where
+  -- what stands in the body of a Script, or of another node
+  unfoldable pub one_item : Bool → Parser BodyItem
+  one_item script = λ ts.
+      if sees t.Route ts then (route >>= λ r. pure (held.Route r)) ts
+      else (if sees t.Proto ts then (proto >>= λ p. pure (held.Proto p)) ts else other_item inner script ts)
+
+  unfoldable pub body : Bool → Parser (List BodyItem)
+  body script = do
     _ ← expect t.OpenBrace
-    items
+    until t.CloseBrace (one_item script)
+
+  unfoldable pub one_statement : Parser Statement
+  one_statement = λ ts.
+      if sees t.Route ts then (route >>= λ r. pure (stands.Route r)) ts
+      else (if sees t.Proto ts then (proto >>= λ p. pure (stands.Proto p)) ts else node_statement inner ts)
+
+  unfoldable pub proto_body : Parser (List Statement)
+  proto_body = do
+    _ ← expect t.OpenBrace
+    until t.CloseBrace one_statement
 
 -- ---- nodes
 
@@ -164,16 +223,16 @@ use_node = do
   n ← name
   pure (made.Use at n)
 
-unfoldable pub full_node : Parser (List BodyItem) → Parser NodeText
+unfoldable pub full_node : (Bool → Parser (List BodyItem)) → Parser NodeText
 full_node inside = do
   at ← here
   def ← def_name
   k ← name
-  is ← inside
+  is ← inside (is_script k)
   pure (made.Full at def k is)
 
 -- a node, by how its body is read
-abbrev pub node_with : Parser (List BodyItem) → Parser NodeText
+abbrev pub node_with : (Bool → Parser (List BodyItem)) → Parser NodeText
 node_with inside = λ ts. if sees t.Use ts then use_node ts else full_node inside ts
 
 unfoldable pub begins_node : List Tok → Bool
@@ -183,27 +242,29 @@ begins_node ts = sees t.Use ts || sees t.Def ts || sees t.Name ts
 unfoldable pub deep_refusal : List Tok → Refusal
 deep_refusal ts = if begins_node ts then TooDeep (line ts) else refusal ts
 
--- a node in which nodes nest no deeper than the number, itself counted
-unfoldable pub node_at : ℕ → Parser NodeText
-node_at zero = λ ts. Err (deep_refusal ts)
-node_at (suc depth) = node_with (body (node_at depth))
+-- Nodes, and the bodies of prototypes, in which nodes and bodies nest no deeper than the number, themselves counted. The
+-- interface of a prototype stands as deep as the prototype.
+unfoldable mutual
+  pub node_at : ℕ → Parser NodeText
+  node_at zero = λ ts. Err (deep_refusal ts)
+  node_at (suc depth) = node_with (body (node_at depth) (proto_with (node_at depth) (proto_body_at depth)))
 
--- nodes nest at most 64 deep (our choice)
-abbrev pub max_depth : ℕ
-max_depth = 64
+  pub proto_body_at : ℕ → ℕ → Parser (List Statement)
+  proto_body_at zero at = λ ts. Err (TooDeep at)
+  proto_body_at (suc depth) at = proto_body (node_at depth) (proto_with (node_at depth) (proto_body_at depth))
+
+abbrev pub proto_at : ℕ → Parser ProtoText
+proto_at depth = proto_with (node_at depth) (proto_body_at depth)
 
 -- ---- statements
 
-abbrev pub node_or_unread : Parser Statement
-node_or_unread = λ ts. if begins_unread_statement ts then unsupported ts else (node_at max_depth >>= λ n. pure (stands.Node n)) ts
-
-unfoldable pub one_statement : Parser Statement
-one_statement = λ ts. if sees t.Route ts then (route >>= λ r. pure (stands.Route r)) ts else node_or_unread ts
+abbrev pub top_statement : Parser Statement
+top_statement = one_statement (node_at max_depth) (proto_at max_depth)
 
 unfoldable pub statements_from : ℕ → List Statement → Parser (List Statement)
 statements_from zero found = pure found
 statements_from (suc n) found = λ ts.
-    if at_end ts then Ok (found, ts) else and_then (one_statement ts) (λ x. statements_from n (found ++ x ∷ []))
+    if at_end ts then Ok (found, ts) else and_then (top_statement ts) (λ x. statements_from n (found ++ x ∷ []))
 
 unfoldable pub statements : Parser (List Statement)
 statements = λ ts. statements_from (length ts) [] ts

@@ -1,27 +1,26 @@
 -- What the grammar reads from, and the steps that every rule is made of.
-use Rattle.std.specs.Prelude.{ℕ, ℤ, Bool, true, false, ◌&&◌, if◌then◌else◌, List, [], ◌∷◌, Result, Ok, Err}
+use Rattle.std.specs.Prelude.{ℕ, ℤ, Bool, true, false, ◌&&◌, if◌then◌else◌, List, [], ◌∷◌, Option, Some, None, Result, Ok, Err}
 use Rattle.std.specs.Str.{bytes_eq}
 use Rattle.x3d_numerals.specs.Reading.{numeral}
 use Rattle.x3d_numerals.specs.declared.fault.NumeralFault.{NumeralFault}
 use Rattle.x3d_lists.specs.Answers.{Gives}
+use Rattle.x3d_values.specs.declared.field_type.Access.{Access}
+use Rattle.x3d_values.specs.declared.field_type.FieldType.{FieldType}
+use Rattle.x3d_values.specs.Names.{access_named, field_type_named}
 use Rattle.classic_lex.specs.Lexed.{Tok}
 use Rattle.classic_text.specs.declared.refusal.Refusal.{Refusal}
-use Rattle.classic_text.specs.declared.refusal.Refusal.TheVariants.{Memory, Unexpected, UnexpectedEnd}
+use Rattle.classic_text.specs.declared.refusal.Refusal.TheVariants.{Memory, Unexpected, UnexpectedEnd, Unsupported}
 use Rattle.classic_text.specs.declared.terminal.Terminal.{Terminal}
 use Rattle.classic_text.specs.declared.terminal.Terminal.TheVariants as t
-use Rattle.classic_text.specs.Terminal.{terminal_of, same}
+use Rattle.classic_text.specs.Terminal.{terminal_of, same, line}
 use Rattle.classic_text.specs.Levels.{has_level}
-use Rattle.classic_text.specs.Strings.{unquoted}
+use Rattle.classic_text.specs.Unquoted.{unquoted, is_quoted}
 
 -- ---- the next token
 
 unfoldable pub kind : List Tok → Terminal
 kind [] = t.End
 kind (x ∷ ts) = terminal_of x.kind x.text
-
-unfoldable pub line : List Tok → ℕ
-line [] = 0
-line (x ∷ ts) = x.line
 
 unfoldable pub spelling : List Tok → List ℕ
 spelling [] = []
@@ -98,9 +97,13 @@ name = λ ts. if sees t.Name ts then Ok (spelling ts, next ts) else refuse ts
 unfoldable pub component_name : Parser (List ℕ)
 component_name = λ ts. if sees t.Name ts && has_level (spelling ts) then Ok (spelling ts, next ts) else refuse ts
 
+-- a string token, which has both its quotes
+unfoldable pub sees_string : List Tok → Bool
+sees_string ts = sees t.String ts && is_quoted (spelling ts)
+
 -- a string, without its quotes and escapes
 unfoldable pub string : Parser (List ℕ)
-string = λ ts. if sees t.String ts then Ok (unquoted (spelling ts), next ts) else refuse ts
+string = λ ts. if sees_string ts then Ok (unquoted (spelling ts), next ts) else refuse ts
 
 unfoldable pub truth : Parser Bool
 truth = λ ts. if sees t.True ts then Ok (true, next ts) else (if sees t.False ts then Ok (false, next ts) else refuse ts)
@@ -112,6 +115,22 @@ number_by (Err e) = refuse
 -- a numeral's whole millionths
 unfoldable pub number : Parser ℤ
 number = λ ts. if sees t.Numeral ts then number_by (numeral (spelling ts)) ts else refuse ts
+
+abbrev pub access_by : Option Access → Parser Access
+access_by (Some a) = λ ts. Ok (a, next ts)
+access_by None = refuse
+
+-- a word of access
+unfoldable pub access : Parser Access
+access = λ ts. if sees t.Access ts then access_by (access_named (spelling ts)) ts else refuse ts
+
+abbrev pub type_by : Option FieldType → Parser FieldType
+type_by (Some f) = λ ts. Ok (f, next ts)
+type_by None = λ ts. Err (Unsupported (line ts))
+
+-- the type of a declared field; other types are not supported
+unfoldable pub field_type : Parser FieldType
+field_type = λ ts. if sees t.Name ts then type_by (field_type_named (spelling ts)) ts else refuse ts
 
 -- ---- what a function that reads ensures: the parser's outcome, memory aside
 

@@ -8,3 +8,4 @@ pub mod Reading
 pub mod Spells
 pub mod Strings
 pub mod Terminal
+pub mod Unquoted

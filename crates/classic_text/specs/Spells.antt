@@ -1,7 +1,11 @@
 -- Which tokens spell which tree, rule by rule (ISO/IEC 19776-2, grammar). Each relation takes the tokens, and what is left
 -- of them behind what it speaks of.
-use Rattle.std.specs.Prelude.{◌≡◌, ◌≢◌, ◌⊎◌, ℕ, ℤ, zero, suc, Bool, true, false, IsFalse, List, [], ◌∷◌, Option, Some, None, codes}
+use Rattle.std.specs.Prelude.{◌≡◌, ◌≢◌, ◌⊎◌, ℕ, ℤ, zero, suc, Bool, true, false, List, [], ◌∷◌, Option, Some, None, codes}
 use Rattle.x3d_numerals.specs.Numeral.{IsNumeral}
+use Rattle.x3d_values.specs.declared.field_type.Access.{Access}
+use Rattle.x3d_values.specs.declared.field_type.Access.TheVariants.{InputOnly, OutputOnly, InputOutput, InitializeOnly}
+use Rattle.x3d_values.specs.declared.field_type.FieldType.{FieldType}
+use Rattle.x3d_values.specs.Names.{access_named, field_type_named}
 use Rattle.classic_lex.specs.Lexed.{Tok}
 use Rattle.classic_lex.specs.Tokens.{HasTokens, HasVersion}
 use Rattle.classic_tree.specs.declared.tree.Place.{Place}
@@ -10,6 +14,8 @@ use Rattle.classic_tree.specs.declared.tree.RawValue.{RawValue}
 use Rattle.classic_tree.specs.declared.tree.RawValue.TheVariants as v
 use Rattle.classic_tree.specs.declared.tree.Given.{Given}
 use Rattle.classic_tree.specs.declared.tree.Given.TheVariants as given
+use Rattle.classic_tree.specs.declared.tree.Declaration.{Declaration}
+use Rattle.classic_tree.specs.declared.tree.ProtoText.{ProtoText, out-ProtoText}
 use Rattle.classic_tree.specs.declared.tree.BodyItem.{BodyItem}
 use Rattle.classic_tree.specs.declared.tree.BodyItem.TheVariants as held
 use Rattle.classic_tree.specs.declared.tree.NodeText.{NodeText}
@@ -20,11 +26,15 @@ use Rattle.classic_tree.specs.declared.tree.Meta.{Meta}
 use Rattle.classic_tree.specs.declared.tree.Document.{Document}
 use Rattle.classic_text.specs.declared.terminal.Terminal.{Terminal}
 use Rattle.classic_text.specs.declared.terminal.Terminal.TheVariants as t
-use Rattle.classic_text.specs.Terminal.{terminal_of}
+use Rattle.classic_text.specs.Terminal.{terminal_of, line}
 use Rattle.classic_text.specs.Levels.{HasLevel}
-use Rattle.classic_text.specs.Strings.{unquoted}
-use Rattle.classic_text.specs.Input.{kind, line, sees_word}
-use Rattle.classic_text.specs.Grammar.{max_depth, begins_unread_item, begins_unread_statement}
+use Rattle.classic_text.specs.Strings.{Holds}
+
+-- nodes and the bodies of PROTOs nest at most 64 deep (our choice)
+abbrev pub max_depth : ℕ
+max_depth = 64
+
+-- ---- tokens
 
 -- one token of this kind
 abbrev pub Is : Terminal → List Tok → List Tok → Type 0
@@ -36,11 +46,21 @@ abbrev pub IsSuch : Terminal → (List ℕ → Type 0) → List Tok → List Tok
 IsSuch k P [] rest = ⊥
 IsSuch k P (x ∷ ts) rest = (terminal_of x.kind x.text ≡ k) × P x.text × (rest ≡ ts)
 
+-- what stands next, if anything, is no token of this kind
+abbrev pub NotAhead : Terminal → List Tok → Type 0
+NotAhead k [] = Unit {0}
+NotAhead k (x ∷ ts) = terminal_of x.kind x.text ≢ k
+
+-- what stands next, if anything, is not this word
+abbrev pub NotWordAhead : List ℕ → List Tok → Type 0
+NotWordAhead w [] = Unit {0}
+NotWordAhead w (x ∷ ts) = x.text ≢ w
+
 abbrev pub IsName : List ℕ → List Tok → List Tok → Type 0
 IsName n ts rest = IsSuch t.Name (λ text. text ≡ n) ts rest
 
 abbrev pub IsString : List ℕ → List Tok → List Tok → Type 0
-IsString s ts rest = IsSuch t.String (λ text. unquoted text ≡ s) ts rest
+IsString s ts rest = IsSuch t.String (λ text. Holds text s) ts rest
 
 -- a numeral of this many millionths
 abbrev pub IsNumber : ℤ → List Tok → List Tok → Type 0
@@ -50,13 +70,22 @@ abbrev pub IsTruth : Bool → List Tok → List Tok → Type 0
 IsTruth true ts rest = Is t.True ts rest
 IsTruth false ts rest = Is t.False ts rest
 
+-- a word of access, the X3D one or the older one
+abbrev pub IsAccess : Access → List Tok → List Tok → Type 0
+IsAccess a ts rest = IsSuch t.Access (λ text. access_named text ≡ Some a) ts rest
+
+abbrev pub IsFieldType : FieldType → List Tok → List Tok → Type 0
+IsFieldType f ts rest = IsSuch t.Name (λ text. field_type_named text ≡ Some f) ts rest
+
+-- ---- places, runs and lists
+
 -- `node.field`
 abbrev pub IsPlace : Place → List Tok → List Tok → Type 0
 IsPlace p ts rest = (a : List Tok) × (b : List Tok) × IsName p.node ts a × Is t.Point a b × IsName p.field b rest
 
 -- numerals up to what is none
 abbrev pub AreNumbers : List ℤ → List Tok → List Tok → Type 0
-AreNumbers [] ts rest = (kind ts ≢ t.Numeral) × (rest ≡ ts)
+AreNumbers [] ts rest = NotAhead t.Numeral ts × (rest ≡ ts)
 AreNumbers (n ∷ ns) ts rest = (a : List Tok) × IsNumber n ts a × AreNumbers ns a rest
 
 -- at least one
@@ -88,7 +117,7 @@ IsWord w (x ∷ ts) rest = (x.text ≡ w) × (rest ≡ ts)
 
 -- `PROFILE name`, or another word that begins something else
 abbrev pub IsProfile : Option (List ℕ) → List Tok → List Tok → Type 0
-IsProfile None ts rest = IsFalse (sees_word (codes "PROFILE") ts) × (rest ≡ ts)
+IsProfile None ts rest = NotWordAhead (codes "PROFILE") ts × (rest ≡ ts)
 IsProfile (Some n) ts rest = (a : List Tok) × IsWord (codes "PROFILE") ts a × IsName n a rest
 
 -- `COMPONENT name:level`
@@ -101,8 +130,18 @@ IsMeta m ts rest = (a : List Tok) × (b : List Tok) × IsWord (codes "META") ts 
 
 -- items up to where that word stands no more
 abbrev pub AreEach : {A : Type 0} → List ℕ → (A → List Tok → List Tok → Type 0) → List A → List Tok → List Tok → Type 0
-AreEach w Item [] ts rest = IsFalse (sees_word w ts) × (rest ≡ ts)
+AreEach w Item [] ts rest = NotWordAhead w ts × (rest ≡ ts)
 AreEach w Item (x ∷ xs) ts rest = (a : List Tok) × Item x ts a × AreEach w Item xs a rest
+
+-- ---- access
+
+-- a field that takes or sends events and holds no value
+abbrev pub IsEvent : Access → Type 0
+IsEvent a = (a ≡ InputOnly) ⊎ (a ≡ OutputOnly)
+
+-- a field that holds a value
+abbrev pub IsStored : Access → Type 0
+IsStored a = (a ≡ InputOutput) ⊎ (a ≡ InitializeOnly)
 
 -- ---- values and nodes
 
@@ -134,6 +173,13 @@ module _ (Inner : NodeText → List Tok → List Tok → Type 0) where
   IsGiven (given.Value x) ts rest = IsValue x ts rest
   IsGiven (given.Is n) ts rest = (a : List Tok) × Is t.Is ts a × IsName n a rest
 
+  -- What a declaration of a field of that access gives it, in a Script or in the interface of a PROTO: in a Script `IS name`;
+  -- without one a value exactly where the field holds one.
+  abbrev pub IsDeclared : Bool → Access → Given NodeText → List Tok → List Tok → Type 0
+  IsDeclared script a given.Nothing ts rest = IsEvent a × NotAhead t.Is ts × (rest ≡ ts)
+  IsDeclared script a (given.Value x) ts rest = IsStored a × IsValue x ts rest
+  IsDeclared script a (given.Is n) ts rest = (b : List Tok) × (script ≡ true) × Is t.Is ts b × IsName n b rest
+
 -- by which lines a tree may have for a token of a line
 module _ (At : ℕ → ℕ → Type 0) where
   -- `ROUTE source TO target`
@@ -141,31 +187,81 @@ module _ (At : ℕ → ℕ → Type 0) where
   IsRoute r ts rest =
       (a : List Tok) × (b : List Tok) × (c : List Tok) × At (line ts) r.line × Is t.Route ts a × IsPlace r.source a b × Is t.To b c × IsPlace r.target c rest
 
-  -- what stands in a body, by what spells a node in it
-  module _ (Inner : NodeText → List Tok → List Tok → Type 0) where
-    -- a field's name, and then its value or `IS name`
+  -- an access, a type, a name, and what is given
+  abbrev pub IsDeclaration : (NodeText → List Tok → List Tok → Type 0) → Bool → Declaration NodeText → List Tok → List Tok → Type 0
+  IsDeclaration Inner script d ts rest =
+      (a : List Tok) × (b : List Tok) × (c : List Tok) × At (line ts) d.line × IsAccess d.access ts a × IsFieldType d.field_type a b × IsName d.name b c × IsDeclared Inner script d.access d.given c rest
+
+  -- what stands in a body, by what spells a node and a PROTO in it
+  module _ (Inner : NodeText → List Tok → List Tok → Type 0) (Proto : ProtoText → List Tok → List Tok → Type 0) where
+    -- a field's name, which is not EXTERNPROTO, and then its value or `IS name`
     pub record IsField (item : BodyItem) (ts rest : List Tok) : Type 0 where
       pub at : ℕ
       pub name : List ℕ
       pub value : Given NodeText
       pub is : item ≡ held.Field at name value
       pub lined : At (line ts) at
+      pub other : name ≢ codes "EXTERNPROTO"
       pub behind : List Tok
       pub named : IsName name ts behind
       pub spelled : IsGiven Inner value behind rest
-      pub read : IsFalse (begins_unread_item ts)
 
     pub record IsRouteItem (item : BodyItem) (ts rest : List Tok) : Type 0 where
       pub route : RouteText
       pub is : item ≡ held.Route route
       pub spelled : IsRoute route ts rest
 
-    -- PROTOs and declarations are not read yet
-    abbrev pub IsItem : BodyItem → List Tok → List Tok → Type 0
-    IsItem item ts rest = IsField item ts rest ⊎ IsRouteItem item ts rest
+    pub record IsProtoItem (item : BodyItem) (ts rest : List Tok) : Type 0 where
+      pub proto : ProtoText
+      pub is : item ≡ held.Proto proto
+      pub spelled : Proto proto ts rest
 
-    abbrev pub IsBody : List BodyItem → List Tok → List Tok → Type 0
-    IsBody items ts rest = (a : List Tok) × Is t.OpenBrace ts a × AreUntil t.CloseBrace IsItem items a rest
+    -- in a Script alone
+    pub record IsDeclarationItem (node_type : List ℕ) (item : BodyItem) (ts rest : List Tok) : Type 0 where
+      pub scripted : node_type ≡ codes "Script"
+      pub declaration : Declaration NodeText
+      pub is : item ≡ held.Declaration declaration
+      pub spelled : IsDeclaration Inner true declaration ts rest
+
+    abbrev pub IsItem : List ℕ → BodyItem → List Tok → List Tok → Type 0
+    IsItem node_type item ts rest = IsField item ts rest ⊎ (IsRouteItem item ts rest ⊎ (IsProtoItem item ts rest ⊎ IsDeclarationItem node_type item ts rest))
+
+    -- the braces of a node of this type and what stands in them
+    abbrev pub IsBody : List ℕ → List BodyItem → List Tok → List Tok → Type 0
+    IsBody node_type items ts rest = (a : List Tok) × Is t.OpenBrace ts a × AreUntil t.CloseBrace (IsItem node_type) items a rest
+
+    -- a node; the four words begin statements that are not read (our choice)
+    pub record IsNodeStatement (statement : Statement) (ts rest : List Tok) : Type 0 where
+      pub node : NodeText
+      pub is : statement ≡ stands.Node node
+      pub spelled : Inner node ts rest
+      pub no_externproto : NotWordAhead (codes "EXTERNPROTO") ts
+      pub no_import : NotWordAhead (codes "IMPORT") ts
+      pub no_export : NotWordAhead (codes "EXPORT") ts
+      pub no_unit : NotWordAhead (codes "UNIT") ts
+
+    pub record IsRouteStatement (statement : Statement) (ts rest : List Tok) : Type 0 where
+      pub route : RouteText
+      pub is : statement ≡ stands.Route route
+      pub spelled : IsRoute route ts rest
+
+    pub record IsProtoStatement (statement : Statement) (ts rest : List Tok) : Type 0 where
+      pub proto : ProtoText
+      pub is : statement ≡ stands.Proto proto
+      pub spelled : Proto proto ts rest
+
+    abbrev pub IsStatement : Statement → List Tok → List Tok → Type 0
+    IsStatement s ts rest = IsNodeStatement s ts rest ⊎ (IsRouteStatement s ts rest ⊎ IsProtoStatement s ts rest)
+
+    -- the braces of a PROTO and the statements in them
+    abbrev pub IsProtoBody : List Statement → List Tok → List Tok → Type 0
+    IsProtoBody ss ts rest = (a : List Tok) × Is t.OpenBrace ts a × AreUntil t.CloseBrace IsStatement ss a rest
+
+  -- `PROTO name [ declarations ]`, and then a body
+  abbrev pub IsProtoBy : (NodeText → List Tok → List Tok → Type 0) → (List Statement → List Tok → List Tok → Type 0) → ProtoText → List Tok → List Tok → Type 0
+  IsProtoBy Inner Body p ts rest =
+      (a : List Tok) × (b : List Tok) × (c : List Tok) × (d : List Tok) × At (line ts) (out-ProtoText p).line × Is t.Proto ts a × IsName (out-ProtoText p).name a b × Is t.OpenBracket b c
+      × AreUntil t.CloseBracket (IsDeclaration Inner false) (out-ProtoText p).interface c d × Body (out-ProtoText p).body d rest
 
   -- `USE name`
   pub record IsUse (node : NodeText) (ts rest : List Tok) : Type 0 where
@@ -177,47 +273,44 @@ module _ (At : ℕ → ℕ → Type 0) where
     pub word : Is t.Use ts behind
     pub named : IsName name behind rest
 
-  -- a node with a body, by what spells the body
-  pub record IsFull (Body : List BodyItem → List Tok → List Tok → Type 0) (node : NodeText) (ts rest : List Tok) : Type 0 where
+  -- a node with a body, by what spells the body of a node of a type
+  pub record IsFull (Body : List ℕ → List BodyItem → List Tok → List Tok → Type 0) (node : NodeText) (ts rest : List Tok) : Type 0 where
     pub at : ℕ
     pub def : Option (List ℕ)
-    pub name : List ℕ
+    pub node_type : List ℕ
     pub items : List BodyItem
-    pub is : node ≡ made.Full at def name items
+    pub is : node ≡ made.Full at def node_type items
     pub lined : At (line ts) at
     pub behind_def : List Tok
-    pub behind_name : List Tok
+    pub behind_type : List Tok
     pub defined : HasDef def ts behind_def
-    pub named : IsName name behind_def behind_name
-    pub body : Body items behind_name rest
+    pub typed : IsName node_type behind_def behind_type
+    pub body : Body node_type items behind_type rest
 
-  abbrev pub IsLayer : (List BodyItem → List Tok → List Tok → Type 0) → NodeText → List Tok → List Tok → Type 0
+  abbrev pub IsLayer : (List ℕ → List BodyItem → List Tok → List Tok → Type 0) → NodeText → List Tok → List Tok → Type 0
   IsLayer Body node ts rest = IsUse node ts rest ⊎ IsFull Body node ts rest
 
-  -- a node in which nodes nest no deeper than the number, itself counted
-  unfoldable pub IsNode : ℕ → NodeText → List Tok → List Tok → Type 0
-  IsNode zero node ts rest = ⊥
-  IsNode (suc depth) node ts rest = IsLayer (IsBody (IsNode depth)) node ts rest
+  -- Nodes, and bodies of PROTOs, in which nodes and bodies nest no deeper than the number, themselves counted. The interface of a
+  -- PROTO stands as deep as the PROTO.
+  unfoldable mutual
+    pub IsNode : ℕ → NodeText → List Tok → List Tok → Type 0
+    IsNode zero node ts rest = ⊥
+    IsNode (suc depth) node ts rest = IsLayer (IsBody (IsNode depth) (IsProtoBy (IsNode depth) (IsProtoBodyAt depth))) node ts rest
 
-  pub record IsNodeStatement (statement : Statement) (ts rest : List Tok) : Type 0 where
-    pub node : NodeText
-    pub is : statement ≡ stands.Node node
-    pub spelled : IsNode max_depth node ts rest
-    pub read : IsFalse (begins_unread_statement ts)
+    pub IsProtoBodyAt : ℕ → List Statement → List Tok → List Tok → Type 0
+    IsProtoBodyAt zero ss ts rest = ⊥
+    IsProtoBodyAt (suc depth) ss ts rest = IsProtoBody (IsNode depth) (IsProtoBy (IsNode depth) (IsProtoBodyAt depth)) ss ts rest
 
-  pub record IsRouteStatement (statement : Statement) (ts rest : List Tok) : Type 0 where
-    pub route : RouteText
-    pub is : statement ≡ stands.Route route
-    pub spelled : IsRoute route ts rest
+  abbrev pub IsProto : ℕ → ProtoText → List Tok → List Tok → Type 0
+  IsProto depth p ts rest = IsProtoBy (IsNode depth) (IsProtoBodyAt depth) p ts rest
 
-  -- PROTOs are not read yet
-  abbrev pub IsStatement : Statement → List Tok → List Tok → Type 0
-  IsStatement s ts rest = IsNodeStatement s ts rest ⊎ IsRouteStatement s ts rest
+  abbrev pub IsTopStatement : Statement → List Tok → List Tok → Type 0
+  IsTopStatement s ts rest = IsStatement (IsNode max_depth) (IsProto max_depth) s ts rest
 
   -- all of the tokens
   abbrev pub AreStatements : List Statement → List Tok → Type 0
   AreStatements [] ts = ts ≡ []
-  AreStatements (s ∷ ss) ts = (a : List Tok) × IsStatement s ts a × AreStatements ss a
+  AreStatements (s ∷ ss) ts = (a : List Tok) × IsTopStatement s ts a × AreStatements ss a
 
   -- the tokens of a text spell the document
   pub record IsSpelling (tokens : List Tok) (d : Document) : Type 0 where

@@ -1,161 +1,24 @@
-//! The rules of the grammar, each a function that reads from the tokens.
+//! The rules of the grammar in which nodes stand, each a function that reads from the tokens.
 
-ghost use Rattle.std.specs.Prelude.{◌≡◌};
+ghost use Rattle.std.specs.Prelude.{◌≡◌, false};
 ghost use Rattle.classic_text.specs.Grammar as spec;
 ghost use Rattle.classic_text.specs.Grammar.{until};
-ghost use Rattle.classic_text.specs.Input.{Reads, number, string, truth};
+ghost use Rattle.classic_text.specs.Input.{Reads};
 ghost use Rattle.classic_text.specs.declared.terminal.Terminal.TheVariants.{CloseBrace, CloseBracket};
 
+use crate::ahead::{begins_unread_statement, holds_value, is_script, refuse_deep};
+use crate::parts::{
+    def_name, joined, number_list, numbers, route, string_list, truth_list, use_node, what_is,
+};
 use crate::refusal::Refusal;
 use crate::terminal::Terminal;
 use crate::tokens::Tokens;
-use classic_tree::{BodyItem, Given, NodeText, Place, RawValue, RouteText, Statement};
+use classic_tree::{BodyItem, Declaration, Given, NodeText, ProtoText, RawValue, Statement};
 use std::alloc::Global;
-use x3d_values::{Items, Text};
+use x3d_values::{Access, Items};
 
 /// How deep nodes may nest.
 const MAX_DEPTH: u32 = 64;
-
-#[tactic(auto, unfolding(crate::specs::Grammar::place))]
-fn place(alloc: Global, tokens: &mut Tokens<'_>) -> Result<Place, Refusal>
-    ensures { Reads (spec.place tokens.old) result tokens.new }
-{
-    let node = tokens.name(alloc)?;
-    tokens.expect(Terminal::Point)?;
-    let field = tokens.name(alloc)?;
-    Ok(Place { node, field })
-}
-
-#[tactic(auto, unfolding(crate::specs::Grammar::route))]
-fn route(alloc: Global, tokens: &mut Tokens<'_>) -> Result<RouteText, Refusal>
-    ensures { Reads (spec.route tokens.old) result tokens.new }
-{
-    let line = tokens.line();
-    tokens.expect(Terminal::Route)?;
-    let source = place(alloc, tokens)?;
-    tokens.expect(Terminal::To)?;
-    let target = place(alloc, tokens)?;
-    Ok(RouteText {
-        line,
-        source,
-        target,
-    })
-}
-
-/// A run of numerals.
-fn numbers(alloc: Global, tokens: &mut Tokens<'_>) -> Result<Items<i64>, Refusal>
-    ensures { Reads (spec.numbers tokens.old) result tokens.new }
-{
-    let mut found = Items::new(alloc);
-    for _turn in 0..tokens.left() {
-        if !tokens.sees(Terminal::Numeral) {
-            return Ok(found);
-        }
-        found.push(tokens.number()?)?;
-    }
-    Ok(found)
-}
-
-fn number_list(alloc: Global, tokens: &mut Tokens<'_>) -> Result<Items<i64>, Refusal>
-    ensures { Reads (until CloseBracket number tokens.old) result tokens.new }
-{
-    let mut found = Items::new(alloc);
-    for _turn in 0..tokens.left() {
-        if tokens.sees(Terminal::CloseBracket) {
-            tokens.advance();
-            return Ok(found);
-        }
-        found.push(tokens.number()?)?;
-    }
-    Err(tokens.refuse())
-}
-
-fn truth_list(alloc: Global, tokens: &mut Tokens<'_>) -> Result<Items<bool>, Refusal>
-    ensures { Reads (until CloseBracket truth tokens.old) result tokens.new }
-{
-    let mut found = Items::new(alloc);
-    for _turn in 0..tokens.left() {
-        if tokens.sees(Terminal::CloseBracket) {
-            tokens.advance();
-            return Ok(found);
-        }
-        found.push(tokens.truth()?)?;
-    }
-    Err(tokens.refuse())
-}
-
-fn string_list(alloc: Global, tokens: &mut Tokens<'_>) -> Result<Items<Text>, Refusal>
-    ensures { Reads (until CloseBracket string tokens.old) result tokens.new }
-{
-    let mut found = Items::new(alloc);
-    for _turn in 0..tokens.left() {
-        if tokens.sees(Terminal::CloseBracket) {
-            tokens.advance();
-            return Ok(found);
-        }
-        found.push(tokens.string(alloc)?)?;
-    }
-    Err(tokens.refuse())
-}
-
-#[tactic(auto, unfolding(crate::specs::Grammar::def_name))]
-fn def_name(alloc: Global, tokens: &mut Tokens<'_>) -> Result<Option<Text>, Refusal>
-    ensures { Reads (spec.def_name tokens.old) result tokens.new }
-{
-    if !tokens.sees(Terminal::Def) {
-        return Ok(None);
-    }
-    tokens.expect(Terminal::Def)?;
-    Ok(Some(tokens.name(alloc)?))
-}
-
-#[tactic(auto, unfolding(crate::specs::Grammar::use_node))]
-fn use_node(alloc: Global, tokens: &mut Tokens<'_>) -> Result<NodeText, Refusal>
-    ensures { Reads (spec.use_node tokens.old) result tokens.new }
-{
-    let line = tokens.line();
-    tokens.expect(Terminal::Use)?;
-    Ok(NodeText::Use(line, tokens.name(alloc)?))
-}
-
-#[tactic(auto, unfolding(crate::specs::Grammar::begins_node))]
-fn begins_node(tokens: &Tokens<'_>) -> bool
-    ensures { result ≡ spec.begins_node tokens.now }
-{
-    tokens.sees(Terminal::Use) || tokens.sees(Terminal::Def) || tokens.sees(Terminal::Name)
-}
-
-/// Where no node may stand any more.
-#[tactic(auto, unfolding(crate::specs::Grammar::deep_refusal))]
-fn refuse_deep(tokens: &Tokens<'_>) -> Refusal
-    ensures { result ≡ spec.deep_refusal tokens.now }
-{
-    if begins_node(tokens) {
-        Refusal::TooDeep(tokens.line())
-    } else {
-        tokens.refuse()
-    }
-}
-
-#[tactic(auto, unfolding(crate::specs::Grammar::begins_unread_item))]
-fn begins_unread_item(tokens: &Tokens<'_>) -> bool
-    ensures { result ≡ spec.begins_unread_item tokens.now }
-{
-    tokens.sees(Terminal::Proto)
-        || tokens.sees(Terminal::Access)
-        || tokens.sees_word(b"EXTERNPROTO")
-}
-
-#[tactic(auto, unfolding(crate::specs::Grammar::begins_unread_statement))]
-fn begins_unread_statement(tokens: &Tokens<'_>) -> bool
-    ensures { result ≡ spec.begins_unread_statement tokens.now }
-{
-    tokens.sees(Terminal::Proto)
-        || tokens.sees_word(b"EXTERNPROTO")
-        || tokens.sees_word(b"IMPORT")
-        || tokens.sees_word(b"EXPORT")
-        || tokens.sees_word(b"UNIT")
-}
 
 /// A node in which nodes nest no deeper than `depth`, itself counted.
 #[cycle(nodes)]
@@ -174,27 +37,38 @@ fn one_node(alloc: Global, tokens: &mut Tokens<'_>, depth: u32) -> Result<NodeTe
 #[cycle(nodes)]
 #[tactic(auto, unfolding(crate::specs::Grammar::full_node))]
 fn full_node(alloc: Global, tokens: &mut Tokens<'_>, depth: u32) -> Result<NodeText, Refusal>
-    ensures { Reads (spec.full_node (spec.body (spec.node_at depth)) tokens.old) result tokens.new }
+    ensures { Reads (spec.full_node (spec.body (spec.node_at depth) (spec.proto_at depth)) tokens.old) result tokens.new }
 {
     let line = tokens.line();
     let def = def_name(alloc, tokens)?;
     let node_type = tokens.name(alloc)?;
-    let items = body(alloc, tokens, depth)?;
+    let script = is_script(&node_type);
+    let items = body(alloc, tokens, depth, script)?;
     Ok(NodeText::Full(line, def, node_type, items))
 }
 
 #[cycle(nodes)]
 #[tactic(auto, unfolding(crate::specs::Grammar::body))]
-fn body(alloc: Global, tokens: &mut Tokens<'_>, depth: u32) -> Result<Items<BodyItem>, Refusal>
-    ensures { Reads (spec.body (spec.node_at depth) tokens.old) result tokens.new }
+fn body(
+    alloc: Global,
+    tokens: &mut Tokens<'_>,
+    depth: u32,
+    script: bool,
+) -> Result<Items<BodyItem>, Refusal>
+    ensures { Reads (spec.body (spec.node_at depth) (spec.proto_at depth) script tokens.old) result tokens.new }
 {
     tokens.expect(Terminal::OpenBrace)?;
-    items(alloc, tokens, depth)
+    items(alloc, tokens, depth, script)
 }
 
 #[cycle(nodes)]
-fn items(alloc: Global, tokens: &mut Tokens<'_>, depth: u32) -> Result<Items<BodyItem>, Refusal>
-    ensures { Reads (until CloseBrace (spec.one_item (spec.node_at depth)) tokens.old) result
+fn items(
+    alloc: Global,
+    tokens: &mut Tokens<'_>,
+    depth: u32,
+    script: bool,
+) -> Result<Items<BodyItem>, Refusal>
+    ensures { Reads (until CloseBrace (spec.one_item (spec.node_at depth) (spec.proto_at depth) script) tokens.old) result
         tokens.new }
 {
     let mut found = Items::new(alloc);
@@ -203,23 +77,168 @@ fn items(alloc: Global, tokens: &mut Tokens<'_>, depth: u32) -> Result<Items<Bod
             tokens.advance();
             return Ok(found);
         }
-        found.push(one_item(alloc, tokens, depth)?)?;
+        found.push(one_item(alloc, tokens, depth, script)?)?;
     }
     Err(tokens.refuse())
 }
 
 #[cycle(nodes)]
 #[tactic(auto, unfolding(crate::specs::Grammar::one_item))]
-fn one_item(alloc: Global, tokens: &mut Tokens<'_>, depth: u32) -> Result<BodyItem, Refusal>
-    ensures { Reads (spec.one_item (spec.node_at depth) tokens.old) result tokens.new }
+fn one_item(
+    alloc: Global,
+    tokens: &mut Tokens<'_>,
+    depth: u32,
+    script: bool,
+) -> Result<BodyItem, Refusal>
+    ensures { Reads (spec.one_item (spec.node_at depth) (spec.proto_at depth) script tokens.old) result tokens.new }
 {
     if tokens.sees(Terminal::Route) {
         return Ok(BodyItem::Route(route(alloc, tokens)?));
     }
-    if begins_unread_item(tokens) {
+    if tokens.sees(Terminal::Proto) {
+        return Ok(BodyItem::Proto(one_proto(alloc, tokens, depth)?));
+    }
+    other_item(alloc, tokens, depth, script)
+}
+
+#[cycle(nodes)]
+#[tactic(auto, unfolding(crate::specs::Grammar::other_item))]
+fn other_item(
+    alloc: Global,
+    tokens: &mut Tokens<'_>,
+    depth: u32,
+    script: bool,
+) -> Result<BodyItem, Refusal>
+    ensures { Reads (spec.other_item (spec.node_at depth) script tokens.old) result tokens.new }
+{
+    if tokens.sees_word(b"EXTERNPROTO") {
         return Err(Refusal::Unsupported(tokens.line()));
     }
+    if script && tokens.sees(Terminal::Access) {
+        return Ok(BodyItem::Declaration(declaration(alloc, tokens, depth, true)?));
+    }
     field(alloc, tokens, depth)
+}
+
+/// A declared field of a Script, or of the interface of a PROTO.
+#[cycle(nodes)]
+#[tactic(auto, unfolding(crate::specs::Grammar::declaration))]
+fn declaration(
+    alloc: Global,
+    tokens: &mut Tokens<'_>,
+    depth: u32,
+    script: bool,
+) -> Result<Declaration<NodeText>, Refusal>
+    ensures { Reads (spec.declaration (spec.node_at depth) script tokens.old) result tokens.new }
+{
+    let line = tokens.line();
+    let access = tokens.access()?;
+    let field_type = tokens.field_type()?;
+    let name = tokens.name(alloc)?;
+    let given = declared(alloc, tokens, depth, script, access)?;
+    Ok(Declaration {
+        line,
+        access,
+        field_type,
+        name,
+        given,
+    })
+}
+
+/// What stands behind the name of a declared field: `IS name` in a Script alone, and a value where it holds one.
+#[cycle(nodes)]
+#[tactic(auto, unfolding(crate::specs::Grammar::declared))]
+fn declared(
+    alloc: Global,
+    tokens: &mut Tokens<'_>,
+    depth: u32,
+    script: bool,
+    access: Access,
+) -> Result<Given<NodeText>, Refusal>
+    ensures { Reads (spec.declared (spec.node_at depth) script access tokens.old) result tokens.new }
+{
+    if tokens.sees(Terminal::Is) {
+        return joined(alloc, tokens, script);
+    }
+    if holds_value(access) {
+        return Ok(Given::Value(value_of(alloc, tokens, depth)?));
+    }
+    Ok(Given::Nothing)
+}
+
+#[cycle(nodes)]
+fn declarations(
+    alloc: Global,
+    tokens: &mut Tokens<'_>,
+    depth: u32,
+) -> Result<Items<Declaration<NodeText>>, Refusal>
+    ensures { Reads (until CloseBracket (spec.declaration (spec.node_at depth) false) tokens.old) result tokens.new }
+{
+    let mut found = Items::new(alloc);
+    for _turn in 0..tokens.left() {
+        if tokens.sees(Terminal::CloseBracket) {
+            tokens.advance();
+            return Ok(found);
+        }
+        found.push(declaration(alloc, tokens, depth, false)?)?;
+    }
+    Err(tokens.refuse())
+}
+
+/// A prototype in which nodes and bodies nest no deeper than `depth`.
+#[cycle(nodes)]
+#[tactic(auto, unfolding(crate::specs::Grammar::proto_with))]
+fn one_proto(alloc: Global, tokens: &mut Tokens<'_>, depth: u32) -> Result<ProtoText, Refusal>
+    ensures { Reads (spec.proto_at depth tokens.old) result tokens.new }
+{
+    let line = tokens.line();
+    tokens.expect(Terminal::Proto)?;
+    let name = tokens.name(alloc)?;
+    tokens.expect(Terminal::OpenBracket)?;
+    let interface = declarations(alloc, tokens, depth)?;
+    let body = proto_body(alloc, tokens, depth, line)?;
+    Ok(ProtoText {
+        line,
+        name,
+        interface,
+        body,
+    })
+}
+
+/// The body of a prototype whose first word stands on that line.
+#[cycle(nodes)]
+fn proto_body(
+    alloc: Global,
+    tokens: &mut Tokens<'_>,
+    depth: u32,
+    line: u32,
+) -> Result<Items<Statement>, Refusal>
+    ensures { Reads (spec.proto_body_at depth line tokens.old) result tokens.new }
+{
+    if depth == 0 {
+        return Err(Refusal::TooDeep(line));
+    }
+    tokens.expect(Terminal::OpenBrace)?;
+    inner_statements(alloc, tokens, depth - 1)
+}
+
+#[cycle(nodes)]
+fn inner_statements(
+    alloc: Global,
+    tokens: &mut Tokens<'_>,
+    depth: u32,
+) -> Result<Items<Statement>, Refusal>
+    ensures { Reads (until CloseBrace (spec.one_statement (spec.node_at depth) (spec.proto_at depth)) tokens.old) result tokens.new }
+{
+    let mut found = Items::new(alloc);
+    for _turn in 0..tokens.left() {
+        if tokens.sees(Terminal::CloseBrace) {
+            tokens.advance();
+            return Ok(found);
+        }
+        found.push(one_statement(alloc, tokens, depth)?)?;
+    }
+    Err(tokens.refuse())
 }
 
 #[cycle(nodes)]
@@ -234,13 +253,12 @@ fn field(alloc: Global, tokens: &mut Tokens<'_>, depth: u32) -> Result<BodyItem,
 }
 
 #[cycle(nodes)]
-#[tactic(auto, unfolding(crate::specs::Grammar::one_given, crate::specs::Grammar::what_is))]
+#[tactic(auto, unfolding(crate::specs::Grammar::one_given))]
 fn one_given(alloc: Global, tokens: &mut Tokens<'_>, depth: u32) -> Result<Given<NodeText>, Refusal>
     ensures { Reads (spec.one_given (spec.node_at depth) tokens.old) result tokens.new }
 {
     if tokens.sees(Terminal::Is) {
-        tokens.expect(Terminal::Is)?;
-        return Ok(Given::Is(tokens.name(alloc)?));
+        return what_is(alloc, tokens);
     }
     Ok(Given::Value(value_of(alloc, tokens, depth)?))
 }
@@ -307,17 +325,29 @@ fn node_list(alloc: Global, tokens: &mut Tokens<'_>, depth: u32) -> Result<Items
     Err(tokens.refuse())
 }
 
+#[cycle(nodes)]
 #[tactic(auto, unfolding(crate::specs::Grammar::one_statement))]
-fn one_statement(alloc: Global, tokens: &mut Tokens<'_>) -> Result<Statement, Refusal>
-    ensures { Reads (spec.one_statement tokens.old) result tokens.new }
+fn one_statement(alloc: Global, tokens: &mut Tokens<'_>, depth: u32) -> Result<Statement, Refusal>
+    ensures { Reads (spec.one_statement (spec.node_at depth) (spec.proto_at depth) tokens.old) result tokens.new }
 {
     if tokens.sees(Terminal::Route) {
         return Ok(Statement::Route(route(alloc, tokens)?));
     }
+    if tokens.sees(Terminal::Proto) {
+        return Ok(Statement::Proto(one_proto(alloc, tokens, depth)?));
+    }
+    node_statement(alloc, tokens, depth)
+}
+
+#[cycle(nodes)]
+#[tactic(auto, unfolding(crate::specs::Grammar::node_statement))]
+fn node_statement(alloc: Global, tokens: &mut Tokens<'_>, depth: u32) -> Result<Statement, Refusal>
+    ensures { Reads (spec.node_statement (spec.node_at depth) tokens.old) result tokens.new }
+{
     if begins_unread_statement(tokens) {
         return Err(Refusal::Unsupported(tokens.line()));
     }
-    Ok(Statement::Node(one_node(alloc, tokens, MAX_DEPTH)?))
+    Ok(Statement::Node(one_node(alloc, tokens, depth)?))
 }
 
 pub(crate) fn statements(
@@ -331,7 +361,7 @@ pub(crate) fn statements(
         if tokens.at_end() {
             return Ok(found);
         }
-        found.push(one_statement(alloc, tokens)?)?;
+        found.push(one_statement(alloc, tokens, MAX_DEPTH)?)?;
     }
     Ok(found)
 }

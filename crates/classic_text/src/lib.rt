@@ -1,11 +1,13 @@
 //! Reads a text of the Classic VRML encoding (ISO/IEC 19776-2) as a tree.
 #![tactic(auto)]
 
+mod ahead;
 mod fault;
 mod grammar;
 mod head;
 mod laws;
 mod level;
+mod parts;
 mod reading;
 mod refusal;
 mod strings;

@@ -5,6 +5,7 @@ ghost use Rattle.classic_lex.specs.Lexed.{seen};
 ghost use Rattle.classic_text.specs.Cursor.{IsPlaced};
 ghost use Rattle.classic_text.specs.Input as spec;
 ghost use Rattle.classic_text.specs.Input.{Reads};
+ghost use Rattle.classic_text.specs.Terminal.{line};
 
 use crate::level::has_level;
 use crate::refusal::Refusal;
@@ -13,7 +14,7 @@ use crate::terminal::{Terminal, same, terminal_of};
 use classic_lex::Token;
 use std::alloc::Global;
 use std::marker::Model;
-use x3d_values::{Text, millionths};
+use x3d_values::{Access, FieldType, Text, millionths};
 
 #[derive(Drop)]
 pub(crate) struct Tokens<'a> {
@@ -84,9 +85,9 @@ impl<'a> Tokens<'a> {
     }
 
     /// The line of the next token, or 0 behind the last.
-    #[tactic(auto, unfolding(crate::specs::Input::line))]
+    #[tactic(auto, unfolding(crate::specs::Terminal::line))]
     pub(crate) fn line(&self) -> u32
-        ensures { result ≡ spec.line self.now }
+        ensures { result ≡ line self.now }
     {
         match self.rest {
             [] => 0,
@@ -152,6 +153,51 @@ impl<'a> Tokens<'a> {
         }
     }
 
+    /// The next token as text.
+    #[tactic(auto, unfolding(crate::specs::Input::spelling))]
+    fn word(&self) -> &'a str
+        ensures { result.now ≡ spec.spelling self.now }
+    {
+        match std::str::from_utf8(self.spelling()) {
+            Ok(text) => text,
+            Err(_) => unreachable!(),
+        }
+    }
+
+    /// A word of access.
+    #[tactic(auto, unfolding(crate::specs::Input::access))]
+    pub(crate) fn access(&mut self) -> Result<Access, Refusal>
+        ensures { Reads (spec.access self.old) result self.new }
+    {
+        if !self.sees(Terminal::Access) {
+            return Err(self.refuse());
+        }
+        match Access::named(self.word()) {
+            Some(access) => {
+                self.advance();
+                Ok(access)
+            }
+            None => Err(self.refuse()),
+        }
+    }
+
+    /// The type of a declared field.
+    #[tactic(auto, unfolding(crate::specs::Input::field_type))]
+    pub(crate) fn field_type(&mut self) -> Result<FieldType, Refusal>
+        ensures { Reads (spec.field_type self.old) result self.new }
+    {
+        if !self.sees(Terminal::Name) {
+            return Err(self.refuse());
+        }
+        match FieldType::named(self.word()) {
+            Some(field_type) => {
+                self.advance();
+                Ok(field_type)
+            }
+            None => Err(Refusal::Unsupported(self.line())),
+        }
+    }
+
     /// A copy of the next token.
     #[tactic(auto, unfolding(crate::specs::Input::spelling))]
     fn copy(&self, alloc: Global) -> Result<Text, Refusal>
@@ -198,11 +244,20 @@ impl<'a> Tokens<'a> {
         Ok(unquoted(alloc, self.spelling())?)
     }
 
+    /// The next token is a string, which has both its quotes.
+    fn sees_string(&self) -> bool
+        ensures { result ≡ spec.sees_string self.now }
+    {
+        // What holds of each token is known where the field is used.
+        let _ = &self.rest;
+        self.sees(Terminal::String)
+    }
+
     #[tactic(auto, unfolding(crate::specs::Input::string))]
     pub(crate) fn string(&mut self, alloc: Global) -> Result<Text, Refusal>
         ensures { Reads (spec.string self.old) result self.new }
     {
-        if self.sees(Terminal::String) {
+        if self.sees_string() {
             let string = self.held(alloc)?;
             self.advance();
             Ok(string)

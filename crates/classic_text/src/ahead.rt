@@ -1,0 +1,56 @@
+//! What the next token, or a word, says of what follows.
+
+ghost use Rattle.std.specs.Prelude.{◌≡◌};
+ghost use Rattle.classic_text.specs.Grammar as spec;
+
+use crate::refusal::Refusal;
+use crate::terminal::Terminal;
+use crate::tokens::Tokens;
+use x3d_values::{Access, Text};
+
+#[tactic(auto, unfolding(crate::specs::Grammar::begins_node))]
+fn begins_node(tokens: &Tokens<'_>) -> bool
+    ensures { result ≡ spec.begins_node tokens.now }
+{
+    tokens.sees(Terminal::Use) || tokens.sees(Terminal::Def) || tokens.sees(Terminal::Name)
+}
+
+/// Where no node may stand any more.
+#[tactic(auto, unfolding(crate::specs::Grammar::deep_refusal))]
+pub(crate) fn refuse_deep(tokens: &Tokens<'_>) -> Refusal
+    ensures { result ≡ spec.deep_refusal tokens.now }
+{
+    if begins_node(tokens) {
+        Refusal::TooDeep(tokens.line())
+    } else {
+        tokens.refuse()
+    }
+}
+
+#[tactic(auto, unfolding(crate::specs::Grammar::begins_unread_statement))]
+pub(crate) fn begins_unread_statement(tokens: &Tokens<'_>) -> bool
+    ensures { result ≡ spec.begins_unread_statement tokens.now }
+{
+    tokens.sees_word(b"EXTERNPROTO")
+        || tokens.sees_word(b"IMPORT")
+        || tokens.sees_word(b"EXPORT")
+        || tokens.sees_word(b"UNIT")
+}
+
+/// Whether a field of that access holds a value.
+#[tactic(auto, unfolding(crate::specs::Grammar::holds_value))]
+pub(crate) fn holds_value(access: Access) -> bool
+    ensures { result ≡ spec.holds_value access }
+{
+    match access {
+        Access::InputOnly | Access::OutputOnly => false,
+        Access::InputOutput | Access::InitializeOnly => true,
+    }
+}
+
+#[tactic(auto, unfolding(crate::specs::Grammar::is_script))]
+pub(crate) fn is_script(node_type: &Text) -> bool
+    ensures { result ≡ spec.is_script node_type.now }
+{
+    node_type.as_bytes() == b"Script".as_slice()
+}
