@@ -19,7 +19,8 @@ use Rattle.classic_round_trip.proofs.Tokens.{SeesNoneOf}
 use Rattle.classic_round_trip.proofs.Pieces.{AreBefore, one_byte, Found, Then, join}
 use Rattle.classic_round_trip.proofs.Words.{ascii_text}
 use Rattle.classic_round_trip.proofs.Routes.{Any}
-use Rattle.classic_round_trip.proofs.Statements.{AtEnd, apart_head, found_statements}
+use Rattle.classic_round_trip.proofs.Statements.{apart_head}
+use Rattle.classic_round_trip.proofs.Levels.{AtEnd, found_statements}
 use Rattle.classic_round_trip.proofs.Heads.{found_components, found_metas, found_profile, no_component, no_profile, no_meta}
 
 -- ---- the header line

@@ -1,6 +1,6 @@
 -- The head of a document is found as that head.
-use Rattle.std.proofs.Common.{◌≡◌, ℕ, List, [], ◌∷◌, ◌++◌, Option, Some, None, refl, sym, subst, append_assoc, false}
-use Rattle.std.specs.Prelude.{codes, IsFalse}
+use Rattle.std.proofs.Common.{◌≡◌, ℕ, List, [], ◌∷◌, ◌++◌, Option, Some, None, refl, sym, ◌∙◌, subst, append_assoc, false}
+use Rattle.std.specs.Prelude.{codes}
 use Rattle.std.specs.Str.{bytes_eq}
 use Rattle.std.specs.List.{AllByRecursion, flat_map}
 use Rattle.std.proofs.lemmas.Str.{IsUtf8-nil}
@@ -8,12 +8,11 @@ use Rattle.x3d_values.specs.ValueText.{string_text}
 use Rattle.classic_lex.specs.Lexed.{Tok}
 use Rattle.classic_tree.specs.declared.tree.Meta.{Meta}
 use Rattle.classic_tree.specs.Writing.{profile_line, component_line, meta_line}
-use Rattle.classic_text.specs.Input.{spelling, sees_word}
 use Rattle.classic_text.specs.Terminal.{word, name_or_access, is_access}
 use Rattle.classic_text.specs.Levels.{HasLevel}
-use Rattle.classic_text.specs.Spells.{IsSuch, IsName, IsWord, IsProfile, IsComponent, IsMeta, AreEach}
+use Rattle.classic_text.specs.Spells.{NotWordAhead, IsSuch, IsName, IsWord, IsProfile, IsComponent, IsMeta, AreEach}
 use Rattle.classic_round_trip.specs.Spellable.{IsNameOrNone, IsSpellableComponent, IsSpellableMeta, head_words}
-use Rattle.classic_round_trip.proofs.Tokens.{SeesNoneOf}
+use Rattle.classic_round_trip.proofs.Tokens.{SeesNoneOf, other_than}
 use Rattle.classic_round_trip.proofs.Pieces.{Found, Always, with, retext, always, join}
 use Rattle.classic_round_trip.proofs.Strings.{found_string}
 use Rattle.classic_round_trip.proofs.Words.{ending_line, spaced, lined, found_name, found_profile_word, found_component_word, found_meta_word}
@@ -21,7 +20,7 @@ use Rattle.classic_round_trip.proofs.Words.{ending_line, spaced, lined, found_na
 -- ---- COMPONENT
 
 abbrev pub NoComponent : List Tok → Type 0
-NoComponent ms = IsFalse (sees_word (codes "COMPONENT") ms)
+NoComponent ms = NotWordAhead (codes "COMPONENT") ms
 
 levelled : (c : List ℕ) (ts ms : List Tok) → HasLevel c → IsName c ts ms → IsSuch (word []) (λ text. (text ≡ c) × HasLevel text) ts ms
 unfolding word name_or_access is_access
@@ -48,7 +47,7 @@ found_components (c ∷ cs) h rest =
 -- ---- META
 
 abbrev pub NoMeta : List Tok → Type 0
-NoMeta ms = IsFalse (sees_word (codes "META") ms)
+NoMeta ms = NotWordAhead (codes "META") ms
 
 found_meta : (m : Meta) (rest : List ℕ) → IsSpellableMeta m
     → Found (codes "META" ++ (32 ∷ (string_text m.key ++ (32 ∷ string_text m.content)))) (10 ∷ rest) Always (IsMeta m)
@@ -71,7 +70,7 @@ found_metas (m ∷ metas) h rest =
 -- ---- PROFILE
 
 abbrev pub NoProfile : Option (List ℕ) → List Tok → Type 0
-NoProfile None ms = IsFalse (sees_word (codes "PROFILE") ms)
+NoProfile None ms = NotWordAhead (codes "PROFILE") ms
 NoProfile (Some n) ms = Unit {0}
 
 profile_parts : (n : List ℕ) → codes "PROFILE " ++ n ++ 10 ∷ [] ≡ (codes "PROFILE" ++ (32 ∷ n)) ++ (10 ∷ [])
@@ -92,10 +91,9 @@ found_profile (Some n) h rest =
 
 -- ---- where one part of the head goes over into another
 
-begins_other : (w other : List ℕ) (ts ms : List Tok) → IsWord w ts ms → bytes_eq w other ≡ false → IsFalse (sees_word other ts)
-unfolding sees_word spelling
+begins_other : (w other : List ℕ) (ts ms : List Tok) → IsWord w ts ms → bytes_eq w other ≡ false → NotWordAhead other ts
 begins_other w other [] ms h e = absurd h
-begins_other w other (x ∷ ts) ms h e = rw (h.0, e) refl
+begins_other w other (x ∷ ts) ms h e = λ q. other_than w other e (sym h.0 ∙ q)
 
 -- what stands behind the components: METAs, or statements that begin with none of the words of the head
 pub no_component : (metas : List Meta) (cs : List (List ℕ)) (p : Option (List ℕ)) (ts ms : List Tok) → AreEach (codes "META") IsMeta metas ts ms

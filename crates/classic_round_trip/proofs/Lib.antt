@@ -1,8 +1,11 @@
 pub mod Documents
+pub mod Fields
 pub mod Heads
+pub mod Levels
 pub mod Nodes
 pub mod Numbers
 pub mod Pieces
+pub mod Protos
 pub mod Routes
 pub mod Spelled
 pub mod Statements

@@ -1,29 +1,27 @@
 -- ROUTEs, and blocks of parts on lines of their own, are found as what they are.
-use Rattle.std.proofs.Common.{◌≡◌, ◌≢◌, ℕ, ◌+◌, List, [], ◌∷◌, ◌++◌, replicate, sym, ◌∙◌, append_assoc}
+use Rattle.std.proofs.Common.{◌≡◌, ◌≢◌, ℕ, ◌+◌, List, [], ◌∷◌, ◌++◌, replicate, append_assoc}
 use Rattle.std.specs.Prelude.{codes}
 use Rattle.std.specs.List.{AllByRecursion}
 use Rattle.classic_lex.specs.declared.token.TokenKind.TheVariants as kind
 use Rattle.classic_lex.specs.Lexed.{Tok}
 use Rattle.classic_tree.specs.declared.tree.Place.{Place}
 use Rattle.classic_tree.specs.declared.tree.RouteText.{RouteText}
-use Rattle.classic_tree.specs.Writing.{Writes, lines_text, block_text, place_text, route_text}
+use Rattle.classic_tree.specs.Writing.{Writes, lines_text, deeper_text, block_text, place_text, route_text}
 use Rattle.classic_text.specs.Input.{spelling}
 use Rattle.classic_text.specs.Terminal.{terminal_of, word}
 use Rattle.classic_text.specs.Spells.{Is, IsPlace, IsRoute, AreUntil}
-use Rattle.classic_text.proofs.Steps.{Is-kind}
 use Rattle.classic_round_trip.specs.Spellable.{IsFreeName, IsSpellableRoute}
-use Rattle.classic_round_trip.proofs.Tokens.{Terminal}
+use Rattle.classic_round_trip.proofs.Tokens.{Terminal, Is-kind, BeginsNew, begins_new}
 use Rattle.classic_round_trip.proofs.Pieces.{Found, Always, Then, with, retext, join}
 use Rattle.classic_round_trip.proofs.Words.{IsEnding, ending_space, ending_line, ending_point, spaced, lined, indented, found_name, found_point, found_route_word, found_to_word}
-use Rattle.classic_round_trip.proofs.Values.{NoNumeral}
 
 -- lines of every kind
 abbrev pub Any : ℕ → ℕ → Type 0
 Any there here = Unit {0}
 
--- the text is found before what ends it and what is no numeral
+-- the text is found before what ends it and doesn't go on with it
 abbrev pub IsWritten : List ℕ → (List Tok → List Tok → Type 0) → Type 0
-IsWritten text R = (rest : List ℕ) → IsEnding rest → Found text rest NoNumeral R
+IsWritten text R = (rest : List ℕ) → IsEnding rest → Found text rest BeginsNew R
 
 -- ---- routes
 
@@ -55,13 +53,13 @@ found_route r rest h e = with (IsRoute Any r) (λ ts ms j. j.0) (found_route_fir
 
 -- ---- parts on lines of their own
 
-module _ {A : Type 0} (k : Terminal) (other : k ≢ terminal_of kind.Numeral []) (end : List ℕ) (ends : (rest : List ℕ) → Found end rest Always (Is k))
+module _ {A : Type 0} (k : Terminal) (other : (k ≢ terminal_of kind.Numeral []) × (k ≢ word (codes "IS"))) (end : List ℕ) (ends : (rest : List ℕ) → Found end rest Always (Is k))
     (Item : A → List Tok → List Tok → Type 0)
-    (first : (x : A) (ts ms : List Tok) → Item x ts ms → NoNumeral ts) (text : A → Writes) (Fact : A → Type 0)
+    (first : (x : A) (ts ms : List Tok) → Item x ts ms → BeginsNew ts) (text : A → Writes) (Fact : A → Type 0)
     (found : (x : A) → Fact x → (indent : ℕ) → IsWritten (text x indent) (Item x)) where
-  until_first : (xs : List A) (ts ms : List Tok) → AreUntil k Item xs ts ms → NoNumeral ts
-  until_first [] ts ms h e = other (sym (Is-kind k ts ms h) ∙ e)
-  until_first (x ∷ xs) ts ms h e = first x ts h.0 h.1 e
+  until_first : (xs : List A) (ts ms : List Tok) → AreUntil k Item xs ts ms → BeginsNew ts
+  until_first [] ts ms h = begins_new k ts (Is-kind k ts ms h) other.0 other.1
+  until_first (x ∷ xs) ts ms h = first x ts h.0 h.1
 
   line_parts : (a b c d : List ℕ) → ((a ++ b ++ 10 ∷ []) ++ c) ++ d ≡ a ++ (b ++ (10 ∷ (c ++ d)))
   line_parts a b c d = simp append_assoc
@@ -77,14 +75,20 @@ module _ {A : Type 0} (k : Terminal) (other : k ≢ terminal_of kind.Numeral [])
       (lined (found_lines indent out xs h.1 rest))
       (until_first xs)))
 
-  block_parts : (c : ℕ) (b d : List ℕ) → c ∷ (10 ∷ b ++ d) ++ end ≡ c ∷ [] ++ (10 ∷ (b ++ (d ++ end)))
-  block_parts c b d = simp append_assoc
+  deeper_parts : (c : ℕ) (b d : List ℕ) → c ∷ (10 ∷ b ++ d) ++ end ≡ c ∷ [] ++ (10 ∷ (b ++ (d ++ end)))
+  deeper_parts c b d = simp append_assoc
+
+  -- on two lines where there is no part
+  pub found_deeper : (open_kind : Terminal) (open_byte : ℕ) → ((rest : List ℕ) → Found (open_byte ∷ []) rest Always (Is open_kind)) → (xs : List A)
+      → AllByRecursion Fact xs → (indent : ℕ) (rest : List ℕ)
+      → Found (open_byte ∷ deeper_text text indent xs ++ end) rest Always (Then (Is open_kind) (AreUntil k Item xs))
+  found_deeper open_kind open_byte opens xs h indent rest =
+      retext _ (deeper_parts open_byte (lines_text text (indent + 2) xs) (replicate indent 32))
+      (join (opens ((10 ∷ (lines_text text (indent + 2) xs ++ (replicate indent 32 ++ end))) ++ rest))
+      (lined (found_lines (indent + 2) indent xs h rest)) (λ ts ms s. tt))
 
   pub found_block : (open_kind : Terminal) (open_byte : ℕ) → ((rest : List ℕ) → Found (open_byte ∷ []) rest Always (Is open_kind)) → (xs : List A)
       → AllByRecursion Fact xs → (indent : ℕ) (rest : List ℕ)
       → Found (open_byte ∷ block_text text indent xs ++ end) rest Always (Then (Is open_kind) (AreUntil k Item xs))
   found_block open_kind open_byte opens [] h indent rest = join (opens (end ++ rest)) (ends rest) (λ ts ms s. tt)
-  found_block open_kind open_byte opens (x ∷ xs) h indent rest =
-      retext _ (block_parts open_byte (lines_text text (indent + 2) (x ∷ xs)) (replicate indent 32))
-      (join (opens ((10 ∷ (lines_text text (indent + 2) (x ∷ xs) ++ (replicate indent 32 ++ end))) ++ rest))
-      (lined (found_lines (indent + 2) indent (x ∷ xs) h rest)) (λ ts ms s. tt))
+  found_block open_kind open_byte opens (x ∷ xs) h indent rest = found_deeper open_kind open_byte opens (x ∷ xs) h indent rest

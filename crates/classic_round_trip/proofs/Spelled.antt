@@ -1,25 +1,23 @@
 -- What a text spells is spellable.
-use Rattle.std.proofs.Common.{◌≡◌, ℕ, List, [], ◌∷◌, ◌++◌, false, Option, Some, None, sym, subst, inl, inr, ◌≤◌, length}
-use Rattle.std.specs.Prelude.{codes, IsFalse}
+use Rattle.std.proofs.Common.{◌≡◌, ℕ, List, [], ◌∷◌, ◌++◌, Option, Some, None, sym, subst, ◌≤◌, length}
+use Rattle.std.specs.Prelude.{codes}
 use Rattle.std.specs.List.{AllByRecursion}
-use Rattle.std.proofs.lemmas.Bool.{or_parts}
 use Rattle.classic_lex.specs.Header.{max_len}
 use Rattle.classic_lex.specs.Lexed.{Tok}
 use Rattle.classic_tree.specs.declared.tree.Statement.{Statement}
 use Rattle.classic_tree.specs.declared.tree.Meta.{Meta}
 use Rattle.classic_tree.specs.declared.tree.Document.{Document}
 use Rattle.classic_tree.specs.Writing.{document_text}
-use Rattle.classic_text.specs.Input.{sees_word}
 use Rattle.classic_text.specs.Terminal.{word, name_or_access, is_access}
 use Rattle.classic_text.specs.Levels.{HasLevel}
-use Rattle.classic_text.specs.Grammar.{max_depth, begins_unread_statement}
-use Rattle.classic_text.specs.Spells.{IsSuch, IsName, IsWord, IsProfile, IsComponent, IsMeta, AreEach, IsStatement, AreStatements, IsSpelling, IsSpelled, SpellsButLines}
+use Rattle.classic_text.specs.Spells.{max_depth}
+use Rattle.classic_text.specs.Spells.{NotWordAhead, IsSuch, IsName, IsWord, IsProfile, IsComponent, IsMeta, AreEach, IsNode, IsProto, IsTopStatement, AreStatements, IsSpelling, IsSpelled, SpellsButLines}
 use Rattle.classic_round_trip.specs.AnyLength.{SpellsAtAnyLength}
-use Rattle.classic_round_trip.specs.Spellable.{IsNameOrNone, IsSpellableComponent, IsSpellableMeta, IsSpellableStatement, AreSpellableStatements, IsSpellable, unread_words, head_words}
+use Rattle.classic_round_trip.specs.Spellable.{IsNameOrNone, IsSpellableComponent, IsSpellableMeta, IsSpellableNode, IsSpellableProto, IsSpellableTopStatement, AreSpellableStatements, IsSpellable, unread_words, head_words}
 use Rattle.classic_round_trip.proofs.Documents.{spelled_by_text, within_limit}
 use Rattle.classic_round_trip.proofs.Routes.{Any}
-use Rattle.classic_round_trip.proofs.Tokens.{SeesNoneOf, all_words}
-use Rattle.classic_round_trip.proofs.Told.{AllGood, good_tokens, Told, told_name, told_string, told_route, told_node}
+use Rattle.classic_round_trip.proofs.Tokens.{SeesNoneOf}
+use Rattle.classic_round_trip.proofs.Told.{AllGood, good_tokens, Told, told_name, told_string, told_statement, proto_at, told_at}
 
 -- ---- the head
 
@@ -60,8 +58,8 @@ module _ {A : Type 0} (w : List ℕ) (Item : A → List Tok → List Tok → Typ
       record { fact = (d.fact, m.fact); left = m.left }
 
   -- the word stands no more
-  each_ends : (xs : List A) (ts rest : List Tok) → AreEach w Item xs ts rest → IsFalse (sees_word w rest)
-  each_ends [] ts rest h = subst (λ (b : List Tok). IsFalse (sees_word w b)) (sym h.1) h.0
+  each_ends : (xs : List A) (ts rest : List Tok) → AreEach w Item xs ts rest → NotWordAhead w rest
+  each_ends [] ts rest h = subst (λ (b : List Tok). NotWordAhead w b) (sym h.1) h.0
   each_ends (x ∷ xs) ts rest h = each_ends xs h.0 rest h.2
 
 -- the words that would go on with the head stand no more
@@ -71,7 +69,7 @@ head_ends (m ∷ metas) cs p ts a b rest h k l = (each_ends (codes "META") IsMet
 head_ends [] (c ∷ cs) p ts a b rest h k l = (
   each_ends (codes "META") IsMeta [] b rest l,
   (
-    subst (λ (x : List Tok). IsFalse (sees_word (codes "COMPONENT") x)) (sym l.1)
+    subst (λ (x : List Tok). NotWordAhead (codes "COMPONENT") x) (sym l.1)
         (each_ends (codes "COMPONENT") IsComponent (c ∷ cs) a b k),
     tt,
   ),
@@ -79,49 +77,38 @@ head_ends [] (c ∷ cs) p ts a b rest h k l = (
 head_ends [] [] (Some n) ts a b rest h k l = (
   each_ends (codes "META") IsMeta [] b rest l,
   (
-    subst (λ (x : List Tok). IsFalse (sees_word (codes "COMPONENT") x)) (sym l.1)
+    subst (λ (x : List Tok). NotWordAhead (codes "COMPONENT") x) (sym l.1)
         (each_ends (codes "COMPONENT") IsComponent [] a b k),
     tt,
   ),
 )
 head_ends [] [] None ts a b rest h k l =
-    let P : List Tok → Type 0 = λ x. IsFalse (sees_word (codes "PROFILE") x) in (
+    let P : List Tok → Type 0 = λ x. NotWordAhead (codes "PROFILE") x in (
       each_ends (codes "META") IsMeta [] b rest l,
       (
-        subst (λ (x : List Tok). IsFalse (sees_word (codes "COMPONENT") x)) (sym l.1) (each_ends (codes "COMPONENT") IsComponent [] a b k),
+        subst (λ (x : List Tok). NotWordAhead (codes "COMPONENT") x) (sym l.1) (each_ends (codes "COMPONENT") IsComponent [] a b k),
         (subst P (sym l.1) (subst P (sym k.1) (subst P (sym h.1) h.0)), tt),
       ),
     )
 
 -- ---- statements
 
-not_unread : (ts : List Tok) → begins_unread_statement ts ≡ false → SeesNoneOf unread_words ts
-unfolding begins_unread_statement
-not_unread ts e =
-    let unit = or_parts _ (sees_word (codes "UNIT") ts) e in
-    let export = or_parts _ (sees_word (codes "EXPORT") ts) unit.0 in
-    let import = or_parts _ (sees_word (codes "IMPORT") ts) export.0 in
-    let externproto = or_parts _ (sees_word (codes "EXTERNPROTO") ts) import.0 in
-    (externproto.1, (import.1, (export.1, (unit.1, tt))))
-
 module _ (At : ℕ → ℕ → Type 0) where
-  told_statement : (words : List (List ℕ)) (s : Statement) (ts rest : List Tok) → IsStatement At s ts rest → SeesNoneOf words ts → AllGood ts
-      → Told (IsSpellableStatement (words ++ unread_words) s) rest
-  told_statement words s ts rest (inl h) w g =
-      let n = told_node At max_depth (words ++ unread_words) h.node ts rest h.spelled (all_words words unread_words ts w (not_unread ts h.read)) g in
-      record { fact = inl (record { node = h.node; is = h.is; spellable = n.fact }); left = n.left }
-  told_statement words s ts rest (inr h) w g =
-      let r = told_route At h.route ts rest h.spelled g in
-      record { fact = inr (record { route = h.route; is = h.is; spellable = r.fact }); left = r.left }
+  told_top : (words : List (List ℕ)) (s : Statement) (ts rest : List Tok) → IsTopStatement At s ts rest → SeesNoneOf words ts → AllGood ts
+      → Told (IsSpellableTopStatement (words ++ unread_words) s) rest
+  told_top words s ts rest h w g =
+      told_statement At (IsNode At max_depth) (IsProto At max_depth) words (IsSpellableNode max_depth (words ++ unread_words))
+      (IsSpellableProto max_depth) ((told_at At max_depth).node (words ++ unread_words)) (proto_at At max_depth (told_at At max_depth))
+      s ts rest h w g
 
-  told_more : (ss : List Statement) (ts : List Tok) → AreStatements At ss ts → AllGood ts → AllByRecursion (IsSpellableStatement unread_words) ss
+  told_more : (ss : List Statement) (ts : List Tok) → AreStatements At ss ts → AllGood ts → AllByRecursion (IsSpellableTopStatement unread_words) ss
   told_more [] ts h g = tt
-  told_more (s ∷ ss) ts h g = let d = told_statement [] s ts h.0 h.1 tt g in (d.fact, told_more ss h.0 h.2 d.left)
+  told_more (s ∷ ss) ts h g = let d = told_top [] s ts h.0 h.1 tt g in (d.fact, told_more ss h.0 h.2 d.left)
 
   told_statements : (words : List (List ℕ)) (ss : List Statement) (ts : List Tok) → AreStatements At ss ts → SeesNoneOf words ts → AllGood ts
       → AreSpellableStatements words ss
   told_statements words [] ts h w g = tt
-  told_statements words (s ∷ ss) ts h w g = let d = told_statement words s ts h.0 h.1 w g in (d.fact, told_more ss h.0 h.2 d.left)
+  told_statements words (s ∷ ss) ts h w g = let d = told_top words s ts h.0 h.1 w g in (d.fact, told_more ss h.0 h.2 d.left)
 
   -- ---- a document
 

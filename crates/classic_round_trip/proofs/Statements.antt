@@ -1,50 +1,49 @@
--- The statements of a document are found as those statements.
-use Rattle.std.proofs.Common.{◌≡◌, ℕ, List, [], ◌∷◌, ◌++◌, Bool, true, not, Option, Some, None, refl, ap, subst, ◌∙◌, append_assoc, inl, inr}
-use Rattle.std.specs.Prelude.{codes, IsFalse}
+-- The texts of statements are found as those statements.
+use Rattle.std.proofs.Common.{◌≡◌, ℕ, List, [], ◌∷◌, ◌++◌, Bool, true, not, Option, Some, None, refl, ap, ◌∙◌, inl, inr}
+use Rattle.std.specs.Prelude.{codes}
 use Rattle.std.specs.Str.{bytes_eq}
 use Rattle.std.specs.List.{AllByRecursion, list_all}
-use Rattle.std.proofs.lemmas.Str.{IsUtf8-nil}
 use Rattle.classic_lex.specs.declared.token.TokenKind.TheVariants as kind
 use Rattle.classic_lex.specs.Lexed.{Tok}
+use Rattle.classic_tree.specs.declared.tree.NodeText.{NodeText}
+use Rattle.classic_tree.specs.declared.tree.ProtoText.{ProtoText}
 use Rattle.classic_tree.specs.declared.tree.Statement.{Statement}
 use Rattle.classic_tree.specs.declared.tree.Meta.{Meta}
-use Rattle.classic_tree.specs.Writing.{lines_text, statement_text}
-use Rattle.classic_tree.proofs.Equations.{statement_text-node, statement_text-route}
-use Rattle.classic_text.specs.Input.{kind as kind_of, spelling}
-use Rattle.classic_text.specs.Terminal.{terminal_of, word, same}
-use Rattle.classic_text.specs.Grammar.{max_depth, begins_unread_statement}
-use Rattle.classic_text.specs.Spells.{IsStatement, AreStatements}
-use Rattle.classic_text.proofs.Steps.{Is-kind}
-use Rattle.classic_round_trip.specs.Spellable.{IsNoneOf, IsSpellableStatement, AreSpellableStatements, unread_words, head_words}
-use Rattle.classic_round_trip.proofs.Tokens.{SeesNoneOf, sees_none, none_of, first_words}
-use Rattle.classic_round_trip.proofs.Pieces.{Found, with, retext, always, join}
-use Rattle.classic_round_trip.proofs.Words.{ending_line, lined}
-use Rattle.classic_round_trip.proofs.Values.{NoNumeral}
-use Rattle.classic_round_trip.proofs.Routes.{Any, IsWritten, found_route_first}
-use Rattle.classic_round_trip.proofs.Nodes.{Opens, IsFirst, is_first, node_first, found_node}
+use Rattle.classic_tree.specs.Writing.{deeper_text, node_text, statement_text, proto_text}
+use Rattle.classic_tree.proofs.Equations.{statement_text-node, statement_text-route, statement_text-proto}
+use Rattle.classic_text.specs.Input.{spelling}
+use Rattle.classic_text.specs.Terminal.{terminal_of, word}
+use Rattle.classic_text.specs.Spells.{IsStatement, IsProtoBody}
+use Rattle.classic_round_trip.specs.Spellable.{IsNoneOf, IsSpellableStatement, unread_words, head_words}
+use Rattle.classic_round_trip.proofs.Tokens.{Is-kind, BeginsNew, begins_new, SeesNoneOf, sees_none, none_of}
+use Rattle.classic_round_trip.proofs.Pieces.{Found, Always, with, retext, always}
+use Rattle.classic_round_trip.proofs.Words.{found_open_brace, found_close_brace}
+use Rattle.classic_round_trip.proofs.Routes.{Any, IsWritten, found_route_first, found_deeper}
+use Rattle.classic_round_trip.proofs.Nodes.{Opens}
+use Rattle.classic_round_trip.proofs.Protos.{IsSo}
 
 -- ---- words that no statement of a written text begins with
 
 -- nothing that begins a statement, but for a name, is among the words
 pub record AreApart (words : List (List ℕ)) : Type 0 where
-  none : IsNoneOf words []
   use_word : IsNoneOf words (codes "USE")
   def_word : IsNoneOf words (codes "DEF")
   route_word : IsNoneOf words (codes "ROUTE")
+  proto_word : IsNoneOf words (codes "PROTO")
 
 abbrev test : List (List ℕ) → List ℕ → Bool
 test words n = list_all (λ w. not (bytes_eq n w)) words
 
-apart_by : (words : List (List ℕ)) → test words [] ≡ true → test words (codes "USE") ≡ true → test words (codes "DEF") ≡ true
-    → test words (codes "ROUTE") ≡ true → AreApart words
-apart_by words e u d r = record {
-  none = none_of words [] e;
+apart_by : (words : List (List ℕ)) → test words (codes "USE") ≡ true → test words (codes "DEF") ≡ true
+    → test words (codes "ROUTE") ≡ true → test words (codes "PROTO") ≡ true → AreApart words
+apart_by words u d r p = record {
   use_word = none_of words (codes "USE") u;
   def_word = none_of words (codes "DEF") d;
   route_word = none_of words (codes "ROUTE") r;
+  proto_word = none_of words (codes "PROTO") p;
 }
 
-apart_unread : AreApart unread_words
+pub apart_unread : AreApart unread_words
 apart_unread = apart_by unread_words refl refl refl refl
 
 pub apart_head : (metas : List Meta) (components : List (List ℕ)) (profile : Option (List ℕ))
@@ -59,75 +58,53 @@ opened words apart ts (inl e) = sees_none words ts (codes "USE") e apart.use_wor
 opened words apart ts (inr (inl e)) = sees_none words ts (codes "DEF") e apart.def_word
 opened words apart ts (inr (inr h)) = sees_none words ts (spelling ts) refl h
 
-reads_statement : (ts : List Tok) → IsFirst ts → SeesNoneOf unread_words ts → IsFalse (begins_unread_statement ts)
-unfolding begins_unread_statement word
-reads_statement ts f h = rw (f.1, h.0, h.1.0, h.1.1.0, h.1.1.1.0) refl
+-- ---- a statement, by the nodes and PROTOs in it
 
--- ---- a statement
-
-statement_first : (s : Statement) (ts ms : List Tok) → IsStatement Any s ts ms → NoNumeral ts
-unfolding word same
-statement_first s ts ms (inl h) = (node_first max_depth h.node ts ms h.spelled).0
-statement_first s ts ms (inr h) = (is_first (word (codes "ROUTE")) ts (Is-kind (word (codes "ROUTE")) ts h.spelled.0 h.spelled.4) (λ e. cc) refl).0
-
-module _ (words : List (List ℕ)) (apart : AreApart words) (covers : (ts : List Tok) → SeesNoneOf words ts → SeesNoneOf unread_words ts) where
+module _ (words : List (List ℕ)) (apart : AreApart words) (covers : (ts : List Tok) → SeesNoneOf words ts → SeesNoneOf unread_words ts)
+    (Fact : NodeText → Type 0) (Inner : NodeText → List Tok → List Tok → Type 0)
+    (first : (n : NodeText) (ts ms : List Tok) → Inner n ts ms → BeginsNew ts)
+    (found : (n : NodeText) → Fact n → (indent : ℕ) → IsWritten (node_text n indent) (λ ts ms. Inner n ts ms × Opens words ts))
+    (ProtoFact : ProtoText → Type 0) (Proto : ProtoText → List Tok → List Tok → Type 0)
+    (proto_first : (p : ProtoText) (ts ms : List Tok) → Proto p ts ms → BeginsNew ts)
+    (found_proto : (p : ProtoText) → ProtoFact p → (indent : ℕ) → IsWritten (proto_text p indent) (IsSo Proto p)) where
   abbrev Stated : Statement → List Tok → List Tok → Type 0
-  Stated s ts ms = IsStatement Any s ts ms × SeesNoneOf words ts
+  Stated s ts ms = IsStatement Any Inner Proto s ts ms × SeesNoneOf words ts
 
-  found_statement : (s : Statement) → IsSpellableStatement words s → IsWritten (statement_text s 0) (Stated s)
-  found_statement s (inl h) = λ r e.
-      retext (statement_text s 0) (ap (λ (x : Statement). statement_text x 0) h.is ∙ statement_text-node h.node 0)
+  pub found_statement : (s : Statement) → IsSpellableStatement Fact ProtoFact s → (indent : ℕ) → IsWritten (statement_text s indent) (Stated s)
+  found_statement s (inl h) indent = λ r e.
+      retext (statement_text s indent) (ap (λ (x : Statement). statement_text x indent) h.is ∙ statement_text-node h.node indent)
       (with (Stated s) (λ ts ms j.
       let w = opened words apart ts j.1 in
-      (inl (record { node = h.node; is = h.is; spelled = j.0; read = reads_statement ts (node_first max_depth h.node ts ms j.0) (covers ts w) }), w))
-      (found_node max_depth words h.node h.spellable 0 r e))
-  found_statement s (inr h) = λ r e.
-      retext (statement_text s 0) (ap (λ (x : Statement). statement_text x 0) h.is ∙ statement_text-route h.route 0)
+      let u = covers ts w in
+      (inl (record { node = h.node; is = h.is; spelled = j.0; no_externproto = u.0; no_import = u.1.0; no_export = u.1.1.0; no_unit = u.1.1.1.0 }), w))
+      (found h.node h.spellable indent r e))
+  found_statement s (inr (inl h)) indent = λ r e.
+      retext (statement_text s indent) (ap (λ (x : Statement). statement_text x indent) h.is ∙ statement_text-route h.route indent)
       (with (Stated s) (λ ts ms j. (
-        inr (record { route = h.route; is = h.is; spelled = j.0 }),
+        inr (inl (record { route = h.route; is = h.is; spelled = j.0 })),
         sees_none words ts (codes "ROUTE") j.1 apart.route_word,
       ))
       (always (found_route_first h.route r h.spellable e)))
+  found_statement s (inr (inr h)) indent = λ r e.
+      retext (statement_text s indent) (ap (λ (x : Statement). statement_text x indent) h.is ∙ statement_text-proto h.proto indent)
+      (with (Stated s) (λ ts ms j. (
+        inr (inr (record { proto = h.proto; is = h.is; spelled = j.0 })),
+        sees_none words ts (codes "PROTO") j.1 apart.proto_word,
+      ))
+      (found_proto h.proto h.spellable indent r e))
 
--- ---- all statements
+  pub statement_first : (s : Statement) (ts ms : List Tok) → IsStatement Any Inner Proto s ts ms → BeginsNew ts
+  unfolding word
+  statement_first s ts ms (inl h) = first h.node ts ms h.spelled
+  statement_first s ts ms (inr (inl h)) = begins_new (word (codes "ROUTE")) ts (Is-kind (word (codes "ROUTE")) ts h.spelled.0 h.spelled.4) (λ e. cc) (λ e. cc)
+  statement_first s ts ms (inr (inr h)) = proto_first h.proto ts ms h.spelled
 
--- no more tokens
-abbrev pub AtEnd : List Tok → Type 0
-AtEnd ms = ms ≡ []
-
-statements_first : (ss : List Statement) (ts : List Tok) → AreStatements Any ss ts → NoNumeral ts
-unfolding kind_of
-statements_first [] ts h e = let k : kind_of [] ≡ terminal_of kind.Numeral [] = subst
-    (λ (x : List Tok). kind_of x ≡ terminal_of kind.Numeral []) h e in cc
-statements_first (s ∷ ss) ts h e = statement_first s ts h.0 h.1 e
-
-line_parts : (s ls : List ℕ) → ([] ++ s ++ 10 ∷ []) ++ ls ≡ s ++ (10 ∷ ls)
-line_parts s ls = append_assoc s (10 ∷ []) ls
-
-found_more : (ss : List Statement) → AllByRecursion (IsSpellableStatement unread_words) ss
-    → Found (lines_text statement_text 0 ss) [] AtEnd (λ ts ms. AreStatements Any ss ts)
-found_more [] h = record { pieces = []; spelled = refl; cut = tt; utf8 = IsUtf8-nil; fits = λ line ms q. q }
-found_more (s ∷ ss) h =
-    retext _ (line_parts (statement_text s 0) (lines_text statement_text 0 ss))
-    (with (λ ts ms. AreStatements Any (s ∷ ss) ts) (λ ts ms j. (j.0, j.1.0, j.2))
-    (join (found_statement unread_words apart_unread (λ ts w. w) s h.0 (10 ∷ lines_text statement_text 0 ss ++ [])
-    (ending_line (lines_text statement_text 0 ss ++ []))) (lined (found_more ss h.1)) (λ ts ms j. statements_first ss ts j)))
-
--- the statements behind a head, the first of which begins with none of these words
-pub found_statements : (words : List (List ℕ)) → AreApart (words ++ unread_words) → (ss : List Statement) → AreSpellableStatements words ss
-    → Found (lines_text statement_text 0 ss) [] AtEnd (λ ts ms. AreStatements Any ss ts × SeesNoneOf words ts)
-unfolding spelling
-found_statements words apart [] h =
-    record {
-      pieces = [];
-      spelled = refl;
-      cut = tt;
-      utf8 = IsUtf8-nil;
-      fits = λ line ms q. (q, (first_words words unread_words ms (sees_none (words ++ unread_words) ms [] (ap spelling q) apart.none)).0);
-    }
-found_statements words apart (s ∷ ss) h =
-    retext _ (line_parts (statement_text s 0) (lines_text statement_text 0 ss))
-    (with (λ ts ms. AreStatements Any (s ∷ ss) ts × SeesNoneOf words ts) (λ ts ms j. ((j.0, j.1.0, j.2), (first_words words unread_words ts j.1.1).0))
-    (join (found_statement (words ++ unread_words) apart (λ ts w. (first_words words unread_words ts w).1) s h.0
-    (10 ∷ lines_text statement_text 0 ss ++ []) (ending_line (lines_text statement_text 0 ss ++ [])))
-    (lined (found_more ss h.1)) (λ ts ms j. statements_first ss ts j)))
+  -- the braces of a PROTO and the statements in them
+  pub found_proto_body : (ss : List Statement) → AllByRecursion (IsSpellableStatement Fact ProtoFact) ss → (indent : ℕ) (rest : List ℕ)
+      → Found (123 ∷ deeper_text statement_text indent ss ++ 125 ∷ []) rest Always (IsProtoBody Any Inner Proto ss)
+  unfolding word
+  found_proto_body ss h indent rest =
+      found_deeper (terminal_of kind.CloseBrace []) (λ q. cc, λ q. cc) (125 ∷ []) found_close_brace (IsStatement Any Inner Proto) statement_first
+      statement_text (IsSpellableStatement Fact ProtoFact)
+      (λ s k i r e. with (IsStatement Any Inner Proto s) (λ ts ms j. j.0) (found_statement s k i r e))
+      (terminal_of kind.OpenBrace []) 123 found_open_brace ss h indent rest

@@ -1,5 +1,5 @@
 -- The text of a string is a token that holds it.
-use Rattle.std.proofs.Common.{◌≡◌, ℕ, suc, ◌+◌, ◌<◌, List, [], ◌∷◌, ◌++◌, length, drop, get_or, Bool, true, false, ◌==◌, refl, sym, ap, subst, arith, append_assoc, length-append}
+use Rattle.std.proofs.Common.{◌≡◌, ℕ, suc, ◌+◌, ◌<◌, List, [], ◌∷◌, ◌++◌, length, drop, get_or, Bool, true, false, ◌==◌, refl, sym, subst, arith, append_assoc, append-nil, length-append, inl, inr}
 use Rattle.std.specs.Str.{IsUtf8}
 use Rattle.std.specs.List.{flat_map}
 use Rattle.std.proofs.Math.Seq.{take-append_seam}
@@ -8,7 +8,8 @@ use Rattle.std.proofs.lemmas.Str.{IsUtf8-append, IsUtf8-take, IsUtf8-drop, IsCha
 use Rattle.x3d_values.specs.ValueText.{escaped, string_text}
 use Rattle.classic_lex.specs.declared.token.TokenKind.TheVariants.{Text}
 use Rattle.classic_lex.specs.Tokens.{IsClosed, quote, plain, pair, IsToken}
-use Rattle.classic_text.specs.Strings.{escape, held, unquoted}
+use Rattle.classic_text.specs.Strings.{Holds, HoldsBehind}
+use Rattle.classic_text.specs.Strings as string
 use Rattle.classic_text.specs.Spells.{IsString}
 use Rattle.classic_round_trip.proofs.Pieces.{one_byte, Found, Always, one}
 
@@ -29,21 +30,19 @@ string_token text rest = (refl, closed text)
 
 -- ---- what it holds
 
-holds_more : (c : ℕ) (t text : List ℕ) (q s : Bool) → (c == 34) ≡ q → (c == 92) ≡ s → held false (t ++ 34 ∷ []) ≡ text
-    → held false ((escaped c ++ t) ++ 34 ∷ []) ≡ c ∷ text
-unfolding held escape
-holds_more c t text true s e f h = rw e (rw e (ap (λ (t : List ℕ). c ∷ t) h))
-holds_more c t text false true e f h = rw (e, f) (rw (e, f) (ap (λ (t : List ℕ). c ∷ t) h))
-holds_more c t text false false e f h = rw (e, f) (rw (e, f) (ap (λ (t : List ℕ). c ∷ t) h))
+holds_more : (c : ℕ) (t text : List ℕ) (q s : Bool) → (c == 34) ≡ q → (c == 92) ≡ s → HoldsBehind (t ++ 34 ∷ []) text
+    → HoldsBehind ((escaped c ++ t) ++ 34 ∷ []) (c ∷ text)
+holds_more c t text true s e f h = rw e (string.escaped (inl (eqb-true c 34 e)) h)
+holds_more c t text false true e f h = rw (e, f) (string.escaped (inr (eqb-true c 92 f)) h)
+holds_more c t text false false e f h = rw (e, f) (string.plain (eqb-false c 34 e) (eqb-false c 92 f) h)
 
-holds : (text : List ℕ) → held false (flat_map escaped text ++ 34 ∷ []) ≡ text
-unfolding held
-holds [] = refl
+holds : (text : List ℕ) → HoldsBehind (flat_map escaped text ++ 34 ∷ []) text
+holds [] = string.closed
 holds (c ∷ text) = holds_more c (flat_map escaped text) text (c == 34) (c == 92) refl refl (holds text)
 
-unquoted-string_text : (text : List ℕ) → unquoted (string_text text) ≡ text
-unfolding string_text unquoted
-unquoted-string_text text = holds text
+holds-string_text : (text : List ℕ) → Holds (string_text text) text
+unfolding string_text
+holds-string_text text = (refl, holds text)
 
 -- ---- it stays UTF-8
 
@@ -96,4 +95,22 @@ IsUtf8-string_text text u =
 -- the text of a string is found as that string
 pub found_string : (text rest : List ℕ) → IsUtf8 text → Found (string_text text) rest Always (IsString text)
 found_string text rest u = one Text (string_text text) (string_token text rest) (IsUtf8-string_text text u)
-    (λ line ms. (refl, unquoted-string_text text, refl))
+    (λ line ms. (refl, holds-string_text text, refl))
+
+-- ---- what a token of UTF-8 holds is UTF-8
+
+held_behind : (front : List ℕ) {bs held : List ℕ} → HoldsBehind bs held → IsUtf8 (front ++ bs) → IsUtf8 (front ++ held)
+held_behind front string.closed u = subst IsUtf8 (sym (append-nil front)) (split front 34 [] (omega arith) u).0
+held_behind front (string.plain {b} {bs} {held} q s h) u =
+    subst IsUtf8 (append_assoc front (b ∷ []) held) (held_behind (front ++ b ∷ []) h (subst IsUtf8 (sym (append_assoc front (b ∷ []) bs)) u))
+held_behind front (string.escaped {c} {bs} {held} q h) u =
+    let parts = split front 92 (c ∷ bs) (omega arith) u in
+    subst IsUtf8 (append_assoc front (c ∷ []) held)
+    (held_behind (front ++ c ∷ []) h (subst IsUtf8 (sym (append_assoc front (c ∷ []) bs)) (IsUtf8-append front (c ∷ bs) parts.0 parts.1)))
+held_behind front (string.lone {c} {bs} {held} q s h) u =
+    subst IsUtf8 (append_assoc front (92 ∷ c ∷ []) held)
+    (held_behind (front ++ 92 ∷ c ∷ []) h (subst IsUtf8 (sym (append_assoc front (92 ∷ c ∷ []) bs)) u))
+
+pub utf8_held : (text held : List ℕ) → Holds text held → IsUtf8 text → IsUtf8 held
+utf8_held [] held h u = absurd h
+utf8_held (b ∷ bs) held h u = held_behind [] h.1 (split [] b bs (let e = h.0 in omega arith) u).1

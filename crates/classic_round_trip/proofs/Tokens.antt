@@ -1,6 +1,6 @@
 -- What the grammar sees of a token, and which names are no reserved words.
-use Rattle.std.proofs.Common.{◌≡◌, ◌≢◌, ℕ, List, [], ◌∷◌, ◌++◌, true, false, not, refl, subst}
-use Rattle.std.specs.Prelude.{codes, IsFalse}
+use Rattle.std.proofs.Common.{◌≡◌, ◌≢◌, ℕ, List, [], ◌∷◌, ◌++◌, true, false, not, refl, sym, ◌∙◌, subst}
+use Rattle.std.specs.Prelude.{codes}
 use Rattle.std.specs.Str.{bytes_eq}
 use Rattle.std.specs.List.{AllByRecursion, list_all}
 use Rattle.std.proofs.lemmas.Bool.{false_from_ne_true, and_parts, not-true}
@@ -8,7 +8,8 @@ use Rattle.std.proofs.lemmas.Slice.Eq.{bytes_eq-Decides}
 use Rattle.classic_lex.specs.declared.token.TokenKind.TheVariants as kind
 use Rattle.classic_lex.specs.Lexed.{Tok}
 use Rattle.classic_text.specs.Terminal.{terminal_of, word, name_or_access, is_access}
-use Rattle.classic_text.specs.Input.{sees_word, spelling}
+use Rattle.classic_text.specs.Input.{kind as kind_of, spelling}
+use Rattle.classic_text.specs.Spells.{Is, IsSuch, NotAhead, NotWordAhead}
 use Rattle.classic_round_trip.specs.Spellable.{IsNoneOf, grammar_words, access_words}
 
 abbrev TypeOf : {A : Type 0} → A → Type 0
@@ -17,6 +18,32 @@ TypeOf {A} a = A
 -- a token's kind, or which word it is
 abbrev pub Terminal : Type 0
 Terminal = TypeOf (terminal_of kind.Numeral [])
+
+pub Is-kind : (k : Terminal) (ts rest : List Tok) → Is k ts rest → kind_of ts ≡ k
+unfolding kind_of
+Is-kind k [] rest h = absurd h
+Is-kind k (x ∷ ts) rest h = h.0
+
+pub IsSuch-kind : (k : Terminal) (P : List ℕ → Type 0) (ts rest : List Tok) → IsSuch k P ts rest → kind_of ts ≡ k
+unfolding kind_of
+IsSuch-kind k P [] rest h = absurd h
+IsSuch-kind k P (x ∷ ts) rest h = h.0
+
+pub IsSuch-spelling : (k : Terminal) (P : List ℕ → Type 0) (ts rest : List Tok) → IsSuch k P ts rest → P (spelling ts)
+unfolding spelling
+IsSuch-spelling k P [] rest h = absurd h
+IsSuch-spelling k P (x ∷ ts) rest h = h.1
+
+-- ---- what goes on with what stands before it
+
+-- a numeral goes on with a run of numerals, and IS with a declaration
+abbrev pub BeginsNew : List Tok → Type 0
+BeginsNew ms = NotAhead (terminal_of kind.Numeral []) ms × NotAhead (word (codes "IS")) ms
+
+pub begins_new : (k : Terminal) (ts : List Tok) → kind_of ts ≡ k → k ≢ terminal_of kind.Numeral [] → k ≢ word (codes "IS") → BeginsNew ts
+unfolding kind_of
+begins_new k [] h n i = (tt, tt)
+begins_new k (x ∷ ts) h n i = (λ e. n (sym h ∙ e), λ e. i (sym h ∙ e))
 
 -- ---- reserved words
 
@@ -108,19 +135,32 @@ module _ (n : List ℕ) (h : word n ≡ word []) where
 
 -- ---- the words that the next token is not
 
--- the next token is none of these words
+-- the next token, if there is one, is none of these words
 abbrev pub SeesNoneOf : List (List ℕ) → List Tok → Type 0
-SeesNoneOf words ts = AllByRecursion (λ w. IsFalse (sees_word w ts)) words
+SeesNoneOf words ts = AllByRecursion (λ w. NotWordAhead w ts) words
+
+pub not_ahead : (n w : List ℕ) (ts : List Tok) → spelling ts ≡ n → n ≢ w → NotWordAhead w ts
+unfolding spelling
+not_ahead n w [] e h = tt
+not_ahead n w (x ∷ ts) e h = λ q. h (sym e ∙ q)
 
 pub sees_none : (words : List (List ℕ)) (ts : List Tok) (n : List ℕ) → spelling ts ≡ n → IsNoneOf words n → SeesNoneOf words ts
-unfolding sees_word
 sees_none [] ts n e h = tt
-sees_none (w ∷ words) ts n e h = (rw e (differs n w h.0), sees_none words ts n e h.1)
+sees_none (w ∷ words) ts n e h = (not_ahead n w ts e h.0, sees_none words ts n e h.1)
 
-pub none_seen : (words : List (List ℕ)) (ts : List Tok) (n : List ℕ) → spelling ts ≡ n → SeesNoneOf words ts → IsNoneOf words n
-unfolding sees_word
-none_seen [] ts n e h = tt
-none_seen (w ∷ words) ts n e h = (other_than n w (rw e at h.0), none_seen words ts n e h.1)
+-- behind the last token there is no word
+pub sees_nothing : (words : List (List ℕ)) (ts : List Tok) → ts ≡ [] → SeesNoneOf words ts
+sees_nothing words ts e = subst (SeesNoneOf words) (sym e) (none words)
+  where
+    none : (words : List (List ℕ)) → SeesNoneOf words []
+    none [] = tt
+    none (w ∷ words) = (tt, none words)
+
+pub none_seen : (words : List (List ℕ)) (k : Terminal) (ts rest : List Tok) (n : List ℕ) → IsSuch k (λ text. text ≡ n) ts rest → SeesNoneOf words ts
+    → IsNoneOf words n
+none_seen [] k ts rest n h w = tt
+none_seen (v ∷ words) k [] rest n h w = absurd h
+none_seen (v ∷ words) k (x ∷ ts) rest n h w = (λ e. w.0 (h.1 ∙ e), none_seen words k (x ∷ ts) rest n h w.1)
 
 -- ---- words that are told apart by computing
 

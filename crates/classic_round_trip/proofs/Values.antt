@@ -1,21 +1,20 @@
 -- The texts of values that hold no node are found as those values.
-use Rattle.std.proofs.Common.{◌≢◌, ℕ, ℤ, List, [], ◌∷◌, ◌++◌, map, Bool, true, false, refl, append_assoc}
+use Rattle.std.proofs.Common.{ℕ, ℤ, List, [], ◌∷◌, ◌++◌, map, Bool, true, false, refl, append_assoc}
 use Rattle.std.specs.List.{AllByRecursion, join_with_byte}
 use Rattle.x3d_numerals.specs.NumberText.{IsLimited}
 use Rattle.x3d_values.specs.ValueText.{truth_text, list_text}
 use Rattle.classic_lex.specs.declared.token.TokenKind.TheVariants as kind
 use Rattle.classic_lex.specs.Lexed.{Tok}
 use Rattle.classic_tree.specs.Writing.{run_text}
-use Rattle.classic_text.specs.Input.{kind as kind_of}
 use Rattle.classic_text.specs.Terminal.{terminal_of, word}
-use Rattle.classic_text.specs.Spells.{Is, IsTruth, AreNumbers, AreUntil, AreListed}
+use Rattle.classic_text.specs.Spells.{Is, NotAhead, IsTruth, AreNumbers, AreUntil, AreListed}
 use Rattle.classic_round_trip.specs.Spellable.{AreSome}
 use Rattle.classic_round_trip.proofs.Pieces.{Found, Always, Then, retext, join}
 use Rattle.classic_round_trip.proofs.Numbers.{found_number}
 use Rattle.classic_round_trip.proofs.Words.{IsEnding, ending_space, ending_bracket, spaced, found_open_bracket, found_close_bracket, found_true, found_false}
 
 abbrev pub NoNumeral : List Tok → Type 0
-NoNumeral ms = kind_of ms ≢ terminal_of kind.Numeral []
+NoNumeral ms = NotAhead (terminal_of kind.Numeral []) ms
 
 -- ---- truth values
 

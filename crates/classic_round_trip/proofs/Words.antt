@@ -5,15 +5,20 @@ use Rattle.std.specs.Str.{IsUtf8}
 use Rattle.std.specs.List.{list_all}
 use Rattle.std.proofs.lemmas.Bool.{and_parts, ltb-true, not-true}
 use Rattle.std.proofs.lemmas.Str.{IsUtf8-append, IsUtf8-nil}
+use Rattle.x3d_values.specs.Names.{access_name, field_type_name}
+use Rattle.x3d_values.specs.declared.field_type.Access.{Access}
+use Rattle.x3d_values.specs.declared.field_type.Access.TheVariants.{InputOnly, OutputOnly, InputOutput, InitializeOnly}
+use Rattle.x3d_values.specs.declared.field_type.FieldType.{FieldType}
+use Rattle.x3d_values.specs.declared.field_type.FieldType.TheVariants.{SFBool, SFInt32, SFFloat, SFTime, SFString, SFVec2f, SFVec3f, SFColor, SFNode, MFBool, MFInt32, MFFloat, MFTime, MFString, MFVec2f, MFVec3f, MFColor, MFNode, SFRotation}
 use Rattle.classic_lex.specs.declared.token.TokenKind.TheVariants as kind
 use Rattle.classic_lex.specs.Bytes.{is_space, is_digit, ends_numeral, continues_name, begins_name}
 use Rattle.classic_lex.specs.Lexed.{Tok}
 use Rattle.classic_lex.specs.Tokens.{NotAhead, IsIdentifier, IsToken}
 use Rattle.classic_text.specs.Input.{spelling}
 use Rattle.classic_text.specs.Terminal.{terminal_of, word, name_or_access, is_access}
-use Rattle.classic_text.specs.Spells.{Is, IsName, IsWord}
+use Rattle.classic_text.specs.Spells.{Is, IsSuch, IsName, IsAccess, IsFieldType, IsWord}
 use Rattle.classic_round_trip.specs.Spellable.{IsFreeName}
-use Rattle.classic_round_trip.proofs.Tokens.{word_of_name}
+use Rattle.classic_round_trip.proofs.Tokens.{Terminal, word_of_name}
 use Rattle.classic_round_trip.proofs.Pieces.{one_byte, Found, Always, white, one}
 use Rattle.classic_round_trip.proofs.Numbers.{EndsNumeral}
 
@@ -145,6 +150,10 @@ module _ (rest : List ℕ) where
   unfolding begins_name continues_name is_digit
   found_route_word = found_first (codes "ROUTE") (32 ∷ rest) (refl, (refl, tt)) refl (ending_space rest).0
 
+  pub found_proto_word : Found (codes "PROTO") (32 ∷ rest) Always (IsFirstWord (codes "PROTO"))
+  unfolding begins_name continues_name is_digit
+  found_proto_word = found_first (codes "PROTO") (32 ∷ rest) (refl, (refl, tt)) refl (ending_space rest).0
+
   pub found_to_word : Found (codes "TO") (32 ∷ rest) Always (Is (word (codes "TO")))
   unfolding begins_name continues_name is_digit
   found_to_word = found_ascii (codes "TO") (32 ∷ rest) (refl, (refl, tt)) refl (ending_space rest).0
@@ -164,3 +173,40 @@ module _ (rest : List ℕ) where
   pub found_meta_word : Found (codes "META") (32 ∷ rest) Always (IsWord (codes "META"))
   unfolding begins_name continues_name is_digit
   found_meta_word = found_ascii_word (codes "META") (32 ∷ rest) (refl, (refl, tt)) refl (ending_space rest).0
+
+-- ---- access and types
+
+-- an identifier of ASCII that is seen as this, and is so
+found_such : (k : Terminal) (P : List ℕ → Type 0) (w rest : List ℕ) → IsIdentifier w [] → list_all (λ c. nat_lt c 128) w ≡ true → word w ≡ k → P w
+    → Found w (32 ∷ rest) Always (IsSuch k P)
+found_such k P w rest h a is so =
+    one kind.Identifier w (identifier w (32 ∷ rest) h (ending_space rest).0) (ascii_text w a) (λ line ms. (is, so, refl))
+
+pub found_access : (a : Access) (rest : List ℕ) → Found (access_name a) (32 ∷ rest) Always (IsAccess a)
+unfolding begins_name continues_name is_digit word name_or_access is_access
+found_access InputOnly rest = found_such _ _ (codes "inputOnly") rest (refl, (refl, tt)) refl refl refl
+found_access OutputOnly rest = found_such _ _ (codes "outputOnly") rest (refl, (refl, tt)) refl refl refl
+found_access InputOutput rest = found_such _ _ (codes "inputOutput") rest (refl, (refl, tt)) refl refl refl
+found_access InitializeOnly rest = found_such _ _ (codes "initializeOnly") rest (refl, (refl, tt)) refl refl refl
+
+pub found_field_type : (f : FieldType) (rest : List ℕ) → Found (field_type_name f) (32 ∷ rest) Always (IsFieldType f)
+unfolding begins_name continues_name is_digit word name_or_access is_access
+found_field_type SFBool rest = found_such _ _ (codes "SFBool") rest (refl, (refl, tt)) refl refl refl
+found_field_type SFInt32 rest = found_such _ _ (codes "SFInt32") rest (refl, (refl, tt)) refl refl refl
+found_field_type SFFloat rest = found_such _ _ (codes "SFFloat") rest (refl, (refl, tt)) refl refl refl
+found_field_type SFTime rest = found_such _ _ (codes "SFTime") rest (refl, (refl, tt)) refl refl refl
+found_field_type SFString rest = found_such _ _ (codes "SFString") rest (refl, (refl, tt)) refl refl refl
+found_field_type SFVec2f rest = found_such _ _ (codes "SFVec2f") rest (refl, (refl, tt)) refl refl refl
+found_field_type SFVec3f rest = found_such _ _ (codes "SFVec3f") rest (refl, (refl, tt)) refl refl refl
+found_field_type SFColor rest = found_such _ _ (codes "SFColor") rest (refl, (refl, tt)) refl refl refl
+found_field_type SFNode rest = found_such _ _ (codes "SFNode") rest (refl, (refl, tt)) refl refl refl
+found_field_type MFBool rest = found_such _ _ (codes "MFBool") rest (refl, (refl, tt)) refl refl refl
+found_field_type MFInt32 rest = found_such _ _ (codes "MFInt32") rest (refl, (refl, tt)) refl refl refl
+found_field_type MFFloat rest = found_such _ _ (codes "MFFloat") rest (refl, (refl, tt)) refl refl refl
+found_field_type MFTime rest = found_such _ _ (codes "MFTime") rest (refl, (refl, tt)) refl refl refl
+found_field_type MFString rest = found_such _ _ (codes "MFString") rest (refl, (refl, tt)) refl refl refl
+found_field_type MFVec2f rest = found_such _ _ (codes "MFVec2f") rest (refl, (refl, tt)) refl refl refl
+found_field_type MFVec3f rest = found_such _ _ (codes "MFVec3f") rest (refl, (refl, tt)) refl refl refl
+found_field_type MFColor rest = found_such _ _ (codes "MFColor") rest (refl, (refl, tt)) refl refl refl
+found_field_type MFNode rest = found_such _ _ (codes "MFNode") rest (refl, (refl, tt)) refl refl refl
+found_field_type SFRotation rest = found_such _ _ (codes "SFRotation") rest (refl, (refl, tt)) refl refl refl

@@ -1,25 +1,29 @@
 -- Which documents have a spelling, lines apart (ISO/IEC 19776-2, grammar): their names are names, their strings are UTF-8,
--- their numbers are within the limit, their nodes nest no deeper than allowed, and no statement begins with a word that means
--- something else there.
-use Rattle.std.specs.Prelude.{◌≡◌, ◌≢◌, ◌⊎◌, ℕ, zero, suc, Bool, List, [], ◌∷◌, ◌++◌, Option, Some, None, IsUtf8, codes}
+-- their numbers are within the limit, a declaration stands in a Script or an interface and is given what its access asks for,
+-- nodes and the bodies of PROTOs nest no deeper than allowed, and no statement begins with a word that means something else
+-- there.
+use Rattle.std.specs.Prelude.{◌≡◌, ◌≢◌, ◌⊎◌, ℕ, zero, suc, Bool, true, false, List, [], ◌∷◌, ◌++◌, Option, Some, None, IsUtf8, codes}
 use Rattle.std.specs.List.{AllByRecursion}
 use Rattle.x3d_numerals.specs.NumberText.{IsLimited}
+use Rattle.x3d_values.specs.declared.field_type.Access.{Access}
 use Rattle.classic_lex.specs.Tokens.{IsIdentifier}
 use Rattle.classic_tree.specs.declared.tree.RouteText.{RouteText}
 use Rattle.classic_tree.specs.declared.tree.RawValue.{RawValue}
 use Rattle.classic_tree.specs.declared.tree.RawValue.TheVariants as v
 use Rattle.classic_tree.specs.declared.tree.Given.{Given}
 use Rattle.classic_tree.specs.declared.tree.Given.TheVariants as given
+use Rattle.classic_tree.specs.declared.tree.Declaration.{Declaration}
 use Rattle.classic_tree.specs.declared.tree.BodyItem.{BodyItem}
 use Rattle.classic_tree.specs.declared.tree.BodyItem.TheVariants as held
 use Rattle.classic_tree.specs.declared.tree.NodeText.{NodeText}
 use Rattle.classic_tree.specs.declared.tree.NodeText.TheVariants as made
+use Rattle.classic_tree.specs.declared.tree.ProtoText.{ProtoText, out-ProtoText}
 use Rattle.classic_tree.specs.declared.tree.Statement.{Statement}
 use Rattle.classic_tree.specs.declared.tree.Statement.TheVariants as stands
 use Rattle.classic_tree.specs.declared.tree.Meta.{Meta}
 use Rattle.classic_tree.specs.declared.tree.Document.{Document}
 use Rattle.classic_text.specs.Levels.{HasLevel}
-use Rattle.classic_text.specs.Grammar.{max_depth}
+use Rattle.classic_text.specs.Spells.{IsEvent, IsStored, max_depth}
 
 -- ---- names and values
 
@@ -71,25 +75,76 @@ module _ (Inner : NodeText → Type 0) where
   IsSpellableGiven (given.Value x) = IsSpellableValue x
   IsSpellableGiven (given.Is n) = IsFreeName n
 
-  -- ---- what stands in a body
+  -- what a declaration of a field of that access gives it: in a Script `IS name`; without one a value exactly where the field
+  -- holds one
+  abbrev pub IsSpellableDeclared : Bool → Access → Given NodeText → Type 0
+  IsSpellableDeclared script access given.Nothing = IsEvent access
+  IsSpellableDeclared script access (given.Value x) = IsStored access × IsSpellableValue x
+  IsSpellableDeclared script access (given.Is n) = (script ≡ true) × IsFreeName n
 
+  -- a declaration in a Script, or in the interface of a PROTO
+  abbrev pub IsSpellableDeclaration : Bool → Declaration NodeText → Type 0
+  IsSpellableDeclaration script d = IsFreeName d.name × IsSpellableDeclared script d.access d.given
+
+-- ---- what stands in a body
+
+-- by which nodes and PROTOs in it are spellable
+module _ (Inner : NodeText → Type 0) (Proto : ProtoText → Type 0) where
   pub record IsSpellableField (item : BodyItem) : Type 0 where
     pub at : ℕ
     pub name : List ℕ
     pub value : Given NodeText
     pub is : item ≡ held.Field at name value
     pub named : IsFreeName name
-    pub other : IsNoneOf (codes "EXTERNPROTO" ∷ []) name
-    pub given : IsSpellableGiven value
+    pub other : name ≢ codes "EXTERNPROTO"
+    pub given : IsSpellableGiven Inner value
 
   pub record IsSpellableRouteItem (item : BodyItem) : Type 0 where
     pub route : RouteText
     pub is : item ≡ held.Route route
     pub spellable : IsSpellableRoute route
 
-  -- PROTOs and declarations are not read yet
-  abbrev pub IsSpellableItem : BodyItem → Type 0
-  IsSpellableItem item = IsSpellableField item ⊎ IsSpellableRouteItem item
+  pub record IsSpellableProtoItem (item : BodyItem) : Type 0 where
+    pub proto : ProtoText
+    pub is : item ≡ held.Proto proto
+    pub spellable : Proto proto
+
+  -- in a Script alone
+  pub record IsSpellableDeclarationItem (node_type : List ℕ) (item : BodyItem) : Type 0 where
+    pub scripted : node_type ≡ codes "Script"
+    pub declaration : Declaration NodeText
+    pub is : item ≡ held.Declaration declaration
+    pub spellable : IsSpellableDeclaration Inner true declaration
+
+  abbrev pub IsSpellableItem : List ℕ → BodyItem → Type 0
+  IsSpellableItem node_type item =
+      IsSpellableField item ⊎ (IsSpellableRouteItem item ⊎ (IsSpellableProtoItem item ⊎ IsSpellableDeclarationItem node_type item))
+
+-- ---- statements
+
+-- by which nodes and PROTOs are spellable
+module _ (Node : NodeText → Type 0) (Proto : ProtoText → Type 0) where
+  pub record IsSpellableNodeStatement (statement : Statement) : Type 0 where
+    pub node : NodeText
+    pub is : statement ≡ stands.Node node
+    pub spellable : Node node
+
+  pub record IsSpellableRouteStatement (statement : Statement) : Type 0 where
+    pub route : RouteText
+    pub is : statement ≡ stands.Route route
+    pub spellable : IsSpellableRoute route
+
+  pub record IsSpellableProtoStatement (statement : Statement) : Type 0 where
+    pub proto : ProtoText
+    pub is : statement ≡ stands.Proto proto
+    pub spellable : Proto proto
+
+  abbrev pub IsSpellableStatement : Statement → Type 0
+  IsSpellableStatement s = IsSpellableNodeStatement s ⊎ (IsSpellableRouteStatement s ⊎ IsSpellableProtoStatement s)
+
+-- words that would begin a statement of another kind
+abbrev pub unread_words : List (List ℕ)
+unread_words = codes "EXTERNPROTO" ∷ codes "IMPORT" ∷ codes "EXPORT" ∷ codes "UNIT" ∷ []
 
 -- ---- nodes
 
@@ -106,45 +161,49 @@ IsNameOrNone (Some name) = IsFreeName name
 
 -- without a DEF the type is the first word, which is none of these
 abbrev pub BeginsWithNoneOf : List (List ℕ) → Option (List ℕ) → List ℕ → Type 0
-BeginsWithNoneOf words None name = IsNoneOf words name
-BeginsWithNoneOf words (Some def) name = Unit {0}
+BeginsWithNoneOf words None node_type = IsNoneOf words node_type
+BeginsWithNoneOf words (Some def) node_type = Unit {0}
 
--- a node with a body that begins with none of these words, by which items are spellable
-pub record IsSpellableFull (Item : BodyItem → Type 0) (words : List (List ℕ)) (node : NodeText) : Type 0 where
+-- a node with a body that begins with none of these words, by which items are spellable in a node of a type
+pub record IsSpellableFull (Item : List ℕ → BodyItem → Type 0) (words : List (List ℕ)) (node : NodeText) : Type 0 where
   pub at : ℕ
   pub def : Option (List ℕ)
-  pub name : List ℕ
+  pub node_type : List ℕ
   pub items : List BodyItem
-  pub is : node ≡ made.Full at def name items
+  pub is : node ≡ made.Full at def node_type items
   pub defined : IsNameOrNone def
-  pub named : IsFreeName name
-  pub begins : BeginsWithNoneOf words def name
-  pub body : AllByRecursion Item items
+  pub typed : IsFreeName node_type
+  pub begins : BeginsWithNoneOf words def node_type
+  pub body : AllByRecursion (Item node_type) items
 
--- a node that begins with none of these words, and in which nodes nest no deeper than the number, itself counted
-unfoldable pub IsSpellableNode : ℕ → List (List ℕ) → NodeText → Type 0
-IsSpellableNode zero words node = ⊥
-IsSpellableNode (suc depth) words node = IsSpellableUse node ⊎ IsSpellableFull (IsSpellableItem (IsSpellableNode depth [])) words node
+-- a PROTO, by which nodes in its interface and which bodies are spellable
+abbrev pub IsSpellableProtoBy : (NodeText → Type 0) → (List Statement → Type 0) → ProtoText → Type 0
+IsSpellableProtoBy Inner Body p =
+    IsFreeName (out-ProtoText p).name × AllByRecursion (IsSpellableDeclaration Inner false) (out-ProtoText p).interface × Body (out-ProtoText p).body
 
--- ---- statements
+-- Nodes that begin with none of these words, and bodies of PROTOs, in which nodes and bodies nest no deeper than the number,
+-- themselves counted. The interface of a PROTO stands as deep as the PROTO.
+unfoldable mutual
+  pub IsSpellableNode : ℕ → List (List ℕ) → NodeText → Type 0
+  IsSpellableNode zero words node = ⊥
+  IsSpellableNode (suc depth) words node =
+      IsSpellableUse node ⊎ IsSpellableFull
+      (IsSpellableItem (IsSpellableNode depth []) (IsSpellableProtoBy (IsSpellableNode depth []) (IsSpellableProtoBody depth))) words node
 
-pub record IsSpellableNodeStatement (words : List (List ℕ)) (statement : Statement) : Type 0 where
-  pub node : NodeText
-  pub is : statement ≡ stands.Node node
-  pub spellable : IsSpellableNode max_depth words node
+  pub IsSpellableProtoBody : ℕ → List Statement → Type 0
+  IsSpellableProtoBody zero ss = ⊥
+  IsSpellableProtoBody (suc depth) ss =
+      AllByRecursion
+      (IsSpellableStatement (IsSpellableNode depth unread_words) (IsSpellableProtoBy (IsSpellableNode depth []) (IsSpellableProtoBody depth))) ss
 
-pub record IsSpellableRouteStatement (statement : Statement) : Type 0 where
-  pub route : RouteText
-  pub is : statement ≡ stands.Route route
-  pub spellable : IsSpellableRoute route
+abbrev pub IsSpellableProto : ℕ → ProtoText → Type 0
+IsSpellableProto depth p = IsSpellableProtoBy (IsSpellableNode depth []) (IsSpellableProtoBody depth) p
 
--- PROTOs are not read yet
-abbrev pub IsSpellableStatement : List (List ℕ) → Statement → Type 0
-IsSpellableStatement words s = IsSpellableNodeStatement words s ⊎ IsSpellableRouteStatement s
+-- ---- all statements
 
--- words that begin a statement which is not read yet
-abbrev pub unread_words : List (List ℕ)
-unread_words = codes "EXTERNPROTO" ∷ codes "IMPORT" ∷ codes "EXPORT" ∷ codes "UNIT" ∷ []
+-- a statement that begins with none of these words
+abbrev pub IsSpellableTopStatement : List (List ℕ) → Statement → Type 0
+IsSpellableTopStatement words s = IsSpellableStatement (IsSpellableNode max_depth words) (IsSpellableProto max_depth) s
 
 -- words that would be read as a part of the head where the first statement stands: META, COMPONENT where there is no META,
 -- and PROFILE where there is nothing before it
@@ -157,7 +216,8 @@ head_words [] [] None = codes "META" ∷ codes "COMPONENT" ∷ codes "PROFILE" �
 -- the first of the statements begins with none of these words either
 abbrev pub AreSpellableStatements : List (List ℕ) → List Statement → Type 0
 AreSpellableStatements words [] = Unit {0}
-AreSpellableStatements words (s ∷ ss) = IsSpellableStatement (words ++ unread_words) s × AllByRecursion (IsSpellableStatement unread_words) ss
+AreSpellableStatements words (s ∷ ss) =
+    IsSpellableTopStatement (words ++ unread_words) s × AllByRecursion (IsSpellableTopStatement unread_words) ss
 
 -- ---- the head, and a whole document
 

@@ -2,8 +2,6 @@
 #![tactic(auto)]
 
 mod laws;
-#[cfg(test)]
-mod tests;
 mod writing;
 
 pub use laws::{spellable_documents_are_written, spelled_documents_are_spellable};
