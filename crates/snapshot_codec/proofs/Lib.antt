@@ -1,0 +1,7 @@
+pub mod HeadLaws
+pub mod KeptLaws
+pub mod Loops
+pub mod PartLaws
+pub mod Signed
+pub mod TraceLaws
+pub mod ValueLaws

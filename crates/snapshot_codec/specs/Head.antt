@@ -1,0 +1,60 @@
+-- The head of a snapshot and the digest at its end (our choice).
+use Rattle.std.specs.Prelude.{ℕ, ◌-◌, ◌^◌, ◌++◌, ◌==◌, List, ◌∷◌, length, take, drop, Option, Some, None, Result, Ok, Err, nat_le, nat_lt, nat_eq, slice_range, slice_index, if◌then◌else◌, codes}
+use Rattle.std.specs.Int.{w32}
+use Rattle.std.specs.Cmp.Lexicographic.{pointwise}
+use Rattle.sha2.specs.Sha256.{sha256}
+use Rattle.byte_codec.specs.Codec.{Codec, named, pair, number}
+use Rattle.snapshot_codec.specs.declared.head.HeadFault.{HeadFault}
+use Rattle.snapshot_codec.specs.declared.head.HeadFault.TheVariants.{Short, BadMagic, BadVersion, WrongScene, BadDigest}
+use Rattle.snapshot_codec.specs.declared.head.Progress.{Progress}
+use Rattle.snapshot_codec.specs.Values.{restricted}
+use Rattle.snapshot_codec.specs.Trace.{moment_codec}
+
+-- inputs are numbered up to 2^20
+abbrev pub applied_codec : Codec ℕ
+applied_codec = restricted (λ n. nat_le n (2 ^ 20)) (number w32)
+
+-- boot, applied, last time
+unfoldable pub progress_codec : Codec Progress
+progress_codec = named (λ t. record { boot = t.0; applied = t.1.0; last_time = t.1.1 })
+    (λ p. (p.boot, (p.applied, p.last_time)))
+    (pair (number w32) (pair applied_codec moment_codec))
+
+-- the four bytes X3DW, the version, the mark of the scene
+abbrev pub front : ℕ → List ℕ → List ℕ
+front version mark = codes "X3DW" ++ version ∷ mark
+
+-- bytes, and their SHA-256 behind them
+abbrev pub sealed : List ℕ → List ℕ
+sealed bytes = bytes ++ sha256 bytes
+
+-- the one snapshot with this body: all that stands behind the mark and before the digest
+abbrev pub snapshot : ℕ → List ℕ → List ℕ → List ℕ
+snapshot version mark body = sealed (front version mark ++ body)
+
+-- ---- reading
+
+-- all but the last 32 bytes
+abbrev pub unsealed : List ℕ → List ℕ
+unsealed bytes = take (length bytes - 32) bytes
+
+-- what is wrong before the body: the first of these that holds
+abbrev pub head_fault : ℕ → List ℕ → List ℕ → Option HeadFault
+head_fault version mark bytes =
+    if nat_lt (length bytes) 85 then Some Short
+    else (if pointwise nat_eq (slice_range bytes 0 4) (codes "X3DW") then
+    (if slice_index bytes 4 == version then
+    (if pointwise nat_eq (slice_range bytes 5 37) mark then
+    (if pointwise nat_eq (drop (length bytes - 32) bytes) (sha256 (unsealed bytes)) then None
+    else Some BadDigest)
+    else Some WrongScene)
+    else Some BadVersion)
+    else Some BadMagic)
+
+-- the body, or what is wrong before it
+abbrev pub body_or : List ℕ → Option HeadFault → Result (List ℕ) HeadFault
+body_or bytes None = Ok (slice_range bytes 37 (length bytes - 32))
+body_or bytes (Some fault) = Err fault
+
+abbrev pub opened : ℕ → List ℕ → List ℕ → Result (List ℕ) HeadFault
+opened version mark bytes = body_or bytes (head_fault version mark bytes)

@@ -1,0 +1,6 @@
+pub mod Fields
+pub mod Head
+pub mod Parts
+pub mod Reads
+pub mod Trace
+pub mod Values

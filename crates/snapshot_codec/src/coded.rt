@@ -1,0 +1,173 @@
+//! What has bytes of its own, and lists of it.
+
+ghost use Rattle.std.specs.Prelude.{◌≡◌, ◌++◌, OnOk};
+ghost use Rattle.std.specs.Int.{w32, w64};
+ghost use Rattle.std.specs.List.{flat_map};
+ghost use Rattle.x3d_lists.specs.Extends.{Extends};
+ghost use Rattle.byte_codec.specs.Codec.{Codec, signed, truth, many_at};
+ghost use Rattle.snapshot_codec.specs.Reads.{Reads};
+ghost use Rattle.snapshot_codec.specs.Values.{text, vector2, vector3, color, list_of, within};
+
+use crate::fault::PartFault;
+use crate::numbers::{push_count, push_i32, push_i64, within_of};
+use byte_codec::{flag_of, i32_of, i64_of, string_of, u32_of};
+use std::alloc::{AllocError, Global};
+use x3d_lists::{Items, Text};
+use x3d_values::{Color, Vec2, Vec3};
+
+/// What has bytes.
+pub(crate) trait Coded: Drop {
+    ghost codec: { Codec Self };
+
+    /// The value at the front of the bytes, and the bytes behind it.
+    fn read(alloc: Global, bytes: &[u8]) -> Result<(Self, &[u8]), PartFault>
+        ensures { Reads (λ x. (x.0, x.1.now)) result (codec.read bytes.now) };
+
+    /// Appends the bytes; on a refusal perhaps a part of them.
+    fn push_to(&self, out: &mut Vec<u8>) -> Result<(), AllocError>
+        ensures ok { OnOk result (out.new.items ≡ out.old.items ++ codec.write self.now) }
+        ensures kept { Extends out.old.items out.new.items };
+}
+
+/// That many values.
+pub(crate) fn many_of<T: Coded>(
+    alloc: Global,
+    count: u32,
+    bytes: &[u8],
+) -> Result<(Items<T>, &[u8]), PartFault>
+    ensures { Reads (λ x. (x.0, x.1.now)) result (many_at T.codec count bytes.now) }
+{
+    let mut items = Items::new(alloc);
+    let mut rest = bytes;
+    for _ in 0..count {
+        let (item, after) = T::read(alloc, rest)?;
+        items.push(item)?;
+        rest = after;
+    }
+    Ok((items, rest))
+}
+
+/// A count, and that many values.
+pub(crate) fn list_of<T: Coded>(alloc: Global, bytes: &[u8]) -> Result<(Items<T>, &[u8]), PartFault>
+    ensures { Reads (λ x. (x.0, x.1.now)) result ((list_of T.codec).read bytes.now) }
+{
+    let Some((count, rest)) = u32_of(bytes) else {
+        return Err(PartFault::NotCanonical);
+    };
+    many_of::<T>(alloc, count, rest)
+}
+
+/// That many numbers of sizes up to the limit.
+pub(crate) fn many_within(
+    alloc: Global,
+    limit: u64,
+    count: u32,
+    bytes: &[u8],
+) -> Result<(Items<i64>, &[u8]), PartFault>
+    ensures { Reads (λ x. (x.0, x.1.now)) result (many_at (within limit) count bytes.now) }
+{
+    let mut items = Items::new(alloc);
+    let mut rest = bytes;
+    for _ in 0..count {
+        let Some((item, after)) = within_of(limit, rest) else {
+            return Err(PartFault::NotCanonical);
+        };
+        items.push(item)?;
+        rest = after;
+    }
+    Ok((items, rest))
+}
+
+/// A count, and that many numbers of sizes up to the limit.
+pub(crate) fn list_within(
+    alloc: Global,
+    limit: u64,
+    bytes: &[u8],
+) -> Result<(Items<i64>, &[u8]), PartFault>
+    ensures { Reads (λ x. (x.0, x.1.now)) result ((list_of (within limit)).read bytes.now) }
+{
+    let Some((count, rest)) = u32_of(bytes) else {
+        return Err(PartFault::NotCanonical);
+    };
+    many_within(alloc, limit, count, rest)
+}
+
+fn push_many<T: Coded>(items: &[T], out: &mut Vec<u8>) -> Result<(), AllocError>
+    ensures ok { OnOk result (out.new.items ≡ out.old.items ++ flat_map T.codec.write items.now) }
+    ensures kept { Extends out.old.items out.new.items }
+{
+    for item in items {
+        item.push_to(out)?;
+    }
+    Ok(())
+}
+
+/// Appends the count and the items; on a refusal perhaps a part of them.
+pub(crate) fn push_list<T: Coded>(items: &[T], out: &mut Vec<u8>) -> Result<(), AllocError>
+    ensures ok { OnOk result (out.new.items ≡ out.old.items ++ (list_of T.codec).write items.now) }
+    ensures kept { Extends out.old.items out.new.items }
+{
+    push_count(items.len(), out)?;
+    push_many(items, out)?;
+    Ok(())
+}
+
+impl Coded for bool {
+    ghost codec = { truth };
+
+    fn read(_alloc: Global, bytes: &[u8]) -> Result<(bool, &[u8]), PartFault> {
+        flag_of(bytes).ok_or(PartFault::NotCanonical)
+    }
+
+    fn push_to(&self, out: &mut Vec<u8>) -> Result<(), AllocError> {
+        out.push(u8::from(*self))?;
+        Ok(())
+    }
+}
+
+impl Coded for i32 {
+    ghost codec = { signed w32 };
+
+    fn read(_alloc: Global, bytes: &[u8]) -> Result<(i32, &[u8]), PartFault> {
+        i32_of(bytes).ok_or(PartFault::NotCanonical)
+    }
+
+    fn push_to(&self, out: &mut Vec<u8>) -> Result<(), AllocError> {
+        push_i32(*self, out)
+    }
+}
+
+/// A number of any size.
+impl Coded for i64 {
+    ghost codec = { signed w64 };
+
+    fn read(_alloc: Global, bytes: &[u8]) -> Result<(i64, &[u8]), PartFault> {
+        i64_of(bytes).ok_or(PartFault::NotCanonical)
+    }
+
+    fn push_to(&self, out: &mut Vec<u8>) -> Result<(), AllocError> {
+        push_i64(*self, out)
+    }
+}
+
+impl Coded for Text {
+    ghost codec = { text };
+
+    #[tactic(auto, unfolding(crate::specs::Values::text))]
+    fn read(alloc: Global, bytes: &[u8]) -> Result<(Text, &[u8]), PartFault> {
+        let Some((front, rest)) = string_of(bytes) else {
+            return Err(PartFault::NotCanonical);
+        };
+        match str::from_utf8(front) {
+            Ok(front) => Ok((Text::from_str(alloc, front)?, rest)),
+            Err(_) => Err(PartFault::NotCanonical),
+        }
+    }
+
+    #[tactic(auto, unfolding(crate::specs::Values::text))]
+    fn push_to(&self, out: &mut Vec<u8>) -> Result<(), AllocError> {
+        let bytes = self.as_bytes();
+        push_count(bytes.len(), out)?;
+        out.extend_from_slice(bytes)
+    }
+}

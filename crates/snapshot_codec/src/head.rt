@@ -1,0 +1,197 @@
+//! The head of a snapshot, and the digest at its end.
+
+ghost use Rattle.std.specs.Prelude.{◌≡◌, ◌++◌, ◌+◌, ◌-◌, ◌≤◌, Ok, IfOk, IfNone, ℕ, List, codes, drop, length, nat_eq, OnErr, OnOk};
+ghost use Rattle.std.specs.Cmp.Lexicographic.{pointwise};
+ghost use Rattle.std.specs.Option.{option_map};
+ghost use Rattle.std.specs.Result.{result_map_both};
+ghost use Rattle.sha2.specs.Sha256.{sha256};
+ghost use Rattle.x3d_lists.specs.Extends.{Extends};
+ghost use Rattle.snapshot_codec.specs.Head.{applied_codec, progress_codec, front, unsealed, snapshot, head_fault, opened};
+
+use crate::numbers::{push_i64, push_u32};
+use crate::trace::moment_of;
+use byte_codec::u32_of;
+use sha2::{Digest, Sha256};
+use std::alloc::AllocError;
+use thiserror::Error;
+
+/// The first bytes of each snapshot.
+const MAGIC: &[u8; 4] = b"X3DW";
+
+/// The least length of a snapshot: the head of 53 bytes and the digest of 32.
+const LEAST: usize = 85;
+
+/// Why bytes are no snapshot of a scene, before their body is looked at. Of these the first that
+/// holds is told: fewer than 85 bytes; another magic; another version; another scene's mark; a
+/// digest at the end that isn't that of the bytes before it.
+#[derive(Clone, Copy, Debug, PartialEq, Eq, Error)]
+pub enum HeadFault {
+    #[error("the bytes are too few for a snapshot")]
+    Short,
+    #[error("the bytes do not begin as a snapshot does")]
+    BadMagic,
+    #[error("the version of the snapshot is another one")]
+    BadVersion,
+    #[error("the snapshot is of another scene")]
+    WrongScene,
+    #[error("the digest of the snapshot is not that of its bytes")]
+    BadDigest,
+}
+
+/// Whose snapshot it is, and how far its world had come.
+#[derive(Clone, Copy, Debug, PartialEq, Eq)]
+pub struct Progress {
+    /// Which start of the viewer.
+    pub boot: u32,
+    /// How many inputs were applied, up to 2^20.
+    pub applied: u32,
+    /// The time of the last of them in microseconds, 0 to 10^18.
+    pub last_time: i64,
+}
+
+/// The mark of a scene: the SHA-256 of its text.
+pub fn scene_mark(text: &[u8]) -> [u8; 32]
+    ensures { result ≡ sha256 text.now }
+{
+    Sha256::digest(text)
+}
+
+/// Whether the last 32 bytes are the digest of those before them.
+fn is_sealed(bytes: &[u8]) -> bool
+    requires { 32 ≤ length bytes.now }
+    ensures { result ≡ pointwise nat_eq (drop (length bytes.now - 32) bytes.now) (sha256 (unsealed bytes.now)) }
+{
+    let (body, digest) = bytes.split_at(bytes.len() - 32);
+    digest == Sha256::digest(body).as_slice()
+}
+
+/// What is wrong before the body.
+fn head_fault(version: u8, mark: &[u8; 32], bytes: &[u8]) -> Option<HeadFault>
+    ensures value { result ≡ head_fault version mark.now bytes.now }
+    ensures long { IfNone result (85 ≤ length bytes.now) }
+{
+    if bytes.len() < LEAST {
+        return Some(HeadFault::Short);
+    }
+    if &bytes[..4] != MAGIC.as_slice() {
+        return Some(HeadFault::BadMagic);
+    }
+    if bytes[4] != version {
+        return Some(HeadFault::BadVersion);
+    }
+    if &bytes[5..37] != mark.as_slice() {
+        return Some(HeadFault::WrongScene);
+    }
+    if !is_sealed(bytes) {
+        return Some(HeadFault::BadDigest);
+    }
+    None
+}
+
+fn opened<'a>(version: u8, mark: &[u8; 32], bytes: &'a [u8]) -> Result<&'a [u8], HeadFault>
+    ensures { result_map_both (λ body. body.now) (λ fault. fault) result ≡ opened version mark.now bytes.now }
+{
+    match head_fault(version, mark, bytes) {
+        None => Ok(&bytes[37..bytes.len() - 32]),
+        Some(fault) => Err(fault),
+    }
+}
+
+/// The body of a snapshot of this version and scene: the bytes behind the mark, up to the digest.
+pub fn open<'a>(version: u8, mark: &[u8; 32], bytes: &'a [u8]) -> Result<&'a [u8], HeadFault>
+    // The bytes are the snapshot with that body.
+    ensures found { IfOk result (λ body. bytes.now ≡ snapshot version mark.now body.now) }
+    // The snapshot with a body of 16 bytes or more is opened to that body.
+    ensures only { (body : List ℕ) → 16 ≤ length body → bytes.now ≡ snapshot version mark.now body
+        → result_map_both (λ body. body.now) (λ fault. fault) result ≡ Ok body }
+    // Which fault it is.
+    ensures exact { result_map_both (λ body. body.now) (λ fault. fault) result ≡ opened version mark.now bytes.now }
+{
+    opened(version, mark, bytes)
+}
+
+fn push_front_part(version: u8, mark: &[u8; 32], out: &mut Vec<u8>) -> Result<(), AllocError>
+    ensures ok { OnOk result (out.new.items ≡ out.old.items ++ front version mark.now) }
+    ensures kept { Extends out.old.items out.new.items }
+{
+    out.extend_from_slice(MAGIC)?;
+    out.push(version)?;
+    out.extend_from_slice(mark)
+}
+
+/// Appends what stands before the body: `X3DW`, the version and the mark of the scene. On a refusal
+/// the buffer is as it was.
+pub fn push_front(version: u8, mark: &[u8; 32], out: &mut Vec<u8>) -> Result<(), AllocError>
+    ensures ok { OnOk result (out.new.items ≡ out.old.items ++ front version mark.now) }
+    ensures err { OnErr result (out.new.items ≡ out.old.items) }
+{
+    let len = out.len();
+    let pushed = push_front_part(version, mark, out);
+    if pushed.is_err() {
+        out.truncate(len);
+    }
+    pushed
+}
+
+/// Appends the SHA-256 of what stands behind the first `from` bytes. On a refusal the buffer is as
+/// it was.
+pub fn push_digest(from: usize, out: &mut Vec<u8>) -> Result<(), AllocError>
+    requires { from ≤ length out.old.items }
+    ensures ok { OnOk result (out.new.items ≡ out.old.items ++ sha256 (drop from out.old.items)) }
+    ensures err { OnErr result (out.new.items ≡ out.old.items) }
+{
+    let digest = Sha256::digest(&out[from..]);
+    out.extend_from_slice(&digest)
+}
+
+fn applied_of(bytes: &[u8]) -> Option<(u32, &[u8])>
+    ensures { option_map (λ x. (x.0, x.1.now)) result ≡ applied_codec.read bytes.now }
+{
+    let (number, rest) = u32_of(bytes)?;
+    if number <= 1 << 20 {
+        Some((number, rest))
+    } else {
+        None
+    }
+}
+
+/// How far a world had come, at the front of the bytes, and the bytes behind it: boot u32, applied
+/// u32 (up to 2^20), last time i64 (0 to 10^18).
+#[tactic(auto, unfolding(crate::specs::Head::progress_codec))]
+pub fn progress_of(bytes: &[u8]) -> Option<(Progress, &[u8])>
+    ensures { option_map (λ x. (x.0, x.1.now)) result ≡ progress_codec.read bytes.now }
+{
+    let (boot, rest) = u32_of(bytes)?;
+    let (applied, rest) = applied_of(rest)?;
+    let (last_time, rest) = moment_of(rest)?;
+    let progress = Progress {
+        boot,
+        applied,
+        last_time,
+    };
+    Some((progress, rest))
+}
+
+#[tactic(auto, unfolding(crate::specs::Head::progress_codec))]
+fn push_progress_part(progress: Progress, out: &mut Vec<u8>) -> Result<(), AllocError>
+    ensures ok { OnOk result (out.new.items ≡ out.old.items ++ progress_codec.write progress) }
+    ensures kept { Extends out.old.items out.new.items }
+{
+    push_u32(progress.boot, out)?;
+    push_u32(progress.applied, out)?;
+    push_i64(progress.last_time, out)?;
+    Ok(())
+}
+
+/// Appends how far a world had come. On a refusal the buffer is as it was.
+pub fn push_progress(progress: Progress, out: &mut Vec<u8>) -> Result<(), AllocError>
+    ensures ok { OnOk result (out.new.items ≡ out.old.items ++ progress_codec.write progress) }
+    ensures err { OnErr result (out.new.items ≡ out.old.items) }
+{
+    let len = out.len();
+    let pushed = push_progress_part(progress, out);
+    if pushed.is_err() {
+        out.truncate(len);
+    }
+    pushed
+}

@@ -1,0 +1,164 @@
+//! What a node keeps of its fields, as bytes.
+
+ghost use Rattle.std.specs.Prelude.{◌≡◌, ◌++◌, OnErr, OnOk};
+ghost use Rattle.std.specs.List.{flat_map};
+ghost use Rattle.x3d_lists.specs.Extends.{Extends};
+ghost use Rattle.byte_codec.specs.Codec.{rows_at};
+ghost use Rattle.snapshot_codec.specs.declared.kept.KeptField.TheVariants.{Interval};
+ghost use Rattle.snapshot_codec.specs.Reads.{Reads};
+ghost use Rattle.snapshot_codec.specs.Fields.{has_bytes, is_interval, kept_field, kept_text, kept_codec, is_positive, fields_codec};
+
+use crate::fault::PartFault;
+use crate::value::{push_value_part, value_of};
+use std::alloc::{AllocError, Global};
+use x3d_values::{Access, FieldType, Items, NodeType, Value};
+
+/// The number of a TimeSensor's `cycleInterval`.
+const CYCLE_INTERVAL: u16 = 1;
+
+/// What a snapshot has of a field.
+#[derive(Clone, Copy, Debug, PartialEq, Eq)]
+pub enum KeptField {
+    /// Nothing: the field keeps no value, or is one of nodes or of a rotation.
+    Absent,
+    /// A time above 0.
+    Interval,
+    /// A value of this type.
+    Typed(FieldType),
+}
+
+fn has_bytes(field_type: FieldType) -> bool
+    ensures { result ≡ has_bytes field_type }
+{
+    !matches!(
+        field_type,
+        FieldType::SFNode | FieldType::MFNode | FieldType::SFRotation
+    )
+}
+
+fn is_interval(node_type: NodeType, number: u16) -> bool
+    ensures { result ≡ is_interval node_type number }
+{
+    match node_type {
+        NodeType::TimeSensor => number == CYCLE_INTERVAL,
+        _ => false,
+    }
+}
+
+/// What a snapshot has of a field, by the type of its node, its number there, its access and its
+/// type: inputOutput fields, but for those of nodes and rotations, and of a TimeSensor's
+/// `cycleInterval` a time above 0.
+pub fn kept_field(
+    node_type: NodeType,
+    number: u16,
+    access: Access,
+    field_type: FieldType,
+) -> KeptField
+    ensures { result ≡ kept_field node_type number access field_type }
+{
+    match access {
+        Access::InputOutput => {
+            if is_interval(node_type, number) {
+                KeptField::Interval
+            } else if has_bytes(field_type) {
+                KeptField::Typed(field_type)
+            } else {
+                KeptField::Absent
+            }
+        }
+        Access::InputOnly | Access::OutputOnly | Access::InitializeOnly => KeptField::Absent,
+    }
+}
+
+fn is_positive(value: &Value) -> bool
+    ensures { result ≡ is_positive value.now }
+{
+    match value {
+        Value::SFTime(time) => *time > 0,
+        _ => false,
+    }
+}
+
+/// A time above 0.
+#[tactic(auto, unfolding(crate::specs::Fields::kept_at))]
+fn interval_of(alloc: Global, bytes: &[u8]) -> Result<(Option<Value>, &[u8]), PartFault>
+    ensures { Reads (λ x. (x.0, x.1.now)) result ((kept_codec Interval).read bytes.now) }
+{
+    let (value, rest) = value_of(alloc, FieldType::SFTime, bytes)?;
+    if is_positive(&value) {
+        Ok((Some(value), rest))
+    } else {
+        Err(PartFault::NotCanonical)
+    }
+}
+
+/// What a node keeps of a field, at the front of the bytes.
+#[tactic(auto, unfolding(crate::specs::Fields::kept_at))]
+fn kept_value_of(
+    alloc: Global,
+    field: KeptField,
+    bytes: &[u8],
+) -> Result<(Option<Value>, &[u8]), PartFault>
+    ensures { Reads (λ x. (x.0, x.1.now)) result ((kept_codec field).read bytes.now) }
+{
+    match field {
+        KeptField::Absent => Ok((None, bytes)),
+        KeptField::Interval => interval_of(alloc, bytes),
+        KeptField::Typed(field_type) => {
+            let (value, rest) = value_of(alloc, field_type, bytes)?;
+            Ok((Some(value), rest))
+        }
+    }
+}
+
+/// What a node keeps of its fields, at the front of the bytes, and the bytes behind it: for each
+/// field in order its value, and nothing where a snapshot has nothing of it.
+pub fn kept_fields_of<'a>(
+    alloc: Global,
+    fields: &[KeptField],
+    bytes: &'a [u8],
+) -> Result<(Items<Option<Value>>, &'a [u8]), PartFault>
+    ensures { Reads (λ x. (x.0, x.1.now)) result ((fields_codec fields.now).read bytes.now) }
+{
+    let mut values = Items::new(alloc);
+    let mut rest = bytes;
+    for field in fields {
+        let (value, after) = kept_value_of(alloc, *field, rest)?;
+        values.push(value)?;
+        rest = after;
+    }
+    Ok((values, rest))
+}
+
+fn push_kept(value: &Option<Value>, out: &mut Vec<u8>) -> Result<(), AllocError>
+    ensures ok { OnOk result (out.new.items ≡ out.old.items ++ kept_text value.now) }
+    ensures kept { Extends out.old.items out.new.items }
+{
+    match value {
+        Some(value) => push_value_part(value, out),
+        None => Ok(()),
+    }
+}
+
+fn push_all_kept(values: &[Option<Value>], out: &mut Vec<u8>) -> Result<(), AllocError>
+    ensures ok { OnOk result (out.new.items ≡ out.old.items ++ flat_map kept_text values.now) }
+    ensures kept { Extends out.old.items out.new.items }
+{
+    for value in values {
+        push_kept(value, out)?;
+    }
+    Ok(())
+}
+
+/// Appends the bytes of what a node keeps of its fields. On a refusal the buffer is as it was.
+pub fn push_kept_fields(values: &[Option<Value>], out: &mut Vec<u8>) -> Result<(), AllocError>
+    ensures ok { OnOk result (out.new.items ≡ out.old.items ++ flat_map kept_text values.now) }
+    ensures err { OnErr result (out.new.items ≡ out.old.items) }
+{
+    let len = out.len();
+    let pushed = push_all_kept(values, out);
+    if pushed.is_err() {
+        out.truncate(len);
+    }
+    pushed
+}

@@ -1,0 +1,36 @@
+//! The parts of a world as bytes, and exactly back: what a snapshot is made of.
+//!
+//! Each part is described once by a codec (`specs/`): which bytes a value is written as, which value
+//! stands at the front of bytes, and which values are read again. The functions named `_of` read the
+//! front of bytes and give what stands behind; those named `push_` append, and leave the buffer as
+//! it was where a growth is refused. `open` tests the head and the digest of a whole snapshot.
+#![tactic(auto)]
+
+mod coded;
+mod exactness;
+mod fault;
+mod head;
+mod kept;
+mod numbers;
+mod parts;
+mod rest;
+#[cfg(test)]
+mod tests;
+mod trace;
+mod value;
+mod vectors;
+mod viewers;
+
+pub use exactness::{nodes_are_exact, worlds_are_exact};
+pub use fault::PartFault;
+pub use head::{
+    HeadFault, Progress, open, progress_of, push_digest, push_front, push_progress, scene_mark,
+};
+pub use kept::{KeptField, kept_field, kept_fields_of, push_kept_fields};
+pub use parts::{cycle_of, position_of, push_cycle, push_position, push_state, states_of};
+pub use rest::all_read;
+pub use trace::{
+    Outputs, SentAt, TakesEntries, TraceEntry, entry_of, push_entry, push_entry_count, trace_of,
+};
+pub use value::{push_value, value_of};
+pub use viewers::{Touch, Viewers, push_touch, push_viewer_set, touch_of, viewer_set_of};

@@ -1,0 +1,146 @@
+//! What else stands behind a node's fields, and the states of scripts, as bytes.
+
+ghost use Rattle.std.specs.Prelude.{◌≡◌, ◌++◌, ◌<◌, ◌^◌, IfSome, OnErr, OnOk};
+ghost use Rattle.std.specs.Option.{option_map};
+ghost use Rattle.x3d_lists.specs.Extends.{Extends};
+ghost use Rattle.snapshot_codec.specs.Reads.{Reads};
+ghost use Rattle.snapshot_codec.specs.Parts.{cycle_in, place_number, cycle_codec, position_codec, state_codec, states_codec};
+
+use crate::coded::{Coded, list_of, many_of, push_list};
+use crate::fault::PartFault;
+use crate::numbers::{push_u32, push_u64};
+use byte_codec::{flag_of, i64_of, u32_of};
+use std::alloc::{AllocError, Global};
+use x3d_values::{Items, Position};
+
+/// The cycle that a TimeSensor runs, if it is active.
+fn cycle_in(active: bool, number: i64) -> Option<Option<u64>>
+    ensures { result ≡ cycle_in (active, number) }
+{
+    if number < 0 {
+        return None;
+    }
+    if active {
+        return Some(Some(number.unsigned_abs()));
+    }
+    if number.unsigned_abs() == 0 {
+        Some(None)
+    } else {
+        None
+    }
+}
+
+/// The cycle that a TimeSensor runs, if it is active, at the front of the bytes, and the bytes
+/// behind it: a byte, 1 where it is active, and an i64 from 0, the number of its cycle, which is 0
+/// where it isn't active.
+#[tactic(auto, using(crate::proofs::Signed::passed), unfolding(crate::specs::Parts::cycle_codec))]
+pub fn cycle_of(bytes: &[u8]) -> Option<(Option<u64>, &[u8])>
+    ensures { option_map (λ x. (x.0, x.1.now)) result ≡ cycle_codec.read bytes.now }
+{
+    let (active, rest) = flag_of(bytes)?;
+    let (number, rest) = i64_of(rest)?;
+    let cycle = cycle_in(active, number)?;
+    Some((cycle, rest))
+}
+
+#[tactic(auto, unfolding(crate::specs::Parts::cycle_codec))]
+fn push_cycle_part(cycle: Option<u64>, out: &mut Vec<u8>) -> Result<(), AllocError>
+    ensures ok { OnOk result (out.new.items ≡ out.old.items ++ cycle_codec.write cycle) }
+    ensures kept { Extends out.old.items out.new.items }
+{
+    match cycle {
+        Some(number) => {
+            out.push(1)?;
+            push_u64(number, out)
+        }
+        None => {
+            out.push(0)?;
+            push_u64(0, out)
+        }
+    }
+}
+
+/// Appends the cycle that a TimeSensor runs, if it is active. On a refusal the buffer is as it was.
+pub fn push_cycle(cycle: Option<u64>, out: &mut Vec<u8>) -> Result<(), AllocError>
+    ensures ok { OnOk result (out.new.items ≡ out.old.items ++ cycle_codec.write cycle) }
+    ensures err { OnErr result (out.new.items ≡ out.old.items) }
+{
+    let len = out.len();
+    let pushed = push_cycle_part(cycle, out);
+    if pushed.is_err() {
+        out.truncate(len);
+    }
+    pushed
+}
+
+/// A sequencer's position at the front of the bytes, and the bytes behind it: a u32, 2^32 - 1
+/// where there is none.
+#[tactic(auto, unfolding(crate::specs::Parts::position_codec))]
+pub fn position_of(bytes: &[u8]) -> Option<(Position, &[u8])>
+    ensures { option_map (λ x. (x.0, x.1.now)) result ≡ position_codec.read bytes.now }
+{
+    let (number, rest) = u32_of(bytes)?;
+    if number == u32::MAX {
+        Some((Position { at: None }, rest))
+    } else {
+        Some((Position { at: Some(number) }, rest))
+    }
+}
+
+fn place_number(at: Option<u32>) -> u32
+    ensures { result ≡ place_number at }
+{
+    match at {
+        Some(number) => number,
+        None => u32::MAX,
+    }
+}
+
+/// Appends a sequencer's position. On a refusal the buffer is as it was.
+#[tactic(auto, unfolding(crate::specs::Parts::position_codec))]
+pub fn push_position(position: Position, out: &mut Vec<u8>) -> Result<(), AllocError>
+    ensures ok { OnOk result (out.new.items ≡ out.old.items ++ position_codec.write position) }
+    ensures err { OnErr result (out.new.items ≡ out.old.items) }
+{
+    push_u32(place_number(position.at), out)
+}
+
+impl Coded for Items<i64> {
+    ghost codec = { state_codec };
+
+    #[tactic(auto, unfolding(crate::specs::Parts::state_codec))]
+    fn read(alloc: Global, bytes: &[u8]) -> Result<(Items<i64>, &[u8]), PartFault> {
+        list_of(alloc, bytes)
+    }
+
+    #[tactic(auto, unfolding(crate::specs::Parts::state_codec))]
+    fn push_to(&self, out: &mut Vec<u8>) -> Result<(), AllocError> {
+        push_list(self.as_slice(), out)
+    }
+}
+
+/// The states of that many scripts at the front of the bytes, and the bytes behind them: of each a
+/// u32 count and that many i64s.
+pub fn states_of(
+    alloc: Global,
+    scripts: u32,
+    bytes: &[u8],
+) -> Result<(Items<Items<i64>>, &[u8]), PartFault>
+    ensures { Reads (λ x. (x.0, x.1.now)) result ((states_codec scripts).read bytes.now) }
+{
+    many_of(alloc, scripts, bytes)
+}
+
+/// Appends the state of one script. On a refusal the buffer is as it was.
+#[tactic(auto, unfolding(crate::specs::Parts::state_codec))]
+pub fn push_state(numbers: &[i64], out: &mut Vec<u8>) -> Result<(), AllocError>
+    ensures ok { OnOk result (out.new.items ≡ out.old.items ++ state_codec.write numbers.now) }
+    ensures err { OnErr result (out.new.items ≡ out.old.items) }
+{
+    let len = out.len();
+    let pushed = push_list(numbers, out);
+    if pushed.is_err() {
+        out.truncate(len);
+    }
+    pushed
+}

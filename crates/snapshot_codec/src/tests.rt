@@ -1,0 +1,250 @@
+//! Bytes by hand, damaged ones, and refused growths.
+
+use super::*;
+use std::test::Fail;
+use test_memory::UsedUp;
+use x3d_values::{FieldType, Items, Position, Text, Value, Vec2, Vec3};
+
+const MARK: [u8; 32] = *b"abcdefghijklmnopqrstuvwxyzABCDEF";
+
+/// The body of the snapshot of an empty world: boot 1, nothing applied, time 0, no buttons, no
+/// events.
+const EMPTY: &[u8] =
+    b"\x00\x00\x00\x01\x00\x00\x00\x00\x00\x00\x00\x00\x00\x00\x00\x00\x00\x00\x00\x00\x00\x00\x00\x00\x00\x00";
+
+/// Each node sends truth values by its field 3.
+struct Switches;
+
+impl Outputs for Switches {
+    ghost use Rattle.std.specs.Prelude.{◌==◌, Some, None, if◌then◌else◌};
+    ghost use Rattle.x3d_values.specs.declared.field_type.FieldType.TheVariants.{SFBool};
+
+    ghost types = { λ _ _ field. if field == 3 then Some SFBool else None };
+
+    fn output_type(&self, _node: u32, field: u16) -> Option<FieldType> {
+        if field == 3 {
+            Some(FieldType::SFBool)
+        } else {
+            None
+        }
+    }
+}
+
+fn empty_snapshot(out: &mut Vec<u8>) -> Result<(), Fail> {
+    push_front(1, &MARK, out)?;
+    let progress = Progress {
+        boot: 1,
+        applied: 0,
+        last_time: 0,
+    };
+    push_progress(progress, out)?;
+    push_viewer_set(Viewers::Sixteen, 0, out)?;
+    push_entry_count(0, out)?;
+    push_digest(0, out)?;
+    Ok(())
+}
+
+#[test]
+fn an_empty_world_has_95_bytes(rt: HostRuntime) -> Result<(), Fail> {
+    let mut out = Vec::new(rt.alloc());
+    empty_snapshot(&mut out)?;
+    assert_eq!(rt; out.len(), 95);
+    assert!(rt; &out[..37] == b"X3DW\x01abcdefghijklmnopqrstuvwxyzABCDEF".as_slice());
+    assert_eq!(rt; open(1, &MARK, &out), Ok(EMPTY));
+    assert!(rt; &out[63..] == scene_mark(&out[..63]).as_slice());
+    Ok(())
+}
+
+#[test]
+fn the_first_fault_is_told(rt: HostRuntime) -> Result<(), Fail> {
+    let mut out = Vec::new(rt.alloc());
+    empty_snapshot(&mut out)?;
+    assert_eq!(rt; open(1, &MARK, &out[..84]), Err(HeadFault::Short));
+    assert_eq!(rt; open(1, &MARK, &out[..94]), Err(HeadFault::BadDigest));
+    assert_eq!(rt; open(1, &[0; 32], &out), Err(HeadFault::WrongScene));
+    assert_eq!(rt; open(2, &[0; 32], &out), Err(HeadFault::BadVersion));
+    out[0] ^= 1;
+    assert_eq!(rt; open(2, &MARK, &out), Err(HeadFault::BadMagic));
+    out[0] ^= 1;
+    out[94] ^= 1;
+    assert_eq!(rt; open(1, &MARK, &out), Err(HeadFault::BadDigest));
+    Ok(())
+}
+
+/// Whether the value has these bytes, and is read from them.
+fn is_both_ways(rt: &HostRuntime, value: Value, expected: &[u8]) -> Result<bool, Fail> {
+    let field_type = value.field_type();
+    let mut out = Vec::new(rt.alloc());
+    let pushed = push_value(&value, &mut out);
+    let read = value_of(rt.alloc(), field_type, expected);
+    let same = read.is_ok_and(|(again, rest)| again == value && rest == b"!".as_slice());
+    pushed?;
+    out.push(b'!')?;
+    Ok(same && out.as_slice() == expected)
+}
+
+#[test]
+fn values_have_their_bytes(rt: HostRuntime) -> Result<(), Fail> {
+    assert!(rt; is_both_ways(&rt, Value::SFBool(true), b"\x01!")?);
+    assert!(rt; is_both_ways(&rt, Value::SFInt32(-2), b"\xff\xff\xff\xfe!")?);
+    let number = Value::SFFloat(1_500_000);
+    assert!(rt; is_both_ways(&rt, number, b"\x00\x00\x00\x00\x00\x16\xe3\x60!")?);
+    let time = Value::SFTime(-1);
+    assert!(rt; is_both_ways(&rt, time, b"\xff\xff\xff\xff\xff\xff\xff\xff!")?);
+    let vector = Value::SFVec2f(Vec2 { x: 1, y: -2 });
+    let bytes = b"\x00\x00\x00\x00\x00\x00\x00\x01\xff\xff\xff\xff\xff\xff\xff\xfe!";
+    assert!(rt; is_both_ways(&rt, vector, bytes)?);
+    Ok(())
+}
+
+#[test]
+fn texts_and_lists_have_their_bytes(rt: HostRuntime) -> Result<(), Fail> {
+    let text = Text::from_str(rt.alloc(), "hi")?;
+    assert!(rt; is_both_ways(&rt, Value::SFString(text), b"\x00\x00\x00\x02hi!")?);
+    let truths = Items::from_slice(rt.alloc(), &[false, true])?;
+    assert!(rt; is_both_ways(&rt, Value::MFBool(truths), b"\x00\x00\x00\x02\x00\x01!")?);
+    let numbers = Items::from_slice(rt.alloc(), &[7])?;
+    let bytes = b"\x00\x00\x00\x01\x00\x00\x00\x00\x00\x00\x00\x07!";
+    assert!(rt; is_both_ways(&rt, Value::MFFloat(numbers), bytes)?);
+    let vectors = Items::from_slice(rt.alloc(), &[Vec3 { x: 0, y: 0, z: 5 }])?;
+    let bytes = b"\x00\x00\x00\x01\x00\x00\x00\x00\x00\x00\x00\x00\x00\x00\x00\x00\x00\x00\x00\x00\
+        \x00\x00\x00\x00\x00\x00\x00\x05!";
+    assert!(rt; is_both_ways(&rt, Value::MFVec3f(vectors), bytes)?);
+    Ok(())
+}
+
+/// The fault of bytes that are no value of the type.
+fn fault_of(rt: &HostRuntime, field_type: FieldType, bytes: &[u8]) -> Option<PartFault> {
+    value_of(rt.alloc(), field_type, bytes).err()
+}
+
+#[test]
+fn other_bytes_are_not_canonical(rt: HostRuntime) {
+    let refused = Some(PartFault::NotCanonical);
+    assert_eq!(rt; fault_of(&rt, FieldType::SFBool, b"\x02"), refused);
+    let above = b"\x00\x03\x8d\x7e\xa4\xc6\x80\x01";
+    assert_eq!(rt; fault_of(&rt, FieldType::SFFloat, above), refused);
+    assert_eq!(rt; fault_of(&rt, FieldType::SFTime, above), None);
+    assert_eq!(rt;
+        fault_of(&rt, FieldType::SFString, b"\x00\x00\x00\x01\xff"),
+        refused
+    );
+    assert_eq!(rt;
+        fault_of(&rt, FieldType::MFBool, b"\xff\xff\xff\xff\x01"),
+        refused
+    );
+    assert_eq!(rt;
+        fault_of(&rt, FieldType::MFNode, b"\x00\x00\x00\x00"),
+        refused
+    );
+}
+
+#[test]
+fn sensors_have_their_bytes(rt: HostRuntime) -> Result<(), Fail> {
+    let mut out = Vec::new(rt.alloc());
+    push_cycle(Some(258), &mut out)?;
+    push_cycle(None, &mut out)?;
+    assert!(rt;
+        out.as_slice()
+            == b"\x01\x00\x00\x00\x00\x00\x00\x01\x02\x00\x00\x00\x00\x00\x00\x00\x00\x00".as_slice()
+    );
+    assert_eq!(rt; cycle_of(&out), Some((Some(258), &out[9..])));
+    assert_eq!(rt; cycle_of(&out[9..]), Some((None, b"".as_slice())));
+    out.clear();
+    let touch = Touch {
+        over: 0x8001,
+        presser: Some(15),
+    };
+    push_touch(Viewers::Sixteen, touch, &mut out)?;
+    assert!(rt; out.as_slice() == b"\x80\x01\x0f".as_slice());
+    assert_eq!(rt;
+        touch_of(Viewers::Sixteen, &out),
+        Some((touch, b"".as_slice()))
+    );
+    assert_eq!(rt; touch_of(Viewers::Sixteen, b"\x80\x01\x10"), None);
+    out.clear();
+    push_position(Position { at: None }, &mut out)?;
+    assert!(rt; out.as_slice() == b"\xff\xff\xff\xff".as_slice());
+    assert_eq!(rt;
+        position_of(b"\x00\x00\x00\x02"),
+        Some((Position { at: Some(2) }, b"".as_slice()))
+    );
+    Ok(())
+}
+
+#[test]
+fn fields_are_kept_or_not(rt: HostRuntime) -> Result<(), Fail> {
+    let kept = [
+        KeptField::Absent,
+        KeptField::Interval,
+        KeptField::Typed(FieldType::SFBool),
+    ];
+    let bytes = b"\x00\x00\x00\x00\x00\x00\x00\x01\x01";
+    let mut out = Vec::new(rt.alloc());
+    let (values, rest) = kept_fields_of(rt.alloc(), &kept, bytes)?;
+    let pushed = push_kept_fields(values.as_slice(), &mut out);
+    drop(values);
+    pushed?;
+    assert!(rt; rest.is_empty());
+    assert!(rt; out.as_slice() == bytes.as_slice());
+    let zero = b"\x00\x00\x00\x00\x00\x00\x00\x00\x01";
+    assert!(rt; kept_fields_of(rt.alloc(), &kept, zero).is_err());
+    Ok(())
+}
+
+#[test]
+fn a_trace_is_read_again(rt: HostRuntime) -> Result<(), Fail> {
+    let sent = SentAt {
+        input: 1,
+        time: 1_000_000,
+        node: 2,
+        field: 3,
+    };
+    let mut out = Vec::new(rt.alloc());
+    push_entry_count(1, &mut out)?;
+    push_entry(sent, &Value::SFBool(true), &mut out)?;
+    assert!(rt;
+        &out[8..]
+            == b"\x00\x00\x00\x01\x00\x00\x00\x00\x00\x0f\x42\x40\x00\x00\x00\x02\x00\x03\x01".as_slice()
+    );
+    let mut entries: Items<TraceEntry> = Items::new(rt.alloc());
+    let rest = trace_of(rt.alloc(), &Switches, &out, &mut entries).map(<[u8]>::len);
+    let first = entries.get(0).map(|entry| entry.sent);
+    drop(entries);
+    assert_eq!(rt; rest, Ok(0));
+    assert_eq!(rt; first, Some(sent));
+    out[25] = 4;
+    assert!(rt; entry_of(rt.alloc(), &Switches, &out[8..]).is_err());
+    Ok(())
+}
+
+#[test]
+fn states_are_read_again(rt: HostRuntime) -> Result<(), Fail> {
+    let mut out = Vec::new(rt.alloc());
+    push_state(&[-1, 2], &mut out)?;
+    push_state(&[], &mut out)?;
+    assert_eq!(rt; out.len(), 24);
+    let (states, rest) = states_of(rt.alloc(), 2, &out)?;
+    let count = states.len();
+    drop(states);
+    assert_eq!(rt; count, 2);
+    assert!(rt; rest.is_empty());
+    Ok(())
+}
+
+#[test]
+fn a_refused_growth_is_answered(rt: HostRuntime) -> Result<(), Fail> {
+    let mut long = Vec::new(rt.alloc());
+    long.extend_from_slice(&[0, 0, 16, 0])?;
+    long.extend_from_slice(&[b'x'; 4096])?;
+    let mut full = Vec::with_capacity(rt.alloc(), 4096)?;
+    full.extend_from_slice(&[7; 4096])?;
+    let used_up = UsedUp::new(rt.alloc())?;
+    let read = fault_of(&rt, FieldType::SFString, &long);
+    let pushed = push_value(&Value::SFBool(true), &mut full).is_err();
+    drop(used_up);
+    assert_eq!(rt; read, Some(PartFault::Memory));
+    assert!(rt; pushed);
+    assert_eq!(rt; full.len(), 4096);
+    Ok(())
+}

@@ -1,0 +1,206 @@
+//! The events that were sent, as bytes.
+
+ghost use Rattle.std.specs.Prelude.{◌≡◌, ◌++◌, ◌∷◌, [], ℕ, List, Option, OnErr, OnOk};
+ghost use Rattle.std.specs.Option.{option_map};
+ghost use Rattle.std.specs.Int.{w64};
+ghost use Rattle.x3d_lists.specs.Extends.{Extends};
+ghost use Rattle.byte_codec.specs.Codec.{number_text, many_at};
+ghost use Rattle.x3d_values.specs.declared.field_type.FieldType.{FieldType as AFieldType};
+ghost use Rattle.snapshot_codec.specs.declared.trace.TraceEntry.{TraceEntry as AnEntry};
+ghost use Rattle.snapshot_codec.specs.Reads.{Reads, behind};
+ghost use Rattle.snapshot_codec.specs.Trace.{moment_codec, sent_at_codec, typed_codec, entry_codec, trace_codec, entry_text};
+
+use crate::fault::PartFault;
+use crate::numbers::{push_i64, push_u16, push_u32, push_u64};
+use crate::value::{push_value_part, value_of};
+use byte_codec::{i64_of, u16_of, u32_of, u64_of};
+use std::alloc::{AllocError, Global};
+use x3d_values::{FieldType, Items, Value};
+
+/// The latest time, in microseconds.
+const LATEST: i64 = 1_000_000_000_000_000_000;
+
+/// When and where an event was sent.
+#[derive(Clone, Copy, Debug, PartialEq, Eq)]
+pub struct SentAt {
+    /// The number of the input.
+    pub input: u32,
+    /// In microseconds, 0 to 10^18.
+    pub time: i64,
+    /// The number of the node.
+    pub node: u32,
+    /// The number of the output among the fields of the node.
+    pub field: u16,
+}
+
+/// An event that was sent.
+#[derive(Debug, Drop)]
+pub struct TraceEntry {
+    pub sent: SentAt,
+    pub value: Value,
+}
+
+/// The outputs of a scene.
+pub trait Outputs {
+    ghost types: { Self → ℕ → ℕ → Option AFieldType };
+
+    /// The type of the events that a node sends by its field of that number, if it sends any.
+    fn output_type(&self, node: u32, field: u16) -> Option<FieldType>
+        ensures { result ≡ types self.now node field };
+}
+
+/// What takes the events of a trace as they are read.
+pub trait TakesEntries {
+    ghost entries: { Self → List AnEntry };
+
+    /// Puts the event behind those that it holds.
+    fn take_entry(&mut self, entry: TraceEntry) -> Result<(), AllocError>
+        ensures { OnOk result (entries self.new ≡ entries self.old ++ entry ∷ []) };
+}
+
+impl TakesEntries for Items<TraceEntry> {
+    ghost entries = { λ entries. entries };
+
+    fn take_entry(&mut self, entry: TraceEntry) -> Result<(), AllocError> {
+        self.push(entry)
+    }
+}
+
+/// A time of 0 to 10^18 microseconds at the front of the bytes, and the bytes behind it.
+pub(crate) fn moment_of(bytes: &[u8]) -> Option<(i64, &[u8])>
+    ensures { option_map (λ x. (x.0, x.1.now)) result ≡ moment_codec.read bytes.now }
+{
+    let (time, rest) = i64_of(bytes)?;
+    if time >= 0 && time <= LATEST {
+        Some((time, rest))
+    } else {
+        None
+    }
+}
+
+#[tactic(auto, unfolding(crate::specs::Trace::sent_at_codec))]
+fn sent_at_of(bytes: &[u8]) -> Option<(SentAt, &[u8])>
+    ensures { option_map (λ x. (x.0, x.1.now)) result ≡ sent_at_codec.read bytes.now }
+{
+    let (input, rest) = u32_of(bytes)?;
+    let (time, rest) = moment_of(rest)?;
+    let (node, rest) = u32_of(rest)?;
+    let (field, rest) = u16_of(rest)?;
+    let sent = SentAt {
+        input,
+        time,
+        node,
+        field,
+    };
+    Some((sent, rest))
+}
+
+fn typed_of(
+    alloc: Global,
+    field_type: Option<FieldType>,
+    bytes: &[u8],
+) -> Result<(Value, &[u8]), PartFault>
+    ensures { Reads (λ x. (x.0, x.1.now)) result ((typed_codec field_type).read bytes.now) }
+{
+    match field_type {
+        Some(field_type) => value_of(alloc, field_type, bytes),
+        None => Err(PartFault::NotCanonical),
+    }
+}
+
+/// An event at the front of the bytes, and the bytes behind it: the input's number u32, the time
+/// i64 (0 to 10^18), the node u32, the field u16, and a value of the field's type.
+#[tactic(auto, unfolding(crate::specs::Trace::entry_codec))]
+pub fn entry_of<'a, O: Outputs>(
+    alloc: Global,
+    outputs: &O,
+    bytes: &'a [u8],
+) -> Result<(TraceEntry, &'a [u8]), PartFault>
+    ensures { Reads (λ x. (x.0, x.1.now)) result ((entry_codec (O.types outputs.now)).read bytes.now) }
+{
+    let Some((sent, rest)) = sent_at_of(bytes) else {
+        return Err(PartFault::NotCanonical);
+    };
+    let field_type = outputs.output_type(sent.node, sent.field);
+    let (value, rest) = typed_of(alloc, field_type, rest)?;
+    Ok((TraceEntry { sent, value }, rest))
+}
+
+fn entries_of<'a, O: Outputs, T: TakesEntries>(
+    alloc: Global,
+    outputs: &O,
+    count: u64,
+    bytes: &'a [u8],
+    taker: &mut T,
+) -> Result<&'a [u8], PartFault>
+    ensures { Reads (λ rest. (T.entries taker.new, rest.now)) result
+        (behind (T.entries taker.old) (many_at (entry_codec (O.types outputs.now)) count bytes.now)) }
+{
+    let mut rest = bytes;
+    for _ in 0..count {
+        let (entry, after) = entry_of(alloc, outputs, rest)?;
+        taker.take_entry(entry)?;
+        rest = after;
+    }
+    Ok(rest)
+}
+
+/// Puts the events of the trace at the front of the bytes behind those that `taker` holds, and
+/// gives the bytes behind the trace: a u64 count and that many events. On a fault the taker may
+/// hold some of them.
+pub fn trace_of<'a, O: Outputs, T: TakesEntries>(
+    alloc: Global,
+    outputs: &O,
+    bytes: &'a [u8],
+    taker: &mut T,
+) -> Result<&'a [u8], PartFault>
+    ensures { Reads (λ rest. (T.entries taker.new, rest.now)) result
+        (behind (T.entries taker.old) ((trace_codec (O.types outputs.now)).read bytes.now)) }
+{
+    let Some((count, rest)) = u64_of(bytes) else {
+        return Err(PartFault::NotCanonical);
+    };
+    entries_of(alloc, outputs, count, rest, taker)
+}
+
+#[tactic(auto, unfolding(crate::specs::Trace::sent_at_codec))]
+fn push_sent_at(sent: SentAt, out: &mut Vec<u8>) -> Result<(), AllocError>
+    ensures ok { OnOk result (out.new.items ≡ out.old.items ++ sent_at_codec.write sent) }
+    ensures kept { Extends out.old.items out.new.items }
+{
+    push_u32(sent.input, out)?;
+    push_i64(sent.time, out)?;
+    push_u32(sent.node, out)?;
+    push_u16(sent.field, out)?;
+    Ok(())
+}
+
+fn push_entry_part(sent: SentAt, value: &Value, out: &mut Vec<u8>) -> Result<(), AllocError>
+    ensures ok { OnOk result (out.new.items ≡ out.old.items ++ entry_text sent value.now) }
+    ensures kept { Extends out.old.items out.new.items }
+{
+    push_sent_at(sent, out)?;
+    push_value_part(value, out)
+}
+
+/// Appends an event. On a refusal the buffer is as it was.
+pub fn push_entry(sent: SentAt, value: &Value, out: &mut Vec<u8>) -> Result<(), AllocError>
+    ensures ok { OnOk result (out.new.items ≡ out.old.items ++ entry_text sent value.now) }
+    ensures err { OnErr result (out.new.items ≡ out.old.items) }
+{
+    let len = out.len();
+    let pushed = push_entry_part(sent, value, out);
+    if pushed.is_err() {
+        out.truncate(len);
+    }
+    pushed
+}
+
+/// Appends how many events a trace has; they are appended behind it, one after the other. On a
+/// refusal the buffer is as it was.
+pub fn push_entry_count(count: u64, out: &mut Vec<u8>) -> Result<(), AllocError>
+    ensures ok { OnOk result (out.new.items ≡ out.old.items ++ number_text w64 count) }
+    ensures err { OnErr result (out.new.items ≡ out.old.items) }
+{
+    push_u64(count, out)
+}

@@ -1,0 +1,166 @@
+//! The value of a field as bytes.
+
+ghost use Rattle.std.specs.Prelude.{◌≡◌, ◌++◌, OnErr, OnOk};
+ghost use Rattle.x3d_lists.specs.Extends.{Extends};
+ghost use Rattle.snapshot_codec.specs.Reads.{Reads};
+ghost use Rattle.snapshot_codec.specs.Values.{list_at, value_codec, value_text};
+
+use crate::coded::{Coded, list_of, list_within, push_list};
+use crate::fault::PartFault;
+use crate::numbers::within_of;
+use crate::vectors::{color_of, number_of, vector2_of, vector3_of};
+use byte_codec::{flag_of, i32_of};
+use std::alloc::{AllocError, Global};
+use x3d_values::{FieldType, MAX_COORDINATE, Text, Value};
+
+/// The largest size of a time, in microseconds.
+pub(crate) const MAX_TIME: u64 = 1_000_000_000_000_000_000;
+
+/// The value of a field of this type at the front of the bytes, and the bytes behind it. A truth
+/// value is a byte 0 or 1, an SFInt32 an i32, a number an i64 of a size up to 10^15 millionths, a
+/// time one up to 10^18 microseconds, a string a u32 count and that many bytes of UTF-8, a list a
+/// u32 count and that many items; a field of nodes, and a rotation, has no value.
+#[tactic(auto, unfolding(crate::specs::Values::value_at))]
+pub fn value_of(
+    alloc: Global,
+    field_type: FieldType,
+    bytes: &[u8],
+) -> Result<(Value, &[u8]), PartFault>
+    ensures { Reads (λ x. (x.0, x.1.now)) result ((value_codec field_type).read bytes.now) }
+{
+    match field_type {
+        FieldType::SFBool => {
+            let Some((truth, rest)) = flag_of(bytes) else {
+                return Err(PartFault::NotCanonical);
+            };
+            Ok((Value::SFBool(truth), rest))
+        }
+        FieldType::SFInt32 => {
+            let Some((number, rest)) = i32_of(bytes) else {
+                return Err(PartFault::NotCanonical);
+            };
+            Ok((Value::SFInt32(number), rest))
+        }
+        FieldType::SFFloat => {
+            let Some((number, rest)) = number_of(bytes) else {
+                return Err(PartFault::NotCanonical);
+            };
+            Ok((Value::SFFloat(number), rest))
+        }
+        FieldType::SFTime => {
+            let Some((time, rest)) = within_of(MAX_TIME, bytes) else {
+                return Err(PartFault::NotCanonical);
+            };
+            Ok((Value::SFTime(time), rest))
+        }
+        FieldType::SFString => {
+            let (text, rest) = Text::read(alloc, bytes)?;
+            Ok((Value::SFString(text), rest))
+        }
+        FieldType::SFVec2f => {
+            let Some((vector, rest)) = vector2_of(bytes) else {
+                return Err(PartFault::NotCanonical);
+            };
+            Ok((Value::SFVec2f(vector), rest))
+        }
+        FieldType::SFVec3f => {
+            let Some((vector, rest)) = vector3_of(bytes) else {
+                return Err(PartFault::NotCanonical);
+            };
+            Ok((Value::SFVec3f(vector), rest))
+        }
+        FieldType::SFColor => {
+            let Some((color, rest)) = color_of(bytes) else {
+                return Err(PartFault::NotCanonical);
+            };
+            Ok((Value::SFColor(color), rest))
+        }
+        _ => list_value_of(alloc, field_type, bytes),
+    }
+}
+
+/// The same for a field of lists.
+#[tactic(auto, unfolding(crate::specs::Values::list_at))]
+fn list_value_of(
+    alloc: Global,
+    field_type: FieldType,
+    bytes: &[u8],
+) -> Result<(Value, &[u8]), PartFault>
+    ensures { Reads (λ x. (x.0, x.1.now)) result (list_at field_type bytes.now) }
+{
+    match field_type {
+        FieldType::MFBool => {
+            let (truths, rest) = list_of(alloc, bytes)?;
+            Ok((Value::MFBool(truths), rest))
+        }
+        FieldType::MFInt32 => {
+            let (numbers, rest) = list_of(alloc, bytes)?;
+            Ok((Value::MFInt32(numbers), rest))
+        }
+        FieldType::MFFloat => {
+            let (numbers, rest) = list_within(alloc, MAX_COORDINATE, bytes)?;
+            Ok((Value::MFFloat(numbers), rest))
+        }
+        FieldType::MFTime => {
+            let (times, rest) = list_within(alloc, MAX_TIME, bytes)?;
+            Ok((Value::MFTime(times), rest))
+        }
+        FieldType::MFString => {
+            let (texts, rest) = list_of(alloc, bytes)?;
+            Ok((Value::MFString(texts), rest))
+        }
+        FieldType::MFVec2f => {
+            let (vectors, rest) = list_of(alloc, bytes)?;
+            Ok((Value::MFVec2f(vectors), rest))
+        }
+        FieldType::MFVec3f => {
+            let (vectors, rest) = list_of(alloc, bytes)?;
+            Ok((Value::MFVec3f(vectors), rest))
+        }
+        FieldType::MFColor => {
+            let (colors, rest) = list_of(alloc, bytes)?;
+            Ok((Value::MFColor(colors), rest))
+        }
+        _ => Err(PartFault::NotCanonical),
+    }
+}
+
+/// Appends the bytes of the value; on a refusal perhaps a part of them.
+pub(crate) fn push_value_part(value: &Value, out: &mut Vec<u8>) -> Result<(), AllocError>
+    ensures ok { OnOk result (out.new.items ≡ out.old.items ++ value_text value.now) }
+    ensures kept { Extends out.old.items out.new.items }
+{
+    match value {
+        Value::SFBool(truth) => truth.push_to(out),
+        Value::SFInt32(number) => number.push_to(out),
+        Value::SFFloat(number) => number.push_to(out),
+        Value::SFTime(time) => time.push_to(out),
+        Value::SFString(text) => text.push_to(out),
+        Value::SFVec2f(vector) => vector.push_to(out),
+        Value::SFVec3f(vector) => vector.push_to(out),
+        Value::SFColor(color) => color.push_to(out),
+        Value::MFBool(truths) => push_list(truths.as_slice(), out),
+        Value::MFInt32(numbers) => push_list(numbers.as_slice(), out),
+        Value::MFFloat(numbers) => push_list(numbers.as_slice(), out),
+        Value::MFTime(times) => push_list(times.as_slice(), out),
+        Value::MFString(texts) => push_list(texts.as_slice(), out),
+        Value::MFVec2f(vectors) => push_list(vectors.as_slice(), out),
+        Value::MFVec3f(vectors) => push_list(vectors.as_slice(), out),
+        Value::MFColor(colors) => push_list(colors.as_slice(), out),
+        Value::SFNode(_) | Value::MFNode(_) => Ok(()),
+    }
+}
+
+/// Appends the bytes of the value, those that `value_of` reads where the value is in the ranges of
+/// its type. A node or a list of nodes has none. On a refusal the buffer is as it was.
+pub fn push_value(value: &Value, out: &mut Vec<u8>) -> Result<(), AllocError>
+    ensures ok { OnOk result (out.new.items ≡ out.old.items ++ value_text value.now) }
+    ensures err { OnErr result (out.new.items ≡ out.old.items) }
+{
+    let len = out.len();
+    let pushed = push_value_part(value, out);
+    if pushed.is_err() {
+        out.truncate(len);
+    }
+    pushed
+}

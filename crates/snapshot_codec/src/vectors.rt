@@ -1,0 +1,91 @@
+//! Points and colours as bytes.
+
+ghost use Rattle.std.specs.Prelude.{◌≡◌};
+ghost use Rattle.std.specs.Option.{option_map};
+ghost use Rattle.snapshot_codec.specs.Values.{number, vector2, vector3, color};
+
+use crate::coded::Coded;
+use crate::fault::PartFault;
+use crate::numbers::within_of;
+use std::alloc::{AllocError, Global};
+use x3d_values::{Color, MAX_COORDINATE, Vec2, Vec3};
+
+/// A number of millionths of a size up to 10^15.
+pub(crate) fn number_of(bytes: &[u8]) -> Option<(i64, &[u8])>
+    ensures { option_map (λ x. (x.0, x.1.now)) result ≡ number.read bytes.now }
+{
+    within_of(MAX_COORDINATE, bytes)
+}
+
+#[tactic(auto, unfolding(crate::specs::Values::vector2))]
+pub(crate) fn vector2_of(bytes: &[u8]) -> Option<(Vec2, &[u8])>
+    ensures { option_map (λ x. (x.0, x.1.now)) result ≡ vector2.read bytes.now }
+{
+    let (x, rest) = number_of(bytes)?;
+    let (y, rest) = number_of(rest)?;
+    Some((Vec2 { x, y }, rest))
+}
+
+#[tactic(auto, unfolding(crate::specs::Values::vector3))]
+pub(crate) fn vector3_of(bytes: &[u8]) -> Option<(Vec3, &[u8])>
+    ensures { option_map (λ x. (x.0, x.1.now)) result ≡ vector3.read bytes.now }
+{
+    let (x, rest) = number_of(bytes)?;
+    let (y, rest) = number_of(rest)?;
+    let (z, rest) = number_of(rest)?;
+    Some((Vec3 { x, y, z }, rest))
+}
+
+#[tactic(auto, unfolding(crate::specs::Values::color))]
+pub(crate) fn color_of(bytes: &[u8]) -> Option<(Color, &[u8])>
+    ensures { option_map (λ x. (x.0, x.1.now)) result ≡ color.read bytes.now }
+{
+    let (red, rest) = number_of(bytes)?;
+    let (green, rest) = number_of(rest)?;
+    let (blue, rest) = number_of(rest)?;
+    Some((Color { red, green, blue }, rest))
+}
+
+impl Coded for Vec2 {
+    ghost codec = { vector2 };
+
+    fn read(_alloc: Global, bytes: &[u8]) -> Result<(Vec2, &[u8]), PartFault> {
+        vector2_of(bytes).ok_or(PartFault::NotCanonical)
+    }
+
+    #[tactic(auto, unfolding(crate::specs::Values::vector2))]
+    fn push_to(&self, out: &mut Vec<u8>) -> Result<(), AllocError> {
+        self.x.push_to(out)?;
+        self.y.push_to(out)
+    }
+}
+
+impl Coded for Vec3 {
+    ghost codec = { vector3 };
+
+    fn read(_alloc: Global, bytes: &[u8]) -> Result<(Vec3, &[u8]), PartFault> {
+        vector3_of(bytes).ok_or(PartFault::NotCanonical)
+    }
+
+    #[tactic(auto, unfolding(crate::specs::Values::vector3))]
+    fn push_to(&self, out: &mut Vec<u8>) -> Result<(), AllocError> {
+        self.x.push_to(out)?;
+        self.y.push_to(out)?;
+        self.z.push_to(out)
+    }
+}
+
+impl Coded for Color {
+    ghost codec = { color };
+
+    fn read(_alloc: Global, bytes: &[u8]) -> Result<(Color, &[u8]), PartFault> {
+        color_of(bytes).ok_or(PartFault::NotCanonical)
+    }
+
+    #[tactic(auto, unfolding(crate::specs::Values::color))]
+    fn push_to(&self, out: &mut Vec<u8>) -> Result<(), AllocError> {
+        self.red.push_to(out)?;
+        self.green.push_to(out)?;
+        self.blue.push_to(out)
+    }
+}

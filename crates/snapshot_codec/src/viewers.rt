@@ -1,0 +1,122 @@
+//! Sets of viewers, and who is over a TouchSensor and presses it, as bytes.
+
+ghost use Rattle.std.specs.Prelude.{◌≡◌, ◌++◌, OnErr, OnOk};
+ghost use Rattle.std.specs.Option.{option_map};
+ghost use Rattle.x3d_lists.specs.Extends.{Extends};
+ghost use Rattle.snapshot_codec.specs.Parts.{viewer_count, presser_byte, viewer_set_codec, presser_codec, touch_codec};
+
+use crate::numbers::{push_low_16, push_u64};
+use byte_codec::{byte_of, u16_of, u64_of};
+use std::alloc::AllocError;
+
+/// How many viewers a world may have, and so how many bits a set of them has.
+#[derive(Clone, Copy, Debug, PartialEq, Eq)]
+pub enum Viewers {
+    Sixteen,
+    SixtyFour,
+}
+
+/// Who is over a TouchSensor, and who presses it.
+#[derive(Clone, Copy, Debug, PartialEq, Eq)]
+pub struct Touch {
+    /// Bit v is set where viewer v's pointer is over the sensor.
+    pub over: u64,
+    /// The viewer that presses it, if one does.
+    pub presser: Option<u8>,
+}
+
+fn viewer_count(viewers: Viewers) -> u8
+    ensures { result ≡ viewer_count viewers }
+{
+    match viewers {
+        Viewers::Sixteen => 16,
+        Viewers::SixtyFour => 64,
+    }
+}
+
+/// The set of viewers at the front of the bytes, and the bytes behind it: 16 or 64 bits, viewer v
+/// is bit v.
+#[tactic(auto, unfolding(crate::specs::Parts::viewer_set_codec))]
+pub fn viewer_set_of(viewers: Viewers, bytes: &[u8]) -> Option<(u64, &[u8])>
+    ensures { option_map (λ x. (x.0, x.1.now)) result ≡ (viewer_set_codec viewers).read bytes.now }
+{
+    match viewers {
+        Viewers::Sixteen => {
+            let (set, rest) = u16_of(bytes)?;
+            Some((u64::from(set), rest))
+        }
+        Viewers::SixtyFour => u64_of(bytes),
+    }
+}
+
+/// Appends a set of viewers; of 16 viewers the lowest 16 bits. On a refusal the buffer is as it
+/// was.
+#[tactic(auto, unfolding(crate::specs::Parts::viewer_set_codec))]
+pub fn push_viewer_set(viewers: Viewers, set: u64, out: &mut Vec<u8>) -> Result<(), AllocError>
+    ensures ok { OnOk result (out.new.items ≡ out.old.items ++ (viewer_set_codec viewers).write set) }
+    ensures err { OnErr result (out.new.items ≡ out.old.items) }
+{
+    match viewers {
+        Viewers::Sixteen => push_low_16(set, out),
+        Viewers::SixtyFour => push_u64(set, out),
+    }
+}
+
+#[tactic(auto, unfolding(crate::specs::Parts::presser_codec))]
+fn presser_of(viewers: Viewers, bytes: &[u8]) -> Option<(Option<u8>, &[u8])>
+    ensures { option_map (λ x. (x.0, x.1.now)) result ≡ (presser_codec viewers).read bytes.now }
+{
+    let (number, rest) = byte_of(bytes)?;
+    if number == 255 {
+        return Some((None, rest));
+    }
+    if number < viewer_count(viewers) {
+        Some((Some(number), rest))
+    } else {
+        None
+    }
+}
+
+fn presser_byte(presser: Option<u8>) -> u8
+    ensures { result ≡ presser_byte presser }
+{
+    match presser {
+        Some(viewer) => viewer,
+        None => 255,
+    }
+}
+
+/// Who is over a TouchSensor, and who presses it, at the front of the bytes, and the bytes behind
+/// it: the set of viewers, and a byte, 255 where nobody presses it and else below the number of
+/// viewers.
+#[tactic(auto, unfolding(crate::specs::Parts::touch_codec))]
+pub fn touch_of(viewers: Viewers, bytes: &[u8]) -> Option<(Touch, &[u8])>
+    ensures { option_map (λ x. (x.0, x.1.now)) result ≡ (touch_codec viewers).read bytes.now }
+{
+    let (over, rest) = viewer_set_of(viewers, bytes)?;
+    let (presser, rest) = presser_of(viewers, rest)?;
+    Some((Touch { over, presser }, rest))
+}
+
+#[tactic(auto, unfolding(crate::specs::Parts::touch_codec, crate::specs::Parts::presser_codec))]
+fn push_touch_part(viewers: Viewers, touch: Touch, out: &mut Vec<u8>) -> Result<(), AllocError>
+    ensures ok { OnOk result (out.new.items ≡ out.old.items ++ (touch_codec viewers).write touch) }
+    ensures kept { Extends out.old.items out.new.items }
+{
+    push_viewer_set(viewers, touch.over, out)?;
+    out.push(presser_byte(touch.presser))?;
+    Ok(())
+}
+
+/// Appends who is over a TouchSensor, and who presses it. On a refusal the buffer is as it was.
+pub fn push_touch(viewers: Viewers, touch: Touch, out: &mut Vec<u8>) -> Result<(), AllocError>
+    ensures ok { OnOk result (out.new.items ≡ out.old.items ++ (touch_codec viewers).write touch) }
+    ensures err { OnErr result (out.new.items ≡ out.old.items) }
+{
+    let len = out.len();
+    let pushed = push_touch_part(viewers, touch, out);
+    if pushed.is_err() {
+        out.truncate(len);
+    }
+    pushed
+}
