@@ -11,6 +11,7 @@ use Rattle.x3d_values.specs.declared.value.Value.TheVariants.{SFTime}
 use Rattle.x3d_values.specs.Tables.{rows}
 use Rattle.x3d_values.specs.ValueText.{value_text}
 use Rattle.scene_core.specs.declared.scene.End.{End}
+use Rattle.scene_core.specs.declared.scene.Route.{Route}
 use Rattle.scene_core.specs.Scene.{SceneView, types_of, label_of}
 use Rattle.scene_text.specs.SceneText.{scene_text as text_of_scene}
 use Rattle.cascade_core.specs.declared.world.TraceLine.{TraceLine}
@@ -50,6 +51,6 @@ line_text scene line = stamp_text line ++ source_text scene line.source ++ 32 �
 unfoldable pub trace_text : SceneView → WorldData → List ℕ
 trace_text scene w = flat_map (line_text scene) w.trace
 
--- the scene with what its nodes keep
-unfoldable pub scene_text : SceneView → WorldData → List ℕ
-scene_text scene w = text_of_scene scene w.fields
+-- the scene with its routes and what its nodes keep
+unfoldable pub scene_text : SceneView → List Route → WorldData → List ℕ
+scene_text scene routes w = text_of_scene scene routes w.fields

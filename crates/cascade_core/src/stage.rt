@@ -188,14 +188,15 @@ impl<B> Stage<B> {
     #[tactic(auto, unfolding(crate::specs::Texts::scene_text))]
     pub fn scene_text(&self, out: &mut Vec<u8>) -> Result<(), TextFault>
         ensures refused { IfSpoiled self.now.held (result ≡ Err TextFault.Spoiled) }
-        ensures ok { IfRunning self.now.held (λ w. OnOk result (out.new.items ≡ out.old.items ++ scene_text self.now.scene w)) }
+        ensures ok { IfRunning self.now.held (λ w. OnOk result (out.new.items ≡ out.old.items ++ scene_text self.now.scene self.now.routes w)) }
         ensures memory { IfRunning self.now.held (λ w. IfErr result (λ fault. fault ≡ TextFault.Memory)) }
         ensures err { OnErr result (out.new.items ≡ out.old.items) }
     {
         if self.spoiled.is_some() {
             return Err(TextFault::Spoiled);
         }
-        write_scene(&self.scene, self.turn.world.fields.as_slice(), out)?;
+        let fields = self.turn.world.fields.as_slice();
+        write_scene(&self.scene, self.routes.as_slice(), fields, out)?;
         Ok(())
     }
 

@@ -1,3 +1,2 @@
 pub mod Equations
-pub mod Joined
 pub mod Mapped

@@ -35,7 +35,8 @@ line_text text indent part = replicate indent 32 ++ text part indent ++ 10 ∷ [
 abbrev pub lines_text : {A : Type 0} → (A → Writes) → ℕ → List A → List ℕ
 lines_text text indent parts = flat_map (line_text text indent) parts
 
--- the end of the line, each part on a line of its own two spaces deeper, and the spaces of the line that follows
+-- the end of the line, each part on a line of its own two spaces deeper, and the spaces of the
+-- line that follows
 abbrev pub deeper_text : {A : Type 0} → (A → Writes) → ℕ → List A → List ℕ
 deeper_text text indent parts = 10 ∷ lines_text text (indent + 2) parts ++ replicate indent 32
 
@@ -50,7 +51,8 @@ abbrev pub place_text : Place → List ℕ
 place_text place = place.node ++ 46 ∷ place.field
 
 abbrev pub route_text : RouteText → List ℕ
-route_text route = codes "ROUTE " ++ place_text route.source ++ codes " TO " ++ place_text route.target
+route_text route =
+    codes "ROUTE " ++ place_text route.source ++ codes " TO " ++ place_text route.target
 
 abbrev pub def_text : Option (List ℕ) → List ℕ
 def_text None = []
@@ -82,19 +84,24 @@ module _ {N : Type 0} (node_text : N → Writes) where
   given_text (given.Is name) indent = codes " IS " ++ name
 
   abbrev pub declaration_text : Declaration N → Writes
-  declaration_text declaration indent = access_name declaration.access ++ 32 ∷ field_type_name declaration.field_type ++ 32 ∷ declaration.name ++ given_text declaration.given indent
+  declaration_text declaration indent =
+      access_name declaration.access ++ 32 ∷ field_type_name declaration.field_type
+      ++ 32 ∷ declaration.name ++ given_text declaration.given indent
 
--- ---- nodes, statements and prototypes: each step has, in the places of the parts inside, what those write
+-- ---- nodes, statements and prototypes: each step has, in the places of the parts inside, what
+-- those write
 
 unfoldable pub item_step : BodyItem-F Writes Writes Writes Writes → Writes
 item_step (BodyItem-F.Field line name given) indent = name ++ given_text (λ text. text) given indent
-item_step (BodyItem-F.Declaration declaration) indent = declaration_text (λ text. text) declaration indent
+item_step (BodyItem-F.Declaration declaration) indent =
+    declaration_text (λ text. text) declaration indent
 item_step (BodyItem-F.BodyItem::Route route) indent = route_text route
 item_step (BodyItem-F.BodyItem::Proto proto) indent = proto indent
 
 unfoldable pub node_step : NodeText-F Writes Writes Writes Writes → Writes
 node_step (NodeText-F.Use line name) indent = codes "USE " ++ name
-node_step (NodeText-F.Full line name node_type items) indent = def_text name ++ node_type ++ codes " {" ++ block_text (λ text. text) indent items ++ 125 ∷ []
+node_step (NodeText-F.Full line name node_type items) indent =
+    def_text name ++ node_type ++ codes " {" ++ block_text (λ text. text) indent items ++ 125 ∷ []
 
 unfoldable pub statement_step : Statement-F Writes Writes Writes Writes → Writes
 statement_step (Statement-F.Node node) indent = node indent
@@ -104,7 +111,8 @@ statement_step (Statement-F.Statement::Proto proto) indent = proto indent
 -- the braces of an empty body stand on two lines
 unfoldable pub proto_step : ProtoText-F Writes Writes Writes Writes → Writes
 proto_step proto indent =
-    codes "PROTO " ++ proto.name ++ codes " [" ++ block_text (declaration_text (λ text. text)) indent proto.interface
+    codes "PROTO " ++ proto.name
+    ++ codes " [" ++ block_text (declaration_text (λ text. text)) indent proto.interface
     ++ codes "] {" ++ deeper_text (λ text. text) indent proto.body ++ 125 ∷ []
 
 abbrev pub item_text : BodyItem → Writes
@@ -114,10 +122,12 @@ abbrev pub node_text : NodeText → Writes
 node_text = fold-NodeText Writes Writes Writes Writes item_step node_step statement_step proto_step
 
 abbrev pub statement_text : Statement → Writes
-statement_text = fold-Statement Writes Writes Writes Writes item_step node_step statement_step proto_step
+statement_text =
+    fold-Statement Writes Writes Writes Writes item_step node_step statement_step proto_step
 
 abbrev pub proto_text : ProtoText → Writes
-proto_text = fold-ProtoText Writes Writes Writes Writes item_step node_step statement_step proto_step
+proto_text =
+    fold-ProtoText Writes Writes Writes Writes item_step node_step statement_step proto_step
 
 -- ---- a whole text
 

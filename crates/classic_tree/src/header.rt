@@ -5,11 +5,10 @@ ghost use Rattle.std.specs.List.{flat_map};
 ghost use Rattle.x3d_lists.specs.Extends.{Extends};
 ghost use Rattle.classic_tree.specs.Writing.{header_line, profile_line, component_line, meta_line};
 
-use crate::show::Show;
 use crate::tree::{Document, Meta};
 use classic_lex::Version;
 use std::alloc::AllocError;
-use x3d_values::Text;
+use x3d_values::{Show, Text};
 
 fn push_header(version: Version, out: &mut Vec<u8>) -> Result<(), AllocError>
     ensures ok { OnOk result (out.new.items ≡ out.old.items ++ header_line version) }
@@ -43,7 +42,8 @@ fn push_component(component: &Text, out: &mut Vec<u8>) -> Result<(), AllocError>
 }
 
 fn push_components(components: &[Text], out: &mut Vec<u8>) -> Result<(), AllocError>
-    ensures ok { OnOk result (out.new.items ≡ out.old.items ++ flat_map component_line components.now) }
+    ensures ok { OnOk result
+        (out.new.items ≡ out.old.items ++ flat_map component_line components.now) }
     ensures kept { Extends out.old.items out.new.items }
 {
     for component in components {
@@ -76,7 +76,11 @@ fn push_metas(metas: &[Meta], out: &mut Vec<u8>) -> Result<(), AllocError>
 
 /// The header line and the header statements.
 pub(crate) fn push_top(document: &Document, out: &mut Vec<u8>) -> Result<(), AllocError>
-    ensures ok { OnOk result (out.new.items ≡ out.old.items ++ (header_line document.now.version ++ profile_line document.now.profile ++ flat_map component_line document.now.components ++ flat_map meta_line document.now.metas)) }
+    ensures ok { OnOk result
+        (out.new.items ≡ out.old.items
+        ++ (header_line document.now.version ++ profile_line document.now.profile
+        ++ flat_map component_line document.now.components
+        ++ flat_map meta_line document.now.metas)) }
     ensures kept { Extends out.old.items out.new.items }
 {
     push_header(document.version, out)?;

@@ -45,7 +45,8 @@ pub(crate) fn push_declared(
     declaration: &Declaration<NodeText>,
     out: &mut Vec<u8>,
 ) -> Result<(), AllocError>
-    ensures ok { OnOk result (out.new.items ≡ out.old.items ++ access_name declaration.now.access ++ 32 ∷ field_type_name declaration.now.field_type ++ 32 ∷ declaration.now.name) }
+    ensures ok { OnOk result (out.new.items ≡ out.old.items ++ access_name declaration.now.access
+        ++ 32 ∷ field_type_name declaration.now.field_type ++ 32 ∷ declaration.now.name) }
     ensures kept { Extends out.old.items out.new.items }
 {
     out.extend_from_slice(declaration.access.name().as_bytes())?;
@@ -61,7 +62,8 @@ pub(crate) fn push_head(
     node_type: &Text,
     out: &mut Vec<u8>,
 ) -> Result<(), AllocError>
-    ensures ok { OnOk result (out.new.items ≡ out.old.items ++ def_text name.now ++ node_type.now ++ codes " {") }
+    ensures ok { OnOk result (out.new.items ≡ out.old.items ++ def_text name.now ++ node_type.now
+        ++ codes " {") }
     ensures kept { Extends out.old.items out.new.items }
 {
     push_def(name, out)?;
@@ -70,7 +72,8 @@ pub(crate) fn push_head(
 }
 
 pub(crate) fn push_proto_head(name: &Text, out: &mut Vec<u8>) -> Result<(), AllocError>
-    ensures ok { OnOk result (out.new.items ≡ out.old.items ++ codes "PROTO " ++ name.now ++ codes " [") }
+    ensures ok { OnOk result (out.new.items ≡ out.old.items ++ codes "PROTO " ++ name.now
+        ++ codes " [") }
     ensures kept { Extends out.old.items out.new.items }
 {
     out.extend_from_slice(b"PROTO ")?;

@@ -2,7 +2,8 @@
 //! declaration and ROUTE has the line of its first word.
 
 use classic_lex::Version;
-use x3d_values::{Access, FieldType, Items, Text};
+use std::alloc::{AllocError, Global};
+use x3d_values::{Access, Duplicate, FieldType, Items, Text};
 
 /// `node.field`, an end of a ROUTE.
 #[derive(Debug, Drop)]
@@ -101,6 +102,14 @@ pub struct ProtoText {
 pub struct Meta {
     pub key: Text,
     pub content: Text,
+}
+
+impl Duplicate for Meta {
+    fn duplicate(&self, alloc: Global) -> Result<Meta, AllocError> {
+        let key = self.key.duplicate(alloc)?;
+        let content = self.content.duplicate(alloc)?;
+        Ok(Meta { key, content })
+    }
 }
 
 /// A whole text: its version, its header statements and its statements.

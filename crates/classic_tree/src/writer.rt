@@ -7,11 +7,12 @@ ghost use Rattle.classic_tree.specs.Writing.{line_text, lines_text, deeper_text,
 
 use crate::header::push_top;
 use crate::parts::{push_declared, push_head, push_proto_head, push_route};
-use crate::show::{Show, push_joined, push_list, push_spaces};
+use crate::spaces::push_spaces;
 use crate::tree::{
     BodyItem, Declaration, Document, Given, NodeText, ProtoText, RawValue, Statement,
 };
 use std::alloc::AllocError;
+use x3d_values::{Show, push_joined, push_list};
 
 /// Two more spaces. A line of more spaces than a `usize` counts does not fit in memory.
 fn deeper(indent: usize) -> Result<usize, AllocError>
@@ -59,7 +60,8 @@ fn push_item(item: &BodyItem, indent: usize, out: &mut Vec<u8>) -> Result<(), Al
 
 #[cycle(push)]
 fn push_given(given: &Given<NodeText>, indent: usize, out: &mut Vec<u8>) -> Result<(), AllocError>
-    ensures ok { OnOk result (out.new.items ≡ out.old.items ++ given_text node_text given.now indent) }
+    ensures ok { OnOk result
+        (out.new.items ≡ out.old.items ++ given_text node_text given.now indent) }
     ensures kept { Extends out.old.items out.new.items }
 {
     match given {
@@ -81,7 +83,8 @@ fn push_value(
     indent: usize,
     out: &mut Vec<u8>,
 ) -> Result<(), AllocError>
-    ensures ok { OnOk result (out.new.items ≡ out.old.items ++ value_text node_text value.now indent) }
+    ensures ok { OnOk result
+        (out.new.items ≡ out.old.items ++ value_text node_text value.now indent) }
     ensures kept { Extends out.old.items out.new.items }
 {
     match value {
@@ -109,7 +112,8 @@ fn push_declaration(
     indent: usize,
     out: &mut Vec<u8>,
 ) -> Result<(), AllocError>
-    ensures ok { OnOk result (out.new.items ≡ out.old.items ++ declaration_text node_text declaration.now indent) }
+    ensures ok { OnOk result
+        (out.new.items ≡ out.old.items ++ declaration_text node_text declaration.now indent) }
     ensures kept { Extends out.old.items out.new.items }
 {
     push_declared(declaration, out)?;
@@ -130,7 +134,8 @@ fn push_proto(proto: &ProtoText, indent: usize, out: &mut Vec<u8>) -> Result<(),
 #[cycle(push)]
 #[tactic(auto, using(crate::proofs::Equations::statement_lemmas))]
 fn push_statement(statement: &Statement, indent: usize, out: &mut Vec<u8>) -> Result<(), AllocError>
-    ensures ok { OnOk result (out.new.items ≡ out.old.items ++ statement_text statement.now indent) }
+    ensures ok { OnOk result
+        (out.new.items ≡ out.old.items ++ statement_text statement.now indent) }
     ensures kept { Extends out.old.items out.new.items }
 {
     match statement {
@@ -143,7 +148,8 @@ fn push_statement(statement: &Statement, indent: usize, out: &mut Vec<u8>) -> Re
 /// The items of a node, up to its closing brace.
 #[cycle(push)]
 fn push_items(items: &[BodyItem], indent: usize, out: &mut Vec<u8>) -> Result<(), AllocError>
-    ensures ok { OnOk result (out.new.items ≡ out.old.items ++ block_text item_text indent items.now) }
+    ensures ok { OnOk result
+        (out.new.items ≡ out.old.items ++ block_text item_text indent items.now) }
     ensures kept { Extends out.old.items out.new.items }
 {
     if items.is_empty() {
@@ -156,7 +162,8 @@ fn push_items(items: &[BodyItem], indent: usize, out: &mut Vec<u8>) -> Result<()
 
 #[cycle(push)]
 fn push_item_lines(items: &[BodyItem], indent: usize, out: &mut Vec<u8>) -> Result<(), AllocError>
-    ensures ok { OnOk result (out.new.items ≡ out.old.items ++ lines_text item_text indent items.now) }
+    ensures ok { OnOk result
+        (out.new.items ≡ out.old.items ++ lines_text item_text indent items.now) }
     ensures kept { Extends out.old.items out.new.items }
 {
     for item in items {
@@ -167,7 +174,8 @@ fn push_item_lines(items: &[BodyItem], indent: usize, out: &mut Vec<u8>) -> Resu
 
 #[cycle(push)]
 fn push_item_line(item: &BodyItem, indent: usize, out: &mut Vec<u8>) -> Result<(), AllocError>
-    ensures ok { OnOk result (out.new.items ≡ out.old.items ++ line_text item_text indent item.now) }
+    ensures ok { OnOk result
+        (out.new.items ≡ out.old.items ++ line_text item_text indent item.now) }
     ensures kept { Extends out.old.items out.new.items }
 {
     push_spaces(indent, out)?;
@@ -179,7 +187,8 @@ fn push_item_line(item: &BodyItem, indent: usize, out: &mut Vec<u8>) -> Result<(
 /// The nodes of a list, up to its closing bracket.
 #[cycle(push)]
 fn push_nodes(nodes: &[NodeText], indent: usize, out: &mut Vec<u8>) -> Result<(), AllocError>
-    ensures ok { OnOk result (out.new.items ≡ out.old.items ++ block_text node_text indent nodes.now) }
+    ensures ok { OnOk result
+        (out.new.items ≡ out.old.items ++ block_text node_text indent nodes.now) }
     ensures kept { Extends out.old.items out.new.items }
 {
     if nodes.is_empty() {
@@ -192,7 +201,8 @@ fn push_nodes(nodes: &[NodeText], indent: usize, out: &mut Vec<u8>) -> Result<()
 
 #[cycle(push)]
 fn push_node_lines(nodes: &[NodeText], indent: usize, out: &mut Vec<u8>) -> Result<(), AllocError>
-    ensures ok { OnOk result (out.new.items ≡ out.old.items ++ lines_text node_text indent nodes.now) }
+    ensures ok { OnOk result
+        (out.new.items ≡ out.old.items ++ lines_text node_text indent nodes.now) }
     ensures kept { Extends out.old.items out.new.items }
 {
     for node in nodes {
@@ -203,7 +213,8 @@ fn push_node_lines(nodes: &[NodeText], indent: usize, out: &mut Vec<u8>) -> Resu
 
 #[cycle(push)]
 fn push_node_line(node: &NodeText, indent: usize, out: &mut Vec<u8>) -> Result<(), AllocError>
-    ensures ok { OnOk result (out.new.items ≡ out.old.items ++ line_text node_text indent node.now) }
+    ensures ok { OnOk result
+        (out.new.items ≡ out.old.items ++ line_text node_text indent node.now) }
     ensures kept { Extends out.old.items out.new.items }
 {
     push_spaces(indent, out)?;
@@ -219,7 +230,9 @@ fn push_interface(
     indent: usize,
     out: &mut Vec<u8>,
 ) -> Result<(), AllocError>
-    ensures ok { OnOk result (out.new.items ≡ out.old.items ++ block_text (declaration_text node_text) indent declarations.now) }
+    ensures ok { OnOk result
+        (out.new.items ≡ out.old.items
+        ++ block_text (declaration_text node_text) indent declarations.now) }
     ensures kept { Extends out.old.items out.new.items }
 {
     if declarations.is_empty() {
@@ -236,7 +249,9 @@ fn push_declaration_lines(
     indent: usize,
     out: &mut Vec<u8>,
 ) -> Result<(), AllocError>
-    ensures ok { OnOk result (out.new.items ≡ out.old.items ++ lines_text (declaration_text node_text) indent declarations.now) }
+    ensures ok { OnOk result
+        (out.new.items ≡ out.old.items
+        ++ lines_text (declaration_text node_text) indent declarations.now) }
     ensures kept { Extends out.old.items out.new.items }
 {
     for declaration in declarations {
@@ -251,7 +266,9 @@ fn push_declaration_line(
     indent: usize,
     out: &mut Vec<u8>,
 ) -> Result<(), AllocError>
-    ensures ok { OnOk result (out.new.items ≡ out.old.items ++ line_text (declaration_text node_text) indent declaration.now) }
+    ensures ok { OnOk result
+        (out.new.items ≡ out.old.items
+        ++ line_text (declaration_text node_text) indent declaration.now) }
     ensures kept { Extends out.old.items out.new.items }
 {
     push_spaces(indent, out)?;
@@ -263,7 +280,9 @@ fn push_declaration_line(
 /// The body of a prototype, from the bracket before it to its closing brace.
 #[cycle(push)]
 fn push_body(body: &[Statement], indent: usize, out: &mut Vec<u8>) -> Result<(), AllocError>
-    ensures ok { OnOk result (out.new.items ≡ out.old.items ++ (codes "] {" ++ deeper_text statement_text indent body.now ++ 125 ∷ [])) }
+    ensures ok { OnOk result
+        (out.new.items ≡ out.old.items
+        ++ (codes "] {" ++ deeper_text statement_text indent body.now ++ 125 ∷ [])) }
     ensures kept { Extends out.old.items out.new.items }
 {
     out.extend_from_slice(b"] {\n")?;
@@ -279,7 +298,8 @@ fn push_statement_lines(
     indent: usize,
     out: &mut Vec<u8>,
 ) -> Result<(), AllocError>
-    ensures ok { OnOk result (out.new.items ≡ out.old.items ++ lines_text statement_text indent statements.now) }
+    ensures ok { OnOk result
+        (out.new.items ≡ out.old.items ++ lines_text statement_text indent statements.now) }
     ensures kept { Extends out.old.items out.new.items }
 {
     for statement in statements {
@@ -294,7 +314,8 @@ fn push_statement_line(
     indent: usize,
     out: &mut Vec<u8>,
 ) -> Result<(), AllocError>
-    ensures ok { OnOk result (out.new.items ≡ out.old.items ++ line_text statement_text indent statement.now) }
+    ensures ok { OnOk result
+        (out.new.items ≡ out.old.items ++ line_text statement_text indent statement.now) }
     ensures kept { Extends out.old.items out.new.items }
 {
     push_spaces(indent, out)?;

@@ -4,8 +4,7 @@ use Rattle.std.specs.Option.{option_map, option_map_or}
 use Rattle.std.specs.List.{list_all}
 use denote.Enum.Bare.{sameb}
 use Rattle.x3d_values.specs.contracts.field_type.FieldType.{the_type}
-use Rattle.x3d_values.specs.declared.field_type.Access.{Access}
-use Rattle.x3d_values.specs.declared.field_type.Access.TheVariants.{InputOnly, OutputOnly, InputOutput, InitializeOnly}
+pub use Rattle.x3d_values.specs.Access.{is_exposed, sends as is_sender}
 use Rattle.x3d_values.specs.declared.field_type.FieldType.{FieldType}
 use Rattle.x3d_values.specs.declared.node_type.NodeType.{NodeType}
 use Rattle.x3d_values.specs.declared.table.FieldRow.{FieldRow}
@@ -22,18 +21,6 @@ row_at node_type number = option_map (numbered number) (slice_get (rows node_typ
 -- the number of the field of that name
 abbrev pub number_of_name : NodeType → List ℕ → Option ℕ
 number_of_name node_type name = option_map (λ row. row.number) (row_named 0 name (rows node_type))
-
-abbrev pub is_exposed : Access → Bool
-is_exposed InputOutput = true
-is_exposed InputOnly = false
-is_exposed OutputOnly = false
-is_exposed InitializeOnly = false
-
-abbrev pub is_sender : Access → Bool
-is_sender InputOutput = true
-is_sender OutputOnly = true
-is_sender InputOnly = false
-is_sender InitializeOnly = false
 
 abbrev pub are_same : FieldType → FieldType → Bool
 are_same one other = sameb the_type one other

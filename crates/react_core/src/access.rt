@@ -1,15 +1,9 @@
 //! Which fields an event sets.
 
 ghost use Rattle.std.specs.Prelude.{◌≡◌};
-ghost use Rattle.react_core.specs.Access.{is_kept, names_nodes, is_exposed};
+ghost use Rattle.react_core.specs.Access.{is_kept, names_nodes};
 
-use x3d_values::{Access, NodeType, Value, field_at};
-
-fn is_exposed(access: Access) -> bool
-    ensures { result ≡ is_exposed access }
-{
-    matches!(access, Access::InputOutput)
-}
+use x3d_values::{NodeType, Value, field_at};
 
 fn names_nodes(value: &Value) -> bool
     ensures { result ≡ names_nodes value.now }
@@ -23,7 +17,7 @@ pub fn is_kept(node_type: NodeType, input: u16, value: &Value) -> bool
 {
     match field_at(node_type, input) {
         Some(row) => {
-            is_exposed(row.access) && row.field_type == value.field_type() && !names_nodes(value)
+            row.access.is_exposed() && row.field_type == value.field_type() && !names_nodes(value)
         }
         None => false,
     }

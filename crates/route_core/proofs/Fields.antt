@@ -7,13 +7,12 @@ use Rattle.std.specs.Cmp.Lexicographic.{pointwise}
 use Rattle.std.proofs.lemmas.Bool.{cond_both}
 use denote.Enum.Bare.{sameb}
 use Rattle.x3d_values.specs.contracts.field_type.FieldType as types
-use Rattle.x3d_values.specs.contracts.field_type.Access as accesses
-use Rattle.x3d_values.specs.declared.field_type.Access.TheVariants.{InputOutput}
 use Rattle.x3d_values.specs.declared.field_type.FieldType.TheVariants.{SFRotation}
 use Rattle.x3d_values.specs.declared.node_type.NodeType.{NodeType}
 use Rattle.x3d_values.specs.declared.table.FieldRow.{FieldRow}
 use Rattle.x3d_values.specs.Tables.{Entry, rows, row_named, numbered}
-use Rattle.route_names.specs.Names.{exact, exposed, changed_alias, source_field}
+use Rattle.x3d_values.specs.Access.{is_exposed}
+use Rattle.x3d_values.specs.Aliases.{exact, exposed, changed_alias, source_field}
 use Rattle.scene_core.specs.Scene.{SceneView, types_of}
 use Rattle.scene_core.specs.declared.scene.End.{End}
 use Rattle.route_core.specs.Ends.{IsKnown, field_counts}
@@ -38,7 +37,7 @@ exact-below : (t : NodeType) (name : List ℕ) (row : FieldRow) → exact t name
 exact-below t name row e = omega (arith, row-below 0 name (rows t) row (unless (λ r. sameb types.the_type r.field_type SFRotation) (row_named 0 name (rows t)) row e))
 
 exposed-below : (t : NodeType) (name : List ℕ) (row : FieldRow) → exposed t name ≡ Some row → row.number < length (rows t)
-exposed-below t name row e = exact-below t name row (when (λ r. sameb accesses.the_type r.access InputOutput) (exact t name) row e)
+exposed-below t name row e = exact-below t name row (when (λ (r : FieldRow). is_exposed r.access) (exact t name) row e)
 
 changed-below : (t : NodeType) (name : List ℕ) (row : FieldRow) → changed_alias t name ≡ Some row → row.number < length (rows t)
 changed-below t name row e =

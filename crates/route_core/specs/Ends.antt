@@ -1,18 +1,18 @@
 -- What the ends of a document's route name in its scene (ISO/IEC 19775-1, ROUTE).
-use Rattle.std.specs.Prelude.{◌^◌, ◌<◌, ℕ, Bool, true, false, List, Option, Some, None, Result, Ok, Err, map, length, slice_get, if◌then◌else◌}
+use Rattle.std.specs.Prelude.{◌^◌, ◌<◌, ℕ, Bool, List, Option, Some, None, Result, Ok, Err, map, length, if◌then◌else◌}
 use Rattle.std.specs.Option.{option_and_then, option_map}
 use denote.Enum.Bare.{sameb}
 use Rattle.x3d_values.specs.contracts.field_type.FieldType as types
 use Rattle.x3d_values.specs.declared.field_type.Access.{Access}
-use Rattle.x3d_values.specs.declared.field_type.Access.TheVariants.{InputOnly, OutputOnly, InputOutput, InitializeOnly}
 use Rattle.x3d_values.specs.declared.node_type.NodeType.{NodeType}
 use Rattle.x3d_values.specs.declared.table.FieldRow.{FieldRow}
+use Rattle.x3d_values.specs.Access.{receives, sends, holds_nodes}
+use Rattle.x3d_values.specs.Aliases.{source_field, target_field}
 use Rattle.x3d_values.specs.Tables.{rows}
 use Rattle.proto_expand.specs.declared.flat.FlatEnd.{FlatEnd}
 use Rattle.proto_expand.specs.declared.flat.FlatEnd.TheVariants.{At, NoNode, NoField, WrongWay}
 use Rattle.proto_expand.specs.declared.flat.FlatRoute.{FlatRoute}
-use Rattle.route_names.specs.Names.{source_field, target_field}
-use Rattle.scene_core.specs.Scene.{SceneView, types_of, type_at, is_node_type}
+use Rattle.scene_core.specs.Scene.{SceneView, types_of, type_at, number_of}
 use Rattle.scene_core.specs.declared.scene.End.{End}
 use Rattle.scene_core.specs.declared.scene.Route.{Route}
 use Rattle.route_core.specs.Outputs.{IsField}
@@ -20,38 +20,29 @@ use Rattle.route_core.specs.declared.ends.SceneField.{SceneField}
 use Rattle.route_core.specs.declared.fault.RouteFaultKind.{RouteFaultKind}
 use Rattle.route_core.specs.declared.fault.RouteFaultKind.TheVariants.{NoSuchNode, NoSuchField, NotOutput, NotInput, TypesDiffer, NodeEvent}
 
--- a node of the document: its number in the scene, and its type
+-- a node of the document, where the scene has it: its number in the scene, and its type
 abbrev pub node_of : SceneView → ℕ → Option (ℕ × NodeType)
-node_of scene node = option_and_then (λ n. option_map (λ t. (n, t)) (type_at scene n)) (slice_get scene.numbers node)
-
-abbrev pub is_output : Access → Bool
-is_output OutputOnly = true
-is_output InputOutput = true
-is_output InputOnly = false
-is_output InitializeOnly = false
-
-abbrev pub is_input : Access → Bool
-is_input InputOnly = true
-is_input InputOutput = true
-is_input OutputOnly = false
-is_input InitializeOnly = false
+node_of scene node =
+    option_and_then (λ n. option_map (λ t. (n, t)) (type_at scene n)) (number_of scene node)
 
 abbrev pub field_at : ℕ → FieldRow → SceneField
-field_at node row = record { end = record { node = node; field = row.number }; field_type = row.field_type }
+field_at node row =
+    record { end = record { node = node; field = row.number }; field_type = row.field_type }
 
 -- the field, where it may be used so; `fault` says that it may not
-abbrev pub usable : (Access → Bool) → RouteFaultKind → ℕ → Option FieldRow → Result SceneField RouteFaultKind
+abbrev pub usable : (Access → Bool) → RouteFaultKind → ℕ → Option FieldRow
+    → Result SceneField RouteFaultKind
 usable allowed fault node None = Err NoSuchField
 usable allowed fault node (Some row) =
     if allowed row.access then Ok (field_at node row) else Err fault
 
 abbrev pub output_named : List ℕ → Option (ℕ × NodeType) → Result SceneField RouteFaultKind
 output_named name None = Err NoSuchNode
-output_named name (Some n) = usable is_output NotOutput n.0 (source_field n.1 name)
+output_named name (Some n) = usable sends NotOutput n.0 (source_field n.1 name)
 
 abbrev pub input_named : List ℕ → Option (ℕ × NodeType) → Result SceneField RouteFaultKind
 input_named name None = Err NoSuchNode
-input_named name (Some n) = usable is_input NotInput n.0 (target_field n.1 name)
+input_named name (Some n) = usable receives NotInput n.0 (target_field n.1 name)
 
 -- the output that a source names
 abbrev pub source_of : SceneView → FlatEnd → Result SceneField RouteFaultKind
@@ -71,11 +62,14 @@ target_of scene WrongWay = Err NotInput
 abbrev pub joined : SceneField → SceneField → Result Route RouteFaultKind
 joined source target =
     if sameb types.the_type source.field_type target.field_type
-    then (if is_node_type source.field_type then Err NodeEvent else Ok (record { source = source.end; target = target.end }))
+    then (if holds_nodes source.field_type
+    then Err NodeEvent
+    else Ok (record { source = source.end; target = target.end }))
     else Err TypesDiffer
 
 -- the source's fault, the target's, or what both make
-abbrev pub joined_ends : Result SceneField RouteFaultKind → Result SceneField RouteFaultKind → Result Route RouteFaultKind
+abbrev pub joined_ends : Result SceneField RouteFaultKind → Result SceneField RouteFaultKind
+    → Result Route RouteFaultKind
 joined_ends (Err fault) target = Err fault
 joined_ends (Ok source) (Err fault) = Err fault
 joined_ends (Ok source) (Ok target) = joined source target

@@ -9,7 +9,10 @@ same_end a b = (a.node == b.node) && (a.field == b.field)
 -- the places of the routes with that source, where the first of these routes has place n
 abbrev pub places_from : ℕ → End → List Route → List ℕ
 places_from n source [] = []
-places_from n source (r ∷ rs) = if same_end r.source source then n ∷ places_from (n + 1) source rs else places_from (n + 1) source rs
+places_from n source (r ∷ rs) =
+    if same_end r.source source
+    then n ∷ places_from (n + 1) source rs
+    else places_from (n + 1) source rs
 
 abbrev pub places_of : End → List Route → List ℕ
 places_of source routes = places_from 0 source routes
@@ -31,7 +34,10 @@ place_in firsts e = slice_index firsts e.node + e.field
 
 -- the same, where the node has such a field
 abbrev pub number_of : List ℕ → End → Option ℕ
-number_of firsts e = if nat_lt e.field (slice_index firsts (e.node + 1) - slice_index firsts e.node) then Some (place_in firsts e) else None
+number_of firsts e =
+    if nat_lt e.field (slice_index firsts (e.node + 1) - slice_index firsts e.node)
+    then Some (place_in firsts e)
+    else None
 
 -- ---- the table
 
@@ -50,4 +56,5 @@ pub record IsGroup (starts numbers : List ℕ) (k : ℕ) (group : List ℕ) : Ty
 pub record AreGrouped (routes : List Route) (firsts starts numbers : List ℕ) : Type 0 where
   pub few : length routes ≤ 65536
   pub outside : (e : End) → number_of firsts e ≡ None → places_of e routes ≡ []
-  pub inside : (e : End) (k : ℕ) → number_of firsts e ≡ Some k → IsGroup starts numbers k (places_of e routes)
+  pub inside : (e : End) (k : ℕ) → number_of firsts e ≡ Some k
+      → IsGroup starts numbers k (places_of e routes)

@@ -22,7 +22,8 @@ at_line line (Ok route) = Ok route
 at_line line (Err kind) = Err (record { kind = kind; line = line })
 
 -- the route stands before the others, its fault in their place
-abbrev pub before_others : Result Route RouteFault → Result (List Route) RouteFault → Result (List Route) RouteFault
+abbrev pub before_others : Result Route RouteFault → Result (List Route) RouteFault
+    → Result (List Route) RouteFault
 before_others (Err fault) others = Err fault
 before_others (Ok route) (Err fault) = Err fault
 before_others (Ok route) (Ok others) = Ok (route ∷ others)

@@ -1,20 +1,29 @@
 //! What the ends of a document's route name in its scene.
 
 ghost use Rattle.std.specs.Prelude.{◌≡◌, ◌^◌, ◌<◌, Some, IfOk, IfSome, slice_get};
-ghost use Rattle.scene_core.specs.Scene.{is_node_type, types_of};
+ghost use Rattle.scene_core.specs.Scene.{types_of};
 ghost use Rattle.route_core.specs.Ends as spec;
 
 use crate::fault::RouteFaultKind;
 use proto_expand::{FlatEnd, FlatRoute};
-use route_names::{source_field, target_field};
 use scene_core::{End, Route, Scene};
-use x3d_values::{Access, FieldRow, FieldType, NodeType};
+use x3d_values::{FieldRow, FieldType, NodeType, source_field, target_field};
 
 /// A field of a node of the scene, and its type.
 #[derive(Clone, Copy)]
 pub(crate) struct SceneField {
     pub(crate) end: End,
     pub(crate) field_type: FieldType,
+}
+
+/// The route of the scene, or its source's fault, its target's, or that of both.
+pub(crate) fn route_of(scene: &Scene, route: &FlatRoute) -> Result<Route, RouteFaultKind>
+    ensures exact { result ≡ spec.route_of scene.now route.now }
+    ensures known { IfOk result (λ r. spec.IsKnown scene.now r.source) }
+{
+    let source = source_of(scene, &route.source)?;
+    let target = target_of(scene, &route.target)?;
+    joined(source, target)
 }
 
 /// The number in the scene, and the type, of a node of the document; none where the scene hasn't
@@ -24,23 +33,11 @@ fn node_of(scene: &Scene, node: u32) -> Option<(u32, NodeType)>
     ensures numbered { IfSome result (λ n. n.0 < 2 ^ 32) }
     ensures typed { IfSome result (λ n. slice_get (types_of scene.now) n.0 ≡ Some n.1) }
 {
-    let number = *scene.numbers().get(node as usize)?;
+    let number = scene.number(node)?;
     if number as usize >= scene.node_count() {
         return None;
     }
     Some((number, scene.node_type(number)))
-}
-
-fn is_output(access: Access) -> bool
-    ensures { result ≡ spec.is_output access }
-{
-    matches!(access, Access::OutputOnly | Access::InputOutput)
-}
-
-fn is_input(access: Access) -> bool
-    ensures { result ≡ spec.is_input access }
-{
-    matches!(access, Access::InputOnly | Access::InputOutput)
 }
 
 fn field_at(node: u32, row: FieldRow) -> SceneField
@@ -65,7 +62,7 @@ fn output_named(scene: &Scene, node: u32, name: &str) -> Result<SceneField, Rout
     let Some(row) = source_field(node_type, name) else {
         return Err(RouteFaultKind::NoSuchField);
     };
-    if is_output(row.access) {
+    if row.access.sends() {
         return Ok(field_at(node, row));
     }
     Err(RouteFaultKind::NotOutput)
@@ -80,7 +77,7 @@ fn input_named(scene: &Scene, node: u32, name: &str) -> Result<SceneField, Route
     let Some(row) = target_field(node_type, name) else {
         return Err(RouteFaultKind::NoSuchField);
     };
-    if is_input(row.access) {
+    if row.access.receives() {
         return Ok(field_at(node, row));
     }
     Err(RouteFaultKind::NotInput)
@@ -111,12 +108,6 @@ fn target_of(scene: &Scene, end: &FlatEnd) -> Result<SceneField, RouteFaultKind>
     }
 }
 
-fn is_node_type(field_type: FieldType) -> bool
-    ensures { result ≡ is_node_type field_type }
-{
-    matches!(field_type, FieldType::SFNode | FieldType::MFNode)
-}
-
 /// The route of these ends: they have one type, and hold no nodes.
 fn joined(source: SceneField, target: SceneField) -> Result<Route, RouteFaultKind>
     ensures { result ≡ spec.joined source target }
@@ -124,21 +115,11 @@ fn joined(source: SceneField, target: SceneField) -> Result<Route, RouteFaultKin
     if source.field_type != target.field_type {
         return Err(RouteFaultKind::TypesDiffer);
     }
-    if is_node_type(source.field_type) {
+    if source.field_type.holds_nodes() {
         return Err(RouteFaultKind::NodeEvent);
     }
     Ok(Route {
         source: source.end,
         target: target.end,
     })
-}
-
-/// The route of the scene, or its source's fault, its target's, or that of both.
-pub(crate) fn route_of(scene: &Scene, route: &FlatRoute) -> Result<Route, RouteFaultKind>
-    ensures exact { result ≡ spec.route_of scene.now route.now }
-    ensures known { IfOk result (λ r. spec.IsKnown scene.now r.source) }
-{
-    let source = source_of(scene, &route.source)?;
-    let target = target_of(scene, &route.target)?;
-    joined(source, target)
 }

@@ -1,4 +1,8 @@
 //! Routes: which outputs of a scene lead to which inputs (ISO/IEC 19775-1, ROUTE).
+//!
+//! `routes` has the routes of a scene. They are made by `resolving` of what their `ends` name, and
+//! found by `outputs`, the numbers of fields among those of all nodes, in a table of `grouped`
+//! numbers; `fault` says why there are none.
 #![tactic(auto)]
 
 mod ends;
@@ -9,6 +13,7 @@ mod resolving;
 mod routes;
 
 pub use fault::{RouteFault, RouteFaultKind};
-pub use resolving::MOST_ROUTES;
+pub use outputs::{firsts_of, number_of};
+pub use resolving::{MOST_ROUTES, field_counts};
 pub use routes::Routes;
 pub use scene_core::{End, Route};

@@ -7,7 +7,7 @@ use scene_core::{End, Route};
 use std::alloc::{AllocError, Global};
 
 /// The number of each node's first field, and behind these how many fields there are.
-pub(crate) fn firsts_of(alloc: Global, field_counts: &[u16]) -> Result<Vec<usize>, AllocError>
+pub fn firsts_of(alloc: Global, field_counts: &[u16]) -> Result<Vec<usize>, AllocError>
     requires { length field_counts.now ≤ 2 ^ 32 }
     ensures { IfOk result (λ firsts. AreFirsts field_counts.now firsts.items) }
 {
@@ -22,7 +22,7 @@ pub(crate) fn firsts_of(alloc: Global, field_counts: &[u16]) -> Result<Vec<usize
 }
 
 /// The number of that field of that node; none where the node hasn't such a field.
-pub(crate) fn number_of(firsts: &[usize], end: End) -> Option<usize>
+pub fn number_of(firsts: &[usize], end: End) -> Option<usize>
     ensures { result ≡ number_of firsts.now end }
 {
     let node = end.node as usize;

@@ -21,19 +21,6 @@ pub const MOST_ROUTES: usize = 65_536;
 /// More nodes have no numbers of 32 bits.
 const MOST_NODES: usize = 1 << 32;
 
-fn one_of(scene: &Scene, route: &FlatRoute) -> Result<Route, RouteFault>
-    ensures exact { result ≡ at_line route.now.line (ends.route_of scene.now route.now) }
-    ensures known { IfOk result (λ r. IsKnown scene.now r.source) }
-{
-    match route_of(scene, route) {
-        Ok(route) => Ok(route),
-        Err(kind) => Err(RouteFault {
-            kind,
-            line: route.line,
-        }),
-    }
-}
-
 /// Each route in the order of the text, or the first fault.
 pub(crate) fn each_of(
     alloc: Global,
@@ -62,8 +49,9 @@ pub(crate) fn without_repeats(alloc: Global, routes: &[Route]) -> Result<Items<R
     Items::from_slice(alloc, &firsts.as_slice()[..count])
 }
 
-/// How many fields each node of the scene has.
-pub(crate) fn field_counts(alloc: Global, scene: &Scene) -> Result<Vec<u16>, AllocError>
+/// How many fields each node of the scene has: of the first 2^32 nodes, which is of all nodes of a
+/// scene that was built.
+pub fn field_counts(alloc: Global, scene: &Scene) -> Result<Vec<u16>, AllocError>
     ensures { IfOk result (λ counts. counts.items ≡ take (2 ^ 32) (field_counts scene.now)) }
 {
     let mut counts = Vec::new(alloc);
@@ -71,4 +59,17 @@ pub(crate) fn field_counts(alloc: Global, scene: &Scene) -> Result<Vec<u16>, All
         counts.push(fields_of(scene.node_type(node as u32)).len() as u16)?;
     }
     Ok(counts)
+}
+
+fn one_of(scene: &Scene, route: &FlatRoute) -> Result<Route, RouteFault>
+    ensures exact { result ≡ at_line route.now.line (ends.route_of scene.now route.now) }
+    ensures known { IfOk result (λ r. IsKnown scene.now r.source) }
+{
+    match route_of(scene, route) {
+        Ok(route) => Ok(route),
+        Err(kind) => Err(RouteFault {
+            kind,
+            line: route.line,
+        }),
+    }
 }

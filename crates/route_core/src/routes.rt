@@ -77,6 +77,13 @@ impl Routes {
         })
     }
 
+    /// All of them, in the order of the text.
+    pub fn as_slice(&self) -> &[Route]
+        ensures { result.now ≡ self.now }
+    {
+        self.routes.as_slice()
+    }
+
     /// How many there are: at most 65,536.
     pub fn len(&self) -> usize
         ensures count { result ≡ length self.now }

@@ -6,27 +6,33 @@ use Rattle.scene_core.specs.declared.fault.SceneFault.{SceneFault}
 use Rattle.scene_core.specs.declared.fault.SceneFaultKind.TheVariants.{TooDeep, TooMany}
 use Rattle.scene_core.specs.declared.numbering.Numbering.{Numbering}
 use Rattle.scene_core.specs.declared.scene.SceneNode.{SceneNode}
-use Rattle.scene_core.specs.Deep.{max_depth, too_deep}
+use Rattle.x3d_values.specs.Ranges.{max_depth}
+use Rattle.scene_core.specs.Deep.{too_deep}
 use Rattle.scene_core.specs.Faults.{fault, through, ◌>>=◌}
 use Rattle.scene_core.specs.Labels.{label_by, is_alone, names_of}
 use Rattle.scene_core.specs.Numbers.{numbering}
 use Rattle.scene_core.specs.Places.{places, max_places, any_crowded}
-use Rattle.scene_core.specs.Routes.{routes_of}
 use Rattle.scene_core.specs.Scene.{SceneView}
 use Rattle.scene_core.specs.Typed.{values_of, all_children}
 
 -- a node; it keeps the names that one node alone has
-abbrev pub node_of : List FlatNode → List ℕ → (List ℕ → Bool) → FlatNode → Result SceneNode SceneFault
+abbrev pub node_of : List FlatNode → List ℕ → (List ℕ → Bool) → FlatNode
+    → Result SceneNode SceneFault
 node_of nodes numbers alone node =
-    values_of nodes numbers node >>= λ values. Ok (record { node_type = node.node_type; label = label_by alone node.name; values = values })
+    values_of nodes numbers node >>= λ values.
+    Ok (record { node_type = node.node_type; label = label_by alone node.name; values = values })
 
 -- the next node behind those made so far
-abbrev pub with_node : List FlatNode → List ℕ → (List ℕ → Bool) → Option FlatNode → List SceneNode → Result (List SceneNode) SceneFault
+abbrev pub with_node : List FlatNode → List ℕ → (List ℕ → Bool) → Option FlatNode → List SceneNode
+    → Result (List SceneNode) SceneFault
 with_node nodes numbers alone None made = Ok made
-with_node nodes numbers alone (Some node) made = node_of nodes numbers alone node >>= λ n. Ok (made ++ n ∷ [])
+with_node nodes numbers alone (Some node) made =
+    node_of nodes numbers alone node >>= λ n. Ok (made ++ n ∷ [])
 
-unfoldable pub nodes_by : List FlatNode → Numbering → (List ℕ → Bool) → Result (List SceneNode) SceneFault
-nodes_by nodes s alone = through (λ n made. with_node nodes s.numbers alone (slice_get nodes n) made) s.order []
+unfoldable pub nodes_by : List FlatNode → Numbering → (List ℕ → Bool)
+    → Result (List SceneNode) SceneFault
+nodes_by nodes s alone =
+    through (λ n made. with_node nodes s.numbers alone (slice_get nodes n) made) s.order []
 
 -- the nodes in the order of their numbers
 abbrev pub nodes_of : List FlatNode → Numbering → Result (List SceneNode) SceneFault
@@ -37,7 +43,9 @@ unfoldable pub limits : List SceneNode → List ℕ → Result (Unit {0}) SceneF
 limits nodes roots =
     if too_deep nodes
     then Err (fault TooDeep 0)
-    else (if nat_lt max_places (places max_depth nodes roots) || any_crowded nodes roots then Err (fault TooMany 0) else Ok tt)
+    else (if nat_lt max_places (places max_depth nodes roots) || any_crowded nodes roots
+    then Err (fault TooMany 0)
+    else Ok tt)
 
 -- what nodes are called in the scene
 abbrev pub called : List ℕ → List ℕ → List ℕ
@@ -54,7 +62,7 @@ scene_by flat s =
       nodes = nodes;
       roots = called s.numbers flat.roots;
       helpers = called s.numbers flat.helpers;
-      routes = routes_of flat.nodes s flat.routes;
+      opened = s.opened;
       numbers = s.numbers;
     })
 

@@ -1,27 +1,26 @@
--- Chains of nodes, each in a node field of the one before (the limit of their length is our choice).
-use Rattle.std.specs.Prelude.{ℕ, zero, suc, Bool, true, false, List, [], ◌∷◌, map, Option, Some, slice_index_or}
+-- Chains of nodes, each in a node field of the one before (the limit of their length is our
+-- choice).
+use Rattle.std.specs.Prelude.{ℕ, zero, suc, Bool, true, false, List, [], map, Option, Some, None, slice_index_or}
 use Rattle.std.specs.List.{list_any}
 use Rattle.x3d_values.specs.declared.value.Value.{Value}
-use Rattle.x3d_values.specs.declared.value.Value.TheVariants.{SFNode, MFNode}
+use Rattle.x3d_values.specs.Values.{nodes_of}
+use Rattle.x3d_values.specs.Ranges.{max_depth}
 use Rattle.scene_core.specs.declared.scene.SceneNode.{SceneNode}
 
 -- the nodes in a field
 abbrev pub linked : Option Value → List ℕ
-linked (Some (SFNode (Some n))) = n ∷ []
-linked (Some (MFNode ns)) = ns
-linked _ = []
+linked (Some value) = nodes_of value
+linked None = []
 
 -- a node of these is in a field of the node
 abbrev pub leads_to : List Bool → SceneNode → Bool
-leads_to these node = list_any (λ value. list_any (λ n. slice_index_or these n false) (linked value)) node.values
+leads_to these node =
+    list_any (λ value. list_any (λ n. slice_index_or these n false) (linked value)) node.values
 
 -- of each node, whether a chain of more than that many nodes begins there
 unfoldable pub deeper_than : List SceneNode → ℕ → List Bool
 deeper_than nodes zero = map (λ _. true) nodes
 deeper_than nodes (suc d) = map (leads_to (deeper_than nodes d)) nodes
-
-abbrev pub max_depth : ℕ
-max_depth = 64
 
 -- a chain is too long
 abbrev pub too_deep : List SceneNode → Bool

@@ -23,11 +23,13 @@ abbrev pub memory : SceneFault
 memory = fault Memory 0
 
 infixl 10 ◌>>=◌
-abbrev pub ◌>>=◌ : {A B : Type 0} → Result A SceneFault → (A → Result B SceneFault) → Result B SceneFault
+abbrev pub ◌>>=◌ : {A B : Type 0} → Result A SceneFault → (A → Result B SceneFault)
+    → Result B SceneFault
 Ok a >>= f = f a
 Err e >>= f = Err e
 
 -- each item in turn, with what was made so far; the first fault is the answer
-abbrev pub through : {A X : Type 0} → (A → X → Result X SceneFault) → List A → X → Result X SceneFault
+abbrev pub through : {A X : Type 0} → (A → X → Result X SceneFault) → List A → X
+    → Result X SceneFault
 through step [] made = Ok made
 through step (item ∷ items) made = step item made >>= λ more. through step items more

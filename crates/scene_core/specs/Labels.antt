@@ -1,4 +1,5 @@
--- The names that nodes keep (our choice): DEF names that one node alone has, and that are no names of other nodes by their numbers.
+-- The names that nodes keep (our choice): DEF names that one node alone has, and that are no names
+-- of other nodes by their numbers.
 use Rattle.std.specs.Prelude.{ℕ, Bool, false, not, ◌&&◌, ◌==◌, length, nat_le, List, [], ◌∷◌, Option, Some, None, slice_get, is_none, if◌then◌else◌}
 use Rattle.std.specs.List.{filter_map, count_by, list_all}
 use Rattle.std.specs.Option.{option_and_then}

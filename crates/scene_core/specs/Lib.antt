@@ -5,7 +5,6 @@ pub mod Labels
 pub mod Numbers
 pub mod Parts
 pub mod Places
-pub mod Routes
 pub mod Scene
 pub mod Tasks
 pub mod Typed

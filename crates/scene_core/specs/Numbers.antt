@@ -1,5 +1,6 @@
--- Which number each node has in a scene (our choice of order): from the roots in order, each node's node fields in table order, children
--- first, a node is numbered from 0 when it closes at its first appearance; then the helpers likewise.
+-- Which number each node has in a scene (our choice of order): from the roots in order, each node's
+-- node fields in table order, children first, a node is numbered from 0 when it closes at its first
+-- appearance; then the helpers likewise.
 use Rattle.std.specs.Prelude.{ℕ, zero, suc, ◌+◌, ◌++◌, Bool, true, false, not, List, [], ◌∷◌, length, replicate, slice_index_or, slice_set, if◌then◌else◌}
 use Rattle.std.specs.List.{fold}
 use Rattle.proto_expand.specs.declared.flat.FlatNode.{FlatNode}
@@ -17,16 +18,20 @@ appear s n = record s { opened = slice_set s.opened n true }
 abbrev pub close : Numbering → ℕ → Numbering
 close s n = record s { numbers = slice_set s.numbers n (length s.order); order = s.order ++ n ∷ [] }
 
--- a node at an appearance: at its first the nodes inside come before it. Each step inward opens a node, so as much fuel as there are
--- nodes is never used up.
+-- a node at an appearance: at its first the nodes inside come before it. Each step inward opens a
+-- node, so as much fuel as there are nodes is never used up.
 unfoldable pub visit : ℕ → List FlatNode → Numbering → ℕ → Numbering
 visit zero nodes s n = s
-visit (suc fuel) nodes s n = if is_new s n then close (fold (visit fuel nodes) (appear s n) (parts_of nodes n)) n else s
+visit (suc fuel) nodes s n =
+    if is_new s n then close (fold (visit fuel nodes) (appear s n) (parts_of nodes n)) n else s
 
 -- no node has a number
 abbrev pub unnumbered : List FlatNode → Numbering
-unnumbered nodes = record { opened = replicate (length nodes) false; order = []; numbers = replicate (length nodes) 0 }
+unnumbered nodes =
+    let n = length nodes in
+    record { opened = replicate n false; order = []; numbers = replicate n 0 }
 
 -- the numbers of a document's nodes
 unfoldable pub numbering : List FlatNode → List ℕ → List ℕ → Numbering
-numbering nodes roots helpers = fold (visit (length nodes + 1) nodes) (unnumbered nodes) (roots ++ helpers)
+numbering nodes roots helpers =
+    fold (visit (length nodes + 1) nodes) (unnumbered nodes) (roots ++ helpers)

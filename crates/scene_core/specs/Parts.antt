@@ -2,12 +2,12 @@
 use Rattle.std.specs.Prelude.{ℕ, ◌+◌, ◌==◌, ◌++◌, List, [], ◌∷◌, Option, slice_get, if◌then◌else◌}
 use Rattle.std.specs.List.{find}
 use Rattle.std.specs.Option.{option_map_or}
+use Rattle.x3d_values.specs.Access.{holds_nodes}
 use Rattle.x3d_values.specs.Tables.{Entry, rows}
 use Rattle.classic_tree.specs.declared.tree.RawValue.{RawValue}
 use Rattle.classic_tree.specs.declared.tree.RawValue.TheVariants.{Node, NodeList}
 use Rattle.proto_expand.specs.declared.flat.FlatNode.{FlatNode}
 use Rattle.proto_expand.specs.declared.flat.FlatField.{FlatField}
-use Rattle.scene_core.specs.Scene.{is_node_type}
 
 -- what a node gives to the field of that number
 abbrev pub given : List FlatField → ℕ → Option FlatField
@@ -21,7 +21,10 @@ inner_nodes _ = []
 
 -- the nodes in a field of a node type
 abbrev pub parts_at : List FlatField → ℕ → Entry → List ℕ
-parts_at fields number e = if is_node_type e.field_type then option_map_or (λ (f : FlatField). inner_nodes f.value) (given fields number) [] else []
+parts_at fields number e =
+    if holds_nodes e.field_type
+    then option_map_or (λ (f : FlatField). inner_nodes f.value) (given fields number) []
+    else []
 
 -- the nodes in the fields of these rows, the first of which has that number
 abbrev pub parts_from : List FlatField → ℕ → List Entry → List ℕ

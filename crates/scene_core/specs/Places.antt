@@ -1,5 +1,5 @@
--- Places and sensors (the limits of their numbers are our choice). A place is a root, or a child of a place by a list `children`: one node
--- has as many places as there are paths to it.
+-- Places and sensors (the limits of their numbers are our choice). A place is a root, or a child of
+-- a place by a list `children`: one node has as many places as there are paths to it.
 use Rattle.std.specs.Prelude.{ℕ, ◌+◌, ◌++◌, ◌==◌, zero, suc, Bool, false, ◌||◌, nat_lt, min, List, [], ◌∷◌, length, map, Option, Some, None, codes, slice_get, slice_index_or, if◌then◌else◌}
 use Rattle.std.specs.List.{list_any, fold, sum_by}
 use Rattle.std.specs.Option.{option_and_then, option_map_or}
@@ -19,10 +19,13 @@ children_at node (Some row) = nodes_in (option_and_then (λ v. v) (slice_get nod
 abbrev pub own_children : SceneNode → List ℕ
 own_children node = children_at node (row_named 0 (codes "children") (rows node.node_type))
 
--- of each node, how many places there are from one place of it down, itself included, that many levels deep
+-- of each node, how many places there are from one place of it down, itself included, that many
+-- levels deep
 unfoldable pub places_below : List SceneNode → ℕ → List ℕ
 places_below nodes zero = map (λ _. 0) nodes
-places_below nodes (suc d) = map (λ node. 1 + sum_by (λ n. slice_index_or (places_below nodes d) n 0) (own_children node)) nodes
+places_below nodes (suc d) =
+    map (λ node. 1 + sum_by (λ n. slice_index_or (places_below nodes d) n 0) (own_children node))
+    nodes
 
 -- the places of a scene whose chains are no longer than that
 abbrev pub places : ℕ → List SceneNode → List ℕ → ℕ
@@ -36,7 +39,8 @@ abbrev pub enough : ℕ
 enough = 65537
 
 abbrev pub counted : List ℕ → SceneNode → ℕ
-counted counts node = min (1 + min (sum_by (λ n. slice_index_or counts n 0) (own_children node)) enough) enough
+counted counts node =
+    min (1 + min (sum_by (λ n. slice_index_or counts n 0) (own_children node)) enough) enough
 
 -- ---- sensors in one list
 
@@ -44,11 +48,15 @@ abbrev pub max_sensors : ℕ
 max_sensors = 64
 
 abbrev pub is_sensor : List SceneNode → ℕ → Bool
-is_sensor nodes n = option_map_or (λ (node : SceneNode). sameb node_types.the_type node.node_type TouchSensor) (slice_get nodes n) false
+is_sensor nodes n =
+    option_map_or (λ (node : SceneNode). sameb node_types.the_type node.node_type TouchSensor)
+    (slice_get nodes n) false
 
 -- the node behind the sensors so far, if it is a sensor that is not among them
 abbrev pub with_sensor : List SceneNode → List ℕ → ℕ → List ℕ
-with_sensor nodes sensors n = if is_sensor nodes n then (if list_any (λ m. m == n) sensors then sensors else sensors ++ n ∷ []) else sensors
+with_sensor nodes sensors n =
+    if is_sensor nodes n
+    then (if list_any (λ m. m == n) sensors then sensors else sensors ++ n ∷ []) else sensors
 
 -- the sensors of a list, each once
 abbrev pub sensors_in : List SceneNode → List ℕ → List ℕ
@@ -58,4 +66,5 @@ abbrev pub is_crowded : List SceneNode → List ℕ → Bool
 is_crowded nodes ns = nat_lt max_sensors (length (sensors_in nodes ns))
 
 abbrev pub any_crowded : List SceneNode → List ℕ → Bool
-any_crowded nodes roots = is_crowded nodes roots || list_any (λ node. is_crowded nodes (own_children node)) nodes
+any_crowded nodes roots =
+    is_crowded nodes roots || list_any (λ node. is_crowded nodes (own_children node)) nodes

@@ -1,37 +1,39 @@
 -- A scene by its nodes' numbers (ISO/IEC 19775-1, scene graph).
-use Rattle.std.specs.Prelude.{ℕ, Bool, true, false, not, ◌&&◌, ◌++◌, List, [], Option, Some, None, codes, decimal, map, slice_get, if◌then◌else◌}
+use Rattle.std.specs.Prelude.{ℕ, Bool, false, ◌++◌, List, [], Option, Some, None, codes, decimal, map, slice_get, slice_index_or, if◌then◌else◌}
 use Rattle.std.specs.Option.{option_and_then}
 use Rattle.std.specs.List.{zip}
-use denote.Enum.Bare.{sameb}
-use Rattle.x3d_values.specs.contracts.field_type.Access as accesses
-use Rattle.x3d_values.specs.declared.field_type.FieldType.{FieldType}
 use Rattle.x3d_values.specs.declared.table.FieldRow.{FieldRow}
 use Rattle.x3d_values.specs.declared.fields.Fields.{Fields}
-use Rattle.x3d_values.specs.declared.field_type.Access.TheVariants.{InputOutput}
-use Rattle.x3d_values.specs.declared.field_type.FieldType.TheVariants as type
 use Rattle.x3d_values.specs.declared.node_type.NodeType.{NodeType}
 use Rattle.x3d_values.specs.declared.value.Value.{Value}
 use Rattle.x3d_values.specs.declared.value.Value.TheVariants.{MFNode}
+use Rattle.x3d_values.specs.Access.{is_kept}
 use Rattle.x3d_values.specs.Tables.{Entry, rows, row_named}
 use Rattle.proto_expand.specs.declared.flat.Header.{Header}
 use Rattle.scene_core.specs.declared.scene.SceneNode.{SceneNode}
-use Rattle.scene_core.specs.declared.scene.Route.{Route}
 
--- the nodes of a scene, its roots and helpers, the routes that its text has, and which number each node of the expanded document got
+-- the nodes of a scene, its roots and helpers, which nodes of the expanded document it has, and the
+-- number of each
 pub record SceneView : Type 0 where
   pub header : Header
   pub nodes : List SceneNode
   pub roots : List ℕ
   pub helpers : List ℕ
-  pub routes : List Route
+  pub opened : List Bool
   pub numbers : List ℕ
 
 abbrev pub types_of : SceneView → List NodeType
 types_of s = map (λ (n : SceneNode). n.node_type) s.nodes
 
+-- the number in the scene of a node of the expanded document, where the scene has the node
+abbrev pub number_of : SceneView → ℕ → Option ℕ
+number_of s node = if slice_index_or s.opened node false then slice_get s.numbers node else None
+
 -- the opening value of a field
 abbrev pub value_at : SceneView → ℕ → ℕ → Option Value
-value_at s node field = option_and_then (λ (n : SceneNode). option_and_then (λ v. v) (slice_get n.values field)) (slice_get s.nodes node)
+value_at s node field =
+    option_and_then (λ (n : SceneNode). option_and_then (λ v. v) (slice_get n.values field))
+    (slice_get s.nodes node)
 
 -- ---- what is asked of a scene
 
@@ -48,7 +50,9 @@ children_in s node None = []
 children_in s node (Some row) = nodes_in (value_at s node row.number)
 
 abbrev pub children_of : SceneView → ℕ → List ℕ
-children_of s node = children_in s node (option_and_then (λ t. row_named 0 (codes "children") (rows t)) (type_at s node))
+children_of s node =
+    children_in s node
+    (option_and_then (λ t. row_named 0 (codes "children") (rows t)) (type_at s node))
 
 -- a node without a label of its own is called `N` and its number
 abbrev pub label_or : ℕ → Option (List ℕ) → List ℕ
@@ -56,26 +60,22 @@ label_or node (Some name) = name
 label_or node None = codes "N" ++ decimal node
 
 unfoldable pub label_of : SceneView → ℕ → List ℕ
-label_of s node = label_or node (option_and_then (λ (n : SceneNode). n.label) (slice_get s.nodes node))
+label_of s node =
+    label_or node (option_and_then (λ (n : SceneNode). n.label) (slice_get s.nodes node))
 
 -- the DEF name of a node, where it is its label
 abbrev pub name_at : SceneView → ℕ → Option (List ℕ)
 name_at s node = option_and_then (λ (n : SceneNode). n.label) (slice_get s.nodes node)
 
-abbrev pub is_node_type : FieldType → Bool
-is_node_type type.SFNode = true
-is_node_type type.MFNode = true
-is_node_type _ = false
-
-abbrev pub is_kept : Entry → Bool
-is_kept e = sameb accesses.the_type e.access InputOutput && not (is_node_type e.field_type)
-
--- what a node keeps of a field: the value of an inputOutput field that holds no nodes
+-- what a node keeps of a field
 abbrev pub kept : Entry → Option Value → Option Value
-kept e value = if is_kept e then value else None
+kept e value = if is_kept e.access e.field_type then value else None
 
 abbrev pub fields_of : SceneNode → Fields
-fields_of n = record { values = map (λ p. kept p.0 p.1) (zip (rows n.node_type) n.values); position = record { at = None } }
+fields_of n = record {
+  values = map (λ p. kept p.0 p.1) (zip (rows n.node_type) n.values);
+  position = record { at = None };
+}
 
 -- what each node keeps before any event
 unfoldable pub state_of : SceneView → List Fields

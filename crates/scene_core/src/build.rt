@@ -13,64 +13,9 @@ use crate::numbering::Numbering;
 use crate::places::{has_too_many_places, is_any_crowded};
 use crate::scene::SceneNode;
 use crate::values::{Known, values_of};
-use classic_tree::Meta;
 use proto_expand::{FlatNode, Header};
 use std::alloc::{AllocError, Global};
-use x3d_lists::{Duplicate, Items, Text};
-
-fn node_of(
-    alloc: Global,
-    known: Known<'_>,
-    marks: &Marks<'_>,
-    node: &FlatNode,
-) -> Result<SceneNode, SceneFault>
-    ensures { Gives memory (λ n. n) result (spec.node_of known.entry.nodes.now known.entry.numbers.now (λ name. known_alone (known_of marks.now name)) node.now) }
-{
-    let values = values_of(alloc, known, node)?;
-    let label = label_of(alloc, marks, &node.name)?;
-    Ok(SceneNode {
-        node_type: node.node_type,
-        label,
-        values,
-    })
-}
-
-/// The next node behind those made so far.
-fn with_node(
-    alloc: Global,
-    known: Known<'_>,
-    marks: &Marks<'_>,
-    n: u32,
-    mut made: Items<SceneNode>,
-) -> Result<Items<SceneNode>, SceneFault>
-    ensures { Gives memory (λ all. all) result (spec.with_node known.entry.nodes.now known.entry.numbers.now (λ name. known_alone (known_of marks.now name)) (slice_get known.entry.nodes.now n) made) }
-{
-    let Some(node) = known.nodes.get(n as usize) else {
-        return Ok(made);
-    };
-    made.push(node_of(alloc, known, marks, node)?)?;
-    Ok(made)
-}
-
-#[tactic(auto, unfolding(crate::specs::Building::nodes_by))]
-fn nodes_by(
-    alloc: Global,
-    nodes: &[FlatNode],
-    numbering: &Numbering,
-    marks: &Marks<'_>,
-) -> Result<Items<SceneNode>, SceneFault>
-    ensures { Gives memory (λ all. all) result (spec.nodes_by nodes.now numbering.now (λ name. known_alone (known_of marks.now name))) }
-{
-    let known = Known {
-        nodes,
-        numbers: numbering.numbers.as_slice(),
-    };
-    let mut made = Items::new(alloc);
-    for n in numbering.order.as_slice() {
-        made = with_node(alloc, known, marks, *n, made)?;
-    }
-    Ok(made)
-}
+use x3d_lists::{Duplicate, Items};
 
 /// The nodes in the order of their numbers.
 pub(crate) fn nodes_of(
@@ -120,35 +65,72 @@ pub(crate) fn called(
     Ok(Items::from_vec(all))
 }
 
-fn profile_copy(alloc: Global, profile: &Option<Text>) -> Result<Option<Text>, AllocError>
-    ensures { IfOk result (λ copy. copy ≡ profile.now) }
-{
-    let Some(profile) = profile else {
-        return Ok(None);
-    };
-    Ok(Some(profile.duplicate(alloc)?))
-}
-
-fn metas_copy(alloc: Global, metas: &[Meta]) -> Result<Items<Meta>, AllocError>
-    ensures { IfOk result (λ copies. copies ≡ metas.now) }
-{
-    let mut copies = Items::new(alloc);
-    for meta in metas {
-        copies.push(Meta {
-            key: meta.key.duplicate(alloc)?,
-            content: meta.content.duplicate(alloc)?,
-        })?;
-    }
-    Ok(copies)
-}
-
 pub(crate) fn header_copy(alloc: Global, header: &Header) -> Result<Header, AllocError>
     ensures { IfOk result (λ copy. copy ≡ header.now) }
 {
     Ok(Header {
         version: header.version,
-        profile: profile_copy(alloc, &header.profile)?,
+        profile: header.profile.duplicate(alloc)?,
         components: header.components.duplicate(alloc)?,
-        metas: metas_copy(alloc, header.metas.as_slice())?,
+        metas: header.metas.duplicate(alloc)?,
     })
+}
+
+fn node_of(
+    alloc: Global,
+    known: Known<'_>,
+    marks: &Marks<'_>,
+    node: &FlatNode,
+) -> Result<SceneNode, SceneFault>
+    ensures { Gives memory (λ n. n) result
+        (spec.node_of known.entry.nodes.now known.entry.numbers.now
+        (λ name. known_alone (known_of marks.now name)) node.now) }
+{
+    let values = values_of(alloc, known, node)?;
+    let label = label_of(alloc, marks, &node.name)?;
+    Ok(SceneNode {
+        node_type: node.node_type,
+        label,
+        values,
+    })
+}
+
+/// The next node behind those made so far.
+fn with_node(
+    alloc: Global,
+    known: Known<'_>,
+    marks: &Marks<'_>,
+    n: u32,
+    mut made: Items<SceneNode>,
+) -> Result<Items<SceneNode>, SceneFault>
+    ensures { Gives memory (λ all. all) result
+        (spec.with_node known.entry.nodes.now known.entry.numbers.now
+        (λ name. known_alone (known_of marks.now name)) (slice_get known.entry.nodes.now n) made) }
+{
+    let Some(node) = known.nodes.get(n as usize) else {
+        return Ok(made);
+    };
+    made.push(node_of(alloc, known, marks, node)?)?;
+    Ok(made)
+}
+
+#[tactic(auto, unfolding(crate::specs::Building::nodes_by))]
+fn nodes_by(
+    alloc: Global,
+    nodes: &[FlatNode],
+    numbering: &Numbering,
+    marks: &Marks<'_>,
+) -> Result<Items<SceneNode>, SceneFault>
+    ensures { Gives memory (λ all. all) result
+        (spec.nodes_by nodes.now numbering.now (λ name. known_alone (known_of marks.now name))) }
+{
+    let known = Known {
+        nodes,
+        numbers: numbering.numbers.as_slice(),
+    };
+    let mut made = Items::new(alloc);
+    for n in numbering.order.as_slice() {
+        made = with_node(alloc, known, marks, *n, made)?;
+    }
+    Ok(made)
 }

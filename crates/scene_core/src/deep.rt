@@ -2,24 +2,29 @@
 
 ghost use Rattle.std.specs.Prelude.{◌≡◌, IfOk, false, map, slice_index_or};
 ghost use Rattle.std.specs.List.{list_any};
+ghost use Rattle.x3d_values.specs.Ranges.{max_depth};
 ghost use Rattle.scene_core.specs.Deep as spec;
 
 use crate::at::flag_at;
 use crate::scene::SceneNode;
 use std::alloc::{AllocError, Global};
-use x3d_values::Value;
+use x3d_values::{MAX_DEPTH, Value};
 
-/// The most nodes that a chain may have.
-pub(crate) const MAX_DEPTH: usize = 64;
+/// Whether a chain is too long.
+pub(crate) fn is_too_deep(alloc: Global, nodes: &[SceneNode]) -> Result<bool, AllocError>
+    ensures { IfOk result (λ deep. deep ≡ spec.too_deep nodes.now) }
+{
+    let these = deep_nodes(alloc, nodes)?;
+    Ok(these.iter().any(|deep| *deep))
+}
 
 /// The nodes in a field.
 fn linked(value: &Option<Value>) -> &[u32]
     ensures { result.now ≡ spec.linked value.now }
 {
     match value {
-        Some(Value::SFNode(Some(node))) => std::slice::from_ref(node),
-        Some(Value::MFNode(nodes)) => nodes.as_slice(),
-        _ => &[],
+        Some(value) => value.nodes(),
+        None => &[],
     }
 }
 
@@ -52,7 +57,7 @@ fn one_deeper(alloc: Global, nodes: &[SceneNode], these: &[bool]) -> Result<Vec<
 
 /// Of each node, whether a chain of more than `MAX_DEPTH` nodes begins there.
 fn deep_nodes(alloc: Global, nodes: &[SceneNode]) -> Result<Vec<bool>, AllocError>
-    ensures { IfOk result (λ these. these.items ≡ spec.deeper_than nodes.now spec.max_depth) }
+    ensures { IfOk result (λ these. these.items ≡ spec.deeper_than nodes.now max_depth) }
 {
     let mut these = vec![in alloc; true; nodes.len()]?;
     for _level in 0..MAX_DEPTH {
@@ -63,12 +68,4 @@ fn deep_nodes(alloc: Global, nodes: &[SceneNode]) -> Result<Vec<bool>, AllocErro
         these = deeper;
     }
     Ok(these)
-}
-
-/// Whether a chain is too long.
-pub(crate) fn is_too_deep(alloc: Global, nodes: &[SceneNode]) -> Result<bool, AllocError>
-    ensures { IfOk result (λ deep. deep ≡ spec.too_deep nodes.now) }
-{
-    let these = deep_nodes(alloc, nodes)?;
-    Ok(these.iter().any(|deep| *deep))
 }

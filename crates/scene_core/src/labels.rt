@@ -22,6 +22,61 @@ pub struct Marks<'a> {
     pub alone: IndexMap<&'a str, bool>,
 }
 
+/// Which names one node alone has, among the nodes of these numbers.
+pub(crate) fn marked<'a>(
+    alloc: Global,
+    nodes: &'a [FlatNode],
+    order: &[u32],
+) -> Result<Marks<'a>, AllocError>
+    ensures { IfOk result
+        (λ marks. known_of marks
+        ≡ fold spec.mark spec.unknown (spec.names_of nodes.now order.now)) }
+{
+    let mut marks = no_marks(alloc);
+    for n in order {
+        mark_at(&mut marks, nodes, *n)?;
+    }
+    Ok(marks)
+}
+
+/// The name that a node keeps.
+pub(crate) fn label_of(
+    alloc: Global,
+    marks: &Marks<'_>,
+    name: &Option<Text>,
+) -> Result<Option<Text>, AllocError>
+    ensures { IfOk result
+        (λ label. label ≡ spec.label_by (λ n. spec.known_alone (known_of marks.now n)) name.now) }
+{
+    let Some(name) = name else {
+        return Ok(None);
+    };
+    if known(marks, name) != Some(true) || is_numbered(name.as_bytes()) {
+        return Ok(None);
+    }
+    Ok(Some(name.duplicate(alloc)?))
+}
+
+/// Appends the name of a node; on a refusal perhaps a part of it.
+pub(crate) fn push_label(
+    nodes: &[SceneNode],
+    node: u32,
+    out: &mut Vec<u8>,
+) -> Result<(), AllocError>
+    ensures ok { OnOk result
+        (out.new.items ≡ out.old.items
+        ++ label_or node
+        (option_and_then (λ (n : SceneNode). n.label) (slice_get nodes.now node))) }
+    ensures kept { Extends out.old.items out.new.items }
+{
+    if let Some(name) = own_label(nodes, node) {
+        return out.extend_from_slice(name.as_bytes());
+    }
+    out.push(b'N')?;
+    let mut digits = Buffer::new();
+    out.extend_from_slice(digits.format(node).as_bytes())
+}
+
 fn name_at(nodes: &[FlatNode], n: u32) -> Option<&Text>
     ensures { option_copied result ≡ spec.name_at nodes.now n }
 {
@@ -48,7 +103,8 @@ fn mark_as<'a>(
     name: &'a Text,
     alone: bool,
 ) -> Result<(), AllocFailed<(&'a str, bool)>>
-    ensures { IfOk result (λ _. known_of marks.new ≡ spec.marked name.now alone (known_of marks.old)) }
+    ensures { IfOk result
+        (λ _. known_of marks.new ≡ spec.marked name.now alone (known_of marks.old)) }
 {
     marks.alone.insert(name.as_str(), alone)?;
     Ok(())
@@ -63,27 +119,13 @@ fn mark<'a>(marks: &mut Marks<'a>, name: &'a Text) -> Result<(), AllocError>
 }
 
 fn mark_at<'a>(marks: &mut Marks<'a>, nodes: &'a [FlatNode], n: u32) -> Result<(), AllocError>
-    ensures { IfOk result (λ _. known_of marks.new ≡ spec.mark_any (known_of marks.old) (spec.name_at nodes.now n)) }
+    ensures { IfOk result
+        (λ _. known_of marks.new ≡ spec.mark_any (known_of marks.old) (spec.name_at nodes.now n)) }
 {
     if let Some(name) = name_at(nodes, n) {
         mark(marks, name)?;
     }
     Ok(())
-}
-
-/// Which names one node alone has, among the nodes of these numbers.
-pub(crate) fn marked<'a>(
-    alloc: Global,
-    nodes: &'a [FlatNode],
-    order: &[u32],
-) -> Result<Marks<'a>, AllocError>
-    ensures { IfOk result (λ marks. known_of marks ≡ fold spec.mark spec.unknown (spec.names_of nodes.now order.now)) }
-{
-    let mut marks = no_marks(alloc);
-    for n in order {
-        mark_at(&mut marks, nodes, *n)?;
-    }
-    Ok(marks)
 }
 
 fn is_digit(c: u8) -> bool
@@ -121,42 +163,9 @@ fn is_numbered(name: &[u8]) -> bool
     }
 }
 
-/// The name that a node keeps.
-pub(crate) fn label_of(
-    alloc: Global,
-    marks: &Marks<'_>,
-    name: &Option<Text>,
-) -> Result<Option<Text>, AllocError>
-    ensures { IfOk result (λ label. label ≡ spec.label_by (λ n. spec.known_alone (known_of marks.now n)) name.now) }
-{
-    let Some(name) = name else {
-        return Ok(None);
-    };
-    if known(marks, name) != Some(true) || is_numbered(name.as_bytes()) {
-        return Ok(None);
-    }
-    Ok(Some(name.duplicate(alloc)?))
-}
-
-/// Appends the name of a node; on a refusal perhaps a part of it.
-pub(crate) fn push_label(
-    nodes: &[SceneNode],
-    node: u32,
-    out: &mut Vec<u8>,
-) -> Result<(), AllocError>
-    ensures ok { OnOk result (out.new.items ≡ out.old.items ++ label_or node (option_and_then (λ (n : SceneNode). n.label) (slice_get nodes.now node))) }
-    ensures kept { Extends out.old.items out.new.items }
-{
-    if let Some(name) = own_label(nodes, node) {
-        return out.extend_from_slice(name.as_bytes());
-    }
-    out.push(b'N')?;
-    let mut digits = Buffer::new();
-    out.extend_from_slice(digits.format(node).as_bytes())
-}
-
 fn own_label(nodes: &[SceneNode], node: u32) -> Option<&Text>
-    ensures { option_copied result ≡ option_and_then (λ (n : SceneNode). n.label) (slice_get nodes.now node) }
+    ensures { option_copied result
+        ≡ option_and_then (λ (n : SceneNode). n.label) (slice_get nodes.now node) }
 {
     nodes.get(node as usize)?.label.as_ref()
 }

@@ -1,4 +1,9 @@
 //! A scene: nodes by number with typed values (ISO/IEC 19775-1, scene graph).
+//!
+//! `scene` has the scene and what is asked of it. It is made by `numbering` (which number a node
+//! has) of the `parts` of nodes, by `values` (the values of fields), `labels` (the names that nodes
+//! keep) and `build`, which puts these together; `deep` and `places` have its limits, `state` what
+//! nodes keep before any event, `fault` why there is no scene, and `at` what lists hold by number.
 #![tactic(auto)]
 
 mod at;
@@ -9,7 +14,6 @@ mod labels;
 mod numbering;
 mod parts;
 mod places;
-mod routes;
 mod scene;
 mod state;
 mod values;

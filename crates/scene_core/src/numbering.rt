@@ -64,8 +64,30 @@ impl Numbering {
     }
 }
 
+/// The numbers of the nodes of a document.
+pub(crate) fn numbered(
+    alloc: Global,
+    nodes: &[FlatNode],
+    roots: &[u32],
+    helpers: &[u32],
+) -> Result<Numbering, AllocError>
+    ensures { IfOk result (λ s. s ≡ spec.numbering nodes.now roots.now helpers.now) }
+{
+    let mut state = Numbering {
+        opened: Items::from_vec(vec![in alloc; false; nodes.len()]?),
+        order: Items::new(alloc),
+        numbers: Items::from_vec(vec![in alloc; 0; nodes.len()]?),
+    };
+    let mut tasks = Vec::new(alloc);
+    push_visits(&mut tasks, helpers)?;
+    push_visits(&mut tasks, roots)?;
+    run(alloc, nodes, &mut tasks, &mut state)?;
+    Ok(state)
+}
+
 fn push_visits(tasks: &mut Vec<Task>, nodes: &[u32]) -> Result<(), AllocError>
-    ensures { OnOk result (tasks.new.items ≡ tasks.old.items ++ map Task.Visit (reverse nodes.now)) }
+    ensures { OnOk result
+        (tasks.new.items ≡ tasks.old.items ++ map Task.Visit (reverse nodes.now)) }
 {
     for i in (0..nodes.len()).rev() {
         tasks.push(Task::Visit(nodes[i]))?;
@@ -93,9 +115,12 @@ fn visit(
     node: u32,
 ) -> Result<(), AllocError>
     requires { unopened state.old.opened ≤ length nodes.now }
-    ensures done { OnOk result (finish nodes.now state.new tasks.new.items ≡ finish nodes.now (do_task nodes.now state.old (Task.Visit node)) tasks.old.items) }
+    ensures done { OnOk result (finish nodes.now state.new tasks.new.items
+        ≡ finish nodes.now (do_task nodes.now state.old (Task.Visit node)) tasks.old.items) }
     ensures few { OnOk result (unopened state.new.opened ≤ length nodes.now) }
-    ensures fewer { OnOk result (work_left nodes.now state.new tasks.new.items ≤ work_left nodes.now state.old tasks.old.items) }
+    ensures fewer { OnOk result
+        (work_left nodes.now state.new tasks.new.items
+        ≤ work_left nodes.now state.old tasks.old.items) }
 {
     if !state.is_new(node) {
         return Ok(());
@@ -115,9 +140,12 @@ fn step(
     task: Task,
 ) -> Result<(), AllocError>
     requires { unopened state.old.opened ≤ length nodes.now }
-    ensures done { OnOk result (finish nodes.now state.new tasks.new.items ≡ finish nodes.now (do_task nodes.now state.old task) tasks.old.items) }
+    ensures done { OnOk result (finish nodes.now state.new tasks.new.items
+        ≡ finish nodes.now (do_task nodes.now state.old task) tasks.old.items) }
     ensures few { OnOk result (unopened state.new.opened ≤ length nodes.now) }
-    ensures fewer { OnOk result (work_left nodes.now state.new tasks.new.items ≤ work_left nodes.now state.old tasks.old.items) }
+    ensures fewer { OnOk result
+        (work_left nodes.now state.new tasks.new.items
+        ≤ work_left nodes.now state.old tasks.old.items) }
 {
     match task {
         Task::Visit(node) => visit(alloc, nodes, tasks, state, node),
@@ -141,25 +169,4 @@ fn run(
         step(alloc, nodes, tasks, state, task)?;
     }
     Ok(())
-}
-
-/// The numbers of the nodes of a document.
-pub(crate) fn numbered(
-    alloc: Global,
-    nodes: &[FlatNode],
-    roots: &[u32],
-    helpers: &[u32],
-) -> Result<Numbering, AllocError>
-    ensures { IfOk result (λ s. s ≡ spec.numbering nodes.now roots.now helpers.now) }
-{
-    let mut state = Numbering {
-        opened: Items::from_vec(vec![in alloc; false; nodes.len()]?),
-        order: Items::new(alloc),
-        numbers: Items::from_vec(vec![in alloc; 0; nodes.len()]?),
-    };
-    let mut tasks = Vec::new(alloc);
-    push_visits(&mut tasks, helpers)?;
-    push_visits(&mut tasks, roots)?;
-    run(alloc, nodes, &mut tasks, &mut state)?;
-    Ok(state)
 }

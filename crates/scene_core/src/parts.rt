@@ -3,26 +3,18 @@
 ghost use Rattle.std.specs.Prelude.{◌≡◌, ◌+◌, ◌<◌, ◌++◌, ◌^◌, OnOk, length, map};
 ghost use Rattle.std.specs.Option.{option_copied};
 ghost use Rattle.x3d_values.specs.Tables.{entry};
-ghost use Rattle.scene_core.specs.Scene.{is_node_type};
 ghost use Rattle.scene_core.specs.Parts as spec;
 
 use classic_tree::RawValue;
 use proto_expand::{FlatField, FlatNode};
 use std::alloc::AllocError;
-use x3d_values::{Field, FieldType, fields_of};
+use x3d_values::{Field, fields_of};
 
 /// What a node gives to the field of that number.
 pub(crate) fn given(fields: &[FlatField], number: usize) -> Option<&FlatField>
     ensures { option_copied result ≡ spec.given fields.now number }
 {
     fields.iter().find(|field| field.number as usize == number)
-}
-
-/// Whether a field of that type holds nodes.
-pub(crate) fn is_node_type(field_type: FieldType) -> bool
-    ensures { result ≡ is_node_type field_type }
-{
-    matches!(field_type, FieldType::SFNode | FieldType::MFNode)
 }
 
 /// The nodes in a value.
@@ -36,15 +28,23 @@ pub(crate) fn inner_nodes(value: &RawValue<u32>) -> &[u32]
     }
 }
 
+/// Appends the nodes in the node fields of a node, in table order.
+pub(crate) fn push_parts(node: &FlatNode, out: &mut Vec<u32>) -> Result<(), AllocError>
+    ensures { OnOk result (out.new.items ≡ out.old.items ++ spec.parts node.now) }
+{
+    push_parts_from(node.fields.as_slice(), 0, fields_of(node.node_type), out)
+}
+
 fn push_parts_at(
     fields: &[FlatField],
     number: usize,
     row: &Field,
     out: &mut Vec<u32>,
 ) -> Result<(), AllocError>
-    ensures { OnOk result (out.new.items ≡ out.old.items ++ spec.parts_at fields.now number (entry row.now)) }
+    ensures { OnOk result
+        (out.new.items ≡ out.old.items ++ spec.parts_at fields.now number (entry row.now)) }
 {
-    if !is_node_type(row.field_type) {
+    if !row.field_type.holds_nodes() {
         return Ok(());
     }
     let Some(field) = given(fields, number) else {
@@ -60,7 +60,8 @@ fn push_parts_from(
     out: &mut Vec<u32>,
 ) -> Result<(), AllocError>
     requires { number + length rows.now < 2 ^ 16 }
-    ensures { OnOk result (out.new.items ≡ out.old.items ++ spec.parts_from fields.now number (map entry rows.now)) }
+    ensures { OnOk result
+        (out.new.items ≡ out.old.items ++ spec.parts_from fields.now number (map entry rows.now)) }
 {
     match rows {
         [] => Ok(()),
@@ -69,11 +70,4 @@ fn push_parts_from(
             push_parts_from(fields, number + 1, others, out)
         }
     }
-}
-
-/// Appends the nodes in the node fields of a node, in table order.
-pub(crate) fn push_parts(node: &FlatNode, out: &mut Vec<u32>) -> Result<(), AllocError>
-    ensures { OnOk result (out.new.items ≡ out.old.items ++ spec.parts node.now) }
-{
-    push_parts_from(node.fields.as_slice(), 0, fields_of(node.node_type), out)
 }

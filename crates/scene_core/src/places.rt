@@ -2,15 +2,14 @@
 
 ghost use Rattle.std.specs.Prelude.{◌≡◌, ◌+◌, ◌<◌, ◌≤◌, ◌==◌, true, false, min, map, length, IfOk, nat_lt, slice_index_or};
 ghost use Rattle.std.specs.List.{list_any, sum_by};
-ghost use Rattle.scene_core.specs.Deep.{max_depth};
+ghost use Rattle.x3d_values.specs.Ranges.{max_depth};
 ghost use Rattle.scene_core.specs.Places as spec;
 
 use crate::at::number_at;
-use crate::deep::MAX_DEPTH;
 use crate::scene::SceneNode;
 use arrayvec::ArrayVec;
 use std::alloc::{AllocError, Global};
-use x3d_values::{NodeType, Value, field_of};
+use x3d_values::{MAX_DEPTH, NodeType, Value, field_of};
 
 /// The most places that a scene may have. Counts stop at one more.
 const MAX_PLACES: u32 = 65_536;
@@ -31,6 +30,26 @@ pub(crate) fn own_children(node: &SceneNode) -> &[u32]
         Some(Some(Value::MFNode(nodes))) => nodes.as_slice(),
         _ => &[],
     }
+}
+
+/// Whether there are too many places, where no chain is too long.
+pub(crate) fn has_too_many_places(
+    alloc: Global,
+    nodes: &[SceneNode],
+    roots: &[u32],
+) -> Result<bool, AllocError>
+    ensures { IfOk result
+        (λ many. many ≡ nat_lt spec.max_places (spec.places max_depth nodes.now roots.now)) }
+{
+    let counts = counts_of(alloc, nodes)?;
+    Ok(MAX_PLACES < together(counts.as_slice(), roots))
+}
+
+/// Whether the list of the roots or a list of children has too many sensors.
+pub(crate) fn is_any_crowded(nodes: &[SceneNode], roots: &[u32]) -> bool
+    ensures { result ≡ spec.any_crowded nodes.now roots.now }
+{
+    is_crowded(nodes, roots) || has_crowded(nodes)
 }
 
 /// The smaller of the sum and `ENOUGH`.
@@ -71,7 +90,9 @@ fn one_deeper(alloc: Global, nodes: &[SceneNode], counts: &[u32]) -> Result<Vec<
 
 /// Of each node, the places from one place of it down, or `ENOUGH` where that is less.
 fn counts_of(alloc: Global, nodes: &[SceneNode]) -> Result<Vec<u32>, AllocError>
-    ensures { IfOk result (λ counts. counts.items ≡ map (λ k. min k spec.enough) (spec.places_below nodes.now max_depth)) }
+    ensures { IfOk result
+        (λ counts. counts.items
+        ≡ map (λ k. min k spec.enough) (spec.places_below nodes.now max_depth)) }
 {
     let mut counts = vec![in alloc; 0; nodes.len()]?;
     for _level in 0..MAX_DEPTH {
@@ -82,18 +103,6 @@ fn counts_of(alloc: Global, nodes: &[SceneNode]) -> Result<Vec<u32>, AllocError>
         counts = more;
     }
     Ok(counts)
-}
-
-/// Whether there are too many places, where no chain is too long.
-pub(crate) fn has_too_many_places(
-    alloc: Global,
-    nodes: &[SceneNode],
-    roots: &[u32],
-) -> Result<bool, AllocError>
-    ensures { IfOk result (λ many. many ≡ nat_lt spec.max_places (spec.places max_depth nodes.now roots.now)) }
-{
-    let counts = counts_of(alloc, nodes)?;
-    Ok(MAX_PLACES < together(counts.as_slice(), roots))
 }
 
 fn is_sensor(nodes: &[SceneNode], n: u32) -> bool
@@ -115,8 +124,10 @@ fn is_in(sensors: &[u32], n: u32) -> bool
 fn add_sensor(nodes: &[SceneNode], sensors: &mut ArrayVec<u32, MAX_SENSORS>, n: u32) -> bool
     requires { length sensors.old.items ≤ 64 }
     ensures few { length sensors.new.items ≤ 64 }
-    ensures fits { result ≡ true → sensors.new.items ≡ spec.with_sensor nodes.now sensors.old.items n }
-    ensures full { result ≡ false → spec.max_sensors < length (spec.with_sensor nodes.now sensors.old.items n) }
+    ensures fits { result ≡ true → sensors.new.items
+        ≡ spec.with_sensor nodes.now sensors.old.items n }
+    ensures full { result ≡ false
+        → spec.max_sensors < length (spec.with_sensor nodes.now sensors.old.items n) }
 {
     if !is_sensor(nodes, n) {
         return true;
@@ -144,16 +155,10 @@ fn is_crowded(nodes: &[SceneNode], list: &[u32]) -> bool
 }
 
 fn has_crowded(nodes: &[SceneNode]) -> bool
-    ensures { result ≡ list_any (λ node. spec.is_crowded nodes.now (spec.own_children node)) nodes.now }
+    ensures { result
+        ≡ list_any (λ node. spec.is_crowded nodes.now (spec.own_children node)) nodes.now }
 {
     nodes
         .iter()
         .any(|node| is_crowded(nodes, own_children(node)))
-}
-
-/// Whether the list of the roots or a list of children has too many sensors.
-pub(crate) fn is_any_crowded(nodes: &[SceneNode], roots: &[u32]) -> bool
-    ensures { result ≡ spec.any_crowded nodes.now roots.now }
-{
-    is_crowded(nodes, roots) || has_crowded(nodes)
 }

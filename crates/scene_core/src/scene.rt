@@ -5,14 +5,14 @@ ghost use Rattle.std.specs.Option.{option_copied};
 ghost use Rattle.x3d_lists.specs.Answers.{Gives};
 ghost use Rattle.scene_core.specs.Building.{scene_of};
 ghost use Rattle.scene_core.specs.Faults.{memory};
-ghost use Rattle.scene_core.specs.Scene.{types_of, value_at, children_of, state_of, label_of, name_at};
+ghost use Rattle.scene_core.specs.Scene.{types_of, number_of, value_at, children_of, state_of, label_of, name_at};
 
+use crate::at::flag_at;
 use crate::build::{called, check_limits, header_copy, nodes_of};
 use crate::fault::SceneFault;
 use crate::labels::push_label;
 use crate::numbering::numbered;
 use crate::places::own_children;
-use crate::routes::routes_of;
 use crate::state::state_of;
 use crate::values::check_children;
 use proto_expand::{Flat, Header};
@@ -42,8 +42,9 @@ pub struct SceneNode {
     pub node_type: NodeType,
     /// Its DEF name, where no other node has it and it isn't an `N` before digits.
     pub label: Option<Text>,
-    /// The values of its inputOutput and initializeOnly fields by the fields' numbers, and nothing at
-    /// the numbers of other fields and of rotations. Nodes in them are numbers of nodes of the scene.
+    /// The values of its inputOutput and initializeOnly fields by the fields' numbers, and nothing
+    /// at the numbers of other fields and of rotations. Nodes in them are numbers of nodes of the
+    /// scene.
     pub values: Items<Option<Value>>,
 }
 
@@ -54,7 +55,8 @@ pub struct Scene {
     nodes: Items<SceneNode>,
     roots: Items<u32>,
     helpers: Items<u32>,
-    routes: Items<Route>,
+    /// Which nodes of the document the scene has, and the number of each.
+    opened: Items<bool>,
     numbers: Items<u32>,
 }
 
@@ -63,7 +65,14 @@ impl Model for Scene {
 
     ghost Value = { SceneView };
 
-    ghost view = { λ s. record { header = s.header; nodes = s.nodes; roots = s.roots; helpers = s.helpers; routes = s.routes; numbers = s.numbers } };
+    ghost view = { λ s. record {
+      header = s.header;
+      nodes = s.nodes;
+      roots = s.roots;
+      helpers = s.helpers;
+      opened = s.opened;
+      numbers = s.numbers;
+    } };
 }
 
 impl Scene {
@@ -72,7 +81,7 @@ impl Scene {
     ghost use Rattle.x3d_lists.specs.Answers.{Gives};
     ghost use Rattle.scene_core.specs.Building.{scene_of};
     ghost use Rattle.scene_core.specs.Faults.{memory};
-    ghost use Rattle.scene_core.specs.Scene.{types_of, value_at, children_of, state_of, label_of, name_at};
+    ghost use Rattle.scene_core.specs.Scene.{types_of, number_of, value_at, children_of, state_of, label_of, name_at};
 
     pub fn node_count(&self) -> usize
         ensures { result ≡ length self.now.nodes }
@@ -118,18 +127,14 @@ impl Scene {
         &self.header
     }
 
-    /// The routes of the text whose ends name fields, without repeats.
-    pub fn routes(&self) -> &[Route]
-        ensures { result.now ≡ self.now.routes }
+    /// The number in the scene of a node of the expanded document; none where the scene hasn't it.
+    pub fn number(&self, node: u32) -> Option<u32>
+        ensures { result ≡ number_of self.now node }
     {
-        self.routes.as_slice()
-    }
-
-    /// Which number the nodes of the expanded document have in the scene.
-    pub fn numbers(&self) -> &[u32]
-        ensures { result.now ≡ self.now.numbers }
-    {
-        self.numbers.as_slice()
+        if !flag_at(self.opened.as_slice(), node) {
+            return None;
+        }
+        self.numbers.get(node as usize).copied()
     }
 
     /// The name of a node that no other node has: its DEF name, where it is alone, or else `N` and
@@ -185,14 +190,13 @@ impl Scene {
         let roots = called(alloc, numbering.numbers.as_slice(), flat.roots.as_slice())?;
         check_limits(alloc, made.as_slice(), roots.as_slice())?;
         let helpers = called(alloc, numbering.numbers.as_slice(), flat.helpers.as_slice())?;
-        let routes = routes_of(alloc, nodes, &numbering, flat.routes.as_slice())?;
         let header = header_copy(alloc, &flat.header)?;
         Ok(Scene {
             header,
             nodes: made,
             roots,
             helpers,
-            routes,
+            opened: numbering.opened,
             numbers: numbering.numbers,
         })
     }

@@ -5,33 +5,28 @@ ghost use Rattle.std.specs.List.{zip};
 ghost use Rattle.x3d_values.specs.Tables.{entry};
 ghost use Rattle.scene_core.specs.Scene as spec;
 
-use crate::parts::is_node_type;
 use crate::scene::SceneNode;
 use std::alloc::{AllocError, Global};
 use x3d_lists::Items;
-use x3d_values::{Access, Field, Fields, Position, Value, clone_value, fields_of};
+use x3d_values::{Duplicate, Field, Fields, Position, Value, fields_of};
 
-fn is_kept(row: &Field) -> bool
-    ensures { result ≡ spec.is_kept (entry row.now) }
+/// What each node keeps, by their numbers.
+pub(crate) fn state_of(alloc: Global, nodes: &[SceneNode]) -> Result<Vec<Fields>, AllocError>
+    ensures { IfOk result (λ fields. fields.items ≡ map spec.fields_of nodes.now) }
 {
-    row.access == Access::InputOutput && !is_node_type(row.field_type)
-}
-
-fn copied(alloc: Global, value: &Option<Value>) -> Result<Option<Value>, AllocError>
-    ensures { IfOk result (λ copy. copy ≡ value.now) }
-{
-    let Some(value) = value else {
-        return Ok(None);
-    };
-    Ok(Some(clone_value(alloc, value)?))
+    let mut state = Vec::new(alloc);
+    for node in nodes {
+        state.push(fields_kept(alloc, node)?)?;
+    }
+    Ok(state)
 }
 
 /// What a node keeps of a field.
 fn kept(alloc: Global, row: &Field, value: &Option<Value>) -> Result<Option<Value>, AllocError>
     ensures { IfOk result (λ copy. copy ≡ spec.kept (entry row.now) value.now) }
 {
-    if is_kept(row) {
-        copied(alloc, value)
+    if row.access.is_kept(row.field_type) {
+        value.duplicate(alloc)
     } else {
         Ok(None)
     }
@@ -44,7 +39,8 @@ fn push_kept(
     values: &[Option<Value>],
     mut made: Items<Option<Value>>,
 ) -> Result<Items<Option<Value>>, AllocError>
-    ensures { IfOk result (λ all. all ≡ made ++ map (λ p. spec.kept p.0 p.1) (zip (map entry rows.now) values.now)) }
+    ensures { IfOk result
+        (λ all. all ≡ made ++ map (λ p. spec.kept p.0 p.1) (zip (map entry rows.now) values.now)) }
 {
     let [row, rows @ ..] = rows else {
         return Ok(made);
@@ -69,15 +65,4 @@ fn fields_kept(alloc: Global, node: &SceneNode) -> Result<Fields, AllocError>
         values,
         position: Position { at: None },
     })
-}
-
-/// What each node keeps, by their numbers.
-pub(crate) fn state_of(alloc: Global, nodes: &[SceneNode]) -> Result<Vec<Fields>, AllocError>
-    ensures { IfOk result (λ fields. fields.items ≡ map spec.fields_of nodes.now) }
-{
-    let mut state = Vec::new(alloc);
-    for node in nodes {
-        state.push(fields_kept(alloc, node)?)?;
-    }
-    Ok(state)
 }

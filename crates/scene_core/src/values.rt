@@ -14,13 +14,43 @@ use proto_expand::{FlatField, FlatNode};
 use scene_values::{ValueFault, checked_rotation, typed};
 use std::alloc::{AllocError, Global};
 use x3d_lists::Items;
-use x3d_values::{Access, Field, FieldType, NodeKind, Value, Vec3, default_value, fields_of};
+use x3d_values::{Field, FieldType, NodeKind, Value, Vec3, default_value, fields_of};
 
 /// The nodes of a document, and the numbers that they have in the scene.
 #[derive(Clone, Copy)]
 pub struct Known<'a> {
     pub nodes: &'a [FlatNode],
     pub numbers: &'a [u32],
+}
+
+/// The values of a node's fields, in table order.
+#[tactic(auto, unfolding(crate::specs::Typed::values_of))]
+pub(crate) fn values_of(
+    alloc: Global,
+    known: Known<'_>,
+    node: &FlatNode,
+) -> Result<Items<Option<Value>>, SceneFault>
+    ensures { Gives memory (λ v. v) result
+        (spec.values_of known.entry.nodes.now known.entry.numbers.now node.now) }
+{
+    push_values(
+        alloc,
+        known,
+        node.fields.as_slice(),
+        0,
+        fields_of(node.node_type),
+        Items::new(alloc),
+    )
+}
+
+/// All of them are child nodes; the first that isn't is the fault.
+pub(crate) fn check_children(nodes: &[FlatNode], children: &[u32]) -> Result<(), SceneFault>
+    ensures { result ≡ spec.all_children nodes.now children.now }
+{
+    for n in children {
+        check_child(nodes, *n)?;
+    }
+    Ok(())
 }
 
 fn fault_at(line: u32, refused: ValueFault) -> SceneFault
@@ -60,15 +90,6 @@ fn in_range(name: &str, value: &Value) -> bool
     }
 }
 
-fn is_initial(access: Access) -> bool
-    ensures { result ≡ spec.is_initial access }
-{
-    match access {
-        Access::InputOutput | Access::InitializeOnly => true,
-        Access::InputOnly | Access::OutputOnly => false,
-    }
-}
-
 /// Whether a field of that kind takes the node, if there is one.
 fn is_taken(kind: Option<NodeKind>, nodes: &[FlatNode], n: u32) -> bool
     ensures { result ≡ spec.takes kind (slice_get nodes.now n) }
@@ -100,7 +121,7 @@ fn accepted(
     if !in_range(row.name, &value) {
         return Err(fault(SceneFaultKind::ValueRange, field.line));
     }
-    if !is_initial(row.access) {
+    if !row.access.is_initial() {
         return Err(fault(SceneFaultKind::NotInitial, field.line));
     }
     if !all_taken(row.kind, known.nodes, inner_nodes(&field.value)) {
@@ -115,7 +136,8 @@ fn typed_value(
     row: &Field,
     field: &FlatField,
 ) -> Result<Value, SceneFault>
-    ensures { Gives memory (λ v. v) result (spec.typed_value known.entry.numbers.now (entry row.now) field.now) }
+    ensures { Gives memory (λ v. v) result
+        (spec.typed_value known.entry.numbers.now (entry row.now) field.now) }
 {
     match typed(alloc, row.field_type, &field.value, known.numbers) {
         Ok(value) => Ok(value),
@@ -129,7 +151,8 @@ fn given_value(
     row: &Field,
     field: &FlatField,
 ) -> Result<Option<Value>, SceneFault>
-    ensures { Gives memory (λ v. v) result (spec.given_value known.entry.nodes.now known.entry.numbers.now (entry row.now) field.now) }
+    ensures { Gives memory (λ v. v) result
+        (spec.given_value known.entry.nodes.now known.entry.numbers.now (entry row.now) field.now) }
 {
     if row.field_type == FieldType::SFRotation {
         return dropped_rotation(row, field);
@@ -155,7 +178,9 @@ fn field_value(
     row: &Field,
     field: Option<&FlatField>,
 ) -> Result<Option<Value>, SceneFault>
-    ensures { Gives memory (λ v. v) result (spec.field_value known.entry.nodes.now known.entry.numbers.now (entry row.now) (option_copied field.entry)) }
+    ensures { Gives memory (λ v. v) result
+        (spec.field_value known.entry.nodes.now known.entry.numbers.now (entry row.now)
+        (option_copied field.entry)) }
 {
     match field {
         Some(field) => given_value(alloc, known, row, field),
@@ -173,7 +198,9 @@ fn push_values(
     mut made: Items<Option<Value>>,
 ) -> Result<Items<Option<Value>>, SceneFault>
     requires { number + length rows.now < 2 ^ 16 }
-    ensures { Gives memory (λ v. v) result (spec.values_from known.entry.nodes.now known.entry.numbers.now fields.now number (map entry rows.now) made) }
+    ensures { Gives memory (λ v. v) result
+        (spec.values_from known.entry.nodes.now known.entry.numbers.now fields.now number
+        (map entry rows.now) made) }
 {
     match rows {
         [] => Ok(made),
@@ -182,25 +209,6 @@ fn push_values(
             push_values(alloc, known, fields, number + 1, others, made)
         }
     }
-}
-
-/// The values of a node's fields, in table order.
-#[tactic(auto, unfolding(crate::specs::Typed::values_of))]
-pub(crate) fn values_of(
-    alloc: Global,
-    known: Known<'_>,
-    node: &FlatNode,
-) -> Result<Items<Option<Value>>, SceneFault>
-    ensures { Gives memory (λ v. v) result (spec.values_of known.entry.nodes.now known.entry.numbers.now node.now) }
-{
-    push_values(
-        alloc,
-        known,
-        node.fields.as_slice(),
-        0,
-        fields_of(node.node_type),
-        Items::new(alloc),
-    )
 }
 
 /// A root or helper is a child node.
@@ -216,14 +224,4 @@ fn check_child(nodes: &[FlatNode], n: u32) -> Result<(), SceneFault>
     } else {
         Err(fault(SceneFaultKind::BadChild, node.line))
     }
-}
-
-/// All of them are child nodes; the first that isn't is the fault.
-pub(crate) fn check_children(nodes: &[FlatNode], children: &[u32]) -> Result<(), SceneFault>
-    ensures { result ≡ spec.all_children nodes.now children.now }
-{
-    for n in children {
-        check_child(nodes, *n)?;
-    }
-    Ok(())
 }

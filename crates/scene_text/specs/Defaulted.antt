@@ -1,4 +1,5 @@
--- Whether a value is the one that a field has where a scene gives none (ISO/IEC 19775-1, the node types of each component).
+-- Whether a value is the one that a field has where a scene gives none (ISO/IEC 19775-1, the node
+-- types of each component).
 use Rattle.std.specs.Prelude.{ℕ, ◌==◌, ℤ, pos, Bool, false, not, ◌&&◌, List, [], ◌∷◌, codes, is_none, length, nat_eq}
 use Rattle.std.specs.Ordering.{int_eq}
 use Rattle.std.specs.Cmp.Lexicographic.{pointwise}
@@ -59,7 +60,8 @@ is_vector wanted (SFVec3f v) = int_eq v.x wanted.x && (int_eq v.y wanted.y && in
 is_vector wanted _ = false
 
 abbrev pub is_color : Color → Value → Bool
-is_color wanted (SFColor c) = int_eq c.red wanted.red && (int_eq c.green wanted.green && int_eq c.blue wanted.blue)
+is_color wanted (SFColor c) =
+    int_eq c.red wanted.red && (int_eq c.green wanted.green && int_eq c.blue wanted.blue)
 is_color wanted _ = false
 
 abbrev pub is_string : List ℕ → Value → Bool
@@ -73,12 +75,14 @@ is_word wanted _ = false
 
 -- ["EXAMINE" "ANY"]
 abbrev pub is_examine_any : Value → Bool
-is_examine_any (MFString (first ∷ (second ∷ []))) = pointwise nat_eq first (codes "EXAMINE") && pointwise nat_eq second (codes "ANY")
+is_examine_any (MFString (first ∷ (second ∷ []))) =
+    pointwise nat_eq first (codes "EXAMINE") && pointwise nat_eq second (codes "ANY")
 is_examine_any _ = false
 
 -- [0.25 1.6 0.75]
 abbrev pub are_standard_sizes : Value → Bool
-are_standard_sizes (MFFloat (reach ∷ (height ∷ (step ∷ [])))) = int_eq reach (pos 250000) && (int_eq height (pos 1600000) && int_eq step (pos 750000))
+are_standard_sizes (MFFloat (reach ∷ (height ∷ (step ∷ [])))) =
+    int_eq reach (pos 250000) && (int_eq height (pos 1600000) && int_eq step (pos 750000))
 are_standard_sizes _ = false
 
 -- [0 0 0]

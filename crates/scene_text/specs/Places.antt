@@ -2,28 +2,24 @@
 use Rattle.std.specs.Prelude.{ℕ, ◌==◌, ◌||◌, Bool, List, [], ◌∷◌, ◌++◌, Option, Some, None, is_some, length, map, nat_le, count_by, flat_map}
 use Rattle.std.specs.List.{range_with_len}
 use Rattle.x3d_values.specs.declared.node_type.NodeType.{NodeType}
-use Rattle.x3d_values.specs.declared.value.Value.{Value}
-use Rattle.x3d_values.specs.declared.value.Value.TheVariants.{SFNode, MFNode}
 use Rattle.x3d_values.specs.Tables.{rows}
+use Rattle.scene_core.specs.Deep.{linked}
 use Rattle.scene_core.specs.declared.scene.Route.{Route}
 use Rattle.scene_core.specs.Scene.{SceneView, name_at, type_at, value_at}
 
 -- ---- every appearance
 
-abbrev pub nodes_of : Option Value → List ℕ
-nodes_of (Some (SFNode (Some n))) = n ∷ []
-nodes_of (Some (MFNode ns)) = ns
-nodes_of _ = []
-
 -- the nodes in the fields of a node of that type
 abbrev pub nodes_below : SceneView → ℕ → Option NodeType → List ℕ
-nodes_below s n (Some t) = flat_map (λ number. nodes_of (value_at s n number)) (range_with_len 0 (length (rows t)))
+nodes_below s n (Some t) =
+    flat_map (λ number. linked (value_at s n number)) (range_with_len 0 (length (rows t)))
 nodes_below s n None = []
 
 abbrev pub nodes_within : SceneView → ℕ → List ℕ
 nodes_within s n = nodes_below s n (type_at s n)
 
--- the nodes as they appear in the text: among the roots and the helpers and in the fields of each node
+-- the nodes as they appear in the text: among the roots and the helpers and in the fields of each
+-- node
 abbrev pub places : SceneView → List ℕ
 places s = s.roots ++ s.helpers ++ flat_map (nodes_within s) (range_with_len 0 (length s.nodes))
 
@@ -36,9 +32,11 @@ abbrev pub times : ℕ → List ℕ → ℕ
 times n ns = count_by (λ m. m == n) ns
 
 -- the label is the node's DEF name, or it is an end of a route, or it appears twice or more
-abbrev pub is_named : SceneView → ℕ → Bool
-is_named s n = is_some (name_at s n) || (nat_le 1 (times n (flat_map ends_of s.routes)) || nat_le 2 (times n (places s)))
+abbrev pub is_named : SceneView → List Route → ℕ → Bool
+is_named s routes n =
+    is_some (name_at s n)
+    || (nat_le 1 (times n (flat_map ends_of routes)) || nat_le 2 (times n (places s)))
 
 -- by node number
-unfoldable pub named : SceneView → List Bool
-named s = map (is_named s) (range_with_len 0 (length s.nodes))
+unfoldable pub named : SceneView → List Route → List Bool
+named s routes = map (is_named s routes) (range_with_len 0 (length s.nodes))

@@ -1,4 +1,5 @@
--- How values without nodes are written: a single value bare, several in brackets (ISO/IEC 19776-2, field values).
+-- How values without nodes are written: a single value bare, several in brackets (ISO/IEC 19776-2,
+-- field values).
 use Rattle.std.specs.Prelude.{ℕ, ℤ, pos, ◌*ℤ◌, Bool, List, [], ◌∷◌}
 use Rattle.std.specs.List.{flat_map}
 use Rattle.x3d_values.specs.declared.vector.Vec2.{Vec2}

@@ -1,6 +1,7 @@
 -- The document that a scene is written as.
 use Rattle.std.specs.Prelude.{ℕ, Bool, false, List, [], ◌∷◌, ◌++◌, None, codes, length, map, replicate, slice_get, unwrap_or, option_and_then, option_map}
 use Rattle.x3d_values.specs.declared.fields.Fields.{Fields}
+use Rattle.x3d_values.specs.Ranges.{max_depth}
 use Rattle.x3d_values.specs.Tables.{Entry, rows}
 use Rattle.classic_tree.specs.declared.tree.Document.{Document}
 use Rattle.classic_tree.specs.declared.tree.Place.{Place}
@@ -21,7 +22,10 @@ use Rattle.scene_text.specs.Tree.{PlanView, Step, Makes, each, node_tree}
 -- ---- routes, by labels and the fields' own names
 
 abbrev pub field_name : SceneView → End → List ℕ
-field_name s end = unwrap_or (option_and_then (λ t. option_map (λ (e : Entry). e.name) (slice_get (rows t) end.field)) (type_at s end.node)) []
+field_name s end =
+    unwrap_or
+    (option_and_then (λ t. option_map (λ (e : Entry). e.name) (slice_get (rows t) end.field))
+    (type_at s end.node)) []
 
 abbrev pub place_of : SceneView → End → Place
 place_of s end = record { node = label_of s end.node; field = field_name s end }
@@ -31,11 +35,10 @@ route_of s r = record { line = 0; source = place_of s r.source; target = place_o
 
 -- ---- nodes: roots, and in a last one the helpers
 
-abbrev pub most_nested : ℕ
-most_nested = 64
-
 abbrev pub switch_of : List NodeText → NodeText
-switch_of trees = node.Full 0 None (codes "Switch") (item.Field 0 (codes "children") (given.Value (raw.NodeList trees)) ∷ [])
+switch_of trees =
+    node.Full 0 None (codes "Switch")
+    (item.Field 0 (codes "children") (given.Value (raw.NodeList trees)) ∷ [])
 
 -- helpers, where there are some, are the children of a Switch, which shows none
 abbrev pub helper_root : List NodeText → List Statement
@@ -43,26 +46,35 @@ helper_root [] = []
 helper_root (tree ∷ trees) = statement.Node (switch_of (tree ∷ trees)) ∷ []
 
 abbrev pub root_tree : Makes ℕ NodeText → Makes ℕ Statement
-root_tree tree seen n = let m = tree seen n in record { seen = m.seen; made = statement.Node m.made }
+root_tree tree seen n =
+    let m = tree seen n in record { seen = m.seen; made = statement.Node m.made }
 
 abbrev pub roots_of : PlanView → Step (List Statement)
-roots_of p = each (root_tree (node_tree most_nested p)) (replicate (length p.scene.nodes) false) p.scene.roots
+roots_of p =
+    each (root_tree (node_tree max_depth p)) (replicate (length p.scene.nodes) false) p.scene.roots
 
 abbrev pub helpers_of : PlanView → List Bool → Step (List NodeText)
-helpers_of p seen = each (node_tree most_nested p) seen p.scene.helpers
+helpers_of p seen = each (node_tree max_depth p) seen p.scene.helpers
 
-abbrev pub routes_of : SceneView → List Statement
-routes_of s = map (λ r. statement.Route (route_of s r)) s.routes
+abbrev pub routes_of : SceneView → List Route → List Statement
+routes_of s routes = map (λ r. statement.Route (route_of s r)) routes
 
 unfoldable pub statements_of : PlanView → List Statement
-statements_of p = (roots_of p).made ++ helper_root (helpers_of p (roots_of p).seen).made ++ routes_of p.scene
+statements_of p =
+    (roots_of p).made ++ helper_root (helpers_of p (roots_of p).seen).made
+    ++ routes_of p.scene p.routes
 
 -- header statements as they were read, roots, helpers and routes
-unfoldable pub scene_document : SceneView → List Fields → Document
-scene_document s state = record {
+unfoldable pub scene_document : SceneView → List Route → List Fields → Document
+scene_document s routes state = record {
   version = s.header.version;
   profile = s.header.profile;
   components = s.header.components;
   metas = s.header.metas;
-  statements = statements_of (record { scene = s; state = state; named = named s });
+  statements = statements_of (record {
+    scene = s;
+    routes = routes;
+    state = state;
+    named = named s routes;
+  });
 }

@@ -1,14 +1,13 @@
--- The trees of the nodes of a scene: a node's first appearance in full, later ones by USE (ISO/IEC 19776-2, DEF and USE).
-use Rattle.std.specs.Prelude.{ℕ, zero, suc, ◌+◌, Bool, true, false, not, ◌&&◌, List, [], ◌∷◌, ◌++◌, Option, Some, None, get_or, slice_get, slice_set, fold, option_and_then, if◌then◌else◌}
+-- The trees of the nodes of a scene: a node's first appearance in full, later ones by USE (ISO/IEC
+-- 19776-2, DEF and USE).
+use Rattle.std.specs.Prelude.{ℕ, zero, suc, ◌+◌, Bool, true, false, not, List, [], ◌∷◌, ◌++◌, Option, Some, None, get_or, slice_get, slice_set, fold, option_and_then, if◌then◌else◌}
 use Rattle.std.specs.Option.{option_or}
-use denote.Enum.Bare.{sameb}
-use Rattle.x3d_values.specs.contracts.field_type.Access as accesses
-use Rattle.x3d_values.specs.declared.field_type.Access.TheVariants.{InputOutput}
 use Rattle.x3d_values.specs.declared.default.FieldDefault.{FieldDefault}
 use Rattle.x3d_values.specs.declared.node_type.NodeType.{NodeType}
 use Rattle.x3d_values.specs.declared.fields.Fields.{Fields}
 use Rattle.x3d_values.specs.declared.value.Value.{Value}
 use Rattle.x3d_values.specs.declared.value.Value.TheVariants.{SFNode, MFNode}
+use Rattle.x3d_values.specs.Access.{is_kept}
 use Rattle.x3d_values.specs.Kept.{field_value}
 use Rattle.x3d_values.specs.Names.{node_type_name}
 use Rattle.x3d_values.specs.Tables.{Entry, rows}
@@ -19,13 +18,16 @@ use Rattle.classic_tree.specs.declared.tree.BodyItem.{BodyItem}
 use Rattle.classic_tree.specs.declared.tree.BodyItem.TheVariants as item
 use Rattle.classic_tree.specs.declared.tree.NodeText.{NodeText}
 use Rattle.classic_tree.specs.declared.tree.NodeText.TheVariants as node
-use Rattle.scene_core.specs.Scene.{SceneView, is_node_type, label_of, type_at, value_at}
+use Rattle.scene_core.specs.declared.scene.Route.{Route}
+use Rattle.scene_core.specs.Scene.{SceneView, label_of, type_at, value_at}
 use Rattle.scene_text.specs.Defaulted.{is_default}
 use Rattle.scene_text.specs.Raw.{plain}
 
--- a scene, what its nodes keep, and by node number which first appearances have a DEF
+-- a scene with its routes, what its nodes keep, and by number which nodes have a DEF where they
+-- first appear
 pub record PlanView : Type 0 where
   pub scene : SceneView
+  pub routes : List Route
   pub state : List Fields
   pub named : List Bool
 
@@ -39,7 +41,7 @@ pub record Shown : Type 0 where
 -- what the node keeps of an inputOutput field without nodes
 abbrev pub kept_value : PlanView → ℕ → ℕ → Entry → Option Value
 kept_value p n number e =
-    if sameb accesses.the_type e.access InputOutput && not (is_node_type e.field_type)
+    if is_kept e.access e.field_type
     then option_and_then (λ (fields : Fields). field_value fields number) (slice_get p.state n)
     else None
 
@@ -58,7 +60,8 @@ shown_field name _ _ = []
 -- in the order of the table, the first of these rows being of that number
 abbrev pub shown_from : PlanView → ℕ → ℕ → List Entry → List Shown
 shown_from p n number [] = []
-shown_from p n number (e ∷ others) = shown_field e.name e.default (present_value p n number e) ++ shown_from p n (number + 1) others
+shown_from p n number (e ∷ others) =
+    shown_field e.name e.default (present_value p n number e) ++ shown_from p n (number + 1) others
 
 unfoldable pub shown_fields : PlanView → ℕ → NodeType → List Shown
 shown_fields p n t = shown_from p n 0 (rows t)
@@ -96,7 +99,9 @@ value_tree tree seen (MFNode ns) = node_list tree seen ns
 value_tree tree seen value = record { seen = seen; made = plain value }
 
 abbrev pub field_tree : Makes ℕ NodeText → Makes Shown BodyItem
-field_tree tree seen shown = let m = value_tree tree seen shown.value in record { seen = m.seen; made = item.Field 0 shown.name (given.Value m.made) }
+field_tree tree seen shown =
+    let m = value_tree tree seen shown.value in
+    record { seen = m.seen; made = item.Field 0 shown.name (given.Value m.made) }
 
 -- the type of a node that has not appeared
 abbrev pub new_type : PlanView → List Bool → ℕ → Option NodeType
@@ -109,14 +114,17 @@ abbrev pub def_name : PlanView → ℕ → Option (List ℕ)
 def_name p n = if get_or p.named n false then Some (label_of p.scene n) else None
 
 abbrev pub full_tree : PlanView → ℕ → NodeType → Step (List BodyItem) → Step NodeText
-full_tree p n t m = record { seen = m.seen; made = node.Full 0 (def_name p n) (node_type_name t) m.made }
+full_tree p n t m =
+    record { seen = m.seen; made = node.Full 0 (def_name p n) (node_type_name t) m.made }
 
 -- the type is that of a node that appears for the first time
 abbrev pub opened : PlanView → Makes ℕ NodeText → List Bool → ℕ → Option NodeType → Step NodeText
-opened p tree seen n (Some t) = full_tree p n t (each (field_tree tree) (slice_set seen n true) (shown_fields p n t))
+opened p tree seen n (Some t) =
+    full_tree p n t (each (field_tree tree) (slice_set seen n true) (shown_fields p n t))
 opened p tree seen n None = record { seen = seen; made = use_tree p n }
 
--- nodes nested deeper than the depth would be written by USE; no scene has such nodes at a depth of 64
+-- nodes nested deeper than the depth would be written by USE; no scene has such nodes at a depth of
+-- 64
 unfoldable pub node_tree : ℕ → PlanView → Makes ℕ NodeText
 node_tree zero p seen n = record { seen = seen; made = use_tree p n }
 node_tree (suc depth) p seen n = opened p (node_tree depth p) seen n (new_type p seen n)

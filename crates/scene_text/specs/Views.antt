@@ -4,7 +4,12 @@ use Rattle.scene_text.specs.declared.plan.ShownField.{ShownField}
 use Rattle.scene_text.specs.Tree.{PlanView, Shown}
 
 abbrev pub plan_of : Plan → PlanView
-plan_of p = record { scene = p.scene.now; state = p.state.now; named = p.named.now }
+plan_of p = record {
+  scene = p.scene.now;
+  routes = p.routes.now;
+  state = p.state.now;
+  named = p.named.now;
+}
 
 abbrev pub shown_of : ShownField → Shown
 shown_of f = record { name = f.name.now; value = f.value.now }

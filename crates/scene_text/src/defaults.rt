@@ -5,6 +5,27 @@ ghost use Rattle.scene_text.specs.Defaulted.{is_black, says_nothing, is_true, is
 
 use x3d_values::{Color, FieldDefault, Value, Vec3};
 
+/// The value is that default. It takes no memory.
+pub(crate) fn is_default(default: &FieldDefault, value: &Value) -> bool
+    ensures { result ≡ is_default default.now value.now }
+{
+    match default {
+        FieldDefault::Empty => says_nothing(value),
+        FieldDefault::True => is_true(value),
+        FieldDefault::Int32(number) => is_integer(number, value),
+        FieldDefault::Float(number) => is_number(number, value),
+        FieldDefault::Time(time) => is_time(time, value),
+        FieldDefault::Vec3f(vector) => is_vector(vector, value),
+        FieldDefault::Color(color) => is_color(color, value),
+        FieldDefault::PlainStyle => is_string("PLAIN", value),
+        FieldDefault::SerifFamily => is_word("SERIF", value),
+        FieldDefault::BeginJustify => is_word("BEGIN", value),
+        FieldDefault::StandardAvatar => are_standard_sizes(value),
+        FieldDefault::ExamineAny => is_examine_any(value),
+        FieldDefault::BlackSky => is_one_black(value),
+    }
+}
+
 fn is_black(color: &Color) -> bool
     ensures { result ≡ is_black color.now }
 {
@@ -153,26 +174,5 @@ fn is_one_black(value: &Value) -> bool
     match colors.as_slice() {
         [color] => is_black(color),
         _ => false,
-    }
-}
-
-/// The value is that default. It takes no memory.
-pub(crate) fn is_default(default: &FieldDefault, value: &Value) -> bool
-    ensures { result ≡ is_default default.now value.now }
-{
-    match default {
-        FieldDefault::Empty => says_nothing(value),
-        FieldDefault::True => is_true(value),
-        FieldDefault::Int32(number) => is_integer(number, value),
-        FieldDefault::Float(number) => is_number(number, value),
-        FieldDefault::Time(time) => is_time(time, value),
-        FieldDefault::Vec3f(vector) => is_vector(vector, value),
-        FieldDefault::Color(color) => is_color(color, value),
-        FieldDefault::PlainStyle => is_string("PLAIN", value),
-        FieldDefault::SerifFamily => is_word("SERIF", value),
-        FieldDefault::BeginJustify => is_word("BEGIN", value),
-        FieldDefault::StandardAvatar => are_standard_sizes(value),
-        FieldDefault::ExamineAny => is_examine_any(value),
-        FieldDefault::BlackSky => is_one_black(value),
     }
 }

@@ -4,22 +4,42 @@ ghost use Rattle.std.specs.Prelude.{◌≡◌, ◌++◌, ◌+◌, ◌^◌, ◌<�
 ghost use Rattle.std.specs.Option.{option_copied};
 ghost use Rattle.std.specs.List.{range_with_len};
 ghost use Rattle.x3d_values.specs.Tables.{rows};
-ghost use Rattle.scene_text.specs.Places.{nodes_of, nodes_below, nodes_within, places, ends_of, times, is_named, named};
+ghost use Rattle.scene_core.specs.Deep.{linked};
+ghost use Rattle.scene_text.specs.Places.{nodes_below, nodes_within, places, ends_of, times, is_named, named};
 
 use scene_core::{Route, Scene};
 use std::alloc::{AllocError, Global};
 use x3d_values::{NodeType, Value, fields_of};
 
+/// By node number: its first appearance needs a DEF.
+#[tactic(auto, using(crate::proofs::Ranges::ranges), unfolding(crate::specs::Places::named))]
+pub(crate) fn named(alloc: Global, scene: &Scene, routes: &[Route]) -> Result<Vec<bool>, AllocError>
+    ensures { IfOk result (λ found. found.items ≡ named scene.now routes.now) }
+{
+    let count = node_count(scene)?;
+    let ends = ends(alloc, routes)?;
+    let places = places(alloc, scene)?;
+    let at_ends = counts(alloc, count, ends.as_slice())?;
+    let at_places = counts(alloc, count, places.as_slice())?;
+    let mut found = Vec::new(alloc);
+    for node in 0..count {
+        found.push(is_named(
+            scene,
+            routes,
+            at_ends.as_slice(),
+            at_places.as_slice(),
+            node,
+        ))?;
+    }
+    Ok(found)
+}
+
 fn push_nodes_of(value: Option<&Value>, out: &mut Vec<u32>) -> Result<(), AllocError>
-    ensures { OnOk result (out.new.items ≡ out.old.items ++ nodes_of (option_copied value.entry)) }
+    ensures { OnOk result (out.new.items ≡ out.old.items ++ linked (option_copied value.entry)) }
 {
     match value {
-        Some(Value::SFNode(Some(node))) => {
-            out.push(*node)?;
-            Ok(())
-        }
-        Some(Value::MFNode(nodes)) => out.extend_from_slice(nodes.as_slice()),
-        _ => Ok(()),
+        Some(value) => out.extend_from_slice(value.nodes()),
+        None => Ok(()),
     }
 }
 
@@ -37,7 +57,8 @@ fn push_nodes_below(
     node_type: NodeType,
     out: &mut Vec<u32>,
 ) -> Result<(), AllocError>
-    ensures { OnOk result (out.new.items ≡ out.old.items ++ nodes_below scene.now node (Some node_type)) }
+    ensures { OnOk result
+        (out.new.items ≡ out.old.items ++ nodes_below scene.now node (Some node_type)) }
 {
     for number in 0..field_count(node_type) {
         push_nodes_of(scene.value(node, number), out)?;
@@ -63,7 +84,7 @@ fn push_nodes_within(scene: &Scene, node: u32, out: &mut Vec<u32>) -> Result<(),
 }
 
 /// Every appearance of a node in the text.
-fn places(scene: &Scene, alloc: Global) -> Result<Vec<u32>, AllocError>
+fn places(alloc: Global, scene: &Scene) -> Result<Vec<u32>, AllocError>
     ensures { IfOk result (λ found. found.items ≡ places scene.now) }
 {
     let mut found = Vec::from_slice(alloc, scene.roots())?;
@@ -75,7 +96,7 @@ fn places(scene: &Scene, alloc: Global) -> Result<Vec<u32>, AllocError>
 }
 
 /// Every end of a route.
-fn ends(routes: &[Route], alloc: Global) -> Result<Vec<u32>, AllocError>
+fn ends(alloc: Global, routes: &[Route]) -> Result<Vec<u32>, AllocError>
     ensures { IfOk result (λ found. found.items ≡ flat_map ends_of routes.now) }
 {
     let mut found = Vec::new(alloc);
@@ -91,7 +112,8 @@ fn count_one(counts: &mut Vec<usize>, node: u32)
     requires { get_or counts.old.items node 0 + 1 < 2 ^ 64 }
     ensures all { length counts.new.items ≡ length counts.old.items }
     ensures most { (n : ℕ) → get_or counts.new.items n 0 ≤ get_or counts.old.items n 0 + 1 }
-    ensures each { (n : ℕ) → n < length counts.old.items → get_or counts.new.items n 0 ≡ get_or counts.old.items n 0 + cond (node == n) 1 0 }
+    ensures each { (n : ℕ) → n < length counts.old.items → get_or counts.new.items n 0
+        ≡ get_or counts.old.items n 0 + cond (node == n) 1 0 }
 {
     let place = node as usize;
     if place < counts.len() {
@@ -102,7 +124,8 @@ fn count_one(counts: &mut Vec<usize>, node: u32)
 /// How often each of the first `count` numbers stands in the list.
 fn counts(alloc: Global, count: u32, nodes: &[u32]) -> Result<Vec<usize>, AllocError>
     ensures all { IfOk result (λ counts. length counts.items ≡ count) }
-    ensures each { IfOk result (λ counts. (n : ℕ) → n < count → get_or counts.items n 0 ≡ times n nodes.now) }
+    ensures each { IfOk result (λ counts. (n : ℕ) → n < count → get_or counts.items n 0
+        ≡ times n nodes.now) }
 {
     let mut counts = vec![in alloc; 0; count as usize]?;
     for node in nodes {
@@ -113,31 +136,20 @@ fn counts(alloc: Global, count: u32, nodes: &[u32]) -> Result<Vec<usize>, AllocE
 
 /// The first appearance of the node needs a DEF, by how often it is an end of a route and how often
 /// it appears.
-fn is_named(scene: &Scene, at_ends: &[usize], at_places: &[usize], node: u32) -> bool
+fn is_named(
+    scene: &Scene,
+    routes: &[Route],
+    at_ends: &[usize],
+    at_places: &[usize],
+    node: u32,
+) -> bool
     requires ends_within { node < length at_ends.now }
     requires places_within { node < length at_places.now }
-    requires ends { get_or at_ends.now node 0 ≡ times node (flat_map ends_of scene.now.routes) }
+    requires ends { get_or at_ends.now node 0 ≡ times node (flat_map ends_of routes.now) }
     requires places { get_or at_places.now node 0 ≡ times node (places scene.now) }
-    ensures { result ≡ is_named scene.now node }
+    ensures { result ≡ is_named scene.now routes.now node }
 {
     let linked = at_ends[node as usize];
     let shown = at_places[node as usize];
     scene.def_name(node).is_some() || (1 <= linked || 2 <= shown)
-}
-
-/// By node number: its first appearance needs a DEF.
-#[tactic(auto, using(crate::proofs::Ranges::ranges), unfolding(crate::specs::Places::named))]
-pub(crate) fn named(scene: &Scene, alloc: Global) -> Result<Vec<bool>, AllocError>
-    ensures { IfOk result (λ found. found.items ≡ named scene.now) }
-{
-    let count = node_count(scene)?;
-    let ends = ends(scene.routes(), alloc)?;
-    let places = places(scene, alloc)?;
-    let at_ends = counts(alloc, count, ends.as_slice())?;
-    let at_places = counts(alloc, count, places.as_slice())?;
-    let mut found = Vec::new(alloc);
-    for node in 0..count {
-        found.push(is_named(scene, at_ends.as_slice(), at_places.as_slice(), node))?;
-    }
-    Ok(found)
 }

@@ -4,19 +4,20 @@
 ghost use Rattle.std.specs.Prelude.{◌≡◌, ◌+◌, ◌++◌, ◌<◌, IfOk, OnOk, length, map};
 ghost use Rattle.std.specs.Option.{option_copied};
 ghost use Rattle.x3d_values.specs.Tables.{entry};
-ghost use Rattle.scene_core.specs.Scene.{is_node_type, label_of};
+ghost use Rattle.scene_core.specs.Scene.{label_of};
 ghost use Rattle.scene_text.specs.Tree.{kept_value, present_value, shown_field, shown_from, shown_fields, def_name};
 ghost use Rattle.scene_text.specs.Views.{plan_of, shown_of};
 
 use crate::defaults::is_default;
-use scene_core::Scene;
+use scene_core::{Route, Scene};
 use std::alloc::{AllocError, Global};
-use x3d_values::{Access, Duplicate, Field, FieldType, Fields, NodeType, Text, Value, fields_of};
+use x3d_values::{Duplicate, Field, Fields, NodeType, Text, Value, fields_of};
 
-/// A scene with what its nodes keep.
+/// A scene with its routes and what its nodes keep.
 #[derive(Clone, Copy)]
 pub(crate) struct Plan<'a> {
     pub scene: &'a Scene,
+    pub routes: &'a [Route],
     pub state: &'a [Fields],
     /// By node number: a DEF stands where the node first appears.
     pub named: &'a [bool],
@@ -31,7 +32,7 @@ pub(crate) struct ShownField<'a> {
 
 /// The name of a node that no other node has.
 #[tactic(auto, unfolding(scene_core::specs::Scene::label_of))]
-pub(crate) fn label(scene: &Scene, alloc: Global, node: u32) -> Result<Text, AllocError>
+pub(crate) fn label(alloc: Global, scene: &Scene, node: u32) -> Result<Text, AllocError>
     ensures { IfOk result (λ name. name ≡ label_of scene.now node) }
 {
     match scene.def_name(node) {
@@ -42,29 +43,39 @@ pub(crate) fn label(scene: &Scene, alloc: Global, node: u32) -> Result<Text, All
 
 /// The name that DEF gives the node, where it gives one.
 pub(crate) fn def_name(
-    plan: &Plan<'_>,
     alloc: Global,
+    plan: &Plan<'_>,
     node: u32,
 ) -> Result<Option<Text>, AllocError>
     ensures { IfOk result (λ name. name ≡ def_name (plan_of plan.now) node) }
 {
     match plan.named.get(node as usize) {
-        Some(true) => Ok(Some(label(plan.scene, alloc, node)?)),
+        Some(true) => Ok(Some(label(alloc, plan.scene, node)?)),
         _ => Ok(None),
     }
 }
 
-fn is_node_type(field_type: FieldType) -> bool
-    ensures { result ≡ is_node_type field_type }
+/// The fields of a node of that type that stand in the text.
+#[tactic(auto, unfolding(crate::specs::Tree::shown_fields))]
+pub(crate) fn shown_fields<'a>(
+    alloc: Global,
+    plan: &Plan<'a>,
+    node: u32,
+    node_type: NodeType,
+) -> Result<Vec<ShownField<'a>>, AllocError>
+    ensures { IfOk result
+        (λ fields. map shown_of fields.items ≡ shown_fields (plan_of plan.now) node node_type) }
 {
-    matches!(field_type, FieldType::SFNode | FieldType::MFNode)
+    let mut shown = Vec::new(alloc);
+    push_shown_from(plan, node, 0, fields_of(node_type), &mut shown)?;
+    Ok(shown)
 }
 
 /// What the node keeps of an inputOutput field without nodes.
 fn kept_value<'a>(plan: &Plan<'a>, node: u32, number: u16, field: &Field) -> Option<&'a Value>
     ensures { option_copied result ≡ kept_value (plan_of plan.now) node number (entry field.now) }
 {
-    if field.access == Access::InputOutput && !is_node_type(field.field_type) {
+    if field.access.is_kept(field.field_type) {
         plan.state.get(node as usize)?.value(number)
     } else {
         None
@@ -73,7 +84,8 @@ fn kept_value<'a>(plan: &Plan<'a>, node: u32, number: u16, field: &Field) -> Opt
 
 /// The present value of a field: what the node keeps, or else what the scene gives.
 fn present_value<'a>(plan: &Plan<'a>, node: u32, number: u16, field: &Field) -> Option<&'a Value>
-    ensures { option_copied result ≡ present_value (plan_of plan.now) node number (entry field.now) }
+    ensures { option_copied result
+        ≡ present_value (plan_of plan.now) node number (entry field.now) }
 {
     match kept_value(plan, node, number, field) {
         Some(value) => Some(value),
@@ -87,7 +99,8 @@ fn push_shown<'a>(
     present: Option<&'a Value>,
     out: &mut Vec<ShownField<'a>>,
 ) -> Result<(), AllocError>
-    ensures { OnOk result (map shown_of out.new.items ≡ map shown_of out.old.items ++ shown_field field.now.name.now field.now.default (option_copied present.entry)) }
+    ensures { OnOk result (map shown_of out.new.items ≡ map shown_of out.old.items
+        ++ shown_field field.now.name.now field.now.default (option_copied present.entry)) }
 {
     let Some(default) = field.default else {
         return Ok(());
@@ -114,7 +127,8 @@ fn push_shown_from<'a>(
     out: &mut Vec<ShownField<'a>>,
 ) -> Result<(), AllocError>
     requires { number + length fields.now < 65536 }
-    ensures { OnOk result (map shown_of out.new.items ≡ map shown_of out.old.items ++ shown_from (plan_of plan.now) node number (map entry fields.now)) }
+    ensures { OnOk result (map shown_of out.new.items ≡ map shown_of out.old.items
+        ++ shown_from (plan_of plan.now) node number (map entry fields.now)) }
 {
     match fields {
         [] => Ok(()),
@@ -123,19 +137,4 @@ fn push_shown_from<'a>(
             push_shown_from(plan, node, number + 1, others, out)
         }
     }
-}
-
-/// The fields of a node of that type that stand in the text.
-#[tactic(auto, unfolding(crate::specs::Tree::shown_fields))]
-pub(crate) fn shown_fields<'a>(
-    plan: &Plan<'a>,
-    alloc: Global,
-    node: u32,
-    node_type: NodeType,
-) -> Result<Vec<ShownField<'a>>, AllocError>
-    ensures { IfOk result (λ fields. map shown_of fields.items ≡ shown_fields (plan_of plan.now) node node_type) }
-{
-    let mut shown = Vec::new(alloc);
-    push_shown_from(plan, node, 0, fields_of(node_type), &mut shown)?;
-    Ok(shown)
 }

@@ -67,6 +67,32 @@ impl Numerals for Color {
     }
 }
 
+/// What a value without nodes is written as; no node is NULL, and no nodes an empty list.
+pub(crate) fn plain<N: Drop>(alloc: Global, value: &Value) -> Result<RawValue<N>, AllocError>
+    ensures { IfOk result (λ made. made ≡ plain value.now) }
+{
+    match value {
+        Value::SFBool(truth) => Ok(RawValue::Truth(*truth)),
+        Value::SFInt32(number) => bare(alloc, number),
+        Value::SFFloat(number) => bare(alloc, number),
+        Value::SFTime(time) => bare(alloc, time),
+        Value::SFString(text) => Ok(RawValue::String(text.duplicate(alloc)?)),
+        Value::SFVec2f(vector) => bare(alloc, vector),
+        Value::SFVec3f(vector) => bare(alloc, vector),
+        Value::SFColor(color) => bare(alloc, color),
+        Value::SFNode(_) => Ok(RawValue::Null),
+        Value::MFBool(truths) => truth_list(alloc, truths.as_slice()),
+        Value::MFInt32(numbers) => number_list(alloc, numbers.as_slice()),
+        Value::MFFloat(numbers) => number_list(alloc, numbers.as_slice()),
+        Value::MFTime(times) => number_list(alloc, times.as_slice()),
+        Value::MFString(texts) => string_list(alloc, texts),
+        Value::MFVec2f(vectors) => number_list(alloc, vectors.as_slice()),
+        Value::MFVec3f(vectors) => number_list(alloc, vectors.as_slice()),
+        Value::MFColor(colors) => number_list(alloc, colors.as_slice()),
+        Value::MFNode(_) => Ok(RawValue::EmptyList),
+    }
+}
+
 /// A value of its own, without brackets.
 fn bare<T: Numerals, N: Drop>(alloc: Global, value: &T) -> Result<RawValue<N>, AllocError>
     ensures { IfOk result (λ made. made ≡ raw.Numbers (T.run value.now)) }
@@ -117,31 +143,5 @@ fn string_list<N: Drop>(alloc: Global, texts: &Items<Text>) -> Result<RawValue<N
         Ok(RawValue::EmptyList)
     } else {
         Ok(RawValue::StringList(texts.duplicate(alloc)?))
-    }
-}
-
-/// What a value without nodes is written as; no node is NULL, and no nodes an empty list.
-pub(crate) fn plain<N: Drop>(alloc: Global, value: &Value) -> Result<RawValue<N>, AllocError>
-    ensures { IfOk result (λ made. made ≡ plain value.now) }
-{
-    match value {
-        Value::SFBool(truth) => Ok(RawValue::Truth(*truth)),
-        Value::SFInt32(number) => bare(alloc, number),
-        Value::SFFloat(number) => bare(alloc, number),
-        Value::SFTime(time) => bare(alloc, time),
-        Value::SFString(text) => Ok(RawValue::String(text.duplicate(alloc)?)),
-        Value::SFVec2f(vector) => bare(alloc, vector),
-        Value::SFVec3f(vector) => bare(alloc, vector),
-        Value::SFColor(color) => bare(alloc, color),
-        Value::SFNode(_) => Ok(RawValue::Null),
-        Value::MFBool(truths) => truth_list(alloc, truths.as_slice()),
-        Value::MFInt32(numbers) => number_list(alloc, numbers.as_slice()),
-        Value::MFFloat(numbers) => number_list(alloc, numbers.as_slice()),
-        Value::MFTime(times) => number_list(alloc, times.as_slice()),
-        Value::MFString(texts) => string_list(alloc, texts),
-        Value::MFVec2f(vectors) => number_list(alloc, vectors.as_slice()),
-        Value::MFVec3f(vectors) => number_list(alloc, vectors.as_slice()),
-        Value::MFColor(colors) => number_list(alloc, colors.as_slice()),
-        Value::MFNode(_) => Ok(RawValue::EmptyList),
     }
 }

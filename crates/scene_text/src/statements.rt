@@ -1,7 +1,8 @@
 //! The statements of a scene: its roots, its helpers and its routes.
 
 ghost use Rattle.std.specs.Prelude.{◌≡◌, ◌++◌, IfOk, OnOk};
-ghost use Rattle.scene_text.specs.Statements.{field_name, place_of, route_of, root_tree, helper_root, helpers_of, roots_of, routes_of, statements_of, switch_of, most_nested};
+ghost use Rattle.scene_text.specs.Statements.{field_name, place_of, route_of, root_tree, helper_root, helpers_of, roots_of, routes_of, statements_of, switch_of};
+ghost use Rattle.x3d_values.specs.Ranges.{max_depth};
 ghost use Rattle.scene_text.specs.Tree.{each, node_tree};
 ghost use Rattle.scene_text.specs.Views.{plan_of};
 
@@ -10,10 +11,19 @@ use crate::tree::{node_tree, node_trees};
 use classic_tree::{BodyItem, Given, NodeText, Place, RawValue, RouteText, Statement};
 use scene_core::{End, Route, Scene};
 use std::alloc::{AllocError, Global};
-use x3d_values::{Items, Text, fields_of};
+use x3d_values::{Items, MAX_DEPTH, Text, fields_of};
 
-/// No scene has nodes nested deeper.
-const MOST_NESTED: u32 = 64;
+/// All statements of the scene.
+#[tactic(auto, unfolding(crate::specs::Statements::statements_of))]
+pub(crate) fn statements_of(alloc: Global, plan: &Plan<'_>) -> Result<Vec<Statement>, AllocError>
+    ensures { IfOk result (λ made. made.items ≡ statements_of (plan_of plan.now)) }
+{
+    let mut seen = vec![in alloc; false; plan.scene.node_count()]?;
+    let mut statements = roots_of(alloc, plan, &mut seen)?;
+    push_helpers(alloc, plan, &mut seen, &mut statements)?;
+    push_routes(alloc, plan.scene, plan.routes, &mut statements)?;
+    Ok(statements)
+}
 
 /// The field's own name.
 #[tactic(auto, using(crate::proofs::Ranges::names))]
@@ -30,45 +40,52 @@ fn field_name(scene: &Scene, end: &End) -> &'static str
     }
 }
 
-fn place_of(scene: &Scene, alloc: Global, end: &End) -> Result<Place, AllocError>
+fn place_of(alloc: Global, scene: &Scene, end: &End) -> Result<Place, AllocError>
     ensures { IfOk result (λ place. place ≡ place_of scene.now end.now) }
 {
     Ok(Place {
-        node: label(scene, alloc, end.node)?,
+        node: label(alloc, scene, end.node)?,
         field: Text::from_str(alloc, field_name(scene, end))?,
     })
 }
 
-fn route_of(scene: &Scene, alloc: Global, route: &Route) -> Result<RouteText, AllocError>
+fn route_of(alloc: Global, scene: &Scene, route: &Route) -> Result<RouteText, AllocError>
     ensures { IfOk result (λ text. text ≡ route_of scene.now route.now) }
 {
     Ok(RouteText {
         line: 0,
-        source: place_of(scene, alloc, &route.source)?,
-        target: place_of(scene, alloc, &route.target)?,
+        source: place_of(alloc, scene, &route.source)?,
+        target: place_of(alloc, scene, &route.target)?,
     })
 }
 
-fn push_routes(scene: &Scene, alloc: Global, out: &mut Vec<Statement>) -> Result<(), AllocError>
-    ensures { OnOk result (out.new.items ≡ out.old.items ++ routes_of scene.now) }
+fn push_routes(
+    alloc: Global,
+    scene: &Scene,
+    routes: &[Route],
+    out: &mut Vec<Statement>,
+) -> Result<(), AllocError>
+    ensures { OnOk result (out.new.items ≡ out.old.items ++ routes_of scene.now routes.now) }
 {
-    for route in scene.routes() {
-        out.push(Statement::Route(route_of(scene, alloc, route)?))?;
+    for route in routes {
+        out.push(Statement::Route(route_of(alloc, scene, route)?))?;
     }
     Ok(())
 }
 
 /// The roots, where no node has appeared that is not marked as seen.
 fn roots_of(
-    plan: &Plan<'_>,
     alloc: Global,
+    plan: &Plan<'_>,
     seen: &mut Vec<bool>,
 ) -> Result<Vec<Statement>, AllocError>
-    ensures { IfOk result (λ made. record { seen = seen.new.items; made = made.items } ≡ each (root_tree (node_tree most_nested (plan_of plan.now))) seen.old.items plan.now.scene.now.roots) }
+    ensures { IfOk result (λ made. record { seen = seen.new.items; made = made.items }
+        ≡ each (root_tree (node_tree max_depth (plan_of plan.now))) seen.old.items
+        plan.now.scene.now.roots) }
 {
     let mut roots = Vec::new(alloc);
     for root in plan.scene.roots() {
-        let tree = node_tree(plan, alloc, seen, MOST_NESTED, *root)?;
+        let tree = node_tree(alloc, plan, seen, MAX_DEPTH, *root)?;
         roots.push(Statement::Node(tree))?;
     }
     Ok(roots)
@@ -89,29 +106,19 @@ fn switch_of(alloc: Global, children: Vec<NodeText>) -> Result<NodeText, AllocEr
 /// The helpers, where there are some, as one root more.
 #[tactic(auto, using(crate::proofs::Trees::helper_steps))]
 fn push_helpers(
-    plan: &Plan<'_>,
     alloc: Global,
+    plan: &Plan<'_>,
     seen: &mut Vec<bool>,
     out: &mut Vec<Statement>,
 ) -> Result<(), AllocError>
-    ensures { OnOk result (out.new.items ≡ out.old.items ++ helper_root (helpers_of (plan_of plan.now) seen.old.items).made) }
+    ensures { OnOk result
+        (out.new.items ≡ out.old.items
+        ++ helper_root (helpers_of (plan_of plan.now) seen.old.items).made) }
 {
-    let trees = node_trees(plan, alloc, seen, MOST_NESTED, plan.scene.helpers())?;
+    let trees = node_trees(alloc, plan, seen, MAX_DEPTH, plan.scene.helpers())?;
     if trees.is_empty() {
         return Ok(());
     }
     out.push(Statement::Node(switch_of(alloc, trees)?))?;
     Ok(())
-}
-
-/// All statements of the scene.
-#[tactic(auto, unfolding(crate::specs::Statements::statements_of))]
-pub(crate) fn statements_of(plan: &Plan<'_>, alloc: Global) -> Result<Vec<Statement>, AllocError>
-    ensures { IfOk result (λ made. made.items ≡ statements_of (plan_of plan.now)) }
-{
-    let mut seen = vec![in alloc; false; plan.scene.node_count()]?;
-    let mut statements = roots_of(plan, alloc, &mut seen)?;
-    push_helpers(plan, alloc, &mut seen, &mut statements)?;
-    push_routes(plan.scene, alloc, &mut statements)?;
-    Ok(statements)
 }

@@ -13,6 +13,49 @@ use classic_tree::{BodyItem, Given, NodeText, RawValue};
 use std::alloc::{AllocError, Global};
 use x3d_values::{Items, NodeType, Text, Value};
 
+/// The tree of a node where nodes may be nested to that depth.
+#[cycle(tree)]
+#[tactic(auto, using(crate::proofs::Trees::node_steps))]
+pub(crate) fn node_tree(
+    alloc: Global,
+    plan: &Plan<'_>,
+    seen: &mut Vec<bool>,
+    depth: u32,
+    node: u32,
+) -> Result<NodeText, AllocError>
+    ensures { IfOk result (λ made. record { seen = seen.new.items; made = made }
+        ≡ node_tree depth (plan_of plan.now) seen.old.items node) }
+{
+    if depth == 0 {
+        return Ok(use_tree(alloc, plan, node)?);
+    }
+    let Some(node_type) = new_type(plan, seen.as_slice(), node) else {
+        return Ok(use_tree(alloc, plan, node)?);
+    };
+    seen[node as usize] = true;
+    let shown = shown_fields(alloc, plan, node, node_type)?;
+    let items = field_trees(alloc, plan, seen, depth - 1, shown.as_slice())?;
+    Ok(full_tree(alloc, plan, node, node_type, items)?)
+}
+
+#[cycle(tree)]
+pub(crate) fn node_trees(
+    alloc: Global,
+    plan: &Plan<'_>,
+    seen: &mut Vec<bool>,
+    depth: u32,
+    nodes: &[u32],
+) -> Result<Vec<NodeText>, AllocError>
+    ensures { IfOk result (λ made. record { seen = seen.new.items; made = made.items }
+        ≡ each (node_tree depth (plan_of plan.now)) seen.old.items nodes.now) }
+{
+    let mut trees = Vec::new(alloc);
+    for node in nodes {
+        trees.push(node_tree(alloc, plan, seen, depth, *node)?)?;
+    }
+    Ok(trees)
+}
+
 /// The type of a node that has not appeared.
 fn new_type(plan: &Plan<'_>, seen: &[bool], node: u32) -> Option<NodeType>
     ensures is { result ≡ new_type (plan_of plan.now) seen.now node }
@@ -26,97 +69,79 @@ fn new_type(plan: &Plan<'_>, seen: &[bool], node: u32) -> Option<NodeType>
     }
 }
 
-fn use_tree(plan: &Plan<'_>, alloc: Global, node: u32) -> Result<NodeText, AllocError>
+fn use_tree(alloc: Global, plan: &Plan<'_>, node: u32) -> Result<NodeText, AllocError>
     ensures { IfOk result (λ made. made ≡ use_tree (plan_of plan.now) node) }
 {
-    Ok(NodeText::Use(0, label(plan.scene, alloc, node)?))
+    Ok(NodeText::Use(0, label(alloc, plan.scene, node)?))
 }
 
 fn full_tree(
-    plan: &Plan<'_>,
     alloc: Global,
+    plan: &Plan<'_>,
     node: u32,
     node_type: NodeType,
     items: Vec<BodyItem>,
 ) -> Result<NodeText, AllocError>
-    ensures { IfOk result (λ made. made ≡ text.Full 0 (def_name (plan_of plan.now) node) (node_type_name node_type) items.items) }
+    ensures { IfOk result
+        (λ made. made
+        ≡ text.Full 0 (def_name (plan_of plan.now) node) (node_type_name node_type) items.items) }
 {
-    let name = def_name(plan, alloc, node)?;
+    let name = def_name(alloc, plan, node)?;
     let word = Text::from_str(alloc, node_type.name())?;
     Ok(NodeText::Full(0, name, word, Items::from_vec(items)))
 }
 
-/// The tree of a node where nodes may be nested to that depth.
-#[cycle(tree)]
-#[tactic(auto, using(crate::proofs::Trees::node_steps))]
-pub(crate) fn node_tree(
-    plan: &Plan<'_>,
-    alloc: Global,
-    seen: &mut Vec<bool>,
-    depth: u32,
-    node: u32,
-) -> Result<NodeText, AllocError>
-    ensures { IfOk result (λ made. record { seen = seen.new.items; made = made } ≡ node_tree depth (plan_of plan.now) seen.old.items node) }
-{
-    if depth == 0 {
-        return Ok(use_tree(plan, alloc, node)?);
-    }
-    let Some(node_type) = new_type(plan, seen.as_slice(), node) else {
-        return Ok(use_tree(plan, alloc, node)?);
-    };
-    seen[node as usize] = true;
-    let shown = shown_fields(plan, alloc, node, node_type)?;
-    let items = field_trees(plan, alloc, seen, depth - 1, shown.as_slice())?;
-    Ok(full_tree(plan, alloc, node, node_type, items)?)
-}
-
 #[cycle(tree)]
 fn field_trees(
-    plan: &Plan<'_>,
     alloc: Global,
+    plan: &Plan<'_>,
     seen: &mut Vec<bool>,
     depth: u32,
     shown: &[ShownField<'_>],
 ) -> Result<Vec<BodyItem>, AllocError>
-    ensures { IfOk result (λ made. record { seen = seen.new.items; made = made.items } ≡ each (field_tree (node_tree depth (plan_of plan.now))) seen.old.items (map shown_of shown.now)) }
+    ensures { IfOk result (λ made. record { seen = seen.new.items; made = made.items }
+        ≡ each (field_tree (node_tree depth (plan_of plan.now))) seen.old.items
+        (map shown_of shown.now)) }
 {
     let mut items = Vec::new(alloc);
     for field in shown {
-        items.push(field_tree(plan, alloc, seen, depth, field)?)?;
+        items.push(field_tree(alloc, plan, seen, depth, field)?)?;
     }
     Ok(items)
 }
 
 #[cycle(tree)]
 fn field_tree(
-    plan: &Plan<'_>,
     alloc: Global,
+    plan: &Plan<'_>,
     seen: &mut Vec<bool>,
     depth: u32,
     shown: &ShownField<'_>,
 ) -> Result<BodyItem, AllocError>
-    ensures { IfOk result (λ made. record { seen = seen.new.items; made = made } ≡ field_tree (node_tree depth (plan_of plan.now)) seen.old.items (shown_of shown.now)) }
+    ensures { IfOk result (λ made. record { seen = seen.new.items; made = made }
+        ≡ field_tree (node_tree depth (plan_of plan.now)) seen.old.items (shown_of shown.now)) }
 {
-    let value = value_tree(plan, alloc, seen, depth, shown.value)?;
+    let value = value_tree(alloc, plan, seen, depth, shown.value)?;
     let name = Text::from_str(alloc, shown.name)?;
     Ok(BodyItem::Field(0, name, Given::Value(value)))
 }
 
 #[cycle(tree)]
 fn value_tree(
-    plan: &Plan<'_>,
     alloc: Global,
+    plan: &Plan<'_>,
     seen: &mut Vec<bool>,
     depth: u32,
     value: &Value,
 ) -> Result<RawValue<NodeText>, AllocError>
-    ensures { IfOk result (λ made. record { seen = seen.new.items; made = made } ≡ value_tree (node_tree depth (plan_of plan.now)) seen.old.items value.now) }
+    ensures { IfOk result (λ made. record { seen = seen.new.items; made = made }
+        ≡ value_tree (node_tree depth (plan_of plan.now)) seen.old.items value.now) }
 {
     match value {
         Value::SFNode(Some(node)) => {
-            Ok(RawValue::Node(node_tree(plan, alloc, seen, depth, *node)?))
+            Ok(RawValue::Node(node_tree(alloc, plan, seen, depth, *node)?))
         }
-        Value::MFNode(nodes) => node_list(plan, alloc, seen, depth, nodes.as_slice()),
+        Value::MFNode(nodes) => node_list(alloc, plan, seen, depth, nodes.as_slice()),
         _ => Ok(plain(alloc, value)?),
     }
 }
@@ -124,34 +149,18 @@ fn value_tree(
 #[cycle(tree)]
 #[tactic(auto, using(crate::proofs::Trees::list_steps))]
 fn node_list(
-    plan: &Plan<'_>,
     alloc: Global,
+    plan: &Plan<'_>,
     seen: &mut Vec<bool>,
     depth: u32,
     nodes: &[u32],
 ) -> Result<RawValue<NodeText>, AllocError>
-    ensures { IfOk result (λ made. record { seen = seen.new.items; made = made } ≡ node_list (node_tree depth (plan_of plan.now)) seen.old.items nodes.now) }
+    ensures { IfOk result (λ made. record { seen = seen.new.items; made = made }
+        ≡ node_list (node_tree depth (plan_of plan.now)) seen.old.items nodes.now) }
 {
     if nodes.is_empty() {
         return Ok(RawValue::EmptyList);
     }
-    let trees = node_trees(plan, alloc, seen, depth, nodes)?;
+    let trees = node_trees(alloc, plan, seen, depth, nodes)?;
     Ok(RawValue::NodeList(Items::from_vec(trees)))
-}
-
-#[cycle(tree)]
-pub(crate) fn node_trees(
-    plan: &Plan<'_>,
-    alloc: Global,
-    seen: &mut Vec<bool>,
-    depth: u32,
-    nodes: &[u32],
-) -> Result<Vec<NodeText>, AllocError>
-    ensures { IfOk result (λ made. record { seen = seen.new.items; made = made.items } ≡ each (node_tree depth (plan_of plan.now)) seen.old.items nodes.now) }
-{
-    let mut trees = Vec::new(alloc);
-    for node in nodes {
-        trees.push(node_tree(plan, alloc, seen, depth, *node)?)?;
-    }
-    Ok(trees)
 }

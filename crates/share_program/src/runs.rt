@@ -49,7 +49,7 @@ fn stage_of<B>(
 
 /// Appends the trace and then the scene of a stage.
 fn push_texts<B>(stage: &Stage<B>, out: &mut Vec<u8>) -> Result<(), TextFault>
-    ensures ok { IfRunning stage.now.held (λ w. OnOk result (out.new.items ≡ out.old.items ++ texts stage.now.scene w)) }
+    ensures ok { IfRunning stage.now.held (λ w. OnOk result (out.new.items ≡ out.old.items ++ texts stage.now.scene stage.now.routes w)) }
     ensures memory { IfRunning stage.now.held (λ w. IfErr result (λ fault. fault ≡ TextFault.Memory)) }
 {
     stage.trace_text(out)?;
@@ -60,7 +60,7 @@ fn push_texts<B>(stage: &Stage<B>, out: &mut Vec<u8>) -> Result<(), TextFault>
 /// The trace and then the scene of a stage that isn't spoiled.
 fn texts_of<B>(alloc: Global, stage: &Stage<B>) -> Result<Vec<u8>, RunFault>
     requires { IfSpoiled stage.now.held ⊥ }
-    ensures ok { IfRunning stage.now.held (λ w. IfOk result (λ text. text.items ≡ texts stage.now.scene w)) }
+    ensures ok { IfRunning stage.now.held (λ w. IfOk result (λ text. text.items ≡ texts stage.now.scene stage.now.routes w)) }
     ensures err { IfErr result (λ f. f ≡ Memory) }
 {
     let mut text = Vec::new(alloc);

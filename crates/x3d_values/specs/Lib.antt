@@ -1,3 +1,5 @@
+pub mod Access
+pub mod Aliases
 pub mod Defaults
 pub mod Kept
 pub mod Names

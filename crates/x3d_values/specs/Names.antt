@@ -57,10 +57,18 @@ node_type_name Script = codes "Script"
 -- the first of these types that has the name
 abbrev pub first_node_type : List ℕ → List NodeType → Option NodeType
 first_node_type name [] = None
-first_node_type name (t ∷ types) = if pointwise nat_eq name (node_type_name t) then Some t else first_node_type name types
+first_node_type name (t ∷ types) =
+    if pointwise nat_eq name (node_type_name t) then Some t else first_node_type name types
 
 abbrev pub all_node_types : List NodeType
-all_node_types = Group ∷ Transform ∷ Switch ∷ WorldInfo ∷ Shape ∷ Appearance ∷ Material ∷ ImageTexture ∷ Box ∷ Sphere ∷ Cone ∷ Cylinder ∷ IndexedFaceSet ∷ Text ∷ Coordinate ∷ Color ∷ Normal ∷ TextureCoordinate ∷ FontStyle ∷ Viewpoint ∷ NavigationInfo ∷ Background ∷ DirectionalLight ∷ PointLight ∷ MetadataString ∷ MetadataInteger ∷ MetadataFloat ∷ MetadataSet ∷ TimeSensor ∷ TouchSensor ∷ ScalarInterpolator ∷ PositionInterpolator ∷ PositionInterpolator2D ∷ CoordinateInterpolator ∷ BooleanSequencer ∷ IntegerSequencer ∷ BooleanFilter ∷ BooleanToggle ∷ BooleanTrigger ∷ IntegerTrigger ∷ TimeTrigger ∷ Script ∷ []
+all_node_types =
+    Group ∷ Transform ∷ Switch ∷ WorldInfo ∷ Shape ∷ Appearance ∷ Material ∷ ImageTexture ∷ Box
+    ∷ Sphere ∷ Cone ∷ Cylinder ∷ IndexedFaceSet ∷ Text ∷ Coordinate ∷ Color ∷ Normal
+    ∷ TextureCoordinate ∷ FontStyle ∷ Viewpoint ∷ NavigationInfo ∷ Background ∷ DirectionalLight
+    ∷ PointLight ∷ MetadataString ∷ MetadataInteger ∷ MetadataFloat ∷ MetadataSet ∷ TimeSensor
+    ∷ TouchSensor ∷ ScalarInterpolator ∷ PositionInterpolator ∷ PositionInterpolator2D
+    ∷ CoordinateInterpolator ∷ BooleanSequencer ∷ IntegerSequencer ∷ BooleanFilter
+    ∷ BooleanToggle ∷ BooleanTrigger ∷ IntegerTrigger ∷ TimeTrigger ∷ Script ∷ []
 
 -- the type that a scene names so
 abbrev pub node_type_named : List ℕ → Option NodeType
@@ -92,10 +100,14 @@ field_type_name SFRotation = codes "SFRotation"
 -- the first of these types that has the name
 abbrev pub first_field_type : List ℕ → List FieldType → Option FieldType
 first_field_type name [] = None
-first_field_type name (t ∷ types) = if pointwise nat_eq name (field_type_name t) then Some t else first_field_type name types
+first_field_type name (t ∷ types) =
+    if pointwise nat_eq name (field_type_name t) then Some t else first_field_type name types
 
 abbrev pub all_field_types : List FieldType
-all_field_types = SFBool ∷ SFInt32 ∷ SFFloat ∷ SFTime ∷ SFString ∷ SFVec2f ∷ SFVec3f ∷ SFColor ∷ SFNode ∷ MFBool ∷ MFInt32 ∷ MFFloat ∷ MFTime ∷ MFString ∷ MFVec2f ∷ MFVec3f ∷ MFColor ∷ MFNode ∷ SFRotation ∷ []
+all_field_types =
+    SFBool ∷ SFInt32 ∷ SFFloat ∷ SFTime ∷ SFString ∷ SFVec2f ∷ SFVec3f ∷ SFColor ∷ SFNode
+    ∷ MFBool ∷ MFInt32 ∷ MFFloat ∷ MFTime ∷ MFString ∷ MFVec2f ∷ MFVec3f ∷ MFColor ∷ MFNode
+    ∷ SFRotation ∷ []
 
 -- the type that a declaration names so
 abbrev pub field_type_named : List ℕ → Option FieldType

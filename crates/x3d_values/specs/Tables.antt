@@ -1,5 +1,6 @@
--- The table of fields (ISO/IEC 19775-1, the node types of each component; which rows there are is our choice).
-use Rattle.std.specs.Prelude.{◌≡◌, ⊤, MatchOption, ℕ, ◌+◌, ◌==◌, ◌&&◌, ℤ, pos, negsuc, Bool, true, is_none, List, [], ◌∷◌, Option, Some, None, codes, if◌then◌else◌, nat_eq}
+-- The table of fields (ISO/IEC 19775-1, the node types of each component; which rows there are
+-- is our choice).
+use Rattle.std.specs.Prelude.{◌≡◌, ⊤, MatchOption, ℕ, ◌+◌, ◌&&◌, ℤ, pos, negsuc, Bool, true, is_none, List, [], ◌∷◌, Option, Some, None, codes, if◌then◌else◌, nat_eq}
 use Rattle.std.specs.Option.{option_map}
 use Rattle.std.specs.Cmp.Lexicographic.{pointwise}
 use Rattle.x3d_values.specs.declared.default.FieldDefault.{FieldDefault}
@@ -29,31 +30,79 @@ pub record Entry : Type 0 where
 
 -- a field of the program's table as a row
 abbrev pub entry : Field → Entry
-entry f = record { name = f.name.now; access = f.access; field_type = f.field_type; default = f.default; kind = f.kind }
+entry f = record {
+  name = f.name.now;
+  access = f.access;
+  field_type = f.field_type;
+  default = f.default;
+  kind = f.kind;
+}
 
 -- ---- the kinds of rows
 
 abbrev pub exposed : List ℕ → FieldType → FieldDefault → Entry
-exposed name field_type value = record { name = name; access = InputOutput; field_type = field_type; default = Some value; kind = None }
+exposed name field_type value = record {
+  name = name;
+  access = InputOutput;
+  field_type = field_type;
+  default = Some value;
+  kind = None;
+}
 
 abbrev pub initial : List ℕ → FieldType → FieldDefault → Entry
-initial name field_type value = record { name = name; access = InitializeOnly; field_type = field_type; default = Some value; kind = None }
+initial name field_type value = record {
+  name = name;
+  access = InitializeOnly;
+  field_type = field_type;
+  default = Some value;
+  kind = None;
+}
 
 abbrev pub input : List ℕ → FieldType → Entry
-input name field_type = record { name = name; access = InputOnly; field_type = field_type; default = None; kind = None }
+input name field_type = record {
+  name = name;
+  access = InputOnly;
+  field_type = field_type;
+  default = None;
+  kind = None;
+}
 
 abbrev pub output : List ℕ → FieldType → Entry
-output name field_type = record { name = name; access = OutputOnly; field_type = field_type; default = None; kind = None }
+output name field_type = record {
+  name = name;
+  access = OutputOnly;
+  field_type = field_type;
+  default = None;
+  kind = None;
+}
 
 -- a rotation is read and dropped, so it holds nothing
 abbrev pub rotation : List ℕ → Entry
-rotation name = record { name = name; access = InputOutput; field_type = SFRotation; default = None; kind = None }
+rotation name = record {
+  name = name;
+  access = InputOutput;
+  field_type = SFRotation;
+  default = None;
+  kind = None;
+}
 
 abbrev pub node : List ℕ → NodeKind → Entry
-node name k = record { name = name; access = InputOutput; field_type = SFNode; default = Some Empty; kind = Some k }
+node name k = record {
+  name = name;
+  access = InputOutput;
+  field_type = SFNode;
+  default = Some Empty;
+  kind = Some k;
+}
 
 abbrev pub nodes : List ℕ → NodeKind → Entry
-nodes name k = record { name = name; access = InputOutput; field_type = MFNode; default = Some Empty; kind = Some k }
+nodes name k = record {
+  name = name;
+  access = InputOutput;
+  field_type = MFNode;
+  default = Some Empty;
+  kind = Some k;
+}
 
 abbrev pub vector : ℤ → ℤ → ℤ → Vec3
 vector x y z = record { x = x; y = y; z = z }
@@ -68,7 +117,9 @@ abbrev pub box_center : Entry
 box_center = initial (codes "bboxCenter") SFVec3f Empty
 
 abbrev pub box_size : Entry
-box_size = initial (codes "bboxSize") SFVec3f (Vec3f (vector (negsuc 999999) (negsuc 999999) (negsuc 999999)))
+box_size =
+    initial (codes "bboxSize") SFVec3f
+    (Vec3f (vector (negsuc 999999) (negsuc 999999) (negsuc 999999)))
 
 abbrev pub children : Entry
 children = nodes (codes "children") kind.Child
@@ -398,12 +449,19 @@ rows Script =
 
 -- a row by its number among the fields of its node
 abbrev pub numbered : ℕ → Entry → FieldRow
-numbered n e = record { number = n; access = e.access; field_type = e.field_type; default = e.default; kind = e.kind }
+numbered n e = record {
+  number = n;
+  access = e.access;
+  field_type = e.field_type;
+  default = e.default;
+  kind = e.kind;
+}
 
 -- the first row of that name, numbered from n
 abbrev pub row_named : ℕ → List ℕ → List Entry → Option FieldRow
 row_named n name [] = None
-row_named n name (e ∷ others) = if pointwise nat_eq name e.name then Some (numbered n e) else row_named (n + 1) name others
+row_named n name (e ∷ others) =
+    if pointwise nat_eq name e.name then Some (numbered n e) else row_named (n + 1) name others
 
 -- the name of no row stands again behind it
 abbrev pub are_distinct : List Entry → Bool
@@ -412,7 +470,9 @@ are_distinct (e ∷ others) = is_none (row_named 0 e.name others) && are_distinc
 
 -- the default, if there is one, is a value of the field's type
 abbrev pub IsTyped : Entry → Type 0
-IsTyped e = MatchOption e.default ⊤ (λ value. option_map type_of (default_value e.field_type value) ≡ Some e.field_type)
+IsTyped e =
+    MatchOption e.default ⊤
+    (λ value. option_map type_of (default_value e.field_type value) ≡ Some e.field_type)
 
 abbrev pub AreTyped : List Entry → Type 0
 AreTyped [] = ⊤

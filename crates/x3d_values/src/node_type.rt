@@ -3,8 +3,10 @@
 ghost use Rattle.std.specs.Prelude.{◌≡◌};
 ghost use Rattle.x3d_values.specs.Nodes.{kind_of};
 
+use std::fmt;
+
 /// The type of a node: those of the table that this core knows (ISO/IEC 19775-1, by component).
-#[derive(Clone, Copy, Debug, PartialEq, Eq)]
+#[derive(Clone, Copy, PartialEq, Eq)]
 pub enum NodeType {
     Group,
     Transform,
@@ -51,7 +53,7 @@ pub enum NodeType {
 }
 
 /// Where a node may stand: what an `SFNode` or `MFNode` field takes.
-#[derive(Clone, Copy, Debug, PartialEq, Eq)]
+#[derive(Clone, Copy, PartialEq, Eq)]
 pub enum NodeKind {
     /// A root, or in the list of a grouping node.
     Child,
@@ -116,5 +118,12 @@ impl NodeType {
             | NodeType::TimeTrigger
             | NodeType::Script => NodeKind::Child,
         }
+    }
+}
+
+/// The word that names the type.
+impl fmt::Debug for NodeType {
+    fn fmt<W: fmt::Write>(&self, f: &mut fmt::Formatter<W>) -> fmt::Result {
+        f.write_str(self.name())
     }
 }

@@ -1,40 +1,11 @@
 //! What a viewer points at a world with.
 
 ghost use Rattle.std.specs.Prelude.{◌≡◌, IsTrue};
-ghost use Rattle.x3d_values.specs.Ranges.{coordinate_fits, coordinates_fit, is_zero, is_viewer};
+ghost use Rattle.x3d_values.specs.Ranges.{is_viewer};
 ghost use Rattle.x3d_values.specs.Pointing.{is_ray};
 
 use crate::vector::Vec3;
 use std::marker::Model;
-
-/// The largest size of a coordinate, in millionths.
-pub const MAX_COORDINATE: u64 = 1_000_000_000_000_000;
-
-/// How many viewers a world may have.
-pub const MAX_VIEWERS: u8 = 16;
-
-impl Vec3 {
-    /// Whether no part is of a size above 10^15 millionths.
-    pub fn fits(self) -> bool
-        ensures { result ≡ coordinates_fit self }
-    {
-        coordinate_fits(self.x) && coordinate_fits(self.y) && coordinate_fits(self.z)
-    }
-
-    /// Whether it is 0 0 0, which is no direction.
-    pub fn is_zero(self) -> bool
-        ensures { result ≡ is_zero self }
-    {
-        self.x == 0 && self.y == 0 && self.z == 0
-    }
-}
-
-/// Whether a coordinate is of a size of up to 10^15 millionths.
-pub fn coordinate_fits(coordinate: i64) -> bool
-    ensures { result ≡ coordinate_fits coordinate }
-{
-    coordinate.unsigned_abs() <= MAX_COORDINATE
-}
 
 /// What a viewer points with before it was looked at: any coordinates in millionths, any direction.
 #[derive(Clone, Copy, Debug, PartialEq, Eq)]
@@ -44,7 +15,8 @@ pub struct Point {
     pub dir: Vec3,
 }
 
-/// A ray: coordinates are of sizes up to 10^15 millionths, and the direction isn't 0 0 0.
+/// A ray: coordinates are of sizes up to `MAX_COORDINATE` millionths, and the direction isn't
+/// 0 0 0.
 #[derive(Clone, Copy, Debug, PartialEq, Eq)]
 pub struct Ray {
     origin: Vec3,
@@ -88,7 +60,7 @@ impl Ray {
     }
 }
 
-/// A viewer's pointer: its number is below 16, and its ray is one.
+/// A viewer's pointer: its number is below `MAX_VIEWERS`.
 #[derive(Clone, Copy, Debug, PartialEq, Eq)]
 pub struct Pointer {
     who: u8,
@@ -111,6 +83,7 @@ impl Model for Pointer {
 }
 
 impl Pointer {
+    /// `is_viewer` is the test.
     pub fn new(who: u8, down: bool, ray: Ray) -> Pointer
         requires { IsTrue (is_viewer who) }
         ensures { result ≡ record { who = who; down = down; ray = ray } }

@@ -10,7 +10,7 @@ use crate::node_type::{NodeKind, NodeType};
 use crate::vector::{Color, Vec3};
 
 /// A field of a node type.
-#[derive(Clone, Copy, Debug)]
+#[derive(Clone, Copy)]
 pub struct Field {
     pub name: &'static str,
     pub access: Access,

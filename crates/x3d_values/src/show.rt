@@ -1,11 +1,10 @@
 //! The texts of values.
 
-ghost use Rattle.std.specs.Prelude.{◌≡◌, ◌++◌, ◌∷◌, ℕ, List, map, OnOk, OnErr};
+ghost use Rattle.std.specs.Prelude.{◌≡◌, ◌++◌, ◌∷◌, ℕ, List, OnOk, OnErr};
 ghost use Rattle.std.specs.Fmt.{signed_decimal};
-ghost use Rattle.std.specs.List.{join_with_byte};
 ghost use Rattle.x3d_lists.specs.Extends.{Extends};
 ghost use Rattle.x3d_numerals.specs.NumberText.{number_text};
-ghost use Rattle.x3d_values.specs.ValueText.{truth_text, string_text, pair_text, vector_text, color_text, list_text, value_text};
+ghost use Rattle.x3d_values.specs.ValueText.{truth_text, string_text, pair_text, vector_text, color_text, joined_text, list_text, value_text};
 
 use crate::value::Value;
 use crate::vector::{Color, Vec2, Vec3};
@@ -14,8 +13,22 @@ use std::alloc::AllocError;
 use x3d_lists::Text;
 use x3d_numerals::push_number;
 
-/// What has a text.
-trait Show {
+/// Appends the text of the value in the Classic encoding: numbers in units, a list in brackets.
+/// A node or a list of nodes has none. On a refusal the buffer is as it was.
+pub fn show_value(value: &Value, out: &mut Vec<u8>) -> Result<(), AllocError>
+    ensures ok { OnOk result (out.new.items ≡ out.old.items ++ value_text value.now) }
+    ensures err { OnErr result (out.new.items ≡ out.old.items) }
+{
+    let len = out.len();
+    let shown = push_value(value, out);
+    if shown.is_err() {
+        out.truncate(len);
+    }
+    shown
+}
+
+/// What has a text in the Classic encoding (ISO/IEC 19776-2, fields).
+pub trait Show {
     ghost text: { Self → List ℕ };
 
     /// Appends the text; on a refusal perhaps a part of it.
@@ -116,10 +129,9 @@ fn push_string(text: &[u8], out: &mut Vec<u8>) -> Result<(), AllocError>
     Ok(())
 }
 
-/// The items with a space between each two.
-#[tactic(auto, using(crate::proofs::Joined::joined))]
-fn push_joined<T: Show>(items: &[T], out: &mut Vec<u8>) -> Result<(), AllocError>
-    ensures ok { OnOk result (out.new.items ≡ out.old.items ++ join_with_byte 32 (map T.text items.now)) }
+/// Appends the items with a space between each two; on a refusal perhaps a part of them.
+pub fn push_joined<T: Show>(items: &[T], out: &mut Vec<u8>) -> Result<(), AllocError>
+    ensures ok { OnOk result (out.new.items ≡ out.old.items ++ joined_text T.text items.now) }
     ensures kept { Extends out.old.items out.new.items }
 {
     let Some((first, others)) = items.split_first() else {
@@ -133,8 +145,9 @@ fn push_joined<T: Show>(items: &[T], out: &mut Vec<u8>) -> Result<(), AllocError
     Ok(())
 }
 
+/// The same in brackets.
 #[tactic(auto, unfolding(crate::specs::ValueText::list_text))]
-fn push_list<T: Show>(items: &[T], out: &mut Vec<u8>) -> Result<(), AllocError>
+pub fn push_list<T: Show>(items: &[T], out: &mut Vec<u8>) -> Result<(), AllocError>
     ensures ok { OnOk result (out.new.items ≡ out.old.items ++ list_text T.text items.now) }
     ensures kept { Extends out.old.items out.new.items }
 {
@@ -167,18 +180,4 @@ fn push_value(value: &Value, out: &mut Vec<u8>) -> Result<(), AllocError>
         Value::MFColor(colors) => push_list(colors.as_slice(), out),
         Value::SFNode(_) | Value::MFNode(_) => Ok(()),
     }
-}
-
-/// Appends the text of the value in the Classic encoding: numbers in units, a list in brackets.
-/// A node or a list of nodes has none. On a refusal the buffer is as it was.
-pub fn show_value(value: &Value, out: &mut Vec<u8>) -> Result<(), AllocError>
-    ensures ok { OnOk result (out.new.items ≡ out.old.items ++ value_text value.now) }
-    ensures err { OnErr result (out.new.items ≡ out.old.items) }
-{
-    let len = out.len();
-    let shown = push_value(value, out);
-    if shown.is_err() {
-        out.truncate(len);
-    }
-    shown
 }

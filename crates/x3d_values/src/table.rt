@@ -10,7 +10,7 @@ use crate::node_type::{NodeKind, NodeType};
 use crate::rows::{Field, fields_of};
 
 /// A field by its number among the fields of its node, from 0.
-#[derive(Clone, Copy, Debug, PartialEq, Eq)]
+#[derive(Clone, Copy, PartialEq, Eq)]
 pub struct FieldRow {
     pub number: u16,
     pub access: Access,

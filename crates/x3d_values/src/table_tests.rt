@@ -1,6 +1,6 @@
 //! The table of fields against a transcription of it by hand: a line a field, in order, with the
-//! node type, the field, its type, its access (io inputOutput, ini initializeOnly, in inputOnly, out
-//! outputOnly), its default in the Classic encoding, and which nodes it takes.
+//! node type, the field, its type, its access (io inputOutput, ini initializeOnly, in inputOnly,
+//! out outputOnly), its default in the Classic encoding, and which nodes it takes.
 
 use crate::default::{FieldDefault, default_value};
 use crate::field_type::{Access, FieldType};
@@ -373,8 +373,8 @@ fn every_row_of_the_table_is_found(rt: HostRuntime) -> Result<(), Fail> {
         number = number.wrapping_add(1);
         lines = lines.wrapping_add(1);
     }
-    assert_eq!(rt; lines, 233);
-    assert_eq!(rt; row_count(), 233);
+    assert!(rt; lines == 233);
+    assert!(rt; row_count() == 233);
     Ok(())
 }
 

@@ -140,6 +140,6 @@ fn a_refused_growth_changes_nothing(rt: HostRuntime) -> Result<(), Fail> {
         empty_value(alloc, FieldType::MFString).is_some(),
     );
     drop(used_up);
-    assert_eq!(rt; refused, (true, true, true, true));
+    assert!(rt; refused == (true, true, true, true));
     Ok(())
 }

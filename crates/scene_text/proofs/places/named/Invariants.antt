@@ -4,4 +4,4 @@ use Rattle.scene_text.specs.Places.{is_named}
 use Rattle.scene_text.proofs.places.named.Given as goal
 
 abbrev pub invariant-loop-node : goal.invariant-loop-node
-invariant-loop-node l = l.found.items ≡ map (is_named l.scene) (range_with_len 0 l.node)
+invariant-loop-node l = l.found.items ≡ map (is_named l.scene l.routes) (range_with_len 0 l.node)

@@ -1,9 +1,8 @@
-use Rattle.std.proofs.Common.{arith}
-use Rattle.std.proofs.lemmas.Grind.{common_steps}
-use Rattle.x3d_values.proofs.Joined.{joined}
+use Rattle.x3d_values.proofs.Joined.{grown}
 use Rattle.x3d_values.proofs.show.push_joined.Goals as goal
 
 pub returns-clause-ok : goal.returns-clause-ok
 returns-clause-ok g c =
-    let e = joined g.T.Show.text c.in-Some.first.now c.in-Some.others.now in
-    rw c.in-Some.ensures.cases.0 (grind (arith, common_steps))
+    grown g.T.Show.text c.args.items.now c.in-Some.first.now c.in-Some.others.now c.loop-item.item-index
+    c.args.out.now.items c.show.new.out.items c.loop-item.out.items
+    c.in-Some.ensures.cases.0 c.in_ok-show.ensures.ok c.loop-item.invariant c.loop-item-test.false

@@ -1,6 +1,5 @@
-use Rattle.std.proofs.Common.{◌≡◌, ◌++◌, ◌∷◌, [], take}
+use Rattle.std.proofs.Common.{◌≡◌, ◌++◌, ◌∷◌, take}
 use Rattle.std.specs.List.{flat_map}
-use Rattle.x3d_lists.specs.Extends.{Extends}
 use Rattle.x3d_values.specs.ValueText.{escaped}
 use Rattle.x3d_values.proofs.show.push_string.Given as goal
 

@@ -1,5 +1,5 @@
 use Rattle.std.proofs.Common.{◌≡◌, ◌++◌, replicate}
-use Rattle.classic_tree.proofs.show.push_spaces.Given as goal
+use Rattle.classic_tree.proofs.spaces.push_spaces.Given as goal
 
 abbrev pub invariant-loop-i : goal.invariant-loop-i
 invariant-loop-i l = l.out.items ≡ l.fn.out.items ++ replicate l._i 32

@@ -1,7 +1,0 @@
-use Rattle.std.proofs.Common.{◌≡◌, ◌++◌, ◌∷◌, take}
-use Rattle.std.specs.List.{flat_map}
-use Rattle.x3d_values.specs.ValueText.{escaped}
-use Rattle.classic_tree.proofs.show.push_string.Given as goal
-
-abbrev pub invariant-loop-byte : goal.invariant-loop-byte
-invariant-loop-byte l = l.out.items ≡ l.fn.out.items ++ 34 ∷ flat_map escaped (take l.byte-index l.text)
