@@ -19,6 +19,6 @@ pub use job::{Steps, job_of};
 pub use open::{Job, Opened, open_job, open_scene, read_job};
 pub use order::{Order, OrderFault};
 pub use refusal::{Failure, refusal_line, status_of};
-pub use runs::run;
+pub use runs::{run, run_job};
 pub use stream::{MAX_READS, StreamFault, read_whole, write_whole};
 pub use words::{command_of, help_of};

@@ -1,4 +1,4 @@
-//! Runs a job.
+//! Runs a job: bytes in, bytes out.
 
 ghost use Rattle.std.specs.Prelude.{◌≡◌, ◌++◌, OnOk, IfOk, IfErr};
 ghost use Rattle.std.specs.Io.KnownBytes.{Appends, Keeps};
@@ -6,18 +6,40 @@ ghost use Rattle.cascade_core.specs.Apply.{world};
 ghost use Rattle.cascade_core.specs.Held.{Running, IfRunning, IfSpoiled};
 ghost use Rattle.cascade_core.specs.declared.fault.ApplyFault.TheVariants as ApplyFault;
 ghost use Rattle.cascade_core.specs.declared.fault.TextFault.TheVariants as TextFault;
-ghost use Rattle.share_program.specs.Running.{texts, run_text};
+ghost use Rattle.share_program.specs.Running.{texts, run_text, IsRun, IsNoRun, IsNoRunOf};
 ghost use Rattle.share_program.specs.declared.fault.RunFault.TheVariants.{Memory};
 
 use crate::fault::RunFault;
 use crate::inputs::Inputs;
-use crate::open::Job;
+use crate::open::{Job, read_job};
+use crate::refusal::Failure;
 use crate::stream::write_whole;
 use cascade_core::{ApplyFault, Scripts, Stage, TextFault};
 use route_core::Routes;
 use scene_core::Scene;
 use std::alloc::Global;
-use std::io::Write;
+use std::io::{Read, Write};
+
+/// Reads a job to the reader's end, applies its inputs to its scene, and writes the trace and then
+/// the scene. Both texts are made before the first byte is written.
+pub fn run_job<B, R: Read, W: Write>(
+    alloc: Global,
+    reader: &mut R,
+    scripts: Scripts<B>,
+    writer: &mut W,
+) -> Result<(), Failure>
+    // Bytes in, bytes out.
+    ensures ok { OnOk result (IsRun (R.remaining reader.old) (R.remaining reader.new)
+        (W.contents writer.old) (W.contents writer.new)) }
+    // A job that is refused writes nothing, nor does one for which memory was refused.
+    ensures refused { IfErr result (IsNoRun (R.remaining reader.old) (R.remaining reader.new)
+        (W.contents writer.old) (W.contents writer.new)) }
+{
+    match read_job(alloc, reader) {
+        Ok(job) => run_read(alloc, job, scripts, writer),
+        Err(fault) => Err(Failure::Job(fault)),
+    }
+}
 
 /// Why inputs in turn were not applied.
 fn memory_alone(fault: ApplyFault) -> RunFault
@@ -100,4 +122,20 @@ pub fn run<B, W: Write>(
     let text = text_of(alloc, job, scripts)?;
     write_whole(writer, text.as_slice())?;
     Ok(())
+}
+
+/// The same, with a failure of the whole program for its fault.
+fn run_read<B, W: Write>(
+    alloc: Global,
+    job: Job,
+    scripts: Scripts<B>,
+    writer: &mut W,
+) -> Result<(), Failure>
+    ensures ok { OnOk result (Appends (W.contents writer.old) (W.contents writer.new) (run_text job)) }
+    ensures refused { IfErr result (IsNoRunOf (W.contents writer.old) (W.contents writer.new)) }
+{
+    match run(alloc, job, scripts, writer) {
+        Ok(()) => Ok(()),
+        Err(fault) => Err(Failure::Run(fault)),
+    }
 }

@@ -6,8 +6,8 @@ mod tests;
 
 use cascade_core::Scripts;
 use share_program::{
-    Failure, Order, OrderFault, RunFault, StreamFault, command_of, help_of, read_job, refusal_line,
-    run, status_of, write_whole,
+    Failure, Order, OrderFault, RunFault, StreamFault, command_of, help_of, refusal_line, run_job,
+    status_of, write_whole,
 };
 use std::alloc::{AllocError, Global};
 use std::io;
@@ -29,17 +29,11 @@ fn output_failure(fault: StreamFault) -> Failure {
     Failure::Run(RunFault::from(fault))
 }
 
-/// Reads a job, runs it and prints what came of it.
-fn run_job<R: AllocGlobal + Input + Print>(rt: &R) -> Result<(), Failure> {
-    let job = read_job(rt.alloc(), &mut rt.reader())?;
-    let scripts: Scripts<()> = Scripts::none();
-    run(rt.alloc(), job, scripts, &mut io::writer(rt))?;
-    Ok(())
-}
-
 fn obey<R: AllocGlobal + Input + Print>(rt: &R, words: &[&str]) -> Result<(), Failure> {
-    match command_of(rt.alloc(), words)? {
-        Order::Run => run_job(rt),
+    let order = command_of(rt.alloc(), words)?;
+    let scripts: Scripts<()> = Scripts::none();
+    match order {
+        Order::Run => run_job(rt.alloc(), &mut rt.reader(), scripts, &mut io::writer(rt)),
     }
 }
 
