@@ -34,11 +34,16 @@ names_nodes _ = false
 -- an event that sets a field: an inputOutput field of the value's type, and no node field
 abbrev pub is_kept : NodeType → ℕ → Value → Bool
 is_kept node_type input value =
-    option_map_or (λ row. is_exposed row.access && (are_same row.field_type (type_of value) && not (names_nodes value))) (row_at node_type input) false
+    option_map_or
+    (λ row. is_exposed row.access
+    && (are_same row.field_type (type_of value) && not (names_nodes value)))
+    (row_at node_type input)
+    false
 
 -- a field by which the node sends: an outputOnly or an inputOutput one
 abbrev pub is_output : NodeType → ℕ → Bool
-is_output node_type field = option_map_or (λ row. is_sender row.access) (row_at node_type field) false
+is_output node_type field =
+    option_map_or (λ row. is_sender row.access) (row_at node_type field) false
 
 -- all of them leave by such fields
 abbrev pub leave_by_outputs : NodeType → List Reply → Bool

@@ -1,4 +1,5 @@
--- Interpolation between the values of keys (ISO/IEC 19775-1, interpolation; the rounding is our choice).
+-- Interpolation between the values of keys (ISO/IEC 19775-1, interpolation; the rounding is our
+-- choice).
 use Rattle.std.specs.Prelude.{ℕ, ◌+◌, ◌-◌, ◌*◌, ◌/◌, ◌%◌, ℤ, pos, ◌+ℤ◌, ◌-ℤ◌, ◌*ℤ◌, int_le, unsigned_abs, Bool, not, ◌&&◌, ◌==◌, List, length, map, slice_get, slice_range, slice_index_or, Option, Some, None, if◌then◌else◌}
 use Rattle.std.specs.Int.{int_div_euclid}
 use Rattle.std.specs.List.{zip}
@@ -24,11 +25,16 @@ number_way place from to = part_way place.part place.whole from to
 
 -- each component by itself
 abbrev pub point_way : Place → Vec2 → Vec2 → Vec2
-point_way place from to = record { x = number_way place from.x to.x; y = number_way place from.y to.y }
+point_way place from to =
+    record { x = number_way place from.x to.x; y = number_way place from.y to.y }
 
 abbrev pub vector_way : Place → Vec3 → Vec3 → Vec3
 vector_way place from to =
-    record { x = number_way place from.x to.x; y = number_way place from.y to.y; z = number_way place from.z to.z }
+    record {
+      x = number_way place from.x to.x;
+      y = number_way place from.y to.y;
+      z = number_way place from.z to.z;
+    }
 
 -- ---- where a fraction lies
 
@@ -39,7 +45,12 @@ at_item item = record { from = item; to = item; part = 0; whole = 1 }
 -- on the way from an item to the next one, as far as the fraction lies between their keys
 abbrev pub after_item : ℕ → ℤ → ℤ → ℤ → Place
 after_item item key next fraction =
-    record { from = item; to = item + 1; part = unsigned_abs (fraction -ℤ key); whole = unsigned_abs (next -ℤ key) }
+    record {
+      from = item;
+      to = item + 1;
+      part = unsigned_abs (fraction -ℤ key);
+      whole = unsigned_abs (next -ℤ key);
+    }
 
 abbrev pub key_at : List ℤ → ℕ → ℤ
 key_at keys item = slice_index_or keys item (pos 0)
@@ -48,12 +59,16 @@ key_at keys item = slice_index_or keys item (pos 0)
 abbrev pub last_reached : List ℤ → ℤ → ℕ
 last_reached keys fraction = reached keys fraction - 1
 
--- at or below the first key, at or above the last one, or else after the last key that isn't above the fraction
+-- at or below the first key, at or above the last one, or else after the last key that isn't above
+-- the fraction
 abbrev pub place_among : List ℤ → ℤ → Place
 place_among keys fraction =
     if int_le fraction (key_at keys 0) then at_item 0
     else (if int_le (key_at keys (length keys - 1)) fraction then at_item (length keys - 1)
-    else after_item (last_reached keys fraction) (key_at keys (last_reached keys fraction)) (key_at keys (last_reached keys fraction + 1)) fraction)
+    else after_item (last_reached keys fraction)
+    (key_at keys (last_reached keys fraction))
+    (key_at keys (last_reached keys fraction + 1))
+    fraction)
 
 -- nowhere without keys, or where a key is below the one before it
 unfoldable pub place_of : List ℤ → ℤ → Option Place
@@ -63,11 +78,14 @@ place_of keys fraction = if have_steps keys then Some (place_among keys fraction
 
 abbrev pub mixed : {X : Type 0} → (Place → X → X → X) → List X → Place → Option X
 mixed way values place =
-    option_and_then (λ from. option_map (λ to. way place from to) (slice_get values place.to)) (slice_get values place.from)
+    option_and_then
+    (λ from. option_map (λ to. way place from to) (slice_get values place.to))
+    (slice_get values place.from)
 
 unfoldable pub between : {X : Type 0} → (Place → X → X → X) → List ℤ → List X → ℤ → Option X
 between way keys values fraction =
-    if length values == length keys then option_and_then (mixed way values) (place_of keys fraction) else None
+    if length values == length keys
+    then option_and_then (mixed way values) (place_of keys fraction) else None
 
 abbrev pub number_between : List ℤ → List ℤ → ℤ → Option ℤ
 number_between keys values fraction = between number_way keys values fraction
@@ -88,7 +106,8 @@ abbrev pub vectors_way : Place → List Vec3 → List Vec3 → List Vec3
 vectors_way place from to = map (λ pair. vector_way place pair.0 pair.1) (zip from to)
 
 abbrev pub groups_way : List Vec3 → ℕ → Place → List Vec3
-groups_way values many place = vectors_way place (group values many place.from) (group values many place.to)
+groups_way values many place =
+    vectors_way place (group values many place.from) (group values many place.to)
 
 -- at least one vector for each key
 abbrev pub are_grouped : List ℤ → List Vec3 → Bool
@@ -96,18 +115,24 @@ are_grouped keys values = not (length values == 0) && (length values % length ke
 
 unfoldable pub vectors_between : List ℤ → List Vec3 → ℤ → Option (List Vec3)
 vectors_between keys values fraction =
-    if are_grouped keys values then option_map (groups_way values (length values / length keys)) (place_of keys fraction) else None
+    if are_grouped keys values
+    then option_map (groups_way values (length values / length keys)) (place_of keys fraction)
+    else None
 
 -- ---- interpolators
 
 -- what an interpolator of these keys and values answers to a fraction
 abbrev pub interpolated : NodeType → List ℤ → Value → ℤ → Option Value
 interpolated ScalarInterpolator keys values fraction =
-    option_map SFFloat (option_and_then (λ numbers. number_between keys numbers fraction) (numbers_of values))
+    option_map SFFloat
+    (option_and_then (λ numbers. number_between keys numbers fraction) (numbers_of values))
 interpolated PositionInterpolator keys values fraction =
-    option_map SFVec3f (option_and_then (λ vectors. vector_between keys vectors fraction) (vectors_of values))
+    option_map SFVec3f
+    (option_and_then (λ vectors. vector_between keys vectors fraction) (vectors_of values))
 interpolated PositionInterpolator2D keys values fraction =
-    option_map SFVec2f (option_and_then (λ points. point_between keys points fraction) (points_of values))
+    option_map SFVec2f
+    (option_and_then (λ points. point_between keys points fraction) (points_of values))
 interpolated CoordinateInterpolator keys values fraction =
-    option_map MFVec3f (option_and_then (λ vectors. vectors_between keys vectors fraction) (vectors_of values))
+    option_map MFVec3f
+    (option_and_then (λ vectors. vectors_between keys vectors fraction) (vectors_of values))
 interpolated _ keys values fraction = None

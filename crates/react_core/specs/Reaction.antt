@@ -1,4 +1,5 @@
--- What a node does when an event comes in (ISO/IEC 19775-1, the node types of each component; depth, order and what is marked are our choice).
+-- What a node does when an event comes in (ISO/IEC 19775-1, the node types of each component;
+-- depth, order and what is marked are our choice).
 use Rattle.std.specs.Prelude.{ℕ, ℤ, Bool, true, not, ◌==◌, List, [], ◌∷◌, Option, Some, None, map, if◌then◌else◌}
 use Rattle.std.specs.Option.{option_map, option_and_then}
 use denote.Enum.Bare.{sameb}
@@ -57,20 +58,24 @@ abbrev pub interpolator_value : NodeType → Fields → Value → Option Value
 interpolator_value node_type fields value =
     option_and_then (λ fraction.
     option_and_then (λ keys.
-    option_and_then (λ values. interpolated node_type keys values fraction) (field_value fields KEY_VALUE))
+    option_and_then (λ values. interpolated node_type keys values fraction)
+    (field_value fields KEY_VALUE))
     (stored numbers_of fields KEY))
     (number_of value)
 
 abbrev pub interpolator : NodeType → Fields → ℕ → Value → Reaction
 interpolator node_type fields input value =
     at_input fields input SET_FRACTION
-    (with_some fields (interpolator_value node_type fields value) (λ changed. sends fields (reply VALUE_CHANGED changed ∷ [])))
+    (with_some fields (interpolator_value node_type fields value)
+    (λ changed. sends fields (reply VALUE_CHANGED changed ∷ [])))
 
 -- ---- sequencers
 
 -- sets the position, sends `value_changed`
 abbrev pub steps_to : Fields → Step → Reaction
-steps_to fields step = sends (record fields { position = record { at = Some step.at } }) (reply SEQUENCE_CHANGED step.value ∷ [])
+steps_to fields step =
+    sends (record fields { position = record { at = Some step.at } })
+    (reply SEQUENCE_CHANGED step.value ∷ [])
 
 -- `set_fraction`, `next` TRUE, `previous` TRUE
 abbrev pub sequencer : Fields → ℕ → Value → Option (List Value) → Reaction
@@ -83,44 +88,57 @@ sequencer fields input value values =
 abbrev pub filter : Fields → ℕ → Value → Reaction
 filter fields input value =
     at_input fields input SET_BOOLEAN (with_some fields (truth_of value) (λ truth.
-    sends fields (reply (if truth then INPUT_TRUE else INPUT_FALSE) (SFBool truth) ∷ reply INPUT_NEGATE (SFBool (not truth)) ∷ [])))
+    sends fields
+    (reply (if truth then INPUT_TRUE else INPUT_FALSE) (SFBool truth)
+    ∷ reply INPUT_NEGATE (SFBool (not truth))
+    ∷ [])))
 
 -- `set_boolean` TRUE: flips `toggle`, sends it; FALSE nothing
 abbrev pub toggle : Fields → ℕ → Value → Reaction
 toggle fields input value =
     at_input fields input SET_BOOLEAN (with_some fields (truth_of value) (λ truth.
     if truth
-    then with_some fields (stored truth_of fields TOGGLE) (λ now. keeps fields TOGGLE (SFBool (not now)))
+    then with_some fields (stored truth_of fields TOGGLE)
+    (λ now. keeps fields TOGGLE (SFBool (not now)))
     else nothing fields))
 
 -- `set_triggerTime`: `triggerTrue` TRUE
 abbrev pub boolean_trigger : Fields → ℕ → Value → Reaction
 boolean_trigger fields input value =
-    at_input fields input SET_TRIGGER_TIME (with_some fields (time_of value) (λ time. sends fields (reply TRIGGER_TRUE (SFBool true) ∷ [])))
+    at_input fields input SET_TRIGGER_TIME (with_some fields (time_of value)
+    (λ time. sends fields (reply TRIGGER_TRUE (SFBool true) ∷ [])))
 
 -- `set_boolean` TRUE: `triggerValue` with `integerKey`; FALSE nothing (our choice)
 abbrev pub integer_trigger : Fields → ℕ → Value → Reaction
 integer_trigger fields input value =
     at_input fields input SET_BOOLEAN (with_some fields (truth_of value) (λ truth.
     if truth
-    then with_some fields (stored integer_of fields INTEGER_KEY) (λ key. sends fields (reply TRIGGER_VALUE (SFInt32 key) ∷ []))
+    then with_some fields (stored integer_of fields INTEGER_KEY)
+    (λ key. sends fields (reply TRIGGER_VALUE (SFInt32 key) ∷ []))
     else nothing fields))
 
 -- `set_boolean`: `triggerTime` with the event's time
 abbrev pub time_trigger : Fields → ℕ → Value → ℤ → Reaction
 time_trigger fields input value time =
-    at_input fields input SET_BOOLEAN (with_some fields (truth_of value) (λ truth. sends fields (reply TRIGGER_TIME (SFTime time) ∷ [])))
+    at_input fields input SET_BOOLEAN (with_some fields (truth_of value)
+    (λ truth. sends fields (reply TRIGGER_TIME (SFTime time) ∷ [])))
 
 -- ---- all nodes
 
 -- what a node does at an event that sets no field
 abbrev pub answer : NodeType → Fields → ℕ → Value → ℤ → Reaction
-answer ScalarInterpolator fields input value time = interpolator ScalarInterpolator fields input value
-answer PositionInterpolator fields input value time = interpolator PositionInterpolator fields input value
-answer PositionInterpolator2D fields input value time = interpolator PositionInterpolator2D fields input value
-answer CoordinateInterpolator fields input value time = interpolator CoordinateInterpolator fields input value
-answer BooleanSequencer fields input value time = sequencer fields input value (option_map (map SFBool) (stored truths_of fields KEY_VALUE))
-answer IntegerSequencer fields input value time = sequencer fields input value (option_map (map SFInt32) (stored integers_of fields KEY_VALUE))
+answer ScalarInterpolator fields input value time =
+    interpolator ScalarInterpolator fields input value
+answer PositionInterpolator fields input value time =
+    interpolator PositionInterpolator fields input value
+answer PositionInterpolator2D fields input value time =
+    interpolator PositionInterpolator2D fields input value
+answer CoordinateInterpolator fields input value time =
+    interpolator CoordinateInterpolator fields input value
+answer BooleanSequencer fields input value time =
+    sequencer fields input value (option_map (map SFBool) (stored truths_of fields KEY_VALUE))
+answer IntegerSequencer fields input value time =
+    sequencer fields input value (option_map (map SFInt32) (stored integers_of fields KEY_VALUE))
 answer BooleanFilter fields input value time = filter fields input value
 answer BooleanToggle fields input value time = toggle fields input value
 answer BooleanTrigger fields input value time = boolean_trigger fields input value
@@ -136,4 +154,5 @@ is_time_sensor node_type = sameb the_type node_type TimeSensor
 unfoldable pub reaction : NodeType → Fields → ℕ → Value → ℤ → Reaction
 reaction node_type fields input value time =
     if is_time_sensor node_type then nothing fields
-    else (if is_kept node_type input value then keeps fields input value else answer node_type fields input value time)
+    else (if is_kept node_type input value then keeps fields input value
+    else answer node_type fields input value time)

@@ -1,4 +1,5 @@
--- The positions of sequencers (ISO/IEC 19775-1, event utilities; that a sequencer has no position at first is our choice).
+-- The positions of sequencers (ISO/IEC 19775-1, event utilities; that a sequencer has no position
+-- at first is our choice).
 use Rattle.std.specs.Prelude.{ℕ, ◌+◌, ◌-◌, ◌^◌, ℤ, Bool, ◌&&◌, ◌==◌, nat_lt, List, length, slice_get, Option, Some, None, if◌then◌else◌}
 use Rattle.std.specs.Option.{option_map, option_and_then}
 use Rattle.x3d_values.specs.declared.fields.Fields.{Fields}
@@ -12,7 +13,8 @@ use Rattle.react_core.specs.Stored.{truth_of, number_of, numbers_of}
 
 -- the position, which counts as none where it isn't below the count
 abbrev pub present : Position → ℕ → Option ℕ
-present position count = option_and_then (λ at. if nat_lt at count then Some at else None) position.at
+present position count =
+    option_and_then (λ at. if nat_lt at count then Some at else None) position.at
 
 -- from none to the first, and from the last to the first
 abbrev pub next_of : Option ℕ → ℕ → ℕ
@@ -32,17 +34,22 @@ on_true value at = option_and_then (λ truth. if truth then Some at else None) (
 abbrev pub stepped : List ℤ → Position → ℕ → Value → Option ℕ
 stepped keys position input value =
     if input == NEXT then on_true value (next_of (present position (length keys)) (length keys))
-    else (if input == PREVIOUS then on_true value (previous_of (present position (length keys)) (length keys))
-    else (if input == SEQUENCE_FRACTION then option_and_then (step_of keys) (number_of value) else None))
+    else (if input == PREVIOUS
+    then on_true value (previous_of (present position (length keys)) (length keys))
+    else (if input == SEQUENCE_FRACTION then option_and_then (step_of keys) (number_of value)
+    else None))
 
--- there are keys, none is below the one before it, and there is a value for each; a position has 32 bits (our choice)
+-- there are keys, none is below the one before it, and there is a value for each; a position has
+-- 32 bits (our choice)
 abbrev pub is_sequence : List ℤ → ℕ → Bool
 is_sequence keys count = have_steps keys && ((count == length keys) && nat_lt count (2 ^ 32))
 
 -- the place to which an event leads a sequencer with that many values
 unfoldable pub place_after : Fields → ℕ → Value → ℕ → Option ℕ
 place_after fields input value count =
-    option_and_then (λ keys. if is_sequence keys count then stepped keys fields.position input value else None) (option_and_then numbers_of (field_value fields KEY))
+    option_and_then
+    (λ keys. if is_sequence keys count then stepped keys fields.position input value else None)
+    (option_and_then numbers_of (field_value fields KEY))
 
 abbrev pub step : ℕ → Value → Step
 step at value = record { at = at; value = value }
@@ -50,4 +57,5 @@ step at value = record { at = at; value = value }
 -- the place with its value
 abbrev pub step_after : Fields → ℕ → Value → List Value → Option Step
 step_after fields input value values =
-    option_and_then (λ at. option_map (step at) (slice_get values at)) (place_after fields input value (length values))
+    option_and_then (λ at. option_map (step at) (slice_get values at))
+    (place_after fields input value (length values))

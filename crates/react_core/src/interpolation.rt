@@ -2,7 +2,8 @@
 
 ghost use Rattle.std.specs.Prelude.{◌≡◌, ◌≢◌, ◌<◌, ◌≤◌, ◌+◌, ◌*◌, length, map, slice_get, IfOk, IsOk};
 ghost use Rattle.std.specs.List.{zip};
-ghost use Rattle.react_core.specs.Interpolation.{number_between, point_between, vector_between, vectors_way, vectors_between, interpolated};
+ghost use Rattle.react_core.specs.declared.place.Place.{Place};
+ghost use Rattle.react_core.specs.Interpolation.{number_way, point_way, vector_way, between, vectors_way, vectors_between, interpolated};
 ghost use Rattle.x3d_values.specs.declared.node_type.NodeType.TheVariants.{CoordinateInterpolator};
 
 use crate::part::part_way;
@@ -11,44 +12,77 @@ use crate::stored::{numbers_of, points_of, vectors_of};
 use std::alloc::{AllocError, Global};
 use x3d_values::{Items, NodeType, Value, Vec2, Vec3};
 
+/// What an interpolator of these keys and values answers to a fraction; nothing where there are no
+/// keys, where a key is below the one before it, where the count of values isn't that of the keys
+/// (or a multiple of it, for a CoordinateInterpolator), and for a node that doesn't interpolate.
+pub fn interpolate(
+    alloc: Global,
+    node_type: NodeType,
+    keys: &[i64],
+    values: &Value,
+    fraction: i64,
+) -> Result<Option<Value>, AllocError>
+    ensures value { IfOk result
+        (λ value. value ≡ interpolated node_type keys.now values.now fraction) }
+    ensures no_memory { node_type ≢ CoordinateInterpolator → IsOk result }
+{
+    let NodeType::CoordinateInterpolator = node_type else {
+        return Ok(interpolate_one(node_type, keys, values, fraction));
+    };
+    let Some(vectors) = vectors_of(values) else {
+        return Ok(None);
+    };
+    let between = vectors_between(alloc, keys, vectors.as_slice(), fraction)?;
+    match between {
+        Some(vectors) => Ok(Some(Value::MFVec3f(vectors))),
+        None => Ok(None),
+    }
+}
+
 fn item<T: Copy>(values: &[T], at: usize) -> Option<T>
     ensures { result ≡ slice_get values.now at }
 {
     values.get(at).copied()
 }
 
-/// The number at a fraction, where there is one for each key.
-#[tactic(auto, using(crate::proofs::PlaceLemmas::passed), unfolding(crate::specs::Interpolation::between))]
-fn number_between(keys: &[i64], values: &[i64], fraction: i64) -> Option<i64>
-    ensures { result ≡ number_between keys.now values.now fraction }
-{
-    if values.len() != keys.len() {
-        return None;
-    }
-    let place = place_of(keys, fraction)?;
-    let from = item(values, place.from)?;
-    let to = item(values, place.to)?;
-    Some(part_way(place.part, place.whole, from, to))
+/// What has a value part of the way between two others.
+trait OnTheWay: Copy {
+    ghost way: { Place → Self → Self → Self };
+
+    fn on_the_way(place: Place, from: Self, to: Self) -> Self
+        requires is_part { place.part ≤ place.whole }
+        requires is_whole { 0 < place.whole }
+        ensures { result ≡ way place from to };
 }
 
-/// The point at a fraction, where there is one for each key.
-#[tactic(auto, using(crate::proofs::PlaceLemmas::passed), unfolding(crate::specs::Interpolation::between))]
-fn point_between(keys: &[i64], values: &[Vec2], fraction: i64) -> Option<Vec2>
-    ensures { result ≡ point_between keys.now values.now fraction }
-{
-    if values.len() != keys.len() {
-        return None;
+impl OnTheWay for i64 {
+    ghost way = { number_way };
+
+    fn on_the_way(place: Place, from: i64, to: i64) -> i64 {
+        part_way(place.part, place.whole, from, to)
     }
-    let place = place_of(keys, fraction)?;
-    let from = item(values, place.from)?;
-    let to = item(values, place.to)?;
-    Some(point_way(place, from, to))
 }
 
-/// The vector at a fraction, where there is one for each key.
+impl OnTheWay for Vec2 {
+    ghost way = { point_way };
+
+    fn on_the_way(place: Place, from: Vec2, to: Vec2) -> Vec2 {
+        point_way(place, from, to)
+    }
+}
+
+impl OnTheWay for Vec3 {
+    ghost way = { vector_way };
+
+    fn on_the_way(place: Place, from: Vec3, to: Vec3) -> Vec3 {
+        vector_way(place, from, to)
+    }
+}
+
+/// The value at a fraction, where there is one for each key.
 #[tactic(auto, using(crate::proofs::PlaceLemmas::passed), unfolding(crate::specs::Interpolation::between))]
-fn vector_between(keys: &[i64], values: &[Vec3], fraction: i64) -> Option<Vec3>
-    ensures { result ≡ vector_between keys.now values.now fraction }
+fn between<T: OnTheWay>(keys: &[i64], values: &[T], fraction: i64) -> Option<T>
+    ensures { result ≡ between T.way keys.now values.now fraction }
 {
     if values.len() != keys.len() {
         return None;
@@ -56,7 +90,7 @@ fn vector_between(keys: &[i64], values: &[Vec3], fraction: i64) -> Option<Vec3>
     let place = place_of(keys, fraction)?;
     let from = item(values, place.from)?;
     let to = item(values, place.to)?;
-    Some(vector_way(place, from, to))
+    Some(T::on_the_way(place, from, to))
 }
 
 /// The vectors that far on the way between two lists.
@@ -112,42 +146,16 @@ fn interpolate_one(
     match node_type {
         NodeType::ScalarInterpolator => {
             let numbers = numbers_of(values)?;
-            Some(Value::SFFloat(number_between(keys, numbers.as_slice(), fraction)?))
+            Some(Value::SFFloat(between(keys, numbers.as_slice(), fraction)?))
         }
         NodeType::PositionInterpolator => {
             let vectors = vectors_of(values)?;
-            Some(Value::SFVec3f(vector_between(keys, vectors.as_slice(), fraction)?))
+            Some(Value::SFVec3f(between(keys, vectors.as_slice(), fraction)?))
         }
         NodeType::PositionInterpolator2D => {
             let points = points_of(values)?;
-            Some(Value::SFVec2f(point_between(keys, points.as_slice(), fraction)?))
+            Some(Value::SFVec2f(between(keys, points.as_slice(), fraction)?))
         }
         _ => None,
-    }
-}
-
-/// What an interpolator of these keys and values answers to a fraction; nothing where there are no
-/// keys, where a key is below the one before it, where the count of values isn't that of the keys
-/// (or a multiple of it, for a CoordinateInterpolator), and for a node that doesn't interpolate.
-pub fn interpolate(
-    alloc: Global,
-    node_type: NodeType,
-    keys: &[i64],
-    values: &Value,
-    fraction: i64,
-) -> Result<Option<Value>, AllocError>
-    ensures value { IfOk result (λ value. value ≡ interpolated node_type keys.now values.now fraction) }
-    ensures no_memory { node_type ≢ CoordinateInterpolator → IsOk result }
-{
-    let NodeType::CoordinateInterpolator = node_type else {
-        return Ok(interpolate_one(node_type, keys, values, fraction));
-    };
-    let Some(vectors) = vectors_of(values) else {
-        return Ok(None);
-    };
-    let between = vectors_between(alloc, keys, vectors.as_slice(), fraction)?;
-    match between {
-        Some(vectors) => Ok(Some(Value::MFVec3f(vectors))),
-        None => Ok(None),
     }
 }

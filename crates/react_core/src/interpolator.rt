@@ -26,7 +26,8 @@ fn interpolator_value(
     fields: &Fields,
     value: &Value,
 ) -> Result<Option<Value>, AllocError>
-    ensures value { IfOk result (λ changed. changed ≡ interpolator_value node_type fields.now value.now) }
+    ensures value { IfOk result
+        (λ changed. changed ≡ interpolator_value node_type fields.now value.now) }
     ensures no_memory { node_type ≢ CoordinateInterpolator → IsOk result }
 {
     let Some(fraction) = number_of(value) else {
@@ -53,7 +54,8 @@ pub fn interpolator(
 ) -> Result<(), AllocError>
     requires empty { out.old.items ≡ [] }
     ensures fields { (interpolator node_type fields.now input value.now).fields ≡ fields.now }
-    ensures replies { OnOk result (out.new.items ≡ (interpolator node_type fields.now input value.now).replies) }
+    ensures replies { OnOk result
+        (out.new.items ≡ (interpolator node_type fields.now input value.now).replies) }
     ensures refused_replies { OnErr result (out.new.items ≡ []) }
     ensures no_memory { node_type ≢ CoordinateInterpolator → IsOk result }
 {

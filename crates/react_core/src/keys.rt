@@ -3,6 +3,29 @@
 ghost use Rattle.std.specs.Prelude.{◌≡◌, ◌-◌, ◌<◌, length, true, IfSome};
 ghost use Rattle.react_core.specs.Keys.{are_rising, rise_from, reached, step_of, have_steps, IsStep};
 
+/// The place of the last key that a fraction has reached, or the first place where it has reached
+/// none; none where there are no keys, or where a key is below the one before it.
+///
+/// That the keys rise is tested key by key, and the place is then found by binary search.
+#[tactic(auto, unfolding(crate::specs::Keys::step_of))]
+pub fn step_index(keys: &[i64], fraction: i64) -> Option<usize>
+    ensures value { result ≡ step_of keys.now fraction }
+    // It is the greatest place whose key isn't above the fraction.
+    ensures greatest { IfSome result (IsStep keys.now fraction) }
+{
+    if !have_steps(keys) {
+        return None;
+    }
+    Some(reached(keys, fraction).saturating_sub(1))
+}
+
+/// Whether there are keys, and none is below the one before it. It reads each key once.
+pub fn have_steps(keys: &[i64]) -> bool
+    ensures { result ≡ have_steps keys.now }
+{
+    !keys.is_empty() && are_rising(keys)
+}
+
 /// Whether no key is below `low` or below the one before it.
 fn rise_from(mut low: i64, keys: &[i64]) -> bool
     ensures { result ≡ rise_from low keys.now }
@@ -43,27 +66,4 @@ fn reached(keys: &[i64], fraction: i64) -> usize
         }
     }
     low
-}
-
-/// Whether there are keys, and none is below the one before it. It reads each key once.
-pub fn have_steps(keys: &[i64]) -> bool
-    ensures { result ≡ have_steps keys.now }
-{
-    !keys.is_empty() && are_rising(keys)
-}
-
-/// The place of the last key that a fraction has reached, or the first place where it has reached
-/// none; none where there are no keys, or where a key is below the one before it.
-///
-/// That the keys rise is tested key by key, and the place is then found by binary search.
-#[tactic(auto, unfolding(crate::specs::Keys::step_of))]
-pub fn step_index(keys: &[i64], fraction: i64) -> Option<usize>
-    ensures value { result ≡ step_of keys.now fraction }
-    // It is the greatest place whose key isn't above the fraction.
-    ensures greatest { IfSome result (IsStep keys.now fraction) }
-{
-    if !have_steps(keys) {
-        return None;
-    }
-    Some(reached(keys, fraction).saturating_sub(1))
 }

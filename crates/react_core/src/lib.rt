@@ -1,5 +1,16 @@
 //! What nodes do when events come in: fields are set and sent on, interpolators and sequencers
 //! answer from their keys, and the event utilities pass truth values and times on.
+//!
+//! | Module | Has |
+//! |---|---|
+//! | `reaction` | `react`: what any node does at an event |
+//! | `interpolation`, `interpolator` | what lies between the values of keys, and who sends it |
+//! | `sequence` | the positions of sequencers |
+//! | `utilities` | the event utilities |
+//! | `keys`, `place`, `part` | where a fraction lies among keys, and part of the way there |
+//! | `access`, `stored`, `copies` | which fields are set, what they hold, and copies of values |
+//! | `outbox` | what a node sends at one event |
+//! | `numbers`, `laws` | the numbers of fields, and their names |
 #![tactic(auto)]
 
 mod access;

@@ -27,7 +27,7 @@ fn at_item(item: usize) -> Place
     }
 }
 
-/// Where the fraction lies; nowhere where there are no keys, or where a key is below the one before it.
+/// Where the fraction lies; nowhere without keys, or where a key is below the one before it.
 #[tactic(auto, unfolding(crate::specs::Interpolation::place_of, crate::specs::Keys::step_of))]
 pub fn place_of(keys: &[i64], fraction: i64) -> Option<Place>
     ensures value { result ≡ place_of keys.now fraction }

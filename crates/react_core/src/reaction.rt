@@ -15,6 +15,45 @@ use crate::utilities::{boolean_trigger, filter, integer_trigger, time_trigger, t
 use std::alloc::{AllocError, Global};
 use x3d_values::{Fields, NodeType, Value};
 
+/// Does what a node of that type does when an event comes in, at a time in microseconds: changes
+/// its fields, and puts what it sends into the outbox.
+///
+/// A TimeSensor and an input or a value that the node doesn't take do nothing here; of a
+/// TouchSensor only its fields are set and sent.
+#[tactic(auto, unfolding(crate::specs::Reaction::reaction))]
+pub fn react(
+    alloc: Global,
+    node_type: NodeType,
+    fields: &mut Fields,
+    input: u16,
+    value: &Value,
+    time: i64,
+    out: &mut Outbox,
+) -> Result<(), AllocError>
+    requires empty { out.old.items ≡ [] }
+    // On success the fields and what is sent are those of the definition.
+    ensures fields { OnOk result
+        (fields.new ≡ (reaction node_type fields.old input value.now time).fields) }
+    ensures replies { OnOk result
+        (out.new.items ≡ (reaction node_type fields.old input value.now time).replies) }
+    // Where memory is refused nothing was changed, and nothing is sent.
+    ensures refused_fields { OnErr result (fields.new ≡ fields.old) }
+    ensures refused_replies { OnErr result (out.new.items ≡ []) }
+    // Only strings and lists take memory, and so does what a CoordinateInterpolator sends.
+    ensures no_memory { IsTrue (is_plain value.now) → node_type ≢ CoordinateInterpolator
+        → IsOk result }
+    // All leaves by outputs of the node.
+    ensures outputs { IsTrue (leave_by_outputs node_type out.new.items) }
+{
+    if node_type == NodeType::TimeSensor {
+        return Ok(());
+    }
+    if is_kept(node_type, input, value) {
+        return keep(alloc, fields, input, value, out);
+    }
+    answer(alloc, node_type, fields, input, value, time, out)
+}
+
 /// Sets a field, and sends it.
 fn keep(
     alloc: Global,
@@ -51,8 +90,10 @@ fn answer(
     out: &mut Outbox,
 ) -> Result<(), AllocError>
     requires empty { out.old.items ≡ [] }
-    ensures fields { OnOk result (fields.new ≡ (answer node_type fields.old input value.now time).fields) }
-    ensures replies { OnOk result (out.new.items ≡ (answer node_type fields.old input value.now time).replies) }
+    ensures fields { OnOk result
+        (fields.new ≡ (answer node_type fields.old input value.now time).fields) }
+    ensures replies { OnOk result
+        (out.new.items ≡ (answer node_type fields.old input value.now time).replies) }
     ensures refused_fields { OnErr result (fields.new ≡ fields.old) }
     ensures refused_replies { OnErr result (out.new.items ≡ []) }
     ensures no_memory { node_type ≢ CoordinateInterpolator → IsOk result }
@@ -78,40 +119,4 @@ fn answer(
         _ => {}
     }
     Ok(())
-}
-
-/// Does what a node of that type does when an event comes in, at a time in microseconds: changes
-/// its fields, and puts what it sends into the outbox.
-///
-/// A TimeSensor and an input or a value that the node doesn't take do nothing here; of a
-/// TouchSensor only its fields are set and sent.
-#[tactic(auto, unfolding(crate::specs::Reaction::reaction))]
-pub fn react(
-    alloc: Global,
-    node_type: NodeType,
-    fields: &mut Fields,
-    input: u16,
-    value: &Value,
-    time: i64,
-    out: &mut Outbox,
-) -> Result<(), AllocError>
-    requires empty { out.old.items ≡ [] }
-    // On success the fields and what is sent are those of the definition.
-    ensures fields { OnOk result (fields.new ≡ (reaction node_type fields.old input value.now time).fields) }
-    ensures replies { OnOk result (out.new.items ≡ (reaction node_type fields.old input value.now time).replies) }
-    // Where memory is refused nothing was changed, and nothing is sent.
-    ensures refused_fields { OnErr result (fields.new ≡ fields.old) }
-    ensures refused_replies { OnErr result (out.new.items ≡ []) }
-    // Only strings and lists take memory, and so does what a CoordinateInterpolator sends.
-    ensures no_memory { IsTrue (is_plain value.now) → node_type ≢ CoordinateInterpolator → IsOk result }
-    // All leaves by outputs of the node.
-    ensures outputs { IsTrue (leave_by_outputs node_type out.new.items) }
-{
-    if node_type == NodeType::TimeSensor {
-        return Ok(());
-    }
-    if is_kept(node_type, input, value) {
-        return keep(alloc, fields, input, value, out);
-    }
-    answer(alloc, node_type, fields, input, value, time, out)
 }

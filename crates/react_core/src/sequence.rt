@@ -94,14 +94,16 @@ fn place_after(fields: &Fields, input: u16, value: &Value, count: usize) -> Opti
 
 /// Where an event leads a BooleanSequencer.
 pub fn boolean_step(fields: &Fields, input: u16, value: &Value) -> Option<Step>
-    ensures { result ≡ option_and_then (step_after fields.now input value.now) (option_map (map SFBool) (stored truths_of fields.now KEY_VALUE)) }
+    ensures { result ≡ option_and_then (step_after fields.now input value.now)
+        (option_map (map SFBool) (stored truths_of fields.now KEY_VALUE)) }
 {
     truth_at(fields, input, value, truths_of(fields.value(KEY_VALUE)?)?)
 }
 
 /// Where an event leads an IntegerSequencer.
 pub fn integer_step(fields: &Fields, input: u16, value: &Value) -> Option<Step>
-    ensures { result ≡ option_and_then (step_after fields.now input value.now) (option_map (map SFInt32) (stored integers_of fields.now KEY_VALUE)) }
+    ensures { result ≡ option_and_then (step_after fields.now input value.now)
+        (option_map (map SFInt32) (stored integers_of fields.now KEY_VALUE)) }
 {
     integer_at(fields, input, value, integers_of(fields.value(KEY_VALUE)?)?)
 }

@@ -1,4 +1,5 @@
--- What an event does that comes in at a TimeSensor (ISO/IEC 19775-1, time component; what `enabled` FALSE ends is our choice).
+-- What an event does that comes in at a TimeSensor (ISO/IEC 19775-1, time component; what `enabled`
+-- FALSE ends is our choice).
 use Rattle.std.specs.Prelude.{ℕ, ◌==◌, ℤ, pos, int_le, Bool, false, not, is_some, ◌&&◌, ◌||◌, List, [], ◌∷◌, Option, Some, None, if◌then◌else◌}
 use Rattle.x3d_values.specs.declared.value.Value.{Value}
 use Rattle.x3d_values.specs.declared.value.Value.TheVariants.{SFBool, SFTime}
@@ -7,13 +8,14 @@ use Rattle.react_core.specs.Reaction.{reply}
 use Rattle.sensor_core.specs.declared.numbers.TheConstants.{CYCLE_INTERVAL, ENABLED, LOOP, PAUSE_TIME, RESUME_TIME, START_TIME, STOP_TIME, IS_ACTIVE}
 use Rattle.sensor_core.specs.Timing.{Timing, is_time}
 
--- the cycle that runs after an event, if one does, what the sensor keeps, and what it sends, in order
+-- the cycle that runs after an event, if one does, what the sensor keeps, and what it sends
 pub record Answer : Type 0 where
   pub cycle : Option ℕ
   pub timing : Timing
   pub replies : List Reply
 
--- `startTime` while active; `stopTime` at or below `startTime` while active; `cycleInterval` while active or not above 0
+-- `startTime` while active; `stopTime` at or below `startTime` while active; `cycleInterval` while
+-- active or not above 0
 abbrev pub is_refused : Bool → Timing → ℕ → ℤ → Bool
 is_refused active timing input time =
     if input == START_TIME then active
@@ -42,7 +44,8 @@ with_truth timing input truth =
 unfoldable pub changed : Bool → Timing → ℕ → Value → Option Timing
 changed active timing input (SFBool truth) = with_truth timing input truth
 changed active timing input (SFTime time) =
-    if is_refused active timing input time || not (is_time time) then None else with_time timing input time
+    if is_refused active timing input time || not (is_time time)
+    then None else with_time timing input time
 changed active timing input _ = None
 
 -- `enabled` FALSE ends
@@ -53,7 +56,13 @@ is_disabled timing input = (input == ENABLED) && not timing.enabled
 abbrev pub keeps : Option ℕ → ℕ → Value → Timing → Answer
 keeps cycle input value timing =
     if is_disabled timing input
-    then record { cycle = None; timing = timing; replies = reply input value ∷ (if is_some cycle then reply IS_ACTIVE (SFBool false) ∷ [] else []) }
+    then record {
+      cycle = None;
+      timing = timing;
+      replies =
+          reply input value
+          ∷ (if is_some cycle then reply IS_ACTIVE (SFBool false) ∷ [] else []);
+    }
     else record { cycle = cycle; timing = timing; replies = reply input value ∷ [] }
 
 abbrev pub answer : Option ℕ → Timing → ℕ → Value → Option Timing → Answer
@@ -61,4 +70,5 @@ answer cycle timing input value None = record { cycle = cycle; timing = timing; 
 answer cycle timing input value (Some new) = keeps cycle input value new
 
 unfoldable pub set : Option ℕ → Timing → ℕ → Value → Answer
-set cycle timing input value = answer cycle timing input value (changed (is_some cycle) timing input value)
+set cycle timing input value =
+    answer cycle timing input value (changed (is_some cycle) timing input value)

@@ -12,7 +12,8 @@ use Rattle.sensor_core.specs.Touches.{Touch, pointer, untouched, point}
 unfoldable pub replies_at_each : Touch → List Pointed → List (List Reply)
 replies_at_each touch [] = []
 replies_at_each touch (pointed ∷ others) =
-    (point touch pointed (pos 1)).replies ∷ replies_at_each (point touch pointed (pos 1)).touch others
+    (point touch pointed (pos 1)).replies
+    ∷ replies_at_each (point touch pointed (pos 1)).touch others
 
 abbrev hit : Vec3
 hit = record { x = pos 0; y = pos 0; z = pos 1000000 }

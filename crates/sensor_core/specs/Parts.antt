@@ -22,7 +22,7 @@ cycle_of_parts parts =
     then (if int_le (pos 0) parts.cycle then Some (Some (unsigned_abs parts.cycle)) else None)
     else (if unsigned_abs parts.cycle == 0 then Some None else None)
 
--- ---- a TouchSensor: a number whose bit v says whether viewer v's pointer is over it, and the presser
+-- ---- a TouchSensor: a number whose bit v says whether viewer v's pointer is over it; the presser
 
 abbrev pub bit_of : Bool → ℕ
 bit_of true = 1

@@ -1,4 +1,5 @@
--- What a TimeSensor does when the clock ticks (ISO/IEC 19775-1, time component; the last fraction and the clamped elapsed time are our choice).
+-- What a TimeSensor does when the clock ticks (ISO/IEC 19775-1, time component; the last fraction
+-- and the clamped elapsed time are our choice).
 use Rattle.std.specs.Prelude.{ℕ, ℤ, pos, ◌+ℤ◌, int_lt, int_le, unsigned_abs, Bool, true, false, not, ◌&&◌, ◌||◌, List, [], ◌∷◌, ◌++◌, Option, Some, None, if◌then◌else◌}
 use Rattle.x3d_values.specs.declared.value.Value.TheVariants.{SFBool, SFFloat, SFTime}
 use Rattle.react_core.specs.declared.outbox.Reply.{Reply}
@@ -19,7 +20,9 @@ is_stopped timing t = int_lt timing.start_time timing.stop_time && int_le timing
 -- it starts from the start time on, where it loops or its one cycle isn't over
 abbrev pub is_started : Timing → ℤ → Bool
 is_started timing t =
-    timing.enabled && (int_le timing.start_time t && (not (is_stopped timing t) && (timing.looping || int_lt t (timing.start_time +ℤ timing.cycle_interval))))
+    timing.enabled && (int_le timing.start_time t
+    && (not (is_stopped timing t)
+    && (timing.looping || int_lt t (timing.start_time +ℤ timing.cycle_interval))))
 
 -- the cycle at a time, and when it began
 abbrev pub cycle_of : Timing → ℤ → ℤ
@@ -42,7 +45,10 @@ elapsed_of timing x = elapsed_at timing.start_time x
 -- what each tick of an active sensor sends at t, where the sensor stands at x
 abbrev pub progress : Timing → ℤ → ℤ → List Reply
 progress timing x t =
-    reply FRACTION_CHANGED (SFFloat (fraction_of timing x)) ∷ reply ELAPSED_TIME (SFTime (elapsed_of timing x)) ∷ reply TIME (SFTime t) ∷ []
+    reply FRACTION_CHANGED (SFFloat (fraction_of timing x))
+    ∷ reply ELAPSED_TIME (SFTime (elapsed_of timing x))
+    ∷ reply TIME (SFTime t)
+    ∷ []
 
 -- an inactive sensor
 abbrev pub tick_inactive : Timing → ℤ → Tick
@@ -50,7 +56,10 @@ tick_inactive timing t =
     if is_started timing t
     then record {
       cycle = Some (unsigned_abs (cycle_of timing t));
-      replies = reply IS_ACTIVE (SFBool true) ∷ reply CYCLE_TIME (SFTime (begin_of timing t)) ∷ progress timing t t;
+      replies =
+          reply IS_ACTIVE (SFBool true)
+          ∷ reply CYCLE_TIME (SFTime (begin_of timing t))
+          ∷ progress timing t t;
     }
     else record { cycle = None; replies = [] }
 
@@ -58,7 +67,8 @@ tick_inactive timing t =
 abbrev pub is_over : Timing → ℕ → ℤ → Bool
 is_over timing cycle t = not timing.looping && int_le (end_of timing cycle) t
 
--- where a sensor stands that ends: at the end of its cycle, or else at t where it is stopped; none where it goes on
+-- where a sensor stands that ends: at the end of its cycle, or else at t where it is stopped; none
+-- where it goes on
 unfoldable pub last_place : Timing → ℕ → ℤ → Option ℤ
 last_place timing cycle t =
     if is_over timing cycle t then Some (end_of timing cycle)
@@ -66,7 +76,10 @@ last_place timing cycle t =
 
 -- it ends
 abbrev pub ends : Timing → ℤ → ℤ → Tick
-ends timing x t = record { cycle = None; replies = progress timing x t ++ reply IS_ACTIVE (SFBool false) ∷ [] }
+ends timing x t = record {
+  cycle = None;
+  replies = progress timing x t ++ reply IS_ACTIVE (SFBool false) ∷ [];
+}
 
 -- it goes on, in the same cycle or in a later one
 abbrev pub goes_on : Timing → ℕ → ℤ → Tick

@@ -25,7 +25,9 @@ abbrev pub are_times : ℤ → ℤ → Bool
 are_times one other = is_time one && is_time other
 
 abbrev pub is_timing : Timing → Bool
-is_timing t = is_interval t.cycle_interval && (are_times t.pause_time t.resume_time && are_times t.start_time t.stop_time)
+is_timing t =
+    is_interval t.cycle_interval
+    && (are_times t.pause_time t.resume_time && are_times t.start_time t.stop_time)
 
 -- cycles are numbered in 63 bits
 abbrev pub is_state : Option ℕ → Bool
@@ -57,7 +59,15 @@ timing_of fields = do
   resume ← time_at fields RESUME_TIME
   start ← time_at fields START_TIME
   stop ← time_at fields STOP_TIME
-  checked (record { cycle_interval = interval; enabled = enabled; looping = looping; pause_time = pause; resume_time = resume; start_time = start; stop_time = stop })
+  checked (record {
+    cycle_interval = interval;
+    enabled = enabled;
+    looping = looping;
+    pause_time = pause;
+    resume_time = resume;
+    start_time = start;
+    stop_time = stop;
+  })
 
 -- the fields with these values
 unfoldable pub with_timing : Fields → Timing → Fields

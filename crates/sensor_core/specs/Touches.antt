@@ -1,4 +1,5 @@
--- What a TouchSensor does with the pointers of several viewers (ISO/IEC 19775-1, pointing device sensor component; what concerns more than one viewer is our choice).
+-- What a TouchSensor does with the pointers of several viewers (ISO/IEC 19775-1, pointing device
+-- sensor component; what concerns more than one viewer is our choice).
 use Rattle.std.specs.Prelude.{ℕ, ◌==◌, ℤ, Bool, true, false, not, is_some, is_none, ◌&&◌, ◌||◌, List, [], ◌∷◌, ◌++◌, slice_set, replicate, Option, Some, None, if◌then◌else◌}
 use Rattle.std.specs.List.{list_any}
 use Rattle.std.specs.Option.{option_map_or}
@@ -96,12 +97,15 @@ point touch pointed t =
     let after = touch_after touch pointed in
     record {
       touch = after;
-      replies = over_replies (is_over touch) (is_over after) ++ hit_replies touch pointed pointed.inside ++ press_replies touch pointed t;
+      replies =
+          over_replies (is_over touch) (is_over after)
+          ++ hit_replies touch pointed pointed.inside
+          ++ press_replies touch pointed t;
     }
 
 -- ---- `enabled` FALSE
 
--- it forgets its pointers: `isOver` FALSE if one was over it, `isActive` FALSE if a viewer pressed it
+-- it forgets its pointers: `isOver` FALSE if one was over it, `isActive` FALSE if it was pressed
 unfoldable pub disable : Touch → Touched
 disable touch = record {
   touch = untouched;

@@ -57,7 +57,8 @@ fn gone_by(length: u128, elapsed: i64) -> Option<i64>
 pub fn end_by(start: i64, interval: i64, cycle: u64, t: i64) -> Option<i64>
     requires cycles { AreCycles start interval }
     requires near { IsNear t }
-    ensures value { result ≡ (if int_le (cycle_end start interval cycle) t then Some (cycle_end start interval cycle) else None) }
+    ensures value { result ≡ (if int_le (cycle_end start interval cycle) t
+        then Some (cycle_end start interval cycle) else None) }
     ensures near { IfSome result IsNear }
 {
     let length = (cycle as u128 + 1) * interval as u128;

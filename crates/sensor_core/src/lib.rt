@@ -4,7 +4,7 @@
 //! | Module | Has |
 //! |---|---|
 //! | `tick`, `set` | what a TimeSensor does when the clock ticks, and when an event comes in |
-//! | `timing`, `state`, `cycles` | what it keeps, whether it runs, and the arithmetic of its cycles |
+//! | `timing`, `state`, `cycles` | what it keeps, whether it runs, and its cycles |
 //! | `touch` | what a TouchSensor does with a pointer, and when it is disabled |
 //! | `parts` | both states in plain numbers |
 //! | `numbers`, `touch_numbers`, `laws` | the numbers of the fields, and their names |

@@ -12,6 +12,64 @@ use crate::timing::{TimeFields, is_time};
 use react_core::{Outbox, Reply};
 use x3d_values::Value;
 
+impl TimeState {
+    ghost use Rattle.std.specs.Prelude.{◌≡◌, [], IsTrue};
+    ghost use Rattle.x3d_values.specs.declared.node_type.NodeType.TheVariants.{TimeSensor};
+    ghost use Rattle.react_core.specs.Access.{leave_by_outputs};
+    ghost use Rattle.sensor_core.specs.Events.{keeps, set};
+
+    /// Does what an event does that comes in at a TimeSensor: sets a field, and puts what the
+    /// sensor sends into the outbox.
+    #[tactic(auto, unfolding(crate::specs::Events::set, crate::specs::Events::changed))]
+    pub fn set(&mut self, fields: &mut TimeFields, input: u16, value: &Value, out: &mut Outbox)
+        requires empty { out.old.items ≡ [] }
+        ensures state { self.new ≡ (set self.old fields.old input value.now).cycle }
+        ensures fields { fields.new ≡ (set self.old fields.old input value.now).timing }
+        ensures replies { out.new.items ≡ (set self.old fields.old input value.now).replies }
+        // All leaves by outputs of a TimeSensor.
+        ensures outputs { IsTrue (leave_by_outputs TimeSensor out.new.items) }
+    {
+        match value {
+            Value::SFBool(truth) => {
+                if let Some(new) = with_truth(fields, input, *truth) {
+                    *fields = new;
+                    self.keep(fields, input, Value::SFBool(*truth), out);
+                }
+            }
+            Value::SFTime(time) => {
+                if let Some(new) = changed_time(self.is_active(), fields, input, *time) {
+                    *fields = new;
+                    self.keep(fields, input, Value::SFTime(*time), out);
+                }
+            }
+            _ => {}
+        }
+    }
+
+    /// Sends the field that was set, and ends a sensor that it disables.
+    fn keep(&mut self, fields: &TimeFields, input: u16, value: Value, out: &mut Outbox)
+        requires empty { out.old.items ≡ [] }
+        ensures state { self.new ≡ (keeps self.old input value fields.now).cycle }
+        ensures replies { out.new.items ≡ (keeps self.old input value fields.now).replies }
+    {
+        let active = self.is_active();
+        out.push(Reply {
+            field: input,
+            value,
+        });
+        if !is_disabled(fields, input) {
+            return;
+        }
+        *self = TimeState::inactive();
+        if active {
+            out.push(Reply {
+                field: IS_ACTIVE,
+                value: Value::SFBool(false),
+            });
+        }
+    }
+}
+
 /// Whether a time isn't taken: by a running sensor, or as the length of a cycle.
 fn is_refused(active: bool, fields: &TimeFields, input: u16, time: i64) -> bool
     ensures { result ≡ is_refused active fields.now input time }
@@ -74,7 +132,8 @@ fn with_truth(fields: &TimeFields, input: u16, truth: bool) -> Option<TimeFields
 
 /// What the sensor keeps after an event that sets a time.
 fn changed_time(active: bool, fields: &TimeFields, input: u16, time: i64) -> Option<TimeFields>
-    ensures { result ≡ (if is_refused active fields.now input time || not (is_time time) then None else with_time fields.now input time) }
+    ensures { result ≡ (if is_refused active fields.now input time || not (is_time time)
+        then None else with_time fields.now input time) }
 {
     if is_refused(active, fields, input, time) {
         return None;
@@ -89,62 +148,4 @@ fn is_disabled(fields: &TimeFields, input: u16) -> bool
     ensures { result ≡ is_disabled fields.now input }
 {
     input == ENABLED && !fields.is_enabled()
-}
-
-impl TimeState {
-    ghost use Rattle.std.specs.Prelude.{◌≡◌, [], IsTrue};
-    ghost use Rattle.x3d_values.specs.declared.node_type.NodeType.TheVariants.{TimeSensor};
-    ghost use Rattle.react_core.specs.Access.{leave_by_outputs};
-    ghost use Rattle.sensor_core.specs.Events.{keeps, set};
-
-    /// Sends the field that was set, and ends a sensor that it disables.
-    fn keep(&mut self, fields: &TimeFields, input: u16, value: Value, out: &mut Outbox)
-        requires empty { out.old.items ≡ [] }
-        ensures state { self.new ≡ (keeps self.old input value fields.now).cycle }
-        ensures replies { out.new.items ≡ (keeps self.old input value fields.now).replies }
-    {
-        let active = self.is_active();
-        out.push(Reply {
-            field: input,
-            value,
-        });
-        if !is_disabled(fields, input) {
-            return;
-        }
-        *self = TimeState::inactive();
-        if active {
-            out.push(Reply {
-                field: IS_ACTIVE,
-                value: Value::SFBool(false),
-            });
-        }
-    }
-
-    /// Does what an event does that comes in at a TimeSensor: sets a field, and puts what the
-    /// sensor sends into the outbox.
-    #[tactic(auto, unfolding(crate::specs::Events::set, crate::specs::Events::changed))]
-    pub fn set(&mut self, fields: &mut TimeFields, input: u16, value: &Value, out: &mut Outbox)
-        requires empty { out.old.items ≡ [] }
-        ensures state { self.new ≡ (set self.old fields.old input value.now).cycle }
-        ensures fields { fields.new ≡ (set self.old fields.old input value.now).timing }
-        ensures replies { out.new.items ≡ (set self.old fields.old input value.now).replies }
-        // All leaves by outputs of a TimeSensor.
-        ensures outputs { IsTrue (leave_by_outputs TimeSensor out.new.items) }
-    {
-        match value {
-            Value::SFBool(truth) => {
-                if let Some(new) = with_truth(fields, input, *truth) {
-                    *fields = new;
-                    self.keep(fields, input, Value::SFBool(*truth), out);
-                }
-            }
-            Value::SFTime(time) => {
-                if let Some(new) = changed_time(self.is_active(), fields, input, *time) {
-                    *fields = new;
-                    self.keep(fields, input, Value::SFTime(*time), out);
-                }
-            }
-            _ => {}
-        }
-    }
 }

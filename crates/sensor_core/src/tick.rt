@@ -14,6 +14,35 @@ use crate::timing::TimeFields;
 use react_core::{Outbox, Reply};
 use x3d_values::Value;
 
+impl TimeState {
+    ghost use Rattle.std.specs.Prelude.{◌≡◌, ◌^◌, [], pos, ◌≤ℤ◌, IsTrue};
+    ghost use Rattle.x3d_values.specs.declared.node_type.NodeType.TheVariants.{TimeSensor};
+    ghost use Rattle.react_core.specs.Access.{leave_by_outputs};
+    ghost use Rattle.sensor_core.specs.Ticks.{tick};
+
+    /// Does what a TimeSensor does when the clock ticks, at a time in microseconds, and puts what
+    /// it sends into the outbox.
+    #[tactic(auto, using(crate::proofs::CycleLemmas::passed), unfolding(crate::specs::Ticks::tick))]
+    pub fn tick(&mut self, fields: &TimeFields, t: i64, out: &mut Outbox)
+        requires after { pos 0 ≤ℤ t }
+        requires late { t ≤ℤ pos (10 ^ 18) }
+        requires empty { out.old.items ≡ [] }
+        ensures state { self.new ≡ (tick self.old fields.now t).cycle }
+        ensures replies { out.new.items ≡ (tick self.old fields.now t).replies }
+        // All leaves by outputs of a TimeSensor.
+        ensures outputs { IsTrue (leave_by_outputs TimeSensor out.new.items) }
+    {
+        let Some(cycle) = self.cycle() else {
+            *self = tick_inactive(fields, t, out);
+            return;
+        };
+        *self = match last_place(fields, cycle, t) {
+            Some(x) => ends(fields, x, t, out),
+            None => goes_on(fields, cycle, t, out),
+        };
+    }
+}
+
 /// Whether a stop that counts is at or below a time.
 fn is_stopped(fields: &TimeFields, t: i64) -> bool
     ensures { result ≡ is_stopped fields.now t }
@@ -98,7 +127,8 @@ fn progress(fields: &TimeFields, x: i64, t: i64, out: &mut Outbox)
 #[tactic(auto, using(crate::proofs::CycleLemmas::passed))]
 fn last_end(fields: &TimeFields, cycle: u64, t: i64) -> Option<i64>
     requires near { IsNear t }
-    ensures value { result ≡ (if is_over fields.now cycle t then Some (end_of fields.now cycle) else None) }
+    ensures value { result
+        ≡ (if is_over fields.now cycle t then Some (end_of fields.now cycle) else None) }
     ensures near { IfSome result IsNear }
 {
     if fields.is_looping() {
@@ -170,33 +200,4 @@ fn goes_on(fields: &TimeFields, cycle: u64, t: i64, out: &mut Outbox) -> TimeSta
     }
     progress(fields, t, t, out);
     TimeState::active(cycle)
-}
-
-impl TimeState {
-    ghost use Rattle.std.specs.Prelude.{◌≡◌, ◌^◌, [], pos, ◌≤ℤ◌, IsTrue};
-    ghost use Rattle.x3d_values.specs.declared.node_type.NodeType.TheVariants.{TimeSensor};
-    ghost use Rattle.react_core.specs.Access.{leave_by_outputs};
-    ghost use Rattle.sensor_core.specs.Ticks.{tick};
-
-    /// Does what a TimeSensor does when the clock ticks, at a time in microseconds, and puts what
-    /// it sends into the outbox.
-    #[tactic(auto, using(crate::proofs::CycleLemmas::passed), unfolding(crate::specs::Ticks::tick))]
-    pub fn tick(&mut self, fields: &TimeFields, t: i64, out: &mut Outbox)
-        requires after { pos 0 ≤ℤ t }
-        requires late { t ≤ℤ pos (10 ^ 18) }
-        requires empty { out.old.items ≡ [] }
-        ensures state { self.new ≡ (tick self.old fields.now t).cycle }
-        ensures replies { out.new.items ≡ (tick self.old fields.now t).replies }
-        // All leaves by outputs of a TimeSensor.
-        ensures outputs { IsTrue (leave_by_outputs TimeSensor out.new.items) }
-    {
-        let Some(cycle) = self.cycle() else {
-            *self = tick_inactive(fields, t, out);
-            return;
-        };
-        *self = match last_place(fields, cycle, t) {
-            Some(x) => ends(fields, x, t, out),
-            None => goes_on(fields, cycle, t, out),
-        };
-    }
 }

@@ -80,7 +80,8 @@ impl TouchState {
         requires viewer { IsTrue (is_viewer who) }
         requires empty { out.old.items ≡ [] }
         ensures touch { self.new ≡ (point self.old (pointer who before down inside) t).touch }
-        ensures replies { out.new.items ≡ (point self.old (pointer who before down inside) t).replies }
+        ensures replies { out.new.items
+            ≡ (point self.old (pointer who before down inside) t).replies }
         // All leaves by outputs of a TouchSensor.
         ensures outputs { IsTrue (leave_by_outputs TouchSensor out.new.items) }
     {
@@ -200,7 +201,8 @@ impl TouchState {
 
     fn send_hit(&self, pointed: Pointed, out: &mut Outbox)
         requires { array_vec_len out.old + 1 ≤ 5 }
-        ensures items { out.new.items ≡ out.old.items ++ hit_replies self.now pointed pointed.inside }
+        ensures items { out.new.items
+            ≡ out.old.items ++ hit_replies self.now pointed pointed.inside }
         ensures len { array_vec_len out.new ≤ array_vec_len out.old + 1 }
     {
         let Some(point) = pointed.inside else {
