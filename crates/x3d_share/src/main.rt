@@ -6,8 +6,8 @@ mod tests;
 
 use cascade_core::Scripts;
 use share_program::{
-    Failure, Order, OrderFault, RunFault, StreamFault, command_of, help_of, read_job, refusal_line,
-    run, status_of, write_whole,
+    Failure, Order, OrderFault, RunFault, StreamFault, command_of, format_text, help_of, read_job,
+    refusal_line, run, status_of, write_whole,
 };
 use std::alloc::{AllocError, Global};
 use std::io;
@@ -37,9 +37,16 @@ fn run_job<R: AllocGlobal + Input + Print>(rt: &R) -> Result<(), Failure> {
     Ok(())
 }
 
+/// Reads a scene and prints its text.
+fn format_scene<R: AllocGlobal + Input + Print>(rt: &R) -> Result<(), Failure> {
+    format_text(rt.alloc(), &mut rt.reader(), &mut io::writer(rt))?;
+    Ok(())
+}
+
 fn obey<R: AllocGlobal + Input + Print>(rt: &R, words: &[&str]) -> Result<(), Failure> {
     match command_of(rt.alloc(), words)? {
         Order::Run => run_job(rt),
+        Order::Format => format_scene(rt),
     }
 }
 
