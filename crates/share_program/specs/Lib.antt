@@ -3,5 +3,6 @@ pub mod Lines
 pub mod Refusal
 pub mod Words
 pub mod Faults
+pub mod Formatting
 pub mod Opening
 pub mod Running

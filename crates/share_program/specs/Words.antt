@@ -5,7 +5,7 @@ use Rattle.clap.specs.declared.error.kind.ErrorKind.{ErrorKind}
 use Rattle.clap.specs.declared.error.kind.ErrorKind.TheVariants as kind
 use Rattle.clap.specs.Simple.{on_top}
 use Rattle.share_program.specs.declared.order.Order.{Order}
-use Rattle.share_program.specs.declared.order.Order.TheVariants.{Run}
+use Rattle.share_program.specs.declared.order.Order.TheVariants.{Run, Format}
 use Rattle.share_program.specs.declared.order.OrderFault.{OrderFault}
 use Rattle.share_program.specs.declared.order.OrderFault.TheVariants.{Words, Memory}
 use Rattle.std.specs.declared.io.ErrorKind.{ErrorKind as IoErrorKind}
@@ -17,17 +17,21 @@ bare_program =
     on_top (λ s. record s { has_version = true; propagate_version = true; subcommand_required = true; disable_help_subcommand = true })
     (new_app (codes "x3d_share"))
 
--- `run`, without options
+-- `run` and `format`, without options
 abbrev pub run_app : App
 run_app = new_app (codes "run")
 
--- the program
+abbrev pub format_app : App
+format_app = new_app (codes "format")
+
+-- the program: each command is added behind those before it
 abbrev pub program : App
-program = with_subcommand bare_program run_app.top
+program = with_subcommand (with_subcommand bare_program run_app.top) format_app.top
 
 -- the command of this name with these matches asks for this
 abbrev pub Asks : Order → Text × List Row → Type 0
 Asks Run p = p.0 ≡ codes "run"
+Asks Format p = p.0 ≡ codes "format"
 
 -- why the process's own words can't be had: memory was refused, or one of them is no text
 abbrev pub order_fault_of : IoErrorKind → OrderFault

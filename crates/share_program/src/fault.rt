@@ -13,11 +13,11 @@ use scene_core::{SceneFault, SceneFaultKind};
 use std::alloc::{AllocError, AllocFailed};
 use thiserror::Error;
 
-/// Why bytes are no job, in the order in which a job is tested: the whole input is read first, then
-/// its lines, then its scene.
+/// Why bytes are no job or no scene, in the order in which a job is tested: the whole input is read
+/// first, then its lines, then its scene.
 #[derive(Clone, Copy, Debug, PartialEq, Eq, Error)]
 pub enum JobFault {
-    #[error("the input failed, or had no end")]
+    #[error("the input or the output failed, or the input had no end")]
     Device,
     #[error("line {0} is no step")]
     BadJob(u32),

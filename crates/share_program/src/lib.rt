@@ -3,6 +3,7 @@
 #![tactic(auto)]
 
 mod fault;
+mod format;
 mod inputs;
 mod job;
 mod line;
@@ -14,6 +15,7 @@ mod stream;
 mod words;
 
 pub use fault::{JobFault, RunFault};
+pub use format::format_text;
 pub use inputs::Inputs;
 pub use job::{Steps, job_of};
 pub use open::{Job, Opened, open_job, open_scene, read_job};

@@ -12,6 +12,8 @@ use thiserror::Error;
 pub enum Order {
     /// `run`: the input is a job.
     Run,
+    /// `format`: the input is a scene.
+    Format,
 }
 
 /// Why words give no command.

@@ -6,8 +6,8 @@ mod tests;
 
 use cascade_core::Scripts;
 use share_program::{
-    Failure, Order, OrderFault, RunFault, StreamFault, command_of, help_of, refusal_line, run_job,
-    status_of, write_whole,
+    Failure, Order, OrderFault, RunFault, StreamFault, command_of, format_text, help_of,
+    refusal_line, run_job, status_of, write_whole,
 };
 use std::alloc::{AllocError, Global};
 use std::io;
@@ -29,11 +29,22 @@ fn output_failure(fault: StreamFault) -> Failure {
     Failure::Run(RunFault::from(fault))
 }
 
-fn obey<R: AllocGlobal + Input + Print>(rt: &R, words: &[&str]) -> Result<(), Failure> {
-    let order = command_of(rt.alloc(), words)?;
+/// Reads a job, runs it and prints what came of it.
+fn run_own<R: AllocGlobal + Input + Print>(rt: &R) -> Result<(), Failure> {
     let scripts: Scripts<()> = Scripts::none();
-    match order {
-        Order::Run => run_job(rt.alloc(), &mut rt.reader(), scripts, &mut io::writer(rt)),
+    run_job(rt.alloc(), &mut rt.reader(), scripts, &mut io::writer(rt))
+}
+
+/// Reads a scene and prints its text.
+fn format_scene<R: AllocGlobal + Input + Print>(rt: &R) -> Result<(), Failure> {
+    format_text(rt.alloc(), &mut rt.reader(), &mut io::writer(rt))?;
+    Ok(())
+}
+
+fn obey<R: AllocGlobal + Input + Print>(rt: &R, words: &[&str]) -> Result<(), Failure> {
+    match command_of(rt.alloc(), words)? {
+        Order::Run => run_own(rt),
+        Order::Format => format_scene(rt),
     }
 }
 

@@ -8,7 +8,7 @@ use classic_tree::write;
 use proto_expand::{ExpandFaultKind, Flat, expand};
 use route_core::{RouteFaultKind, Routes};
 use scene_core::{Scene, SceneFaultKind};
-use share_program::open_scene;
+use share_program::{JobFault, format_text, open_scene};
 use std::alloc::Global;
 use std::process::Abort;
 use std::test::Fail;
@@ -64,6 +64,20 @@ fn rewrites(rt: &impl Abort, alloc: Global, spare: usize) -> Result<bool, Fail> 
     drop(used_up);
     assert!(rt; answer.is_ok() || out.len() == len);
     Ok(answer.is_ok())
+}
+
+/// The same of reading and writing a scene by one call. What is refused writes nothing.
+fn formats(rt: &impl Abort, alloc: Global, spare: usize) -> Result<bool, Fail> {
+    let mut reader = SCENE.as_bytes();
+    let mut out = Vec::with_capacity(alloc, FULL)?;
+    let used_up = UsedUp::but_for(alloc, &[spare])?;
+    let fault = format_text(alloc, &mut reader, &mut out).err();
+    drop(used_up);
+    let Some(fault) = fault else {
+        return Ok(true);
+    };
+    assert!(rt; fault == JobFault::Memory && out.is_empty());
+    Ok(false)
 }
 
 /// The same of expanding.
@@ -280,6 +294,7 @@ fn prints(rt: &impl Abort, alloc: Global, spare: usize) -> Result<bool, Fail> {
 enum Call {
     Read,
     Rewrite,
+    Format,
     Expand,
     Build,
     Resolve,
@@ -295,6 +310,7 @@ fn works(rt: &impl Abort, alloc: Global, call: Call, spare: usize) -> Result<boo
     match call {
         Call::Read => reads(rt, alloc, spare),
         Call::Rewrite => rewrites(rt, alloc, spare),
+        Call::Format => formats(rt, alloc, spare),
         Call::Expand => expands(rt, alloc, spare),
         Call::Build => builds(rt, alloc, spare),
         Call::Resolve => resolves(rt, alloc, spare),
@@ -328,6 +344,13 @@ fn each_growth_of_reading_is_refused(rt: HostRuntime) -> Result<(), Fail> {
     assert!(rt; refused > 5, "{refused}");
     let refused = refusals(&rt, rt.alloc(), Call::Rewrite, 512)?;
     assert!(rt; refused > 3, "{refused}");
+    Ok(())
+}
+
+#[test]
+fn each_growth_of_formatting_is_refused(rt: HostRuntime) -> Result<(), Fail> {
+    let refused = refusals(&rt, rt.alloc(), Call::Format, 256)?;
+    assert!(rt; refused > 5, "{refused}");
     Ok(())
 }
 

@@ -129,7 +129,7 @@ fn a_world_takes_a_million_inputs(rt: HostRuntime) -> Result<(), Fail> {
 
 /// Gives three bytes a read, and fails at one read.
 #[derive(Drop)]
-struct Patchy<'a> {
+pub(super) struct Patchy<'a> {
     left: &'a [u8],
     reads: u32,
     fails_at: u32,
@@ -149,39 +149,47 @@ impl<'a> Read for Patchy<'a> {
     }
 }
 
-fn failing_reader(fails_at: u32, kind: ErrorKind) -> Patchy<'static> {
+pub(super) fn failing_reader(left: &[u8], fails_at: u32, kind: ErrorKind) -> Patchy<'_> {
     Patchy {
-        left: b"clock 1\nscene\n",
+        left,
         reads: 0,
         fails_at,
         kind,
     }
 }
 
+const JOB: &[u8] = b"clock 1\nscene\n";
+
 #[test]
 fn a_failed_read_is_answered(rt: HostRuntime) {
     for read in 1..7 {
-        let failed = read_whole(rt.alloc(), &mut failing_reader(read, ErrorKind::BrokenPipe));
+        let failed = read_whole(
+            rt.alloc(),
+            &mut failing_reader(JOB, read, ErrorKind::BrokenPipe),
+        );
         assert!(rt;
             matches!(&failed, Err(fault) if *fault == StreamFault::Device),
             "{read}"
         );
         let tried_again = read_whole(
             rt.alloc(),
-            &mut failing_reader(read, ErrorKind::Interrupted),
+            &mut failing_reader(JOB, read, ErrorKind::Interrupted),
         );
         assert!(rt;
             matches!(&tried_again, Ok(bytes) if bytes.as_slice() == b"clock 1\nscene\n".as_slice()),
             "{read}"
         );
     }
-    let whole = read_whole(rt.alloc(), &mut failing_reader(7, ErrorKind::BrokenPipe));
+    let whole = read_whole(
+        rt.alloc(),
+        &mut failing_reader(JOB, 7, ErrorKind::BrokenPipe),
+    );
     assert!(rt; matches!(&whole, Ok(bytes) if bytes.len() == 14));
 }
 
 /// Takes three bytes a write, and fails at one write or flush.
 #[derive(Drop)]
-struct Choppy {
+pub(super) struct Choppy {
     got: Vec<u8>,
     calls: u32,
     fails_at: u32,
@@ -210,7 +218,7 @@ impl Write for Choppy {
     }
 }
 
-fn failing_writer(alloc: Global, fails_at: u32) -> Choppy {
+pub(super) fn failing_writer(alloc: Global, fails_at: u32) -> Choppy {
     Choppy {
         got: Vec::new(alloc),
         calls: 0,
@@ -242,6 +250,7 @@ fn is_command<'a>(
 fn words_are_commands(rt: HostRuntime) {
     is_command(&rt, rt.alloc(), &["x3d_share", "run"], Ok(Order::Run));
     is_command(&rt, rt.alloc(), &["./other", "run"], Ok(Order::Run));
+    is_command(&rt, rt.alloc(), &["x3d_share", "format"], Ok(Order::Format));
     is_command(&rt, rt.alloc(), &[], Err(OrderFault::Words));
     is_command(&rt, rt.alloc(), &["x3d_share"], Err(OrderFault::Words));
     is_command(
@@ -316,6 +325,18 @@ fn help_is_shown_where_it_is_asked_for(rt: HostRuntime) {
         rt.alloc(),
         &["x3d_share", "run", "--help"],
         "Usage: x3d_share run",
+    );
+    shows(
+        &rt,
+        rt.alloc(),
+        &["x3d_share", "--help"],
+        "  x3d_share format < examples/lamp.x3dv",
+    );
+    shows(
+        &rt,
+        rt.alloc(),
+        &["x3d_share", "format", "--help"],
+        "Usage: x3d_share format",
     );
     shows(
         &rt,

@@ -1,0 +1,43 @@
+-- What `format` reads and writes: a text, and the text of its document (ISO/IEC 19776-2, grammar).
+use Rattle.std.specs.Prelude.{◌≡◌, ◌⊎◌, Option, ℕ, List, Result, Ok, Err}
+use Rattle.std.specs.Io.KnownBytes.{Appends, Consumes, IsAtEnd, Keeps}
+use Rattle.classic_tree.specs.Writing.{document_text}
+use Rattle.classic_tree.specs.declared.tree.Document.{Document}
+use Rattle.classic_text.specs.Reading.{read_text}
+use Rattle.classic_text.specs.Spells.{Spells}
+use Rattle.classic_round_trip.specs.AnyLength.{SpellsAtAnyLength}
+use Rattle.share_program.specs.Faults.{of_read}
+use Rattle.share_program.specs.Opening.{next}
+use Rattle.share_program.specs.declared.fault.JobFault.{JobFault}
+use Rattle.share_program.specs.declared.fault.JobFault.TheVariants.{Device}
+
+-- the document that a text spells, or its first fault
+abbrev pub document_of : List ℕ → Result Document JobFault
+document_of text = next of_read (read_text text) (λ d. Ok d)
+
+-- a reader, from the one state to the other, was read to its end, and what it had spells the document
+pub record IsRead (old new : Option (List ℕ)) (d : Document) : Type 0 where
+  pub bytes : List ℕ
+  pub consumed : Consumes old new bytes
+  pub ended : IsAtEnd new
+  pub spelled : Spells bytes d
+
+-- a reader was read to its end, and what it had spells no document for this reason
+pub record IsNoText (old new : Option (List ℕ)) (fault : JobFault) : Type 0 where
+  pub bytes : List ℕ
+  pub consumed : Consumes old new bytes
+  pub ended : IsAtEnd new
+  pub refused : document_of bytes ≡ Err fault
+
+-- what a reader had spells a document, and a writer took the text of that document, which spells it again, whatever its length
+-- and but for the lines in it
+pub record IsFormatted (old_read new_read old_written new_written : Option (List ℕ)) : Type 0 where
+  pub document : Document
+  pub read : IsRead old_read new_read document
+  pub written : Appends old_written new_written (document_text document)
+  pub again : SpellsAtAnyLength (document_text document) document
+
+-- nothing was written; or the writer failed, and then all that the reader had spells a document
+abbrev pub IsUnwritten : Option (List ℕ) → Option (List ℕ) → Option (List ℕ) → Option (List ℕ) → JobFault → Type 0
+IsUnwritten old_read new_read old_written new_written fault =
+    Keeps old_written new_written ⊎ ((fault ≡ Device) × ((d : Document) × IsRead old_read new_read d))

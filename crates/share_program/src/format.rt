@@ -1,0 +1,59 @@
+//! A scene's text as it is written.
+
+ghost use Rattle.std.specs.Prelude.{◌≡◌, ◌⊎◌, IfOk, IfErr, OnOk, List, ℕ};
+ghost use Rattle.classic_tree.specs.Writing.{document_text};
+ghost use Rattle.classic_text.specs.Spells.{Spells};
+ghost use Rattle.classic_round_trip.specs.AnyLength.{SpellsAtAnyLength};
+ghost use Rattle.share_program.specs.Formatting.{IsRead, IsNoText, IsFormatted, IsUnwritten};
+ghost use Rattle.share_program.specs.Opening.{IsDeviceOrMemory};
+
+use crate::fault::JobFault;
+use crate::stream::{read_whole, write_whole};
+use classic_round_trip::{spellable_documents_are_written, spelled_documents_are_spellable, write};
+use classic_text::read;
+use classic_tree::Document;
+use std::alloc::{AllocError, Global};
+use std::io::{Read, Write};
+
+/// Reads a scene to its end, and writes the text of its document: the whole text is made before the
+/// first byte is written. It is refused for the device after 2^27 reads.
+pub fn format_text<R: Read, W: Write>(
+    alloc: Global,
+    reader: &mut R,
+    writer: &mut W,
+) -> Result<(), JobFault>
+    ensures ok { OnOk result (IsFormatted (R.remaining reader.old) (R.remaining reader.new)
+        (W.contents writer.old) (W.contents writer.new)) }
+    ensures refused { IfErr result (λ f. IsDeviceOrMemory f
+        ⊎ IsNoText (R.remaining reader.old) (R.remaining reader.new) f) }
+    ensures nothing { IfErr result (IsUnwritten (R.remaining reader.old) (R.remaining reader.new)
+        (W.contents writer.old) (W.contents writer.new)) }
+{
+    let document = read_document(alloc, reader)?;
+    let text = text_of(alloc, &document)?;
+    write_whole(writer, text.as_slice())?;
+    Ok(())
+}
+
+/// The document that a reader has left.
+fn read_document<R: Read>(alloc: Global, reader: &mut R) -> Result<Document, JobFault>
+    ensures read { IfOk result (IsRead (R.remaining reader.old) (R.remaining reader.new)) }
+    ensures refused { IfErr result (λ f. IsDeviceOrMemory f
+        ⊎ IsNoText (R.remaining reader.old) (R.remaining reader.new) f) }
+{
+    let bytes = read_whole(alloc, reader)?;
+    Ok(read(alloc, bytes.as_slice())?)
+}
+
+/// The text of a document. Where some text spells the document, this one does.
+fn text_of(alloc: Global, document: &Document) -> Result<Vec<u8>, AllocError>
+    ensures text { IfOk result (λ v. v.items ≡ document_text document.now) }
+    ensures again { (text : List ℕ) → Spells text document.now
+        → SpellsAtAnyLength (document_text document.now) document.now }
+{
+    spelled_documents_are_spellable();
+    spellable_documents_are_written();
+    let mut out = Vec::new(alloc);
+    write(document, &mut out)?;
+    Ok(out)
+}
