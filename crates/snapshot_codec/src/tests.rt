@@ -49,9 +49,9 @@ fn an_empty_world_has_95_bytes(rt: HostRuntime) -> Result<(), Fail> {
     let mut out = Vec::new(rt.alloc());
     empty_snapshot(&mut out)?;
     assert_eq!(rt; out.len(), 95);
-    assert!(rt; &out[..37] == b"X3DW\x01abcdefghijklmnopqrstuvwxyzABCDEF".as_slice());
     assert_eq!(rt; open(1, &MARK, &out), Ok(EMPTY));
-    assert!(rt; &out[63..] == scene_mark(&out[..63]).as_slice());
+    let progress = progress_of(EMPTY).map(|read| read.0.boot);
+    assert_eq!(rt; progress, Some(1));
     Ok(())
 }
 
@@ -59,16 +59,21 @@ fn an_empty_world_has_95_bytes(rt: HostRuntime) -> Result<(), Fail> {
 fn the_first_fault_is_told(rt: HostRuntime) -> Result<(), Fail> {
     let mut out = Vec::new(rt.alloc());
     empty_snapshot(&mut out)?;
-    assert_eq!(rt; open(1, &MARK, &out[..84]), Err(HeadFault::Short));
-    assert_eq!(rt; open(1, &MARK, &out[..94]), Err(HeadFault::BadDigest));
-    assert_eq!(rt; open(1, &[0; 32], &out), Err(HeadFault::WrongScene));
+    assert_eq!(rt; open(1, &MARK, EMPTY), Err(HeadFault::Short));
+    assert_eq!(rt; open(1, &MARK, &[b'X'; 85]), Err(HeadFault::BadMagic));
     assert_eq!(rt; open(2, &[0; 32], &out), Err(HeadFault::BadVersion));
-    out[0] ^= 1;
-    assert_eq!(rt; open(2, &MARK, &out), Err(HeadFault::BadMagic));
-    out[0] ^= 1;
-    out[94] ^= 1;
+    assert_eq!(rt; open(1, &[0; 32], &out), Err(HeadFault::WrongScene));
+    out.push(0)?;
     assert_eq!(rt; open(1, &MARK, &out), Err(HeadFault::BadDigest));
     Ok(())
+}
+
+#[test]
+fn a_mark_is_the_digest_of_the_text(rt: HostRuntime) {
+    let mark = scene_mark(b"abc");
+    let digest = b"\xba\x78\x16\xbf\x8f\x01\xcf\xea\x41\x41\x40\xde\x5d\xae\x22\x23\
+        \xb0\x03\x61\xa3\x96\x17\x7a\x9c\xb4\x10\xff\x61\xf2\x00\x15\xad";
+    assert!(rt; mark.as_slice() == digest.as_slice());
 }
 
 /// Whether the value has these bytes, and is read from them.
@@ -140,17 +145,21 @@ fn other_bytes_are_not_canonical(rt: HostRuntime) {
 }
 
 #[test]
-fn sensors_have_their_bytes(rt: HostRuntime) -> Result<(), Fail> {
+fn cycles_have_their_bytes(rt: HostRuntime) -> Result<(), Fail> {
     let mut out = Vec::new(rt.alloc());
     push_cycle(Some(258), &mut out)?;
-    push_cycle(None, &mut out)?;
-    assert!(rt;
-        out.as_slice()
-            == b"\x01\x00\x00\x00\x00\x00\x00\x01\x02\x00\x00\x00\x00\x00\x00\x00\x00\x00".as_slice()
-    );
-    assert_eq!(rt; cycle_of(&out), Some((Some(258), &out[9..])));
-    assert_eq!(rt; cycle_of(&out[9..]), Some((None, b"".as_slice())));
+    assert!(rt; out.as_slice() == b"\x01\x00\x00\x00\x00\x00\x00\x01\x02".as_slice());
+    assert_eq!(rt; cycle_of(&out), Some((Some(258), b"".as_slice())));
     out.clear();
+    push_cycle(None, &mut out)?;
+    assert_eq!(rt; cycle_of(&out), Some((None, b"".as_slice())));
+    assert_eq!(rt; cycle_of(b"\x00\x00\x00\x00\x00\x00\x00\x00\x01"), None);
+    Ok(())
+}
+
+#[test]
+fn touches_and_positions_have_their_bytes(rt: HostRuntime) -> Result<(), Fail> {
+    let mut out = Vec::new(rt.alloc());
     let touch = Touch {
         over: 0x8001,
         presser: Some(15),
@@ -165,9 +174,10 @@ fn sensors_have_their_bytes(rt: HostRuntime) -> Result<(), Fail> {
     out.clear();
     push_position(Position { at: None }, &mut out)?;
     assert!(rt; out.as_slice() == b"\xff\xff\xff\xff".as_slice());
+    let second = Position { at: Some(2) };
     assert_eq!(rt;
         position_of(b"\x00\x00\x00\x02"),
-        Some((Position { at: Some(2) }, b"".as_slice()))
+        Some((second, b"".as_slice()))
     );
     Ok(())
 }
@@ -192,6 +202,14 @@ fn fields_are_kept_or_not(rt: HostRuntime) -> Result<(), Fail> {
     Ok(())
 }
 
+/// One event, and how many there are before it.
+const TRACE: &[u8] = b"\x00\x00\x00\x00\x00\x00\x00\x01\x00\x00\x00\x01\
+    \x00\x00\x00\x00\x00\x0f\x42\x40\x00\x00\x00\x02\x00\x03\x01";
+
+/// An event by field 4.
+const OTHER_FIELD: &[u8] = b"\x00\x00\x00\x01\
+    \x00\x00\x00\x00\x00\x0f\x42\x40\x00\x00\x00\x02\x00\x04\x01";
+
 #[test]
 fn a_trace_is_read_again(rt: HostRuntime) -> Result<(), Fail> {
     let sent = SentAt {
@@ -203,18 +221,14 @@ fn a_trace_is_read_again(rt: HostRuntime) -> Result<(), Fail> {
     let mut out = Vec::new(rt.alloc());
     push_entry_count(1, &mut out)?;
     push_entry(sent, &Value::SFBool(true), &mut out)?;
-    assert!(rt;
-        &out[8..]
-            == b"\x00\x00\x00\x01\x00\x00\x00\x00\x00\x0f\x42\x40\x00\x00\x00\x02\x00\x03\x01".as_slice()
-    );
+    assert!(rt; out.as_slice() == TRACE);
     let mut entries: Items<TraceEntry> = Items::new(rt.alloc());
     let rest = trace_of(rt.alloc(), &Switches, &out, &mut entries).map(<[u8]>::len);
     let first = entries.get(0).map(|entry| entry.sent);
     drop(entries);
     assert_eq!(rt; rest, Ok(0));
     assert_eq!(rt; first, Some(sent));
-    out[25] = 4;
-    assert!(rt; entry_of(rt.alloc(), &Switches, &out[8..]).is_err());
+    assert!(rt; entry_of(rt.alloc(), &Switches, OTHER_FIELD).is_err());
     Ok(())
 }
 
