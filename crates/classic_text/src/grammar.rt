@@ -37,7 +37,8 @@ fn one_node(alloc: Global, tokens: &mut Tokens<'_>, depth: u32) -> Result<NodeTe
 #[cycle(nodes)]
 #[tactic(auto, unfolding(crate::specs::Grammar::full_node))]
 fn full_node(alloc: Global, tokens: &mut Tokens<'_>, depth: u32) -> Result<NodeText, Refusal>
-    ensures { Reads (spec.full_node (spec.body (spec.node_at depth) (spec.proto_at depth)) tokens.old) result tokens.new }
+    ensures { Reads (spec.full_node
+        (spec.body (spec.node_at depth) (spec.proto_at depth)) tokens.old) result tokens.new }
 {
     let line = tokens.line();
     let def = def_name(alloc, tokens)?;
@@ -55,7 +56,8 @@ fn body(
     depth: u32,
     script: bool,
 ) -> Result<Items<BodyItem>, Refusal>
-    ensures { Reads (spec.body (spec.node_at depth) (spec.proto_at depth) script tokens.old) result tokens.new }
+    ensures { Reads (spec.body (spec.node_at depth) (spec.proto_at depth) script tokens.old)
+        result tokens.new }
 {
     tokens.expect(Terminal::OpenBrace)?;
     items(alloc, tokens, depth, script)
@@ -68,7 +70,8 @@ fn items(
     depth: u32,
     script: bool,
 ) -> Result<Items<BodyItem>, Refusal>
-    ensures { Reads (until CloseBrace (spec.one_item (spec.node_at depth) (spec.proto_at depth) script) tokens.old) result
+    ensures { Reads (until CloseBrace
+        (spec.one_item (spec.node_at depth) (spec.proto_at depth) script) tokens.old) result
         tokens.new }
 {
     let mut found = Items::new(alloc);
@@ -90,7 +93,8 @@ fn one_item(
     depth: u32,
     script: bool,
 ) -> Result<BodyItem, Refusal>
-    ensures { Reads (spec.one_item (spec.node_at depth) (spec.proto_at depth) script tokens.old) result tokens.new }
+    ensures { Reads (spec.one_item (spec.node_at depth) (spec.proto_at depth) script tokens.old)
+        result tokens.new }
 {
     if tokens.sees(Terminal::Route) {
         return Ok(BodyItem::Route(route(alloc, tokens)?));
@@ -145,7 +149,8 @@ fn declaration(
     })
 }
 
-/// What stands behind the name of a declared field: `IS name` in a Script alone, and a value where it holds one.
+/// What stands behind the name of a declared field: `IS name` in a Script alone, and a value
+/// where it holds one.
 #[cycle(nodes)]
 #[tactic(auto, unfolding(crate::specs::Grammar::declared))]
 fn declared(
@@ -155,7 +160,8 @@ fn declared(
     script: bool,
     access: Access,
 ) -> Result<Given<NodeText>, Refusal>
-    ensures { Reads (spec.declared (spec.node_at depth) script access tokens.old) result tokens.new }
+    ensures { Reads (spec.declared (spec.node_at depth) script access tokens.old)
+        result tokens.new }
 {
     if tokens.sees(Terminal::Is) {
         return joined(alloc, tokens, script);
@@ -172,7 +178,8 @@ fn declarations(
     tokens: &mut Tokens<'_>,
     depth: u32,
 ) -> Result<Items<Declaration<NodeText>>, Refusal>
-    ensures { Reads (until CloseBracket (spec.declaration (spec.node_at depth) false) tokens.old) result tokens.new }
+    ensures { Reads (until CloseBracket (spec.declaration (spec.node_at depth) false) tokens.old)
+        result tokens.new }
 {
     let mut found = Items::new(alloc);
     for _turn in 0..tokens.left() {
@@ -228,7 +235,9 @@ fn inner_statements(
     tokens: &mut Tokens<'_>,
     depth: u32,
 ) -> Result<Items<Statement>, Refusal>
-    ensures { Reads (until CloseBrace (spec.one_statement (spec.node_at depth) (spec.proto_at depth)) tokens.old) result tokens.new }
+    ensures { Reads (until CloseBrace
+        (spec.one_statement (spec.node_at depth) (spec.proto_at depth)) tokens.old) result
+        tokens.new }
 {
     let mut found = Items::new(alloc);
     for _turn in 0..tokens.left() {
@@ -328,7 +337,8 @@ fn node_list(alloc: Global, tokens: &mut Tokens<'_>, depth: u32) -> Result<Items
 #[cycle(nodes)]
 #[tactic(auto, unfolding(crate::specs::Grammar::one_statement))]
 fn one_statement(alloc: Global, tokens: &mut Tokens<'_>, depth: u32) -> Result<Statement, Refusal>
-    ensures { Reads (spec.one_statement (spec.node_at depth) (spec.proto_at depth) tokens.old) result tokens.new }
+    ensures { Reads (spec.one_statement (spec.node_at depth) (spec.proto_at depth) tokens.old)
+        result tokens.new }
 {
     if tokens.sees(Terminal::Route) {
         return Ok(Statement::Route(route(alloc, tokens)?));
