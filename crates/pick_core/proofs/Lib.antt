@@ -1,3 +1,4 @@
+pub mod Alike
 pub mod Choosing
 pub mod Entering
 pub mod Fractions

@@ -1,11 +1,11 @@
 -- The places of boxes, shown or not, and the rows that a cache keeps of them.
-use Rattle.std.specs.Prelude.{◌≡◌, ℕ, zero, suc, pos, negsuc, ℤ, List, [], ◌∷◌, ◌++◌, map, slice_get, Some, None, Bool, true, false, ◌==◌, ◌&&◌, if◌then◌else◌}
+use Rattle.std.specs.Prelude.{◌≡◌, ℕ, zero, suc, pos, negsuc, ℤ, List, [], ◌∷◌, ◌++◌, map, slice_get, Option, Some, None, Bool, true, false, ◌==◌, ◌&&◌, if◌then◌else◌}
 use Rattle.std.specs.List.{list_any}
 use Rattle.x3d_values.specs.declared.fields.Fields.{Fields}
 use Rattle.x3d_values.specs.declared.vector.Vec3.{Vec3}
 use Rattle.scene_core.specs.Scene.{SceneView}
 use Rattle.pick_core.specs.Boxes.{Placed}
-use Rattle.pick_core.specs.Looks.{kind_of, listed, choice_of}
+use Rattle.pick_core.specs.Looks.{kind_of, listed, motion_of, choice_of}
 use Rattle.pick_core.specs.Motion.{box_of}
 use Rattle.pick_core.specs.Spread.{spread}
 use Rattle.pick_core.specs.Trail.{carried, positions}
@@ -102,3 +102,18 @@ renewed scene state node r = if touches node r.trail then fresh scene state r el
 -- two states are the same but at a node
 abbrev pub IsSameBut : ℕ → List Fields → List Fields → Type 0
 IsSameBut node before after = (k : ℕ) → (k ≡ node → ⊥) → slice_get before k ≡ slice_get after k
+
+-- a ray sees the same of a node with these fields as with those: the motion of a Transform, the choice of a Switch
+abbrev pub IsAlike : Kind → Option Fields → Option Fields → Type 0
+IsAlike Transform a b = motion_of a ≡ motion_of b
+IsAlike Switch a b = choice_of a ≡ choice_of b
+IsAlike Group a b = Unit {0}
+IsAlike (Shape size) a b = Unit {0}
+IsAlike Other a b = Unit {0}
+
+abbrev pub AreAlike : SceneView → List Fields → List Fields → Type 0
+AreAlike scene before after = (k : ℕ) → IsAlike (kind_of scene k) (slice_get before k) (slice_get after k)
+
+-- what a ray doesn't see changes no row
+abbrev pub AlikeRows : Type 0
+AlikeRows = (scene : SceneView) (before after : List Fields) → AreAlike scene before after → rows_of scene before ≡ rows_of scene after

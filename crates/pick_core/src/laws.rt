@@ -4,6 +4,7 @@ ghost use Rattle.pick_core.specs.Local.{OneLocal};
 ghost use Rattle.pick_core.specs.Nearest.{OneNearest};
 ghost use Rattle.pick_core.specs.Numbers.{Numbers};
 ghost use Rattle.pick_core.specs.Picked.{PicksNearest};
+ghost use Rattle.pick_core.specs.Sites.{AlikeRows};
 
 /// The hit that keeps the earlier box unless a later one is strictly nearer is the nearest.
 pub fn picks_nearest_law()
@@ -18,6 +19,12 @@ pub fn one_nearest_law()
 /// Where a hit lies for a sensor depends on its path and the value of its fraction alone.
 pub fn one_local_law()
     ensures { OneLocal }
+{}
+
+/// What a cache holds depends on the motions of Transforms and the choices of Switches alone: any
+/// other change leaves it standing for the new state.
+pub fn alike_rows_law()
+    ensures { AlikeRows }
 {}
 
 /// The numbers of fields that picking uses are those of their names in the table of fields.

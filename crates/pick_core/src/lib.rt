@@ -21,7 +21,7 @@ mod walk;
 pub use bounds::{Bounds, Fraction};
 pub use cache::BoxCache;
 pub use hit::{Hit, Path};
-pub use laws::{numbers_law, one_local_law, one_nearest_law, picks_nearest_law};
+pub use laws::{alike_rows_law, numbers_law, one_local_law, one_nearest_law, picks_nearest_law};
 pub use local::local_point;
 pub use row::Row;
 pub use sensors::{MAX_SENSORS, sensors_of};
