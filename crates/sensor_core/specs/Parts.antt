@@ -3,7 +3,7 @@ use Rattle.std.specs.Prelude.{ℕ, ◌+◌, ◌*◌, ◌==◌, pos, int_le, unsi
 use Rattle.std.specs.Int.{bit_at}
 use Rattle.std.specs.List.{range_with_len}
 use Rattle.std.specs.Option.{option_map_or}
-use Rattle.x3d_values.specs.declared.pointing.TheConstants.{MAX_VIEWERS}
+use Rattle.x3d_values.specs.declared.ranges.TheConstants.{MAX_VIEWERS}
 use Rattle.x3d_values.specs.Ranges.{is_viewer}
 use Rattle.sensor_core.specs.declared.parts.TimeParts.{TimeParts}
 use Rattle.sensor_core.specs.declared.parts.TouchParts.{TouchParts}

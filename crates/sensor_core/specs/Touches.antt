@@ -3,7 +3,7 @@
 use Rattle.std.specs.Prelude.{ℕ, ◌==◌, ℤ, Bool, true, false, not, is_some, is_none, ◌&&◌, ◌||◌, List, [], ◌∷◌, ◌++◌, slice_set, replicate, Option, Some, None, if◌then◌else◌}
 use Rattle.std.specs.List.{list_any}
 use Rattle.std.specs.Option.{option_map_or}
-use Rattle.x3d_values.specs.declared.pointing.TheConstants.{MAX_VIEWERS}
+use Rattle.x3d_values.specs.declared.ranges.TheConstants.{MAX_VIEWERS}
 use Rattle.x3d_values.specs.declared.value.Value.TheVariants.{SFBool, SFTime, SFVec3f}
 use Rattle.x3d_values.specs.declared.vector.Vec3.{Vec3}
 use Rattle.react_core.specs.declared.outbox.Reply.{Reply}
