@@ -1,5 +1,5 @@
 -- What a job's run writes.
-use Rattle.std.specs.Prelude.{◌≡◌, ◌⊎◌, ⊤, ⊥, ℕ, ◌++◌, List, Option, Result, Ok}
+use Rattle.std.specs.Prelude.{◌≡◌, ◌⊎◌, ⊤, ℕ, ◌++◌, List, Option, Result, Ok}
 use Rattle.std.specs.Io.KnownBytes.{Appends, Consumes, IsAtEnd, Keeps}
 use Rattle.cascade_core.specs.Apply.{world}
 use Rattle.cascade_core.specs.Texts.{trace_text, scene_text}
