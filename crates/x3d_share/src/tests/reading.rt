@@ -17,9 +17,8 @@ const UNHEADED: [(&[u8], &str); 7] = [
     (b"#X3D V3.0 utf8\n\xff", "refused NotUtf8 line 1"),
 ];
 
-/// Texts behind the header line that are no Classic text, with what is said of them.
-const UNREADABLE: [(&str, &str); 89] = [
-    // tokens: the first fault of these in the text, before any of the grammar
+/// Faults of tokens: the first of these in the text, before any of the grammar.
+const TOKENS: [(&str, &str); 8] = [
     ("} '", "BadCharacter line 2"),
     ("}\nA { b \\ }", "BadCharacter line 3"),
     ("}\n\"", "OpenString line 3"),
@@ -28,7 +27,10 @@ const UNREADABLE: [(&str, &str); 89] = [
     ("A { b +c }", "BadNumeral line 2"),
     ("A { b 1e13 }", "NumberRange line 2"),
     ("A { b\n0x123456789 }", "NumberRange line 3"),
-    // the head
+];
+
+/// Texts whose head is none.
+const HEADS: [(&str, &str); 8] = [
     ("Group {}\nPROFILE Core", "Unexpected line 3"),
     ("PROFILE\nNULL", "Unexpected line 3"),
     ("\nCOMPONENT\nCore", "Unexpected line 4"),
@@ -37,7 +39,10 @@ const UNREADABLE: [(&str, &str); 89] = [
     ("COMPONENT :1", "Unexpected line 2"),
     ("META \"a\"\nb", "Unexpected line 3"),
     ("META \"a\" \"b\"\nPROFILE Core", "Unexpected line 3"),
-    // statements and nodes
+];
+
+/// Texts whose nodes are none.
+const NODES: [(&str, &str); 14] = [
     ("}", "Unexpected line 2"),
     ("NULL", "Unexpected line 2"),
     ("A {}\n1", "Unexpected line 3"),
@@ -52,6 +57,10 @@ const UNREADABLE: [(&str, &str); 89] = [
     ("Group {", "UnexpectedEnd line 2"),
     ("Group {\n\n", "UnexpectedEnd line 4"),
     ("Group {\n# }", "UnexpectedEnd line 3"),
+];
+
+/// Texts whose ROUTEs are none, and statements that are not read.
+const STATEMENTS: [(&str, &str); 8] = [
     ("ROUTE A.b\nTO C", "UnexpectedEnd line 3"),
     ("ROUTE A.b\nC.d", "Unexpected line 3"),
     ("ROUTE A\nTO C.d", "Unexpected line 3"),
@@ -60,7 +69,10 @@ const UNREADABLE: [(&str, &str); 89] = [
     ("A {}\nUNIT length a 1", "Unsupported line 3"),
     ("IMPORT A.b\n}", "Unsupported line 2"),
     ("A {}\nEXPORT A", "Unsupported line 3"),
-    // fields and values
+];
+
+/// Texts whose fields or values are none.
+const VALUES: [(&str, &str); 14] = [
     ("A { b\n}", "Unexpected line 3"),
     ("A { b 1\nTRUE }", "Unexpected line 3"),
     ("A { b IS\nIS }", "Unexpected line 3"),
@@ -75,7 +87,10 @@ const UNREADABLE: [(&str, &str); 89] = [
     ("A { b [ EXTERNPROTO\n] }", "Unexpected line 3"),
     ("A { b [ 1", "UnexpectedEnd line 2"),
     ("A {\nEXTERNPROTO P [ ] [] }", "Unsupported line 3"),
-    // declarations in a body
+];
+
+/// Texts whose bodies declare what they may not.
+const DECLARATIONS: [(&str, &str); 15] = [
     ("Group {\ninputOnly SFBool a }", "Unexpected line 3"),
     ("Group {\nfield SFBool a TRUE }", "Unexpected line 3"),
     (
@@ -94,7 +109,10 @@ const UNREADABLE: [(&str, &str); 89] = [
     ("Script { exposedField SFBool a IS\n}", "Unexpected line 3"),
     ("Script { field SFBool a IS b\nTRUE }", "Unexpected line 3"),
     ("Script { field SFBool a TRUE\n", "UnexpectedEnd line 3"),
-    // prototypes
+];
+
+/// Texts whose PROTOs have no interface.
+const INTERFACES: [(&str, &str); 13] = [
     ("PROTO\n[ ] { A {} }", "Unexpected line 3"),
     ("PROTO\nTO [ ] { A {} }", "Unexpected line 3"),
     ("PROTO P\n{ A {} }", "Unexpected line 3"),
@@ -129,6 +147,10 @@ const UNREADABLE: [(&str, &str); 89] = [
         "PROTO P [ field MFNode a [ B {}\n1 ] ] { A {} }",
         "Unexpected line 3",
     ),
+];
+
+/// Texts whose PROTOs have no body.
+const BODIES: [(&str, &str); 9] = [
     ("PROTO P [ inputOnly SFBool a\n", "UnexpectedEnd line 3"),
     ("PROTO P [ ]\nA {}", "Unexpected line 3"),
     ("PROTO P [ ] {\ninputOnly SFBool a }", "Unexpected line 3"),
@@ -150,14 +172,54 @@ fn refusals_of_headers(rt: HostRuntime) {
     }
 }
 
-#[test]
-fn refusals_of_reading(rt: HostRuntime) -> Result<(), Fail> {
-    for (text, wanted) in UNREADABLE {
-        let whole = format!(in rt.alloc(); "#X3D V3.0 utf8\n{text}")?;
-        let said = format!(in rt.alloc(); "refused {wanted}")?;
-        is_refused(&rt, rt.alloc(), whole.as_bytes(), said.as_str());
+/// Each of these texts behind the header line is refused, and that is said of it.
+fn are_refused(rt: &impl Abort, alloc: Global, rows: &[(&str, &str)]) -> Result<(), Fail> {
+    for (text, wanted) in rows {
+        let whole = format!(in alloc; "#X3D V3.0 utf8\n{text}")?;
+        let said = format!(in alloc; "refused {wanted}")?;
+        is_refused(rt, alloc, whole.as_bytes(), said.as_str());
     }
     Ok(())
+}
+
+#[test]
+fn refusals_of_tokens(rt: HostRuntime) -> Result<(), Fail> {
+    are_refused(&rt, rt.alloc(), &TOKENS)
+}
+
+#[test]
+fn refusals_of_heads(rt: HostRuntime) -> Result<(), Fail> {
+    are_refused(&rt, rt.alloc(), &HEADS)
+}
+
+#[test]
+fn refusals_of_nodes(rt: HostRuntime) -> Result<(), Fail> {
+    are_refused(&rt, rt.alloc(), &NODES)
+}
+
+#[test]
+fn refusals_of_statements(rt: HostRuntime) -> Result<(), Fail> {
+    are_refused(&rt, rt.alloc(), &STATEMENTS)
+}
+
+#[test]
+fn refusals_of_values(rt: HostRuntime) -> Result<(), Fail> {
+    are_refused(&rt, rt.alloc(), &VALUES)
+}
+
+#[test]
+fn refusals_of_declarations(rt: HostRuntime) -> Result<(), Fail> {
+    are_refused(&rt, rt.alloc(), &DECLARATIONS)
+}
+
+#[test]
+fn refusals_of_interfaces(rt: HostRuntime) -> Result<(), Fail> {
+    are_refused(&rt, rt.alloc(), &INTERFACES)
+}
+
+#[test]
+fn refusals_of_bodies(rt: HostRuntime) -> Result<(), Fail> {
+    are_refused(&rt, rt.alloc(), &BODIES)
 }
 
 /// Texts that are read, whatever their nodes and fields.
