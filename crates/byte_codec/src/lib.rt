@@ -15,8 +15,6 @@
 
 mod exactness;
 mod front;
-#[cfg(test)]
-mod tests;
 
 pub use exactness::{
     lists_are_exact, meanings_are_exact, sequences_are_exact, values_are_exact, wholes_are_exact,

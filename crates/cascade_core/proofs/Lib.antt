@@ -5,10 +5,12 @@ pub mod Runs
 pub mod Turns
 pub mod Senders
 pub mod SensorReplies
+pub mod TouchReplies
 pub mod SceneOutputs
 pub mod Fuel
 pub mod RoutePlaces
 pub mod Tasks
+pub mod Shown
 pub mod Gains
 pub mod ClockNumbers
 pub mod Marks

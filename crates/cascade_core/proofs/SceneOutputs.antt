@@ -9,7 +9,7 @@ use denote.Enum.Bare.{same_true}
 use Rattle.x3d_values.specs.contracts.node_type.NodeType.{the_type}
 use Rattle.x3d_values.specs.declared.fields.Fields.{Fields}
 use Rattle.x3d_values.specs.declared.node_type.NodeType.{NodeType}
-use Rattle.x3d_values.specs.declared.node_type.NodeType.TheVariants.{TimeSensor}
+use Rattle.x3d_values.specs.declared.node_type.NodeType.TheVariants.{TimeSensor, TouchSensor}
 use Rattle.x3d_values.specs.declared.value.Value.{Value}
 use Rattle.x3d_values.specs.Tables.{Entry, numbered, rows}
 use Rattle.x3d_values.specs.declared.table.FieldRow.{FieldRow}
@@ -20,10 +20,15 @@ use Rattle.sensor_core.specs.Timing.{Timing, timing_of}
 use Rattle.scene_core.specs.declared.scene.End.{End}
 use Rattle.cascade_core.specs.Ends.{has_sent, same_end}
 use Rattle.cascade_core.specs.Outputs.{output_fields, ends_from, is_scene_output}
-use Rattle.cascade_core.specs.Answers.{answer, answer_as, reacting, setting, setting_at, ticked, ticking, ticking_at}
-use Rattle.cascade_core.specs.Apply.{is_clock}
+use Rattle.x3d_values.specs.Pointing.{Pointing}
+use Rattle.x3d_values.specs.declared.vector.Vec3.{Vec3}
+use Rattle.scene_core.specs.Scene.{SceneView, types_of}
+use Rattle.pick_core.specs.Sensors.{is_enabled, is_enabled_as}
+use Rattle.cascade_core.specs.Answers.{answer, answer_as, is_touch_sensor, meeting, met, nothing, reacting, setting, setting_at, ticked, ticking, ticking_at, touching}
+use Rattle.cascade_core.specs.Nodes.{is_clock}
 use Rattle.cascade_core.proofs.Senders.{reaction-leaves}
 use Rattle.cascade_core.proofs.SensorReplies.{set-leaves, tick-leaves}
+use Rattle.cascade_core.proofs.TouchReplies.{meeting-leaves, touching-leaves}
 use Rattle.cascade_core.specs.declared.world.WorldData.{WorldData}
 
 -- all of these are sent by outputs of the scene
@@ -105,6 +110,9 @@ all_outputs kinds node kind h (r ∷ replies) all =
 sensor_is : (kind : NodeType) → is_time_sensor kind ≡ true → kind ≡ TimeSensor
 sensor_is kind h = same_true the_type (search rules) _ _ h
 
+touch_is : (kind : NodeType) → is_touch_sensor kind ≡ true → kind ≡ TouchSensor
+touch_is kind h = same_true the_type (search rules) _ _ h
+
 -- ---- an event
 
 reacting-sends : (kinds : List NodeType) (w : WorldData) (target : End) (v : Value) (kind : NodeType) (fields : Option Fields) → slice_get kinds target.node ≡ Some kind →
@@ -128,10 +136,17 @@ pub answer-sends : (kinds : List NodeType) (w : WorldData) (target : End) (v : V
 unfolding answer
 answer-sends kinds w target v = by_kind (slice_get kinds target.node) refl
   where
+    other : (kind : NodeType) → slice_get kinds target.node ≡ Some kind → (b : Bool) → is_touch_sensor kind ≡ b →
+        AllOutputs kinds target.node (if b then touching w target v (slice_get w.fields target.node) else reacting w target v kind (slice_get w.fields target.node)).replies
+    other kind h true is = all_outputs kinds target.node TouchSensor (h ∙ ap Some (touch_is kind is)) _ (touching-leaves w target v (slice_get w.fields target.node))
+    other kind h false is = reacting-sends kinds w target v kind (slice_get w.fields target.node) h
+
     by_rule : (kind : NodeType) → slice_get kinds target.node ≡ Some kind → (b : Bool) → is_time_sensor kind ≡ b →
-        AllOutputs kinds target.node (if b then setting_at w target v (slice_get w.fields target.node) else reacting w target v kind (slice_get w.fields target.node)).replies
+        AllOutputs kinds target.node (if b
+        then setting_at w target v (slice_get w.fields target.node)
+        else (if is_touch_sensor kind then touching w target v (slice_get w.fields target.node) else reacting w target v kind (slice_get w.fields target.node))).replies
     by_rule kind h true is = setting_at-sends kinds w target v (slice_get w.fields target.node) (h ∙ ap Some (sensor_is kind is))
-    by_rule kind h false is = reacting-sends kinds w target v kind (slice_get w.fields target.node) h
+    by_rule kind h false is = other kind h (is_touch_sensor kind) refl
 
     by_kind : (kind : Option NodeType) → slice_get kinds target.node ≡ kind → AllOutputs kinds target.node (answer_as w target v kind).replies
     by_kind None h = tt
@@ -158,3 +173,22 @@ clock_is kinds node (Some kind) h is = h ∙ ap Some (sensor_is kind is)
 pub ticked-sends : (kinds : List NodeType) (w : WorldData) (node : ℕ) (now : ℤ) → is_clock kinds node ≡ true → AllOutputs kinds node (ticked w node now).replies
 unfolding ticked
 ticked-sends kinds w node now h = ticking_at-sends kinds w node now (slice_get w.fields node) (clock_is kinds node (slice_get kinds node) refl h)
+
+-- ---- a pointer
+
+enabled_is : (kind : Option NodeType) (own : Option Fields) → is_enabled_as kind own ≡ true → kind ≡ Some TouchSensor
+enabled_is (Some TouchSensor) own h = refl
+enabled_is _ own h = cc
+
+-- what a touch sensor sends at a pointer is sent by outputs of the scene
+pub met-sends : (scene : SceneView) (w : WorldData) (node : ℕ) (p : Pointing) (before : Bool) (place : Option Vec3) →
+    AllOutputs (types_of scene) node (met scene w node p before place).replies
+unfolding met is_enabled
+met-sends scene w node p before place = cases (is_enabled scene w.fields node) refl
+  where
+    cases : (b : Bool) → is_enabled_as (slice_get (types_of scene) node) (slice_get w.fields node) ≡ b →
+        AllOutputs (types_of scene) node (if b then meeting w node p before place (slice_get w.touches node) else nothing w).replies
+    cases true is =
+        all_outputs (types_of scene) node TouchSensor (enabled_is (slice_get (types_of scene) node) (slice_get w.fields node) is) _
+        (meeting-leaves w node p before place (slice_get w.touches node))
+    cases false is = tt

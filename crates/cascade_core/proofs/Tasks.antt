@@ -1,16 +1,16 @@
 -- Each step of the work stack keeps what the tasks come to, and leaves less to do.
-use Rattle.std.proofs.Common.{◌≡◌, ℕ, ℤ, ◌+◌, ◌*◌, ◌<◌, ◌≤◌, true, false, List, [], ◌∷◌, ◌++◌, ◌∙◌, ap, sym, refl, arith, mul-le-mul_right, map, reverse, length, Some, None}
+use Rattle.std.proofs.Common.{◌≡◌, Bool, ℕ, ℤ, ◌+◌, ◌*◌, ◌<◌, ◌≤◌, true, false, List, [], ◌∷◌, ◌++◌, ◌∙◌, ap, sym, refl, arith, mul-le-mul_right, map, reverse, length, Option, Some, None}
 use Rattle.std.specs.Prelude.{slice_get}
 use Rattle.std.specs.List.{fold, AllByRecursion}
 use Rattle.cascade_core.proofs.RoutePlaces.{drop-none, drop-some}
 use Rattle.std.proofs.lemmas.List.{reverse-append, length-reverse, map-append, reverse-reverse}
 use Rattle.cascade_core.specs.Ends.{has_sent, targets_of}
 use Rattle.cascade_core.specs.World.{record_event}
-use Rattle.cascade_core.specs.Answers.{answer, ticked, with_answer, Answer}
+use Rattle.cascade_core.specs.Answers.{answer, met, ticked, with_answer, Answer}
 use Rattle.cascade_core.specs.Cascade.{deliver, send_all}
 use Rattle.cascade_core.specs.Outputs.{is_scene_output, ends_from}
 use Rattle.cascade_core.specs.Stack.{send_full, do_task, finish, IsReady, weight, weights, unsent, work_left, send_by}
-use Rattle.cascade_core.proofs.SceneOutputs.{answer-sends, ticked-sends}
+use Rattle.cascade_core.proofs.SceneOutputs.{answer-sends, met-sends, ticked-sends}
 use Rattle.cascade_core.proofs.Fuel.{unsent-less, send_full-new}
 use Rattle.x3d_values.specs.declared.node_type.NodeType.{NodeType}
 use Rattle.x3d_values.specs.declared.value.Value.{Value}
@@ -21,7 +21,10 @@ use Rattle.cascade_core.specs.declared.stack.Task.{Task}
 use Rattle.cascade_core.specs.declared.stack.Task.TheVariants.{Send, Follow}
 use Rattle.cascade_core.specs.declared.world.Turn.{Turn}
 use Rattle.cascade_core.specs.declared.world.WorldData.{WorldData}
-use Rattle.cascade_core.specs.Apply.{is_clock}
+use Rattle.cascade_core.specs.Nodes.{is_clock}
+use Rattle.scene_core.specs.Scene.{SceneView, types_of}
+use Rattle.x3d_values.specs.Pointing.{Pointing}
+use Rattle.x3d_values.specs.declared.vector.Vec3.{Vec3}
 
 reverse-push : {X : Type 0} (xs : List X) (x : X) → reverse (xs ++ x ∷ []) ≡ x ∷ reverse xs
 reverse-push xs x = rw reverse-append refl
@@ -187,6 +190,14 @@ pub ticked-ready : (kinds : List NodeType) (w : WorldData) (node : ℕ) (now : �
 ticked-ready kinds w node now h =
     let rs = (ticked w node now).replies in
     all-map kinds node (reverse rs) (all-reverse (λ (r : Reply). is_scene_output kinds (record { node = node; field = r.field }) ≡ true) rs (ticked-sends kinds w node now h))
+
+-- what a touch sensor sends at a pointer is sent by outputs
+pub met-ready : (scene : SceneView) (w : WorldData) (node : ℕ) (p : Pointing) (before : Bool) (place : Option Vec3) →
+    AllByRecursion (IsReady (types_of scene)) (map (send_by node) (reverse (met scene w node p before place).replies))
+met-ready scene w node p before place =
+    let rs = (met scene w node p before place).replies in
+    all-map (types_of scene) node (reverse rs)
+    (all-reverse (λ (r : Reply). is_scene_output (types_of scene) (record { node = node; field = r.field }) ≡ true) rs (met-sends scene w node p before place))
 
 -- the replies of a target are sent by outputs
 pub answer-ready : (kinds : List NodeType) (w : WorldData) (target : End) (v : Value) (tasks : List Task) → AllByRecursion (IsReady kinds) tasks →

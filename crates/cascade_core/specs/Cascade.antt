@@ -1,4 +1,5 @@
--- An event cascade (ISO/IEC 19775-1, event model: execution model): an event is followed depth first to its end, and no output sends twice at one timestamp.
+-- An event cascade (ISO/IEC 19775-1, event model: execution model): an event is followed depth
+-- first to its end, and no output sends twice at one timestamp.
 use Rattle.std.specs.Prelude.{ℕ, List, if◌then◌else◌, zero, suc}
 use Rattle.std.specs.List.{fold}
 use Rattle.x3d_values.specs.declared.node_type.NodeType.{NodeType}
@@ -13,17 +14,21 @@ use Rattle.cascade_core.specs.declared.world.Turn.{Turn}
 
 -- the replies of a node, one after another, each sent on by `go`
 abbrev pub send_all : (Turn → End → Value → Turn) → ℕ → Turn → List Reply → Turn
-send_all go node turn replies = fold (λ t reply. go t (record { node = node; field = reply.field }) reply.value) turn replies
+send_all go node turn replies =
+    fold (λ t reply. go t (record { node = node; field = reply.field }) reply.value) turn replies
 
 -- the target answers, and each of its replies is sent on by `go`
 unfoldable pub deliver : (Turn → End → Value → Turn) → List NodeType → Value → Turn → End → Turn
 deliver go kinds v turn target =
-    let a = answer kinds turn.world target v in send_all go target.node (with_answer turn a) a.replies
+    let a = answer kinds turn.world target v
+    in send_all go target.node (with_answer turn a) a.replies
 
--- an event is sent by an output, unless the output has sent before: it is recorded, and follows each route to its end
+-- an event is sent by an output, unless the output has sent before: it is recorded, and follows
+-- each route to its end
 unfoldable pub send : List NodeType → List Route → ℕ → Turn → End → Value → Turn
 send kinds routes zero turn source v = turn
 send kinds routes (suc depth) turn source v =
     if has_sent turn.sent source
     then turn
-    else fold (deliver (send kinds routes depth) kinds v) (record_event turn source v) (targets_of routes source)
+    else fold (deliver (send kinds routes depth) kinds v) (record_event turn source v)
+    (targets_of routes source)

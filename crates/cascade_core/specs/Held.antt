@@ -1,10 +1,10 @@
--- A stage holds the world of its scene, or is spoiled with the number of inputs that it had applied.
+-- A stage holds the world of its scene, or is spoiled with the number of inputs that it had
+-- applied.
 use Rattle.std.specs.Prelude.{ℕ, Bool, true, false, List, [], ◌∷◌, Option, Some, None, if◌then◌else◌, ◌+◌, ◌==◌, int_lt, not}
 use Rattle.std.specs.List.{fold}
-use Rattle.x3d_values.specs.declared.node_type.NodeType.{NodeType}
 use Rattle.x3d_values.specs.Stamp.{Stamp}
 use Rattle.scene_core.specs.declared.scene.Route.{Route}
-use Rattle.scene_core.specs.Scene.{SceneView, types_of}
+use Rattle.scene_core.specs.Scene.{SceneView}
 use Rattle.cascade_core.specs.Apply.{apply}
 use Rattle.cascade_core.specs.declared.fault.ApplyFault.{ApplyFault}
 use Rattle.cascade_core.specs.declared.fault.ApplyFault.TheVariants as fault
@@ -65,13 +65,13 @@ refusal_of (Spoiled n) input = Some fault.Spoiled
 abbrev pub holding : StageView → Held → StageView
 holding stage held = record stage { held = held }
 
-abbrev pub after_held : List NodeType → List Route → Held → Stamp → Held
-after_held kinds routes (Running w) input = Running (apply kinds routes w input)
-after_held kinds routes (Spoiled n) input = Spoiled n
+abbrev pub after_held : SceneView → List Route → Held → Stamp → Held
+after_held scene routes (Running w) input = Running (apply scene routes w input)
+after_held scene routes (Spoiled n) input = Spoiled n
 
 -- the stage after an input that it takes
 abbrev pub after : StageView → Stamp → StageView
-after stage input = holding stage (after_held (types_of stage.scene) stage.routes stage.held input)
+after stage input = holding stage (after_held stage.scene stage.routes stage.held input)
 
 -- the stage after a list of inputs that it takes
 abbrev pub after_all : StageView → List Stamp → StageView
@@ -82,10 +82,12 @@ abbrev pub first_refusal : Option ApplyFault → Option ApplyFault → Option Ap
 first_refusal None later = later
 first_refusal (Some f) later = Some f
 
--- why a list of inputs is refused: by the first of them that the stage after those before it refuses
+-- why a list of inputs is refused: by the first of them that the stage after those before it
+-- refuses
 abbrev pub refusal_in : StageView → List Stamp → Option ApplyFault
 refusal_in stage [] = None
-refusal_in stage (input ∷ inputs) = first_refusal (refusal_of stage.held input) (refusal_in (after stage input) inputs)
+refusal_in stage (input ∷ inputs) =
+    first_refusal (refusal_of stage.held input) (refusal_in (after stage input) inputs)
 
 -- the stage when memory was refused
 abbrev pub spoiled : StageView → StageView

@@ -5,7 +5,8 @@ use Rattle.x3d_values.specs.Stamp.{Stamp}
 -- behind an input of this number and time these follow, each with the next number and a later time
 abbrev pub Follow : ℕ → ℤ → List Stamp → Type 0
 Follow number time [] = ⊤
-Follow number time (s ∷ rest) = (s.number ≡ number + 1) × (time <ℤ s.time) × Follow s.number s.time rest
+Follow number time (s ∷ rest) = (s.number ≡ number + 1) × (time <ℤ s.time)
+    × Follow s.number s.time rest
 
 -- numbered from 1, and each later than the one before, the first later than 0
 abbrev pub AreInTurn : List Stamp → Type 0

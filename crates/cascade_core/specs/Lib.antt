@@ -1,9 +1,11 @@
 pub mod Ends
 pub mod Outputs
+pub mod Nodes
 pub mod World
 pub mod Trace
 pub mod Answers
 pub mod Cascade
+pub mod Pointer
 pub mod Apply
 pub mod Held
 pub mod InTurn

@@ -22,7 +22,8 @@ outputs_of kinds = sum_by outputs_of_type kinds
 -- the outputs of nodes that are numbered from n on
 unfoldable pub ends_from : ℕ → List NodeType → List End
 ends_from n [] = []
-ends_from n (kind ∷ kinds) = map (λ field. record { node = n; field = field }) (output_fields kind) ++ ends_from (n + 1) kinds
+ends_from n (kind ∷ kinds) = map (λ field. record { node = n; field = field }) (output_fields kind)
+    ++ ends_from (n + 1) kinds
 
 -- the end is an output of the scene
 abbrev pub is_scene_output : List NodeType → End → Bool

@@ -20,7 +20,8 @@ send_full kinds routes = send kinds routes (outputs_of kinds + 1)
 -- a task by the definition of the cascade
 abbrev pub do_task : List NodeType → List Route → Turn → Task → Turn
 do_task kinds routes turn (Send source v) = send_full kinds routes turn source v
-do_task kinds routes turn (Follow source v next) = fold (deliver (send_full kinds routes) kinds v) turn (drop next (targets_of routes source))
+do_task kinds routes turn (Follow source v next) =
+    fold (deliver (send_full kinds routes) kinds v) turn (drop next (targets_of routes source))
 
 -- the tasks from the last to the first
 unfoldable pub finish : List NodeType → List Route → Turn → List Task → Turn
@@ -56,7 +57,8 @@ unsent kinds turn = unsent_among (ends_from 0 kinds) turn.sent
 
 -- a bound on the tasks that are still to be done
 unfoldable pub work_left : List NodeType → List Route → Turn → List Task → ℕ
-work_left kinds routes turn tasks = unsent kinds turn * (6 * length routes + 2) + weights routes tasks
+work_left kinds routes turn tasks =
+    unsent kinds turn * (6 * length routes + 2) + weights routes tasks
 
 -- a reply of a node is to be sent
 abbrev pub send_by : ℕ → Reply → Task

@@ -1,4 +1,5 @@
--- The texts of a world: its trace, one line for each event that was sent, and its scene (which texts there are is our choice).
+-- The texts of a world: its trace, one line for each event that was sent, and its scene (which
+-- texts there are is our choice).
 use Rattle.std.specs.Prelude.{ℕ, ℤ, ◌++◌, List, [], ◌∷◌, codes, decimal, slice_get}
 use Rattle.std.specs.Fmt.{signed_decimal}
 use Rattle.x3d_numerals.specs.NumberText.{number_text}
@@ -19,7 +20,9 @@ use Rattle.cascade_core.specs.declared.world.WorldData.{WorldData}
 
 -- the plain name of a field, by the table of fields
 unfoldable pub field_name : List NodeType → End → List ℕ
-field_name kinds e = option_map_or (λ row. row.name) (option_and_then (λ kind. slice_get (rows kind) e.field) (slice_get kinds e.node)) []
+field_name kinds e =
+    option_map_or (λ row. row.name)
+    (option_and_then (λ kind. slice_get (rows kind) e.field) (slice_get kinds e.node)) []
 
 -- `<input> <seconds> `
 unfoldable pub stamp_text : TraceLine → List ℕ
@@ -45,7 +48,8 @@ source_text scene source = label_of scene source.node ++ 46 ∷ field_name (type
 
 -- `<input> <seconds> <label>.<field> <value>` and a line feed
 unfoldable pub line_text : SceneView → TraceLine → List ℕ
-line_text scene line = stamp_text line ++ source_text scene line.source ++ 32 ∷ value_text line.value ++ 10 ∷ []
+line_text scene line =
+    stamp_text line ++ source_text scene line.source ++ 32 ∷ value_text line.value ++ 10 ∷ []
 
 -- all events in the order in which they were sent
 unfoldable pub trace_text : SceneView → WorldData → List ℕ

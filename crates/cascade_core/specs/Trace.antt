@@ -20,15 +20,23 @@ abbrev pub taking : (List Value → List TraceLine) → ℕ → ℤ → End → 
 taking rest input time source [] = rest []
 taking rest input time source (v ∷ values) = line input time source v ∷ rest values
 
--- the line of an entry, and those of the entries behind it, by the number and the time of the input that they are then of
-abbrev pub lines_by : (ℕ → ℤ → List Value → List TraceLine) → ℕ → ℤ → List Value → Entry → Kind → List TraceLine
+-- the line of an entry, and those of the entries behind it, by the number and the time of the input
+-- that they are then of
+abbrev pub lines_by : (ℕ → ℤ → List Value → List TraceLine) → ℕ → ℤ → List Value → Entry → Kind
+    → List TraceLine
 lines_by rest input time values e entry_kind.Input = rest e.node e.word values
-lines_by rest input time values e entry_kind.True = line input time (end_of e) (SFBool true) ∷ rest input time values
-lines_by rest input time values e entry_kind.False = line input time (end_of e) (SFBool false) ∷ rest input time values
-lines_by rest input time values e entry_kind.Whole = line input time (end_of e) (SFInt32 e.word) ∷ rest input time values
-lines_by rest input time values e entry_kind.Number = line input time (end_of e) (SFFloat e.word) ∷ rest input time values
-lines_by rest input time values e entry_kind.Time = line input time (end_of e) (SFTime e.word) ∷ rest input time values
-lines_by rest input time values e entry_kind.Other = taking (rest input time) input time (end_of e) values
+lines_by rest input time values e entry_kind.True =
+    line input time (end_of e) (SFBool true) ∷ rest input time values
+lines_by rest input time values e entry_kind.False =
+    line input time (end_of e) (SFBool false) ∷ rest input time values
+lines_by rest input time values e entry_kind.Whole =
+    line input time (end_of e) (SFInt32 e.word) ∷ rest input time values
+lines_by rest input time values e entry_kind.Number =
+    line input time (end_of e) (SFFloat e.word) ∷ rest input time values
+lines_by rest input time values e entry_kind.Time =
+    line input time (end_of e) (SFTime e.word) ∷ rest input time values
+lines_by rest input time values e entry_kind.Other =
+    taking (rest input time) input time (end_of e) values
 
 -- the lines of entries behind an input of this number and time, and of the values that stand aside
 unfoldable pub lines_of : List Entry → ℕ → ℤ → List Value → List TraceLine
@@ -42,7 +50,8 @@ kept_lines k = lines_of k.entries.items 0 (pos 0) k.values.items
 -- whatever is appended gives lines of the input that is kept
 abbrev pub IsOpen : Kept → Type 0
 IsOpen k = (es : List Entry) (vs : List Value) →
-    lines_of (k.entries.items ++ es) 0 (pos 0) (k.values.items ++ vs) ≡ kept_lines k ++ lines_of es k.input k.time vs
+    lines_of (k.entries.items ++ es) 0 (pos 0) (k.values.items ++ vs)
+    ≡ kept_lines k ++ lines_of es k.input k.time vs
 
 -- the entry is that of an event with this value, whatever the input
 abbrev pub IsPlain : End → Value → Entry → Type 0
@@ -50,7 +59,8 @@ IsPlain source v e = (es : List Entry) (input : ℕ) (time : ℤ) (vs : List Val
     lines_of (e ∷ es) input time vs ≡ line input time source v ∷ lines_of es input time vs
 
 abbrev pub entry_of : End → Kind → ℤ → Entry
-entry_of source kind word = record { node = source.node; field = source.field; kind = kind; word = word }
+entry_of source kind word =
+    record { node = source.node; field = source.field; kind = kind; word = word }
 
 -- the entry of an event with this value, where the value stands in it
 abbrev pub plain_entry : End → Value → Option Entry

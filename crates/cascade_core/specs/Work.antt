@@ -15,7 +15,8 @@ all_differ (e ∷ es) = not (has_sent es e) && all_differ es
 abbrev pub sources_of : List TraceLine → List End
 sources_of lines = map (λ line. line.source) lines
 
--- the trace gained these lines, of different outputs; the work counts them, and the routes whose source sent; there is no script to settle
+-- the trace gained these lines, of different outputs; the work counts them, and the routes whose
+-- source sent; there is no script to settle
 pub record IsWork (routes : List Route) (old new : List TraceLine) (work : Work) : Type 0 where
   pub lines : List TraceLine
   pub gained : new ≡ old ++ lines

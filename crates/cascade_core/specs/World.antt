@@ -10,7 +10,13 @@ record_event turn source v =
     record {
       world =
           record turn.world {
-            trace = turn.world.trace ++ record { input = turn.world.applied; time = turn.world.last_time; source = source; value = v } ∷ [];
+            trace = turn.world.trace
+                ++ record {
+                  input = turn.world.applied;
+                  time = turn.world.last_time;
+                  source = source;
+                  value = v;
+                } ∷ [];
           };
       sent = turn.sent ++ source ∷ [];
     }

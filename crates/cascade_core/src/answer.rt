@@ -16,8 +16,12 @@ impl WorldData {
     /// An event comes to a TimeSensor.
     fn set_sensor(&mut self, target: End, value: &Value, out: &mut Outbox)
         requires empty { out.old.items ≡ [] }
-        ensures world { self.new ≡ answered self.old (setting_at self.old target value.now (slice_get self.old.fields target.node)) }
-        ensures replies { out.new.items ≡ (setting_at self.old target value.now (slice_get self.old.fields target.node)).replies }
+        ensures world { self.new
+            ≡ answered self.old
+            (setting_at self.old target value.now (slice_get self.old.fields target.node)) }
+        ensures replies { out.new.items
+            ≡ (setting_at self.old target value.now
+            (slice_get self.old.fields target.node)).replies }
     {
         let Some(fields) = self.fields.get(target.node) else {
             return;
@@ -34,9 +38,9 @@ impl WorldData {
         self.sensors.set(target.node as usize, state);
     }
 
-    /// An event comes to the target, if there is such a node.
+    /// What the target of an event does, if there is such a node.
     #[tactic(auto, unfolding(crate::specs::Answers::answer))]
-    pub(crate) fn answer(
+    pub(crate) fn reply_to(
         &mut self,
         alloc: Global,
         scene: &Scene,
@@ -45,8 +49,10 @@ impl WorldData {
         out: &mut Outbox,
     ) -> Result<(), AllocError>
         requires empty { out.old.items ≡ [] }
-        ensures world { OnOk result (self.new ≡ answered self.old (answer (types_of scene.now) self.old target value.now)) }
-        ensures replies { OnOk result (out.new.items ≡ (answer (types_of scene.now) self.old target value.now).replies) }
+        ensures world { OnOk result (self.new
+            ≡ answered self.old (answer (types_of scene.now) self.old target value.now)) }
+        ensures replies { OnOk result (out.new.items
+            ≡ (answer (types_of scene.now) self.old target value.now).replies) }
     {
         let Some(node_type) = type_at(scene, target.node) else {
             return Ok(());
@@ -54,6 +60,9 @@ impl WorldData {
         if node_type == NodeType::TimeSensor {
             self.set_sensor(target, value, out);
             return Ok(());
+        }
+        if node_type == NodeType::TouchSensor {
+            return self.touch(alloc, target, value, out);
         }
         self.fields.react(
             alloc,

@@ -3,17 +3,22 @@
 #![tactic(auto)]
 
 mod answer;
+mod bench;
+mod boxes;
 mod clock;
 mod deliveries;
 mod fault;
+mod input;
 mod nodes;
 mod places;
+mod pointer;
 mod scripts;
 mod sent;
 mod stack;
 mod stage;
 mod state;
 mod texts;
+mod touch;
 mod trace;
 mod work;
 mod world;

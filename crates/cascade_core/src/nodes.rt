@@ -2,7 +2,7 @@
 
 ghost use Rattle.std.specs.Prelude.{◌≡◌, ◌<◌, ◌^◌, ◌≤◌, IfOk, length, slice_get, Some};
 ghost use Rattle.scene_core.specs.Scene.{types_of};
-ghost use Rattle.cascade_core.specs.Apply.{is_clock, clocks_of};
+ghost use Rattle.cascade_core.specs.Nodes.{is_of, numbers_of};
 
 use scene_core::Scene;
 use std::alloc::{AllocError, Global};
@@ -19,12 +19,12 @@ pub fn type_at(scene: &Scene, node: u32) -> Option<NodeType>
     }
 }
 
-/// Whether the node of that number is a TimeSensor.
-fn is_clock(scene: &Scene, node: u32) -> bool
-    ensures { result ≡ is_clock (types_of scene.now) node }
+/// Whether the node of that number is of this type.
+fn is_of(scene: &Scene, node: u32, wanted: NodeType) -> bool
+    ensures { result ≡ is_of wanted (types_of scene.now) node }
 {
     match type_at(scene, node) {
-        Some(node_type) => node_type == NodeType::TimeSensor,
+        Some(node_type) => node_type == wanted,
         None => false,
     }
 }
@@ -39,17 +39,17 @@ pub fn count_of(scene: &Scene) -> Result<u32, AllocError>
     Ok(count)
 }
 
-/// The numbers of the TimeSensors, in order.
-#[tactic(auto, unfolding(crate::specs::Apply::clocks_of))]
-pub fn clocks_of(alloc: Global, scene: &Scene) -> Result<Vec<u32>, AllocError>
-    ensures { IfOk result (λ clocks. clocks.items ≡ clocks_of (types_of scene.now)) }
+/// The numbers of the nodes of a type, in order.
+#[tactic(auto, unfolding(crate::specs::Nodes::numbers_of))]
+pub fn numbers_of(alloc: Global, scene: &Scene, wanted: NodeType) -> Result<Vec<u32>, AllocError>
+    ensures { IfOk result (λ numbers. numbers.items ≡ numbers_of wanted (types_of scene.now)) }
 {
     let count = count_of(scene)?;
-    let mut clocks = Vec::new(alloc);
+    let mut numbers = Vec::new(alloc);
     for node in 0..count {
-        if is_clock(scene, node) {
-            clocks.push(node)?;
+        if is_of(scene, node, wanted) {
+            numbers.push(node)?;
         }
     }
-    Ok(clocks)
+    Ok(numbers)
 }

@@ -3,11 +3,13 @@
 ghost use Rattle.std.specs.Prelude.{◌≡◌, ◌+◌, ◌≤◌, ◌<◌, ◌^◌, ◌++◌, [], ◌∷◌, true, false, None, Some, IfNone, IfSome, OnOk, length, map, reverse, slice_get};
 ghost use Rattle.std.specs.List.{AllByRecursion};
 ghost use Rattle.scene_core.specs.Scene.{types_of};
+ghost use Rattle.pick_core.specs.Sites.{rows_of};
 ghost use Rattle.cascade_core.specs.Ends.{targets_of};
 ghost use Rattle.cascade_core.specs.Outputs.{is_scene_output};
 ghost use Rattle.cascade_core.specs.Stack.{send_full, do_task, finish, IsReady, weight, work_left, send_by};
 
 use crate::world::Turn;
+use pick_core::BoxCache;
 use react_core::Outbox;
 use route_core::Routes;
 use scene_core::{End, Scene};
@@ -30,15 +32,19 @@ pub fn run_tasks(
     tasks: &mut Vec<Task>,
     turn: &mut Turn,
     replies: &mut Outbox,
+    boxes: &mut BoxCache,
 ) -> Result<(), AllocError>
     requires none { replies.old.items ≡ [] }
     requires ready { AllByRecursion (IsReady (types_of scene.now)) tasks.old.items }
-    ensures turn { OnOk result (turn.new ≡ finish (types_of scene.now) routes.now turn.old tasks.old.items) }
+    requires boxes { boxes.old ≡ rows_of scene.now turn.old.world.fields }
+    ensures turn { OnOk result
+        (turn.new ≡ finish (types_of scene.now) routes.now turn.old tasks.old.items) }
     ensures empty { OnOk result (tasks.new.items ≡ []) }
     ensures none { OnOk result (replies.new.items ≡ []) }
+    ensures boxes { OnOk result (boxes.new ≡ rows_of scene.now turn.new.world.fields) }
 {
     while let Some(task) = tasks.pop() {
-        step(scene, routes, tasks, turn, replies, task)?;
+        step(scene, routes, tasks, turn, replies, boxes, task)?;
     }
     Ok(())
 }
@@ -50,20 +56,31 @@ fn step(
     tasks: &mut Vec<Task>,
     turn: &mut Turn,
     replies: &mut Outbox,
+    boxes: &mut BoxCache,
     task: Task,
 ) -> Result<(), AllocError>
     requires none { replies.old.items ≡ [] }
     requires task { IsReady (types_of scene.now) task }
     requires tasks { AllByRecursion (IsReady (types_of scene.now)) tasks.old.items }
-    ensures done { OnOk result (finish (types_of scene.now) routes.now turn.new tasks.new.items ≡ finish (types_of scene.now) routes.now (do_task (types_of scene.now) routes.now turn.old task) tasks.old.items) }
+    requires boxes { boxes.old ≡ rows_of scene.now turn.old.world.fields }
+    ensures done { OnOk result
+        (finish (types_of scene.now) routes.now turn.new tasks.new.items
+        ≡ finish (types_of scene.now) routes.now
+        (do_task (types_of scene.now) routes.now turn.old task)
+        tasks.old.items) }
     ensures ready { OnOk result (AllByRecursion (IsReady (types_of scene.now)) tasks.new.items) }
-    ensures fewer { OnOk result (work_left (types_of scene.now) routes.now turn.new tasks.new.items + 1 ≤ work_left (types_of scene.now) routes.now turn.old tasks.old.items + weight routes.now task) }
+    ensures fewer { OnOk result (work_left (types_of scene.now) routes.now turn.new tasks.new.items
+        + 1 ≤ work_left (types_of scene.now) routes.now turn.old tasks.old.items
+        + weight routes.now task) }
     ensures none { OnOk result (replies.new.items ≡ []) }
+    ensures boxes { OnOk result (boxes.new ≡ rows_of scene.now turn.new.world.fields) }
 {
     match task {
-        Task::Send(source, value) => begin(scene, routes, tasks, turn, replies, source, value),
+        Task::Send(source, value) => {
+            begin(scene, routes, tasks, turn, replies, boxes, source, value)
+        }
         Task::Follow(source, value, next) => follow(
-            scene, routes, tasks, turn, replies, source, value, next,
+            scene, routes, tasks, turn, replies, boxes, source, value, next,
         ),
     }
 }
@@ -75,23 +92,31 @@ fn begin(
     tasks: &mut Vec<Task>,
     turn: &mut Turn,
     replies: &mut Outbox,
+    boxes: &mut BoxCache,
     source: End,
     value: Value,
 ) -> Result<(), AllocError>
     requires none { replies.old.items ≡ [] }
     requires task { is_scene_output (types_of scene.now) source ≡ true }
     requires tasks { AllByRecursion (IsReady (types_of scene.now)) tasks.old.items }
-    ensures done { OnOk result (finish (types_of scene.now) routes.now turn.new tasks.new.items ≡ finish (types_of scene.now) routes.now (send_full (types_of scene.now) routes.now turn.old source value) tasks.old.items) }
+    requires boxes { boxes.old ≡ rows_of scene.now turn.old.world.fields }
+    ensures done { OnOk result
+        (finish (types_of scene.now) routes.now turn.new tasks.new.items
+        ≡ finish (types_of scene.now) routes.now
+        (send_full (types_of scene.now) routes.now turn.old source value)
+        tasks.old.items) }
     ensures ready { OnOk result (AllByRecursion (IsReady (types_of scene.now)) tasks.new.items) }
-    ensures fewer { OnOk result (work_left (types_of scene.now) routes.now turn.new tasks.new.items + 1 ≤ work_left (types_of scene.now) routes.now turn.old tasks.old.items + 1) }
+    ensures fewer { OnOk result (work_left (types_of scene.now) routes.now turn.new tasks.new.items
+        + 1 ≤ work_left (types_of scene.now) routes.now turn.old tasks.old.items + 1) }
     ensures none { OnOk result (replies.new.items ≡ []) }
+    ensures boxes { OnOk result (boxes.new ≡ rows_of scene.now turn.new.world.fields) }
 {
     if turn.sent.contains(source) {
         return Ok(());
     }
     let alloc = *tasks.allocator();
     turn.record_event(alloc, source, &value)?;
-    follow(scene, routes, tasks, turn, replies, source, value, 0)?;
+    follow(scene, routes, tasks, turn, replies, boxes, source, value, 0)?;
     Ok(())
 }
 
@@ -102,23 +127,32 @@ fn follow(
     tasks: &mut Vec<Task>,
     turn: &mut Turn,
     replies: &mut Outbox,
+    boxes: &mut BoxCache,
     source: End,
     value: Value,
     next: usize,
 ) -> Result<(), AllocError>
     requires none { replies.old.items ≡ [] }
     requires tasks { AllByRecursion (IsReady (types_of scene.now)) tasks.old.items }
-    ensures done { OnOk result (finish (types_of scene.now) routes.now turn.new tasks.new.items ≡ finish (types_of scene.now) routes.now (do_task (types_of scene.now) routes.now turn.old (Task.Follow source value next)) tasks.old.items) }
+    requires boxes { boxes.old ≡ rows_of scene.now turn.old.world.fields }
+    ensures done { OnOk result
+        (finish (types_of scene.now) routes.now turn.new tasks.new.items
+        ≡ finish (types_of scene.now) routes.now
+        (do_task (types_of scene.now) routes.now turn.old (Task.Follow source value next))
+        tasks.old.items) }
     ensures ready { OnOk result (AllByRecursion (IsReady (types_of scene.now)) tasks.new.items) }
-    ensures fewer { OnOk result (work_left (types_of scene.now) routes.now turn.new tasks.new.items + 1 ≤ work_left (types_of scene.now) routes.now turn.old tasks.old.items + weight routes.now (Task.Follow source value next)) }
+    ensures fewer { OnOk result (work_left (types_of scene.now) routes.now turn.new tasks.new.items
+        + 1 ≤ work_left (types_of scene.now) routes.now turn.old tasks.old.items
+        + weight routes.now (Task.Follow source value next)) }
     ensures none { OnOk result (replies.new.items ≡ []) }
+    ensures boxes { OnOk result (boxes.new ≡ rows_of scene.now turn.new.world.fields) }
 {
     let Some(hop) = hop_at(routes, source, next) else {
         return Ok(());
     };
     let alloc = *tasks.allocator();
     turn.world
-        .answer(alloc, scene, hop.target, &value, replies)?;
+        .answer(alloc, scene, boxes, hop.target, &value, replies)?;
     if hop.more {
         tasks.push(Task::Follow(source, value, next + 1))?;
         push_replies(tasks, hop.target.node, replies)?;
@@ -138,8 +172,10 @@ struct Hop {
 /// Where the route at this place among those of the output leads, if there are so many.
 fn hop_at(routes: &Routes, source: End, next: usize) -> Option<Hop>
     ensures none { IfNone result (slice_get (targets_of routes.now source) next ≡ None) }
-    ensures target { IfSome result (λ hop. slice_get (targets_of routes.now source) next ≡ Some hop.target) }
-    ensures last { IfSome result (λ hop. hop.more ≡ false → slice_get (targets_of routes.now source) (next + 1) ≡ None) }
+    ensures target { IfSome result (λ hop. slice_get (targets_of routes.now source) next
+        ≡ Some hop.target) }
+    ensures last { IfSome result (λ hop. hop.more ≡ false
+        → slice_get (targets_of routes.now source) (next + 1) ≡ None) }
     ensures few { IfSome result (λ hop. next < 2 ^ 63) }
 {
     let places = routes.from_output(source);
@@ -158,7 +194,8 @@ pub fn push_replies(
     node: u32,
     replies: &mut Outbox,
 ) -> Result<(), AllocError>
-    ensures tasks { OnOk result (tasks.new.items ≡ tasks.old.items ++ map (send_by node) (reverse replies.old.items)) }
+    ensures tasks { OnOk result (tasks.new.items
+        ≡ tasks.old.items ++ map (send_by node) (reverse replies.old.items)) }
     ensures none { OnOk result (replies.new.items ≡ []) }
     ensures few { length replies.old.items ≤ 5 }
 {

@@ -4,26 +4,31 @@ ghost use Rattle.std.specs.Prelude.{◌≡◌, ◌++◌, ◌⊎◌, IfOk, IfErr,
 ghost use Rattle.cascade_core.specs.Held.{Running, refusal_in};
 ghost use Rattle.cascade_core.specs.Apply.{opening, world};
 ghost use Rattle.cascade_core.specs.InTurn.{AreInTurn};
+ghost use Rattle.cascade_core.specs.Nodes.{clocks_of, touch_sensors_of};
+ghost use Rattle.pick_core.specs.Sites.{rows_of};
+ghost use Rattle.scene_core.specs.Scene.{types_of};
+ghost use Rattle.sensor_core.specs.Touches.{untouched};
 
-use crate::clock::advance;
+use crate::bench::{Bench, Sensors};
 use crate::fault::{ApplyFault, LoadFault, TextFault};
-use crate::nodes::clocks_of;
+use crate::input::advance;
+use crate::nodes::numbers_of;
 use crate::scripts::Scripts;
 use crate::sent::SentBits;
-use crate::stack::Task;
 use crate::state::State;
 use crate::texts::push_trace;
 use crate::trace::Trace;
 use crate::work::Work;
-use crate::world::{Turn, WorldData};
+use crate::world::{Turn, VIEWERS, WorldData};
+use pick_core::BoxCache;
 use route_core::Routes;
 use scene_core::Scene;
 use scene_text::write_scene;
-use sensor_core::TimeState;
+use sensor_core::{TimeState, TouchState};
 use std::alloc::{AllocError, Global};
 use std::marker::Model;
 use x3d_lists::Items;
-use x3d_values::Stamped;
+use x3d_values::{NodeType, Stamped};
 
 /// A scene with its world, which moves on by inputs.
 #[derive(Drop)]
@@ -31,23 +36,27 @@ pub struct Stage<B> {
     scene: Scene,
     routes: Routes,
     scripts: Scripts<B>,
-    clocks: Vec<u32>,
+    sensors: Sensors,
     turn: Turn,
-    tasks: Vec<Task>,
+    bench: Bench,
     spoiled: Option<u32>,
 }
 
 impl<B> Model for Stage<B> {
-    ghost use Rattle.std.specs.Prelude.{◌≡◌};
+    ghost use Rattle.std.specs.Prelude.{◌≡◌, IfNone};
+    ghost use Rattle.pick_core.specs.Sites.{rows_of};
     ghost use Rattle.scene_core.specs.Scene.{types_of};
-    ghost use Rattle.cascade_core.specs.Apply.{clocks_of};
+    ghost use Rattle.cascade_core.specs.Nodes.{clocks_of, touch_sensors_of};
     ghost use Rattle.cascade_core.specs.Held.{StageView, held_of};
 
     ghost Value = { StageView };
 
-    ghost view = { λ s. record { scene = s.scene; routes = s.routes; held = held_of s.spoiled s.turn.world } };
+    ghost view = { λ s.
+        record { scene = s.scene; routes = s.routes; held = held_of s.spoiled s.turn.world } };
 
-    ghost invariant = { λ s. s.clocks.items ≡ clocks_of (types_of s.scene) };
+    ghost invariant = { λ s. (s.sensors.clocks.items ≡ clocks_of (types_of s.scene))
+        × (s.sensors.touches.items ≡ touch_sensors_of (types_of s.scene))
+        × IfNone s.spoiled (s.bench.boxes ≡ rows_of s.scene s.turn.world.fields) };
 }
 
 /// No node runs a cycle.
@@ -58,18 +67,60 @@ fn idle_sensors(alloc: Global, nodes: usize) -> Result<Items<TimeState>, AllocEr
     Ok(Items::from_vec(sensors))
 }
 
+/// No pointer is over a node.
+fn untouched_sensors(alloc: Global, nodes: usize) -> Result<Items<TouchState>, AllocError>
+    ensures { IfOk result (λ touches. touches ≡ replicate nodes untouched) }
+{
+    let touches = vec![in alloc; TouchState::untouched(); nodes]?;
+    Ok(Items::from_vec(touches))
+}
+
 /// The world of a scene before any input.
 fn opening(alloc: Global, scene: &Scene) -> Result<WorldData, AllocError>
     ensures { IfOk result (λ w. w ≡ opening scene.now) }
 {
     let fields = scene.state(alloc)?;
     let sensors = idle_sensors(alloc, fields.len())?;
+    let touches = untouched_sensors(alloc, fields.len())?;
     Ok(WorldData {
         applied: 0,
         last_time: 0,
         fields: State::from_vec(fields),
         sensors,
+        touches,
+        buttons: [false; VIEWERS],
         trace: Trace::new(alloc),
+    })
+}
+
+/// The sensors of a scene.
+fn sensors_of(alloc: Global, scene: &Scene) -> Result<Sensors, AllocError>
+    ensures clocks { IfOk result
+        (λ sensors. sensors.clocks.items ≡ clocks_of (types_of scene.now)) }
+    ensures touches { IfOk result
+        (λ sensors. sensors.touches.items ≡ touch_sensors_of (types_of scene.now)) }
+{
+    let clocks = numbers_of(alloc, scene, NodeType::TimeSensor)?;
+    let touches = numbers_of(alloc, scene, NodeType::TouchSensor)?;
+    Ok(Sensors { clocks, touches })
+}
+
+/// What a stage works with: no task is left, and the boxes are those of the world. There is room
+/// for as many pressed sensors as there are.
+fn bench_of(
+    alloc: Global,
+    scene: &Scene,
+    world: &WorldData,
+    sensors: usize,
+) -> Result<Bench, AllocError>
+    ensures { IfOk result (λ bench. bench.boxes ≡ rows_of scene.now world.now.fields) }
+{
+    let boxes = BoxCache::new(alloc, scene, world.fields.as_slice())?;
+    let pressed = Vec::with_capacity(alloc, sensors)?;
+    Ok(Bench {
+        tasks: Vec::new(alloc),
+        pressed,
+        boxes,
     })
 }
 
@@ -87,18 +138,20 @@ impl<B> Stage<B> {
         routes: Routes,
         scripts: Scripts<B>,
     ) -> Result<Stage<B>, LoadFault>
-        ensures { IfOk result (λ stage. stage ≡ record { scene = scene; routes = routes; held = Running (opening scene) }) }
+        ensures { IfOk result (λ stage. stage
+            ≡ record { scene = scene; routes = routes; held = Running (opening scene) }) }
     {
-        let clocks = clocks_of(alloc, &scene)?;
+        let sensors = sensors_of(alloc, &scene)?;
         let world = opening(alloc, &scene)?;
+        let bench = bench_of(alloc, &scene, &world, sensors.touches.len())?;
         let sent = SentBits::new(alloc, &scene)?;
         Ok(Stage {
             scene,
             routes,
             scripts,
-            clocks,
+            sensors,
             turn: Turn { world, sent },
-            tasks: Vec::new(alloc),
+            bench,
             spoiled: None,
         })
     }
@@ -123,13 +176,17 @@ impl<B> Stage<B> {
     /// Applies the next input.
     pub fn apply(&mut self, input: &Stamped) -> Result<Work, ApplyFault>
         // Whatever can be said before the work starts is answered then, and the stage is as it was.
-        ensures refused { IfSome (refusal_of self.old.held input.now) (λ fault. (result ≡ Err fault) × (self.new ≡ self.old)) }
+        ensures refused { IfSome (refusal_of self.old.held input.now) (λ fault. (result ≡ Err fault)
+            × (self.new ≡ self.old)) }
         ensures ok { OnOk result (self.new ≡ after self.old input.now) }
-        ensures work { IfOk result (IsWork self.old.routes (trace_of self.old.held) (trace_of self.new.held)) }
+        ensures work { IfOk result
+            (IsWork self.old.routes (trace_of self.old.held) (trace_of self.new.held)) }
         ensures taken { OnOk result (refusal_of self.old.held input.now ≡ None) }
-        ensures err { IfErr result (λ fault. (fault ≡ ApplyFault.Memory) ⊎ (refusal_of self.old.held input.now ≡ Some fault)) }
+        ensures err { IfErr result (λ fault. (fault ≡ ApplyFault.Memory)
+            ⊎ (refusal_of self.old.held input.now ≡ Some fault)) }
         // Where memory was refused the stage is spoiled, with the inputs that it had applied.
-        ensures memory { IfNone (refusal_of self.old.held input.now) (OnErr result ((result ≡ Err ApplyFault.Memory) × (self.new ≡ spoiled_of self.old))) }
+        ensures memory { IfNone (refusal_of self.old.held input.now)
+            (OnErr result ((result ≡ Err ApplyFault.Memory) × (self.new ≡ spoiled_of self.old))) }
     {
         if self.spoiled.is_some() {
             return Err(ApplyFault::Spoiled);
@@ -144,8 +201,8 @@ impl<B> Stage<B> {
         match advance(
             &self.scene,
             &self.routes,
-            &self.clocks,
-            &mut self.tasks,
+            &self.sensors,
+            &mut self.bench,
             &mut self.turn,
             input,
         ) {
@@ -161,7 +218,8 @@ impl<B> Stage<B> {
     fn apply_all(&mut self, inputs: &[Stamped]) -> Result<(), ApplyFault>
         ensures ok { OnOk result (self.new ≡ after_all self.old inputs.now) }
         ensures taken { OnOk result (refusal_in self.old inputs.now ≡ None) }
-        ensures err { IfErr result (λ fault. (fault ≡ ApplyFault.Memory) ⊎ (refusal_in self.old inputs.now ≡ Some fault)) }
+        ensures err { IfErr result (λ fault. (fault ≡ ApplyFault.Memory)
+            ⊎ (refusal_in self.old inputs.now ≡ Some fault)) }
     {
         for input in inputs {
             self.apply(input)?;
@@ -173,8 +231,10 @@ impl<B> Stage<B> {
     #[tactic(auto, unfolding(crate::specs::Texts::trace_text))]
     pub fn trace_text(&self, out: &mut Vec<u8>) -> Result<(), TextFault>
         ensures refused { IfSpoiled self.now.held (result ≡ Err TextFault.Spoiled) }
-        ensures ok { IfRunning self.now.held (λ w. OnOk result (out.new.items ≡ out.old.items ++ trace_text self.now.scene w)) }
-        ensures memory { IfRunning self.now.held (λ w. IfErr result (λ fault. fault ≡ TextFault.Memory)) }
+        ensures ok { IfRunning self.now.held (λ w.
+            OnOk result (out.new.items ≡ out.old.items ++ trace_text self.now.scene w)) }
+        ensures memory { IfRunning self.now.held (λ w.
+            IfErr result (λ fault. fault ≡ TextFault.Memory)) }
         ensures err { OnErr result (out.new.items ≡ out.old.items) }
     {
         if self.spoiled.is_some() {
@@ -188,8 +248,11 @@ impl<B> Stage<B> {
     #[tactic(auto, unfolding(crate::specs::Texts::scene_text))]
     pub fn scene_text(&self, out: &mut Vec<u8>) -> Result<(), TextFault>
         ensures refused { IfSpoiled self.now.held (result ≡ Err TextFault.Spoiled) }
-        ensures ok { IfRunning self.now.held (λ w. OnOk result (out.new.items ≡ out.old.items ++ scene_text self.now.scene self.now.routes w)) }
-        ensures memory { IfRunning self.now.held (λ w. IfErr result (λ fault. fault ≡ TextFault.Memory)) }
+        ensures ok { IfRunning self.now.held (λ w.
+            OnOk result (out.new.items
+            ≡ out.old.items ++ scene_text self.now.scene self.now.routes w)) }
+        ensures memory { IfRunning self.now.held (λ w.
+            IfErr result (λ fault. fault ≡ TextFault.Memory)) }
         ensures err { OnErr result (out.new.items ≡ out.old.items) }
     {
         if self.spoiled.is_some() {
@@ -213,10 +276,19 @@ pub fn run<B>(
     scripts: Scripts<B>,
     inputs: &[Stamped],
 ) -> Result<Stage<B>, ApplyFault>
-    ensures ok { IfOk result (λ stage. stage ≡ record { scene = scene; routes = routes; held = Running (world scene routes inputs.now) }) }
+    ensures ok { IfOk result (λ stage. stage
+        ≡ record {
+          scene = scene;
+          routes = routes;
+          held = Running (world scene routes inputs.now);
+        }) }
     // It answers no input's fault but that of the first that is refused.
-    ensures taken { OnOk result (refusal_in (record { scene = scene; routes = routes; held = Running (opening scene) }) inputs.now ≡ None) }
-    ensures err { IfErr result (λ fault. (fault ≡ ApplyFault.Memory) ⊎ (refusal_in (record { scene = scene; routes = routes; held = Running (opening scene) }) inputs.now ≡ Some fault)) }
+    ensures taken { OnOk result
+        (refusal_in (record { scene = scene; routes = routes; held = Running (opening scene) })
+        inputs.now ≡ None) }
+    ensures err { IfErr result (λ fault. (fault ≡ ApplyFault.Memory)
+        ⊎ (refusal_in (record { scene = scene; routes = routes; held = Running (opening scene) })
+        inputs.now ≡ Some fault)) }
     // Of inputs in turn none is refused.
     ensures in_turn { AreInTurn inputs.now → IfErr result (λ fault. fault ≡ ApplyFault.Memory) }
 {

@@ -59,8 +59,13 @@ impl State {
         out: &mut Outbox,
     ) -> Result<(), AllocError>
         requires empty { out.old.items ≡ [] }
-        ensures fields { OnOk result (self.new ≡ option_map_or (λ fields. slice_set self.old node (reaction node_type fields input value.now time).fields) (slice_get self.old node) self.old) }
-        ensures replies { OnOk result (out.new.items ≡ option_map_or (λ fields. (reaction node_type fields input value.now time).replies) (slice_get self.old node) []) }
+        ensures fields { OnOk result (self.new
+            ≡ option_map_or (λ fields.
+            slice_set self.old node (reaction node_type fields input value.now time).fields)
+            (slice_get self.old node) self.old) }
+        ensures replies { OnOk result (out.new.items
+            ≡ option_map_or (λ fields. (reaction node_type fields input value.now time).replies)
+            (slice_get self.old node) []) }
     {
         let node = node as usize;
         if node >= self.items.len() {
@@ -79,7 +84,9 @@ impl State {
 
     /// A TimeSensor keeps these values, where there is such a node.
     pub fn keep_timing(&mut self, node: u32, timing: &TimeFields)
-        ensures { self.new ≡ option_map_or (λ fields. slice_set self.old node (with_timing fields timing.now)) (slice_get self.old node) self.old }
+        ensures { self.new
+            ≡ option_map_or (λ fields. slice_set self.old node (with_timing fields timing.now))
+            (slice_get self.old node) self.old }
     {
         let node = node as usize;
         if node >= self.items.len() {

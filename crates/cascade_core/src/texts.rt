@@ -56,9 +56,11 @@ fn push_source(scene: &Scene, source: End, out: &mut Vec<u8>) -> Result<(), Allo
     out.extend_from_slice(field_name(scene, source).as_bytes())
 }
 
-/// Appends the stamp of an input, the source of one of its events and a space; on a refusal perhaps a part of it.
+/// Appends the stamp of an input, the source of one of its events and a space; on a refusal perhaps
+/// a part of it.
 fn push_head(scene: &Scene, stamp: &[u8], source: End, out: &mut Vec<u8>) -> Result<(), AllocError>
-    ensures ok { OnOk result (out.new.items ≡ out.old.items ++ stamp.now ++ source_text scene.now source ++ 32 ∷ []) }
+    ensures ok { OnOk result (out.new.items ≡ out.old.items ++ stamp.now
+        ++ source_text scene.now source ++ 32 ∷ []) }
     ensures kept { Extends out.old.items out.new.items }
 {
     out.extend_from_slice(stamp)?;
@@ -92,7 +94,9 @@ fn push_plain_line(
     entry: Entry,
     out: &mut Vec<u8>,
 ) -> Result<(), AllocError>
-    ensures ok { OnOk result (out.new.items ≡ out.old.items ++ stamp.now ++ source_text scene.now (end_of entry) ++ 32 ∷ plain_text entry.kind entry.word ++ 10 ∷ []) }
+    ensures ok { OnOk result (out.new.items ≡ out.old.items ++ stamp.now
+        ++ source_text scene.now (end_of entry) ++ 32 ∷ plain_text entry.kind entry.word ++ 10
+        ∷ []) }
     ensures kept { Extends out.old.items out.new.items }
 {
     let source = End {
@@ -113,7 +117,8 @@ fn push_line(
     value: &Value,
     out: &mut Vec<u8>,
 ) -> Result<(), AllocError>
-    ensures ok { OnOk result (out.new.items ≡ out.old.items ++ stamp.now ++ source_text scene.now (end_of entry) ++ 32 ∷ value_text value.now ++ 10 ∷ []) }
+    ensures ok { OnOk result (out.new.items ≡ out.old.items ++ stamp.now
+        ++ source_text scene.now (end_of entry) ++ 32 ∷ value_text value.now ++ 10 ∷ []) }
     ensures kept { Extends out.old.items out.new.items }
 {
     let source = End {
@@ -163,7 +168,12 @@ fn push_entry<'a>(
 ) -> Result<&'a [Value], AllocError>
     requires stamp { stamp.old.text.items ≡ stamp_of stamp.old.input stamp.old.time }
     ensures stamp { OnOk result (stamp.new.text.items ≡ stamp_of stamp.new.input stamp.new.time) }
-    ensures told { (es : List EntryView) → IfOk result (λ left. out.new.items ++ flat_map (line_text scene.now) (lines_of es stamp.new.input stamp.new.time left.now) ≡ out.old.items ++ flat_map (line_text scene.now) (lines_of (entry ∷ es) stamp.old.input stamp.old.time values.now)) }
+    ensures told { (es : List EntryView)
+        → IfOk result (λ left. out.new.items
+        ++ flat_map (line_text scene.now) (lines_of es stamp.new.input stamp.new.time left.now)
+        ≡ out.old.items
+        ++ flat_map (line_text scene.now)
+        (lines_of (entry ∷ es) stamp.old.input stamp.old.time values.now)) }
     ensures kept { Extends out.old.items out.new.items }
 {
     match entry.kind {
@@ -193,7 +203,9 @@ fn push_lines(
     values: &[Value],
     out: &mut Vec<u8>,
 ) -> Result<(), AllocError>
-    ensures ok { OnOk result (out.new.items ≡ out.old.items ++ flat_map (line_text scene.now) (lines_of entries.now 0 (pos 0) values.now)) }
+    ensures ok { OnOk result (out.new.items
+        ≡ out.old.items
+        ++ flat_map (line_text scene.now) (lines_of entries.now 0 (pos 0) values.now)) }
     ensures kept { Extends out.old.items out.new.items }
 {
     let mut stamp = Stamp {
@@ -211,7 +223,8 @@ fn push_lines(
 
 /// Appends the text of a trace; on a refusal the buffer is as it was.
 pub fn push_trace(scene: &Scene, trace: &Trace, out: &mut Vec<u8>) -> Result<(), AllocError>
-    ensures ok { OnOk result (out.new.items ≡ out.old.items ++ flat_map (line_text scene.now) trace.now) }
+    ensures ok { OnOk result (out.new.items
+        ≡ out.old.items ++ flat_map (line_text scene.now) trace.now) }
     ensures err { OnErr result (out.new.items ≡ out.old.items) }
 {
     let len = out.len();

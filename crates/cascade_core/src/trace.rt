@@ -115,7 +115,8 @@ impl Kept {
     fn event(&mut self, alloc: Global, source: End, value: &Value) -> Result<(), AllocError>
         requires open { IsOpen self.old }
         ensures open { IsOpen self.new }
-        ensures lines { OnOk result (kept_lines self.new ≡ kept_lines self.old ++ line self.old.input self.old.time source value.now ∷ []) }
+        ensures lines { OnOk result (kept_lines self.new
+            ≡ kept_lines self.old ++ line self.old.input self.old.time source value.now ∷ []) }
     {
         if let Some(plain) = plain_entry(source, value) {
             self.entries.push(plain)?;

@@ -8,10 +8,13 @@ use crate::sent::SentBits;
 use crate::state::State;
 use crate::trace::Trace;
 use scene_core::End;
-use sensor_core::TimeState;
+use sensor_core::{TimeState, TouchState};
 use std::alloc::{AllocError, Global};
 use x3d_lists::Items;
-use x3d_values::{Stamped, Value};
+use x3d_values::{MAX_VIEWERS, Stamped, Value};
+
+/// How many viewers have buttons.
+pub const VIEWERS: usize = MAX_VIEWERS as usize;
 
 /// One event that was sent.
 #[derive(Debug, Drop, PartialEq, Eq)]
@@ -35,6 +38,11 @@ pub struct WorldData {
     pub fields: State,
     /// Which cycle each node runs, by its number: none but a TimeSensor runs one.
     pub sensors: Items<TimeState>,
+    /// Whose pointers are over each node, and who presses it, by its number: that is a
+    /// TouchSensor.
+    pub touches: Items<TouchState>,
+    /// Whether each viewer's button is down, by its number.
+    pub buttons: [bool; VIEWERS],
     /// All events that were sent, in order.
     pub trace: Trace,
 }

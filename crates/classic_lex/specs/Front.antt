@@ -12,7 +12,8 @@ use Rattle.classic_lex.specs.Bytes.{is_space, is_line_end, is_digit, ends_numera
 
 -- ---- strings
 
--- how many bytes there are up to the quote that closes a string, with it; the flag says that a backslash stands before
+-- how many bytes there are up to the quote that closes a string, with it; the flag says that a
+-- backslash stands before
 unfoldable pub closing : Bool → List ℕ → Option ℕ
 closing escaped [] = None
 closing true (b ∷ bs) = option_map suc (closing false bs)
@@ -50,8 +51,10 @@ numeral_front n text = numeral_piece n (numeral (take n text))
 -- a bracket, a brace or a point
 unfoldable pub mark : ℕ → Start
 mark b =
-    if b == 123 then Piece OpenBrace 1 else (if b == 125 then Piece CloseBrace 1 else (if b == 91 then Piece OpenBracket 1 else
-    (if b == 93 then Piece CloseBracket 1 else (if b == 46 then Piece Point 1 else Bad BadCharacter))))
+    if b == 123 then Piece OpenBrace 1
+    else (if b == 125 then Piece CloseBrace 1 else (if b == 91 then Piece OpenBracket 1 else
+    (if b == 93 then Piece CloseBracket 1
+    else (if b == 46 then Piece Point 1 else Bad BadCharacter))))
 
 -- what begins with this byte before the others
 unfoldable pub front_at : ℕ → List ℕ → Start

@@ -1,4 +1,5 @@
--- The head of a text: its size, its encoding and its first line (ISO/IEC 19776-2, header statement).
+-- The head of a text: its size, its encoding and its first line (ISO/IEC 19776-2, header
+-- statement).
 use Rattle.std.specs.Prelude.{ℕ, ◌+◌, List, [], ◌∷◌, length, take, drop, Bool, true, false, ◌&&◌, ◌==◌, nat_lt, nat_eq, Option, Some, None, Result, Ok, Err, codes, if◌then◌else◌}
 use Rattle.std.specs.List.{prefix_len, starts_with}
 use Rattle.std.specs.Cmp.Lexicographic.{pointwise}
@@ -38,8 +39,10 @@ version_text V4_0 = codes "4.0"
 -- the version of that name
 unfoldable pub version_named : List ℕ → Result Version LexFaultKind
 version_named name =
-    if pointwise nat_eq name (codes "3.0") then Ok V3_0 else (if pointwise nat_eq name (codes "3.1") then Ok V3_1 else
-    (if pointwise nat_eq name (codes "3.2") then Ok V3_2 else (if pointwise nat_eq name (codes "3.3") then Ok V3_3 else
+    if pointwise nat_eq name (codes "3.0") then Ok V3_0
+    else (if pointwise nat_eq name (codes "3.1") then Ok V3_1 else
+    (if pointwise nat_eq name (codes "3.2") then Ok V3_2
+    else (if pointwise nat_eq name (codes "3.3") then Ok V3_3 else
     (if pointwise nat_eq name (codes "4.0") then Ok V4_0 else Err BadVersion))))
 
 -- how many digits stand at the front
@@ -49,7 +52,9 @@ digits_len text = prefix_len is_digit text
 -- the same with a point and digits behind so many digits
 abbrev pub with_fraction : ℕ → List ℕ → Option ℕ
 with_fraction whole [] = None
-with_fraction whole (b ∷ bs) = if b == 46 && nat_lt 0 whole && nat_lt 0 (digits_len bs) then Some (whole + 1 + digits_len bs) else None
+with_fraction whole (b ∷ bs) =
+    if b == 46 && nat_lt 0 whole && nat_lt 0 (digits_len bs) then Some (whole + 1 + digits_len bs)
+    else None
 
 -- how many bytes digits, a point and digits take at the front, if they stand there
 unfoldable pub number_len : List ℕ → Option ℕ
@@ -64,19 +69,23 @@ is_space_or_end (b ∷ bs) = is_space b
 
 -- ` utf8`, and then white space or the end
 unfoldable pub ends_header : List ℕ → Bool
-ends_header text = if starts_with nat_eq text (codes " utf8") then is_space_or_end (drop 5 text) else false
+ends_header text = if starts_with nat_eq text (codes " utf8") then is_space_or_end (drop 5 text)
+    else false
 
 -- the version in so many bytes, before the end of the header
 abbrev pub version_of_len : Option ℕ → List ℕ → Result Version LexFaultKind
 version_of_len None text = Err NoHeader
-version_of_len (Some n) text = if ends_header (drop n text) then version_named (take n text) else Err NoHeader
+version_of_len (Some n) text =
+    if ends_header (drop n text) then version_named (take n text) else Err NoHeader
 
 unfoldable pub version_at : List ℕ → Result Version LexFaultKind
 version_at text = version_of_len (number_len text) text
 
--- `#X3D V`, digits, a point, digits, ` utf8`, and then white space or the end; what stands further in the line is ignored
+-- `#X3D V`, digits, a point, digits, ` utf8`, and then white space or the end; what stands further
+-- in the line is ignored
 unfoldable pub header : List ℕ → Result Version LexFaultKind
-header text = if starts_with nat_eq text (codes "#X3D V") then version_at (drop 6 text) else Err NoHeader
+header text = if starts_with nat_eq text (codes "#X3D V") then version_at (drop 6 text)
+    else Err NoHeader
 
 -- ---- the head
 
@@ -88,7 +97,8 @@ abbrev pub in_head : {X : Type 0} → Result X LexFaultKind → Result X LexFaul
 in_head (Ok x) = Ok x
 in_head (Err kind) = Err (at_head kind)
 
--- the version that a text's header names, or the first fault of its size, its encoding and its header
+-- the version that a text's header names, or the first fault of its size, its encoding and its
+-- header
 unfoldable pub version_of : List ℕ → Result Version LexFault
 version_of text =
     if nat_lt max_len (length text) then Err (at_head TooLong)

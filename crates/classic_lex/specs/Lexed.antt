@@ -10,7 +10,8 @@ use Rattle.classic_lex.specs.declared.versions.Version.{Version}
 use Rattle.classic_lex.specs.Header.{version_of, without_mark}
 use Rattle.classic_lex.specs.Front.{front}
 
--- a token without its place: its kind, its bytes (of a string with the quotes) and the line of the first of them
+-- a token without its place: its kind, its bytes (of a string with the quotes) and the line of the
+-- first of them
 pub record Tok : Type 0 where
   pub kind : TokenKind
   pub text : List ℕ
@@ -31,16 +32,20 @@ next_line line b = if b == 10 then line + 1 else line
 -- what begins at the front of a text on this line, and then what comes behind the rest of its bytes
 abbrev pub begin_with : Start → ℕ → List ℕ → (ℕ → Toks) → Toks
 begin_with (Blank n) line text go_on = go_on (n - 1)
-begin_with (Piece k n) line text go_on = with_front (record { kind = k; text = take n text; line = line } ∷ []) (go_on (n - 1))
+begin_with (Piece k n) line text go_on =
+    with_front (record { kind = k; text = take n text; line = line } ∷ []) (go_on (n - 1))
 begin_with (Bad f) line text go_on = Err (record { kind = f; line = line })
 
--- The tokens of a text on this line, where its first bytes, so many of them, are the rest of what began before.
+-- The tokens of a text on this line, where its first bytes, so many of them, are the rest of what
+-- began before.
 unfoldable pub tokens_at : ℕ → ℕ → List ℕ → Toks
 tokens_at inside line [] = Ok []
 tokens_at (suc inside) line (b ∷ bs) = tokens_at inside (next_line line b) bs
-tokens_at zero line (b ∷ bs) = begin_with (front (b ∷ bs)) line (b ∷ bs) (λ inside. tokens_at inside (next_line line b) bs)
+tokens_at zero line (b ∷ bs) =
+    begin_with (front (b ∷ bs)) line (b ∷ bs) (λ inside. tokens_at inside (next_line line b) bs)
 
--- behind a good head, the tokens of the text without its byte order mark; the header line is a comment
+-- behind a good head, the tokens of the text without its byte order mark; the header line is a
+-- comment
 abbrev pub behind_head : Result Version LexFault → List ℕ → Toks
 behind_head (Err fault) text = Err fault
 behind_head (Ok version) text = tokens_at 0 1 (without_mark text)
@@ -65,4 +70,5 @@ memory = record { kind = Memory; line = 0 }
 
 -- a token of the text without its place
 abbrev pub seen : List ℕ → Token → Tok
-seen text token = record { kind = token.kind; text = slice_range text token.start token.end; line = token.line }
+seen text token =
+    record { kind = token.kind; text = slice_range text token.start token.end; line = token.line }

@@ -3,13 +3,16 @@ use Rattle.std.specs.Prelude.{ℕ, ◌≤◌, ◌<◌, List, [], ◌∷◌, leng
 use Rattle.classic_lex.specs.declared.token.Token.{Token}
 use Rattle.classic_lex.specs.Bytes.{is_space, is_line_end}
 
--- nothing but white space and comments, the last of which is over; the flag says that a comment is under way
+-- nothing but white space and comments, the last of which is over; the flag says that a comment is
+-- under way
 unfoldable pub is_gap : Bool → List ℕ → Bool
 is_gap comment [] = not comment
 is_gap true (b ∷ bs) = is_gap (not (is_line_end b)) bs
 is_gap false (b ∷ bs) = if b == 35 then is_gap true bs else is_space b && is_gap false bs
 
--- from this byte on the tokens stand in order and apart in the text, each has a byte, and before each there is a gap
+-- from this byte on the tokens stand in order and apart in the text, each has a byte, and before
+-- each there is a gap
 abbrev pub AreSpans : List ℕ → ℕ → List Token → Type 0
 AreSpans text from [] = from ≤ length text
-AreSpans text from (t ∷ ts) = (from ≤ t.start) × (t.start < t.end) × IsTrue (is_gap false (slice_range text from t.start)) × AreSpans text t.end ts
+AreSpans text from (t ∷ ts) = (from ≤ t.start) × (t.start < t.end)
+    × IsTrue (is_gap false (slice_range text from t.start)) × AreSpans text t.end ts

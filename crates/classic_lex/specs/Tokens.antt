@@ -1,5 +1,5 @@
--- Which tokens a text has, as the standard says it (ISO/IEC 19776-2): a head, and then white space, comments and tokens.
--- What ends a piece is said of the rest of the text behind it.
+-- Which tokens a text has, as the standard says it (ISO/IEC 19776-2): a head, and then white space,
+-- comments and tokens. What ends a piece is said of the rest of the text behind it.
 use Rattle.std.specs.Prelude.{◌≡◌, ◌≢◌, ◌⊎◌, ℕ, ◌≤◌, ℤ, Bool, not, List, [], ◌∷◌, ◌++◌, length, IsTrue, IsFalse, IsUtf8, codes}
 use Rattle.std.specs.List.{list_all, flat_map}
 use Rattle.x3d_numerals.specs.Numeral as stands
@@ -46,14 +46,15 @@ BeginsWithDigit (b ∷ bs) = IsTrue (is_digit b)
 abbrev pub BeginsNumeral : ℕ → List ℕ → Type 0
 BeginsNumeral b bs = IsTrue (is_digit b) ⊎ ((b ≡ 43) ⊎ ((b ≡ 45) ⊎ ((b ≡ 46) × BeginsWithDigit bs)))
 
--- what begins so, and all up to the next white space, bracket, brace, quote or comment; as a whole it stands for a
--- number (our choice: a run that stands for none is a fault)
+-- what begins so, and all up to the next white space, bracket, brace, quote or comment; as a whole
+-- it stands for a number (our choice: a run that stands for none is a fault)
 abbrev pub IsNumeral : List ℕ → List ℕ → Type 0
 IsNumeral [] rest = ⊥
-IsNumeral (b ∷ bs) rest = BeginsNumeral b bs × IsRun (λ c. not (ends_numeral c)) bs rest × ((n : ℤ) × stands.IsNumeral (b ∷ bs) n)
+IsNumeral (b ∷ bs) rest = BeginsNumeral b bs × IsRun (λ c. not (ends_numeral c)) bs rest
+    × ((n : ℤ) × stands.IsNumeral (b ∷ bs) n)
 
--- what stands behind the quote that opens a string, up to the one that closes it, with it: bytes other than a quote and
--- a backslash, and pairs of a backslash and any byte
+-- what stands behind the quote that opens a string, up to the one that closes it, with it: bytes
+-- other than a quote and a backslash, and pairs of a backslash and any byte
 pub data IsClosed : List ℕ → Type 0 where
   quote : IsClosed (34 ∷ [])
   plain : {b : ℕ} {bs : List ℕ} → b ≢ 34 → b ≢ 92 → IsClosed bs → IsClosed (b ∷ bs)
@@ -102,7 +103,8 @@ ArePieces (piece ∷ pieces) = IsPiece piece (text_of pieces) × ArePieces piece
 abbrev pub tokens_among : ℕ → List Piece → List Tok
 tokens_among line [] = []
 tokens_among line (blank bytes ∷ pieces) = tokens_among (line_after line bytes) pieces
-tokens_among line (token kind bytes ∷ pieces) = record { kind = kind; text = bytes; line = line } ∷ tokens_among (line_after line bytes) pieces
+tokens_among line (token kind bytes ∷ pieces) =
+    record { kind = kind; text = bytes; line = line } ∷ tokens_among (line_after line bytes) pieces
 
 -- ---- a text
 
@@ -112,7 +114,8 @@ pub record IsHeader (version : Version) (body : List ℕ) : Type 0 where
   pub spelled : codes "#X3D V" ++ (version_text version ++ (codes " utf8" ++ rest)) ≡ body
   pub ends : NotAhead (λ b. not (is_space b)) rest
 
--- at most 16 MiB of UTF-8 (our choice), and behind a byte order mark or none (our choice) a header of this version
+-- at most 16 MiB of UTF-8 (our choice), and behind a byte order mark or none (our choice) a header
+-- of this version
 pub record IsHeaded (text : List ℕ) (version : Version) (body : List ℕ) : Type 0 where
   pub size : length text ≤ max_len
   pub encoded : IsUtf8 text

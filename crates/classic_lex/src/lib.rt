@@ -10,8 +10,6 @@ mod front;
 mod header;
 mod laws;
 mod lexing;
-#[cfg(test)]
-mod tests;
 mod token;
 mod versions;
 

@@ -4,7 +4,8 @@ use Rattle.classic_lex.specs.Tokens.{Piece, text_of, ArePieces, tokens_among, Is
 use Rattle.classic_tree.specs.declared.tree.Document.{Document}
 use Rattle.classic_text.specs.Spells.{IsSpelling}
 
--- The text, without a byte order mark, spells the document, but for the lines in it and for the limit on its own length.
+-- The text, without a byte order mark, spells the document, but for the lines in it and for the
+-- limit on its own length.
 pub record SpellsAtAnyLength (text : List ℕ) (d : Document) : Type 0 where
   pub encoded : IsUtf8 text
   pub header : IsHeader d.version text

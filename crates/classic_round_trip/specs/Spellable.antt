@@ -1,7 +1,7 @@
--- Which documents have a spelling, lines apart (ISO/IEC 19776-2, grammar): their names are names, their strings are UTF-8,
--- their numbers are within the limit, a declaration stands in a Script or an interface and is given what its access asks for,
--- nodes and the bodies of PROTOs nest no deeper than allowed, and no statement begins with a word that means something else
--- there.
+-- Which documents have a spelling, lines apart (ISO/IEC 19776-2, grammar): their names are names,
+-- their strings are UTF-8, their numbers are within the limit, a declaration stands in a Script or
+-- an interface and is given what its access asks for, nodes and the bodies of PROTOs nest no deeper
+-- than allowed, and no statement begins with a word that means something else there.
 use Rattle.std.specs.Prelude.{◌≡◌, ◌≢◌, ◌⊎◌, ℕ, zero, suc, Bool, true, false, List, [], ◌∷◌, ◌++◌, Option, Some, None, IsUtf8, codes}
 use Rattle.std.specs.List.{AllByRecursion}
 use Rattle.x3d_numerals.specs.NumberText.{IsLimited}
@@ -33,7 +33,8 @@ IsNoneOf words name = AllByRecursion (λ word. name ≢ word) words
 
 -- the words of the grammar
 abbrev pub grammar_words : List (List ℕ)
-grammar_words = codes "DEF" ∷ codes "USE" ∷ codes "ROUTE" ∷ codes "TO" ∷ codes "PROTO" ∷ codes "IS" ∷ codes "NULL" ∷ codes "TRUE" ∷ codes "FALSE" ∷ []
+grammar_words = codes "DEF" ∷ codes "USE" ∷ codes "ROUTE" ∷ codes "TO" ∷ codes "PROTO" ∷ codes "IS"
+    ∷ codes "NULL" ∷ codes "TRUE" ∷ codes "FALSE" ∷ []
 
 -- the words of access, and the older ones for the same (our choice)
 abbrev pub access_words : List (List ℕ)
@@ -49,7 +50,8 @@ pub record IsFreeName (name : List ℕ) : Type 0 where
   pub utf8 : IsUtf8 name
 
 abbrev pub IsSpellableRoute : RouteText → Type 0
-IsSpellableRoute r = IsFreeName r.source.node × IsFreeName r.source.field × IsFreeName r.target.node × IsFreeName r.target.field
+IsSpellableRoute r = IsFreeName r.source.node × IsFreeName r.source.field × IsFreeName r.target.node
+    × IsFreeName r.target.field
 
 -- one or more, and each is so
 abbrev pub AreSome : {A : Type 0} → (A → Type 0) → List A → Type 0
@@ -75,8 +77,8 @@ module _ (Inner : NodeText → Type 0) where
   IsSpellableGiven (given.Value x) = IsSpellableValue x
   IsSpellableGiven (given.Is n) = IsFreeName n
 
-  -- what a declaration of a field of that access gives it: in a Script `IS name`; without one a value exactly where the field
-  -- holds one
+  -- what a declaration of a field of that access gives it: in a Script `IS name`; without one a
+  -- value exactly where the field holds one
   abbrev pub IsSpellableDeclared : Bool → Access → Given NodeText → Type 0
   IsSpellableDeclared script access given.Nothing = IsEvent access
   IsSpellableDeclared script access (given.Value x) = IsStored access × IsSpellableValue x
@@ -118,7 +120,9 @@ module _ (Inner : NodeText → Type 0) (Proto : ProtoText → Type 0) where
 
   abbrev pub IsSpellableItem : List ℕ → BodyItem → Type 0
   IsSpellableItem node_type item =
-      IsSpellableField item ⊎ (IsSpellableRouteItem item ⊎ (IsSpellableProtoItem item ⊎ IsSpellableDeclarationItem node_type item))
+      IsSpellableField item
+      ⊎ (IsSpellableRouteItem item
+      ⊎ (IsSpellableProtoItem item ⊎ IsSpellableDeclarationItem node_type item))
 
 -- ---- statements
 
@@ -140,7 +144,8 @@ module _ (Node : NodeText → Type 0) (Proto : ProtoText → Type 0) where
     pub spellable : Proto proto
 
   abbrev pub IsSpellableStatement : Statement → Type 0
-  IsSpellableStatement s = IsSpellableNodeStatement s ⊎ (IsSpellableRouteStatement s ⊎ IsSpellableProtoStatement s)
+  IsSpellableStatement s = IsSpellableNodeStatement s
+      ⊎ (IsSpellableRouteStatement s ⊎ IsSpellableProtoStatement s)
 
 -- words that would begin a statement of another kind
 abbrev pub unread_words : List (List ℕ)
@@ -164,8 +169,10 @@ abbrev pub BeginsWithNoneOf : List (List ℕ) → Option (List ℕ) → List ℕ
 BeginsWithNoneOf words None node_type = IsNoneOf words node_type
 BeginsWithNoneOf words (Some def) node_type = Unit {0}
 
--- a node with a body that begins with none of these words, by which items are spellable in a node of a type
-pub record IsSpellableFull (Item : List ℕ → BodyItem → Type 0) (words : List (List ℕ)) (node : NodeText) : Type 0 where
+-- a node with a body that begins with none of these words, by which items are spellable in a node
+-- of a type
+pub record IsSpellableFull (Item : List ℕ → BodyItem
+    → Type 0) (words : List (List ℕ)) (node : NodeText) : Type 0 where
   pub at : ℕ
   pub def : Option (List ℕ)
   pub node_type : List ℕ
@@ -179,34 +186,41 @@ pub record IsSpellableFull (Item : List ℕ → BodyItem → Type 0) (words : Li
 -- a PROTO, by which nodes in its interface and which bodies are spellable
 abbrev pub IsSpellableProtoBy : (NodeText → Type 0) → (List Statement → Type 0) → ProtoText → Type 0
 IsSpellableProtoBy Inner Body p =
-    IsFreeName (out-ProtoText p).name × AllByRecursion (IsSpellableDeclaration Inner false) (out-ProtoText p).interface × Body (out-ProtoText p).body
+    IsFreeName (out-ProtoText p).name
+    × AllByRecursion (IsSpellableDeclaration Inner false) (out-ProtoText p).interface
+    × Body (out-ProtoText p).body
 
--- Nodes that begin with none of these words, and bodies of PROTOs, in which nodes and bodies nest no deeper than the number,
--- themselves counted. The interface of a PROTO stands as deep as the PROTO.
+-- Nodes that begin with none of these words, and bodies of PROTOs, in which nodes and bodies nest
+-- no deeper than the number, themselves counted. The interface of a PROTO stands as deep as the
+-- PROTO.
 unfoldable mutual
   pub IsSpellableNode : ℕ → List (List ℕ) → NodeText → Type 0
   IsSpellableNode zero words node = ⊥
   IsSpellableNode (suc depth) words node =
       IsSpellableUse node ⊎ IsSpellableFull
-      (IsSpellableItem (IsSpellableNode depth []) (IsSpellableProtoBy (IsSpellableNode depth []) (IsSpellableProtoBody depth))) words node
+      (IsSpellableItem (IsSpellableNode depth [])
+      (IsSpellableProtoBy (IsSpellableNode depth []) (IsSpellableProtoBody depth))) words node
 
   pub IsSpellableProtoBody : ℕ → List Statement → Type 0
   IsSpellableProtoBody zero ss = ⊥
   IsSpellableProtoBody (suc depth) ss =
       AllByRecursion
-      (IsSpellableStatement (IsSpellableNode depth unread_words) (IsSpellableProtoBy (IsSpellableNode depth []) (IsSpellableProtoBody depth))) ss
+      (IsSpellableStatement (IsSpellableNode depth unread_words)
+      (IsSpellableProtoBy (IsSpellableNode depth []) (IsSpellableProtoBody depth))) ss
 
 abbrev pub IsSpellableProto : ℕ → ProtoText → Type 0
-IsSpellableProto depth p = IsSpellableProtoBy (IsSpellableNode depth []) (IsSpellableProtoBody depth) p
+IsSpellableProto depth p =
+    IsSpellableProtoBy (IsSpellableNode depth []) (IsSpellableProtoBody depth) p
 
 -- ---- all statements
 
 -- a statement that begins with none of these words
 abbrev pub IsSpellableTopStatement : List (List ℕ) → Statement → Type 0
-IsSpellableTopStatement words s = IsSpellableStatement (IsSpellableNode max_depth words) (IsSpellableProto max_depth) s
+IsSpellableTopStatement words s =
+    IsSpellableStatement (IsSpellableNode max_depth words) (IsSpellableProto max_depth) s
 
--- words that would be read as a part of the head where the first statement stands: META, COMPONENT where there is no META,
--- and PROFILE where there is nothing before it
+-- words that would be read as a part of the head where the first statement stands: META, COMPONENT
+-- where there is no META, and PROFILE where there is nothing before it
 abbrev pub head_words : List Meta → List (List ℕ) → Option (List ℕ) → List (List ℕ)
 head_words (m ∷ ms) components profile = codes "META" ∷ []
 head_words [] (c ∷ cs) profile = codes "META" ∷ codes "COMPONENT" ∷ []
@@ -217,7 +231,8 @@ head_words [] [] None = codes "META" ∷ codes "COMPONENT" ∷ codes "PROFILE" �
 abbrev pub AreSpellableStatements : List (List ℕ) → List Statement → Type 0
 AreSpellableStatements words [] = Unit {0}
 AreSpellableStatements words (s ∷ ss) =
-    IsSpellableTopStatement (words ++ unread_words) s × AllByRecursion (IsSpellableTopStatement unread_words) ss
+    IsSpellableTopStatement (words ++ unread_words) s
+    × AllByRecursion (IsSpellableTopStatement unread_words) ss
 
 -- ---- the head, and a whole document
 
@@ -227,7 +242,8 @@ IsSpellableComponent component = IsFreeName component × HasLevel component
 abbrev pub IsSpellableMeta : Meta → Type 0
 IsSpellableMeta meta = IsUtf8 meta.key × IsUtf8 meta.content
 
--- What any text spells is so, and what is written of such a document spells it, lines and the length of what is written apart.
+-- What any text spells is so, and what is written of such a document spells it, lines and the
+-- length of what is written apart.
 pub record IsSpellable (d : Document) : Type 0 where
   pub profile : IsNameOrNone d.profile
   pub components : AllByRecursion IsSpellableComponent d.components

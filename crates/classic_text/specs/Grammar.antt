@@ -47,7 +47,9 @@ route = do
 -- The number bounds the turns: each takes a token, so the count of the tokens is enough.
 unfoldable pub numbers_from : ℕ → List ℤ → Parser (List ℤ)
 numbers_from zero found = pure found
-numbers_from (suc n) found = λ ts. if sees t.Numeral ts then and_then (number ts) (λ x. numbers_from n (found ++ x ∷ [])) else Ok (found, ts)
+numbers_from (suc n) found =
+    λ ts. if sees t.Numeral ts then and_then (number ts) (λ x. numbers_from n (found ++ x ∷ []))
+    else Ok (found, ts)
 
 -- numerals up to what is none
 unfoldable pub numbers : Parser (List ℤ)
@@ -55,7 +57,9 @@ numbers = λ ts. numbers_from (length ts) [] ts
 
 unfoldable pub until_from : {A : Type 0} → Terminal → Parser A → ℕ → List A → Parser (List A)
 until_from k item zero found = refuse
-until_from k item (suc n) found = λ ts. if sees k ts then Ok (found, next ts) else and_then (item ts) (λ x. until_from k item n (found ++ x ∷ []))
+until_from k item (suc n) found =
+    λ ts. if sees k ts then Ok (found, next ts)
+    else and_then (item ts) (λ x. until_from k item n (found ++ x ∷ []))
 
 -- items up to a token of this kind, which is passed over
 unfoldable pub until : {A : Type 0} → Terminal → Parser A → Parser (List A)
@@ -66,7 +70,8 @@ until k item = λ ts. until_from k item (length ts) [] ts
 -- what begins with EXTERNPROTO, IMPORT, EXPORT or UNIT
 unfoldable pub begins_unread_statement : List Tok → Bool
 begins_unread_statement ts =
-    sees_word (codes "EXTERNPROTO") ts || sees_word (codes "IMPORT") ts || sees_word (codes "EXPORT") ts || sees_word (codes "UNIT") ts
+    sees_word (codes "EXTERNPROTO") ts || sees_word (codes "IMPORT") ts
+    || sees_word (codes "EXPORT") ts || sees_word (codes "UNIT") ts
 
 abbrev pub unsupported : {A : Type 0} → Parser A
 unsupported = λ ts. Err (Unsupported (line ts))
@@ -158,7 +163,10 @@ module _ (inner : Parser NodeText) where
 
   -- `IS name`, and else a value where the field holds one
   unfoldable pub declared : Bool → Access → Parser (Given NodeText)
-  declared script a = λ ts. if sees t.Is ts then joined script ts else (if holds_value a then (value >>= λ x. pure (given.Value x)) ts else Ok (given.Nothing, ts))
+  declared script a =
+      λ ts. if sees t.Is ts then joined script ts
+      else (if holds_value a then (value >>= λ x. pure (given.Value x)) ts
+      else Ok (given.Nothing, ts))
 
   unfoldable pub declaration : Bool → Parser (Declaration NodeText)
   declaration script = do
@@ -184,17 +192,21 @@ module _ (inner : Parser NodeText) where
   unfoldable pub other_item : Bool → Parser BodyItem
   other_item script = λ ts.
       if sees_word (codes "EXTERNPROTO") ts then unsupported ts
-      else (if script && sees t.Access ts then (declaration true >>= λ d. pure (held.Declaration d)) ts else field ts)
+      else (if script && sees t.Access ts
+      then (declaration true >>= λ d. pure (held.Declaration d)) ts else field ts)
 
   unfoldable pub node_statement : Parser Statement
-  node_statement = λ ts. if begins_unread_statement ts then unsupported ts else (inner >>= λ n. pure (stands.Node n)) ts
+  node_statement =
+      λ ts. if begins_unread_statement ts then unsupported ts
+      else (inner >>= λ n. pure (stands.Node n)) ts
 
 module _ (inner : Parser NodeText) (proto : Parser ProtoText) where
   -- what stands in the body of a Script, or of another node
   unfoldable pub one_item : Bool → Parser BodyItem
   one_item script = λ ts.
       if sees t.Route ts then (route >>= λ r. pure (held.Route r)) ts
-      else (if sees t.Proto ts then (proto >>= λ p. pure (held.Proto p)) ts else other_item inner script ts)
+      else (if sees t.Proto ts then (proto >>= λ p. pure (held.Proto p)) ts
+      else other_item inner script ts)
 
   unfoldable pub body : Bool → Parser (List BodyItem)
   body script = do
@@ -204,7 +216,8 @@ module _ (inner : Parser NodeText) (proto : Parser ProtoText) where
   unfoldable pub one_statement : Parser Statement
   one_statement = λ ts.
       if sees t.Route ts then (route >>= λ r. pure (stands.Route r)) ts
-      else (if sees t.Proto ts then (proto >>= λ p. pure (stands.Proto p)) ts else node_statement inner ts)
+      else (if sees t.Proto ts then (proto >>= λ p. pure (stands.Proto p)) ts
+      else node_statement inner ts)
 
   unfoldable pub proto_body : Parser (List Statement)
   proto_body = do
@@ -214,7 +227,8 @@ module _ (inner : Parser NodeText) (proto : Parser ProtoText) where
 -- ---- nodes
 
 unfoldable pub def_name : Parser (Option (List ℕ))
-def_name = λ ts. if sees t.Def ts then (expect t.Def >>= λ _. name >>= λ n. pure (Some n)) ts else Ok (None, ts)
+def_name = λ ts. if sees t.Def ts then (expect t.Def >>= λ _. name >>= λ n. pure (Some n)) ts
+    else Ok (None, ts)
 
 unfoldable pub use_node : Parser NodeText
 use_node = do
@@ -242,16 +256,18 @@ begins_node ts = sees t.Use ts || sees t.Def ts || sees t.Name ts
 unfoldable pub deep_refusal : List Tok → Refusal
 deep_refusal ts = if begins_node ts then TooDeep (line ts) else refusal ts
 
--- Nodes, and the bodies of prototypes, in which nodes and bodies nest no deeper than the number, themselves counted. The
--- interface of a prototype stands as deep as the prototype.
+-- Nodes, and the bodies of prototypes, in which nodes and bodies nest no deeper than the number,
+-- themselves counted. The interface of a prototype stands as deep as the prototype.
 unfoldable mutual
   pub node_at : ℕ → Parser NodeText
   node_at zero = λ ts. Err (deep_refusal ts)
-  node_at (suc depth) = node_with (body (node_at depth) (proto_with (node_at depth) (proto_body_at depth)))
+  node_at (suc depth) =
+      node_with (body (node_at depth) (proto_with (node_at depth) (proto_body_at depth)))
 
   pub proto_body_at : ℕ → ℕ → Parser (List Statement)
   proto_body_at zero at = λ ts. Err (TooDeep at)
-  proto_body_at (suc depth) at = proto_body (node_at depth) (proto_with (node_at depth) (proto_body_at depth))
+  proto_body_at (suc depth) at =
+      proto_body (node_at depth) (proto_with (node_at depth) (proto_body_at depth))
 
 abbrev pub proto_at : ℕ → Parser ProtoText
 proto_at depth = proto_with (node_at depth) (proto_body_at depth)
@@ -264,7 +280,8 @@ top_statement = one_statement (node_at max_depth) (proto_at max_depth)
 unfoldable pub statements_from : ℕ → List Statement → Parser (List Statement)
 statements_from zero found = pure found
 statements_from (suc n) found = λ ts.
-    if at_end ts then Ok (found, ts) else and_then (top_statement ts) (λ x. statements_from n (found ++ x ∷ []))
+    if at_end ts then Ok (found, ts)
+    else and_then (top_statement ts) (λ x. statements_from n (found ++ x ∷ []))
 
 unfoldable pub statements : Parser (List Statement)
 statements = λ ts. statements_from (length ts) [] ts

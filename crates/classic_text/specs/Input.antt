@@ -95,7 +95,8 @@ name = λ ts. if sees t.Name ts then Ok (spelling ts, next ts) else refuse ts
 
 -- a name with a level
 unfoldable pub component_name : Parser (List ℕ)
-component_name = λ ts. if sees t.Name ts && has_level (spelling ts) then Ok (spelling ts, next ts) else refuse ts
+component_name = λ ts. if sees t.Name ts && has_level (spelling ts) then Ok (spelling ts, next ts)
+    else refuse ts
 
 -- a string token, which has both its quotes
 unfoldable pub sees_string : List Tok → Bool
@@ -106,7 +107,8 @@ unfoldable pub string : Parser (List ℕ)
 string = λ ts. if sees_string ts then Ok (unquoted (spelling ts), next ts) else refuse ts
 
 unfoldable pub truth : Parser Bool
-truth = λ ts. if sees t.True ts then Ok (true, next ts) else (if sees t.False ts then Ok (false, next ts) else refuse ts)
+truth = λ ts. if sees t.True ts then Ok (true, next ts)
+    else (if sees t.False ts then Ok (false, next ts) else refuse ts)
 
 abbrev pub number_by : Result ℤ NumeralFault → Parser ℤ
 number_by (Ok n) = λ ts. Ok (n, next ts)

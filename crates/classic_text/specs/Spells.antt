@@ -1,5 +1,5 @@
--- Which tokens spell which tree, rule by rule (ISO/IEC 19776-2, grammar). Each relation takes the tokens, and what is left
--- of them behind what it speaks of.
+-- Which tokens spell which tree, rule by rule (ISO/IEC 19776-2, grammar). Each relation takes the
+-- tokens, and what is left of them behind what it speaks of.
 use Rattle.std.specs.Prelude.{◌≡◌, ◌≢◌, ◌⊎◌, ℕ, ℤ, zero, suc, Bool, true, false, List, [], ◌∷◌, Option, Some, None, codes}
 use Rattle.x3d_numerals.specs.Numeral.{IsNumeral}
 use Rattle.x3d_values.specs.declared.field_type.Access.{Access}
@@ -81,7 +81,8 @@ IsFieldType f ts rest = IsSuch t.Name (λ text. field_type_named text ≡ Some f
 
 -- `node.field`
 abbrev pub IsPlace : Place → List Tok → List Tok → Type 0
-IsPlace p ts rest = (a : List Tok) × (b : List Tok) × IsName p.node ts a × Is t.Point a b × IsName p.field b rest
+IsPlace p ts rest = (a : List Tok) × (b : List Tok) × IsName p.node ts a × Is t.Point a b
+    × IsName p.field b rest
 
 -- numerals up to what is none
 abbrev pub AreNumbers : List ℤ → List Tok → List Tok → Type 0
@@ -94,12 +95,14 @@ AreSomeNumbers [] ts rest = ⊥
 AreSomeNumbers (n ∷ ns) ts rest = AreNumbers (n ∷ ns) ts rest
 
 -- items, and then a token of this kind
-abbrev pub AreUntil : {A : Type 0} → Terminal → (A → List Tok → List Tok → Type 0) → List A → List Tok → List Tok → Type 0
+abbrev pub AreUntil : {A : Type 0} → Terminal → (A → List Tok → List Tok → Type 0) → List A
+    → List Tok → List Tok → Type 0
 AreUntil k Item [] ts rest = Is k ts rest
 AreUntil k Item (x ∷ xs) ts rest = (a : List Tok) × Item x ts a × AreUntil k Item xs a rest
 
 -- at least one item, and then the bracket that closes a list
-abbrev pub AreListed : {A : Type 0} → (A → List Tok → List Tok → Type 0) → List A → List Tok → List Tok → Type 0
+abbrev pub AreListed : {A : Type 0} → (A → List Tok → List Tok → Type 0) → List A → List Tok
+    → List Tok → Type 0
 AreListed Item [] ts rest = ⊥
 AreListed Item (x ∷ xs) ts rest = AreUntil t.CloseBracket Item (x ∷ xs) ts rest
 
@@ -122,14 +125,17 @@ IsProfile (Some n) ts rest = (a : List Tok) × IsWord (codes "PROFILE") ts a × 
 
 -- `COMPONENT name:level`
 abbrev pub IsComponent : List ℕ → List Tok → List Tok → Type 0
-IsComponent c ts rest = (a : List Tok) × IsWord (codes "COMPONENT") ts a × IsSuch t.Name (λ text. (text ≡ c) × HasLevel text) a rest
+IsComponent c ts rest = (a : List Tok) × IsWord (codes "COMPONENT") ts a
+    × IsSuch t.Name (λ text. (text ≡ c) × HasLevel text) a rest
 
 -- `META "key" "content"`
 abbrev pub IsMeta : Meta → List Tok → List Tok → Type 0
-IsMeta m ts rest = (a : List Tok) × (b : List Tok) × IsWord (codes "META") ts a × IsString m.key a b × IsString m.content b rest
+IsMeta m ts rest = (a : List Tok) × (b : List Tok) × IsWord (codes "META") ts a × IsString m.key a b
+    × IsString m.content b rest
 
 -- items up to where that word stands no more
-abbrev pub AreEach : {A : Type 0} → List ℕ → (A → List Tok → List Tok → Type 0) → List A → List Tok → List Tok → Type 0
+abbrev pub AreEach : {A : Type 0} → List ℕ → (A → List Tok → List Tok → Type 0) → List A → List Tok
+    → List Tok → Type 0
 AreEach w Item [] ts rest = NotWordAhead w ts × (rest ≡ ts)
 AreEach w Item (x ∷ xs) ts rest = (a : List Tok) × Item x ts a × AreEach w Item xs a rest
 
@@ -173,27 +179,33 @@ module _ (Inner : NodeText → List Tok → List Tok → Type 0) where
   IsGiven (given.Value x) ts rest = IsValue x ts rest
   IsGiven (given.Is n) ts rest = (a : List Tok) × Is t.Is ts a × IsName n a rest
 
-  -- What a declaration of a field of that access gives it, in a Script or in the interface of a PROTO: in a Script `IS name`;
-  -- without one a value exactly where the field holds one.
+  -- What a declaration of a field of that access gives it, in a Script or in the interface of a
+  -- PROTO: in a Script `IS name`; without one a value exactly where the field holds one.
   abbrev pub IsDeclared : Bool → Access → Given NodeText → List Tok → List Tok → Type 0
   IsDeclared script a given.Nothing ts rest = IsEvent a × NotAhead t.Is ts × (rest ≡ ts)
   IsDeclared script a (given.Value x) ts rest = IsStored a × IsValue x ts rest
-  IsDeclared script a (given.Is n) ts rest = (b : List Tok) × (script ≡ true) × Is t.Is ts b × IsName n b rest
+  IsDeclared script a (given.Is n) ts rest = (b : List Tok) × (script ≡ true) × Is t.Is ts b
+      × IsName n b rest
 
 -- by which lines a tree may have for a token of a line
 module _ (At : ℕ → ℕ → Type 0) where
   -- `ROUTE source TO target`
   abbrev pub IsRoute : RouteText → List Tok → List Tok → Type 0
   IsRoute r ts rest =
-      (a : List Tok) × (b : List Tok) × (c : List Tok) × At (line ts) r.line × Is t.Route ts a × IsPlace r.source a b × Is t.To b c × IsPlace r.target c rest
+      (a : List Tok) × (b : List Tok) × (c : List Tok) × At (line ts) r.line × Is t.Route ts a
+      × IsPlace r.source a b × Is t.To b c × IsPlace r.target c rest
 
   -- an access, a type, a name, and what is given
-  abbrev pub IsDeclaration : (NodeText → List Tok → List Tok → Type 0) → Bool → Declaration NodeText → List Tok → List Tok → Type 0
+  abbrev pub IsDeclaration : (NodeText → List Tok → List Tok → Type 0) → Bool → Declaration NodeText
+      → List Tok → List Tok → Type 0
   IsDeclaration Inner script d ts rest =
-      (a : List Tok) × (b : List Tok) × (c : List Tok) × At (line ts) d.line × IsAccess d.access ts a × IsFieldType d.field_type a b × IsName d.name b c × IsDeclared Inner script d.access d.given c rest
+      (a : List Tok) × (b : List Tok) × (c : List Tok) × At (line ts) d.line
+      × IsAccess d.access ts a × IsFieldType d.field_type a b × IsName d.name b c
+      × IsDeclared Inner script d.access d.given c rest
 
   -- what stands in a body, by what spells a node and a PROTO in it
-  module _ (Inner : NodeText → List Tok → List Tok → Type 0) (Proto : ProtoText → List Tok → List Tok → Type 0) where
+  module _ (Inner : NodeText → List Tok → List Tok → Type 0) (Proto : ProtoText → List Tok
+      → List Tok → Type 0) where
     -- a field's name, which is not EXTERNPROTO, and then its value or `IS name`
     pub record IsField (item : BodyItem) (ts rest : List Tok) : Type 0 where
       pub at : ℕ
@@ -217,18 +229,22 @@ module _ (At : ℕ → ℕ → Type 0) where
       pub spelled : Proto proto ts rest
 
     -- in a Script alone
-    pub record IsDeclarationItem (node_type : List ℕ) (item : BodyItem) (ts rest : List Tok) : Type 0 where
+    pub record IsDeclarationItem (node_type : List ℕ) (item : BodyItem)
+        (ts rest : List Tok) : Type 0 where
       pub scripted : node_type ≡ codes "Script"
       pub declaration : Declaration NodeText
       pub is : item ≡ held.Declaration declaration
       pub spelled : IsDeclaration Inner true declaration ts rest
 
     abbrev pub IsItem : List ℕ → BodyItem → List Tok → List Tok → Type 0
-    IsItem node_type item ts rest = IsField item ts rest ⊎ (IsRouteItem item ts rest ⊎ (IsProtoItem item ts rest ⊎ IsDeclarationItem node_type item ts rest))
+    IsItem node_type item ts rest = IsField item ts rest
+        ⊎ (IsRouteItem item ts rest
+        ⊎ (IsProtoItem item ts rest ⊎ IsDeclarationItem node_type item ts rest))
 
     -- the braces of a node of this type and what stands in them
     abbrev pub IsBody : List ℕ → List BodyItem → List Tok → List Tok → Type 0
-    IsBody node_type items ts rest = (a : List Tok) × Is t.OpenBrace ts a × AreUntil t.CloseBrace (IsItem node_type) items a rest
+    IsBody node_type items ts rest = (a : List Tok) × Is t.OpenBrace ts a
+        × AreUntil t.CloseBrace (IsItem node_type) items a rest
 
     -- a node; the four words begin statements that are not read (our choice)
     pub record IsNodeStatement (statement : Statement) (ts rest : List Tok) : Type 0 where
@@ -251,17 +267,23 @@ module _ (At : ℕ → ℕ → Type 0) where
       pub spelled : Proto proto ts rest
 
     abbrev pub IsStatement : Statement → List Tok → List Tok → Type 0
-    IsStatement s ts rest = IsNodeStatement s ts rest ⊎ (IsRouteStatement s ts rest ⊎ IsProtoStatement s ts rest)
+    IsStatement s ts rest = IsNodeStatement s ts rest
+        ⊎ (IsRouteStatement s ts rest ⊎ IsProtoStatement s ts rest)
 
     -- the braces of a PROTO and the statements in them
     abbrev pub IsProtoBody : List Statement → List Tok → List Tok → Type 0
-    IsProtoBody ss ts rest = (a : List Tok) × Is t.OpenBrace ts a × AreUntil t.CloseBrace IsStatement ss a rest
+    IsProtoBody ss ts rest = (a : List Tok) × Is t.OpenBrace ts a
+        × AreUntil t.CloseBrace IsStatement ss a rest
 
   -- `PROTO name [ declarations ]`, and then a body
-  abbrev pub IsProtoBy : (NodeText → List Tok → List Tok → Type 0) → (List Statement → List Tok → List Tok → Type 0) → ProtoText → List Tok → List Tok → Type 0
+  abbrev pub IsProtoBy : (NodeText → List Tok → List Tok → Type 0)
+      → (List Statement → List Tok → List Tok → Type 0) → ProtoText → List Tok → List Tok → Type 0
   IsProtoBy Inner Body p ts rest =
-      (a : List Tok) × (b : List Tok) × (c : List Tok) × (d : List Tok) × At (line ts) (out-ProtoText p).line × Is t.Proto ts a × IsName (out-ProtoText p).name a b × Is t.OpenBracket b c
-      × AreUntil t.CloseBracket (IsDeclaration Inner false) (out-ProtoText p).interface c d × Body (out-ProtoText p).body d rest
+      (a : List Tok) × (b : List Tok) × (c : List Tok) × (d : List Tok)
+      × At (line ts) (out-ProtoText p).line × Is t.Proto ts a
+      × IsName (out-ProtoText p).name a b × Is t.OpenBracket b c
+      × AreUntil t.CloseBracket (IsDeclaration Inner false) (out-ProtoText p).interface c d
+      × Body (out-ProtoText p).body d rest
 
   -- `USE name`
   pub record IsUse (node : NodeText) (ts rest : List Tok) : Type 0 where
@@ -274,7 +296,8 @@ module _ (At : ℕ → ℕ → Type 0) where
     pub named : IsName name behind rest
 
   -- a node with a body, by what spells the body of a node of a type
-  pub record IsFull (Body : List ℕ → List BodyItem → List Tok → List Tok → Type 0) (node : NodeText) (ts rest : List Tok) : Type 0 where
+  pub record IsFull (Body : List ℕ → List BodyItem → List Tok → List Tok
+      → Type 0) (node : NodeText) (ts rest : List Tok) : Type 0 where
     pub at : ℕ
     pub def : Option (List ℕ)
     pub node_type : List ℕ
@@ -287,19 +310,23 @@ module _ (At : ℕ → ℕ → Type 0) where
     pub typed : IsName node_type behind_def behind_type
     pub body : Body node_type items behind_type rest
 
-  abbrev pub IsLayer : (List ℕ → List BodyItem → List Tok → List Tok → Type 0) → NodeText → List Tok → List Tok → Type 0
+  abbrev pub IsLayer : (List ℕ → List BodyItem → List Tok → List Tok → Type 0) → NodeText → List Tok
+      → List Tok → Type 0
   IsLayer Body node ts rest = IsUse node ts rest ⊎ IsFull Body node ts rest
 
-  -- Nodes, and bodies of PROTOs, in which nodes and bodies nest no deeper than the number, themselves counted. The interface of a
-  -- PROTO stands as deep as the PROTO.
+  -- Nodes, and bodies of PROTOs, in which nodes and bodies nest no deeper than the number,
+  -- themselves counted. The interface of a PROTO stands as deep as the PROTO.
   unfoldable mutual
     pub IsNode : ℕ → NodeText → List Tok → List Tok → Type 0
     IsNode zero node ts rest = ⊥
-    IsNode (suc depth) node ts rest = IsLayer (IsBody (IsNode depth) (IsProtoBy (IsNode depth) (IsProtoBodyAt depth))) node ts rest
+    IsNode (suc depth) node ts rest =
+        IsLayer (IsBody (IsNode depth) (IsProtoBy (IsNode depth) (IsProtoBodyAt depth))) node ts
+        rest
 
     pub IsProtoBodyAt : ℕ → List Statement → List Tok → List Tok → Type 0
     IsProtoBodyAt zero ss ts rest = ⊥
-    IsProtoBodyAt (suc depth) ss ts rest = IsProtoBody (IsNode depth) (IsProtoBy (IsNode depth) (IsProtoBodyAt depth)) ss ts rest
+    IsProtoBodyAt (suc depth) ss ts rest =
+        IsProtoBody (IsNode depth) (IsProtoBy (IsNode depth) (IsProtoBodyAt depth)) ss ts rest
 
   abbrev pub IsProto : ℕ → ProtoText → List Tok → List Tok → Type 0
   IsProto depth p ts rest = IsProtoBy (IsNode depth) (IsProtoBodyAt depth) p ts rest
@@ -318,7 +345,8 @@ module _ (At : ℕ → ℕ → Type 0) where
     pub behind_components : List Tok
     pub behind_metas : List Tok
     pub profile : IsProfile d.profile tokens behind_profile
-    pub components : AreEach (codes "COMPONENT") IsComponent d.components behind_profile behind_components
+    pub components : AreEach (codes "COMPONENT") IsComponent d.components behind_profile
+        behind_components
     pub metas : AreEach (codes "META") IsMeta d.metas behind_components behind_metas
     pub statements : AreStatements d.statements behind_metas
 

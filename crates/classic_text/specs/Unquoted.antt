@@ -2,8 +2,8 @@
 use Rattle.std.specs.Prelude.{ℕ, Bool, true, false, ◌==◌, ◌||◌, ◌&&◌, List, [], ◌∷◌, ◌++◌, length, Option, Some, None, if◌then◌else◌}
 use Rattle.classic_lex.specs.Front.{closing}
 
--- what a backslash and the byte behind it stand for: the backslash is dropped before a quote or another backslash, and
--- stands for itself before all else (our choice)
+-- what a backslash and the byte behind it stand for: the backslash is dropped before a quote or
+-- another backslash, and stands for itself before all else (our choice)
 unfoldable pub escape : ℕ → List ℕ
 escape b = if b == 34 || b == 92 then b ∷ [] else 92 ∷ b ∷ []
 

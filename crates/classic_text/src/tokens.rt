@@ -20,6 +20,8 @@ use x3d_values::{Access, FieldType, Text, millionths};
 pub(crate) struct Tokens<'a> {
     text: &'a [u8],
     rest: &'a [Token],
+    /// What the grammar sees of the next token: looked at once for each.
+    next: Terminal,
 }
 
 impl<'a> Model for Tokens<'a> {
@@ -34,12 +36,25 @@ impl<'a> Model for Tokens<'a> {
     ghost invariant = { IsReady };
 }
 
+/// What the grammar sees of the first of these tokens of a text.
+#[tactic(auto, unfolding(crate::specs::Input::kind))]
+fn first_terminal(text: &[u8], tokens: &[Token]) -> Terminal
+    requires { All (IsPlaced text.now) tokens.now }
+    ensures { result ≡ spec.kind (map (seen text.now) tokens.now) }
+{
+    match tokens {
+        [] => Terminal::End,
+        [token, ..] => terminal_of(token.kind, &text[token.start as usize..token.end as usize]),
+    }
+}
+
 impl<'a> Tokens<'a> {
     pub(crate) fn new(text: &'a [u8], rest: &'a [Token]) -> Tokens<'a>
         requires { All (IsPlaced text.now) rest.now }
         ensures { result ≡ map (seen text.now) rest.now }
     {
-        Tokens { text, rest }
+        let next = first_terminal(text, rest);
+        Tokens { text, rest, next }
     }
 
     /// How many tokens are left.
@@ -71,17 +86,10 @@ impl<'a> Tokens<'a> {
         }
     }
 
-    #[tactic(auto, unfolding(crate::specs::Input::kind))]
     pub(crate) fn peek(&self) -> Terminal
         ensures { result ≡ spec.kind self.now }
     {
-        match self.rest {
-            [] => Terminal::End,
-            [token, ..] => terminal_of(
-                token.kind,
-                &self.text[token.start as usize..token.end as usize],
-            ),
-        }
+        self.next
     }
 
     /// The line of the next token, or 0 behind the last.
@@ -110,6 +118,7 @@ impl<'a> Tokens<'a> {
         ensures { self.new ≡ spec.next self.old }
     {
         if let [_, rest @ ..] = self.rest {
+            self.next = first_terminal(self.text, rest);
             self.rest = rest;
         }
     }

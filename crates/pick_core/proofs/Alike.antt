@@ -1,12 +1,16 @@
 -- Rows depend on what a ray sees of the nodes alone.
 use Rattle.std.proofs.Common.{◌≡◌, ◌∙◌, ℕ, ℤ, List, [], ◌∷◌, map, Bool, ◌&&◌, Option, refl, sym, ap}
-use Rattle.std.specs.Prelude.{slice_get}
+use Rattle.std.proofs.Common.{Some, None, inl, inr, eqb-true}
+use Rattle.std.proofs.lemmas.Bool.{cases_Bool, eqb-false}
+use Rattle.std.specs.Prelude.{◌==◌, slice_get}
+use Rattle.x3d_values.specs.declared.node_type.NodeType.{NodeType}
+use Rattle.x3d_values.specs.declared.node_type.NodeType.TheVariants as type
 use Rattle.x3d_values.specs.declared.fields.Fields.{Fields}
 use Rattle.x3d_values.specs.declared.vector.Vec3.{Vec3}
-use Rattle.scene_core.specs.Scene.{SceneView}
-use Rattle.pick_core.specs.Looks.{kind_of, motion_of, choice_of}
+use Rattle.scene_core.specs.Scene.{SceneView, type_at}
+use Rattle.pick_core.specs.Looks.{kind_as, kind_of, motion_of, choice_of}
 use Rattle.pick_core.specs.Motion.{box_of, moved_at, moved_by, moved_box}
-use Rattle.pick_core.specs.Sites.{Site, IsAlike, AreAlike, allows, allows_as, is_shown, is_shown_from_roots, row_of, rows_of, shows, sites}
+use Rattle.pick_core.specs.Sites.{Site, IsAlike, AreAlike, IsSameBut, allows, allows_as, is_shown, is_shown_from_roots, row_of, rows_of, shows, sites}
 use Rattle.pick_core.specs.Trail.{carried}
 use Rattle.pick_core.specs.declared.bounds.Bounds.{Bounds}
 use Rattle.pick_core.specs.declared.look.Kind.{Kind}
@@ -67,3 +71,28 @@ module _ (scene : SceneView) (before after : List Fields) (alike : AreAlike scen
 
 pub alike_rows : (scene : SceneView) (before after : List Fields) → AreAlike scene before after → rows_of scene before ≡ rows_of scene after
 alike_rows scene before after alike = rows-alike scene before after alike
+
+-- ---- a change at a node that is neither a Transform nor a Switch
+
+equal_alike : (kind : Kind) (a b : Option Fields) → a ≡ b → IsAlike kind a b
+equal_alike Transform a b e = rw e refl
+equal_alike Switch a b e = rw e refl
+equal_alike Group a b e = tt
+equal_alike (Shape size) a b e = tt
+equal_alike Other a b e = tt
+
+unmoved_alike : (scene : SceneView) (node : ℕ) (t : Option NodeType) (a b : Option Fields) → (t ≡ Some type.Transform → ⊥) → (t ≡ Some type.Switch → ⊥) → IsAlike (kind_as scene node t) a b
+unmoved_alike scene node None a b h k = tt
+unmoved_alike scene node (Some type.Transform) a b h k = absurd (h refl)
+unmoved_alike scene node (Some type.Switch) a b h k = absurd (k refl)
+unmoved_alike scene node (Some type.Group) a b h k = tt
+unmoved_alike scene node (Some type.Shape) a b h k = tt
+unmoved_alike scene node (Some _) a b h k = tt
+
+pub alike_but : (scene : SceneView) (node : ℕ) (before after : List Fields) → (type_at scene node ≡ Some type.Transform → ⊥) → (type_at scene node ≡ Some type.Switch → ⊥) →
+    IsSameBut node before after → AreAlike scene before after
+unfolding kind_of
+alike_but scene node before after h k same n = elim (cases_Bool (n == node)) [
+  | inl is ↦ let e : n ≡ node = eqb-true n node is in rw e (unmoved_alike scene node (type_at scene node) (slice_get before node) (slice_get after node) h k)
+  | inr other ↦ equal_alike (kind_of scene n) (slice_get before n) (slice_get after n) (same n (eqb-false n node other))
+]

@@ -1,4 +1,5 @@
--- The boxes of a scene in a state, with their places (ISO/IEC 19775-1, grouping component: Group, Transform, Switch).
+-- The boxes of a scene in a state, with their places (ISO/IEC 19775-1, grouping component: Group,
+-- Transform, Switch).
 use Rattle.std.specs.Prelude.{ℕ, zero, suc, ℤ, pos, negsuc, List, [], ◌∷◌, map, Option, Some, None, slice_get}
 use Rattle.std.specs.Option.{option_map}
 use Rattle.x3d_values.specs.declared.fields.Fields.{Fields}
@@ -25,7 +26,8 @@ under scene state position node p = record {
 
 -- the child that a Switch shows; none where the choice is negative or too large
 unfoldable pub shown_child : List ℕ → ℤ → Option Place
-shown_child children (pos which) = option_map (λ node. record { position = which; node = node }) (slice_get children which)
+shown_child children (pos which) =
+    option_map (λ node. record { position = which; node = node }) (slice_get children which)
 shown_child children (negsuc which) = None
 
 abbrev pub shown : (ℕ → ℕ → Placed → Placed) → (ℕ → List Placed) → Option Place → List Placed
@@ -37,14 +39,16 @@ layer seen inside which Group children = spread seen inside 0 children
 layer seen inside which Transform children = spread seen inside 0 children
 layer seen inside which Switch children = shown seen inside (shown_child children which)
 layer seen inside which (Shape None) children = []
-layer seen inside which (Shape (Some size)) children = record { path = []; bounds = box_of size } ∷ []
+layer seen inside which (Shape (Some size)) children =
+    record { path = []; bounds = box_of size } ∷ []
 layer seen inside which Other children = []
 
 -- the boxes inside a node, no more than so many nodes deep, in the node's own system
 unfoldable pub inside : SceneView → List Fields → ℕ → ℕ → List Placed
 inside scene state zero node = []
 inside scene state (suc depth) node =
-    layer (under scene state) (inside scene state depth) (choice_of (slice_get state node)) (kind_of scene node) (listed scene node)
+    layer (under scene state) (inside scene state depth) (choice_of (slice_get state node))
+    (kind_of scene node) (listed scene node)
 
 -- the boxes in the world; no chain of nodes in a scene is longer than 64
 unfoldable pub boxes : SceneView → List Fields → List Placed

@@ -15,7 +15,8 @@ from_0 (negsuc n) = 0
 -- between two sides, the near and the far one, that lie so far ahead; none where both are behind
 unfoldable pub span_at : ℤ → ℤ → ℕ → Option Span
 span_at near far slope =
-    if int_lt far (pos 0) then None else Some (record { near = from_0 near; far = from_0 far; slope = slope })
+    if int_lt far (pos 0) then None
+    else Some (record { near = from_0 near; far = from_0 far; slope = slope })
 
 -- the ray is between the sides of an axis from near / slope to far / slope of its way
 unfoldable pub span_of : ℤ → ℤ → ℤ → ℤ → Option Span
@@ -37,10 +38,13 @@ is_before at s = nat_le (at.n * s.slope) (at.m * s.far)
 
 unfoldable pub last_pushed : Spans → Option Fraction
 last_pushed s =
-    option_and_then (λ (x : Fraction). option_and_then (λ (y : Fraction). push_of y s.z.near s.z.slope) (push_of x s.y.near s.y.slope)) (push_of (record { n = 0; m = 1 }) s.x.near s.x.slope)
+    option_and_then (λ (x : Fraction).
+    option_and_then (λ (y : Fraction). push_of y s.z.near s.z.slope)
+    (push_of x s.y.near s.y.slope)) (push_of (record { n = 0; m = 1 }) s.x.near s.x.slope)
 
 abbrev pub if_before : Spans → Fraction → Option Fraction
-if_before s at = if is_before at s.x && (is_before at s.y && is_before at s.z) then Some at else None
+if_before s at = if is_before at s.x && (is_before at s.y && is_before at s.z) then Some at
+    else None
 
 -- the last of the near sides is passed, and no far side
 unfoldable pub first_within : Spans → Option Fraction
@@ -65,4 +69,5 @@ entry_of b ray = option_and_then first_within (spans_of b ray)
 
 -- it is where the box is hit first; none where it is missed
 abbrev pub Entries : Type 0
-Entries = (b : Bounds) (ray : Sight) → MatchOption (entry_of b ray) (IsMissed b ray) (λ (at : Fraction). IsEntered b ray at.n at.m)
+Entries = (b : Bounds) (ray : Sight)
+    → MatchOption (entry_of b ray) (IsMissed b ray) (λ (at : Fraction). IsEntered b ray at.n at.m)

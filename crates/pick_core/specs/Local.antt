@@ -1,4 +1,5 @@
--- Where a hit lies for a sensor (ISO/IEC 19775-1, pointing device sensor component: hitPoint_changed; the rounding and the limit are our choice).
+-- Where a hit lies for a sensor (ISO/IEC 19775-1, pointing device sensor component:
+-- hitPoint_changed; the rounding and the limit are our choice).
 use Rattle.std.specs.Prelude.{◌≡◌, ℕ, ◌*◌, ◌<◌, ◌==◌, ℤ, pos, neg_ℤ, ◌+ℤ◌, ◌-ℤ◌, ◌*ℤ◌, int_lt, List, [], ◌∷◌, Option, Some, None, slice_get, if◌then◌else◌}
 use Rattle.std.specs.Int.{int_div_euclid}
 use Rattle.std.specs.List.{list_any}
@@ -72,18 +73,24 @@ unfoldable pub local_along : SceneView → List Fields → ℕ → Option ℕ �
 local_along scene state sensor owner [] at = None
 local_along scene state sensor owner (p ∷ ps) at =
     or_own
-    (option_and_then (λ child. local_along scene state sensor (Some child) ps (entered scene state child at)) (slice_get (list_of scene owner) p))
+    (option_and_then (λ child.
+    local_along scene state sensor (Some child) ps (entered scene state child at))
+    (slice_get (list_of scene owner) p))
     (if list_any (λ n. n == sensor) (siblings_in scene owner) then Some at else None)
 
 abbrev pub or_world : Option Vec3 → Vec3 → Vec3
 or_world None world = world
 or_world (Some p) world = p
 
--- the point of a hit in the coordinates of a sensor; no sensor stands in two lists that a hit concerns
+-- the point of a hit in the coordinates of a sensor; no sensor stands in two lists that a hit
+-- concerns
 unfoldable pub local_of : SceneView → List Fields → Hit → Sight → ℕ → Vec3
 local_of scene state hit ray sensor =
-    or_world (local_along scene state sensor None hit.path (point_of ray hit.n hit.m)) (point_of ray hit.n hit.m)
+    or_world (local_along scene state sensor None hit.path (point_of ray hit.n hit.m))
+    (point_of ray hit.n hit.m)
 
 -- the path and the value of the fraction decide where a hit lies
 abbrev pub OneLocal : Type 0
-OneLocal = (scene : SceneView) (state : List Fields) (ray : Sight) (sensor : ℕ) (h k : Hit) → 0 < h.m → 0 < k.m → h.path ≡ k.path → h.n * k.m ≡ k.n * h.m → local_of scene state h ray sensor ≡ local_of scene state k ray sensor
+OneLocal = (scene : SceneView) (state : List Fields) (ray : Sight) (sensor : ℕ) (h k : Hit)
+    → 0 < h.m → 0 < k.m → h.path ≡ k.path → h.n * k.m ≡ k.n * h.m
+    → local_of scene state h ray sensor ≡ local_of scene state k ray sensor

@@ -37,7 +37,8 @@ abbrev pub kind_as : SceneView → ℕ → Option NodeType → Kind
 kind_as scene node (Some type.Group) = kind.Group
 kind_as scene node (Some type.Transform) = kind.Transform
 kind_as scene node (Some type.Switch) = kind.Switch
-kind_as scene node (Some type.Shape) = kind.Shape (size_of scene (node_in (value_at scene node GEOMETRY)))
+kind_as scene node (Some type.Shape) =
+    kind.Shape (size_of scene (node_in (value_at scene node GEOMETRY)))
 kind_as scene node _ = kind.Other
 
 unfoldable pub kind_of : SceneView → ℕ → Kind
@@ -60,8 +61,10 @@ vector_or default _ = default
 unfoldable pub motion_of : Option Fields → Motion
 motion_of own =
     record {
-      translation = vector_or (record { x = pos 0; y = pos 0; z = pos 0 }) (value_in own TRANSLATION);
-      scale = vector_or (record { x = pos 1000000; y = pos 1000000; z = pos 1000000 }) (value_in own SCALE);
+      translation =
+          vector_or (record { x = pos 0; y = pos 0; z = pos 0 }) (value_in own TRANSLATION);
+      scale = vector_or (record { x = pos 1000000; y = pos 1000000; z = pos 1000000 })
+          (value_in own SCALE);
       center = vector_or (record { x = pos 0; y = pos 0; z = pos 0 }) (value_in own CENTER);
     }
 

@@ -1,4 +1,5 @@
--- Boxes in the systems round transforms (ISO/IEC 19775-1, grouping component: Transform; the rounding and the limit are our choice).
+-- Boxes in the systems round transforms (ISO/IEC 19775-1, grouping component: Transform; the
+-- rounding and the limit are our choice).
 use Rattle.std.specs.Prelude.{ℕ, ℤ, pos, neg_ℤ, ◌+ℤ◌, ◌-ℤ◌, ◌*ℤ◌, List, Option, slice_get}
 use Rattle.std.specs.Int.{int_min, int_max, int_div_euclid}
 use Rattle.x3d_values.specs.declared.fields.Fields.{Fields}

@@ -9,7 +9,8 @@ use Rattle.pick_core.specs.declared.numbers.TheConstants.{CENTER, SCALE, TRANSLA
 
 -- the field of that name has that number
 abbrev pub IsNumbered : NodeType → List ℕ → ℕ → Type 0
-IsNumbered node_type name number = option_map (λ (row : FieldRow). row.number) (row_named 0 name (rows node_type)) ≡ Some number
+IsNumbered node_type name number =
+    option_map (λ (row : FieldRow). row.number) (row_named 0 name (rows node_type)) ≡ Some number
 
 pub record Numbers : Type 0 where
   pub center : IsNumbered Transform (codes "center") CENTER

@@ -30,4 +30,5 @@ picked ray bs = fold (nearer ray) None bs
 
 -- it is the nearest of a scene's boxes
 abbrev pub PicksNearest : Type 0
-PicksNearest = (scene : SceneView) (state : List Fields) (ray : Sight) → IsPicked ray (boxes scene state) (picked ray (boxes scene state))
+PicksNearest = (scene : SceneView) (state : List Fields) (ray : Sight)
+    → IsPicked ray (boxes scene state) (picked ray (boxes scene state))

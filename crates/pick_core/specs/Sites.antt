@@ -20,7 +20,8 @@ pub record Site : Type 0 where
   pub size : Vec3
 
 abbrev pub site_under : ℕ → ℕ → Site → Site
-site_under position node s = record { trail = record { position = position; node = node } ∷ s.trail; size = s.size }
+site_under position node s =
+    record { trail = record { position = position; node = node } ∷ s.trail; size = s.size }
 
 abbrev pub site_layer : (ℕ → List Site) → Kind → List ℕ → List Site
 site_layer inside Group children = spread site_under inside 0 children
@@ -32,7 +33,8 @@ site_layer inside Other children = []
 
 unfoldable pub sites_in : SceneView → ℕ → ℕ → List Site
 sites_in scene zero node = []
-sites_in scene (suc depth) node = site_layer (sites_in scene depth) (kind_of scene node) (listed scene node)
+sites_in scene (suc depth) node =
+    site_layer (sites_in scene depth) (kind_of scene node) (listed scene node)
 
 -- all places of boxes
 unfoldable pub sites : SceneView → List Site
@@ -52,12 +54,14 @@ allows_as which Other position = true
 
 -- whether a node shows its child at a position
 unfoldable pub allows : SceneView → List Fields → ℕ → ℕ → Bool
-allows scene state node position = allows_as (choice_of (slice_get state node)) (kind_of scene node) position
+allows scene state node position =
+    allows_as (choice_of (slice_get state node)) (kind_of scene node) position
 
 -- whether all below a node up to the end of a trail is shown
 unfoldable pub is_shown : SceneView → List Fields → ℕ → List Place → Bool
 is_shown scene state node [] = true
-is_shown scene state node (p ∷ ps) = allows scene state node p.position && is_shown scene state p.node ps
+is_shown scene state node (p ∷ ps) =
+    allows scene state node p.position && is_shown scene state p.node ps
 
 -- the same from the roots
 abbrev pub is_shown_from_roots : SceneView → List Fields → List Place → Bool
@@ -69,7 +73,12 @@ is_shown_from_roots scene state (p ∷ ps) = is_shown scene state p.node ps
 -- what a row says of a box of a size at the end of a trail
 abbrev pub row_of : SceneView → List Fields → List Place → Vec3 → Row
 row_of scene state trail size =
-    record { trail = trail; size = size; bounds = carried scene state trail (box_of size); shown = is_shown_from_roots scene state trail }
+    record {
+      trail = trail;
+      size = size;
+      bounds = carried scene state trail (box_of size);
+      shown = is_shown_from_roots scene state trail;
+    }
 
 -- the row of a box below the end of a trail
 abbrev pub row_at : SceneView → List Fields → List Place → Site → Row
@@ -103,7 +112,8 @@ renewed scene state node r = if touches node r.trail then fresh scene state r el
 abbrev pub IsSameBut : ℕ → List Fields → List Fields → Type 0
 IsSameBut node before after = (k : ℕ) → (k ≡ node → ⊥) → slice_get before k ≡ slice_get after k
 
--- a ray sees the same of a node with these fields as with those: the motion of a Transform, the choice of a Switch
+-- a ray sees the same of a node with these fields as with those: the motion of a Transform, the
+-- choice of a Switch
 abbrev pub IsAlike : Kind → Option Fields → Option Fields → Type 0
 IsAlike Transform a b = motion_of a ≡ motion_of b
 IsAlike Switch a b = choice_of a ≡ choice_of b
@@ -112,8 +122,10 @@ IsAlike (Shape size) a b = Unit {0}
 IsAlike Other a b = Unit {0}
 
 abbrev pub AreAlike : SceneView → List Fields → List Fields → Type 0
-AreAlike scene before after = (k : ℕ) → IsAlike (kind_of scene k) (slice_get before k) (slice_get after k)
+AreAlike scene before after = (k : ℕ)
+    → IsAlike (kind_of scene k) (slice_get before k) (slice_get after k)
 
 -- what a ray doesn't see changes no row
 abbrev pub AlikeRows : Type 0
-AlikeRows = (scene : SceneView) (before after : List Fields) → AreAlike scene before after → rows_of scene before ≡ rows_of scene after
+AlikeRows = (scene : SceneView) (before after : List Fields) → AreAlike scene before after
+    → rows_of scene before ≡ rows_of scene after

@@ -17,4 +17,5 @@ positions trail = map (λ (p : Place). p.position) trail
 
 -- what is inside the last node of a trail, in the world
 abbrev pub raised : SceneView → List Fields → List Place → Placed → Placed
-raised scene state trail b = record { path = positions trail ++ b.path; bounds = carried scene state trail b.bounds }
+raised scene state trail b =
+    record { path = positions trail ++ b.path; bounds = carried scene state trail b.bounds }

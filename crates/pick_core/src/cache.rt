@@ -50,8 +50,10 @@ impl BoxCache {
     /// The nearest box that the ray hits, in the state for which the cache stands. It takes no
     /// memory.
     pub fn pick(&self, ray: Ray) -> Option<Hit>
-        ensures nearest { (scene : SceneView) → (state : List FieldsOf) → self.now ≡ spec.rows_of scene state → IsPicked ray (boxes scene state) result }
-        ensures value { (scene : SceneView) → (state : List FieldsOf) → self.now ≡ spec.rows_of scene state → result ≡ picked ray (boxes scene state) }
+        ensures nearest { (scene : SceneView) → (state : List FieldsOf)
+            → self.now ≡ spec.rows_of scene state → IsPicked ray (boxes scene state) result }
+        ensures value { (scene : SceneView) → (state : List FieldsOf)
+            → self.now ≡ spec.rows_of scene state → result ≡ picked ray (boxes scene state) }
     {
         pick_rows(self.rows.as_slice(), ray)
     }
@@ -59,14 +61,17 @@ impl BoxCache {
     /// Where the cache stood for a state that differs from this one at most at the node, it stands
     /// for this one. It takes no memory.
     pub fn renew(&mut self, scene: &Scene, state: &[Fields], node: u32)
-        ensures { (before : List FieldsOf) → self.old ≡ spec.rows_of scene.now before → spec.IsSameBut node before state.now → self.new ≡ spec.rows_of scene.now state.now }
+        ensures { (before : List FieldsOf) → self.old ≡ spec.rows_of scene.now before
+            → spec.IsSameBut node before state.now → self.new ≡ spec.rows_of scene.now state.now }
     {
         renew_rows(scene, state, node, self.rows.as_mut_slice());
     }
 
-    /// Where the cache stood for any state of the scene, it stands for this one. It takes no memory.
+    /// Where the cache stood for any state of the scene, it stands for this one. It takes no
+    /// memory.
     pub fn renew_all(&mut self, scene: &Scene, state: &[Fields])
-        ensures { (before : List FieldsOf) → self.old ≡ spec.rows_of scene.now before → self.new ≡ spec.rows_of scene.now state.now }
+        ensures { (before : List FieldsOf) → self.old ≡ spec.rows_of scene.now before
+            → self.new ≡ spec.rows_of scene.now state.now }
     {
         refresh_all(scene, state, self.rows.as_mut_slice());
     }

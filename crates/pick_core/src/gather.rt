@@ -44,7 +44,8 @@ fn push_row(
     walk: &mut Gathering,
 ) -> Result<(), AllocError>
     ensures trail { OnOk result (walk.new.trail.items ≡ walk.old.trail.items) }
-    ensures rows { OnOk result (walk.new.rows.items ≡ walk.old.rows.items ++ row_of scene.now state.now walk.old.trail.items size ∷ []) }
+    ensures rows { OnOk result (walk.new.rows.items
+        ≡ walk.old.rows.items ++ row_of scene.now state.now walk.old.trail.items size ∷ []) }
 {
     let row = row_of(alloc, scene, state, walk.trail.as_slice(), size)?;
     walk.rows.push(row)?;
@@ -63,7 +64,9 @@ fn gather(
     requires deep { 0 < depth }
     requires room { length walk.old.trail.items + depth ≤ 65 }
     ensures trail { OnOk result (walk.new.trail.items ≡ walk.old.trail.items) }
-    ensures rows { OnOk result (walk.new.rows.items ≡ walk.old.rows.items ++ map (row_at scene.now state.now walk.old.trail.items) (sites_in scene.now depth node)) }
+    ensures rows { OnOk result (walk.new.rows.items
+        ≡ walk.old.rows.items
+        ++ map (row_at scene.now state.now walk.old.trail.items) (sites_in scene.now depth node)) }
 {
     match kind_of(scene, node) {
         Kind::Group | Kind::Transform | Kind::Switch => {
@@ -86,7 +89,10 @@ fn gather_place(
 ) -> Result<(), AllocError>
     requires room { length walk.old.trail.items + depth ≤ 64 }
     ensures trail { OnOk result (walk.new.trail.items ≡ walk.old.trail.items) }
-    ensures rows { OnOk result (walk.new.rows.items ≡ walk.old.rows.items ++ map (row_at scene.now state.now walk.old.trail.items) (map (site_under place.position place.node) (sites_in scene.now depth place.node))) }
+    ensures rows { OnOk result (walk.new.rows.items
+        ≡ walk.old.rows.items
+        ++ map (row_at scene.now state.now walk.old.trail.items)
+        (map (site_under place.position place.node) (sites_in scene.now depth place.node))) }
 {
     if depth == 0 {
         return Ok(());
@@ -108,7 +114,10 @@ fn gather_all(
 ) -> Result<(), AllocError>
     requires room { length walk.old.trail.items + depth ≤ 64 }
     ensures trail { OnOk result (walk.new.trail.items ≡ walk.old.trail.items) }
-    ensures rows { OnOk result (walk.new.rows.items ≡ walk.old.rows.items ++ map (row_at scene.now state.now walk.old.trail.items) (spread site_under (sites_in scene.now depth) 0 nodes.now)) }
+    ensures rows { OnOk result (walk.new.rows.items
+        ≡ walk.old.rows.items
+        ++ map (row_at scene.now state.now walk.old.trail.items)
+        (spread site_under (sites_in scene.now depth) 0 nodes.now)) }
 {
     for (position, node) in nodes.iter().enumerate() {
         let place = Place {

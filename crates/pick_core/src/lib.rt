@@ -24,6 +24,6 @@ pub use hit::{Hit, Path};
 pub use laws::{alike_rows_law, numbers_law, one_local_law, one_nearest_law, picks_nearest_law};
 pub use local::local_point;
 pub use row::Row;
-pub use sensors::{MAX_SENSORS, sensors_of};
+pub use sensors::{MAX_SENSORS, is_enabled, sensors_of};
 pub use trail::Place;
 pub use walk::pick;

@@ -116,7 +116,8 @@ fn entered(scene: &Scene, state: &[Fields], node: u32, at: Vec3) -> Vec3
 
 /// The point, if the sensor is in the list.
 fn if_held(scene: &Scene, owner: Option<u32>, sensor: u32, at: Vec3) -> Option<Vec3>
-    ensures { result ≡ (if list_any (λ n. n == sensor) (siblings_of scene.now owner) then Some at else None) }
+    ensures { result
+        ≡ (if list_any (λ n. n == sensor) (siblings_of scene.now owner) then Some at else None) }
 {
     if contains(siblings_in(scene, owner), sensor) {
         return Some(at);
@@ -124,7 +125,8 @@ fn if_held(scene: &Scene, owner: Option<u32>, sensor: u32, at: Vec3) -> Option<V
     None
 }
 
-/// A point in the coordinates of the lowest list along a path that holds the sensor, from a list on.
+/// A point in the coordinates of the lowest list along a path that holds the sensor, from a list
+/// on.
 #[tactic(auto, unfolding(crate::specs::Local::local_along))]
 fn local_along(
     scene: &Scene,

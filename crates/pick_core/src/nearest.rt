@@ -14,7 +14,8 @@ use x3d_values::Ray;
 #[tactic(auto, unfolding(crate::specs::Picked::nearer))]
 pub(crate) fn keep_nearer(trail: &[Place], bounds: Bounds, ray: Ray, best: &mut Option<Hit>)
     requires { length trail.now ≤ 64 }
-    ensures { best.new ≡ spec.nearer ray best.old (record { path = positions trail.now; bounds = bounds }) }
+    ensures { best.new
+        ≡ spec.nearer ray best.old (record { path = positions trail.now; bounds = bounds }) }
 {
     let Some(at) = entry(bounds, ray) else {
         return;

@@ -26,8 +26,9 @@ struct Walk {
     best: Option<Hit>,
 }
 
-/// The nearest box that the ray hits: none where it hits no box. Of boxes that it enters at the same
-/// place, the one with the least path. `state` has what each node of the scene keeps, by number.
+/// The nearest box that the ray hits: none where it hits no box. Of boxes that it enters at the
+/// same place, the one with the least path. `state` has what each node of the scene keeps, by
+/// number.
 pub fn pick(scene: &Scene, state: &[Fields], ray: Ray) -> Option<Hit>
     ensures nearest { IsPicked ray (boxes scene.now state.now) result }
     ensures value { result ≡ picked ray (boxes scene.now state.now) }
@@ -43,7 +44,11 @@ pub fn pick(scene: &Scene, state: &[Fields], ray: Ray) -> Option<Hit>
 /// A Shape with a Box of this size stands at the end of the trail.
 fn consider(scene: &Scene, state: &[Fields], ray: Ray, size: Vec3, walk: &mut Walk)
     ensures trail { walk.new.trail.items ≡ walk.old.trail.items }
-    ensures best { walk.new.best ≡ nearer ray walk.old.best (record { path = positions walk.old.trail.items; bounds = carried scene.now state.now walk.old.trail.items (box_of size) }) }
+    ensures best { walk.new.best
+        ≡ nearer ray walk.old.best (record {
+          path = positions walk.old.trail.items;
+          bounds = carried scene.now state.now walk.old.trail.items (box_of size);
+        }) }
 {
     let bounds = carry(scene, state, walk.trail.as_slice(), box_round(size));
     keep_nearer(walk.trail.as_slice(), bounds, ray, &mut walk.best);
@@ -70,7 +75,8 @@ fn shown_child(which: i32, children: &[u32]) -> Option<Place>
 /// The child that a Switch of that number shows.
 #[tactic(auto, using(crate::proofs::Passed::passed))]
 fn shown_place(scene: &Scene, state: &[Fields], node: u32) -> Option<Place>
-    ensures { result ≡ shown_child_of (listed_in scene.now node) (which_of (slice_get state.now node)) }
+    ensures { result
+        ≡ shown_child_of (listed_in scene.now node) (which_of (slice_get state.now node)) }
 {
     let which = choice_of(state.get(node as usize));
     shown_child(which, listed(scene, node))
@@ -81,7 +87,10 @@ fn visit(scene: &Scene, state: &[Fields], ray: Ray, depth: usize, node: u32, wal
     requires deep { 0 < depth }
     requires room { length walk.old.trail.items + depth ≤ 65 }
     ensures trail { walk.new.trail.items ≡ walk.old.trail.items }
-    ensures best { walk.new.best ≡ fold (nearer ray) walk.old.best (map (raised scene.now state.now walk.old.trail.items) (inside scene.now state.now depth node)) }
+    ensures best { walk.new.best
+        ≡ fold (nearer ray) walk.old.best
+        (map (raised scene.now state.now walk.old.trail.items)
+        (inside scene.now state.now depth node)) }
 {
     match kind_of(scene, node) {
         Kind::Group | Kind::Transform => {
@@ -109,7 +118,11 @@ fn visit_place(
 )
     requires room { length walk.old.trail.items + depth ≤ 64 }
     ensures trail { walk.new.trail.items ≡ walk.old.trail.items }
-    ensures best { walk.new.best ≡ fold (nearer ray) walk.old.best (map (raised scene.now state.now walk.old.trail.items) (map (under scene.now state.now place.position place.node) (inside scene.now state.now depth place.node))) }
+    ensures best { walk.new.best
+        ≡ fold (nearer ray) walk.old.best
+        (map (raised scene.now state.now walk.old.trail.items)
+        (map (under scene.now state.now place.position place.node)
+        (inside scene.now state.now depth place.node))) }
 {
     if depth == 0 {
         return;
@@ -130,7 +143,10 @@ fn visit_all(
 )
     requires room { length walk.old.trail.items + depth ≤ 64 }
     ensures trail { walk.new.trail.items ≡ walk.old.trail.items }
-    ensures best { walk.new.best ≡ fold (nearer ray) walk.old.best (map (raised scene.now state.now walk.old.trail.items) (spread (under scene.now state.now) (inside scene.now state.now depth) 0 nodes.now)) }
+    ensures best { walk.new.best
+        ≡ fold (nearer ray) walk.old.best
+        (map (raised scene.now state.now walk.old.trail.items)
+        (spread (under scene.now state.now) (inside scene.now state.now depth) 0 nodes.now)) }
 {
     for (position, node) in nodes.iter().enumerate() {
         let place = Place {

@@ -32,10 +32,18 @@ seen [] = no_definitions
 seen (outer ∷ nearer) = inside_of (scope_of outer) (seen nearer)
 
 abbrev pub shown : Declarations → Sight
-shown d = record { here = scope_of d.here; outside = seen d.outside.items; takes = names_of d.takes; bodies = map scope_of d.bodies.items }
+shown d =
+    record {
+      here = scope_of d.here;
+      outside = seen d.outside.items;
+      takes = names_of d.takes;
+      bodies = map scope_of d.bodies.items;
+    }
 
--- the call did what the definition does, and the scopes around are as they were; or memory was refused
-abbrev pub Does : Result Sight ExpandFault → Result (Unit {0}) ExpandFault → Declarations → Declarations → Type 0
+-- the call did what the definition does, and the scopes around are as they were; or memory was
+-- refused
+abbrev pub Does : Result Sight ExpandFault → Result (Unit {0}) ExpandFault → Declarations
+    → Declarations → Type 0
 Does outcome (Ok u) old new = (outcome ≡ Ok (shown new)) × (new.outside.items ≡ old.outside.items)
 Does outcome (Err e) old new = (e ≡ memory) ⊎ (outcome ≡ Err e)
 
@@ -48,8 +56,11 @@ pub record IsOpened (old : Declarations) (before : Taken) (new : Declarations) :
   pub bodies : new.bodies.items ≡ old.bodies.items
 
 -- the scope was closed, and its prototype declared in the scope around, the last of those outside
-pub record IsClosed (name : List ℕ) (outer : List Table) (around : Table) (before : Taken) (old new : Declarations) : Type 0 where
-  pub here : scope_of new.here ≡ with_definition name (record { takes = names_of old.takes; body = length old.bodies.items }) (scope_of around)
+pub record IsClosed (name : List ℕ) (outer : List Table) (around : Table) (before : Taken)
+    (old new : Declarations) : Type 0 where
+  pub here : scope_of new.here
+      ≡ with_definition name (record { takes = names_of old.takes; body = length old.bodies.items })
+      (scope_of around)
   pub outside : new.outside.items ≡ outer
   pub takes : names_of new.takes ≡ names_of before
   pub bodies : new.bodies.items ≡ old.bodies.items ++ old.here ∷ []

@@ -17,8 +17,8 @@ with_name given names name = if bytes_eq given name then true else names name
 
 -- ---- prototypes
 
--- what is known of a declared prototype: the names of its interface that some IS of its body takes, and the number of its body among all bodies, in the order in which
--- they close
+-- what is known of a declared prototype: the names of its interface that some IS of its body takes,
+-- and the number of its body among all bodies, in the order in which they close
 pub record Definition : Type 0 where
   pub takes : Names
   pub body : ℕ
@@ -31,7 +31,8 @@ abbrev pub no_definitions : Scope
 no_definitions name = None
 
 abbrev pub with_definition : List ℕ → Definition → Scope → Scope
-with_definition given definition scope name = if bytes_eq given name then Some definition else scope name
+with_definition given definition scope name =
+    if bytes_eq given name then Some definition else scope name
 
 abbrev pub or_else : Option Definition → Option Definition → Option Definition
 or_else None other = other

@@ -24,7 +24,8 @@ pub fn check_statement<'a>(
     declarations: &mut Declarations<'a>,
     statement: &'a Statement,
 ) -> Result<(), ExpandFault>
-    ensures { Does ((spec.statement statement.now).does (shown declarations.old)) result declarations.old declarations.new }
+    ensures { Does ((spec.statement statement.now).does (shown declarations.old)) result
+        declarations.old declarations.new }
 {
     match statement {
         Statement::Node(node) => check_node(alloc, declarations, node),
@@ -40,7 +41,8 @@ fn check_node<'a>(
     declarations: &mut Declarations<'a>,
     node: &'a NodeText,
 ) -> Result<(), ExpandFault>
-    ensures { Does ((spec.node node.now).does (shown declarations.old)) result declarations.old declarations.new }
+    ensures { Does ((spec.node node.now).does (shown declarations.old)) result declarations.old
+        declarations.new }
 {
     match node {
         NodeText::Use(_line, _name) => Ok(()),
@@ -52,7 +54,8 @@ fn check_node<'a>(
 
 /// Who takes what stands between the braces behind that name.
 fn taker_of<'a>(declarations: &Declarations<'a>, name: &Text) -> Result<Taker<'a>, AllocError>
-    ensures { IfOk result (λ taker. taken_names taker ≡ spec.taken_by (in_sight (shown declarations.now) name.now)) }
+    ensures { IfOk result (λ taker. taken_names taker
+        ≡ spec.taken_by (in_sight (shown declarations.now) name.now)) }
 {
     match declarations.get(name) {
         None => Ok(Taker { taken: None }),
@@ -86,7 +89,8 @@ fn check_full<'a>(
     word: &Text,
     items: &'a [BodyItem],
 ) -> Result<(), ExpandFault>
-    ensures { Does (spec.node_does spec.item word.now items.now (shown declarations.old)) result declarations.old declarations.new }
+    ensures { Does (spec.node_does spec.item word.now items.now (shown declarations.old)) result
+        declarations.old declarations.new }
 {
     let taker = taker_of(declarations, word)?;
     check_items(alloc, declarations, &taker, items)
@@ -99,7 +103,9 @@ fn check_items<'a>(
     taker: &Taker<'a>,
     items: &'a [BodyItem],
 ) -> Result<(), ExpandFault>
-    ensures { Does (through (spec.item_does spec.item (taken_names taker.now)) items.now (shown declarations.old)) result declarations.old declarations.new }
+    ensures { Does
+        (through (spec.item_does spec.item (taken_names taker.now)) items.now
+        (shown declarations.old)) result declarations.old declarations.new }
 {
     for item in items {
         check_given_item(alloc, declarations, taker, item)?;
@@ -114,7 +120,9 @@ fn check_given_item<'a>(
     taker: &Taker<'a>,
     item: &'a BodyItem,
 ) -> Result<(), ExpandFault>
-    ensures { Does (spec.item_does spec.item (taken_names taker.now) item.now (shown declarations.old)) result declarations.old declarations.new }
+    ensures { Does
+        (spec.item_does spec.item (taken_names taker.now) item.now (shown declarations.old)) result
+        declarations.old declarations.new }
 {
     if !is_given(taker, item) {
         return Ok(());
@@ -129,7 +137,8 @@ fn check_item<'a>(
     declarations: &mut Declarations<'a>,
     item: &'a BodyItem,
 ) -> Result<(), ExpandFault>
-    ensures { Does ((spec.item item.now).does (shown declarations.old)) result declarations.old declarations.new }
+    ensures { Does ((spec.item item.now).does (shown declarations.old)) result declarations.old
+        declarations.new }
 {
     match item {
         BodyItem::Field(_line, _name, given) => check_given(alloc, declarations, given),
@@ -147,7 +156,8 @@ fn check_given<'a>(
     declarations: &mut Declarations<'a>,
     given: &'a Given<NodeText>,
 ) -> Result<(), ExpandFault>
-    ensures { Does (spec.given_does spec.node given.now (shown declarations.old)) result declarations.old declarations.new }
+    ensures { Does (spec.given_does spec.node given.now (shown declarations.old)) result
+        declarations.old declarations.new }
 {
     match given {
         Given::Nothing => Ok(()),
@@ -165,7 +175,8 @@ fn check_value<'a>(
     declarations: &mut Declarations<'a>,
     value: &'a RawValue<NodeText>,
 ) -> Result<(), ExpandFault>
-    ensures { Does (spec.through_value (λ n. (spec.node n).does) value.now (shown declarations.old)) result declarations.old declarations.new }
+    ensures { Does (spec.through_value (λ n. (spec.node n).does) value.now (shown declarations.old))
+        result declarations.old declarations.new }
 {
     match value {
         RawValue::Node(node) => check_node(alloc, declarations, node),
@@ -180,7 +191,8 @@ fn check_nodes<'a>(
     declarations: &mut Declarations<'a>,
     nodes: &'a [NodeText],
 ) -> Result<(), ExpandFault>
-    ensures { Does (through (λ n. (spec.node n).does) nodes.now (shown declarations.old)) result declarations.old declarations.new }
+    ensures { Does (through (λ n. (spec.node n).does) nodes.now (shown declarations.old)) result
+        declarations.old declarations.new }
 {
     for node in nodes {
         check_node(alloc, declarations, node)?;
@@ -214,7 +226,10 @@ fn has_node(body: &[Statement]) -> bool
 /// The faults of a declaration itself.
 #[tactic(auto, unfolding(crate::specs::Meaning::checked))]
 fn check_declaration(declarations: &Declarations<'_>, proto: &ProtoText) -> Result<(), ExpandFault>
-    ensures { result ≡ spec.checked spec.node spec.statement (out-ProtoText proto.now).interface (out-ProtoText proto.now).body (out-ProtoText proto.now).line (out-ProtoText proto.now).name (shown declarations.now) }
+    ensures { result
+        ≡ spec.checked spec.node spec.statement (out-ProtoText proto.now).interface
+        (out-ProtoText proto.now).body (out-ProtoText proto.now).line (out-ProtoText proto.now).name
+        (shown declarations.now) }
 {
     if is_known(declarations, &proto.name) {
         return Err(ExpandFaultKind::ProtoTwice.on_line(proto.line));
@@ -235,7 +250,8 @@ pub fn check_proto<'a>(
     declarations: &mut Declarations<'a>,
     proto: &'a ProtoText,
 ) -> Result<(), ExpandFault>
-    ensures { Does ((spec.proto proto.now).does (shown declarations.old)) result declarations.old declarations.new }
+    ensures { Does ((spec.proto proto.now).does (shown declarations.old)) result declarations.old
+        declarations.new }
 {
     check_declaration(declarations, proto)?;
     enter(alloc, declarations, proto)
@@ -257,7 +273,10 @@ fn close<'a>(
     name: &'a Text,
     before: Taken<'a>,
 ) -> Result<(), AllocError>
-    ensures { (outer : List Table) (around : Table) → declarations.old.outside.items ≡ outer ++ around ∷ [] → IfOk result (λ _. IsClosed name.now outer around before.entry declarations.old declarations.new) }
+    ensures { (outer : List Table) (around : Table)
+        → declarations.old.outside.items ≡ outer ++ around ∷ []
+        → IfOk result (λ _.
+        IsClosed name.now outer around before.entry declarations.old declarations.new) }
 {
     let Some(around) = declarations.outside.pop() else {
         return Ok(());
@@ -276,7 +295,9 @@ fn enter<'a>(
     declarations: &mut Declarations<'a>,
     proto: &'a ProtoText,
 ) -> Result<(), ExpandFault>
-    ensures { Does (spec.enters spec.node spec.statement (out-ProtoText proto.now).interface (out-ProtoText proto.now).body (out-ProtoText proto.now).name (shown declarations.old)) result declarations.old declarations.new }
+    ensures { Does (spec.enters spec.node spec.statement (out-ProtoText proto.now).interface
+        (out-ProtoText proto.now).body (out-ProtoText proto.now).name (shown declarations.old))
+        result declarations.old declarations.new }
 {
     let before = open(alloc, declarations)?;
     check_inside(alloc, declarations, proto)?;
@@ -291,7 +312,9 @@ fn check_inside<'a>(
     declarations: &mut Declarations<'a>,
     proto: &'a ProtoText,
 ) -> Result<(), ExpandFault>
-    ensures { Does (spec.inside_does spec.node spec.statement (out-ProtoText proto.now).interface (out-ProtoText proto.now).body (shown declarations.old)) result declarations.old declarations.new }
+    ensures { Does (spec.inside_does spec.node spec.statement (out-ProtoText proto.now).interface
+        (out-ProtoText proto.now).body (shown declarations.old)) result declarations.old
+        declarations.new }
 {
     check_interface(alloc, declarations, proto.interface.as_slice())?;
     declarations.takes = Taken::new(alloc);
@@ -304,7 +327,9 @@ fn check_interface<'a>(
     declarations: &mut Declarations<'a>,
     interface: &'a [Declaration<NodeText>],
 ) -> Result<(), ExpandFault>
-    ensures { Does (through (λ d. spec.given_does spec.node d.given) interface.now (shown declarations.old)) result declarations.old declarations.new }
+    ensures { Does
+        (through (λ d. spec.given_does spec.node d.given) interface.now (shown declarations.old))
+        result declarations.old declarations.new }
 {
     for declaration in interface {
         check_given(alloc, declarations, &declaration.given)?;
@@ -318,7 +343,8 @@ pub fn check_body<'a>(
     declarations: &mut Declarations<'a>,
     body: &'a [Statement],
 ) -> Result<(), ExpandFault>
-    ensures { Does (through (λ s. (spec.statement s).does) body.now (shown declarations.old)) result declarations.old declarations.new }
+    ensures { Does (through (λ s. (spec.statement s).does) body.now (shown declarations.old)) result
+        declarations.old declarations.new }
 {
     for statement in body {
         check_statement(alloc, declarations, statement)?;

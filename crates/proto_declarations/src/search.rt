@@ -21,7 +21,9 @@ pub fn same(a: &Text, b: &Text) -> bool
 /// the line of the first node that isn't hidden, or whether the name is hidden from there on.
 #[cycle(find)]
 pub fn find_inside(own: &Text, proto: &ProtoText, hidden: bool) -> Result<bool, u32>
-    ensures { result ≡ spec.finds_inside spec.node spec.statement (out-ProtoText proto.now).interface (out-ProtoText proto.now).body own.now hidden }
+    ensures { result
+        ≡ spec.finds_inside spec.node spec.statement (out-ProtoText proto.now).interface
+        (out-ProtoText proto.now).body own.now hidden }
 {
     let hides = find_in_interface(own, proto.interface.as_slice(), hidden)?;
     find_in_body(own, proto.body.as_slice(), hides)
@@ -33,7 +35,8 @@ fn find_in_interface(
     interface: &[Declaration<NodeText>],
     hidden: bool,
 ) -> Result<bool, u32>
-    ensures { result ≡ through (λ d. spec.finds_given spec.node own.now d.given) interface.now hidden }
+    ensures { result
+        ≡ through (λ d. spec.finds_given spec.node own.now d.given) interface.now hidden }
 {
     let mut hides = hidden;
     for declaration in interface {

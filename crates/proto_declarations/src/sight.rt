@@ -68,7 +68,8 @@ impl<'a> Taken<'a> {
     }
 
     pub fn take(&mut self, name: &'a Text) -> Result<(), AllocFailed<&'a str>>
-        ensures { IfOk result (λ _. names_of self.new ≡ spec.with_name name.now (names_of self.old)) }
+        ensures { IfOk result (λ _. names_of self.new
+            ≡ spec.with_name name.now (names_of self.old)) }
     {
         self.names.insert(name.as_str())?;
         Ok(())
@@ -96,7 +97,8 @@ impl<'a> Table<'a> {
         name: &'a Text,
         prototype: Prototype<'a>,
     ) -> Result<(), AllocFailed<(&'a str, Prototype<'a>)>>
-        ensures { IfOk result (λ _. scope_of self.new ≡ spec.with_definition name.now (definition_of prototype.entry) (scope_of self.old)) }
+        ensures { IfOk result (λ _. scope_of self.new
+            ≡ spec.with_definition name.now (definition_of prototype.entry) (scope_of self.old)) }
     {
         self.prototypes.insert(name.as_str(), prototype)?;
         Ok(())
@@ -131,7 +133,8 @@ impl<'a> Declarations<'a> {
 
     /// The prototype of that name that is in sight.
     pub fn get(&self, name: &Text) -> Option<&Prototype<'a>>
-        ensures { option_map (λ p. definition_of p.now) result ≡ in_sight (shown self.now) name.now }
+        ensures { option_map (λ p. definition_of p.now) result
+            ≡ in_sight (shown self.now) name.now }
     {
         match self.here.get(name) {
             None => seen(&self.outside, name),

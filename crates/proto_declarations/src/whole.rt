@@ -9,7 +9,7 @@ ghost use Rattle.proto_declarations.specs.Held.{names_of, shown};
 
 use crate::check;
 use crate::sight::Declarations;
-use classic_tree::{Document, ProtoText};
+use classic_tree::{Document, ProtoText, Statement};
 use flat_document::ExpandFault;
 use std::alloc::Global;
 
@@ -17,9 +17,19 @@ impl<'a> Declarations<'a> {
     /// Declares a prototype in the scope that is open, with those inside. On a refusal nothing is
     /// said of the declarations.
     pub fn declare(&mut self, alloc: Global, proto: &'a ProtoText) -> Result<(), ExpandFault>
-        ensures { Gives memory (λ _. shown self.new) result ((spec.proto proto.now).does (shown self.old)) }
+        ensures { Gives memory (λ _. shown self.new) result
+            ((spec.proto proto.now).does (shown self.old)) }
     {
         check::check_proto(alloc, self, proto)
+    }
+
+    /// Declares the prototypes of a statement in the scope that is open. On a refusal nothing is
+    /// said of the declarations.
+    pub fn add(&mut self, alloc: Global, statement: &'a Statement) -> Result<(), ExpandFault>
+        ensures { Gives memory (λ _. shown self.new) result
+            ((spec.statement statement.now).does (shown self.old)) }
+    {
+        check::check_statement(alloc, self, statement)
     }
 }
 

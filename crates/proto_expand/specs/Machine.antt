@@ -64,20 +64,48 @@ max_nodes = 65536
 
 -- a node takes the next place, and its DEF the name
 unfoldable pub begin : Option (List ℕ) → Machine ℕ
-begin None = λ w. Ok (length w.heap.places, record w { heap = record w.heap { places = w.heap.places ++ None ∷ [] } })
+begin None =
+    λ w. Ok (
+      length w.heap.places,
+      record w { heap = record w.heap { places = w.heap.places ++ None ∷ [] } },
+    )
 begin (Some name) = λ w.
-    Ok (length w.heap.places, record { heap = record w.heap { places = w.heap.places ++ None ∷ [] }; names = with_name name (length w.heap.places) w.names })
+    Ok (
+      length w.heap.places,
+      record {
+        heap = record w.heap { places = w.heap.places ++ None ∷ [] };
+        names = with_name name (length w.heap.places) w.names;
+      },
+    )
 
 -- a node with these fields is put in, and has the next number
 unfoldable pub put : ℕ → Option (List ℕ) → NodeType → List FlatField → Machine ℕ
 put line name node_type fields = λ w.
     if nat_lt (length w.heap.nodes) max_nodes
-    then Ok (length w.heap.nodes, record w { heap = record w.heap { nodes = w.heap.nodes ++ record { line = line; name = name; node_type = node_type; fields = fields; interface = [] } ∷ [] } })
+    then Ok (
+      length w.heap.nodes,
+      record w {
+        heap = record w.heap {
+          nodes = w.heap.nodes
+              ++ record {
+                line = line;
+                name = name;
+                node_type = node_type;
+                fields = fields;
+                interface = [];
+              } ∷ [];
+        };
+      },
+    )
     else Err (fault TooLarge 0)
 
 -- the place holds its node
 unfoldable pub finish : ℕ → ℕ → Machine ℕ
-finish place node = λ w. Ok (node, record w { heap = record w.heap { places = slice_set w.heap.places place (Some node) } })
+finish place node =
+    λ w. Ok (
+      node,
+      record w { heap = record w.heap { places = slice_set w.heap.places place (Some node) } },
+    )
 
 -- so many more items are in values
 unfoldable pub count : ℕ → Machine (Unit {0})
@@ -92,7 +120,19 @@ tip names place = record { place = names place.node; field = place.field }
 
 unfoldable pub wire : RouteText → Machine (Unit {0})
 wire route = λ w.
-    Ok (tt, record w { heap = record w.heap { wires = w.heap.wires ++ record { line = route.line; source = tip w.names route.source; target = tip w.names route.target } ∷ [] } })
+    Ok (
+      tt,
+      record w {
+        heap = record w.heap {
+          wires = w.heap.wires
+              ++ record {
+                line = route.line;
+                source = tip w.names route.source;
+                target = tip w.names route.target;
+              } ∷ [];
+        };
+      },
+    )
 
 -- ---- what a function that walks ensures: the machine's outcome, memory aside
 

@@ -1,4 +1,5 @@
--- What each part of a tree does, made of what its parts do (ISO/IEC 19775-1, object model and run-time name scope).
+-- What each part of a tree does, made of what its parts do (ISO/IEC 19775-1, object model and
+-- run-time name scope).
 use Rattle.std.specs.Prelude.{ℕ, ◌==◌, if◌then◌else◌, List, [], ◌∷◌, ◌++◌, length, Option, Some, None}
 use Rattle.std.specs.List.{list_any}
 use denote.Enum.Bare.{sameb}
@@ -67,7 +68,9 @@ module _ {N : Type 0} (node_does : N → Machine ℕ) where
     pure (fields ++ record { line = line; number = number; value = v } ∷ [])
 
   abbrev pub add_value : ℕ → ℕ → RawValue N → List FlatField → Machine (List FlatField)
-  add_value line number given fields = if list_any (λ (f : FlatField). f.number == number) fields then refuse FieldTwice line else add_new line number given fields
+  add_value line number given fields =
+      if list_any (λ (f : FlatField). f.number == number) fields then refuse FieldTwice line
+      else add_new line number given fields
 
   -- a field without a value gives nothing
   abbrev pub add_given : ℕ → ℕ → Given N → List FlatField → Machine (List FlatField)
@@ -80,7 +83,8 @@ module _ {N : Type 0} (node_does : N → Machine ℕ) where
   add_row line given (Some row) fields = add_given line row.number given fields
 
   unfoldable pub add_field : ℕ → List ℕ → Given N → OnFields
-  add_field line name given node_type fields = add_row line given (row_named 0 name (rows node_type)) fields
+  add_field line name given node_type fields =
+      add_row line given (row_named 0 name (rows node_type)) fields
 
 -- ---- nodes
 
@@ -92,45 +96,63 @@ known_node line name node_type body = do
   node ← put line name node_type fields
   finish place node
 
-abbrev pub typed_node : ℕ → Option (List ℕ) → (NodeType → Machine (List FlatField)) → Option NodeType → Machine ℕ
+abbrev pub typed_node : ℕ → Option (List ℕ) → (NodeType → Machine (List FlatField))
+    → Option NodeType → Machine ℕ
 typed_node line name body None = refuse UnknownNode line
-typed_node line name body (Some node_type) = if sameb the_type node_type Script then refuse NotYet line else known_node line name node_type (body node_type)
+typed_node line name body (Some node_type) =
+    if sameb the_type node_type Script then refuse NotYet line
+    else known_node line name node_type (body node_type)
 
-unfoldable pub full_node : ℕ → Option (List ℕ) → List ℕ → (NodeType → Machine (List FlatField)) → Machine ℕ
+unfoldable pub full_node : ℕ → Option (List ℕ) → List ℕ → (NodeType → Machine (List FlatField))
+    → Machine ℕ
 full_node line name word body = typed_node line name body (node_type_named word)
 
 -- ---- the parts of a tree: each step has, in the places of the parts inside, what those do
 
-unfoldable pub item_step : BodyItem-F OnFields (Machine ℕ) (Machine (Option ℕ)) (Machine (Unit {0})) → OnFields
-item_step (BodyItem-F.Field line name given) node_type fields = add_field (λ node. node) line name given node_type fields
+unfoldable pub item_step : BodyItem-F OnFields (Machine ℕ) (Machine (Option ℕ)) (Machine (Unit {0}))
+    → OnFields
+item_step (BodyItem-F.Field line name given) node_type fields =
+    add_field (λ node. node) line name given node_type fields
 item_step (BodyItem-F.Declaration declaration) node_type fields = refuse NotYet declaration.line
 item_step (BodyItem-F.BodyItem::Route route) node_type fields = wire route >>= λ _. pure fields
 item_step (BodyItem-F.BodyItem::Proto proto) node_type fields = proto >>= λ _. pure fields
 
-unfoldable pub node_step : NodeText-F OnFields (Machine ℕ) (Machine (Option ℕ)) (Machine (Unit {0})) → Machine ℕ
+unfoldable pub node_step : NodeText-F OnFields (Machine ℕ) (Machine (Option ℕ)) (Machine (Unit {0}))
+    → Machine ℕ
 node_step (NodeText-F.Use line name) = refuse NotYet line
-node_step (NodeText-F.Full line name word items) = full_node line name word (λ node_type. through (λ (item : OnFields). item node_type) items [])
+node_step (NodeText-F.Full line name word items) =
+    full_node line name word (λ node_type. through (λ (item : OnFields). item node_type) items [])
 
 -- a statement that is a node gives its number
-unfoldable pub statement_step : Statement-F OnFields (Machine ℕ) (Machine (Option ℕ)) (Machine (Unit {0})) → Machine (Option ℕ)
+unfoldable pub statement_step : Statement-F OnFields (Machine ℕ) (Machine (Option ℕ))
+    (Machine (Unit {0})) → Machine (Option ℕ)
 statement_step (Statement-F.Node node) = node >>= λ n. pure (Some n)
 statement_step (Statement-F.Statement::Route route) = wire route >>= λ _. pure None
 statement_step (Statement-F.Statement::Proto proto) = proto >>= λ _. pure None
 
-unfoldable pub proto_step : ProtoText-F OnFields (Machine ℕ) (Machine (Option ℕ)) (Machine (Unit {0})) → Machine (Unit {0})
+unfoldable pub proto_step : ProtoText-F OnFields (Machine ℕ) (Machine (Option ℕ))
+    (Machine (Unit {0})) → Machine (Unit {0})
 proto_step proto = refuse NotYet proto.line
 
 abbrev pub item_does : BodyItem → OnFields
-item_does = fold-BodyItem OnFields (Machine ℕ) (Machine (Option ℕ)) (Machine (Unit {0})) item_step node_step statement_step proto_step
+item_does =
+    fold-BodyItem OnFields (Machine ℕ) (Machine (Option ℕ))
+    (Machine (Unit {0})) item_step node_step statement_step proto_step
 
 abbrev pub node_does : NodeText → Machine ℕ
-node_does = fold-NodeText OnFields (Machine ℕ) (Machine (Option ℕ)) (Machine (Unit {0})) item_step node_step statement_step proto_step
+node_does =
+    fold-NodeText OnFields (Machine ℕ) (Machine (Option ℕ))
+    (Machine (Unit {0})) item_step node_step statement_step proto_step
 
 abbrev pub statement_does : Statement → Machine (Option ℕ)
-statement_does = fold-Statement OnFields (Machine ℕ) (Machine (Option ℕ)) (Machine (Unit {0})) item_step node_step statement_step proto_step
+statement_does =
+    fold-Statement OnFields (Machine ℕ) (Machine (Option ℕ))
+    (Machine (Unit {0})) item_step node_step statement_step proto_step
 
 abbrev pub proto_does : ProtoText → Machine (Unit {0})
-proto_does = fold-ProtoText OnFields (Machine ℕ) (Machine (Option ℕ)) (Machine (Unit {0})) item_step node_step statement_step proto_step
+proto_does =
+    fold-ProtoText OnFields (Machine ℕ) (Machine (Option ℕ))
+    (Machine (Unit {0})) item_step node_step statement_step proto_step
 
 -- the items of a body, in turn
 unfoldable pub items_do : List BodyItem → NodeType → Machine (List FlatField)

@@ -45,21 +45,46 @@ abbrev pub end_of : List (Option ℕ) → Tip → FlatEnd
 end_of places tip = end_at (node_at places tip.place) tip.field
 
 unfoldable pub route_of : List (Option ℕ) → Wire → FlatRoute
-route_of places wire = record { line = wire.line; source = end_of places wire.source; target = end_of places wire.target }
+route_of places wire =
+    record {
+      line = wire.line;
+      source = end_of places wire.source;
+      target = end_of places wire.target;
+    }
 
 unfoldable pub routes_of : Heap → Result (List FlatRoute) ExpandFault
-routes_of heap = if nat_lt max_routes (length heap.wires) then Err (fault TooLarge 0) else Ok (map (route_of heap.places) heap.wires)
+routes_of heap =
+    if nat_lt max_routes (length heap.wires) then Err (fault TooLarge 0)
+    else Ok (map (route_of heap.places) heap.wires)
 
 -- ---- the document
 
 abbrev pub nothing : Walk
-nothing = record { heap = record { nodes = []; places = []; wires = []; room = max_items }; names = no_names }
+nothing =
+    record {
+      heap = record { nodes = []; places = []; wires = []; room = max_items };
+      names = no_names;
+    }
 
 abbrev pub header_of : Document → Header
-header_of document = record { version = document.version; profile = document.profile; components = document.components; metas = document.metas }
+header_of document =
+    record {
+      version = document.version;
+      profile = document.profile;
+      components = document.components;
+      metas = document.metas;
+    }
 
-abbrev pub with_routes : Header → List ℕ → Heap → Result (List FlatRoute) ExpandFault → Result Flat ExpandFault
-with_routes header roots heap (Ok routes) = Ok (record { header = header; nodes = heap.nodes; roots = roots; helpers = []; routes = routes })
+abbrev pub with_routes : Header → List ℕ → Heap → Result (List FlatRoute) ExpandFault
+    → Result Flat ExpandFault
+with_routes header roots heap (Ok routes) =
+    Ok (record {
+      header = header;
+      nodes = heap.nodes;
+      roots = roots;
+      helpers = [];
+      routes = routes;
+    })
 with_routes header roots heap (Err e) = Err e
 
 abbrev pub flat_of : Header → Outcome (List ℕ) → Result Flat ExpandFault

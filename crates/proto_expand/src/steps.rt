@@ -55,7 +55,8 @@ fn give_name<'a>(
     name: &'a Text,
     place: usize,
 ) -> Result<(), AllocFailed<(&'a str, usize)>>
-    ensures { IfOk result (λ _. names_of scope.new ≡ with_name name.now place (names_of scope.old)) }
+    ensures { IfOk result (λ _. names_of scope.new
+        ≡ with_name name.now place (names_of scope.old)) }
 {
     scope.names.insert(name.as_str(), place)?;
     Ok(())
@@ -76,7 +77,8 @@ pub fn begin<'a>(
     scope: &mut Scope<'a>,
     name: &'a Option<Text>,
 ) -> Result<usize, ExpandFault>
-    ensures { Does (spec.begin name.now (shown heap.old scope.old)) result (shown heap.new scope.new) }
+    ensures { Does (spec.begin name.now (shown heap.old scope.old)) result
+        (shown heap.new scope.new) }
 {
     let place = heap.places.len();
     heap.places.push(None)?;
@@ -108,7 +110,8 @@ pub fn put(
     node_type: NodeType,
     fields: Items<FlatField>,
 ) -> Result<u32, ExpandFault>
-    ensures { Does (spec.put line name.now node_type fields (shown heap.old scope.now)) result (shown heap.new scope.now) }
+    ensures { Does (spec.put line name.now node_type fields (shown heap.old scope.now)) result
+        (shown heap.new scope.now) }
 {
     let number = heap.nodes.len();
     if number >= MAX_NODES {
@@ -128,7 +131,8 @@ pub fn put(
 /// The place holds its node.
 #[tactic(auto, unfolding(crate::specs::Machine::finish))]
 pub fn finish(heap: &mut Heap, scope: &Scope<'_>, place: usize, number: u32) -> u32
-    ensures { spec.finish place number (shown heap.old scope.now) ≡ Ok (result, shown heap.new scope.now) }
+    ensures { spec.finish place number (shown heap.old scope.now)
+        ≡ Ok (result, shown heap.new scope.now) }
 {
     if place < heap.places.len() {
         heap.places.set(place, Some(number));
@@ -165,7 +169,8 @@ pub fn wire(
     scope: &Scope<'_>,
     route: &RouteText,
 ) -> Result<(), ExpandFault>
-    ensures { Does (spec.wire route.now (shown heap.old scope.now)) result (shown heap.new scope.now) }
+    ensures { Does (spec.wire route.now (shown heap.old scope.now)) result
+        (shown heap.new scope.now) }
 {
     let source = tip(alloc, scope, &route.source)?;
     let target = tip(alloc, scope, &route.target)?;

@@ -49,7 +49,8 @@ pub fn put_node<'a>(
     scope: &mut Scope<'a>,
     node: &'a NodeText,
 ) -> Result<u32, ExpandFault>
-    ensures { Does (node_does node.now (shown heap.old scope.old)) result (shown heap.new scope.new) }
+    ensures { Does (node_does node.now (shown heap.old scope.old)) result
+        (shown heap.new scope.new) }
 {
     match node {
         NodeText::Use(line, _name) => Err(steps::refusal(ExpandFaultKind::NotYet, *line)),
@@ -70,7 +71,9 @@ fn put_full<'a>(
     word: &Text,
     items: &'a [BodyItem],
 ) -> Result<u32, ExpandFault>
-    ensures { Does (spec.full_node line name.now word.now (spec.items_do items.now) (shown heap.old scope.old)) result (shown heap.new scope.new) }
+    ensures { Does
+        (spec.full_node line name.now word.now (spec.items_do items.now) (shown heap.old scope.old))
+        result (shown heap.new scope.new) }
 {
     let Some(node_type) = NodeType::named(word.as_str()) else {
         return Err(steps::refusal(ExpandFaultKind::UnknownNode, line));
@@ -93,7 +96,8 @@ fn put_known<'a>(
     node_type: NodeType,
     items: &'a [BodyItem],
 ) -> Result<u32, ExpandFault>
-    ensures { Does (spec.known_node line name.now node_type (spec.items_do items.now node_type) (shown heap.old scope.old)) result (shown heap.new scope.new) }
+    ensures { Does (spec.known_node line name.now node_type (spec.items_do items.now node_type)
+        (shown heap.old scope.old)) result (shown heap.new scope.new) }
 {
     let place = steps::begin(heap, scope, name)?;
     let fields = put_items(alloc, heap, scope, node_type, items)?;
@@ -111,7 +115,8 @@ fn put_items<'a>(
     node_type: NodeType,
     items: &'a [BodyItem],
 ) -> Result<Items<FlatField>, ExpandFault>
-    ensures { Does (spec.items_do items.now node_type (shown heap.old scope.old)) result (shown heap.new scope.new) }
+    ensures { Does (spec.items_do items.now node_type (shown heap.old scope.old)) result
+        (shown heap.new scope.new) }
 {
     let mut fields = Items::new(alloc);
     for item in items {
@@ -130,7 +135,8 @@ fn put_item<'a>(
     item: &'a BodyItem,
     fields: Items<FlatField>,
 ) -> Result<Items<FlatField>, ExpandFault>
-    ensures { Does (item_does item.now node_type fields (shown heap.old scope.old)) result (shown heap.new scope.new) }
+    ensures { Does (item_does item.now node_type fields (shown heap.old scope.old)) result
+        (shown heap.new scope.new) }
 {
     match item {
         BodyItem::Field(line, name, given) => {
@@ -159,7 +165,9 @@ fn put_field<'a>(
     given: &'a Given<NodeText>,
     fields: Items<FlatField>,
 ) -> Result<Items<FlatField>, ExpandFault>
-    ensures { Does (spec.add_field node_does line name.now given.now node_type fields (shown heap.old scope.old)) result (shown heap.new scope.new) }
+    ensures { Does
+        (spec.add_field node_does line name.now given.now node_type fields
+        (shown heap.old scope.old)) result (shown heap.new scope.new) }
 {
     let Some(row) = field_of(node_type, name.as_str()) else {
         return Err(steps::refusal(ExpandFaultKind::UnknownField, line));
@@ -181,7 +189,9 @@ fn put_value<'a>(
     value: &'a RawValue<NodeText>,
     fields: Items<FlatField>,
 ) -> Result<Items<FlatField>, ExpandFault>
-    ensures { Does (spec.add_value node_does line number value.now fields (shown heap.old scope.old)) result (shown heap.new scope.new) }
+    ensures { Does
+        (spec.add_value node_does line number value.now fields (shown heap.old scope.old)) result
+        (shown heap.new scope.new) }
 {
     if has_field(number, fields.as_slice()) {
         return Err(steps::refusal(ExpandFaultKind::FieldTwice, line));
@@ -201,7 +211,8 @@ fn put_new<'a>(
     value: &'a RawValue<NodeText>,
     fields: Items<FlatField>,
 ) -> Result<Items<FlatField>, ExpandFault>
-    ensures { Does (spec.add_new node_does line number value.now fields (shown heap.old scope.old)) result (shown heap.new scope.new) }
+    ensures { Does (spec.add_new node_does line number value.now fields (shown heap.old scope.old))
+        result (shown heap.new scope.new) }
 {
     steps::count(heap, scope, item_count(value))?;
     let value = numbered(alloc, heap, scope, value)?;
@@ -222,7 +233,8 @@ fn numbered<'a>(
     scope: &mut Scope<'a>,
     value: &'a RawValue<NodeText>,
 ) -> Result<RawValue<u32>, ExpandFault>
-    ensures { Does (spec.numbered node_does value.now (shown heap.old scope.old)) result (shown heap.new scope.new) }
+    ensures { Does (spec.numbered node_does value.now (shown heap.old scope.old)) result
+        (shown heap.new scope.new) }
 {
     match value {
         RawValue::Null => Ok(RawValue::Null),
@@ -259,7 +271,8 @@ fn put_nodes<'a>(
     scope: &mut Scope<'a>,
     nodes: &'a [NodeText],
 ) -> Result<Items<u32>, ExpandFault>
-    ensures { Does (through (spec.add_number node_does) nodes.now [] (shown heap.old scope.old)) result (shown heap.new scope.new) }
+    ensures { Does (through (spec.add_number node_does) nodes.now [] (shown heap.old scope.old))
+        result (shown heap.new scope.new) }
 {
     let mut numbers = Items::new(alloc);
     for node in nodes {
@@ -276,7 +289,8 @@ pub fn put_statement<'a>(
     scope: &mut Scope<'a>,
     statement: &'a Statement,
 ) -> Result<Option<u32>, ExpandFault>
-    ensures { Does (statement_does statement.now (shown heap.old scope.old)) result (shown heap.new scope.new) }
+    ensures { Does (statement_does statement.now (shown heap.old scope.old)) result
+        (shown heap.new scope.new) }
 {
     match statement {
         Statement::Node(node) => Ok(Some(put_node(alloc, heap, scope, node)?)),

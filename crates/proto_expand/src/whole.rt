@@ -87,7 +87,8 @@ fn put_roots<'a>(
     scope: &mut Scope<'a>,
     statements: &'a [Statement],
 ) -> Result<Items<u32>, ExpandFault>
-    ensures { Does (through spec.at_top statements.now [] (shown heap.old scope.old)) result (shown heap.new scope.new) }
+    ensures { Does (through spec.at_top statements.now [] (shown heap.old scope.old)) result
+        (shown heap.new scope.new) }
 {
     let mut roots = Items::new(alloc);
     for statement in statements {

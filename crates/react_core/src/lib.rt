@@ -35,6 +35,3 @@ pub use keys::step_index;
 pub use laws::numbers_law;
 pub use outbox::{MAX_REPLIES, Outbox, Reply};
 pub use reaction::react;
-
-#[cfg(test)]
-mod tests;

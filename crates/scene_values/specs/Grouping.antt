@@ -29,5 +29,6 @@ vectors (x ∷ (y ∷ (z ∷ rest))) = record { x = x; y = y; z = z } ∷ vector
 vectors _ = []
 
 abbrev pub colors : List ℤ → List Color
-colors (red ∷ (green ∷ (blue ∷ rest))) = record { red = red; green = green; blue = blue } ∷ colors rest
+colors (red ∷ (green ∷ (blue ∷ rest))) =
+    record { red = red; green = green; blue = blue } ∷ colors rest
 colors _ = []

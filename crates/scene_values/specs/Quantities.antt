@@ -1,4 +1,5 @@
--- What a numeral may stand for, and in which range (ISO/IEC 19775-1, field types; the ranges are our choice).
+-- What a numeral may stand for, and in which range (ISO/IEC 19775-1, field types; the ranges are
+-- our choice).
 use Rattle.std.specs.Prelude.{◌-◌, ◌^◌, ◌%◌, ℤ, pos, negsuc, Bool, ◌&&◌, ◌==◌, nat_le, int_le, int_div, unsigned_abs}
 use Rattle.scene_values.specs.declared.quantity.Quantity.{Quantity}
 use Rattle.scene_values.specs.declared.quantity.Quantity.TheVariants.{Number, Time, Integer}
@@ -9,7 +10,9 @@ whole z = int_div z (pos (10 ^ 6))
 
 -- a whole number of 32 bits, in millionths
 abbrev pub is_integer : ℤ → Bool
-is_integer z = unsigned_abs z % 10 ^ 6 == 0 && (int_le (negsuc (2 ^ 31 - 1)) (whole z) && int_le (whole z) (pos (2 ^ 31 - 1)))
+is_integer z =
+    unsigned_abs z % 10 ^ 6 == 0
+    && (int_le (negsuc (2 ^ 31 - 1)) (whole z) && int_le (whole z) (pos (2 ^ 31 - 1)))
 
 -- a number is of a size up to 10^15 millionths, a time of one up to 10^18 microseconds
 abbrev pub fits : Quantity → ℤ → Bool

@@ -1,4 +1,5 @@
--- Which rotations are accepted: all that don't turn (our choice: whole numbers give no exact sines).
+-- Which rotations are accepted: all that don't turn (our choice: whole numbers give no exact
+-- sines).
 use Rattle.std.specs.Prelude.{ℕ, ℤ, Bool, ◌||◌, ◌==◌, List, [], ◌∷◌, Result, Ok, Err, unsigned_abs, if◌then◌else◌}
 use Rattle.classic_tree.specs.declared.tree.RawValue.{RawValue}
 use Rattle.classic_tree.specs.declared.tree.RawValue.TheVariants.{Numbers}
@@ -7,7 +8,8 @@ use Rattle.scene_values.specs.declared.fault.ValueFault.TheVariants.{WrongType, 
 
 -- an axis of three numerals and an angle, which is 0 unless any angle will do
 abbrev pub rotation : List ℤ → Bool → Result Unit ValueFault
-rotation (x ∷ (y ∷ (z ∷ (angle ∷ [])))) any_angle = if any_angle || unsigned_abs angle == 0 then Ok tt else Err RotationUnsupported
+rotation (x ∷ (y ∷ (z ∷ (angle ∷ [])))) any_angle =
+    if any_angle || unsigned_abs angle == 0 then Ok tt else Err RotationUnsupported
 rotation _ any_angle = Err WrongType
 
 -- the same of a value: no list is a rotation

@@ -1,6 +1,8 @@
--- The value that a raw value is, by the type of its field (ISO/IEC 19775-1, field types; ISO/IEC 19776-2, field values).
+-- The value that a raw value is, by the type of its field (ISO/IEC 19775-1, field types; ISO/IEC
+-- 19776-2, field values).
 --
--- A single field takes a bare value alone. A multiple field takes a list, or a bare value that has the form of exactly one item.
+-- A single field takes a bare value alone. A multiple field takes a list, or a bare value that has
+-- the form of exactly one item.
 use Rattle.std.specs.Prelude.{◌==◌, ℕ, ◌%◌, ℤ, Bool, List, [], ◌∷◌, length, map, slice_index_or, Option, Some, None, Result, Ok, Err, if◌then◌else◌}
 use Rattle.std.specs.List.{list_all}
 use Rattle.x3d_values.specs.declared.field_type.FieldType.{FieldType}
@@ -25,7 +27,9 @@ made value (Err fault) = Err fault
 
 -- the numerals, if their count is right and all are in range; a wrong count wins
 abbrev pub checked : Bool → Quantity → List ℤ → Result (List ℤ) ValueFault
-checked right_count quantity numbers = if right_count then (if list_all (fits quantity) numbers then Ok numbers else Err ValueRange) else Err WrongType
+checked right_count quantity numbers =
+    if right_count then (if list_all (fits quantity) numbers then Ok numbers else Err ValueRange)
+    else Err WrongType
 
 -- of a single value of so many components: a bare run of them
 abbrev pub run : ℕ → Quantity → RawValue ℕ → Result (List ℤ) ValueFault
@@ -82,8 +86,10 @@ nodes numbers _ = Err WrongType
 -- a rotation is no value: it is checked and dropped
 abbrev pub typed : FieldType → RawValue ℕ → List ℕ → Result Value ValueFault
 typed field_type.SFBool raw numbers = made value.SFBool (truth raw)
-typed field_type.SFInt32 raw numbers = made (λ run. value.SFInt32 (whole (component run 0))) (run 1 Integer raw)
-typed field_type.SFFloat raw numbers = made (λ run. value.SFFloat (component run 0)) (run 1 Number raw)
+typed field_type.SFInt32 raw numbers =
+    made (λ run. value.SFInt32 (whole (component run 0))) (run 1 Integer raw)
+typed field_type.SFFloat raw numbers =
+    made (λ run. value.SFFloat (component run 0)) (run 1 Number raw)
 typed field_type.SFTime raw numbers = made (λ run. value.SFTime (component run 0)) (run 1 Time raw)
 typed field_type.SFString raw numbers = made value.SFString (string raw)
 typed field_type.SFVec2f raw numbers = made (λ run. value.SFVec2f (pair run)) (run 2 Number raw)
@@ -91,12 +97,15 @@ typed field_type.SFVec3f raw numbers = made (λ run. value.SFVec3f (vector run))
 typed field_type.SFColor raw numbers = made (λ run. value.SFColor (color run)) (run 3 Number raw)
 typed field_type.SFNode raw numbers = made value.SFNode (node numbers raw)
 typed field_type.MFBool raw numbers = made value.MFBool (truths raw)
-typed field_type.MFInt32 raw numbers = made (λ list. value.MFInt32 (map whole list)) (runs 1 Integer raw)
+typed field_type.MFInt32 raw numbers =
+    made (λ list. value.MFInt32 (map whole list)) (runs 1 Integer raw)
 typed field_type.MFFloat raw numbers = made value.MFFloat (runs 1 Number raw)
 typed field_type.MFTime raw numbers = made value.MFTime (runs 1 Time raw)
 typed field_type.MFString raw numbers = made value.MFString (strings raw)
 typed field_type.MFVec2f raw numbers = made (λ list. value.MFVec2f (pairs list)) (runs 2 Number raw)
-typed field_type.MFVec3f raw numbers = made (λ list. value.MFVec3f (vectors list)) (runs 3 Number raw)
-typed field_type.MFColor raw numbers = made (λ list. value.MFColor (colors list)) (runs 3 Number raw)
+typed field_type.MFVec3f raw numbers =
+    made (λ list. value.MFVec3f (vectors list)) (runs 3 Number raw)
+typed field_type.MFColor raw numbers =
+    made (λ list. value.MFColor (colors list)) (runs 3 Number raw)
 typed field_type.MFNode raw numbers = made value.MFNode (nodes numbers raw)
 typed field_type.SFRotation raw numbers = Err WrongType

@@ -12,8 +12,6 @@ mod plain;
 mod quantity;
 mod rotation;
 mod scalars;
-#[cfg(test)]
-mod tests;
 mod typing;
 
 pub use fault::ValueFault;

@@ -24,7 +24,8 @@ fn all_fit(quantity: Quantity, numbers: &[i64]) -> bool
 
 /// The numerals, if their count is right and all are in range.
 fn checked(right_count: bool, quantity: Quantity, numbers: &[i64]) -> Result<&[i64], ValueFault>
-    ensures exact { result_map_both (λ list. list.now) (λ fault. fault) result ≡ checked right_count quantity numbers.now }
+    ensures exact { result_map_both (λ list. list.now) (λ fault. fault) result
+        ≡ checked right_count quantity numbers.now }
 {
     if !right_count {
         return Err(ValueFault::WrongType);
@@ -41,7 +42,8 @@ pub(crate) fn run(
     quantity: Quantity,
     raw: &RawValue<u32>,
 ) -> Result<&[i64], ValueFault>
-    ensures exact { result_map_both (λ list. list.now) (λ fault. fault) result ≡ run size quantity raw.now }
+    ensures exact { result_map_both (λ list. list.now) (λ fault. fault) result
+        ≡ run size quantity raw.now }
     ensures count { IfOk result (λ list. length list.now ≡ size) }
     ensures fit { IfOk result (λ list. list_all (fits quantity) list.now ≡ true) }
 {
@@ -58,7 +60,8 @@ pub(crate) fn runs(
     raw: &RawValue<u32>,
 ) -> Result<&[i64], ValueFault>
     requires { 0 < size }
-    ensures exact { result_map_both (λ list. list.now) (λ fault. fault) result ≡ runs size quantity raw.now }
+    ensures exact { result_map_both (λ list. list.now) (λ fault. fault) result
+        ≡ runs size quantity raw.now }
     ensures fit { IfOk result (λ list. list_all (fits quantity) list.now ≡ true) }
 {
     match raw {

@@ -13,7 +13,8 @@ use Rattle.script_host.specs.Pairs.{PairAt, PairsBelow}
 abbrev pub KnownBelow : List ScriptSpec → ℕ → Type 0
 KnownBelow specs n = (j : ℕ) → j < n → IsSomeAnd (slice_get specs j) (λ s. s.kind ≢ None)
 
--- a box is what its script asks for: of its kind, for an interface that fits, in the state in which it starts
+-- a box is what its script asks for: of its kind, for an interface that fits, in the state in which
+-- it starts
 pub record Meets (s : ScriptSpec) (r : ScriptRecord) : Type 0 where
   pub kind : s.kind ≡ Some r.kind
   pub interface : s.fits ≡ true
@@ -26,7 +27,8 @@ pub record Fits (specs : List ScriptSpec) (boxes : List ScriptRecord) : Type 0 w
   pub meet : PairsBelow Meets specs boxes (length specs)
 
 -- all kinds are known, there are as many boxes as scripts, those before k meet, and P holds at k
-pub record FirstAt (P : ScriptSpec → ScriptRecord → Type 0) (specs : List ScriptSpec) (boxes : List ScriptRecord) (k : ℕ) : Type 0 where
+pub record FirstAt (P : ScriptSpec → ScriptRecord
+    → Type 0) (specs : List ScriptSpec) (boxes : List ScriptRecord) (k : ℕ) : Type 0 where
   pub known : KnownBelow specs (length specs)
   pub count : length specs ≡ length boxes
   pub before : PairsBelow Meets specs boxes k
@@ -44,9 +46,11 @@ IsUnfit s r = (s.kind ≡ Some r.kind) × (s.fits ≡ false)
 abbrev pub IsElsewhere : ScriptSpec → ScriptRecord → Type 0
 IsElsewhere s r = (s.kind ≡ Some r.kind) × (s.fits ≡ true) × (r.state ≢ s.start)
 
--- the fault that is answered: unknown kinds first, then the number of boxes, then the first box that doesn't meet
+-- the fault that is answered: unknown kinds first, then the number of boxes, then the first box
+-- that doesn't meet
 abbrev pub Refuses : AttachFault → List ScriptSpec → List ScriptRecord → Type 0
-Refuses (UnknownScript k) specs boxes = KnownBelow specs k × IsSomeAnd (slice_get specs k) (λ s. s.kind ≡ None)
+Refuses (UnknownScript k) specs boxes = KnownBelow specs k
+    × IsSomeAnd (slice_get specs k) (λ s. s.kind ≡ None)
 Refuses WrongCount specs boxes = KnownBelow specs (length specs) × (length specs ≢ length boxes)
 Refuses (KindDiffers k) specs boxes = FirstAt IsOther specs boxes k
 Refuses (InterfaceMismatch k) specs boxes = FirstAt IsUnfit specs boxes k

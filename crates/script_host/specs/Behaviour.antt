@@ -5,7 +5,8 @@ use Rattle.x3d_values.specs.declared.script.Kind.{Kind}
 use Rattle.x3d_values.specs.declared.script.Kind.TheVariants.{Counter, Gate, Adder, Batch, Mover, Meter}
 use Rattle.script_host.specs.declared.reply.Reply.{Reply}
 
--- one call on a script: it is initialized, it receives a value at an input, or the events of a timestamp were processed
+-- one call on a script: it is initialized, it receives a value at an input, or the events of a
+-- timestamp were processed
 pub data Call : Type 0 where
   Initialize : Call
   Receive : ℕ → List ℤ → Call
@@ -52,7 +53,8 @@ counted count step = record { state = count ∷ step ∷ []; replies = sends 0 c
 -- `tick` TRUE adds the step, and sends `count`
 abbrev pub counter : Call → List ℤ → Answer
 counter (Receive zero event) (count ∷ step ∷ []) =
-    if is_one (number_of event) then counted (next_count count step) step else keeps (count ∷ step ∷ [])
+    if is_one (number_of event) then counted (next_count count step) step
+    else keeps (count ∷ step ∷ [])
 counter _ state = keeps state
 
 -- ---- gate: whether it is open
@@ -60,12 +62,14 @@ counter _ state = keeps state
 abbrev pub opened : ℤ → Answer
 opened truth = record { state = truth ∷ []; replies = sends 0 truth ∷ [] }
 
--- it sends `isOpen` when it is initialized and at `open`, and a `pulse` as `passed` where it is open
+-- it sends `isOpen` when it is initialized and at `open`, and a `pulse` as `passed` where it is
+-- open
 abbrev pub gate : Call → List ℤ → Answer
 gate Initialize (truth ∷ []) = opened truth
 gate (Receive zero event) (truth ∷ []) = opened (number_of event)
 gate (Receive (suc zero) event) (truth ∷ []) =
-    if is_one truth then record { state = truth ∷ []; replies = sends 1 (number_of event) ∷ [] } else keeps (truth ∷ [])
+    if is_one truth then record { state = truth ∷ []; replies = sends 1 (number_of event) ∷ [] }
+    else keeps (truth ∷ [])
 gate _ state = keeps state
 
 -- ---- adder: its two terms
@@ -88,21 +92,24 @@ one_more pending = saturate_signed w32 (pending +ℤ pos 1)
 -- `item` adds one; when events were processed `many` and `any` are sent, and none is pending
 abbrev pub batch : Call → List ℤ → Answer
 batch (Receive zero event) (pending ∷ []) = keeps (one_more pending ∷ [])
-batch Settle (pending ∷ []) = record { state = pos 0 ∷ []; replies = sends 0 pending ∷ sends 1 (pos 1) ∷ [] }
+batch Settle (pending ∷ []) =
+    record { state = pos 0 ∷ []; replies = sends 0 pending ∷ sends 1 (pos 1) ∷ [] }
 batch _ state = keeps state
 
 -- ---- mover: the places from which and to which it moves
 
 -- a fraction, in millionths, of the way between two coordinates, rounded down
 unfoldable pub part_way : ℤ → ℤ → ℤ → ℤ
-part_way fraction from to = clamped (from +ℤ int_div_euclid (fraction *ℤ (to -ℤ from)) (pos (10 ^ 6)))
+part_way fraction from to =
+    clamped (from +ℤ int_div_euclid (fraction *ℤ (to -ℤ from)) (pos (10 ^ 6)))
 
 -- `fraction` sends `position`
 abbrev pub mover : Call → List ℤ → Answer
-mover (Receive zero event) (x ∷ y ∷ z ∷ x' ∷ y' ∷ z' ∷ []) = let part = part_way (number_of event) in record {
-  state = x ∷ y ∷ z ∷ x' ∷ y' ∷ z' ∷ [];
-  replies = record { output = 0; numbers = part x x' ∷ part y y' ∷ part z z' ∷ [] } ∷ [];
-}
+mover (Receive zero event) (x ∷ y ∷ z ∷ x' ∷ y' ∷ z' ∷ []) = let part =
+    part_way (number_of event) in record {
+      state = x ∷ y ∷ z ∷ x' ∷ y' ∷ z' ∷ [];
+      replies = record { output = 0; numbers = part x x' ∷ part y y' ∷ part z z' ∷ [] } ∷ [];
+    }
 mover _ state = keeps state
 
 -- ---- meter: the last readings, oldest first

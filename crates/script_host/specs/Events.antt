@@ -1,4 +1,5 @@
--- What scripts may be given: the inputs of each kind and the range of each type (our choice of kinds).
+-- What scripts may be given: the inputs of each kind and the range of each type (our choice of
+-- kinds).
 use Rattle.std.specs.Prelude.{ℕ, ◌^◌, ℤ, pos, negsuc, List, [], ◌∷◌, Bool, true, false, ◌&&◌, ◌==◌, nat_le, nat_lt, slice_get, unsigned_abs}
 use Rattle.std.specs.Option.{option_map_or}
 use Rattle.x3d_values.specs.Ranges.{coordinate_fits}
@@ -34,9 +35,11 @@ number_fits _ z = false
 
 -- the numbers are a value of this type: the first in its range, the others unused
 abbrev pub event_fits : FieldType → List ℤ → Bool
-event_fits t (first ∷ second ∷ third ∷ []) = number_fits t first && (unsigned_abs second == 0 && unsigned_abs third == 0)
+event_fits t (first ∷ second ∷ third ∷ []) =
+    number_fits t first && (unsigned_abs second == 0 && unsigned_abs third == 0)
 event_fits t _ = false
 
 -- the event is a value of the type of this input, where the kind has such an input
 abbrev pub takes_event : Kind → ℕ → List ℤ → Bool
-takes_event kind input event = option_map_or (λ t. event_fits t event) (slice_get (input_types kind) input) true
+takes_event kind input event =
+    option_map_or (λ t. event_fits t event) (slice_get (input_types kind) input) true

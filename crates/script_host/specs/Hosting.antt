@@ -1,4 +1,5 @@
--- What callers see of the scripts of a world: for each its kind, its state, and whether it counts as initialized.
+-- What callers see of the scripts of a world: for each its kind, its state, and whether it counts
+-- as initialized.
 use Rattle.std.specs.Prelude.{◌≡◌, ℕ, ℤ, List, Bool, true, false, IsTrue, slice_get, slice_set, IsSomeAnd}
 use Rattle.std.specs.Option.{ForSome}
 use Rattle.x3d_values.specs.declared.script.Kind.{Kind}
@@ -27,12 +28,14 @@ counts_after Settle before = before
 
 -- the script after a call
 abbrev pub after_call : Call → ScriptRecord → ScriptRecord
-after_call call r = record r { state = (answer_of call r).state; initialized = counts_after call r.initialized }
+after_call call r =
+    record r { state = (answer_of call r).state; initialized = counts_after call r.initialized }
 
 -- script k was called, which changed it alone and gave these replies
 abbrev pub CalledAt : Call → ℕ → List ScriptRecord → List ScriptRecord → List Reply → Type 0
 CalledAt call k old new replies =
-    IsSomeAnd (slice_get old k) (λ r. (new ≡ slice_set old k (after_call call r)) × (replies ≡ (answer_of call r).replies))
+    IsSomeAnd (slice_get old k) (λ r. (new ≡ slice_set old k (after_call call r))
+    × (replies ≡ (answer_of call r).replies))
 
 -- the event is a value of the type of this input of script k
 abbrev pub TakesAt : ℕ → ℕ → List ℤ → List ScriptRecord → Type 0

@@ -21,4 +21,5 @@ leave_by_outputs kind replies = list_all (λ r. nat_lt r.output (output_count ki
 
 -- every call on every state sends from outputs of the kind alone
 abbrev pub SendsByOutputs : Type 0
-SendsByOutputs = (kind : Kind) (call : Call) (state : List ℤ) → IsTrue (leave_by_outputs kind (behave kind call state).replies)
+SendsByOutputs = (kind : Kind) (call : Call) (state : List ℤ)
+    → IsTrue (leave_by_outputs kind (behave kind call state).replies)

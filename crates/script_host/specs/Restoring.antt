@@ -15,8 +15,10 @@ pub record AreStates (rs : List ScriptRecord) (states : List (List ℤ)) : Type 
   pub count : length rs ≡ length states
   pub fit : PairsBelow IsStateOf rs states (length rs)
 
--- there are as many lists as scripts, those before some k are states, and the one at k is refused for this fault
-pub record IsFirstFault (fault : StateFault) (rs : List ScriptRecord) (states : List (List ℤ)) : Type 0 where
+-- there are as many lists as scripts, those before some k are states, and the one at k is refused
+-- for this fault
+pub record IsFirstFault (fault : StateFault) (rs : List ScriptRecord)
+    (states : List (List ℤ)) : Type 0 where
   pub count : length rs ≡ length states
   pub at : ℕ
   pub before : PairsBelow IsStateOf rs states at
@@ -28,8 +30,12 @@ with_states rs [] = rs
 with_states [] (state ∷ states) = []
 with_states (r ∷ rs) (state ∷ states) = record r { state = state } ∷ with_states rs states
 
--- why states are refused, and what stands then: where memory was refused some scripts have their new states
-abbrev pub RefusesStates : StateFault → List ScriptRecord → List (List ℤ) → List ScriptRecord → Type 0
-RefusesStates StateLength old states new = (new ≡ old) × ((length old ≢ length states) ⊎ IsFirstFault StateLength old states)
+-- why states are refused, and what stands then: where memory was refused some scripts have their
+-- new states
+abbrev pub RefusesStates : StateFault → List ScriptRecord → List (List ℤ) → List ScriptRecord
+    → Type 0
+RefusesStates StateLength old states new = (new ≡ old)
+    × ((length old ≢ length states) ⊎ IsFirstFault StateLength old states)
 RefusesStates StateRange old states new = (new ≡ old) × IsFirstFault StateRange old states
-RefusesStates Memory old states new = AreStates old states × ((k : ℕ) × (new ≡ with_states old (take k states)))
+RefusesStates Memory old states new = AreStates old states
+    × ((k : ℕ) × (new ≡ with_states old (take k states)))

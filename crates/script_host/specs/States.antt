@@ -46,7 +46,9 @@ mover_fault (x ∷ y ∷ z ∷ x' ∷ y' ∷ z' ∷ []) = range_fault (place_fit
 mover_fault _ = Some StateLength
 
 abbrev pub meter_fault : List ℤ → Option StateFault
-meter_fault readings = if nat_le (length readings) 8 then range_fault (list_all coordinate_fits readings) else Some StateLength
+meter_fault readings =
+    if nat_le (length readings) 8 then range_fault (list_all coordinate_fits readings)
+    else Some StateLength
 
 -- why a list is no state of a script of this kind: its length, or else a number out of range
 abbrev pub state_fault : Kind → List ℤ → Option StateFault

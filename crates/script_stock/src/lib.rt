@@ -17,6 +17,3 @@ pub use counter::Counter;
 pub use gate::Gate;
 pub use meter::Meter;
 pub use mover::Mover;
-
-#[cfg(test)]
-mod tests;

@@ -27,6 +27,3 @@ pub use state::TimeState;
 pub use timing::{MAX_TIME, TimeFields, is_interval, is_time};
 pub use touch::TouchState;
 pub use touch_numbers::TOUCH_ENABLED;
-
-#[cfg(test)]
-mod tests;

@@ -1,9 +1,8 @@
 -- A job that is answered, in the words of its lines.
-use Rattle.std.proofs.Common.{◌≡◌, ℕ, ◌+◌, ℤ, List, [], ◌∷◌, ◌++◌, length, take, drop, Bool, true, false, codes, Option, Some, None, Result, Ok}
+use Rattle.std.proofs.Common.{◌≡◌, ◌⊎◌, ℕ, ◌+◌, ℤ, pos, ◌+ℤ◌, List, [], ◌∷◌, ◌++◌, length, take, drop, Bool, true, false, codes, Option, Some, None, Result, Ok}
 use Rattle.std.proofs.Common.{Err, refl, sym, ap, ◌∙◌, inl, inr, append_assoc, append-nil, take-append-drop}
-use Rattle.std.specs.Option.{option_and_then}
 use Rattle.std.specs.Result.{result_ok}
-use Rattle.std.specs.List.{fold, list_any, before_first, AllZip}
+use Rattle.std.specs.List.{fold, list_any, before_first}
 use Rattle.std.specs.Str.{bytes_eq}
 use Rattle.std.specs.Str.Lines.{lines}
 use Rattle.std.specs.Cmp.Lexicographic.{same_text}
@@ -11,11 +10,15 @@ use Rattle.std.proofs.lemmas.Bool.{cases_Bool}
 use Rattle.x3d_numerals.specs.Numeral.{IsNumeral}
 use Rattle.x3d_numerals.specs.Reading.{numeral}
 use Rattle.x3d_numerals.proofs.Numerals.{value_iff}
+use Rattle.x3d_values.specs.Pointing.{Pointing}
 use Rattle.x3d_values.specs.Stamp.{Stamp}
+use Rattle.x3d_values.specs.declared.stamped.Event.TheVariants.{Clock, Pointer}
 use Rattle.share_program.specs.declared.fault.JobFault.{JobFault}
 use Rattle.share_program.specs.declared.fault.JobFault.TheVariants.{BadJob}
-use Rattle.share_program.specs.Job.{Lined, IsClock, IsJob, is_taken, clock_at, clock_time, next_input, with_line, with_scene, is_scene, job_lines}
-use Rattle.share_program.proofs.JobLemmas.{fold-err, before-cons_no, before-cons_yes}
+use Rattle.share_program.specs.Job.{AreSteps, Lined, IsClock, IsPointed, IsJob, asked, clock_time, last_time, next_input, with_line, with_scene, is_scene, job_lines}
+use Rattle.share_program.specs.Points.{pointed}
+use Rattle.share_program.proofs.JobLemmas.{fold-err, before-cons_no, before-cons_yes, last_time-push, taken_from}
+use Rattle.share_program.proofs.PointLemmas.{point_from}
 
 -- ---- a line that asks for an input is `clock T`
 
@@ -34,33 +37,37 @@ clock_from line t e = elim (cases_Bool (bytes_eq (take 6 line) (codes "clock "))
   | inr fails ↦ let none = rw fails at e in absurd (cc)
 ]
 
-next_time : (given : List Stamp) (time : Option ℤ) (input : Stamp) → option_and_then (clock_at given) time ≡ Some input → time ≡ Some input.time
-next_time given None input e = absurd (cc)
-next_time given (Some t) input e = elim (cases_Bool (is_taken given t)) [
-  | inl passes ↦
-      let same = rw passes at e in
-      let same_time : t ≡ input.time = cc in
-      ap Some same_time
-  | inr fails ↦ let none = rw fails at e in absurd (cc)
-]
+abbrev IsStep : ℤ → List ℕ → Stamp → Type 0
+IsStep before line input = IsClock line input ⊎ IsPointed before line input
 
-clock_is : (given : List Stamp) (line : List ℕ) (input : Stamp) → next_input given line ≡ Some input → IsClock line input
+step_from : (given : List Stamp) (line : List ℕ) (input : Stamp) (time : Option ℤ) (p : Option Pointing) → clock_time line ≡ time → pointed line ≡ p
+    → asked given time p ≡ Some input → IsStep (last_time given) line input
+step_from given line input None None at_time at_point e = absurd (cc)
+step_from given line input (Some t) p at_time at_point e =
+    let taken = taken_from given t Clock input e in
+    let (text, whole, number) = clock_from line t at_time in
+    inl (record { text = text; is = whole; time = rw taken.time number; event = taken.event_is })
+step_from given line input None (Some p) at_time at_point e =
+    let taken = taken_from given (last_time given +ℤ pos 1) (Pointer p) input e in
+    inr (record { pointing = p; words = point_from line p at_point; time = taken.time; event = taken.event_is })
+
+step_is : (given : List Stamp) (line : List ℕ) (input : Stamp) → next_input given line ≡ Some input → IsStep (last_time given) line input
 unfolding next_input
-clock_is given line input e = clock_from line input.time (next_time given (clock_time line) input e)
+step_is given line input e = step_from given line input (clock_time line) (pointed line) refl refl e
 
 -- ---- the steps
 
 record Grown (given : List Stamp) (steps : List (List ℕ)) (inputs : List Stamp) : Type 0 where
   more : List Stamp
   is : inputs ≡ given ++ more
-  each : AllZip IsClock steps more
+  each : AreSteps (last_time given) steps more
 
-grown_by : (given : List Stamp) (line : List ℕ) (steps : List (List ℕ)) (inputs : List Stamp) (input : Stamp) → IsClock line input
+grown_by : (given : List Stamp) (line : List ℕ) (steps : List (List ℕ)) (inputs : List Stamp) (input : Stamp) → IsStep (last_time given) line input
     → Grown (given ++ input ∷ []) steps inputs → Grown given (line ∷ steps) inputs
 grown_by given line steps inputs input step g = record {
   more = input ∷ g.more;
   is = g.is ∙ append_assoc given (input ∷ []) g.more;
-  each = (step, g.each);
+  each = (step, (rw (last_time-push given input) at g.each));
 }
 
 grown_with : (given : List Stamp) (line : List ℕ) (steps : List (List ℕ)) (inputs : List Stamp) (next : Option Stamp) → next ≡ next_input given line
@@ -72,7 +79,7 @@ grown_with given line steps inputs None same go e =
     absurd (cc)
 grown_with given line steps inputs (Some input) same go e =
     let more = rw (← same) at e in
-    grown_by given line steps inputs input (clock_is given line input (sym same)) (go (given ++ input ∷ []) more)
+    grown_by given line steps inputs input (step_is given line input (sym same)) (go (given ++ input ∷ []) more)
 
 grown : (given : List Stamp) (steps : List (List ℕ)) (inputs : List Stamp) → fold with_line (Ok given) steps ≡ Ok inputs → Grown given steps inputs
 grown given [] inputs e = let same : given ≡ inputs = cc in record { more = []; is = sym same ∙ sym (append-nil given); each = tt }
@@ -115,7 +122,7 @@ scened_from line true scene (Ok inputs) job e =
     record { is_there = refl; inputs = ap Ok (ap (λ (j : Lined). j.inputs) same); scene_is = sym (ap (λ (j : Lined). j.scene) same) }
 
 pub found : (bytes : List ℕ) (job : Lined) → job_lines bytes ≡ Ok job → IsJob bytes job
-unfolding job_lines
+unfolding job_lines last_time
 found bytes job e =
     let s = scened_from _ _ _ _ job e in
     let first = split_first is_scene (lines bytes) s.is_there in

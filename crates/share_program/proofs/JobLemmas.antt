@@ -1,24 +1,28 @@
 -- A job line by line: what is left to answer where these inputs were read.
-use Rattle.std.proofs.Common.{◌≡◌, ℕ, suc, ◌+◌, ◌-◌, ◌^◌, ◌<◌, ◌≤◌, ◌<ℤ◌, ℤ, pos, List, [], ◌∷◌, ◌++◌, length, take, Bool, true, false, Option}
+use Rattle.std.proofs.Common.{◌≡◌, ℕ, suc, ◌+◌, ◌-◌, ◌^◌, ◌<◌, ◌≤◌, ◌<ℤ◌, ℤ, pos, ◌+ℤ◌, List, [], ◌∷◌, ◌++◌, length, take, Bool, true, false, Option}
 use Rattle.std.proofs.Common.{Some, None, Result, Ok, Err, slice_get, refl, sym, ap, ◌∙◌, inl, inr, arith, zero-add}
-use Rattle.std.specs.Option.{option_and_then, option_map_or}
+use Rattle.std.specs.Option.{option_map_or}
 use Rattle.std.specs.List.{fold, list_any, position_or_len, before_first}
 use Rattle.std.specs.Str.Lines.{lines}
 use Rattle.std.proofs.lemmas.Bool.{cases_Bool, ltb-true, and_parts}
 use Rattle.std.proofs.lemmas.Float.{T_from_true}
 use Rattle.std.proofs.lemmas.List.{length-append}
+use Rattle.x3d_values.specs.Pointing.{Pointing}
 use Rattle.x3d_values.specs.Stamp.{Stamp}
+use Rattle.x3d_values.specs.declared.stamped.Event.{Event}
+use Rattle.x3d_values.specs.declared.stamped.Event.TheVariants.{Clock, Pointer}
+use Rattle.share_program.specs.Points.{pointed}
 use Rattle.share_program.specs.declared.fault.JobFault.{JobFault}
 use Rattle.share_program.specs.declared.fault.JobFault.TheVariants.{BadJob}
 use Rattle.share_program.specs.Lines.{first_line, behind_line}
 use Rattle.cascade_core.specs.InTurn.{Follow, AreInTurn}
-use Rattle.share_program.specs.Job.{Lined, last_time, is_taken, clock_at, clock_time, next_input, with_line, with_scene}
+use Rattle.share_program.specs.Job.{Lined, asked, input_at, last_time, is_taken, clock_time, next_input, with_line, with_scene}
 use Rattle.share_program.specs.Job.{is_scene, behind_lines, job_lines}
 use Rattle.share_program.proofs.LineLemmas.{cut}
 
 -- ---- the lines before the first that passes
 
-position-cons_no : {A : Type 0} (p : A → Bool) (x : A) (xs : List A) → p x ≡ false → position_or_len p (x ∷ xs) ≡ suc (position_or_len p xs)
+pub position-cons_no : {A : Type 0} (p : A → Bool) (x : A) (xs : List A) → p x ≡ false → position_or_len p (x ∷ xs) ≡ suc (position_or_len p xs)
 position-cons_no p x xs e = rw e (omega arith)
 
 pub before-cons_no : {A : Type 0} (p : A → Bool) (x : A) (xs : List A) → p x ≡ false → before_first p (x ∷ xs) ≡ x ∷ before_first p xs
@@ -161,26 +165,48 @@ pub record IsNext (given : List Stamp) (input : Stamp) : Type 0 where
   pub few : length given < 2 ^ 20
   pub later : last_time given <ℤ input.time
 
-next_from : (given : List Stamp) (time : Option ℤ) (input : Stamp) → option_and_then (clock_at given) time ≡ Some input → IsNext given input
-next_from given None input e = absurd (cc)
-next_from given (Some t) input e = elim (cases_Bool (is_taken given t)) [
+pub record IsTaken (given : List Stamp) (t : ℤ) (event : Event) (input : Stamp) : Type 0 where
+  pub next : IsNext given input
+  pub time : input.time ≡ t
+  pub event_is : input.event ≡ event
+
+pub taken_from : (given : List Stamp) (t : ℤ) (event : Event) (input : Stamp) → input_at given t event ≡ Some input → IsTaken given t event input
+taken_from given t event input e = elim (cases_Bool (is_taken given t)) [
   | inl passes ↦
-      let same = rw passes at e in
-      let same_time : t ≡ input.time = cc in
-      let number : input.number ≡ length given + 1 = cc in
+      let some = rw passes at e in
+      let same : record { number = length given + 1; time = t; event = event } ≡ input = cc in
+      let time : t ≡ input.time = ap (λ (s : Stamp). s.time) same in
       let tests = and_parts _ _ passes in
       let later = and_parts _ _ tests.1 in
       record {
-        number = number;
-        few = ltb-true (length given) (2 ^ 20) tests.0;
-        later = record { lt = T_from_true _ (rw (← same_time) later.0) };
+        next = record {
+          number = sym (ap (λ (s : Stamp). s.number) same);
+          few = ltb-true (length given) (2 ^ 20) tests.0;
+          later = record { lt = T_from_true _ (rw (← time) later.0) };
+        };
+        time = sym time;
+        event_is = sym (ap (λ (s : Stamp). s.event) same);
       }
   | inr fails ↦ let none = rw fails at e in absurd (cc)
 ]
 
+next_from : (given : List Stamp) (time : Option ℤ) (p : Option Pointing) (input : Stamp) → asked given time p ≡ Some input → IsNext given input
+next_from given None None input e = absurd (cc)
+next_from given None (Some p) input e = (taken_from given (last_time given +ℤ pos 1) (Pointer p) input e).next
+next_from given (Some t) p input e = (taken_from given t Clock input e).next
+
 pub next_is : (given : List Stamp) (line : List ℕ) (input : Stamp) → next_input given line ≡ Some input → IsNext given input
 unfolding next_input
-next_is given line input e = next_from given (clock_time line) input e
+next_is given line input e = next_from given (clock_time line) (pointed line) input e
+
+-- the time of the last is that of the one behind
+last_from-push : (t : ℤ) (given : List Stamp) (input : Stamp) → last_from t (given ++ input ∷ []) ≡ input.time
+unfolding last_from
+last_from-push t [] input = refl
+last_from-push t (x ∷ xs) input = last_from-push x.time xs input
+
+pub last_time-push : (given : List Stamp) (input : Stamp) → last_time (given ++ input ∷ []) ≡ input.time
+last_time-push given input = last_from-last (given ++ input ∷ []) ∙ last_from-push (pos 0) given input
 
 pub in_turn_more : (given : List Stamp) (input : Stamp) → AreInTurn given → IsNext given input → AreInTurn (given ++ input ∷ [])
 in_turn_more given input h next =

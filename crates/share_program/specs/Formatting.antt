@@ -15,7 +15,8 @@ use Rattle.share_program.specs.declared.fault.JobFault.TheVariants.{Device}
 abbrev pub document_of : List ℕ → Result Document JobFault
 document_of text = next of_read (read_text text) (λ d. Ok d)
 
--- a reader, from the one state to the other, was read to its end, and what it had spells the document
+-- a reader, from the one state to the other, was read to its end, and what it had spells the
+-- document
 pub record IsRead (old new : Option (List ℕ)) (d : Document) : Type 0 where
   pub bytes : List ℕ
   pub consumed : Consumes old new bytes
@@ -29,8 +30,8 @@ pub record IsNoText (old new : Option (List ℕ)) (fault : JobFault) : Type 0 wh
   pub ended : IsAtEnd new
   pub refused : document_of bytes ≡ Err fault
 
--- what a reader had spells a document, and a writer took the text of that document, which spells it again, whatever its length
--- and but for the lines in it
+-- what a reader had spells a document, and a writer took the text of that document, which spells it
+-- again, whatever its length and but for the lines in it
 pub record IsFormatted (old_read new_read old_written new_written : Option (List ℕ)) : Type 0 where
   pub document : Document
   pub read : IsRead old_read new_read document
@@ -38,6 +39,8 @@ pub record IsFormatted (old_read new_read old_written new_written : Option (List
   pub again : SpellsAtAnyLength (document_text document) document
 
 -- nothing was written; or the writer failed, and then all that the reader had spells a document
-abbrev pub IsUnwritten : Option (List ℕ) → Option (List ℕ) → Option (List ℕ) → Option (List ℕ) → JobFault → Type 0
+abbrev pub IsUnwritten : Option (List ℕ) → Option (List ℕ) → Option (List ℕ) → Option (List ℕ)
+    → JobFault → Type 0
 IsUnwritten old_read new_read old_written new_written fault =
-    Keeps old_written new_written ⊎ ((fault ≡ Device) × ((d : Document) × IsRead old_read new_read d))
+    Keeps old_written new_written
+    ⊎ ((fault ≡ Device) × ((d : Document) × IsRead old_read new_read d))

@@ -1,44 +1,61 @@
 -- A job: lines of steps, a line `scene`, then the scene (our choice).
-use Rattle.std.specs.Prelude.{◌≡◌, ℕ, ◌+◌, ◌-◌, ◌^◌, ◌&&◌, nat_lt, ℤ, pos, int_lt, Bool, List, [], ◌∷◌, ◌++◌, length, take, drop, slice_get}
+use Rattle.std.specs.Prelude.{◌≡◌, ℕ, ◌+◌, ◌-◌, ◌^◌, ◌&&◌, nat_lt, ℤ, pos, ◌+ℤ◌, int_lt, ⊤, ◌⊎◌, Bool, List, [], ◌∷◌, ◌++◌, length, take, drop, slice_get}
 use Rattle.std.specs.Prelude.{codes, Option, Some, None, Result, Ok, Err, if◌then◌else◌}
-use Rattle.std.specs.Option.{option_and_then, option_map_or}
+use Rattle.std.specs.Option.{option_map_or}
 use Rattle.std.specs.Result.{result_ok}
-use Rattle.std.specs.List.{AllZip, fold, list_any, before_first, slice_split, join_with_byte}
+use Rattle.std.specs.List.{fold, list_any, before_first, slice_split, join_with_byte}
 use Rattle.std.specs.Str.{bytes_eq}
 use Rattle.std.specs.Str.Lines.{lines}
 use Rattle.x3d_numerals.specs.Numeral.{IsNumeral}
 use Rattle.x3d_numerals.specs.Reading.{numeral}
 use Rattle.x3d_values.specs.Ranges.{is_input_time}
 use Rattle.x3d_values.specs.Stamp.{Stamp}
-use Rattle.x3d_values.specs.declared.stamped.Event.TheVariants.{Clock}
+use Rattle.x3d_values.specs.Pointing.{Pointing}
+use Rattle.x3d_values.specs.declared.stamped.Event.{Event}
+use Rattle.x3d_values.specs.declared.stamped.Event.TheVariants.{Clock, Pointer}
 use Rattle.share_program.specs.declared.fault.JobFault.{JobFault}
 use Rattle.share_program.specs.declared.fault.JobFault.TheVariants.{BadJob}
 use Rattle.share_program.specs.Lines.{is_lf}
+use Rattle.share_program.specs.Points.{IsPoint, pointed}
 
 -- ---- a step
 
 -- the time of a line `clock T`, where T is a numeral of seconds: its millionths are microseconds
 unfoldable pub clock_time : List ℕ → Option ℤ
-clock_time line = if bytes_eq (take 6 line) (codes "clock ") then result_ok (numeral (drop 6 line)) else None
+clock_time line = if bytes_eq (take 6 line) (codes "clock ") then result_ok (numeral (drop 6 line))
+    else None
 
 -- the time of the last input, at first 0
 unfoldable pub last_time : List Stamp → ℤ
 last_time inputs = option_map_or (λ s. s.time) (slice_get inputs (length inputs - 1)) (pos 0)
 
--- a host numbers an input of this time behind these: there are less than 2^20, and the time is in range and later
+-- a host numbers an input of this time behind these: there are less than 2^20, and the time is in
+-- range and later
 abbrev pub is_taken : List Stamp → ℤ → Bool
-is_taken inputs t = nat_lt (length inputs) (2 ^ 20) && (int_lt (last_time inputs) t && is_input_time t)
+is_taken inputs t =
+    nat_lt (length inputs) (2 ^ 20) && (int_lt (last_time inputs) t && is_input_time t)
 
-abbrev pub clock_at : List Stamp → ℤ → Option Stamp
-clock_at inputs t = if is_taken inputs t then Some (record { number = length inputs + 1; time = t; event = Clock }) else None
+-- what happens at a time behind these, where a host numbers it
+abbrev pub input_at : List Stamp → ℤ → Event → Option Stamp
+input_at inputs t event =
+    if is_taken inputs t
+    then Some (record { number = length inputs + 1; time = t; event = event })
+    else None
+
+-- a clock has its own time; a viewer points one microsecond after the last input
+abbrev pub asked : List Stamp → Option ℤ → Option Pointing → Option Stamp
+asked inputs (Some t) p = input_at inputs t Clock
+asked inputs None (Some p) = input_at inputs (last_time inputs +ℤ pos 1) (Pointer p)
+asked inputs None None = None
 
 -- the input that a line asks for behind these
 unfoldable pub next_input : List Stamp → List ℕ → Option Stamp
-next_input inputs line = option_and_then (clock_at inputs) (clock_time line)
+next_input inputs line = asked inputs (clock_time line) (pointed line)
 
 -- ---- the steps
 
--- the inputs with the next one, or the line that isn't one: each line adds an input, so it is the line of the next number
+-- the inputs with the next one, or the line that isn't one: each line adds an input, so it is the
+-- line of the next number
 abbrev pub with_next : List Stamp → Option Stamp → Result (List Stamp) JobFault
 with_next inputs None = Err (BadJob (length inputs + 1))
 with_next inputs (Some input) = Ok (inputs ++ input ∷ [])
@@ -61,32 +78,53 @@ pub record Lined : Type 0 where
   pub inputs : List Stamp
   pub scene : List ℕ
 
--- the job of these inputs and this scene, where there is a line `scene`; else that is missing at this line
+-- the job of these inputs and this scene, where there is a line `scene`; else that is missing at
+-- this line
 abbrev pub with_scene : ℕ → Bool → List ℕ → Result (List Stamp) JobFault → Result Lined JobFault
-with_scene line there scene (Ok inputs) = if there then Ok (record { inputs = inputs; scene = scene }) else Err (BadJob line)
+with_scene line there scene (Ok inputs) =
+    if there then Ok (record { inputs = inputs; scene = scene }) else Err (BadJob line)
 with_scene line there scene (Err fault) = Err fault
 
 -- the bytes behind so many lines
 abbrev pub behind_lines : ℕ → List ℕ → List ℕ
 behind_lines n bytes = join_with_byte 10 (drop n (slice_split is_lf bytes))
 
--- the job of a byte list: the steps before the first line `scene` in order, and the bytes behind that line;
--- without such a line it is missing behind the last
+-- the job of a byte list: the steps before the first line `scene` in order, and the bytes behind
+-- that line; without such a line it is missing behind the last
 unfoldable pub job_lines : List ℕ → Result Lined JobFault
 job_lines bytes =
     let steps = before_first is_scene (lines bytes) in
-    with_scene (length steps + 1) (list_any is_scene (lines bytes)) (behind_lines (length steps + 1) bytes) (inputs_of steps)
+    with_scene (length steps + 1) (list_any is_scene (lines bytes))
+    (behind_lines (length steps + 1) bytes) (inputs_of steps)
 
 -- ---- what holds of inputs
 
 -- the line is `clock T`, where T is a numeral of seconds that is the input's time in microseconds
-abbrev pub IsClock : List ℕ → Stamp → Type 0
-IsClock line input = (text : List ℕ) × (line ≡ codes "clock " ++ text) × IsNumeral text input.time
+pub record IsClock (line : List ℕ) (input : Stamp) : Type 0 where
+  pub text : List ℕ
+  pub is : line ≡ codes "clock " ++ text
+  pub time : IsNumeral text input.time
+  pub event : input.event ≡ Clock
+
+-- the line is one by which a viewer points, one microsecond after an input of this time
+pub record IsPointed (before : ℤ) (line : List ℕ) (input : Stamp) : Type 0 where
+  pub pointing : Pointing
+  pub words : IsPoint line pointing
+  pub time : input.time ≡ before +ℤ pos 1
+  pub event : input.event ≡ Pointer pointing
+
+-- each line is a step behind an input of this time, and gives one input
+abbrev pub AreSteps : ℤ → List (List ℕ) → List Stamp → Type 0
+AreSteps before [] [] = ⊤
+AreSteps before (line ∷ lines) (input ∷ inputs) =
+    (IsClock line input ⊎ IsPointed before line input) × AreSteps input.time lines inputs
+AreSteps before [] (input ∷ inputs) = ⊥
+AreSteps before (line ∷ lines) [] = ⊥
 
 -- the bytes are a line for each input, a line `scene`, and the scene
 pub record IsJob (bytes : List ℕ) (job : Lined) : Type 0 where
   pub steps : List (List ℕ)
   pub rest : List (List ℕ)
   pub lines : lines bytes ≡ steps ++ codes "scene" ∷ rest
-  pub each : AllZip IsClock steps job.inputs
+  pub each : AreSteps (pos 0) steps job.inputs
   pub scene : job.scene ≡ behind_lines (length steps + 1) bytes

@@ -1,4 +1,5 @@
--- The scene of a text, and the job of a byte list: what each layer makes of it, one after the other.
+-- The scene of a text, and the job of a byte list: what each layer makes of it, one after the
+-- other.
 use Rattle.std.specs.Prelude.{◌≡◌, ◌⊎◌, Option, ℕ, List, Result, Ok, Err}
 use Rattle.x3d_values.specs.Stamp.{Stamp}
 use Rattle.classic_text.specs.Reading.{read_text}
@@ -17,7 +18,8 @@ use Rattle.share_program.specs.declared.open.Opened.{Opened}
 use Rattle.share_program.specs.declared.open.Job.{Job}
 
 -- the answer of a layer, with its fault as one of the job; and then what the next layer answers
-abbrev pub next : {X Y E : Type 0} → (E → JobFault) → Result X E → (X → Result Y JobFault) → Result Y JobFault
+abbrev pub next : {X Y E : Type 0} → (E → JobFault) → Result X E → (X → Result Y JobFault)
+    → Result Y JobFault
 next fault (Ok x) f = f x
 next fault (Err e) f = Err (fault e)
 
@@ -44,7 +46,8 @@ same fault = fault
 
 -- the steps of the lines before the first line `scene`, and the scene behind it
 unfoldable pub opened_job : List ℕ → Result Job JobFault
-opened_job bytes = next same (job_lines bytes) (λ l. next same (opened l.scene) (with_inputs l.inputs))
+opened_job bytes =
+    next same (job_lines bytes) (λ l. next same (opened l.scene) (with_inputs l.inputs))
 
 -- the fault of a device, or of memory
 abbrev pub IsDeviceOrMemory : JobFault → Type 0
@@ -52,4 +55,5 @@ IsDeviceOrMemory fault = (fault ≡ Device) ⊎ (fault ≡ Memory)
 
 -- a reader was read to its end, and what it had is no job for this reason
 abbrev pub IsNoJob : Option (List ℕ) → Option (List ℕ) → JobFault → Type 0
-IsNoJob old new fault = (bytes : List ℕ) × Consumes old new bytes × IsAtEnd new × (opened_job bytes ≡ Err fault)
+IsNoJob old new fault = (bytes : List ℕ) × Consumes old new bytes × IsAtEnd new
+    × (opened_job bytes ≡ Err fault)

@@ -5,7 +5,7 @@ use Rattle.clap.specs.declared.error.kind.ErrorKind.{ErrorKind}
 use Rattle.clap.specs.declared.error.kind.ErrorKind.TheVariants as kind
 use Rattle.clap.specs.Simple.{on_top}
 use Rattle.share_program.specs.declared.order.Order.{Order}
-use Rattle.share_program.specs.declared.order.Order.TheVariants.{Run, Format}
+use Rattle.share_program.specs.declared.order.Order.TheVariants.{Run, Format, Check}
 use Rattle.share_program.specs.declared.order.OrderFault.{OrderFault}
 use Rattle.share_program.specs.declared.order.OrderFault.TheVariants.{Words, Memory}
 use Rattle.std.specs.declared.io.ErrorKind.{ErrorKind as IoErrorKind}
@@ -14,24 +14,35 @@ use Rattle.std.specs.declared.io.ErrorKind.TheVariants.{OutOfMemory}
 -- the program without its commands: one of them has to be named, and all know `--version`
 abbrev pub bare_program : App
 bare_program =
-    on_top (λ s. record s { has_version = true; propagate_version = true; subcommand_required = true; disable_help_subcommand = true })
+    on_top (λ s. record s {
+      has_version = true;
+      propagate_version = true;
+      subcommand_required = true;
+      disable_help_subcommand = true;
+    })
     (new_app (codes "x3d_share"))
 
--- `run` and `format`, without options
+-- `run`, `format` and `check`, without options
 abbrev pub run_app : App
 run_app = new_app (codes "run")
 
 abbrev pub format_app : App
 format_app = new_app (codes "format")
 
+abbrev pub check_app : App
+check_app = new_app (codes "check")
+
 -- the program: each command is added behind those before it
 abbrev pub program : App
-program = with_subcommand (with_subcommand bare_program run_app.top) format_app.top
+program =
+    with_subcommand (with_subcommand (with_subcommand bare_program run_app.top) format_app.top)
+    check_app.top
 
 -- the command of this name with these matches asks for this
 abbrev pub Asks : Order → Text × List Row → Type 0
 Asks Run p = p.0 ≡ codes "run"
 Asks Format p = p.0 ≡ codes "format"
+Asks Check p = p.0 ≡ codes "check"
 
 -- why the process's own words can't be had: memory was refused, or one of them is no text
 abbrev pub order_fault_of : IoErrorKind → OrderFault

@@ -2,7 +2,8 @@
 
 ghost use Rattle.std.specs.Prelude.{◌≡◌, IfOk, Option, length};
 ghost use Rattle.x3d_lists.specs.Answers.{Gives};
-ghost use Rattle.share_program.specs.Job.{clock_time, last_time, is_taken, clock_at, next_input};
+ghost use Rattle.std.specs.Prelude.{◌+ℤ◌, ◌≤ℤ◌, ◌^◌, pos};
+ghost use Rattle.share_program.specs.Job.{clock_time, last_time, is_taken, input_at, next_input};
 ghost use Rattle.share_program.specs.Job.{is_scene, job_lines, IsJob};
 ghost use Rattle.cascade_core.specs.InTurn.{AreInTurn};
 ghost use Rattle.share_program.specs.declared.fault.JobFault.TheVariants.{Memory};
@@ -10,6 +11,7 @@ ghost use Rattle.share_program.specs.declared.fault.JobFault.TheVariants.{Memory
 use crate::fault::JobFault;
 use crate::inputs::Inputs;
 use crate::line::cut_line;
+use crate::point::pointed;
 use std::alloc::Global;
 use x3d_lists::Items;
 use x3d_numerals::millionths;
@@ -40,7 +42,8 @@ fn clock_time(line: &[u8]) -> Option<i64>
 /// The time of the last input, at first 0.
 #[tactic(auto, using(crate::proofs::Passed::passed), unfolding(crate::specs::Job::last_time))]
 fn last_time(inputs: &[Stamped]) -> i64
-    ensures { result ≡ last_time inputs.now }
+    ensures value { result ≡ last_time inputs.now }
+    ensures few { result ≤ℤ pos (10 ^ 18) }
 {
     match inputs.last() {
         Some(input) => input.time(),
@@ -56,15 +59,23 @@ fn is_taken(inputs: &[Stamped], time: i64) -> bool
     inputs.len() < MOST_INPUTS && last_time(inputs) < time && is_input_time(time)
 }
 
+/// The input of this time behind these, if a host would number it.
 #[tactic(auto, using(crate::proofs::Passed::passed))]
-fn clock_at(inputs: &[Stamped], time: i64) -> Option<Stamped>
-    ensures { result ≡ clock_at inputs.now time }
+fn input_at(inputs: &[Stamped], time: i64, event: Event) -> Option<Stamped>
+    ensures { result ≡ input_at inputs.now time event }
 {
     if !is_taken(inputs, time) {
         return None;
     }
     let number = inputs.len() as u32 + 1;
-    Some(Stamped::new(number, time, Event::Clock))
+    Some(Stamped::new(number, time, event))
+}
+
+/// One microsecond after the last input.
+fn time_behind(inputs: &[Stamped]) -> i64
+    ensures { result ≡ last_time inputs.now +ℤ pos 1 }
+{
+    last_time(inputs) + 1
 }
 
 /// The input that a line asks for behind these.
@@ -72,8 +83,11 @@ fn clock_at(inputs: &[Stamped], time: i64) -> Option<Stamped>
 fn next_input(inputs: &[Stamped], line: &[u8]) -> Option<Stamped>
     ensures { result ≡ next_input inputs.now line.now }
 {
-    match clock_time(line) {
-        Some(time) => clock_at(inputs, time),
+    if let Some(time) = clock_time(line) {
+        return input_at(inputs, time, Event::Clock);
+    }
+    match pointed(line) {
+        Some(pointer) => input_at(inputs, time_behind(inputs), Event::Pointer(pointer)),
         None => None,
     }
 }

@@ -2,6 +2,7 @@
 //! refusal prints.
 #![tactic(auto)]
 
+mod check;
 mod fault;
 mod format;
 mod inputs;
@@ -9,11 +10,13 @@ mod job;
 mod line;
 mod open;
 mod order;
+mod point;
 mod refusal;
 mod runs;
 mod stream;
 mod words;
 
+pub use check::check_text;
 pub use fault::{JobFault, RunFault};
 pub use format::format_text;
 pub use inputs::Inputs;

@@ -76,9 +76,12 @@ pub fn open_job(alloc: Global, bytes: &[u8]) -> Result<Job, JobFault>
 
 /// The job that a reader has left, which is read to its end first.
 pub fn read_job<R: Read>(alloc: Global, reader: &mut R) -> Result<Job, JobFault>
-    ensures job { IfOk result (λ j. (bytes : List ℕ) × Consumes (R.remaining reader.old) (R.remaining reader.new) bytes × IsAtEnd (R.remaining reader.new) × (opened_job bytes ≡ Ok j)) }
+    ensures job { IfOk result (λ j. (bytes : List ℕ)
+        × Consumes (R.remaining reader.old) (R.remaining reader.new) bytes
+        × IsAtEnd (R.remaining reader.new) × (opened_job bytes ≡ Ok j)) }
     ensures in_turn { IfOk result (λ j. AreInTurn j.inputs) }
-    ensures refused { IfErr result (λ f. IsDeviceOrMemory f ⊎ IsNoJob (R.remaining reader.old) (R.remaining reader.new) f) }
+    ensures refused { IfErr result (λ f. IsDeviceOrMemory f
+        ⊎ IsNoJob (R.remaining reader.old) (R.remaining reader.new) f) }
 {
     let bytes = read_whole(alloc, reader)?;
     open_job(alloc, bytes.as_slice())

@@ -14,6 +14,8 @@ pub enum Order {
     Run,
     /// `format`: the input is a scene.
     Format,
+    /// `check`: the input is a scene.
+    Check,
 }
 
 /// Why words give no command.

@@ -60,7 +60,12 @@ fn stage_of<B>(
     scripts: Scripts<B>,
     inputs: &Inputs,
 ) -> Result<Stage<B>, RunFault>
-    ensures ok { IfOk result (λ stage. stage ≡ record { scene = scene; routes = routes; held = Running (world scene routes inputs.now) }) }
+    ensures ok { IfOk result (λ stage. stage
+        ≡ record {
+          scene = scene;
+          routes = routes;
+          held = Running (world scene routes inputs.now);
+        }) }
     ensures err { IfErr result (λ f. f ≡ Memory) }
 {
     match cascade_core::run(alloc, scene, routes, scripts, inputs.as_slice()) {
@@ -71,8 +76,10 @@ fn stage_of<B>(
 
 /// Appends the trace and then the scene of a stage.
 fn push_texts<B>(stage: &Stage<B>, out: &mut Vec<u8>) -> Result<(), TextFault>
-    ensures ok { IfRunning stage.now.held (λ w. OnOk result (out.new.items ≡ out.old.items ++ texts stage.now.scene stage.now.routes w)) }
-    ensures memory { IfRunning stage.now.held (λ w. IfErr result (λ fault. fault ≡ TextFault.Memory)) }
+    ensures ok { IfRunning stage.now.held (λ w.
+        OnOk result (out.new.items ≡ out.old.items ++ texts stage.now.scene stage.now.routes w)) }
+    ensures memory { IfRunning stage.now.held (λ w.
+        IfErr result (λ fault. fault ≡ TextFault.Memory)) }
 {
     stage.trace_text(out)?;
     stage.scene_text(out)?;
@@ -82,7 +89,8 @@ fn push_texts<B>(stage: &Stage<B>, out: &mut Vec<u8>) -> Result<(), TextFault>
 /// The trace and then the scene of a stage that isn't spoiled.
 fn texts_of<B>(alloc: Global, stage: &Stage<B>) -> Result<Vec<u8>, RunFault>
     requires { IfSpoiled stage.now.held ⊥ }
-    ensures ok { IfRunning stage.now.held (λ w. IfOk result (λ text. text.items ≡ texts stage.now.scene stage.now.routes w)) }
+    ensures ok { IfRunning stage.now.held (λ w.
+        IfOk result (λ text. text.items ≡ texts stage.now.scene stage.now.routes w)) }
     ensures err { IfErr result (λ f. f ≡ Memory) }
 {
     let mut text = Vec::new(alloc);
@@ -108,16 +116,18 @@ fn text_of<B>(alloc: Global, job: Job, scripts: Scripts<B>) -> Result<Vec<u8>, R
     texts_of(alloc, &stage)
 }
 
-/// Applies the inputs of a job to its scene, and writes the trace and then the scene. Both texts are
-/// made before the first byte is written.
+/// Applies the inputs of a job to its scene, and writes the trace and then the scene. Both texts
+/// are made before the first byte is written.
 pub fn run<B, W: Write>(
     alloc: Global,
     job: Job,
     scripts: Scripts<B>,
     writer: &mut W,
 ) -> Result<(), RunFault>
-    ensures ok { OnOk result (Appends (W.contents writer.old) (W.contents writer.new) (run_text job)) }
-    ensures nothing { IfErr result (λ f. f ≡ Memory → Keeps (W.contents writer.old) (W.contents writer.new)) }
+    ensures ok { OnOk result
+        (Appends (W.contents writer.old) (W.contents writer.new) (run_text job)) }
+    ensures nothing { IfErr result (λ f. f ≡ Memory
+        → Keeps (W.contents writer.old) (W.contents writer.new)) }
 {
     let text = text_of(alloc, job, scripts)?;
     write_whole(writer, text.as_slice())?;
@@ -131,7 +141,8 @@ fn run_read<B, W: Write>(
     scripts: Scripts<B>,
     writer: &mut W,
 ) -> Result<(), Failure>
-    ensures ok { OnOk result (Appends (W.contents writer.old) (W.contents writer.new) (run_text job)) }
+    ensures ok { OnOk result
+        (Appends (W.contents writer.old) (W.contents writer.new) (run_text job)) }
     ensures refused { IfErr result (IsNoRunOf (W.contents writer.old) (W.contents writer.new)) }
 {
     match run(alloc, job, scripts, writer) {

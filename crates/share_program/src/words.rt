@@ -4,7 +4,7 @@ ghost use Rattle.std.specs.Prelude.{◌≡◌, ◌≢◌, ◌⊎◌, map, false}
 ghost use Rattle.std.specs.Prelude.{IfOk, IfErr, IfSome, IfNone, IsSomeAnd};
 ghost use Rattle.clap.specs.Words.{app_of, subcommand_rows_of, kind_of};
 ghost use Rattle.clap.specs.declared.builder.command.Command.TheViews.{out-Command as fields_of};
-ghost use Rattle.share_program.specs.Words.{bare_program, program, run_app, format_app, Means, Asks};
+ghost use Rattle.share_program.specs.Words.{bare_program, program, run_app, format_app, check_app, Means, Asks};
 ghost use Rattle.share_program.specs.Words.{IsText, IsRefusal, AsksForText, AsksOnlyForText};
 ghost use Rattle.share_program.specs.declared.order.OrderFault.TheVariants as fault;
 ghost use Rattle.share_program.specs.declared.order.Order.{Order as OrderOf};
@@ -19,6 +19,7 @@ const AFTER_HELP: &str = "A job or a scene is read from standard input.
 Examples:
   x3d_share run < examples/two-clocks.job
   x3d_share format < examples/lamp.x3dv
+  x3d_share check < examples/lamp.x3dv
 
 Status:
   0  all was done
@@ -56,12 +57,20 @@ fn format_command<'a>(alloc: Global) -> Command<'a>
     Command::new(alloc, "format").about("Print a scene as it is written, one item a line")
 }
 
+fn check_command<'a>(alloc: Global) -> Command<'a>
+    ensures app { app_of result ≡ check_app }
+    ensures local { (fields_of result).has_globals ≡ false }
+{
+    Command::new(alloc, "check").about("Say how many nodes and routes a scene has")
+}
+
 fn program_command<'a>(alloc: Global) -> Result<Command<'a>, AllocError>
     ensures { IfOk result (λ c. app_of c ≡ program) }
 {
     bare_command(alloc)?
         .subcommand(run_command(alloc))?
-        .subcommand(format_command(alloc))
+        .subcommand(format_command(alloc))?
+        .subcommand(check_command(alloc))
 }
 
 fn order_in(matches: &ArgMatches<'_>) -> Option<Order>
@@ -73,6 +82,7 @@ fn order_in(matches: &ArgMatches<'_>) -> Option<Order>
     match name {
         "run" => Some(Order::Run),
         "format" => Some(Order::Format),
+        "check" => Some(Order::Check),
         _ => None,
     }
 }

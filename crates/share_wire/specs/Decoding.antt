@@ -23,7 +23,8 @@ use Rattle.share_wire.specs.Fields.{head_fields, stamp_fields, point_fields, off
 
 -- what is decided next, if there is no fault yet
 infixl 10 ◌>>=◌
-abbrev pub ◌>>=◌ : {A B : Type 0} → Result A WireFault → (A → Result B WireFault) → Result B WireFault
+abbrev pub ◌>>=◌ : {A B : Type 0} → Result A WireFault → (A → Result B WireFault)
+    → Result B WireFault
 (Ok x) >>= f = f x
 (Err e) >>= f = Err e
 
@@ -37,7 +38,8 @@ all_in c bytes = ok_or (whole (c.read bytes)) BadPacket
 
 -- whether each field is in its range, and whether there is a direction
 abbrev pub judged : {A : Type 0} → Bool → Bool → A → Result A WireFault
-judged in_range has_ray x = if in_range then (if has_ray then Ok x else Err ZeroRay) else Err BadRange
+judged in_range has_ray x =
+    if in_range then (if has_ray then Ok x else Err ZeroRay) else Err BadRange
 
 -- ---- the ranges of fields
 

@@ -194,7 +194,10 @@ pub(crate) type HeadFields<'a> = (&'a [u8], (u8, (u8, &'a [u8])));
 
 #[tactic(auto, unfolding(crate::specs::Fields::head_fields))]
 pub(crate) fn head_of(bytes: &[u8]) -> Option<(HeadFields<'_>, &[u8])>
-    ensures value { option_map (λ r. ((r.0.0.now, (r.0.1.0, (r.0.1.1.0, r.0.1.1.1.now))), r.1.now)) result
+    ensures value { option_map (λ r. (
+      (r.0.0.now, (r.0.1.0, (r.0.1.1.0, r.0.1.1.1.now))),
+      r.1.now,
+    )) result
         ≡ head_fields.read bytes.now }
     ensures mark { IfSome result (λ r. length r.0.1.1.1.now ≡ 32) }
 {

@@ -14,8 +14,6 @@ mod message;
 mod offer;
 mod packet;
 mod ranges;
-#[cfg(test)]
-mod tests;
 
 pub use ack::Ack;
 pub use ask::Ask;

@@ -50,7 +50,8 @@ is_positive _ = false
 
 unfoldable pub kept_at : KeptField → List ℕ → Option (Option Value × List ℕ)
 kept_at Absent bytes = Some (None, bytes)
-kept_at Interval bytes = value_at types.SFTime bytes >>? λ x. only_if is_positive x.0 >>? λ v. Some (Some v, x.1)
+kept_at Interval bytes =
+    value_at types.SFTime bytes >>? λ x. only_if is_positive x.0 >>? λ v. Some (Some v, x.1)
 kept_at (Typed t) bytes = value_at t bytes >>? λ x. Some (Some x.0, x.1)
 
 unfoldable pub kept_fits : KeptField → Option Value → Bool

@@ -41,7 +41,8 @@ set_width SixtyFour = w64
 unfoldable pub viewer_set_codec : Viewers → Codec ℕ
 viewer_set_codec viewers = number (set_width viewers)
 
--- ---- a TouchSensor: the viewers over it, and the one that presses it, which is 255 where none does
+-- ---- a TouchSensor: the viewers over it, and the one that presses it, which is 255 where none
+-- does
 
 abbrev pub presser_in : ℕ → ℕ → Option (Option ℕ)
 presser_in count n =
@@ -57,16 +58,20 @@ presser_fits count None = true
 presser_fits count (Some n) = nat_lt n count
 
 unfoldable pub presser_codec : Viewers → Codec (Option ℕ)
-presser_codec viewers = refined (presser_in (viewer_count viewers)) presser_byte (presser_fits (viewer_count viewers)) byte
+presser_codec viewers =
+    refined (presser_in (viewer_count viewers)) presser_byte
+    (presser_fits (viewer_count viewers)) byte
 
 unfoldable pub touch_codec : Viewers → Codec Touch
 touch_codec viewers = named (λ t. record { over = t.0; presser = t.1 }) (λ t. (t.over, t.presser))
     (pair (viewer_set_codec viewers) (presser_codec viewers))
 
--- ---- a sequencer: the position of the value that it sent last, which is 2^32 - 1 where it sent none
+-- ---- a sequencer: the position of the value that it sent last, which is 2^32 - 1 where it sent
+-- none
 
 abbrev pub position_in : ℕ → Option Position
-position_in n = if n == 2 ^ 32 - 1 then Some (record { at = None }) else Some (record { at = Some n })
+position_in n =
+    if n == 2 ^ 32 - 1 then Some (record { at = None }) else Some (record { at = Some n })
 
 abbrev pub place_number : Option ℕ → ℕ
 place_number None = 2 ^ 32 - 1

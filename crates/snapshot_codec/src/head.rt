@@ -59,7 +59,8 @@ pub fn scene_mark(text: &[u8]) -> [u8; 32]
 /// Whether the last 32 bytes are the digest of those before them.
 fn is_sealed(bytes: &[u8]) -> bool
     requires { 32 ≤ length bytes.now }
-    ensures { result ≡ pointwise nat_eq (drop (length bytes.now - 32) bytes.now) (sha256 (unsealed bytes.now)) }
+    ensures { result
+        ≡ pointwise nat_eq (drop (length bytes.now - 32) bytes.now) (sha256 (unsealed bytes.now)) }
 {
     let (body, digest) = bytes.split_at(bytes.len() - 32);
     digest == Sha256::digest(body).as_slice()
@@ -89,7 +90,8 @@ fn head_fault(version: u8, mark: &[u8; 32], bytes: &[u8]) -> Option<HeadFault>
 }
 
 fn opened<'a>(version: u8, mark: &[u8; 32], bytes: &'a [u8]) -> Result<&'a [u8], HeadFault>
-    ensures { result_map_both (λ body. body.now) (λ fault. fault) result ≡ opened version mark.now bytes.now }
+    ensures { result_map_both (λ body. body.now) (λ fault. fault) result
+        ≡ opened version mark.now bytes.now }
 {
     match head_fault(version, mark, bytes) {
         None => Ok(&bytes[37..bytes.len() - 32]),
@@ -105,7 +107,8 @@ pub fn open<'a>(version: u8, mark: &[u8; 32], bytes: &'a [u8]) -> Result<&'a [u8
     ensures only { (body : List ℕ) → 16 ≤ length body → bytes.now ≡ snapshot version mark.now body
         → result_map_both (λ body. body.now) (λ fault. fault) result ≡ Ok body }
     // Which fault it is.
-    ensures exact { result_map_both (λ body. body.now) (λ fault. fault) result ≡ opened version mark.now bytes.now }
+    ensures exact { result_map_both (λ body. body.now) (λ fault. fault) result
+        ≡ opened version mark.now bytes.now }
 {
     opened(version, mark, bytes)
 }

@@ -1,9 +1,10 @@
 //! The parts of a world as bytes, and exactly back: what a snapshot is made of.
 //!
-//! Each part is described once by a codec (`specs/`): which bytes a value is written as, which value
-//! stands at the front of bytes, and which values are read again. The functions named `_of` read the
-//! front of bytes and give what stands behind; those named `push_` append, and leave the buffer as
-//! it was where a growth is refused. `open` tests the head and the digest of a whole snapshot.
+//! Each part is described once by a codec (`specs/`): which bytes a value is written as, which
+//! value stands at the front of bytes, and which values are read again. The functions named `_of`
+//! read the front of bytes and give what stands behind; those named `push_` append, and leave the
+//! buffer as it was where a growth is refused. `open` tests the head and the digest of a whole
+//! snapshot.
 #![tactic(auto)]
 
 mod coded;
@@ -14,8 +15,6 @@ mod kept;
 mod numbers;
 mod parts;
 mod rest;
-#[cfg(test)]
-mod tests;
 mod trace;
 mod value;
 mod vectors;

@@ -35,7 +35,8 @@ pub(crate) fn push_u64(number: u64, out: &mut Vec<u8>) -> Result<(), AllocError>
 
 #[tactic(auto, unfolding(byte_codec::specs::Codec::number_text))]
 pub(crate) fn push_i32(signed: i32, out: &mut Vec<u8>) -> Result<(), AllocError>
-    ensures ok { OnOk result (out.new.items ≡ out.old.items ++ number_text w32 (cast_unsigned w32 signed)) }
+    ensures ok { OnOk result (out.new.items
+        ≡ out.old.items ++ number_text w32 (cast_unsigned w32 signed)) }
     ensures err { OnErr result (out.new.items ≡ out.old.items) }
 {
     out.extend_from_slice(&signed.to_be_bytes())
@@ -43,7 +44,8 @@ pub(crate) fn push_i32(signed: i32, out: &mut Vec<u8>) -> Result<(), AllocError>
 
 #[tactic(auto, unfolding(byte_codec::specs::Codec::number_text))]
 pub(crate) fn push_i64(signed: i64, out: &mut Vec<u8>) -> Result<(), AllocError>
-    ensures ok { OnOk result (out.new.items ≡ out.old.items ++ number_text w64 (cast_unsigned w64 signed)) }
+    ensures ok { OnOk result (out.new.items
+        ≡ out.old.items ++ number_text w64 (cast_unsigned w64 signed)) }
     ensures err { OnErr result (out.new.items ≡ out.old.items) }
 {
     out.extend_from_slice(&signed.to_be_bytes())

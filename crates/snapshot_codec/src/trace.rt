@@ -116,7 +116,8 @@ pub fn entry_of<'a, O: Outputs>(
     outputs: &O,
     bytes: &'a [u8],
 ) -> Result<(TraceEntry, &'a [u8]), PartFault>
-    ensures { Reads (λ x. (x.0, x.1.now)) result ((entry_codec (O.types outputs.now)).read bytes.now) }
+    ensures { Reads (λ x. (x.0, x.1.now)) result
+        ((entry_codec (O.types outputs.now)).read bytes.now) }
 {
     let Some((sent, rest)) = sent_at_of(bytes) else {
         return Err(PartFault::NotCanonical);
@@ -134,7 +135,8 @@ fn entries_of<'a, O: Outputs, T: TakesEntries>(
     taker: &mut T,
 ) -> Result<&'a [u8], PartFault>
     ensures { Reads (λ rest. (T.entries taker.new, rest.now)) result
-        (behind (T.entries taker.old) (many_at (entry_codec (O.types outputs.now)) count bytes.now)) }
+        (behind (T.entries taker.old)
+        (many_at (entry_codec (O.types outputs.now)) count bytes.now)) }
 {
     let mut rest = bytes;
     for _ in 0..count {

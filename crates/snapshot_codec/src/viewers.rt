@@ -53,7 +53,8 @@ pub fn viewer_set_of(viewers: Viewers, bytes: &[u8]) -> Option<(u64, &[u8])>
 /// was.
 #[tactic(auto, unfolding(crate::specs::Parts::viewer_set_codec))]
 pub fn push_viewer_set(viewers: Viewers, set: u64, out: &mut Vec<u8>) -> Result<(), AllocError>
-    ensures ok { OnOk result (out.new.items ≡ out.old.items ++ (viewer_set_codec viewers).write set) }
+    ensures ok { OnOk result (out.new.items
+        ≡ out.old.items ++ (viewer_set_codec viewers).write set) }
     ensures err { OnErr result (out.new.items ≡ out.old.items) }
 {
     match viewers {

@@ -58,7 +58,9 @@ fn is_digits(radix: u32, text: &[u8]) -> bool
 /// text that is no exponent.
 #[tactic(auto, unfolding(crate::specs::Reading::exponent_of))]
 fn cut_exponent(text: &[u8]) -> Option<(bool, &[u8])>
-    ensures { MatchOption result (exponent_of text.now ≡ None) (λ cut. (e : Option Exponent) × (exponent_of text.now ≡ Some e) × (cut.0 ≡ has_minus e) × (cut.1.now ≡ exponent_digits e)) }
+    ensures { MatchOption result (exponent_of text.now ≡ None) (λ cut. (e : Option Exponent)
+        × (exponent_of text.now ≡ Some e) × (cut.0 ≡ has_minus e)
+        × (cut.1.now ≡ exponent_digits e)) }
 {
     match text {
         [] => Some((false, text)),

@@ -8,6 +8,9 @@ use crate::digits::{digit_at, leading, tens};
 /// The largest size, in millionths.
 pub const LIMIT: u64 = 1_000_000_000_000_000_000;
 
+/// How many zeros `LIMIT` has: no number but 0 has more behind it within the limit.
+const MOST_ZEROS: u128 = 18;
+
 /// A number is rounded up from this digit on, and down below it.
 const FIRST_ROUNDED_UP: u8 = b'5';
 
@@ -20,19 +23,19 @@ fn limited(number: u64) -> Option<u64>
 
 /// The number with so many zeros behind it, where that is within the limit.
 fn with_zeros(number: u64, zeros: u128) -> Option<u64>
-    ensures { MatchOption result (LIMIT < number * 10 ^ zeros) (λ n. (n ≡ number * 10 ^ zeros) × (n ≤ LIMIT)) }
+    ensures { MatchOption result (LIMIT < number * 10 ^ zeros) (λ n. (n ≡ number * 10 ^ zeros)
+        × (n ≤ LIMIT)) }
 {
     if number == 0 {
         return Some(0);
     }
-    let mut size = number;
-    for _i in 0..zeros {
-        if size > LIMIT {
-            return None;
-        }
-        size *= 10;
+    if zeros > MOST_ZEROS {
+        return None;
     }
-    if size <= LIMIT { Some(size) } else { None }
+    match number.checked_mul(10u64.pow(zeros as u32)) {
+        Some(size) => limited(size),
+        None => None,
+    }
 }
 
 /// The digits without so many at their end, rounded, where that is within the limit.
@@ -41,7 +44,9 @@ fn without_last(whole: &[u8], fraction: &[u8], dropped: u128) -> Option<u64>
     requires fraction { AllDigits 10 fraction.now }
     requires fits { length whole.now + length fraction.now < 2 ^ 64 }
     requires some { 0 < dropped }
-    ensures { MatchOption result (LIMIT < rounded (digits_value 10 (whole.now ++ fraction.now)) (10 ^ dropped)) (λ n. (n ≡ rounded (digits_value 10 (whole.now ++ fraction.now)) (10 ^ dropped)) × (n ≤ LIMIT)) }
+    ensures { MatchOption result
+        (LIMIT < rounded (digits_value 10 (whole.now ++ fraction.now)) (10 ^ dropped)) (λ n.
+        (n ≡ rounded (digits_value 10 (whole.now ++ fraction.now)) (10 ^ dropped)) × (n ≤ LIMIT)) }
 {
     let digits = whole.len() + fraction.len();
     if dropped > digits as u128 {
@@ -61,7 +66,10 @@ fn shifted(whole: &[u8], fraction: &[u8], up: u128, down: u128) -> Option<u64>
     requires whole { AllDigits 10 whole.now }
     requires fraction { AllDigits 10 fraction.now }
     requires fits { length whole.now + length fraction.now < 2 ^ 64 }
-    ensures { MatchOption result (LIMIT < rounded (digits_value 10 (whole.now ++ fraction.now) * 10 ^ up) (10 ^ down)) (λ n. (n ≡ rounded (digits_value 10 (whole.now ++ fraction.now) * 10 ^ up) (10 ^ down)) × (n ≤ LIMIT)) }
+    ensures { MatchOption result
+        (LIMIT < rounded (digits_value 10 (whole.now ++ fraction.now) * 10 ^ up) (10 ^ down)) (λ n.
+        (n ≡ rounded (digits_value 10 (whole.now ++ fraction.now) * 10 ^ up) (10 ^ down))
+        × (n ≤ LIMIT)) }
 {
     if up < down {
         return without_last(whole, fraction, down - up);
@@ -76,7 +84,9 @@ pub fn size(whole: &[u8], fraction: &[u8], exponent_negative: bool, exponent: &[
     requires fraction { AllDigits 10 fraction.now }
     requires exponent { AllDigits 10 exponent.now }
     requires fits { length whole.now + length fraction.now < 2 ^ 64 }
-    ensures { MatchOption result (LIMIT < scaled whole.now fraction.now exponent_negative exponent.now) (λ n. (n ≡ scaled whole.now fraction.now exponent_negative exponent.now) × (n ≤ LIMIT)) }
+    ensures { MatchOption result
+        (LIMIT < scaled whole.now fraction.now exponent_negative exponent.now) (λ n.
+        (n ≡ scaled whole.now fraction.now exponent_negative exponent.now) × (n ≤ LIMIT)) }
 {
     let e = tens(exponent);
     let behind = fraction.len() as u128;

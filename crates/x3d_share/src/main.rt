@@ -6,8 +6,8 @@ mod tests;
 
 use cascade_core::Scripts;
 use share_program::{
-    Failure, Order, OrderFault, RunFault, StreamFault, command_of, format_text, help_of,
-    refusal_line, run_job, status_of, write_whole,
+    Failure, Order, OrderFault, RunFault, StreamFault, check_text, command_of, format_text,
+    help_of, refusal_line, run_job, status_of, write_whole,
 };
 use std::alloc::{AllocError, Global};
 use std::io;
@@ -41,10 +41,17 @@ fn format_scene<R: AllocGlobal + Input + Print>(rt: &R) -> Result<(), Failure> {
     Ok(())
 }
 
+/// Reads a scene and prints how many nodes and routes it has.
+fn check_scene<R: AllocGlobal + Input + Print>(rt: &R) -> Result<(), Failure> {
+    check_text(rt.alloc(), &mut rt.reader(), &mut io::writer(rt))?;
+    Ok(())
+}
+
 fn obey<R: AllocGlobal + Input + Print>(rt: &R, words: &[&str]) -> Result<(), Failure> {
     match command_of(rt.alloc(), words)? {
         Order::Run => run_own(rt),
         Order::Format => format_scene(rt),
+        Order::Check => check_scene(rt),
     }
 }
 

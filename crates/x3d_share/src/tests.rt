@@ -1,9 +1,13 @@
 //! The worked examples and tables by hand, through the calls that the program makes.
 
+mod checks;
 mod examples;
+mod expanding;
 mod formats;
 mod growths;
+mod hosting;
 mod jobs;
+mod pointers;
 mod reading;
 mod scenes;
 mod texts;

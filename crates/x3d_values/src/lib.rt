@@ -3,10 +3,10 @@
 //!
 //! Of the table: `field_type` and `node_type` are the types with what may be done with them,
 //! `names` their words, `rows` the table itself, `default` what stands where a scene gives nothing,
-//! `table` fields by name and number, `aliases` fields as routes name them, `laws` what holds of all
-//! rows. Of values: `vector` and `value` are the values, `show` their texts, `fields` what a node
-//! keeps, `script` what a scene asks of scripts. Of inputs: `ranges` has the limits, `pointing` rays
-//! and pointers, `stamped` the numbered input.
+//! `table` fields by name and number, `aliases` fields as routes name them, `laws` what holds of
+//! all rows. Of values: `vector` and `value` are the values, `show` their texts, `fields` what a
+//! node keeps, `script` what a scene asks of scripts. Of inputs: `ranges` has the limits,
+//! `pointing` rays and pointers, `stamped` the numbered input.
 #![tactic(auto)]
 
 mod aliases;
@@ -46,8 +46,3 @@ pub use value::{Value, clone_value, empty_value};
 pub use vector::{Color, Vec2, Vec3};
 pub use x3d_lists::{Duplicate, Items, Text};
 pub use x3d_numerals::{NumeralFault, millionths};
-
-#[cfg(test)]
-mod table_tests;
-#[cfg(test)]
-mod tests;

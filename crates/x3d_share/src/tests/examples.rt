@@ -22,7 +22,7 @@ pub(super) fn printed(alloc: Global, job: &[u8]) -> Result<Vec<u8>, Failure> {
 }
 
 /// Each job prints the text beside it.
-fn print(rt: &impl Abort, alloc: Global, jobs: &[(&str, &str)]) {
+pub(super) fn print(rt: &impl Abort, alloc: Global, jobs: &[(&str, &str)]) {
     for (job, wanted) in jobs {
         match printed(alloc, job.as_bytes()) {
             Ok(text) => assert_eq!(rt; text.as_slice(), wanted.as_bytes(), "of {job}"),
@@ -32,7 +32,7 @@ fn print(rt: &impl Abort, alloc: Global, jobs: &[(&str, &str)]) {
 }
 
 /// Each job is refused with that line and that status.
-fn are_refused(rt: &impl Abort, alloc: Global, jobs: &[(&str, &str, u8)]) {
+pub(super) fn are_refused(rt: &impl Abort, alloc: Global, jobs: &[(&str, &str, u8)]) {
     for (job, wanted, status) in jobs {
         match printed(alloc, job.as_bytes()).err() {
             None => assert!(rt; wanted.is_empty(), "no refusal of {job}"),

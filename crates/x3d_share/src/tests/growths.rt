@@ -8,7 +8,7 @@ use classic_tree::write;
 use proto_expand::{ExpandFaultKind, Flat, expand};
 use route_core::{RouteFaultKind, Routes};
 use scene_core::{Scene, SceneFaultKind};
-use share_program::{JobFault, format_text, open_scene};
+use share_program::{JobFault, check_text, format_text, open_scene};
 use std::alloc::Global;
 use std::process::Abort;
 use std::test::Fail;
@@ -19,6 +19,11 @@ const SCENE: &str = "#X3D V3.0 utf8
 DEF T TimeSensor { cycleInterval 2 loop TRUE startTime 1 } DEF B BooleanTrigger {}
 DEF G BooleanToggle {} ROUTE T.cycleTime TO B.set_triggerTime
 ROUTE B.triggerTrue TO G.set_boolean";
+
+const POINTS: &str = "point 0 0 10 0 20 0 0 -1\npoint 0 1 10 0 20 0 0 -1
+point 0 0 10 0 20 0 0 -1\nscene\n#X3D V3.0 utf8
+Transform { translation 10 0 0 scale 2 2 2
+children [ DEF S TouchSensor {} Shape { geometry Box {} } ] }";
 
 /// How often each call is tried.
 const TURNS: usize = 24;
@@ -72,6 +77,20 @@ fn formats(rt: &impl Abort, alloc: Global, spare: usize) -> Result<bool, Fail> {
     let mut out = Vec::with_capacity(alloc, FULL)?;
     let used_up = UsedUp::but_for(alloc, &[spare])?;
     let fault = format_text(alloc, &mut reader, &mut out).err();
+    drop(used_up);
+    let Some(fault) = fault else {
+        return Ok(true);
+    };
+    assert!(rt; fault == JobFault::Memory && out.is_empty());
+    Ok(false)
+}
+
+/// The same of checking a scene by one call.
+fn checks(rt: &impl Abort, alloc: Global, spare: usize) -> Result<bool, Fail> {
+    let mut reader = SCENE.as_bytes();
+    let mut out = Vec::with_capacity(alloc, FULL)?;
+    let used_up = UsedUp::but_for(alloc, &[spare])?;
+    let fault = check_text(alloc, &mut reader, &mut out).err();
     drop(used_up);
     let Some(fault) = fault else {
         return Ok(true);
@@ -277,8 +296,13 @@ fn prints_job(rt: &impl Abort, alloc: Global, job: &[u8], spare: usize) -> bool 
     let Some(failure) = failure else {
         return true;
     };
-    is_said(rt, "the two clocks", &failure, "refused Memory", 5);
+    is_said(rt, "the job", &failure, "refused Memory", 5);
     false
+}
+
+/// The same of a whole job of pointers.
+fn points(rt: &impl Abort, alloc: Global, spare: usize) -> bool {
+    prints_job(rt, alloc, POINTS.as_bytes(), spare)
 }
 
 /// The same of a whole job of two clocks.
@@ -295,6 +319,7 @@ enum Call {
     Read,
     Rewrite,
     Format,
+    Check,
     Expand,
     Build,
     Resolve,
@@ -304,6 +329,7 @@ enum Call {
     Apply,
     Write,
     Print,
+    Point,
 }
 
 fn works(rt: &impl Abort, alloc: Global, call: Call, spare: usize) -> Result<bool, Fail> {
@@ -311,6 +337,7 @@ fn works(rt: &impl Abort, alloc: Global, call: Call, spare: usize) -> Result<boo
         Call::Read => reads(rt, alloc, spare),
         Call::Rewrite => rewrites(rt, alloc, spare),
         Call::Format => formats(rt, alloc, spare),
+        Call::Check => checks(rt, alloc, spare),
         Call::Expand => expands(rt, alloc, spare),
         Call::Build => builds(rt, alloc, spare),
         Call::Resolve => resolves(rt, alloc, spare),
@@ -319,6 +346,7 @@ fn works(rt: &impl Abort, alloc: Global, call: Call, spare: usize) -> Result<boo
         Call::Load => loads(alloc, spare),
         Call::Apply | Call::Write => works_on(rt, alloc, call, spare),
         Call::Print => prints(rt, alloc, spare),
+        Call::Point => Ok(points(rt, alloc, spare)),
     }
 }
 
@@ -350,6 +378,13 @@ fn each_growth_of_reading_is_refused(rt: HostRuntime) -> Result<(), Fail> {
 #[test]
 fn each_growth_of_formatting_is_refused(rt: HostRuntime) -> Result<(), Fail> {
     let refused = refusals(&rt, rt.alloc(), Call::Format, 256)?;
+    assert!(rt; refused > 5, "{refused}");
+    Ok(())
+}
+
+#[test]
+fn each_growth_of_checking_is_refused(rt: HostRuntime) -> Result<(), Fail> {
+    let refused = refusals(&rt, rt.alloc(), Call::Check, 256)?;
     assert!(rt; refused > 5, "{refused}");
     Ok(())
 }
@@ -398,6 +433,13 @@ fn each_growth_of_the_texts_is_refused(rt: HostRuntime) -> Result<(), Fail> {
 #[test]
 fn each_growth_of_a_job_is_refused(rt: HostRuntime) -> Result<(), Fail> {
     let refused = refusals(&rt, rt.alloc(), Call::Print, 512)?;
+    assert!(rt; refused > 5, "{refused}");
+    Ok(())
+}
+
+#[test]
+fn each_growth_of_a_job_of_pointers_is_refused(rt: HostRuntime) -> Result<(), Fail> {
+    let refused = refusals(&rt, rt.alloc(), Call::Point, 512)?;
     assert!(rt; refused > 5, "{refused}");
     Ok(())
 }

@@ -44,7 +44,7 @@ const BAD_JOBS: [(&str, u32); 32] = [
     ("clock 1\nscene \n", 2),
     ("clock 1\n scene\n", 2),
     ("clock 1\nScene\n", 2),
-    ("clock 1\npoint 0 1 0 0 5 0 0 -1\nscene\n", 2),
+    ("clock 1\npoint 0 1 0 0 5 0 0\nscene\n", 2),
     ("clock 1\n#\nscene\n", 2),
 ];
 
@@ -251,6 +251,7 @@ fn words_are_commands(rt: HostRuntime) {
     is_command(&rt, rt.alloc(), &["x3d_share", "run"], Ok(Order::Run));
     is_command(&rt, rt.alloc(), &["./other", "run"], Ok(Order::Run));
     is_command(&rt, rt.alloc(), &["x3d_share", "format"], Ok(Order::Format));
+    is_command(&rt, rt.alloc(), &["x3d_share", "check"], Ok(Order::Check));
     is_command(&rt, rt.alloc(), &[], Err(OrderFault::Words));
     is_command(&rt, rt.alloc(), &["x3d_share"], Err(OrderFault::Words));
     is_command(

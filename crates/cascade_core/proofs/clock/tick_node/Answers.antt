@@ -2,6 +2,7 @@ use Rattle.std.proofs.Common.{◌∙◌}
 use Rattle.scene_core.specs.Scene.{types_of}
 use Rattle.cascade_core.specs.Answers.{ticked, with_answer}
 use Rattle.cascade_core.specs.Apply.{tick_node}
+use Rattle.cascade_core.proofs.Shown.{ticked-fields}
 use Rattle.cascade_core.proofs.Tasks.{finish-all, ticked-ready}
 use Rattle.cascade_core.proofs.clock.tick_node.Goals as goal
 
@@ -11,6 +12,7 @@ run_tasks-requires c = record {
   ready =
       rw (c.in_ok-push_replies.ensures.tasks, c.requires.empty, c.tick.ensures.replies)
       (ticked-ready (types_of c.args.scene.now) c.args.turn.now.world c.args.node c.args.input.now.time c.requires.clock);
+  boxes = rw (c.tick.ensures.world, ticked-fields c.args.turn.now.world c.args.node c.args.input.now.time) c.requires.boxes;
 }
 
 pub returns-clause-turn : goal.returns-clause-turn

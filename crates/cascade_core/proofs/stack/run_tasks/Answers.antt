@@ -22,6 +22,7 @@ pub loop-task-preserved : goal.loop-task-preserved
 loop-task-preserved c = record {
   none = c.in_ok-step.ensures.none;
   ready = c.in_ok-step.ensures.ready;
+  boxes = c.in_ok-step.ensures.boxes;
   done =
       c.in_ok-step.ensures.done
       ∙ sym (finish-push (types_of c.args.scene.now) c.args.routes.now c.loop-task.turn c.pop.new.self.items c.in-Some.task)

@@ -1,0 +1,24 @@
+//! What a stage works with beside its world.
+
+use crate::stack::Task;
+use pick_core::BoxCache;
+
+/// What a stage works with beside its world; no world depends on it.
+#[derive(Drop)]
+pub struct Bench {
+    /// What is still to be done.
+    pub tasks: Vec<Task>,
+    /// The sensors that a viewer presses, while it points.
+    pub pressed: Vec<u32>,
+    /// The boxes of the scene as its nodes are now.
+    pub boxes: BoxCache,
+}
+
+/// The sensors of a scene by their numbers, in order.
+#[derive(Drop)]
+pub struct Sensors {
+    /// The TimeSensors.
+    pub clocks: Vec<u32>,
+    /// The TouchSensors.
+    pub touches: Vec<u32>,
+}

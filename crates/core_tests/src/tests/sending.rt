@@ -1,0 +1,63 @@
+//! Values by one plain part, and what a node sends as text.
+
+use react_core::{Outbox, Reply};
+use std::alloc::{AllocError, Global};
+use x3d_values::{Fields, Items, Position, Value, show_value};
+
+/// A value of one part.
+#[derive(Clone, Copy)]
+pub enum Given {
+    Truth(bool),
+    Float(i64),
+    Int32(i32),
+    Time(i64),
+    NoNode,
+}
+
+pub fn value_of(given: Given) -> Value {
+    match given {
+        Given::Truth(truth) => Value::SFBool(truth),
+        Given::Float(number) => Value::SFFloat(number),
+        Given::Int32(number) => Value::SFInt32(number),
+        Given::Time(time) => Value::SFTime(time),
+        Given::NoNode => Value::SFNode(None),
+    }
+}
+
+/// A node that holds nothing, with so many fields.
+pub fn fields(alloc: Global, count: usize) -> Result<Fields, AllocError> {
+    let mut values = Items::new(alloc);
+    for _ in 0..count {
+        values.push(None)?;
+    }
+    Ok(Fields {
+        values,
+        position: Position { at: None },
+    })
+}
+
+/// The field and the value of each reply, in order.
+pub fn outbox_text(alloc: Global, out: &Outbox) -> Result<Vec<u8>, AllocError> {
+    let mut text = Vec::new(alloc);
+    for reply in out {
+        push_reply(reply, &mut text)?;
+    }
+    Ok(text)
+}
+
+fn push_reply(reply: &Reply, text: &mut Vec<u8>) -> Result<(), AllocError> {
+    show_value(&Value::SFInt32(i32::from(reply.field)), text)?;
+    text.push(b' ')?;
+    show_value(&reply.value, text)?;
+    text.push(b';')?;
+    Ok(())
+}
+
+/// The text of what a node keeps under a field's number, and nothing for none.
+pub fn kept_text(alloc: Global, node: &Fields, field: u16) -> Result<Vec<u8>, AllocError> {
+    let mut text = Vec::new(alloc);
+    if let Some(value) = node.value(field) {
+        show_value(value, &mut text)?;
+    }
+    Ok(text)
+}

@@ -1,0 +1,4 @@
+pub mod Equations
+pub mod Moves
+pub mod Refusals
+pub mod Sights

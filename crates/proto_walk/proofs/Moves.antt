@@ -1,0 +1,347 @@
+-- What a step has to show, by what it changes.
+use Rattle.std.proofs.Math.Path.{fun_ext}
+use Rattle.std.proofs.Common.{if◌then◌else◌, ◌-◌, true, false, Bor, Option, Some, None, ◌≡◌, ℕ, ◌≤◌, List, [], ◌∷◌, ◌++◌, reverse, length, length-append, Ok, Err, ap, sym, ◌∙◌, arith, refl, inl, inr, Result}
+use Rattle.classic_tree.specs.declared.tree.RawValue.{RawValue}
+use Rattle.classic_tree.specs.declared.tree.RawValue.TheVariants as value
+use Rattle.classic_tree.specs.declared.tree.Declaration.{Declaration}
+use Rattle.classic_tree.specs.declared.tree.BodyItem.{BodyItem}
+use Rattle.classic_tree.specs.declared.tree.BodyItem.TheVariants as item
+use Rattle.classic_tree.specs.declared.tree.NodeText.{NodeText}
+use Rattle.classic_tree.specs.declared.tree.Statement.{Statement}
+use Rattle.classic_tree.specs.declared.tree.Statement.TheVariants as statement
+use Rattle.classic_tree.specs.declared.tree.ProtoText.{ProtoText, out-ProtoText}
+use Rattle.flat_document.specs.declared.fault.ExpandFault.{ExpandFault}
+use Rattle.proto_walk.specs.declared.held.GivenField.{GivenField}
+use Rattle.proto_walk.specs.declared.frames.Link.{Link}
+use Rattle.proto_walk.specs.declared.frames.Frame.{Frame}
+use Rattle.proto_walk.specs.declared.frames.Task.{Task}
+use Rattle.proto_walk.specs.declared.frames.Task.TheVariants as task
+use Rattle.proto_walk.specs.declared.frames.Walker.{Walker}
+use Rattle.proto_walk.specs.declared.frames.Filling.{Filling}
+use Rattle.proto_walk.specs.declared.frames.Open.{Open}
+use Rattle.proto_walk.specs.declared.frames.Listing.{Listing}
+use Rattle.proto_walk.specs.declared.frames.Body.{Body}
+use Rattle.proto_walk.specs.Fields.{signatures}
+use Rattle.proto_walk.specs.Machine.{keep, Sight, Bound, Walk, Machine, Outcome, through, and_then, ◌>>=◌, pure, label, know, no_names, definition, Does}
+use Rattle.proto_walk.specs.Limits.{count_items, item_count}
+use Rattle.proto_walk.specs.Meaning.{Place, is_wanted, add_default_value, within as inside_of, begin_body, add_default, add_defaults, add_new, add_taken, is_taken, add_joined, hand_on, body_of, item_does, numbered, add_number, back, close_instance, hold, in_body, leave, meaning_of, node_does, proto_does, statement_does, with_field}
+use Rattle.proto_walk.specs.Frames.{place_of, fill, owner_in, seen_in, value_does, names_of, bound_of, close_with, body_does, open_does, list_does, in_sight, sight_of, frame_does, frames_do, task_sight, task_does, task_comes, rest_does, comes_to, shown, AllSee, Holds, Fits, Goes, Keeps, Steps, Ends}
+use Rattle.proto_walk.proofs.Equations.{item_does-proto, and_then-congr, body_map, statement_does-node, statement_does-proto}
+use Rattle.proto_walk.proofs.Sights.{reverse-snoc, frames-more, in_sight-more}
+
+pub and_then-assoc : {A B C : Type 0} (o : Outcome A) (f : A → Machine B) (g : B → Machine C) → and_then (and_then o f) g ≡ and_then o (λ a w. and_then (f a w) g)
+and_then-assoc (Ok p) f g = refl
+and_then-assoc (Err e) f g = refl
+
+abbrev most : Walker → ℕ
+most walker = length walker.links.items
+
+see-push : (n : ℕ) (fs : List Frame) (f : Frame) → sight_of f ≤ n → AllSee n (reverse fs) → AllSee n (reverse (fs ++ f ∷ []))
+unfolding AllSee
+see-push n fs f h k = rw (reverse-snoc fs f) (h, k)
+
+-- frames and links stay
+pub stays : {o : Outcome ℕ} {old new : Walker} {next : Task} → Holds old → new.links.items ≡ old.links.items → new.frames.items ≡ old.frames.items →
+    new.scope.sight ≤ most old → task_sight next ≤ most old → o ≡ task_comes new next → Goes o old new next
+unfolding comes_to
+stays {o} {old} {new} {next} h links frames scope sees is = record {
+  same = rw (is, links, frames) refl;
+  fits = record {
+    holds = record { linked = rw links h.linked; scope = rw links scope; frames = rw (links, frames) h.frames };
+    task = rw links sees;
+  };
+}
+
+frames-snoc : (links : List Link) (fs : List Frame) (f : Frame) (n : ℕ) (w : Walk) → frames_do links (reverse (fs ++ f ∷ [])) n w ≡ and_then (frame_does (in_sight links (sight_of f)) f n w) (frames_do links (reverse fs))
+unfolding frames_do
+frames-snoc links fs f n w = ap (λ gs. frames_do links gs n w) (reverse-snoc fs f)
+
+-- a frame more, which waits for what the task gives
+pub pushes : {o : Outcome ℕ} {old new : Walker} {next : Task} (f : Frame) → Holds old → new.links.items ≡ old.links.items → new.frames.items ≡ old.frames.items ++ f ∷ [] →
+    new.scope.sight ≤ most old → sight_of f ≤ most old → task_sight next ≤ most old →
+    o ≡ and_then (task_comes new next) (frame_does (in_sight old.links.items (sight_of f)) f) → Goes o old new next
+unfolding comes_to
+pushes {o} {old} {new} {next} f h links frames scope waits sees is = record {
+  same =
+      ap (λ out. and_then out (rest_does old)) is
+      ∙ and_then-assoc (task_comes new next) (frame_does (in_sight old.links.items (sight_of f)) f) (rest_does old)
+      ∙ and_then-congr
+      (λ n w. and_then (frame_does (in_sight old.links.items (sight_of f)) f n w) (rest_does old))
+      (rest_does new)
+      (λ n w. sym (ap (λ (ls : List Link). frames_do ls (reverse new.frames.items) n w) links ∙ ap (λ (fs : List Frame). frames_do old.links.items (reverse fs) n w) frames ∙ frames-snoc old.links.items old.frames.items f n w))
+      (task_comes new next);
+  fits = record {
+    holds = record { linked = rw links h.linked; scope = rw links scope; frames = rw (links, frames) (see-push (most old) old.frames.items f waits h.frames) };
+    task = rw links sees;
+  };
+}
+
+-- a link more
+pub declares : {o : Outcome ℕ} {old new : Walker} {next : Task} (l : Link) → Holds old → Holds new → new.links.items ≡ old.links.items ++ l ∷ [] → new.frames.items ≡ old.frames.items →
+    task_sight next ≤ most old → o ≡ task_does (in_sight old.links.items (task_sight next)) next (shown new) → Goes o old new next
+unfolding comes_to
+declares {o} {old} {new} {next} l h k links frames sees is = record {
+  same =
+      ap (λ out. and_then out (rest_does old)) (is ∙ ap (λ ps. task_does ps next (shown new)) (sym (ap (λ (ls : List Link). in_sight ls (task_sight next)) links ∙ in_sight-more old.links.items l (task_sight next) sees)))
+      ∙ and_then-congr (rest_does old) (rest_does new)
+      (λ n w. sym (ap (λ (ls : List Link). frames_do ls (reverse new.frames.items) n w) links ∙ ap (λ (fs : List Frame). frames_do (old.links.items ++ l ∷ []) (reverse fs) n w) frames ∙ frames-more old.links.items l (reverse old.frames.items) n w h.frames))
+      (task_comes new next);
+  fits = record { holds = k; task = rw links (omega (arith, sees, length-append old.links.items (l ∷ []))) };
+}
+
+-- ---- from a step on the task alone to one on the whole
+
+pub wholly : (old : Walker) (t : Task) (result : Result Task ExpandFault) (new : Walker) → Keeps (task_comes old t) old result new → Steps (comes_to old t) result new
+unfolding comes_to
+wholly old t (Ok next) new k = (k.same, k.fits)
+wholly old t (Err e) new (inl m) = inl m
+wholly old t (Err e) new (inr is) = inr (ap (λ o. and_then o (rest_does old)) is)
+
+number-comes : (old : Walker) (n : ℕ) → task_comes old (task.Number n) ≡ Ok (n, shown old)
+unfolding task_does
+number-comes old n = refl
+
+-- the last frame has the number
+given-whole : (old popped : Walker) (f : Frame) (n : ℕ) → popped.links.items ≡ old.links.items → shown popped ≡ shown old → old.frames.items ≡ popped.frames.items ++ f ∷ [] →
+    comes_to old (task.Number n) ≡ and_then (frame_does (in_sight popped.links.items (sight_of f)) f n (shown popped)) (rest_does popped)
+unfolding comes_to
+given-whole old popped f n links show frames =
+    ap (λ o. and_then o (rest_does old)) (number-comes old n)
+    ∙ ap (λ (fs : List Frame). frames_do old.links.items (reverse fs) n (shown old)) frames
+    ∙ frames-snoc old.links.items popped.frames.items f n (shown old)
+    ∙ ap (λ (w : Walk). and_then (frame_does (in_sight old.links.items (sight_of f)) f n w) (frames_do old.links.items (reverse popped.frames.items))) (sym show)
+    ∙ ap (λ (ls : List Link). and_then (frame_does (in_sight ls (sight_of f)) f n (shown popped)) (frames_do ls (reverse popped.frames.items))) (sym links)
+
+pub given : (old popped : Walker) (f : Frame) (n : ℕ) (result : Result Task ExpandFault) (new : Walker) → popped.links.items ≡ old.links.items → shown popped ≡ shown old →
+    old.frames.items ≡ popped.frames.items ++ f ∷ [] → Keeps (frame_does (in_sight popped.links.items (sight_of f)) f n (shown popped)) popped result new → Steps (comes_to old (task.Number n)) result new
+given old popped f n (Ok next) new links show frames k = (given-whole old popped f n links show frames ∙ k.same, k.fits)
+given old popped f n (Err e) new links show frames (inl m) = inl m
+given old popped f n (Err e) new links show frames (inr is) = inr (given-whole old popped f n links show frames ∙ ap (λ o. and_then o (rest_does popped)) is)
+
+-- below the last frame all is seen too
+see-pop : (n : ℕ) (fs : List Frame) (f : Frame) → AllSee n (reverse (fs ++ f ∷ [])) → (sight_of f ≤ n) × AllSee n (reverse fs)
+unfolding AllSee
+see-pop n fs f h = rw (reverse-snoc fs f) at h
+
+pub popped-holds : (old popped : Walker) (f : Frame) → Holds old → popped.links.items ≡ old.links.items → popped.scope.sight ≡ old.scope.sight → old.frames.items ≡ popped.frames.items ++ f ∷ [] →
+    Holds popped × (sight_of f ≤ most popped)
+popped-holds old popped f h links scope frames =
+    let k : (sight_of f ≤ most old) × AllSee (most old) (reverse popped.frames.items) = see-pop (most old) popped.frames.items f (rw frames at h.frames) in
+    (record { linked = rw links h.linked; scope = rw (links, scope) h.scope; frames = rw links k.1 }, rw links k.0)
+
+-- ---- the default values of an instance begin
+
+abbrev statements_of : ProtoText → Machine (Option ℕ)
+statements_of p = through (λ s. in_body (statement_does s)) (out-ProtoText p).body None
+
+abbrev defaults_from : ProtoText → Option ℕ → List (Declaration NodeText) → List GivenField → Machine (List GivenField)
+defaults_from p around ds = add_defaults node_does (place_of p around) (length (out-ProtoText p).interface) ds
+
+abbrev after : Option (List ℕ) → ℕ → ℕ → Machine ℕ
+after name at n = label name n >>= λ m. know name at m
+
+pub opens : (walker new : Walker) (p : Bor ProtoText) (around : Option ℕ) (opened o : Open) (f : Filling) → new.store ≡ walker.store → new.declarations ≡ walker.declarations → new.links.items ≡ walker.links.items →
+    names_of new.scope ≡ no_names → new.scope.sight ≡ opened.sight → new.scope.given ≡ [] → new.scope.interface.now ≡ [] → new.scope.inside ≡ body_of (definition (shown walker).declared around (out-ProtoText p.now).name) →
+    f.proto ≡ p → f.within ≡ around → f.rest.now ≡ (out-ProtoText p.now).interface → f.outer ≡ walker.scope →
+    o.name.now ≡ opened.name.now → o.at ≡ opened.at → o.fields ≡ opened.fields → o.sight ≡ walker.scope.sight → o.filling ≡ Some f →
+    close_instance opened.name.now opened.at (bound_of p.now around (in_sight walker.links.items opened.sight)) opened.fields (shown walker) ≡ task_comes new (task.Items o)
+unfolding close_instance meaning_of task_does open_does
+opens walker new p around opened o f store declarations links names sight given interface inside proto within rest outer name at fields seen filling =
+    rw (filling, store, declarations, links, names, sight, given, interface, inside, proto, within, rest, outer, name, at, fields, seen)
+    (ap (λ (m : Machine (Option ℕ)). and_then (back (seen_in walker.scope (in_sight walker.links.items walker.scope.sight)) (leave (out-ProtoText p.now).line
+    (and_then (defaults_from p.now around (out-ProtoText p.now).interface opened.fields
+    (inside_of (in_sight walker.links.items opened.sight) (body_of (definition (shown walker).declared around (out-ProtoText p.now).name)) walker.store (shown walker).declared))
+    (begin_body (signatures (out-ProtoText p.now).interface) m)))) (after opened.name.now opened.at))
+    (fun_ext (λ w. body_map (out-ProtoText p.now).body None w)))
+
+-- ---- the next node of a list
+
+pub list-next : (ps : List Bound) (opened : Open) (listing next : Listing) (node : NodeText) (numbers : List ℕ) (w : Walk) → listing.rest.now ≡ node ∷ next.rest.now → next.line ≡ listing.line → next.field ≡ listing.field →
+    list_does ps opened listing numbers w ≡ and_then (node_does node w) (λ k. list_does ps opened next (numbers ++ k ∷ []))
+unfolding list_does
+list-next ps opened listing next node numbers w rest line field =
+    rw (rest, line, field)
+    (and_then-assoc (add_number node_does node numbers w) (λ ns. through (add_number node_does) next.rest.now ns) (λ ns. value_does ps opened listing.line listing.field (value.NodeList ns))
+    ∙ and_then-assoc (node_does node w) (λ k. pure (numbers ++ k ∷ [])) (λ ns v. and_then (through (add_number node_does) next.rest.now ns v) (λ ms. value_does ps opened listing.line listing.field (value.NodeList ms))))
+
+-- ---- the next statement of a body
+
+leave-later : {A : Type 0} (sight : Sight) (line : ℕ) (k : ℕ → Machine ℕ) (o : Outcome A) (f : A → Machine (Option ℕ)) →
+    and_then (back sight (leave line (and_then o f))) k ≡ and_then o (λ a v. and_then (back sight (leave line (f a v))) k)
+leave-later sight line k (Ok p) f = refl
+leave-later sight line k (Err e) f = refl
+
+-- ---- the next default value of an instance
+
+pub fill-next : (ps : List Bound) (opened next : Open) (f g : Filling) (d : Declaration NodeText) (fields : List GivenField) (w : Walk) → f.rest.now ≡ d ∷ g.rest.now → g.proto ≡ f.proto → g.within ≡ f.within → g.outer ≡ f.outer →
+    next ≡ record opened { filling = Some g } →
+    fill ps opened f fields w ≡ and_then (add_default node_does (place_of f.proto.now f.within) (length (out-ProtoText f.proto.now).interface - length (d ∷ g.rest.now)) d fields w) (open_does ps next)
+unfolding open_does
+fill-next ps opened next f g d fields w rest proto within outer is =
+    rw (is, rest, proto, within, outer)
+    (ap (λ o. and_then (back (seen_in f.outer ps) (leave (out-ProtoText f.proto.now).line o)) (after opened.name.now opened.at))
+    (and_then-assoc (add_default node_does (place_of f.proto.now f.within) (length (out-ProtoText f.proto.now).interface - length (d ∷ g.rest.now)) d fields w)
+    (λ fs. defaults_from f.proto.now f.within g.rest.now fs) (begin_body (signatures (out-ProtoText f.proto.now).interface) (statements_of f.proto.now)))
+    ∙ leave-later (seen_in f.outer ps) (out-ProtoText f.proto.now).line (after opened.name.now opened.at)
+    (add_default node_does (place_of f.proto.now f.within) (length (out-ProtoText f.proto.now).interface - length (d ∷ g.rest.now)) d fields w)
+    (λ fs v. and_then (defaults_from f.proto.now f.within g.rest.now fs v) (begin_body (signatures (out-ProtoText f.proto.now).interface) (statements_of f.proto.now))))
+
+pub fill-last : (walker new : Walker) (opened : Open) (f : Filling) (i : Bor (List (Declaration NodeText))) (b : Body) → f.rest.now ≡ [] → new.store ≡ walker.store → new.declarations ≡ walker.declarations → new.links.items ≡ walker.links.items →
+    new.scope ≡ record walker.scope { given = opened.fields; interface = i } → i.now ≡ (out-ProtoText f.proto.now).interface →
+    b.line ≡ (out-ProtoText f.proto.now).line → b.name.now ≡ opened.name.now → b.at ≡ opened.at → b.rest.now ≡ (out-ProtoText f.proto.now).body → b.first ≡ None → b.outer ≡ record f.outer { sight = opened.sight } →
+    fill (in_sight walker.links.items opened.sight) opened f opened.fields (shown walker) ≡ task_comes new (task.Statements b)
+unfolding task_does body_does names_of
+fill-last walker new opened f i b rest store declarations links scope interface line name at body first outer =
+    rw (rest, store, declarations, links, scope, interface, line, name, at, body, first, outer) refl
+
+abbrev AreSame : Body → Body → Type 0
+AreSame b next = (next.line ≡ b.line) × (next.name.now ≡ b.name.now) × (next.at ≡ b.at) × (next.outer ≡ b.outer)
+
+pub body-node : (ps : List Bound) (b next : Body) (node : NodeText) (first : Option ℕ) (w : Walk) → b.rest.now ≡ statement.Node node ∷ next.rest.now → AreSame b next →
+    body_does ps b first w ≡ and_then (node_does node w) (λ k. hold first (Some k) >>= λ f. body_does ps next f)
+unfolding body_does
+body-node ps b next node first w rest same =
+    rw (rest, same.0, same.1, same.2, same.3, statement_does-node node w)
+    (ap (λ o. and_then (back (seen_in b.outer ps) (leave b.line o)) (λ n. label b.name.now n >>= λ m. know b.name.now b.at m))
+    (and_then-assoc (and_then (node_does node w) (λ n. pure (Some n))) (hold first) (λ f. through (λ s. in_body (statement_does s)) next.rest.now f)
+    ∙ and_then-assoc (node_does node w) (λ n. pure (Some n)) (λ a v. and_then (hold first a v) (λ f. through (λ s. in_body (statement_does s)) next.rest.now f)))
+    ∙ leave-later (seen_in b.outer ps) b.line (λ n. label b.name.now n >>= λ m. know b.name.now b.at m) (node_does node w)
+    (λ k v. and_then (hold first (Some k) v) (λ f. through (λ s. in_body (statement_does s)) next.rest.now f))
+    ∙ and_then-congr _ _ (λ k v. leave-later (seen_in b.outer ps) b.line (λ n. label b.name.now n >>= λ m. know b.name.now b.at m) (hold first (Some k) v) (λ f. through (λ s. in_body (statement_does s)) next.rest.now f)) (node_does node w))
+
+pub body-proto : (ps : List Bound) (b next : Body) (proto : ProtoText) (first : Option ℕ) (w v : Walk) → b.rest.now ≡ statement.Proto proto ∷ next.rest.now → AreSame b next → proto_does proto w ≡ Ok (tt, v) →
+    body_does ps b first w ≡ body_does ps next first v
+unfolding body_does
+body-proto ps b next proto first w v rest same is = rw (rest, same.0, same.1, same.2, same.3, statement_does-proto proto w, is) refl
+
+pub body-refused : (ps : List Bound) (b : Body) (proto : ProtoText) (more : List Statement) (first : Option ℕ) (w : Walk) (e : ExpandFault) → b.rest.now ≡ statement.Proto proto ∷ more → proto_does proto w ≡ Err e →
+    body_does ps b first w ≡ Err e
+unfolding body_does
+body-refused ps b proto more first w e rest is = rw (rest, statement_does-proto proto w, is) refl
+
+-- ---- the next item between braces
+
+pub open-next : (ps : List Bound) (opened : Open) (rest : Bor (List BodyItem)) (it : BodyItem) (fields : List GivenField) (w : Walk) → opened.filling ≡ None → opened.rest.now ≡ it ∷ rest.now →
+    open_does ps opened fields w ≡ and_then (item_does it (owner_in opened.owner) fields w) (open_does ps (record opened { rest = rest }))
+unfolding open_does
+open-next ps opened rest it fields w none is =
+    rw (none, is) (and_then-assoc (item_does it (owner_in opened.owner) fields w) (λ fs. through (λ i. item_does i (owner_in opened.owner)) rest.now fs) (λ fs. close_with ps opened fs))
+
+pub open-last : (ps : List Bound) (opened : Open) (fields : List GivenField) (w : Walk) → opened.filling ≡ None → opened.rest.now ≡ [] → open_does ps opened fields w ≡ close_with ps opened fields w
+unfolding open_does
+open-last ps opened fields w none is = rw (none, is) refl
+
+pub item-proto : (ps : List Bound) (opened : Open) (it : BodyItem) (p : ProtoText) (w v : Walk) → it ≡ item.Proto p → proto_does p w ≡ Ok (tt, v) →
+    and_then (item_does it (owner_in opened.owner) opened.fields w) (open_does ps opened) ≡ open_does ps opened opened.fields v
+item-proto ps opened it p w v is does =
+    ap (λ i. and_then (item_does i (owner_in opened.owner) opened.fields w) (open_does ps opened)) is
+    ∙ ap (λ o. and_then o (open_does ps opened)) (item_does-proto p (owner_in opened.owner) opened.fields w ∙ ap (λ o. and_then o (λ _. pure opened.fields)) does)
+
+pub list-last : (ps : List Bound) (opened : Open) (listing : Listing) (numbers : List ℕ) (w : Walk) → listing.rest.now ≡ [] →
+    list_does ps opened listing numbers w ≡ value_does ps opened listing.line listing.field (value.NodeList numbers) w
+unfolding list_does
+list-last ps opened listing numbers w is = rw is refl
+
+-- with other fields, an open node does what it does with these
+pub fields-in : (links : List Link) (opened next : Open) (fields : List GivenField) (w : Walk) → next ≡ record opened { fields = fields } →
+    open_does (in_sight links opened.sight) opened fields w ≡ open_does (in_sight links next.sight) next next.fields w
+unfolding open_does
+fields-in links opened next fields w is = rw is refl
+
+pub fields-by : (links : List Link) (opened next : Open) (fields : List GivenField) (w : Walk) → next ≡ record opened { fields = fields } → open_does (in_sight links opened.sight) opened fields w ≡ open_does (in_sight links next.sight) next fields w
+unfolding open_does
+fields-by links opened next fields w is = rw is refl
+
+-- a value is kept, and the field has it
+pub kept : (links : List Link) (opened next : Open) (line number n : ℕ) (v : RawValue ℕ) (w u : Walk) → keep v w ≡ Ok (n, u) → next ≡ record opened { fields = with_field line number opened.fields (Some n) } →
+    value_does (in_sight links opened.sight) opened line number v w ≡ open_does (in_sight links next.sight) next next.fields u
+unfolding value_does
+kept links opened next line number n v w u keeps is = ap (λ o. and_then o (λ k. open_does (in_sight links opened.sight) opened (with_field line number opened.fields (Some k)))) keeps ∙ fields-in links opened next (with_field line number opened.fields (Some n)) u is
+
+pub keeps-as : (o other : Outcome ℕ) (old : Walker) (result : Result Task ExpandFault) (new : Walker) → o ≡ other → Keeps other old result new → Keeps o old result new
+keeps-as o other old result new is k = rw is k
+
+pub value-node : (node : NodeText) (w : Walk) (f : RawValue ℕ → Machine ℕ) → and_then (numbered node_does (value.Node node) w) f ≡ and_then (node_does node w) (λ n. f (value.Node n))
+value-node node w f = and_then-assoc (node_does node w) (λ n. pure (value.Node n)) f
+
+pub value-nodes : (nodes : List NodeText) (w : Walk) (f : RawValue ℕ → Machine ℕ) → and_then (numbered node_does (value.NodeList nodes) w) f ≡ and_then (through (add_number node_does) nodes [] w) (λ ns. f (value.NodeList ns))
+value-nodes nodes w f = and_then-assoc (through (add_number node_does) nodes [] w) (λ ns. pure (value.NodeList ns)) f
+
+-- ---- the walk as a whole
+
+pub unmoved : (old new : Walker) (t next : Task) → Fits old t → t ≡ next → new.links.items ≡ old.links.items → new.frames.items ≡ old.frames.items → shown new ≡ shown old → new.scope.sight ≡ old.scope.sight →
+    (comes_to old t ≡ comes_to new next) × Fits new next
+unfolding comes_to
+unmoved old new t next h is links frames show sight = (
+  rw (show, sym is, links, frames) refl,
+  record { holds = record { linked = rw links h.holds.linked; scope = rw (links, sight) h.holds.scope; frames = rw (links, frames) h.holds.frames }; task = rw (sym is, links) h.task },
+)
+
+pub all-done : (walker : Walker) (t : Task) (n : ℕ) → t ≡ task.Number n → walker.frames.items ≡ [] → comes_to walker t ≡ Ok (n, shown walker)
+unfolding comes_to task_does frames_do
+all-done walker t n is none = rw (is, none) refl
+
+and_then-pure : {A : Type 0} (o : Outcome A) → and_then o pure ≡ o
+and_then-pure (Ok p) = refl
+and_then-pure (Err e) = refl
+
+rest-none : (walker : Walker) → walker.frames.items ≡ [] → (n : ℕ) (w : Walk) → rest_does walker n w ≡ pure n w
+unfolding frames_do
+rest-none walker none n w = rw none refl
+
+-- with no frame below, the task is all
+pub alone : (walker : Walker) (t : Task) → walker.frames.items ≡ [] → comes_to walker t ≡ task_comes walker t
+unfolding comes_to
+alone walker t none = and_then-congr (rest_does walker) pure (λ n w. rest-none walker none n w) (task_comes walker t) ∙ and_then-pure (task_comes walker t)
+
+pub ends-as : {A : Type 0} (o other : Outcome A) (result : Result A ExpandFault) (new : Walker) → o ≡ other → Ends other result new → Ends o result new
+ends-as o other result new is k = rw is k
+
+pub add-new : (ps : List Bound) (opened : Open) (line number : ℕ) (v : RawValue NodeText) (w u : Walk) → count_items (item_count v) w ≡ Ok (tt, u) →
+    and_then (add_new node_does line number v opened.fields w) (open_does ps opened) ≡ and_then (numbered node_does v u) (value_does ps opened line number)
+unfolding value_does
+add-new ps opened line number v w u counts =
+    ap (λ o. and_then (and_then o (λ _. numbered node_does v >>= λ x. keep x >>= λ n. pure (with_field line number opened.fields (Some n)))) (open_does ps opened)) counts
+    ∙ and_then-assoc (numbered node_does v u) (λ x. keep x >>= λ n. pure (with_field line number opened.fields (Some n))) (open_does ps opened)
+    ∙ and_then-congr _ _ (λ x t. and_then-assoc (keep x t) (λ n. pure (with_field line number opened.fields (Some n))) (open_does ps opened)) (numbered node_does v u)
+
+pub does-as : {A : Type 0} (o other : Outcome A) (result : Result A ExpandFault) (new : Walk) → o ≡ other → Does other result new → Does o result new
+does-as o other result new is k = rw is k
+
+-- a default value that is put in, and one that is not
+pub default-wanted : (place : Place) (number : ℕ) (d : Declaration NodeText) (fields : List GivenField) (w : Walk) (g : List GivenField → Machine ℕ) → is_wanted place number d.name fields w.declared ≡ true →
+    and_then (add_default node_does place number d fields w) g ≡ and_then (add_default_value node_does d.line number d.given fields w) g
+unfolding add_default
+default-wanted place number d fields w g wanted = rw wanted refl
+
+pub default-left : (place : Place) (number : ℕ) (d : Declaration NodeText) (fields : List GivenField) (w : Walk) (g : List GivenField → Machine ℕ) → is_wanted place number d.name fields w.declared ≡ false →
+    and_then (add_default node_does place number d fields w) g ≡ g fields w
+unfolding add_default
+default-left place number d fields w g left = rw left refl
+
+pub unfilled : (ps : List Bound) (opened : Open) (f : Option Filling) (fields : List GivenField) (w : Walk) → opened.filling ≡ None → f ≡ None → open_does ps opened fields w ≡ open_does ps (record opened { filling = f }) fields w
+unfolding open_does
+unfilled ps opened f fields w none same = rw (none, same) refl
+
+-- a value is handed on, and the field has it
+pub handed : (links more : List Link) (opened next : Open) (line number : ℕ) (v : Option ℕ) (w u : Walk) → more ≡ links → hand_on (owner_in opened.owner) v w ≡ Ok (tt, u) →
+    next ≡ record opened { fields = with_field line number opened.fields v } →
+    and_then (add_joined line (owner_in opened.owner) opened.fields number v w) (open_does (in_sight links opened.sight) opened) ≡ open_does (in_sight more next.sight) next next.fields u
+handed links more opened next line number v w u same does is =
+    ap (λ o. and_then (and_then o (λ _. pure (with_field line number opened.fields v))) (open_does (in_sight links opened.sight) opened)) does
+    ∙ fields-in links opened next (with_field line number opened.fields v) u is
+    ∙ ap (λ (ls : List Link). open_does (in_sight ls next.sight) next next.fields u) (sym same)
+
+-- what goes nowhere is left out
+pub left-out : (links : List Link) (opened next : Open) (line number : ℕ) (name : List ℕ) (v : RawValue NodeText) (w : Walk) → is_taken (owner_in opened.owner).proto name w.declared ≡ false →
+    next ≡ record opened { fields = with_field line number opened.fields None } →
+    and_then (add_taken node_does line name (owner_in opened.owner) number v opened.fields w) (open_does (in_sight links opened.sight) opened) ≡ open_does (in_sight links next.sight) next next.fields w
+left-out links opened next line number name v w none is =
+    ap (λ b. and_then (if b then add_new node_does line number v opened.fields w else Ok (with_field line number opened.fields None, w)) (open_does (in_sight links opened.sight) opened)) none
+    ∙ fields-in links opened next (with_field line number opened.fields None) w is
+
+-- what was put in meanwhile is in the outcome
+pub keeps-from : (o other : Outcome ℕ) (old since : Walker) (result : Result Task ExpandFault) (new : Walker) → o ≡ other → old.links.items ≡ since.links.items → old.frames.items ≡ since.frames.items →
+    Keeps other since result new → Keeps o old result new
+keeps-from o other old since (Ok next) new is links frames k = record { same = rw (is, links, frames) k.same; fits = k.fits }
+keeps-from o other old since (Err e) new is links frames k = rw is k

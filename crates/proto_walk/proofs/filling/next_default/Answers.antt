@@ -1,0 +1,9 @@
+use Rattle.std.proofs.Common.{sym, ◌∙◌, refl}
+use Rattle.proto_walk.specs.Frames.{in_sight, shown, task_does}
+use Rattle.proto_walk.proofs.Moves.{stays, unfilled}
+use Rattle.proto_walk.proofs.filling.next_default.Goals as goal
+
+pub returns-in-None : goal.returns-in-None
+unfolding task_does
+returns-in-None c = stays c.requires.holds refl refl c.requires.holds.scope c.requires.sees
+    (unfilled (in_sight c.args.walker.now.links.items c.args.opened.sight) c.args.opened c.replace.new.dest c.args.opened.fields (shown c.args.walker.now) (sym c.replace.ensures.value ∙ c.in-None.is) c.replace.ensures.after)

@@ -1,0 +1,18 @@
+use Rattle.std.proofs.Common.{rules, ◌∙◌, sym, refl}
+use Rattle.proto_walk.proofs.Moves.{all-done, ends-as}
+use Rattle.proto_walk.proofs.walk.run.Goals as goal
+
+pub loop-init : goal.loop-init
+loop-init c = (refl, c.requires)
+
+pub returns-in-Some : goal.returns-in-Some
+returns-in-Some c = (sym c.loop.invariant.0 ∙ all-done c.loop.walker c.loop.task c.in-Some.number c.in-Some.ensures.0 c.in-Some.ensures.1, c.in-Some.ensures.1, c.loop.invariant.1.holds)
+
+pub step-requires : goal.step-requires
+step-requires c = c.loop.invariant.1
+
+pub returns-in_err-task : goal.returns-in_err-task
+returns-in_err-task c = ends-as _ _ c.from_residual.result c.step.new.walker (sym c.loop.invariant.0) (search rules)
+
+pub loop-preserved : goal.loop-preserved
+loop-preserved c = (sym c.in_ok-task.ensures.0 ∙ c.loop.invariant.0, c.in_ok-task.ensures.1)

@@ -1,0 +1,15 @@
+use Rattle.std.proofs.Common.{rules, arith}
+use Rattle.proto_walk.specs.Frames.{seen, AllSee, AreLinked}
+use Rattle.proto_walk.proofs.whole.empty_walker.Goals as goal
+
+pub returns-clause-nothing : goal.returns-clause-nothing
+unfolding seen
+returns-clause-nothing c = search rules
+
+pub returns-clause-holds : goal.returns-clause-holds
+unfolding AllSee AreLinked
+returns-clause-holds c = record {
+  linked = rw c.new-6.ensures.items tt;
+  scope = rw c.empty_scope.ensures.sight (omega arith);
+  frames = rw c.new-7.ensures.items tt;
+}

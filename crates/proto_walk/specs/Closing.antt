@@ -1,0 +1,61 @@
+-- A node that closes.
+use Rattle.std.specs.Prelude.{ℕ, if◌then◌else◌, List, [], ◌∷◌, ◌++◌, length, nat_lt, Option, Some, None, Result, Ok, Err, slice_get}
+use Rattle.x3d_values.specs.declared.node_type.NodeType.{NodeType}
+use Rattle.classic_tree.specs.declared.tree.RawValue.{RawValue}
+use Rattle.flat_document.specs.Fault.{fault}
+use Rattle.flat_document.specs.declared.fault.ExpandFault.{ExpandFault}
+use Rattle.flat_document.specs.declared.fault.ExpandFaultKind.TheVariants.{TooLarge}
+use Rattle.flat_document.specs.declared.flat.FlatField.{FlatField}
+use Rattle.proto_declarations.specs.Sight.{through as each}
+use Rattle.proto_walk.specs.declared.held.GivenField.{GivenField}
+use Rattle.proto_walk.specs.Machine.{Machine}
+use Rattle.proto_walk.specs.Limits.{max_nodes, max_fields}
+
+-- ---- its fields: those that hold a value
+
+abbrev pub value_at : List (RawValue ℕ) → Option ℕ → Option (RawValue ℕ)
+value_at values None = None
+value_at values (Some number) = slice_get values number
+
+abbrev pub with_value : GivenField → List FlatField → Option (RawValue ℕ)
+    → Result (List FlatField) ExpandFault
+with_value field fields None = Ok fields
+with_value field fields (Some value) =
+    if nat_lt field.number max_fields
+    then Ok (fields ++ record { line = field.line; number = field.number; value = value } ∷ [])
+    else Err (fault TooLarge 0)
+
+abbrev pub add_flat : List (RawValue ℕ) → GivenField → List FlatField
+    → Result (List FlatField) ExpandFault
+add_flat values field fields = with_value field fields (value_at values field.value)
+
+abbrev pub flat_fields : List (RawValue ℕ) → List GivenField → Result (List FlatField) ExpandFault
+flat_fields values given = each (add_flat values) given []
+
+-- ---- the node
+
+-- a node with these fields is put in, and has the next number
+unfoldable pub put_flat : ℕ → Option (List ℕ) → NodeType → List FlatField → Machine ℕ
+put_flat line name node_type fields = λ w.
+    if nat_lt (length w.store.nodes) max_nodes
+    then Ok (
+      length w.store.nodes,
+      record w {
+        store = record w.store {
+          nodes = w.store.nodes ++
+              record { line = line; node_type = node_type; fields = fields } ∷ [];
+          labels = w.store.labels
+              ++ name ∷ [];
+        };
+      },
+    )
+    else Err (fault TooLarge 0)
+
+abbrev pub with_fields : ℕ → Option (List ℕ) → NodeType → Result (List FlatField) ExpandFault
+    → Machine ℕ
+with_fields line name node_type (Ok fields) = put_flat line name node_type fields
+with_fields line name node_type (Err e) = λ w. Err e
+
+unfoldable pub put : ℕ → Option (List ℕ) → NodeType → List GivenField → Machine ℕ
+put line name node_type given =
+    λ w. with_fields line name node_type (flat_fields w.store.values given) w

@@ -1,0 +1,354 @@
+-- What each part of a tree does, made of what its parts do (ISO/IEC 19775-1, object model, PROTO
+-- and run-time name scope). A PROTO means a function: what its instances
+-- do, closed over the prototypes in sight where it is declared.
+use Rattle.std.specs.Prelude.{ℕ, ◌==◌, ◌-◌, ◌&&◌, Bool, true, if◌then◌else◌, List, [], ◌∷◌, ◌++◌, length, Option, Some, None, option_map, is_none, Result, Ok, Err}
+use Rattle.std.specs.List.{list_any}
+use denote.Enum.Bare.{sameb}
+use Rattle.x3d_values.specs.declared.node_type.NodeType.{NodeType}
+use Rattle.x3d_values.specs.declared.node_type.NodeType.TheVariants.{Script}
+use Rattle.x3d_values.specs.contracts.node_type.NodeType.{the_type}
+use Rattle.x3d_values.specs.Access.{is_initial}
+use Rattle.x3d_values.specs.Names.{node_type_named}
+use Rattle.classic_tree.specs.declared.tree.RawValue.{RawValue}
+use Rattle.classic_tree.specs.declared.tree.RawValue.TheVariants as value
+use Rattle.classic_tree.specs.declared.tree.Given.{Given}
+use Rattle.classic_tree.specs.declared.tree.Given.TheVariants as given
+use Rattle.classic_tree.specs.declared.tree.Declaration.{Declaration}
+use Rattle.classic_tree.specs.declared.tree.BodyItem.{BodyItem, fold-BodyItem}
+use Rattle.classic_tree.specs.declared.tree.BodyItem.TheOpen.{BodyItem-F, NodeText-F, Statement-F, ProtoText-F}
+use Rattle.classic_tree.specs.declared.tree.NodeText.{NodeText, fold-NodeText}
+use Rattle.classic_tree.specs.declared.tree.Statement.{Statement, fold-Statement}
+use Rattle.classic_tree.specs.declared.tree.ProtoText.{ProtoText, fold-ProtoText}
+use Rattle.flat_document.specs.Fault.{fault}
+use Rattle.flat_document.specs.declared.fault.ExpandFault.{ExpandFault}
+use Rattle.flat_document.specs.declared.fault.ExpandFaultKind.TheVariants.{UnknownNode, UnknownField, FieldTwice, EmptyBody, BadIs, NotYet}
+use Rattle.proto_declarations.specs.Sight.{Definition}
+use Rattle.proto_declarations.specs.Sight.{Sight as Declared}
+use Rattle.proto_declarations.specs.Sight.{no_names as no_names_yet}
+use Rattle.proto_walk.specs.declared.held.KnownField.{KnownField}
+use Rattle.proto_walk.specs.declared.held.GivenField.{GivenField}
+use Rattle.proto_walk.specs.declared.held.Store.{Store}
+use Rattle.proto_walk.specs.Fields.{Signature, signatures, of_type, of_interface, first_twice, fits}
+use Rattle.proto_walk.specs.Machine.{Sight, no_names, Meaning, Bound, Walk, Machine, Outcome, and_then, ◌>>=◌, pure, refuse, through, keep, label, help, know, use_node, lookup, definition, takes}
+use Rattle.proto_walk.specs.Limits.{begin_node, begin_instance, count_items, count_again, item_count}
+use Rattle.proto_walk.specs.Closing.{put}
+
+-- where a prototype is declared: the body, and its name there
+pub record Place : Type 0 where
+  pub within : Option ℕ
+  pub name : List ℕ
+
+-- whose braces these are: its fields by name; of an instance also where its prototype is declared
+pub record Owner : Type 0 where
+  pub fields : List ℕ → Option KnownField
+  pub proto : Option Place
+
+-- what an item between braces does to what was given so far
+abbrev pub OnFields : Type 0
+OnFields = Owner → List GivenField → Machine (List GivenField)
+
+-- ---- fields
+
+abbrev pub has_field : ℕ → List GivenField → Bool
+has_field number fields = list_any (λ (f : GivenField). f.number == number) fields
+
+abbrev pub with_field : ℕ → ℕ → List GivenField → Option ℕ → List GivenField
+with_field line number fields v = fields ++ record { line = line; number = number; value = v } ∷ []
+
+-- a node may be given a value at each field, which the scene judges; an instance where its
+-- interface holds one
+abbrev pub admits : Option Place → KnownField → Bool
+admits None field = true
+admits (Some place) field = is_initial field.access
+
+-- what an instance is given goes nowhere where no IS takes it
+abbrev pub is_taken : Option Place → List ℕ → Declared → Bool
+is_taken None name declared = true
+is_taken (Some place) name declared = takes (definition declared place.within place.name) name
+
+-- the value that was given at that field
+abbrev pub or_else : Option ℕ → Option ℕ → Option ℕ
+or_else None other = other
+or_else (Some v) other = Some v
+
+abbrev pub value_of : ℕ → List GivenField → Option ℕ
+value_of number [] = None
+value_of number (f ∷ fs) =
+    if f.number == number then or_else f.value (value_of number fs) else value_of number fs
+
+abbrev pub is_wanted : Place → ℕ → List ℕ → List GivenField → Declared → Bool
+is_wanted place number name fields declared =
+    is_none (value_of number fields) && is_taken (Some place) name declared
+
+-- a value that goes to a node stands there once more
+abbrev pub hand_on : Owner → Option ℕ → Machine (Unit {0})
+hand_on owner None = pure tt
+hand_on owner (Some v) = if is_none owner.proto then count_again v else pure tt
+
+abbrev pub add_joined : ℕ → Owner → List GivenField → ℕ → Option ℕ → Machine (List GivenField)
+add_joined line owner fields number v =
+    hand_on owner v >>= λ _. pure (with_field line number fields v)
+
+abbrev pub add_tied : ℕ → Owner → List GivenField → KnownField → Option KnownField
+    → Machine (List GivenField)
+add_tied line owner fields inner None = refuse BadIs line
+add_tied line owner fields inner (Some outer) =
+    if fits outer inner
+    then (if has_field inner.number fields then refuse FieldTwice line else
+    (λ w. add_joined line owner fields inner.number (value_of outer.number w.sight.given) w))
+    else refuse BadIs line
+
+abbrev pub add_known_is : ℕ → List ℕ → Owner → List GivenField → Option KnownField
+    → Machine (List GivenField)
+add_known_is line name owner fields None = refuse UnknownField line
+add_known_is line name owner fields (Some inner) =
+    λ w. add_tied line owner fields inner (of_interface w.sight.interface name) w
+
+-- IS: the field has what the instance gives, if it gives something
+unfoldable pub add_is : ℕ → List ℕ → List ℕ → OnFields
+add_is line field name owner fields = add_known_is line name owner fields (owner.fields field)
+
+module _ {N : Type 0} (node_does : N → Machine ℕ) where
+  abbrev pub add_number : N → List ℕ → Machine (List ℕ)
+  add_number node numbers = node_does node >>= λ n. pure (numbers ++ n ∷ [])
+
+  -- the nodes in a value are put in, and stand in it by their numbers
+  abbrev pub numbered : RawValue N → Machine (RawValue ℕ)
+  numbered value.Null = pure value.Null
+  numbered (value.Truth truth) = pure (value.Truth truth)
+  numbered (value.String text) = pure (value.String text)
+  numbered (value.Numbers numbers) = pure (value.Numbers numbers)
+  numbered (value.Node node) = node_does node >>= λ n. pure (value.Node n)
+  numbered value.EmptyList = pure value.EmptyList
+  numbered (value.TruthList truths) = pure (value.TruthList truths)
+  numbered (value.StringList texts) = pure (value.StringList texts)
+  numbered (value.NumberList numbers) = pure (value.NumberList numbers)
+  numbered (value.NodeList nodes) = through add_number nodes [] >>= λ ns. pure (value.NodeList ns)
+
+  -- the items are counted before the nodes among them are put in
+  abbrev pub add_new : ℕ → ℕ → RawValue N → List GivenField → Machine (List GivenField)
+  add_new line number given fields = do
+    _ ← count_items (item_count given)
+    v ← numbered given
+    n ← keep v
+    pure (with_field line number fields (Some n))
+
+  -- a value that goes nowhere is left out with all that is inside
+  abbrev pub add_taken : ℕ → List ℕ → Owner → ℕ → RawValue N → List GivenField
+      → Machine (List GivenField)
+  add_taken line name owner number given fields = λ w.
+      if is_taken owner.proto name w.declared then add_new line number given fields w
+      else Ok (with_field line number fields None, w)
+
+  abbrev pub add_known : ℕ → List ℕ → RawValue N → Owner → List GivenField → Option KnownField
+      → Machine (List GivenField)
+  add_known line name given owner fields None = refuse UnknownField line
+  add_known line name given owner fields (Some field) =
+      if admits owner.proto field
+      then (if has_field field.number fields then refuse FieldTwice line
+      else add_taken line name owner field.number given fields)
+      else refuse UnknownField line
+
+  unfoldable pub add_value : ℕ → List ℕ → RawValue N → OnFields
+  add_value line name given owner fields =
+      add_known line name given owner fields (owner.fields name)
+
+  -- a field without a value gives nothing
+  abbrev pub add_given : ℕ → List ℕ → Given N → OnFields
+  add_given line name given.Nothing owner fields = pure fields
+  add_given line name (given.Value v) owner fields = add_value line name v owner fields
+  add_given line name (given.Is other) owner fields = add_is line name other owner fields
+
+  -- ---- default values
+
+  abbrev pub add_default_value : ℕ → ℕ → Given N → List GivenField → Machine (List GivenField)
+  add_default_value line number given.Nothing fields = pure fields
+  add_default_value line number (given.Value v) fields = add_new line number v fields
+  add_default_value line number (given.Is other) fields = refuse BadIs line
+
+  -- a default is put in where the instance gives no value and some IS takes one
+  unfoldable pub add_default : Place → ℕ → Declaration N → List GivenField
+      → Machine (List GivenField)
+  add_default place number d fields = λ w.
+      if is_wanted place number d.name fields w.declared
+      then add_default_value d.line number d.given fields w else Ok (fields, w)
+
+  -- those of the last declarations of so many; a declaration's number is how many stand before it
+  abbrev pub add_defaults : Place → ℕ → List (Declaration N) → List GivenField
+      → Machine (List GivenField)
+  add_defaults place all [] fields = pure fields
+  add_defaults place all (d ∷ ds) fields =
+      add_default place (all - length (d ∷ ds)) d fields >>= λ fs. add_defaults place all ds fs
+
+-- ---- nodes and instances
+
+-- in sight again what was in sight outside
+abbrev pub back : Sight → Result (ℕ × Store × Declared) ExpandFault → Outcome ℕ
+back sight (Ok p) = Ok (p.0, record { store = p.1; declared = p.2; sight = sight })
+back sight (Err e) = Err e
+
+-- the number of a prototype's body
+abbrev pub body_of : Option Definition → Option ℕ
+body_of d = option_map (λ d. d.body) d
+
+abbrev pub body : Bound → List GivenField → Machine ℕ
+body b given = λ w.
+    back w.sight
+    (b.meaning given (body_of (definition w.declared b.within b.name)) w.store w.declared)
+
+abbrev pub owner_of : Bound → Owner
+owner_of b = record {
+  fields = of_interface b.interface;
+  proto = Some (record { within = b.within; name = b.name });
+}
+
+abbrev pub node_owner : NodeType → Owner
+node_owner node_type = record { fields = of_type node_type; proto = None }
+
+-- a node is put in when its braces close
+unfoldable pub close_node : ℕ → Option (List ℕ) → ℕ → NodeType → List GivenField → Machine ℕ
+close_node line name at node_type fields = put line name node_type fields >>= λ n. know name at n
+
+-- in place of an instance its body is put in, in a name scope of its own
+unfoldable pub close_instance : Option (List ℕ) → ℕ → Bound → List GivenField → Machine ℕ
+close_instance name at b fields = body b fields >>= λ n. label name n >>= λ m. know name at m
+
+unfoldable pub typed_node : ℕ → Option (List ℕ) → NodeType → OnFields → Machine ℕ
+typed_node line name node_type items =
+    if sameb the_type node_type Script
+    then refuse NotYet line
+    else (begin_node >>= λ at. items (node_owner node_type) []
+    >>= λ fields. close_node line name at node_type fields)
+
+-- no name stands twice in an interface
+abbrev pub unless_twice : Option ℕ → Machine (Unit {0})
+unless_twice None = pure tt
+unless_twice (Some line) = refuse FieldTwice line
+
+unfoldable pub begin : List Signature → Machine ℕ
+begin interface =
+    begin_instance >>= λ at. unless_twice (first_twice no_names_yet interface) >>= λ _. pure at
+
+unfoldable pub instance : Option (List ℕ) → Bound → OnFields → Machine ℕ
+instance name b items =
+    begin b.interface >>= λ at. items (owner_of b) [] >>= λ fields. close_instance name at b fields
+
+abbrev pub of_bound : ℕ → Option (List ℕ) → OnFields → Option Bound → Machine ℕ
+of_bound line name items (Some b) = instance name b items
+of_bound line name items None = refuse UnknownNode line
+
+-- a name is that of a node type, or of a prototype in sight
+abbrev pub of_word : ℕ → Option (List ℕ) → List ℕ → OnFields → Option NodeType → Machine ℕ
+of_word line name word items (Some node_type) = typed_node line name node_type items
+of_word line name word items None = λ w. of_bound line name items (lookup word w.sight.protos) w
+
+unfoldable pub full_node : ℕ → Option (List ℕ) → List ℕ → OnFields → Machine ℕ
+full_node line name word items = of_word line name word items (node_type_named word)
+
+-- ---- prototypes
+
+-- the first node of a body stands for the instance, the others are helpers
+abbrev pub hold : Option ℕ → Option ℕ → Machine (Option ℕ)
+hold first None = pure first
+hold None (Some n) = pure (Some n)
+hold (Some first) (Some n) = help n >>= λ _. pure (Some first)
+
+abbrev pub in_body : Machine (Option ℕ) → Option ℕ → Machine (Option ℕ)
+in_body statement first = statement >>= hold first
+
+abbrev pub leave : ℕ → Outcome (Option ℕ) → Result (ℕ × Store × Declared) ExpandFault
+leave line (Ok (Some n, w)) = Ok (n, w.store, w.declared)
+leave line (Ok (None, w)) = Err (fault EmptyBody line)
+leave line (Err e) = Err e
+
+-- a body has names of its own, and sees the prototypes that were in sight at its declaration
+abbrev pub within : List Bound → Option ℕ → Store → Declared → Walk
+within protos inside store declared = record {
+  store = store;
+  declared = declared;
+  sight = record { names = no_names; protos = protos; given = []; interface = []; inside = inside };
+}
+
+-- the default values stand in the scope of the body, but see neither its interface nor what the
+-- instance gives
+abbrev pub begin_body : List Signature → Machine (Option ℕ) → List GivenField → Machine (Option ℕ)
+begin_body interface statements given =
+    λ w. statements (record w { sight = record w.sight { given = given; interface = interface } })
+
+unfoldable pub meaning_of : ℕ → List Signature → (List GivenField → Machine (List GivenField))
+    → List (Machine (Option ℕ)) → List Bound → Meaning
+meaning_of line interface defaults statements protos given inside store declared =
+    leave line (and_then (defaults given (within protos inside store declared)) (begin_body
+    interface (through in_body statements None)))
+
+unfoldable pub declare : ℕ → List ℕ → List Signature → (Place → List GivenField
+    → Machine (List GivenField)) → List (Machine (Option ℕ)) → Machine (Unit {0})
+declare line name interface defaults statements = λ w.
+    Ok (
+      tt,
+      record w {
+        sight = record w.sight {
+          protos = record {
+            name = name;
+            within = w.sight.inside;
+            interface = interface;
+            meaning = meaning_of line interface
+                (defaults (record { within = w.sight.inside; name = name }))
+                statements w.sight.protos;
+          } ∷ w.sight.protos;
+        };
+      },
+    )
+
+-- ---- the parts of a tree: each step has, in the places of the parts inside, what those do
+
+unfoldable pub item_step : BodyItem-F OnFields (Machine ℕ) (Machine (Option ℕ)) (Machine (Unit {0}))
+    → OnFields
+item_step (BodyItem-F.Field line name given) owner fields =
+    add_given (λ node. node) line name given owner fields
+item_step (BodyItem-F.Declaration declaration) owner fields = refuse NotYet declaration.line
+item_step (BodyItem-F.BodyItem::Route route) owner fields = refuse NotYet route.line
+item_step (BodyItem-F.BodyItem::Proto proto) owner fields = proto >>= λ _. pure fields
+
+-- a statement that is a node gives its number
+unfoldable pub statement_step :
+    Statement-F OnFields (Machine ℕ) (Machine (Option ℕ)) (Machine (Unit {0})) → Machine (Option ℕ)
+statement_step (Statement-F.Node node) = node >>= λ n. pure (Some n)
+statement_step (Statement-F.Statement::Route route) = refuse NotYet route.line
+statement_step (Statement-F.Statement::Proto proto) = proto >>= λ _. pure None
+
+unfoldable pub node_step : NodeText-F OnFields (Machine ℕ) (Machine (Option ℕ)) (Machine (Unit {0}))
+    → Machine ℕ
+node_step (NodeText-F.Use line name) = use_node line name
+node_step (NodeText-F.Full line name word items) =
+    full_node line name word (λ owner. through (λ (item : OnFields). item owner) items)
+
+unfoldable pub proto_step :
+    ProtoText-F OnFields (Machine ℕ) (Machine (Option ℕ)) (Machine (Unit {0})) → Machine (Unit {0})
+proto_step p =
+    declare p.line p.name (signatures p.interface)
+    (λ place. add_defaults (λ node. node) place (length p.interface) p.interface) p.body
+
+abbrev pub item_does : BodyItem → OnFields
+item_does =
+    fold-BodyItem OnFields (Machine ℕ) (Machine (Option ℕ)) (Machine (Unit {0})) item_step node_step
+    statement_step proto_step
+
+abbrev pub statement_does : Statement → Machine (Option ℕ)
+statement_does =
+    fold-Statement OnFields (Machine ℕ) (Machine (Option ℕ)) (Machine (Unit {0})) item_step
+    node_step statement_step proto_step
+
+abbrev pub node_does : NodeText → Machine ℕ
+node_does =
+    fold-NodeText OnFields (Machine ℕ) (Machine (Option ℕ)) (Machine (Unit {0})) item_step node_step
+    statement_step proto_step
+
+abbrev pub proto_does : ProtoText → Machine (Unit {0})
+proto_does =
+    fold-ProtoText OnFields (Machine ℕ) (Machine (Option ℕ)) (Machine (Unit {0})) item_step
+    node_step statement_step proto_step
+
+-- the items between the braces of a node, in turn
+unfoldable pub items_do : List BodyItem → OnFields
+items_do items owner = through (λ item. item_does item owner) items

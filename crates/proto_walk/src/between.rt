@@ -1,0 +1,291 @@
+//! What stands between braces: values and ISs.
+
+ghost use Rattle.std.specs.Prelude.{◌≡◌, ◌≤◌, length};
+ghost use Rattle.proto_walk.specs.Machine.{and_then};
+ghost use Rattle.proto_walk.specs.Meaning as spec;
+ghost use Rattle.proto_walk.specs.Meaning.{node_does};
+ghost use Rattle.proto_walk.specs.Frames as does;
+ghost use Rattle.proto_walk.specs.Frames.{Holds, Keeps, IsJoined, in_sight, owner_in, shown};
+
+use crate::frames::{Frame, Listing, Open, Owner, Task, Walker};
+use crate::held::GivenField;
+use crate::{fields, steps};
+use classic_tree::{Given, NodeText, RawValue};
+use flat_document::{ExpandFault, ExpandFaultKind};
+use std::alloc::Global;
+use x3d_lists::{Items, Text};
+
+/// A field whose value is whole.
+#[tactic(auto, unfolding(crate::specs::Frames::value_does))]
+pub fn keep_value<'a>(
+    walker: &mut Walker<'a>,
+    opened: Open<'a>,
+    line: u32,
+    number: usize,
+    value: RawValue<u32>,
+) -> Result<Task<'a>, ExpandFault>
+    requires holds { Holds walker.old }
+    requires sees { opened.sight ≤ length walker.old.links.items }
+    ensures { Keeps (does.value_does
+        (in_sight walker.old.links.items opened.entry.sight) opened.entry line number value
+        (shown walker.old)) walker.old result walker.new }
+{
+    let kept = steps::keep(
+        &mut walker.store,
+        &walker.declarations,
+        &walker.scope,
+        &walker.links,
+        value,
+    )?;
+    Ok(Task::Items(steps::with_field(opened, line, number, Some(kept))?))
+}
+
+/// A field whose items are counted.
+fn put_counted<'a>(
+    alloc: Global,
+    walker: &mut Walker<'a>,
+    opened: Open<'a>,
+    line: u32,
+    number: usize,
+    value: &'a RawValue<NodeText>,
+) -> Result<Task<'a>, ExpandFault>
+    requires holds { Holds walker.old }
+    requires sees { opened.sight ≤ length walker.old.links.items }
+    ensures { Keeps (and_then (spec.numbered node_does value.now (shown walker.old))
+        (does.value_does
+        (in_sight walker.old.links.items opened.entry.sight) opened.entry line number)) walker.old
+        result walker.new }
+{
+    match value {
+        RawValue::Node(node) => {
+            walker.frames.push(Frame::One(opened, line, number))?;
+            Ok(Task::Node(node))
+        }
+        RawValue::NodeList(nodes) => Ok(Task::List(
+            opened,
+            Listing {
+                line,
+                field: number,
+                rest: nodes.as_slice(),
+                numbers: Items::new(alloc),
+            },
+        )),
+        _ => {
+            let value = fields::plain(alloc, value)?;
+            keep_value(walker, opened, line, number, value)
+        }
+    }
+}
+
+/// A value that goes somewhere.
+pub fn put_taken<'a>(
+    alloc: Global,
+    walker: &mut Walker<'a>,
+    opened: Open<'a>,
+    line: u32,
+    number: usize,
+    value: &'a RawValue<NodeText>,
+) -> Result<Task<'a>, ExpandFault>
+    requires holds { Holds walker.old }
+    requires sees { opened.sight ≤ length walker.old.links.items }
+    ensures { Keeps (and_then (spec.add_new node_does line number value.now opened.entry.fields
+        (shown walker.old)) (does.open_does
+        (in_sight walker.old.links.items opened.entry.sight) opened.entry)) walker.old
+        result walker.new }
+{
+    steps::count_items(
+        &mut walker.store,
+        &walker.declarations,
+        &walker.scope,
+        &walker.links,
+        fields::item_count(value),
+    )?;
+    put_counted(alloc, walker, opened, line, number, value)
+}
+
+/// The value of a field that is given none before.
+fn put_once<'a>(
+    alloc: Global,
+    walker: &mut Walker<'a>,
+    opened: Open<'a>,
+    line: u32,
+    name: &Text,
+    number: usize,
+    value: &'a RawValue<NodeText>,
+) -> Result<Task<'a>, ExpandFault>
+    requires holds { Holds walker.old }
+    requires sees { opened.sight ≤ length walker.old.links.items }
+    ensures { Keeps (and_then (spec.add_taken node_does line name.now
+        (owner_in opened.entry.owner) number value.now opened.entry.fields (shown walker.old))
+        (does.open_does
+        (in_sight walker.old.links.items opened.entry.sight) opened.entry)) walker.old
+        result walker.new }
+{
+    if fields::is_taken(&walker.declarations, opened.owner, name) {
+        return put_taken(alloc, walker, opened, line, number, value);
+    }
+    Ok(Task::Items(steps::with_field(opened, line, number, None)?))
+}
+
+/// The number of the field, if it may be given a value here.
+fn free_field(
+    owner: Owner<'_>,
+    fields: &[GivenField],
+    line: u32,
+    name: &Text,
+) -> Result<usize, ExpandFault>
+    ensures { does.IsFree (owner_in owner.entry) fields.now line name.now result }
+{
+    let Some(field) = fields::known_field(owner, name) else {
+        return Err(ExpandFaultKind::UnknownField.on_line(line));
+    };
+    if !fields::admits(owner, field) {
+        return Err(ExpandFaultKind::UnknownField.on_line(line));
+    }
+    if fields::has_field(field.number, fields) {
+        return Err(ExpandFaultKind::FieldTwice.on_line(line));
+    }
+    Ok(field.number)
+}
+
+fn put_value<'a>(
+    alloc: Global,
+    walker: &mut Walker<'a>,
+    opened: Open<'a>,
+    line: u32,
+    name: &Text,
+    value: &'a RawValue<NodeText>,
+) -> Result<Task<'a>, ExpandFault>
+    requires holds { Holds walker.old }
+    requires sees { opened.sight ≤ length walker.old.links.items }
+    ensures { Keeps (and_then (spec.add_value node_does line name.now value.now
+        (owner_in opened.entry.owner) opened.entry.fields (shown walker.old)) (does.open_does
+        (in_sight walker.old.links.items opened.entry.sight) opened.entry)) walker.old
+        result walker.new }
+{
+    let number = free_field(opened.owner, opened.fields.as_slice(), line, name)?;
+    put_once(alloc, walker, opened, line, name, number, value)
+}
+
+/// The number of the field that an IS gives something, and of the value that it gives.
+fn joined(
+    walker: &Walker<'_>,
+    owner: Owner<'_>,
+    fields: &[GivenField],
+    line: u32,
+    field: &Text,
+    name: &Text,
+) -> Result<(usize, Option<usize>), ExpandFault>
+    ensures { IsJoined (spec.add_is line field.now name.now (owner_in owner.entry) fields.now
+        (shown walker.now)) (λ n v. spec.add_joined line (owner_in owner.entry) fields.now n v
+        (shown walker.now)) result }
+{
+    let Some(inner) = fields::known_field(owner, field) else {
+        return Err(ExpandFaultKind::UnknownField.on_line(line));
+    };
+    let Some(outer) = fields::field_of_interface(walker.scope.interface, name) else {
+        return Err(ExpandFaultKind::BadIs.on_line(line));
+    };
+    if !fields::fits(outer, inner) {
+        return Err(ExpandFaultKind::BadIs.on_line(line));
+    }
+    if fields::has_field(inner.number, fields) {
+        return Err(ExpandFaultKind::FieldTwice.on_line(line));
+    }
+    let value = fields::value_of(outer.number, walker.scope.given.as_slice());
+    Ok((inner.number, value))
+}
+
+/// The field has the value of that number, which is counted again where it goes to a node.
+fn hand_on<'a>(
+    walker: &mut Walker<'a>,
+    owner: Owner<'_>,
+    value: Option<usize>,
+) -> Result<(), ExpandFault>
+    ensures does { does.IfHanded (spec.hand_on (owner_in owner.entry) value (shown walker.old))
+        result (shown walker.new) }
+    ensures links { walker.new.links ≡ walker.old.links }
+    ensures frames { walker.new.frames ≡ walker.old.frames }
+    ensures scope { walker.new.scope ≡ walker.old.scope }
+{
+    let Some(number) = value else {
+        return Ok(());
+    };
+    match owner {
+        Owner::Node(_node_type) => steps::count_again(
+            &mut walker.store,
+            &walker.declarations,
+            &walker.scope,
+            &walker.links,
+            number,
+        ),
+        Owner::Instance(_proto, _within) => Ok(()),
+    }
+}
+
+fn put_joined<'a>(
+    walker: &mut Walker<'a>,
+    opened: Open<'a>,
+    line: u32,
+    number: usize,
+    value: Option<usize>,
+) -> Result<Task<'a>, ExpandFault>
+    requires holds { Holds walker.old }
+    requires sees { opened.sight ≤ length walker.old.links.items }
+    ensures { Keeps (and_then (spec.add_joined line
+        (owner_in opened.entry.owner) opened.entry.fields number value (shown walker.old))
+        (does.open_does
+        (in_sight walker.old.links.items opened.entry.sight) opened.entry)) walker.old
+        result walker.new }
+{
+    hand_on(walker, opened.owner, value)?;
+    Ok(Task::Items(steps::with_field(opened, line, number, value)?))
+}
+
+/// IS: the field has what the instance gives, if it gives something.
+fn put_is<'a>(
+    walker: &mut Walker<'a>,
+    opened: Open<'a>,
+    line: u32,
+    field: &Text,
+    name: &Text,
+) -> Result<Task<'a>, ExpandFault>
+    requires holds { Holds walker.old }
+    requires sees { opened.sight ≤ length walker.old.links.items }
+    ensures { Keeps (and_then (spec.add_is line field.now name.now
+        (owner_in opened.entry.owner) opened.entry.fields (shown walker.old)) (does.open_does
+        (in_sight walker.old.links.items opened.entry.sight) opened.entry)) walker.old
+        result walker.new }
+{
+    let (number, value) = joined(
+        walker,
+        opened.owner,
+        opened.fields.as_slice(),
+        line,
+        field,
+        name,
+    )?;
+    put_joined(walker, opened, line, number, value)
+}
+
+pub fn put_given<'a>(
+    alloc: Global,
+    walker: &mut Walker<'a>,
+    opened: Open<'a>,
+    line: u32,
+    name: &Text,
+    given: &'a Given<NodeText>,
+) -> Result<Task<'a>, ExpandFault>
+    requires holds { Holds walker.old }
+    requires sees { opened.sight ≤ length walker.old.links.items }
+    ensures { Keeps (and_then (spec.add_given node_does line name.now given.now
+        (owner_in opened.entry.owner) opened.entry.fields (shown walker.old)) (does.open_does
+        (in_sight walker.old.links.items opened.entry.sight) opened.entry)) walker.old
+        result walker.new }
+{
+    match given {
+        Given::Nothing => Ok(Task::Items(opened)),
+        Given::Value(value) => put_value(alloc, walker, opened, line, name, value),
+        Given::Is(other) => put_is(walker, opened, line, name, other),
+    }
+}

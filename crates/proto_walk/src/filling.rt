@@ -1,0 +1,204 @@
+//! The default values of an instance, in the scope of its body.
+
+ghost use Rattle.std.specs.Prelude.{◌≡◌, ◌≤◌, [], length};
+ghost use Rattle.proto_walk.specs.Machine.{and_then};
+ghost use Rattle.proto_walk.specs.Meaning as spec;
+ghost use Rattle.proto_walk.specs.Meaning.{node_does};
+ghost use Rattle.proto_walk.specs.Frames as does;
+ghost use Rattle.proto_walk.specs.Frames.{Holds, Keeps, in_sight, shown};
+
+use crate::between::put_taken;
+use crate::frames::{Body, Filling, Open, Task, Walker};
+use crate::{fields, steps};
+use classic_tree::{Declaration, Given, NodeText, ProtoText};
+use flat_document::{ExpandFault, ExpandFaultKind};
+use std::alloc::Global;
+use std::mem;
+
+/// The braces of an instance close: its default values begin, in a name scope of its own.
+#[tactic(auto, unfolding(crate::specs::Frames::task_does, crate::specs::Frames::open_does))]
+pub fn open_defaults<'a>(
+    alloc: Global,
+    walker: &mut Walker<'a>,
+    opened: Open<'a>,
+    proto: &'a ProtoText,
+    within: Option<usize>,
+) -> Result<Task<'a>, ExpandFault>
+    requires holds { Holds walker.old }
+    requires sees { opened.sight ≤ length walker.old.links.items }
+    ensures { Keeps (spec.close_instance opened.entry.name.now opened.entry.at
+        (does.bound_of proto.now within
+        (in_sight walker.old.links.items opened.entry.sight)) opened.entry.fields
+        (shown walker.old)) walker.old result walker.new }
+{
+    let Open {
+        line,
+        name,
+        at,
+        owner,
+        sight,
+        rest,
+        fields,
+        ..
+    } = opened;
+    let inside = fields::body_of(&walker.declarations, within, &proto.name);
+    let inner = steps::empty_scope(alloc, sight, inside);
+    let outer = mem::replace(&mut walker.scope, inner);
+    Ok(Task::Items(Open {
+        line,
+        name,
+        at,
+        owner,
+        sight: outer.sight,
+        rest,
+        fields,
+        filling: Some(Filling {
+            proto,
+            within,
+            rest: proto.interface.as_slice(),
+            outer,
+        }),
+    }))
+}
+
+/// The default value of a declaration.
+fn put_default_value<'a>(
+    alloc: Global,
+    walker: &mut Walker<'a>,
+    opened: Open<'a>,
+    number: usize,
+    declaration: &'a Declaration<NodeText>,
+) -> Result<Task<'a>, ExpandFault>
+    requires holds { Holds walker.old }
+    requires sees { opened.sight ≤ length walker.old.links.items }
+    ensures { Keeps (and_then
+        (spec.add_default_value node_does declaration.now.line number declaration.now.given
+        opened.entry.fields (shown walker.old)) (does.open_does
+        (in_sight walker.old.links.items opened.entry.sight) opened.entry)) walker.old
+        result walker.new }
+{
+    match &declaration.given {
+        Given::Nothing => Ok(Task::Items(opened)),
+        Given::Value(value) => { put_taken(alloc, walker, opened, declaration.line, number, value) }
+        Given::Is(_name) => Err(ExpandFaultKind::BadIs.on_line(declaration.line)),
+    }
+}
+
+/// The default value of a declaration, where the instance gives none and some IS takes it.
+fn put_default<'a>(
+    alloc: Global,
+    walker: &mut Walker<'a>,
+    opened: Open<'a>,
+    proto: &'a ProtoText,
+    within: Option<usize>,
+    number: usize,
+    declaration: &'a Declaration<NodeText>,
+) -> Result<Task<'a>, ExpandFault>
+    requires holds { Holds walker.old }
+    requires sees { opened.sight ≤ length walker.old.links.items }
+    ensures { Keeps (and_then (spec.add_default node_does
+        (does.place_of proto.now within) number declaration.now opened.entry.fields
+        (shown walker.old)) (does.open_does
+        (in_sight walker.old.links.items opened.entry.sight) opened.entry)) walker.old
+        result walker.new }
+{
+    if fields::is_wanted(
+        &walker.declarations,
+        proto,
+        within,
+        number,
+        &declaration.name,
+        opened.fields.as_slice(),
+    ) {
+        return put_default_value(alloc, walker, opened, number, declaration);
+    }
+    Ok(Task::Items(opened))
+}
+
+/// The default values are done: the body begins.
+fn start_body<'a>(
+    walker: &mut Walker<'a>,
+    opened: Open<'a>,
+    filling: Filling<'a>,
+) -> Result<Task<'a>, ExpandFault>
+    requires holds { Holds walker.old }
+    requires sees { opened.sight ≤ length walker.old.links.items }
+    requires done { filling.rest.now ≡ [] }
+    ensures { Keeps (does.fill
+        (in_sight walker.old.links.items opened.entry.sight) opened.entry filling.entry
+        opened.entry.fields (shown walker.old)) walker.old result walker.new }
+{
+    let Open {
+        name,
+        at,
+        sight,
+        fields,
+        ..
+    } = opened;
+    let Filling { proto, outer, .. } = filling;
+    let mut outer = outer;
+    outer.sight = sight;
+    walker.scope.given = fields;
+    walker.scope.interface = proto.interface.as_slice();
+    Ok(Task::Statements(Body {
+        line: proto.line,
+        name,
+        at,
+        rest: proto.body.as_slice(),
+        first: None,
+        outer,
+    }))
+}
+
+/// The next default value of an instance, or its body.
+#[tactic(auto, unfolding(crate::specs::Frames::open_does))]
+fn next_filling<'a>(
+    alloc: Global,
+    walker: &mut Walker<'a>,
+    opened: Open<'a>,
+    filling: Filling<'a>,
+) -> Result<Task<'a>, ExpandFault>
+    requires holds { Holds walker.old }
+    requires sees { opened.sight ≤ length walker.old.links.items }
+    ensures { Keeps (does.fill
+        (in_sight walker.old.links.items opened.entry.sight) opened.entry filling.entry
+        opened.entry.fields (shown walker.old)) walker.old result walker.new }
+{
+    let Some((declaration, rest)) = filling.rest.split_first() else {
+        return start_body(walker, opened, filling);
+    };
+    let Filling {
+        proto,
+        within,
+        outer,
+        ..
+    } = filling;
+    let number = proto.interface.len().saturating_sub(rest.len() + 1);
+    let mut opened = opened;
+    opened.filling = Some(Filling {
+        proto,
+        within,
+        rest,
+        outer,
+    });
+    put_default(alloc, walker, opened, proto, within, number, declaration)
+}
+
+#[tactic(auto, unfolding(crate::specs::Frames::open_does))]
+pub fn next_default<'a>(
+    alloc: Global,
+    walker: &mut Walker<'a>,
+    opened: Open<'a>,
+) -> Result<Task<'a>, ExpandFault>
+    requires holds { Holds walker.old }
+    requires sees { opened.sight ≤ length walker.old.links.items }
+    ensures { Keeps (does.open_does
+        (in_sight walker.old.links.items opened.entry.sight) opened.entry opened.entry.fields
+        (shown walker.old)) walker.old result walker.new }
+{
+    let mut opened = opened;
+    match mem::replace(&mut opened.filling, None) {
+        None => Ok(Task::Items(opened)),
+        Some(filling) => next_filling(alloc, walker, opened, filling),
+    }
+}

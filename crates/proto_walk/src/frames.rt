@@ -1,0 +1,122 @@
+//! What is in sight, and what is still to be done, on the heap.
+
+use crate::held::{GivenField, Store};
+use classic_tree::{BodyItem, Declaration, NodeText, ProtoText, Statement};
+use indexmap::IndexMap;
+use proto_declarations::Declarations;
+use x3d_lists::{Items, Text};
+use x3d_values::NodeType;
+
+/// A finished node, and where its word DEF stood among all nodes and instances begun.
+#[derive(Clone, Copy, Debug)]
+pub struct Named {
+    pub at: u64,
+    pub node: u32,
+}
+
+/// A prototype that was declared, the body that it is declared in, and how many links its own body
+/// sees: the last of these and what that one sees.
+#[derive(Clone, Copy)]
+pub struct Link<'a> {
+    pub proto: &'a ProtoText,
+    pub within: Option<usize>,
+    pub before: usize,
+}
+
+/// What is in sight: the names of nodes, and in a body what the instance gives, the interface, and
+/// the number of the body. `sight` counts links as in `Link`.
+#[derive(Drop)]
+pub struct Scope<'a> {
+    pub names: IndexMap<&'a str, Named>,
+    pub sight: usize,
+    pub given: Items<GivenField>,
+    pub interface: &'a [Declaration<NodeText>],
+    pub inside: Option<usize>,
+}
+
+/// Whose braces are open.
+#[derive(Clone, Copy)]
+pub enum Owner<'a> {
+    Node(NodeType),
+    /// The prototype of an instance, and the body that it is declared in.
+    Instance(&'a ProtoText, Option<usize>),
+}
+
+/// The default values of an instance, which are put in before its body: its prototype, the body
+/// that this is declared in, the declarations that are left, and what was in sight where the
+/// instance stands.
+#[derive(Drop)]
+pub struct Filling<'a> {
+    pub proto: &'a ProtoText,
+    pub within: Option<usize>,
+    pub rest: &'a [Declaration<NodeText>],
+    pub outer: Scope<'a>,
+}
+
+/// A node or an instance whose braces are open: its fields so far, and what is left between them;
+/// or an instance whose default values are put in. `sight` is what the body of the prototype sees;
+/// with default values, what is seen where the instance stands.
+#[derive(Drop)]
+pub struct Open<'a> {
+    pub line: u32,
+    pub name: &'a Option<Text>,
+    pub at: u64,
+    pub owner: Owner<'a>,
+    pub sight: usize,
+    pub rest: &'a [BodyItem],
+    pub fields: Items<GivenField>,
+    pub filling: Option<Filling<'a>>,
+}
+
+/// A list of nodes in a field: the numbers so far, and the nodes that are left.
+#[derive(Drop)]
+pub struct Listing<'a> {
+    pub line: u32,
+    /// The field's number.
+    pub field: usize,
+    pub rest: &'a [NodeText],
+    pub numbers: Items<u32>,
+}
+
+/// An instance's body: its first node so far, and the statements that are left. `outer` is what
+/// was in sight where the instance stands.
+#[derive(Drop)]
+pub struct Body<'a> {
+    pub line: u32,
+    pub name: &'a Option<Text>,
+    pub at: u64,
+    pub rest: &'a [Statement],
+    pub first: Option<u32>,
+    pub outer: Scope<'a>,
+}
+
+/// What waits for the number of a node.
+#[derive(Drop)]
+pub enum Frame<'a> {
+    /// The field of that line and number, which is this node.
+    One(Open<'a>, u32, usize),
+    /// A field whose list has this node next.
+    Next(Open<'a>, Listing<'a>),
+    /// A body whose statement is this node.
+    Inside(Body<'a>),
+}
+
+/// What is to be done next. It gives the number of a node to the last frame.
+#[derive(Drop)]
+pub enum Task<'a> {
+    Node(&'a NodeText),
+    Items(Open<'a>),
+    List(Open<'a>, Listing<'a>),
+    Statements(Body<'a>),
+    Number(u32),
+}
+
+/// All that the walk holds.
+#[derive(Drop)]
+pub struct Walker<'a> {
+    pub store: Store,
+    pub declarations: Declarations<'a>,
+    pub links: Vec<Link<'a>>,
+    pub scope: Scope<'a>,
+    pub frames: Vec<Frame<'a>>,
+}

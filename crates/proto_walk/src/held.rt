@@ -1,0 +1,54 @@
+//! What was put in so far.
+
+use classic_tree::RawValue;
+use flat_document::FlatField;
+use x3d_lists::{Items, Text};
+use x3d_values::{Access, FieldType, NodeType};
+
+/// A field by its number among the fields of its node's type, or among the declarations of an
+/// interface.
+#[derive(Clone, Copy)]
+pub struct KnownField {
+    pub number: usize,
+    pub access: Access,
+    pub field_type: FieldType,
+}
+
+/// A field that a node or an instance was given something at.
+#[derive(Clone, Copy, Debug)]
+pub struct GivenField {
+    /// The line of the field's name.
+    pub line: u32,
+    /// As in `KnownField`.
+    pub number: usize,
+    /// The number of the value among all values. None for a value that goes nowhere, and for an IS
+    /// to what was given nothing.
+    pub value: Option<usize>,
+}
+
+/// A node that was put in. Its name is among the labels.
+#[derive(Debug, Drop)]
+pub struct PlacedNode {
+    pub line: u32,
+    pub node_type: NodeType,
+    pub fields: Items<FlatField>,
+}
+
+/// What was put in so far, and how much of it was begun.
+#[derive(Debug, Drop)]
+pub struct Store {
+    /// In the order in which they close.
+    pub nodes: Items<PlacedNode>,
+    /// The name that DEF gave each node.
+    pub labels: Items<Option<Text>>,
+    /// The nodes of bodies behind the first of each.
+    pub helpers: Items<u32>,
+    /// What fields were given, each once, however many fields it goes to. The nodes in a value are
+    /// numbers.
+    pub values: Items<RawValue<u32>>,
+    /// How many nodes and instances were begun.
+    pub begun_nodes: u32,
+    pub begun_instances: u32,
+    /// How many more items the values may have.
+    pub room: usize,
+}

@@ -1,0 +1,191 @@
+//! A whole document.
+
+ghost use Rattle.std.specs.Prelude.{◌≡◌, [], slice_get, IfOk};
+ghost use Rattle.x3d_lists.specs.Answers.{Gives};
+ghost use Rattle.flat_document.specs.Fault.{memory};
+ghost use Rattle.proto_walk.specs.Machine.{through};
+ghost use Rattle.proto_walk.specs.Meaning.{statement_does};
+ghost use Rattle.proto_walk.specs.Whole as spec;
+ghost use Rattle.proto_walk.specs.Whole.{flat, nothing};
+ghost use Rattle.proto_walk.specs.Frames.{Holds, Ends, shown};
+
+use crate::frames::Walker;
+use crate::held::{PlacedNode, Store};
+use crate::{steps, walk};
+use classic_tree::{Document, Statement};
+use flat_document::{ExpandFault, ExpandFaultKind, Flat, FlatNode, Header};
+use proto_declarations::Declarations;
+use std::alloc::{AllocError, Global};
+use x3d_lists::{Duplicate, Items, Text};
+
+/// The most items that the values of a document may have.
+const MAX_ITEMS: usize = 8_388_608;
+
+/// Puts a statement in that declares nothing wrong. A node gives its number.
+#[tactic(auto, using(crate::proofs::Equations::tree_does))]
+fn put_checked<'a>(
+    alloc: Global,
+    walker: &mut Walker<'a>,
+    statement: &'a Statement,
+) -> Result<Option<u32>, ExpandFault>
+    requires holds { Holds walker.old }
+    requires idle { walker.old.frames.items ≡ [] }
+    ensures { Ends (statement_does statement.now (shown walker.old)) result walker.new }
+{
+    match statement {
+        Statement::Node(node) => {
+            let number = walk::put_node(alloc, walker, node)?;
+            Ok(Some(number))
+        }
+        Statement::Route(route) => Err(ExpandFaultKind::NotYet.on_line(route.line)),
+        Statement::Proto(proto) => {
+            walk::declare(walker, proto)?;
+            Ok(None)
+        }
+    }
+}
+
+/// A statement, whose prototypes are checked first.
+#[tactic(auto, unfolding(crate::specs::Whole::put_statement, crate::specs::Whole::check))]
+fn put_statement<'a>(
+    alloc: Global,
+    walker: &mut Walker<'a>,
+    statement: &'a Statement,
+) -> Result<Option<u32>, ExpandFault>
+    requires holds { Holds walker.old }
+    requires idle { walker.old.frames.items ≡ [] }
+    ensures { Ends (spec.put_statement statement.now (shown walker.old)) result walker.new }
+{
+    walker.declarations.add(alloc, statement)?;
+    put_checked(alloc, walker, statement)
+}
+
+fn add_root(roots: Items<u32>, number: Option<u32>) -> Result<Items<u32>, AllocError>
+    ensures { IfOk result (λ rs. spec.grown roots number ≡ rs) }
+{
+    let Some(number) = number else {
+        return Ok(roots);
+    };
+    let mut roots = roots;
+    roots.push(number)?;
+    Ok(roots)
+}
+
+/// Puts all in, and gives the numbers of the nodes that are statements.
+fn put_roots<'a>(
+    alloc: Global,
+    walker: &mut Walker<'a>,
+    statements: &'a [Statement],
+) -> Result<Items<u32>, ExpandFault>
+    requires holds { Holds walker.old }
+    requires idle { walker.old.frames.items ≡ [] }
+    ensures { Ends (through spec.at_top statements.now [] (shown walker.old)) result walker.new }
+{
+    let mut roots = Items::new(alloc);
+    for statement in statements {
+        let number = put_statement(alloc, walker, statement)?;
+        roots = add_root(roots, number)?;
+    }
+    Ok(roots)
+}
+
+/// Nothing is put in, and nothing is in sight.
+fn empty_walker<'a>(alloc: Global) -> Walker<'a>
+    ensures nothing { shown result ≡ nothing }
+    ensures holds { Holds result }
+    ensures idle { result.frames.items ≡ [] }
+{
+    Walker {
+        store: Store {
+            nodes: Items::new(alloc),
+            labels: Items::new(alloc),
+            helpers: Items::new(alloc),
+            values: Items::new(alloc),
+            begun_nodes: 0,
+            begun_instances: 0,
+            room: MAX_ITEMS,
+        },
+        declarations: Declarations::new(alloc),
+        links: Vec::new(alloc),
+        scope: steps::empty_scope(alloc, 0, None),
+        frames: Vec::new(alloc),
+    }
+}
+
+/// The name of the node of that number.
+fn label_at(
+    alloc: Global,
+    labels: &[Option<Text>],
+    number: usize,
+) -> Result<Option<Text>, AllocError>
+    ensures { IfOk result (λ name. name ≡ spec.label_at (slice_get labels.now number)) }
+{
+    match labels.get(number) {
+        None => Ok(None),
+        Some(label) => label.duplicate(alloc),
+    }
+}
+
+fn flat_node(alloc: Global, name: Option<Text>, node: PlacedNode) -> FlatNode
+    ensures { result ≡ spec.flat_node name node }
+{
+    FlatNode {
+        line: node.line,
+        name,
+        node_type: node.node_type,
+        fields: node.fields,
+        interface: Items::new(alloc),
+    }
+}
+
+/// The nodes with their names.
+fn flat_nodes(
+    alloc: Global,
+    labels: &[Option<Text>],
+    nodes: Vec<PlacedNode>,
+) -> Result<Items<FlatNode>, AllocError>
+    ensures { IfOk result (λ ns. ns ≡ spec.flat_nodes labels.now nodes.items) }
+{
+    let mut flat = Items::new(alloc);
+    for node in nodes {
+        let name = label_at(alloc, labels, flat.len())?;
+        flat.push(flat_node(alloc, name, node))?;
+    }
+    Ok(flat)
+}
+
+/// The nodes of the document by number.
+#[tactic(auto, unfolding(crate::specs::Whole::flat))]
+pub fn expand(alloc: Global, document: Document) -> Result<Flat, ExpandFault>
+    ensures { Gives memory (λ f. f) result (flat document) }
+{
+    let Document {
+        version,
+        profile,
+        components,
+        metas,
+        statements,
+    } = document;
+    let mut walker = empty_walker(alloc);
+    let roots = put_roots(alloc, &mut walker, statements.as_slice())?;
+    let Walker { store, .. } = walker;
+    let Store {
+        nodes,
+        labels,
+        helpers,
+        ..
+    } = store;
+    let nodes = flat_nodes(alloc, labels.as_slice(), nodes.into_vec())?;
+    Ok(Flat {
+        header: Header {
+            version,
+            profile,
+            components,
+            metas,
+        },
+        nodes,
+        roots,
+        helpers,
+        routes: Items::new(alloc),
+    })
+}

@@ -1,7 +1,0 @@
-//! The examples of scripts by their names, and boxes that tell what is done with them.
-
-mod examples;
-mod hosting;
-mod memory;
-mod probe;
-mod steps;

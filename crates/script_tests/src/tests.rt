@@ -1,0 +1,7 @@
+//! The examples of scripts by their names, and boxes that tell what is done with them.
+
+mod examples;
+mod hosting;
+mod probe;
+mod refusals;
+mod steps;

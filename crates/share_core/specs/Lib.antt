@@ -1,0 +1,4 @@
+pub mod Host
+pub mod Rings
+pub mod Waiting
+pub mod Steps

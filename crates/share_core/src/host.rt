@@ -1,0 +1,228 @@
+//! The host: it numbers inputs, and keeps of each viewer how many of its offers are numbered.
+
+ghost use Rattle.std.specs.Prelude.{◌≡◌, ◌<◌, length, slice_get, slice_set};
+ghost use Rattle.share_law.specs.Host.{count_for};
+ghost use Rattle.share_core.specs.Steps.{reply_before};
+
+use crate::inputs::Inputs;
+use arrayvec::ArrayVec;
+use share_law::{HostFault, HostReply, Kept, NumberFault};
+use share_wire::{Ack, Ask, Body, Message, Offer, Packet, decode, encode};
+use std::alloc::Global;
+use std::marker::Model;
+use x3d_values::Event;
+
+/// The host of a shared world: the mark of its scene, the inputs that it numbered, and what it
+/// keeps of each viewer.
+#[derive(Drop)]
+pub struct Host {
+    mark: [u8; 32],
+    inputs: Inputs,
+    kept: ArrayVec<Kept, 16>,
+}
+
+impl Model for Host {
+    ghost use Rattle.std.specs.Prelude.{◌≤◌, length};
+    ghost use Rattle.share_core.specs.Host.{HostView};
+
+    ghost Value = { HostView };
+
+    ghost view = { λ h. record {
+      mark = h.mark;
+      host = record { list = h.inputs; kept = h.kept.items };
+    } };
+
+    ghost invariant = { λ h. length h.kept.items ≤ 16 };
+}
+
+/// How many offers of a boot are numbered: none of a boot above the one that is kept.
+fn count_for(kept: Kept, boot: u32) -> u32
+    ensures { result ≡ count_for kept boot }
+{
+    if kept.boot == boot { kept.count } else { 0 }
+}
+
+/// What is answered to an offer that is not the next of its viewer.
+fn reply_before(kept: Kept, offer: Offer) -> Option<HostReply>
+    ensures { result ≡ reply_before kept offer }
+{
+    let count = count_for(kept, offer.boot());
+    if offer.boot() < kept.boot {
+        Some(HostReply::OldBoot)
+    } else if offer.number() <= count {
+        Some(HostReply::Repeat)
+    } else if offer.number() - 1 > count {
+        Some(HostReply::Ahead)
+    } else {
+        None
+    }
+}
+
+/// What is kept of a viewer, if there is one with this number.
+fn kept_of(kept: &ArrayVec<Kept, 16>, who: u8) -> Option<Kept>
+    ensures { result ≡ slice_get kept.now.items who }
+{
+    kept.as_slice().get(who as usize).copied()
+}
+
+fn set_kept(kept: &mut ArrayVec<Kept, 16>, who: u8, now: Kept)
+    requires { who < length kept.old.items }
+    ensures { kept.new.items ≡ slice_set kept.old.items who now }
+{
+    kept.as_mut_slice()[who as usize] = now;
+}
+
+impl Host {
+    ghost use Rattle.std.specs.Prelude.{◌≡◌, ◌<◌, ◌≤◌, Some, length, slice_get};
+    ghost use Rattle.std.specs.Option.{option_map};
+    ghost use Rattle.share_wire.specs.Datagram.{datagram};
+    ghost use Rattle.share_wire.specs.Decoding.{decoded};
+    ghost use Rattle.share_wire.specs.declared.message.Body.TheVariants as body;
+    ghost use Rattle.share_law.specs.Host.{ack_of, ask_came, host_packet, new_host};
+    ghost use Rattle.share_law.specs.Calls.{IsClocked, IsHostTake, IsHostTakeOf};
+
+    /// The host of a scene with this mark, for viewers that are numbered from 0: 1 to 16 of them.
+    /// It takes no memory; its list of inputs grows with `alloc`.
+    pub fn new(alloc: Global, mark: [u8; 32], viewers: u8) -> Host
+        requires some { 1 ≤ viewers }
+        requires most { viewers ≤ 16 }
+        ensures { result ≡ record { mark = mark; host = new_host viewers } }
+    {
+        let mut kept = ArrayVec::from_array_in((), [Kept::default(); 16]);
+        kept.truncate(viewers as usize);
+        Host {
+            mark,
+            inputs: Inputs::new(alloc),
+            kept,
+        }
+    }
+
+    /// Numbers a clock at a time in microseconds, and gives its number.
+    ///
+    /// Refused in this order: `WorldFull`, where 2^20 inputs are numbered; `TimeNotLater`, where
+    /// the last input is at that time or after it, or the time is not above 0; `TimeRange`, above
+    /// 10^18; `Memory`. A refusal changes nothing.
+    pub fn clock(&mut self, time: i64) -> Result<u32, NumberFault>
+        ensures mark { self.new.mark ≡ self.old.mark }
+        ensures step { IsClocked self.old.host time result self.new.host }
+    {
+        self.inputs.add(time, Event::Clock)
+    }
+
+    /// The packet of the input of this number, from 1, if there is one. Takes no memory.
+    pub fn packet(&self, number: u32) -> Option<Packet>
+        ensures { option_map (λ p. p.items) result
+            ≡ option_map (λ body. datagram (record { mark = self.now.mark; body = body }))
+            (host_packet self.now.host number) }
+    {
+        if number == 0 {
+            return None;
+        }
+        let input = self.inputs.get(number - 1)?;
+        Some(encode(&Message {
+            mark: self.mark,
+            body: Body::Input(input),
+        }))
+    }
+
+    /// How many viewers there are: 1 to 16.
+    pub fn viewers(&self) -> u8
+        ensures { result ≡ length self.now.host.kept }
+    {
+        self.kept.len() as u8
+    }
+
+    /// The packet that tells a viewer how many offers of which of its boots are numbered. `viewers`
+    /// is the test. Takes no memory.
+    pub fn ack(&self, who: u8) -> Packet
+        requires { who < length self.now.host.kept }
+        ensures { option_map
+            (λ kept. datagram (record { mark = self.now.mark; body = ack_of who kept }))
+            (slice_get self.now.host.kept who) ≡ Some result.items }
+    {
+        let kept = self.kept.as_slice()[who as usize];
+        encode(&Message {
+            mark: self.mark,
+            body: Body::Ack(Ack::new(who, kept.boot, kept.count)),
+        })
+    }
+
+    /// Takes the bytes of a packet.
+    ///
+    /// An ask is answered with the inputs from the one asked for on, at most 64, and with
+    /// `NothingToDo` where that one isn't numbered yet. The next offer of a viewer is numbered 1
+    /// microsecond after the last input; an earlier one is a `Repeat`, a later one is `Ahead`, and
+    /// one of an earlier boot is of an `OldBoot`. Of a higher boot no offer is numbered yet. Inputs
+    /// and acks are `NothingToDo`.
+    ///
+    /// Refused in this order: `Wire`, where the bytes are no datagram; `WrongScene`, where it has
+    /// another mark; `BadViewer`, an ask or an offer of a viewer that there isn't; `Number`, where
+    /// an offer's input can't be numbered. A refusal changes nothing.
+    pub fn take(&mut self, bytes: &[u8]) -> Result<HostReply, HostFault>
+        ensures mark { self.new.mark ≡ self.old.mark }
+        ensures step { IsHostTakeOf self.old.mark self.old.host (decoded bytes.now) result
+            self.new.host }
+    {
+        let message = match decode(bytes) {
+            Ok(message) => message,
+            Err(fault) => return Err(HostFault::Wire(fault)),
+        };
+        if message.mark != self.mark {
+            return Err(HostFault::WrongScene);
+        }
+        self.take_body(message.body)
+    }
+
+    fn take_body(&mut self, body: Body) -> Result<HostReply, HostFault>
+        ensures mark { self.new.mark ≡ self.old.mark }
+        ensures step { IsHostTake self.old.host body result self.new.host }
+    {
+        match body {
+            Body::Ask(ask) => self.take_ask(ask),
+            Body::Offer(offer) => self.take_offer(offer),
+            Body::Input(_) | Body::Ack(_) => Ok(HostReply::NothingToDo),
+        }
+    }
+
+    /// Which inputs are asked for.
+    fn take_ask(&self, ask: Ask) -> Result<HostReply, HostFault>
+        ensures { result ≡ ask_came self.now.host ask.next (slice_get self.now.host.kept ask.who) }
+    {
+        if ask.who() as usize >= self.kept.len() {
+            return Err(HostFault::BadViewer);
+        }
+        let count = self.inputs.len();
+        if ask.next() > count {
+            return Ok(HostReply::NothingToDo);
+        }
+        Ok(HostReply::Asked {
+            first: ask.next(),
+            count: (count + 1 - ask.next()).min(64),
+        })
+    }
+
+    /// Numbers an offer, if it is the next one of its viewer.
+    fn take_offer(&mut self, offer: Offer) -> Result<HostReply, HostFault>
+        ensures mark { self.new.mark ≡ self.old.mark }
+        ensures step { IsHostTake self.old.host (body.Offer offer) result self.new.host }
+    {
+        let who = offer.pointer().who();
+        let Some(kept) = kept_of(&self.kept, who) else {
+            return Err(HostFault::BadViewer);
+        };
+        if let Some(reply) = reply_before(kept, offer) {
+            return Ok(reply);
+        }
+        match self.inputs.add_next(Event::Pointer(offer.pointer())) {
+            Ok(number) => {
+                let now = Kept {
+                    boot: offer.boot(),
+                    count: offer.number(),
+                };
+                set_kept(&mut self.kept, who, now);
+                Ok(HostReply::Numbered(number))
+            }
+            Err(fault) => Err(HostFault::Number(fault)),
+        }
+    }
+}

@@ -1,0 +1,180 @@
+//! The offers that a viewer made, and that wait until the host has numbered them.
+
+ghost use Rattle.std.specs.Prelude.{◌≡◌, ◌≤◌, ◌<◌, ◌^◌, ◌++◌, ◌+◌, ◌==◌, [], ◌∷◌, List, Option};
+ghost use Rattle.std.specs.Prelude.{length, if◌then◌else◌, IsTrue};
+ghost use Rattle.std.specs.Option.{option_map};
+ghost use Rattle.x3d_values.specs.Pointing.{is_ray};
+ghost use Rattle.x3d_values.specs.Ranges.{is_viewer};
+ghost use Rattle.x3d_values.specs.Stamp.{Stamp};
+ghost use Rattle.share_wire.specs.Messages.{is_ordinal};
+ghost use Rattle.share_wire.specs.declared.message.Body.TheVariants as body;
+ghost use Rattle.cascade_core.specs.declared.world.WorldData.{WorldData};
+ghost use Rattle.share_law.specs.Viewer.{View, Running, settled_by, viewer_offer, viewer_resend};
+ghost use Rattle.share_core.specs.Steps.{offer_fault, point_aimed};
+ghost use Rattle.share_core.specs.Waiting.{with_offers};
+
+use share_law::OfferFault;
+use share_wire::{Ack, Offer};
+use std::marker::Model;
+use x3d_values::{Point, Pointer, Ray, Vec3};
+
+/// How many offers may wait.
+const PLACES: u32 = 64;
+
+/// A point that was looked at.
+#[derive(Clone, Copy)]
+struct Aim {
+    down: bool,
+    ray: Ray,
+}
+
+/// The offers of one boot of a viewer, which are numbered from 1: how many were made, and the last
+/// of them, at most 64, which wait.
+#[derive(Drop)]
+pub struct Waiting {
+    who: u8,
+    boot: u32,
+    /// How many offers wait no more.
+    settled: u32,
+    made: u32,
+    /// Offer n at place (n - 1) % 64.
+    places: [Aim; 64],
+}
+
+impl Model for Waiting {
+    ghost use Rattle.std.specs.Prelude.{◌≡◌, ◌+◌, ◌-◌, ◌%◌, ◌≤◌, ◌&&◌, IsTrue, length, map, take};
+    ghost use Rattle.x3d_values.specs.Ranges.{is_viewer};
+    ghost use Rattle.share_wire.specs.Messages.{is_ordinal};
+    ghost use Rattle.share_core.specs.Rings.{in_turn};
+    ghost use Rattle.share_core.specs.Steps.{point_aimed};
+    ghost use Rattle.share_core.specs.Waiting.{Offers};
+
+    ghost Value = { Offers };
+
+    ghost view = { λ w. record {
+      who = w.who;
+      boot = w.boot;
+      made = w.made;
+      waiting = take (w.made - w.settled) (in_turn (w.settled % 64) (map point_aimed w.places));
+    } };
+
+    ghost invariant = { λ w. IsTrue (is_viewer w.who && is_ordinal w.boot)
+        × (w.settled ≤ w.made) × (w.made ≤ w.settled + 64) × (length w.places ≡ 64) };
+}
+
+/// A point that may be offered.
+fn aim_of(point: Point) -> Aim
+    requires { IsTrue (is_ray (record { origin = point.origin; dir = point.dir })) }
+    ensures { point_aimed result ≡ point }
+{
+    Aim {
+        down: point.down,
+        ray: Ray::new(point.origin, point.dir),
+    }
+}
+
+impl Waiting {
+    /// No offers yet. `is_viewer` and `is_ordinal` are the tests.
+    pub fn new(who: u8, boot: u32) -> Waiting
+        requires who { IsTrue (is_viewer who) }
+        requires boot { IsTrue (is_ordinal boot) }
+        ensures { result ≡ record { who = who; boot = boot; made = 0; waiting = [] } }
+    {
+        let origin = Vec3 { x: 0, y: 0, z: 0 };
+        let dir = Vec3 { x: 0, y: 0, z: 1 };
+        let aim = Aim {
+            down: false,
+            ray: Ray::new(origin, dir),
+        };
+        Waiting {
+            who,
+            boot,
+            settled: 0,
+            made: 0,
+            places: [aim; 64],
+        }
+    }
+
+    /// How many offers wait: at most 64.
+    pub fn len(&self) -> u32
+        ensures value { result ≡ length self.now.waiting }
+        ensures most { result ≤ 64 }
+    {
+        self.made - self.settled
+    }
+
+    /// Why a viewer that runs offers no point.
+    fn fault_of(&self, point: Point) -> Option<OfferFault>
+        ensures { result ≡ offer_fault self.now point }
+    {
+        if point.dir.is_zero() {
+            Some(OfferFault::ZeroRay)
+        } else if !(point.origin.fits() && point.dir.fits()) {
+            Some(OfferFault::PointRange)
+        } else if self.len() >= PLACES {
+            Some(OfferFault::OfferFull)
+        } else if self.made == u32::MAX {
+            Some(OfferFault::OffersSpent)
+        } else {
+            None
+        }
+    }
+
+    fn push(&mut self, aim: Aim)
+        requires room { length self.old.waiting < 64 }
+        requires numbers { self.old.made + 1 < 2 ^ 32 }
+        ensures { self.new ≡ record {
+          who = self.old.who;
+          boot = self.old.boot;
+          made = self.old.made + 1;
+          waiting = self.old.waiting ++ point_aimed aim ∷ [];
+        } }
+    {
+        self.places[(self.made % PLACES) as usize] = aim;
+        self.made += 1;
+    }
+
+    /// A viewer that runs offers a point, and gives the offer's number in this boot, from 1.
+    ///
+    /// Refused in this order: `ZeroRay`, a direction of 0 0 0; `PointRange`, a coordinate of a size
+    /// above 10^15 millionths; `OfferFull`, where 64 offers wait; `OffersSpent`, after 2^32 - 1
+    /// offers of this boot. A refusal changes nothing.
+    pub fn offer(&mut self, point: Point) -> Result<u32, OfferFault>
+        ensures who { self.new.who ≡ self.old.who }
+        ensures step { (world : WorldData) (window : List (Option Stamp))
+            → viewer_offer (with_offers self.old (Running world window)) point
+            ≡ (result, with_offers self.new (Running world window)) }
+    {
+        if let Some(fault) = self.fault_of(point) {
+            return Err(fault);
+        }
+        self.push(aim_of(point));
+        Ok(self.made)
+    }
+
+    /// The waiting offer at a place from 0, if there is one.
+    pub fn resend(&self, place: u32) -> Option<Offer>
+        ensures { (view : View WorldData) → option_map (λ o. body.Offer o) result
+            ≡ viewer_resend self.now.who (with_offers self.now view) place }
+    {
+        if place >= self.made - self.settled {
+            return None;
+        }
+        let aim = self.places[((self.settled + place) % PLACES) as usize];
+        let pointer = Pointer::new(self.who, aim.down, aim.ray);
+        Some(Offer::new(self.boot, self.settled + place + 1, pointer))
+    }
+
+    /// The host tells how many offers of a boot it has numbered: so many of this boot wait no more.
+    pub fn heed(&mut self, ack: Ack)
+        ensures who { self.new.who ≡ self.old.who }
+        ensures step { (view : View WorldData) → with_offers self.new view
+            ≡ (if ack.boot == self.old.boot
+            then settled_by (with_offers self.old view) ack.count
+            else with_offers self.old view) }
+    {
+        if ack.boot() == self.boot {
+            self.settled = self.settled.max(ack.count().min(self.made));
+        }
+    }
+}

@@ -1,0 +1,44 @@
+-- What `check` reads and writes: a scene, and how many nodes and routes it has (the line is our
+-- choice).
+use Rattle.std.specs.Prelude.{◌≡◌, ◌⊎◌, ◌++◌, Option, ℕ, List, [], ◌∷◌, Ok, Err, length, codes, decimal}
+use Rattle.std.specs.Io.KnownBytes.{Appends, Consumes, IsAtEnd, Keeps}
+use Rattle.share_program.specs.Opening.{opened}
+use Rattle.share_program.specs.declared.fault.JobFault.{JobFault}
+use Rattle.share_program.specs.declared.fault.JobFault.TheVariants.{Device}
+use Rattle.share_program.specs.declared.open.Opened.{Opened}
+
+abbrev line_feed : ℕ
+line_feed = 10
+
+-- `good <nodes> nodes <routes> routes`
+unfoldable pub counts_text : Opened → List ℕ
+counts_text o =
+    codes "good " ++ decimal (length o.scene.nodes) ++ codes " nodes "
+    ++ decimal (length o.routes) ++ codes " routes" ++ line_feed ∷ []
+
+-- a reader, from the one state to the other, was read to its end, and what it had is this scene
+pub record IsOpened (old new : Option (List ℕ)) (o : Opened) : Type 0 where
+  pub bytes : List ℕ
+  pub consumed : Consumes old new bytes
+  pub ended : IsAtEnd new
+  pub scene : opened bytes ≡ Ok o
+
+-- a reader was read to its end, and what it had is no scene for this reason
+pub record IsNoScene (old new : Option (List ℕ)) (fault : JobFault) : Type 0 where
+  pub bytes : List ℕ
+  pub consumed : Consumes old new bytes
+  pub ended : IsAtEnd new
+  pub refused : opened bytes ≡ Err fault
+
+-- what a reader had is a scene, and a writer took its counts
+pub record IsChecked (old_read new_read old_written new_written : Option (List ℕ)) : Type 0 where
+  pub scene : Opened
+  pub read : IsOpened old_read new_read scene
+  pub written : Appends old_written new_written (counts_text scene)
+
+-- nothing was written; or the writer failed, and then all that the reader had is a scene
+abbrev pub IsUnchecked : Option (List ℕ) → Option (List ℕ) → Option (List ℕ) → Option (List ℕ)
+    → JobFault → Type 0
+IsUnchecked old_read new_read old_written new_written fault =
+    Keeps old_written new_written
+    ⊎ ((fault ≡ Device) × ((o : Opened) × IsOpened old_read new_read o))

@@ -1,0 +1,122 @@
+-- A line `point V D ox oy oz dx dy dz` of a job: a viewer, whether its button is down, and the
+-- origin and the direction of its ray (our choice).
+use Rattle.std.specs.Prelude.{◌≡◌, ℕ, ◌/◌, ◌==◌, ◌<◌, nat_lt, ℤ, pos, negsuc, Bool, true, List, ◌∷◌, ◌++◌, drop, take, length, codes, Option, Some, None, if◌then◌else◌}
+use Rattle.std.specs.List.{after_first, before_first}
+use Rattle.std.specs.Result.{result_ok}
+use Rattle.std.specs.Str.{bytes_eq}
+use Rattle.x3d_numerals.specs.Numeral.{IsNumeral}
+use Rattle.x3d_numerals.specs.Reading.{is_digits, numeral}
+use Rattle.x3d_values.specs.Pointing.{Pointing, Sight, is_ray}
+use Rattle.x3d_values.specs.Ranges.{is_viewer, max_viewers}
+use Rattle.x3d_values.specs.declared.vector.Vec3.{Vec3}
+
+-- ---- words
+
+abbrev pub is_space : ℕ → Bool
+is_space b = b == 32
+
+-- what stands before the first space, or the whole text
+unfoldable pub word : List ℕ → List ℕ
+word text = before_first is_space text
+
+-- what stands behind the first space, or nothing
+unfoldable pub behind : List ℕ → List ℕ
+behind text = after_first is_space text
+
+-- ---- numbers
+
+-- the whole units of a numeral, where they are below a limit
+abbrev pub units_below : ℕ → Option ℤ → Option ℕ
+units_below limit (Some (pos n)) = if nat_lt (n / 1000000) limit then Some (n / 1000000) else None
+units_below limit (Some (negsuc n)) = None
+units_below limit None = None
+
+-- a number in decimal digits, below a limit
+unfoldable pub number_below : ℕ → List ℕ → Option ℕ
+number_below limit text = if is_digits 10 text then units_below limit (result_ok (numeral text))
+    else None
+
+abbrev pub vector : Option ℤ → Option ℤ → Option ℤ → Option Vec3
+vector (Some x) (Some y) (Some z) = Some (record { x = x; y = y; z = z })
+vector (Some x) (Some y) None = None
+vector (Some x) None z = None
+vector None y z = None
+
+-- three numerals of units, as millionths
+unfoldable pub vector_of : List ℕ → List ℕ → List ℕ → Option Vec3
+vector_of x y z = vector (result_ok (numeral x)) (result_ok (numeral y)) (result_ok (numeral z))
+
+-- ---- the line
+
+-- a ray, where its coordinates are in their range and its direction isn't 0 0 0
+abbrev pub sight : Option Vec3 → Option Vec3 → Option Sight
+sight (Some origin) (Some dir) =
+    if is_ray (record { origin = origin; dir = dir })
+    then Some (record { origin = origin; dir = dir }) else None
+sight (Some origin) None = None
+sight None dir = None
+
+abbrev pub pointing : Option ℕ → Option ℕ → Option Sight → Option Pointing
+pointing (Some who) (Some down) (Some ray) =
+    Some (record { who = who; down = down == 1; ray = ray })
+pointing (Some who) (Some down) None = None
+pointing (Some who) None ray = None
+pointing None down ray = None
+
+-- the origin is three words, and the direction three more, of which the last ends the text
+unfoldable pub sight_of : List ℕ → Option Sight
+sight_of text =
+    let y = behind text in
+    let z = behind y in
+    let dir = behind z in
+    let dir_y = behind dir in
+    sight (vector_of (word text) (word y) (word z))
+    (vector_of (word dir) (word dir_y) (behind dir_y))
+
+-- the words behind `point `
+unfoldable pub pointing_of : List ℕ → Option Pointing
+pointing_of text =
+    pointing (number_below max_viewers (word text)) (number_below 2 (word (behind text)))
+    (sight_of (behind (behind text)))
+
+-- what a line points with, where it begins with `point `
+unfoldable pub pointed : List ℕ → Option Pointing
+pointed line = if bytes_eq (take 6 line) (codes "point ") then pointing_of (drop 6 line) else None
+
+-- ---- what holds of a line
+
+-- decimal digits of a number
+pub record IsNumber (text : List ℕ) (n : ℕ) : Type 0 where
+  pub digits : is_digits 10 text ≡ true
+  pub millionths : ℕ
+  pub numeral : IsNumeral text (pos millionths)
+  pub units : n ≡ millionths / 1000000
+
+-- numerals of the three coordinates
+pub record AreNumerals (x y z : List ℕ) (v : Vec3) : Type 0 where
+  pub x_is : IsNumeral x v.x
+  pub y_is : IsNumeral y v.y
+  pub z_is : IsNumeral z v.z
+
+-- the words of a line, which single spaces part, and what they stand for
+pub record IsPoint (line : List ℕ) (p : Pointing) : Type 0 where
+  pub who : List ℕ
+  pub down : List ℕ
+  pub ox : List ℕ
+  pub oy : List ℕ
+  pub oz : List ℕ
+  pub dx : List ℕ
+  pub dy : List ℕ
+  pub dz : List ℕ
+  pub words :
+      line
+      ≡ codes "point "
+      ++ (who ++ (32
+      ∷ (down ++ (32
+      ∷ (ox ++ (32 ∷ (oy ++ (32 ∷ (oz ++ (32 ∷ (dx ++ (32 ∷ (dy ++ (32 ∷ dz))))))))))))))
+  pub viewer : IsNumber who p.who
+  pub is_viewer : is_viewer p.who ≡ true
+  pub button : IsNumber down (if p.down then 1 else 0)
+  pub origin : AreNumerals ox oy oz p.ray.origin
+  pub direction : AreNumerals dx dy dz p.ray.dir
+  pub is_ray : is_ray p.ray ≡ true

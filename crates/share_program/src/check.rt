@@ -1,0 +1,57 @@
+//! Whether a text is a scene that can be run.
+
+ghost use Rattle.std.specs.Prelude.{◌≡◌, ◌⊎◌, IfOk, IfErr, OnOk};
+ghost use Rattle.share_program.specs.Checking.{IsOpened, IsNoScene, IsChecked, IsUnchecked, counts_text};
+ghost use Rattle.share_program.specs.Opening.{IsDeviceOrMemory};
+
+use crate::fault::JobFault;
+use crate::open::{Opened, open_scene};
+use crate::stream::{read_whole, write_whole};
+use itoa::Buffer;
+use std::alloc::{AllocError, Global};
+use std::io::{Read, Write};
+
+/// Reads a scene to its end, and writes `good`, how many nodes it has and how many routes. No
+/// script is looked for. It is refused for the device after 2^27 reads.
+pub fn check_text<R: Read, W: Write>(
+    alloc: Global,
+    reader: &mut R,
+    writer: &mut W,
+) -> Result<(), JobFault>
+    ensures ok { OnOk result (IsChecked (R.remaining reader.old) (R.remaining reader.new)
+        (W.contents writer.old) (W.contents writer.new)) }
+    ensures refused { IfErr result (λ f. IsDeviceOrMemory f
+        ⊎ IsNoScene (R.remaining reader.old) (R.remaining reader.new) f) }
+    ensures nothing { IfErr result (IsUnchecked (R.remaining reader.old) (R.remaining reader.new)
+        (W.contents writer.old) (W.contents writer.new)) }
+{
+    let opened = read_scene(alloc, reader)?;
+    let line = counts_line(alloc, &opened)?;
+    write_whole(writer, line.as_slice())?;
+    Ok(())
+}
+
+/// The scene that a reader has left, with its routes.
+fn read_scene<R: Read>(alloc: Global, reader: &mut R) -> Result<Opened, JobFault>
+    ensures read { IfOk result (IsOpened (R.remaining reader.old) (R.remaining reader.new)) }
+    ensures refused { IfErr result (λ f. IsDeviceOrMemory f
+        ⊎ IsNoScene (R.remaining reader.old) (R.remaining reader.new) f) }
+{
+    let bytes = read_whole(alloc, reader)?;
+    open_scene(alloc, bytes.as_slice())
+}
+
+/// The line that tells of a scene.
+#[tactic(auto, unfolding(crate::specs::Checking::counts_text))]
+fn counts_line(alloc: Global, opened: &Opened) -> Result<Vec<u8>, AllocError>
+    ensures { IfOk result (λ v. v.items ≡ counts_text opened.now) }
+{
+    let mut digits = Buffer::new();
+    let mut line = Vec::new(alloc);
+    line.extend_from_slice(b"good ")?;
+    line.extend_from_slice(digits.format(opened.scene.node_count()).as_bytes())?;
+    line.extend_from_slice(b" nodes ")?;
+    line.extend_from_slice(digits.format(opened.routes.len()).as_bytes())?;
+    line.extend_from_slice(b" routes\n")?;
+    Ok(line)
+}
