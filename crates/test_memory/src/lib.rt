@@ -9,6 +9,22 @@ const LARGEST: usize = 1 << 46;
 /// More blocks than it takes.
 const MOST_BLOCKS: usize = 1 << 17;
 
+/// Blocks up to this size, in bytes, are kept apart by their sizes when they are given back, so that
+/// each of these sizes is tried.
+const LARGEST_SMALL: usize = 2048;
+
+/// How much the sizes of small blocks differ.
+const STEP: usize = 16;
+
+/// The size that is tried when no block of this size is left; 0 is the end.
+fn next_size(size: usize) -> usize {
+    if size > LARGEST_SMALL {
+        size / 2
+    } else {
+        size.saturating_sub(STEP)
+    }
+}
+
 /// Memory that a test holds, so that nobody else gets any. It comes back where this is dropped.
 #[derive(Drop)]
 pub struct UsedUp {
@@ -27,7 +43,7 @@ impl UsedUp {
             }
             match Vec::with_capacity(alloc, size) {
                 Ok(block) => blocks.push(block)?,
-                Err(_) => size /= 2,
+                Err(_) => size = next_size(size),
             }
         }
         Ok(UsedUp {
