@@ -109,7 +109,6 @@ impl Model for Stamp {
 
 impl Stamp {
     ghost use Rattle.std.specs.Prelude.{◌≡◌, IfSome, None, OnOk, Some};
-    ghost use Rattle.std.specs.Bool.{OnTrue};
     ghost use Rattle.cascade_core.specs.Texts.{stamp_text};
 
     /// No stamp is written.
@@ -122,21 +121,11 @@ impl Stamp {
         }
     }
 
-    /// Whether the text is that of an input.
-    fn is_of(&self, moment: Moment) -> bool
-        ensures { OnTrue result (self.now ≡ Some moment) }
-    {
-        match self.moment {
-            Some(own) => own.input == moment.input && own.time == moment.time,
-            None => false,
-        }
-    }
-
     /// The lines that come are of this input.
     fn set(&mut self, moment: Moment) -> Result<(), AllocError>
         ensures { OnOk result (self.new ≡ Some moment) }
     {
-        if self.is_of(moment) {
+        if self.moment == Some(moment) {
             return Ok(());
         }
         self.moment = None;
