@@ -3,11 +3,11 @@
 ghost use Rattle.std.specs.Prelude.{◌≡◌, [], OnOk, slice_get};
 ghost use Rattle.pick_core.specs.Sites.{rows_of};
 ghost use Rattle.scene_core.specs.Scene.{types_of};
-ghost use Rattle.cascade_core.specs.Answers.{answer, answered};
+ghost use Rattle.cascade_core.specs.Answers.{answer, answered, with_answer};
 ghost use Rattle.cascade_core.specs.Nodes.{moves_boxes};
 
 use crate::nodes::type_at;
-use crate::world::WorldData;
+use crate::world::{Turn, WorldData};
 use pick_core::BoxCache;
 use react_core::Outbox;
 use scene_core::{End, Scene};
@@ -26,9 +26,32 @@ fn moves_boxes(scene: &Scene, node: u32) -> bool
     }
 }
 
+impl Turn {
+    /// An event comes to the target, if there is such a node, whatever has sent before.
+    pub(crate) fn deliver(
+        &mut self,
+        alloc: Global,
+        scene: &Scene,
+        boxes: &mut BoxCache,
+        target: End,
+        value: &Value,
+        out: &mut Outbox,
+    ) -> Result<(), AllocError>
+        requires empty { out.old.items ≡ [] }
+        requires boxes { boxes.old ≡ rows_of scene.now self.old.world.fields }
+        ensures turn { OnOk result (self.new
+            ≡ with_answer self.old (answer (types_of scene.now) self.old.world target value.now)) }
+        ensures replies { OnOk result (out.new.items
+            ≡ (answer (types_of scene.now) self.old.world target value.now).replies) }
+        ensures boxes { OnOk result (boxes.new ≡ rows_of scene.now self.new.world.fields) }
+    {
+        self.world.answer(alloc, scene, boxes, target, value, out)
+    }
+}
+
 impl WorldData {
     /// An event comes to the target, if there is such a node.
-    pub(crate) fn answer(
+    fn answer(
         &mut self,
         alloc: Global,
         scene: &Scene,

@@ -151,11 +151,10 @@ fn follow(
         return Ok(());
     };
     let alloc = *tasks.allocator();
-    turn.world
-        .answer(alloc, scene, boxes, hop.target, &value, replies)?;
+    turn.deliver(alloc, scene, boxes, hop.target, &value, replies)?;
     if hop.more {
-        tasks.push(Task::Follow(source, value, next + 1))?;
-        push_replies(tasks, hop.target.node, replies)?;
+        let rest = Task::Follow(source, value, next + 1);
+        push_before(tasks, rest, hop.target.node, replies)?;
         return Ok(());
     }
     push_replies(tasks, hop.target.node, replies)?;
@@ -186,6 +185,23 @@ fn hop_at(routes: &Routes, source: End, next: usize) -> Option<Hop>
         target: routes.route(places[next]).target,
         more: places.len() - next > 1,
     })
+}
+
+/// Each reply is to be sent, the first of them next, and the rest is left until all of them and
+/// what follows from them are done.
+fn push_before(
+    tasks: &mut Vec<Task>,
+    rest: Task,
+    node: u32,
+    replies: &mut Outbox,
+) -> Result<(), AllocError>
+    ensures tasks { OnOk result (tasks.new.items
+        ≡ (tasks.old.items ++ rest ∷ []) ++ map (send_by node) (reverse replies.old.items)) }
+    ensures none { OnOk result (replies.new.items ≡ []) }
+    ensures few { OnOk result (length replies.old.items ≤ 5) }
+{
+    tasks.push(rest)?;
+    push_replies(tasks, node, replies)
 }
 
 /// Each reply is to be sent, the first of them next.

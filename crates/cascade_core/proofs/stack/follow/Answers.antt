@@ -14,36 +14,36 @@ returns-in_default-clause-done c =
 
 pub returns-clause-done : goal.returns-clause-done
 returns-clause-done c =
-    rw (c.in_ok-push_replies-2.ensures.tasks, c.in_ok-answer.ensures.replies, c.in_ok-answer.ensures.world)
+    rw (c.in_ok-push_replies.ensures.tasks, c.in_ok-deliver.ensures.replies, c.in_ok-deliver.ensures.turn)
     (last-done (types_of c.args.scene.now) c.args.routes.now c.args.turn.now c.args.source c.args.value c.args.next c.in-Some.hop.target c.args.tasks.now.items
     c.in-Some.ensures.target (c.in-Some.ensures.last c.if-hop.false))
 
 pub returns-clause-ready : goal.returns-clause-ready
 returns-clause-ready c =
-    rw (c.in_ok-push_replies-2.ensures.tasks, c.in_ok-answer.ensures.replies)
+    rw (c.in_ok-push_replies.ensures.tasks, c.in_ok-deliver.ensures.replies)
     (answer-ready (types_of c.args.scene.now) c.args.turn.now.world c.in-Some.hop.target c.args.value c.args.tasks.now.items c.requires.tasks)
 
 pub returns-clause-fewer : goal.returns-clause-fewer
 returns-clause-fewer c =
     let below : c.args.next < length c.args.routes.now = target-few c.args.routes.now c.args.source c.args.next c.in-Some.hop.target c.in-Some.ensures.target in
-    rw (c.in_ok-push_replies-2.ensures.tasks, c.in_ok-answer.ensures.world)
+    rw (c.in_ok-push_replies.ensures.tasks, c.in_ok-deliver.ensures.turn)
     (last-fewer (types_of c.args.scene.now) c.args.routes.now c.args.turn.now (answer (types_of c.args.scene.now) c.args.turn.now.world c.in-Some.hop.target c.args.value)
-    c.args.source c.args.value c.args.next c.in-Some.hop.target.node _ c.args.tasks.now.items c.in_ok-push_replies-2.ensures.few below)
+    c.args.source c.args.value c.args.next c.in-Some.hop.target.node _ c.args.tasks.now.items c.in_ok-push_replies.ensures.few below)
 
 pub returns-then-hop-clause-done : goal.returns-then-hop-clause-done
 returns-then-hop-clause-done c =
-    rw (c.in_ok-push_replies.ensures.tasks, c.in_ok-push.ensures.items, c.in_ok-answer.ensures.replies, c.in_ok-answer.ensures.world)
+    rw (c.in_ok-push_before.ensures.tasks, c.in_ok-deliver.ensures.replies, c.in_ok-deliver.ensures.turn)
     (follow-done (types_of c.args.scene.now) c.args.routes.now c.args.turn.now c.args.source c.args.value c.args.next c.in-Some.hop.target c.args.tasks.now.items c.in-Some.ensures.target)
 
 pub returns-then-hop-clause-ready : goal.returns-then-hop-clause-ready
 returns-then-hop-clause-ready c =
-    rw (c.in_ok-push_replies.ensures.tasks, c.in_ok-push.ensures.items, c.in_ok-answer.ensures.replies)
+    rw (c.in_ok-push_before.ensures.tasks, c.in_ok-deliver.ensures.replies)
     (answer-ready (types_of c.args.scene.now) c.args.turn.now.world c.in-Some.hop.target c.args.value _
     (follow-ready (types_of c.args.scene.now) c.args.source c.args.value (c.args.next + 1) c.args.tasks.now.items c.requires.tasks))
 
 pub returns-then-hop-clause-fewer : goal.returns-then-hop-clause-fewer
 returns-then-hop-clause-fewer c =
     let below : c.args.next < length c.args.routes.now = target-few c.args.routes.now c.args.source c.args.next c.in-Some.hop.target c.in-Some.ensures.target in
-    rw (c.in_ok-push_replies.ensures.tasks, c.in_ok-push.ensures.items, c.in_ok-answer.ensures.world)
+    rw (c.in_ok-push_before.ensures.tasks, c.in_ok-deliver.ensures.turn)
     (follow-fewer (types_of c.args.scene.now) c.args.routes.now c.args.turn.now (answer (types_of c.args.scene.now) c.args.turn.now.world c.in-Some.hop.target c.args.value)
-    c.args.source c.args.value c.args.next c.in-Some.hop.target.node _ c.args.tasks.now.items c.in_ok-push_replies.ensures.few below)
+    c.args.source c.args.value c.args.next c.in-Some.hop.target.node _ c.args.tasks.now.items c.in_ok-push_before.ensures.few below)
