@@ -1,0 +1,4 @@
+mod LineLaws
+mod NodeLoops
+mod PartSizes
+mod SetLaws
