@@ -2,3 +2,4 @@ mod LineLaws
 mod NodeLoops
 mod PartSizes
 mod SetLaws
+mod WorldLaws

@@ -1,6 +1,9 @@
 -- The lines of a trace are its events.
-use Rattle.std.proofs.Common.{◌≡◌, ℕ, List, [], ◌∷◌, map, Option, Some, None, refl, sym, ap, ◌∙◌}
-use Rattle.byte_codec.specs.Codec.{◌>>?◌, at_front}
+use Rattle.std.proofs.Common.{◌≡◌, ℕ, List, [], ◌∷◌, ◌++◌, length, map, Option, Some, None, refl, sym, ap, ◌∙◌, append_assoc}
+use Rattle.std.specs.Int.{w64}
+use Rattle.std.specs.List.{flat_map}
+use Rattle.std.proofs.lemmas.List.{length-map}
+use Rattle.byte_codec.specs.Codec.{number_text}
 use Rattle.byte_codec.specs.Exact.{IsExact}
 use Rattle.byte_codec.proofs.Laws.{named_exact}
 use Rattle.x3d_values.specs.declared.node_type.NodeType.{NodeType}
@@ -8,10 +11,10 @@ use Rattle.snapshot_codec.specs.declared.fault.PartFault.{PartFault}
 use Rattle.snapshot_codec.specs.declared.fault.PartFault.TheVariants as faults
 use Rattle.snapshot_codec.specs.declared.trace.TraceEntry.{TraceEntry}
 use Rattle.snapshot_codec.specs.Reads.{Fails, behind}
-use Rattle.snapshot_codec.specs.Trace.{trace_codec}
+use Rattle.snapshot_codec.specs.Trace.{entry_codec, trace_codec}
 use Rattle.snapshot_codec.proofs.TraceLaws.{trace_exact}
 use Rattle.cascade_core.specs.declared.world.TraceLine.{TraceLine}
-use Rattle.snapshot_core.specs.WorldCodec.{line_of, entry_of, output_type, lines_codec}
+use Rattle.snapshot_core.specs.WorldCodec.{line_of, entry_of, line_text, output_type, lines_codec}
 
 entries_back : (entries : List TraceEntry) → map entry_of (map line_of entries) ≡ entries
 entries_back [] = refl
@@ -46,3 +49,17 @@ lines_fail types faults.Memory front bytes none h = tt
 lines_fail types faults.NotCanonical front bytes none h =
     let r : (trace_codec (output_type types)).read bytes ≡ None = only front ((trace_codec (output_type types)).read bytes) none ∙ h in
     rw r refl
+
+-- ---- what is written
+
+texts : (types : List NodeType) (lines : List TraceLine) → flat_map (entry_codec (output_type types)).write (map entry_of lines) ≡ flat_map line_text lines
+unfolding entry_codec
+texts types [] = refl
+texts types (line ∷ lines) = ap (λ (z : List ℕ). line_text line ++ z) (texts types lines)
+
+pub lines_written : (types : List NodeType) (lines : List TraceLine) (old now new : List ℕ) → now ≡ old ++ number_text w64 (length lines) → new ≡ now ++ flat_map line_text lines → new ≡ old ++ (lines_codec types).write lines
+unfolding lines_codec
+lines_written types lines old now new count all =
+    let many : length (map entry_of lines) ≡ length lines = length-map lines entry_of in
+    let text : (lines_codec types).write lines ≡ number_text w64 (length lines) ++ flat_map line_text lines = rw (many, texts types lines) refl in
+    all ∙ ap (λ (z : List ℕ). z ++ flat_map line_text lines) count ∙ append_assoc old (number_text w64 (length lines)) (flat_map line_text lines) ∙ ap (λ (z : List ℕ). old ++ z) (sym text)

@@ -7,16 +7,18 @@ use Rattle.x3d_values.specs.declared.node_type.NodeType.{NodeType}
 use Rattle.x3d_values.specs.declared.ranges.TheConstants.{MAX_VIEWERS}
 use Rattle.x3d_values.specs.Access.{sends}
 use Rattle.x3d_values.specs.Tables.{Entry, rows}
+use Rattle.snapshot_codec.specs.declared.head.Progress.{Progress}
 use Rattle.snapshot_codec.specs.declared.trace.TraceEntry.{TraceEntry}
 use Rattle.snapshot_codec.specs.declared.viewers.Viewers.TheVariants.{Sixteen}
 use Rattle.snapshot_codec.specs.Head.{applied_codec}
 use Rattle.snapshot_codec.specs.Parts.{viewer_set_codec}
-use Rattle.snapshot_codec.specs.Trace.{moment_codec, trace_codec}
+use Rattle.snapshot_codec.specs.Trace.{moment_codec, trace_codec, entry_text}
 use Rattle.sensor_core.specs.Parts.{number_of, over_of}
 use Rattle.scene_core.specs.Scene.{SceneView, types_of}
 use Rattle.cascade_core.specs.declared.world.TraceLine.{TraceLine}
 use Rattle.cascade_core.specs.declared.world.WorldData.{WorldData}
 use Rattle.snapshot_core.specs.declared.nodes.NodeLists.{NodeLists}
+use Rattle.snapshot_core.specs.declared.world.WorldParts.{WorldParts}
 use Rattle.snapshot_core.specs.Nodes.{nodes_codec}
 
 -- ---- whose buttons are down
@@ -57,36 +59,46 @@ entry_of line = record {
   value = line.value;
 }
 
+-- input, time, node, field, value
+abbrev pub line_text : TraceLine → List ℕ
+line_text line = entry_text (entry_of line).sent line.value
+
 unfoldable pub lines_codec : List NodeType → Codec (List TraceLine)
 lines_codec types = named (map line_of) (map entry_of) (trace_codec (output_type types))
 
 -- ---- a world
 
--- inputs applied, time of the last, nodes, buttons, trace
-abbrev pub Parts : Type 0
-Parts = ℕ × (ℤ × (NodeLists × (List Bool × List TraceLine)))
+-- nodes, buttons, trace
+unfoldable pub parts_codec : List NodeType → Codec WorldParts
+parts_codec types =
+    named (λ t. record { nodes = t.0; buttons = t.1.0; trace = t.1.1 })
+    (λ p. (p.nodes, (p.buttons, p.trace)))
+    (pair (nodes_codec types) (pair buttons_codec (lines_codec types)))
 
-abbrev pub world_of : Parts → WorldData
-world_of parts = record {
-  applied = parts.0;
-  last_time = parts.1.0;
-  fields = parts.1.1.0.fields;
-  sensors = parts.1.1.0.sensors;
-  touches = parts.1.1.0.touches;
-  buttons = parts.1.1.1.0;
-  trace = parts.1.1.1.1;
+-- inputs applied, time of the last, and the parts
+abbrev pub world_of : ℕ × (ℤ × WorldParts) → WorldData
+world_of x = record {
+  applied = x.0;
+  last_time = x.1.0;
+  fields = x.1.1.nodes.fields;
+  sensors = x.1.1.nodes.sensors;
+  touches = x.1.1.nodes.touches;
+  buttons = x.1.1.buttons;
+  trace = x.1.1.trace;
 }
 
 abbrev pub lists_in : WorldData → NodeLists
 lists_in w = record { fields = w.fields; sensors = w.sensors; touches = w.touches }
 
-abbrev pub parts_of : WorldData → Parts
-parts_of w = (w.applied, (w.last_time, (lists_in w, (w.buttons, w.trace))))
+abbrev pub parts_in : WorldData → WorldParts
+parts_in w = record { nodes = lists_in w; buttons = w.buttons; trace = w.trace }
 
--- the states that a scene may have, by the types of its nodes: those that fit have a snapshot
+-- the worlds of a scene, by the types of its nodes: those that fit have a snapshot
 unfoldable pub world_codec : SceneView → Codec WorldData
 world_codec scene =
-    let types = types_of scene in
-    named world_of parts_of
-    (pair applied_codec (pair moment_codec
-    (pair (nodes_codec types) (pair buttons_codec (lines_codec types)))))
+    named world_of (λ w. (w.applied, (w.last_time, parts_in w)))
+    (pair applied_codec (pair moment_codec (parts_codec (types_of scene))))
+
+-- a world that had come so far, of these parts
+abbrev pub world_with : Progress → WorldParts → WorldData
+world_with progress parts = world_of (progress.applied, (progress.last_time, parts))

@@ -1,6 +1,7 @@
 //! What may be refused, each in the order of precedence.
 
 ghost use Rattle.std.specs.Prelude.{◌≡◌};
+ghost use Rattle.snapshot_core.specs.Loading.{fault_of};
 
 use snapshot_codec::HeadFault;
 use std::fmt;
@@ -36,4 +37,17 @@ pub enum SnapFault {
     ScriptState,
     #[error("memory was refused")]
     Memory,
+}
+
+/// What is wrong before the body of a snapshot.
+pub(crate) fn fault_of(fault: HeadFault) -> SnapFault
+    ensures { result ≡ fault_of fault }
+{
+    match fault {
+        HeadFault::Short => SnapFault::Short,
+        HeadFault::BadMagic => SnapFault::BadMagic,
+        HeadFault::BadVersion => SnapFault::BadVersion,
+        HeadFault::WrongScene => SnapFault::WrongScene,
+        HeadFault::BadDigest => SnapFault::BadDigest,
+    }
 }

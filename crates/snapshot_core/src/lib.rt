@@ -21,8 +21,13 @@ mod exactness;
 mod fault;
 mod kept;
 mod lines;
+mod loading;
 mod nodes;
+mod saving;
+mod world;
 
 pub use exactness::snapshots_are_exact;
 pub use fault::{SaveFault, SnapFault};
+pub use loading::{Saved, load_into};
+pub use saving::save;
 pub use snapshot_codec::scene_mark;

@@ -1,6 +1,7 @@
 //! The trace as bytes.
 
-ghost use Rattle.std.specs.Prelude.{◌≡◌, ◌++◌, [], ◌∷◌, OnErr, OnOk};
+ghost use Rattle.std.specs.Prelude.{◌≡◌, ◌++◌, List, OnOk};
+ghost use Rattle.x3d_values.specs.declared.node_type.NodeType.{NodeType};
 ghost use Rattle.std.specs.Option.{option_map};
 ghost use Rattle.x3d_lists.specs.Extends.{Extends};
 ghost use Rattle.scene_core.specs.Scene.{types_of};
@@ -8,11 +9,13 @@ ghost use Rattle.snapshot_codec.specs.Reads.{Reads};
 ghost use Rattle.snapshot_core.specs.WorldCodec.{sent_type, output_type, lines_codec};
 ghost use Rattle.x3d_values.specs.Tables.{entry};
 
-use cascade_core::Trace;
+use cascade_core::{LineHead, Trace, WritesLines};
 use scene_core::{End, Scene};
-use snapshot_codec::{Outputs, PartFault, TakesEntries, TraceEntry, trace_of};
+use snapshot_codec::{
+    Outputs, PartFault, SentAt, TakesEntries, TraceEntry, push_entry, push_entry_count, trace_of,
+};
 use std::alloc::{AllocError, Global};
-use x3d_values::{Field, FieldType, NodeType, fields_of};
+use x3d_values::{Field, FieldType, Value, fields_of};
 
 /// The type of the events that leave by a field, if any do.
 fn sent_type(row: &Field) -> Option<FieldType>
@@ -86,4 +89,40 @@ pub(crate) fn lines_of<'a>(
     };
     let rest = trace_of(alloc, &outputs, bytes, &mut read)?;
     Ok((read.trace, rest))
+}
+
+/// Writes lines as bytes.
+#[derive(Clone, Copy)]
+struct LineBytes;
+
+impl WritesLines for LineBytes {
+    ghost use Rattle.snapshot_core.specs.WorldCodec.{line_text};
+
+    ghost text = { λ _ line. line_text line };
+
+    fn write_line(
+        &mut self,
+        head: LineHead,
+        value: &Value,
+        out: &mut Vec<u8>,
+    ) -> Result<(), AllocError> {
+        let sent = SentAt {
+            input: head.input,
+            time: head.time,
+            node: head.source.node,
+            field: head.source.field,
+        };
+        push_entry(sent, value, out)
+    }
+}
+
+/// Appends a trace; on a refusal perhaps a part of it.
+pub(crate) fn push_lines(trace: &Trace, out: &mut Vec<u8>) -> Result<(), AllocError>
+    ensures ok { (types : List NodeType)
+        → OnOk result (out.new.items ≡ out.old.items ++ (lines_codec types).write trace.now) }
+    ensures kept { Extends out.old.items out.new.items }
+{
+    push_entry_count(trace.len(), out)?;
+    trace.write(&mut LineBytes, out)?;
+    Ok(())
 }
