@@ -1,5 +1,7 @@
 mod LineLaws
+mod NodeLaws
 mod NodeLoops
 mod PartSizes
 mod SetLaws
+mod ShotLaws
 mod WorldLaws

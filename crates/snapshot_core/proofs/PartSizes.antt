@@ -1,6 +1,5 @@
 -- What is read of a sensor is in its range.
-use Rattle.std.proofs.Common.{◌≡◌, ℕ, ◌^◌, ◌<◌, true, ltb, List, Option, Some}
-use Rattle.std.specs.Int.{w16}
+use Rattle.std.proofs.Common.{◌≡◌, ℕ, ◌^◌, ◌<◌, true, List, Option, Some}
 use Rattle.std.proofs.lemmas.Bool.{ltb-true}
 use Rattle.byte_codec.specs.Exact.{IsBytes}
 use Rattle.byte_codec.proofs.Laws.{both}

@@ -1,20 +1,31 @@
 -- A world with its boot, as bytes.
-use Rattle.std.proofs.Common.{◌≡◌, ℕ, List, ◌++◌, Option, Some, None, refl, sym, ap, ◌∙◌, append_assoc}
+use Rattle.std.proofs.Common.{◌≡◌, ℕ, Bool, true, eqb, List, ◌++◌, length, Option, Some, None, refl, sym, ap, subst, ◌∙◌, append_assoc, eq-eqb}
 use Rattle.std.specs.Prelude.{ℤ}
-use Rattle.std.specs.Int.{w32}
-use Rattle.byte_codec.specs.Codec.{◌>>?◌, at_front, number, number_text}
+use Rattle.std.specs.Int.{w16, w32}
+use Rattle.std.proofs.lemmas.Bool.{eqb-true, lt-ltb, ltb-true}
+use Rattle.byte_codec.specs.Codec.{◌>>?◌, number, number_text}
+use Rattle.byte_codec.specs.Exact.{IsExact}
+use Rattle.byte_codec.proofs.Laws.{some_is, refined_exact, named_exact, pair_exact, number_exact, wide16, wide32}
+use Rattle.x3d_values.specs.declared.node_type.NodeType.{NodeType}
 use Rattle.scene_core.specs.Scene.{SceneView, types_of}
 use Rattle.snapshot_codec.specs.declared.fault.PartFault.{PartFault}
 use Rattle.snapshot_codec.specs.declared.fault.PartFault.TheVariants as faults
 use Rattle.snapshot_codec.specs.declared.head.Progress.{Progress}
 use Rattle.snapshot_codec.specs.Head.{applied_codec, progress_codec}
 use Rattle.snapshot_codec.specs.Reads.{Fails}
+use Rattle.snapshot_codec.specs.Parts.{viewer_set_codec}
 use Rattle.snapshot_codec.specs.Trace.{moment_codec}
+use Rattle.snapshot_codec.proofs.HeadLaws.{applied_exact}
+use Rattle.snapshot_codec.proofs.TraceLaws.{moment_exact}
+use Rattle.sensor_core.specs.Parts.{number_of, over_of}
 use Rattle.cascade_core.specs.declared.world.WorldData.{WorldData}
 use Rattle.snapshot_core.specs.declared.world.WorldParts.{WorldParts}
 use Rattle.snapshot_core.specs.Nodes.{nodes_codec}
 use Rattle.snapshot_core.specs.Shot.{body_codec}
-use Rattle.snapshot_core.specs.WorldCodec.{buttons_codec, lines_codec, lists_in, parts_codec, world_codec, world_of, world_with}
+use Rattle.snapshot_core.specs.WorldCodec.{buttons_codec, lines_codec, lists_in, parts_in, parts_codec, world_codec, world_of, world_with}
+use Rattle.snapshot_core.proofs.LineLaws.{lines_exact}
+use Rattle.snapshot_core.proofs.NodeLaws.{nodes_exact}
+use Rattle.snapshot_core.proofs.SetLaws.{number_back, over_back, over_length, number_small}
 
 -- ---- reading: how far it had come, and then its parts
 
@@ -95,3 +106,27 @@ unfolding world_codec parts_codec progress_codec
 body_written scene boot w old o1 o2 o3 new p n u l =
     let types = types_of scene in
     rw (l, u, n, p) (regroup old (number_text w32 boot) (applied_codec.write w.applied) (moment_codec.write w.last_time) ((nodes_codec types).write (lists_in w)) (buttons_codec.write w.buttons) ((lines_codec types).write w.trace))
+
+-- ---- exactness
+
+buttons_exact : IsExact buttons_codec
+unfolding buttons_codec viewer_set_codec
+buttons_exact = refined_exact (λ n. Some (over_of n)) number_of (λ set. eqb (length set) 16) (number w16) (record {
+  back = λ a b fits e.
+      let P : List Bool → Type 0 = λ set. (number_of set ≡ a) × (eqb (length set) 16 ≡ true) in
+      subst P (some_is (over_of a) b e) (number_back a (ltb-true _ _ fits), eq-eqb _ _ (over_length a));
+  forth = λ b ok.
+      let len : length b ≡ 16 = eqb-true _ _ ok in
+      (lt-ltb _ _ (number_small b len), ap (λ (set : List Bool). Some set) (over_back b len));
+}) (number_exact w16 wide16)
+
+parts_exact : (types : List NodeType) → IsExact (parts_codec types)
+unfolding parts_codec
+parts_exact types = named_exact _ _ _ (λ a. refl) (λ b. refl) (pair_exact _ _ (nodes_exact types) (pair_exact _ _ buttons_exact (lines_exact types)))
+
+pub world_exact : (scene : SceneView) → IsExact (world_codec scene)
+unfolding world_codec
+world_exact scene = named_exact world_of (λ w. (w.applied, (w.last_time, parts_in w))) _ (λ a. refl) (λ b. refl) (pair_exact _ _ applied_exact (pair_exact _ _ moment_exact (parts_exact (types_of scene))))
+
+pub body_exact : (scene : SceneView) → IsExact (body_codec scene)
+body_exact scene = pair_exact _ _ (number_exact w32 wide32) (world_exact scene)

@@ -1,14 +1,14 @@
 -- The world of a snapshot, or what is wrong with the bytes (our choice).
-use Rattle.std.specs.Prelude.{◌≡◌, ◌⊎◌, ℕ, List, Option, Some, None, Result, Ok, Err, nat_lt, if◌then◌else◌}
+use Rattle.std.specs.Prelude.{ℕ, List, Option, Some, None, Result, Ok, Err, nat_lt, if◌then◌else◌}
 use Rattle.byte_codec.specs.Codec.{whole}
 use Rattle.scene_core.specs.Scene.{SceneView}
 use Rattle.snapshot_codec.specs.declared.head.HeadFault.{HeadFault}
 use Rattle.snapshot_codec.specs.declared.head.HeadFault.TheVariants as head_fault
 use Rattle.snapshot_codec.specs.Head.{opened}
 use Rattle.cascade_core.specs.declared.world.WorldData.{WorldData}
-use Rattle.cascade_core.specs.Held.{StageView, Running, holding, spoiled}
+use Rattle.cascade_core.specs.Held.{StageView, Running, holding}
 use Rattle.snapshot_core.specs.declared.fault.SnapFault.{SnapFault}
-use Rattle.snapshot_core.specs.declared.fault.SnapFault.TheVariants.{Short, BadMagic, BadVersion, WrongScene, BadDigest, NotCanonical, BootNotNew, Memory}
+use Rattle.snapshot_core.specs.declared.fault.SnapFault.TheVariants.{Short, BadMagic, BadVersion, WrongScene, BadDigest, NotCanonical, BootNotNew}
 use Rattle.snapshot_core.specs.declared.loading.Saved.{Saved}
 use Rattle.snapshot_core.specs.Shot.{body_codec}
 

@@ -15,7 +15,7 @@ use Rattle.snapshot_codec.specs.declared.viewers.Touch.{Touch as TouchBytes}
 use Rattle.snapshot_codec.specs.declared.viewers.Viewers.TheVariants.{Sixteen}
 use Rattle.snapshot_codec.specs.Fields.{kept_field, fields_codec}
 use Rattle.snapshot_codec.specs.Parts.{cycle_codec, touch_codec, position_codec}
-use Rattle.sensor_core.specs.Parts.{number_of, over_of, touch_of_parts}
+use Rattle.sensor_core.specs.Parts.{number_of, touch_of_parts}
 use Rattle.sensor_core.specs.Touches.{Touch, untouched, is_over}
 use Rattle.snapshot_core.specs.declared.beside.Beside.{Beside}
 use Rattle.snapshot_core.specs.declared.nodes.NodeLists.{NodeLists}

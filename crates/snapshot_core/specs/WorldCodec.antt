@@ -1,6 +1,6 @@
 -- The state of a scene as bytes (our choice).
 use Rattle.std.specs.Prelude.{ℕ, ◌==◌, ℤ, Bool, List, length, map, Option, Some, None, slice_get, if◌then◌else◌}
-use Rattle.std.specs.Option.{option_and_then, option_map}
+use Rattle.std.specs.Option.{option_and_then}
 use Rattle.byte_codec.specs.Codec.{Codec, refined, named, pair}
 use Rattle.x3d_values.specs.declared.field_type.FieldType.{FieldType}
 use Rattle.x3d_values.specs.declared.node_type.NodeType.{NodeType}

@@ -1,8 +1,5 @@
-use Rattle.std.proofs.Common.{◌≡◌, length, rules, ◌∙◌}
-use Rattle.x3d_lists.specs.Extends.{Extends}
+use Rattle.std.proofs.Common.{length, rules}
 use Rattle.scene_core.specs.Scene.{types_of}
-use Rattle.snapshot_core.specs.Nodes.{nodes_codec}
-use Rattle.snapshot_core.specs.WorldCodec.{lists_in}
 use Rattle.snapshot_core.proofs.NodeLoops.{extends_on, text_goes_on, text_done, counted}
 use Rattle.snapshot_core.proofs.nodes.push_nodes.Goals as goal
 

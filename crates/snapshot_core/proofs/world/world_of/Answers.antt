@@ -1,4 +1,3 @@
-use Rattle.std.proofs.Common.{sym, ap, Some, ◌∙◌}
 use Rattle.std.proofs.lemmas.Result.{err_from_is_err_and}
 use Rattle.snapshot_core.proofs.WorldLaws.{no_progress, no_parts, whole_body}
 use Rattle.snapshot_core.proofs.world.world_of.Goals as goal
