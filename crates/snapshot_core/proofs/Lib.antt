@@ -3,5 +3,5 @@ mod NodeLaws
 mod NodeLoops
 mod PartSizes
 mod SetLaws
-mod ShotLaws
-mod WorldLaws
+pub mod ShotLaws
+pub mod WorldLaws

@@ -4,7 +4,7 @@ ghost use Rattle.std.specs.Prelude.{◌≡◌, ◌++◌, IsTrue, OnErr, OnOk};
 ghost use Rattle.std.specs.Option.{option_map};
 ghost use Rattle.x3d_lists.specs.Extends.{Extends};
 ghost use Rattle.snapshot_codec.specs.Parts.{cycle_fits, cycle_codec};
-ghost use Rattle.snapshot_core.specs.Nodes.{time_part, pointers_codec, touch_part, position_part, beside_codec};
+ghost use Rattle.snapshot_core.specs.Nodes.{time_part, touch_bytes, pointers_codec, touch_part, position_part, beside_codec};
 
 use sensor_core::{TimeState, TouchParts, TouchState};
 use snapshot_codec::{
@@ -85,17 +85,23 @@ fn touch_state_of(node_type: NodeType, bytes: &[u8]) -> Option<(TouchState, &[u8
     }
 }
 
-#[tactic(auto, unfolding(crate::specs::Nodes::pointers_codec, sensor_core::specs::Parts::parts_of_touch))]
+#[tactic(auto, unfolding(sensor_core::specs::Parts::parts_of_touch))]
+fn touch_bytes(touch: &TouchState) -> Touch
+    ensures { result ≡ touch_bytes touch.now }
+{
+    let parts = touch.parts();
+    Touch {
+        over: u64::from(parts.over),
+        presser: parts.presser,
+    }
+}
+
+#[tactic(auto, unfolding(crate::specs::Nodes::pointers_codec))]
 fn push_pointers(touch: &TouchState, out: &mut Vec<u8>) -> Result<(), AllocError>
     ensures ok { OnOk result (out.new.items ≡ out.old.items ++ pointers_codec.write touch.now) }
     ensures err { OnErr result (out.new.items ≡ out.old.items) }
 {
-    let parts = touch.parts();
-    let touch = Touch {
-        over: u64::from(parts.over),
-        presser: parts.presser,
-    };
-    push_touch(Viewers::Sixteen, touch, out)
+    push_touch(Viewers::Sixteen, touch_bytes(touch), out)
 }
 
 #[tactic(auto, unfolding(crate::specs::Nodes::touch_part))]

@@ -2,6 +2,7 @@
 
 ghost use Rattle.std.specs.Prelude.{◌≡◌, ◌++◌, OnErr, OnOk};
 ghost use Rattle.std.specs.Option.{option_map};
+ghost use Rattle.snapshot_codec.specs.Parts.{viewer_set_codec};
 ghost use Rattle.snapshot_core.specs.WorldCodec.{buttons_codec};
 
 use byte_codec::u16_of;
@@ -9,12 +10,21 @@ use sensor_core::{VIEWERS, number_of, over_of};
 use snapshot_codec::{Viewers, push_viewer_set};
 use std::alloc::AllocError;
 
+/// The number of a set of viewers at the front of the bytes, and the bytes behind it.
+#[tactic(auto, unfolding(snapshot_codec::specs::Parts::viewer_set_codec))]
+fn set_of(bytes: &[u8]) -> Option<(u16, &[u8])>
+    ensures { option_map (λ x. (x.0, x.1.now)) result
+        ≡ (viewer_set_codec Viewers.Sixteen).read bytes.now }
+{
+    u16_of(bytes)
+}
+
 /// Whose buttons are down, at the front of the bytes, and the bytes behind it.
-#[tactic(auto, unfolding(crate::specs::WorldCodec::buttons_codec, snapshot_codec::specs::Parts::viewer_set_codec))]
+#[tactic(auto, unfolding(crate::specs::WorldCodec::buttons_codec))]
 pub(crate) fn buttons_of(bytes: &[u8]) -> Option<([bool; VIEWERS], &[u8])>
     ensures { option_map (λ x. (x.0, x.1.now)) result ≡ buttons_codec.read bytes.now }
 {
-    let (number, rest) = u16_of(bytes)?;
+    let (number, rest) = set_of(bytes)?;
     Some((over_of(number), rest))
 }
 

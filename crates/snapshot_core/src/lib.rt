@@ -10,7 +10,7 @@
 //! | `saving`, `loading` | the two calls |
 //! | `fault` | what may be refused |
 //! | `world` | a whole world, with its boot |
-//! | `nodes`, `beside`, `kept` | nodes one after the other: their fields, and what stands behind them |
+//! | `nodes`, `kept`, `beside` | nodes in turn: their fields, and what stands behind them |
 //! | `buttons`, `lines` | what a world has beside its nodes |
 //! | `exactness` | the law |
 #![tactic(auto)]

@@ -98,7 +98,6 @@ pub(crate) fn body_of(
 }
 
 /// Appends a boot and a world of the scene; on a refusal perhaps a part of it.
-#[tactic(auto, unfolding(crate::specs::WorldCodec::world_codec, crate::specs::WorldCodec::parts_codec, snapshot_codec::specs::Head::progress_codec))]
 pub(crate) fn push_body(
     scene: &Scene,
     world: &WorldData,
