@@ -164,6 +164,11 @@ impl<B> Stage<B> {
         &self.scene
     }
 
+    /// The allocator that the stage takes its memory from.
+    pub fn allocator(&self) -> Global {
+        *self.bench.tasks.allocator()
+    }
+
     /// The world, unless the stage is spoiled.
     pub fn world(&self) -> Option<&WorldData>
         ensures { option_copied result ≡ world_in self.now.held }
