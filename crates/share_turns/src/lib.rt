@@ -1,0 +1,8 @@
+//! Turns of the host and the viewers of a shared world over a port.
+#![tactic(auto)]
+
+mod fault;
+mod host;
+
+pub use fault::TurnFault;
+pub use host::host_turn;
