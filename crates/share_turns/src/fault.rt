@@ -10,6 +10,8 @@ use thiserror::Error;
 pub enum TurnFault {
     #[error("the port failed")]
     Port,
+    #[error("memory was refused before")]
+    Spoiled,
     #[error("memory was refused")]
     Memory,
 }

@@ -11,13 +11,11 @@ ghost use Rattle.share_turns.specs.HostTurn.{bodies_for, datagrams_of, inputs_fo
 ghost use Rattle.share_turns.specs.HostTurn.{failures_after, is_whole};
 
 use crate::fault::TurnFault;
+use crate::most::MOST;
 use share_core::Host;
 use share_law::{HostFault, HostReply, NumberFault};
 use share_port::{Port, PortFault};
 use share_wire::{Body, decode};
-
-/// How many datagrams a turn takes.
-const MOST: u32 = 64;
 
 /// Numbers the clock of a turn. One that the host refuses for another cause than memory is dropped.
 fn number_clock(host: &mut Host, clock: Option<i64>) -> Result<(), TurnFault>

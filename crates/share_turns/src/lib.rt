@@ -3,6 +3,9 @@
 
 mod fault;
 mod host;
+mod most;
+mod viewer;
 
 pub use fault::TurnFault;
 pub use host::host_turn;
+pub use viewer::viewer_turn;
