@@ -4,8 +4,10 @@
 mod fault;
 mod host;
 mod most;
+mod runs;
 mod viewer;
 
 pub use fault::TurnFault;
 pub use host::host_turn;
+pub use runs::host_run;
 pub use viewer::viewer_turn;
