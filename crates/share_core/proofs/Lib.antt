@@ -4,3 +4,7 @@ pub mod Numbering
 pub mod Offers
 pub mod Fresh
 pub mod Queues
+pub mod Places
+pub mod Drains
+pub mod Nexts
+pub mod Rounds

@@ -2,3 +2,5 @@ pub mod Host
 pub mod Rings
 pub mod Waiting
 pub mod Steps
+pub mod Viewer
+pub mod Ahead

@@ -73,13 +73,14 @@ fn set_kept(kept: &mut ArrayVec<Kept, 16>, who: u8, now: Kept)
 }
 
 impl Host {
-    ghost use Rattle.std.specs.Prelude.{◌≡◌, ◌<◌, ◌≤◌, Some, length, slice_get};
+    ghost use Rattle.std.specs.Prelude.{◌≡◌, ◌<◌, ◌≤◌, ◌^◌, Some, IfOk, length, slice_get};
     ghost use Rattle.std.specs.Option.{option_map};
     ghost use Rattle.share_wire.specs.Datagram.{datagram};
     ghost use Rattle.share_wire.specs.Decoding.{decoded};
     ghost use Rattle.share_wire.specs.declared.message.Body.TheVariants as body;
     ghost use Rattle.share_law.specs.Host.{ack_of, ask_came, host_packet, new_host};
     ghost use Rattle.share_law.specs.Calls.{IsClocked, IsHostTake, IsHostTakeOf};
+    ghost use Rattle.share_core.specs.Host.{AreNumbered};
 
     /// The host of a scene with this mark, for viewers that are numbered from 0: 1 to 16 of them.
     /// It takes no memory; its list of inputs grows with `alloc`.
@@ -125,6 +126,14 @@ impl Host {
         }))
     }
 
+    /// How many inputs are numbered: at most 2^20.
+    pub fn len(&self) -> u32
+        ensures value { result ≡ length self.now.host.list }
+        ensures most { result ≤ 2 ^ 20 }
+    {
+        self.inputs.len()
+    }
+
     /// How many viewers there are: 1 to 16.
     pub fn viewers(&self) -> u8
         ensures { result ≡ length self.now.host.kept }
@@ -160,6 +169,7 @@ impl Host {
     /// an offer's input can't be numbered. A refusal changes nothing.
     pub fn take(&mut self, bytes: &[u8]) -> Result<HostReply, HostFault>
         ensures mark { self.new.mark ≡ self.old.mark }
+        ensures asked { IfOk result (AreNumbered self.new.host) }
         ensures step { IsHostTakeOf self.old.mark self.old.host (decoded bytes.now) result
             self.new.host }
     {
@@ -175,6 +185,7 @@ impl Host {
 
     fn take_body(&mut self, body: Body) -> Result<HostReply, HostFault>
         ensures mark { self.new.mark ≡ self.old.mark }
+        ensures asked { IfOk result (AreNumbered self.new.host) }
         ensures step { IsHostTake self.old.host body result self.new.host }
     {
         match body {
@@ -186,7 +197,9 @@ impl Host {
 
     /// Which inputs are asked for.
     fn take_ask(&self, ask: Ask) -> Result<HostReply, HostFault>
-        ensures { result ≡ ask_came self.now.host ask.next (slice_get self.now.host.kept ask.who) }
+        ensures asked { IfOk result (AreNumbered self.now.host) }
+        ensures reply { result
+            ≡ ask_came self.now.host ask.next (slice_get self.now.host.kept ask.who) }
     {
         if ask.who() as usize >= self.kept.len() {
             return Err(HostFault::BadViewer);
@@ -204,6 +217,7 @@ impl Host {
     /// Numbers an offer, if it is the next one of its viewer.
     fn take_offer(&mut self, offer: Offer) -> Result<HostReply, HostFault>
         ensures mark { self.new.mark ≡ self.old.mark }
+        ensures asked { IfOk result (AreNumbered self.new.host) }
         ensures step { IsHostTake self.old.host (body.Offer offer) result self.new.host }
     {
         let who = offer.pointer().who();

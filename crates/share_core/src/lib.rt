@@ -1,11 +1,12 @@
 //! The host and the viewers of a shared world.
 #![tactic(auto)]
 
+mod ahead;
 mod host;
 mod inputs;
+mod viewer;
 mod waiting;
 mod window;
 
 pub use host::Host;
-pub use waiting::Waiting;
-pub use window::Window;
+pub use viewer::Viewer;

@@ -31,7 +31,7 @@ struct Aim {
 /// The offers of one boot of a viewer, which are numbered from 1: how many were made, and the last
 /// of them, at most 64, which wait.
 #[derive(Drop)]
-pub struct Waiting {
+pub(crate) struct Waiting {
     who: u8,
     boot: u32,
     /// How many offers wait no more.
@@ -75,7 +75,7 @@ fn aim_of(point: Point) -> Aim
 
 impl Waiting {
     /// No offers yet. `is_viewer` and `is_ordinal` are the tests.
-    pub fn new(who: u8, boot: u32) -> Waiting
+    pub(crate) fn new(who: u8, boot: u32) -> Waiting
         requires who { IsTrue (is_viewer who) }
         requires boot { IsTrue (is_ordinal boot) }
         ensures { result ≡ record { who = who; boot = boot; made = 0; waiting = [] } }
@@ -95,8 +95,16 @@ impl Waiting {
         }
     }
 
+    /// The viewer's number.
+    pub(crate) fn who(&self) -> u8
+        ensures value { result ≡ self.now.who }
+        ensures fits { IsTrue (is_viewer result) }
+    {
+        self.who
+    }
+
     /// How many offers wait: at most 64.
-    pub fn len(&self) -> u32
+    pub(crate) fn len(&self) -> u32
         ensures value { result ≡ length self.now.waiting }
         ensures most { result ≤ 64 }
     {
@@ -139,7 +147,7 @@ impl Waiting {
     /// Refused in this order: `ZeroRay`, a direction of 0 0 0; `PointRange`, a coordinate of a size
     /// above 10^15 millionths; `OfferFull`, where 64 offers wait; `OffersSpent`, after 2^32 - 1
     /// offers of this boot. A refusal changes nothing.
-    pub fn offer(&mut self, point: Point) -> Result<u32, OfferFault>
+    pub(crate) fn offer(&mut self, point: Point) -> Result<u32, OfferFault>
         ensures who { self.new.who ≡ self.old.who }
         ensures step { (world : WorldData) (window : List (Option Stamp))
             → viewer_offer (with_offers self.old (Running world window)) point
@@ -153,7 +161,7 @@ impl Waiting {
     }
 
     /// The waiting offer at a place from 0, if there is one.
-    pub fn resend(&self, place: u32) -> Option<Offer>
+    pub(crate) fn resend(&self, place: u32) -> Option<Offer>
         ensures { (view : View WorldData) → option_map (λ o. body.Offer o) result
             ≡ viewer_resend self.now.who (with_offers self.now view) place }
     {
@@ -166,7 +174,7 @@ impl Waiting {
     }
 
     /// The host tells how many offers of a boot it has numbered: so many of this boot wait no more.
-    pub fn heed(&mut self, ack: Ack)
+    pub(crate) fn heed(&mut self, ack: Ack)
         ensures who { self.new.who ≡ self.old.who }
         ensures step { (view : View WorldData) → with_offers self.new view
             ≡ (if ack.boot == self.old.boot

@@ -13,7 +13,7 @@ const PLACES: usize = 64;
 /// What is kept of the 64 inputs after the last that was applied: place i, from 0, is for the input
 /// whose number is higher by 1 + i.
 #[derive(Drop)]
-pub struct Window {
+pub(crate) struct Window {
     places: [Option<Stamped>; 64],
     first: usize,
 }
@@ -32,7 +32,7 @@ impl Model for Window {
 
 impl Window {
     /// No inputs yet.
-    pub fn new() -> Window
+    pub(crate) fn new() -> Window
         ensures { result ≡ empty_window }
     {
         Window {
@@ -42,7 +42,7 @@ impl Window {
     }
 
     /// The next input, if it came.
-    pub fn next(&self) -> Option<Stamped>
+    pub(crate) fn next(&self) -> Option<Stamped>
         ensures input { slice_get self.now 0 ≡ Some result }
         ensures places { length self.now ≡ 64 }
     {
@@ -50,7 +50,7 @@ impl Window {
     }
 
     /// Keeps an input at a place, unless that has one.
-    pub fn keep(&mut self, place: usize, input: Stamped)
+    pub(crate) fn keep(&mut self, place: usize, input: Stamped)
         requires { place < 64 }
         ensures { self.new ≡ keep self.old place input }
     {
@@ -61,14 +61,14 @@ impl Window {
     }
 
     /// Lets the next input go.
-    pub fn drop_next(&mut self)
+    pub(crate) fn drop_next(&mut self)
         ensures { self.new ≡ slice_set self.old 0 None }
     {
         self.places[self.first] = None;
     }
 
     /// Moves on by one input, which was applied.
-    pub fn advance(&mut self)
+    pub(crate) fn advance(&mut self)
         ensures { self.new ≡ drop 1 self.old ++ None ∷ [] }
     {
         self.places[self.first] = None;

@@ -11,4 +11,5 @@ mod pointers;
 mod reading;
 mod scenes;
 mod texts;
+mod viewing;
 mod works;

@@ -1,0 +1,46 @@
+-- A viewer as its contracts see it.
+use Rattle.std.specs.Prelude.{ℕ, Bool, true, false, List, Option}
+use Rattle.x3d_values.specs.Stamp.{Stamp}
+use Rattle.scene_core.specs.declared.scene.Route.{Route}
+use Rattle.scene_core.specs.Scene.{SceneView}
+use Rattle.cascade_core.specs.declared.world.WorldData.{WorldData}
+use Rattle.cascade_core.specs.Held.{Held}
+use Rattle.cascade_core.specs.Held as held
+use Rattle.share_law.specs.Cascade.{cascade}
+use Rattle.share_law.specs.Machine.{Machine}
+use Rattle.share_law.specs.Viewer.{View, Spoiled, Running, ViewerState}
+
+-- the mark of its scene, its number, its scene with the routes, and what the law knows of a viewer
+pub record ViewerView : Type 0 where
+  pub mark : List ℕ
+  pub who : ℕ
+  pub scene : SceneView
+  pub routes : List Route
+  pub state : ViewerState WorldData
+
+-- the worlds that it may hold
+abbrev pub machine_of : ViewerView → Machine WorldData
+machine_of v = cascade v.scene v.routes
+
+-- the same viewer with another world, other offers or in another boot
+abbrev pub with_state : ViewerView → ViewerState WorldData → ViewerView
+with_state v state = record v { state = state }
+
+-- what is held by a stage and a window
+abbrev pub view_of : Held → List (Option Stamp) → View WorldData
+view_of (held.Running w) window = Running w window
+view_of (held.Spoiled count) window = Spoiled count
+
+abbrev pub is_spoiled : View WorldData → Bool
+is_spoiled (Running w window) = false
+is_spoiled (Spoiled count) = true
+
+-- a fact about the world of a viewer that runs
+abbrev pub IfRunning : View WorldData → (WorldData → Type 0) → Type 0
+IfRunning (Running w window) P = P w
+IfRunning (Spoiled count) P = Unit {0}
+
+-- a fact about a viewer that is spoiled
+abbrev pub IfSpoiled : View WorldData → Type 0 → Type 0
+IfSpoiled (Running w window) P = Unit {0}
+IfSpoiled (Spoiled count) P = P

@@ -1,0 +1,106 @@
+//! A stage, and the window of the inputs that come next: they are applied in turn.
+
+ghost use Rattle.std.specs.Prelude.{◌≡◌, ◌≤◌, ◌+◌, ◌^◌, false, length};
+ghost use Rattle.cascade_core.specs.declared.world.WorldData.{WorldData};
+ghost use Rattle.cascade_core.specs.Held.{Running, applied_of, is_spoiled};
+ghost use Rattle.share_wire.specs.declared.message.Body.TheVariants as body;
+ghost use Rattle.share_law.specs.Calls.{IsTake};
+ghost use Rattle.share_law.specs.Cascade.{cascade};
+ghost use Rattle.share_core.specs.Ahead.{InPlace, IsDrained, IsNext};
+ghost use Rattle.share_core.specs.Viewer.{view_of};
+ghost use Rattle.share_core.specs.Waiting.{Offers, with_offers};
+
+use crate::window::Window;
+use cascade_core::{ApplyFault, Stage};
+use share_law::{TakeFault, Taken};
+use x3d_values::Stamped;
+
+/// How many inputs ahead are kept.
+const AHEAD: u32 = 64;
+
+/// Applies the next input, if it came.
+fn apply_next<B>(stage: &mut Stage<B>, window: &mut Window) -> Result<bool, TakeFault>
+    requires runs { is_spoiled stage.old.held ≡ false }
+    requires place { InPlace (applied_of stage.old.held + 1) window.old }
+    requires most { applied_of stage.old.held ≤ 2 ^ 20 }
+    ensures scene { stage.new.scene ≡ stage.old.scene }
+    ensures routes { stage.new.routes ≡ stage.old.routes }
+    ensures place { InPlace (applied_of stage.new.held + 1) window.new }
+    ensures most { applied_of stage.new.held ≤ 2 ^ 20 }
+    ensures places { length window.old ≡ 64 }
+    ensures step { (w : WorldData) → stage.old.held ≡ Running w
+        → IsNext (cascade stage.old.scene stage.old.routes) w window.old result stage.new.held
+        window.new }
+{
+    let Some(input) = window.next() else {
+        return Ok(false);
+    };
+    match stage.apply(&input) {
+        Ok(_) => {
+            window.advance();
+            Ok(true)
+        }
+        Err(ApplyFault::TimeNotLater) => {
+            window.drop_next();
+            Err(TakeFault::TimeNotLater)
+        }
+        Err(ApplyFault::Memory) => Err(TakeFault::Memory),
+        Err(ApplyFault::Spoiled) => unreachable!(),
+        Err(ApplyFault::NotNext) => unreachable!(),
+    }
+}
+
+/// Applies the inputs that come next, up to the first that did not come.
+fn apply_ready<B>(stage: &mut Stage<B>, window: &mut Window) -> Result<Taken, TakeFault>
+    requires runs { is_spoiled stage.old.held ≡ false }
+    requires place { InPlace (applied_of stage.old.held + 1) window.old }
+    requires most { applied_of stage.old.held ≤ 2 ^ 20 }
+    ensures scene { stage.new.scene ≡ stage.old.scene }
+    ensures routes { stage.new.routes ≡ stage.old.routes }
+    ensures place { InPlace (applied_of stage.new.held + 1) window.new }
+    ensures most { applied_of stage.new.held ≤ 2 ^ 20 }
+    ensures step { (w : WorldData) → stage.old.held ≡ Running w
+        → IsDrained (cascade stage.old.scene stage.old.routes) w window.old result stage.new.held
+        window.new }
+{
+    let mut count = 0;
+    while apply_next(stage, window)? {
+        count += 1;
+    }
+    if count == 0 {
+        Ok(Taken::Kept)
+    } else {
+        Ok(Taken::Applied(count))
+    }
+}
+
+/// Takes an input that came.
+pub(crate) fn take_input<B>(
+    stage: &mut Stage<B>,
+    window: &mut Window,
+    input: Stamped,
+) -> Result<Taken, TakeFault>
+    requires runs { is_spoiled stage.old.held ≡ false }
+    requires place { InPlace (applied_of stage.old.held + 1) window.old }
+    requires most { applied_of stage.old.held ≤ 2 ^ 20 }
+    ensures scene { stage.new.scene ≡ stage.old.scene }
+    ensures routes { stage.new.routes ≡ stage.old.routes }
+    ensures place { InPlace (applied_of stage.new.held + 1) window.new }
+    ensures most { applied_of stage.new.held ≤ 2 ^ 20 }
+    ensures step { (o : Offers)
+        → IsTake (cascade stage.old.scene stage.old.routes) o.who
+        (with_offers o (view_of stage.old.held window.old)) (body.Input input) result
+        (with_offers o (view_of stage.new.held window.new)) }
+{
+    let applied = stage.applied();
+    let number = input.number();
+    if number <= applied {
+        return Ok(Taken::Old);
+    }
+    let place = number - applied - 1;
+    if place >= AHEAD {
+        return Ok(Taken::Beyond);
+    }
+    window.keep(place as usize, input);
+    apply_ready(stage, window)
+}

@@ -1,0 +1,242 @@
+//! A viewer of a shared world: it applies the host's inputs in turn, and offers what it points at.
+
+ghost use Rattle.std.specs.Prelude.{◌≡◌};
+
+use crate::ahead::take_input;
+use crate::waiting::Waiting;
+use crate::window::Window;
+use cascade_core::{Stage, TextFault};
+use share_law::{OfferFault, TakeFault, Taken};
+use share_wire::{Ack, Ask, Body, Message, Packet, decode, encode};
+use std::marker::Model;
+use x3d_values::{Point, Stamped};
+
+/// A viewer of a shared world: the mark of its scene, its stage, the inputs that came before their
+/// turn, and the offers that wait.
+#[derive(Drop)]
+pub struct Viewer<B> {
+    mark: [u8; 32],
+    stage: Stage<B>,
+    window: Window,
+    offers: Waiting,
+}
+
+impl<B> Model for Viewer<B> {
+    ghost use Rattle.std.specs.Prelude.{◌≤◌, ◌+◌, ◌^◌};
+    ghost use Rattle.cascade_core.specs.Held.{applied_of};
+    ghost use Rattle.share_core.specs.Ahead.{InPlace};
+    ghost use Rattle.share_core.specs.Viewer.{ViewerView, view_of};
+    ghost use Rattle.share_core.specs.Waiting.{with_offers};
+
+    ghost Value = { ViewerView };
+
+    ghost view = { λ v. record {
+      mark = v.mark;
+      who = v.offers.who;
+      scene = v.stage.scene;
+      routes = v.stage.routes;
+      state = with_offers v.offers (view_of v.stage.held v.window);
+    } };
+
+    ghost invariant = { λ v. (applied_of v.stage.held ≤ 2 ^ 20)
+        × InPlace (applied_of v.stage.held + 1) v.window };
+}
+
+impl<B> Viewer<B> {
+    ghost use Rattle.std.specs.Prelude.{◌≡◌, ◌++◌, false, Err, IfErr, IsTrue, OnErr, OnOk, length};
+    ghost use Rattle.std.specs.Option.{option_map};
+    ghost use Rattle.x3d_values.specs.Ranges.{is_viewer};
+    ghost use Rattle.share_wire.specs.Datagram.{datagram};
+    ghost use Rattle.share_wire.specs.Decoding.{decoded};
+    ghost use Rattle.share_wire.specs.Messages.{is_ordinal};
+    ghost use Rattle.share_wire.specs.declared.message.Body.TheVariants as body;
+    ghost use Rattle.cascade_core.specs.Apply.{opening};
+    ghost use Rattle.cascade_core.specs.Held.{Running};
+    ghost use Rattle.cascade_core.specs.Texts.{scene_text, trace_text};
+    ghost use Rattle.share_law.specs.Calls.{IsTake, IsTakeOf};
+    ghost use Rattle.share_law.specs.Viewer.{applied_in, begun, viewer_ask, viewer_offer};
+    ghost use Rattle.share_law.specs.Viewer.{viewer_resend};
+    ghost use Rattle.share_core.specs.Viewer.{IfRunning, IfSpoiled, is_spoiled, machine_of};
+    ghost use Rattle.share_core.specs.Viewer.{with_state};
+
+    /// A viewer of the scene with this mark, as this boot of viewer number `who`, which begins with
+    /// a stage that has had no input. It takes no memory. `is_viewer` and `is_ordinal` are the
+    /// tests.
+    pub fn start(stage: Stage<B>, mark: [u8; 32], who: u8, boot: u32) -> Viewer<B>
+        requires who { IsTrue (is_viewer who) }
+        requires boot { IsTrue (is_ordinal boot) }
+        requires fresh { stage.held ≡ Running (opening stage.scene) }
+        ensures { result ≡ record {
+          mark = mark;
+          who = who;
+          scene = stage.scene;
+          routes = stage.routes;
+          state = begun boot (opening stage.scene);
+        } }
+    {
+        Viewer {
+            mark,
+            stage,
+            window: Window::new(),
+            offers: Waiting::new(who, boot),
+        }
+    }
+
+    /// How many inputs were applied, or had been when memory was refused.
+    pub fn applied(&self) -> u32
+        ensures { result ≡ applied_in (machine_of self.now) self.now.state.view }
+    {
+        self.stage.applied()
+    }
+
+    /// Whether memory was refused at an input.
+    pub fn spoiled(&self) -> bool
+        ensures { result ≡ is_spoiled self.now.state.view }
+    {
+        self.stage.spoiled()
+    }
+
+    /// Takes the bytes of a packet.
+    ///
+    /// An input that was applied is `Old`, and one that is more than 64 ahead `Beyond`. Another is
+    /// kept, unless there is one of its number; then, while the next input is there, it is applied:
+    /// `Applied` says how many were, and `Kept` that none was. An ack of this viewer is `Noted`: of
+    /// this boot, it lets go the waiting offers up to its count.
+    ///
+    /// Refused in this order: `Spoiled`, where memory was refused before; `Wire`, where the bytes
+    /// are no datagram; `WrongScene`, where it has another mark; `NotForMe`, an offer, an ask, or
+    /// another viewer's ack; each of these changes nothing. `TimeNotLater`, an input that isn't
+    /// later than the one before: it is dropped, and those before it stay applied. `Memory`: the
+    /// viewer is spoiled with the inputs that it had applied.
+    pub fn take(&mut self, bytes: &[u8]) -> Result<Taken, TakeFault>
+        ensures others { self.new ≡ with_state self.old self.new.state }
+        ensures step { IsTakeOf (machine_of self.old) self.old.mark self.old.who self.old.state
+            self.old.state.view (decoded bytes.now) result self.new.state }
+    {
+        if self.spoiled() {
+            return Err(TakeFault::Spoiled);
+        }
+        let message = match decode(bytes) {
+            Ok(message) => message,
+            Err(fault) => return Err(TakeFault::Wire(fault)),
+        };
+        if message.mark != self.mark {
+            return Err(TakeFault::WrongScene);
+        }
+        self.take_body(message.body)
+    }
+
+    fn take_body(&mut self, body: Body) -> Result<Taken, TakeFault>
+        requires { is_spoiled self.old.state.view ≡ false }
+        ensures others { self.new ≡ with_state self.old self.new.state }
+        ensures step { IsTake (machine_of self.old) self.old.who self.old.state body result
+            self.new.state }
+    {
+        match body {
+            Body::Input(input) => self.take_input(input),
+            Body::Ack(ack) => self.take_ack(ack),
+            Body::Offer(_) | Body::Ask(_) => Err(TakeFault::NotForMe),
+        }
+    }
+
+    fn take_input(&mut self, input: Stamped) -> Result<Taken, TakeFault>
+        requires { is_spoiled self.old.state.view ≡ false }
+        ensures others { self.new ≡ with_state self.old self.new.state }
+        ensures step { IsTake (machine_of self.old) self.old.who self.old.state (body.Input input)
+            result self.new.state }
+    {
+        take_input(&mut self.stage, &mut self.window, input)
+    }
+
+    fn take_ack(&mut self, ack: Ack) -> Result<Taken, TakeFault>
+        requires { is_spoiled self.old.state.view ≡ false }
+        ensures others { self.new ≡ with_state self.old self.new.state }
+        ensures step { IsTake (machine_of self.old) self.old.who self.old.state (body.Ack ack)
+            result self.new.state }
+    {
+        if ack.who() != self.offers.who() {
+            return Err(TakeFault::NotForMe);
+        }
+        self.offers.heed(ack);
+        Ok(Taken::Noted)
+    }
+
+    /// Offers a point, and gives the offer's number in this boot, from 1. Takes no memory.
+    ///
+    /// Refused in this order: `Spoiled`, where memory was refused before; `ZeroRay`, a direction of
+    /// 0 0 0; `PointRange`, a coordinate of a size above 10^15 millionths; `OfferFull`, where 64
+    /// offers wait; `OffersSpent`, after 2^32 - 1 offers of this boot. A refusal changes nothing.
+    pub fn offer(&mut self, point: Point) -> Result<u32, OfferFault>
+        ensures others { self.new ≡ with_state self.old self.new.state }
+        ensures step { viewer_offer self.old.state point ≡ (result, self.new.state) }
+    {
+        if self.spoiled() {
+            return Err(OfferFault::Spoiled);
+        }
+        self.offers.offer(point)
+    }
+
+    /// How many offers wait: at most 64.
+    pub fn waiting(&self) -> u32
+        ensures { result ≡ length self.now.state.waiting }
+    {
+        self.offers.len()
+    }
+
+    /// The packet of the waiting offer at a place from 0, if there is one. Takes no memory.
+    pub fn resend(&self, place: u32) -> Option<Packet>
+        ensures { option_map (λ p. p.items) result
+            ≡ option_map (λ body. datagram (record { mark = self.now.mark; body = body }))
+            (viewer_resend self.now.who self.now.state place) }
+    {
+        let offer = self.offers.resend(place)?;
+        Some(encode(&Message {
+            mark: self.mark,
+            body: Body::Offer(offer),
+        }))
+    }
+
+    /// The packet that asks for the inputs that the viewer lacks, also where memory was refused.
+    /// Takes no memory.
+    pub fn ask(&self) -> Packet
+        ensures { result.items ≡ datagram (record {
+          mark = self.now.mark;
+          body = viewer_ask (machine_of self.now) self.now.who self.now.state;
+        }) }
+    {
+        encode(&Message {
+            mark: self.mark,
+            body: Body::Ask(Ask::new(self.offers.who(), self.stage.applied() + 1)),
+        })
+    }
+
+    /// Appends the text of the scene as it is now; on a refusal the buffer is as it was.
+    pub fn scene_text(&self, out: &mut Vec<u8>) -> Result<(), TextFault>
+        ensures refused { IfSpoiled self.now.state.view (result ≡ Err TextFault.Spoiled) }
+        ensures ok { IfRunning self.now.state.view (λ w.
+            OnOk result (out.new.items
+            ≡ out.old.items ++ scene_text self.now.scene self.now.routes w)) }
+        ensures memory { IfRunning self.now.state.view (λ w.
+            IfErr result (λ fault. fault ≡ TextFault.Memory)) }
+        ensures err { OnErr result (out.new.items ≡ out.old.items) }
+    {
+        self.stage.scene_text(out)
+    }
+
+    /// Appends the text of the trace; on a refusal the buffer is as it was.
+    pub fn trace_text(&self, out: &mut Vec<u8>) -> Result<(), TextFault>
+        ensures refused { IfSpoiled self.now.state.view (result ≡ Err TextFault.Spoiled) }
+        ensures ok { IfRunning self.now.state.view (λ w.
+            OnOk result (out.new.items ≡ out.old.items ++ trace_text self.now.scene w)) }
+        ensures memory { IfRunning self.now.state.view (λ w.
+            IfErr result (λ fault. fault ≡ TextFault.Memory)) }
+        ensures err { OnErr result (out.new.items ≡ out.old.items) }
+    {
+        self.stage.trace_text(out)
+    }
+
+    /// Ends the viewer with its stage.
+    pub fn close(self) {
+        self.stage.close();
+    }
+}

@@ -1,0 +1,13 @@
+-- What a port tells of the datagrams that passed.
+use Rattle.std.specs.Prelude.{◌≡◌, ℕ, ◌+◌, ◌-◌, ◌^◌, min, List, ◌++◌, Option, Some, None, ⊤}
+use Rattle.share_port.specs.declared.traffic.Traffic.{Traffic}
+
+-- what is told grows by these; a port that tells nothing claims nothing
+abbrev pub Grows : Option (List Traffic) → Option (List Traffic) → List Traffic → Type 0
+Grows None new passed = ⊤
+Grows (Some before) None passed = ⊥
+Grows (Some before) (Some after) passed = after ≡ before ++ passed
+
+-- one more failure, up to 2^64 - 1
+abbrev pub one_more : ℕ → ℕ
+one_more n = min (n + 1) (2 ^ 64 - 1)

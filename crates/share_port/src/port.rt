@@ -1,0 +1,55 @@
+//! An end that sends and receives datagrams.
+
+ghost use Rattle.std.specs.Prelude.{◌≡◌, ◌≤◌, ℕ, List, [], ◌∷◌, Option, None, take, length};
+ghost use Rattle.std.specs.Prelude.{OnOk, OnErr, MatchResult, MatchOption};
+ghost use Rattle.share_port.specs.Told.{Grows, one_more};
+ghost use Rattle.share_port.specs.declared.traffic.Traffic.{Traffic};
+ghost use Rattle.share_port.specs.declared.traffic.Traffic.TheVariants.{Received, Sent};
+
+use thiserror::Error;
+
+/// How many bytes of a datagram are received: one more than the longest that anyone takes, so that
+/// a longer one shows.
+pub const RECEIVED: usize = 257;
+
+/// A send or a receive failed.
+#[derive(Clone, Copy, Debug, PartialEq, Eq, Error)]
+#[error("the port failed")]
+pub struct PortFault;
+
+/// An end that sends and receives datagrams, and never waits for one. A peer is its port number on
+/// 127.0.0.1.
+pub trait Port {
+    // The datagrams that passed, in order, where the port tells them.
+    ghost told: { Self → Option (List Traffic) } = { λ _. None };
+
+    // How many sends and receives failed, up to 2^64 - 1.
+    ghost failure_count: { Self → ℕ };
+
+    /// Sends a datagram of at most 257 bytes to a peer. A datagram for which there is no room on
+    /// the way is lost, and that is no failure.
+    fn send(&mut self, to: u16, bytes: &[u8]) -> Result<(), PortFault>
+        requires { length bytes.now ≤ 257 }
+        ensures ok { OnOk result (Grows (told self.old) (told self.new)
+            (Sent (record { peer = to; bytes = bytes.now }) ∷ [])) }
+        ensures err { OnErr result (Grows (told self.old) (told self.new) []) }
+        ensures count_ok { OnOk result (failure_count self.new ≡ failure_count self.old) }
+        ensures count_err { OnErr result
+            (failure_count self.new ≡ one_more (failure_count self.old)) };
+
+    /// Receives a datagram, if one came: its peer, and how many bytes it has, which stand at the
+    /// front of `into`. Of a datagram of more than 257 bytes the first 257 are received.
+    fn receive(&mut self, into: &mut [u8; 257]) -> Result<Option<(u16, usize)>, PortFault>
+        ensures got { MatchResult result
+            (λ came. MatchOption came (Grows (told self.old) (told self.new) [])
+            (λ r. (r.1 ≤ 257) × Grows (told self.old) (told self.new)
+            (Received (record { peer = r.0; bytes = take r.1 into.new }) ∷ [])))
+            (λ _. Grows (told self.old) (told self.new) []) }
+        ensures count_ok { OnOk result (failure_count self.new ≡ failure_count self.old) }
+        ensures count_err { OnErr result
+            (failure_count self.new ≡ one_more (failure_count self.old)) };
+
+    /// How many sends and receives failed, up to 2^64 - 1.
+    fn failures(&self) -> u64
+        ensures { result ≡ failure_count self.now };
+}

@@ -1,0 +1,52 @@
+//! What passed through a port.
+
+ghost use Rattle.std.specs.Prelude.{◌≡◌, ◌≤◌, length};
+
+use arrayvec::ArrayVec;
+use std::marker::Model;
+
+/// The bytes of a datagram, at most 257.
+#[derive(Debug, Drop)]
+pub struct Bytes {
+    items: ArrayVec<u8, 257>,
+}
+
+impl Model for Bytes {
+    ghost use Rattle.std.specs.Prelude.{List, ℕ};
+
+    ghost Value = { List ℕ };
+
+    ghost view = { λ bytes. bytes.items.items };
+}
+
+impl Bytes {
+    pub fn from_slice(bytes: &[u8]) -> Bytes
+        requires { length bytes.now ≤ 257 }
+        ensures { result ≡ bytes.now }
+    {
+        let mut items = ArrayVec::new();
+        let _fits = items.try_extend_from_slice(bytes);
+        Bytes { items }
+    }
+
+    pub fn as_slice(&self) -> &[u8]
+        ensures bytes { result.now ≡ self.now }
+        ensures most { length result.now ≤ 257 }
+    {
+        self.items.as_slice()
+    }
+}
+
+/// A datagram, with the peer that it came from or went to.
+#[derive(Debug, Drop)]
+pub struct Datagram {
+    pub peer: u16,
+    pub bytes: Bytes,
+}
+
+/// One datagram that passed.
+#[derive(Debug, Drop)]
+pub enum Traffic {
+    Received(Datagram),
+    Sent(Datagram),
+}

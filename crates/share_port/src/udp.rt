@@ -1,0 +1,71 @@
+//! A UDP socket on 127.0.0.1 as a port. It tells none of its datagrams.
+
+ghost use Rattle.std.specs.Prelude.{◌≡◌, IfOk};
+ghost use Rattle.share_port.specs.Told.{one_more};
+
+use crate::port::{Port, PortFault};
+use std::io::{self, ErrorKind};
+use std::net::{Ipv4Addr, Net, SocketAddr, UdpSocket};
+
+/// A UDP socket on 127.0.0.1, which doesn't block.
+#[derive(Drop)]
+pub struct UdpPort {
+    socket: UdpSocket,
+    failed: u64,
+}
+
+/// The address of a peer.
+fn address_of(port: u16) -> SocketAddr {
+    SocketAddr::from((Ipv4Addr::LOCALHOST, port))
+}
+
+impl UdpPort {
+    ghost use Rattle.std.specs.Prelude.{◌≡◌, IfOk};
+    ghost use Rattle.share_port.specs.Told.{one_more};
+
+    /// Binds a socket to a port of 127.0.0.1; 0 binds a free one. A port that another program has
+    /// is an error of the device.
+    pub fn bind<R: Net>(rt: &R, port: u16) -> io::Result<UdpPort>
+        ensures { IfOk result (λ port. port.failed ≡ 0) }
+    {
+        let socket = UdpSocket::bind(rt, address_of(port))?;
+        socket.set_nonblocking(true)?;
+        Ok(UdpPort { socket, failed: 0 })
+    }
+
+    /// The port that it is bound to.
+    pub fn local_port(&self) -> io::Result<u16> {
+        Ok(self.socket.local_addr()?.port())
+    }
+
+    fn fail(&mut self) -> PortFault
+        ensures { self.new.failed ≡ one_more self.old.failed }
+    {
+        self.failed = self.failed.saturating_add(1);
+        PortFault
+    }
+}
+
+impl Port for UdpPort {
+    ghost failure_count = { λ p. p.failed };
+
+    fn send(&mut self, to: u16, bytes: &[u8]) -> Result<(), PortFault> {
+        match self.socket.send_to(bytes, address_of(to)) {
+            Ok(_sent) => Ok(()),
+            Err(error) if error.kind() == ErrorKind::WouldBlock => Ok(()),
+            Err(_) => Err(self.fail()),
+        }
+    }
+
+    fn receive(&mut self, into: &mut [u8; 257]) -> Result<Option<(u16, usize)>, PortFault> {
+        match self.socket.recv_from(into) {
+            Ok((count, from)) => Ok(Some((from.port(), count))),
+            Err(error) if error.kind() == ErrorKind::WouldBlock => Ok(None),
+            Err(_) => Err(self.fail()),
+        }
+    }
+
+    fn failures(&self) -> u64 {
+        self.failed
+    }
+}

@@ -1,0 +1,10 @@
+use Rattle.std.proofs.Common.{◌≡◌}
+use Rattle.share_core.specs.Viewer.{with_state}
+use Rattle.share_turns.proofs.Taking.{TakesSoFar}
+use Rattle.share_turns.proofs.viewer.take_all.Given as goal
+
+abbrev pub invariant-loop-turn : goal.invariant-loop-turn
+invariant-loop-turn g l =
+    TakesSoFar l.fn.viewer (g.P.Port.told l.fn.port) (g.P.Port.told l.port) l.viewer.state l._turn
+    × (l.viewer ≡ with_state l.fn.viewer l.viewer.state)
+    × (g.P.Port.failure_count l.port ≡ g.P.Port.failure_count l.fn.port)

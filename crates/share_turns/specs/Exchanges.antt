@@ -1,0 +1,34 @@
+-- What passes in a turn: datagrams that come, each with what is sent to its peer for it.
+use Rattle.std.specs.Prelude.{◌≡◌, ℕ, Bool, true, false, List, ◌∷◌, ◌++◌, map, Option}
+use Rattle.std.specs.List.{flat_map}
+use Rattle.share_port.specs.declared.traffic.Datagram.{Datagram}
+use Rattle.share_port.specs.declared.traffic.Traffic.{Traffic}
+use Rattle.share_port.specs.declared.traffic.Traffic.TheVariants.{Received, Sent}
+use Rattle.share_port.specs.Told.{Grows}
+
+-- a datagram that came, and what was sent to its peer for it
+pub record Exchange : Type 0 where
+  pub came : Datagram
+  pub sent : List (List ℕ)
+
+-- datagrams that were sent to a peer
+abbrev pub sent_to : (peer : ℕ) → List (List ℕ) → List Traffic
+sent_to peer sent = map (λ bytes. Sent (record { peer = peer; bytes = bytes })) sent
+
+abbrev pub traffic_of : Exchange → List Traffic
+traffic_of e = Received e.came ∷ sent_to e.came.peer e.sent
+
+abbrev pub all_traffic : List Exchange → List Traffic
+all_traffic es = flat_map traffic_of es
+
+-- what was sent is all that had to be sent, or where the port failed the front of it
+abbrev pub IsSentOf : (whole : Bool) → (sent wanted : List (List ℕ)) → Type 0
+IsSentOf true sent wanted = sent ≡ wanted
+IsSentOf false sent wanted = (lost : List (List ℕ)) × (sent ++ lost ≡ wanted)
+
+-- these had to be sent to a peer, and were
+pub record AreSent (whole : Bool) (peer : ℕ) (told_before told_after : Option (List Traffic))
+    (wanted : List (List ℕ)) : Type 0 where
+  pub sent : List (List ℕ)
+  pub of_wanted : IsSentOf whole sent wanted
+  pub told : Grows told_before told_after (sent_to peer sent)

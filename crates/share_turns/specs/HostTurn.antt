@@ -1,0 +1,116 @@
+-- A turn of the host: the next clock of its job, then datagrams that come, each answered.
+use Rattle.std.specs.Prelude.{◌≡◌, ℕ, ◌≤◌, ℤ, Bool, true, false, List, [], ◌∷◌, ◌++◌, map, slice_get, length}
+use Rattle.std.specs.Prelude.{Option, Some, None, Result, Ok, Err}
+use Rattle.std.specs.List.{flat_map, range_with_len}
+use Rattle.share_wire.specs.Datagram.{datagram}
+use Rattle.share_wire.specs.Decoding.{decoded}
+use Rattle.share_wire.specs.declared.fault.WireFault.{WireFault}
+use Rattle.share_wire.specs.declared.message.Body.{Body}
+use Rattle.share_wire.specs.declared.message.Body.TheVariants.{Input, Offer, Ask, Ack}
+use Rattle.share_wire.specs.declared.message.Message.{Message}
+use Rattle.share_law.specs.declared.fault.HostFault.{HostFault}
+use Rattle.share_law.specs.declared.fault.NumberFault.{NumberFault}
+use Rattle.share_law.specs.declared.kept.Kept.{Kept}
+use Rattle.share_law.specs.declared.reply.HostReply.{HostReply}
+use Rattle.share_law.specs.declared.reply.HostReply.TheVariants.{Asked}
+use Rattle.share_law.specs.Host.{HostState, host_packet, ack_of}
+use Rattle.share_law.specs.Calls.{IsClocked, IsHostTakeOf}
+use Rattle.share_port.specs.declared.traffic.Datagram.{Datagram}
+use Rattle.share_port.specs.declared.traffic.Traffic.{Traffic}
+use Rattle.share_port.specs.Told.{Grows, one_more}
+use Rattle.share_turns.specs.declared.fault.TurnFault.{TurnFault}
+use Rattle.share_turns.specs.declared.fault.TurnFault.TheVariants.{Port}
+use Rattle.share_turns.specs.Exchanges.{Exchange, all_traffic, sent_to, IsSentOf}
+
+-- ---- what is sent for a datagram
+
+abbrev pub listed : {A : Type 0} → Option A → List A
+listed None = []
+listed (Some x) = x ∷ []
+
+-- the inputs that were asked for
+abbrev pub inputs_for : HostState → HostReply → List Body
+inputs_for h (Asked first count) =
+    flat_map (λ n. listed (host_packet h n)) (range_with_len first count)
+inputs_for h reply = []
+
+-- the viewer that offered or asked
+abbrev pub sender_in : Body → Option ℕ
+sender_in (Input s) = None
+sender_in (Offer o) = Some o.pointer.who
+sender_in (Ask a) = Some a.who
+sender_in (Ack a) = None
+
+abbrev pub sender_of : Result Message WireFault → Option ℕ
+sender_of (Ok message) = sender_in message.body
+sender_of (Err fault) = None
+
+abbrev pub ack_to : (who : ℕ) → Option Kept → List Body
+ack_to who None = []
+ack_to who (Some kept) = ack_of who kept ∷ []
+
+-- an ack to the viewer that offered or asked
+abbrev pub acks_for : HostState → Option ℕ → List Body
+acks_for h None = []
+acks_for h (Some who) = ack_to who (slice_get h.kept who)
+
+abbrev pub bodies_for : HostState → Option ℕ → HostReply → List Body
+bodies_for h sender reply = inputs_for h reply ++ acks_for h sender
+
+abbrev pub datagrams_of : (mark : List ℕ) → List Body → List (List ℕ)
+datagrams_of mark bodies = map (λ body. datagram (record { mark = mark; body = body })) bodies
+
+-- what a host that took these bytes sends for them; for what it refused it sends nothing
+abbrev pub datagrams_for : (mark : List ℕ) → HostState → (came : List ℕ)
+    → Result HostReply HostFault → List (List ℕ)
+datagrams_for mark h came (Ok reply) =
+    datagrams_of mark (bodies_for h (sender_of (decoded came)) reply)
+datagrams_for mark h came (Err fault) = []
+
+-- ---- a turn
+
+-- all was sent, unless the port failed
+abbrev pub is_whole : {A : Type 0} → Result A TurnFault → Bool
+is_whole (Err Port) = false
+is_whole result = true
+
+-- how many sends and receives of a port failed, after a turn
+abbrev pub failures_after : {A : Type 0} → Result A TurnFault → ℕ → ℕ
+failures_after (Err Port) n = one_more n
+failures_after result n = n
+
+-- the host numbers a clock, if there is one, or refuses it
+abbrev pub IsBegun : HostState → Option ℤ → HostState → Type 0
+IsBegun h None new = new ≡ h
+IsBegun h (Some time) new = (result : Result ℕ NumberFault) × IsClocked h time result new
+
+-- the host takes what came, and sends what belongs to it
+pub record IsAnswered (whole : Bool) (mark : List ℕ) (h : HostState) (e : Exchange)
+    (new : HostState) : Type 0 where
+  pub result : Result HostReply HostFault
+  pub took : IsHostTakeOf mark h (decoded e.came.bytes) result new
+  pub sent : IsSentOf whole e.sent (datagrams_for mark new e.came.bytes result)
+
+-- the same, as a port tells what is sent
+pub record IsExchange (whole : Bool) (mark : List ℕ) (h : HostState) (came : Datagram)
+    (told_before told_after : Option (List Traffic)) (new : HostState) : Type 0 where
+  pub sent : List (List ℕ)
+  pub answered : IsAnswered whole mark h (record { came = came; sent = sent }) new
+  pub told : Grows told_before told_after (sent_to came.peer sent)
+
+-- one datagram after another
+abbrev pub AreAnswered : (whole : Bool) (mark : List ℕ) → HostState → List Exchange → HostState
+    → Type 0
+AreAnswered whole mark h [] new = new ≡ h
+AreAnswered whole mark h (e ∷ es) new =
+    (next : HostState) × IsAnswered whole mark h e next × AreAnswered whole mark next es new
+
+-- the clock, and then at most 64 datagrams
+pub record IsHostTurn (whole : Bool) (mark : List ℕ) (clock : Option ℤ)
+    (told_before told_after : Option (List Traffic)) (old new : HostState) : Type 0 where
+  pub begun : HostState
+  pub exchanges : List Exchange
+  pub clocked : IsBegun old clock begun
+  pub answered : AreAnswered whole mark begun exchanges new
+  pub most : length exchanges ≤ 64
+  pub told : Grows told_before told_after (all_traffic exchanges)

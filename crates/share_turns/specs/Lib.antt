@@ -1,0 +1,4 @@
+pub mod Exchanges
+pub mod HostTurn
+pub mod ViewerTurn
+pub mod Runs

@@ -1,0 +1,73 @@
+-- A turn of a viewer: a point that it offers, then datagrams that come, and then what it sends to
+-- its host.
+use Rattle.std.specs.Prelude.{◌≡◌, ℕ, ◌≤◌, Bool, false, is_ok, List, [], ◌∷◌, ◌++◌, map, length}
+use Rattle.std.specs.Prelude.{Option, Some, None, Result, IfOk}
+use Rattle.x3d_values.specs.declared.pointing.Point.{Point}
+use Rattle.share_wire.specs.Decoding.{decoded}
+use Rattle.share_law.specs.declared.fault.OfferFault.{OfferFault}
+use Rattle.share_law.specs.declared.fault.TakeFault.{TakeFault}
+use Rattle.share_law.specs.declared.reply.Taken.{Taken}
+use Rattle.share_law.specs.Machine.{Machine}
+use Rattle.share_law.specs.Viewer.{ViewerState, viewer_ask, viewer_offer, viewer_resend}
+use Rattle.share_law.specs.Calls.{IsTakeOf}
+use Rattle.share_port.specs.declared.traffic.Datagram.{Datagram}
+use Rattle.share_port.specs.declared.traffic.Traffic.{Traffic}
+use Rattle.share_port.specs.declared.traffic.Traffic.TheVariants.{Received}
+use Rattle.share_port.specs.Told.{Grows}
+use Rattle.share_turns.specs.declared.fault.TurnFault.{TurnFault}
+use Rattle.share_turns.specs.Exchanges.{IsSentOf, sent_to}
+use Rattle.share_turns.specs.HostTurn.{datagrams_of, listed}
+
+-- a viewer offers a point, if there is one, or refuses it
+abbrev pub IsOffered : {W : Type 0} → ViewerState W → Option Point → (offered : Bool)
+    → ViewerState W → Type 0
+IsOffered x None offered y = (y ≡ x) × (offered ≡ false)
+IsOffered x (Some point) offered y =
+    (result : Result ℕ OfferFault) × (viewer_offer x point ≡ (result, y)) × (offered ≡ is_ok result)
+
+-- it takes the bytes of a datagram
+pub record IsTaking {W : Type 0} (m : Machine W) (mark : List ℕ) (who : ℕ) (x : ViewerState W)
+    (came : List ℕ) (y : ViewerState W) : Type 0 where
+  pub result : Result Taken TakeFault
+  pub took : IsTakeOf m mark who x x.view (decoded came) result y
+
+-- it takes one datagram after another
+abbrev pub AreTaken : {W : Type 0} → Machine W → (mark : List ℕ) (who : ℕ) → ViewerState W
+    → List Datagram → ViewerState W → Type 0
+AreTaken m mark who x [] y = y ≡ x
+AreTaken {W} m mark who x (came ∷ others) y =
+    (next : ViewerState W) × IsTaking m mark who x came.bytes next
+    × AreTaken m mark who next others y
+
+-- what came
+abbrev pub received : List Datagram → List Traffic
+received came = map (λ datagram. Received datagram) came
+
+-- the same, of at most 64 datagrams, as a port tells them
+pub record Takes {W : Type 0} (m : Machine W) (mark : List ℕ) (who : ℕ)
+    (told_before told_after : Option (List Traffic)) (old new : ViewerState W) : Type 0 where
+  pub came : List Datagram
+  pub taken : AreTaken m mark who old came new
+  pub most : length came ≤ 64
+  pub told : Grows told_before told_after (received came)
+
+-- the offer that has waited longest, and an ask
+abbrev pub requests : {W : Type 0} → Machine W → (mark : List ℕ) (who : ℕ) → ViewerState W
+    → List (List ℕ)
+requests m mark who x =
+    datagrams_of mark (listed (viewer_resend who x 0) ++ viewer_ask m who x ∷ [])
+
+-- a turn; where it ends early, perhaps not all is sent
+pub record IsViewerTurn {W : Type 0} (m : Machine W) (mark : List ℕ) (who host : ℕ)
+    (point : Option Point) (told_before told_after : Option (List Traffic))
+    (old : ViewerState W) (result : Result Bool TurnFault) (new : ViewerState W) : Type 0 where
+  pub offered : Bool
+  pub answer : IfOk result (λ b. b ≡ offered)
+  pub begun : ViewerState W
+  pub offers : IsOffered old point offered begun
+  pub came : List Datagram
+  pub taken : AreTaken m mark who begun came new
+  pub most : length came ≤ 64
+  pub sent : List (List ℕ)
+  pub of_wanted : IsSentOf (is_ok result) sent (requests m mark who new)
+  pub told : Grows told_before told_after (received came ++ sent_to host sent)

@@ -1,0 +1,178 @@
+//! A turn of the host.
+
+ghost use Rattle.std.specs.Prelude.{◌≡◌, true, OnOk, OnErr, is_ok};
+ghost use Rattle.share_wire.specs.Decoding.{decoded};
+ghost use Rattle.share_port.specs.Told.{one_more};
+ghost use Rattle.share_turns.specs.Exchanges.{AreSent};
+ghost use Rattle.share_law.specs.Host.{host_packet};
+ghost use Rattle.share_core.specs.Host.{AreNumbered};
+ghost use Rattle.share_turns.specs.HostTurn.{IsHostTurn, IsBegun, IsExchange, acks_for};
+ghost use Rattle.share_turns.specs.HostTurn.{bodies_for, datagrams_of, inputs_for, listed, sender_in, sender_of};
+ghost use Rattle.share_turns.specs.HostTurn.{failures_after, is_whole};
+
+use crate::fault::TurnFault;
+use crate::most::MOST;
+use share_core::Host;
+use share_law::{HostFault, HostReply, NumberFault};
+use share_port::{Port, PortFault};
+use share_wire::{Body, decode};
+
+/// Numbers the clock of a turn. One that the host refuses for another cause than memory is dropped.
+fn number_clock(host: &mut Host, clock: Option<i64>) -> Result<(), TurnFault>
+    ensures mark { host.new.mark ≡ host.old.mark }
+    ensures step { IsBegun host.old.host clock host.new.host }
+    ensures whole { is_whole result ≡ true }
+{
+    let Some(time) = clock else {
+        return Ok(());
+    };
+    match host.clock(time) {
+        Err(NumberFault::Memory) => Err(TurnFault::Memory),
+        _ => Ok(()),
+    }
+}
+
+/// The viewer that offers or asks by this message.
+fn sender_in(body: Body) -> Option<u8>
+    ensures { result ≡ sender_in body }
+{
+    match body {
+        Body::Offer(offer) => Some(offer.pointer().who()),
+        Body::Ask(ask) => Some(ask.who()),
+        Body::Input(_) | Body::Ack(_) => None,
+    }
+}
+
+/// The viewer that offered or asked.
+fn sender_of(bytes: &[u8]) -> Option<u8>
+    ensures { result ≡ sender_of (decoded bytes.now) }
+{
+    match decode(bytes) {
+        Ok(message) => sender_in(message.body),
+        Err(_) => None,
+    }
+}
+
+/// Sends the input of that number, if there is one.
+fn send_input<P: Port>(host: &Host, number: u32, to: u16, port: &mut P) -> Result<(), PortFault>
+    ensures sent { AreSent (is_ok result) to (P.told port.old) (P.told port.new)
+        (datagrams_of host.now.mark (listed (host_packet host.now.host number))) }
+    ensures count_ok { OnOk result (P.failure_count port.new ≡ P.failure_count port.old) }
+    ensures count_err { OnErr result
+        (P.failure_count port.new ≡ one_more (P.failure_count port.old)) }
+{
+    match host.packet(number) {
+        Some(packet) => port.send(to, packet.as_slice()),
+        None => Ok(()),
+    }
+}
+
+/// Sends the inputs that were asked for.
+fn send_inputs<P: Port>(
+    host: &Host,
+    reply: HostReply,
+    to: u16,
+    port: &mut P,
+) -> Result<(), PortFault>
+    requires { AreNumbered host.now.host reply }
+    ensures sent { AreSent (is_ok result) to (P.told port.old) (P.told port.new)
+        (datagrams_of host.now.mark (inputs_for host.now.host reply)) }
+    ensures count_ok { OnOk result (P.failure_count port.new ≡ P.failure_count port.old) }
+    ensures count_err { OnErr result
+        (P.failure_count port.new ≡ one_more (P.failure_count port.old)) }
+{
+    let HostReply::Asked { first, count } = reply else {
+        return Ok(());
+    };
+    let _numbered = host.len();
+    for number in first..first + count {
+        send_input(host, number, to, port)?;
+    }
+    Ok(())
+}
+
+/// Sends an ack to who offered or asked.
+fn send_ack<P: Port>(
+    host: &Host,
+    sender: Option<u8>,
+    to: u16,
+    port: &mut P,
+) -> Result<(), PortFault>
+    ensures sent { AreSent (is_ok result) to (P.told port.old) (P.told port.new)
+        (datagrams_of host.now.mark (acks_for host.now.host sender)) }
+    ensures count_ok { OnOk result (P.failure_count port.new ≡ P.failure_count port.old) }
+    ensures count_err { OnErr result
+        (P.failure_count port.new ≡ one_more (P.failure_count port.old)) }
+{
+    let Some(who) = sender else {
+        return Ok(());
+    };
+    if who >= host.viewers() {
+        return Ok(());
+    }
+    port.send(to, host.ack(who).as_slice())
+}
+
+/// Sends what belongs to a datagram that was taken.
+fn send_for<P: Port>(
+    host: &Host,
+    reply: HostReply,
+    sender: Option<u8>,
+    to: u16,
+    port: &mut P,
+) -> Result<(), PortFault>
+    requires { AreNumbered host.now.host reply }
+    ensures sent { AreSent (is_ok result) to (P.told port.old) (P.told port.new)
+        (datagrams_of host.now.mark (bodies_for host.now.host sender reply)) }
+    ensures count_ok { OnOk result (P.failure_count port.new ≡ P.failure_count port.old) }
+    ensures count_err { OnErr result
+        (P.failure_count port.new ≡ one_more (P.failure_count port.old)) }
+{
+    send_inputs(host, reply, to, port)?;
+    send_ack(host, sender, to, port)
+}
+
+/// Takes a datagram, and sends to its peer what belongs to it.
+fn answer<P: Port>(host: &mut Host, from: u16, bytes: &[u8], port: &mut P) -> Result<(), TurnFault>
+    ensures mark { host.new.mark ≡ host.old.mark }
+    ensures exchange { IsExchange (is_whole result) host.old.mark host.old.host
+        (record { peer = from; bytes = bytes.now }) (P.told port.old) (P.told port.new)
+        host.new.host }
+    ensures failures { P.failure_count port.new
+        ≡ failures_after result (P.failure_count port.old) }
+{
+    match host.take(bytes) {
+        Ok(reply) => Ok(send_for(host, reply, sender_of(bytes), from, port)?),
+        Err(HostFault::Number(NumberFault::Memory)) => Err(TurnFault::Memory),
+        Err(_) => Ok(()),
+    }
+}
+
+/// A turn of the host: it numbers the next clock of its job, at a time in microseconds, if there is
+/// one; then it takes at most 64 datagrams, and sends to each one's peer what belongs to it: for an
+/// ask the inputs that were asked for and an ack, for an offer an ack. A clock or a datagram that is
+/// refused for another cause than memory is dropped.
+///
+/// `Port` where a send or a receive failed, `Memory` where memory was refused to a clock or to an
+/// offer: either ends the turn at once.
+pub fn host_turn<P: Port>(
+    host: &mut Host,
+    clock: Option<i64>,
+    port: &mut P,
+) -> Result<(), TurnFault>
+    ensures mark { host.new.mark ≡ host.old.mark }
+    ensures turn { IsHostTurn (is_whole result) host.old.mark clock (P.told port.old)
+        (P.told port.new) host.old.host host.new.host }
+    ensures failures { P.failure_count port.new
+        ≡ failures_after result (P.failure_count port.old) }
+{
+    number_clock(host, clock)?;
+    let mut bytes = [0; 257];
+    for _turn in 0..MOST {
+        match port.receive(&mut bytes)? {
+            Some((from, count)) => answer(host, from, &bytes[..count], port)?,
+            None => return Ok(()),
+        }
+    }
+    Ok(())
+}

@@ -1,0 +1,116 @@
+//! A turn of a viewer.
+
+ghost use Rattle.std.specs.Prelude.{◌≡◌, Err, OnOk, OnErr, is_ok};
+ghost use Rattle.share_law.specs.Viewer.{viewer_resend};
+ghost use Rattle.share_port.specs.Told.{one_more};
+ghost use Rattle.share_core.specs.Viewer.{IfRunning, IfSpoiled, machine_of, with_state};
+ghost use Rattle.share_turns.specs.Exchanges.{AreSent};
+ghost use Rattle.share_turns.specs.HostTurn.{datagrams_of, failures_after, listed};
+ghost use Rattle.share_turns.specs.ViewerTurn.{IsOffered, IsTaking, IsViewerTurn, Takes, requests};
+ghost use Rattle.share_turns.specs.declared.fault.TurnFault.TheVariants.{Memory, Spoiled};
+
+use crate::fault::TurnFault;
+use crate::most::MOST;
+use share_core::Viewer;
+use share_law::TakeFault;
+use share_port::{Port, PortFault};
+use x3d_values::Point;
+
+/// Offers the point of a turn, and says whether it was offered.
+fn offer<B>(viewer: &mut Viewer<B>, point: Option<Point>) -> bool
+    ensures others { viewer.new ≡ with_state viewer.old viewer.new.state }
+    ensures offered { IsOffered viewer.old.state point result viewer.new.state }
+{
+    match point {
+        Some(point) => viewer.offer(point).is_ok(),
+        None => false,
+    }
+}
+
+/// Takes a datagram. One that is refused for another cause than memory is dropped.
+fn take_one<B>(viewer: &mut Viewer<B>, bytes: &[u8]) -> Result<(), TurnFault>
+    ensures others { viewer.new ≡ with_state viewer.old viewer.new.state }
+    ensures taken { IsTaking (machine_of viewer.old) viewer.old.mark viewer.old.who
+        viewer.old.state bytes.now viewer.new.state }
+    ensures not_port { OnErr result (result ≡ Err Memory) }
+{
+    match viewer.take(bytes) {
+        Err(TakeFault::Memory) => Err(TurnFault::Memory),
+        _ => Ok(()),
+    }
+}
+
+/// Takes the datagrams of a turn.
+fn take_all<B, P: Port>(viewer: &mut Viewer<B>, port: &mut P) -> Result<(), TurnFault>
+    ensures others { viewer.new ≡ with_state viewer.old viewer.new.state }
+    ensures takes { Takes (machine_of viewer.old) viewer.old.mark viewer.old.who
+        (P.told port.old) (P.told port.new) viewer.old.state viewer.new.state }
+    ensures failures { P.failure_count port.new
+        ≡ failures_after result (P.failure_count port.old) }
+{
+    let mut bytes = [0; 257];
+    for _turn in 0..MOST {
+        match port.receive(&mut bytes)? {
+            Some((_from, count)) => take_one(viewer, &bytes[..count])?,
+            None => return Ok(()),
+        }
+    }
+    Ok(())
+}
+
+/// Sends the offer that has waited longest, if one waits.
+fn send_offer<B, P: Port>(viewer: &Viewer<B>, host: u16, port: &mut P) -> Result<(), PortFault>
+    ensures sent { AreSent (is_ok result) host (P.told port.old) (P.told port.new)
+        (datagrams_of viewer.now.mark (listed (viewer_resend viewer.now.who viewer.now.state 0))) }
+    ensures count_ok { OnOk result (P.failure_count port.new ≡ P.failure_count port.old) }
+    ensures count_err { OnErr result
+        (P.failure_count port.new ≡ one_more (P.failure_count port.old)) }
+{
+    match viewer.resend(0) {
+        Some(packet) => port.send(host, packet.as_slice()),
+        None => Ok(()),
+    }
+}
+
+/// Sends the offer that has waited longest, if one waits, and asks for what the viewer lacks.
+fn send_requests<B, P: Port>(viewer: &Viewer<B>, host: u16, port: &mut P) -> Result<(), PortFault>
+    ensures sent { AreSent (is_ok result) host (P.told port.old) (P.told port.new)
+        (requests (machine_of viewer.now) viewer.now.mark viewer.now.who viewer.now.state) }
+    ensures count_ok { OnOk result (P.failure_count port.new ≡ P.failure_count port.old) }
+    ensures count_err { OnErr result
+        (P.failure_count port.new ≡ one_more (P.failure_count port.old)) }
+{
+    send_offer(viewer, host, port)?;
+    port.send(host, viewer.ask().as_slice())
+}
+
+/// A turn of a viewer: it offers a point, if there is one; then it takes at most 64 datagrams; then
+/// it sends to its host the offer that has waited longest and an ask for what it lacks. Says whether
+/// the point was offered: where too many offers wait, or there are no more numbers for them, it may
+/// be handed in again. A datagram that is refused for another cause than memory is dropped.
+///
+/// `Spoiled` where memory was refused to the viewer before: then nothing is done. `Port` where a send
+/// or a receive failed, `Memory` where memory was refused to an input: either ends the turn at once.
+pub fn viewer_turn<B, P: Port>(
+    viewer: &mut Viewer<B>,
+    point: Option<Point>,
+    host: u16,
+    port: &mut P,
+) -> Result<bool, TurnFault>
+    ensures others { viewer.new ≡ with_state viewer.old viewer.new.state }
+    ensures spoiled { IfSpoiled viewer.old.state.view ((result ≡ Err Spoiled)
+        × (viewer.new ≡ viewer.old) × (P.told port.new ≡ P.told port.old)) }
+    ensures turn { IfRunning viewer.old.state.view (λ w.
+        IsViewerTurn (machine_of viewer.old) viewer.old.mark viewer.old.who host point
+        (P.told port.old) (P.told port.new) viewer.old.state result viewer.new.state) }
+    ensures failures { P.failure_count port.new
+        ≡ failures_after result (P.failure_count port.old) }
+{
+    if viewer.spoiled() {
+        return Err(TurnFault::Spoiled);
+    }
+    let offered = offer(viewer, point);
+    take_all(viewer, port)?;
+    send_requests(viewer, host, port)?;
+    Ok(offered)
+}
