@@ -25,6 +25,7 @@ use Rattle.proto_walk.specs.declared.held.KnownField.{KnownField}
 use Rattle.proto_walk.specs.Fields.{signature, signatures}
 use Rattle.proto_walk.specs.Machine.{Walk, Machine, Outcome, and_then, ◌>>=◌, pure, refuse, through, keep, use_node}
 use Rattle.proto_walk.specs.Limits.{count_items}
+use Rattle.proto_walk.specs.Routes.{wire}
 use Rattle.proto_walk.specs.Meaning.{Owner, Place, is_wanted, add_default_value, add_default, add_defaults, OnFields, admits, is_taken, has_field, with_field, add_number, add_new, add_known, add_value, add_given, full_node, declare, in_body, item_step, node_step, statement_step, proto_step, item_does, node_does, statement_does, proto_does, items_do}
 
 pub and_then-congr : {A B : Type 0} (f g : A → Machine B) → ((a : A) (w : Walk) → f a w ≡ g a w) → (o : Outcome A) → and_then o f ≡ and_then o g
@@ -138,7 +139,7 @@ unfolding item_step
 item_does-declaration inner o fields w = ap (λ whole. item_does whole o fields w) (sym (item.rolls-Declaration inner))
     ∙ ap (λ (m : OnFields). m o fields w) (fold-roll-BodyItem OnFields (Machine ℕ) (Machine (Option ℕ)) (Machine (Unit {0})) item_step node_step statement_step proto_step (BodyItem-F.Declaration inner))
 
-pub item_does-route : (route : RouteText) (o : Owner) (fields : List GivenField) (w : Walk) → item_does (item.Route route) o fields w ≡ Err (fault NotYet route.line)
+pub item_does-route : (route : RouteText) (o : Owner) (fields : List GivenField) (w : Walk) → item_does (item.Route route) o fields w ≡ and_then (wire route w) (λ _. pure fields)
 unfolding item_step
 item_does-route route o fields w = ap (λ whole. item_does whole o fields w) (sym (item.rolls-Route route))
     ∙ ap (λ (m : OnFields). m o fields w) (fold-roll-BodyItem OnFields (Machine ℕ) (Machine (Option ℕ)) (Machine (Unit {0})) item_step node_step statement_step proto_step (BodyItem-F.BodyItem::Route route))
@@ -168,7 +169,7 @@ unfolding statement_step
 statement_does-node inner w = ap (λ whole. statement_does whole w) (sym (statement.rolls-Node inner))
     ∙ ap (λ (m : Machine (Option ℕ)). m w) (fold-roll-Statement OnFields (Machine ℕ) (Machine (Option ℕ)) (Machine (Unit {0})) item_step node_step statement_step proto_step (Statement-F.Node inner))
 
-pub statement_does-route : (route : RouteText) (w : Walk) → statement_does (statement.Route route) w ≡ Err (fault NotYet route.line)
+pub statement_does-route : (route : RouteText) (w : Walk) → statement_does (statement.Route route) w ≡ and_then (wire route w) (λ _. pure None)
 unfolding statement_step
 statement_does-route route w = ap (λ whole. statement_does whole w) (sym (statement.rolls-Route route))
     ∙ ap (λ (m : Machine (Option ℕ)). m w) (fold-roll-Statement OnFields (Machine ℕ) (Machine (Option ℕ)) (Machine (Unit {0})) item_step node_step statement_step proto_step (Statement-F.Statement::Route route))

@@ -10,8 +10,10 @@ use Rattle.classic_tree.specs.declared.tree.NodeText.{NodeText}
 use Rattle.classic_tree.specs.declared.tree.Statement.{Statement}
 use Rattle.classic_tree.specs.declared.tree.Statement.TheVariants as statement
 use Rattle.classic_tree.specs.declared.tree.ProtoText.{ProtoText, out-ProtoText}
+use Rattle.classic_tree.specs.declared.tree.RouteText.{RouteText}
 use Rattle.flat_document.specs.declared.fault.ExpandFault.{ExpandFault}
 use Rattle.proto_walk.specs.declared.held.GivenField.{GivenField}
+use Rattle.proto_walk.specs.declared.held.Joined.{Joined}
 use Rattle.proto_walk.specs.declared.frames.Link.{Link}
 use Rattle.proto_walk.specs.declared.frames.Frame.{Frame}
 use Rattle.proto_walk.specs.declared.frames.Task.{Task}
@@ -22,11 +24,12 @@ use Rattle.proto_walk.specs.declared.frames.Open.{Open}
 use Rattle.proto_walk.specs.declared.frames.Listing.{Listing}
 use Rattle.proto_walk.specs.declared.frames.Body.{Body}
 use Rattle.proto_walk.specs.Fields.{signatures}
-use Rattle.proto_walk.specs.Machine.{keep, Sight, Bound, Walk, Machine, Outcome, through, and_then, ◌>>=◌, pure, label, know, no_names, definition, Does}
+use Rattle.proto_walk.specs.Machine.{keep, Sight, Bound, Walk, Machine, Outcome, through, and_then, ◌>>=◌, pure, Made, no_names, no_defs, definition, Does}
 use Rattle.proto_walk.specs.Limits.{count_items, item_count}
-use Rattle.proto_walk.specs.Meaning.{Place, is_wanted, add_default_value, within as inside_of, begin_body, add_default, add_defaults, add_new, add_taken, is_taken, add_joined, hand_on, body_of, item_does, numbered, add_number, back, close_instance, hold, in_body, leave, meaning_of, node_does, proto_does, statement_does, with_field}
-use Rattle.proto_walk.specs.Frames.{place_of, fill, owner_in, seen_in, value_does, names_of, bound_of, close_with, body_does, open_does, list_does, in_sight, sight_of, frame_does, frames_do, task_sight, task_does, task_comes, rest_does, comes_to, shown, AllSee, Holds, Fits, Goes, Keeps, Steps, Ends}
-use Rattle.proto_walk.proofs.Equations.{item_does-proto, and_then-congr, body_map, statement_does-node, statement_does-proto}
+use Rattle.proto_walk.specs.Routes.{wire}
+use Rattle.proto_walk.specs.Meaning.{Place, is_wanted, add_default_value, within as inside_of, begin_body, add_default, add_defaults, add_new, add_taken, is_taken, add_joined, hand_over, stand_in, body_of, item_does, numbered, add_number, back, close_instance, hold, in_body, leave, meaning_of, node_does, proto_does, statement_does, with_field}
+use Rattle.proto_walk.specs.Frames.{place_of, fill, owner_in, seen_in, value_does, names_of, defs_of, bound_of, close_with, body_does, open_does, list_does, in_sight, sight_of, frame_does, frames_do, task_sight, task_does, task_comes, rest_does, comes_to, shown, AllSee, Holds, Fits, Goes, Keeps, Steps, Ends}
+use Rattle.proto_walk.proofs.Equations.{item_does-proto, and_then-congr, body_map, statement_does-node, statement_does-proto, statement_does-route}
 use Rattle.proto_walk.proofs.Sights.{reverse-snoc, frames-more, in_sight-more}
 
 pub and_then-assoc : {A B C : Type 0} (o : Outcome A) (f : A → Machine B) (g : B → Machine C) → and_then (and_then o f) g ≡ and_then o (λ a w. and_then (f a w) g)
@@ -137,21 +140,18 @@ statements_of p = through (λ s. in_body (statement_does s)) (out-ProtoText p).b
 abbrev defaults_from : ProtoText → Option ℕ → List (Declaration NodeText) → List GivenField → Machine (List GivenField)
 defaults_from p around ds = add_defaults node_does (place_of p around) (length (out-ProtoText p).interface) ds
 
-abbrev after : Option (List ℕ) → ℕ → ℕ → Machine ℕ
-after name at n = label name n >>= λ m. know name at m
-
 pub opens : (walker new : Walker) (p : Bor ProtoText) (around : Option ℕ) (opened o : Open) (f : Filling) → new.store ≡ walker.store → new.declarations ≡ walker.declarations → new.links.items ≡ walker.links.items →
-    names_of new.scope ≡ no_names → new.scope.sight ≡ opened.sight → new.scope.given ≡ [] → new.scope.interface.now ≡ [] → new.scope.inside ≡ body_of (definition (shown walker).declared around (out-ProtoText p.now).name) →
+    names_of new.scope ≡ no_names → defs_of new.scope ≡ no_defs → new.scope.ties ≡ [] → new.scope.sight ≡ opened.sight → new.scope.given ≡ [] → new.scope.interface.now ≡ [] → new.scope.inside ≡ body_of (definition (shown walker).declared around (out-ProtoText p.now).name) →
     f.proto ≡ p → f.within ≡ around → f.rest.now ≡ (out-ProtoText p.now).interface → f.outer ≡ walker.scope →
-    o.name.now ≡ opened.name.now → o.at ≡ opened.at → o.fields ≡ opened.fields → o.sight ≡ walker.scope.sight → o.filling ≡ Some f →
-    close_instance opened.name.now opened.at (bound_of p.now around (in_sight walker.links.items opened.sight)) opened.fields (shown walker) ≡ task_comes new (task.Items o)
+    o.name.now ≡ opened.name.now → o.owner ≡ opened.owner → o.fields ≡ opened.fields → o.sight ≡ walker.scope.sight → o.filling ≡ Some f →
+    close_instance opened.name.now (owner_in opened.owner).at (bound_of p.now around (in_sight walker.links.items opened.sight)) opened.fields (shown walker) ≡ task_comes new (task.Items o)
 unfolding close_instance meaning_of task_does open_does
-opens walker new p around opened o f store declarations links names sight given interface inside proto within rest outer name at fields seen filling =
-    rw (filling, store, declarations, links, names, sight, given, interface, inside, proto, within, rest, outer, name, at, fields, seen)
+opens walker new p around opened o f store declarations links names defs ties sight given interface inside proto within rest outer name owner fields seen filling =
+    rw (filling, store, declarations, links, names, defs, ties, sight, given, interface, inside, proto, within, rest, outer, name, owner, fields, seen)
     (ap (λ (m : Machine (Option ℕ)). and_then (back (seen_in walker.scope (in_sight walker.links.items walker.scope.sight)) (leave (out-ProtoText p.now).line
     (and_then (defaults_from p.now around (out-ProtoText p.now).interface opened.fields
     (inside_of (in_sight walker.links.items opened.sight) (body_of (definition (shown walker).declared around (out-ProtoText p.now).name)) walker.store (shown walker).declared))
-    (begin_body (signatures (out-ProtoText p.now).interface) m)))) (after opened.name.now opened.at))
+    (begin_body (signatures (out-ProtoText p.now).interface) m)))) (stand_in opened.name.now (owner_in opened.owner).at))
     (fun_ext (λ w. body_map (out-ProtoText p.now).body None w)))
 
 -- ---- the next node of a list
@@ -166,7 +166,7 @@ list-next ps opened listing next node numbers w rest line field =
 
 -- ---- the next statement of a body
 
-leave-later : {A : Type 0} (sight : Sight) (line : ℕ) (k : ℕ → Machine ℕ) (o : Outcome A) (f : A → Machine (Option ℕ)) →
+leave-later : {A : Type 0} (sight : Sight) (line : ℕ) (k : Made → Machine ℕ) (o : Outcome A) (f : A → Machine (Option ℕ)) →
     and_then (back sight (leave line (and_then o f))) k ≡ and_then o (λ a v. and_then (back sight (leave line (f a v))) k)
 leave-later sight line k (Ok p) f = refl
 leave-later sight line k (Err e) f = refl
@@ -179,18 +179,18 @@ pub fill-next : (ps : List Bound) (opened next : Open) (f g : Filling) (d : Decl
 unfolding open_does
 fill-next ps opened next f g d fields w rest proto within outer is =
     rw (is, rest, proto, within, outer)
-    (ap (λ o. and_then (back (seen_in f.outer ps) (leave (out-ProtoText f.proto.now).line o)) (after opened.name.now opened.at))
+    (ap (λ o. and_then (back (seen_in f.outer ps) (leave (out-ProtoText f.proto.now).line o)) (stand_in opened.name.now (owner_in opened.owner).at))
     (and_then-assoc (add_default node_does (place_of f.proto.now f.within) (length (out-ProtoText f.proto.now).interface - length (d ∷ g.rest.now)) d fields w)
     (λ fs. defaults_from f.proto.now f.within g.rest.now fs) (begin_body (signatures (out-ProtoText f.proto.now).interface) (statements_of f.proto.now)))
-    ∙ leave-later (seen_in f.outer ps) (out-ProtoText f.proto.now).line (after opened.name.now opened.at)
+    ∙ leave-later (seen_in f.outer ps) (out-ProtoText f.proto.now).line (stand_in opened.name.now (owner_in opened.owner).at)
     (add_default node_does (place_of f.proto.now f.within) (length (out-ProtoText f.proto.now).interface - length (d ∷ g.rest.now)) d fields w)
     (λ fs v. and_then (defaults_from f.proto.now f.within g.rest.now fs v) (begin_body (signatures (out-ProtoText f.proto.now).interface) (statements_of f.proto.now))))
 
 pub fill-last : (walker new : Walker) (opened : Open) (f : Filling) (i : Bor (List (Declaration NodeText))) (b : Body) → f.rest.now ≡ [] → new.store ≡ walker.store → new.declarations ≡ walker.declarations → new.links.items ≡ walker.links.items →
     new.scope ≡ record walker.scope { given = opened.fields; interface = i } → i.now ≡ (out-ProtoText f.proto.now).interface →
-    b.line ≡ (out-ProtoText f.proto.now).line → b.name.now ≡ opened.name.now → b.at ≡ opened.at → b.rest.now ≡ (out-ProtoText f.proto.now).body → b.first ≡ None → b.outer ≡ record f.outer { sight = opened.sight } →
+    b.line ≡ (out-ProtoText f.proto.now).line → b.name.now ≡ opened.name.now → b.at ≡ (owner_in opened.owner).at → b.rest.now ≡ (out-ProtoText f.proto.now).body → b.first ≡ None → b.outer ≡ record f.outer { sight = opened.sight } →
     fill (in_sight walker.links.items opened.sight) opened f opened.fields (shown walker) ≡ task_comes new (task.Statements b)
-unfolding task_does body_does names_of
+unfolding task_does body_does names_of defs_of
 fill-last walker new opened f i b rest store declarations links scope interface line name at body first outer =
     rw (rest, store, declarations, links, scope, interface, line, name, at, body, first, outer) refl
 
@@ -202,17 +202,32 @@ pub body-node : (ps : List Bound) (b next : Body) (node : NodeText) (first : Opt
 unfolding body_does
 body-node ps b next node first w rest same =
     rw (rest, same.0, same.1, same.2, same.3, statement_does-node node w)
-    (ap (λ o. and_then (back (seen_in b.outer ps) (leave b.line o)) (λ n. label b.name.now n >>= λ m. know b.name.now b.at m))
+    (ap (λ o. and_then (back (seen_in b.outer ps) (leave b.line o)) (stand_in b.name.now b.at))
     (and_then-assoc (and_then (node_does node w) (λ n. pure (Some n))) (hold first) (λ f. through (λ s. in_body (statement_does s)) next.rest.now f)
     ∙ and_then-assoc (node_does node w) (λ n. pure (Some n)) (λ a v. and_then (hold first a v) (λ f. through (λ s. in_body (statement_does s)) next.rest.now f)))
-    ∙ leave-later (seen_in b.outer ps) b.line (λ n. label b.name.now n >>= λ m. know b.name.now b.at m) (node_does node w)
+    ∙ leave-later (seen_in b.outer ps) b.line (stand_in b.name.now b.at) (node_does node w)
     (λ k v. and_then (hold first (Some k) v) (λ f. through (λ s. in_body (statement_does s)) next.rest.now f))
-    ∙ and_then-congr _ _ (λ k v. leave-later (seen_in b.outer ps) b.line (λ n. label b.name.now n >>= λ m. know b.name.now b.at m) (hold first (Some k) v) (λ f. through (λ s. in_body (statement_does s)) next.rest.now f)) (node_does node w))
+    ∙ and_then-congr _ _ (λ k v. leave-later (seen_in b.outer ps) b.line (stand_in b.name.now b.at) (hold first (Some k) v) (λ f. through (λ s. in_body (statement_does s)) next.rest.now f)) (node_does node w))
 
 pub body-proto : (ps : List Bound) (b next : Body) (proto : ProtoText) (first : Option ℕ) (w v : Walk) → b.rest.now ≡ statement.Proto proto ∷ next.rest.now → AreSame b next → proto_does proto w ≡ Ok (tt, v) →
     body_does ps b first w ≡ body_does ps next first v
 unfolding body_does
 body-proto ps b next proto first w v rest same is = rw (rest, same.0, same.1, same.2, same.3, statement_does-proto proto w, is) refl
+
+route-later : {A : Type 0} (sight : Sight) (line : ℕ) (k : Made → Machine ℕ) (first : Option ℕ) (o : Outcome A) (f : Option ℕ → Machine (Option ℕ)) →
+    and_then (back sight (leave line (and_then (and_then (and_then o (λ _. pure None)) (hold first)) f))) k ≡ and_then o (λ _ v. and_then (back sight (leave line (f first v))) k)
+route-later sight line k first (Ok p) f = refl
+route-later sight line k first (Err e) f = refl
+
+pub body-route : (ps : List Bound) (b next : Body) (route : RouteText) (first : Option ℕ) (w : Walk) → b.rest.now ≡ statement.Route route ∷ next.rest.now → AreSame b next →
+    body_does ps b first w ≡ and_then (wire route w) (λ _. body_does ps next first)
+unfolding body_does
+body-route ps b next route first w rest same = rw (rest, same.0, same.1, same.2, same.3, statement_does-route route w)
+    (route-later (seen_in b.outer ps) b.line (stand_in b.name.now b.at) first (wire route w) (λ f. through (λ s. in_body (statement_does s)) next.rest.now f))
+
+pub routed-body : (links more : List Link) (b : Body) (route : RouteText) (w u : Walk) → more ≡ links → wire route w ≡ Ok (tt, u) →
+    and_then (wire route w) (λ _. body_does (in_sight links b.outer.sight) b b.first) ≡ body_does (in_sight more b.outer.sight) b b.first u
+routed-body links more b route w u same does = rw (same, does) refl
 
 pub body-refused : (ps : List Bound) (b : Body) (proto : ProtoText) (more : List Statement) (first : Option ℕ) (w : Walk) (e : ExpandFault) → b.rest.now ≡ statement.Proto proto ∷ more → proto_does proto w ≡ Err e →
     body_does ps b first w ≡ Err e
@@ -236,6 +251,10 @@ pub item-proto : (ps : List Bound) (opened : Open) (it : BodyItem) (p : ProtoTex
 item-proto ps opened it p w v is does =
     ap (λ i. and_then (item_does i (owner_in opened.owner) opened.fields w) (open_does ps opened)) is
     ∙ ap (λ o. and_then o (open_does ps opened)) (item_does-proto p (owner_in opened.owner) opened.fields w ∙ ap (λ o. and_then o (λ _. pure opened.fields)) does)
+
+pub routed : (links more : List Link) (opened : Open) (route : RouteText) (w u : Walk) → more ≡ links → wire route w ≡ Ok (tt, u) →
+    and_then (and_then (wire route w) (λ _. pure opened.fields)) (open_does (in_sight links opened.sight) opened) ≡ open_does (in_sight more opened.sight) opened opened.fields u
+routed links more opened route w u same does = rw (same, does) refl
 
 pub list-last : (ps : List Bound) (opened : Open) (listing : Listing) (numbers : List ℕ) (w : Walk) → listing.rest.now ≡ [] →
     list_does ps opened listing numbers w ≡ value_does ps opened listing.line listing.field (value.NodeList numbers) w
@@ -323,13 +342,14 @@ pub unfilled : (ps : List Bound) (opened : Open) (f : Option Filling) (fields : 
 unfolding open_does
 unfilled ps opened f fields w none same = rw (none, same) refl
 
--- a value is handed on, and the field has it
-pub handed : (links more : List Link) (opened next : Open) (line number : ℕ) (v : Option ℕ) (w u : Walk) → more ≡ links → hand_on (owner_in opened.owner) v w ≡ Ok (tt, u) →
-    next ≡ record opened { fields = with_field line number opened.fields v } →
-    and_then (add_joined line (owner_in opened.owner) opened.fields number v w) (open_does (in_sight links opened.sight) opened) ≡ open_does (in_sight more next.sight) next next.fields u
-handed links more opened next line number v w u same does is =
-    ap (λ o. and_then (and_then o (λ _. pure (with_field line number opened.fields v))) (open_does (in_sight links opened.sight) opened)) does
-    ∙ fields-in links opened next (with_field line number opened.fields v) u is
+-- an IS is tied and its value handed on, and the field has it
+pub handed : (links more : List Link) (opened next : Open) (line : ℕ) (field : List ℕ) (j : Joined) (w u : Walk) → more ≡ links →
+    hand_over field (owner_in opened.owner) j w ≡ Ok (tt, u) →
+    next ≡ record opened { fields = with_field line j.number opened.fields j.value } →
+    and_then (add_joined line field (owner_in opened.owner) opened.fields j w) (open_does (in_sight links opened.sight) opened) ≡ open_does (in_sight more next.sight) next next.fields u
+handed links more opened next line field j w u same does is =
+    ap (λ o. and_then (and_then o (λ _. pure (with_field line j.number opened.fields j.value))) (open_does (in_sight links opened.sight) opened)) does
+    ∙ fields-in links opened next (with_field line j.number opened.fields j.value) u is
     ∙ ap (λ (ls : List Link). open_does (in_sight ls next.sight) next next.fields u) (sym same)
 
 -- what goes nowhere is left out

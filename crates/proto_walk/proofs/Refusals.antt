@@ -8,7 +8,7 @@ use Rattle.proto_walk.specs.declared.held.GivenField.{GivenField}
 use Rattle.proto_walk.specs.declared.held.KnownField.{KnownField}
 use Rattle.proto_walk.specs.Fields.{of_interface, fits}
 use Rattle.proto_walk.specs.Machine.{Walk}
-use Rattle.proto_walk.specs.Meaning.{Owner, admits, has_field, value_of, add_value, add_taken, add_is, add_joined, node_does}
+use Rattle.proto_walk.specs.Meaning.{Owner, admits, has_field, joined_by, add_value, add_taken, add_is, add_joined, node_does}
 
 -- ---- a value
 
@@ -52,6 +52,6 @@ unfolding add_is
 is-twice line field name o fields w f g some bound fit twice = rw (some, bound, fit, twice) refl
 
 pub is-joined : (line : ℕ) (field name : List ℕ) (o : Owner) (fields : List GivenField) (w : Walk) (f g : KnownField) → o.fields field ≡ Some f → of_interface w.sight.interface name ≡ Some g → fits g f ≡ true →
-    has_field f.number fields ≡ false → add_is line field name o fields w ≡ add_joined line o fields f.number (value_of g.number w.sight.given) w
+    has_field f.number fields ≡ false → add_is line field name o fields w ≡ add_joined line field o fields (joined_by f g w.sight.given) w
 unfolding add_is
 is-joined line field name o fields w f g some bound fit once = rw (some, bound, fit, once) refl

@@ -1,6 +1,7 @@
 -- What links see stays as it is when links are added.
 use Rattle.std.specs.Str.{bytes_eq}
-use Rattle.std.proofs.Common.{Some, ◌≡◌, ℕ, ◌+◌, ◌-◌, ◌<◌, ◌≤◌, Bool, true, false, nat_lt, List, [], ◌∷◌, ◌++◌, reverse, length, length-append, get_or, ap, sym, ◌∙◌, arith, refl}
+use Rattle.std.specs.Prelude.{option_map}
+use Rattle.std.proofs.Common.{if◌then◌else◌, Option, Some, ◌≡◌, ℕ, ◌+◌, ◌-◌, ◌<◌, ◌≤◌, Bool, true, false, nat_lt, List, [], ◌∷◌, ◌++◌, reverse, length, length-append, get_or, ap, sym, ◌∙◌, arith, refl}
 use Rattle.std.proofs.lemmas.List.{reverse-append, length-reverse, reverse-reverse, get_or_append_left}
 use Rattle.std.proofs.lemmas.Bool.{ltb-true, ltb-false, le-ltb, lt-ltb}
 use Rattle.std.proofs.Math.Seq.{get_or-append_seam}
@@ -128,3 +129,9 @@ declared links more l sight is at h =
 
 pub linked-more : (links : List Link) (l : Link) → l.before ≤ length links → AreLinked (reverse links) → AreLinked (reverse (links ++ l ∷ []))
 linked-more links l h k = rw (reverse-snoc links l) (link-last l (reverse links) (omega (arith, h, length-reverse links)) k)
+
+-- ---- a DEF more
+
+pub map-if : {A B : Type 0} (f : A → B) (b : Bool) (x : A) (o : Option A) → option_map f (if b then Some x else o) ≡ (if b then Some (f x) else option_map f o)
+map-if f true x o = refl
+map-if f false x o = refl

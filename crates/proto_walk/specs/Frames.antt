@@ -13,7 +13,9 @@ use Rattle.flat_document.specs.declared.fault.ExpandFault.{ExpandFault}
 use Rattle.proto_declarations.specs.declared.sight.Declarations.{Declarations}
 use Rattle.proto_declarations.specs.Held.{shown as all_declared}
 use Rattle.proto_walk.specs.declared.held.GivenField.{GivenField}
+use Rattle.proto_walk.specs.declared.held.Joined.{Joined}
 use Rattle.proto_walk.specs.declared.held.Store.{Store}
+use Rattle.proto_walk.specs.declared.frames.BegunNode.{BegunNode}
 use Rattle.proto_walk.specs.declared.frames.Link.{Link}
 use Rattle.proto_walk.specs.declared.frames.Scope.{Scope}
 use Rattle.proto_walk.specs.declared.frames.Owner.TheVariants as owner
@@ -28,14 +30,20 @@ use Rattle.proto_walk.specs.declared.frames.Task.{Task}
 use Rattle.proto_walk.specs.declared.frames.Task.TheVariants as task
 use Rattle.proto_walk.specs.declared.frames.Walker.{Walker}
 use Rattle.proto_walk.specs.Fields.{signatures, of_interface}
-use Rattle.proto_walk.specs.Machine.{Sight, keep, Names, Bound, Walk, Machine, Outcome, and_then, ◌>>=◌, pure, through, label, know}
-use Rattle.proto_walk.specs.Meaning.{Owner, Place, add_defaults, begin_body, node_owner, add_number, add_value, add_taken, back, close_node, close_instance, hold, in_body, item_does, leave, meaning_of, node_does, statement_does, with_field}
+use Rattle.proto_walk.specs.Machine.{Sight, keep, Names, Defs, Begun, Bound, Walk, Machine, Outcome, and_then, ◌>>=◌, pure, through}
+use Rattle.proto_walk.specs.Meaning.{Owner, Place, add_defaults, begin_body, node_owner, stand_in, add_number, add_value, add_taken, back, close_node, close_instance, hold, in_body, item_does, leave, meaning_of, node_does, statement_does, with_field}
 
 -- ---- what is in sight
 
 -- the map as a function of names
 unfoldable pub names_of : Scope → Names
 names_of scope name = get_by (λ k. bytes_eq name k.now) scope.names
+
+abbrev pub begun_of : BegunNode → Begun
+begun_of b = record { at = b.at; interface = option_map (λ i. signatures i.now) b.interface }
+
+unfoldable pub defs_of : Scope → Defs
+defs_of scope name = option_map begun_of (get_by (λ k. bytes_eq name k.now) scope.defs)
 
 abbrev pub place_of : ProtoText → Option ℕ → Place
 place_of p within = record { within = within; name = (out-ProtoText p).name }
@@ -67,8 +75,9 @@ in_sight links sight = seen (reverse links) sight
 -- ---- frames
 
 abbrev pub owner_in : Holder → Owner
-owner_in (owner.Node node_type) = node_owner node_type
-owner_in (owner.Instance p within) = record {
+owner_in (owner.Node node_type at) = node_owner at node_type
+owner_in (owner.Instance p within at) = record {
+  at = at;
   fields = of_interface (signatures (out-ProtoText p.now).interface);
   proto = Some (place_of p.now within);
 }
@@ -77,18 +86,20 @@ owner_in (owner.Instance p within) = record {
 abbrev pub seen_in : Scope → List Bound → Sight
 seen_in scope protos = record {
   names = names_of scope;
+  defs = defs_of scope;
   protos = protos;
   given = scope.given;
   interface = signatures scope.interface.now;
+  ties = scope.ties;
   inside = scope.inside;
 }
 
 -- what an open node still does
 abbrev pub close_by : List Bound → Open → Holder → List GivenField → Machine ℕ
-close_by protos opened (owner.Node node_type) fields =
-    close_node opened.line opened.name.now opened.at node_type fields
-close_by protos opened (owner.Instance p within) fields =
-    close_instance opened.name.now opened.at (bound_of p.now within protos) fields
+close_by protos opened (owner.Node node_type at) fields =
+    close_node opened.line opened.name.now at node_type fields
+close_by protos opened (owner.Instance p within at) fields =
+    close_instance opened.name.now at (bound_of p.now within protos) fields
 
 abbrev pub close_with : List Bound → Open → List GivenField → Machine ℕ
 close_with protos opened fields = close_by protos opened opened.owner fields
@@ -101,7 +112,7 @@ fill protos opened f fields = λ w.
     (length (out-ProtoText f.proto.now).interface) f.rest.now fields w)
     (begin_body (signatures (out-ProtoText f.proto.now).interface)
     (through (λ s. in_body (statement_does s)) (out-ProtoText f.proto.now).body None)))))
-    (λ n. label opened.name.now n >>= λ m. know opened.name.now opened.at m)
+    (stand_in opened.name.now (owner_in opened.owner).at)
 
 abbrev pub left_by : List Bound → Open → Option Filling → List GivenField → Machine ℕ
 left_by protos opened None fields =
@@ -126,7 +137,7 @@ unfoldable pub body_does : List Bound → Body → Option ℕ → Machine ℕ
 body_does protos b first = λ w.
     and_then (back (seen_in b.outer protos) (leave b.line (through
     (λ s. in_body (statement_does s)) b.rest.now first w)))
-    (λ n. label b.name.now n >>= λ m. know b.name.now b.at m)
+    (stand_in b.name.now b.at)
 
 -- what a frame sees
 abbrev pub sight_of : Frame → ℕ
@@ -234,10 +245,10 @@ IsFree o fields line name (Ok number) =
 IsFree o fields line name (Err e) =
     (v : RawValue NodeText) (w : Walk) → add_value node_does line name v o fields w ≡ Err e
 
--- the numbers of a field and of a value that an IS joins, or why not
-abbrev pub IsJoined : Outcome (List GivenField) → (ℕ → Option ℕ → Outcome (List GivenField))
-    → Result (ℕ × Option ℕ) ExpandFault → Type 0
-IsJoined outcome f (Ok p) = outcome ≡ f p.0 p.1
+-- what an IS joins, or why nothing
+abbrev pub IsJoined : Outcome (List GivenField) → (Joined → Outcome (List GivenField))
+    → Result Joined ExpandFault → Type 0
+IsJoined outcome f (Ok j) = outcome ≡ f j
 IsJoined outcome f (Err e) = outcome ≡ Err e
 
 abbrev pub IfHanded : Outcome (Unit {0}) → Result (Unit {0}) ExpandFault → Walk → Type 0

@@ -5,3 +5,4 @@ pub mod Limits
 pub mod Machine
 pub mod Meaning
 pub mod Whole
+pub mod Routes

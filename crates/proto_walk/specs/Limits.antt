@@ -1,6 +1,6 @@
 -- The limits: what was begun is counted, and what is too large has no flat form. Each node and
 -- instance has its place among all that were begun.
-use Rattle.std.specs.Prelude.{ℕ, ◌+◌, ◌-◌, if◌then◌else◌, length, nat_lt, Option, Some, None, Ok, Err, slice_get}
+use Rattle.std.specs.Prelude.{ℕ, ◌+◌, ◌-◌, if◌then◌else◌, [], ◌∷◌, ◌++◌, length, nat_lt, Option, Some, None, Ok, Err, slice_get}
 use Rattle.classic_tree.specs.declared.tree.RawValue.{RawValue}
 use Rattle.classic_tree.specs.declared.tree.RawValue.TheVariants as value
 use Rattle.flat_document.specs.Fault.{fault}
@@ -20,14 +20,20 @@ max_instances = 8388608
 abbrev pub max_items : ℕ
 max_items = 8388608
 
+-- of the fields that ISs join to those of interfaces, over all instances
+abbrev pub max_joined : ℕ
+max_joined = 8388608
+
 unfoldable pub begin_node : Machine ℕ
 begin_node = λ w.
     if nat_lt w.store.begun_nodes max_nodes
     then Ok (
-      w.store.begun_nodes + w.store.begun_instances,
+      length w.store.places,
       record w {
-        store =
-            record w.store { begun_nodes = w.store.begun_nodes + 1 };
+        store = record w.store {
+          begun_nodes = w.store.begun_nodes + 1;
+          places = w.store.places ++ None ∷ [];
+        };
       },
     )
     else Err (fault TooLarge 0)
@@ -36,10 +42,12 @@ unfoldable pub begin_instance : Machine ℕ
 begin_instance = λ w.
     if nat_lt w.store.begun_instances max_instances
     then Ok (
-      w.store.begun_nodes + w.store.begun_instances,
+      length w.store.places,
       record w {
-        store =
-            record w.store { begun_instances = w.store.begun_instances + 1 };
+        store = record w.store {
+          begun_instances = w.store.begun_instances + 1;
+          places = w.store.places ++ None ∷ [];
+        };
       },
     )
     else Err (fault TooLarge 0)
@@ -49,6 +57,15 @@ count_items items = λ w.
     if nat_lt w.store.room items
     then Err (fault TooLarge 0)
     else Ok (tt, record w { store = record w.store { room = w.store.room - items } })
+
+unfoldable pub count_joined : ℕ → Machine (Unit {0})
+count_joined fields = λ w.
+    if nat_lt w.store.joined_room fields
+    then Err (fault TooLarge 0)
+    else Ok (
+      tt,
+      record w { store = record w.store { joined_room = w.store.joined_room - fields } },
+    )
 
 -- a list has as many items as its length, any other value one
 abbrev pub item_count : {N : Type 0} → RawValue N → ℕ

@@ -10,6 +10,9 @@ use Rattle.flat_document.specs.declared.fault.ExpandFaultKind.{ExpandFaultKind}
 use Rattle.flat_document.specs.declared.fault.ExpandFaultKind.TheVariants.{UseWithoutDef}
 use Rattle.proto_declarations.specs.Sight.{Definition}
 use Rattle.proto_declarations.specs.Sight.{Scope as Table, Sight as Declared}
+use Rattle.proto_ends.specs.declared.ends.Spot.{Spot}
+use Rattle.proto_ends.specs.declared.ends.Stand.{Stand}
+use Rattle.proto_ends.specs.declared.ends.Tie.{Tie}
 use Rattle.proto_walk.specs.Fields.{Signature}
 use Rattle.proto_walk.specs.declared.held.GivenField.{GivenField}
 use Rattle.proto_walk.specs.declared.held.Store.{Store}
@@ -27,10 +30,31 @@ no_names name = None
 abbrev pub with_name : List ℕ → Named → Names → Names
 with_name given named names name = if bytes_eq given name then Some named else names name
 
--- what an instance, by what it gives and the number of its body, makes of what was put in: the node
--- that stands for it
+-- a node or an instance whose DEF was met: its place, and the interface of an instance
+pub record Begun : Type 0 where
+  pub at : ℕ
+  pub interface : Option (List Signature)
+
+-- the nearest of that name, whether its braces are closed or not
+abbrev pub Defs : Type 0
+Defs = List ℕ → Option Begun
+
+abbrev pub no_defs : Defs
+no_defs name = None
+
+abbrev pub with_def : List ℕ → Begun → Defs → Defs
+with_def given begun defs name = if bytes_eq given name then Some begun else defs name
+
+-- what stands for an instance: a node, and for each field of the interface the fields that the ISs
+-- of the body join to it
+pub record Made : Type 0 where
+  pub node : ℕ
+  pub inlets : List (List Spot)
+
+-- what an instance, by what it gives and the number of its body, makes of what was put in
 abbrev pub Meaning : Type 0
-Meaning = List GivenField → Option ℕ → Store → Declared → Result (ℕ × Store × Declared) ExpandFault
+Meaning =
+    List GivenField → Option ℕ → Store → Declared → Result (Made × Store × Declared) ExpandFault
 
 -- a prototype's name, the body that it is declared in (none at the top of a text), its interface,
 -- and what each of its instances does
@@ -41,12 +65,14 @@ pub record Bound : Type 0 where
   pub meaning : Meaning
 
 -- what is in sight: the names of nodes, and the prototypes, the last declared first; in a body also
--- what the instance gives, the interface, and the number of the body
+-- what the instance gives, the interface, the ISs so far, and the number of the body
 pub record Sight : Type 0 where
   pub names : Names
+  pub defs : Defs
   pub protos : List Bound
   pub given : List GivenField
   pub interface : List Signature
+  pub ties : List Tie
   pub inside : Option ℕ
 
 -- what was put in, what is known of the prototypes declared at the top of the text so far with all
@@ -136,6 +162,49 @@ used line (Some named) = pure named.node
 -- USE gives the node of the nearest DEF before it that is finished
 unfoldable pub use_node : ℕ → List ℕ → Machine ℕ
 use_node line name = λ w. used line (w.sight.names name) w
+
+-- a DEF is in sight of ROUTEs from its own braces on
+unfoldable pub meet : Option (List ℕ) → Begun → Machine (Unit {0})
+meet None begun = pure tt
+meet (Some name) begun =
+    λ w. Ok (
+      tt,
+      record w { sight = record w.sight { defs = with_def name begun w.sight.defs } },
+    )
+
+-- what stands at a place
+unfoldable pub stand : ℕ → Stand → Machine (Unit {0})
+stand at what =
+    λ w. Ok (
+      tt,
+      record w {
+        store =
+            record w.store { places = slice_set w.store.places at (Some what) };
+      },
+    )
+
+-- a field's name has the next number
+unfoldable pub keep_name : List ℕ → Machine ℕ
+keep_name name =
+    λ w. Ok (
+      length w.store.names,
+      record w { store = record w.store { names = w.store.names ++ name ∷ [] } },
+    )
+
+-- the field of that number and name is joined to the interface field
+unfoldable pub tie : ℕ → ℕ → ℕ → ℕ → Machine (Unit {0})
+tie at number outer name =
+    λ w. Ok (
+      tt,
+      record w {
+        sight = record w.sight {
+          ties = w.sight.ties ++ record {
+            joint = record { at = at; number = number; name = name };
+            outer = outer;
+          } ∷ [];
+        };
+      },
+    )
 
 -- ---- prototypes
 

@@ -1,7 +1,7 @@
 -- What each part of a tree does, made of what its parts do (ISO/IEC 19775-1, object model, PROTO
 -- and run-time name scope). A PROTO means a function: what its instances
 -- do, closed over the prototypes in sight where it is declared.
-use Rattle.std.specs.Prelude.{ℕ, ◌==◌, ◌-◌, ◌&&◌, Bool, true, if◌then◌else◌, List, [], ◌∷◌, ◌++◌, length, Option, Some, None, option_map, is_none, Result, Ok, Err}
+use Rattle.std.specs.Prelude.{ℕ, ◌==◌, ◌-◌, ◌&&◌, Bool, true, if◌then◌else◌, List, [], ◌∷◌, ◌++◌, length, map, Option, Some, None, option_map, is_none, Result, Ok, Err}
 use Rattle.std.specs.List.{list_any}
 use denote.Enum.Bare.{sameb}
 use Rattle.x3d_values.specs.declared.node_type.NodeType.{NodeType}
@@ -19,7 +19,6 @@ use Rattle.classic_tree.specs.declared.tree.BodyItem.TheOpen.{BodyItem-F, NodeTe
 use Rattle.classic_tree.specs.declared.tree.NodeText.{NodeText, fold-NodeText}
 use Rattle.classic_tree.specs.declared.tree.Statement.{Statement, fold-Statement}
 use Rattle.classic_tree.specs.declared.tree.ProtoText.{ProtoText, fold-ProtoText}
-use Rattle.flat_document.specs.Fault.{fault}
 use Rattle.flat_document.specs.declared.fault.ExpandFault.{ExpandFault}
 use Rattle.flat_document.specs.declared.fault.ExpandFaultKind.TheVariants.{UnknownNode, UnknownField, FieldTwice, EmptyBody, BadIs, NotYet}
 use Rattle.proto_declarations.specs.Sight.{Definition}
@@ -27,10 +26,16 @@ use Rattle.proto_declarations.specs.Sight.{Sight as Declared}
 use Rattle.proto_declarations.specs.Sight.{no_names as no_names_yet}
 use Rattle.proto_walk.specs.declared.held.KnownField.{KnownField}
 use Rattle.proto_walk.specs.declared.held.GivenField.{GivenField}
+use Rattle.proto_walk.specs.declared.held.Joined.{Joined}
 use Rattle.proto_walk.specs.declared.held.Store.{Store}
+use Rattle.proto_ends.specs.declared.ends.Spot.{Spot}
+use Rattle.proto_ends.specs.declared.ends.Stand.TheVariants.{Node, Instance}
+use Rattle.proto_ends.specs.declared.ends.Tie.{Tie}
+use Rattle.proto_ends.specs.Spots.{spots_of, with_spots}
 use Rattle.proto_walk.specs.Fields.{Signature, signatures, of_type, of_interface, first_twice, fits}
-use Rattle.proto_walk.specs.Machine.{Sight, no_names, Meaning, Bound, Walk, Machine, Outcome, and_then, ◌>>=◌, pure, refuse, through, keep, label, help, know, use_node, lookup, definition, takes}
-use Rattle.proto_walk.specs.Limits.{begin_node, begin_instance, count_items, count_again, item_count}
+use Rattle.proto_walk.specs.Machine.{Sight, no_names, no_defs, Made, Meaning, Bound, Walk, Machine, Outcome, and_then, ◌>>=◌, pure, refuse, through, keep, keep_name, tie, stand, meet, label, help, know, use_node, lookup, definition, takes}
+use Rattle.proto_walk.specs.Limits.{begin_node, begin_instance, count_items, count_joined, count_again, item_count}
+use Rattle.proto_walk.specs.Routes.{wire}
 use Rattle.proto_walk.specs.Closing.{put}
 
 -- where a prototype is declared: the body, and its name there
@@ -38,8 +43,10 @@ pub record Place : Type 0 where
   pub within : Option ℕ
   pub name : List ℕ
 
--- whose braces these are: its fields by name; of an instance also where its prototype is declared
+-- whose braces these are: its place, and its fields by name; of an instance also where its prototype
+-- is declared
 pub record Owner : Type 0 where
+  pub at : ℕ
   pub fields : List ℕ → Option KnownField
   pub proto : Option Place
 
@@ -85,28 +92,41 @@ abbrev pub hand_on : Owner → Option ℕ → Machine (Unit {0})
 hand_on owner None = pure tt
 hand_on owner (Some v) = if is_none owner.proto then count_again v else pure tt
 
-abbrev pub add_joined : ℕ → Owner → List GivenField → ℕ → Option ℕ → Machine (List GivenField)
-add_joined line owner fields number v =
-    hand_on owner v >>= λ _. pure (with_field line number fields v)
+-- the field is an end of the interface field
+abbrev pub tie_field : List ℕ → Owner → Joined → Machine (Unit {0})
+tie_field field owner j = keep_name field >>= λ name. tie owner.at j.number j.outer name
 
-abbrev pub add_tied : ℕ → Owner → List GivenField → KnownField → Option KnownField
+-- and its value is handed on
+abbrev pub hand_over : List ℕ → Owner → Joined → Machine (Unit {0})
+hand_over field owner j = tie_field field owner j >>= λ _. hand_on owner j.value
+
+abbrev pub add_joined : ℕ → List ℕ → Owner → List GivenField → Joined → Machine (List GivenField)
+add_joined line field owner fields j =
+    hand_over field owner j >>= λ _. pure (with_field line j.number fields j.value)
+
+abbrev pub joined_by : KnownField → KnownField → List GivenField → Joined
+joined_by inner outer given =
+    record { number = inner.number; outer = outer.number; value = value_of outer.number given }
+
+abbrev pub add_tied : ℕ → List ℕ → Owner → List GivenField → KnownField → Option KnownField
     → Machine (List GivenField)
-add_tied line owner fields inner None = refuse BadIs line
-add_tied line owner fields inner (Some outer) =
+add_tied line field owner fields inner None = refuse BadIs line
+add_tied line field owner fields inner (Some outer) =
     if fits outer inner
     then (if has_field inner.number fields then refuse FieldTwice line else
-    (λ w. add_joined line owner fields inner.number (value_of outer.number w.sight.given) w))
+    (λ w. add_joined line field owner fields (joined_by inner outer w.sight.given) w))
     else refuse BadIs line
 
-abbrev pub add_known_is : ℕ → List ℕ → Owner → List GivenField → Option KnownField
+abbrev pub add_known_is : ℕ → List ℕ → List ℕ → Owner → List GivenField → Option KnownField
     → Machine (List GivenField)
-add_known_is line name owner fields None = refuse UnknownField line
-add_known_is line name owner fields (Some inner) =
-    λ w. add_tied line owner fields inner (of_interface w.sight.interface name) w
+add_known_is line field name owner fields None = refuse UnknownField line
+add_known_is line field name owner fields (Some inner) =
+    λ w. add_tied line field owner fields inner (of_interface w.sight.interface name) w
 
 -- IS: the field has what the instance gives, if it gives something
 unfoldable pub add_is : ℕ → List ℕ → List ℕ → OnFields
-add_is line field name owner fields = add_known_is line name owner fields (owner.fields field)
+add_is line field name owner fields =
+    add_known_is line field name owner fields (owner.fields field)
 
 module _ {N : Type 0} (node_does : N → Machine ℕ) where
   abbrev pub add_number : N → List ℕ → Machine (List ℕ)
@@ -183,7 +203,7 @@ module _ {N : Type 0} (node_does : N → Machine ℕ) where
 -- ---- nodes and instances
 
 -- in sight again what was in sight outside
-abbrev pub back : Sight → Result (ℕ × Store × Declared) ExpandFault → Outcome ℕ
+abbrev pub back : Sight → Result (Made × Store × Declared) ExpandFault → Outcome Made
 back sight (Ok p) = Ok (p.0, record { store = p.1; declared = p.2; sight = sight })
 back sight (Err e) = Err e
 
@@ -191,33 +211,41 @@ back sight (Err e) = Err e
 abbrev pub body_of : Option Definition → Option ℕ
 body_of d = option_map (λ d. d.body) d
 
-abbrev pub body : Bound → List GivenField → Machine ℕ
+abbrev pub body : Bound → List GivenField → Machine Made
 body b given = λ w.
     back w.sight
     (b.meaning given (body_of (definition w.declared b.within b.name)) w.store w.declared)
 
-abbrev pub owner_of : Bound → Owner
-owner_of b = record {
+abbrev pub owner_of : ℕ → Bound → Owner
+owner_of at b = record {
+  at = at;
   fields = of_interface b.interface;
   proto = Some (record { within = b.within; name = b.name });
 }
 
-abbrev pub node_owner : NodeType → Owner
-node_owner node_type = record { fields = of_type node_type; proto = None }
+abbrev pub node_owner : ℕ → NodeType → Owner
+node_owner at node_type = record { at = at; fields = of_type node_type; proto = None }
 
 -- a node is put in when its braces close
 unfoldable pub close_node : ℕ → Option (List ℕ) → ℕ → NodeType → List GivenField → Machine ℕ
-close_node line name at node_type fields = put line name node_type fields >>= λ n. know name at n
+close_node line name at node_type fields =
+    put line name node_type fields >>= λ n. stand at (Node n) >>= λ _. know name at n
+
+-- the first node of the body stands for the instance
+abbrev pub stand_in : Option (List ℕ) → ℕ → Made → Machine ℕ
+stand_in name at made =
+    stand at (Instance made.inlets) >>= λ _. label name made.node >>= λ n. know name at n
 
 -- in place of an instance its body is put in, in a name scope of its own
 unfoldable pub close_instance : Option (List ℕ) → ℕ → Bound → List GivenField → Machine ℕ
-close_instance name at b fields = body b fields >>= λ n. label name n >>= λ m. know name at m
+close_instance name at b fields = body b fields >>= stand_in name at
 
 unfoldable pub typed_node : ℕ → Option (List ℕ) → NodeType → OnFields → Machine ℕ
 typed_node line name node_type items =
     if sameb the_type node_type Script
     then refuse NotYet line
-    else (begin_node >>= λ at. items (node_owner node_type) []
+    else (begin_node >>= λ at. meet name (record { at = at; interface = None })
+    >>= λ _. items (node_owner at node_type) []
     >>= λ fields. close_node line name at node_type fields)
 
 -- no name stands twice in an interface
@@ -231,7 +259,8 @@ begin interface =
 
 unfoldable pub instance : Option (List ℕ) → Bound → OnFields → Machine ℕ
 instance name b items =
-    begin b.interface >>= λ at. items (owner_of b) [] >>= λ fields. close_instance name at b fields
+    begin b.interface >>= λ at. meet name (record { at = at; interface = Some b.interface })
+    >>= λ _. items (owner_of at b) [] >>= λ fields. close_instance name at b fields
 
 abbrev pub of_bound : ℕ → Option (List ℕ) → OnFields → Option Bound → Machine ℕ
 of_bound line name items (Some b) = instance name b items
@@ -256,17 +285,48 @@ hold (Some first) (Some n) = help n >>= λ _. pure (Some first)
 abbrev pub in_body : Machine (Option ℕ) → Option ℕ → Machine (Option ℕ)
 in_body statement first = statement >>= hold first
 
-abbrev pub leave : ℕ → Outcome (Option ℕ) → Result (ℕ × Store × Declared) ExpandFault
-leave line (Ok (Some n, w)) = Ok (n, w.store, w.declared)
-leave line (Ok (None, w)) = Err (fault EmptyBody line)
-leave line (Err e) = Err e
+-- the fields that an IS joins stand at the interface field
+abbrev pub add_spots : Tie → List (List Spot) → Machine (List (List Spot))
+add_spots t inlets = λ w. Ok (with_spots w.store.places t.joint t.outer inlets, w)
+
+-- and are counted before
+abbrev pub join_tie : Tie → List (List Spot) → Machine (List (List Spot))
+join_tie t inlets = λ w.
+    (count_joined (length (spots_of w.store.places t.joint)) >>= λ _. add_spots t inlets) w
+
+abbrev pub no_spots : Signature → List Spot
+no_spots s = []
+
+-- the fields of the interface with what each IS in turn joins to them
+unfoldable pub join : Machine (List (List Spot))
+join = λ w. through join_tie w.sight.ties (map no_spots w.sight.interface) w
+
+abbrev pub close_body : ℕ → Option ℕ → Machine Made
+close_body line None = refuse EmptyBody line
+close_body line (Some n) = join >>= λ inlets. pure (record { node = n; inlets = inlets })
+
+-- behind a body nothing of it is in sight
+abbrev pub out_of : Outcome Made → Result (Made × Store × Declared) ExpandFault
+out_of (Ok (made, w)) = Ok (made, w.store, w.declared)
+out_of (Err e) = Err e
+
+abbrev pub leave : ℕ → Outcome (Option ℕ) → Result (Made × Store × Declared) ExpandFault
+leave line o = out_of (and_then o (close_body line))
 
 -- a body has names of its own, and sees the prototypes that were in sight at its declaration
 abbrev pub within : List Bound → Option ℕ → Store → Declared → Walk
 within protos inside store declared = record {
   store = store;
   declared = declared;
-  sight = record { names = no_names; protos = protos; given = []; interface = []; inside = inside };
+  sight = record {
+    names = no_names;
+    defs = no_defs;
+    protos = protos;
+    given = [];
+    interface = [];
+    ties = [];
+    inside = inside;
+  };
 }
 
 -- the default values stand in the scope of the body, but see neither its interface nor what the
@@ -307,14 +367,14 @@ unfoldable pub item_step : BodyItem-F OnFields (Machine ℕ) (Machine (Option �
 item_step (BodyItem-F.Field line name given) owner fields =
     add_given (λ node. node) line name given owner fields
 item_step (BodyItem-F.Declaration declaration) owner fields = refuse NotYet declaration.line
-item_step (BodyItem-F.BodyItem::Route route) owner fields = refuse NotYet route.line
+item_step (BodyItem-F.BodyItem::Route route) owner fields = wire route >>= λ _. pure fields
 item_step (BodyItem-F.BodyItem::Proto proto) owner fields = proto >>= λ _. pure fields
 
 -- a statement that is a node gives its number
 unfoldable pub statement_step :
     Statement-F OnFields (Machine ℕ) (Machine (Option ℕ)) (Machine (Unit {0})) → Machine (Option ℕ)
 statement_step (Statement-F.Node node) = node >>= λ n. pure (Some n)
-statement_step (Statement-F.Statement::Route route) = refuse NotYet route.line
+statement_step (Statement-F.Statement::Route route) = wire route >>= λ _. pure None
 statement_step (Statement-F.Statement::Proto proto) = proto >>= λ _. pure None
 
 unfoldable pub node_step : NodeText-F OnFields (Machine ℕ) (Machine (Option ℕ)) (Machine (Unit {0}))

@@ -6,14 +6,16 @@ use Rattle.classic_tree.specs.declared.tree.Statement.{Statement}
 use Rattle.flat_document.specs.declared.fault.ExpandFault.{ExpandFault}
 use Rattle.flat_document.specs.declared.flat.Flat.{Flat}
 use Rattle.flat_document.specs.declared.flat.FlatNode.{FlatNode}
+use Rattle.flat_document.specs.declared.flat.FlatRoute.{FlatRoute}
 use Rattle.flat_document.specs.declared.flat.Header.{Header}
 use Rattle.proto_declarations.specs.Sight.{Sight as Declared}
 use Rattle.proto_declarations.specs.Sight.{nothing as nothing_declared}
 use Rattle.proto_declarations.specs.Meaning.{statement as checked}
+use Rattle.proto_ends.specs.Pairs.{routes_of}
 use Rattle.proto_walk.specs.declared.held.Store.{Store}
 use Rattle.proto_walk.specs.declared.held.PlacedNode.{PlacedNode}
 use Rattle.proto_walk.specs.Machine.{Walk, Machine, Outcome, ◌>>=◌, pure, through}
-use Rattle.proto_walk.specs.Limits.{max_items}
+use Rattle.proto_walk.specs.Limits.{max_items, max_joined}
 use Rattle.proto_walk.specs.Meaning.{statement_does, within}
 
 abbrev pub empty : Store
@@ -23,10 +25,14 @@ empty =
       labels = [];
       helpers = [];
       values = [];
+      places = [];
+      names = [];
+      wires = [];
       begun_nodes = 0;
       begun_instances =
           0;
       room = max_items;
+      joined_room = max_joined;
     }
 
 abbrev pub nothing : Walk
@@ -87,15 +93,22 @@ header_of document =
       metas = document.metas;
     }
 
-abbrev pub flat_of : Header → Outcome (List ℕ) → Result Flat ExpandFault
-flat_of header (Ok (roots, w)) =
+abbrev pub with_routes : Header → List ℕ → Store → Result (List FlatRoute) ExpandFault
+    → Result Flat ExpandFault
+with_routes header roots store (Ok routes) =
     Ok (record {
       header = header;
-      nodes = flat_nodes w.store.labels w.store.nodes;
+      nodes = flat_nodes store.labels store.nodes;
       roots = roots;
-      helpers = w.store.helpers;
-      routes = [];
+      helpers = store.helpers;
+      routes = routes;
     })
+with_routes header roots store (Err e) = Err e
+
+-- the pairs of ends of each ROUTE are made when all nodes have their numbers
+abbrev pub flat_of : Header → Outcome (List ℕ) → Result Flat ExpandFault
+flat_of header (Ok (roots, w)) =
+    with_routes header roots w.store (routes_of w.store.places w.store.names w.store.wires)
 flat_of header (Err e) = Err e
 
 unfoldable pub flat : Document → Result Flat ExpandFault

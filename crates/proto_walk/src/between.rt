@@ -8,8 +8,8 @@ ghost use Rattle.proto_walk.specs.Frames as does;
 ghost use Rattle.proto_walk.specs.Frames.{Holds, Keeps, IsJoined, in_sight, owner_in, shown};
 
 use crate::frames::{Frame, Listing, Open, Owner, Task, Walker};
-use crate::held::GivenField;
-use crate::{fields, steps};
+use crate::held::{GivenField, Joined};
+use crate::{fields, routes, stands, steps};
 use classic_tree::{Given, NodeText, RawValue};
 use flat_document::{ExpandFault, ExpandFaultKind};
 use std::alloc::Global;
@@ -167,7 +167,7 @@ fn put_value<'a>(
     put_once(alloc, walker, opened, line, name, number, value)
 }
 
-/// The number of the field that an IS gives something, and of the value that it gives.
+/// What an IS joins.
 fn joined(
     walker: &Walker<'_>,
     owner: Owner<'_>,
@@ -175,15 +175,15 @@ fn joined(
     line: u32,
     field: &Text,
     name: &Text,
-) -> Result<(usize, Option<usize>), ExpandFault>
+) -> Result<Joined, ExpandFault>
     ensures { IsJoined (spec.add_is line field.now name.now (owner_in owner.entry) fields.now
-        (shown walker.now)) (λ n v. spec.add_joined line (owner_in owner.entry) fields.now n v
-        (shown walker.now)) result }
+        (shown walker.now)) (λ j. spec.add_joined line field.now
+        (owner_in owner.entry) fields.now j (shown walker.now)) result }
 {
     let Some(inner) = fields::known_field(owner, field) else {
         return Err(ExpandFaultKind::UnknownField.on_line(line));
     };
-    let Some(outer) = fields::field_of_interface(walker.scope.interface, name) else {
+    let Some(outer) = fields::field_of_interface(walker.scope.interface, name.as_str()) else {
         return Err(ExpandFaultKind::BadIs.on_line(line));
     };
     if !fields::fits(outer, inner) {
@@ -193,7 +193,11 @@ fn joined(
         return Err(ExpandFaultKind::FieldTwice.on_line(line));
     }
     let value = fields::value_of(outer.number, walker.scope.given.as_slice());
-    Ok((inner.number, value))
+    Ok(Joined {
+        number: inner.number,
+        outer: outer.number,
+        value,
+    })
 }
 
 /// The field has the value of that number, which is counted again where it goes to a node.
@@ -212,38 +216,91 @@ fn hand_on<'a>(
         return Ok(());
     };
     match owner {
-        Owner::Node(_node_type) => steps::count_again(
+        Owner::Node(_node_type, _at) => steps::count_again(
             &mut walker.store,
             &walker.declarations,
             &walker.scope,
             &walker.links,
             number,
         ),
-        Owner::Instance(_proto, _within) => Ok(()),
+        Owner::Instance(_proto, _within, _at) => Ok(()),
     }
 }
 
+/// The field is an end of the interface field.
+fn tie_field<'a>(
+    alloc: Global,
+    walker: &mut Walker<'a>,
+    owner: Owner<'_>,
+    field: &Text,
+    joined: Joined,
+) -> Result<(), ExpandFault>
+    ensures does { does.IfHanded (spec.tie_field field.now (owner_in owner.entry) joined
+        (shown walker.old)) result (shown walker.new) }
+    ensures links { walker.new.links ≡ walker.old.links }
+    ensures frames { walker.new.frames ≡ walker.old.frames }
+    ensures sight { walker.new.scope.sight ≡ walker.old.scope.sight }
+{
+    let name = routes::keep_name(
+        alloc,
+        &mut walker.store,
+        &walker.declarations,
+        &walker.scope,
+        &walker.links,
+        field,
+    )?;
+    stands::tie(
+        &walker.store,
+        &walker.declarations,
+        &mut walker.scope,
+        &walker.links,
+        fields::place(owner),
+        joined,
+        name,
+    )
+}
+
+/// The field is an end of the interface field, and the value is handed on.
+fn hand_over<'a>(
+    alloc: Global,
+    walker: &mut Walker<'a>,
+    owner: Owner<'_>,
+    field: &Text,
+    joined: Joined,
+) -> Result<(), ExpandFault>
+    ensures does { does.IfHanded (spec.hand_over field.now (owner_in owner.entry) joined
+        (shown walker.old)) result (shown walker.new) }
+    ensures links { walker.new.links ≡ walker.old.links }
+    ensures frames { walker.new.frames ≡ walker.old.frames }
+    ensures sight { walker.new.scope.sight ≡ walker.old.scope.sight }
+{
+    tie_field(alloc, walker, owner, field, joined)?;
+    hand_on(walker, owner, joined.value)
+}
+
 fn put_joined<'a>(
+    alloc: Global,
     walker: &mut Walker<'a>,
     opened: Open<'a>,
     line: u32,
-    number: usize,
-    value: Option<usize>,
+    field: &Text,
+    joined: Joined,
 ) -> Result<Task<'a>, ExpandFault>
     requires holds { Holds walker.old }
     requires sees { opened.sight ≤ length walker.old.links.items }
-    ensures { Keeps (and_then (spec.add_joined line
-        (owner_in opened.entry.owner) opened.entry.fields number value (shown walker.old))
+    ensures { Keeps (and_then (spec.add_joined line field.now
+        (owner_in opened.entry.owner) opened.entry.fields joined (shown walker.old))
         (does.open_does
         (in_sight walker.old.links.items opened.entry.sight) opened.entry)) walker.old
         result walker.new }
 {
-    hand_on(walker, opened.owner, value)?;
-    Ok(Task::Items(steps::with_field(opened, line, number, value)?))
+    hand_over(alloc, walker, opened.owner, field, joined)?;
+    Ok(Task::Items(steps::with_field(opened, line, joined.number, joined.value)?))
 }
 
 /// IS: the field has what the instance gives, if it gives something.
 fn put_is<'a>(
+    alloc: Global,
     walker: &mut Walker<'a>,
     opened: Open<'a>,
     line: u32,
@@ -257,7 +314,7 @@ fn put_is<'a>(
         (in_sight walker.old.links.items opened.entry.sight) opened.entry)) walker.old
         result walker.new }
 {
-    let (number, value) = joined(
+    let joined = joined(
         walker,
         opened.owner,
         opened.fields.as_slice(),
@@ -265,7 +322,7 @@ fn put_is<'a>(
         field,
         name,
     )?;
-    put_joined(walker, opened, line, number, value)
+    put_joined(alloc, walker, opened, line, field, joined)
 }
 
 pub fn put_given<'a>(
@@ -286,6 +343,6 @@ pub fn put_given<'a>(
     match given {
         Given::Nothing => Ok(Task::Items(opened)),
         Given::Value(value) => put_value(alloc, walker, opened, line, name, value),
-        Given::Is(other) => put_is(walker, opened, line, name, other),
+        Given::Is(other) => put_is(alloc, walker, opened, line, name, other),
     }
 }

@@ -47,12 +47,12 @@ fn field_of_type(node_type: NodeType, name: &Text) -> Option<KnownField>
 }
 
 /// The first field of the interface with that name.
-pub fn field_of_interface(interface: &[Declaration<NodeText>], name: &Text) -> Option<KnownField>
+pub fn field_of_interface(interface: &[Declaration<NodeText>], name: &str) -> Option<KnownField>
     ensures { result ≡ spec.of_interface (signatures interface.now) name.now }
 {
     let mut number: usize = 0;
     for declaration in interface {
-        if same(&declaration.name, name) {
+        if declaration.name.as_bytes() == name.as_bytes() {
             return Some(KnownField {
                 number,
                 access: declaration.access,
@@ -64,13 +64,25 @@ pub fn field_of_interface(interface: &[Declaration<NodeText>], name: &Text) -> O
     None
 }
 
+/// The place of whose braces are open.
+pub fn place(owner: Owner<'_>) -> usize
+    ensures { result ≡ (owner_in owner.entry).at }
+{
+    match owner {
+        Owner::Node(_node_type, at) => at,
+        Owner::Instance(_proto, _within, at) => at,
+    }
+}
+
 /// The field of that name of whose braces are open.
 pub fn known_field(owner: Owner<'_>, name: &Text) -> Option<KnownField>
     ensures { result ≡ (owner_in owner.entry).fields name.now }
 {
     match owner {
-        Owner::Node(node_type) => field_of_type(node_type, name),
-        Owner::Instance(proto, _within) => field_of_interface(proto.interface.as_slice(), name),
+        Owner::Node(node_type, _at) => field_of_type(node_type, name),
+        Owner::Instance(proto, _within, _at) => {
+            field_of_interface(proto.interface.as_slice(), name.as_str())
+        }
     }
 }
 
@@ -116,8 +128,8 @@ pub fn admits(owner: Owner<'_>, field: KnownField) -> bool
     ensures { result ≡ meaning.admits (owner_in owner.entry).proto field }
 {
     match owner {
-        Owner::Node(_node_type) => true,
-        Owner::Instance(_proto, _within) => field.access.is_initial(),
+        Owner::Node(_node_type, _at) => true,
+        Owner::Instance(_proto, _within, _at) => field.access.is_initial(),
     }
 }
 
@@ -155,8 +167,8 @@ pub fn is_taken(declarations: &Declarations<'_>, owner: Owner<'_>, name: &Text) 
         (all_declared declarations.now) }
 {
     match owner {
-        Owner::Node(_node_type) => true,
-        Owner::Instance(proto, within) => {
+        Owner::Node(_node_type, _at) => true,
+        Owner::Instance(proto, within, _at) => {
             takes(definition(declarations, within, &proto.name), name)
         }
     }

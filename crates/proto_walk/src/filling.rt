@@ -5,7 +5,7 @@ ghost use Rattle.proto_walk.specs.Machine.{and_then};
 ghost use Rattle.proto_walk.specs.Meaning as spec;
 ghost use Rattle.proto_walk.specs.Meaning.{node_does};
 ghost use Rattle.proto_walk.specs.Frames as does;
-ghost use Rattle.proto_walk.specs.Frames.{Holds, Keeps, in_sight, shown};
+ghost use Rattle.proto_walk.specs.Frames.{Holds, Keeps, in_sight, owner_in, shown};
 
 use crate::between::put_taken;
 use crate::frames::{Body, Filling, Open, Task, Walker};
@@ -26,7 +26,7 @@ pub fn open_defaults<'a>(
 ) -> Result<Task<'a>, ExpandFault>
     requires holds { Holds walker.old }
     requires sees { opened.sight ≤ length walker.old.links.items }
-    ensures { Keeps (spec.close_instance opened.entry.name.now opened.entry.at
+    ensures { Keeps (spec.close_instance opened.entry.name.now (owner_in opened.entry.owner).at
         (does.bound_of proto.now within
         (in_sight walker.old.links.items opened.entry.sight)) opened.entry.fields
         (shown walker.old)) walker.old result walker.new }
@@ -34,7 +34,6 @@ pub fn open_defaults<'a>(
     let Open {
         line,
         name,
-        at,
         owner,
         sight,
         rest,
@@ -47,7 +46,6 @@ pub fn open_defaults<'a>(
     Ok(Task::Items(Open {
         line,
         name,
-        at,
         owner,
         sight: outer.sight,
         rest,
@@ -130,20 +128,20 @@ fn start_body<'a>(
 {
     let Open {
         name,
-        at,
+        owner,
         sight,
-        fields,
+        fields: given,
         ..
     } = opened;
     let Filling { proto, outer, .. } = filling;
     let mut outer = outer;
     outer.sight = sight;
-    walker.scope.given = fields;
+    walker.scope.given = given;
     walker.scope.interface = proto.interface.as_slice();
     Ok(Task::Statements(Body {
         line: proto.line,
         name,
-        at,
+        at: fields::place(owner),
         rest: proto.body.as_slice(),
         first: None,
         outer,

@@ -4,14 +4,22 @@ use crate::held::{GivenField, Store};
 use classic_tree::{BodyItem, Declaration, NodeText, ProtoText, Statement};
 use indexmap::IndexMap;
 use proto_declarations::Declarations;
+use proto_ends::Tie;
 use x3d_lists::{Items, Text};
 use x3d_values::NodeType;
 
 /// A finished node, and where its word DEF stood among all nodes and instances begun.
 #[derive(Clone, Copy, Debug)]
 pub struct Named {
-    pub at: u64,
+    pub at: usize,
     pub node: u32,
+}
+
+/// A node or an instance whose DEF was met: its place, and the interface of an instance.
+#[derive(Clone, Copy)]
+pub struct BegunNode<'a> {
+    pub at: usize,
+    pub interface: Option<&'a [Declaration<NodeText>]>,
 }
 
 /// A prototype that was declared, the body that it is declared in, and how many links its own body
@@ -23,23 +31,26 @@ pub struct Link<'a> {
     pub before: usize,
 }
 
-/// What is in sight: the names of nodes, and in a body what the instance gives, the interface, and
-/// the number of the body. `sight` counts links as in `Link`.
+/// What is in sight: the names of finished nodes, those of all nodes and instances whose DEF was
+/// met, and in a body what the instance gives, the interface, the ISs so far, and the number of the
+/// body. `sight` counts links as in `Link`.
 #[derive(Drop)]
 pub struct Scope<'a> {
     pub names: IndexMap<&'a str, Named>,
+    pub defs: IndexMap<&'a str, BegunNode<'a>>,
     pub sight: usize,
     pub given: Items<GivenField>,
     pub interface: &'a [Declaration<NodeText>],
+    pub ties: Items<Tie>,
     pub inside: Option<usize>,
 }
 
-/// Whose braces are open.
+/// Whose braces are open, and its place among all nodes and instances begun.
 #[derive(Clone, Copy)]
 pub enum Owner<'a> {
-    Node(NodeType),
+    Node(NodeType, usize),
     /// The prototype of an instance, and the body that it is declared in.
-    Instance(&'a ProtoText, Option<usize>),
+    Instance(&'a ProtoText, Option<usize>, usize),
 }
 
 /// The default values of an instance, which are put in before its body: its prototype, the body
@@ -60,7 +71,6 @@ pub struct Filling<'a> {
 pub struct Open<'a> {
     pub line: u32,
     pub name: &'a Option<Text>,
-    pub at: u64,
     pub owner: Owner<'a>,
     pub sight: usize,
     pub rest: &'a [BodyItem],
@@ -84,7 +94,7 @@ pub struct Listing<'a> {
 pub struct Body<'a> {
     pub line: u32,
     pub name: &'a Option<Text>,
-    pub at: u64,
+    pub at: usize,
     pub rest: &'a [Statement],
     pub first: Option<u32>,
     pub outer: Scope<'a>,

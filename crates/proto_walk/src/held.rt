@@ -2,6 +2,7 @@
 
 use classic_tree::RawValue;
 use flat_document::FlatField;
+use proto_ends::{Stand, Wire};
 use x3d_lists::{Items, Text};
 use x3d_values::{Access, FieldType, NodeType};
 
@@ -26,6 +27,17 @@ pub struct GivenField {
     pub value: Option<usize>,
 }
 
+/// What an IS joins.
+#[derive(Clone, Copy, Debug)]
+pub struct Joined {
+    /// The number of the field, as in `KnownField`.
+    pub number: usize,
+    /// The number of the interface field.
+    pub outer: usize,
+    /// As in `GivenField`.
+    pub value: Option<usize>,
+}
+
 /// A node that was put in. Its name is among the labels.
 #[derive(Debug, Drop)]
 pub struct PlacedNode {
@@ -46,9 +58,18 @@ pub struct Store {
     /// What fields were given, each once, however many fields it goes to. The nodes in a value are
     /// numbers.
     pub values: Items<RawValue<u32>>,
+    /// What each node and instance begun came to. The place of one is how many were begun before
+    /// it; those whose braces are open came to nothing yet.
+    pub places: Items<Option<Stand>>,
+    /// The names of fields that ISs and ROUTEs gave.
+    pub names: Items<Text>,
+    /// The ROUTEs in the order in which they were met.
+    pub wires: Items<Wire>,
     /// How many nodes and instances were begun.
     pub begun_nodes: u32,
     pub begun_instances: u32,
     /// How many more items the values may have.
     pub room: usize,
+    /// How many more fields may be joined to those of interfaces.
+    pub joined_room: usize,
 }

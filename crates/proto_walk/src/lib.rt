@@ -7,6 +7,8 @@ mod fields;
 mod filling;
 mod frames;
 mod held;
+mod routes;
+mod stands;
 mod steps;
 mod walk;
 mod whole;

@@ -4,14 +4,15 @@ ghost use Rattle.std.specs.Prelude.{◌≡◌, [], ◌≤◌, length, option_map
 ghost use Rattle.std.specs.Prelude.{Ok, IfOk, IfSome};
 ghost use Rattle.flat_document.specs.Fault.{memory};
 ghost use Rattle.proto_walk.specs.Machine as spec;
-ghost use Rattle.proto_walk.specs.Machine.{Does, no_names, with_name};
+ghost use Rattle.proto_walk.specs.Machine.{Does, no_names, no_defs, with_name};
 ghost use Rattle.proto_walk.specs.Limits as limit;
 ghost use Rattle.proto_walk.specs.Closing as closing;
 ghost use Rattle.proto_walk.specs.Meaning as meaning;
 ghost use Rattle.proto_walk.specs.Meaning.{with_field};
 ghost use Rattle.proto_walk.specs.Fields.{first_twice, signatures};
 ghost use Rattle.proto_declarations.specs.Sight.{no_names as no_names_yet};
-ghost use Rattle.proto_walk.specs.Frames.{names_of, view, IsOnce, in_sight, bound_by, AreLinked};
+ghost use Rattle.proto_walk.specs.Frames.{names_of, defs_of, view, IsOnce, in_sight, bound_by};
+ghost use Rattle.proto_walk.specs.Frames.{AreLinked};
 
 use crate::fields;
 use crate::fields::{flat_fields, item_count, same};
@@ -51,6 +52,8 @@ pub fn keep(
 /// A scope without names.
 pub fn empty_scope<'a>(alloc: Global, sight: usize, inside: Option<usize>) -> Scope<'a>
     ensures names { names_of result ≡ no_names }
+    ensures defs { defs_of result ≡ no_defs }
+    ensures ties { result.ties ≡ [] }
     ensures sight { result.sight ≡ sight }
     ensures given { result.given ≡ [] }
     ensures interface { result.interface.now ≡ [] }
@@ -58,9 +61,11 @@ pub fn empty_scope<'a>(alloc: Global, sight: usize, inside: Option<usize>) -> Sc
 {
     Scope {
         names: IndexMap::new(alloc),
+        defs: IndexMap::new(alloc),
         sight,
         given: Items::new(alloc),
         interface: &[],
+        ties: Items::new(alloc),
         inside,
     }
 }
@@ -72,14 +77,15 @@ pub fn begin_node(
     declarations: &Declarations<'_>,
     scope: &Scope<'_>,
     links: &[Link<'_>],
-) -> Result<u64, ExpandFault>
+) -> Result<usize, ExpandFault>
     ensures { Does (limit.begin_node (view store.old declarations.now scope.now links.now)) result
         (view store.new declarations.now scope.now links.now) }
 {
     if store.begun_nodes >= MAX_NODES {
         return Err(ExpandFaultKind::TooLarge.on_line(0));
     }
-    let at = store.begun_nodes as u64 + store.begun_instances as u64;
+    let at = store.places.len();
+    store.places.push(None)?;
     store.begun_nodes += 1;
     Ok(at)
 }
@@ -91,14 +97,15 @@ fn begin_instance(
     declarations: &Declarations<'_>,
     scope: &Scope<'_>,
     links: &[Link<'_>],
-) -> Result<u64, ExpandFault>
+) -> Result<usize, ExpandFault>
     ensures { Does (limit.begin_instance (view store.old declarations.now scope.now links.now))
         result (view store.new declarations.now scope.now links.now) }
 {
     if store.begun_instances >= MAX_INSTANCES {
         return Err(ExpandFaultKind::TooLarge.on_line(0));
     }
-    let at = store.begun_nodes as u64 + store.begun_instances as u64;
+    let at = store.places.len();
+    store.places.push(None)?;
     store.begun_instances += 1;
     Ok(at)
 }
@@ -122,7 +129,7 @@ pub fn begin(
     scope: &Scope<'_>,
     links: &[Link<'_>],
     interface: &[Declaration<NodeText>],
-) -> Result<u64, ExpandFault>
+) -> Result<usize, ExpandFault>
     ensures { Does (meaning.begin (signatures interface.now)
         (view store.old declarations.now scope.now links.now)) result
         (view store.new declarations.now scope.now links.now) }
@@ -269,6 +276,7 @@ fn named(scope: &Scope<'_>, name: &Text) -> Option<Named>
     scope.names.get(name.as_str()).copied()
 }
 
+#[tactic(auto, unfolding(crate::specs::Frames::defs_of))]
 fn give_name<'a>(
     scope: &mut Scope<'a>,
     name: &'a Text,
@@ -276,16 +284,18 @@ fn give_name<'a>(
 ) -> Result<(), AllocFailed<(&'a str, Named)>>
     ensures names { IfOk result (λ _. names_of scope.new ≡ with_name name.now named
         (names_of scope.old)) }
+    ensures defs { defs_of scope.new ≡ defs_of scope.old }
     ensures sight { scope.new.sight ≡ scope.old.sight }
     ensures given { scope.new.given ≡ scope.old.given }
     ensures interface { scope.new.interface ≡ scope.old.interface }
+    ensures ties { scope.new.ties ≡ scope.old.ties }
     ensures inside { scope.new.inside ≡ scope.old.inside }
 {
     scope.names.insert(name.as_str(), named)?;
     Ok(())
 }
 
-fn is_later(earlier: Option<Named>, at: u64) -> bool
+fn is_later(earlier: Option<Named>, at: usize) -> bool
     ensures { result ≡ spec.is_later earlier at }
 {
     match earlier {
@@ -302,7 +312,7 @@ pub fn know<'a>(
     scope: &mut Scope<'a>,
     links: &[Link<'a>],
     name: &'a Option<Text>,
-    at: u64,
+    at: usize,
     node: u32,
 ) -> Result<u32, ExpandFault>
     ensures does { Does (spec.know name.now at node

@@ -1,17 +1,19 @@
 //! The walk over a node and all that is inside, instances' bodies too.
 
 ghost use Rattle.std.specs.Prelude.{◌≡◌, ◌≤◌, ◌++◌, ◌∷◌, [], length, Ok, IfOk, IfSome};
-ghost use Rattle.proto_walk.specs.Machine.{and_then};
+ghost use Rattle.proto_walk.specs.Machine.{and_then, pure};
 ghost use Rattle.proto_walk.specs.Meaning as spec;
 ghost use Rattle.proto_walk.specs.Meaning.{node_does, proto_does};
 ghost use Rattle.proto_walk.specs.Frames as does;
 ghost use Rattle.proto_walk.specs.Frames.{Fits, Holds, Keeps, Steps, Ends, comes_to, in_sight};
-ghost use Rattle.proto_walk.specs.Frames.{owner_in, shown};
+ghost use Rattle.proto_walk.specs.Frames.{IfHanded, owner_in, shown};
+ghost use Rattle.proto_walk.specs.Routes.{wire};
 
-use crate::frames::{Body, Frame, Link, Listing, Open, Owner, Task, Walker};
-use crate::{between, filling, steps};
-use classic_tree::{BodyItem, NodeText, ProtoText, RawValue, Statement};
+use crate::frames::{BegunNode, Body, Frame, Link, Listing, Open, Owner, Task, Walker};
+use crate::{between, filling, routes, stands, steps};
+use classic_tree::{BodyItem, NodeText, ProtoText, RawValue, RouteText, Statement};
 use flat_document::{ExpandFault, ExpandFaultKind};
+use proto_ends::{Spot, Stand};
 use std::alloc::{AllocError, Global};
 use x3d_lists::{Items, Text};
 use x3d_values::NodeType;
@@ -41,6 +43,27 @@ pub fn declare<'a>(walker: &mut Walker<'a>, proto: &'a ProtoText) -> Result<(), 
     Ok(())
 }
 
+/// A ROUTE is met.
+pub fn meet_route<'a>(
+    alloc: Global,
+    walker: &mut Walker<'a>,
+    route: &RouteText,
+) -> Result<(), ExpandFault>
+    ensures does { IfHanded (wire route.now (shown walker.old)) result (shown walker.new) }
+    ensures links { walker.new.links ≡ walker.old.links }
+    ensures frames { walker.new.frames ≡ walker.old.frames }
+    ensures scope { walker.new.scope ≡ walker.old.scope }
+{
+    routes::wire(
+        alloc,
+        &mut walker.store,
+        &walker.declarations,
+        &walker.scope,
+        &walker.links,
+        route,
+    )
+}
+
 /// A node begins.
 #[tactic(auto, unfolding(crate::specs::Meaning::typed_node))]
 fn enter_typed<'a>(
@@ -64,11 +87,21 @@ fn enter_typed<'a>(
         &walker.scope,
         &walker.links,
     )?;
+    stands::meet(
+        &walker.store,
+        &walker.declarations,
+        &mut walker.scope,
+        &walker.links,
+        name,
+        BegunNode {
+            at,
+            interface: None,
+        },
+    )?;
     Ok(Task::Items(Open {
         line,
         name,
-        at,
-        owner: Owner::Node(node_type),
+        owner: Owner::Node(node_type, at),
         sight: 0,
         rest: items,
         fields: Items::new(alloc),
@@ -100,11 +133,21 @@ fn enter_instance<'a>(
         &walker.links,
         link.proto.interface.as_slice(),
     )?;
+    stands::meet(
+        &walker.store,
+        &walker.declarations,
+        &mut walker.scope,
+        &walker.links,
+        name,
+        BegunNode {
+            at,
+            interface: Some(link.proto.interface.as_slice()),
+        },
+    )?;
     Ok(Task::Items(Open {
         line,
         name,
-        at,
-        owner: Owner::Instance(link.proto, link.within),
+        owner: Owner::Instance(link.proto, link.within, at),
         sight: link.before,
         rest: items,
         fields: Items::new(alloc),
@@ -168,16 +211,16 @@ fn close_node<'a>(
     walker: &mut Walker<'a>,
     opened: Open<'a>,
     node_type: NodeType,
+    at: usize,
 ) -> Result<Task<'a>, ExpandFault>
     requires holds { Holds walker.old }
     ensures { Keeps
-        (spec.close_node opened.entry.line opened.entry.name.now opened.entry.at node_type
+        (spec.close_node opened.entry.line opened.entry.name.now at node_type
         opened.entry.fields (shown walker.old)) walker.old result walker.new }
 {
     let Open {
         line,
         name,
-        at,
         fields,
         ..
     } = opened;
@@ -191,6 +234,14 @@ fn close_node<'a>(
         name,
         node_type,
         fields.as_slice(),
+    )?;
+    stands::stand(
+        &mut walker.store,
+        &walker.declarations,
+        &walker.scope,
+        &walker.links,
+        at,
+        Stand::Node(number),
     )?;
     let number = steps::know(
         &walker.store,
@@ -216,11 +267,30 @@ fn close<'a>(
         (shown walker.old)) walker.old result walker.new }
 {
     match opened.owner {
-        Owner::Node(node_type) => close_node(alloc, walker, opened, node_type),
-        Owner::Instance(proto, within) => filling::open_defaults(
+        Owner::Node(node_type, at) => close_node(alloc, walker, opened, node_type, at),
+        Owner::Instance(proto, within, _at) => filling::open_defaults(
             alloc, walker, opened, proto, within,
         ),
     }
+}
+
+/// A ROUTE between braces.
+#[tactic(auto, unfolding(crate::specs::Frames::task_does))]
+fn put_route<'a>(
+    alloc: Global,
+    walker: &mut Walker<'a>,
+    opened: Open<'a>,
+    route: &RouteText,
+) -> Result<Task<'a>, ExpandFault>
+    requires holds { Holds walker.old }
+    requires sees { opened.sight ≤ length walker.old.links.items }
+    ensures { Keeps (and_then (and_then (wire route.now (shown walker.old))
+        (λ _. pure opened.entry.fields)) (does.open_does
+        (in_sight walker.old.links.items opened.entry.sight) opened.entry)) walker.old
+        result walker.new }
+{
+    meet_route(alloc, walker, route)?;
+    Ok(Task::Items(opened))
 }
 
 /// What stands next between braces.
@@ -245,7 +315,7 @@ fn put_item<'a>(
         BodyItem::Declaration(declaration) => {
             Err(ExpandFaultKind::NotYet.on_line(declaration.line))
         }
-        BodyItem::Route(route) => Err(ExpandFaultKind::NotYet.on_line(route.line)),
+        BodyItem::Route(route) => put_route(alloc, walker, opened, route),
         BodyItem::Proto(proto) => {
             declare(walker, proto)?;
             Ok(Task::Items(opened))
@@ -329,7 +399,39 @@ fn leave<'a>(
     let Some(number) = first else {
         return Err(ExpandFaultKind::EmptyBody.on_line(line));
     };
+    let inlets = stands::join(
+        alloc,
+        &mut walker.store,
+        &walker.declarations,
+        &walker.scope,
+        &walker.links,
+    )?;
     walker.scope = outer;
+    stand_in(alloc, walker, name, at, number, inlets)
+}
+
+/// The first node of a body stands for the instance.
+#[tactic(auto, unfolding(crate::specs::Frames::task_does))]
+fn stand_in<'a>(
+    alloc: Global,
+    walker: &mut Walker<'a>,
+    name: &'a Option<Text>,
+    at: usize,
+    number: u32,
+    inlets: Items<Items<Spot>>,
+) -> Result<Task<'a>, ExpandFault>
+    requires { Holds walker.old }
+    ensures { Keeps (spec.stand_in name.now at (record { node = number; inlets = inlets })
+        (shown walker.old)) walker.old result walker.new }
+{
+    stands::stand(
+        &mut walker.store,
+        &walker.declarations,
+        &walker.scope,
+        &walker.links,
+        at,
+        Stand::Instance(inlets),
+    )?;
     let number = steps::label(
         alloc,
         &mut walker.store,
@@ -349,6 +451,24 @@ fn leave<'a>(
         number,
     )?;
     Ok(Task::Number(number))
+}
+
+/// A ROUTE of a body.
+#[tactic(auto, unfolding(crate::specs::Frames::task_does))]
+fn next_route<'a>(
+    alloc: Global,
+    walker: &mut Walker<'a>,
+    body: Body<'a>,
+    route: &RouteText,
+) -> Result<Task<'a>, ExpandFault>
+    requires holds { Holds walker.old }
+    requires sees { body.outer.sight ≤ length walker.old.links.items }
+    ensures { Keeps (and_then (wire route.now (shown walker.old)) (λ _. does.body_does
+        (in_sight walker.old.links.items body.entry.outer.sight) body.entry body.entry.first))
+        walker.old result walker.new }
+{
+    meet_route(alloc, walker, route)?;
+    Ok(Task::Statements(body))
 }
 
 #[tactic(auto, using(crate::proofs::Equations::tree_does), unfolding(crate::specs::Frames::body_does))]
@@ -373,7 +493,7 @@ fn next_statement<'a>(
             walker.frames.push(Frame::Inside(body))?;
             Ok(Task::Node(node))
         }
-        Statement::Route(route) => Err(ExpandFaultKind::NotYet.on_line(route.line)),
+        Statement::Route(route) => next_route(alloc, walker, body, route),
         Statement::Proto(proto) => {
             declare(walker, proto)?;
             Ok(Task::Statements(body))

@@ -1,9 +1,10 @@
 //! A whole document.
 
-ghost use Rattle.std.specs.Prelude.{◌≡◌, [], slice_get, IfOk};
+ghost use Rattle.std.specs.Prelude.{◌≡◌, [], slice_get, IfOk, None};
 ghost use Rattle.x3d_lists.specs.Answers.{Gives};
 ghost use Rattle.flat_document.specs.Fault.{memory};
-ghost use Rattle.proto_walk.specs.Machine.{through};
+ghost use Rattle.proto_walk.specs.Machine.{and_then, pure, through};
+ghost use Rattle.proto_walk.specs.Routes.{wire};
 ghost use Rattle.proto_walk.specs.Meaning.{statement_does};
 ghost use Rattle.proto_walk.specs.Whole as spec;
 ghost use Rattle.proto_walk.specs.Whole.{flat, nothing};
@@ -12,14 +13,33 @@ ghost use Rattle.proto_walk.specs.Frames.{Holds, Ends, shown};
 use crate::frames::Walker;
 use crate::held::{PlacedNode, Store};
 use crate::{steps, walk};
-use classic_tree::{Document, Statement};
+use classic_tree::{Document, RouteText, Statement};
 use flat_document::{ExpandFault, ExpandFaultKind, Flat, FlatNode, Header};
 use proto_declarations::Declarations;
+use proto_ends::routes_of;
 use std::alloc::{AllocError, Global};
 use x3d_lists::{Duplicate, Items, Text};
 
 /// The most items that the values of a document may have.
 const MAX_ITEMS: usize = 8_388_608;
+
+/// The most fields that ISs join to those of interfaces, over all instances.
+const MAX_JOINED: usize = 8_388_608;
+
+/// A ROUTE that is a statement gives no node.
+fn put_route<'a>(
+    alloc: Global,
+    walker: &mut Walker<'a>,
+    route: &RouteText,
+) -> Result<Option<u32>, ExpandFault>
+    requires holds { Holds walker.old }
+    requires idle { walker.old.frames.items ≡ [] }
+    ensures { Ends (and_then (wire route.now (shown walker.old)) (λ _. pure None)) result
+        walker.new }
+{
+    walk::meet_route(alloc, walker, route)?;
+    Ok(None)
+}
 
 /// Puts a statement in that declares nothing wrong. A node gives its number.
 #[tactic(auto, using(crate::proofs::Equations::tree_does))]
@@ -37,7 +57,7 @@ fn put_checked<'a>(
             let number = walk::put_node(alloc, walker, node)?;
             Ok(Some(number))
         }
-        Statement::Route(route) => Err(ExpandFaultKind::NotYet.on_line(route.line)),
+        Statement::Route(route) => put_route(alloc, walker, route),
         Statement::Proto(proto) => {
             walk::declare(walker, proto)?;
             Ok(None)
@@ -101,9 +121,13 @@ fn empty_walker<'a>(alloc: Global) -> Walker<'a>
             labels: Items::new(alloc),
             helpers: Items::new(alloc),
             values: Items::new(alloc),
+            places: Items::new(alloc),
+            names: Items::new(alloc),
+            wires: Items::new(alloc),
             begun_nodes: 0,
             begun_instances: 0,
             room: MAX_ITEMS,
+            joined_room: MAX_JOINED,
         },
         declarations: Declarations::new(alloc),
         links: Vec::new(alloc),
@@ -173,8 +197,12 @@ pub fn expand(alloc: Global, document: Document) -> Result<Flat, ExpandFault>
         nodes,
         labels,
         helpers,
+        places,
+        names,
+        wires,
         ..
     } = store;
+    let routes = routes_of(alloc, places.as_slice(), names.as_slice(), wires.as_slice())?;
     let nodes = flat_nodes(alloc, labels.as_slice(), nodes.into_vec())?;
     Ok(Flat {
         header: Header {
@@ -186,6 +214,6 @@ pub fn expand(alloc: Global, document: Document) -> Result<Flat, ExpandFault>
         nodes,
         roots,
         helpers,
-        routes: Items::new(alloc),
+        routes,
     })
 }

@@ -2,7 +2,6 @@
 
 mod checks;
 mod examples;
-mod expanding;
 mod formats;
 mod growths;
 mod hosting;

@@ -38,5 +38,5 @@ returns c =
     let bound : of_interface (signatures c.args.walker.now.scope.interface.now) c.args.name.now ≡ Some c.in-Some-field_of_interface.outer = search rules in
     let fit : fits c.in-Some-field_of_interface.outer c.in-Some.inner ≡ true = search rules in
     is-joined c.args.line c.args.field.now c.args.name.now (owner_in c.args.owner) c.args.fields.now (shown c.args.walker.now) c.in-Some.inner c.in-Some-field_of_interface.outer some bound fit (sym c.has_field.ensures ∙ c.if-has_field.false)
-    ∙ ap (λ v. add_joined c.args.line (owner_in c.args.owner) c.args.fields.now c.in-Some.inner.number v (shown c.args.walker.now))
+    ∙ ap (λ v. add_joined c.args.line c.args.field.now (owner_in c.args.owner) c.args.fields.now (record { number = c.in-Some.inner.number; outer = c.in-Some-field_of_interface.outer.number; value = v }) (shown c.args.walker.now))
     (sym (c.value_of-value.ensures ∙ ap (value_of c.in-Some-field_of_interface.outer.number) c.as_slice.ensures))

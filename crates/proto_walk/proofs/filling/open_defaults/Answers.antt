@@ -8,7 +8,7 @@ returns c = stays c.requires.holds refl refl (rw (c.replace-outer.ensures.after,
     (record { store = c.args.walker.now.store; declarations = c.args.walker.now.declarations; links = c.args.walker.now.links; scope = c.replace-outer.new.dest; frames = c.args.walker.now.frames })
     c.args.proto c.args.within c.args.opened _
     (record { proto = c.args.proto; within = c.args.within; rest = c.as_slice.result; outer = c.replace-outer.result })
-    refl refl refl (rw c.replace-outer.ensures.after c.empty_scope-inner.ensures.names) (rw c.replace-outer.ensures.after c.empty_scope-inner.ensures.sight)
+    refl refl refl (rw c.replace-outer.ensures.after c.empty_scope-inner.ensures.names) (rw c.replace-outer.ensures.after c.empty_scope-inner.ensures.defs) (rw c.replace-outer.ensures.after c.empty_scope-inner.ensures.ties) (rw c.replace-outer.ensures.after c.empty_scope-inner.ensures.sight)
     (rw c.replace-outer.ensures.after c.empty_scope-inner.ensures.given) (rw c.replace-outer.ensures.after c.empty_scope-inner.ensures.interface)
     (rw c.replace-outer.ensures.after (c.empty_scope-inner.ensures.inside ∙ c.body_of-inside.ensures))
     refl refl c.as_slice.ensures c.replace-outer.ensures.value refl refl refl (rw c.replace-outer.ensures.value refl) refl)

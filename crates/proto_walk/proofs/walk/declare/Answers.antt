@@ -1,12 +1,12 @@
 use Rattle.std.proofs.Common.{rules, arith, ◌≡◌, ◌∙◌, refl, length, length-append, [], ◌∷◌, ◌++◌}
 use Rattle.proto_walk.specs.Meaning.{declare}
-use Rattle.proto_walk.specs.Frames.{names_of, shown}
+use Rattle.proto_walk.specs.Frames.{names_of, defs_of, shown}
 use Rattle.proto_walk.proofs.Equations.{proto_does_is}
 use Rattle.proto_walk.proofs.Sights.{declared, linked-more, all_see-more}
 use Rattle.proto_walk.proofs.walk.declare.Goals as goal
 
 pub returns-clause-does : goal.returns-clause-does
-unfolding declare names_of
+unfolding declare names_of defs_of
 returns-clause-does c =
     let at : c.len-walker.result ≡ length c.push.new.self.items = search rules in
     proto_does_is c.args.proto.now (shown c.args.walker.now)
