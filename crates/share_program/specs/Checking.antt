@@ -3,8 +3,8 @@
 use Rattle.std.specs.Prelude.{◌≡◌, ◌⊎◌, ◌++◌, Option, ℕ, List, [], ◌∷◌, Ok, Err, length, codes, decimal}
 use Rattle.std.specs.Io.KnownBytes.{Appends, Consumes, IsAtEnd, Keeps}
 use Rattle.share_program.specs.Opening.{opened}
-use Rattle.share_program.specs.declared.fault.JobFault.{JobFault}
-use Rattle.share_program.specs.declared.fault.JobFault.TheVariants.{Device}
+use Rattle.share_jobs.specs.declared.fault.JobFault.{JobFault}
+use Rattle.share_jobs.specs.declared.fault.JobFault.TheVariants.{Device}
 use Rattle.share_program.specs.declared.open.Opened.{Opened}
 
 abbrev line_feed : ℕ

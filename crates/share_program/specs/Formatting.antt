@@ -6,10 +6,10 @@ use Rattle.classic_tree.specs.declared.tree.Document.{Document}
 use Rattle.classic_text.specs.Reading.{read_text}
 use Rattle.classic_text.specs.Spells.{Spells}
 use Rattle.classic_round_trip.specs.AnyLength.{SpellsAtAnyLength}
-use Rattle.share_program.specs.Faults.{of_read}
+use Rattle.share_jobs.specs.Faults.{of_read}
 use Rattle.share_program.specs.Opening.{next}
-use Rattle.share_program.specs.declared.fault.JobFault.{JobFault}
-use Rattle.share_program.specs.declared.fault.JobFault.TheVariants.{Device}
+use Rattle.share_jobs.specs.declared.fault.JobFault.{JobFault}
+use Rattle.share_jobs.specs.declared.fault.JobFault.TheVariants.{Device}
 
 -- the document that a text spells, or its first fault
 abbrev pub document_of : List ℕ → Result Document JobFault

@@ -1,10 +1,6 @@
-pub mod Points
-pub mod Job
-pub mod Lines
 pub mod Refusal
 pub mod Words
 pub mod Checking
-pub mod Faults
 pub mod Formatting
 pub mod Opening
 pub mod Running

@@ -9,11 +9,12 @@ use Rattle.scene_core.specs.Building.{scene_of}
 use Rattle.scene_core.specs.Scene.{SceneView}
 use Rattle.scene_core.specs.declared.scene.Route.{Route}
 use Rattle.route_core.specs.Resolved.{resolved}
-use Rattle.share_program.specs.Job.{job_lines}
-use Rattle.share_program.specs.Faults.{of_read, of_expand, of_scene, of_route}
+use Rattle.share_jobs.specs.Job.{job_lines}
+use Rattle.share_jobs.specs.Schedule.{schedule_lines}
+use Rattle.share_jobs.specs.Faults.{of_read, of_expand, of_scene, of_route}
 use Rattle.std.specs.Io.KnownBytes.{Consumes, IsAtEnd}
-use Rattle.share_program.specs.declared.fault.JobFault.{JobFault}
-use Rattle.share_program.specs.declared.fault.JobFault.TheVariants.{Device, Memory}
+use Rattle.share_jobs.specs.declared.fault.JobFault.{JobFault}
+use Rattle.share_jobs.specs.declared.fault.JobFault.TheVariants.{Device, Memory}
 use Rattle.share_program.specs.declared.open.Opened.{Opened}
 use Rattle.share_program.specs.declared.open.Job.{Job}
 
@@ -57,3 +58,9 @@ IsDeviceOrMemory fault = (fault ≡ Device) ⊎ (fault ≡ Memory)
 abbrev pub IsNoJob : Option (List ℕ) → Option (List ℕ) → JobFault → Type 0
 IsNoJob old new fault = (bytes : List ℕ) × Consumes old new bytes × IsAtEnd new
     × (opened_job bytes ≡ Err fault)
+
+-- a reader was read to its end, and what it had is no schedule for this reason
+abbrev pub IsNoSchedule : Option (List ℕ) → Option (List ℕ) → JobFault → Type 0
+IsNoSchedule old new fault =
+    (bytes : List ℕ) × Consumes old new bytes × IsAtEnd new
+    × (schedule_lines bytes ≡ Err fault)

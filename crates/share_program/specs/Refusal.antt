@@ -15,8 +15,8 @@ use Rattle.route_core.specs.FaultName.{fault_name as route_fault_name}
 use Rattle.share_program.specs.declared.stream.StreamFault.{StreamFault}
 use Rattle.share_program.specs.declared.stream.StreamFault.TheVariants as stream
 use Rattle.share_program.specs.declared.order.OrderFault.TheVariants as order
-use Rattle.share_program.specs.declared.fault.JobFault.{JobFault}
-use Rattle.share_program.specs.declared.fault.JobFault.TheVariants as job
+use Rattle.share_jobs.specs.declared.fault.JobFault.{JobFault}
+use Rattle.share_jobs.specs.declared.fault.JobFault.TheVariants as job
 use Rattle.share_program.specs.declared.fault.RunFault.{RunFault}
 use Rattle.share_program.specs.declared.fault.RunFault.TheVariants as run
 use Rattle.share_program.specs.declared.refusal.Failure.{Failure}

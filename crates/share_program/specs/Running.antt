@@ -6,7 +6,7 @@ use Rattle.cascade_core.specs.Texts.{trace_text, scene_text}
 use Rattle.cascade_core.specs.declared.world.WorldData.{WorldData}
 use Rattle.scene_core.specs.declared.scene.Route.{Route}
 use Rattle.scene_core.specs.Scene.{SceneView}
-use Rattle.share_program.specs.declared.fault.JobFault.{JobFault}
+use Rattle.share_jobs.specs.declared.fault.JobFault.{JobFault}
 use Rattle.share_program.specs.declared.fault.RunFault.TheVariants as run_fault
 use Rattle.share_program.specs.declared.open.Job.{Job}
 use Rattle.share_program.specs.declared.refusal.Failure.{Failure}

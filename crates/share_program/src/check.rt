@@ -4,10 +4,10 @@ ghost use Rattle.std.specs.Prelude.{◌≡◌, ◌⊎◌, IfOk, IfErr, OnOk};
 ghost use Rattle.share_program.specs.Checking.{IsOpened, IsNoScene, IsChecked, IsUnchecked, counts_text};
 ghost use Rattle.share_program.specs.Opening.{IsDeviceOrMemory};
 
-use crate::fault::JobFault;
 use crate::open::{Opened, open_scene};
 use crate::stream::{read_whole, write_whole};
 use itoa::Buffer;
+use share_jobs::JobFault;
 use std::alloc::{AllocError, Global};
 use std::io::{Read, Write};
 

@@ -7,11 +7,11 @@ ghost use Rattle.classic_round_trip.specs.AnyLength.{SpellsAtAnyLength};
 ghost use Rattle.share_program.specs.Formatting.{IsRead, IsNoText, IsFormatted, IsUnwritten};
 ghost use Rattle.share_program.specs.Opening.{IsDeviceOrMemory};
 
-use crate::fault::JobFault;
 use crate::stream::{read_whole, write_whole};
 use classic_round_trip::{spellable_documents_are_written, spelled_documents_are_spellable, write};
 use classic_text::read;
 use classic_tree::Document;
+use share_jobs::JobFault;
 use std::alloc::{AllocError, Global};
 use std::io::{Read, Write};
 

@@ -4,17 +4,17 @@ ghost use Rattle.std.specs.Prelude.{◌≡◌, IfOk, IfErr, ◌⊎◌, List, ℕ
 ghost use Rattle.std.specs.Io.KnownBytes.{Consumes, IsAtEnd};
 ghost use Rattle.x3d_lists.specs.Answers.{Gives};
 ghost use Rattle.cascade_core.specs.InTurn.{AreInTurn};
-ghost use Rattle.share_program.specs.Opening.{routed, built, opened, opened_job, IsDeviceOrMemory, IsNoJob};
-ghost use Rattle.share_program.specs.declared.fault.JobFault.TheVariants.{Memory};
+ghost use Rattle.share_jobs.specs.Schedule.{schedule_lines};
+ghost use Rattle.share_program.specs.Opening.{routed, built, opened, opened_job, IsDeviceOrMemory};
+ghost use Rattle.share_program.specs.Opening.{IsNoJob, IsNoSchedule};
+ghost use Rattle.share_jobs.specs.declared.fault.JobFault.TheVariants.{Memory};
 
-use crate::fault::JobFault;
-use crate::inputs::Inputs;
-use crate::job::job_of;
 use crate::stream::read_whole;
 use classic_text::read;
 use proto_expand::{Flat, expand};
 use route_core::Routes;
 use scene_core::Scene;
+use share_jobs::{Inputs, JobFault, Schedule, job_of, schedule_of};
 use std::alloc::Global;
 use std::io::Read;
 
@@ -85,4 +85,16 @@ pub fn read_job<R: Read>(alloc: Global, reader: &mut R) -> Result<Job, JobFault>
 {
     let bytes = read_whole(alloc, reader)?;
     open_job(alloc, bytes.as_slice())
+}
+
+/// The schedule that a reader has left, which is read to its end first.
+pub fn read_schedule<R: Read>(alloc: Global, reader: &mut R) -> Result<Schedule, JobFault>
+    ensures schedule { IfOk result (λ s. (bytes : List ℕ)
+        × Consumes (R.remaining reader.old) (R.remaining reader.new) bytes
+        × IsAtEnd (R.remaining reader.new) × (schedule_lines bytes ≡ Ok s)) }
+    ensures refused { IfErr result (λ f. IsDeviceOrMemory f
+        ⊎ IsNoSchedule (R.remaining reader.old) (R.remaining reader.new) f) }
+{
+    let bytes = read_whole(alloc, reader)?;
+    schedule_of(alloc, bytes.as_slice())
 }

@@ -4,13 +4,14 @@ ghost use Rattle.std.specs.Prelude.{◌≡◌, ◌≤◌, length};
 ghost use Rattle.share_program.specs.Refusal.{status, job_status, refusal_text};
 ghost use Rattle.share_program.specs.Refusal.{failure_name, job_fault_name, failure_line};
 
-use crate::fault::{JobFault, RunFault};
+use crate::fault::RunFault;
 use crate::order::OrderFault;
 use arrayvec::ArrayString;
 use classic_text::ReadFaultKind;
 use proto_expand::ExpandFaultKind;
 use route_core::RouteFaultKind;
 use scene_core::SceneFaultKind;
+use share_jobs::JobFault;
 use thiserror::Error;
 
 /// Every fault of the program: of its words, of its job and of the work itself.

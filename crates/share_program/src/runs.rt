@@ -10,13 +10,13 @@ ghost use Rattle.share_program.specs.Running.{texts, run_text, IsRun, IsNoRun, I
 ghost use Rattle.share_program.specs.declared.fault.RunFault.TheVariants.{Memory};
 
 use crate::fault::RunFault;
-use crate::inputs::Inputs;
 use crate::open::{Job, read_job};
 use crate::refusal::Failure;
 use crate::stream::write_whole;
 use cascade_core::{ApplyFault, Scripts, Stage, TextFault};
 use route_core::Routes;
 use scene_core::Scene;
+use share_jobs::Inputs;
 use std::alloc::Global;
 use std::io::{Read, Write};
 

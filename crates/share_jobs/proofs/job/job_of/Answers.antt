@@ -1,8 +1,8 @@
 use Rattle.std.proofs.Common.{rules, ◌≡◌, ◌<◌, ◌++◌, ◌∷◌, [], length, Some, None, ◌∙◌, inr, arith, false, true}
-use Rattle.share_program.specs.Job.{is_scene, next_input}
-use Rattle.share_program.proofs.JobLemmas.{at_start, at_end, scene_found, step_refused, step_taken, few_more, IsNext, next_is, in_turn_more}
-use Rattle.share_program.proofs.FoundLemmas.{found}
-use Rattle.share_program.proofs.job.job_of.Goals as goal
+use Rattle.share_jobs.specs.Job.{is_scene, next_input}
+use Rattle.share_jobs.proofs.JobLemmas.{at_start, at_end, scene_found, step_refused, step_taken, few_more, IsNext, next_is, in_turn_more}
+use Rattle.share_jobs.proofs.FoundLemmas.{found}
+use Rattle.share_jobs.proofs.job.job_of.Goals as goal
 
 pub loop-rest-init : goal.loop-rest-init
 loop-rest-init c = rw c.new-inputs.ensures (record { answer = at_start c.args.bytes.now; in_turn = tt; few = omega arith })

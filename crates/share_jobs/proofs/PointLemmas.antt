@@ -1,5 +1,5 @@
 -- A line that asks for a pointer, in its words.
-use Rattle.std.proofs.Common.{◌≡◌, ℕ, zero, suc, ◌+◌, ◌<◌, ◌==◌, ℤ, pos, negsuc, List, [], ◌∷◌, ◌++◌, length, take, drop, Bool, true, false, ◌&&◌, codes, Option, Some, None}
+use Rattle.std.proofs.Common.{◌≡◌, ℕ, zero, suc, ◌+◌, ◌<◌, ◌==◌, ℤ, pos, negsuc, List, [], ◌∷◌, ◌++◌, length, take, drop, Bool, true, false, codes, Option, Some, None}
 use Rattle.std.proofs.Common.{Result, Ok, Err, refl, sym, ap, ◌∙◌, inl, inr, arith, eqb-true, take-append-drop}
 use Rattle.std.specs.Prelude.{◌/◌, nat_lt, if◌then◌else◌}
 use Rattle.std.specs.Result.{result_ok}
@@ -7,14 +7,13 @@ use Rattle.std.specs.List.{position_or_len, before_first, after_first}
 use Rattle.std.specs.Str.{bytes_eq}
 use Rattle.std.specs.Cmp.Lexicographic.{same_text}
 use Rattle.std.proofs.lemmas.Bool.{cases_Bool, ltb-true}
-use Rattle.x3d_numerals.specs.Numeral.{IsNumeral}
 use Rattle.x3d_numerals.specs.Reading.{is_digits, numeral, answered, parts_of, unsigned_of, hexadecimal_of, decimal_of, decimal_behind, decimal_with, exponent_of, behind_fraction, fraction_of, behind_sign, sign_of}
 use Rattle.x3d_numerals.proofs.Numerals.{numeral_sound}
 use Rattle.x3d_values.specs.Pointing.{Pointing, Sight, is_ray}
-use Rattle.x3d_values.specs.Ranges.{is_viewer, max_viewers}
+use Rattle.x3d_values.specs.Ranges.{max_viewers}
 use Rattle.x3d_values.specs.declared.vector.Vec3.{Vec3}
-use Rattle.share_program.specs.Points.{is_space, word, behind, units_below, number_below, vector, vector_of, sight, pointing, sight_of, pointing_of, pointed, IsNumber, AreNumerals, IsPoint}
-use Rattle.share_program.proofs.JobLemmas.{position-cons_no, before-cons_no, before-cons_yes}
+use Rattle.share_jobs.specs.Points.{is_space, word, behind, units_below, number_below, vector, vector_of, sight, pointing, sight_of, pointing_of, pointed, IsNumber, AreNumerals, IsPoint}
+use Rattle.share_jobs.proofs.JobLemmas.{position-cons_no, before-cons_no, before-cons_yes}
 
 -- ---- a text is its first word, a space and what stands behind it
 
@@ -41,18 +40,18 @@ cut (x ∷ xs) h = elim (cases_Bool (is_space x)) [
       ∙ ap (λ r. before_first is_space (x ∷ xs) ++ (32 ∷ r)) (sym (after-cons_no x xs other)))
 ]
 
-cut_word : (text : List ℕ) → 0 < length (behind text) → text ≡ word text ++ (32 ∷ behind text)
+pub cut_word : (text : List ℕ) → 0 < length (behind text) → text ≡ word text ++ (32 ∷ behind text)
 unfolding word behind
 cut_word text h = cut text h
 
-word_filled : (text : List ℕ) → 0 < length (word text) → 0 < length text
+pub word_filled : (text : List ℕ) → 0 < length (word text) → 0 < length text
 unfolding word
 word_filled [] h = absurd (omega arith)
 word_filled (x ∷ xs) h = omega arith
 
 -- ---- numbers
 
-ok_from : {X E : Type 0} (r : Result X E) (x : X) → result_ok r ≡ Some x → r ≡ Ok x
+pub ok_from : {X E : Type 0} (r : Result X E) (x : X) → result_ok r ≡ Some x → r ≡ Ok x
 ok_from (Ok y) x e = let same : y ≡ x = cc in ap Ok same
 ok_from (Err f) x e = absurd (cc)
 
@@ -60,15 +59,15 @@ no_numeral : (n : ℤ) → numeral [] ≡ Ok n → ⊥
 unfolding numeral answered parts_of unsigned_of hexadecimal_of decimal_of decimal_behind decimal_with exponent_of behind_fraction fraction_of behind_sign sign_of
 no_numeral n e = absurd (cc)
 
-numeral_filled : (text : List ℕ) (n : ℤ) → numeral text ≡ Ok n → 0 < length text
+pub numeral_filled : (text : List ℕ) (n : ℤ) → numeral text ≡ Ok n → 0 < length text
 numeral_filled [] n e = absurd (no_numeral n e)
 numeral_filled (x ∷ xs) n e = omega arith
 
 -- a number below a limit
-record IsBelow (limit : ℕ) (text : List ℕ) (n : ℕ) : Type 0 where
-  number : IsNumber text n
-  low : nat_lt n limit ≡ true
-  filled : 0 < length text
+pub record IsBelow (limit : ℕ) (text : List ℕ) (n : ℕ) : Type 0 where
+  pub number : IsNumber text n
+  pub low : nat_lt n limit ≡ true
+  pub filled : 0 < length text
 
 below_from : (limit : ℕ) (text : List ℕ) (n : ℕ) → is_digits 10 text ≡ true → (r : Option ℤ) → result_ok (numeral text) ≡ r → units_below limit r ≡ Some n → IsBelow limit text n
 below_from limit text n d None r e = absurd (cc)
@@ -86,7 +85,7 @@ below_from limit text n d (Some (pos m)) r e = elim (cases_Bool (nat_lt (m / 100
   | inr high ↦ let none = rw high at e in absurd (cc)
 ]
 
-number_from : (limit : ℕ) (text : List ℕ) (n : ℕ) → number_below limit text ≡ Some n → IsBelow limit text n
+pub number_from : (limit : ℕ) (text : List ℕ) (n : ℕ) → number_below limit text ≡ Some n → IsBelow limit text n
 unfolding number_below
 number_from limit text n e = elim (cases_Bool (is_digits 10 text)) [
   | inl d ↦ let below = rw d at e in below_from limit text n d (result_ok (numeral text)) refl below
@@ -94,11 +93,11 @@ number_from limit text n e = elim (cases_Bool (is_digits 10 text)) [
 ]
 
 -- three numerals
-record IsVector (x y z : List ℕ) (v : Vec3) : Type 0 where
-  numerals : AreNumerals x y z v
-  x_filled : 0 < length x
-  y_filled : 0 < length y
-  z_filled : 0 < length z
+pub record IsVector (x y z : List ℕ) (v : Vec3) : Type 0 where
+  pub numerals : AreNumerals x y z v
+  pub x_filled : 0 < length x
+  pub y_filled : 0 < length y
+  pub z_filled : 0 < length z
 
 vector_by : (x y z : List ℕ) (v : Vec3) (a b c : Option ℤ) → result_ok (numeral x) ≡ a → result_ok (numeral y) ≡ b → result_ok (numeral z) ≡ c → vector a b c ≡ Some v → IsVector x y z v
 vector_by x y z v None b c p q r e = absurd (cc)
@@ -116,7 +115,7 @@ vector_by x y z v (Some a) (Some b) (Some c) p q r e =
       z_filled = numeral_filled z v.z at_z;
     }
 
-vector_from : (x y z : List ℕ) (v : Vec3) → vector_of x y z ≡ Some v → IsVector x y z v
+pub vector_from : (x y z : List ℕ) (v : Vec3) → vector_of x y z ≡ Some v → IsVector x y z v
 unfolding vector_of
 vector_from x y z v e = vector_by x y z v (result_ok (numeral x)) (result_ok (numeral y)) (result_ok (numeral z)) refl refl refl e
 
@@ -215,7 +214,7 @@ pointing_by (Some w) (Some d) (Some r) p e =
     }
 
 -- 0 or 1
-bit : (n : ℕ) → nat_lt n 2 ≡ true → n ≡ (if n == 1 then 1 else 0)
+pub bit : (n : ℕ) → nat_lt n 2 ≡ true → n ≡ (if n == 1 then 1 else 0)
 bit zero h = refl
 bit (suc zero) h = refl
 bit (suc (suc n)) h = absurd (omega (arith, ltb-true (suc (suc n)) 2 h))

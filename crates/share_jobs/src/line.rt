@@ -3,7 +3,7 @@
 ghost use Rattle.std.specs.Prelude.{◌≡◌, ◌<◌, ◌≤◌, length};
 ghost use Rattle.std.specs.List.{position_or_len};
 ghost use Rattle.std.specs.Str.Lines.{strip_carriage_return};
-ghost use Rattle.share_program.specs.Lines.{is_lf, first_line, behind_line};
+ghost use Rattle.share_jobs.specs.Lines.{is_lf, first_line, behind_line};
 
 const LF: u8 = b'\n';
 

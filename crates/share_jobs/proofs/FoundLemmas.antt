@@ -13,12 +13,12 @@ use Rattle.x3d_numerals.proofs.Numerals.{value_iff}
 use Rattle.x3d_values.specs.Pointing.{Pointing}
 use Rattle.x3d_values.specs.Stamp.{Stamp}
 use Rattle.x3d_values.specs.declared.stamped.Event.TheVariants.{Clock, Pointer}
-use Rattle.share_program.specs.declared.fault.JobFault.{JobFault}
-use Rattle.share_program.specs.declared.fault.JobFault.TheVariants.{BadJob}
-use Rattle.share_program.specs.Job.{AreSteps, Lined, IsClock, IsPointed, IsJob, asked, clock_time, last_time, next_input, with_line, with_scene, is_scene, job_lines}
-use Rattle.share_program.specs.Points.{pointed}
-use Rattle.share_program.proofs.JobLemmas.{fold-err, before-cons_no, before-cons_yes, last_time-push, taken_from}
-use Rattle.share_program.proofs.PointLemmas.{point_from}
+use Rattle.share_jobs.specs.declared.fault.JobFault.{JobFault}
+use Rattle.share_jobs.specs.declared.fault.JobFault.TheVariants.{BadJob}
+use Rattle.share_jobs.specs.Job.{AreSteps, Lined, IsClock, IsPointed, IsJob, asked, clock_time, last_time, next_input, with_line, with_scene, is_scene, job_lines}
+use Rattle.share_jobs.specs.Points.{pointed}
+use Rattle.share_jobs.proofs.JobLemmas.{fold-err, before-cons_no, before-cons_yes, last_time-push, taken_from}
+use Rattle.share_jobs.proofs.PointLemmas.{point_from}
 
 -- ---- a line that asks for an input is `clock T`
 

@@ -13,8 +13,8 @@ use Rattle.scene_core.specs.contracts.fault.SceneFaultKind as scenes
 use Rattle.route_core.specs.declared.fault.RouteFault.{RouteFault}
 use Rattle.route_core.specs.declared.fault.RouteFaultKind.TheVariants as route
 use Rattle.route_core.specs.contracts.fault.RouteFaultKind as routes
-use Rattle.share_program.specs.declared.fault.JobFault.{JobFault}
-use Rattle.share_program.specs.declared.fault.JobFault.TheVariants.{Read, Expand, Scene, Route, Memory}
+use Rattle.share_jobs.specs.declared.fault.JobFault.{JobFault}
+use Rattle.share_jobs.specs.declared.fault.JobFault.TheVariants.{Read, Expand, Scene, Route, Memory}
 
 abbrev pub of_read : ReadFault → JobFault
 of_read fault = if sameb reads.the_type fault.kind read.Memory then Memory else Read fault

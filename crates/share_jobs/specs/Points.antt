@@ -1,6 +1,6 @@
 -- A line `point V D ox oy oz dx dy dz` of a job: a viewer, whether its button is down, and the
 -- origin and the direction of its ray (our choice).
-use Rattle.std.specs.Prelude.{◌≡◌, ℕ, ◌/◌, ◌==◌, ◌<◌, nat_lt, ℤ, pos, negsuc, Bool, true, List, ◌∷◌, ◌++◌, drop, take, length, codes, Option, Some, None, if◌then◌else◌}
+use Rattle.std.specs.Prelude.{◌≡◌, ℕ, ◌/◌, ◌==◌, nat_lt, ℤ, pos, negsuc, Bool, true, List, ◌∷◌, ◌++◌, drop, take, codes, Option, Some, None, if◌then◌else◌}
 use Rattle.std.specs.List.{after_first, before_first}
 use Rattle.std.specs.Result.{result_ok}
 use Rattle.std.specs.Str.{bytes_eq}

@@ -1,81 +1,15 @@
 //! The lines of a job by which viewers point: `point V D ox oy oz dx dy dz`.
 
-ghost use Rattle.std.specs.Prelude.{◌≡◌, ◌≤◌, length, IsTrue};
-ghost use Rattle.std.specs.List.{position_or_len};
-ghost use Rattle.x3d_numerals.specs.Reading.{is_digits as are_digits, run};
-ghost use Rattle.share_program.specs.Points as spec;
+ghost use Rattle.std.specs.Prelude.{◌≡◌, IsTrue};
+ghost use Rattle.share_jobs.specs.Points as spec;
 
+use crate::word::{cut_word, number_below};
 use x3d_numerals::millionths;
 use x3d_values::{MAX_VIEWERS, Pointer, Ray, Vec3};
 
-const SPACE: u8 = b' ';
-
-/// How many bytes stand before the first space, or in the whole text.
-fn word_len(text: &[u8]) -> usize
-    ensures value { result ≡ position_or_len spec.is_space text.now }
-    ensures within { result ≤ length text.now }
-{
-    text.iter().take_while(|byte| **byte != SPACE).count()
-}
-
-/// The first word of a text, and what stands behind the space that ends it, if one does.
-#[tactic(auto, unfolding(crate::specs::Points::word, crate::specs::Points::behind))]
-fn cut_word(text: &[u8]) -> (&[u8], &[u8])
-    ensures word { result.0.now ≡ spec.word text.now }
-    ensures behind { result.1.now ≡ spec.behind text.now }
-{
-    let len = word_len(text);
-    if len < text.len() {
-        (&text[..len], &text[len + 1..])
-    } else {
-        (text, &text[text.len()..])
-    }
-}
-
-/// How many digits the text begins with.
-fn digits_len(text: &[u8]) -> usize
-    ensures { result ≡ run 10 text.now }
-{
-    text.iter()
-        .take_while(|byte| char::from(**byte).is_digit(10))
-        .count()
-}
-
-/// Whether a text is decimal digits, one or more.
-fn is_digits(text: &[u8]) -> bool
-    ensures { result ≡ are_digits 10 text.now }
-{
-    if text.is_empty() {
-        return false;
-    }
-    digits_len(text) == text.len()
-}
-
-/// A number in decimal digits, below a limit.
-#[tactic(auto, using(crate::proofs::Passed::passed), unfolding(crate::specs::Points::number_below))]
-fn number_below(limit: u8, text: &[u8]) -> Option<u8>
-    ensures { result ≡ spec.number_below limit text.now }
-{
-    if !is_digits(text) {
-        return None;
-    }
-    let Ok(number) = millionths(text) else {
-        return None;
-    };
-    if number < 0 {
-        return None;
-    }
-    let units = number as u64 / 1_000_000;
-    if units < u64::from(limit) {
-        Some(units as u8)
-    } else {
-        None
-    }
-}
-
 /// Three numerals of units, as millionths.
 #[tactic(auto, using(crate::proofs::Passed::passed), unfolding(crate::specs::Points::vector_of))]
-fn vector_of(x: &[u8], y: &[u8], z: &[u8]) -> Option<Vec3>
+pub fn vector_of(x: &[u8], y: &[u8], z: &[u8]) -> Option<Vec3>
     ensures { result ≡ spec.vector_of x.now y.now z.now }
 {
     let Ok(x) = millionths(x) else {
@@ -91,7 +25,7 @@ fn vector_of(x: &[u8], y: &[u8], z: &[u8]) -> Option<Vec3>
 }
 
 /// Three words, of which the last ends the text.
-fn last_vector(text: &[u8]) -> Option<Vec3>
+pub fn last_vector(text: &[u8]) -> Option<Vec3>
     ensures { result
         ≡ spec.vector_of (spec.word text.now) (spec.word (spec.behind text.now))
         (spec.behind (spec.behind text.now)) }

@@ -13,10 +13,10 @@ use Rattle.x3d_values.specs.Stamp.{Stamp}
 use Rattle.x3d_values.specs.Pointing.{Pointing}
 use Rattle.x3d_values.specs.declared.stamped.Event.{Event}
 use Rattle.x3d_values.specs.declared.stamped.Event.TheVariants.{Clock, Pointer}
-use Rattle.share_program.specs.declared.fault.JobFault.{JobFault}
-use Rattle.share_program.specs.declared.fault.JobFault.TheVariants.{BadJob}
-use Rattle.share_program.specs.Lines.{is_lf}
-use Rattle.share_program.specs.Points.{IsPoint, pointed}
+use Rattle.share_jobs.specs.declared.fault.JobFault.{JobFault}
+use Rattle.share_jobs.specs.declared.fault.JobFault.TheVariants.{BadJob}
+use Rattle.share_jobs.specs.Lines.{is_lf}
+use Rattle.share_jobs.specs.Points.{IsPoint, pointed}
 
 -- ---- a step
 

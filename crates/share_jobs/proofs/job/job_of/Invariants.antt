@@ -1,8 +1,8 @@
 use Rattle.std.proofs.Common.{◌≡◌, ◌≤◌, ◌^◌, length}
 use Rattle.cascade_core.specs.InTurn.{AreInTurn}
-use Rattle.share_program.specs.Job.{job_lines}
-use Rattle.share_program.proofs.JobLemmas.{left_of}
-use Rattle.share_program.proofs.job.job_of.Given as goal
+use Rattle.share_jobs.specs.Job.{job_lines}
+use Rattle.share_jobs.proofs.JobLemmas.{left_of}
+use Rattle.share_jobs.proofs.job.job_of.Given as goal
 
 abbrev pub invariant-loop-rest : goal.invariant-loop-rest
 invariant-loop-rest l = record {

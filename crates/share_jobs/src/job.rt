@@ -3,10 +3,10 @@
 ghost use Rattle.std.specs.Prelude.{◌≡◌, IfOk, Option, length};
 ghost use Rattle.x3d_lists.specs.Answers.{Gives};
 ghost use Rattle.std.specs.Prelude.{◌+ℤ◌, ◌≤ℤ◌, ◌^◌, pos};
-ghost use Rattle.share_program.specs.Job.{clock_time, last_time, is_taken, input_at, next_input};
-ghost use Rattle.share_program.specs.Job.{is_scene, job_lines, IsJob};
+ghost use Rattle.share_jobs.specs.Job.{clock_time, last_time, is_taken, input_at, next_input};
+ghost use Rattle.share_jobs.specs.Job.{is_scene, job_lines, IsJob};
 ghost use Rattle.cascade_core.specs.InTurn.{AreInTurn};
-ghost use Rattle.share_program.specs.declared.fault.JobFault.TheVariants.{Memory};
+ghost use Rattle.share_jobs.specs.declared.fault.JobFault.TheVariants.{Memory};
 
 use crate::fault::JobFault;
 use crate::inputs::Inputs;
@@ -15,10 +15,7 @@ use crate::point::pointed;
 use std::alloc::Global;
 use x3d_lists::Items;
 use x3d_numerals::millionths;
-use x3d_values::{Event, Stamped, is_input_time};
-
-/// A world takes so many inputs.
-const MOST_INPUTS: usize = 1 << 20;
+use x3d_values::{Event, MAX_INPUTS, Stamped, is_input_time};
 
 /// What the lines of a job ask for.
 #[derive(Debug, Drop)]
@@ -56,7 +53,7 @@ fn last_time(inputs: &[Stamped]) -> i64
 fn is_taken(inputs: &[Stamped], time: i64) -> bool
     ensures { result ≡ is_taken inputs.now time }
 {
-    inputs.len() < MOST_INPUTS && last_time(inputs) < time && is_input_time(time)
+    inputs.len() < MAX_INPUTS as usize && last_time(inputs) < time && is_input_time(time)
 }
 
 /// The input of this time behind these, if a host would number it.
@@ -92,7 +89,7 @@ fn next_input(inputs: &[Stamped], line: &[u8]) -> Option<Stamped>
     }
 }
 
-fn is_scene(line: &[u8]) -> bool
+pub fn is_scene(line: &[u8]) -> bool
     ensures { result ≡ is_scene line.now }
 {
     line == b"scene".as_slice()

@@ -1,0 +1,16 @@
+//! The lines of a job and of a schedule: steps, a line `scene`, then the scene.
+#![tactic(auto)]
+
+mod fault;
+mod inputs;
+mod job;
+mod line;
+mod point;
+mod schedule;
+mod step;
+mod word;
+
+pub use fault::JobFault;
+pub use inputs::Inputs;
+pub use job::{Steps, job_of};
+pub use schedule::{Schedule, schedule_of};

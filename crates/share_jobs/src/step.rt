@@ -1,0 +1,175 @@
+//! The lines of a schedule: one step of a network each.
+
+ghost use Rattle.std.specs.Prelude.{◌≡◌};
+ghost use Rattle.std.specs.Str.{bytes_eq};
+ghost use Rattle.share_jobs.specs.Schedule as spec;
+
+use crate::point::{last_vector, vector_of};
+use crate::word::{cut_word, number, number_below};
+use share_law::Step;
+use x3d_numerals::millionths;
+use x3d_values::Point;
+
+/// `T` behind `clock `: a numeral of seconds, whose millionths are microseconds.
+#[tactic(auto, using(crate::proofs::Passed::passed), unfolding(crate::specs::Schedule::clock_step))]
+fn clock_step(text: &[u8]) -> Option<Step>
+    ensures { result ≡ spec.clock_step text.now }
+{
+    match millionths(text) {
+        Ok(time) => Some(Step::HostClock { time }),
+        Err(_) => None,
+    }
+}
+
+/// `P host` or `P V` behind `give `.
+#[tactic(auto, unfolding(crate::specs::Schedule::give_step))]
+fn give_step(text: &[u8]) -> Option<Step>
+    ensures { result ≡ spec.give_step text.now }
+{
+    let (packet, who) = cut_word(text);
+    let Some(packet) = number(packet) else {
+        return None;
+    };
+    if who == b"host".as_slice() {
+        return Some(Step::HostTake { packet });
+    }
+    match number(who) {
+        Some(viewer) => Some(Step::ViewerTake { viewer, packet }),
+        None => None,
+    }
+}
+
+/// `V I` behind `resend `.
+#[tactic(auto, unfolding(crate::specs::Schedule::resend_step))]
+fn resend_step(text: &[u8]) -> Option<Step>
+    ensures { result ≡ spec.resend_step text.now }
+{
+    let (viewer, place) = cut_word(text);
+    let Some(viewer) = number(viewer) else {
+        return None;
+    };
+    match number(place) {
+        Some(place) => Some(Step::ViewerResend { viewer, place }),
+        None => None,
+    }
+}
+
+/// `V S B` behind `rewind `.
+#[tactic(auto, unfolding(crate::specs::Schedule::rewind_step))]
+fn rewind_step(text: &[u8]) -> Option<Step>
+    ensures { result ≡ spec.rewind_step text.now }
+{
+    let (viewer, rest) = cut_word(text);
+    let (snapshot, boot) = cut_word(rest);
+    let Some(viewer) = number(viewer) else {
+        return None;
+    };
+    let Some(snapshot) = number(snapshot) else {
+        return None;
+    };
+    match number(boot) {
+        Some(boot) => Some(Step::ViewerRewind {
+            viewer,
+            snapshot,
+            boot,
+        }),
+        None => None,
+    }
+}
+
+/// `D ox oy oz dx dy dz`: any numerals make a point.
+#[tactic(auto, using(crate::proofs::Passed::passed), unfolding(crate::specs::Schedule::point_of, crate::specs::Points::number_below))]
+fn point_of(text: &[u8]) -> Option<Point>
+    ensures { result ≡ spec.point_of text.now }
+{
+    let (down, rest) = cut_word(text);
+    let (x, rest) = cut_word(rest);
+    let (y, rest) = cut_word(rest);
+    let (z, rest) = cut_word(rest);
+    let Some(down) = number_below(2, down) else {
+        return None;
+    };
+    let Some(origin) = vector_of(x, y, z) else {
+        return None;
+    };
+    let Some(dir) = last_vector(rest) else {
+        return None;
+    };
+    Some(Point {
+        down: down == 1,
+        origin,
+        dir,
+    })
+}
+
+/// `V D ox oy oz dx dy dz` behind `offer `.
+#[tactic(auto, unfolding(crate::specs::Schedule::offer_step))]
+fn offer_step(text: &[u8]) -> Option<Step>
+    ensures { result ≡ spec.offer_step text.now }
+{
+    let (viewer, rest) = cut_word(text);
+    let Some(viewer) = number(viewer) else {
+        return None;
+    };
+    match point_of(rest) {
+        Some(point) => Some(Step::ViewerOffer { viewer, point }),
+        None => None,
+    }
+}
+
+/// Whether a line begins with this word.
+fn is(name: &[u8], word: &[u8]) -> bool
+    ensures { result ≡ bytes_eq name.now word.now }
+{
+    name == word
+}
+
+/// The step of a name and the words behind it, if it is one of the host or a packet's.
+#[tactic(auto, unfolding(crate::specs::Schedule::host_step))]
+fn host_step(name: &[u8], text: &[u8]) -> Option<Step>
+    ensures { result ≡ spec.host_step name.now text.now }
+{
+    if is(name, b"clock") {
+        clock_step(text)
+    } else if is(name, b"packet") {
+        number(text).map(|input| Step::HostPacket { input })
+    } else if is(name, b"ack") {
+        number(text).map(|viewer| Step::HostAck { viewer })
+    } else if is(name, b"give") {
+        give_step(text)
+    } else {
+        None
+    }
+}
+
+/// The step of a name and the words behind it, if it is one of a viewer.
+#[tactic(auto, unfolding(crate::specs::Schedule::viewer_step))]
+fn viewer_step(name: &[u8], text: &[u8]) -> Option<Step>
+    ensures { result ≡ spec.viewer_step name.now text.now }
+{
+    if is(name, b"offer") {
+        offer_step(text)
+    } else if is(name, b"resend") {
+        resend_step(text)
+    } else if is(name, b"ask") {
+        number(text).map(|viewer| Step::ViewerAsk { viewer })
+    } else if is(name, b"save") {
+        number(text).map(|viewer| Step::ViewerSave { viewer })
+    } else if is(name, b"rewind") {
+        rewind_step(text)
+    } else {
+        None
+    }
+}
+
+/// The step of a line, if it is one.
+#[tactic(auto, unfolding(crate::specs::Schedule::step_of))]
+pub fn step_of(line: &[u8]) -> Option<Step>
+    ensures { result ≡ spec.step_of line.now }
+{
+    let (name, text) = cut_word(line);
+    match host_step(name, text) {
+        Some(step) => Some(step),
+        None => viewer_step(name, text),
+    }
+}

@@ -1,0 +1,95 @@
+//! The words of a line, and the numbers that they write.
+
+ghost use Rattle.std.specs.Prelude.{◌≡◌, ◌≤◌, ◌<◌, length, IfSome};
+ghost use Rattle.std.specs.List.{position_or_len};
+ghost use Rattle.x3d_numerals.specs.Reading.{is_digits as are_digits, run};
+ghost use Rattle.share_jobs.specs.Points as spec;
+ghost use Rattle.share_jobs.specs.Schedule.{number};
+
+use x3d_numerals::millionths;
+
+const SPACE: u8 = b' ';
+
+/// The numbers of a schedule are below this.
+const ALL_NUMBERS: u64 = 1 << 32;
+
+/// How many bytes stand before the first space, or in the whole text.
+fn word_len(text: &[u8]) -> usize
+    ensures value { result ≡ position_or_len spec.is_space text.now }
+    ensures within { result ≤ length text.now }
+{
+    text.iter().take_while(|byte| **byte != SPACE).count()
+}
+
+/// The first word of a text, and what stands behind the space that ends it, if one does.
+#[tactic(auto, unfolding(crate::specs::Points::word, crate::specs::Points::behind))]
+pub fn cut_word(text: &[u8]) -> (&[u8], &[u8])
+    ensures word { result.0.now ≡ spec.word text.now }
+    ensures behind { result.1.now ≡ spec.behind text.now }
+{
+    let len = word_len(text);
+    if len < text.len() {
+        (&text[..len], &text[len + 1..])
+    } else {
+        (text, &text[text.len()..])
+    }
+}
+
+/// How many digits the text begins with.
+fn digits_len(text: &[u8]) -> usize
+    ensures { result ≡ run 10 text.now }
+{
+    text.iter()
+        .take_while(|byte| char::from(**byte).is_digit(10))
+        .count()
+}
+
+/// Whether a text is decimal digits, one or more.
+fn is_digits(text: &[u8]) -> bool
+    ensures { result ≡ are_digits 10 text.now }
+{
+    if text.is_empty() {
+        return false;
+    }
+    digits_len(text) == text.len()
+}
+
+/// A number in decimal digits, below a limit.
+#[tactic(auto, using(crate::proofs::Passed::passed), unfolding(crate::specs::Points::number_below))]
+fn units_below(limit: u64, text: &[u8]) -> Option<u64>
+    ensures value { result ≡ spec.number_below limit text.now }
+    ensures below { IfSome result (λ n. n < limit) }
+{
+    if !is_digits(text) {
+        return None;
+    }
+    let Ok(number) = millionths(text) else {
+        return None;
+    };
+    if number < 0 {
+        return None;
+    }
+    let units = number as u64 / 1_000_000;
+    if units < limit { Some(units) } else { None }
+}
+
+/// A number in decimal digits, below a small limit.
+pub fn number_below(limit: u8, text: &[u8]) -> Option<u8>
+    ensures { result ≡ spec.number_below limit text.now }
+{
+    match units_below(u64::from(limit), text) {
+        Some(number) => Some(number as u8),
+        None => None,
+    }
+}
+
+/// A number in decimal digits, below 2^32.
+#[tactic(auto, unfolding(crate::specs::Schedule::number))]
+pub fn number(text: &[u8]) -> Option<u32>
+    ensures { result ≡ number text.now }
+{
+    match units_below(ALL_NUMBERS, text) {
+        Some(number) => Some(number as u32),
+        None => None,
+    }
+}
