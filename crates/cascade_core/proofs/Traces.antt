@@ -10,7 +10,7 @@ use Rattle.cascade_core.specs.declared.trace.Kind.TheVariants as entry_kind
 use Rattle.std.proofs.lemmas.Int.{to_z-of_z}
 use Rattle.std.proofs.Common.{Option, Some, None}
 use Rattle.x3d_values.specs.declared.value.Value.TheVariants.{SFBool, SFInt32, SFFloat, SFTime, SFString, SFVec2f, SFVec3f, SFColor, SFNode, MFBool, MFInt32, MFFloat, MFTime, MFString, MFVec2f, MFVec3f, MFColor, MFNode}
-use Rattle.cascade_core.specs.Trace.{lines_of, line, IsPlain, plain_entry}
+use Rattle.cascade_core.specs.Trace.{lines_of, line, IsPlain, IsWhole, plain_entry}
 
 -- a signed number that was handed on is the number
 pub ruleset passed = (to_z-of_z, append_assoc)
@@ -69,24 +69,24 @@ module _ (es : List Entry) (vs : List Value) (i : ℕ) (t : ℤ) (opens : IsOpen
 plain-one : (source : End) (v : Value) (f e : Entry) → IsPlain source v f → Some f ≡ Some e → IsPlain source v e
 plain-one source v f e p h = let same : f ≡ e = cc in subst (λ (x : Entry). IsPlain source v x) same p
 
-pub plain-is : (source : End) (v : Value) (e : Entry) → plain_entry source v ≡ Some e → IsPlain source v e
+pub plain-is : (source : End) (v : Value) (e : Entry) → plain_entry source v ≡ Some e → IsWhole v → IsPlain source v e
 unfolding lines_of
-plain-is source (SFBool true) e h = plain-one source (SFBool true) _ e (λ es i t vs. refl) h
-plain-is source (SFBool false) e h = plain-one source (SFBool false) _ e (λ es i t vs. refl) h
-plain-is source (SFInt32 x) e h = plain-one source (SFInt32 x) _ e (λ es i t vs. refl) h
-plain-is source (SFFloat x) e h = plain-one source (SFFloat x) _ e (λ es i t vs. refl) h
-plain-is source (SFTime x) e h = plain-one source (SFTime x) _ e (λ es i t vs. refl) h
-plain-is source (SFString x) e h = λ es i t vs. cc
-plain-is source (SFVec2f x) e h = λ es i t vs. cc
-plain-is source (SFVec3f x) e h = λ es i t vs. cc
-plain-is source (SFColor x) e h = λ es i t vs. cc
-plain-is source (SFNode x) e h = λ es i t vs. cc
-plain-is source (MFBool x) e h = λ es i t vs. cc
-plain-is source (MFInt32 x) e h = λ es i t vs. cc
-plain-is source (MFFloat x) e h = λ es i t vs. cc
-plain-is source (MFTime x) e h = λ es i t vs. cc
-plain-is source (MFString x) e h = λ es i t vs. cc
-plain-is source (MFVec2f x) e h = λ es i t vs. cc
-plain-is source (MFVec3f x) e h = λ es i t vs. cc
-plain-is source (MFColor x) e h = λ es i t vs. cc
-plain-is source (MFNode x) e h = λ es i t vs. cc
+plain-is source (SFBool true) e h w = plain-one source (SFBool true) _ e (λ es i t vs. refl) h
+plain-is source (SFBool false) e h w = plain-one source (SFBool false) _ e (λ es i t vs. refl) h
+plain-is source (SFInt32 x) e h w = plain-one source (SFInt32 x) _ e (λ es i t vs. ap (λ (n : ℤ). line i t source (SFInt32 n) ∷ lines_of es i t vs) w) h
+plain-is source (SFFloat x) e h w = plain-one source (SFFloat x) _ e (λ es i t vs. refl) h
+plain-is source (SFTime x) e h w = plain-one source (SFTime x) _ e (λ es i t vs. refl) h
+plain-is source (SFString x) e h w = λ es i t vs. cc
+plain-is source (SFVec2f x) e h w = λ es i t vs. cc
+plain-is source (SFVec3f x) e h w = λ es i t vs. cc
+plain-is source (SFColor x) e h w = λ es i t vs. cc
+plain-is source (SFNode x) e h w = λ es i t vs. cc
+plain-is source (MFBool x) e h w = λ es i t vs. cc
+plain-is source (MFInt32 x) e h w = λ es i t vs. cc
+plain-is source (MFFloat x) e h w = λ es i t vs. cc
+plain-is source (MFTime x) e h w = λ es i t vs. cc
+plain-is source (MFString x) e h w = λ es i t vs. cc
+plain-is source (MFVec2f x) e h w = λ es i t vs. cc
+plain-is source (MFVec3f x) e h w = λ es i t vs. cc
+plain-is source (MFColor x) e h w = λ es i t vs. cc
+plain-is source (MFNode x) e h w = λ es i t vs. cc

@@ -40,6 +40,11 @@ abbrev pub is_spoiled : Held → Bool
 is_spoiled (Running w) = false
 is_spoiled (Spoiled n) = true
 
+-- the world of a stage that isn't spoiled
+abbrev pub world_in : Held → Option WorldData
+world_in (Running w) = Some w
+world_in (Spoiled n) = None
+
 -- how many inputs a stage has applied, or had when it was spoiled
 abbrev pub applied_of : Held → ℕ
 applied_of (Running w) = w.applied

@@ -1,10 +1,6 @@
 -- The texts of a world: its trace, one line for each event that was sent, and its scene (which
 -- texts there are is our choice).
-use Rattle.std.specs.Prelude.{ℕ, ℤ, ◌++◌, List, [], ◌∷◌, codes, decimal, slice_get}
-use Rattle.std.specs.Fmt.{signed_decimal}
-use Rattle.x3d_numerals.specs.NumberText.{number_text}
-use Rattle.cascade_core.specs.declared.trace.Kind.{Kind}
-use Rattle.cascade_core.specs.declared.trace.Kind.TheVariants as entry_kind
+use Rattle.std.specs.Prelude.{ℕ, ℤ, ◌++◌, List, [], ◌∷◌, decimal, slice_get}
 use Rattle.std.specs.List.{flat_map}
 use Rattle.std.specs.Option.{option_map_or, option_and_then}
 use Rattle.x3d_values.specs.declared.node_type.NodeType.{NodeType}
@@ -25,22 +21,8 @@ field_name kinds e =
     (option_and_then (λ kind. slice_get (rows kind) e.field) (slice_get kinds e.node)) []
 
 -- `<input> <seconds> `
-unfoldable pub stamp_text : TraceLine → List ℕ
-stamp_text line = decimal line.input ++ 32 ∷ value_text (SFTime line.time) ++ 32 ∷ []
-
--- the number and the time of an input in seconds, with a space behind each
-unfoldable pub stamp_of : ℕ → ℤ → List ℕ
-stamp_of input time = decimal input ++ 32 ∷ number_text time ++ 32 ∷ []
-
--- a value that stands in its entry
-abbrev pub plain_text : Kind → ℤ → List ℕ
-plain_text entry_kind.Input word = []
-plain_text entry_kind.True word = codes "TRUE"
-plain_text entry_kind.False word = codes "FALSE"
-plain_text entry_kind.Whole word = signed_decimal word
-plain_text entry_kind.Number word = number_text word
-plain_text entry_kind.Time word = number_text word
-plain_text entry_kind.Other word = []
+unfoldable pub stamp_text : ℕ → ℤ → List ℕ
+stamp_text input time = decimal input ++ 32 ∷ value_text (SFTime time) ++ 32 ∷ []
 
 -- `<label>.<field>`
 unfoldable pub source_text : SceneView → End → List ℕ
@@ -49,7 +31,8 @@ source_text scene source = label_of scene source.node ++ 46 ∷ field_name (type
 -- `<input> <seconds> <label>.<field> <value>` and a line feed
 unfoldable pub line_text : SceneView → TraceLine → List ℕ
 line_text scene line =
-    stamp_text line ++ source_text scene line.source ++ 32 ∷ value_text line.value ++ 10 ∷ []
+    stamp_text line.input line.time ++ source_text scene line.source
+    ++ 32 ∷ value_text line.value ++ 10 ∷ []
 
 -- all events in the order in which they were sent
 unfoldable pub trace_text : SceneView → WorldData → List ℕ

@@ -1,5 +1,6 @@
 -- The lines of a trace as it is kept.
-use Rattle.std.specs.Prelude.{◌≡◌, ℕ, ℤ, ◌++◌, List, [], ◌∷◌, pos, true, false, Option, Some, None}
+use Rattle.std.specs.Prelude.{◌≡◌, ℕ, ℤ, Bool, ◌++◌, List, [], ◌∷◌, pos, neg_ℤ, true, false, Option, Some, None}
+use Rattle.std.specs.Int.{int_max, int_min}
 use Rattle.x3d_values.specs.declared.value.Value.{Value}
 use Rattle.x3d_values.specs.declared.value.Value.TheVariants.{SFBool, SFInt32, SFFloat, SFTime}
 use Rattle.scene_core.specs.declared.scene.End.{End}
@@ -14,6 +15,10 @@ line input time source v = record { input = input; time = time; source = source;
 
 abbrev pub end_of : Entry → End
 end_of e = record { node = e.node; field = e.field }
+
+-- the integer of 32 bits that is nearest to a word
+abbrev pub whole_of : ℤ → ℤ
+whole_of word = int_max (neg_ℤ (pos 2147483648)) (int_min word (pos 2147483647))
 
 -- an event whose value is the next of those that stand aside; with none there is no line
 abbrev pub taking : (List Value → List TraceLine) → ℕ → ℤ → End → List Value → List TraceLine
@@ -30,7 +35,7 @@ lines_by rest input time values e entry_kind.True =
 lines_by rest input time values e entry_kind.False =
     line input time (end_of e) (SFBool false) ∷ rest input time values
 lines_by rest input time values e entry_kind.Whole =
-    line input time (end_of e) (SFInt32 e.word) ∷ rest input time values
+    line input time (end_of e) (SFInt32 (whole_of e.word)) ∷ rest input time values
 lines_by rest input time values e entry_kind.Number =
     line input time (end_of e) (SFFloat e.word) ∷ rest input time values
 lines_by rest input time values e entry_kind.Time =
@@ -53,6 +58,24 @@ IsOpen k = (es : List Entry) (vs : List Value) →
     lines_of (k.entries.items ++ es) 0 (pos 0) (k.values.items ++ vs)
     ≡ kept_lines k ++ lines_of es k.input k.time vs
 
+-- the value that stands in an entry of this kind, if it is one of an event
+abbrev pub plain_value : Kind → ℤ → Option Value
+plain_value entry_kind.Input word = None
+plain_value entry_kind.True word = Some (SFBool true)
+plain_value entry_kind.False word = Some (SFBool false)
+plain_value entry_kind.Whole word = Some (SFInt32 (whole_of word))
+plain_value entry_kind.Number word = Some (SFFloat word)
+plain_value entry_kind.Time word = Some (SFTime word)
+plain_value entry_kind.Other word = None
+
+-- the entry tells an event
+abbrev pub is_event : Kind → Bool
+is_event entry_kind.Input = false
+is_event _ = true
+
+abbrev pub tells_line : Entry → Bool
+tells_line e = is_event e.kind
+
 -- the entry is that of an event with this value, whatever the input
 abbrev pub IsPlain : End → Value → Entry → Type 0
 IsPlain source v e = (es : List Entry) (input : ℕ) (time : ℤ) (vs : List Value) →
@@ -70,3 +93,8 @@ plain_entry source (SFInt32 number) = Some (entry_of source entry_kind.Whole num
 plain_entry source (SFFloat number) = Some (entry_of source entry_kind.Number number)
 plain_entry source (SFTime time) = Some (entry_of source entry_kind.Time time)
 plain_entry source _ = None
+
+-- an integer that a value holds is one of 32 bits
+abbrev pub IsWhole : Value → Type 0
+IsWhole (SFInt32 number) = whole_of number ≡ number
+IsWhole _ = Unit {0}

@@ -9,6 +9,7 @@ mod clock;
 mod deliveries;
 mod fault;
 mod input;
+mod lines;
 mod nodes;
 mod places;
 mod pointer;
@@ -24,6 +25,7 @@ mod work;
 mod world;
 
 pub use fault::{ApplyFault, LoadFault, TextFault};
+pub use lines::{LineHead, WritesLines};
 pub use scripts::Scripts;
 pub use stage::{Stage, run};
 pub use state::State;

@@ -126,7 +126,8 @@ fn bench_of(
 
 impl<B> Stage<B> {
     ghost use Rattle.std.specs.Prelude.{◌≡◌, ◌++◌, ◌⊎◌, IfOk, IfErr, IfNone, IfSome, None, Some, OnOk, OnErr};
-    ghost use Rattle.cascade_core.specs.Held.{Running, after, refusal_of, refusal_in, spoiled as spoiled_of, applied_of, after_all, IfRunning, IfSpoiled, is_spoiled, trace_of};
+    ghost use Rattle.std.specs.Option.{option_copied};
+    ghost use Rattle.cascade_core.specs.Held.{Running, after, holding, refusal_of, refusal_in, spoiled as spoiled_of, applied_of, after_all, IfRunning, IfSpoiled, is_spoiled, trace_of, world_in};
     ghost use Rattle.cascade_core.specs.Apply.{opening};
     ghost use Rattle.cascade_core.specs.Texts.{trace_text, scene_text};
     ghost use Rattle.cascade_core.specs.Work.{IsWork};
@@ -154,6 +155,28 @@ impl<B> Stage<B> {
             bench,
             spoiled: None,
         })
+    }
+
+    /// The scene.
+    pub fn scene(&self) -> &Scene
+        ensures { result.now ≡ self.now.scene }
+    {
+        &self.scene
+    }
+
+    /// The allocator that the stage takes its memory from.
+    pub fn allocator(&self) -> Global {
+        *self.bench.tasks.allocator()
+    }
+
+    /// The world, unless the stage is spoiled.
+    pub fn world(&self) -> Option<&WorldData>
+        ensures { option_copied result ≡ world_in self.now.held }
+    {
+        if self.spoiled.is_some() {
+            return None;
+        }
+        Some(&self.turn.world)
     }
 
     /// How many inputs were applied, or had been when the stage was spoiled.
@@ -261,6 +284,31 @@ impl<B> Stage<B> {
         let fields = self.turn.world.fields.as_slice();
         write_scene(&self.scene, self.routes.as_slice(), fields, out)?;
         Ok(())
+    }
+
+    /// Puts a world in place of what the stage held, also of a spoiled one. Where memory is refused
+    /// the stage is spoiled, with the inputs that it had applied.
+    pub fn install(&mut self, world: WorldData) -> Result<(), AllocError>
+        ensures ok { OnOk result (self.new ≡ holding self.old (Running world)) }
+        ensures err { OnErr result (self.new ≡ spoiled_of self.old) }
+    {
+        let alloc = *self.bench.tasks.allocator();
+        let Ok(bench) = bench_of(alloc, &self.scene, &world, self.sensors.touches.len()) else {
+            self.spoil();
+            return Err(AllocError);
+        };
+        self.bench = bench;
+        self.turn.world = world;
+        self.spoiled = None;
+        Ok(())
+    }
+
+    /// Marks the stage as spoiled, with the inputs that it had applied: for one who was refused
+    /// memory while making a world for it.
+    pub fn spoil(&mut self)
+        ensures { self.new ≡ spoiled_of self.old }
+    {
+        self.spoiled = Some(self.applied());
     }
 
     /// Ends the stage with its scripts.

@@ -1,19 +1,19 @@
 //! The text of a trace.
 
-ghost use Rattle.std.specs.Prelude.{◌≡◌, ◌++◌, [], ◌∷◌, List, IfOk, OnErr, OnOk, pos};
+ghost use Rattle.std.specs.Prelude.{◌≡◌, ◌++◌, [], ◌∷◌, OnErr, OnOk};
 ghost use Rattle.std.specs.List.{flat_map};
 ghost use Rattle.x3d_lists.specs.Extends.{Extends};
 ghost use Rattle.scene_core.specs.Scene.{types_of};
-ghost use Rattle.cascade_core.specs.Texts.{field_name, stamp_of, source_text, plain_text, line_text};
-ghost use Rattle.cascade_core.specs.Trace.{end_of, lines_of};
-ghost use Rattle.cascade_core.specs.declared.trace.Entry.{Entry as EntryView};
+ghost use Rattle.cascade_core.specs.Texts.{field_name, line_text, source_text, stamp_text};
 ghost use Rattle.x3d_values.specs.ValueText.{value_text};
 
+use crate::lines::{LineHead, Moment, WritesLines};
 use crate::nodes::type_at;
-use crate::trace::{Entry, Kind, Trace};
+use crate::trace::Trace;
 use itoa::Buffer;
 use scene_core::{End, Scene};
-use std::alloc::AllocError;
+use std::alloc::{AllocError, Global};
+use std::marker::Model;
 use x3d_numerals::push_number;
 use x3d_values::{Value, fields_of, show_value};
 
@@ -32,15 +32,16 @@ fn field_name(scene: &Scene, end: End) -> &'static str
 }
 
 /// Appends the number and the time of an input; on a refusal perhaps a part of it.
-#[tactic(auto, unfolding(crate::specs::Texts::stamp_of))]
-fn push_stamp(input: u32, time: i64, out: &mut Vec<u8>) -> Result<(), AllocError>
-    ensures ok { OnOk result (out.new.items ≡ out.old.items ++ stamp_of input time) }
+#[tactic(auto, unfolding(crate::specs::Texts::stamp_text))]
+fn push_stamp(moment: Moment, out: &mut Vec<u8>) -> Result<(), AllocError>
+    ensures ok { OnOk result (out.new.items
+        ≡ out.old.items ++ stamp_text moment.input moment.time) }
     ensures kept { Extends out.old.items out.new.items }
 {
     let mut buffer = Buffer::new();
-    out.extend_from_slice(buffer.format(input).as_bytes())?;
+    out.extend_from_slice(buffer.format(moment.input).as_bytes())?;
     out.push(b' ')?;
-    push_number(time, out)?;
+    push_number(moment.time, out)?;
     out.push(b' ')?;
     Ok(())
 }
@@ -69,156 +70,113 @@ fn push_head(scene: &Scene, stamp: &[u8], source: End, out: &mut Vec<u8>) -> Res
     Ok(())
 }
 
-/// Appends a value that stands in its entry; on a refusal perhaps a part of it.
-fn push_plain(kind: Kind, word: i64, out: &mut Vec<u8>) -> Result<(), AllocError>
-    ensures ok { OnOk result (out.new.items ≡ out.old.items ++ plain_text kind word) }
-    ensures kept { Extends out.old.items out.new.items }
-{
-    match kind {
-        Kind::True => out.extend_from_slice(b"TRUE"),
-        Kind::False => out.extend_from_slice(b"FALSE"),
-        Kind::Whole => {
-            let mut buffer = Buffer::new();
-            out.extend_from_slice(buffer.format(word).as_bytes())
-        }
-        Kind::Number => push_number(word, out),
-        Kind::Time => push_number(word, out),
-        Kind::Input | Kind::Other => Ok(()),
-    }
-}
-
-/// Appends the line of an event whose value stands in its entry; on a refusal perhaps a part of it.
-fn push_plain_line(
-    scene: &Scene,
-    stamp: &[u8],
-    entry: Entry,
-    out: &mut Vec<u8>,
-) -> Result<(), AllocError>
-    ensures ok { OnOk result (out.new.items ≡ out.old.items ++ stamp.now
-        ++ source_text scene.now (end_of entry) ++ 32 ∷ plain_text entry.kind entry.word ++ 10
-        ∷ []) }
-    ensures kept { Extends out.old.items out.new.items }
-{
-    let source = End {
-        node: entry.node,
-        field: entry.field,
-    };
-    push_head(scene, stamp, source, out)?;
-    push_plain(entry.kind, entry.word, out)?;
-    out.push(b'\n')?;
-    Ok(())
-}
-
 /// Appends the line of an event; on a refusal perhaps a part of it.
 fn push_line(
     scene: &Scene,
     stamp: &[u8],
-    entry: Entry,
+    source: End,
     value: &Value,
     out: &mut Vec<u8>,
 ) -> Result<(), AllocError>
     ensures ok { OnOk result (out.new.items ≡ out.old.items ++ stamp.now
-        ++ source_text scene.now (end_of entry) ++ 32 ∷ value_text value.now ++ 10 ∷ []) }
+        ++ source_text scene.now source ++ 32 ∷ value_text value.now ++ 10 ∷ []) }
     ensures kept { Extends out.old.items out.new.items }
 {
-    let source = End {
-        node: entry.node,
-        field: entry.field,
-    };
     push_head(scene, stamp, source, out)?;
     show_value(value, out)?;
     out.push(b'\n')?;
     Ok(())
 }
 
-/// The input of the lines that come, and its stamp.
+/// The text of a stamp, which many lines share.
 #[derive(Drop)]
 struct Stamp {
-    input: u32,
-    time: i64,
+    moment: Option<Moment>,
     text: Vec<u8>,
 }
 
-impl Stamp {
-    ghost use Rattle.std.specs.Prelude.{◌≡◌, OnOk};
-    ghost use Rattle.cascade_core.specs.Texts.{stamp_of};
+impl Model for Stamp {
+    ghost use Rattle.std.specs.Prelude.{◌≡◌, IfSome, Option};
+    ghost use Rattle.cascade_core.specs.Texts.{stamp_text};
+    ghost use Rattle.cascade_core.specs.declared.lines.Moment.{Moment};
 
-    /// The lines that come are of the input that the entry tells.
-    fn set(&mut self, entry: Entry) -> Result<(), AllocError>
-        ensures input { OnOk result (self.new.input ≡ entry.node) }
-        ensures time { OnOk result (self.new.time ≡ entry.word) }
-        ensures text { OnOk result (self.new.text.items ≡ stamp_of entry.node entry.word) }
+    ghost Value = { Option Moment };
+
+    ghost view = { λ s. s.moment };
+
+    ghost invariant = { λ s. IfSome s.moment (λ m. s.text.items ≡ stamp_text m.input m.time) };
+}
+
+impl Stamp {
+    ghost use Rattle.std.specs.Prelude.{◌≡◌, IfSome, None, OnOk, Some};
+    ghost use Rattle.std.specs.Bool.{OnTrue};
+    ghost use Rattle.cascade_core.specs.Texts.{stamp_text};
+
+    /// No stamp is written.
+    fn new(alloc: Global) -> Stamp
+        ensures { result ≡ None }
     {
-        self.input = entry.node;
-        self.time = entry.word;
+        Stamp {
+            moment: None,
+            text: Vec::new(alloc),
+        }
+    }
+
+    /// Whether the text is that of an input.
+    fn is_of(&self, moment: Moment) -> bool
+        ensures { OnTrue result (self.now ≡ Some moment) }
+    {
+        match self.moment {
+            Some(own) => own.input == moment.input && own.time == moment.time,
+            None => false,
+        }
+    }
+
+    /// The lines that come are of this input.
+    fn set(&mut self, moment: Moment) -> Result<(), AllocError>
+        ensures { OnOk result (self.new ≡ Some moment) }
+    {
+        if self.is_of(moment) {
+            return Ok(());
+        }
+        self.moment = None;
         self.text.clear();
-        push_stamp(entry.node, entry.word, &mut self.text)?;
+        push_stamp(moment, &mut self.text)?;
+        self.moment = Some(moment);
         Ok(())
     }
-}
 
-/// Appends the line of an entry, if it has one, and says which values are left; on a refusal
-/// perhaps a part of it.
-fn push_entry<'a>(
-    scene: &Scene,
-    stamp: &mut Stamp,
-    entry: Entry,
-    values: &'a [Value],
-    out: &mut Vec<u8>,
-) -> Result<&'a [Value], AllocError>
-    requires stamp { stamp.old.text.items ≡ stamp_of stamp.old.input stamp.old.time }
-    ensures stamp { OnOk result (stamp.new.text.items ≡ stamp_of stamp.new.input stamp.new.time) }
-    ensures told { (es : List EntryView)
-        → IfOk result (λ left. out.new.items
-        ++ flat_map (line_text scene.now) (lines_of es stamp.new.input stamp.new.time left.now)
-        ≡ out.old.items
-        ++ flat_map (line_text scene.now)
-        (lines_of (entry ∷ es) stamp.old.input stamp.old.time values.now)) }
-    ensures kept { Extends out.old.items out.new.items }
-{
-    match entry.kind {
-        Kind::Input => {
-            stamp.set(entry)?;
-            Ok(values)
-        }
-        Kind::Other => match values {
-            [] => Ok(values),
-            [value, left @ ..] => {
-                push_line(scene, &stamp.text, entry, value, out)?;
-                Ok(left)
-            }
-        },
-        _ => {
-            push_plain_line(scene, &stamp.text, entry, out)?;
-            Ok(values)
-        }
+    fn as_slice(&self) -> &[u8]
+        ensures { IfSome self.now (λ m. result.now ≡ stamp_text m.input m.time) }
+    {
+        &self.text
     }
 }
 
-/// Appends the lines of a trace; on a refusal perhaps a part of them.
-#[tactic(auto, unfolding(crate::specs::Trace::lines_of))]
-fn push_lines(
-    scene: &Scene,
-    entries: &[Entry],
-    values: &[Value],
-    out: &mut Vec<u8>,
-) -> Result<(), AllocError>
-    ensures ok { OnOk result (out.new.items
-        ≡ out.old.items
-        ++ flat_map (line_text scene.now) (lines_of entries.now 0 (pos 0) values.now)) }
-    ensures kept { Extends out.old.items out.new.items }
-{
-    let mut stamp = Stamp {
-        input: 0,
-        time: 0,
-        text: Vec::new(*out.allocator()),
-    };
-    push_stamp(0, 0, &mut stamp.text)?;
-    let mut left = values;
-    for entry in entries {
-        left = push_entry(scene, &mut stamp, *entry, left, out)?;
+/// Writes lines as texts.
+#[derive(Drop)]
+struct LineTexts<'a> {
+    scene: &'a Scene,
+    stamp: Stamp,
+}
+
+impl<'a> WritesLines for LineTexts<'a> {
+    ghost text = { λ lines. line_text lines.scene.now };
+
+    #[tactic(auto, unfolding(crate::specs::Texts::line_text))]
+    fn write_line(
+        &mut self,
+        head: LineHead,
+        value: &Value,
+        out: &mut Vec<u8>,
+    ) -> Result<(), AllocError> {
+        let moment = Moment {
+            input: head.input,
+            time: head.time,
+        };
+        self.stamp.set(moment)?;
+        push_line(self.scene, self.stamp.as_slice(), head.source, value, out)
     }
-    Ok(())
 }
 
 /// Appends the text of a trace; on a refusal the buffer is as it was.
@@ -227,11 +185,9 @@ pub fn push_trace(scene: &Scene, trace: &Trace, out: &mut Vec<u8>) -> Result<(),
         ≡ out.old.items ++ flat_map (line_text scene.now) trace.now) }
     ensures err { OnErr result (out.new.items ≡ out.old.items) }
 {
-    let len = out.len();
-    let kept = trace.kept();
-    let pushed = push_lines(scene, &kept.entries, &kept.values, out);
-    if pushed.is_err() {
-        out.truncate(len);
-    }
-    pushed
+    let mut lines = LineTexts {
+        scene,
+        stamp: Stamp::new(*out.allocator()),
+    };
+    trace.write(&mut lines, out)
 }

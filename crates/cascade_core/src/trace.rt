@@ -2,8 +2,9 @@
 //! once for all its events.
 
 ghost use Rattle.std.specs.Prelude.{◌≡◌, ◌++◌, [], ◌∷◌, OnErr, OnOk};
-ghost use Rattle.cascade_core.specs.Trace.{entry_of, plain_entry};
+ghost use Rattle.cascade_core.specs.Trace.{IsWhole, entry_of, plain_entry, whole_of};
 
+use crate::lines::{WritesLines, lines_in, write_lines};
 use scene_core::End;
 use std::alloc::{AllocError, Global};
 use std::marker::Model;
@@ -75,15 +76,25 @@ fn input_entry(input: u32, time: i64) -> Entry
     }
 }
 
+/// The entry of an integer.
+#[tactic(auto, using(crate::proofs::Traces::passed))]
+fn whole_entry(source: End, number: i32) -> Entry
+    ensures entry { result ≡ entry_of source Kind.Whole number }
+    ensures whole { whole_of number ≡ number }
+{
+    entry_of(source, Kind::Whole, i64::from(number))
+}
+
 /// The entry of a value that needs no place aside.
 #[tactic(auto, using(crate::proofs::Traces::passed))]
 fn plain_entry(source: End, value: &Value) -> Option<Entry>
-    ensures { result ≡ plain_entry source value.now }
+    ensures entry { result ≡ plain_entry source value.now }
+    ensures whole { IsWhole value.now }
 {
     match value {
         Value::SFBool(true) => Some(entry_of(source, Kind::True, 0)),
         Value::SFBool(false) => Some(entry_of(source, Kind::False, 0)),
-        Value::SFInt32(number) => Some(entry_of(source, Kind::Whole, i64::from(*number))),
+        Value::SFInt32(number) => Some(whole_entry(source, *number)),
         Value::SFFloat(number) => Some(entry_of(source, Kind::Number, *number)),
         Value::SFTime(time) => Some(entry_of(source, Kind::Time, *time)),
         _ => None,
@@ -169,8 +180,9 @@ impl Model for Trace {
 }
 
 impl Trace {
-    ghost use Rattle.std.specs.Prelude.{◌≡◌, ◌++◌, [], ◌∷◌, OnOk};
-    ghost use Rattle.cascade_core.specs.Trace.{kept_lines, line};
+    ghost use Rattle.std.specs.Prelude.{◌≡◌, ◌++◌, [], ◌∷◌, OnErr, OnOk, length};
+    ghost use Rattle.std.specs.List.{flat_map};
+    ghost use Rattle.cascade_core.specs.Trace.{line};
 
     /// Nothing was sent.
     pub fn new(alloc: Global) -> Trace
@@ -202,10 +214,24 @@ impl Trace {
         Ok(())
     }
 
-    /// The entries of the trace.
-    pub fn kept(&self) -> &Kept
-        ensures { kept_lines result.now ≡ self.now }
+    /// How many lines there are.
+    pub fn len(&self) -> u64
+        ensures { result ≡ length self.now }
     {
-        &self.kept
+        lines_in(&self.kept.entries) as u64
+    }
+
+    /// Writes the lines in order; on a refusal the buffer is as it was.
+    pub fn write<W: WritesLines>(&self, writer: &mut W, out: &mut Vec<u8>) -> Result<(), AllocError>
+        ensures ok { OnOk result
+            (out.new.items ≡ out.old.items ++ flat_map (W.text writer.old) self.now) }
+        ensures err { OnErr result (out.new.items ≡ out.old.items) }
+    {
+        let len = out.len();
+        let written = write_lines(writer, &self.kept.entries, &self.kept.values, out);
+        if written.is_err() {
+            out.truncate(len);
+        }
+        written
     }
 }

@@ -6,7 +6,7 @@
 //! | `tick`, `set` | what a TimeSensor does when the clock ticks, and when an event comes in |
 //! | `timing`, `state`, `cycles` | what it keeps, whether it runs, and its cycles |
 //! | `touch` | what a TouchSensor does with a pointer, and when it is disabled |
-//! | `parts` | both states in plain numbers |
+//! | `parts` | both states in plain numbers, and sets of viewers |
 //! | `numbers`, `touch_numbers`, `laws` | the numbers of the fields, and their names |
 #![tactic(auto)]
 
@@ -22,7 +22,7 @@ mod touch;
 mod touch_numbers;
 
 pub use laws::{numbers_law, touch_numbers_law, two_pointers_law};
-pub use parts::{TimeParts, TouchParts};
+pub use parts::{TimeParts, TouchParts, VIEWERS, number_of, over_of};
 pub use state::TimeState;
 pub use timing::{MAX_TIME, TimeFields, is_interval, is_time};
 pub use touch::TouchState;

@@ -6,7 +6,7 @@ ghost use Rattle.sensor_core.specs.Parts.{number_of, over_of};
 use x3d_values::MAX_VIEWERS;
 
 /// How many viewers have pointers.
-pub(crate) const VIEWERS: usize = MAX_VIEWERS as usize;
+pub const VIEWERS: usize = MAX_VIEWERS as usize;
 
 /// Of a TimeSensor: whether it is active, and its cycle, which is 0 where it isn't.
 #[derive(Clone, Copy, Debug, PartialEq, Eq)]
@@ -26,7 +26,7 @@ pub struct TouchParts {
 }
 
 /// A number whose bit v says whether viewer v is in a set.
-pub(crate) fn number_of(set: &[bool; VIEWERS]) -> u16
+pub fn number_of(set: &[bool; VIEWERS]) -> u16
     ensures { result ≡ number_of set.now }
 {
     let mut number = 0_u16;
@@ -40,7 +40,7 @@ pub(crate) fn number_of(set: &[bool; VIEWERS]) -> u16
 
 /// Which viewers are in the set that a number stands for.
 #[tactic(auto, unfolding(crate::specs::Parts::over_of))]
-pub(crate) fn over_of(number: u16) -> [bool; VIEWERS]
+pub fn over_of(number: u16) -> [bool; VIEWERS]
     ensures { result ≡ over_of number }
 {
     let mut set = [false; VIEWERS];

@@ -11,7 +11,7 @@ use Rattle.share_law.specs.declared.fault.NumberFault.TheVariants as number_faul
 use Rattle.share_law.specs.declared.fault.HostFault.TheVariants.{BadViewer}
 use Rattle.share_law.specs.declared.fault.OfferFault.TheVariants.{ZeroRay, PointRange}
 use Rattle.share_law.specs.declared.fault.TakeFault.TheVariants as take_fault
-use Rattle.share_law.specs.declared.fault.SnapFault.TheVariants.{BootNotNew}
+use Rattle.snapshot_core.specs.declared.fault.SnapFault.TheVariants.{BootNotNew}
 use Rattle.share_law.specs.declared.reply.HostReply.TheVariants as host
 use Rattle.share_law.specs.declared.reply.Taken.TheVariants.{Kept, Applied, Old, Beyond, Noted}
 use Rattle.share_law.specs.declared.step.Step.{Step}

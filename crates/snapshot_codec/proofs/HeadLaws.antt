@@ -18,7 +18,7 @@ use Rattle.snapshot_codec.specs.Head.{applied_codec, progress_codec, front, seal
 use Rattle.snapshot_codec.proofs.ValueLaws.{restricted_exact}
 use Rattle.snapshot_codec.proofs.TraceLaws.{moment_exact}
 
-applied_exact : IsExact applied_codec
+pub applied_exact : IsExact applied_codec
 applied_exact = restricted_exact (λ n. leb n (2 ^ 20)) (number w32) (λ n ok. lt-ltb n (2 ^ 32) (omega (arith, leb-true n (2 ^ 20) ok))) (number_exact w32 wide32)
 
 pub progress_exact : IsExact progress_codec

@@ -10,6 +10,7 @@ mod jobs;
 mod pointers;
 mod reading;
 mod scenes;
+mod snapshots;
 mod texts;
 mod viewing;
 mod works;

@@ -32,7 +32,7 @@ const TURNS: usize = 24;
 const FULL: usize = 4096;
 
 /// A buffer that has room for nothing more.
-fn full(alloc: Global) -> Result<Vec<u8>, Fail> {
+pub(super) fn full(alloc: Global) -> Result<Vec<u8>, Fail> {
     let mut out = Vec::with_capacity(alloc, FULL)?;
     for _ in 0..out.capacity() {
         out.push(b'x')?;

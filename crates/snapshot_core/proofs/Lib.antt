@@ -1,0 +1,7 @@
+mod LineLaws
+mod NodeLaws
+mod NodeLoops
+mod PartSizes
+mod SetLaws
+pub mod ShotLaws
+pub mod WorldLaws

@@ -1,0 +1,132 @@
+-- A world with its boot, as bytes.
+use Rattle.std.proofs.Common.{◌≡◌, ℕ, Bool, true, eqb, List, ◌++◌, length, Option, Some, None, refl, sym, ap, subst, ◌∙◌, append_assoc, eq-eqb}
+use Rattle.std.specs.Prelude.{ℤ}
+use Rattle.std.specs.Int.{w16, w32}
+use Rattle.std.proofs.lemmas.Bool.{eqb-true, lt-ltb, ltb-true}
+use Rattle.byte_codec.specs.Codec.{◌>>?◌, number, number_text}
+use Rattle.byte_codec.specs.Exact.{IsExact}
+use Rattle.byte_codec.proofs.Laws.{some_is, refined_exact, named_exact, pair_exact, number_exact, wide16, wide32}
+use Rattle.x3d_values.specs.declared.node_type.NodeType.{NodeType}
+use Rattle.scene_core.specs.Scene.{SceneView, types_of}
+use Rattle.snapshot_codec.specs.declared.fault.PartFault.{PartFault}
+use Rattle.snapshot_codec.specs.declared.fault.PartFault.TheVariants as faults
+use Rattle.snapshot_codec.specs.declared.head.Progress.{Progress}
+use Rattle.snapshot_codec.specs.Head.{applied_codec, progress_codec}
+use Rattle.snapshot_codec.specs.Reads.{Fails}
+use Rattle.snapshot_codec.specs.Parts.{viewer_set_codec}
+use Rattle.snapshot_codec.specs.Trace.{moment_codec}
+use Rattle.snapshot_codec.proofs.HeadLaws.{applied_exact}
+use Rattle.snapshot_codec.proofs.TraceLaws.{moment_exact}
+use Rattle.sensor_core.specs.Parts.{number_of, over_of}
+use Rattle.cascade_core.specs.declared.world.WorldData.{WorldData}
+use Rattle.snapshot_core.specs.declared.world.WorldParts.{WorldParts}
+use Rattle.snapshot_core.specs.Nodes.{nodes_codec}
+use Rattle.snapshot_core.specs.Shot.{body_codec}
+use Rattle.snapshot_core.specs.WorldCodec.{buttons_codec, lines_codec, lists_in, parts_in, parts_codec, world_codec, world_of, world_with}
+use Rattle.snapshot_core.proofs.LineLaws.{lines_exact}
+use Rattle.snapshot_core.proofs.NodeLaws.{nodes_exact}
+use Rattle.snapshot_core.proofs.SetLaws.{number_back, over_back, over_length, number_small}
+
+-- ---- reading: how far it had come, and then its parts
+
+abbrev progress_of : ℕ × (ℕ × ℤ) → Progress
+progress_of t = record { boot = t.0; applied = t.1.0; last_time = t.1.1 }
+
+-- a value, and one that was read behind it
+abbrev paired : {A B : Type 0} → A → B × List ℕ → Option ((A × B) × List ℕ)
+paired x y = Some ((x, y.0), y.1)
+
+abbrev made : (ℕ × (ℤ × WorldParts)) × List ℕ → Option (WorldData × List ℕ)
+made x = Some (world_of x.0, x.1)
+
+abbrev come : (ℕ × (ℕ × ℤ)) × List ℕ → Option (Progress × List ℕ)
+come x = Some (progress_of x.0, x.1)
+
+abbrev found_with : Progress → WorldParts × List ℕ → Option ((ℕ × WorldData) × List ℕ)
+found_with progress parts = Some ((progress.boot, world_with progress parts.0), parts.1)
+
+module _ (f : List ℕ → Option (ℕ × List ℕ)) (g : List ℕ → Option (ℤ × List ℕ)) (h : List ℕ → Option (WorldParts × List ℕ)) where
+  abbrev behind_time : ℤ × List ℕ → Option ((ℤ × WorldParts) × List ℕ)
+  behind_time t = h t.1 >>? paired t.0
+
+  abbrev behind_applied : ℕ × List ℕ → Option ((ℕ × (ℤ × WorldParts)) × List ℕ)
+  behind_applied a = (g a.1 >>? behind_time) >>? paired a.0
+
+  abbrev behind_boot : ℕ × List ℕ → Option ((ℕ × WorldData) × List ℕ)
+  behind_boot b = ((f b.1 >>? behind_applied) >>? made) >>? paired b.0
+
+  abbrev times : ℕ × List ℕ → Option ((ℕ × ℤ) × List ℕ)
+  times a = g a.1 >>? paired a.0
+
+  abbrev numbers : ℕ × List ℕ → Option ((ℕ × (ℕ × ℤ)) × List ℕ)
+  numbers b = (f b.1 >>? times) >>? paired b.0
+
+  abbrev parts_behind : Progress × List ℕ → Option ((ℕ × WorldData) × List ℕ)
+  parts_behind p = h p.1 >>? found_with p.0
+
+  at_parts : (b a : ℕ) (t : ℤ) (r : Option (WorldParts × List ℕ)) → ((((r >>? paired t) >>? paired a) >>? made) >>? paired b) ≡ (r >>? found_with (progress_of (b, (a, t))))
+  at_parts b a t None = refl
+  at_parts b a t (Some q) = refl
+
+  at_time : (b a : ℕ) (r : Option (ℤ × List ℕ)) → ((((r >>? behind_time) >>? paired a) >>? made) >>? paired b) ≡ ((((r >>? paired a) >>? paired b) >>? come) >>? parts_behind)
+  at_time b a None = refl
+  at_time b a (Some t) = at_parts b a t.0 (h t.1)
+
+  at_applied : (b : ℕ) (r : Option (ℕ × List ℕ)) → (((r >>? behind_applied) >>? made) >>? paired b) ≡ ((((r >>? times) >>? paired b) >>? come) >>? parts_behind)
+  at_applied b None = refl
+  at_applied b (Some a) = at_time b a.0 (g a.1)
+
+  at_boot : (r : Option (ℕ × List ℕ)) → (r >>? behind_boot) ≡ (((r >>? numbers) >>? come) >>? parts_behind)
+  at_boot None = refl
+  at_boot (Some b) = at_applied b.0 (f b.1)
+
+body_read : (scene : SceneView) (bytes : List ℕ) → (body_codec scene).read bytes ≡ (progress_codec.read bytes >>? λ p. (parts_codec (types_of scene)).read p.1 >>? found_with p.0)
+unfolding world_codec progress_codec
+body_read scene bytes = at_boot applied_codec.read moment_codec.read (parts_codec (types_of scene)).read ((number w32).read bytes)
+
+pub no_progress : (scene : SceneView) (bytes : List ℕ) → None ≡ progress_codec.read bytes → (body_codec scene).read bytes ≡ None
+no_progress scene bytes e = body_read scene bytes ∙ rw (sym e) refl
+
+pub no_parts : (scene : SceneView) (bytes : List ℕ) (p : Progress) (rest : List ℕ) (e : PartFault) → Some (p, rest) ≡ progress_codec.read bytes → Fails e ((parts_codec (types_of scene)).read rest) → Fails e ((body_codec scene).read bytes)
+no_parts scene bytes p rest faults.Memory front h = tt
+no_parts scene bytes p rest faults.NotCanonical front h = body_read scene bytes ∙ rw (sym front, h) refl
+
+pub whole_body : (scene : SceneView) (bytes : List ℕ) (p : Progress) (rest : List ℕ) (parts : WorldParts) (after : List ℕ) → Some (p, rest) ≡ progress_codec.read bytes → (parts_codec (types_of scene)).read rest ≡ Some (parts, after) → (body_codec scene).read bytes ≡ Some ((p.boot, world_with p parts), after)
+whole_body scene bytes p rest parts after front h = body_read scene bytes ∙ rw (sym front, h) refl
+
+-- ---- writing
+
+regroup : (old b a t n u l : List ℕ) → (((old ++ (b ++ (a ++ t))) ++ n) ++ u) ++ l ≡ old ++ (b ++ (a ++ (t ++ (n ++ (u ++ l)))))
+regroup old b a t n u l = simp append_assoc refl
+
+pub body_written : (scene : SceneView) (boot : ℕ) (w : WorldData) (old o1 o2 o3 new : List ℕ) → o1 ≡ old ++ progress_codec.write (record { boot = boot; applied = w.applied; last_time = w.last_time })
+    → o2 ≡ o1 ++ (nodes_codec (types_of scene)).write (lists_in w) → o3 ≡ o2 ++ buttons_codec.write w.buttons → new ≡ o3 ++ (lines_codec (types_of scene)).write w.trace
+    → new ≡ old ++ (body_codec scene).write (boot, w)
+unfolding world_codec parts_codec progress_codec
+body_written scene boot w old o1 o2 o3 new p n u l =
+    let types = types_of scene in
+    rw (l, u, n, p) (regroup old (number_text w32 boot) (applied_codec.write w.applied) (moment_codec.write w.last_time) ((nodes_codec types).write (lists_in w)) (buttons_codec.write w.buttons) ((lines_codec types).write w.trace))
+
+-- ---- exactness
+
+buttons_exact : IsExact buttons_codec
+unfolding buttons_codec viewer_set_codec
+buttons_exact = refined_exact (λ n. Some (over_of n)) number_of (λ set. eqb (length set) 16) (number w16) (record {
+  back = λ a b fits e.
+      let P : List Bool → Type 0 = λ set. (number_of set ≡ a) × (eqb (length set) 16 ≡ true) in
+      subst P (some_is (over_of a) b e) (number_back a (ltb-true _ _ fits), eq-eqb _ _ (over_length a));
+  forth = λ b ok.
+      let len : length b ≡ 16 = eqb-true _ _ ok in
+      (lt-ltb _ _ (number_small b len), ap (λ (set : List Bool). Some set) (over_back b len));
+}) (number_exact w16 wide16)
+
+parts_exact : (types : List NodeType) → IsExact (parts_codec types)
+unfolding parts_codec
+parts_exact types = named_exact _ _ _ (λ a. refl) (λ b. refl) (pair_exact _ _ (nodes_exact types) (pair_exact _ _ buttons_exact (lines_exact types)))
+
+pub world_exact : (scene : SceneView) → IsExact (world_codec scene)
+unfolding world_codec
+world_exact scene = named_exact world_of (λ w. (w.applied, (w.last_time, parts_in w))) _ (λ a. refl) (λ b. refl) (pair_exact _ _ applied_exact (pair_exact _ _ moment_exact (parts_exact (types_of scene))))
+
+pub body_exact : (scene : SceneView) → IsExact (body_codec scene)
+body_exact scene = pair_exact _ _ (number_exact w32 wide32) (world_exact scene)

@@ -1,0 +1,104 @@
+-- The state of a scene as bytes (our choice).
+use Rattle.std.specs.Prelude.{ℕ, ◌==◌, ℤ, Bool, List, length, map, Option, Some, None, slice_get, if◌then◌else◌}
+use Rattle.std.specs.Option.{option_and_then}
+use Rattle.byte_codec.specs.Codec.{Codec, refined, named, pair}
+use Rattle.x3d_values.specs.declared.field_type.FieldType.{FieldType}
+use Rattle.x3d_values.specs.declared.node_type.NodeType.{NodeType}
+use Rattle.x3d_values.specs.declared.ranges.TheConstants.{MAX_VIEWERS}
+use Rattle.x3d_values.specs.Access.{sends}
+use Rattle.x3d_values.specs.Tables.{Entry, rows}
+use Rattle.snapshot_codec.specs.declared.head.Progress.{Progress}
+use Rattle.snapshot_codec.specs.declared.trace.TraceEntry.{TraceEntry}
+use Rattle.snapshot_codec.specs.declared.viewers.Viewers.TheVariants.{Sixteen}
+use Rattle.snapshot_codec.specs.Head.{applied_codec}
+use Rattle.snapshot_codec.specs.Parts.{viewer_set_codec}
+use Rattle.snapshot_codec.specs.Trace.{moment_codec, trace_codec, entry_text}
+use Rattle.sensor_core.specs.Parts.{number_of, over_of}
+use Rattle.scene_core.specs.Scene.{SceneView, types_of}
+use Rattle.cascade_core.specs.declared.world.TraceLine.{TraceLine}
+use Rattle.cascade_core.specs.declared.world.WorldData.{WorldData}
+use Rattle.snapshot_core.specs.declared.nodes.NodeLists.{NodeLists}
+use Rattle.snapshot_core.specs.declared.world.WorldParts.{WorldParts}
+use Rattle.snapshot_core.specs.Nodes.{nodes_codec}
+
+-- ---- whose buttons are down
+
+unfoldable pub buttons_codec : Codec (List Bool)
+buttons_codec =
+    refined (λ number. Some (over_of number)) number_of (λ set. length set == MAX_VIEWERS)
+    (viewer_set_codec Sixteen)
+
+-- ---- the trace
+
+-- the type of the events that leave by a field, if any do
+abbrev pub sent_type : Entry → Option FieldType
+sent_type row = if sends row.access then Some row.field_type else None
+
+-- the type of the events that a node sends by its field of that number, if it sends any
+abbrev pub output_type : List NodeType → ℕ → ℕ → Option FieldType
+output_type types node field =
+    option_and_then sent_type
+    (option_and_then (λ node_type. slice_get (rows node_type) field) (slice_get types node))
+
+abbrev pub line_of : TraceEntry → TraceLine
+line_of entry = record {
+  input = entry.sent.input;
+  time = entry.sent.time;
+  source = record { node = entry.sent.node; field = entry.sent.field };
+  value = entry.value;
+}
+
+abbrev pub entry_of : TraceLine → TraceEntry
+entry_of line = record {
+  sent = record {
+    input = line.input;
+    time = line.time;
+    node = line.source.node;
+    field = line.source.field;
+  };
+  value = line.value;
+}
+
+-- input, time, node, field, value
+abbrev pub line_text : TraceLine → List ℕ
+line_text line = entry_text (entry_of line).sent line.value
+
+unfoldable pub lines_codec : List NodeType → Codec (List TraceLine)
+lines_codec types = named (map line_of) (map entry_of) (trace_codec (output_type types))
+
+-- ---- a world
+
+-- nodes, buttons, trace
+unfoldable pub parts_codec : List NodeType → Codec WorldParts
+parts_codec types =
+    named (λ t. record { nodes = t.0; buttons = t.1.0; trace = t.1.1 })
+    (λ p. (p.nodes, (p.buttons, p.trace)))
+    (pair (nodes_codec types) (pair buttons_codec (lines_codec types)))
+
+-- inputs applied, time of the last, and the parts
+abbrev pub world_of : ℕ × (ℤ × WorldParts) → WorldData
+world_of x = record {
+  applied = x.0;
+  last_time = x.1.0;
+  fields = x.1.1.nodes.fields;
+  sensors = x.1.1.nodes.sensors;
+  touches = x.1.1.nodes.touches;
+  buttons = x.1.1.buttons;
+  trace = x.1.1.trace;
+}
+
+abbrev pub lists_in : WorldData → NodeLists
+lists_in w = record { fields = w.fields; sensors = w.sensors; touches = w.touches }
+
+abbrev pub parts_in : WorldData → WorldParts
+parts_in w = record { nodes = lists_in w; buttons = w.buttons; trace = w.trace }
+
+-- the worlds of a scene, by the types of its nodes: those that fit have a snapshot
+unfoldable pub world_codec : SceneView → Codec WorldData
+world_codec scene =
+    named world_of (λ w. (w.applied, (w.last_time, parts_in w)))
+    (pair applied_codec (pair moment_codec (parts_codec (types_of scene))))
+
+-- a world that had come so far, of these parts
+abbrev pub world_with : Progress → WorldParts → WorldData
+world_with progress parts = world_of (progress.applied, (progress.last_time, parts))

@@ -1,0 +1,33 @@
+//! Snapshots: a world as one byte list, and exactly back.
+//!
+//! `save` writes the snapshot of a stage's world, and `load_into` puts the world of a snapshot into
+//! a stage. What a snapshot is, and which worlds have one, is described once, by a codec
+//! (`specs/WorldCodec.antt`, `specs/Shot.antt`); that it is exact both ways is the law
+//! `snapshots_are_exact`.
+//!
+//! | Module | Has |
+//! |---|---|
+//! | `saving`, `loading` | the two calls |
+//! | `fault` | what may be refused |
+//! | `world` | a whole world, with its boot |
+//! | `nodes`, `kept`, `beside` | nodes in turn: their fields, and what stands behind them |
+//! | `buttons`, `lines` | what a world has beside its nodes |
+//! | `exactness` | the law |
+#![tactic(auto)]
+
+mod beside;
+mod buttons;
+mod exactness;
+mod fault;
+mod kept;
+mod lines;
+mod loading;
+mod nodes;
+mod saving;
+mod world;
+
+pub use exactness::snapshots_are_exact;
+pub use fault::{SaveFault, SnapFault};
+pub use loading::{Saved, load_into};
+pub use saving::save;
+pub use snapshot_codec::scene_mark;

@@ -1,0 +1,128 @@
+//! The trace as bytes.
+
+ghost use Rattle.std.specs.Prelude.{◌≡◌, ◌++◌, List, OnOk};
+ghost use Rattle.x3d_values.specs.declared.node_type.NodeType.{NodeType};
+ghost use Rattle.std.specs.Option.{option_map};
+ghost use Rattle.x3d_lists.specs.Extends.{Extends};
+ghost use Rattle.scene_core.specs.Scene.{types_of};
+ghost use Rattle.snapshot_codec.specs.Reads.{Reads};
+ghost use Rattle.snapshot_core.specs.WorldCodec.{sent_type, output_type, lines_codec};
+ghost use Rattle.x3d_values.specs.Tables.{entry};
+
+use cascade_core::{LineHead, Trace, WritesLines};
+use scene_core::{End, Scene};
+use snapshot_codec::{
+    Outputs, PartFault, SentAt, TakesEntries, TraceEntry, push_entry, push_entry_count, trace_of,
+};
+use std::alloc::{AllocError, Global};
+use x3d_values::{Field, FieldType, Value, fields_of};
+
+/// The type of the events that leave by a field, if any do.
+fn sent_type(row: &Field) -> Option<FieldType>
+    ensures { result ≡ sent_type (entry row.now) }
+{
+    if row.access.sends() {
+        Some(row.field_type)
+    } else {
+        None
+    }
+}
+
+/// The outputs of a scene.
+#[derive(Clone, Copy)]
+struct SceneOutputs<'a> {
+    scene: &'a Scene,
+}
+
+impl<'a> Outputs for SceneOutputs<'a> {
+    ghost use Rattle.scene_core.specs.Scene.{types_of};
+    ghost use Rattle.snapshot_core.specs.WorldCodec.{output_type};
+
+    ghost types = { λ outputs. output_type (types_of outputs.scene.now) };
+
+    fn output_type(&self, node: u32, field: u16) -> Option<FieldType> {
+        if node as usize >= self.scene.node_count() {
+            return None;
+        }
+        let row = fields_of(self.scene.node_type(node)).get(field as usize)?;
+        sent_type(row)
+    }
+}
+
+/// A trace that is read.
+#[derive(Drop)]
+struct ReadTrace {
+    alloc: Global,
+    trace: Trace,
+}
+
+impl TakesEntries for ReadTrace {
+    ghost use Rattle.std.specs.Prelude.{map};
+    ghost use Rattle.snapshot_core.specs.WorldCodec.{entry_of};
+
+    ghost entries = { λ read. map entry_of read.trace };
+
+    fn take_entry(&mut self, entry: TraceEntry) -> Result<(), AllocError> {
+        let sent = entry.sent;
+        let source = End {
+            node: sent.node,
+            field: sent.field,
+        };
+        self.trace
+            .push(self.alloc, sent.input, sent.time, source, &entry.value)
+    }
+}
+
+/// The trace of the scene at the front of the bytes, and the bytes behind it.
+pub(crate) fn lines_of<'a>(
+    alloc: Global,
+    scene: &Scene,
+    bytes: &'a [u8],
+) -> Result<(Trace, &'a [u8]), PartFault>
+    ensures { Reads (λ x. (x.0, x.1.now)) result
+        ((lines_codec (types_of scene.now)).read bytes.now) }
+{
+    let outputs = SceneOutputs { scene };
+    let mut read = ReadTrace {
+        alloc,
+        trace: Trace::new(alloc),
+    };
+    let rest = trace_of(alloc, &outputs, bytes, &mut read)?;
+    Ok((read.trace, rest))
+}
+
+/// Writes lines as bytes.
+#[derive(Clone, Copy)]
+struct LineBytes;
+
+impl WritesLines for LineBytes {
+    ghost use Rattle.snapshot_core.specs.WorldCodec.{line_text};
+
+    ghost text = { λ _ line. line_text line };
+
+    fn write_line(
+        &mut self,
+        head: LineHead,
+        value: &Value,
+        out: &mut Vec<u8>,
+    ) -> Result<(), AllocError> {
+        let sent = SentAt {
+            input: head.input,
+            time: head.time,
+            node: head.source.node,
+            field: head.source.field,
+        };
+        push_entry(sent, value, out)
+    }
+}
+
+/// Appends a trace; on a refusal perhaps a part of it.
+pub(crate) fn push_lines(trace: &Trace, out: &mut Vec<u8>) -> Result<(), AllocError>
+    ensures ok { (types : List NodeType)
+        → OnOk result (out.new.items ≡ out.old.items ++ (lines_codec types).write trace.now) }
+    ensures kept { Extends out.old.items out.new.items }
+{
+    push_entry_count(trace.len(), out)?;
+    trace.write(&mut LineBytes, out)?;
+    Ok(())
+}

@@ -1,0 +1,191 @@
+//! The nodes of a world, one after the other.
+
+ghost use Rattle.std.specs.Prelude.{◌≡◌, ◌++◌, [], ◌∷◌, IfOk, OnErr, OnOk, length, min};
+ghost use Rattle.std.specs.Option.{option_map};
+ghost use Rattle.x3d_lists.specs.Extends.{Extends};
+ghost use Rattle.scene_core.specs.Scene.{types_of};
+ghost use Rattle.snapshot_codec.specs.Reads.{Reads};
+ghost use Rattle.snapshot_core.specs.Nodes.{node_of, node_codec, nodes_codec};
+ghost use Rattle.snapshot_core.specs.WorldCodec.{lists_in};
+
+use crate::beside::{Beside, beside_of, push_beside};
+use crate::kept::list_kept;
+use cascade_core::WorldData;
+use scene_core::Scene;
+use sensor_core::{TimeState, TouchState};
+use snapshot_codec::{KeptField, PartFault, kept_fields_of, push_kept_fields};
+use std::alloc::{AllocError, Global};
+use x3d_values::{Fields, Items, NodeType, Value};
+
+/// What one node keeps.
+#[derive(Drop)]
+pub(crate) struct NodeState {
+    pub fields: Fields,
+    pub time: TimeState,
+    pub touch: TouchState,
+}
+
+/// What the nodes of a world keep, by their numbers.
+#[derive(Drop)]
+pub(crate) struct NodeLists {
+    pub fields: Items<Fields>,
+    pub sensors: Items<TimeState>,
+    pub touches: Items<TouchState>,
+}
+
+impl NodeLists {
+    ghost use Rattle.std.specs.Prelude.{◌≡◌, ◌++◌, [], ◌∷◌, OnOk};
+
+    fn new(alloc: Global) -> NodeLists
+        ensures { result ≡ record { fields = []; sensors = []; touches = [] } }
+    {
+        NodeLists {
+            fields: Items::new(alloc),
+            sensors: Items::new(alloc),
+            touches: Items::new(alloc),
+        }
+    }
+
+    /// Puts a node behind those that are there.
+    fn push(&mut self, node: NodeState) -> Result<(), AllocError>
+        ensures { OnOk result (self.new ≡ record {
+          fields = self.old.fields ++ node.fields ∷ [];
+          sensors = self.old.sensors ++ node.time ∷ [];
+          touches = self.old.touches ++ node.touch ∷ [];
+        }) }
+    {
+        self.sensors.push(node.time)?;
+        self.touches.push(node.touch)?;
+        self.fields.push(node.fields)?;
+        Ok(())
+    }
+}
+
+/// A node with the values of its fields, and what stands behind them.
+fn node_with(values: Items<Option<Value>>, beside: Beside) -> NodeState
+    ensures { result ≡ node_of (values, beside) }
+{
+    NodeState {
+        fields: Fields {
+            values,
+            position: beside.position,
+        },
+        time: beside.time,
+        touch: beside.touch,
+    }
+}
+
+/// What a node of this type keeps, at the front of the bytes, and the bytes behind it.
+#[tactic(auto, unfolding(crate::specs::Nodes::node_codec))]
+fn node_of<'a>(
+    alloc: Global,
+    kept: &mut Vec<KeptField>,
+    node_type: NodeType,
+    bytes: &'a [u8],
+) -> Result<(NodeState, &'a [u8]), PartFault>
+    ensures { Reads (λ x. (x.0, x.1.now)) result ((node_codec node_type).read bytes.now) }
+{
+    list_kept(node_type, kept)?;
+    let (values, rest) = kept_fields_of(alloc, kept, bytes)?;
+    let Some((beside, rest)) = beside_of(node_type, rest) else {
+        return Err(PartFault::NotCanonical);
+    };
+    Ok((node_with(values, beside), rest))
+}
+
+/// How many nodes the scene has. No memory holds a scene of 2^32 nodes.
+fn count_of(scene: &Scene) -> Result<u32, AllocError>
+    ensures { IfOk result (λ count. count ≡ length scene.now.nodes) }
+{
+    let Ok(count) = u32::try_from(scene.node_count()) else {
+        return Err(AllocError);
+    };
+    Ok(count)
+}
+
+/// What the nodes of the scene keep, at the front of the bytes, and the bytes behind it.
+#[tactic(auto, unfolding(crate::specs::Nodes::nodes_codec))]
+pub(crate) fn nodes_of<'a>(
+    alloc: Global,
+    scene: &Scene,
+    bytes: &'a [u8],
+) -> Result<(NodeLists, &'a [u8]), PartFault>
+    ensures { Reads (λ x. (x.0, x.1.now)) result
+        ((nodes_codec (types_of scene.now)).read bytes.now) }
+{
+    let count = count_of(scene)?;
+    let mut lists = NodeLists::new(alloc);
+    let mut kept = Vec::new(alloc);
+    let mut rest = bytes;
+    for node in 0..count {
+        let (state, after) = node_of(alloc, &mut kept, scene.node_type(node), rest)?;
+        lists.push(state)?;
+        rest = after;
+    }
+    Ok((lists, rest))
+}
+
+/// Appends what a node of this type keeps; on a refusal perhaps a part of it.
+#[tactic(auto, unfolding(crate::specs::Nodes::node_codec))]
+fn push_node(
+    node_type: NodeType,
+    fields: &Fields,
+    time: TimeState,
+    touch: TouchState,
+    out: &mut Vec<u8>,
+) -> Result<(), AllocError>
+    ensures ok { OnOk result (out.new.items
+        ≡ out.old.items
+        ++ (node_codec node_type).write
+        (record { fields = fields.now; time = time; touch = touch })) }
+    ensures kept { Extends out.old.items out.new.items }
+{
+    push_kept_fields(fields.values.as_slice(), out)?;
+    let beside = Beside {
+        time,
+        touch,
+        position: fields.position,
+    };
+    push_beside(node_type, &beside, out)
+}
+
+/// How many nodes the scene has, as far as the world has all that they keep.
+fn shared_count(scene: &Scene, world: &WorldData) -> Result<u32, AllocError>
+    ensures { IfOk result (λ count. count
+        ≡ min (length scene.now.nodes)
+        (min (length world.now.fields)
+        (min (length world.now.sensors) (length world.now.touches)))) }
+{
+    let count = count_of(scene)? as usize;
+    let sensors = world.sensors.len().min(world.touches.len());
+    let lists = world.fields.as_slice().len().min(sensors);
+    Ok(count.min(lists) as u32)
+}
+
+/// Appends what the nodes of the scene keep; on a refusal perhaps a part of it.
+#[tactic(auto, unfolding(crate::specs::Nodes::nodes_codec))]
+pub(crate) fn push_nodes(
+    scene: &Scene,
+    world: &WorldData,
+    out: &mut Vec<u8>,
+) -> Result<(), AllocError>
+    ensures ok { OnOk result (out.new.items
+        ≡ out.old.items ++ (nodes_codec (types_of scene.now)).write (lists_in world.now)) }
+    ensures kept { Extends out.old.items out.new.items }
+{
+    let count = shared_count(scene, world)?;
+    let fields = world.fields.as_slice();
+    let sensors = world.sensors.as_slice();
+    let touches = world.touches.as_slice();
+    for node in 0..count {
+        let at = node as usize;
+        push_node(
+            scene.node_type(node),
+            &fields[at],
+            sensors[at],
+            touches[at],
+            out,
+        )?;
+    }
+    Ok(())
+}

@@ -1,0 +1,61 @@
+//! The snapshot of a world.
+
+ghost use Rattle.std.specs.Prelude.{◌≡◌, ◌++◌, Err, OnErr, OnOk};
+ghost use Rattle.x3d_lists.specs.Extends.{Extends};
+ghost use Rattle.cascade_core.specs.Held.{IfRunning, IfSpoiled};
+ghost use Rattle.snapshot_core.specs.Shot.{shot};
+
+use crate::fault::SaveFault;
+use crate::world::push_body;
+use cascade_core::{Stage, WorldData};
+use scene_core::Scene;
+use snapshot_codec::{push_digest, push_front};
+use std::alloc::AllocError;
+
+/// The version of the snapshots that are written and read.
+pub(crate) const VERSION: u8 = 1;
+
+/// Appends the snapshot of a world; on a refusal perhaps a part of it.
+fn push_shot(
+    scene: &Scene,
+    world: &WorldData,
+    mark: &[u8; 32],
+    boot: u32,
+    out: &mut Vec<u8>,
+) -> Result<(), AllocError>
+    ensures ok { OnOk result (out.new.items
+        ≡ out.old.items ++ shot mark.now boot scene.now world.now) }
+    ensures kept { Extends out.old.items out.new.items }
+{
+    let from = out.len();
+    push_front(VERSION, mark, out)?;
+    push_body(scene, world, boot, out)?;
+    push_digest(from, out)
+}
+
+/// Appends the snapshot of a stage's world, by the mark of its scene and as a boot. The answer is
+/// `Spoiled` where the stage is, else `Memory` where a growth was refused; the buffer is then as it
+/// was.
+pub fn save<B>(
+    stage: &Stage<B>,
+    mark: &[u8; 32],
+    boot: u32,
+    out: &mut Vec<u8>,
+) -> Result<(), SaveFault>
+    ensures spoiled { IfSpoiled stage.now.held
+        ((result ≡ Err SaveFault.Spoiled) × (out.new.items ≡ out.old.items)) }
+    ensures ok { IfRunning stage.now.held (λ w.
+        OnOk result (out.new.items ≡ out.old.items ++ shot mark.now boot stage.now.scene w)) }
+    ensures err { IfRunning stage.now.held (λ w.
+        OnErr result ((result ≡ Err SaveFault.Memory) × (out.new.items ≡ out.old.items))) }
+{
+    let Some(world) = stage.world() else {
+        return Err(SaveFault::Spoiled);
+    };
+    let len = out.len();
+    if push_shot(stage.scene(), world, mark, boot, out).is_err() {
+        out.truncate(len);
+        return Err(SaveFault::Memory);
+    }
+    Ok(())
+}
