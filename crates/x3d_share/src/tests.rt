@@ -10,5 +10,6 @@ mod jobs;
 mod pointers;
 mod reading;
 mod scenes;
+mod schedules;
 mod texts;
 mod works;
