@@ -5,3 +5,5 @@ pub mod PointLemmas
 pub mod FoundLemmas
 pub mod StepLemmas
 pub mod ScheduleLemmas
+pub mod SpaceLemmas
+pub mod OnlyLemmas

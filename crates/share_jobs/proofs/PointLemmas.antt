@@ -17,13 +17,13 @@ use Rattle.share_jobs.proofs.JobLemmas.{position-cons_no, before-cons_no, before
 
 -- ---- a text is its first word, a space and what stands behind it
 
-after-cons_no : (x : ℕ) (xs : List ℕ) → is_space x ≡ false → after_first is_space (x ∷ xs) ≡ after_first is_space xs
+pub after-cons_no : (x : ℕ) (xs : List ℕ) → is_space x ≡ false → after_first is_space (x ∷ xs) ≡ after_first is_space xs
 after-cons_no x xs e =
     let n : ℕ = position_or_len is_space xs in
     let more : suc n + 1 ≡ suc (n + 1) = omega arith in
     ap (λ k. drop (k + 1) (x ∷ xs)) (position-cons_no is_space x xs e) ∙ (ap (λ k. drop k (x ∷ xs)) more ∙ refl)
 
-after-cons_yes : (x : ℕ) (xs : List ℕ) → is_space x ≡ true → after_first is_space (x ∷ xs) ≡ xs
+pub after-cons_yes : (x : ℕ) (xs : List ℕ) → is_space x ≡ true → after_first is_space (x ∷ xs) ≡ xs
 after-cons_yes x xs e = rw e refl
 
 cut : (text : List ℕ) → 0 < length (after_first is_space text) → text ≡ before_first is_space text ++ (32 ∷ after_first is_space text)

@@ -44,7 +44,7 @@ at_start bytes = record {
   behind = λ k. ap (λ n. behind_lines n bytes) (zero-add k);
 }
 
-of_line : (n : ℕ) (line : List ℕ) (more : List (List ℕ)) → is_scene line ≡ false → steps_of n (line ∷ more) ≡ with_step n (step_of line) (steps_of (suc n) more)
+pub of_line : (n : ℕ) (line : List ℕ) (more : List (List ℕ)) → is_scene line ≡ false → steps_of n (line ∷ more) ≡ with_step n (step_of line) (steps_of (suc n) more)
 of_line n line more fails = rw fails refl
 
 of_text : (n : ℕ) (text : List ℕ) → 0 < length text → is_scene (first_line text) ≡ false

@@ -4,6 +4,7 @@
 mod fault;
 mod inputs;
 mod job;
+mod laws;
 mod line;
 mod point;
 mod schedule;
@@ -13,4 +14,5 @@ mod word;
 pub use fault::JobFault;
 pub use inputs::Inputs;
 pub use job::{Steps, job_of};
+pub use laws::lines_are_one_step;
 pub use schedule::{Schedule, schedule_of};

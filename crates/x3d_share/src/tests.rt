@@ -10,6 +10,7 @@ mod pointers;
 mod reading;
 mod scenes;
 mod snapshots;
+mod schedules;
 mod texts;
 mod viewing;
 mod works;

@@ -1,0 +1,8 @@
+use Rattle.share_jobs.proofs.OnlyLemmas.{one_step, only}
+use Rattle.share_jobs.proofs.laws.lines_are_one_step.Goals as goal
+
+pub returns-clause-step : goal.returns-clause-step
+returns-clause-step c = one_step
+
+pub returns-clause-schedule : goal.returns-clause-schedule
+returns-clause-schedule c = only
