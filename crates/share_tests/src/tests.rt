@@ -1,3 +1,7 @@
 //! The tests.
 
+mod given;
+mod hosting;
+mod snapshots;
 mod turns;
+mod viewing;

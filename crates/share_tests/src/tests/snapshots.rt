@@ -1,6 +1,6 @@
 //! Snapshots of stages: their sizes, damaged ones, a world that goes back, and refused growths.
 
-use super::growths::{full, loaded};
+use super::given::{full, loaded};
 use cascade_core::Stage;
 use snapshot_core::{SaveFault, Saved, SnapFault, load_into, save, scene_mark};
 use std::alloc::Global;
