@@ -8,3 +8,4 @@ pub mod Places
 pub mod Drains
 pub mod Nexts
 pub mod Rounds
+pub mod Rewinds

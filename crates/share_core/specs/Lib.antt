@@ -4,3 +4,4 @@ pub mod Waiting
 pub mod Steps
 pub mod Viewer
 pub mod Ahead
+pub mod Rewinds

@@ -1,13 +1,12 @@
 //! A viewer of a shared world: it applies the host's inputs in turn, and offers what it points at.
 
-ghost use Rattle.std.specs.Prelude.{◌≡◌};
-
 use crate::ahead::take_input;
 use crate::waiting::Waiting;
 use crate::window::Window;
 use cascade_core::{Stage, TextFault};
 use share_law::{OfferFault, TakeFault, Taken};
 use share_wire::{Ack, Ask, Body, Message, Packet, decode, encode};
+use snapshot_core::{SaveFault, SnapFault, load_into, save};
 use std::marker::Model;
 use x3d_values::{Point, Stamped};
 
@@ -22,7 +21,7 @@ pub struct Viewer<B> {
 }
 
 impl<B> Model for Viewer<B> {
-    ghost use Rattle.std.specs.Prelude.{◌≤◌, ◌+◌, ◌^◌};
+    ghost use Rattle.std.specs.Prelude.{◌≡◌, ◌≤◌, ◌+◌, ◌^◌, length};
     ghost use Rattle.cascade_core.specs.Held.{applied_of};
     ghost use Rattle.share_core.specs.Ahead.{InPlace};
     ghost use Rattle.share_core.specs.Viewer.{ViewerView, view_of};
@@ -39,11 +38,12 @@ impl<B> Model for Viewer<B> {
     } };
 
     ghost invariant = { λ v. (applied_of v.stage.held ≤ 2 ^ 20)
-        × InPlace (applied_of v.stage.held + 1) v.window };
+        × InPlace (applied_of v.stage.held + 1) v.window × (length v.mark ≡ 32) };
 }
 
 impl<B> Viewer<B> {
-    ghost use Rattle.std.specs.Prelude.{◌≡◌, ◌++◌, false, Err, IfErr, IsTrue, OnErr, OnOk, length};
+    ghost use Rattle.std.specs.Prelude.{◌≡◌, ◌<◌, ◌++◌, ◌^◌, false, Err, IfErr, IsTrue};
+    ghost use Rattle.std.specs.Prelude.{OnErr, OnOk, length};
     ghost use Rattle.std.specs.Option.{option_map};
     ghost use Rattle.x3d_values.specs.Ranges.{is_viewer};
     ghost use Rattle.share_wire.specs.Datagram.{datagram};
@@ -53,11 +53,15 @@ impl<B> Viewer<B> {
     ghost use Rattle.cascade_core.specs.Apply.{opening};
     ghost use Rattle.cascade_core.specs.Held.{Running};
     ghost use Rattle.cascade_core.specs.Texts.{scene_text, trace_text};
-    ghost use Rattle.share_law.specs.Calls.{IsTake, IsTakeOf};
-    ghost use Rattle.share_law.specs.Viewer.{applied_in, begun, viewer_ask, viewer_offer};
+    ghost use Rattle.cascade_core.specs.declared.world.WorldData.{WorldData};
+    ghost use Rattle.share_law.specs.Calls.{IsRewind, IsTake, IsTakeOf};
+    ghost use Rattle.share_law.specs.Viewer.{Shot, applied_in, begun, viewer_ask, viewer_offer};
     ghost use Rattle.share_law.specs.Viewer.{viewer_resend};
     ghost use Rattle.share_core.specs.Viewer.{IfRunning, IfSpoiled, is_spoiled, machine_of};
     ghost use Rattle.share_core.specs.Viewer.{with_state};
+    ghost use Rattle.share_core.specs.Rewinds.{IsRewound};
+    ghost use Rattle.snapshot_core.specs.Shot.{shot};
+    ghost use Rattle.snapshot_core.specs.WorldCodec.{world_codec};
 
     /// A viewer of the scene with this mark, as this boot of viewer number `who`, which begins with
     /// a stage that has had no input. It takes no memory. `is_viewer` and `is_ordinal` are the
@@ -233,6 +237,52 @@ impl<B> Viewer<B> {
         ensures err { OnErr result (out.new.items ≡ out.old.items) }
     {
         self.stage.trace_text(out)
+    }
+
+    /// Appends a snapshot of the world, as this boot. The answer is `Spoiled` where memory was
+    /// refused before, else `Memory` where a growth was refused; the buffer is then as it was.
+    pub fn snapshot(&self, out: &mut Vec<u8>) -> Result<(), SaveFault>
+        ensures spoiled { IfSpoiled self.now.state.view
+            ((result ≡ Err SaveFault.Spoiled) × (out.new.items ≡ out.old.items)) }
+        ensures ok { IfRunning self.now.state.view (λ w. OnOk result (out.new.items
+            ≡ out.old.items ++ shot self.now.mark self.now.state.boot self.now.scene w)) }
+        ensures err { IfRunning self.now.state.view (λ w. OnErr result
+            ((result ≡ Err SaveFault.Memory) × (out.new.items ≡ out.old.items))) }
+    {
+        save(&self.stage, &self.mark, self.offers.boot(), out)
+    }
+
+    /// Begins again in the world of a snapshot, as another boot, also where memory was refused
+    /// before, and gives how many inputs that world has had. No input is kept and no offer waits
+    /// then, and offers are numbered from 1.
+    ///
+    /// Refused in this order: `BootNotNew`, where `boot` isn't above the viewer's own; then as by
+    /// `load_into`, also `BootNotNew` where it isn't above the snapshot's. A refusal changes
+    /// nothing, but `Memory` spoils the viewer with the inputs that it had applied.
+    pub fn rewind(&mut self, bytes: &[u8], boot: u32) -> Result<u32, SnapFault>
+        ensures others { self.new ≡ with_state self.old self.new.state }
+        ensures step { IsRewound self.old boot bytes.now result self.new.state }
+        // By the snapshot of a world that fits one it is the law's step.
+        ensures law { (from : Shot WorldData) → from.boot < 2 ^ 32
+            → IsTrue ((world_codec self.old.scene).fits from.state)
+            → bytes.now ≡ shot self.old.mark from.boot self.old.scene from.state
+            → IsRewind (machine_of self.old) self.old.state from boot result self.new.state }
+    {
+        self.begin_again(bytes, boot)
+    }
+
+    fn begin_again(&mut self, bytes: &[u8], boot: u32) -> Result<u32, SnapFault>
+        ensures others { self.new ≡ with_state self.old self.new.state }
+        ensures step { IsRewound self.old boot bytes.now result self.new.state }
+        ensures mark { length self.old.mark ≡ 32 }
+    {
+        if boot <= self.offers.boot() {
+            return Err(SnapFault::BootNotNew);
+        }
+        let saved = load_into(&mut self.stage, &self.mark, boot, bytes)?;
+        self.window = Window::new();
+        self.offers = Waiting::new(self.offers.who(), boot);
+        Ok(saved.applied)
     }
 
     /// Ends the viewer with its stage.

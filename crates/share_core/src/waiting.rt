@@ -103,6 +103,13 @@ impl Waiting {
         self.who
     }
 
+    /// The boot whose offers these are.
+    pub(crate) fn boot(&self) -> u32
+        ensures { result ≡ self.now.boot }
+    {
+        self.boot
+    }
+
     /// How many offers wait: at most 64.
     pub(crate) fn len(&self) -> u32
         ensures value { result ≡ length self.now.waiting }

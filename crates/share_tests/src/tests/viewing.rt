@@ -1,4 +1,5 @@
-//! A viewer by hand: inputs in any order, offers, rounds with a host, and memory that is refused.
+//! A viewer by hand: inputs in any order, offers, rounds with a host, snapshots, and memory that is
+//! refused.
 
 ghost use Rattle.std.specs.Prelude.{◌≡◌, IfOk};
 ghost use Rattle.cascade_core.specs.Apply.{opening};
@@ -6,7 +7,7 @@ ghost use Rattle.cascade_core.specs.Held.{Running};
 
 use cascade_core::{Scripts, Stage, TextFault};
 use share_core::{Host, Viewer};
-use share_law::{HostReply, OfferFault, TakeFault, Taken};
+use share_law::{HostReply, OfferFault, SaveFault, SnapFault, TakeFault, Taken};
 use share_program::open_scene;
 use share_wire::{Ack, Ask, Body, Message, Offer, Packet, WireFault, decode, encode};
 use std::alloc::Global;
@@ -285,6 +286,63 @@ fn as_many_offers_wait_as_there_are_places(rt: HostRuntime) -> Result<(), Fail> 
     Ok(())
 }
 
+fn snapshot_of(alloc: Global, viewer: &Viewer<()>) -> Result<Vec<u8>, SaveFault> {
+    let mut out = Vec::new(alloc);
+    viewer.snapshot(&mut out)?;
+    Ok(out)
+}
+
+/// The trace and then the scene.
+fn texts_of(alloc: Global, viewer: &Viewer<()>) -> Result<Vec<u8>, TextFault> {
+    let mut out = Vec::new(alloc);
+    viewer.trace_text(&mut out)?;
+    viewer.scene_text(&mut out)?;
+    Ok(out)
+}
+
+/// The clocks of these numbers are applied as they come.
+fn apply_clocks(rt: &impl Abort, viewer: &mut Viewer<()>, first: u32, last: u32) {
+    for number in first..=last {
+        assert!(rt; take(viewer, clock(rt, number)) == Ok(Taken::Applied(1)));
+    }
+}
+
+/// A viewer that has applied 5 inputs begins again from its snapshot at 2, as boot 2: an input that
+/// it kept and an offer that waited are gone.
+fn begin_again(rt: &impl Abort, viewer: &mut Viewer<()>, snapshot: &[u8]) {
+    assert!(rt; take(viewer, clock(rt, 7)) == Ok(Taken::Kept));
+    assert!(rt; viewer.offer(point(ORIGIN, DIRECTION)) == Ok(1));
+    assert!(rt; viewer.rewind(snapshot, 1) == Err(SnapFault::BootNotNew));
+    assert!(rt; viewer.rewind(b"X3DW", 2) == Err(SnapFault::Short));
+    assert!(rt; viewer.applied() == 5 && viewer.waiting() == 1);
+    assert!(rt; viewer.rewind(snapshot, 2) == Ok(2));
+    assert!(rt; viewer.applied() == 2 && viewer.waiting() == 0);
+    assert!(rt; viewer.rewind(snapshot, 2) == Err(SnapFault::BootNotNew));
+    assert!(rt; viewer.offer(point(ORIGIN, DIRECTION)) == Ok(1));
+}
+
+/// Whether it then writes what it wrote before it began again.
+fn writes_again(rt: &impl Abort, alloc: Global, viewer: &mut Viewer<()>) -> Result<bool, Fail> {
+    apply_clocks(rt, viewer, 1, 2);
+    let snapshot = snapshot_of(alloc, viewer)?;
+    apply_clocks(rt, viewer, 3, 5);
+    let before = texts_of(alloc, viewer)?;
+    begin_again(rt, viewer, snapshot.as_slice());
+    apply_clocks(rt, viewer, 3, 5);
+    let after = texts_of(alloc, viewer)?;
+    apply_clocks(rt, viewer, 6, 6);
+    Ok(before.as_slice() == after.as_slice())
+}
+
+#[test]
+fn rewound(rt: HostRuntime) -> Result<(), Fail> {
+    let mut viewer = viewer_of(rt.alloc(), CLOCKS)?;
+    let same = writes_again(&rt, rt.alloc(), &mut viewer);
+    viewer.close();
+    assert!(rt; same?);
+    Ok(())
+}
+
 /// Applies clocks until memory is refused, and gives how many were applied.
 fn applied_before(rt: &impl Abort, viewer: &mut Viewer<()>) -> u32 {
     for number in 1..=2_000 {
@@ -297,7 +355,7 @@ fn applied_before(rt: &impl Abort, viewer: &mut Viewer<()>) -> u32 {
     panic!(rt; "no growth was refused")
 }
 
-/// A spoiled viewer answers no call but `applied` and `ask`.
+/// A spoiled viewer takes and offers nothing, and asks for what it lacks.
 fn is_spoiled(rt: &impl Abort, viewer: &mut Viewer<()>, applied: u32) {
     assert!(rt; viewer.spoiled() && viewer.applied() == applied);
     assert!(rt; viewer.take(b"X3DS") == Err(TakeFault::Spoiled));
@@ -313,13 +371,31 @@ fn is_spoiled(rt: &impl Abort, viewer: &mut Viewer<()>, applied: u32) {
     assert!(rt; decode(viewer.ask().as_slice()) == Ok(wanted));
 }
 
+/// A snapshot of the opening world brings it back.
+fn comes_back(rt: &impl Abort, viewer: &mut Viewer<()>, snapshot: &[u8]) {
+    assert!(rt; viewer.rewind(snapshot, 1) == Err(SnapFault::BootNotNew));
+    assert!(rt; viewer.spoiled());
+    assert!(rt; viewer.rewind(snapshot, 2) == Ok(0));
+    assert!(rt; !viewer.spoiled() && viewer.applied() == 0);
+    apply_clocks(rt, viewer, 1, 2);
+}
+
+/// Memory is used up under a viewer, which is spoiled and comes back.
+fn spoil(rt: &impl Abort, alloc: Global, viewer: &mut Viewer<()>) -> Result<(), Fail> {
+    let snapshot = snapshot_of(alloc, viewer)?;
+    let used_up = UsedUp::new(alloc)?;
+    let applied = applied_before(rt, viewer);
+    drop(used_up);
+    is_spoiled(rt, viewer, applied);
+    assert!(rt; snapshot_of(alloc, viewer).err() == Some(SaveFault::Spoiled));
+    comes_back(rt, viewer, snapshot.as_slice());
+    Ok(())
+}
+
 #[test]
 fn a_refused_growth_spoils(rt: HostRuntime) -> Result<(), Fail> {
     let mut viewer = viewer_of(rt.alloc(), CLOCKS)?;
-    let used_up = UsedUp::new(rt.alloc())?;
-    let applied = applied_before(&rt, &mut viewer);
-    drop(used_up);
-    is_spoiled(&rt, &mut viewer, applied);
+    let done = spoil(&rt, rt.alloc(), &mut viewer);
     viewer.close();
-    Ok(())
+    done
 }
