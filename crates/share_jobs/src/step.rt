@@ -78,7 +78,7 @@ fn rewind_step(text: &[u8]) -> Option<Step>
 }
 
 /// `D ox oy oz dx dy dz`: any numerals make a point.
-#[tactic(auto, using(crate::proofs::Passed::passed), unfolding(crate::specs::Schedule::point_of, crate::specs::Points::number_below))]
+#[tactic(auto, unfolding(crate::specs::Schedule::point_of))]
 fn point_of(text: &[u8]) -> Option<Point>
     ensures { result ≡ spec.point_of text.now }
 {
