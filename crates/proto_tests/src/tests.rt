@@ -1,6 +1,6 @@
 //! Prototypes put in, by what stands for each scene, and what refuses one.
 
-use classic_text::read;
+use classic_text::{Declaration, read};
 use flat_document::{ExpandFault, ExpandFaultKind, Flat, FlatEnd, FlatField, FlatNode, FlatRoute};
 use proto_walk::expand;
 use std::alloc::{AllocError, Global};
@@ -19,7 +19,15 @@ fn push_field(out: &mut Vec<u8>, field: &FlatField) -> Result<(), AllocError> {
     out.extend_from_slice(itoa::Buffer::new().format(field.line).as_bytes())
 }
 
-/// The name of a node, its type and the fields that hold a value.
+/// The name of a declared field and the line of its declaration.
+fn push_declaration(out: &mut Vec<u8>, declaration: &Declaration<u32>) -> Result<(), AllocError> {
+    out.extend_from_slice(b" +")?;
+    out.extend_from_slice(declaration.name.as_bytes())?;
+    out.push(b'@')?;
+    out.extend_from_slice(itoa::Buffer::new().format(declaration.line).as_bytes())
+}
+
+/// The name of a node, its type, the fields that hold a value, and the fields that it declares.
 fn push_node(out: &mut Vec<u8>, node: &FlatNode) -> Result<(), AllocError> {
     if let Some(name) = &node.name {
         out.extend_from_slice(name.as_bytes())?;
@@ -28,6 +36,9 @@ fn push_node(out: &mut Vec<u8>, node: &FlatNode) -> Result<(), AllocError> {
     out.extend_from_slice(node.node_type.name().as_bytes())?;
     for field in node.fields.as_slice() {
         push_field(out, field)?;
+    }
+    for declaration in node.interface.as_slice() {
+        push_declaration(out, declaration)?;
     }
     out.extend_from_slice(b", ")
 }
@@ -102,7 +113,7 @@ fn is_outlined(rt: &impl Abort, alloc: Global, scene: &str, wanted: &str) -> Res
 
 /// Scenes, each with its nodes (name, type, numbers of fields with the line of each), roots and
 /// helpers.
-const FLATS: [(&str, &str); 11] = [
+const FLATS: [(&str, &str); 14] = [
     (
         "Shape { geometry Box {} } Group {}",
         "Box, Shape 4@2, Group, roots 1 2 helpers",
@@ -159,6 +170,21 @@ PROTO P [ initializeOnly SFNode n NULL ] { Q { n IS n } } P { n Nothing {} }",
         "PROTO P [] { Group {} } PROTO Q [] { PROTO R [] { P {} } PROTO P [] { Box {} } R {} P {} }
 Q {}",
         "Group, Box, roots 0 helpers 1",
+    ),
+    // declared fields are numbered behind those of the type, and hold their values there
+    (
+        "Script { url \"a\" inputOnly SFBool x initializeOnly SFInt32 n 5
+inputOutput SFNode c Box {} outputOnly SFTime t }",
+        "Box, Script 1@2 5@2 6@3 +x@2 +n@2 +c@3 +t@3, roots 1 helpers",
+    ),
+    ("Group {}\nScript {}", "Group, Script, roots 0 1 helpers"),
+    // an IS of a declaration gives a value, or an end
+    (
+        "PROTO P [ initializeOnly SFInt32 a 1 inputOnly SFBool b outputOnly SFBool c ] {
+DEF S Script { initializeOnly SFInt32 n IS a inputOutput SFBool m IS b outputOnly SFBool o IS c } }
+DEF X P { a 2 } DEF T BooleanTrigger {} ROUTE T.triggerTrue TO X.b ROUTE X.c TO T.x",
+        "X Script 4@3 +n@3 +m@3 +o@3, T BooleanTrigger, roots 0 1 helpers; \
+4 1.triggerTrue TO 0.m; 4 0.o TO 1.x",
     ),
     // a PROTO between braces is in sight behind them
     (
@@ -268,7 +294,7 @@ DEF X I {} DEF Y P {}
 ";
 
 /// Scenes, each with its fault and the fault's line.
-const FAULTS: [(&str, &str); 21] = [
+const FAULTS: [(&str, &str); 28] = [
     ("Nothing {}", "UnknownNode 2"),
     ("Box {\ncolour 1 }", "UnknownField 3"),
     ("PROTO P [] { Group {} }\nP { a 1 }", "UnknownField 3"),
@@ -316,10 +342,39 @@ const FAULTS: [(&str, &str); 21] = [
         "FieldTwice 4",
     ),
     (
-        "PROTO P [ initializeOnly SFNode n Group {\nchildren IS n } ] { Shape { geometry IS n } }\nP {}",
+        "PROTO P [ initializeOnly SFNode n Group {\nchildren IS n } ] {
+Shape { geometry IS n } }\nP {}",
         "BadIs 3",
     ),
-    ("Group {}\nScript {}", "NotYet 3"),
+    // a declared field has a name of its own, which is known behind the declaration
+    (
+        "Script { inputOnly SFBool a\noutputOnly SFBool a }",
+        "FieldTwice 3",
+    ),
+    ("Script {\ninputOnly SFBool url }", "FieldTwice 3"),
+    (
+        "Script { initializeOnly SFBool a TRUE\na TRUE }",
+        "FieldTwice 3",
+    ),
+    (
+        "Script {\na TRUE initializeOnly SFBool a TRUE }",
+        "UnknownField 3",
+    ),
+    ("Script {\ninitializeOnly SFBool a IS b }", "BadIs 3"),
+    (
+        "PROTO P [ inputOnly SFBool b ] { Script {\ninputOnly SFBool a IS c } }\nP {}",
+        "BadIs 3",
+    ),
+    (
+        "PROTO P [ inputOnly SFBool b ] { Script {\noutputOnly SFBool a IS b } }\nP {}",
+        "BadIs 3",
+    ),
+    // BadIs before FieldTwice
+    (
+        "PROTO P [ inputOnly SFBool b ] {
+Script { inputOnly SFBool a\noutputOnly SFBool a IS b } }\nP {}",
+        "BadIs 4",
+    ),
 ];
 
 #[test]

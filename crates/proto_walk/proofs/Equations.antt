@@ -1,5 +1,6 @@
 -- What each part of a tree does, by what it holds.
-use Rattle.std.proofs.Common.{◌≡◌, ℕ, List, [], ◌∷◌, Option, Some, None, Ok, Err, map, length, ◌-◌, if◌then◌else◌, refl, ap, sym, ◌∙◌}
+use Rattle.std.proofs.Common.{◌≡◌, ℕ, List, [], ◌∷◌, ◌++◌, Option, Some, None, Ok, Err, map, length, ◌-◌, if◌then◌else◌, refl, ap, sym, ◌∙◌}
+use Rattle.std.specs.List.{flat_map}
 use Rattle.std.proofs.Math.Path.{fun_ext}
 use Rattle.std.proofs.lemmas.List.{length-map}
 use Rattle.std.proofs.lemmas.Grind.{common_steps}
@@ -18,15 +19,15 @@ use Rattle.classic_tree.specs.declared.tree.Statement.{Statement, fold-roll-Stat
 use Rattle.classic_tree.specs.declared.tree.Statement.TheVariants as statement
 use Rattle.classic_tree.specs.declared.tree.ProtoText.{ProtoText, out-ProtoText, fold_out-ProtoText}
 use Rattle.classic_tree.proofs.Mapped.{given_mapped, interface_mapped}
-use Rattle.flat_document.specs.Fault.{fault}
-use Rattle.flat_document.specs.declared.fault.ExpandFaultKind.TheVariants.{UnknownField, FieldTwice, NotYet}
+use Rattle.flat_document.specs.declared.fault.ExpandFaultKind.TheVariants.{UnknownField, FieldTwice}
 use Rattle.proto_walk.specs.declared.held.GivenField.{GivenField}
 use Rattle.proto_walk.specs.declared.held.KnownField.{KnownField}
-use Rattle.proto_walk.specs.Fields.{signature, signatures}
+use Rattle.proto_walk.specs.Fields.{Signature, signature, signatures}
 use Rattle.proto_walk.specs.Machine.{Walk, Machine, Outcome, and_then, ◌>>=◌, pure, refuse, through, keep, use_node}
 use Rattle.proto_walk.specs.Limits.{count_items}
 use Rattle.proto_walk.specs.Routes.{wire}
-use Rattle.proto_walk.specs.Meaning.{Owner, Place, is_wanted, add_default_value, add_default, add_defaults, OnFields, admits, is_taken, has_field, with_field, add_number, add_new, add_known, add_value, add_given, full_node, declare, in_body, item_step, node_step, statement_step, proto_step, item_does, node_does, statement_does, proto_does, items_do}
+use Rattle.proto_walk.specs.Meaning.{item as part}
+use Rattle.proto_walk.specs.Meaning.{Owner, Place, Item, item_declares, declared_in, add_declaration, with_place, known, is_wanted, add_default_value, add_default, add_defaults, admits, is_taken, has_field, with_field, add_number, add_new, add_known, add_value, add_given, full_node, declare, in_body, item_step, node_step, statement_step, proto_step, item_does, node_does, statement_does, proto_does, items_do}
 
 pub and_then-congr : {A B : Type 0} (f g : A → Machine B) → ((a : A) (w : Walk) → f a w ≡ g a w) → (o : Outcome A) → and_then o f ≡ and_then o g
 and_then-congr f g h (Ok p) = h p.0 p.1
@@ -76,7 +77,7 @@ given_map : (f : NodeText → Machine ℕ) (line : ℕ) (name : List ℕ) (owner
     add_given (λ (m : Machine ℕ). m) line name (given_mapped f g) owner fields ≡ add_given f line name g owner fields
 unfolding add_value
 given_map f line name owner fields given.Nothing = refl
-given_map f line name owner fields (given.Value v) = row_map f line name owner fields (owner.fields name) v
+given_map f line name owner fields (given.Value v) = row_map f line name owner fields (known owner fields name) v
 given_map f line name owner fields (given.Is other) = refl
 
 -- ---- prototypes
@@ -119,7 +120,7 @@ defaults_of ds place = add_defaults node_does place (length ds) ds
 
 pub proto_does_is : (p : ProtoText) (w : Walk) → proto_does p w ≡ declare (out-ProtoText p).line (out-ProtoText p).name (signatures (out-ProtoText p).interface) (defaults_of (out-ProtoText p).interface) (map statement_does (out-ProtoText p).body) w
 unfolding proto_step
-proto_does_is p w = ap (λ (m : Machine (Unit {0})). m w) (fold_out-ProtoText OnFields (Machine ℕ) (Machine (Option ℕ)) (Machine (Unit {0})) item_step node_step statement_step proto_step p)
+proto_does_is p w = ap (λ (m : Machine (Unit {0})). m w) (fold_out-ProtoText Item (Machine ℕ) (Machine (Option ℕ)) (Machine (Unit {0})) item_step node_step statement_step proto_step p)
     ∙ ap (λ interface. declare (out-ProtoText p).line (out-ProtoText p).name interface (λ place. add_defaults (λ (m : Machine ℕ). m) place (length (map (interface_mapped node_does) (out-ProtoText p).interface)) (map (interface_mapped node_does) (out-ProtoText p).interface)) (map statement_does (out-ProtoText p).body) w) (signatures_map node_does (out-ProtoText p).interface)
     ∙ ap (λ defaults. declare (out-ProtoText p).line (out-ProtoText p).name (signatures (out-ProtoText p).interface) defaults (map statement_does (out-ProtoText p).body) w)
     (fun_ext (λ place. fun_ext (λ fields. fun_ext (λ v.
@@ -131,55 +132,98 @@ proto_does_is p w = ap (λ (m : Machine (Unit {0})). m w) (fold_out-ProtoText On
 pub item_does-field : (line : ℕ) (name : List ℕ) (g : Given NodeText) (o : Owner) (fields : List GivenField) (w : Walk) → item_does (item.Field line name g) o fields w ≡ add_given node_does line name g o fields w
 unfolding item_step
 item_does-field line name g o fields w = ap (λ whole. item_does whole o fields w) (sym (item.rolls-Field line name g))
-    ∙ ap (λ (m : OnFields). m o fields w) (fold-roll-BodyItem OnFields (Machine ℕ) (Machine (Option ℕ)) (Machine (Unit {0})) item_step node_step statement_step proto_step (BodyItem-F.Field line name g))
+    ∙ ap (λ (m : Item). m.does o fields w) (fold-roll-BodyItem Item (Machine ℕ) (Machine (Option ℕ)) (Machine (Unit {0})) item_step node_step statement_step proto_step (BodyItem-F.Field line name g))
     ∙ ap (λ (m : Machine (List GivenField)). m w) (given_map node_does line name o fields g)
 
-pub item_does-declaration : (inner : Declaration NodeText) (o : Owner) (fields : List GivenField) (w : Walk) → item_does (item.Declaration inner) o fields w ≡ Err (fault NotYet inner.line)
+declaration_map : (f : NodeText → Machine ℕ) (s : Signature) (g : Given NodeText) (o : Owner) (fields : List GivenField) →
+    add_declaration (λ (m : Machine ℕ). m) s (given_mapped f g) o fields ≡ add_declaration f s g o fields
+declaration_map f s given.Nothing o fields = refl
+declaration_map f s (given.Value value.Null) o fields = refl
+declaration_map f s (given.Value (value.Truth truth)) o fields = refl
+declaration_map f s (given.Value (value.String text)) o fields = refl
+declaration_map f s (given.Value (value.Numbers numbers)) o fields = refl
+declaration_map f s (given.Value (value.Node inner)) o fields = refl
+declaration_map f s (given.Value value.EmptyList) o fields = refl
+declaration_map f s (given.Value (value.TruthList truths)) o fields = refl
+declaration_map f s (given.Value (value.StringList texts)) o fields = refl
+declaration_map f s (given.Value (value.NumberList numbers)) o fields = refl
+declaration_map f s (given.Value (value.NodeList nodes)) o fields = ap (λ (k : ℕ → Machine (List GivenField)). with_place s.line o fields s.name k) (fun_ext (λ n. list_map f s.line n nodes fields))
+declaration_map f s (given.Is other) o fields = refl
+
+pub item_does-declaration : (d : Declaration NodeText) (o : Owner) (fields : List GivenField) (w : Walk) → item_does (item.Declaration d) o fields w ≡ add_declaration node_does (signature d) d.given o fields w
 unfolding item_step
-item_does-declaration inner o fields w = ap (λ whole. item_does whole o fields w) (sym (item.rolls-Declaration inner))
-    ∙ ap (λ (m : OnFields). m o fields w) (fold-roll-BodyItem OnFields (Machine ℕ) (Machine (Option ℕ)) (Machine (Unit {0})) item_step node_step statement_step proto_step (BodyItem-F.Declaration inner))
+item_does-declaration d o fields w = ap (λ whole. item_does whole o fields w) (sym (item.rolls-Declaration d))
+    ∙ ap (λ (m : Item). m.does o fields w) (fold-roll-BodyItem Item (Machine ℕ) (Machine (Option ℕ)) (Machine (Unit {0})) item_step node_step statement_step proto_step (BodyItem-F.Declaration d))
+    ∙ ap (λ (m : Machine (List GivenField)). m w) (declaration_map node_does (signature d) d.given o fields)
 
 pub item_does-route : (route : RouteText) (o : Owner) (fields : List GivenField) (w : Walk) → item_does (item.Route route) o fields w ≡ and_then (wire route w) (λ _. pure fields)
 unfolding item_step
 item_does-route route o fields w = ap (λ whole. item_does whole o fields w) (sym (item.rolls-Route route))
-    ∙ ap (λ (m : OnFields). m o fields w) (fold-roll-BodyItem OnFields (Machine ℕ) (Machine (Option ℕ)) (Machine (Unit {0})) item_step node_step statement_step proto_step (BodyItem-F.BodyItem::Route route))
+    ∙ ap (λ (m : Item). m.does o fields w) (fold-roll-BodyItem Item (Machine ℕ) (Machine (Option ℕ)) (Machine (Unit {0})) item_step node_step statement_step proto_step (BodyItem-F.BodyItem::Route route))
 
 pub item_does-proto : (inner : ProtoText) (o : Owner) (fields : List GivenField) (w : Walk) → item_does (item.Proto inner) o fields w ≡ and_then (proto_does inner w) (λ _. pure fields)
 unfolding item_step
 item_does-proto inner o fields w = ap (λ whole. item_does whole o fields w) (sym (item.rolls-Proto inner))
-    ∙ ap (λ (m : OnFields). m o fields w) (fold-roll-BodyItem OnFields (Machine ℕ) (Machine (Option ℕ)) (Machine (Unit {0})) item_step node_step statement_step proto_step (BodyItem-F.BodyItem::Proto inner))
+    ∙ ap (λ (m : Item). m.does o fields w) (fold-roll-BodyItem Item (Machine ℕ) (Machine (Option ℕ)) (Machine (Unit {0})) item_step node_step statement_step proto_step (BodyItem-F.BodyItem::Proto inner))
+
+-- ---- what they declare
+
+pub declares-field : (line : ℕ) (name : List ℕ) (g : Given NodeText) → item_declares (item.Field line name g) ≡ []
+unfolding item_step
+declares-field line name g = ap item_declares (sym (item.rolls-Field line name g))
+    ∙ ap (λ (m : Item). m.declares) (fold-roll-BodyItem Item (Machine ℕ) (Machine (Option ℕ)) (Machine (Unit {0})) item_step node_step statement_step proto_step (BodyItem-F.Field line name g))
+
+pub declares-declaration : (d : Declaration NodeText) → item_declares (item.Declaration d) ≡ signature d ∷ []
+unfolding item_step
+declares-declaration d = ap item_declares (sym (item.rolls-Declaration d))
+    ∙ ap (λ (m : Item). m.declares) (fold-roll-BodyItem Item (Machine ℕ) (Machine (Option ℕ)) (Machine (Unit {0})) item_step node_step statement_step proto_step (BodyItem-F.Declaration d))
+
+pub declares-route : (route : RouteText) → item_declares (item.Route route) ≡ []
+unfolding item_step
+declares-route route = ap item_declares (sym (item.rolls-Route route))
+    ∙ ap (λ (m : Item). m.declares) (fold-roll-BodyItem Item (Machine ℕ) (Machine (Option ℕ)) (Machine (Unit {0})) item_step node_step statement_step proto_step (BodyItem-F.BodyItem::Route route))
+
+pub declares-proto : (inner : ProtoText) → item_declares (item.Proto inner) ≡ []
+unfolding item_step
+declares-proto inner = ap item_declares (sym (item.rolls-Proto inner))
+    ∙ ap (λ (m : Item). m.declares) (fold-roll-BodyItem Item (Machine ℕ) (Machine (Option ℕ)) (Machine (Unit {0})) item_step node_step statement_step proto_step (BodyItem-F.BodyItem::Proto inner))
+
+declared_map : (items : List BodyItem) → flat_map (λ (i : Item). i.declares) (map part items) ≡ declared_in items
+declared_map [] = refl
+declared_map (i ∷ is) = ap (λ ds. item_declares i ++ ds) (declared_map is)
 
 -- ---- nodes
 
 pub node_does-use : (line : ℕ) (name : List ℕ) (w : Walk) → node_does (node.Use line name) w ≡ use_node line name w
 unfolding node_step
 node_does-use line name w = ap (λ whole. node_does whole w) (sym (node.rolls-Use line name))
-    ∙ ap (λ (m : Machine ℕ). m w) (fold-roll-NodeText OnFields (Machine ℕ) (Machine (Option ℕ)) (Machine (Unit {0})) item_step node_step statement_step proto_step (NodeText-F.Use line name))
+    ∙ ap (λ (m : Machine ℕ). m w) (fold-roll-NodeText Item (Machine ℕ) (Machine (Option ℕ)) (Machine (Unit {0})) item_step node_step statement_step proto_step (NodeText-F.Use line name))
 
-pub node_does-full : (line : ℕ) (name : Option (List ℕ)) (word : List ℕ) (items : List BodyItem) (w : Walk) → node_does (node.Full line name word items) w ≡ full_node line name word (items_do items) w
+pub node_does-full : (line : ℕ) (name : Option (List ℕ)) (word : List ℕ) (items : List BodyItem) (w : Walk) → node_does (node.Full line name word items) w ≡ full_node line name word (declared_in items) (items_do items) w
 unfolding node_step items_do
 node_does-full line name word items w = ap (λ whole. node_does whole w) (sym (node.rolls-Full line name word items))
-    ∙ ap (λ (m : Machine ℕ). m w) (fold-roll-NodeText OnFields (Machine ℕ) (Machine (Option ℕ)) (Machine (Unit {0})) item_step node_step statement_step proto_step (NodeText-F.Full line name word items))
-    ∙ ap (λ body. full_node line name word body w) (fun_ext (λ o. fun_ext (λ fields. fun_ext (λ v. through_map (λ (item : OnFields). item o) item_does items fields v))))
+    ∙ ap (λ (m : Machine ℕ). m w) (fold-roll-NodeText Item (Machine ℕ) (Machine (Option ℕ)) (Machine (Unit {0})) item_step node_step statement_step proto_step (NodeText-F.Full line name word items))
+    ∙ ap (λ ds. full_node line name word ds (λ o. through (λ (i : Item). i.does o) (map part items)) w) (declared_map items)
+    ∙ ap (λ body. full_node line name word (declared_in items) body w) (fun_ext (λ o. fun_ext (λ fields. fun_ext (λ v. through_map (λ (i : Item). i.does o) part items fields v))))
 
 -- ---- statements
 
 pub statement_does-node : (inner : NodeText) (w : Walk) → statement_does (statement.Node inner) w ≡ and_then (node_does inner w) (λ n. pure (Some n))
 unfolding statement_step
 statement_does-node inner w = ap (λ whole. statement_does whole w) (sym (statement.rolls-Node inner))
-    ∙ ap (λ (m : Machine (Option ℕ)). m w) (fold-roll-Statement OnFields (Machine ℕ) (Machine (Option ℕ)) (Machine (Unit {0})) item_step node_step statement_step proto_step (Statement-F.Node inner))
+    ∙ ap (λ (m : Machine (Option ℕ)). m w) (fold-roll-Statement Item (Machine ℕ) (Machine (Option ℕ)) (Machine (Unit {0})) item_step node_step statement_step proto_step (Statement-F.Node inner))
 
 pub statement_does-route : (route : RouteText) (w : Walk) → statement_does (statement.Route route) w ≡ and_then (wire route w) (λ _. pure None)
 unfolding statement_step
 statement_does-route route w = ap (λ whole. statement_does whole w) (sym (statement.rolls-Route route))
-    ∙ ap (λ (m : Machine (Option ℕ)). m w) (fold-roll-Statement OnFields (Machine ℕ) (Machine (Option ℕ)) (Machine (Unit {0})) item_step node_step statement_step proto_step (Statement-F.Statement::Route route))
+    ∙ ap (λ (m : Machine (Option ℕ)). m w) (fold-roll-Statement Item (Machine ℕ) (Machine (Option ℕ)) (Machine (Unit {0})) item_step node_step statement_step proto_step (Statement-F.Statement::Route route))
 
 pub statement_does-proto : (inner : ProtoText) (w : Walk) → statement_does (statement.Proto inner) w ≡ and_then (proto_does inner w) (λ _. pure None)
 unfolding statement_step
 statement_does-proto inner w = ap (λ whole. statement_does whole w) (sym (statement.rolls-Proto inner))
-    ∙ ap (λ (m : Machine (Option ℕ)). m w) (fold-roll-Statement OnFields (Machine ℕ) (Machine (Option ℕ)) (Machine (Unit {0})) item_step node_step statement_step proto_step (Statement-F.Statement::Proto inner))
+    ∙ ap (λ (m : Machine (Option ℕ)). m w) (fold-roll-Statement Item (Machine ℕ) (Machine (Option ℕ)) (Machine (Unit {0})) item_step node_step statement_step proto_step (Statement-F.Statement::Proto inner))
 
 pub body_map : (statements : List Statement) (first : Option ℕ) (w : Walk) → through in_body (map statement_does statements) first w ≡ through (λ s. in_body (statement_does s)) statements first w
 body_map statements first w = through_map in_body statement_does statements first w
 
-pub ruleset tree_does = (common_steps, item_does-field, item_does-declaration, item_does-route, item_does-proto, node_does-use, node_does-full, statement_does-node, statement_does-route, statement_does-proto)
+pub ruleset tree_does = (common_steps, item_does-field, item_does-declaration, item_does-route, item_does-proto, declares-field, declares-declaration, declares-route, declares-proto, node_does-use, node_does-full, statement_does-node, statement_does-route, statement_does-proto)

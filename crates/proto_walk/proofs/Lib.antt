@@ -1,3 +1,4 @@
+pub mod Declared
 pub mod Equations
 pub mod Moves
 pub mod Refusals

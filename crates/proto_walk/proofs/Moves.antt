@@ -27,7 +27,7 @@ use Rattle.proto_walk.specs.Fields.{signatures}
 use Rattle.proto_walk.specs.Machine.{keep, Sight, Bound, Walk, Machine, Outcome, through, and_then, ◌>>=◌, pure, Made, no_names, no_defs, definition, Does}
 use Rattle.proto_walk.specs.Limits.{count_items, item_count}
 use Rattle.proto_walk.specs.Routes.{wire}
-use Rattle.proto_walk.specs.Meaning.{Place, is_wanted, add_default_value, within as inside_of, begin_body, add_default, add_defaults, add_new, add_taken, is_taken, add_joined, hand_over, stand_in, body_of, item_does, numbered, add_number, back, close_instance, hold, in_body, leave, meaning_of, node_does, proto_does, statement_does, with_field}
+use Rattle.proto_walk.specs.Meaning.{with_place, Place, is_wanted, add_default_value, within as inside_of, begin_body, add_default, add_defaults, add_new, add_taken, is_taken, add_joined, hand_over, stand_in, body_of, item_does, numbered, add_number, back, close_instance, hold, in_body, leave, meaning_of, node_does, proto_does, statement_does, with_field}
 use Rattle.proto_walk.specs.Frames.{place_of, fill, owner_in, seen_in, value_does, names_of, defs_of, bound_of, close_with, body_does, open_does, list_does, in_sight, sight_of, frame_does, frames_do, task_sight, task_does, task_comes, rest_does, comes_to, shown, AllSee, Holds, Fits, Goes, Keeps, Steps, Ends}
 use Rattle.proto_walk.proofs.Equations.{item_does-proto, and_then-congr, body_map, statement_does-node, statement_does-proto, statement_does-route}
 use Rattle.proto_walk.proofs.Sights.{reverse-snoc, frames-more, in_sight-more}
@@ -351,6 +351,14 @@ handed links more opened next line field j w u same does is =
     ap (λ o. and_then (and_then o (λ _. pure (with_field line j.number opened.fields j.value))) (open_does (in_sight links opened.sight) opened)) does
     ∙ fields-in links opened next (with_field line j.number opened.fields j.value) u is
     ∙ ap (λ (ls : List Link). open_does (in_sight ls next.sight) next next.fields u) (sym same)
+
+-- a declared field without a value takes its place
+pub placed : (links : List Link) (opened next : Open) (line number : ℕ) (name : List ℕ) (w : Walk) → ((f : ℕ → Machine (List GivenField)) → with_place line (owner_in opened.owner) opened.fields name f ≡ f number) →
+    next ≡ record opened { fields = with_field line number opened.fields None } →
+    and_then (with_place line (owner_in opened.owner) opened.fields name (λ n. pure (with_field line n opened.fields None)) w) (open_does (in_sight links opened.sight) opened) ≡ open_does (in_sight links next.sight) next next.fields w
+placed links opened next line number name w free is =
+    ap (λ (m : Machine (List GivenField)). and_then (m w) (open_does (in_sight links opened.sight) opened)) (free (λ n. pure (with_field line n opened.fields None)))
+    ∙ fields-in links opened next (with_field line number opened.fields None) w is
 
 -- what goes nowhere is left out
 pub left-out : (links : List Link) (opened next : Open) (line number : ℕ) (name : List ℕ) (v : RawValue NodeText) (w : Walk) → is_taken (owner_in opened.owner).proto name w.declared ≡ false →

@@ -1,6 +1,8 @@
 -- A node that closes.
-use Rattle.std.specs.Prelude.{ℕ, if◌then◌else◌, List, [], ◌∷◌, ◌++◌, length, nat_lt, Option, Some, None, Result, Ok, Err, slice_get}
+use Rattle.std.specs.Prelude.{ℕ, if◌then◌else◌, List, [], ◌∷◌, ◌++◌, length, map, nat_lt, Option, Some, None, Result, Ok, Err, slice_get}
 use Rattle.x3d_values.specs.declared.node_type.NodeType.{NodeType}
+use Rattle.classic_tree.specs.declared.tree.Declaration.{Declaration}
+use Rattle.classic_tree.specs.declared.tree.Given.TheVariants.{Nothing}
 use Rattle.classic_tree.specs.declared.tree.RawValue.{RawValue}
 use Rattle.flat_document.specs.Fault.{fault}
 use Rattle.flat_document.specs.declared.fault.ExpandFault.{ExpandFault}
@@ -8,6 +10,7 @@ use Rattle.flat_document.specs.declared.fault.ExpandFaultKind.TheVariants.{TooLa
 use Rattle.flat_document.specs.declared.flat.FlatField.{FlatField}
 use Rattle.proto_declarations.specs.Sight.{through as each}
 use Rattle.proto_walk.specs.declared.held.GivenField.{GivenField}
+use Rattle.proto_walk.specs.Fields.{Signature}
 use Rattle.proto_walk.specs.Machine.{Machine}
 use Rattle.proto_walk.specs.Limits.{max_nodes, max_fields}
 
@@ -34,16 +37,33 @@ flat_fields values given = each (add_flat values) given []
 
 -- ---- the node
 
+-- a field of a Script's interface; what it holds stands among the fields
+abbrev pub declared : Signature → Declaration ℕ
+declared s =
+    record {
+      line = s.line;
+      access = s.access;
+      field_type = s.field_type;
+      name = s.name;
+      given = Nothing;
+    }
+
 -- a node with these fields is put in, and has the next number
-unfoldable pub put_flat : ℕ → Option (List ℕ) → NodeType → List FlatField → Machine ℕ
-put_flat line name node_type fields = λ w.
+unfoldable pub put_flat : ℕ → Option (List ℕ) → NodeType → List Signature → List FlatField
+    → Machine ℕ
+put_flat line name node_type interface fields = λ w.
     if nat_lt (length w.store.nodes) max_nodes
     then Ok (
       length w.store.nodes,
       record w {
         store = record w.store {
           nodes = w.store.nodes ++
-              record { line = line; node_type = node_type; fields = fields } ∷ [];
+              record {
+                line = line;
+                node_type = node_type;
+                fields = fields;
+                interface = map declared interface;
+              } ∷ [];
           labels = w.store.labels
               ++ name ∷ [];
         };
@@ -51,11 +71,12 @@ put_flat line name node_type fields = λ w.
     )
     else Err (fault TooLarge 0)
 
-abbrev pub with_fields : ℕ → Option (List ℕ) → NodeType → Result (List FlatField) ExpandFault
-    → Machine ℕ
-with_fields line name node_type (Ok fields) = put_flat line name node_type fields
-with_fields line name node_type (Err e) = λ w. Err e
+abbrev pub with_fields : ℕ → Option (List ℕ) → NodeType → List Signature
+    → Result (List FlatField) ExpandFault → Machine ℕ
+with_fields line name node_type interface (Ok fields) =
+    put_flat line name node_type interface fields
+with_fields line name node_type interface (Err e) = λ w. Err e
 
-unfoldable pub put : ℕ → Option (List ℕ) → NodeType → List GivenField → Machine ℕ
-put line name node_type given =
-    λ w. with_fields line name node_type (flat_fields w.store.values given) w
+unfoldable pub put : ℕ → Option (List ℕ) → NodeType → List Signature → List GivenField → Machine ℕ
+put line name node_type interface given =
+    λ w. with_fields line name node_type interface (flat_fields w.store.values given) w

@@ -1,5 +1,5 @@
 -- Fields by name, and what joins them (ISO/IEC 19775-1, PROTO interface and IS).
-use Rattle.std.specs.Prelude.{ℕ, ◌+◌, Bool, ◌&&◌, if◌then◌else◌, List, [], ◌∷◌, map, Option, Some, None, option_map}
+use Rattle.std.specs.Prelude.{ℕ, ◌+◌, Bool, ◌&&◌, if◌then◌else◌, List, [], ◌∷◌, length, map, Option, Some, None, option_map}
 use Rattle.std.specs.Str.{bytes_eq}
 use denote.Enum.Bare.{sameb}
 use Rattle.x3d_values.specs.declared.field_type.Access.{Access}
@@ -7,6 +7,8 @@ use Rattle.x3d_values.specs.declared.field_type.Access.TheVariants.{InputOnly, O
 use Rattle.x3d_values.specs.declared.field_type.FieldType.{FieldType}
 use Rattle.x3d_values.specs.contracts.field_type.FieldType.{the_type}
 use Rattle.x3d_values.specs.declared.node_type.NodeType.{NodeType}
+use Rattle.x3d_values.specs.declared.node_type.NodeType.TheVariants.{Script}
+use Rattle.x3d_values.specs.contracts.node_type.NodeType as node_types
 use Rattle.x3d_values.specs.declared.table.FieldRow.{FieldRow}
 use Rattle.x3d_values.specs.Access.{receives, sends, is_initial, is_exposed}
 use Rattle.x3d_values.specs.Tables.{rows, row_named}
@@ -49,6 +51,17 @@ numbered_from number name (s ∷ others) =
 
 abbrev pub of_interface : List Signature → List ℕ → Option KnownField
 of_interface interface name = numbered_from 0 name interface
+
+-- ---- of a Script
+
+-- only a Script declares fields between its braces
+abbrev pub own_interface : NodeType → List Signature → List Signature
+own_interface node_type declared = if sameb node_types.the_type node_type Script then declared else []
+
+-- the first of that name, numbered behind the fields of the type
+abbrev pub of_declared : NodeType → List Signature → List ℕ → Option KnownField
+of_declared node_type declared name =
+    numbered_from (length (rows node_type)) name (own_interface node_type declared)
 
 -- the line of the first name that stood before
 abbrev pub first_twice : Names → List Signature → Option ℕ

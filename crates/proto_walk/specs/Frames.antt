@@ -1,5 +1,5 @@
 -- What the frames still do. None of this is part of the definition of a flat document.
-use Rattle.std.specs.Prelude.{◌≡◌, ◌⊎◌, ◌≤◌, ℕ, nat_lt, if◌then◌else◌, List, [], ◌∷◌, ◌++◌, length, map, reverse, Option, Some, None, option_map, Result, Ok, Err}
+use Rattle.std.specs.Prelude.{◌≡◌, ◌⊎◌, ◌≤◌, true, ℕ, nat_lt, if◌then◌else◌, List, [], ◌∷◌, ◌++◌, length, map, reverse, Option, Some, None, option_map, Result, Ok, Err}
 use Rattle.std.specs.Str.{bytes_eq}
 use Rattle.indexmap.specs.IndexMap.{get_by}
 use Rattle.classic_tree.specs.declared.tree.RawValue.{RawValue}
@@ -14,6 +14,7 @@ use Rattle.proto_declarations.specs.declared.sight.Declarations.{Declarations}
 use Rattle.proto_declarations.specs.Held.{shown as all_declared}
 use Rattle.proto_walk.specs.declared.held.GivenField.{GivenField}
 use Rattle.proto_walk.specs.declared.held.Joined.{Joined}
+use Rattle.proto_walk.specs.declared.held.KnownField.{KnownField}
 use Rattle.proto_walk.specs.declared.held.Store.{Store}
 use Rattle.proto_walk.specs.declared.frames.BegunNode.{BegunNode}
 use Rattle.proto_walk.specs.declared.frames.Link.{Link}
@@ -29,9 +30,9 @@ use Rattle.proto_walk.specs.declared.frames.Frame.TheVariants as frame
 use Rattle.proto_walk.specs.declared.frames.Task.{Task}
 use Rattle.proto_walk.specs.declared.frames.Task.TheVariants as task
 use Rattle.proto_walk.specs.declared.frames.Walker.{Walker}
-use Rattle.proto_walk.specs.Fields.{signatures, of_interface}
+use Rattle.proto_walk.specs.Fields.{Signature, signatures, of_interface, of_signature, fits}
 use Rattle.proto_walk.specs.Machine.{Sight, keep, Names, Defs, Begun, Bound, Walk, Machine, Outcome, and_then, ◌>>=◌, pure, through}
-use Rattle.proto_walk.specs.Meaning.{Owner, Place, add_defaults, begin_body, node_owner, stand_in, add_number, add_value, add_taken, back, close_node, close_instance, hold, in_body, item_does, leave, meaning_of, node_does, statement_does, with_field}
+use Rattle.proto_walk.specs.Meaning.{Owner, Place, add_defaults, begin_body, node_owner, declared_in, with_place, add_declared_is, stand_in, add_number, add_value, add_taken, back, close_node, close_instance, hold, in_body, item_does, leave, meaning_of, node_does, statement_does, with_field}
 
 -- ---- what is in sight
 
@@ -75,10 +76,11 @@ in_sight links sight = seen (reverse links) sight
 -- ---- frames
 
 abbrev pub owner_in : Holder → Owner
-owner_in (owner.Node node_type at) = node_owner at node_type
+owner_in (owner.Node node_type items at) = node_owner at node_type (declared_in items.now)
 owner_in (owner.Instance p within at) = record {
   at = at;
   fields = of_interface (signatures (out-ProtoText p.now).interface);
+  declares = λ name. None;
   proto = Some (place_of p.now within);
 }
 
@@ -96,8 +98,8 @@ seen_in scope protos = record {
 
 -- what an open node still does
 abbrev pub close_by : List Bound → Open → Holder → List GivenField → Machine ℕ
-close_by protos opened (owner.Node node_type at) fields =
-    close_node opened.line opened.name.now at node_type fields
+close_by protos opened (owner.Node node_type items at) fields =
+    close_node opened.line opened.name.now at node_type (declared_in items.now) fields
 close_by protos opened (owner.Instance p within at) fields =
     close_instance opened.name.now at (bound_of p.now within protos) fields
 
@@ -244,6 +246,20 @@ IsFree o fields line name (Ok number) =
     name o number v fields
 IsFree o fields line name (Err e) =
     (v : RawValue NodeText) (w : Walk) → add_value node_does line name v o fields w ≡ Err e
+
+-- the number of a declared field, or why it has none
+abbrev pub IsPlaced : Owner → List GivenField → ℕ → List ℕ → Result ℕ ExpandFault → Type 0
+IsPlaced o fields line name (Ok number) =
+    (f : ℕ → Machine (List GivenField)) → with_place line o fields name f ≡ f number
+IsPlaced o fields line name (Err e) =
+    (f : ℕ → Machine (List GivenField)) (w : Walk) → with_place line o fields name f w ≡ Err e
+
+-- the interface field that a declared field may be joined to, or why none
+abbrev pub IsOuter : Signature → List ℕ → Walk → Result KnownField ExpandFault → Type 0
+IsOuter s name w (Ok outer) =
+    (of_interface w.sight.interface name ≡ Some outer) × (fits outer (of_signature 0 s) ≡ true)
+IsOuter s name w (Err e) =
+    (o : Owner) (fields : List GivenField) → add_declared_is s name o fields w ≡ Err e
 
 -- what an IS joins, or why nothing
 abbrev pub IsJoined : Outcome (List GivenField) → (Joined → Outcome (List GivenField))

@@ -1,12 +1,10 @@
 -- What each part of a tree does, made of what its parts do (ISO/IEC 19775-1, object model, PROTO
 -- and run-time name scope). A PROTO means a function: what its instances
 -- do, closed over the prototypes in sight where it is declared.
-use Rattle.std.specs.Prelude.{ℕ, ◌==◌, ◌-◌, ◌&&◌, Bool, true, if◌then◌else◌, List, [], ◌∷◌, ◌++◌, length, map, Option, Some, None, option_map, is_none, Result, Ok, Err}
-use Rattle.std.specs.List.{list_any}
-use denote.Enum.Bare.{sameb}
+use Rattle.std.specs.Prelude.{ℕ, ◌==◌, ◌-◌, ◌&&◌, Bool, true, if◌then◌else◌, List, [], ◌∷◌, ◌++◌, length, map, nat_lt, Option, Some, None, option_map, is_none, Result, Ok, Err}
+use Rattle.std.specs.List.{flat_map, list_any}
+use Rattle.std.specs.Option.{option_or}
 use Rattle.x3d_values.specs.declared.node_type.NodeType.{NodeType}
-use Rattle.x3d_values.specs.declared.node_type.NodeType.TheVariants.{Script}
-use Rattle.x3d_values.specs.contracts.node_type.NodeType.{the_type}
 use Rattle.x3d_values.specs.Access.{is_initial}
 use Rattle.x3d_values.specs.Names.{node_type_named}
 use Rattle.classic_tree.specs.declared.tree.RawValue.{RawValue}
@@ -20,7 +18,7 @@ use Rattle.classic_tree.specs.declared.tree.NodeText.{NodeText, fold-NodeText}
 use Rattle.classic_tree.specs.declared.tree.Statement.{Statement, fold-Statement}
 use Rattle.classic_tree.specs.declared.tree.ProtoText.{ProtoText, fold-ProtoText}
 use Rattle.flat_document.specs.declared.fault.ExpandFault.{ExpandFault}
-use Rattle.flat_document.specs.declared.fault.ExpandFaultKind.TheVariants.{UnknownNode, UnknownField, FieldTwice, EmptyBody, BadIs, NotYet}
+use Rattle.flat_document.specs.declared.fault.ExpandFaultKind.TheVariants.{UnknownNode, UnknownField, FieldTwice, EmptyBody, BadIs, TooLarge}
 use Rattle.proto_declarations.specs.Sight.{Definition}
 use Rattle.proto_declarations.specs.Sight.{Sight as Declared}
 use Rattle.proto_declarations.specs.Sight.{no_names as no_names_yet}
@@ -32,9 +30,9 @@ use Rattle.proto_ends.specs.declared.ends.Spot.{Spot}
 use Rattle.proto_ends.specs.declared.ends.Stand.TheVariants.{Node, Instance}
 use Rattle.proto_ends.specs.declared.ends.Tie.{Tie}
 use Rattle.proto_ends.specs.Spots.{spots_of, with_spots}
-use Rattle.proto_walk.specs.Fields.{Signature, signatures, of_type, of_interface, first_twice, fits}
+use Rattle.proto_walk.specs.Fields.{Signature, signature, signatures, of_signature, of_type, of_interface, of_declared, own_interface, first_twice, fits}
 use Rattle.proto_walk.specs.Machine.{Sight, no_names, no_defs, Made, Meaning, Bound, Walk, Machine, Outcome, and_then, ◌>>=◌, pure, refuse, through, keep, keep_name, tie, stand, meet, label, help, know, use_node, lookup, definition, takes}
-use Rattle.proto_walk.specs.Limits.{begin_node, begin_instance, count_items, count_joined, count_again, item_count}
+use Rattle.proto_walk.specs.Limits.{max_fields, begin_node, begin_instance, count_items, count_joined, count_again, item_count}
 use Rattle.proto_walk.specs.Routes.{wire}
 use Rattle.proto_walk.specs.Closing.{put}
 
@@ -43,11 +41,12 @@ pub record Place : Type 0 where
   pub within : Option ℕ
   pub name : List ℕ
 
--- whose braces these are: its place, and its fields by name; of an instance also where its prototype
--- is declared
+-- whose braces these are: its place, and its fields by name; of a Script also the fields that it
+-- declares between them, of an instance where its prototype is declared
 pub record Owner : Type 0 where
   pub at : ℕ
   pub fields : List ℕ → Option KnownField
+  pub declares : List ℕ → Option KnownField
   pub proto : Option Place
 
 -- what an item between braces does to what was given so far
@@ -61,6 +60,14 @@ has_field number fields = list_any (λ (f : GivenField). f.number == number) fie
 
 abbrev pub with_field : ℕ → ℕ → List GivenField → Option ℕ → List GivenField
 with_field line number fields v = fields ++ record { line = line; number = number; value = v } ∷ []
+
+-- a field that a Script declares is known behind its declaration
+abbrev pub if_given : List GivenField → Option KnownField → Option KnownField
+if_given fields None = None
+if_given fields (Some field) = if has_field field.number fields then Some field else None
+
+abbrev pub known : Owner → List GivenField → List ℕ → Option KnownField
+known owner fields name = option_or (owner.fields name) (if_given fields (owner.declares name))
 
 -- a node may be given a value at each field, which the scene judges; an instance where its
 -- interface holds one
@@ -126,7 +133,41 @@ add_known_is line field name owner fields (Some inner) =
 -- IS: the field has what the instance gives, if it gives something
 unfoldable pub add_is : ℕ → List ℕ → List ℕ → OnFields
 add_is line field name owner fields =
-    add_known_is line field name owner fields (owner.fields field)
+    add_known_is line field name owner fields (known owner fields field)
+
+-- ---- declarations of a Script
+
+-- the next number of a node is its last
+abbrev pub with_number : ℕ → List GivenField → (ℕ → Machine (List GivenField)) → Option KnownField
+    → Machine (List GivenField)
+with_number line fields f None = refuse UnknownField line
+with_number line fields f (Some field) =
+    if has_field field.number fields then refuse FieldTwice line
+    else (if nat_lt field.number max_fields then f field.number else refuse TooLarge 0)
+
+-- what is done with the number of a declared field: its name is neither that of a field of the
+-- type, nor declared before
+abbrev pub unless_own : ℕ → Owner → List GivenField → List ℕ → (ℕ → Machine (List GivenField))
+    → Option KnownField → Machine (List GivenField)
+unless_own line owner fields name f None = with_number line fields f (owner.declares name)
+unless_own line owner fields name f (Some field) = refuse FieldTwice line
+
+unfoldable pub with_place : ℕ → Owner → List GivenField → List ℕ → (ℕ → Machine (List GivenField))
+    → Machine (List GivenField)
+with_place line owner fields name f = unless_own line owner fields name f (owner.fields name)
+
+abbrev pub tie_declared : Signature → Owner → List GivenField → Option KnownField
+    → Machine (List GivenField)
+tie_declared s owner fields None = refuse BadIs s.line
+tie_declared s owner fields (Some outer) =
+    if fits outer (of_signature 0 s)
+    then with_place s.line owner fields s.name (λ n w. add_joined s.line s.name owner fields
+    (joined_by (of_signature n s) outer w.sight.given) w)
+    else refuse BadIs s.line
+
+unfoldable pub add_declared_is : Signature → List ℕ → OnFields
+add_declared_is s name owner fields =
+    λ w. tie_declared s owner fields (of_interface w.sight.interface name) w
 
 module _ {N : Type 0} (node_does : N → Machine ℕ) where
   abbrev pub add_number : N → List ℕ → Machine (List ℕ)
@@ -171,13 +212,21 @@ module _ {N : Type 0} (node_does : N → Machine ℕ) where
 
   unfoldable pub add_value : ℕ → List ℕ → RawValue N → OnFields
   add_value line name given owner fields =
-      add_known line name given owner fields (owner.fields name)
+      add_known line name given owner fields (known owner fields name)
 
   -- a field without a value gives nothing
   abbrev pub add_given : ℕ → List ℕ → Given N → OnFields
   add_given line name given.Nothing owner fields = pure fields
   add_given line name (given.Value v) owner fields = add_value line name v owner fields
   add_given line name (given.Is other) owner fields = add_is line name other owner fields
+
+  -- a declared field without a value takes its place
+  abbrev pub add_declaration : Signature → Given N → OnFields
+  add_declaration s given.Nothing owner fields =
+      with_place s.line owner fields s.name (λ n. pure (with_field s.line n fields None))
+  add_declaration s (given.Value v) owner fields =
+      with_place s.line owner fields s.name (λ n. add_new s.line n v fields)
+  add_declaration s (given.Is name) owner fields = add_declared_is s name owner fields
 
   -- ---- default values
 
@@ -220,16 +269,24 @@ abbrev pub owner_of : ℕ → Bound → Owner
 owner_of at b = record {
   at = at;
   fields = of_interface b.interface;
+  declares = λ name. None;
   proto = Some (record { within = b.within; name = b.name });
 }
 
-abbrev pub node_owner : ℕ → NodeType → Owner
-node_owner at node_type = record { at = at; fields = of_type node_type; proto = None }
+abbrev pub node_owner : ℕ → NodeType → List Signature → Owner
+node_owner at node_type declared = record {
+  at = at;
+  fields = of_type node_type;
+  declares = of_declared node_type declared;
+  proto = None;
+}
 
 -- a node is put in when its braces close
-unfoldable pub close_node : ℕ → Option (List ℕ) → ℕ → NodeType → List GivenField → Machine ℕ
-close_node line name at node_type fields =
-    put line name node_type fields >>= λ n. stand at (Node n) >>= λ _. know name at n
+unfoldable pub close_node : ℕ → Option (List ℕ) → ℕ → NodeType → List Signature → List GivenField
+    → Machine ℕ
+close_node line name at node_type declared fields =
+    put line name node_type (own_interface node_type declared) fields
+    >>= λ n. stand at (Node n) >>= λ _. know name at n
 
 -- the first node of the body stands for the instance
 abbrev pub stand_in : Option (List ℕ) → ℕ → Made → Machine ℕ
@@ -240,13 +297,12 @@ stand_in name at made =
 unfoldable pub close_instance : Option (List ℕ) → ℕ → Bound → List GivenField → Machine ℕ
 close_instance name at b fields = body b fields >>= stand_in name at
 
-unfoldable pub typed_node : ℕ → Option (List ℕ) → NodeType → OnFields → Machine ℕ
-typed_node line name node_type items =
-    if sameb the_type node_type Script
-    then refuse NotYet line
-    else (begin_node >>= λ at. meet name (record { at = at; interface = None })
-    >>= λ _. items (node_owner at node_type) []
-    >>= λ fields. close_node line name at node_type fields)
+-- `declared` are the fields that are declared between its braces
+unfoldable pub typed_node : ℕ → Option (List ℕ) → NodeType → List Signature → OnFields → Machine ℕ
+typed_node line name node_type declared items =
+    begin_node >>= λ at. meet name (record { at = at; interface = None })
+    >>= λ _. items (node_owner at node_type declared) []
+    >>= λ fields. close_node line name at node_type declared fields
 
 -- no name stands twice in an interface
 abbrev pub unless_twice : Option ℕ → Machine (Unit {0})
@@ -267,12 +323,16 @@ of_bound line name items (Some b) = instance name b items
 of_bound line name items None = refuse UnknownNode line
 
 -- a name is that of a node type, or of a prototype in sight
-abbrev pub of_word : ℕ → Option (List ℕ) → List ℕ → OnFields → Option NodeType → Machine ℕ
-of_word line name word items (Some node_type) = typed_node line name node_type items
-of_word line name word items None = λ w. of_bound line name items (lookup word w.sight.protos) w
+abbrev pub of_word : ℕ → Option (List ℕ) → List ℕ → List Signature → OnFields → Option NodeType
+    → Machine ℕ
+of_word line name word declared items (Some node_type) =
+    typed_node line name node_type declared items
+of_word line name word declared items None =
+    λ w. of_bound line name items (lookup word w.sight.protos) w
 
-unfoldable pub full_node : ℕ → Option (List ℕ) → List ℕ → OnFields → Machine ℕ
-full_node line name word items = of_word line name word items (node_type_named word)
+unfoldable pub full_node : ℕ → Option (List ℕ) → List ℕ → List Signature → OnFields → Machine ℕ
+full_node line name word declared items =
+    of_word line name word declared items (node_type_named word)
 
 -- ---- prototypes
 
@@ -362,53 +422,76 @@ declare line name interface defaults statements = λ w.
 
 -- ---- the parts of a tree: each step has, in the places of the parts inside, what those do
 
-unfoldable pub item_step : BodyItem-F OnFields (Machine ℕ) (Machine (Option ℕ)) (Machine (Unit {0}))
-    → OnFields
-item_step (BodyItem-F.Field line name given) owner fields =
-    add_given (λ node. node) line name given owner fields
-item_step (BodyItem-F.Declaration declaration) owner fields = refuse NotYet declaration.line
-item_step (BodyItem-F.BodyItem::Route route) owner fields = wire route >>= λ _. pure fields
-item_step (BodyItem-F.BodyItem::Proto proto) owner fields = proto >>= λ _. pure fields
+-- an item between braces: what it does, and the field that it declares
+pub record Item : Type 0 where
+  pub does : OnFields
+  pub declares : List Signature
+
+abbrev pub only : OnFields → Item
+only does = record { does = does; declares = [] }
+
+unfoldable pub item_step : BodyItem-F Item (Machine ℕ) (Machine (Option ℕ)) (Machine (Unit {0}))
+    → Item
+item_step (BodyItem-F.Field line name given) = only (add_given (λ node. node) line name given)
+item_step (BodyItem-F.Declaration d) =
+    record {
+      does = add_declaration (λ node. node) (signature d) d.given;
+      declares = signature d ∷ [];
+    }
+item_step (BodyItem-F.BodyItem::Route route) =
+    only (λ owner fields. wire route >>= λ _. pure fields)
+item_step (BodyItem-F.BodyItem::Proto proto) =
+    only (λ owner fields. proto >>= λ _. pure fields)
 
 -- a statement that is a node gives its number
 unfoldable pub statement_step :
-    Statement-F OnFields (Machine ℕ) (Machine (Option ℕ)) (Machine (Unit {0})) → Machine (Option ℕ)
+    Statement-F Item (Machine ℕ) (Machine (Option ℕ)) (Machine (Unit {0})) → Machine (Option ℕ)
 statement_step (Statement-F.Node node) = node >>= λ n. pure (Some n)
 statement_step (Statement-F.Statement::Route route) = wire route >>= λ _. pure None
 statement_step (Statement-F.Statement::Proto proto) = proto >>= λ _. pure None
 
-unfoldable pub node_step : NodeText-F OnFields (Machine ℕ) (Machine (Option ℕ)) (Machine (Unit {0}))
+unfoldable pub node_step : NodeText-F Item (Machine ℕ) (Machine (Option ℕ)) (Machine (Unit {0}))
     → Machine ℕ
 node_step (NodeText-F.Use line name) = use_node line name
 node_step (NodeText-F.Full line name word items) =
-    full_node line name word (λ owner. through (λ (item : OnFields). item owner) items)
+    full_node line name word (flat_map (λ (item : Item). item.declares) items)
+    (λ owner. through (λ (item : Item). item.does owner) items)
 
 unfoldable pub proto_step :
-    ProtoText-F OnFields (Machine ℕ) (Machine (Option ℕ)) (Machine (Unit {0})) → Machine (Unit {0})
+    ProtoText-F Item (Machine ℕ) (Machine (Option ℕ)) (Machine (Unit {0})) → Machine (Unit {0})
 proto_step p =
     declare p.line p.name (signatures p.interface)
     (λ place. add_defaults (λ node. node) place (length p.interface) p.interface) p.body
 
-abbrev pub item_does : BodyItem → OnFields
-item_does =
-    fold-BodyItem OnFields (Machine ℕ) (Machine (Option ℕ)) (Machine (Unit {0})) item_step node_step
+abbrev pub item : BodyItem → Item
+item =
+    fold-BodyItem Item (Machine ℕ) (Machine (Option ℕ)) (Machine (Unit {0})) item_step node_step
     statement_step proto_step
 
 abbrev pub statement_does : Statement → Machine (Option ℕ)
 statement_does =
-    fold-Statement OnFields (Machine ℕ) (Machine (Option ℕ)) (Machine (Unit {0})) item_step
+    fold-Statement Item (Machine ℕ) (Machine (Option ℕ)) (Machine (Unit {0})) item_step
     node_step statement_step proto_step
 
 abbrev pub node_does : NodeText → Machine ℕ
 node_does =
-    fold-NodeText OnFields (Machine ℕ) (Machine (Option ℕ)) (Machine (Unit {0})) item_step node_step
+    fold-NodeText Item (Machine ℕ) (Machine (Option ℕ)) (Machine (Unit {0})) item_step node_step
     statement_step proto_step
 
 abbrev pub proto_does : ProtoText → Machine (Unit {0})
 proto_does =
-    fold-ProtoText OnFields (Machine ℕ) (Machine (Option ℕ)) (Machine (Unit {0})) item_step
+    fold-ProtoText Item (Machine ℕ) (Machine (Option ℕ)) (Machine (Unit {0})) item_step
     node_step statement_step proto_step
+
+abbrev pub item_does : BodyItem → OnFields
+item_does i = (item i).does
+
+abbrev pub item_declares : BodyItem → List Signature
+item_declares i = (item i).declares
+
+abbrev pub declared_in : List BodyItem → List Signature
+declared_in items = flat_map item_declares items
 
 -- the items between the braces of a node, in turn
 unfoldable pub items_do : List BodyItem → OnFields
-items_do items owner = through (λ item. item_does item owner) items
+items_do items owner = through (λ i. item_does i owner) items

@@ -72,7 +72,7 @@ flat_node name node =
       name = name;
       node_type = node.node_type;
       fields = node.fields;
-      interface = [];
+      interface = node.interface;
     }
 
 -- the next node with its name

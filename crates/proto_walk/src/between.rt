@@ -136,7 +136,7 @@ fn free_field(
 ) -> Result<usize, ExpandFault>
     ensures { does.IsFree (owner_in owner.entry) fields.now line name.now result }
 {
-    let Some(field) = fields::known_field(owner, name) else {
+    let Some(field) = fields::known_field(owner, fields, name) else {
         return Err(ExpandFaultKind::UnknownField.on_line(line));
     };
     if !fields::admits(owner, field) {
@@ -180,7 +180,7 @@ fn joined(
         (shown walker.now)) (λ j. spec.add_joined line field.now
         (owner_in owner.entry) fields.now j (shown walker.now)) result }
 {
-    let Some(inner) = fields::known_field(owner, field) else {
+    let Some(inner) = fields::known_field(owner, fields, field) else {
         return Err(ExpandFaultKind::UnknownField.on_line(line));
     };
     let Some(outer) = fields::field_of_interface(walker.scope.interface, name.as_str()) else {
@@ -216,7 +216,7 @@ fn hand_on<'a>(
         return Ok(());
     };
     match owner {
-        Owner::Node(_node_type, _at) => steps::count_again(
+        Owner::Node(_node_type, _items, _at) => steps::count_again(
             &mut walker.store,
             &walker.declarations,
             &walker.scope,
@@ -278,7 +278,7 @@ fn hand_over<'a>(
     hand_on(walker, owner, joined.value)
 }
 
-fn put_joined<'a>(
+pub fn put_joined<'a>(
     alloc: Global,
     walker: &mut Walker<'a>,
     opened: Open<'a>,

@@ -17,6 +17,7 @@ ghost use Rattle.proto_walk.specs.Frames.{owner_in, place_of, plain};
 
 use crate::frames::Owner;
 use crate::held::{GivenField, KnownField};
+use crate::scripts;
 use classic_tree::{Declaration, NodeText, ProtoText, RawValue};
 use flat_document::{ExpandFault, ExpandFaultKind, FlatField};
 use proto_declarations::{Declarations, Prototype, Taken};
@@ -69,17 +70,17 @@ pub fn place(owner: Owner<'_>) -> usize
     ensures { result ≡ (owner_in owner.entry).at }
 {
     match owner {
-        Owner::Node(_node_type, at) => at,
+        Owner::Node(_node_type, _items, at) => at,
         Owner::Instance(_proto, _within, at) => at,
     }
 }
 
-/// The field of that name of whose braces are open.
-pub fn known_field(owner: Owner<'_>, name: &Text) -> Option<KnownField>
+/// The field of that name of whose braces are open; not those that a Script declares there.
+pub fn own_field(owner: Owner<'_>, name: &Text) -> Option<KnownField>
     ensures { result ≡ (owner_in owner.entry).fields name.now }
 {
     match owner {
-        Owner::Node(node_type, _at) => field_of_type(node_type, name),
+        Owner::Node(node_type, _items, _at) => field_of_type(node_type, name),
         Owner::Instance(proto, _within, _at) => {
             field_of_interface(proto.interface.as_slice(), name.as_str())
         }
@@ -116,6 +117,21 @@ fn joins(outer: Access, inner: Access) -> bool
     }
 }
 
+/// The field of that name that is known here: one that a Script declares is known behind its
+/// declaration.
+pub fn known_field(owner: Owner<'_>, fields: &[GivenField], name: &Text) -> Option<KnownField>
+    ensures { result ≡ meaning.known (owner_in owner.entry) fields.now name.now }
+{
+    if let Some(field) = own_field(owner, name) {
+        return Some(field);
+    }
+    let field = scripts::declared_field(owner, name)?;
+    if has_field(field.number, fields) {
+        return Some(field);
+    }
+    None
+}
+
 /// Whether an IS may join the interface field to the field.
 pub fn fits(outer: KnownField, inner: KnownField) -> bool
     ensures { result ≡ spec.fits outer inner }
@@ -128,7 +144,7 @@ pub fn admits(owner: Owner<'_>, field: KnownField) -> bool
     ensures { result ≡ meaning.admits (owner_in owner.entry).proto field }
 {
     match owner {
-        Owner::Node(_node_type, _at) => true,
+        Owner::Node(_node_type, _items, _at) => true,
         Owner::Instance(_proto, _within, _at) => field.access.is_initial(),
     }
 }
@@ -167,7 +183,7 @@ pub fn is_taken(declarations: &Declarations<'_>, owner: Owner<'_>, name: &Text) 
         (all_declared declarations.now) }
 {
     match owner {
-        Owner::Node(_node_type, _at) => true,
+        Owner::Node(_node_type, _items, _at) => true,
         Owner::Instance(proto, within, _at) => {
             takes(definition(declarations, within, &proto.name), name)
         }

@@ -48,7 +48,8 @@ pub struct Scope<'a> {
 /// Whose braces are open, and its place among all nodes and instances begun.
 #[derive(Clone, Copy)]
 pub enum Owner<'a> {
-    Node(NodeType, usize),
+    /// The type, and all that stands between the braces.
+    Node(NodeType, &'a [BodyItem], usize),
     /// The prototype of an instance, and the body that it is declared in.
     Instance(&'a ProtoText, Option<usize>, usize),
 }

@@ -1,6 +1,6 @@
 //! What was put in so far.
 
-use classic_tree::RawValue;
+use classic_tree::{Declaration, RawValue};
 use flat_document::FlatField;
 use proto_ends::{Stand, Wire};
 use x3d_lists::{Items, Text};
@@ -44,6 +44,8 @@ pub struct PlacedNode {
     pub line: u32,
     pub node_type: NodeType,
     pub fields: Items<FlatField>,
+    /// The declarations of a Script, without values.
+    pub interface: Items<Declaration<u32>>,
 }
 
 /// What was put in so far, and how much of it was begun.

@@ -8,6 +8,7 @@ mod filling;
 mod frames;
 mod held;
 mod routes;
+mod scripts;
 mod stands;
 mod steps;
 mod walk;

@@ -8,17 +8,17 @@ ghost use Rattle.proto_walk.specs.Machine.{Does, no_names, no_defs, with_name};
 ghost use Rattle.proto_walk.specs.Limits as limit;
 ghost use Rattle.proto_walk.specs.Closing as closing;
 ghost use Rattle.proto_walk.specs.Meaning as meaning;
-ghost use Rattle.proto_walk.specs.Meaning.{with_field};
-ghost use Rattle.proto_walk.specs.Fields.{first_twice, signatures};
+ghost use Rattle.proto_walk.specs.Meaning.{declared_in, with_field};
+ghost use Rattle.proto_walk.specs.Fields.{first_twice, own_interface, signatures};
 ghost use Rattle.proto_declarations.specs.Sight.{no_names as no_names_yet};
 ghost use Rattle.proto_walk.specs.Frames.{names_of, defs_of, view, IsOnce, in_sight, bound_by};
 ghost use Rattle.proto_walk.specs.Frames.{AreLinked};
 
-use crate::fields;
 use crate::fields::{flat_fields, item_count, same};
 use crate::frames::{Link, Named, Open, Scope};
 use crate::held::{GivenField, PlacedNode, Store};
-use classic_tree::{Declaration, NodeText, RawValue};
+use crate::{fields, scripts};
+use classic_tree::{BodyItem, Declaration, NodeText, RawValue};
 use flat_document::{ExpandFault, ExpandFaultKind, FlatField};
 use indexmap::IndexMap;
 use proto_declarations::Declarations;
@@ -178,9 +178,11 @@ fn put_flat(
     line: u32,
     name: &Option<Text>,
     node_type: NodeType,
+    items: &[BodyItem],
     fields: Items<FlatField>,
 ) -> Result<u32, ExpandFault>
-    ensures { Does (closing.put_flat line name.now node_type fields
+    ensures { Does (closing.put_flat line name.now node_type
+        (own_interface node_type (declared_in items.now)) fields
         (view store.old declarations.now scope.now links.now)) result
         (view store.new declarations.now scope.now links.now) }
 {
@@ -188,12 +190,14 @@ fn put_flat(
     if number >= MAX_NODES as usize {
         return Err(ExpandFaultKind::TooLarge.on_line(0));
     }
+    let interface = scripts::interface_of(alloc, node_type, items)?;
     let name = copied_name(alloc, name)?;
     store.labels.push(name)?;
     store.nodes.push(PlacedNode {
         line,
         node_type,
         fields,
+        interface,
     })?;
     Ok(number as u32)
 }
@@ -209,9 +213,11 @@ pub fn put(
     line: u32,
     name: &Option<Text>,
     node_type: NodeType,
+    items: &[BodyItem],
     given: &[GivenField],
 ) -> Result<u32, ExpandFault>
-    ensures { Does (closing.put line name.now node_type given.now
+    ensures { Does (closing.put line name.now node_type
+        (own_interface node_type (declared_in items.now)) given.now
         (view store.old declarations.now scope.now links.now)) result
         (view store.new declarations.now scope.now links.now) }
 {
@@ -225,6 +231,7 @@ pub fn put(
         line,
         name,
         node_type,
+        items,
         fields,
     )
 }

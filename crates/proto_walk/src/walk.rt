@@ -10,7 +10,7 @@ ghost use Rattle.proto_walk.specs.Frames.{IfHanded, owner_in, shown};
 ghost use Rattle.proto_walk.specs.Routes.{wire};
 
 use crate::frames::{BegunNode, Body, Frame, Link, Listing, Open, Owner, Task, Walker};
-use crate::{between, filling, routes, stands, steps};
+use crate::{between, filling, routes, scripts, stands, steps};
 use classic_tree::{BodyItem, NodeText, ProtoText, RawValue, RouteText, Statement};
 use flat_document::{ExpandFault, ExpandFaultKind};
 use proto_ends::{Spot, Stand};
@@ -75,12 +75,10 @@ fn enter_typed<'a>(
     items: &'a [BodyItem],
 ) -> Result<Task<'a>, ExpandFault>
     requires { Holds walker.old }
-    ensures { Keeps (spec.typed_node line name.now node_type (spec.items_do items.now)
+    ensures { Keeps (spec.typed_node line name.now node_type
+        (spec.declared_in items.now) (spec.items_do items.now)
         (shown walker.old)) walker.old result walker.new }
 {
-    if node_type == NodeType::Script {
-        return Err(ExpandFaultKind::NotYet.on_line(line));
-    }
     let at = steps::begin_node(
         &mut walker.store,
         &walker.declarations,
@@ -101,7 +99,7 @@ fn enter_typed<'a>(
     Ok(Task::Items(Open {
         line,
         name,
-        owner: Owner::Node(node_type, at),
+        owner: Owner::Node(node_type, items, at),
         sight: 0,
         rest: items,
         fields: Items::new(alloc),
@@ -165,7 +163,8 @@ fn enter_full<'a>(
     items: &'a [BodyItem],
 ) -> Result<Task<'a>, ExpandFault>
     requires { Holds walker.old }
-    ensures { Keeps (spec.full_node line name.now word.now (spec.items_do items.now)
+    ensures { Keeps (spec.full_node line name.now word.now
+        (spec.declared_in items.now) (spec.items_do items.now)
         (shown walker.old)) walker.old result walker.new }
 {
     if let Some(node_type) = NodeType::named(word.as_str()) {
@@ -211,12 +210,13 @@ fn close_node<'a>(
     walker: &mut Walker<'a>,
     opened: Open<'a>,
     node_type: NodeType,
+    items: &[BodyItem],
     at: usize,
 ) -> Result<Task<'a>, ExpandFault>
     requires holds { Holds walker.old }
     ensures { Keeps
         (spec.close_node opened.entry.line opened.entry.name.now at node_type
-        opened.entry.fields (shown walker.old)) walker.old result walker.new }
+        (spec.declared_in items.now) opened.entry.fields (shown walker.old)) walker.old result walker.new }
 {
     let Open {
         line,
@@ -233,6 +233,7 @@ fn close_node<'a>(
         line,
         name,
         node_type,
+        items,
         fields.as_slice(),
     )?;
     stands::stand(
@@ -267,7 +268,9 @@ fn close<'a>(
         (shown walker.old)) walker.old result walker.new }
 {
     match opened.owner {
-        Owner::Node(node_type, at) => close_node(alloc, walker, opened, node_type, at),
+        Owner::Node(node_type, items, at) => {
+            close_node(alloc, walker, opened, node_type, items, at)
+        }
         Owner::Instance(proto, within, _at) => filling::open_defaults(
             alloc, walker, opened, proto, within,
         ),
@@ -313,7 +316,7 @@ fn put_item<'a>(
             between::put_given(alloc, walker, opened, *line, name, given)
         }
         BodyItem::Declaration(declaration) => {
-            Err(ExpandFaultKind::NotYet.on_line(declaration.line))
+            scripts::put_declaration(alloc, walker, opened, declaration)
         }
         BodyItem::Route(route) => put_route(alloc, walker, opened, route),
         BodyItem::Proto(proto) => {

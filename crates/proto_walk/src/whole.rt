@@ -150,7 +150,7 @@ fn label_at(
     }
 }
 
-fn flat_node(alloc: Global, name: Option<Text>, node: PlacedNode) -> FlatNode
+fn flat_node(name: Option<Text>, node: PlacedNode) -> FlatNode
     ensures { result ≡ spec.flat_node name node }
 {
     FlatNode {
@@ -158,7 +158,7 @@ fn flat_node(alloc: Global, name: Option<Text>, node: PlacedNode) -> FlatNode
         name,
         node_type: node.node_type,
         fields: node.fields,
-        interface: Items::new(alloc),
+        interface: node.interface,
     }
 }
 
@@ -173,7 +173,7 @@ fn flat_nodes(
     let mut flat = Items::new(alloc);
     for node in nodes {
         let name = label_at(alloc, labels, flat.len())?;
-        flat.push(flat_node(alloc, name, node))?;
+        flat.push(flat_node(name, node))?;
     }
     Ok(flat)
 }

@@ -1,29 +1,29 @@
 use Rattle.std.proofs.Common.{◌≡◌, rules, sym, ◌∙◌, true, false, None, Some}
-use Rattle.proto_walk.specs.Meaning.{admits}
+use Rattle.proto_walk.specs.Meaning.{admits, known}
 use Rattle.proto_walk.specs.Frames.{owner_in}
 use Rattle.proto_walk.proofs.Refusals.{value-unknown, value-refused, value-twice, value-free}
 use Rattle.proto_walk.proofs.between.free_field.Goals as goal
 
 pub returns-in_default : goal.returns-in_default
 returns-in_default c =
-    let none : (owner_in c.args.owner).fields c.args.name.now ≡ None = search rules in
+    let none : known (owner_in c.args.owner) c.args.fields.now c.args.name.now ≡ None = search rules in
     rw c.on_line.ensures (λ v w. value-unknown c.args.line c.args.name.now v (owner_in c.args.owner) c.args.fields.now w none)
 
 pub returns-then-not-admits : goal.returns-then-not-admits
 returns-then-not-admits c =
-    let some : (owner_in c.args.owner).fields c.args.name.now ≡ Some c.in-Some.field = search rules in
+    let some : known (owner_in c.args.owner) c.args.fields.now c.args.name.now ≡ Some c.in-Some.field = search rules in
     let refused : admits (owner_in c.args.owner).proto c.in-Some.field ≡ false = search rules in
     rw c.on_line-then-not-admits.ensures (λ v w. value-refused c.args.line c.args.name.now v (owner_in c.args.owner) c.args.fields.now w c.in-Some.field some refused)
 
 pub returns-then-has_field : goal.returns-then-has_field
 returns-then-has_field c =
-    let some : (owner_in c.args.owner).fields c.args.name.now ≡ Some c.in-Some.field = search rules in
+    let some : known (owner_in c.args.owner) c.args.fields.now c.args.name.now ≡ Some c.in-Some.field = search rules in
     let admitted : admits (owner_in c.args.owner).proto c.in-Some.field ≡ true = search rules in
     rw c.on_line-then-has_field.ensures
     (λ v w. value-twice c.args.line c.args.name.now v (owner_in c.args.owner) c.args.fields.now w c.in-Some.field some admitted (sym c.has_field.ensures ∙ c.if-has_field.true))
 
 pub returns : goal.returns
 returns c =
-    let some : (owner_in c.args.owner).fields c.args.name.now ≡ Some c.in-Some.field = search rules in
+    let some : known (owner_in c.args.owner) c.args.fields.now c.args.name.now ≡ Some c.in-Some.field = search rules in
     let admitted : admits (owner_in c.args.owner).proto c.in-Some.field ≡ true = search rules in
     λ v. value-free c.args.line c.args.name.now v (owner_in c.args.owner) c.args.fields.now c.in-Some.field some admitted (sym c.has_field.ensures ∙ c.if-has_field.false)

@@ -1,32 +1,32 @@
 use Rattle.std.proofs.Common.{◌≡◌, rules, sym, ◌∙◌, ap, true, false, None, Some}
 use Rattle.proto_walk.specs.Fields.{signatures, of_interface, fits}
 use Rattle.proto_walk.specs.Meaning.{add_joined}
-use Rattle.proto_walk.specs.Meaning.{value_of}
+use Rattle.proto_walk.specs.Meaning.{known, value_of}
 use Rattle.proto_walk.specs.Frames.{owner_in, shown}
 use Rattle.proto_walk.proofs.Refusals.{is-unknown, is-unbound, is-unfit, is-twice, is-joined}
 use Rattle.proto_walk.proofs.between.joined.Goals as goal
 
 pub returns-in_default : goal.returns-in_default
 returns-in_default c =
-    let none : (owner_in c.args.owner).fields c.args.field.now ≡ None = search rules in
+    let none : known (owner_in c.args.owner) c.args.fields.now c.args.field.now ≡ None = search rules in
     rw c.on_line.ensures (is-unknown c.args.line c.args.field.now c.args.name.now (owner_in c.args.owner) c.args.fields.now (shown c.args.walker.now) none)
 
 pub returns-in_default-field_of_interface : goal.returns-in_default-field_of_interface
 returns-in_default-field_of_interface c =
-    let some : (owner_in c.args.owner).fields c.args.field.now ≡ Some c.in-Some.inner = search rules in
+    let some : known (owner_in c.args.owner) c.args.fields.now c.args.field.now ≡ Some c.in-Some.inner = search rules in
     let none : of_interface (signatures c.args.walker.now.scope.interface.now) c.args.name.now ≡ None = search rules in
     rw c.on_line-in_default-field_of_interface.ensures (is-unbound c.args.line c.args.field.now c.args.name.now (owner_in c.args.owner) c.args.fields.now (shown c.args.walker.now) c.in-Some.inner some none)
 
 pub returns-then-not-fits : goal.returns-then-not-fits
 returns-then-not-fits c =
-    let some : (owner_in c.args.owner).fields c.args.field.now ≡ Some c.in-Some.inner = search rules in
+    let some : known (owner_in c.args.owner) c.args.fields.now c.args.field.now ≡ Some c.in-Some.inner = search rules in
     let bound : of_interface (signatures c.args.walker.now.scope.interface.now) c.args.name.now ≡ Some c.in-Some-field_of_interface.outer = search rules in
     let unfit : fits c.in-Some-field_of_interface.outer c.in-Some.inner ≡ false = search rules in
     rw c.on_line-then-not-fits.ensures (is-unfit c.args.line c.args.field.now c.args.name.now (owner_in c.args.owner) c.args.fields.now (shown c.args.walker.now) c.in-Some.inner c.in-Some-field_of_interface.outer some bound unfit)
 
 pub returns-then-has_field : goal.returns-then-has_field
 returns-then-has_field c =
-    let some : (owner_in c.args.owner).fields c.args.field.now ≡ Some c.in-Some.inner = search rules in
+    let some : known (owner_in c.args.owner) c.args.fields.now c.args.field.now ≡ Some c.in-Some.inner = search rules in
     let bound : of_interface (signatures c.args.walker.now.scope.interface.now) c.args.name.now ≡ Some c.in-Some-field_of_interface.outer = search rules in
     let fit : fits c.in-Some-field_of_interface.outer c.in-Some.inner ≡ true = search rules in
     rw c.on_line-then-has_field.ensures
@@ -34,7 +34,7 @@ returns-then-has_field c =
 
 pub returns : goal.returns
 returns c =
-    let some : (owner_in c.args.owner).fields c.args.field.now ≡ Some c.in-Some.inner = search rules in
+    let some : known (owner_in c.args.owner) c.args.fields.now c.args.field.now ≡ Some c.in-Some.inner = search rules in
     let bound : of_interface (signatures c.args.walker.now.scope.interface.now) c.args.name.now ≡ Some c.in-Some-field_of_interface.outer = search rules in
     let fit : fits c.in-Some-field_of_interface.outer c.in-Some.inner ≡ true = search rules in
     is-joined c.args.line c.args.field.now c.args.name.now (owner_in c.args.owner) c.args.fields.now (shown c.args.walker.now) c.in-Some.inner c.in-Some-field_of_interface.outer some bound fit (sym c.has_field.ensures ∙ c.if-has_field.false)
