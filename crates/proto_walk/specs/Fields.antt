@@ -56,7 +56,8 @@ of_interface interface name = numbered_from 0 name interface
 
 -- only a Script declares fields between its braces
 abbrev pub own_interface : NodeType → List Signature → List Signature
-own_interface node_type declared = if sameb node_types.the_type node_type Script then declared else []
+own_interface node_type declared =
+    if sameb node_types.the_type node_type Script then declared else []
 
 -- the first of that name, numbered behind the fields of the type
 abbrev pub of_declared : NodeType → List Signature → List ℕ → Option KnownField

@@ -216,7 +216,8 @@ fn close_node<'a>(
     requires holds { Holds walker.old }
     ensures { Keeps
         (spec.close_node opened.entry.line opened.entry.name.now at node_type
-        (spec.declared_in items.now) opened.entry.fields (shown walker.old)) walker.old result walker.new }
+        (spec.declared_in items.now) opened.entry.fields (shown walker.old)) walker.old result
+        walker.new }
 {
     let Open {
         line,
