@@ -23,8 +23,8 @@ impl FakePort {
     ghost use Rattle.std.specs.Prelude.{◌≡◌, ◌++◌, ◌∷◌, [], IfOk, OnErr};
     ghost use Rattle.share_port.specs.Told.{one_more};
 
-    /// Nothing passed, and nothing came. The send or the receive of that number, from 1, fails; none
-    /// for 0.
+    /// Nothing passed, and nothing came. The send or the receive of that number, from 1, fails;
+    /// none for 0.
     pub fn failing_at(alloc: Global, call: u64) -> FakePort
         ensures passed { result.passed.items ≡ [] }
         ensures inbox { result.inbox.items ≡ [] }

@@ -85,12 +85,14 @@ fn send_requests<B, P: Port>(viewer: &Viewer<B>, host: u16, port: &mut P) -> Res
 }
 
 /// A turn of a viewer: it offers a point, if there is one; then it takes at most 64 datagrams; then
-/// it sends to its host the offer that has waited longest and an ask for what it lacks. Says whether
-/// the point was offered: where too many offers wait, or there are no more numbers for them, it may
-/// be handed in again. A datagram that is refused for another cause than memory is dropped.
+/// it sends to its host the offer that has waited longest and an ask for what it lacks. Says
+/// whether the point was offered: where too many offers wait, or there are no more numbers for
+/// them, it may be handed in again. A datagram that is refused for another cause than memory is
+/// dropped.
 ///
-/// `Spoiled` where memory was refused to the viewer before: then nothing is done. `Port` where a send
-/// or a receive failed, `Memory` where memory was refused to an input: either ends the turn at once.
+/// `Spoiled` where memory was refused to the viewer before: then nothing is done. `Port` where a
+/// send or a receive failed, `Memory` where memory was refused to an input: either ends the turn at
+/// once.
 pub fn viewer_turn<B, P: Port>(
     viewer: &mut Viewer<B>,
     point: Option<Point>,

@@ -9,8 +9,8 @@ const LARGEST: usize = 1 << 46;
 /// More blocks than it takes.
 const MOST_BLOCKS: usize = 1 << 17;
 
-/// Blocks up to this size, in bytes, are kept apart by their sizes when they are given back, so that
-/// each of these sizes is tried.
+/// Blocks up to this size, in bytes, are kept apart by their sizes when they are given back, so
+/// that each of these sizes is tried.
 const LARGEST_SMALL: usize = 2048;
 
 /// How much the sizes of small blocks differ.

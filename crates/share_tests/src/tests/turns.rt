@@ -84,7 +84,8 @@ fn a_host_sends_what_was_asked_for(rt: HostRuntime) -> Result<(), Fail> {
     Ok(())
 }
 
-/// How often a datagram arrives: of each five one is lost and one comes twice, where the way is bad.
+/// How often a datagram arrives: of each five one is lost and one comes twice, where the way is
+/// bad.
 fn copies(place: usize, lossy: bool) -> usize {
     match place % 5 {
         0 if lossy => 0,
