@@ -136,7 +136,7 @@ struct Seat {
     own: u16,
 }
 
-fn seat(alloc: Global, place: usize) -> Result<Seat, Fail> {
+fn seated(alloc: Global, place: usize) -> Result<Seat, Fail> {
     let who = if place == 0 { 0 } else { 1 };
     Ok(Seat {
         viewer: Viewer::start(fresh(alloc)?, MARK, who, 1),
@@ -211,8 +211,8 @@ fn agree(alloc: Global, first: &Seat, second: &Seat, inputs: u32) -> Result<bool
 fn share(alloc: Global, count: usize, lossy: bool) -> Result<bool, Fail> {
     let mut host = Host::new(alloc, MARK, 2);
     let mut port = FakePort::failing_at(alloc, 0);
-    let mut first = seat(alloc, 0)?;
-    let mut second = seat(alloc, 1)?;
+    let mut first = seated(alloc, 0)?;
+    let mut second = seated(alloc, 1)?;
     rounds(
         &mut host,
         &mut port,
