@@ -3,5 +3,4 @@
 mod given;
 mod hosting;
 mod snapshots;
-mod turns;
 mod viewing;

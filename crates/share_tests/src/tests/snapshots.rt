@@ -230,38 +230,67 @@ const ALTERED: [(usize, u8); 10] = [
     (115, 0),
 ];
 
+/// An altered snapshot of scene A before any clock is refused so, or loaded.
+fn is_answered(rt: &impl Abort, stage: &mut Stage<()>, bytes: &[u8], fault: Option<SnapFault>) {
+    assert!(rt; fault_of(rt, stage, bytes) == fault);
+}
+
+/// The same of one byte that stands in place of another.
+fn alters(
+    rt: &impl Abort,
+    alloc: Global,
+    stage: &mut Stage<()>,
+    shot: &[u8],
+    new: (usize, u8),
+    fault: Option<SnapFault>,
+) -> Result<(), Fail> {
+    let bytes = altered(alloc, shot, new.0, new.1)?;
+    is_answered(rt, stage, &bytes, fault);
+    Ok(())
+}
+
+fn alter_all(
+    rt: &impl Abort,
+    alloc: Global,
+    stage: &mut Stage<()>,
+    shot: &[u8],
+) -> Result<(), Fail> {
+    for new in ALTERED {
+        alters(rt, alloc, stage, shot, new, Some(SnapFault::NotCanonical))?;
+    }
+    // a button is down, and the boot is another one
+    alters(rt, alloc, stage, shot, (105, 1), None)?;
+    alters(rt, alloc, stage, shot, (40, 0), None)?;
+    alters(rt, alloc, stage, shot, (40, 2), Some(SnapFault::BootNotNew))
+}
+
 #[test]
 fn what_no_world_has_is_refused(rt: HostRuntime) -> Result<(), Fail> {
     let shot = shot_at(&rt, rt.alloc(), CLOCKED, 0)?;
     let mut stage = loaded(rt.alloc(), CLOCKED.as_bytes())?;
-    for (at, byte) in ALTERED {
-        let bytes = altered(rt.alloc(), &shot, at, byte)?;
-        assert!(rt; fault_of(&rt, &mut stage, &bytes) == Some(SnapFault::NotCanonical));
-    }
-    // a button is down, and the boot is another one
-    for (at, byte) in [(105, 1), (40, 0)] {
-        let bytes = altered(rt.alloc(), &shot, at, byte)?;
-        assert!(rt; fault_of(&rt, &mut stage, &bytes).is_none());
-    }
-    let newer = altered(rt.alloc(), &shot, 40, 2)?;
-    assert!(rt; fault_of(&rt, &mut stage, &newer) == Some(SnapFault::BootNotNew));
-    stage.close();
-    Ok(())
+    alter_all(&rt, rt.alloc(), &mut stage, &shot)
 }
 
 /// scene A's snapshot after a clock, with another node, field and value of its first event
 const EVENTS: [(usize, u8); 3] = [(130, 3), (132, 0), (133, 2)];
 
+fn alter_events(
+    rt: &impl Abort,
+    alloc: Global,
+    stage: &mut Stage<()>,
+    shot: &[u8],
+) -> Result<(), Fail> {
+    for new in EVENTS {
+        alters(rt, alloc, stage, shot, new, Some(SnapFault::NotCanonical))?;
+    }
+    Ok(())
+}
+
 #[test]
 fn an_event_that_no_node_sends_is_refused(rt: HostRuntime) -> Result<(), Fail> {
     let shot = shot_at(&rt, rt.alloc(), CLOCKED, 1)?;
     let mut stage = loaded(rt.alloc(), CLOCKED.as_bytes())?;
-    for (at, byte) in EVENTS {
-        let bytes = altered(rt.alloc(), &shot, at, byte)?;
-        assert!(rt; fault_of(&rt, &mut stage, &bytes) == Some(SnapFault::NotCanonical));
-    }
-    stage.close();
-    Ok(())
+    alter_events(&rt, rt.alloc(), &mut stage, &shot)
 }
 
 // ---- refused growths
@@ -298,14 +327,19 @@ fn load_is_refused(
     Ok(())
 }
 
+/// Both, of the world after 60 clocks; then it is the same world still.
+fn refuse_both(rt: &impl Abort, alloc: Global, stage: &mut Stage<()>) -> Result<bool, Fail> {
+    apply_to(rt, stage, 60);
+    let shot = shot_of(alloc, stage, CLOCKED, 1)?;
+    save_is_refused(rt, alloc, stage)?;
+    load_is_refused(rt, alloc, stage, &shot)?;
+    Ok(shot_of(alloc, stage, CLOCKED, 1)? == shot)
+}
+
 #[test]
 fn refused_growths(rt: HostRuntime) -> Result<(), Fail> {
     let mut stage = loaded(rt.alloc(), CLOCKED.as_bytes())?;
-    apply_to(&rt, &mut stage, 60);
-    let shot = shot_of(rt.alloc(), &stage, CLOCKED, 1)?;
-    save_is_refused(&rt, rt.alloc(), &stage)?;
-    load_is_refused(&rt, rt.alloc(), &mut stage, &shot)?;
-    assert!(rt; shot_of(rt.alloc(), &stage, CLOCKED, 1)? == shot);
-    stage.close();
+    let same = refuse_both(&rt, rt.alloc(), &mut stage)?;
+    assert!(rt; same);
     Ok(())
 }
