@@ -3,7 +3,8 @@
 
 use classic_text::read;
 use pick_core::{BoxCache, Hit, local_point, pick, sensors_of};
-use proto_expand::{Flat, expand};
+use flat_document::Flat;
+use proto_walk::expand;
 use scene_core::Scene;
 use std::alloc::Global;
 use std::process::Abort;

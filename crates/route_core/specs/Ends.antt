@@ -9,9 +9,9 @@ use Rattle.x3d_values.specs.declared.table.FieldRow.{FieldRow}
 use Rattle.x3d_values.specs.Access.{receives, sends, holds_nodes}
 use Rattle.x3d_values.specs.Aliases.{source_field, target_field}
 use Rattle.x3d_values.specs.Tables.{rows}
-use Rattle.proto_expand.specs.declared.flat.FlatEnd.{FlatEnd}
-use Rattle.proto_expand.specs.declared.flat.FlatEnd.TheVariants.{At, NoNode, NoField, WrongWay}
-use Rattle.proto_expand.specs.declared.flat.FlatRoute.{FlatRoute}
+use Rattle.flat_document.specs.declared.flat.FlatEnd.{FlatEnd}
+use Rattle.flat_document.specs.declared.flat.FlatEnd.TheVariants.{At, NoNode, NoField, WrongWay}
+use Rattle.flat_document.specs.declared.flat.FlatRoute.{FlatRoute}
 use Rattle.scene_core.specs.Scene.{SceneView, types_of, type_at, number_of}
 use Rattle.scene_core.specs.declared.scene.End.{End}
 use Rattle.scene_core.specs.declared.scene.Route.{Route}

@@ -1,8 +1,8 @@
 -- The routes of a document in its scene (ISO/IEC 19775-1, ROUTE).
 use Rattle.std.specs.Prelude.{ℕ, ◌&&◌, Bool, List, [], ◌∷◌, ◌++◌, Result, Ok, Err, take, if◌then◌else◌}
 use Rattle.std.specs.List.{fold, list_any}
-use Rattle.proto_expand.specs.declared.flat.Flat.{Flat}
-use Rattle.proto_expand.specs.declared.flat.FlatRoute.{FlatRoute}
+use Rattle.flat_document.specs.declared.flat.Flat.{Flat}
+use Rattle.flat_document.specs.declared.flat.FlatRoute.{FlatRoute}
 use Rattle.scene_core.specs.Scene.{SceneView}
 use Rattle.scene_core.specs.declared.scene.Route.{Route}
 use Rattle.route_core.specs.Outputs.{same_end}

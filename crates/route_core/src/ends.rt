@@ -5,7 +5,7 @@ ghost use Rattle.scene_core.specs.Scene.{types_of};
 ghost use Rattle.route_core.specs.Ends as spec;
 
 use crate::fault::RouteFaultKind;
-use proto_expand::{FlatEnd, FlatRoute};
+use flat_document::{FlatEnd, FlatRoute};
 use scene_core::{End, Route, Scene};
 use x3d_values::{FieldRow, FieldType, NodeType, source_field, target_field};
 

@@ -7,7 +7,7 @@ use crate::fault::RouteFault;
 use crate::grouped::{Groups, group};
 use crate::outputs::{firsts_of, number_of, sources_of};
 use crate::resolving::{each_of, field_counts, without_repeats};
-use proto_expand::Flat;
+use flat_document::Flat;
 use scene_core::{End, Route, Scene};
 use std::alloc::{AllocError, Global};
 use std::marker::Model;

@@ -5,7 +5,7 @@ use Rattle.std.specs.List.{filter_map, count_by, list_all}
 use Rattle.std.specs.Option.{option_and_then}
 use Rattle.std.specs.Str.{bytes_eq}
 use Rattle.indexmap.specs.IndexMap.{get_by}
-use Rattle.proto_expand.specs.declared.flat.FlatNode.{FlatNode}
+use Rattle.flat_document.specs.declared.flat.FlatNode.{FlatNode}
 use Rattle.scene_core.specs.declared.labels.Marks.{Marks}
 
 abbrev pub name_at : List FlatNode → ℕ → Option (List ℕ)

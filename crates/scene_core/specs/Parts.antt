@@ -6,8 +6,8 @@ use Rattle.x3d_values.specs.Access.{holds_nodes}
 use Rattle.x3d_values.specs.Tables.{Entry, rows}
 use Rattle.classic_tree.specs.declared.tree.RawValue.{RawValue}
 use Rattle.classic_tree.specs.declared.tree.RawValue.TheVariants.{Node, NodeList}
-use Rattle.proto_expand.specs.declared.flat.FlatNode.{FlatNode}
-use Rattle.proto_expand.specs.declared.flat.FlatField.{FlatField}
+use Rattle.flat_document.specs.declared.flat.FlatNode.{FlatNode}
+use Rattle.flat_document.specs.declared.flat.FlatField.{FlatField}
 
 -- what a node gives to the field of that number
 abbrev pub given : List FlatField → ℕ → Option FlatField

@@ -9,7 +9,7 @@ use Rattle.x3d_values.specs.declared.value.Value.{Value}
 use Rattle.x3d_values.specs.declared.value.Value.TheVariants.{MFNode}
 use Rattle.x3d_values.specs.Access.{is_kept}
 use Rattle.x3d_values.specs.Tables.{Entry, rows, row_named}
-use Rattle.proto_expand.specs.declared.flat.Header.{Header}
+use Rattle.flat_document.specs.declared.flat.Header.{Header}
 use Rattle.scene_core.specs.declared.scene.SceneNode.{SceneNode}
 
 -- the nodes of a scene, its roots and helpers, which nodes of the expanded document it has, and the

@@ -16,8 +16,8 @@ use Rattle.x3d_values.specs.Access.{is_initial}
 use Rattle.x3d_values.specs.Defaults.{default_value}
 use Rattle.x3d_values.specs.Nodes.{kind_of}
 use Rattle.x3d_values.specs.Tables.{Entry, rows}
-use Rattle.proto_expand.specs.declared.flat.FlatNode.{FlatNode}
-use Rattle.proto_expand.specs.declared.flat.FlatField.{FlatField}
+use Rattle.flat_document.specs.declared.flat.FlatNode.{FlatNode}
+use Rattle.flat_document.specs.declared.flat.FlatField.{FlatField}
 use Rattle.scene_values.specs.declared.fault.ValueFault.{ValueFault}
 use Rattle.scene_values.specs.declared.fault.ValueFault.TheVariants as value_fault
 use Rattle.scene_values.specs.Rotations.{checked_rotation}

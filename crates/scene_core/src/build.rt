@@ -13,7 +13,7 @@ use crate::numbering::Numbering;
 use crate::places::{has_too_many_places, is_any_crowded};
 use crate::scene::SceneNode;
 use crate::values::{Known, values_of};
-use proto_expand::{FlatNode, Header};
+use flat_document::{FlatNode, Header};
 use std::alloc::{AllocError, Global};
 use x3d_lists::{Duplicate, Items};
 

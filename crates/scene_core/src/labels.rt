@@ -12,7 +12,7 @@ ghost use Rattle.scene_core.specs.Labels.{known_of};
 use crate::scene::SceneNode;
 use indexmap::IndexMap;
 use itoa::Buffer;
-use proto_expand::FlatNode;
+use flat_document::FlatNode;
 use std::alloc::{AllocError, AllocFailed, Global};
 use x3d_lists::{Duplicate, Text};
 

@@ -6,7 +6,7 @@ ghost use Rattle.x3d_values.specs.Tables.{entry};
 ghost use Rattle.scene_core.specs.Parts as spec;
 
 use classic_tree::RawValue;
-use proto_expand::{FlatField, FlatNode};
+use flat_document::{FlatField, FlatNode};
 use std::alloc::AllocError;
 use x3d_values::{Field, fields_of};
 

@@ -15,7 +15,7 @@ use crate::numbering::numbered;
 use crate::places::own_children;
 use crate::state::state_of;
 use crate::values::check_children;
-use proto_expand::{Flat, Header};
+use flat_document::{Flat, Header};
 use std::alloc::{AllocError, Global};
 use std::marker::Model;
 use x3d_lists::{Items, Text};

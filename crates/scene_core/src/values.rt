@@ -10,7 +10,7 @@ ghost use Rattle.scene_core.specs.Typed as spec;
 
 use crate::fault::{SceneFault, SceneFaultKind, fault};
 use crate::parts::{given, inner_nodes};
-use proto_expand::{FlatField, FlatNode};
+use flat_document::{FlatField, FlatNode};
 use scene_values::{ValueFault, checked_rotation, typed};
 use std::alloc::{AllocError, Global};
 use x3d_lists::Items;

@@ -5,7 +5,7 @@ ghost use Rattle.share_jobs.specs.declared.fault.JobFault.TheVariants as job;
 ghost use Rattle.share_jobs.specs.Faults.{of_read, of_expand, of_scene, of_route};
 
 use classic_text::{ReadFault, ReadFaultKind};
-use proto_expand::{ExpandFault, ExpandFaultKind};
+use flat_document::{ExpandFault, ExpandFaultKind};
 use route_core::{RouteFault, RouteFaultKind};
 use scene_core::{SceneFault, SceneFaultKind};
 use std::alloc::{AllocError, AllocFailed};

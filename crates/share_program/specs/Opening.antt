@@ -1,10 +1,15 @@
 -- The scene of a text, and the job of a byte list: what each layer makes of it, one after the
 -- other.
-use Rattle.std.specs.Prelude.{◌≡◌, ◌⊎◌, Option, ℕ, List, Result, Ok, Err}
+use Rattle.std.specs.Prelude.{◌≡◌, ◌⊎◌, Option, ℕ, List, [], ◌∷◌, Result, Ok, Err}
 use Rattle.x3d_values.specs.Stamp.{Stamp}
 use Rattle.classic_text.specs.Reading.{read_text}
-use Rattle.proto_expand.specs.Whole.{flat}
-use Rattle.proto_expand.specs.declared.flat.Flat.{Flat}
+use Rattle.classic_tree.specs.declared.tree.Declaration.{Declaration}
+use Rattle.proto_walk.specs.Whole.{flat}
+use Rattle.flat_document.specs.declared.flat.Flat.{Flat}
+use Rattle.flat_document.specs.declared.flat.FlatNode.{FlatNode}
+use Rattle.flat_document.specs.declared.fault.ExpandFault.{ExpandFault}
+use Rattle.flat_document.specs.declared.fault.ExpandFaultKind.TheVariants.{NotYet}
+use Rattle.flat_document.specs.Fault.{fault}
 use Rattle.scene_core.specs.Building.{scene_of}
 use Rattle.scene_core.specs.Scene.{SceneView}
 use Rattle.scene_core.specs.declared.scene.Route.{Route}
@@ -31,9 +36,25 @@ with_routes scene routes = Ok (record { scene = scene; routes = routes })
 abbrev pub routed : Flat → SceneView → Result Opened JobFault
 routed f s = next of_route (resolved f s) (with_routes s)
 
+-- a Script that declares fields of its own is not run yet
+abbrev pub if_none : FlatNode → List (Declaration ℕ) → Result (Unit {0}) ExpandFault
+if_none node [] = Ok tt
+if_none node (d ∷ ds) = Err (fault NotYet node.line)
+
+abbrev pub declares_none : FlatNode → Result (Unit {0}) ExpandFault
+declares_none node = if_none node node.interface
+
+abbrev pub and_then : {E : Type 0} → Result (Unit {0}) E → Result (Unit {0}) E → Result (Unit {0}) E
+and_then (Ok tt) b = b
+and_then (Err e) b = Err e
+
+abbrev pub none_declares : List FlatNode → Result (Unit {0}) ExpandFault
+none_declares [] = Ok tt
+none_declares (n ∷ ns) = and_then (declares_none n) (none_declares ns)
+
 -- the scene of a document, and its routes
 abbrev pub built : Flat → Result Opened JobFault
-built f = next of_scene (scene_of f) (routed f)
+built f = next of_expand (none_declares f.nodes) (λ _. next of_scene (scene_of f) (routed f))
 
 -- the scene of a text, and its routes
 unfoldable pub opened : List ℕ → Result Opened JobFault

@@ -3,9 +3,9 @@ use Rattle.std.specs.Prelude.{ℕ, List, [], ◌++◌, codes, decimal, nat_eq, i
 use Rattle.classic_text.specs.declared.fault.ReadFaultKind.{ReadFaultKind}
 use Rattle.classic_text.specs.declared.fault.ReadFaultKind.TheVariants as read
 use Rattle.classic_text.specs.FaultName.{fault_name}
-use Rattle.proto_expand.specs.declared.fault.ExpandFaultKind.{ExpandFaultKind}
-use Rattle.proto_expand.specs.declared.fault.ExpandFaultKind.TheVariants as expand
-use Rattle.proto_expand.specs.FaultName.{fault_name as expand_fault_name}
+use Rattle.flat_document.specs.declared.fault.ExpandFaultKind.{ExpandFaultKind}
+use Rattle.flat_document.specs.declared.fault.ExpandFaultKind.TheVariants as expand
+use Rattle.flat_document.specs.FaultName.{fault_name as expand_fault_name}
 use Rattle.scene_core.specs.declared.fault.SceneFaultKind.{SceneFaultKind}
 use Rattle.scene_core.specs.declared.fault.SceneFaultKind.TheVariants as scene
 use Rattle.scene_core.specs.Faults.{fault_name as scene_fault_name}

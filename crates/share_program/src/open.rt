@@ -6,12 +6,14 @@ ghost use Rattle.x3d_lists.specs.Answers.{Gives};
 ghost use Rattle.cascade_core.specs.InTurn.{AreInTurn};
 ghost use Rattle.share_jobs.specs.Schedule.{schedule_lines};
 ghost use Rattle.share_program.specs.Opening.{routed, built, opened, opened_job, IsDeviceOrMemory};
+ghost use Rattle.share_program.specs.Opening.{none_declares, declares_none};
 ghost use Rattle.share_program.specs.Opening.{IsNoJob, IsNoSchedule};
 ghost use Rattle.share_jobs.specs.declared.fault.JobFault.TheVariants.{Memory};
 
 use crate::stream::read_whole;
 use classic_text::read;
-use proto_expand::{Flat, expand};
+use flat_document::{ExpandFault, ExpandFaultKind, Flat, FlatNode};
+use proto_walk::expand;
 use route_core::Routes;
 use scene_core::Scene;
 use share_jobs::{Inputs, JobFault, Schedule, job_of, schedule_of};
@@ -41,10 +43,31 @@ fn routed(alloc: Global, flat: &Flat, scene: Scene) -> Result<Opened, JobFault>
     Ok(Opened { scene, routes })
 }
 
+/// A Script that declares fields of its own is not run yet.
+fn check_interface(node: &FlatNode) -> Result<(), ExpandFault>
+    ensures { result ≡ declares_none node.now }
+{
+    if node.interface.is_empty() {
+        Ok(())
+    } else {
+        Err(ExpandFaultKind::NotYet.on_line(node.line))
+    }
+}
+
+fn check_interfaces(nodes: &[FlatNode]) -> Result<(), ExpandFault>
+    ensures { result ≡ none_declares nodes.now }
+{
+    for node in nodes {
+        check_interface(node)?;
+    }
+    Ok(())
+}
+
 /// The scene of a document, and its routes.
 fn built(alloc: Global, flat: &Flat) -> Result<Opened, JobFault>
     ensures { Gives Memory (λ o. o) result (built flat.now) }
 {
+    check_interfaces(flat.nodes.as_slice())?;
     let scene = Scene::build(alloc, flat)?;
     routed(alloc, flat, scene)
 }

@@ -8,7 +8,7 @@ use crate::fault::RunFault;
 use crate::order::OrderFault;
 use arrayvec::ArrayString;
 use classic_text::ReadFaultKind;
-use proto_expand::ExpandFaultKind;
+use flat_document::ExpandFaultKind;
 use route_core::RouteFaultKind;
 use scene_core::SceneFaultKind;
 use share_jobs::JobFault;

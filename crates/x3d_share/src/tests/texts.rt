@@ -1,6 +1,6 @@
 //! Texts that are no scene, by hand: what is said of each, and of which line.
 
-use proto_expand::{ExpandFault, ExpandFaultKind};
+use flat_document::{ExpandFault, ExpandFaultKind};
 use route_core::{RouteFault, RouteFaultKind};
 use scene_core::{SceneFault, SceneFaultKind};
 use share_program::{Failure, open_scene, refusal_line};
