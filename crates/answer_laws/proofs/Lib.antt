@@ -1,6 +1,6 @@
 mod Between
-mod Clocks
-mod Pointers
+pub mod Clocks
+pub mod Pointers
 pub mod Reactions
-mod Rows
+pub mod Rows
 mod Ways

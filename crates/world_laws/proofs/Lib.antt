@@ -1,0 +1,4 @@
+mod Places
+mod Sending
+mod States
+mod Steps
