@@ -3,4 +3,4 @@
 
 mod worlds;
 
-pub use worlds::steps_fit;
+pub use worlds::{fitting_worlds_have_snapshots, steps_fit};
