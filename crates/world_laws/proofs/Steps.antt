@@ -24,8 +24,8 @@ use Rattle.cascade_core.specs.Outputs.{outputs_of}
 use Rattle.cascade_core.specs.Pointer.{insides, place_in, is_pressed, or_all, concerned, is_down}
 use Rattle.cascade_core.specs.declared.world.Turn.{Turn}
 use Rattle.cascade_core.specs.declared.world.WorldData.{WorldData}
-use Rattle.world_laws.specs.Fits.{WorldFits, AllJoin, IsNext, event_fits}
-use Rattle.world_laws.proofs.Places.{at_range, place_fits}
+use Rattle.world_laws.specs.Fits.{WorldFits, AllJoin, IsNext, is_event}
+use Rattle.world_laws.proofs.Places.{at_range, place_fits, insides_fit}
 use Rattle.world_laws.proofs.Sending.{fold_keeps, sends_fit, answered_fits, send_fits}
 use Rattle.world_laws.proofs.States.{time_is, touch_is, ticks, meets}
 
@@ -103,13 +103,11 @@ module _ (scene : SceneView) (routes : List Route) (few : length (types_of scene
       (λ t n q k. meet_fits turn p (is_down turn.world p.who) v inside t n q k)
       (concerned (types_of scene) turn.world p.who) (with_button turn p) (all_concerned (types_of scene) turn.world p.who) (button_fits turn p f)
 
-  happen_fits : (now : ℤ) → is_moment now ≡ true → (turn : Turn) (event : Event) → event_fits scene turn.world event ≡ true → WorldFits (types_of scene) turn.world → WorldFits (types_of scene) (happen scene routes now turn event).world
+  happen_fits : (now : ℤ) → is_moment now ≡ true → (turn : Turn) (event : Event) → is_event event ≡ true → WorldFits (types_of scene) turn.world → WorldFits (types_of scene) (happen scene routes now turn event).world
   happen_fits now m turn Clock v f =
       fold_keeps (λ (t : Turn). WorldFits (types_of scene) t.world) (is_of TimeSensor (types_of scene)) (tick_node (types_of scene) routes now)
       (λ t n q k. tick_fits now m t n q k) (clocks_of (types_of scene)) turn (all_of TimeSensor (types_of scene)) f
-  happen_fits now m turn (Pointer p) v f =
-      let b = both (is_viewer p.who) (list_all at_range (insides scene turn.world.fields p.ray)) v in
-      point_fits turn p b.0 b.1 f
+  happen_fits now m turn (Pointer p) v f = point_fits turn p v (insides_fit scene turn.world.fields p.ray) f
 
 moment_of : (t : ℤ) → is_input_time t ≡ true → is_moment t ≡ true
 moment_of t e = let b = both (int_le (pos 1) t) (int_le t (pos (10 ^ 18))) e in and_true _ _ (later t b.0) b.1
@@ -117,7 +115,7 @@ moment_of t e = let b = both (int_le (pos 1) t) (int_le t (pos (10 ^ 18))) e in 
     later : (z : ℤ) → int_le (pos 1) z ≡ true → int_le (pos 0) z ≡ true
     later z h = grind (arith, ints)
 
-pub all_steps_fit : (scene : SceneView) (routes : List Route) (w : WorldData) (input : Stamp) → length (types_of scene) ≤ 2 ^ 32 → AllJoin (types_of scene) routes → IsNext scene w input → WorldFits (types_of scene) w → WorldFits (types_of scene) (apply scene routes w input)
+pub all_steps_fit : (scene : SceneView) (routes : List Route) (w : WorldData) (input : Stamp) → length (types_of scene) ≤ 2 ^ 32 → AllJoin (types_of scene) routes → IsNext w input → WorldFits (types_of scene) w → WorldFits (types_of scene) (apply scene routes w input)
 unfolding apply
 all_steps_fit scene routes w input few joined is f =
     let n = both (nat_le 1 input.number) (nat_le input.number (2 ^ 20)) is.number in

@@ -15,13 +15,10 @@ use Rattle.x3d_values.specs.Stamp.{Stamp}
 use Rattle.x3d_values.specs.Tables.{Entry}
 use Rattle.snapshot_codec.specs.Parts.{cycle_fits}
 use Rattle.snapshot_codec.specs.Trace.{is_moment, typed_fits}
-use Rattle.snapshot_codec.specs.Values.{vector3}
 use Rattle.sensor_core.specs.Touches.{Touch, is_over}
 use Rattle.scene_core.specs.declared.scene.Route.{Route}
 use Rattle.scene_core.specs.Scene.{SceneView, types_of}
 use Rattle.cascade_core.specs.Apply.{apply}
-use Rattle.cascade_core.specs.Pointer.{insides}
-use Rattle.cascade_core.specs.declared.pointer.Inside.{Inside}
 use Rattle.cascade_core.specs.declared.world.TraceLine.{TraceLine}
 use Rattle.cascade_core.specs.declared.world.WorldData.{WorldData}
 use Rattle.answer_laws.specs.Answers.{touch_fits}
@@ -96,23 +93,21 @@ abbrev pub AllJoin : List NodeType → List Route → Type 0
 AllJoin types [] = Unit {0}
 AllJoin types (r ∷ routes) = (Joins types r) × (AllJoin types routes)
 
--- nobody but a viewer points, and where its ray is inside a sensor it is at a place in range
-abbrev pub event_fits : SceneView → WorldData → Event → Bool
-event_fits scene w Clock = true
-event_fits scene w (Pointer p) =
-    is_viewer p.who
-    && list_all (λ (i : Inside). vector3.fits i.point) (insides scene w.fields p.ray)
+-- nobody but a viewer points
+abbrev pub is_event : Event → Bool
+is_event Clock = true
+is_event (Pointer p) = is_viewer p.who
 
 -- the next input of a world, up to the last that there may be
-pub record IsNext (scene : SceneView) (w : WorldData) (input : Stamp) : Type 0 where
+pub record IsNext (w : WorldData) (input : Stamp) : Type 0 where
   pub next : input.number ≡ w.applied + 1
   pub number : is_input_number input.number ≡ true
   pub time : is_input_time input.time ≡ true
-  pub event : event_fits scene w input.event ≡ true
+  pub event : is_event input.event ≡ true
 
 -- a world that fits, after such an input, fits; a scene has at most 2^32 nodes
 abbrev pub StepsFit : Type 0
 StepsFit =
     (scene : SceneView) (routes : List Route) (w : WorldData) (input : Stamp)
-    → length (types_of scene) ≤ 2 ^ 32 → AllJoin (types_of scene) routes → IsNext scene w input
+    → length (types_of scene) ≤ 2 ^ 32 → AllJoin (types_of scene) routes → IsNext w input
     → WorldFits (types_of scene) w → WorldFits (types_of scene) (apply scene routes w input)
