@@ -1,5 +1,5 @@
 -- A cascade sends what fits, and keeps a world that fits.
-use Rattle.std.proofs.Common.{◌≡◌, ℕ, zero, suc, ◌+◌, ◌≤◌, ◌<◌, ◌^◌, Bool, true, false, ◌&&◌, ◌==◌, ◌++◌, if◌then◌else◌, nat_lt, List, [], ◌∷◌, length, map, Option, Some, None, slice_get, option_map, refl, sym, ap, subst, ◌∙◌, arith, eqb-true, lt-ltb, ltb-true, le-leb}
+use Rattle.std.proofs.Common.{◌≡◌, ℕ, zero, suc, ◌≤◌, ◌<◌, ◌^◌, Bool, true, false, ◌&&◌, ◌==◌, if◌then◌else◌, nat_lt, List, [], ◌∷◌, length, map, Option, Some, None, slice_get, refl, sym, subst, arith, eqb-true, lt-ltb, ltb-true, le-leb}
 use Rattle.std.specs.List.{list_all, fold, filter}
 use Rattle.std.specs.Option.{option_and_then}
 use Rattle.std.proofs.lemmas.Option.{slice_get_within}
@@ -8,7 +8,7 @@ use Rattle.x3d_values.specs.declared.field_type.FieldType.{FieldType}
 use Rattle.x3d_values.specs.declared.node_type.NodeType.{NodeType}
 use Rattle.x3d_values.specs.declared.node_type.NodeType.TheVariants.{Group}
 use Rattle.x3d_values.specs.declared.value.Value.{Value}
-use Rattle.x3d_values.specs.Tables.{Entry, rows}
+use Rattle.x3d_values.specs.Tables.{rows}
 use Rattle.react_core.specs.declared.outbox.Reply.{Reply}
 use Rattle.snapshot_codec.specs.Trace.{typed_fits}
 use Rattle.scene_core.specs.declared.scene.End.{End}

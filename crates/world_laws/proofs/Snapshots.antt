@@ -1,5 +1,5 @@
 -- What fits has a snapshot.
-use Rattle.std.proofs.Common.{◌≡◌, ℕ, zero, suc, ◌+◌, ◌^◌, ◌<◌, ◌≤◌, ◌==◌, Bool, true, false, not, ◌&&◌, List, [], ◌∷◌, length, map, Option, Some, None, is_none, nat_lt, nat_le, slice_get, refl, sym, ap, subst, ◌∙◌, arith, eq-eqb, eqb-true, lt-ltb, le-leb, leb-true}
+use Rattle.std.proofs.Common.{◌≡◌, ℕ, suc, ◌+◌, ◌^◌, ◌<◌, ◌≤◌, ◌==◌, true, ◌&&◌, List, [], ◌∷◌, length, map, Option, Some, None, nat_lt, nat_le, slice_get, refl, sym, ap, subst, ◌∙◌, arith, eq-eqb, eqb-true, lt-ltb, le-leb, leb-true}
 use Rattle.std.specs.List.{list_all}
 use Rattle.std.specs.Option.{option_and_then}
 use Rattle.std.proofs.lemmas.List.{length-map, nil_from_length}

@@ -1,6 +1,6 @@
 -- One node among all, and what it does in a world.
-use Rattle.std.proofs.Common.{◌≡◌, ℕ, zero, suc, ◌≤◌, ◌<◌, ◌^◌, ℤ, Bool, true, false, not, ◌&&◌, ◌++◌, if◌then◌else◌, List, [], ◌∷◌, length, Option, Some, None, is_none, slice_get, slice_set, option_map, refl, sym, ap, subst, ◌∙◌, arith}
-use Rattle.std.specs.List.{list_all, fold, filter}
+use Rattle.std.proofs.Common.{◌≡◌, ℕ, zero, suc, ℤ, Bool, true, false, ◌&&◌, if◌then◌else◌, List, [], ◌∷◌, Option, Some, None, slice_get, slice_set, option_map, refl, sym, ap, subst, ◌∙◌}
+use Rattle.std.specs.List.{list_all}
 use Rattle.std.specs.Option.{option_and_then, option_map_or}
 use Rattle.byte_codec.proofs.Laws.{both, and_true}
 use Rattle.x3d_values.specs.declared.fields.Fields.{Fields}
@@ -14,7 +14,7 @@ use Rattle.x3d_values.specs.Tables.{Entry}
 use Rattle.react_core.specs.declared.outbox.Reply.{Reply}
 use Rattle.react_core.specs.Reaction.{is_time_sensor, reaction}
 use Rattle.sensor_core.specs.Timing.{Timing, timing_of}
-use Rattle.sensor_core.specs.Touches.{Touch, is_over, disable}
+use Rattle.sensor_core.specs.Touches.{Touch, disable}
 use Rattle.snapshot_codec.specs.Trace.{is_moment, typed_fits}
 use Rattle.snapshot_codec.specs.Values.{vector3}
 use Rattle.scene_core.specs.declared.scene.End.{End}
@@ -22,7 +22,6 @@ use Rattle.scene_core.specs.Scene.{SceneView}
 use Rattle.pick_core.specs.Sensors.{is_enabled}
 use Rattle.cascade_core.specs.Answers.{Answer, nothing, reacting, setting, setting_at, is_touch_sensor, turns_off, forgetting, touching, answer_as, answer, ticking, ticking_at, ticked, meeting, met}
 use Rattle.cascade_core.specs.declared.world.WorldData.{WorldData}
-use Rattle.answer_laws.specs.Answers.{touch_fits}
 use Rattle.answer_laws.specs.Ranges.{fields_fit, event_fits, replies_fit, row_at, sent_type}
 use Rattle.answer_laws.proofs.Clocks.{all_sets_fit, all_ticks_fit, timing_is}
 use Rattle.answer_laws.proofs.Pointers.{all_append, all_points_fit, all_disables_fit}

@@ -1,6 +1,6 @@
 -- An input keeps a world that fits.
-use Rattle.std.proofs.Common.{◌≡◌, ℕ, ◌+◌, ◌≤◌, ◌^◌, ℤ, pos, int_le, Bool, true, false, ◌&&◌, if◌then◌else◌, nat_le, List, [], ◌∷◌, length, Option, Some, None, slice_get, slice_set, refl, sym, ap, subst, ◌∙◌, arith, leb-true, length-set}
-use Rattle.std.specs.List.{list_all, fold, filter, range_with_len}
+use Rattle.std.proofs.Common.{◌≡◌, ℕ, ◌+◌, ◌≤◌, ◌^◌, ℤ, pos, int_le, Bool, true, false, if◌then◌else◌, nat_le, List, [], ◌∷◌, length, Option, Some, None, slice_get, refl, ap, ◌∙◌, arith, leb-true, length-set}
+use Rattle.std.specs.List.{list_all, filter, range_with_len}
 use Rattle.std.specs.Option.{option_map_or}
 use Rattle.std.proofs.lemmas.Int.{ints}
 use denote.Enum.Bare.{sameb}
@@ -17,8 +17,8 @@ use Rattle.snapshot_codec.specs.Trace.{is_moment}
 use Rattle.scene_core.specs.declared.scene.Route.{Route}
 use Rattle.scene_core.specs.Scene.{SceneView, types_of}
 use Rattle.cascade_core.specs.Answers.{Answer, met, ticked, with_answer}
-use Rattle.cascade_core.specs.Apply.{tick_node, clock, point_node, with_button, point, happen, begin, apply}
-use Rattle.cascade_core.specs.Cascade.{send, send_all}
+use Rattle.cascade_core.specs.Apply.{tick_node, point_node, with_button, point, happen, begin, apply}
+use Rattle.cascade_core.specs.Cascade.{send}
 use Rattle.cascade_core.specs.Nodes.{is_of, numbers_of, clocks_of, touch_sensors_of}
 use Rattle.cascade_core.specs.Outputs.{outputs_of}
 use Rattle.cascade_core.specs.Pointer.{insides, place_in, is_pressed, or_all, concerned, is_down}

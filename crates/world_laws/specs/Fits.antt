@@ -1,6 +1,6 @@
 -- Worlds in which each value is in the range of its field (ISO/IEC 19775-1, field semantics; the
 -- ranges are our choice).
-use Rattle.std.specs.Prelude.{◌≡◌, ℕ, ◌+◌, ◌^◌, ◌≤◌, ◌==◌, ◌&&◌, not, is_none, nat_le, nat_lt, Bool, true, false, List, [], ◌∷◌, length, Option, Some, None, slice_get}
+use Rattle.std.specs.Prelude.{◌≡◌, ℕ, ◌+◌, ◌^◌, ◌≤◌, ◌==◌, ◌&&◌, not, is_none, nat_le, nat_lt, Bool, true, false, List, [], ◌∷◌, length, Option, Some, slice_get}
 use Rattle.std.specs.List.{list_all}
 use Rattle.std.specs.Option.{option_map, option_and_then}
 use Rattle.x3d_values.specs.declared.field_type.FieldType.{FieldType}
