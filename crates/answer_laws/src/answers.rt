@@ -1,6 +1,7 @@
 //! That what a node does keeps the ranges of its fields, and of what it sends.
 
-ghost use Rattle.answer_laws.specs.Answers.{ReactionsFit, SetsFit, TicksFit, PointsFit, DisablesFit};
+ghost use Rattle.answer_laws.specs.Answers.{DisablesFit, PointsFit, ReactionsFit};
+ghost use Rattle.answer_laws.specs.Answers.{SetsFit, TicksFit};
 
 /// A node whose fields fit, at an event that fits, keeps fields that fit and sends events that do.
 pub fn reactions_fit()
