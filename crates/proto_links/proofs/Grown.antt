@@ -13,6 +13,12 @@ use Rattle.proto_links.specs.Chains.{table_of, no_numbers, with_number, below, o
 use Rattle.proto_links.proofs.Places.{equal_or_not, same_item, item_at, item_before, item_last, item_other, item_set, item_kept}
 use Rattle.proto_links.proofs.Found.{found-more, found-last}
 
+pub links_count : (entries : List Entry) → length (links_of entries) ≡ length entries
+links_count entries = length-map entries (λ (e : Entry). e.link)
+
+pub links_more : (entries : List Entry) (e : Entry) → links_of (entries ++ e ∷ []) ≡ links_of entries ++ e.link ∷ []
+links_more entries e = map-append (λ (x : Entry). x.link) entries (e ∷ [])
+
 -- ---- numbers below a sight
 
 below-none : (sight n : ℕ) → sight ≤ n → below sight (Some n) ≡ None
@@ -88,21 +94,21 @@ module _ (entries : List Entry) (chains new : List Chain) (name : List ℕ) (bef
       (d : Chain) × (slice_get new e.chain ≡ Some d) × IsSeen (links_of entries) (i + 1) d
   seen_still i e is s = elim (equal_or_not e.chain c) [
     | inl same ↦
-      let d : s.0 ≡ m.chain = same_item (slice_get chains e.chain) s.0 m.chain s.1 (ap (slice_get chains) same ∙ m.there) in
-      let k : i < length entries = slice_get_within entries i e is in
-      (grown.0, ap (slice_get new) same ∙ there, seen-longer (links_of entries) (i + 1) (length entries) name m.chain grown.0 (subst (λ x. IsSeen (links_of entries) (i + 1) x) d s.2) m.new (omega (arith, k)) grown.2 grown.4)
+        let d : s.0 ≡ m.chain = same_item (slice_get chains e.chain) s.0 m.chain s.1 (ap (slice_get chains) same ∙ m.there) in
+        let k : i < length entries = slice_get_within entries i e is in
+        (grown.0, ap (slice_get new) same ∙ there, seen-longer (links_of entries) (i + 1) (length entries) name m.chain grown.0 (subst (λ x. IsSeen (links_of entries) (i + 1) x) d s.2) m.new (omega (arith, k)) grown.2 grown.4)
     | inr ne ↦ (s.0, other_there e.chain ne ∙ s.1, s.2)
   ]
 
   lasts_still : (k : ℕ) (d : Chain) → slice_get new k ≡ Some d → (other : List ℕ) (n : ℕ) → table_of d other ≡ Some n → n ≤ d.last
   lasts_still k d is other n e = elim (equal_or_not k c) [
     | inl same ↦
-      let f : d ≡ grown.0 = same_item (slice_get new k) d grown.0 is (ap (slice_get new) same ∙ there) in
-      let g : table_of grown.0 other ≡ Some n = ap (λ (x : Chain). table_of x other) (sym f) ∙ e in
-      let w : with_number name (length entries) (table_of m.chain) other ≡ Some n = ap (λ (t : List ℕ → Option ℕ). t other) (sym grown.4) ∙ g in
-      let b : n ≤ length entries = last-by name other (length entries) n m.chain.last (table_of m.chain) (omega (arith, h, m.last)) (a.lasts c m.chain m.there other n) (bytes_eq name other) w in
-      let z : d.last ≡ length entries = ap (λ (x : Chain). x.last) f ∙ grown.3 in
-      omega (arith, b, z)
+        let f : d ≡ grown.0 = same_item (slice_get new k) d grown.0 is (ap (slice_get new) same ∙ there) in
+        let g : table_of grown.0 other ≡ Some n = ap (λ (x : Chain). table_of x other) (sym f) ∙ e in
+        let w : with_number name (length entries) (table_of m.chain) other ≡ Some n = ap (λ (t : List ℕ → Option ℕ). t other) (sym grown.4) ∙ g in
+        let b : n ≤ length entries = last-by name other (length entries) n m.chain.last (table_of m.chain) (omega (arith, h, m.last)) (a.lasts c m.chain m.there other n) (bytes_eq name other) w in
+        let z : d.last ≡ length entries = ap (λ (x : Chain). x.last) f ∙ grown.3 in
+        omega (arith, b, z)
     | inr ne ↦ a.lasts k d (sym (other_there k ne) ∙ is) other n e
   ]
 
@@ -141,12 +147,12 @@ module _ (entries : List Entry) (chains : List Chain) (name : List ℕ) (before 
   begun_lasts : (k : ℕ) (x : Chain) → slice_get (chains ++ d ∷ []) k ≡ Some x → (other : List ℕ) (n : ℕ) → table_of x other ≡ Some n → n ≤ x.last
   begun_lasts k x is other n e = elim (equal_or_not k (length chains)) [
     | inl same ↦
-      let f : x ≡ d = same_item (slice_get (chains ++ d ∷ []) k) x d is (item_last chains d k same) in
-      let g : table_of d other ≡ Some n = ap (λ (y : Chain). table_of y other) (sym f) ∙ e in
-      let w : with_number name (length entries) no_numbers other ≡ Some n = ap (λ (t : List ℕ → Option ℕ). t other) (sym table) ∙ g in
-      let b : n ≤ length entries = last-by name other (length entries) n 0 no_numbers (omega arith) (λ bad. not-none n bad) (bytes_eq name other) w in
-      let z : x.last ≡ length entries = ap (λ (y : Chain). y.last) f ∙ last in
-      omega (arith, b, z)
+        let f : x ≡ d = same_item (slice_get (chains ++ d ∷ []) k) x d is (item_last chains d k same) in
+        let g : table_of d other ≡ Some n = ap (λ (y : Chain). table_of y other) (sym f) ∙ e in
+        let w : with_number name (length entries) no_numbers other ≡ Some n = ap (λ (t : List ℕ → Option ℕ). t other) (sym table) ∙ g in
+        let b : n ≤ length entries = last-by name other (length entries) n 0 no_numbers (omega arith) (λ bad. not-none n bad) (bytes_eq name other) w in
+        let z : x.last ≡ length entries = ap (λ (y : Chain). y.last) f ∙ last in
+        omega (arith, b, z)
     | inr ne ↦ a.lasts k x (sym (item_other chains d k ne) ∙ is) other n e
   ]
 
@@ -200,18 +206,18 @@ module _ (entries : List Entry) (chains : List Chain) (l : Link) (c : ℕ) (h : 
         ∙ ap (λ f. or_else (below sight (table_of p.chain other)) f) (sym (as_before other p.chain.from p.from));
   }
 
-  pub more-chained : AreChained (entries ++ more ∷ []) chains
-  more-chained = record {
+  pub more_chained : AreChained (entries ++ more ∷ []) chains
+  more_chained = record {
     seen = λ i e is. elim (equal_or_not i (length entries)) [
       | inl same ↦
-        let f : e ≡ more = same_item (slice_get (entries ++ more ∷ []) i) e more is (item_last entries more i same) in
-        let g : e.chain ≡ c = ap (λ (x : Entry). x.chain) f in
-        (p.chain, ap (slice_get chains) g ∙ p.there, new-seen (i + 1) (ap (λ (n : ℕ). n + 1) same))
+          let f : e ≡ more = same_item (slice_get (entries ++ more ∷ []) i) e more is (item_last entries more i same) in
+          let g : e.chain ≡ c = ap (λ (x : Entry). x.chain) f in
+          (p.chain, ap (slice_get chains) g ∙ p.there, new-seen (i + 1) (ap (λ (n : ℕ). n + 1) same))
       | inr ne ↦
-        let old : slice_get entries i ≡ Some e = sym (item_other entries more i ne) ∙ is in
-        let s = p.chained.seen i e old in
-        let k : i < length entries = slice_get_within entries i e old in
-        (s.0, s.1, old-seen (i + 1) s.0 (omega (arith, k)) s.2)
+          let old : slice_get entries i ≡ Some e = sym (item_other entries more i ne) ∙ is in
+          let s = p.chained.seen i e old in
+          let k : i < length entries = slice_get_within entries i e old in
+          (s.0, s.1, old-seen (i + 1) s.0 (omega (arith, k)) s.2)
     ];
     lasts = p.chained.lasts;
   }

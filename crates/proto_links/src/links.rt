@@ -37,9 +37,13 @@ pub struct Links<'a> {
 
 impl<'a> Model for Links<'a> {
     ghost use Rattle.std.specs.Prelude.{List};
+    ghost use Rattle.std.specs.Coded.{codes};
+    ghost use Rattle.classic_tree.specs.contracts.tree.ProtoText as proto_text;
     ghost use Rattle.proto_links.specs.declared.links.Link.{Link};
 
     ghost Value = { List Link };
+
+    ghost coded = { Prim.hlevel (codes, proto_text.the_row.coded) };
 
     ghost use Rattle.proto_links.specs.Chains.{links_of, AreChained};
 
@@ -120,9 +124,10 @@ impl<'a> Links<'a> {
     }
 
     /// One link more, which sees as many as it says. On a refusal there are no links any more.
+    #[tactic(auto, using(crate::proofs::Grown::links_count, crate::proofs::Grown::links_more, crate::proofs::Grown::more_chained))]
     pub fn with(self, alloc: Global, link: Link<'a>) -> Result<Links<'a>, AllocError>
         requires { link.before ≤ length self }
-        ensures { IfOk result (λ links. links ≡ self ++ link.entry ∷ []) }
+        ensures { IfOk result (λ links. links ≡ self.entry ++ link.entry ∷ []) }
     {
         let Links {
             mut entries,
