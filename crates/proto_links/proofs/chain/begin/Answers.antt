@@ -1,6 +1,6 @@
-use Rattle.std.proofs.Common.{◌≡◌, ◌∙◌, ap, refl}
+use Rattle.std.proofs.Common.{◌∙◌, ap, refl}
 use Rattle.std.proofs.Math.Path.{fun_ext}
-use Rattle.proto_links.specs.Chains.{table_of, no_numbers, with_number}
+use Rattle.proto_links.specs.Chains.{table_of, with_number}
 use Rattle.proto_links.proofs.chain.begin.Goals as goal
 
 pub returns-clause-table : goal.returns-clause-table
