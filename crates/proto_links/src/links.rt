@@ -10,6 +10,7 @@ use crate::chain::{Chain, admits, begin, extend, number_below};
 use classic_tree::ProtoText;
 use std::alloc::{AllocError, Global};
 use std::marker::Model;
+use std::mem;
 use x3d_lists::Text;
 
 /// A prototype that was declared, the body that it is declared in, and how many links its own body
@@ -124,8 +125,20 @@ impl<'a> Links<'a> {
     }
 
     /// One link more, which sees as many as it says. On a refusal there are no links any more.
+    pub fn push(&mut self, alloc: Global, link: Link<'a>) -> Result<(), AllocError>
+        requires { link.before ≤ length self.old }
+        ensures { IfOk result (λ _. self.new ≡ self.old ++ link.entry ∷ []) }
+    {
+        let entries = mem::replace(&mut self.entries, Vec::new(alloc));
+        let chains = mem::replace(&mut self.chains, Vec::new(alloc));
+        let Links { entries, chains } = Links { entries, chains }.with(alloc, link)?;
+        self.entries = entries;
+        self.chains = chains;
+        Ok(())
+    }
+
     #[tactic(auto, using(crate::proofs::Grown::links_count, crate::proofs::Grown::links_more, crate::proofs::Grown::more_chained))]
-    pub fn with(self, alloc: Global, link: Link<'a>) -> Result<Links<'a>, AllocError>
+    fn with(self, alloc: Global, link: Link<'a>) -> Result<Links<'a>, AllocError>
         requires { link.before ≤ length self }
         ensures { IfOk result (λ links. links ≡ self.entry ++ link.entry ∷ []) }
     {

@@ -222,14 +222,14 @@ finds-within zero links name sight h most f = finds-none links name sight (omega
 finds-within (suc fuel) links name sight h most f = elim (none_or_some sight) [
   | inl is ↦ finds-none links name sight is
   | inr some ↦
-    let below : sight - 1 < length links = omega (arith, some, most) in
-    let x = item_at links (sight - 1) below in
-    let got : x.0 ≡ get_or links (sight - 1) x.0 = sym (get_or_from_slice_get links (sight - 1) x.0 x.0 x.1) in
-    let s = sees_at links sight x.0 h some most got in
-    let before : x.0.before ≤ length links = omega (arith, s.1, most) in
-    let back : x.0 ≡ get_or (reverse (reverse links)) (sight - 1) x.0 = got ∙ ap (λ (ls : List Link). get_or ls (sight - 1) x.0) (sym (reverse-reverse links)) in
-    let at = found-in-at (reverse links) name sight x.0 h some (omega (arith, most, length-reverse links)) s.1 back in
-    finds-by links name sight x.0 x.1 before s.0 at (finds-within fuel links name x.0.before h before (omega (arith, s.1, f))) (bytes_eq (out-ProtoText x.0.proto.now).name name) refl
+      let below : sight - 1 < length links = omega (arith, some, most) in
+      let x = item_at links (sight - 1) below in
+      let got : x.0 ≡ get_or links (sight - 1) x.0 = sym (get_or_from_slice_get links (sight - 1) x.0 x.0 x.1) in
+      let s = sees_at links sight x.0 h some most got in
+      let before : x.0.before ≤ length links = omega (arith, s.1, most) in
+      let back : x.0 ≡ get_or (reverse (reverse links)) (sight - 1) x.0 = got ∙ ap (λ (ls : List Link). get_or ls (sight - 1) x.0) (sym (reverse-reverse links)) in
+      let at = found-in-at (reverse links) name sight x.0 h some (omega (arith, most, length-reverse links)) s.1 back in
+      finds-by links name sight x.0 x.1 before s.0 at (finds-within fuel links name x.0.before h before (omega (arith, s.1, f))) (bytes_eq (out-ProtoText x.0.proto.now).name name) refl
 ]
 
 pub finds : (links : List Link) (name : List ℕ) (sight : ℕ) → AreLinked (reverse links) → sight ≤ length links → Finds links name sight

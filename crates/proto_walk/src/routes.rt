@@ -14,8 +14,8 @@ use crate::held::{KnownField, Store};
 use classic_tree::{Declaration, NodeText, RouteText};
 use flat_document::ExpandFault;
 use proto_declarations::Declarations;
-use proto_links::Links;
 use proto_ends::{Joint, Tip, Wire};
+use proto_links::Links;
 use std::alloc::Global;
 use x3d_lists::{Duplicate, Text};
 

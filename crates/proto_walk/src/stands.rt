@@ -13,8 +13,8 @@ use crate::held::{Joined, Store};
 use classic_tree::{Declaration, NodeText};
 use flat_document::{ExpandFault, ExpandFaultKind};
 use proto_declarations::Declarations;
-use proto_links::Links;
 use proto_ends::{Joint, Spot, Stand, Tie, spot_count, with_spots};
+use proto_links::Links;
 use std::alloc::{AllocError, AllocFailed, Global};
 use x3d_lists::{Items, Text};
 

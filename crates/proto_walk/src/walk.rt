@@ -14,9 +14,8 @@ use crate::{between, filling, routes, scripts, stands, steps};
 use classic_tree::{BodyItem, NodeText, ProtoText, RawValue, RouteText, Statement};
 use flat_document::{ExpandFault, ExpandFaultKind};
 use proto_ends::{Spot, Stand};
-use proto_links::{Link, Links};
+use proto_links::Link;
 use std::alloc::{AllocError, Global};
-use std::mem;
 use x3d_lists::{Items, Text};
 use x3d_values::NodeType;
 
@@ -40,8 +39,7 @@ pub fn declare<'a>(
 {
     let within = walker.scope.inside;
     let before = walker.scope.sight;
-    let links = mem::replace(&mut walker.links, Links::new(alloc));
-    walker.links = links.with(
+    walker.links.push(
         alloc,
         Link {
             proto,
