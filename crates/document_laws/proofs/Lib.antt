@@ -1,0 +1,4 @@
+mod Kept
+mod Openings
+mod Routes
+mod Typed
