@@ -91,14 +91,26 @@ with_helpers flat s nodes = all_children flat.nodes flat.helpers >>= λ _. limit
 abbrev with_roots : Flat → Numbering → List SceneNode → Result SceneView SceneFault
 with_roots flat s nodes = all_children flat.nodes flat.roots >>= λ _. with_helpers flat s nodes
 
-scene_begins : (flat : Flat) (s : Numbering) (scene : SceneView) → scene_by flat s ≡ Ok scene → All Begins scene.nodes
-scene_begins flat s scene h =
+nodes_are : (flat : Flat) (s : Numbering) (scene : SceneView) → scene_by flat s ≡ Ok scene → nodes_of flat.nodes s ≡ Ok scene.nodes
+nodes_are flat s scene h =
     let a = bind_is (nodes_of flat.nodes s) (with_roots flat s) scene h in
     let b = bind_is (all_children flat.nodes flat.roots) (λ _. with_helpers flat s a.0) scene a.2 in
     let c = bind_is (all_children flat.nodes flat.helpers) (λ _. limited flat s a.0) scene b.2 in
     let d = bind_is (limits a.0 (called s.numbers flat.roots)) (λ _. Ok (viewed flat s a.0)) scene c.2 in
-    subst (λ (v : SceneView). All Begins v.nodes) (ok_is (viewed flat s a.0) scene d.2)
-    (nodes_begin flat.nodes s (is_alone (names_of flat.nodes s.order)) a.0 a.1)
+    subst (λ (v : SceneView). nodes_of flat.nodes s ≡ Ok v.nodes) (ok_is (viewed flat s a.0) scene d.2) a.1
+
+abbrev pub numbers_of : Flat → Numbering
+numbers_of flat = numbering flat.nodes flat.roots flat.helpers
+
+-- a scene's nodes are those of its document, in the order of their numbers
+pub scene_nodes : (flat : Flat) (scene : SceneView) → scene_of flat ≡ Ok scene → nodes_of flat.nodes (numbers_of flat) ≡ Ok scene.nodes
+unfolding scene_of
+scene_nodes flat scene h = nodes_are flat (numbers_of flat) scene h
+
+scene_begins : (flat : Flat) (scene : SceneView) → scene_of flat ≡ Ok scene → All Begins scene.nodes
+scene_begins flat scene h =
+    let s : Numbering = numbers_of flat in
+    nodes_begin flat.nodes s (is_alone (names_of flat.nodes s.order)) scene.nodes (scene_nodes flat scene h)
 
 -- ---- its world
 
@@ -134,7 +146,7 @@ none_yet : 0 ≤ 2 ^ 20
 none_yet = omega arith
 
 pub all_openings_fit : (flat : Flat) (scene : SceneView) → scene_of flat ≡ Ok scene → IsCountable scene → WorldFits (types_of scene) (opening scene)
-unfolding scene_of state_of
+unfolding state_of
 all_openings_fit flat scene h c =
     let count : ℕ = length (map fields_of scene.nodes) in
     let as_many : count ≡ length scene.nodes = length-map scene.nodes fields_of in
@@ -144,7 +156,7 @@ all_openings_fit flat scene h c =
       nodes = all_begin scene.nodes (replicate count None) (replicate count untouched)
           (length-replicate count None ∙ as_many) (length-replicate count untouched ∙ as_many)
           (All-replicate (λ (o : Option ℕ). o ≡ None) count None refl) (All-replicate (λ (u : Touch). u ≡ untouched) count untouched refl)
-          (scene_begins flat (numbering flat.nodes flat.roots flat.helpers) scene h) c;
+          (scene_begins flat scene h) c;
       buttons = length-replicate MAX_VIEWERS false;
       lines = refl;
     }

@@ -3,4 +3,4 @@
 
 mod laws;
 
-pub use laws::{openings_fit, routes_join};
+pub use laws::{openings_fit, routes_join, worlds_fit};
