@@ -217,7 +217,7 @@ fn rewound_viewer_has_the_same_texts(rt: HostRuntime) -> Result<(), Fail> {
 }
 
 #[test]
-fn no_viewers_and_too_many(rt: HostRuntime) -> Result<(), Fail> {
+fn no_viewers(rt: HostRuntime) -> Result<(), Fail> {
     let mut out = Vec::new(rt.alloc());
     let none: Vec<Stage<()>> = Vec::new(rt.alloc());
     let refused = rehearse(rt.alloc(), none, MARK, &[], &mut out);

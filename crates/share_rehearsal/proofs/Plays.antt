@@ -1,6 +1,6 @@
 -- Steps one after another, with the lines of their answers; and the start.
 use Rattle.std.proofs.Common.{◌≡◌, ℕ, zero, suc, ◌+◌, ◌<◌, List, [], ◌∷◌, ◌++◌, length, map, take, replicate, refl, ap, sym, ◌∙◌, subst, arith, append-nil, append_assoc, zero-add}
-use Rattle.std.specs.Prelude.{slice_get, Option, Some, None}
+use Rattle.std.specs.Prelude.{slice_get, Some}
 use Rattle.std.proofs.Math.Nat.{add-zero}
 use Rattle.std.proofs.Math.Numerals.{suc-eq-add-one}
 use Rattle.std.specs.Option.{option_map}
@@ -9,11 +9,10 @@ use Rattle.std.proofs.lemmas.List.{length-replicate, length-take-le}
 use Rattle.scene_core.specs.declared.scene.Route.{Route}
 use Rattle.scene_core.specs.Scene.{SceneView}
 use Rattle.cascade_core.specs.Held.{StageView}
-use Rattle.cascade_core.specs.declared.world.WorldData.{WorldData}
 use Rattle.share_law.specs.declared.step.Step.{Step}
 use Rattle.share_law.specs.Cascade.{cascade}
 use Rattle.share_law.specs.Host.{new_host}
-use Rattle.share_law.specs.Network.{Seat, seated, start}
+use Rattle.share_law.specs.Network.{seated, start}
 use Rattle.share_core.specs.Host.{HostView}
 use Rattle.share_core.specs.Viewer.{ViewerView}
 use Rattle.share_rehearsal.specs.declared.answer.Answer.{Answer}
@@ -83,6 +82,14 @@ endings-more viewers i v within at =
     ap (λ (l : List ViewerView). endings_from 0 l) (take-one viewers i v at)
     ∙ endings-push 0 (take i viewers) v
     ∙ ap (λ (k : ℕ). endings_from 0 (take i viewers) ++ ending_text k v) (zero-add (length (take i viewers)) ∙ length-take-le i viewers (omega (arith, within)))
+
+pub ended-more : (viewers : List ViewerView) (i : ℕ) (v : ViewerView) (before out after : List ℕ) → out ≡ before ++ endings_from 0 (take i viewers) → i < length viewers → slice_get viewers i ≡ Some v → after ≡ out ++ ending_text i v
+    → after ≡ before ++ endings_from 0 (take (i + 1) viewers)
+ended-more viewers i v before out after so_far within at told =
+    told
+    ∙ ap (λ (l : List ℕ). l ++ ending_text i v) so_far
+    ∙ append_assoc before (endings_from 0 (take i viewers)) (ending_text i v)
+    ∙ ap (λ (l : List ℕ). before ++ l) (sym (endings-more viewers i v within at))
 
 -- ---- the start
 

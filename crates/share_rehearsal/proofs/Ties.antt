@@ -1,12 +1,11 @@
 -- Each call of a rehearsal is its step of the network.
-use Rattle.std.proofs.Common.{◌≡◌, ◌≢◌, ℕ, zero, suc, ◌+◌, ◌^◌, ◌<◌, ◌≤◌, ◌⊎◌, inl, inr, true, false, List, [], ◌∷◌, ◌++◌, length, map, replicate, refl, ap, sym, ◌∙◌, subst, arith}
+use Rattle.std.proofs.Common.{◌≡◌, ℕ, zero, suc, ◌^◌, ◌<◌, ◌≤◌, inl, inr, List, [], ◌∷◌, ◌++◌, length, map, replicate, refl, ap, sym, ◌∙◌, subst}
 use Rattle.std.specs.Prelude.{slice_get, slice_set, Option, Some, None, Result, Ok, Err, IsTrue, ◌==◌}
 use Rattle.std.specs.Option.{option_map}
 use Rattle.std.proofs.lemmas.Option.{same_Some, none-some, slice_get-map}
 use Rattle.std.proofs.lemmas.Bool.{cond-false, ne_eqb}
 use Rattle.std.proofs.lemmas.List.{map-append, length-map}
 use Rattle.x3d_values.specs.declared.pointing.Point.{Point}
-use Rattle.x3d_values.specs.Stamp.{Stamp}
 use Rattle.scene_core.specs.declared.scene.Route.{Route}
 use Rattle.scene_core.specs.Scene.{SceneView}
 use Rattle.cascade_core.specs.declared.world.WorldData.{WorldData}
@@ -18,16 +17,11 @@ use Rattle.share_wire.specs.declared.message.Message.{Message}
 use Rattle.snapshot_core.specs.declared.fault.SaveFault.TheVariants as save_fault
 use Rattle.snapshot_core.specs.declared.fault.SnapFault.{SnapFault}
 use Rattle.snapshot_core.specs.WorldCodec.{world_codec}
-use Rattle.share_law.specs.declared.fault.HostFault.{HostFault}
-use Rattle.share_law.specs.declared.fault.NumberFault.{NumberFault}
 use Rattle.share_law.specs.declared.fault.OfferFault.{OfferFault}
-use Rattle.share_law.specs.declared.fault.TakeFault.{TakeFault}
 use Rattle.share_law.specs.declared.kept.Kept.{Kept}
-use Rattle.share_law.specs.declared.reply.HostReply.{HostReply}
-use Rattle.share_law.specs.declared.reply.Taken.{Taken}
 use Rattle.share_law.specs.declared.step.Step.{Step}
 use Rattle.share_law.specs.declared.step.Step.TheVariants.{HostClock, HostPacket, HostAck, HostTake, ViewerOffer, ViewerResend, ViewerAsk, ViewerTake, ViewerSave, ViewerRewind}
-use Rattle.share_law.specs.Calls.{IsClocked, IsHostTakeOf, IsTakeOf, IsRewind}
+use Rattle.share_law.specs.Calls.{IsClocked, IsHostTakeOf, IsTakeOf}
 use Rattle.share_law.specs.Cascade.{cascade}
 use Rattle.share_law.specs.Host.{HostState, host_packet, ack_of}
 use Rattle.share_law.specs.Machine.{Machine}
@@ -94,12 +88,12 @@ module _ (mark : List ℕ) (scene : SceneView) (routes : List Route) where
       let said : Body → Result Message WireFault = λ body. Ok (message mark body) in
       sym (length-map old.packets decoded) ∙ ap length stand.packets ∙ length-map net.sent said
 
-  sent-more : (net : Network WorldData) (old : Seen) (body : Body) → StandFor mark scene routes old net → decoded (datagram (message old.host.mark body)) ≡ Ok (message old.host.mark body)
-      → StandFor mark scene routes (with_packets old (old.packets ++ datagram (message old.host.mark body) ∷ [])) (with_packet net body)
-  sent-more net old body stand again =
+  sent-more : (net : Network WorldData) (old : Seen) (k : List ℕ) (body : Body) → StandFor mark scene routes old net → k ≡ mark → decoded (datagram (message k body)) ≡ Ok (message k body)
+      → StandFor mark scene routes (with_packets old (old.packets ++ datagram (message k body) ∷ [])) (with_packet net body)
+  sent-more net old k body stand own again =
       let said : Body → Result Message WireFault = λ b. Ok (message mark b) in
-      let bytes = datagram (message old.host.mark body) in
-      let reads : decoded bytes ≡ said body = again ∙ ap (λ (k : List ℕ). let r : Result Message WireFault = Ok (message k body) in r) (ap (λ h. h.mark) stand.host) in
+      let bytes = datagram (message k body) in
+      let reads : decoded bytes ≡ said body = again ∙ ap (λ (k : List ℕ). let r : Result Message WireFault = Ok (message k body) in r) own in
       record {
         host = stand.host;
         viewers = stand.viewers;
@@ -111,15 +105,16 @@ module _ (mark : List ℕ) (scene : SceneView) (routes : List Route) where
         shots = stand.shots;
       }
 
-  made : (net : Network WorldData) (s : Step) (old : Seen) (a : Answer) (new : Seen) (body : Option Body) → StandFor mark scene routes old net → ShotsFit net → IsStep m net s (sends net body).0 (sends net body).1 → IsMade old body a new → Goes net s a new
-  made net s old a new None stand fit is call = goes net net s a (Sent None) new old call.0 call.1 is stand fit
-  made net s old a new (Some body) stand fit is call =
+  made : (net : Network WorldData) (s : Step) (old : Seen) (k : List ℕ) (a : Answer) (new : Seen) (body : Option Body) → StandFor mark scene routes old net → ShotsFit net → k ≡ mark → IsStep m net s (sends net body).0 (sends net body).1
+      → IsMade old k body a new → Goes net s a new
+  made net s old k a new None stand fit own is call = goes net net s a (Sent None) new old call.0 call.1 is stand fit
+  made net s old k a new (Some body) stand fit own is call =
       let count : Sent (Some (length old.packets)) ≡ Sent (Some (length net.sent)) = ap (λ (n : ℕ). Sent (Some n)) (sent-count net old stand) in
-      goes net (with_packet net body) s a (Sent (Some (length net.sent))) new _ (call.0 ∙ count) call.1 is (sent-more net old body stand call.2) fit
+      goes net (with_packet net body) s a (Sent (Some (length net.sent))) new _ (call.0 ∙ count) call.1 is (sent-more net old k body stand own call.2) fit
 
   acked : (net : Network WorldData) (v : ℕ) (old : Seen) (a : Answer) (new : Seen) (kept : Option Kept) → StandFor mark scene routes old net → ShotsFit net → slice_get net.host.kept v ≡ kept → IsAcked old v kept a new → Goes net (HostAck v) a new
   acked net v old a new None stand fit at call = unknown net (HostAck v) old a new stand fit (ap (λ (o : Option Kept). host_acks net v o) at) call
-  acked net v old a new (Some kept) stand fit at call = made net (HostAck v) old a new (Some (ack_of v kept)) stand fit (ack-step m net v kept at) call
+  acked net v old a new (Some kept) stand fit at call = made net (HostAck v) old old.host.mark a new (Some (ack_of v kept)) stand fit (ap (λ (h : HostView). h.mark) stand.host) (ack-step m net v kept at) call
 
   -- ---- packets that come
 
@@ -206,14 +201,14 @@ module _ (mark : List ℕ) (scene : SceneView) (routes : List Route) where
   resends net v place old a new None stand fit at call =
       unknown net (ViewerResend v place) old a new stand fit (ap (λ (o : Option (Seat WorldData)). viewer_step m net (ViewerResend v place) v o) at) call
   resends net v place old a new (Some x) stand fit at call =
-      made net (ViewerResend v place) old a new (viewer_resend v x.node place) stand fit (resend-step m net v x place at) call
+      made net (ViewerResend v place) old mark a new (viewer_resend v x.node place) stand fit refl (resend-step m net v x place at) call
 
   asks : (net : Network WorldData) (v : ℕ) (old : Seen) (a : Answer) (new : Seen) (seat : Option (Seat WorldData)) → StandFor mark scene routes old net → ShotsFit net → slice_get net.viewers v ≡ seat
       → IsOffering old v (ViewerAsk v) (option_map (viewer_at mark scene routes v) seat) a new → Goes net (ViewerAsk v) a new
   asks net v old a new None stand fit at call =
       unknown net (ViewerAsk v) old a new stand fit (ap (λ (o : Option (Seat WorldData)). viewer_step m net (ViewerAsk v) v o) at) call
   asks net v old a new (Some x) stand fit at call =
-      made net (ViewerAsk v) old a new (Some (viewer_ask m v x.node)) stand fit (ask-step m net v x at) call
+      made net (ViewerAsk v) old mark a new (Some (viewer_ask m v x.node)) stand fit refl (ask-step m net v x at) call
 
   -- ---- snapshots
 
@@ -279,7 +274,7 @@ module _ (mark : List ℕ) (scene : SceneView) (routes : List Route) where
       let clocked = subst (λ (v : HostView). IsClocked v.host t call.0 call.1) stand.host call.4 in
       goes net (net_host net call.1) (HostClock t) a (Clocked call.0) new (with_host old call.1) call.2 call.3 (IsClocked-step m net t call.0 call.1 clocked) (host-stands net old call.1 stand) fit
   tie worlds net old (HostPacket n) a new reached stand fit call =
-      made net (HostPacket n) old a new (host_packet net.host n) stand fit (inl refl) (subst (λ (v : HostView). IsMade old (host_packet v.host n) a new) stand.host call)
+      made net (HostPacket n) old mark a new (host_packet net.host n) stand fit refl (inl refl) (subst (λ (v : HostView). IsMade old v.mark (host_packet v.host n) a new) stand.host call)
   tie worlds net old (HostAck v) a new reached stand fit call =
       acked net v old a new (slice_get net.host.kept v) stand fit refl (subst (λ (h : HostView). IsAcked old v (slice_get h.host.kept v) a new) stand.host call)
   tie worlds net old (HostTake p) a new reached stand fit call =

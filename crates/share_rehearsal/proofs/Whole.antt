@@ -1,40 +1,19 @@
 -- A rehearsal as a whole.
-use Rattle.std.proofs.Common.{◌≡◌, ℕ, ◌<◌, ◌≤◌, ◌^◌, inl, inr, List, [], ◌∷◌, ◌++◌, length, replicate, refl, ap, sym, ◌∙◌, append_assoc}
-use Rattle.std.specs.Prelude.{Ok, Err}
+use Rattle.std.proofs.Common.{◌≡◌, ℕ, ◌≤◌, List, [], length, replicate, refl, sym, subst}
 use Rattle.std.proofs.lemmas.Option.{none-some}
 use Rattle.scene_core.specs.declared.scene.Route.{Route}
 use Rattle.scene_core.specs.Scene.{SceneView}
 use Rattle.cascade_core.specs.Held.{StageView}
-use Rattle.cascade_core.specs.declared.world.WorldData.{WorldData}
-use Rattle.snapshot_core.specs.declared.fault.SaveFault.{SaveFault}
-use Rattle.snapshot_core.specs.declared.fault.SaveFault.TheVariants as save_fault
-use Rattle.snapshot_core.specs.Shot.{shot}
 use Rattle.share_law.specs.declared.step.Step.{Step}
 use Rattle.share_law.specs.Cascade.{cascade}
 use Rattle.share_law.specs.Network.{start}
-use Rattle.share_law.specs.Viewer.{View, Spoiled, Running}
-use Rattle.share_core.specs.Viewer.{ViewerView, IfRunning, IfSpoiled}
+use Rattle.share_core.specs.Host.{HostView}
+use Rattle.share_core.specs.Viewer.{ViewerView}
 use Rattle.share_rehearsal.specs.declared.answer.Answer.{Answer}
-use Rattle.share_rehearsal.specs.declared.answer.Answer.TheVariants.{Saved}
-use Rattle.share_rehearsal.specs.declared.nodes.Shot.{Shot}
-use Rattle.share_rehearsal.specs.Calls.{Seen, AreCalls, IsSaving, begun_with}
-use Rattle.share_rehearsal.specs.Rehearsed.{AreOf, IsRehearsal, WorldsFit}
+use Rattle.share_rehearsal.specs.Calls.{Seen, AreCalls, begun_with}
+use Rattle.share_rehearsal.specs.Rehearsed.{AreOf, IsLogged, IsRehearsal, IsRehearsed, WorldsFit}
 use Rattle.share_rehearsal.proofs.Plays.{stand-begun}
 use Rattle.share_rehearsal.proofs.Ties.{tied}
-
--- ---- snapshots
-
-pub saved-ok : (number : ℕ) (x : ViewerView) (old : List Shot) (view : View WorldData) (bytes : List ℕ) (a : Answer) (new : List Shot) (Never : Type 0) → (Never → ⊥) → IfSpoiled view Never
-    → IfRunning view (λ w. bytes ≡ shot x.mark x.state.boot x.scene w) → x.state.boot < 2 ^ 32 → a ≡ Saved (Ok (length old)) → new ≡ old ++ record { viewer = number; bytes = bytes } ∷ [] → IsSaving number x old view a new
-saved-ok number x old (Spoiled count) bytes a new Never never spoiled ok small answer grown = absurd (never spoiled)
-saved-ok number x old (Running w window) bytes a new Never never spoiled ok small answer grown =
-    let made : List ℕ → List Shot = λ b. old ++ record { viewer = number; bytes = b } ∷ [] in
-    inl (answer, grown ∙ ap made ok, small)
-
-pub saved-err : (number : ℕ) (x : ViewerView) (old : List Shot) (view : View WorldData) (fault : SaveFault) (a : Answer) (new : List Shot) → IfSpoiled view (fault ≡ save_fault.Spoiled) → IfRunning view (λ w. fault ≡ save_fault.Memory)
-    → a ≡ Saved (Err fault) → new ≡ old → IsSaving number x old view a new
-saved-err number x old (Spoiled count) fault a new spoiled running answer same = (answer ∙ ap (λ (f : SaveFault). Saved (Err f)) spoiled, same)
-saved-err number x old (Running w window) fault a new spoiled running answer same = inr (answer ∙ ap (λ (f : SaveFault). Saved (Err f)) running, same)
 
 -- ---- all of it
 
@@ -44,3 +23,18 @@ is-rehearsal mark stages steps answers new some most calls scene routes are worl
     let net = start (cascade scene routes) (replicate (length stages) 1) in
     let t = tied mark scene routes worlds (length stages) some most [] [] net refl (begun_with mark stages) (stand-begun mark scene routes stages are) (λ n x at. absurd (none-some x at)) steps answers new calls in
     record { net = t.0; run = t.1; stand = t.2 }
+
+pub is-rehearsed : (mark : List ℕ) (stages : List StageView) (steps : List Step) (before after : List ℕ) (old new : Seen) (host : HostView) (viewers : List ViewerView) → 1 ≤ length stages → length stages ≤ 16 → old ≡ begun_with mark stages → IsLogged old steps before after new
+    → host ≡ new.host → viewers ≡ new.viewers → IsRehearsed mark stages steps before after host viewers
+is-rehearsed mark stages steps before after old new host viewers some most begun logged first second =
+    let calls : AreCalls (begun_with mark stages) steps logged.answers new = subst (λ (s : Seen). AreCalls s steps logged.answers new) begun logged.calls in
+    let whole : IsRehearsed mark stages steps before after new.host new.viewers = record {
+      answers = logged.answers;
+      packets = new.packets;
+      shots = new.shots;
+      calls = calls;
+      log = logged.log;
+      law = λ scene routes are worlds. is-rehearsal mark stages steps logged.answers new some most calls scene routes are worlds;
+    } in
+    subst (λ (h : HostView). IsRehearsed mark stages steps before after h viewers) (sym first)
+    (subst (λ (vs : List ViewerView). IsRehearsed mark stages steps before after new.host vs) (sym second) whole)

@@ -96,16 +96,16 @@ abbrev pub message : (mark : List ℕ) → Body → Message
 message mark body = record { mark = mark; body = body }
 
 -- the datagram of a body joins the packets, if there is one, and is decoded as that
-abbrev pub IsMade : Seen → Option Body → Answer → Seen → Type 0
-IsMade s None a new = (a ≡ Sent None) × (new ≡ s)
-IsMade s (Some body) a new =
+abbrev pub IsMade : Seen → (mark : List ℕ) → Option Body → Answer → Seen → Type 0
+IsMade s mark None a new = (a ≡ Sent None) × (new ≡ s)
+IsMade s mark (Some body) a new =
     (a ≡ Sent (Some (length s.packets)))
-    × (new ≡ with_packets s (s.packets ++ datagram (message s.host.mark body) ∷ []))
-    × (decoded (datagram (message s.host.mark body)) ≡ Ok (message s.host.mark body))
+    × (new ≡ with_packets s (s.packets ++ datagram (message mark body) ∷ []))
+    × (decoded (datagram (message mark body)) ≡ Ok (message mark body))
 
 abbrev pub IsAcked : Seen → (v : ℕ) → Option Kept → Answer → Seen → Type 0
 IsAcked s v None a new = IsUnknown s a new
-IsAcked s v (Some kept) a new = IsMade s (Some (ack_of v kept)) a new
+IsAcked s v (Some kept) a new = IsMade s s.host.mark (Some (ack_of v kept)) a new
 
 -- ---- what comes
 
@@ -169,9 +169,9 @@ IsOffering s v (ViewerOffer u point) (Some x) a new =
     let offered = viewer_offer x.state point in
     (a ≡ Offered offered.0) × (new ≡ with_viewer s v (with_state x offered.1))
 IsOffering s v (ViewerResend u place) (Some x) a new =
-    IsMade s (viewer_resend x.who x.state place) a new
+    IsMade s x.mark (viewer_resend x.who x.state place) a new
 IsOffering s v (ViewerAsk u) (Some x) a new =
-    IsMade s (Some (viewer_ask (machine_of x) x.who x.state)) a new
+    IsMade s x.mark (Some (viewer_ask (machine_of x) x.who x.state)) a new
 IsOffering s v step (Some x) a new = ⊥
 
 -- from these nodes, the step may be answered so and leave the new ones
@@ -179,7 +179,7 @@ abbrev pub IsCall : Seen → Step → Answer → Seen → Type 0
 IsCall s (HostClock t) a new =
     (result : Result ℕ NumberFault) × (h : HostState)
     × (a ≡ Clocked result) × (new ≡ with_host s h) × IsClocked s.host.host t result h
-IsCall s (HostPacket n) a new = IsMade s (host_packet s.host.host n) a new
+IsCall s (HostPacket n) a new = IsMade s s.host.mark (host_packet s.host.host n) a new
 IsCall s (HostAck v) a new = IsAcked s v (slice_get s.host.host.kept v) a new
 IsCall s (HostTake p) a new = IsHostGiven s (slice_get s.packets p) a new
 IsCall s (ViewerTake v p) a new = IsGiven s v (slice_get s.viewers v) (slice_get s.packets p) a new

@@ -1,7 +1,7 @@
 -- A rehearsal is a run of the law's network: its answers are the network's, and the real nodes stand
 -- where the network's do.
 use Rattle.std.specs.Prelude.{◌≡◌, ℕ, IsTrue, List, [], ◌∷◌, ◌++◌, length, map, replicate, slice_get, Option}
-use Rattle.std.specs.Prelude.{Result, Ok}
+use Rattle.std.specs.Prelude.{Ok}
 use Rattle.std.specs.Option.{option_map}
 use Rattle.x3d_values.specs.Stamp.{Stamp}
 use Rattle.scene_core.specs.declared.scene.Route.{Route}

@@ -1,8 +1,7 @@
 //! A rehearsal as a whole.
 
 ghost use Rattle.std.specs.Prelude.{◌≡◌, ◌<◌, ◌≤◌, ◌++◌, [], length, Err, IfErr, IfOk, OnErr, OnOk};
-ghost use Rattle.share_law.specs.Host.{new_host};
-ghost use Rattle.share_rehearsal.specs.Calls.{AreCalls, seen_of, viewers_from};
+ghost use Rattle.share_rehearsal.specs.Calls.{begun_with, seen_of, viewers_from};
 ghost use Rattle.share_rehearsal.specs.Rehearsed.{AreFresh, IsLogged, IsRehearsed};
 
 use crate::ending::push_endings;
@@ -75,6 +74,29 @@ fn ended<B: Drop>(nodes: Nodes<B>) -> Rehearsal<B>
     Rehearsal { host, viewers }
 }
 
+/// A host and its viewers before the first step.
+fn begun<B: Drop>(
+    alloc: Global,
+    stages: Vec<Stage<B>>,
+    mark: [u8; 32],
+) -> Result<Nodes<B>, AllocError>
+    requires fresh { AreFresh stages.items }
+    requires some { 1 ≤ length stages.items }
+    requires most { length stages.items ≤ 16 }
+    ensures { IfOk result (λ nodes.
+        seen_of nodes.host nodes.viewers.items nodes.packets.items nodes.shots.items
+        ≡ begun_with mark stages.items) }
+{
+    let count = stages.len() as u8;
+    let viewers = viewers_of(alloc, stages, mark)?;
+    Ok(Nodes {
+        host: Host::new(alloc, mark, count),
+        viewers,
+        packets: Vec::new(alloc),
+        shots: Vec::new(alloc),
+    })
+}
+
 /// The host of a scene with this mark and a viewer for each stage, numbered in their order, as its
 /// boot 1, go through the steps over a network in memory, and the log of the steps is appended: a
 /// line of each step's number from 1 and its answer, then of each viewer a line, its trace and its
@@ -108,12 +130,7 @@ pub fn rehearse<B: Drop>(
     if count > MOST {
         return Err(RehearseFault::TooManyViewers);
     }
-    let mut nodes = Nodes {
-        host: Host::new(alloc, mark, count as u8),
-        viewers: viewers_of(alloc, stages, mark)?,
-        packets: Vec::new(alloc),
-        shots: Vec::new(alloc),
-    };
+    let mut nodes = begun(alloc, stages, mark)?;
     log_all(alloc, &mut nodes, steps, out)?;
     Ok(ended(nodes))
 }
