@@ -1,6 +1,6 @@
 -- Rounds, one after another.
-use Rattle.std.proofs.Common.{◌≡◌, ℕ, suc, ◌+◌, ◌<◌, Bool, true, false, List, ap, sym, ◌∙◌, subst, arith}
-use Rattle.std.specs.Prelude.{Option, None, slice_get, if◌then◌else◌}
+use Rattle.std.proofs.Common.{◌≡◌, ℕ, suc, ◌+◌, ◌<◌, Bool, false, List, ap, sym, ◌∙◌, subst, arith}
+use Rattle.std.specs.Prelude.{◌==◌, ◌&&◌, length, Option, None, slice_get, if◌then◌else◌}
 use Rattle.x3d_values.specs.Stamp.{Stamp}
 use Rattle.share_turns.specs.declared.fault.TurnFault.{TurnFault}
 use Rattle.share_turns.specs.Agreeing.{AreCut, IsRoundEnd, IsRoundOf, Meeting, Rounds, Ways, due, is_over, is_settled}
@@ -10,6 +10,11 @@ use Rattle.share_turns.specs.Views.{one_more_if}
 due_is : {P : Type 0} (steps : List Stamp) (issued : ℕ) (m : Meeting P) (settled : Bool) (step : Option Stamp)
     → settled ≡ is_settled issued m → step ≡ (if settled then slice_get steps issued else None) → step ≡ due steps issued m
 due_is steps issued m settled step is e = e ∙ ap (λ (s : Bool). if s then slice_get steps issued else None) is
+
+-- it isn't over
+pub goes_on : {P : Type 0} (steps : List Stamp) (issued : ℕ) (m : Meeting P) (settled over : Bool)
+    → settled ≡ is_settled issued m → over ≡ (settled && (issued == length steps)) → over ≡ false → is_over steps issued m ≡ false
+goes_on steps issued m settled over is e ended = sym (e ∙ ap (λ (s : Bool). s && (issued == length steps)) is) ∙ ended
 
 pub one_more_round : {P : Type 0} (ways : Ways P) (mark host_mark : List ℕ) (steps : List Stamp) (own n : ℕ) (old mid new : Meeting P) (before issued : ℕ)
     (did settled : Bool) (step : Option Stamp)

@@ -3,7 +3,7 @@ use Rattle.std.proofs.Common.{◌≡◌, ℕ, suc, ◌+◌, ◌<◌, Bool, List,
 use Rattle.std.specs.Prelude.{Option, Result, Ok, Err, slice_get}
 use Rattle.x3d_values.specs.declared.pointing.Point.{Point}
 use Rattle.cascade_core.specs.declared.world.WorldData.{WorldData}
-use Rattle.share_law.specs.Viewer.{View, Running, Spoiled, ViewerState}
+use Rattle.share_law.specs.Viewer.{View, Running, Spoiled}
 use Rattle.share_core.specs.Viewer.{IfRunning, IfSpoiled, ViewerView, machine_of, with_state}
 use Rattle.share_port.specs.declared.traffic.Traffic.{Traffic}
 use Rattle.share_turns.specs.declared.fault.TurnFault.{TurnFault}
@@ -28,10 +28,13 @@ turn_of v x y host point a b result same spoiled turn =
       turn = turn;
     })
 
+abbrev pub turned : Bool → Result Bool TurnFault
+turned did = Ok did
+
 -- one turn more
 pub viewed_more : (v x y : ViewerView) (host : ℕ) (points : List Point) (until n : ℕ) (a b c : Option (List Traffic)) (before : ℕ) (did : Bool)
     → ViewerTurns v host points until n a b before x.state → x ≡ with_state v x.state → applied_by v x.state < until
-    → IfSpoiled x.state.view ((Ok {A = Bool} {E = TurnFault} did ≡ Err turn_fault.Spoiled) × (y ≡ x) × (c ≡ b))
+    → IfSpoiled x.state.view ((turned did ≡ Err turn_fault.Spoiled) × (y ≡ x) × (c ≡ b))
     → IfRunning x.state.view (λ w. IsViewerTurn (machine_of x) x.mark x.who host (slice_get points before) b c x.state (Ok did) y.state)
     → ViewerTurns v host points until (n + 1) a c (one_more_if did before) y.state
 viewed_more v x y host points until n a b c before did turns same few spoiled turn =

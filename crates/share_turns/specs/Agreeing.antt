@@ -1,5 +1,5 @@
 -- Rounds: a turn of the host, and then one of each viewer, in the order of their numbers.
-use Rattle.std.specs.Prelude.{◌≡◌, ◌⊎◌, ℕ, zero, suc, ◌≤◌, ◌<◌, ◌+◌, ◌==◌, ◌&&◌, ◌||◌}
+use Rattle.std.specs.Prelude.{◌≡◌, ◌⊎◌, ℕ, zero, suc, ◌≤◌, ◌<◌, ◌==◌, ◌&&◌, ◌||◌}
 use Rattle.std.specs.Prelude.{Bool, true, false, List, [], ◌∷◌, ◌++◌, length, slice_get}
 use Rattle.std.specs.Prelude.{slice_set, codes, decimal}
 use Rattle.std.specs.Prelude.{if◌then◌else◌, is_some, ℤ, Option, Some, None, Result, Ok, Err}
