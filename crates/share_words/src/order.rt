@@ -2,7 +2,7 @@
 
 ghost use Rattle.std.specs.Prelude.{◌≡◌};
 ghost use Rattle.std.specs.IoError.{error_kind};
-ghost use Rattle.share_program.specs.Words.{order_fault_of};
+ghost use Rattle.share_words.specs.Words.{order_fault_of};
 
 use std::io;
 use thiserror::Error;
@@ -16,6 +16,9 @@ pub enum Order {
     Format,
     /// `check`: the input is a scene.
     Check,
+    /// `host`: the input is a job of clocks; the port, 1 to 65,535, that is bound, 1 to
+    /// 16 viewers, 1 to 10,000,000 turns.
+    Host { port: u16, viewers: u8, turns: u32 },
 }
 
 /// Why words give no command.

@@ -1,16 +1,38 @@
 -- Words that `clap` refuses mean nothing.
-use Rattle.std.specs.Prelude.{Result, Ok, Err, Option, Some, None, IfOk, IfSome, IfNone}
+use Rattle.std.specs.Prelude.{Result, Ok, Err, Option, Some, None, IfOk, IfSome, IfNone, IsSomeAnd}
 use Rattle.std.proofs.Common.{◌≡◌, ◌≢◌, ◌⊎◌, ◌∙◌, List, [], ◌∷◌, inl, inr, refl, true}
-use Rattle.clap.specs.Words.{App, Text, fault_of, is_simple_and_free, IsAmong, Kinds}
+use Rattle.clap.specs.Words.{App, Row, Text, fault_of, is_simple, is_simple_and_free, subcommand_of, IsAmong, Kinds}
 use Rattle.clap.specs.declared.error.ErrorKind.{ErrorKind}
 use Rattle.clap.specs.declared.error.ErrorKind.TheVariants as kind
-use Rattle.share_program.specs.declared.order.Order.{Order}
-use Rattle.share_program.specs.declared.order.OrderFault.{OrderFault}
-use Rattle.share_program.specs.declared.order.OrderFault.TheVariants as fault
-use Rattle.share_program.specs.Words.{program, Means, IsText, IsRefusal, AsksForText, AsksOnlyForText}
+use Rattle.share_words.specs.declared.order.Order.{Order}
+use Rattle.share_words.specs.declared.order.OrderFault.{OrderFault}
+use Rattle.share_words.specs.declared.order.OrderFault.TheVariants as fault
+use Rattle.share_words.specs.Commands.{program, single_program, bare_program}
+use Rattle.share_words.specs.Commands.{run_app, format_app, check_app, host_app}
+use Rattle.share_words.specs.Words.{Asks, Means, IsText, IsRefusal, AsksForText, AsksOnlyForText}
 
 program_is_simple : is_simple_and_free program ≡ true
+unfolding program single_program bare_program run_app format_app check_app host_app
 program_is_simple = refl
+
+program_is_plain : is_simple program ≡ true
+unfolding program single_program bare_program run_app format_app check_app host_app
+program_is_plain = refl
+
+-- words that are taken mean what their command asks for
+pub means_by : (a : App) (words : List Text) (rows : Option (Text × List Row)) (o : Order) → a ≡ program
+    → (is_simple_and_free a ≡ true → fault_of a words ≡ []) → (is_simple a ≡ true → rows ≡ subcommand_of a words)
+    → IsSomeAnd rows (Asks o) → Means words o
+means_by a words rows o e kinds found asks =
+    let none : fault_of program words ≡ [] = rw e at (kinds (rw e program_is_simple)) in
+    let same : rows ≡ subcommand_of program words = rw e at (found (rw e program_is_plain)) in
+    record { taken = none; asks = rw same at asks }
+
+pub means_none : (a : App) (words : List Text) (rows : Option (Text × List Row)) → a ≡ program
+    → (is_simple a ≡ true → rows ≡ subcommand_of a words) → ((o : Order) → ¬ IsSomeAnd rows (Asks o)) → (o : Order) → ¬ Means words o
+means_none a words rows e found none o m =
+    let same : rows ≡ subcommand_of program words = rw e at (found (rw e program_is_plain)) in
+    none o (rw same m.asks)
 
 none_among : (k : ErrorKind) (ks : Kinds) → ks ≡ [] → IsAmong k ks → ⊥
 none_among k ks e h = rw e at h

@@ -1,6 +1,6 @@
 use Rattle.clap.specs.Words.{app_of}
-use Rattle.share_program.proofs.WordLemmas.{silent_taken, asked_from, silent_from}
-use Rattle.share_program.proofs.words.help_of.Goals as goal
+use Rattle.share_words.proofs.WordLemmas.{silent_taken, asked_from, silent_from}
+use Rattle.share_words.proofs.words.help_of.Goals as goal
 
 pub returns-in-Ok-clause-silent : goal.returns-in-Ok-clause-silent
 returns-in-Ok-clause-silent c = silent_taken (app_of c.in_ok-command.command) _ c.in_ok-command.ensures c.in-Ok.ensures.kinds
