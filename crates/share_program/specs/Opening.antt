@@ -1,9 +1,9 @@
 -- The scene of a text, and the job of a byte list: what each layer makes of it, one after the
 -- other.
-use Rattle.std.specs.Prelude.{◌≡◌, ◌⊎◌, Option, ℕ, List, [], ◌∷◌, Result, Ok, Err}
+use Rattle.std.specs.Prelude.{◌≡◌, ◌⊎◌, Option, None, Some, ℕ, Bool, nat_lt, List, length, Result, Ok, Err}
+use Rattle.std.specs.List.{find}
 use Rattle.x3d_values.specs.Stamp.{Stamp}
 use Rattle.classic_text.specs.Reading.{read_text}
-use Rattle.classic_tree.specs.declared.tree.Declaration.{Declaration}
 use Rattle.proto_walk.specs.Whole.{flat}
 use Rattle.flat_document.specs.declared.flat.Flat.{Flat}
 use Rattle.flat_document.specs.declared.flat.FlatNode.{FlatNode}
@@ -36,21 +36,20 @@ with_routes scene routes = Ok (record { scene = scene; routes = routes })
 abbrev pub routed : Flat → SceneView → Result Opened JobFault
 routed f s = next of_route (resolved f s) (with_routes s)
 
--- a Script that declares fields of its own is not run yet
-abbrev pub if_none : FlatNode → List (Declaration ℕ) → Result (Unit {0}) ExpandFault
-if_none node [] = Ok tt
-if_none node (d ∷ ds) = Err (fault NotYet node.line)
+-- the node is a Script that declares fields of its own
+abbrev pub declares_fields : FlatNode → Bool
+declares_fields node = nat_lt 0 (length node.interface)
 
-abbrev pub declares_none : FlatNode → Result (Unit {0}) ExpandFault
-declares_none node = if_none node node.interface
+abbrev pub first_declaring : List FlatNode → Option FlatNode
+first_declaring nodes = find declares_fields nodes
 
-abbrev pub and_then : {E : Type 0} → Result (Unit {0}) E → Result (Unit {0}) E → Result (Unit {0}) E
-and_then (Ok tt) b = b
-and_then (Err e) b = Err e
+-- such a node is not run yet
+abbrev pub refused : Option FlatNode → Result (Unit {0}) ExpandFault
+refused None = Ok tt
+refused (Some node) = Err (fault NotYet node.line)
 
 abbrev pub none_declares : List FlatNode → Result (Unit {0}) ExpandFault
-none_declares [] = Ok tt
-none_declares (n ∷ ns) = and_then (declares_none n) (none_declares ns)
+none_declares nodes = refused (first_declaring nodes)
 
 -- the scene of a document, and its routes
 abbrev pub built : Flat → Result Opened JobFault

@@ -1,12 +1,13 @@
 //! From the bytes of a job to a scene that can be run.
 
 ghost use Rattle.std.specs.Prelude.{◌≡◌, IfOk, IfErr, ◌⊎◌, List, ℕ};
+ghost use Rattle.std.specs.Option.{option_copied};
 ghost use Rattle.std.specs.Io.KnownBytes.{Consumes, IsAtEnd};
 ghost use Rattle.x3d_lists.specs.Answers.{Gives};
 ghost use Rattle.cascade_core.specs.InTurn.{AreInTurn};
 ghost use Rattle.share_jobs.specs.Schedule.{schedule_lines};
 ghost use Rattle.share_program.specs.Opening.{routed, built, opened, opened_job, IsDeviceOrMemory};
-ghost use Rattle.share_program.specs.Opening.{none_declares, declares_none};
+ghost use Rattle.share_program.specs.Opening.{declares_fields, first_declaring, none_declares};
 ghost use Rattle.share_program.specs.Opening.{IsNoJob, IsNoSchedule};
 ghost use Rattle.share_jobs.specs.declared.fault.JobFault.TheVariants.{Memory};
 
@@ -43,24 +44,27 @@ fn routed(alloc: Global, flat: &Flat, scene: Scene) -> Result<Opened, JobFault>
     Ok(Opened { scene, routes })
 }
 
-/// A Script that declares fields of its own is not run yet.
-fn check_interface(node: &FlatNode) -> Result<(), ExpandFault>
-    ensures { result ≡ declares_none node.now }
+/// Whether the node is a Script that declares fields of its own.
+fn declares_fields(node: &FlatNode) -> bool
+    ensures { result ≡ declares_fields node.now }
 {
-    if node.interface.is_empty() {
-        Ok(())
-    } else {
-        Err(ExpandFaultKind::NotYet.on_line(node.line))
-    }
+    node.interface.len() > 0
 }
 
+fn first_declaring(nodes: &[FlatNode]) -> Option<&FlatNode>
+    ensures { option_copied result ≡ first_declaring nodes.now }
+{
+    nodes.iter().find(|node| declares_fields(node))
+}
+
+/// A Script that declares fields of its own is not run yet.
 fn check_interfaces(nodes: &[FlatNode]) -> Result<(), ExpandFault>
     ensures { result ≡ none_declares nodes.now }
 {
-    for node in nodes {
-        check_interface(node)?;
+    match first_declaring(nodes) {
+        None => Ok(()),
+        Some(node) => Err(ExpandFaultKind::NotYet.on_line(node.line)),
     }
-    Ok(())
 }
 
 /// The scene of a document, and its routes.

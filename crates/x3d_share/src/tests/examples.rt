@@ -329,8 +329,8 @@ const REFUSED: [(&str, &str, u8); 24] = [
         1,
     ),
     (
-        "scene\n#X3D V3.0 utf8\nDEF A Group {}\nUSE A",
-        "refused NotYet line 3",
+        "scene\n#X3D V3.0 utf8\nDEF A Group {\nchildren USE A }",
+        "refused UseWithoutDef line 3",
         1,
     ),
     (

@@ -69,12 +69,12 @@ const UNKNOWN: [(&[u8], &str); 19] = [
         "refused UnknownNode line 2",
     ),
     (
-        b"#X3D V3.0 utf8\nDEF A Group {}\nUSE A",
-        "refused NotYet line 3",
+        b"#X3D V3.0 utf8\nDEF A Group {}\nUSE B",
+        "refused UseWithoutDef line 3",
     ),
     (
         b"#X3D V3.0 utf8\nGroup { children [\nUSE A Nix {} ] }",
-        "refused NotYet line 3",
+        "refused UseWithoutDef line 3",
     ),
     (
         b"#X3D V3.0 utf8\nGroup { children [\nNix {} USE A ] }",
@@ -82,15 +82,15 @@ const UNKNOWN: [(&[u8], &str); 19] = [
     ),
     (
         b"#X3D V3.0 utf8\nGroup {\nchildren\nIS a }",
-        "refused NotYet line 3",
+        "refused BadIs line 3",
     ),
     (
         b"#X3D V3.0 utf8\nBox { size 1 1 1\nsize IS a }",
-        "refused NotYet line 3",
+        "refused BadIs line 3",
     ),
     (
         b"#X3D V3.0 utf8\nGroup {}\nScript { nix 1 }",
-        "refused NotYet line 3",
+        "refused UnknownField line 3",
     ),
     (
         b"#X3D V3.0 utf8\nGroup { size 1 }\nNix {}",

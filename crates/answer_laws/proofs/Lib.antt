@@ -1,0 +1,6 @@
+mod Between
+pub mod Clocks
+pub mod Pointers
+pub mod Reactions
+pub mod Rows
+mod Ways

@@ -1,0 +1,5 @@
+use Rattle.answer_laws.proofs.Reactions.{all_reactions_fit}
+use Rattle.answer_laws.proofs.answers.reactions_fit.Goals as goal
+
+pub returns : goal.returns
+returns c = all_reactions_fit

@@ -1,0 +1,5 @@
+mod Places
+mod Sending
+mod Snapshots
+mod States
+mod Steps
