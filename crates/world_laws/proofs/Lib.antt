@@ -1,5 +1,5 @@
 mod Places
 mod Sending
-mod Snapshots
+pub mod Snapshots
 mod States
-mod Steps
+pub mod Steps

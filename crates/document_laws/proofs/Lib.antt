@@ -1,0 +1,6 @@
+mod Counted
+mod Kept
+mod Openings
+mod Routes
+mod Typed
+mod Worlds

@@ -1,0 +1,3 @@
+pub mod Openings
+pub mod Routes
+pub mod Worlds

@@ -1,0 +1,21 @@
+//! What holds of the routes of documents, of their opening worlds, and of those that follow.
+
+ghost use Rattle.document_laws.specs.Openings.{OpeningsFit};
+ghost use Rattle.document_laws.specs.Routes.{RoutesJoin};
+ghost use Rattle.document_laws.specs.Worlds.{WorldsFit, WorldsHaveSnapshots};
+
+/// The routes of a document join outputs and inputs of one type.
+pub fn routes_join()
+    ensures { RoutesJoin }
+{}
+
+/// The world of a document before any input fits.
+pub fn openings_fit()
+    ensures { OpeningsFit }
+{}
+
+/// Each world that a document comes to by inputs in turn fits, and has a snapshot.
+pub fn worlds_fit()
+    ensures fit { WorldsFit }
+    ensures snapshots { WorldsHaveSnapshots }
+{}
