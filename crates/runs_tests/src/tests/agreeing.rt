@@ -2,7 +2,7 @@
 //! applies the steps, also where datagrams are lost, come twice or late; a port that fails ends the
 //! rounds.
 
-use super::given::{MARK, push_wanted, steps, viewer_of};
+use super::given::{MARK, push_wanted, steps, viewers_of};
 use super::way::Way;
 use share_core::{Host, Viewer};
 use share_port::{FakePort, Port, UdpPort};
@@ -33,36 +33,52 @@ fn way<R: Net>(rt: &R, lossy: bool) -> io::Result<Way> {
     Ok(Way::new(UdpPort::bind(rt, 0)?, lossy))
 }
 
-/// Whether they come to the wanted texts.
-fn share<R: Net>(
+fn ways<R: Net>(rt: &R, lossy: bool) -> io::Result<[Way; 2]> {
+    let first = way(rt, lossy)?;
+    let second = way(rt, lossy)?;
+    Ok([first, second])
+}
+
+/// They come to the wanted texts.
+fn come_to<P: Port>(
+    rt: &impl Abort,
+    alloc: Global,
+    viewers: &mut [Viewer<()>; 2],
+    own: u16,
+    port: &mut P,
+    ports: &mut [P; 2],
+) -> Result<(), Fail> {
+    let mut out = Vec::new(alloc);
+    agreed(alloc, viewers, ROUNDS, own, port, ports, &mut out)?;
+    let mut wanted = Vec::new(alloc);
+    push_wanted(alloc, &mut wanted)?;
+    assert!(rt; out == wanted);
+    Ok(())
+}
+
+fn share<R: Net + Abort>(
     rt: &R,
     alloc: Global,
     viewers: &mut [Viewer<()>; 2],
     lossy: bool,
-) -> Result<bool, Fail> {
+) -> Result<(), Fail> {
     let bound = UdpPort::bind(rt, 0)?;
     let own = bound.local_port()?;
     let mut port = Way::new(bound, lossy);
-    let mut ports = [way(rt, lossy)?, way(rt, lossy)?];
-    let mut out = Vec::new(alloc);
-    agreed(alloc, viewers, ROUNDS, own, &mut port, &mut ports, &mut out)?;
-    let mut wanted = Vec::new(alloc);
-    push_wanted(alloc, &mut wanted)?;
-    Ok(out == wanted)
+    let mut ports = ways(rt, lossy)?;
+    come_to(rt, alloc, viewers, own, &mut port, &mut ports)
 }
 
 #[test]
 fn two_viewers_agree(rt: HostRuntime) -> Result<(), Fail> {
-    let mut viewers = [viewer_of(rt.alloc(), 0)?, viewer_of(rt.alloc(), 1)?];
-    assert!(rt; share(&rt, rt.alloc(), &mut viewers, false)?);
-    Ok(())
+    let mut viewers = viewers_of(rt.alloc())?;
+    share(&rt, rt.alloc(), &mut viewers, false)
 }
 
 #[test]
 fn two_viewers_agree_over_a_bad_way(rt: HostRuntime) -> Result<(), Fail> {
-    let mut viewers = [viewer_of(rt.alloc(), 0)?, viewer_of(rt.alloc(), 1)?];
-    assert!(rt; share(&rt, rt.alloc(), &mut viewers, true)?);
-    Ok(())
+    let mut viewers = viewers_of(rt.alloc())?;
+    share(&rt, rt.alloc(), &mut viewers, true)
 }
 
 /// Nothing comes: the host's port fails at one call, and that of viewer 1 at another; none at 0.
@@ -85,20 +101,19 @@ fn alone(
     assert!(rt; out.is_empty());
 }
 
-#[test]
-fn a_port_that_fails_ends_the_rounds(rt: HostRuntime) -> Result<(), Fail> {
-    let mut viewers = [viewer_of(rt.alloc(), 0)?, viewer_of(rt.alloc(), 1)?];
+/// The host's port fails at each of its first four calls, that of viewer 1 too, and then none.
+fn fail(rt: &impl Abort, alloc: Global, viewers: &mut [Viewer<()>; 2]) {
     let port = SeriesFault::Turn(TurnFault::Port);
     for call in 1..=4 {
-        alone(&rt, rt.alloc(), &mut viewers, (call, 0), port);
-        alone(&rt, rt.alloc(), &mut viewers, (0, call), port);
+        alone(rt, alloc, viewers, (call, 0), port);
+        alone(rt, alloc, viewers, (0, call), port);
     }
-    alone(
-        &rt,
-        rt.alloc(),
-        &mut viewers,
-        (0, 0),
-        SeriesFault::TurnsUsedUp,
-    );
+    alone(rt, alloc, viewers, (0, 0), SeriesFault::TurnsUsedUp);
+}
+
+#[test]
+fn a_port_that_fails_ends_the_rounds(rt: HostRuntime) -> Result<(), Fail> {
+    let mut viewers = viewers_of(rt.alloc())?;
+    fail(&rt, rt.alloc(), &mut viewers);
     Ok(())
 }

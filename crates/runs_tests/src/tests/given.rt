@@ -36,6 +36,13 @@ pub(super) fn viewer_of(alloc: Global, who: u8) -> Result<Viewer<()>, Fail>
     Ok(Viewer::start(fresh(alloc)?, MARK, who, 1))
 }
 
+/// Viewers 0 and 1.
+pub(super) fn viewers_of(alloc: Global) -> Result<[Viewer<()>; 2], Fail> {
+    let first = viewer_of(alloc, 0)?;
+    let second = viewer_of(alloc, 1)?;
+    Ok([first, second])
+}
+
 const ORIGIN: Vec3 = Vec3 {
     x: 10_000_000,
     y: 0,
