@@ -14,7 +14,7 @@ use Rattle.classic_tree.specs.declared.tree.RouteText.{RouteText}
 use Rattle.flat_document.specs.declared.fault.ExpandFault.{ExpandFault}
 use Rattle.proto_walk.specs.declared.held.GivenField.{GivenField}
 use Rattle.proto_walk.specs.declared.held.Joined.{Joined}
-use Rattle.proto_walk.specs.declared.frames.Link.{Link}
+use Rattle.proto_links.specs.declared.links.Link.{Link}
 use Rattle.proto_walk.specs.declared.frames.Frame.{Frame}
 use Rattle.proto_walk.specs.declared.frames.Task.{Task}
 use Rattle.proto_walk.specs.declared.frames.Task.TheVariants as task
@@ -37,14 +37,14 @@ and_then-assoc (Ok p) f g = refl
 and_then-assoc (Err e) f g = refl
 
 abbrev most : Walker → ℕ
-most walker = length walker.links.items
+most walker = length walker.links
 
 see-push : (n : ℕ) (fs : List Frame) (f : Frame) → sight_of f ≤ n → AllSee n (reverse fs) → AllSee n (reverse (fs ++ f ∷ []))
 unfolding AllSee
 see-push n fs f h k = rw (reverse-snoc fs f) (h, k)
 
 -- frames and links stay
-pub stays : {o : Outcome ℕ} {old new : Walker} {next : Task} → Holds old → new.links.items ≡ old.links.items → new.frames.items ≡ old.frames.items →
+pub stays : {o : Outcome ℕ} {old new : Walker} {next : Task} → Holds old → new.links ≡ old.links → new.frames.items ≡ old.frames.items →
     new.scope.sight ≤ most old → task_sight next ≤ most old → o ≡ task_comes new next → Goes o old new next
 unfolding comes_to
 stays {o} {old} {new} {next} h links frames scope sees is = record {
@@ -60,18 +60,18 @@ unfolding frames_do
 frames-snoc links fs f n w = ap (λ gs. frames_do links gs n w) (reverse-snoc fs f)
 
 -- a frame more, which waits for what the task gives
-pub pushes : {o : Outcome ℕ} {old new : Walker} {next : Task} (f : Frame) → Holds old → new.links.items ≡ old.links.items → new.frames.items ≡ old.frames.items ++ f ∷ [] →
+pub pushes : {o : Outcome ℕ} {old new : Walker} {next : Task} (f : Frame) → Holds old → new.links ≡ old.links → new.frames.items ≡ old.frames.items ++ f ∷ [] →
     new.scope.sight ≤ most old → sight_of f ≤ most old → task_sight next ≤ most old →
-    o ≡ and_then (task_comes new next) (frame_does (in_sight old.links.items (sight_of f)) f) → Goes o old new next
+    o ≡ and_then (task_comes new next) (frame_does (in_sight old.links (sight_of f)) f) → Goes o old new next
 unfolding comes_to
 pushes {o} {old} {new} {next} f h links frames scope waits sees is = record {
   same =
       ap (λ out. and_then out (rest_does old)) is
-      ∙ and_then-assoc (task_comes new next) (frame_does (in_sight old.links.items (sight_of f)) f) (rest_does old)
+      ∙ and_then-assoc (task_comes new next) (frame_does (in_sight old.links (sight_of f)) f) (rest_does old)
       ∙ and_then-congr
-      (λ n w. and_then (frame_does (in_sight old.links.items (sight_of f)) f n w) (rest_does old))
+      (λ n w. and_then (frame_does (in_sight old.links (sight_of f)) f n w) (rest_does old))
       (rest_does new)
-      (λ n w. sym (ap (λ (ls : List Link). frames_do ls (reverse new.frames.items) n w) links ∙ ap (λ (fs : List Frame). frames_do old.links.items (reverse fs) n w) frames ∙ frames-snoc old.links.items old.frames.items f n w))
+      (λ n w. sym (ap (λ (ls : List Link). frames_do ls (reverse new.frames.items) n w) links ∙ ap (λ (fs : List Frame). frames_do old.links (reverse fs) n w) frames ∙ frames-snoc old.links old.frames.items f n w))
       (task_comes new next);
   fits = record {
     holds = record { linked = rw links h.linked; scope = rw links scope; frames = rw (links, frames) (see-push (most old) old.frames.items f waits h.frames) };
@@ -80,16 +80,16 @@ pushes {o} {old} {new} {next} f h links frames scope waits sees is = record {
 }
 
 -- a link more
-pub declares : {o : Outcome ℕ} {old new : Walker} {next : Task} (l : Link) → Holds old → Holds new → new.links.items ≡ old.links.items ++ l ∷ [] → new.frames.items ≡ old.frames.items →
-    task_sight next ≤ most old → o ≡ task_does (in_sight old.links.items (task_sight next)) next (shown new) → Goes o old new next
+pub declares : {o : Outcome ℕ} {old new : Walker} {next : Task} (l : Link) → Holds old → Holds new → new.links ≡ old.links ++ l ∷ [] → new.frames.items ≡ old.frames.items →
+    task_sight next ≤ most old → o ≡ task_does (in_sight old.links (task_sight next)) next (shown new) → Goes o old new next
 unfolding comes_to
 declares {o} {old} {new} {next} l h k links frames sees is = record {
   same =
-      ap (λ out. and_then out (rest_does old)) (is ∙ ap (λ ps. task_does ps next (shown new)) (sym (ap (λ (ls : List Link). in_sight ls (task_sight next)) links ∙ in_sight-more old.links.items l (task_sight next) sees)))
+      ap (λ out. and_then out (rest_does old)) (is ∙ ap (λ ps. task_does ps next (shown new)) (sym (ap (λ (ls : List Link). in_sight ls (task_sight next)) links ∙ in_sight-more old.links l (task_sight next) sees)))
       ∙ and_then-congr (rest_does old) (rest_does new)
-      (λ n w. sym (ap (λ (ls : List Link). frames_do ls (reverse new.frames.items) n w) links ∙ ap (λ (fs : List Frame). frames_do (old.links.items ++ l ∷ []) (reverse fs) n w) frames ∙ frames-more old.links.items l (reverse old.frames.items) n w h.frames))
+      (λ n w. sym (ap (λ (ls : List Link). frames_do ls (reverse new.frames.items) n w) links ∙ ap (λ (fs : List Frame). frames_do (old.links ++ l ∷ []) (reverse fs) n w) frames ∙ frames-more old.links l (reverse old.frames.items) n w h.frames))
       (task_comes new next);
-  fits = record { holds = k; task = rw links (omega (arith, sees, length-append old.links.items (l ∷ []))) };
+  fits = record { holds = k; task = rw links (omega (arith, sees, length-append old.links (l ∷ []))) };
 }
 
 -- ---- from a step on the task alone to one on the whole
@@ -105,18 +105,18 @@ unfolding task_does
 number-comes old n = refl
 
 -- the last frame has the number
-given-whole : (old popped : Walker) (f : Frame) (n : ℕ) → popped.links.items ≡ old.links.items → shown popped ≡ shown old → old.frames.items ≡ popped.frames.items ++ f ∷ [] →
-    comes_to old (task.Number n) ≡ and_then (frame_does (in_sight popped.links.items (sight_of f)) f n (shown popped)) (rest_does popped)
+given-whole : (old popped : Walker) (f : Frame) (n : ℕ) → popped.links ≡ old.links → shown popped ≡ shown old → old.frames.items ≡ popped.frames.items ++ f ∷ [] →
+    comes_to old (task.Number n) ≡ and_then (frame_does (in_sight popped.links (sight_of f)) f n (shown popped)) (rest_does popped)
 unfolding comes_to
 given-whole old popped f n links show frames =
     ap (λ o. and_then o (rest_does old)) (number-comes old n)
-    ∙ ap (λ (fs : List Frame). frames_do old.links.items (reverse fs) n (shown old)) frames
-    ∙ frames-snoc old.links.items popped.frames.items f n (shown old)
-    ∙ ap (λ (w : Walk). and_then (frame_does (in_sight old.links.items (sight_of f)) f n w) (frames_do old.links.items (reverse popped.frames.items))) (sym show)
+    ∙ ap (λ (fs : List Frame). frames_do old.links (reverse fs) n (shown old)) frames
+    ∙ frames-snoc old.links popped.frames.items f n (shown old)
+    ∙ ap (λ (w : Walk). and_then (frame_does (in_sight old.links (sight_of f)) f n w) (frames_do old.links (reverse popped.frames.items))) (sym show)
     ∙ ap (λ (ls : List Link). and_then (frame_does (in_sight ls (sight_of f)) f n (shown popped)) (frames_do ls (reverse popped.frames.items))) (sym links)
 
-pub given : (old popped : Walker) (f : Frame) (n : ℕ) (result : Result Task ExpandFault) (new : Walker) → popped.links.items ≡ old.links.items → shown popped ≡ shown old →
-    old.frames.items ≡ popped.frames.items ++ f ∷ [] → Keeps (frame_does (in_sight popped.links.items (sight_of f)) f n (shown popped)) popped result new → Steps (comes_to old (task.Number n)) result new
+pub given : (old popped : Walker) (f : Frame) (n : ℕ) (result : Result Task ExpandFault) (new : Walker) → popped.links ≡ old.links → shown popped ≡ shown old →
+    old.frames.items ≡ popped.frames.items ++ f ∷ [] → Keeps (frame_does (in_sight popped.links (sight_of f)) f n (shown popped)) popped result new → Steps (comes_to old (task.Number n)) result new
 given old popped f n (Ok next) new links show frames k = (given-whole old popped f n links show frames ∙ k.same, k.fits)
 given old popped f n (Err e) new links show frames (inl m) = inl m
 given old popped f n (Err e) new links show frames (inr is) = inr (given-whole old popped f n links show frames ∙ ap (λ o. and_then o (rest_does popped)) is)
@@ -126,7 +126,7 @@ see-pop : (n : ℕ) (fs : List Frame) (f : Frame) → AllSee n (reverse (fs ++ f
 unfolding AllSee
 see-pop n fs f h = rw (reverse-snoc fs f) at h
 
-pub popped-holds : (old popped : Walker) (f : Frame) → Holds old → popped.links.items ≡ old.links.items → popped.scope.sight ≡ old.scope.sight → old.frames.items ≡ popped.frames.items ++ f ∷ [] →
+pub popped-holds : (old popped : Walker) (f : Frame) → Holds old → popped.links ≡ old.links → popped.scope.sight ≡ old.scope.sight → old.frames.items ≡ popped.frames.items ++ f ∷ [] →
     Holds popped × (sight_of f ≤ most popped)
 popped-holds old popped f h links scope frames =
     let k : (sight_of f ≤ most old) × AllSee (most old) (reverse popped.frames.items) = see-pop (most old) popped.frames.items f (rw frames at h.frames) in
@@ -140,17 +140,17 @@ statements_of p = through (λ s. in_body (statement_does s)) (out-ProtoText p).b
 abbrev defaults_from : ProtoText → Option ℕ → List (Declaration NodeText) → List GivenField → Machine (List GivenField)
 defaults_from p around ds = add_defaults node_does (place_of p around) (length (out-ProtoText p).interface) ds
 
-pub opens : (walker new : Walker) (p : Bor ProtoText) (around : Option ℕ) (opened o : Open) (f : Filling) → new.store ≡ walker.store → new.declarations ≡ walker.declarations → new.links.items ≡ walker.links.items →
+pub opens : (walker new : Walker) (p : Bor ProtoText) (around : Option ℕ) (opened o : Open) (f : Filling) → new.store ≡ walker.store → new.declarations ≡ walker.declarations → new.links ≡ walker.links →
     names_of new.scope ≡ no_names → defs_of new.scope ≡ no_defs → new.scope.ties ≡ [] → new.scope.sight ≡ opened.sight → new.scope.given ≡ [] → new.scope.interface.now ≡ [] → new.scope.inside ≡ body_of (definition (shown walker).declared around (out-ProtoText p.now).name) →
     f.proto ≡ p → f.within ≡ around → f.rest.now ≡ (out-ProtoText p.now).interface → f.outer ≡ walker.scope →
     o.name.now ≡ opened.name.now → o.owner ≡ opened.owner → o.fields ≡ opened.fields → o.sight ≡ walker.scope.sight → o.filling ≡ Some f →
-    close_instance opened.name.now (owner_in opened.owner).at (bound_of p.now around (in_sight walker.links.items opened.sight)) opened.fields (shown walker) ≡ task_comes new (task.Items o)
+    close_instance opened.name.now (owner_in opened.owner).at (bound_of p.now around (in_sight walker.links opened.sight)) opened.fields (shown walker) ≡ task_comes new (task.Items o)
 unfolding close_instance meaning_of task_does open_does
 opens walker new p around opened o f store declarations links names defs ties sight given interface inside proto within rest outer name owner fields seen filling =
     rw (filling, store, declarations, links, names, defs, ties, sight, given, interface, inside, proto, within, rest, outer, name, owner, fields, seen)
-    (ap (λ (m : Machine (Option ℕ)). and_then (back (seen_in walker.scope (in_sight walker.links.items walker.scope.sight)) (leave (out-ProtoText p.now).line
+    (ap (λ (m : Machine (Option ℕ)). and_then (back (seen_in walker.scope (in_sight walker.links walker.scope.sight)) (leave (out-ProtoText p.now).line
     (and_then (defaults_from p.now around (out-ProtoText p.now).interface opened.fields
-    (inside_of (in_sight walker.links.items opened.sight) (body_of (definition (shown walker).declared around (out-ProtoText p.now).name)) walker.store (shown walker).declared))
+    (inside_of (in_sight walker.links opened.sight) (body_of (definition (shown walker).declared around (out-ProtoText p.now).name)) walker.store (shown walker).declared))
     (begin_body (signatures (out-ProtoText p.now).interface) m)))) (stand_in opened.name.now (owner_in opened.owner).at))
     (fun_ext (λ w. body_map (out-ProtoText p.now).body None w)))
 
@@ -186,10 +186,10 @@ fill-next ps opened next f g d fields w rest proto within outer is =
     (add_default node_does (place_of f.proto.now f.within) (length (out-ProtoText f.proto.now).interface - length (d ∷ g.rest.now)) d fields w)
     (λ fs v. and_then (defaults_from f.proto.now f.within g.rest.now fs v) (begin_body (signatures (out-ProtoText f.proto.now).interface) (statements_of f.proto.now))))
 
-pub fill-last : (walker new : Walker) (opened : Open) (f : Filling) (i : Bor (List (Declaration NodeText))) (b : Body) → f.rest.now ≡ [] → new.store ≡ walker.store → new.declarations ≡ walker.declarations → new.links.items ≡ walker.links.items →
+pub fill-last : (walker new : Walker) (opened : Open) (f : Filling) (i : Bor (List (Declaration NodeText))) (b : Body) → f.rest.now ≡ [] → new.store ≡ walker.store → new.declarations ≡ walker.declarations → new.links ≡ walker.links →
     new.scope ≡ record walker.scope { given = opened.fields; interface = i } → i.now ≡ (out-ProtoText f.proto.now).interface →
     b.line ≡ (out-ProtoText f.proto.now).line → b.name.now ≡ opened.name.now → b.at ≡ (owner_in opened.owner).at → b.rest.now ≡ (out-ProtoText f.proto.now).body → b.first ≡ None → b.outer ≡ record f.outer { sight = opened.sight } →
-    fill (in_sight walker.links.items opened.sight) opened f opened.fields (shown walker) ≡ task_comes new (task.Statements b)
+    fill (in_sight walker.links opened.sight) opened f opened.fields (shown walker) ≡ task_comes new (task.Statements b)
 unfolding task_does body_does names_of defs_of
 fill-last walker new opened f i b rest store declarations links scope interface line name at body first outer =
     rw (rest, store, declarations, links, scope, interface, line, name, at, body, first, outer) refl
@@ -288,7 +288,7 @@ value-nodes nodes w f = and_then-assoc (through (add_number node_does) nodes [] 
 
 -- ---- the walk as a whole
 
-pub unmoved : (old new : Walker) (t next : Task) → Fits old t → t ≡ next → new.links.items ≡ old.links.items → new.frames.items ≡ old.frames.items → shown new ≡ shown old → new.scope.sight ≡ old.scope.sight →
+pub unmoved : (old new : Walker) (t next : Task) → Fits old t → t ≡ next → new.links ≡ old.links → new.frames.items ≡ old.frames.items → shown new ≡ shown old → new.scope.sight ≡ old.scope.sight →
     (comes_to old t ≡ comes_to new next) × Fits new next
 unfolding comes_to
 unmoved old new t next h is links frames show sight = (
@@ -369,7 +369,7 @@ left-out links opened next line number name v w none is =
     ∙ fields-in links opened next (with_field line number opened.fields None) w is
 
 -- what was put in meanwhile is in the outcome
-pub keeps-from : (o other : Outcome ℕ) (old since : Walker) (result : Result Task ExpandFault) (new : Walker) → o ≡ other → old.links.items ≡ since.links.items → old.frames.items ≡ since.frames.items →
+pub keeps-from : (o other : Outcome ℕ) (old since : Walker) (result : Result Task ExpandFault) (new : Walker) → o ≡ other → old.links ≡ since.links → old.frames.items ≡ since.frames.items →
     Keeps other since result new → Keeps o old result new
 keeps-from o other old since (Ok next) new is links frames k = record { same = rw (is, links, frames) k.same; fits = k.fits }
 keeps-from o other old since (Err e) new is links frames k = rw is k

@@ -17,7 +17,7 @@ use Rattle.proto_walk.specs.declared.held.Joined.{Joined}
 use Rattle.proto_walk.specs.declared.held.KnownField.{KnownField}
 use Rattle.proto_walk.specs.declared.held.Store.{Store}
 use Rattle.proto_walk.specs.declared.frames.BegunNode.{BegunNode}
-use Rattle.proto_walk.specs.declared.frames.Link.{Link}
+use Rattle.proto_links.specs.declared.links.Link.{Link}
 use Rattle.proto_walk.specs.declared.frames.Scope.{Scope}
 use Rattle.proto_walk.specs.declared.frames.Owner.TheVariants as owner
 use Rattle.proto_walk.specs.declared.frames.Owner.{Owner as Holder}
@@ -185,15 +185,15 @@ view store declarations scope links = record {
 }
 
 abbrev pub shown : Walker → Walk
-shown walker = view walker.store walker.declarations walker.scope walker.links.items
+shown walker = view walker.store walker.declarations walker.scope walker.links
 
 -- what all frames do
 abbrev pub rest_does : Walker → ℕ → Machine ℕ
-rest_does walker = frames_do walker.links.items (reverse walker.frames.items)
+rest_does walker = frames_do walker.links (reverse walker.frames.items)
 
 -- what the task alone comes to
 abbrev pub task_comes : Walker → Task → Outcome ℕ
-task_comes walker t = task_does (in_sight walker.links.items (task_sight t)) t (shown walker)
+task_comes walker t = task_does (in_sight walker.links (task_sight t)) t (shown walker)
 
 -- what the task and then the frames come to
 unfoldable pub comes_to : Walker → Task → Outcome ℕ
@@ -210,13 +210,13 @@ AllSee most [] = Unit
 AllSee most (f ∷ below) = (sight_of f ≤ most) × AllSee most below
 
 pub record Holds (walker : Walker) : Type 0 where
-  pub linked : AreLinked (reverse walker.links.items)
-  pub scope : walker.scope.sight ≤ length walker.links.items
-  pub frames : AllSee (length walker.links.items) (reverse walker.frames.items)
+  pub linked : AreLinked (reverse walker.links)
+  pub scope : walker.scope.sight ≤ length walker.links
+  pub frames : AllSee (length walker.links) (reverse walker.frames.items)
 
 pub record Fits (walker : Walker) (t : Task) : Type 0 where
   pub holds : Holds walker
-  pub task : task_sight t ≤ length walker.links.items
+  pub task : task_sight t ≤ length walker.links
 
 -- ---- a step
 

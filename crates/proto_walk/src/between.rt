@@ -25,9 +25,9 @@ pub fn keep_value<'a>(
     value: RawValue<u32>,
 ) -> Result<Task<'a>, ExpandFault>
     requires holds { Holds walker.old }
-    requires sees { opened.sight ≤ length walker.old.links.items }
+    requires sees { opened.sight ≤ length walker.old.links }
     ensures { Keeps (does.value_does
-        (in_sight walker.old.links.items opened.entry.sight) opened.entry line number value
+        (in_sight walker.old.links opened.entry.sight) opened.entry line number value
         (shown walker.old)) walker.old result walker.new }
 {
     let kept = steps::keep(
@@ -50,10 +50,10 @@ fn put_counted<'a>(
     value: &'a RawValue<NodeText>,
 ) -> Result<Task<'a>, ExpandFault>
     requires holds { Holds walker.old }
-    requires sees { opened.sight ≤ length walker.old.links.items }
+    requires sees { opened.sight ≤ length walker.old.links }
     ensures { Keeps (and_then (spec.numbered node_does value.now (shown walker.old))
         (does.value_does
-        (in_sight walker.old.links.items opened.entry.sight) opened.entry line number)) walker.old
+        (in_sight walker.old.links opened.entry.sight) opened.entry line number)) walker.old
         result walker.new }
 {
     match value {
@@ -87,10 +87,10 @@ pub fn put_taken<'a>(
     value: &'a RawValue<NodeText>,
 ) -> Result<Task<'a>, ExpandFault>
     requires holds { Holds walker.old }
-    requires sees { opened.sight ≤ length walker.old.links.items }
+    requires sees { opened.sight ≤ length walker.old.links }
     ensures { Keeps (and_then (spec.add_new node_does line number value.now opened.entry.fields
         (shown walker.old)) (does.open_does
-        (in_sight walker.old.links.items opened.entry.sight) opened.entry)) walker.old
+        (in_sight walker.old.links opened.entry.sight) opened.entry)) walker.old
         result walker.new }
 {
     steps::count_items(
@@ -114,11 +114,11 @@ fn put_once<'a>(
     value: &'a RawValue<NodeText>,
 ) -> Result<Task<'a>, ExpandFault>
     requires holds { Holds walker.old }
-    requires sees { opened.sight ≤ length walker.old.links.items }
+    requires sees { opened.sight ≤ length walker.old.links }
     ensures { Keeps (and_then (spec.add_taken node_does line name.now
         (owner_in opened.entry.owner) number value.now opened.entry.fields (shown walker.old))
         (does.open_does
-        (in_sight walker.old.links.items opened.entry.sight) opened.entry)) walker.old
+        (in_sight walker.old.links opened.entry.sight) opened.entry)) walker.old
         result walker.new }
 {
     if fields::is_taken(&walker.declarations, opened.owner, name) {
@@ -157,10 +157,10 @@ fn put_value<'a>(
     value: &'a RawValue<NodeText>,
 ) -> Result<Task<'a>, ExpandFault>
     requires holds { Holds walker.old }
-    requires sees { opened.sight ≤ length walker.old.links.items }
+    requires sees { opened.sight ≤ length walker.old.links }
     ensures { Keeps (and_then (spec.add_value node_does line name.now value.now
         (owner_in opened.entry.owner) opened.entry.fields (shown walker.old)) (does.open_does
-        (in_sight walker.old.links.items opened.entry.sight) opened.entry)) walker.old
+        (in_sight walker.old.links opened.entry.sight) opened.entry)) walker.old
         result walker.new }
 {
     let number = free_field(opened.owner, opened.fields.as_slice(), line, name)?;
@@ -287,11 +287,11 @@ pub fn put_joined<'a>(
     joined: Joined,
 ) -> Result<Task<'a>, ExpandFault>
     requires holds { Holds walker.old }
-    requires sees { opened.sight ≤ length walker.old.links.items }
+    requires sees { opened.sight ≤ length walker.old.links }
     ensures { Keeps (and_then (spec.add_joined line field.now
         (owner_in opened.entry.owner) opened.entry.fields joined (shown walker.old))
         (does.open_does
-        (in_sight walker.old.links.items opened.entry.sight) opened.entry)) walker.old
+        (in_sight walker.old.links opened.entry.sight) opened.entry)) walker.old
         result walker.new }
 {
     hand_over(alloc, walker, opened.owner, field, joined)?;
@@ -308,10 +308,10 @@ fn put_is<'a>(
     name: &Text,
 ) -> Result<Task<'a>, ExpandFault>
     requires holds { Holds walker.old }
-    requires sees { opened.sight ≤ length walker.old.links.items }
+    requires sees { opened.sight ≤ length walker.old.links }
     ensures { Keeps (and_then (spec.add_is line field.now name.now
         (owner_in opened.entry.owner) opened.entry.fields (shown walker.old)) (does.open_does
-        (in_sight walker.old.links.items opened.entry.sight) opened.entry)) walker.old
+        (in_sight walker.old.links opened.entry.sight) opened.entry)) walker.old
         result walker.new }
 {
     let joined = joined(
@@ -334,10 +334,10 @@ pub fn put_given<'a>(
     given: &'a Given<NodeText>,
 ) -> Result<Task<'a>, ExpandFault>
     requires holds { Holds walker.old }
-    requires sees { opened.sight ≤ length walker.old.links.items }
+    requires sees { opened.sight ≤ length walker.old.links }
     ensures { Keeps (and_then (spec.add_given node_does line name.now given.now
         (owner_in opened.entry.owner) opened.entry.fields (shown walker.old)) (does.open_does
-        (in_sight walker.old.links.items opened.entry.sight) opened.entry)) walker.old
+        (in_sight walker.old.links opened.entry.sight) opened.entry)) walker.old
         result walker.new }
 {
     match given {

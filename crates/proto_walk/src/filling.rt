@@ -25,10 +25,10 @@ pub fn open_defaults<'a>(
     within: Option<usize>,
 ) -> Result<Task<'a>, ExpandFault>
     requires holds { Holds walker.old }
-    requires sees { opened.sight ≤ length walker.old.links.items }
+    requires sees { opened.sight ≤ length walker.old.links }
     ensures { Keeps (spec.close_instance opened.entry.name.now (owner_in opened.entry.owner).at
         (does.bound_of proto.now within
-        (in_sight walker.old.links.items opened.entry.sight)) opened.entry.fields
+        (in_sight walker.old.links opened.entry.sight)) opened.entry.fields
         (shown walker.old)) walker.old result walker.new }
 {
     let Open {
@@ -68,11 +68,11 @@ fn put_default_value<'a>(
     declaration: &'a Declaration<NodeText>,
 ) -> Result<Task<'a>, ExpandFault>
     requires holds { Holds walker.old }
-    requires sees { opened.sight ≤ length walker.old.links.items }
+    requires sees { opened.sight ≤ length walker.old.links }
     ensures { Keeps (and_then
         (spec.add_default_value node_does declaration.now.line number declaration.now.given
         opened.entry.fields (shown walker.old)) (does.open_does
-        (in_sight walker.old.links.items opened.entry.sight) opened.entry)) walker.old
+        (in_sight walker.old.links opened.entry.sight) opened.entry)) walker.old
         result walker.new }
 {
     match &declaration.given {
@@ -93,11 +93,11 @@ fn put_default<'a>(
     declaration: &'a Declaration<NodeText>,
 ) -> Result<Task<'a>, ExpandFault>
     requires holds { Holds walker.old }
-    requires sees { opened.sight ≤ length walker.old.links.items }
+    requires sees { opened.sight ≤ length walker.old.links }
     ensures { Keeps (and_then (spec.add_default node_does
         (does.place_of proto.now within) number declaration.now opened.entry.fields
         (shown walker.old)) (does.open_does
-        (in_sight walker.old.links.items opened.entry.sight) opened.entry)) walker.old
+        (in_sight walker.old.links opened.entry.sight) opened.entry)) walker.old
         result walker.new }
 {
     if fields::is_wanted(
@@ -120,10 +120,10 @@ fn start_body<'a>(
     filling: Filling<'a>,
 ) -> Result<Task<'a>, ExpandFault>
     requires holds { Holds walker.old }
-    requires sees { opened.sight ≤ length walker.old.links.items }
+    requires sees { opened.sight ≤ length walker.old.links }
     requires done { filling.rest.now ≡ [] }
     ensures { Keeps (does.fill
-        (in_sight walker.old.links.items opened.entry.sight) opened.entry filling.entry
+        (in_sight walker.old.links opened.entry.sight) opened.entry filling.entry
         opened.entry.fields (shown walker.old)) walker.old result walker.new }
 {
     let Open {
@@ -157,9 +157,9 @@ fn next_filling<'a>(
     filling: Filling<'a>,
 ) -> Result<Task<'a>, ExpandFault>
     requires holds { Holds walker.old }
-    requires sees { opened.sight ≤ length walker.old.links.items }
+    requires sees { opened.sight ≤ length walker.old.links }
     ensures { Keeps (does.fill
-        (in_sight walker.old.links.items opened.entry.sight) opened.entry filling.entry
+        (in_sight walker.old.links opened.entry.sight) opened.entry filling.entry
         opened.entry.fields (shown walker.old)) walker.old result walker.new }
 {
     let Some((declaration, rest)) = filling.rest.split_first() else {
@@ -189,9 +189,9 @@ pub fn next_default<'a>(
     opened: Open<'a>,
 ) -> Result<Task<'a>, ExpandFault>
     requires holds { Holds walker.old }
-    requires sees { opened.sight ≤ length walker.old.links.items }
+    requires sees { opened.sight ≤ length walker.old.links }
     ensures { Keeps (does.open_does
-        (in_sight walker.old.links.items opened.entry.sight) opened.entry opened.entry.fields
+        (in_sight walker.old.links opened.entry.sight) opened.entry opened.entry.fields
         (shown walker.old)) walker.old result walker.new }
 {
     let mut opened = opened;

@@ -5,6 +5,7 @@ use classic_tree::{BodyItem, Declaration, NodeText, ProtoText, Statement};
 use indexmap::IndexMap;
 use proto_declarations::Declarations;
 use proto_ends::Tie;
+use proto_links::Links;
 use x3d_lists::{Items, Text};
 use x3d_values::NodeType;
 
@@ -20,15 +21,6 @@ pub struct Named {
 pub struct BegunNode<'a> {
     pub at: usize,
     pub interface: Option<&'a [Declaration<NodeText>]>,
-}
-
-/// A prototype that was declared, the body that it is declared in, and how many links its own body
-/// sees: the last of these and what that one sees.
-#[derive(Clone, Copy)]
-pub struct Link<'a> {
-    pub proto: &'a ProtoText,
-    pub within: Option<usize>,
-    pub before: usize,
 }
 
 /// What is in sight: the names of finished nodes, those of all nodes and instances whose DEF was
@@ -127,7 +119,7 @@ pub enum Task<'a> {
 pub struct Walker<'a> {
     pub store: Store,
     pub declarations: Declarations<'a>,
-    pub links: Vec<Link<'a>>,
+    pub links: Links<'a>,
     pub scope: Scope<'a>,
     pub frames: Vec<Frame<'a>>,
 }

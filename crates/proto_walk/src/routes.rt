@@ -9,12 +9,13 @@ ghost use Rattle.proto_walk.specs.Machine.{Does};
 ghost use Rattle.proto_walk.specs.Routes as spec;
 
 use crate::fields::field_of_interface;
-use crate::frames::{BegunNode, Link, Scope};
+use crate::frames::{BegunNode, Scope};
 use crate::held::{KnownField, Store};
 use classic_tree::{Declaration, NodeText, RouteText};
 use flat_document::ExpandFault;
 use proto_declarations::Declarations;
 use proto_ends::{Joint, Tip, Wire};
+use proto_links::Links;
 use std::alloc::Global;
 use x3d_lists::{Duplicate, Text};
 
@@ -25,7 +26,7 @@ pub fn keep_name(
     store: &mut Store,
     declarations: &Declarations<'_>,
     scope: &Scope<'_>,
-    links: &[Link<'_>],
+    links: &Links<'_>,
     name: &Text,
 ) -> Result<usize, ExpandFault>
     ensures { Does (machine.keep_name name.now
@@ -165,7 +166,7 @@ fn add_wire(
     store: &mut Store,
     declarations: &Declarations<'_>,
     scope: &Scope<'_>,
-    links: &[Link<'_>],
+    links: &Links<'_>,
     route: &RouteText,
     source: usize,
     target: usize,
@@ -191,7 +192,7 @@ pub fn wire(
     store: &mut Store,
     declarations: &Declarations<'_>,
     scope: &Scope<'_>,
-    links: &[Link<'_>],
+    links: &Links<'_>,
     route: &RouteText,
 ) -> Result<(), ExpandFault>
     ensures { Does (spec.wire route.now (view store.old declarations.now scope.now links.now))

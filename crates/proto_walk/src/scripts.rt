@@ -239,11 +239,11 @@ fn put_plain<'a>(
     name: &Text,
 ) -> Result<Task<'a>, ExpandFault>
     requires holds { Holds walker.old }
-    requires sees { opened.sight ≤ length walker.old.links.items }
+    requires sees { opened.sight ≤ length walker.old.links }
     ensures { Keeps (and_then (spec.with_place line (owner_in opened.entry.owner)
         opened.entry.fields name.now (λ n. pure (with_field line n opened.entry.fields None))
         (shown walker.old)) (does.open_does
-        (in_sight walker.old.links.items opened.entry.sight) opened.entry)) walker.old
+        (in_sight walker.old.links opened.entry.sight) opened.entry)) walker.old
         result walker.new }
 {
     let number = declared_number(opened.owner, opened.fields.as_slice(), line, name)?;
@@ -260,12 +260,12 @@ fn put_value<'a>(
     value: &'a RawValue<NodeText>,
 ) -> Result<Task<'a>, ExpandFault>
     requires holds { Holds walker.old }
-    requires sees { opened.sight ≤ length walker.old.links.items }
+    requires sees { opened.sight ≤ length walker.old.links }
     ensures { Keeps (and_then (spec.with_place line (owner_in opened.entry.owner)
         opened.entry.fields name.now
         (λ n. spec.add_new node_does line n value.now opened.entry.fields)
         (shown walker.old)) (does.open_does
-        (in_sight walker.old.links.items opened.entry.sight) opened.entry)) walker.old
+        (in_sight walker.old.links opened.entry.sight) opened.entry)) walker.old
         result walker.new }
 {
     let number = declared_number(opened.owner, opened.fields.as_slice(), line, name)?;
@@ -281,10 +281,10 @@ fn put_is<'a>(
     name: &Text,
 ) -> Result<Task<'a>, ExpandFault>
     requires holds { Holds walker.old }
-    requires sees { opened.sight ≤ length walker.old.links.items }
+    requires sees { opened.sight ≤ length walker.old.links }
     ensures { Keeps (and_then (spec.add_declared_is (signature declaration.now) name.now
         (owner_in opened.entry.owner) opened.entry.fields (shown walker.old)) (does.open_does
-        (in_sight walker.old.links.items opened.entry.sight) opened.entry)) walker.old
+        (in_sight walker.old.links opened.entry.sight) opened.entry)) walker.old
         result walker.new }
 {
     let joined = declared_joined(
@@ -312,11 +312,11 @@ pub fn put_declaration<'a>(
     declaration: &'a Declaration<NodeText>,
 ) -> Result<Task<'a>, ExpandFault>
     requires holds { Holds walker.old }
-    requires sees { opened.sight ≤ length walker.old.links.items }
+    requires sees { opened.sight ≤ length walker.old.links }
     ensures { Keeps (and_then (spec.add_declaration node_does (signature declaration.now)
         declaration.now.given (owner_in opened.entry.owner) opened.entry.fields
         (shown walker.old)) (does.open_does
-        (in_sight walker.old.links.items opened.entry.sight) opened.entry)) walker.old
+        (in_sight walker.old.links opened.entry.sight) opened.entry)) walker.old
         result walker.new }
 {
     let line = declaration.line;

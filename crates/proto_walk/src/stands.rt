@@ -8,12 +8,13 @@ ghost use Rattle.proto_walk.specs.Machine.{Does, with_def};
 ghost use Rattle.proto_walk.specs.Limits as limit;
 ghost use Rattle.proto_walk.specs.Meaning as meaning;
 
-use crate::frames::{BegunNode, Link, Scope};
+use crate::frames::{BegunNode, Scope};
 use crate::held::{Joined, Store};
 use classic_tree::{Declaration, NodeText};
 use flat_document::{ExpandFault, ExpandFaultKind};
 use proto_declarations::Declarations;
 use proto_ends::{Joint, Spot, Stand, Tie, spot_count, with_spots};
+use proto_links::Links;
 use std::alloc::{AllocError, AllocFailed, Global};
 use x3d_lists::{Items, Text};
 
@@ -42,7 +43,7 @@ pub fn meet<'a>(
     store: &Store,
     declarations: &Declarations<'a>,
     scope: &mut Scope<'a>,
-    links: &[Link<'a>],
+    links: &Links<'a>,
     name: &'a Option<Text>,
     begun: BegunNode<'a>,
 ) -> Result<(), ExpandFault>
@@ -64,7 +65,7 @@ pub fn stand(
     store: &mut Store,
     declarations: &Declarations<'_>,
     scope: &Scope<'_>,
-    links: &[Link<'_>],
+    links: &Links<'_>,
     at: usize,
     what: Stand,
 ) -> Result<(), ExpandFault>
@@ -83,7 +84,7 @@ pub fn tie(
     store: &Store,
     declarations: &Declarations<'_>,
     scope: &mut Scope<'_>,
-    links: &[Link<'_>],
+    links: &Links<'_>,
     at: usize,
     joined: Joined,
     name: usize,
@@ -110,7 +111,7 @@ fn count_joined(
     store: &mut Store,
     declarations: &Declarations<'_>,
     scope: &Scope<'_>,
-    links: &[Link<'_>],
+    links: &Links<'_>,
     fields: usize,
 ) -> Result<(), ExpandFault>
     ensures { Does (limit.count_joined fields
@@ -129,7 +130,7 @@ fn join_tie(
     store: &mut Store,
     declarations: &Declarations<'_>,
     scope: &Scope<'_>,
-    links: &[Link<'_>],
+    links: &Links<'_>,
     tie: Tie,
     inlets: Items<Items<Spot>>,
 ) -> Result<Items<Items<Spot>>, ExpandFault>
@@ -163,7 +164,7 @@ pub fn join(
     store: &mut Store,
     declarations: &Declarations<'_>,
     scope: &Scope<'_>,
-    links: &[Link<'_>],
+    links: &Links<'_>,
 ) -> Result<Items<Items<Spot>>, ExpandFault>
     ensures { Does (meaning.join (view store.old declarations.now scope.now links.now)) result
         (view store.new declarations.now scope.now links.now) }

@@ -14,14 +14,15 @@ ghost use Rattle.proto_declarations.specs.Sight.{no_names as no_names_yet};
 ghost use Rattle.proto_walk.specs.Frames.{names_of, defs_of, view, IsOnce, in_sight, bound_by};
 ghost use Rattle.proto_walk.specs.Frames.{AreLinked};
 
-use crate::fields::{flat_fields, item_count, same};
-use crate::frames::{Link, Named, Open, Scope};
+use crate::fields::{flat_fields, item_count};
+use crate::frames::{Named, Open, Scope};
 use crate::held::{GivenField, PlacedNode, Store};
 use crate::{fields, scripts};
 use classic_tree::{BodyItem, Declaration, NodeText, RawValue};
 use flat_document::{ExpandFault, ExpandFaultKind, FlatField};
 use indexmap::IndexMap;
 use proto_declarations::Declarations;
+use proto_links::{Link, Links};
 use std::alloc::{AllocError, AllocFailed, Global};
 use x3d_lists::{Duplicate, Items, Text};
 use x3d_values::NodeType;
@@ -38,7 +39,7 @@ pub fn keep(
     store: &mut Store,
     declarations: &Declarations<'_>,
     scope: &Scope<'_>,
-    links: &[Link<'_>],
+    links: &Links<'_>,
     value: RawValue<u32>,
 ) -> Result<usize, ExpandFault>
     ensures { Does (spec.keep value (view store.old declarations.now scope.now links.now)) result
@@ -76,7 +77,7 @@ pub fn begin_node(
     store: &mut Store,
     declarations: &Declarations<'_>,
     scope: &Scope<'_>,
-    links: &[Link<'_>],
+    links: &Links<'_>,
 ) -> Result<usize, ExpandFault>
     ensures { Does (limit.begin_node (view store.old declarations.now scope.now links.now)) result
         (view store.new declarations.now scope.now links.now) }
@@ -96,7 +97,7 @@ fn begin_instance(
     store: &mut Store,
     declarations: &Declarations<'_>,
     scope: &Scope<'_>,
-    links: &[Link<'_>],
+    links: &Links<'_>,
 ) -> Result<usize, ExpandFault>
     ensures { Does (limit.begin_instance (view store.old declarations.now scope.now links.now))
         result (view store.new declarations.now scope.now links.now) }
@@ -127,7 +128,7 @@ pub fn begin(
     store: &mut Store,
     declarations: &Declarations<'_>,
     scope: &Scope<'_>,
-    links: &[Link<'_>],
+    links: &Links<'_>,
     interface: &[Declaration<NodeText>],
 ) -> Result<usize, ExpandFault>
     ensures { Does (meaning.begin (signatures interface.now)
@@ -145,7 +146,7 @@ pub fn count_items(
     store: &mut Store,
     declarations: &Declarations<'_>,
     scope: &Scope<'_>,
-    links: &[Link<'_>],
+    links: &Links<'_>,
     items: usize,
 ) -> Result<(), ExpandFault>
     ensures { Does (limit.count_items items (view store.old declarations.now scope.now links.now))
@@ -174,7 +175,7 @@ fn put_flat(
     store: &mut Store,
     declarations: &Declarations<'_>,
     scope: &Scope<'_>,
-    links: &[Link<'_>],
+    links: &Links<'_>,
     line: u32,
     name: &Option<Text>,
     node_type: NodeType,
@@ -209,7 +210,7 @@ pub fn put(
     store: &mut Store,
     declarations: &Declarations<'_>,
     scope: &Scope<'_>,
-    links: &[Link<'_>],
+    links: &Links<'_>,
     line: u32,
     name: &Option<Text>,
     node_type: NodeType,
@@ -243,7 +244,7 @@ pub fn label(
     store: &mut Store,
     declarations: &Declarations<'_>,
     scope: &Scope<'_>,
-    links: &[Link<'_>],
+    links: &Links<'_>,
     name: &Option<Text>,
     node: u32,
 ) -> Result<u32, ExpandFault>
@@ -265,7 +266,7 @@ pub fn help(
     store: &mut Store,
     declarations: &Declarations<'_>,
     scope: &Scope<'_>,
-    links: &[Link<'_>],
+    links: &Links<'_>,
     node: u32,
 ) -> Result<(), ExpandFault>
     ensures { Does (spec.help node (view store.old declarations.now scope.now links.now)) result
@@ -317,7 +318,7 @@ pub fn know<'a>(
     store: &Store,
     declarations: &Declarations<'a>,
     scope: &mut Scope<'a>,
-    links: &[Link<'a>],
+    links: &Links<'a>,
     name: &'a Option<Text>,
     at: usize,
     node: u32,
@@ -345,7 +346,7 @@ pub fn use_node(
     store: &Store,
     declarations: &Declarations<'_>,
     scope: &Scope<'_>,
-    links: &[Link<'_>],
+    links: &Links<'_>,
     line: u32,
     name: &Text,
 ) -> Result<u32, ExpandFault>
@@ -360,22 +361,14 @@ pub fn use_node(
 }
 
 /// The last prototype of this name among so many links, with what its body sees.
-pub fn lookup<'a>(links: &[Link<'a>], sight: usize, kind: &Text) -> Option<Link<'a>>
+pub fn lookup<'a>(links: &Links<'a>, sight: usize, kind: &Text) -> Option<Link<'a>>
     requires linked { AreLinked (reverse links.now) }
     requires seen { sight ≤ length links.now }
     ensures value { spec.lookup kind.now (in_sight links.now sight) ≡ option_map (λ l. bound_by l
         (in_sight links.now l.before)) result }
     ensures within { IfSome result (λ l. l.before ≤ length links.now) }
 {
-    let mut sight = sight;
-    while sight > 0 {
-        let link = links[sight - 1];
-        if same(&link.proto.name, kind) {
-            return Some(link);
-        }
-        sight = link.before;
-    }
-    None
+    links.find(kind, sight)
 }
 
 /// One field more.
@@ -403,7 +396,7 @@ pub fn count_again(
     store: &mut Store,
     declarations: &Declarations<'_>,
     scope: &Scope<'_>,
-    links: &[Link<'_>],
+    links: &Links<'_>,
     number: usize,
 ) -> Result<(), ExpandFault>
     ensures { Does (limit.count_again number (view store.old declarations.now scope.now links.now))

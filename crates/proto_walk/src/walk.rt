@@ -9,22 +9,27 @@ ghost use Rattle.proto_walk.specs.Frames.{Fits, Holds, Keeps, Steps, Ends, comes
 ghost use Rattle.proto_walk.specs.Frames.{IfHanded, owner_in, shown};
 ghost use Rattle.proto_walk.specs.Routes.{wire};
 
-use crate::frames::{BegunNode, Body, Frame, Link, Listing, Open, Owner, Task, Walker};
+use crate::frames::{BegunNode, Body, Frame, Listing, Open, Owner, Task, Walker};
 use crate::{between, filling, routes, scripts, stands, steps};
 use classic_tree::{BodyItem, NodeText, ProtoText, RawValue, RouteText, Statement};
 use flat_document::{ExpandFault, ExpandFaultKind};
 use proto_ends::{Spot, Stand};
+use proto_links::Link;
 use std::alloc::{AllocError, Global};
 use x3d_lists::{Items, Text};
 use x3d_values::NodeType;
 
 /// A prototype comes in sight.
-pub fn declare<'a>(walker: &mut Walker<'a>, proto: &'a ProtoText) -> Result<(), AllocError>
+pub fn declare<'a>(
+    alloc: Global,
+    walker: &mut Walker<'a>,
+    proto: &'a ProtoText,
+) -> Result<(), AllocError>
     requires { Holds walker.old }
     ensures does { IfOk result (λ u. proto_does proto.now (shown walker.old) ≡ Ok
         (u, shown walker.new)) }
-    ensures more { IfOk result (λ _. walker.new.links.items
-        ≡ walker.old.links.items ++ record {
+    ensures more { IfOk result (λ _. walker.new.links
+        ≡ walker.old.links ++ record {
           proto = proto.entry;
           within = walker.old.scope.inside;
           before = walker.old.scope.sight;
@@ -34,11 +39,14 @@ pub fn declare<'a>(walker: &mut Walker<'a>, proto: &'a ProtoText) -> Result<(), 
 {
     let within = walker.scope.inside;
     let before = walker.scope.sight;
-    walker.links.push(Link {
-        proto,
-        within,
-        before,
-    })?;
+    walker.links.push(
+        alloc,
+        Link {
+            proto,
+            within,
+            before,
+        },
+    )?;
     walker.scope.sight = walker.links.len();
     Ok(())
 }
@@ -118,9 +126,9 @@ fn enter_instance<'a>(
     items: &'a [BodyItem],
 ) -> Result<Task<'a>, ExpandFault>
     requires holds { Holds walker.old }
-    requires sees { link.before ≤ length walker.old.links.items }
+    requires sees { link.before ≤ length walker.old.links }
     ensures { Keeps (spec.instance name.now (does.bound_by link.entry
-        (in_sight walker.old.links.items link.entry.before)) (spec.items_do items.now)
+        (in_sight walker.old.links link.entry.before)) (spec.items_do items.now)
         (shown walker.old)) walker.old result walker.new }
 {
     let at = steps::begin(
@@ -263,9 +271,9 @@ fn close<'a>(
     opened: Open<'a>,
 ) -> Result<Task<'a>, ExpandFault>
     requires holds { Holds walker.old }
-    requires sees { opened.sight ≤ length walker.old.links.items }
+    requires sees { opened.sight ≤ length walker.old.links }
     ensures { Keeps (does.close_with
-        (in_sight walker.old.links.items opened.entry.sight) opened.entry opened.entry.fields
+        (in_sight walker.old.links opened.entry.sight) opened.entry opened.entry.fields
         (shown walker.old)) walker.old result walker.new }
 {
     match opened.owner {
@@ -287,10 +295,10 @@ fn put_route<'a>(
     route: &RouteText,
 ) -> Result<Task<'a>, ExpandFault>
     requires holds { Holds walker.old }
-    requires sees { opened.sight ≤ length walker.old.links.items }
+    requires sees { opened.sight ≤ length walker.old.links }
     ensures { Keeps (and_then (and_then (wire route.now (shown walker.old))
         (λ _. pure opened.entry.fields)) (does.open_does
-        (in_sight walker.old.links.items opened.entry.sight) opened.entry)) walker.old
+        (in_sight walker.old.links opened.entry.sight) opened.entry)) walker.old
         result walker.new }
 {
     meet_route(alloc, walker, route)?;
@@ -306,10 +314,10 @@ fn put_item<'a>(
     item: &'a BodyItem,
 ) -> Result<Task<'a>, ExpandFault>
     requires holds { Holds walker.old }
-    requires sees { opened.sight ≤ length walker.old.links.items }
+    requires sees { opened.sight ≤ length walker.old.links }
     ensures { Keeps (and_then (spec.item_does item.now
         (owner_in opened.entry.owner) opened.entry.fields (shown walker.old)) (does.open_does
-        (in_sight walker.old.links.items opened.entry.sight) opened.entry)) walker.old
+        (in_sight walker.old.links opened.entry.sight) opened.entry)) walker.old
         result walker.new }
 {
     match item {
@@ -321,7 +329,7 @@ fn put_item<'a>(
         }
         BodyItem::Route(route) => put_route(alloc, walker, opened, route),
         BodyItem::Proto(proto) => {
-            declare(walker, proto)?;
+            declare(alloc, walker, proto)?;
             Ok(Task::Items(opened))
         }
     }
@@ -334,9 +342,9 @@ fn next_item<'a>(
     opened: Open<'a>,
 ) -> Result<Task<'a>, ExpandFault>
     requires holds { Holds walker.old }
-    requires sees { opened.sight ≤ length walker.old.links.items }
+    requires sees { opened.sight ≤ length walker.old.links }
     ensures { Keeps (does.open_does
-        (in_sight walker.old.links.items opened.entry.sight) opened.entry opened.entry.fields
+        (in_sight walker.old.links opened.entry.sight) opened.entry opened.entry.fields
         (shown walker.old)) walker.old result walker.new }
 {
     if opened.filling.is_some() {
@@ -357,9 +365,9 @@ fn next_in_list<'a>(
     listing: Listing<'a>,
 ) -> Result<Task<'a>, ExpandFault>
     requires holds { Holds walker.old }
-    requires sees { opened.sight ≤ length walker.old.links.items }
+    requires sees { opened.sight ≤ length walker.old.links }
     ensures { Keeps (does.list_does
-        (in_sight walker.old.links.items opened.entry.sight) opened.entry listing.entry
+        (in_sight walker.old.links opened.entry.sight) opened.entry listing.entry
         listing.entry.numbers (shown walker.old)) walker.old result walker.new }
 {
     let Some((node, rest)) = listing.rest.split_first() else {
@@ -386,10 +394,10 @@ fn leave<'a>(
     body: Body<'a>,
 ) -> Result<Task<'a>, ExpandFault>
     requires holds { Holds walker.old }
-    requires sees { body.outer.sight ≤ length walker.old.links.items }
+    requires sees { body.outer.sight ≤ length walker.old.links }
     requires done { body.rest.now ≡ [] }
     ensures { Keeps (does.body_does
-        (in_sight walker.old.links.items body.entry.outer.sight) body.entry body.entry.first
+        (in_sight walker.old.links body.entry.outer.sight) body.entry body.entry.first
         (shown walker.old)) walker.old result walker.new }
 {
     let Body {
@@ -466,9 +474,9 @@ fn next_route<'a>(
     route: &RouteText,
 ) -> Result<Task<'a>, ExpandFault>
     requires holds { Holds walker.old }
-    requires sees { body.outer.sight ≤ length walker.old.links.items }
+    requires sees { body.outer.sight ≤ length walker.old.links }
     ensures { Keeps (and_then (wire route.now (shown walker.old)) (λ _. does.body_does
-        (in_sight walker.old.links.items body.entry.outer.sight) body.entry body.entry.first))
+        (in_sight walker.old.links body.entry.outer.sight) body.entry body.entry.first))
         walker.old result walker.new }
 {
     meet_route(alloc, walker, route)?;
@@ -482,9 +490,9 @@ fn next_statement<'a>(
     body: Body<'a>,
 ) -> Result<Task<'a>, ExpandFault>
     requires holds { Holds walker.old }
-    requires sees { body.outer.sight ≤ length walker.old.links.items }
+    requires sees { body.outer.sight ≤ length walker.old.links }
     ensures { Keeps (does.body_does
-        (in_sight walker.old.links.items body.entry.outer.sight) body.entry body.entry.first
+        (in_sight walker.old.links body.entry.outer.sight) body.entry body.entry.first
         (shown walker.old)) walker.old result walker.new }
 {
     let Some((statement, rest)) = body.rest.split_first() else {
@@ -499,7 +507,7 @@ fn next_statement<'a>(
         }
         Statement::Route(route) => next_route(alloc, walker, body, route),
         Statement::Proto(proto) => {
-            declare(walker, proto)?;
+            declare(alloc, walker, proto)?;
             Ok(Task::Statements(body))
         }
     }
@@ -509,8 +517,8 @@ fn next_statement<'a>(
 #[tactic(auto, unfolding(crate::specs::Frames::frame_does, crate::specs::Frames::task_does))]
 fn hold<'a>(walker: &mut Walker<'a>, body: Body<'a>, number: u32) -> Result<Task<'a>, ExpandFault>
     requires holds { Holds walker.old }
-    requires sees { body.outer.sight ≤ length walker.old.links.items }
-    ensures { Keeps (does.frame_does (in_sight walker.old.links.items body.entry.outer.sight)
+    requires sees { body.outer.sight ≤ length walker.old.links }
+    ensures { Keeps (does.frame_does (in_sight walker.old.links body.entry.outer.sight)
         (Frame.Inside body.entry) number (shown walker.old)) walker.old result walker.new }
 {
     match body.first {
@@ -536,8 +544,8 @@ fn hold<'a>(walker: &mut Walker<'a>, body: Body<'a>, number: u32) -> Result<Task
 #[tactic(auto, unfolding(crate::specs::Frames::frame_does, crate::specs::Frames::task_does))]
 fn give<'a>(walker: &mut Walker<'a>, frame: Frame<'a>, number: u32) -> Result<Task<'a>, ExpandFault>
     requires holds { Holds walker.old }
-    requires sees { does.sight_of frame ≤ length walker.old.links.items }
-    ensures { Keeps (does.frame_does (in_sight walker.old.links.items
+    requires sees { does.sight_of frame ≤ length walker.old.links }
+    ensures { Keeps (does.frame_does (in_sight walker.old.links
         (does.sight_of frame.entry)) frame.entry number (shown walker.old)) walker.old
         result walker.new }
 {

@@ -17,6 +17,7 @@ use classic_tree::{Document, RouteText, Statement};
 use flat_document::{ExpandFault, ExpandFaultKind, Flat, FlatNode, Header};
 use proto_declarations::Declarations;
 use proto_ends::routes_of;
+use proto_links::Links;
 use std::alloc::{AllocError, Global};
 use x3d_lists::{Duplicate, Items, Text};
 
@@ -59,7 +60,7 @@ fn put_checked<'a>(
         }
         Statement::Route(route) => put_route(alloc, walker, route),
         Statement::Proto(proto) => {
-            walk::declare(walker, proto)?;
+            walk::declare(alloc, walker, proto)?;
             Ok(None)
         }
     }
@@ -130,7 +131,7 @@ fn empty_walker<'a>(alloc: Global) -> Walker<'a>
             joined_room: MAX_JOINED,
         },
         declarations: Declarations::new(alloc),
-        links: Vec::new(alloc),
+        links: Links::new(alloc),
         scope: steps::empty_scope(alloc, 0, None),
         frames: Vec::new(alloc),
     }

@@ -112,8 +112,12 @@ impl Host {
 
     /// The packet of the input of this number, from 1, if there is one. Takes no memory.
     pub fn packet(&self, number: u32) -> Option<Packet>
-        ensures { option_map (λ p. p.items) result
+        ensures bytes { option_map (λ p. p.items) result
             ≡ option_map (λ body. datagram (record { mark = self.now.mark; body = body }))
+            (host_packet self.now.host number) }
+        // They are decoded as that input.
+        ensures again { option_map (λ p. decoded p.items) result
+            ≡ option_map (λ body. Ok (record { mark = self.now.mark; body = body }))
             (host_packet self.now.host number) }
     {
         if number == 0 {
@@ -145,9 +149,13 @@ impl Host {
     /// is the test. Takes no memory.
     pub fn ack(&self, who: u8) -> Packet
         requires { who < length self.now.host.kept }
-        ensures { option_map
+        ensures bytes { option_map
             (λ kept. datagram (record { mark = self.now.mark; body = ack_of who kept }))
             (slice_get self.now.host.kept who) ≡ Some result.items }
+        // They are decoded as that ack.
+        ensures again { option_map
+            (λ kept. Ok (record { mark = self.now.mark; body = ack_of who kept }))
+            (slice_get self.now.host.kept who) ≡ Some (decoded result.items) }
     {
         let kept = self.kept.as_slice()[who as usize];
         encode(&Message {

@@ -100,6 +100,13 @@ impl<B> Viewer<B> {
         self.stage.spoiled()
     }
 
+    /// Its boot.
+    pub fn boot(&self) -> u32
+        ensures { result ≡ self.now.state.boot }
+    {
+        self.offers.boot()
+    }
+
     /// Takes the bytes of a packet.
     ///
     /// An input that was applied is `Old`, and one that is more than 64 ahead `Beyond`. Another is
@@ -189,8 +196,12 @@ impl<B> Viewer<B> {
 
     /// The packet of the waiting offer at a place from 0, if there is one. Takes no memory.
     pub fn resend(&self, place: u32) -> Option<Packet>
-        ensures { option_map (λ p. p.items) result
+        ensures bytes { option_map (λ p. p.items) result
             ≡ option_map (λ body. datagram (record { mark = self.now.mark; body = body }))
+            (viewer_resend self.now.who self.now.state place) }
+        // They are decoded as that offer.
+        ensures again { option_map (λ p. decoded p.items) result
+            ≡ option_map (λ body. Ok (record { mark = self.now.mark; body = body }))
             (viewer_resend self.now.who self.now.state place) }
     {
         let offer = self.offers.resend(place)?;
@@ -203,7 +214,12 @@ impl<B> Viewer<B> {
     /// The packet that asks for the inputs that the viewer lacks, also where memory was refused.
     /// Takes no memory.
     pub fn ask(&self) -> Packet
-        ensures { result.items ≡ datagram (record {
+        ensures bytes { result.items ≡ datagram (record {
+          mark = self.now.mark;
+          body = viewer_ask (machine_of self.now) self.now.who self.now.state;
+        }) }
+        // They are decoded as that ask.
+        ensures again { decoded result.items ≡ Ok (record {
           mark = self.now.mark;
           body = viewer_ask (machine_of self.now) self.now.who self.now.state;
         }) }

@@ -1,5 +1,4 @@
 pub mod Refusal
-pub mod Words
 pub mod Checking
 pub mod Formatting
 pub mod Opening

@@ -14,13 +14,15 @@ use Rattle.route_core.specs.declared.fault.RouteFaultKind.TheVariants as route
 use Rattle.route_core.specs.FaultName.{fault_name as route_fault_name}
 use Rattle.share_program.specs.declared.stream.StreamFault.{StreamFault}
 use Rattle.share_program.specs.declared.stream.StreamFault.TheVariants as stream
-use Rattle.share_program.specs.declared.order.OrderFault.TheVariants as order
+use Rattle.share_words.specs.declared.order.OrderFault.TheVariants as order
 use Rattle.share_jobs.specs.declared.fault.JobFault.{JobFault}
 use Rattle.share_jobs.specs.declared.fault.JobFault.TheVariants as job
 use Rattle.share_program.specs.declared.fault.RunFault.{RunFault}
 use Rattle.share_program.specs.declared.fault.RunFault.TheVariants as run
+use Rattle.share_program.specs.declared.fault.ShareFault.{ShareFault}
+use Rattle.share_program.specs.declared.fault.ShareFault.TheVariants as share
 use Rattle.share_program.specs.declared.refusal.Failure.{Failure}
-use Rattle.share_program.specs.declared.refusal.Failure.TheVariants.{Order, Job, Run}
+use Rattle.share_program.specs.declared.refusal.Failure.TheVariants.{Order, Job, Run, Share}
 
 -- ---- what a fault of reading or writing is to a job and to its run
 
@@ -32,7 +34,8 @@ abbrev pub run_fault_of : StreamFault → RunFault
 run_fault_of stream.Device = run.Device
 run_fault_of stream.Memory = run.Memory
 
--- ---- statuses: 1 for scenes, 2 for words and jobs, 4 for devices, 5 for memory
+-- ---- statuses: 1 for scenes, 2 for words and jobs, 3 for turns that are used up, 4 for devices, 5
+-- for memory
 
 abbrev pub read_status : ReadFaultKind → ℕ
 read_status read.Memory = 5
@@ -59,12 +62,19 @@ job_status (job.Scene fault) = scene_status fault.kind
 job_status (job.Route fault) = route_status fault.kind
 job_status job.Memory = 5
 
+abbrev pub share_status : ShareFault → ℕ
+share_status share.Port = 4
+share_status share.TurnsUsedUp = 3
+share_status share.Spoiled = 5
+share_status share.Memory = 5
+
 abbrev pub status : Failure → ℕ
 status (Order order.Words) = 2
 status (Order order.Memory) = 5
 status (Job fault) = job_status fault
 status (Run run.Device) = 4
 status (Run run.Memory) = 5
+status (Share fault) = share_status fault
 
 -- ---- names: that of the innermost fault
 
@@ -77,12 +87,19 @@ job_fault_name (job.Scene fault) = scene_fault_name fault.kind
 job_fault_name (job.Route fault) = route_fault_name fault.kind
 job_fault_name job.Memory = codes "Memory"
 
+abbrev pub share_fault_name : ShareFault → List ℕ
+share_fault_name share.Port = codes "Port"
+share_fault_name share.TurnsUsedUp = codes "TurnsUsedUp"
+share_fault_name share.Spoiled = codes "Spoiled"
+share_fault_name share.Memory = codes "Memory"
+
 abbrev pub failure_name : Failure → List ℕ
 failure_name (Order order.Words) = codes "Words"
 failure_name (Order order.Memory) = codes "Memory"
 failure_name (Job fault) = job_fault_name fault
 failure_name (Run run.Device) = codes "Device"
 failure_name (Run run.Memory) = codes "Memory"
+failure_name (Share fault) = share_fault_name fault
 
 -- ---- lines, and 0 for a fault without one
 

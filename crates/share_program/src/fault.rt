@@ -1,4 +1,4 @@
-//! Why a job is not run to its end.
+//! Why a job is not run to its end, alone or by several nodes.
 
 ghost use Rattle.std.specs.Prelude.{◌≡◌};
 ghost use Rattle.share_program.specs.Refusal.{job_fault_of, run_fault_of};
@@ -36,4 +36,17 @@ impl From<StreamFault> for RunFault {
             StreamFault::Memory => RunFault::Memory,
         }
     }
+}
+
+/// Why a host and viewers don't do a job together.
+#[derive(Clone, Copy, Debug, PartialEq, Eq, Error)]
+pub enum ShareFault {
+    #[error("a port failed")]
+    Port,
+    #[error("all turns were used up")]
+    TurnsUsedUp,
+    #[error("memory was refused before")]
+    Spoiled,
+    #[error("memory was refused")]
+    Memory,
 }

@@ -1,24 +1,20 @@
-//! The program's calls: its command words, its input and output, a job's scene and its run, and
-//! what a refusal prints.
+//! The program's calls: its input and output, a job's scene and its run, and what a refusal
+//! prints.
 #![tactic(auto)]
 
 mod check;
 mod fault;
 mod format;
 mod open;
-mod order;
 mod refusal;
 mod runs;
 mod stream;
-mod words;
 
 pub use check::check_text;
-pub use fault::RunFault;
+pub use fault::{RunFault, ShareFault};
 pub use format::format_text;
 pub use open::{Job, Opened, open_job, open_scene, read_job, read_schedule};
-pub use order::{Order, OrderFault};
 pub use refusal::{Failure, refusal_line, status_of};
 pub use runs::{run, run_job};
 pub use share_jobs::{Inputs, JobFault, Schedule, Steps, job_of, schedule_of};
 pub use stream::{MAX_READS, StreamFault, read_whole, write_whole};
-pub use words::{command_of, help_of};

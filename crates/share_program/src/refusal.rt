@@ -1,17 +1,18 @@
 //! What a refusal prints, and the status that the program then ends with.
 
 ghost use Rattle.std.specs.Prelude.{◌≡◌, ◌≤◌, length};
-ghost use Rattle.share_program.specs.Refusal.{status, job_status, refusal_text};
-ghost use Rattle.share_program.specs.Refusal.{failure_name, job_fault_name, failure_line};
+ghost use Rattle.share_program.specs.Refusal.{status, job_status, share_status, refusal_text};
+ghost use Rattle.share_program.specs.Refusal.{failure_name, job_fault_name, share_fault_name};
+ghost use Rattle.share_program.specs.Refusal.{failure_line};
 
-use crate::fault::RunFault;
-use crate::order::OrderFault;
+use crate::fault::{RunFault, ShareFault};
 use arrayvec::ArrayString;
 use classic_text::ReadFaultKind;
 use flat_document::ExpandFaultKind;
 use route_core::RouteFaultKind;
 use scene_core::SceneFaultKind;
 use share_jobs::JobFault;
+use share_words::OrderFault;
 use thiserror::Error;
 
 /// Every fault of the program: of its words, of its job and of the work itself.
@@ -23,6 +24,8 @@ pub enum Failure {
     Job(#[from] JobFault),
     #[error(transparent)]
     Run(#[from] RunFault),
+    #[error(transparent)]
+    Share(#[from] ShareFault),
 }
 
 fn job_status(fault: &JobFault) -> u8
@@ -43,7 +46,19 @@ fn job_status(fault: &JobFault) -> u8
     }
 }
 
-/// 1 for a scene that is refused, 2 for words and jobs, 4 for devices, 5 for memory.
+fn share_status(fault: ShareFault) -> u8
+    ensures { result ≡ share_status fault }
+{
+    match fault {
+        ShareFault::TurnsUsedUp => 3,
+        ShareFault::Port => 4,
+        ShareFault::Spoiled => 5,
+        ShareFault::Memory => 5,
+    }
+}
+
+/// 1 for a scene that is refused, 2 for words and jobs, 3 for turns that are used up, 4 for
+/// devices, 5 for memory.
 pub fn status_of(failure: &Failure) -> u8
     ensures { result ≡ status failure.now }
 {
@@ -53,6 +68,7 @@ pub fn status_of(failure: &Failure) -> u8
         Failure::Job(fault) => job_status(fault),
         Failure::Run(RunFault::Device) => 4,
         Failure::Run(RunFault::Memory) => 5,
+        Failure::Share(fault) => share_status(*fault),
     }
 }
 
@@ -71,6 +87,18 @@ fn job_fault_name(fault: &JobFault) -> &'static str
     }
 }
 
+fn share_fault_name(fault: ShareFault) -> &'static str
+    ensures name { result.now ≡ share_fault_name fault }
+    ensures short { length result.now ≤ 20 }
+{
+    match fault {
+        ShareFault::Port => "Port",
+        ShareFault::TurnsUsedUp => "TurnsUsedUp",
+        ShareFault::Spoiled => "Spoiled",
+        ShareFault::Memory => "Memory",
+    }
+}
+
 fn name_of(failure: &Failure) -> &'static str
     ensures name { result.now ≡ failure_name failure.now }
     ensures short { length result.now ≤ 20 }
@@ -81,6 +109,7 @@ fn name_of(failure: &Failure) -> &'static str
         Failure::Job(fault) => job_fault_name(fault),
         Failure::Run(RunFault::Device) => "Device",
         Failure::Run(RunFault::Memory) => "Memory",
+        Failure::Share(fault) => share_fault_name(*fault),
     }
 }
 

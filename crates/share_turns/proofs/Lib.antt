@@ -1,3 +1,5 @@
 pub mod Sending
 pub mod Turning
 pub mod Taking
+pub mod Viewing
+pub mod Meeting

@@ -1,8 +1,13 @@
 //! Why a turn ends early.
 
-ghost use Rattle.share_turns.specs.declared.fault.TurnFault.TheVariants.{Port};
+ghost use Rattle.std.specs.Prelude.{◌≡◌};
+ghost use Rattle.share_turns.specs.Views.{turn_fault_of};
+ghost use Rattle.share_turns.specs.declared.fault.SeriesFault.TheVariants.{Turn};
+ghost use Rattle.share_turns.specs.declared.fault.TurnFault.TheVariants.{Memory, Port};
 
+use cascade_core::TextFault;
 use share_port::PortFault;
+use std::alloc::AllocError;
 use thiserror::Error;
 
 /// Why a turn ends early.
@@ -23,5 +28,42 @@ impl From<PortFault> for TurnFault {
 
     fn from(_failed: PortFault) -> TurnFault {
         TurnFault::Port
+    }
+}
+
+impl From<TextFault> for TurnFault {
+    ghost from_gives = { λ text fault. fault ≡ turn_fault_of text };
+
+    fn from(fault: TextFault) -> TurnFault {
+        match fault {
+            TextFault::Spoiled => TurnFault::Spoiled,
+            TextFault::Memory => TurnFault::Memory,
+        }
+    }
+}
+
+impl From<AllocError> for TurnFault {
+    ghost from_gives = { λ _ fault. fault ≡ Memory };
+
+    fn from(_refused: AllocError) -> TurnFault {
+        TurnFault::Memory
+    }
+}
+
+/// Why turns, one after another, didn't come to what they were for: one of them ended early, or
+/// there were too few of them.
+#[derive(Clone, Copy, Debug, PartialEq, Eq, Error)]
+pub enum SeriesFault {
+    #[error(transparent)]
+    Turn(TurnFault),
+    #[error("the turns are used up")]
+    TurnsUsedUp,
+}
+
+impl From<TurnFault> for SeriesFault {
+    ghost from_gives = { λ turn fault. fault ≡ Turn turn };
+
+    fn from(fault: TurnFault) -> SeriesFault {
+        SeriesFault::Turn(fault)
     }
 }

@@ -4,10 +4,14 @@
 mod fault;
 mod host;
 mod most;
+mod rounds;
 mod runs;
+mod view;
 mod viewer;
 
-pub use fault::TurnFault;
+pub use fault::{SeriesFault, TurnFault};
 pub use host::host_turn;
+pub use rounds::{agree, agree_until};
 pub use runs::host_run;
+pub use view::{view_run, view_until};
 pub use viewer::viewer_turn;

@@ -1,18 +1,23 @@
 //! The program: its words, its input, and what it prints.
 #![tactic(auto)]
 
+mod nodes;
 #[cfg(test)]
 mod tests;
 
+use crate::nodes::host;
 use cascade_core::Scripts;
 use share_program::{
-    Failure, Order, OrderFault, RunFault, StreamFault, check_text, command_of, format_text,
-    help_of, refusal_line, run_job, status_of, write_whole,
+    Failure, RunFault, StreamFault, check_text, format_text, refusal_line, run_job, status_of,
+    write_whole,
 };
+use share_words::{Order, OrderFault, command_of, help_of};
 use std::alloc::{AllocError, Global};
 use std::io;
+use std::net::Net;
 use std::process::ExitCode;
 use std::rt::Env;
+use std::time::Clock;
 
 /// The program's own name and its words.
 fn own_words<R: Env + AllocGlobal>(rt: &R) -> Result<Vec<String>, OrderFault> {
@@ -47,30 +52,45 @@ fn check_scene<R: AllocGlobal + Input + Print>(rt: &R) -> Result<(), Failure> {
     Ok(())
 }
 
-fn obey<R: AllocGlobal + Input + Print>(rt: &R, words: &[&str]) -> Result<(), Failure> {
-    match command_of(rt.alloc(), words)? {
+fn obey<R: AllocGlobal + Input + Print + Net + Clock>(
+    rt: &R,
+    words: &[&str],
+) -> Result<(), Failure> {
+    let order = command_of(rt.alloc(), words)?;
+    match order {
         Order::Run => run_own(rt),
         Order::Format => format_scene(rt),
         Order::Check => check_scene(rt),
+        Order::Host {
+            port,
+            viewers,
+            turns,
+        } => host(rt, &order, port, viewers, turns),
     }
 }
 
 /// Prints the help that words ask for, or obeys them.
-fn answer<R: AllocGlobal + Input + Print>(rt: &R, words: &[&str]) -> Result<(), Failure> {
+fn answer<R: AllocGlobal + Input + Print + Net + Clock>(
+    rt: &R,
+    words: &[&str],
+) -> Result<(), Failure> {
     if let Ok(Some(help)) = help_of(rt.alloc(), words) {
         return write_whole(&mut io::writer(rt), help.as_bytes()).map_err(output_failure);
     }
     obey(rt, words)
 }
 
-fn answer_own<R: AllocGlobal + Input + Print>(rt: &R, own: &[String]) -> Result<(), Failure> {
+fn answer_own<R: AllocGlobal + Input + Print + Net + Clock>(
+    rt: &R,
+    own: &[String],
+) -> Result<(), Failure> {
     let Ok(words) = views(rt.alloc(), own) else {
         return Err(Failure::Order(OrderFault::Memory));
     };
     answer(rt, words.as_slice())
 }
 
-fn work<R: Env + AllocGlobal + Input + Print>(rt: &R) -> Result<(), Failure> {
+fn work<R: Env + AllocGlobal + Input + Print + Net + Clock>(rt: &R) -> Result<(), Failure> {
     let own = own_words(rt)?;
     answer_own(rt, own.as_slice())
 }

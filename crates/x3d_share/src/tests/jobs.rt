@@ -2,9 +2,10 @@
 
 use classic_text::{ReadFault, ReadFaultKind};
 use share_program::{
-    Failure, JobFault, Order, OrderFault, RunFault, StreamFault, command_of, help_of, job_of,
-    read_whole, refusal_line, status_of, write_whole,
+    Failure, JobFault, RunFault, ShareFault, StreamFault, job_of, read_whole, refusal_line,
+    status_of, write_whole,
 };
+use share_words::{Order, OrderFault, command_of};
 use std::alloc::{AllocError, Global};
 use std::io::{self, ErrorKind, Read, Write};
 use std::process::Abort;
@@ -237,125 +238,6 @@ fn a_failed_write_is_answered(rt: HostRuntime) {
     assert_eq!(rt; writer.got.as_slice(), b"clock 1\nscene\n".as_slice());
 }
 
-fn is_command<'a>(
-    rt: &impl Abort,
-    alloc: Global,
-    words: &'a [&'a str],
-    answer: Result<Order, OrderFault>,
-) {
-    assert_eq!(rt; command_of(alloc, words), answer, "{words:?}");
-}
-
-#[test]
-fn words_are_commands(rt: HostRuntime) {
-    is_command(&rt, rt.alloc(), &["x3d_share", "run"], Ok(Order::Run));
-    is_command(&rt, rt.alloc(), &["./other", "run"], Ok(Order::Run));
-    is_command(&rt, rt.alloc(), &["x3d_share", "format"], Ok(Order::Format));
-    is_command(&rt, rt.alloc(), &["x3d_share", "check"], Ok(Order::Check));
-    is_command(&rt, rt.alloc(), &[], Err(OrderFault::Words));
-    is_command(&rt, rt.alloc(), &["x3d_share"], Err(OrderFault::Words));
-    is_command(
-        &rt,
-        rt.alloc(),
-        &["x3d_share", "walk"],
-        Err(OrderFault::Words),
-    );
-    is_command(
-        &rt,
-        rt.alloc(),
-        &["x3d_share", "run", "run"],
-        Err(OrderFault::Words),
-    );
-    is_command(
-        &rt,
-        rt.alloc(),
-        &["x3d_share", "run", "--viewers=2"],
-        Err(OrderFault::Words),
-    );
-}
-
-#[test]
-fn a_call_for_help_is_no_command(rt: HostRuntime) {
-    is_command(
-        &rt,
-        rt.alloc(),
-        &["x3d_share", "--help"],
-        Err(OrderFault::Words),
-    );
-    is_command(
-        &rt,
-        rt.alloc(),
-        &["x3d_share", "help"],
-        Err(OrderFault::Words),
-    );
-    is_command(
-        &rt,
-        rt.alloc(),
-        &["x3d_share", "run", "-h"],
-        Err(OrderFault::Words),
-    );
-    is_command(
-        &rt,
-        rt.alloc(),
-        &["x3d_share", "--version"],
-        Err(OrderFault::Words),
-    );
-}
-
-/// The help that these words are answered with has this line.
-fn shows<'a>(rt: &impl Abort, alloc: Global, words: &'a [&'a str], line: &str) {
-    let shown = help_of(alloc, words);
-    let has_line = matches!(&shown, Ok(Some(text)) if text.as_str().lines().any(|l| l == line));
-    assert!(rt; has_line, "{words:?}");
-}
-
-fn shows_nothing<'a>(rt: &impl Abort, alloc: Global, words: &'a [&'a str]) {
-    assert!(rt; matches!(help_of(alloc, words), Ok(None)), "{words:?}");
-}
-
-#[test]
-fn help_is_shown_where_it_is_asked_for(rt: HostRuntime) {
-    shows(
-        &rt,
-        rt.alloc(),
-        &["x3d_share", "--help"],
-        "Usage: x3d_share <COMMAND>",
-    );
-    shows(
-        &rt,
-        rt.alloc(),
-        &["x3d_share", "run", "--help"],
-        "Usage: x3d_share run",
-    );
-    shows(
-        &rt,
-        rt.alloc(),
-        &["x3d_share", "--help"],
-        "  x3d_share format < examples/lamp.x3dv",
-    );
-    shows(
-        &rt,
-        rt.alloc(),
-        &["x3d_share", "format", "--help"],
-        "Usage: x3d_share format",
-    );
-    shows(
-        &rt,
-        rt.alloc(),
-        &["x3d_share", "--version"],
-        "x3d_share 0.1.0",
-    );
-    shows(
-        &rt,
-        rt.alloc(),
-        &["x3d_share", "run", "--version"],
-        "x3d_share-run 0.1.0",
-    );
-    shows_nothing(&rt, rt.alloc(), &["x3d_share"]);
-    shows_nothing(&rt, rt.alloc(), &["x3d_share", "run"]);
-    shows_nothing(&rt, rt.alloc(), &["x3d_share", "help"]);
-}
-
 fn read_fault(kind: ReadFaultKind, line: u32) -> Failure {
     Failure::Job(JobFault::Read(ReadFault { kind, line }))
 }
@@ -385,6 +267,14 @@ fn refusals_have_a_line_and_a_status(rt: HostRuntime) {
         (Failure::Job(JobFault::Memory), 5, "refused Memory"),
         (Failure::Run(RunFault::Device), 4, "refused Device"),
         (Failure::Run(RunFault::Memory), 5, "refused Memory"),
+        (Failure::Share(ShareFault::Port), 4, "refused Port"),
+        (
+            Failure::Share(ShareFault::TurnsUsedUp),
+            3,
+            "refused TurnsUsedUp",
+        ),
+        (Failure::Share(ShareFault::Spoiled), 5, "refused Spoiled"),
+        (Failure::Share(ShareFault::Memory), 5, "refused Memory"),
     ];
     for (failure, status, line) in &cases {
         assert_eq!(rt; refusal_line(failure).as_str(), *line);

@@ -8,5 +8,5 @@ returns c =
     keeps-from _ _ c.args.walker.now
     (record { store = c.count_items.new.store; declarations = c.args.walker.now.declarations; links = c.args.walker.now.links; scope = c.args.walker.now.scope; frames = c.args.walker.now.frames })
     c.put_counted.result _
-    (add-new (in_sight c.args.walker.now.links.items c.args.opened.sight) c.args.opened c.args.line c.args.number c.args.value.now (shown c.args.walker.now) _ (rw (c.deref.ensures.value, c.item_count.ensures) at c.in_ok-count_items.ensures))
+    (add-new (in_sight c.args.walker.now.links c.args.opened.sight) c.args.opened c.args.line c.args.number c.args.value.now (shown c.args.walker.now) _ (rw c.item_count.ensures at c.in_ok-count_items.ensures))
     refl refl c.put_counted.ensures

@@ -10,7 +10,7 @@ returns-then-is_wanted c =
     let wanted : is_wanted (place_of c.args.proto.now c.args.within) c.args.number c.args.declaration.now.name c.args.opened.fields (shown c.args.walker.now).declared ≡ true =
     ap (λ fields. is_wanted (place_of c.args.proto.now c.args.within) c.args.number c.args.declaration.now.name fields (shown c.args.walker.now).declared) (sym c.as_slice.ensures) ∙ sym c.is_wanted.ensures ∙ c.if-is_wanted.true in
     keeps-as _ _ _ c.put_default_value.result _ (default-wanted (place_of c.args.proto.now c.args.within) c.args.number c.args.declaration.now c.args.opened.fields (shown c.args.walker.now)
-    (open_does (in_sight c.args.walker.now.links.items c.args.opened.sight) c.args.opened) wanted) c.put_default_value.ensures
+    (open_does (in_sight c.args.walker.now.links c.args.opened.sight) c.args.opened) wanted) c.put_default_value.ensures
 
 pub returns : goal.returns
 unfolding task_does
@@ -19,4 +19,4 @@ returns c =
     ap (λ fields. is_wanted (place_of c.args.proto.now c.args.within) c.args.number c.args.declaration.now.name fields (shown c.args.walker.now).declared) (sym c.as_slice.ensures) ∙ sym c.is_wanted.ensures ∙ c.if-is_wanted.false in
     stays c.requires.holds refl refl c.requires.holds.scope c.requires.sees
     (default-left (place_of c.args.proto.now c.args.within) c.args.number c.args.declaration.now c.args.opened.fields (shown c.args.walker.now)
-    (open_does (in_sight c.args.walker.now.links.items c.args.opened.sight) c.args.opened) left)
+    (open_does (in_sight c.args.walker.now.links c.args.opened.sight) c.args.opened) left)

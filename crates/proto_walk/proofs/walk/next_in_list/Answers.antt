@@ -7,7 +7,7 @@ use Rattle.proto_walk.proofs.walk.next_in_list.Goals as goal
 pub returns-in_default : goal.returns-in_default
 returns-in_default c =
     let empty : c.args.listing.rest.now ≡ [] = grind (arith, common_steps) in
-    keeps-as _ _ _ c.keep_value.result _ (list-last (in_sight c.args.walker.now.links.items c.args.opened.sight) c.args.opened c.args.listing c.args.listing.numbers (shown c.args.walker.now) empty) c.keep_value.ensures
+    keeps-as _ _ _ c.keep_value.result _ (list-last (in_sight c.args.walker.now.links c.args.opened.sight) c.args.opened c.args.listing c.args.listing.numbers (shown c.args.walker.now) empty) c.keep_value.ensures
 
 pub returns : goal.returns
 unfolding frame_does task_does

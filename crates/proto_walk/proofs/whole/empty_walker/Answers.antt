@@ -9,7 +9,7 @@ returns-clause-nothing c = search rules
 pub returns-clause-holds : goal.returns-clause-holds
 unfolding AllSee AreLinked
 returns-clause-holds c = record {
-  linked = rw c.new-9.ensures.items tt;
+  linked = rw c.new-9.ensures tt;
   scope = rw c.empty_scope.ensures.sight (omega arith);
   frames = rw c.new-10.ensures.items tt;
 }

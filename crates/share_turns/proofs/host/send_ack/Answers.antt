@@ -8,5 +8,5 @@ returns-then-who-viewers-clause-sent g c =
 
 pub returns-clause-sent : goal.returns-clause-sent
 returns-clause-sent g c =
-    rw c.in-Some.is (rw (acks_one c.args.host.now.mark c.args.host.now.host c.in-Some.who c.ack.result.items c.ack.ensures) (
+    rw c.in-Some.is (rw (acks_one c.args.host.now.mark c.args.host.now.host c.in-Some.who c.ack.result.items c.ack.ensures.bytes) (
     rw (← c.as_slice.ensures.value) (are_sent_one c.send.result c.args.to (g.P.Port.told c.args.port.now) (g.P.Port.told c.send.new.self) c.as_slice.result.now c.send.ensures.ok c.send.ensures.err)))

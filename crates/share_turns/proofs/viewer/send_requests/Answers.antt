@@ -13,6 +13,6 @@ pub returns-clause-sent : goal.returns-clause-sent
 returns-clause-sent g c =
     let v = c.args.viewer.now in
     let asked = are_sent_one c.send.result c.args.host (g.P.Port.told c.send_offer.new.port) (g.P.Port.told c.send.new.self) c.as_slice.result.now c.send.ensures.ok c.send.ensures.err in
-    let ask = rw c.ask.ensures at (rw c.as_slice.ensures.value at asked) in
+    let ask = rw c.ask.ensures.bytes at (rw c.as_slice.ensures.value at asked) in
     rw (map-append (λ (body : Body). datagram (record { mark = v.mark; body = body })) (listed (viewer_resend v.who v.state 0)) (viewer_ask (machine_of v) v.who v.state ∷ []))
     (are_sent_then (is_ok c.send.result) c.args.host (g.P.Port.told c.args.port.now) (g.P.Port.told c.send_offer.new.port) (g.P.Port.told c.send.new.self) _ _ c.in_ok-send_offer.ensures.sent ask)

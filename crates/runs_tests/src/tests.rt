@@ -1,0 +1,6 @@
+//! The tests.
+
+mod agreeing;
+mod given;
+mod viewing;
+mod way;

@@ -1,0 +1,31 @@
+-- Which steps a command's job may have (our choice).
+use Rattle.std.specs.Prelude.{Bool, true, false, List, Option, Some, None, Result, Ok, Err}
+use Rattle.std.specs.List.{find}
+use Rattle.x3d_values.specs.Stamp.{Stamp}
+use Rattle.x3d_values.specs.declared.stamped.Event.{Event}
+use Rattle.x3d_values.specs.declared.stamped.Event.TheVariants.{Clock, Pointer}
+use Rattle.share_jobs.specs.declared.fault.JobFault.{JobFault}
+use Rattle.share_jobs.specs.declared.fault.JobFault.TheVariants.{BadJob}
+use Rattle.share_words.specs.declared.order.Order.{Order}
+use Rattle.share_words.specs.declared.order.Order.TheVariants.{Host}
+
+abbrev pub is_point : Event → Bool
+is_point Clock = false
+is_point (Pointer p) = true
+
+-- `host` takes clocks alone, another command every step
+abbrev pub refuses : Order → Stamp → Bool
+refuses (Host port viewers turns) input = is_point input.event
+refuses _ input = false
+
+abbrev pub first_refused : Order → List Stamp → Option Stamp
+first_refused order inputs = find (refuses order) inputs
+
+-- an input has the number of its line
+abbrev pub answer : Option Stamp → Result (Unit {0}) JobFault
+answer None = Ok tt
+answer (Some input) = Err (BadJob input.number)
+
+-- all steps are taken, or the line of the first that isn't
+abbrev pub fits : Order → List Stamp → Result (Unit {0}) JobFault
+fits order inputs = answer (first_refused order inputs)

@@ -1,0 +1,31 @@
+-- A job that several nodes do: what each layer makes of its bytes, one after the other.
+use Rattle.std.specs.Prelude.{ℕ, List, Result, Ok}
+use Rattle.sha2.specs.Sha256.{sha256}
+use Rattle.share_jobs.specs.Job.{Lined, job_lines}
+use Rattle.share_jobs.specs.declared.fault.JobFault.{JobFault}
+use Rattle.share_program.specs.Opening.{next, same, opened}
+use Rattle.share_program.specs.declared.open.Opened.{Opened}
+use Rattle.share_words.specs.declared.order.Order.{Order}
+use Rattle.share_commands.specs.Fits.{fits}
+use Rattle.share_commands.specs.declared.job.SharedJob.{SharedJob}
+
+-- the mark is that of the scene's bytes
+abbrev pub with_mark : Lined → Opened → Result SharedJob JobFault
+with_mark l o =
+    Ok (record {
+      inputs = l.inputs;
+      mark = sha256 l.scene;
+      scene = o.scene;
+      routes = o.routes;
+    })
+
+-- the steps of the lines before the first line `scene`, and the scene behind it
+unfoldable pub shared : List ℕ → Result SharedJob JobFault
+shared bytes = next same (job_lines bytes) (λ l. next same (opened l.scene) (with_mark l))
+
+abbrev pub if_fits : Order → SharedJob → Result SharedJob JobFault
+if_fits order job = next same (fits order job.inputs) (λ _. Ok job)
+
+-- the same, where a command takes its steps
+unfoldable pub fitting : Order → List ℕ → Result SharedJob JobFault
+fitting order bytes = next same (shared bytes) (if_fits order)

@@ -1,0 +1,45 @@
+//! Which steps a command's job may have.
+
+ghost use Rattle.std.specs.Prelude.{◌≡◌};
+ghost use Rattle.std.specs.Option.{option_copied};
+ghost use Rattle.share_commands.specs.Fits.{is_point, refuses, first_refused, fits};
+
+use share_jobs::{Inputs, JobFault};
+use share_words::Order;
+use x3d_values::{Event, Stamped};
+
+fn is_point(event: Event) -> bool
+    ensures { result ≡ is_point event }
+{
+    match event {
+        Event::Clock => false,
+        Event::Pointer(_) => true,
+    }
+}
+
+/// Whether a command's job may not have this step.
+fn refuses(order: &Order, input: &Stamped) -> bool
+    ensures { result ≡ refuses order.now input.now }
+{
+    match order {
+        Order::Host { .. } => is_point(input.event()),
+        _ => false,
+    }
+}
+
+fn first_refused<'a>(order: &Order, inputs: &'a [Stamped]) -> Option<&'a Stamped>
+    ensures { option_copied result ≡ first_refused order.now inputs.now }
+{
+    inputs.iter().find(|input| refuses(order, input))
+}
+
+/// Whether a command's job may have these steps: one of `host` has clocks alone. `BadJob` tells the
+/// line of the first that it may not have. Takes no memory.
+pub fn job_fits(inputs: &Inputs, order: &Order) -> Result<(), JobFault>
+    ensures { result ≡ fits order.now inputs.now }
+{
+    match first_refused(order, inputs.as_slice()) {
+        None => Ok(()),
+        Some(input) => Err(JobFault::BadJob(input.number())),
+    }
+}

@@ -1,0 +1,58 @@
+//! The work of a host.
+
+ghost use Rattle.std.specs.Prelude.{◌≡◌, ◌≤◌, IfOk, IfErr, OnOk};
+ghost use Rattle.share_commands.specs.Hosting.{times, share_fault, IsHosted, IsHostedInPart};
+
+use crate::job::SharedJob;
+use share_core::Host;
+use share_port::Port;
+use share_program::ShareFault;
+use share_turns::{TurnFault, host_run};
+use std::alloc::{AllocError, Global};
+use x3d_values::Stamped;
+
+/// The times of inputs.
+fn times_of(alloc: Global, inputs: &[Stamped]) -> Result<Vec<i64>, AllocError>
+    ensures { IfOk result (λ v. v.items ≡ times inputs.now) }
+{
+    inputs.iter().map(|input| input.time()).collect(alloc)
+}
+
+/// Why a turn ended early, as a fault of the program.
+fn share_fault(fault: TurnFault) -> ShareFault
+    ensures { result ≡ share_fault fault }
+{
+    match fault {
+        TurnFault::Port => ShareFault::Port,
+        TurnFault::Spoiled => ShareFault::Spoiled,
+        TurnFault::Memory => ShareFault::Memory,
+    }
+}
+
+/// So many turns of the host of a job's scene, for viewers that are numbered from 0: 1 to 16 of
+/// them. Each numbers the next of the job's clocks.
+///
+/// `Port` where a send or a receive failed, `Memory` where memory was refused.
+pub fn host_job<P: Port>(
+    alloc: Global,
+    job: &SharedJob,
+    viewers: u8,
+    turns: u32,
+    port: &mut P,
+) -> Result<(), ShareFault>
+    requires some { 1 ≤ viewers }
+    requires most { viewers ≤ 16 }
+    ensures done { OnOk result
+        (IsHosted job.now viewers turns (P.told port.old) (P.told port.new)) }
+    ensures ended { IfErr result
+        (IsHostedInPart job.now viewers turns (P.told port.old) (P.told port.new)) }
+{
+    let Ok(times) = times_of(alloc, job.inputs.as_slice()) else {
+        return Err(ShareFault::Memory);
+    };
+    let mut host = Host::new(alloc, job.mark, viewers);
+    match host_run(&mut host, times.as_slice(), turns, port) {
+        Ok(()) => Ok(()),
+        Err(fault) => Err(share_fault(fault)),
+    }
+}

@@ -1,0 +1,49 @@
+//! A job that several nodes do, from its bytes.
+
+ghost use Rattle.std.specs.Prelude.{◌≡◌};
+ghost use Rattle.x3d_lists.specs.Answers.{Gives};
+ghost use Rattle.share_commands.specs.Jobs.{shared, fitting};
+ghost use Rattle.share_jobs.specs.declared.fault.JobFault.TheVariants.{Memory};
+
+use crate::fits::job_fits;
+use route_core::Routes;
+use scene_core::Scene;
+use share_jobs::{Inputs, JobFault, job_of};
+use share_program::open_scene;
+use share_words::Order;
+use snapshot_codec::scene_mark;
+use std::alloc::Global;
+
+/// A scene with its routes and its mark, and the steps that several nodes take.
+#[derive(Drop)]
+pub struct SharedJob {
+    pub inputs: Inputs,
+    /// The SHA-256 of the scene's bytes.
+    pub mark: [u8; 32],
+    pub scene: Scene,
+    pub routes: Routes,
+}
+
+#[tactic(auto, unfolding(crate::specs::Jobs::shared))]
+fn shared(alloc: Global, bytes: &[u8]) -> Result<SharedJob, JobFault>
+    ensures { Gives Memory (λ j. j) result (shared bytes.now) }
+{
+    let steps = job_of(alloc, bytes)?;
+    let opened = open_scene(alloc, steps.scene)?;
+    Ok(SharedJob {
+        mark: scene_mark(steps.scene),
+        inputs: steps.inputs,
+        scene: opened.scene,
+        routes: opened.routes,
+    })
+}
+
+/// The job of these bytes: first its lines, then its scene, then whether a command takes its steps.
+#[tactic(auto, unfolding(crate::specs::Jobs::fitting))]
+pub fn shared_job(alloc: Global, bytes: &[u8], order: &Order) -> Result<SharedJob, JobFault>
+    ensures { Gives Memory (λ j. j) result (fitting order.now bytes.now) }
+{
+    let job = shared(alloc, bytes)?;
+    job_fits(&job.inputs, order)?;
+    Ok(job)
+}

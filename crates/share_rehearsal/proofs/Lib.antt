@@ -1,0 +1,5 @@
+mod Calling
+mod Endings
+mod Plays
+mod Ties
+mod Whole

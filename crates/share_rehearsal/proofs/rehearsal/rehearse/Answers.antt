@@ -1,0 +1,16 @@
+use Rattle.std.proofs.Common.{◌≤◌, arith}
+use Rattle.std.specs.Prelude.{length}
+use Rattle.share_rehearsal.specs.Calls.{seen_of}
+use Rattle.share_rehearsal.proofs.Whole.{is-rehearsed}
+use Rattle.share_rehearsal.proofs.rehearsal.rehearse.Goals as goal
+
+pub returns-clause-rehearsed : goal.returns-clause-rehearsed
+returns-clause-rehearsed g c =
+    let stages = c.args.stages.items in
+    let begun = c.in_ok-nodes.nodes in
+    let left = c.log_all.new.nodes in
+    let some : 1 ≤ length stages = grind (arith, c.len-count.ensures, c.if-count-eq0.false) in
+    let most : length stages ≤ 16 = grind (arith, c.len-count.ensures, c.if-count-gt-MOST.false) in
+    is-rehearsed c.args.mark stages c.args.steps.now c.args.out.now.items c.log_all.new.out.items
+    (seen_of begun.host begun.viewers.items begun.packets.items begun.shots.items) (seen_of left.host left.viewers.items left.packets.items left.shots.items)
+    c.ended.result.host c.ended.result.viewers.items some most c.in_ok-nodes.ensures c.in_ok-log_all.ensures.ok c.ended.ensures.host c.ended.ensures.viewers

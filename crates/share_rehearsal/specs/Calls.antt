@@ -1,0 +1,201 @@
+-- What the calls of a rehearsal's nodes make of them, step by step.
+use Rattle.std.specs.Prelude.{◌≡◌, ◌≢◌, ◌⊎◌, ◌<◌, ◌^◌, ℕ, suc, ◌++◌, List, [], ◌∷◌, length}
+use Rattle.std.specs.Prelude.{slice_get, slice_set, IsTrue, Option, Some, None, Result, Ok, Err}
+use Rattle.share_wire.specs.Datagram.{datagram}
+use Rattle.share_wire.specs.Decoding.{decoded}
+use Rattle.share_wire.specs.declared.message.Body.{Body}
+use Rattle.share_wire.specs.declared.message.Message.{Message}
+use Rattle.cascade_core.specs.declared.world.WorldData.{WorldData}
+use Rattle.cascade_core.specs.Apply.{opening}
+use Rattle.cascade_core.specs.Held.{StageView}
+use Rattle.snapshot_core.specs.declared.fault.SaveFault.TheVariants as save_fault
+use Rattle.snapshot_core.specs.declared.fault.SnapFault.{SnapFault}
+use Rattle.snapshot_core.specs.Shot.{shot}
+use Rattle.snapshot_core.specs.WorldCodec.{world_codec}
+use Rattle.share_law.specs.declared.fault.NumberFault.{NumberFault}
+use Rattle.share_law.specs.declared.fault.HostFault.{HostFault}
+use Rattle.share_law.specs.declared.fault.TakeFault.{TakeFault}
+use Rattle.share_law.specs.declared.kept.Kept.{Kept}
+use Rattle.share_law.specs.declared.reply.HostReply.{HostReply}
+use Rattle.share_law.specs.declared.reply.Taken.{Taken}
+use Rattle.share_law.specs.declared.step.Step.{Step}
+use Rattle.share_law.specs.declared.step.Step.TheVariants.{HostClock, HostPacket, HostAck, HostTake}
+use Rattle.share_law.specs.declared.step.Step.TheVariants.{ViewerOffer, ViewerResend, ViewerAsk}
+use Rattle.share_law.specs.declared.step.Step.TheVariants.{ViewerTake, ViewerSave, ViewerRewind}
+use Rattle.share_law.specs.Calls.{IsClocked, IsHostTakeOf, IsTakeOf, IsRewind}
+use Rattle.share_law.specs.Host.{HostState, new_host, host_packet, ack_of}
+use Rattle.share_law.specs.Viewer as law
+use Rattle.share_law.specs.Viewer.{View, Spoiled, Running, viewer_offer, viewer_resend, viewer_ask}
+use Rattle.share_core.specs.Host.{HostView}
+use Rattle.share_core.specs.Viewer.{ViewerView, machine_of, with_state}
+use Rattle.share_core.specs.Rewinds.{IsRewound}
+use Rattle.share_rehearsal.specs.declared.answer.Answer.{Answer}
+use Rattle.share_rehearsal.specs.declared.answer.Answer.TheVariants.{Clocked, HostTook, ViewerTook}
+use Rattle.share_rehearsal.specs.declared.answer.Answer.TheVariants.{Offered, Sent, Saved, Rewound}
+use Rattle.share_rehearsal.specs.declared.answer.Answer.TheVariants.{NoSuch}
+use Rattle.share_rehearsal.specs.declared.nodes.Shot.{Shot}
+
+-- the host, the viewers, the bytes of every packet, and every snapshot
+pub record Seen : Type 0 where
+  pub host : HostView
+  pub viewers : List ViewerView
+  pub packets : List (List ℕ)
+  pub shots : List Shot
+
+abbrev pub with_host : Seen → HostState → Seen
+with_host s h = record s { host = record { mark = s.host.mark; host = h } }
+
+abbrev pub with_viewer : Seen → (v : ℕ) → ViewerView → Seen
+with_viewer s v x = record s { viewers = slice_set s.viewers v x }
+
+abbrev pub with_packets : Seen → List (List ℕ) → Seen
+with_packets s packets = record s { packets = packets }
+
+abbrev pub with_shots : Seen → List Shot → Seen
+with_shots s shots = record s { shots = shots }
+
+abbrev pub seen_of : HostView → List ViewerView → List (List ℕ) → List Shot → Seen
+seen_of host viewers packets shots =
+    record { host = host; viewers = viewers; packets = packets; shots = shots }
+
+-- ---- the beginning
+
+-- a viewer for each stage, numbered on from this number, as its boot 1
+abbrev pub viewers_from : (mark : List ℕ) → ℕ → List StageView → List ViewerView
+viewers_from mark n [] = []
+viewers_from mark n (stage ∷ stages) =
+    record {
+      mark = mark;
+      who = n;
+      scene = stage.scene;
+      routes = stage.routes;
+      state = law.begun 1 (opening stage.scene);
+    }
+    ∷ viewers_from mark (suc n) stages
+
+-- before the first step
+abbrev pub begun_with : (mark : List ℕ) → List StageView → Seen
+begun_with mark stages =
+    seen_of (record { mark = mark; host = new_host (length stages) }) (viewers_from mark 0 stages)
+    [] []
+
+-- ---- numbers
+
+-- there is no packet, viewer or snapshot of a number
+abbrev pub IsUnknown : Seen → Answer → Seen → Type 0
+IsUnknown s a new = (a ≡ NoSuch) × (new ≡ s)
+
+-- ---- packets that are made
+
+-- bytes join the packets, if there are any
+abbrev pub IsSent : Option (List ℕ) → List (List ℕ) → Answer → List (List ℕ) → Type 0
+IsSent None old a new = (a ≡ Sent None) × (new ≡ old)
+IsSent (Some bytes) old a new = (a ≡ Sent (Some (length old))) × (new ≡ old ++ bytes ∷ [])
+
+abbrev pub message : (mark : List ℕ) → Body → Message
+message mark body = record { mark = mark; body = body }
+
+-- the datagram of a body joins the packets, if there is one, and is decoded as that
+abbrev pub IsMade : Seen → (mark : List ℕ) → Option Body → Answer → Seen → Type 0
+IsMade s mark None a new = (a ≡ Sent None) × (new ≡ s)
+IsMade s mark (Some body) a new =
+    (a ≡ Sent (Some (length s.packets)))
+    × (new ≡ with_packets s (s.packets ++ datagram (message mark body) ∷ []))
+    × (decoded (datagram (message mark body)) ≡ Ok (message mark body))
+
+abbrev pub IsAcked : Seen → (v : ℕ) → Option Kept → Answer → Seen → Type 0
+IsAcked s v None a new = IsUnknown s a new
+IsAcked s v (Some kept) a new = IsMade s s.host.mark (Some (ack_of v kept)) a new
+
+-- ---- what comes
+
+abbrev pub IsHostGiven : Seen → Option (List ℕ) → Answer → Seen → Type 0
+IsHostGiven s None a new = IsUnknown s a new
+IsHostGiven s (Some bytes) a new =
+    (result : Result HostReply HostFault) × (h : HostState)
+    × (a ≡ HostTook result) × (new ≡ with_host s h)
+    × IsHostTakeOf s.host.mark s.host.host (decoded bytes) result h
+
+abbrev pub IsGiven : Seen → (v : ℕ) → Option ViewerView → Option (List ℕ) → Answer → Seen → Type 0
+IsGiven s v None bytes a new = IsUnknown s a new
+IsGiven s v (Some x) None a new = IsUnknown s a new
+IsGiven s v (Some x) (Some bytes) a new =
+    (result : Result Taken TakeFault) × (y : law.ViewerState WorldData)
+    × (a ≡ ViewerTook result) × (new ≡ with_viewer s v (with_state x y))
+    × IsTakeOf (machine_of x) x.mark x.who x.state x.state.view (decoded bytes) result y
+
+-- ---- snapshots
+
+-- of a viewer that runs or is spoiled
+abbrev pub IsSaving : (number : ℕ) → ViewerView → List Shot → View WorldData → Answer → List Shot
+    → Type 0
+IsSaving number x old (Spoiled count) a new = (a ≡ Saved (Err save_fault.Spoiled)) × (new ≡ old)
+IsSaving number x old (Running w window) a new =
+    ((a ≡ Saved (Ok (length old)))
+    × (new ≡ old ++ record { viewer = number; bytes = shot x.mark x.state.boot x.scene w } ∷ [])
+    × (x.state.boot < 2 ^ 32))
+    ⊎ ((a ≡ Saved (Err save_fault.Memory)) × (new ≡ old))
+
+abbrev pub IsSaved : Seen → (v : ℕ) → Option ViewerView → Answer → Seen → Type 0
+IsSaved s v None a new = IsUnknown s a new
+IsSaved s v (Some x) a new =
+    (new ≡ with_shots s new.shots) × IsSaving v x s.shots x.state.view a new.shots
+
+-- bytes are a snapshot of this scene's, so a rewind by them is the law's
+abbrev pub IsLawful : ViewerView → (boot : ℕ) → (bytes : List ℕ) → Result ℕ SnapFault
+    → law.ViewerState WorldData → Type 0
+IsLawful x boot bytes result y =
+    (from : law.Shot WorldData) → from.boot < 2 ^ 32
+    → IsTrue ((world_codec x.scene).fits from.state)
+    → bytes ≡ shot x.mark from.boot x.scene from.state
+    → IsRewind (machine_of x) x.state from boot result y
+
+abbrev pub IsRewinding : Seen → (v boot : ℕ) → Option ViewerView → Option Shot → Answer → Seen
+    → Type 0
+IsRewinding s v boot None kept a new = IsUnknown s a new
+IsRewinding s v boot (Some x) None a new = IsUnknown s a new
+IsRewinding s v boot (Some x) (Some kept) a new =
+    ((kept.viewer ≢ v) × IsUnknown s a new)
+    ⊎ ((kept.viewer ≡ v)
+    × ((result : Result ℕ SnapFault) × (y : law.ViewerState WorldData)
+    × (a ≡ Rewound result) × (new ≡ with_viewer s v (with_state x y))
+    × IsRewound x boot kept.bytes result y × IsLawful x boot kept.bytes result y))
+
+-- ---- a step
+
+abbrev pub IsOffering : Seen → (v : ℕ) → Step → Option ViewerView → Answer → Seen → Type 0
+IsOffering s v step None a new = IsUnknown s a new
+IsOffering s v (ViewerOffer u point) (Some x) a new =
+    let offered = viewer_offer x.state point in
+    (a ≡ Offered offered.0) × (new ≡ with_viewer s v (with_state x offered.1))
+IsOffering s v (ViewerResend u place) (Some x) a new =
+    IsMade s x.mark (viewer_resend x.who x.state place) a new
+IsOffering s v (ViewerAsk u) (Some x) a new =
+    IsMade s x.mark (Some (viewer_ask (machine_of x) x.who x.state)) a new
+IsOffering s v step (Some x) a new = ⊥
+
+-- from these nodes, the step may be answered so and leave the new ones
+abbrev pub IsCall : Seen → Step → Answer → Seen → Type 0
+IsCall s (HostClock t) a new =
+    (result : Result ℕ NumberFault) × (h : HostState)
+    × (a ≡ Clocked result) × (new ≡ with_host s h) × IsClocked s.host.host t result h
+IsCall s (HostPacket n) a new = IsMade s s.host.mark (host_packet s.host.host n) a new
+IsCall s (HostAck v) a new = IsAcked s v (slice_get s.host.host.kept v) a new
+IsCall s (HostTake p) a new = IsHostGiven s (slice_get s.packets p) a new
+IsCall s (ViewerTake v p) a new = IsGiven s v (slice_get s.viewers v) (slice_get s.packets p) a new
+IsCall s (ViewerSave v) a new = IsSaved s v (slice_get s.viewers v) a new
+IsCall s (ViewerRewind v n boot) a new =
+    IsRewinding s v boot (slice_get s.viewers v) (slice_get s.shots n) a new
+IsCall s (ViewerOffer v point) a new =
+    IsOffering s v (ViewerOffer v point) (slice_get s.viewers v) a new
+IsCall s (ViewerResend v place) a new =
+    IsOffering s v (ViewerResend v place) (slice_get s.viewers v) a new
+IsCall s (ViewerAsk v) a new = IsOffering s v (ViewerAsk v) (slice_get s.viewers v) a new
+
+-- the steps were answered so, one after another, and left the new nodes
+abbrev pub AreCalls : Seen → List Step → List Answer → Seen → Type 0
+AreCalls s [] [] new = new ≡ s
+AreCalls s (step ∷ steps) (a ∷ answers) new =
+    (mid : Seen) × IsCall s step a mid × AreCalls mid steps answers new
+AreCalls s [] (a ∷ answers) new = ⊥
+AreCalls s (step ∷ steps) [] new = ⊥

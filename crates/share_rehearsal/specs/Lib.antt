@@ -1,0 +1,4 @@
+pub mod Names
+pub mod Log
+pub mod Calls
+pub mod Rehearsed

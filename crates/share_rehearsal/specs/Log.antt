@@ -1,0 +1,88 @@
+-- The log of a rehearsal: a line per step, with its number and its answer (our choice).
+use Rattle.std.specs.Prelude.{ℕ, suc, ◌++◌, List, [], ◌∷◌, codes, decimal, Some, None}
+use Rattle.std.specs.Prelude.{Result, Ok, Err}
+use Rattle.share_law.specs.declared.fault.HostFault.{HostFault}
+use Rattle.share_law.specs.declared.fault.TakeFault.{TakeFault}
+use Rattle.share_law.specs.declared.reply.HostReply.{HostReply}
+use Rattle.share_law.specs.declared.reply.HostReply.TheVariants.{Asked, Numbered, Repeat, Ahead}
+use Rattle.share_law.specs.declared.reply.HostReply.TheVariants.{OldBoot, NothingToDo}
+use Rattle.share_law.specs.declared.reply.Taken.{Taken}
+use Rattle.share_law.specs.declared.reply.Taken.TheVariants as taken
+use Rattle.share_law.specs.Viewer.{View, Spoiled, Running}
+use Rattle.cascade_core.specs.Texts.{scene_text, trace_text}
+use Rattle.cascade_core.specs.declared.world.WorldData.{WorldData}
+use Rattle.share_core.specs.Viewer.{ViewerView}
+use Rattle.share_rehearsal.specs.declared.answer.Answer.{Answer}
+use Rattle.share_rehearsal.specs.declared.answer.Answer.TheVariants as answer
+use Rattle.share_rehearsal.specs.Names.{number_name, host_name, take_name, offer_name, save_name}
+use Rattle.share_rehearsal.specs.Names.{snap_name}
+
+abbrev pub reply_text : HostReply → List ℕ
+reply_text (Asked first count) = codes "Asked " ++ decimal first ++ 32 ∷ decimal count
+reply_text (Numbered n) = codes "Numbered " ++ decimal n
+reply_text Repeat = codes "Repeat"
+reply_text Ahead = codes "Ahead"
+reply_text OldBoot = codes "OldBoot"
+reply_text NothingToDo = codes "NothingToDo"
+
+abbrev pub taken_text : Taken → List ℕ
+taken_text taken.Old = codes "Old"
+taken_text taken.Beyond = codes "Beyond"
+taken_text taken.Kept = codes "Kept"
+taken_text (taken.Applied count) = codes "Applied " ++ decimal count
+taken_text taken.Noted = codes "Noted"
+
+abbrev pub host_text : Result HostReply HostFault → List ℕ
+host_text (Ok reply) = reply_text reply
+host_text (Err fault) = host_name fault
+
+abbrev pub take_text : Result Taken TakeFault → List ℕ
+take_text (Ok reply) = taken_text reply
+take_text (Err fault) = take_name fault
+
+-- the answer of a step; packets and snapshots go by their numbers, a refusal by the fault's name
+abbrev pub answer_text : Answer → List ℕ
+answer_text (answer.Clocked (Ok n)) = codes "Numbered " ++ decimal n
+answer_text (answer.Clocked (Err fault)) = number_name fault
+answer_text (answer.HostTook result) = host_text result
+answer_text (answer.ViewerTook result) = take_text result
+answer_text (answer.Offered (Ok n)) = codes "Offered " ++ decimal n
+answer_text (answer.Offered (Err fault)) = offer_name fault
+answer_text (answer.Sent (Some p)) = codes "Packet " ++ decimal p
+answer_text (answer.Sent None) = codes "None"
+answer_text (answer.Saved (Ok s)) = codes "Saved " ++ decimal s
+answer_text (answer.Saved (Err fault)) = save_name fault
+answer_text (answer.Rewound (Ok n)) = codes "Rewound " ++ decimal n
+answer_text (answer.Rewound (Err fault)) = snap_name fault
+answer_text answer.NoSuch = codes "NoSuch"
+
+-- `<number> <answer>` and a line feed
+unfoldable pub line_text : ℕ → Answer → List ℕ
+line_text n a = decimal n ++ 32 ∷ answer_text a ++ 10 ∷ []
+
+-- the lines of these answers, of which the first has this number
+abbrev pub lines_from : ℕ → List Answer → List ℕ
+lines_from n [] = []
+lines_from n (a ∷ answers) = line_text n a ++ lines_from (suc n) answers
+
+-- ---- the ending
+
+-- a viewer that runs, with its trace and its scene, or one that is spoiled
+abbrev pub ending_in : (number : ℕ) → ViewerView → View WorldData → List ℕ
+ending_in number v (Running w window) =
+    codes "viewer " ++ decimal number ++ codes " at " ++ decimal w.applied
+    ++ codes " boot " ++ decimal v.state.boot ++ 10 ∷ trace_text v.scene w
+    ++ scene_text v.scene v.routes w
+ending_in number v (Spoiled count) = codes "viewer " ++ decimal number ++ codes " spoiled" ++ 10 ∷ []
+
+unfoldable pub ending_text : (number : ℕ) → ViewerView → List ℕ
+ending_text number v = ending_in number v v.state.view
+
+-- each viewer's, of which the first has this number
+abbrev pub endings_from : ℕ → List ViewerView → List ℕ
+endings_from n [] = []
+endings_from n (v ∷ viewers) = ending_text n v ++ endings_from (suc n) viewers
+
+-- the log of these answers, where these viewers are left
+abbrev pub log_text : List Answer → List ViewerView → List ℕ
+log_text answers viewers = lines_from 1 answers ++ endings_from 0 viewers

@@ -1,0 +1,85 @@
+//! What each viewer holds when a rehearsal is over.
+
+ghost use Rattle.std.specs.Prelude.{◌≡◌, ◌++◌, ◌∷◌, [], codes, decimal, is_ok, OnOk, false};
+ghost use Rattle.cascade_core.specs.Texts.{scene_text, trace_text};
+ghost use Rattle.share_core.specs.Viewer.{IfRunning, is_spoiled};
+ghost use Rattle.share_rehearsal.specs.Log.{ending_text, endings_from};
+
+use crate::log::{push_number, push_word};
+use cascade_core::TextFault;
+use share_core::Viewer;
+use std::alloc::AllocError;
+
+/// A text was written, or memory was refused.
+fn written(text: Result<(), TextFault>) -> Result<(), AllocError>
+    ensures { is_ok result ≡ is_ok text }
+{
+    match text {
+        Ok(()) => Ok(()),
+        Err(_fault) => Err(AllocError),
+    }
+}
+
+fn push_spoiled(number: usize, out: &mut Vec<u8>) -> Result<(), AllocError>
+    ensures { OnOk result (out.new.items
+        ≡ out.old.items ++ codes "viewer " ++ decimal number ++ codes " spoiled" ++ 10 ∷ []) }
+{
+    push_number("viewer ", number, out)?;
+    push_word(" spoiled\n", out)
+}
+
+fn push_place(number: usize, applied: u32, out: &mut Vec<u8>) -> Result<(), AllocError>
+    ensures { OnOk result (out.new.items
+        ≡ out.old.items ++ codes "viewer " ++ decimal number ++ codes " at " ++ decimal applied) }
+{
+    push_number("viewer ", number, out)?;
+    push_number(" at ", applied as usize, out)
+}
+
+fn push_boot(boot: u32, out: &mut Vec<u8>) -> Result<(), AllocError>
+    ensures { OnOk result (out.new.items
+        ≡ out.old.items ++ codes " boot " ++ decimal boot ++ 10 ∷ []) }
+{
+    push_number(" boot ", boot as usize, out)?;
+    push_word("\n", out)
+}
+
+/// Appends the trace and the scene of a viewer that runs; on a refusal perhaps a part of them.
+fn push_texts<B>(viewer: &Viewer<B>, out: &mut Vec<u8>) -> Result<(), AllocError>
+    ensures { IfRunning viewer.now.state.view (λ w. OnOk result (out.new.items
+        ≡ out.old.items ++ trace_text viewer.now.scene w
+        ++ scene_text viewer.now.scene viewer.now.routes w)) }
+{
+    written(viewer.trace_text(out))?;
+    written(viewer.scene_text(out))
+}
+
+/// The same, behind a line on the viewer.
+fn push_running<B>(number: usize, viewer: &Viewer<B>, out: &mut Vec<u8>) -> Result<(), AllocError>
+    requires { is_spoiled viewer.now.state.view ≡ false }
+    ensures { OnOk result (out.new.items ≡ out.old.items ++ ending_text number viewer.now) }
+{
+    push_place(number, viewer.applied(), out)?;
+    push_boot(viewer.boot(), out)?;
+    push_texts(viewer, out)
+}
+
+/// Appends what a viewer is left with; on a refusal perhaps a part of it.
+fn push_ending<B>(number: usize, viewer: &Viewer<B>, out: &mut Vec<u8>) -> Result<(), AllocError>
+    ensures { OnOk result (out.new.items ≡ out.old.items ++ ending_text number viewer.now) }
+{
+    if viewer.spoiled() {
+        return push_spoiled(number, out);
+    }
+    push_running(number, viewer, out)
+}
+
+/// The same of each viewer in turn.
+pub(crate) fn push_endings<B>(viewers: &[Viewer<B>], out: &mut Vec<u8>) -> Result<(), AllocError>
+    ensures { OnOk result (out.new.items ≡ out.old.items ++ endings_from 0 viewers.now) }
+{
+    for (number, viewer) in viewers.iter().enumerate() {
+        push_ending(number, viewer, out)?;
+    }
+    Ok(())
+}

@@ -1,0 +1,18 @@
+//! Rehearsals: a host and its viewers go through the steps of a schedule over a network in memory,
+//! and each step's answer is logged.
+#![tactic(auto)]
+
+mod answer;
+mod ending;
+mod fault;
+mod log;
+mod made;
+mod names;
+mod nodes;
+mod play;
+mod rehearsal;
+
+pub use answer::Answer;
+pub use fault::RehearseFault;
+pub use nodes::Shot;
+pub use rehearsal::{Rehearsal, rehearse};

@@ -1,0 +1,111 @@
+//! A line of a log: the number of a step and its answer.
+
+ghost use Rattle.std.specs.Prelude.{◌≡◌, ◌++◌, ◌∷◌, codes, decimal, OnOk};
+ghost use Rattle.share_rehearsal.specs.Log as spec;
+
+use crate::answer::Answer;
+use crate::names::{host_name, number_name, offer_name, save_name, snap_name, take_name};
+use itoa::Buffer;
+use share_law::{HostFault, HostReply, TakeFault, Taken};
+use std::alloc::AllocError;
+
+/// Appends a word; on a refusal the buffer is as it was.
+pub(crate) fn push_word(word: &str, out: &mut Vec<u8>) -> Result<(), AllocError>
+    ensures { OnOk result (out.new.items ≡ out.old.items ++ word.now) }
+{
+    out.extend_from_slice(word.as_bytes())
+}
+
+/// Appends a word, which ends in a space, and a number in decimal digits; on a refusal perhaps a
+/// part of them.
+pub(crate) fn push_number(word: &str, number: usize, out: &mut Vec<u8>) -> Result<(), AllocError>
+    ensures { OnOk result (out.new.items ≡ out.old.items ++ word.now ++ decimal number) }
+{
+    out.extend_from_slice(word.as_bytes())?;
+    let mut buffer = Buffer::new();
+    out.extend_from_slice(buffer.format(number).as_bytes())
+}
+
+/// Appends the inputs that were asked for; on a refusal perhaps a part of them.
+fn push_asked(first: u32, count: u32, out: &mut Vec<u8>) -> Result<(), AllocError>
+    ensures { OnOk result (out.new.items
+        ≡ out.old.items ++ codes "Asked " ++ decimal first ++ 32 ∷ decimal count) }
+{
+    push_number("Asked ", first as usize, out)?;
+    push_number(" ", count as usize, out)
+}
+
+fn push_reply(reply: HostReply, out: &mut Vec<u8>) -> Result<(), AllocError>
+    ensures { OnOk result (out.new.items ≡ out.old.items ++ spec.reply_text reply) }
+{
+    match reply {
+        HostReply::Asked { first, count } => push_asked(first, count, out),
+        HostReply::Numbered(number) => push_number("Numbered ", number as usize, out),
+        HostReply::Repeat => push_word("Repeat", out),
+        HostReply::Ahead => push_word("Ahead", out),
+        HostReply::OldBoot => push_word("OldBoot", out),
+        HostReply::NothingToDo => push_word("NothingToDo", out),
+    }
+}
+
+fn push_taken(taken: Taken, out: &mut Vec<u8>) -> Result<(), AllocError>
+    ensures { OnOk result (out.new.items ≡ out.old.items ++ spec.taken_text taken) }
+{
+    match taken {
+        Taken::Old => push_word("Old", out),
+        Taken::Beyond => push_word("Beyond", out),
+        Taken::Kept => push_word("Kept", out),
+        Taken::Applied(count) => push_number("Applied ", count as usize, out),
+        Taken::Noted => push_word("Noted", out),
+    }
+}
+
+fn push_hosted(reply: Result<HostReply, HostFault>, out: &mut Vec<u8>) -> Result<(), AllocError>
+    ensures { OnOk result (out.new.items ≡ out.old.items ++ spec.host_text reply) }
+{
+    match reply {
+        Ok(reply) => push_reply(reply, out),
+        Err(fault) => push_word(host_name(fault), out),
+    }
+}
+
+fn push_viewed(taken: Result<Taken, TakeFault>, out: &mut Vec<u8>) -> Result<(), AllocError>
+    ensures { OnOk result (out.new.items ≡ out.old.items ++ spec.take_text taken) }
+{
+    match taken {
+        Ok(taken) => push_taken(taken, out),
+        Err(fault) => push_word(take_name(fault), out),
+    }
+}
+
+/// Appends the text of an answer; on a refusal perhaps a part of it.
+pub(crate) fn push_answer(answer: Answer, out: &mut Vec<u8>) -> Result<(), AllocError>
+    ensures { OnOk result (out.new.items ≡ out.old.items ++ spec.answer_text answer) }
+{
+    match answer {
+        Answer::Clocked(Ok(number)) => push_number("Numbered ", number as usize, out),
+        Answer::Clocked(Err(fault)) => push_word(number_name(fault), out),
+        Answer::HostTook(result) => push_hosted(result, out),
+        Answer::ViewerTook(result) => push_viewed(result, out),
+        Answer::Offered(Ok(number)) => push_number("Offered ", number as usize, out),
+        Answer::Offered(Err(fault)) => push_word(offer_name(fault), out),
+        Answer::Sent(Some(packet)) => push_number("Packet ", packet, out),
+        Answer::Sent(None) => push_word("None", out),
+        Answer::Saved(Ok(snapshot)) => push_number("Saved ", snapshot, out),
+        Answer::Saved(Err(fault)) => push_word(save_name(fault), out),
+        Answer::Rewound(Ok(applied)) => push_number("Rewound ", applied as usize, out),
+        Answer::Rewound(Err(fault)) => push_word(snap_name(fault), out),
+        Answer::NoSuch => push_word("NoSuch", out),
+    }
+}
+
+/// Appends the line of a step; on a refusal perhaps a part of it.
+#[tactic(auto, unfolding(crate::specs::Log::line_text))]
+pub(crate) fn push_line(number: usize, answer: Answer, out: &mut Vec<u8>) -> Result<(), AllocError>
+    ensures { OnOk result (out.new.items ≡ out.old.items ++ spec.line_text number answer) }
+{
+    push_number("", number, out)?;
+    push_word(" ", out)?;
+    push_answer(answer, out)?;
+    push_word("\n", out)
+}

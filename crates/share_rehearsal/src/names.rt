@@ -1,0 +1,78 @@
+//! The names of faults, as a log has them.
+
+ghost use Rattle.std.specs.Prelude.{◌≡◌};
+ghost use Rattle.share_rehearsal.specs.Names as spec;
+
+use share_law::{HostFault, NumberFault, OfferFault, SaveFault, SnapFault, TakeFault};
+
+pub(crate) fn number_name(fault: NumberFault) -> &'static str
+    ensures { result.now ≡ spec.number_name fault }
+{
+    match fault {
+        NumberFault::WorldFull => "WorldFull",
+        NumberFault::TimeNotLater => "TimeNotLater",
+        NumberFault::TimeRange => "TimeRange",
+        NumberFault::Memory => "Memory",
+    }
+}
+
+pub(crate) fn host_name(fault: HostFault) -> &'static str
+    ensures { result.now ≡ spec.host_name fault }
+{
+    match fault {
+        HostFault::Wire(fault) => fault.name(),
+        HostFault::WrongScene => "WrongScene",
+        HostFault::BadViewer => "BadViewer",
+        HostFault::Number(fault) => number_name(fault),
+    }
+}
+
+pub(crate) fn take_name(fault: TakeFault) -> &'static str
+    ensures { result.now ≡ spec.take_name fault }
+{
+    match fault {
+        TakeFault::Spoiled => "Spoiled",
+        TakeFault::Wire(fault) => fault.name(),
+        TakeFault::WrongScene => "WrongScene",
+        TakeFault::NotForMe => "NotForMe",
+        TakeFault::TimeNotLater => "TimeNotLater",
+        TakeFault::Memory => "Memory",
+    }
+}
+
+pub(crate) fn offer_name(fault: OfferFault) -> &'static str
+    ensures { result.now ≡ spec.offer_name fault }
+{
+    match fault {
+        OfferFault::Spoiled => "Spoiled",
+        OfferFault::ZeroRay => "ZeroRay",
+        OfferFault::PointRange => "PointRange",
+        OfferFault::OfferFull => "OfferFull",
+        OfferFault::OffersSpent => "OffersSpent",
+    }
+}
+
+pub(crate) fn save_name(fault: SaveFault) -> &'static str
+    ensures { result.now ≡ spec.save_name fault }
+{
+    match fault {
+        SaveFault::Spoiled => "Spoiled",
+        SaveFault::Memory => "Memory",
+    }
+}
+
+pub(crate) fn snap_name(fault: SnapFault) -> &'static str
+    ensures { result.now ≡ spec.snap_name fault }
+{
+    match fault {
+        SnapFault::Short => "Short",
+        SnapFault::BadMagic => "BadMagic",
+        SnapFault::BadVersion => "BadVersion",
+        SnapFault::WrongScene => "WrongScene",
+        SnapFault::BadDigest => "BadDigest",
+        SnapFault::NotCanonical => "NotCanonical",
+        SnapFault::BootNotNew => "BootNotNew",
+        SnapFault::ScriptState => "ScriptState",
+        SnapFault::Memory => "Memory",
+    }
+}

@@ -1,0 +1,237 @@
+//! The host and the viewers of a rehearsal, with every packet that was made and every snapshot that
+//! was taken, and what a step makes of them.
+
+ghost use Rattle.std.specs.Prelude.{◌≡◌, ◌++◌, [], ◌∷◌, length, map, slice_get, IfOk, Some, Ok};
+ghost use Rattle.std.specs.Option.{option_map};
+ghost use Rattle.share_law.specs.declared.step.Step.TheVariants.{HostClock, HostPacket, HostAck};
+ghost use Rattle.share_law.specs.declared.step.Step.TheVariants.{HostTake, ViewerOffer};
+ghost use Rattle.share_law.specs.declared.step.Step.TheVariants.{ViewerResend, ViewerAsk};
+ghost use Rattle.share_law.specs.declared.step.Step.TheVariants.{ViewerTake, ViewerSave};
+ghost use Rattle.share_law.specs.declared.step.Step.TheVariants.{ViewerRewind};
+ghost use Rattle.share_rehearsal.specs.Calls.{IsCall, IsSaving, IsSent, seen_of};
+
+use crate::answer::Answer;
+use crate::made::Made;
+use share_core::{Host, Viewer};
+use share_law::Step;
+use share_wire::Packet;
+use std::alloc::{AllocError, Global};
+use x3d_lists::Items;
+use x3d_values::Point;
+
+/// A snapshot, and the viewer that took it.
+#[derive(Drop)]
+pub struct Shot {
+    pub viewer: u32,
+    pub bytes: Items<u8>,
+}
+
+/// The nodes of a rehearsal. Packets and snapshots have their places as numbers.
+#[derive(Drop)]
+pub(crate) struct Nodes<B> {
+    pub(crate) host: Host,
+    pub(crate) viewers: Vec<Viewer<B>>,
+    pub(crate) packets: Vec<Made>,
+    pub(crate) shots: Vec<Shot>,
+}
+
+/// A packet joins those that were made.
+fn send(packet: Packet, packets: &mut Vec<Made>) -> Result<Answer, AllocError>
+    ensures { IfOk result (λ a. IsSent (Some packet.items) packets.old.items a packets.new.items) }
+{
+    let number = packets.len();
+    packets.push(Made::new(packet))?;
+    Ok(Answer::Sent(Some(number)))
+}
+
+/// The same, if there is one.
+fn send_any(packet: Option<Packet>, packets: &mut Vec<Made>) -> Result<Answer, AllocError>
+    ensures { IfOk result (λ a.
+        IsSent (option_map (λ p. p.items) packet) packets.old.items a packets.new.items) }
+{
+    match packet {
+        Some(packet) => send(packet, packets),
+        None => Ok(Answer::Sent(None)),
+    }
+}
+
+/// A snapshot joins those that were taken.
+fn keep(viewer: u32, bytes: Vec<u8>, shots: &mut Vec<Shot>) -> Result<Answer, AllocError>
+    ensures { IfOk result (λ a. (a ≡ Answer.Saved (Ok (length shots.old.items)))
+        × (shots.new.items
+        ≡ shots.old.items ++ record { viewer = viewer; bytes = bytes.items } ∷ [])) }
+{
+    let number = shots.len();
+    let bytes = Items::from_vec(bytes);
+    shots.push(Shot { viewer, bytes })?;
+    Ok(Answer::Saved(Ok(number)))
+}
+
+/// A viewer takes a snapshot.
+fn save<B>(
+    alloc: Global,
+    number: u32,
+    viewer: &Viewer<B>,
+    shots: &mut Vec<Shot>,
+) -> Result<Answer, AllocError>
+    ensures { IfOk result (λ a.
+        IsSaving number viewer.now shots.old.items viewer.now.state.view a shots.new.items) }
+{
+    let _boot = viewer.boot();
+    let mut bytes = Vec::new(alloc);
+    match viewer.snapshot(&mut bytes) {
+        Ok(()) => keep(number, bytes, shots),
+        Err(fault) => Ok(Answer::Saved(Err(fault))),
+    }
+}
+
+impl<B> Nodes<B> {
+    fn clock(&mut self, time: i64) -> Answer
+        ensures { IsCall
+            (seen_of self.old.host self.old.viewers.items self.old.packets.items self.old.shots.items)
+            (HostClock time) result
+            (seen_of self.new.host self.new.viewers.items self.new.packets.items self.new.shots.items) }
+    {
+        Answer::Clocked(self.host.clock(time))
+    }
+
+    fn packet(&mut self, input: u32) -> Result<Answer, AllocError>
+        ensures { IfOk result (λ a. IsCall
+            (seen_of self.old.host self.old.viewers.items self.old.packets.items self.old.shots.items)
+            (HostPacket input) a
+            (seen_of self.new.host self.new.viewers.items self.new.packets.items self.new.shots.items)) }
+    {
+        send_any(self.host.packet(input), &mut self.packets)
+    }
+
+    fn ack(&mut self, viewer: u32) -> Result<Answer, AllocError>
+        ensures { IfOk result (λ a. IsCall
+            (seen_of self.old.host self.old.viewers.items self.old.packets.items self.old.shots.items)
+            (HostAck viewer) a
+            (seen_of self.new.host self.new.viewers.items self.new.packets.items self.new.shots.items)) }
+    {
+        if viewer >= u32::from(self.host.viewers()) {
+            return Ok(Answer::NoSuch);
+        }
+        send(self.host.ack(viewer as u8), &mut self.packets)
+    }
+
+    fn give_host(&mut self, packet: u32) -> Answer
+        ensures { IsCall
+            (seen_of self.old.host self.old.viewers.items self.old.packets.items self.old.shots.items)
+            (HostTake packet) result
+            (seen_of self.new.host self.new.viewers.items self.new.packets.items self.new.shots.items) }
+    {
+        match self.packets.get(packet as usize) {
+            Some(packet) => Answer::HostTook(self.host.take(packet.bytes())),
+            None => Answer::NoSuch,
+        }
+    }
+
+    fn offer(&mut self, viewer: u32, point: Point) -> Answer
+        ensures { IsCall
+            (seen_of self.old.host self.old.viewers.items self.old.packets.items self.old.shots.items)
+            (ViewerOffer viewer point) result
+            (seen_of self.new.host self.new.viewers.items self.new.packets.items self.new.shots.items) }
+    {
+        match self.viewers.get_mut(viewer as usize) {
+            Some(viewer) => Answer::Offered(viewer.offer(point)),
+            None => Answer::NoSuch,
+        }
+    }
+
+    fn resend(&mut self, viewer: u32, place: u32) -> Result<Answer, AllocError>
+        ensures { IfOk result (λ a. IsCall
+            (seen_of self.old.host self.old.viewers.items self.old.packets.items self.old.shots.items)
+            (ViewerResend viewer place) a
+            (seen_of self.new.host self.new.viewers.items self.new.packets.items self.new.shots.items)) }
+    {
+        match self.viewers.get(viewer as usize) {
+            Some(viewer) => send_any(viewer.resend(place), &mut self.packets),
+            None => Ok(Answer::NoSuch),
+        }
+    }
+
+    fn ask(&mut self, viewer: u32) -> Result<Answer, AllocError>
+        ensures { IfOk result (λ a. IsCall
+            (seen_of self.old.host self.old.viewers.items self.old.packets.items self.old.shots.items)
+            (ViewerAsk viewer) a
+            (seen_of self.new.host self.new.viewers.items self.new.packets.items self.new.shots.items)) }
+    {
+        match self.viewers.get(viewer as usize) {
+            Some(viewer) => send(viewer.ask(), &mut self.packets),
+            None => Ok(Answer::NoSuch),
+        }
+    }
+
+    fn give(&mut self, viewer: u32, packet: u32) -> Answer
+        ensures { IsCall
+            (seen_of self.old.host self.old.viewers.items self.old.packets.items self.old.shots.items)
+            (ViewerTake viewer packet) result
+            (seen_of self.new.host self.new.viewers.items self.new.packets.items self.new.shots.items) }
+    {
+        let Some(packet) = self.packets.get(packet as usize) else {
+            return Answer::NoSuch;
+        };
+        match self.viewers.get_mut(viewer as usize) {
+            Some(viewer) => Answer::ViewerTook(viewer.take(packet.bytes())),
+            None => Answer::NoSuch,
+        }
+    }
+
+    fn save(&mut self, alloc: Global, viewer: u32) -> Result<Answer, AllocError>
+        ensures { IfOk result (λ a. IsCall
+            (seen_of self.old.host self.old.viewers.items self.old.packets.items self.old.shots.items)
+            (ViewerSave viewer) a
+            (seen_of self.new.host self.new.viewers.items self.new.packets.items self.new.shots.items)) }
+    {
+        match self.viewers.get(viewer as usize) {
+            Some(node) => save(alloc, viewer, node, &mut self.shots),
+            None => Ok(Answer::NoSuch),
+        }
+    }
+
+    fn rewind(&mut self, viewer: u32, snapshot: u32, boot: u32) -> Answer
+        ensures { IsCall
+            (seen_of self.old.host self.old.viewers.items self.old.packets.items self.old.shots.items)
+            (ViewerRewind viewer snapshot boot) result
+            (seen_of self.new.host self.new.viewers.items self.new.packets.items self.new.shots.items) }
+    {
+        let Some(shot) = self.shots.get(snapshot as usize) else {
+            return Answer::NoSuch;
+        };
+        if shot.viewer != viewer {
+            return Answer::NoSuch;
+        }
+        match self.viewers.get_mut(viewer as usize) {
+            Some(node) => Answer::Rewound(node.rewind(shot.bytes.as_slice(), boot)),
+            None => Answer::NoSuch,
+        }
+    }
+
+    /// A step, and its answer. It is refused where memory was refused to the list of packets or to
+    /// that of snapshots.
+    pub(crate) fn go(&mut self, alloc: Global, step: Step) -> Result<Answer, AllocError>
+        ensures { IfOk result (λ a. IsCall
+            (seen_of self.old.host self.old.viewers.items self.old.packets.items self.old.shots.items)
+            step a
+            (seen_of self.new.host self.new.viewers.items self.new.packets.items self.new.shots.items)) }
+    {
+        match step {
+            Step::HostClock { time } => Ok(self.clock(time)),
+            Step::HostPacket { input } => self.packet(input),
+            Step::HostAck { viewer } => self.ack(viewer),
+            Step::HostTake { packet } => Ok(self.give_host(packet)),
+            Step::ViewerOffer { viewer, point } => Ok(self.offer(viewer, point)),
+            Step::ViewerResend { viewer, place } => self.resend(viewer, place),
+            Step::ViewerAsk { viewer } => self.ask(viewer),
+            Step::ViewerTake { viewer, packet } => Ok(self.give(viewer, packet)),
+            Step::ViewerSave { viewer } => self.save(alloc, viewer),
+            Step::ViewerRewind {
+                viewer,
+                snapshot,
+                boot,
+            } => Ok(self.rewind(viewer, snapshot, boot)),
+        }
+    }
+}

@@ -1,0 +1,136 @@
+//! A rehearsal as a whole.
+
+ghost use Rattle.std.specs.Prelude.{◌≡◌, ◌<◌, ◌≤◌, ◌++◌, [], length, Err, IfErr, IfOk, OnErr, OnOk};
+ghost use Rattle.share_rehearsal.specs.Calls.{begun_with, seen_of, viewers_from};
+ghost use Rattle.share_rehearsal.specs.Rehearsed.{AreFresh, IsLogged, IsRehearsed};
+
+use crate::ending::push_endings;
+use crate::fault::RehearseFault;
+use crate::nodes::Nodes;
+use crate::play::play;
+use cascade_core::Stage;
+use share_core::{Host, Viewer};
+use share_law::Step;
+use std::alloc::{AllocError, Global};
+
+/// How many viewers there may be.
+const MOST: usize = 16;
+
+/// The host and the viewers as the steps left them.
+#[derive(Drop)]
+pub struct Rehearsal<B> {
+    pub host: Host,
+    pub viewers: Vec<Viewer<B>>,
+}
+
+/// A viewer for each stage, numbered in their order, as its boot 1.
+fn viewers_of<B: Drop>(
+    alloc: Global,
+    stages: Vec<Stage<B>>,
+    mark: [u8; 32],
+) -> Result<Vec<Viewer<B>>, AllocError>
+    requires fresh { AreFresh stages.items }
+    requires most { length stages.items ≤ 16 }
+    ensures { IfOk result (λ viewers. viewers.items ≡ viewers_from mark 0 stages.items) }
+{
+    let mut viewers = Vec::new(alloc);
+    for stage in stages {
+        let number = viewers.len() as u8;
+        viewers.push(Viewer::start(stage, mark, number, 1))?;
+    }
+    Ok(viewers)
+}
+
+/// Goes through the steps, and appends their log; on a refusal the buffer is as it was.
+fn log_all<B>(
+    alloc: Global,
+    nodes: &mut Nodes<B>,
+    steps: &[Step],
+    out: &mut Vec<u8>,
+) -> Result<(), AllocError>
+    ensures ok { OnOk result (IsLogged
+        (seen_of nodes.old.host nodes.old.viewers.items nodes.old.packets.items nodes.old.shots.items)
+        steps.now out.old.items out.new.items
+        (seen_of nodes.new.host nodes.new.viewers.items nodes.new.packets.items nodes.new.shots.items)) }
+    ensures err { OnErr result (out.new.items ≡ out.old.items) }
+{
+    let mut log = Vec::new(alloc);
+    play(alloc, nodes, steps, &mut log)?;
+    push_endings(&nodes.viewers, &mut log)?;
+    out.extend_from_slice(&log)
+}
+
+/// What is left of the nodes.
+fn ended<B: Drop>(nodes: Nodes<B>) -> Rehearsal<B>
+    ensures host { result.host ≡ nodes.host }
+    ensures viewers { result.viewers.items ≡ nodes.viewers.items }
+{
+    let Nodes {
+        host,
+        viewers,
+        packets: _,
+        shots: _,
+    } = nodes;
+    Rehearsal { host, viewers }
+}
+
+/// A host and its viewers before the first step.
+fn begun<B: Drop>(
+    alloc: Global,
+    stages: Vec<Stage<B>>,
+    mark: [u8; 32],
+) -> Result<Nodes<B>, AllocError>
+    requires fresh { AreFresh stages.items }
+    requires some { 1 ≤ length stages.items }
+    requires most { length stages.items ≤ 16 }
+    ensures { IfOk result (λ nodes.
+        seen_of nodes.host nodes.viewers.items nodes.packets.items nodes.shots.items
+        ≡ begun_with mark stages.items) }
+{
+    let count = stages.len() as u8;
+    let viewers = viewers_of(alloc, stages, mark)?;
+    Ok(Nodes {
+        host: Host::new(alloc, mark, count),
+        viewers,
+        packets: Vec::new(alloc),
+        shots: Vec::new(alloc),
+    })
+}
+
+/// The host of a scene with this mark and a viewer for each stage, numbered in their order, as its
+/// boot 1, go through the steps over a network in memory, and the log of the steps is appended: a
+/// line of each step's number from 1 and its answer, then of each viewer a line, its trace and its
+/// scene, or a line that it is spoiled.
+///
+/// A refusal of memory inside a step is the step's answer, and the steps go on. The rehearsal is
+/// refused in this order: `NoViewers`; `TooManyViewers`, more than 16 stages; `Memory`, where it was
+/// refused to the log, or to the lists of viewers, packets and snapshots. The buffer is then as it
+/// was.
+pub fn rehearse<B: Drop>(
+    alloc: Global,
+    stages: Vec<Stage<B>>,
+    mark: [u8; 32],
+    steps: &[Step],
+    out: &mut Vec<u8>,
+) -> Result<Rehearsal<B>, RehearseFault>
+    requires { AreFresh stages.items }
+    ensures none { length stages.items ≡ 0 → result ≡ Err RehearseFault.NoViewers }
+    ensures many { 16 < length stages.items → result ≡ Err RehearseFault.TooManyViewers }
+    ensures memory { 1 ≤ length stages.items → length stages.items ≤ 16
+        → IfErr result (λ fault. fault ≡ RehearseFault.Memory) }
+    ensures err { OnErr result (out.new.items ≡ out.old.items) }
+    // The answers are those of the calls, and of stages of one scene those of a run of the network.
+    ensures rehearsed { IfOk result (λ r. IsRehearsed mark stages.items steps.now out.old.items
+        out.new.items r.host r.viewers.items) }
+{
+    let count = stages.len();
+    if count == 0 {
+        return Err(RehearseFault::NoViewers);
+    }
+    if count > MOST {
+        return Err(RehearseFault::TooManyViewers);
+    }
+    let mut nodes = begun(alloc, stages, mark)?;
+    log_all(alloc, &mut nodes, steps, out)?;
+    Ok(ended(nodes))
+}

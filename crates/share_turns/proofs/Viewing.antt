@@ -1,0 +1,43 @@
+-- Turns of a viewer, one after another.
+use Rattle.std.proofs.Common.{◌≡◌, ℕ, suc, ◌+◌, ◌<◌, Bool, List, refl, ap, subst, arith}
+use Rattle.std.specs.Prelude.{Option, Result, Ok, Err, slice_get}
+use Rattle.x3d_values.specs.declared.pointing.Point.{Point}
+use Rattle.cascade_core.specs.declared.world.WorldData.{WorldData}
+use Rattle.share_law.specs.Viewer.{View, Running, Spoiled}
+use Rattle.share_core.specs.Viewer.{IfRunning, IfSpoiled, ViewerView, machine_of, with_state}
+use Rattle.share_port.specs.declared.traffic.Traffic.{Traffic}
+use Rattle.share_turns.specs.declared.fault.TurnFault.{TurnFault}
+use Rattle.share_turns.specs.declared.fault.TurnFault.TheVariants as turn_fault
+use Rattle.share_turns.specs.ViewerTurn.{IsViewerTurn}
+use Rattle.share_turns.specs.Views.{IsTurnOf, ViewerTurns, applied_by, one_more_if}
+
+if_spoiled : (view : View WorldData) (P Q : Type 0) → (P → Q) → IfSpoiled view P → IfSpoiled view Q
+if_spoiled (Running w window) P Q f p = tt
+if_spoiled (Spoiled count) P Q f p = f p
+
+-- what viewer_turn ensures of a viewer that came of this one
+pub turn_of : (v x y : ViewerView) (host : ℕ) (point : Option Point) (a b : Option (List Traffic)) (result : Result Bool TurnFault)
+    → x ≡ with_state v x.state
+    → IfSpoiled x.state.view ((result ≡ Err turn_fault.Spoiled) × (y ≡ x) × (b ≡ a))
+    → IfRunning x.state.view (λ w. IsViewerTurn (machine_of x) x.mark x.who host point a b x.state result y.state)
+    → IsTurnOf (with_state v x.state) host point a b result y.state
+turn_of v x y host point a b result same spoiled turn =
+    subst (λ (z : ViewerView). IsTurnOf z host point a b result y.state) same (record {
+      spoiled = if_spoiled x.state.view ((result ≡ Err turn_fault.Spoiled) × (y ≡ x) × (b ≡ a)) ((result ≡ Err turn_fault.Spoiled) × (y.state ≡ x.state) × (b ≡ a))
+          (λ s. (s.0, ap (λ (z : ViewerView). z.state) s.1, s.2)) spoiled;
+      turn = turn;
+    })
+
+abbrev pub turned : Bool → Result Bool TurnFault
+turned did = Ok did
+
+-- one turn more
+pub viewed_more : (v x y : ViewerView) (host : ℕ) (points : List Point) (until n : ℕ) (a b c : Option (List Traffic)) (before : ℕ) (did : Bool)
+    → ViewerTurns v host points until n a b before x.state → x ≡ with_state v x.state → applied_by v x.state < until
+    → IfSpoiled x.state.view ((turned did ≡ Err turn_fault.Spoiled) × (y ≡ x) × (c ≡ b))
+    → IfRunning x.state.view (λ w. IsViewerTurn (machine_of x) x.mark x.who host (slice_get points before) b c x.state (Ok did) y.state)
+    → ViewerTurns v host points until (n + 1) a c (one_more_if did before) y.state
+viewed_more v x y host points until n a b c before did turns same few spoiled turn =
+    let next : suc n ≡ n + 1 = omega arith in
+    subst (λ k. ViewerTurns v host points until k a c (one_more_if did before) y.state) next
+    (b, before, x.state, did, turns, few, turn_of v x y host (slice_get points before) b c (Ok did) same spoiled turn, refl)

@@ -1,0 +1,362 @@
+//! A host and its viewers, each with a port of its own: rounds until all steps are issued and every
+//! viewer has applied them.
+
+ghost use Rattle.std.specs.Prelude.{◌≡◌, ◌⊎◌, ◌≤◌, ◌<◌, ◌+◌, ◌++◌, ◌^◌, ◌==◌, ◌&&◌, ◌||◌, IfOk};
+ghost use Rattle.std.specs.Prelude.{if◌then◌else◌, IfErr, OnOk, OnErr, length, slice_get, None};
+ghost use Rattle.x3d_lists.specs.Extends.{Extends};
+ghost use Rattle.share_law.specs.Viewer.{point_of};
+ghost use Rattle.share_turns.specs.Agreeing.{AreAgreed, IsAgreeEnd, IsAgreedText};
+ghost use Rattle.share_turns.specs.Agreeing.{IsAgreedTextFault};
+ghost use Rattle.share_turns.specs.Agreeing.{IsAgreeRunEnd, IsRoundOf, IsRoundEnd, IsSeatTurn};
+ghost use Rattle.share_turns.specs.Agreeing.{SeatTurns, SeatTurnsEnd};
+ghost use Rattle.share_turns.specs.Agreeing.{agreed_line, are_at, clock_at, clock_of, is_issued};
+ghost use Rattle.share_turns.specs.Agreeing.{offer_of, pointed_by};
+
+use crate::fault::{SeriesFault, TurnFault};
+use crate::host::host_turn;
+use crate::view::{one_more_if, push_texts};
+use crate::viewer::viewer_turn;
+use itoa::Buffer;
+use share_core::{Host, Viewer};
+use share_port::Port;
+use std::alloc::AllocError;
+use x3d_values::{Event, Point, Pointer, Stamped};
+
+fn clock_at(time: i64, event: Event) -> Option<i64>
+    ensures { result ≡ clock_at time event }
+{
+    match event {
+        Event::Clock => Some(time),
+        Event::Pointer(_) => None,
+    }
+}
+
+/// The time of a clock, which the host numbers itself.
+fn clock_of(step: &Option<Stamped>) -> Option<i64>
+    ensures { result ≡ clock_of step.now }
+{
+    match step {
+        Some(step) => clock_at(step.time(), step.event()),
+        None => None,
+    }
+}
+
+fn point_of(pointer: Pointer) -> Point
+    ensures { result ≡ point_of pointer }
+{
+    Point {
+        down: pointer.is_down(),
+        origin: pointer.ray().origin(),
+        dir: pointer.ray().dir(),
+    }
+}
+
+fn pointed_by(who: usize, event: Event) -> Option<Point>
+    ensures { result ≡ pointed_by who event }
+{
+    let Event::Pointer(pointer) = event else {
+        return None;
+    };
+    if usize::from(pointer.who()) == who {
+        Some(point_of(pointer))
+    } else {
+        None
+    }
+}
+
+/// The point of a step, where it is offered by this viewer.
+fn offer_of(step: &Option<Stamped>, who: usize) -> Option<Point>
+    ensures { result ≡ offer_of step.now who }
+{
+    match step {
+        Some(step) => pointed_by(who, step.event()),
+        None => None,
+    }
+}
+
+/// A turn of the viewer with this number.
+fn seat_turn<B, P: Port>(
+    viewers: &mut [Viewer<B>],
+    who: usize,
+    step: &Option<Stamped>,
+    host: u16,
+    ports: &mut [P],
+) -> Result<bool, TurnFault>
+    requires viewer { who < length viewers.old }
+    requires port { who < length ports.old }
+    ensures { IsSeatTurn (record { told = P.told; failures = P.failure_count }) step.now host who
+        (record { viewers = viewers.old; ports = ports.old }) result
+        (record { viewers = viewers.new; ports = ports.new }) }
+{
+    viewer_turn(
+        &mut viewers[who],
+        offer_of(step, who),
+        host,
+        &mut ports[who],
+    )
+}
+
+fn either(one: bool, other: bool) -> bool
+    ensures { result ≡ (one || other) }
+{
+    one || other
+}
+
+/// A turn of each viewer, and whether one of them offered its point.
+fn seat_turns<B, P: Port>(
+    viewers: &mut [Viewer<B>],
+    step: &Option<Stamped>,
+    host: u16,
+    ports: &mut [P],
+) -> Result<bool, TurnFault>
+    requires { length ports.old ≡ length viewers.old }
+    ensures ports { length ports.new ≡ length ports.old }
+    ensures done { IfOk result (λ offered.
+        SeatTurns (record { told = P.told; failures = P.failure_count }) step.now host
+        (length viewers.old) (record { viewers = viewers.old; ports = ports.old }) offered
+        (record { viewers = viewers.new; ports = ports.new })) }
+    ensures ended { IfErr result (λ fault.
+        SeatTurnsEnd (record { told = P.told; failures = P.failure_count }) step.now host
+        (record { viewers = viewers.old; ports = ports.old }) fault
+        (record { viewers = viewers.new; ports = ports.new })) }
+{
+    let mut offered = false;
+    for who in 0..viewers.len() {
+        let did = seat_turn(viewers, who, step, host, ports)?;
+        offered = either(offered, did);
+    }
+    Ok(offered)
+}
+
+/// Whether every viewer has applied so many inputs.
+fn are_at<B>(count: u32, viewers: &[Viewer<B>]) -> bool
+    ensures { result ≡ are_at count viewers.now }
+{
+    match viewers {
+        [] => true,
+        [viewer, others @ ..] => viewer.applied() == count && are_at(count, others),
+    }
+}
+
+/// Whether the host has numbered all that was issued, and every viewer has applied it.
+fn is_settled<B>(host: &Host, viewers: &[Viewer<B>], issued: u32) -> bool
+    ensures { result ≡ (length host.now.host.list == issued) && are_at issued viewers.now }
+{
+    host.len() == issued && are_at(issued, viewers)
+}
+
+/// Whether all steps are issued, and what came of them is settled.
+fn is_over(settled: bool, issued: u32, count: usize) -> bool
+    ensures { result ≡ (settled && (issued == count)) }
+{
+    settled && issued as usize == count
+}
+
+/// The step that is issued now.
+fn due(steps: &[Stamped], issued: u32, settled: bool) -> Option<Stamped>
+    ensures { result ≡ if settled then slice_get steps.now issued else None }
+{
+    if settled {
+        steps.get(issued as usize).copied()
+    } else {
+        None
+    }
+}
+
+/// Whether a step was issued.
+fn is_issued(step: &Option<Stamped>, offered: bool) -> bool
+    ensures { result ≡ is_issued step.now offered }
+{
+    offered || clock_of(step).is_some()
+}
+
+/// A turn of the host and one of each viewer, and whether the step was issued.
+fn round<B, P: Port>(
+    host: &mut Host,
+    viewers: &mut [Viewer<B>],
+    step: &Option<Stamped>,
+    own: u16,
+    port: &mut P,
+    ports: &mut [P],
+) -> Result<bool, TurnFault>
+    requires { length ports.old ≡ length viewers.old }
+    ensures mark { host.new.mark ≡ host.old.mark }
+    ensures viewers { length viewers.new ≡ length viewers.old }
+    ensures ports { length ports.new ≡ length ports.old }
+    ensures done { IfOk result (λ did.
+        IsRoundOf (record { told = P.told; failures = P.failure_count })
+        host.old.mark step.now own
+        (record {
+          host = host.old.host;
+          port = port.old;
+          seats = record { viewers = viewers.old; ports = ports.old };
+        }) did
+        (record {
+          host = host.new.host;
+          port = port.new;
+          seats = record { viewers = viewers.new; ports = ports.new };
+        })) }
+    ensures ended { IfErr result (λ fault.
+        IsRoundEnd (record { told = P.told; failures = P.failure_count })
+        host.old.mark step.now own
+        (record {
+          host = host.old.host;
+          port = port.old;
+          seats = record { viewers = viewers.old; ports = ports.old };
+        }) fault
+        (record {
+          host = host.new.host;
+          port = port.new;
+          seats = record { viewers = viewers.new; ports = ports.new };
+        })) }
+{
+    host_turn(host, clock_of(step), port)?;
+    let offered = seat_turns(viewers, step, own, ports)?;
+    Ok(is_issued(step, offered))
+}
+
+/// Rounds, `rounds` at most, until all steps are issued and every viewer has applied them. A round
+/// is a turn of the host and then one of each viewer, in the order of their numbers; in it the next
+/// step is issued, if what came of those before is applied everywhere: a clock by the host, a point
+/// by its viewer.
+///
+/// `TurnsUsedUp` where it isn't so after the last round. A turn that ends early ends the series.
+pub fn agree_until<B, P: Port>(
+    host: &mut Host,
+    viewers: &mut [Viewer<B>],
+    steps: &[Stamped],
+    rounds: u32,
+    own: u16,
+    port: &mut P,
+    ports: &mut [P],
+) -> Result<(), SeriesFault>
+    requires { length ports.old ≡ length viewers.old }
+    ensures mark { host.new.mark ≡ host.old.mark }
+    ensures viewers { length viewers.new ≡ length viewers.old }
+    ensures done { OnOk result (AreAgreed (record { told = P.told; failures = P.failure_count })
+        host.old.mark steps.now own rounds
+        (record {
+          host = host.old.host;
+          port = port.old;
+          seats = record { viewers = viewers.old; ports = ports.old };
+        })
+        (record {
+          host = host.new.host;
+          port = port.new;
+          seats = record { viewers = viewers.new; ports = ports.new };
+        })) }
+    ensures ended { IfErr result (λ fault.
+        IsAgreeEnd (record { told = P.told; failures = P.failure_count })
+        host.old.mark steps.now own rounds
+        (record {
+          host = host.old.host;
+          port = port.old;
+          seats = record { viewers = viewers.old; ports = ports.old };
+        }) fault
+        (record {
+          host = host.new.host;
+          port = port.new;
+          seats = record { viewers = viewers.new; ports = ports.new };
+        })) }
+{
+    let mut issued = 0;
+    for _round in 0..rounds {
+        let settled = is_settled(host, viewers, issued);
+        let over = is_over(settled, issued, steps.len());
+        if over {
+            return Ok(());
+        }
+        let step = due(steps, issued, settled);
+        issued = one_more_if(round(host, viewers, &step, own, port, ports)?, issued);
+    }
+    if is_over(is_settled(host, viewers, issued), issued, steps.len()) {
+        Ok(())
+    } else {
+        Err(SeriesFault::TurnsUsedUp)
+    }
+}
+
+/// Appends the line `agreed` with a count.
+fn push_line(count: usize, out: &mut Vec<u8>) -> Result<(), AllocError>
+    ensures ok { OnOk result (out.new.items ≡ out.old.items ++ agreed_line count) }
+    ensures kept { Extends out.old.items out.new.items }
+{
+    out.extend_from_slice(b"agreed ")?;
+    out.extend_from_slice(Buffer::new().format(count).as_bytes())?;
+    out.push(b'\n')?;
+    Ok(())
+}
+
+fn push_all<B>(count: usize, viewers: &[Viewer<B>], out: &mut Vec<u8>) -> Result<(), TurnFault>
+    requires { 1 ≤ length viewers.now }
+    ensures ok { OnOk result (IsAgreedText count viewers.now out.old.items out.new.items) }
+    ensures kept { Extends out.old.items out.new.items }
+    ensures fault { IfErr result (IsAgreedTextFault viewers.now) }
+{
+    push_line(count, out)?;
+    push_texts(&viewers[0], out)
+}
+
+/// Appends the line, and the texts of viewer 0; on a refusal the buffer is as it was.
+fn push_agreed<B>(count: usize, viewers: &[Viewer<B>], out: &mut Vec<u8>) -> Result<(), TurnFault>
+    requires { 1 ≤ length viewers.now }
+    ensures ok { OnOk result (IsAgreedText count viewers.now out.old.items out.new.items) }
+    ensures err { OnErr result (out.new.items ≡ out.old.items) }
+    ensures fault { IfErr result (IsAgreedTextFault viewers.now) }
+{
+    let len = out.len();
+    let pushed = push_all(count, viewers, out);
+    if pushed.is_err() {
+        out.truncate(len);
+    }
+    pushed
+}
+
+/// Rounds as by `agree_until`, and then `agreed`, how many inputs there are, and the trace and the
+/// scene of viewer 0, which are appended. On a fault the buffer is as it was.
+pub fn agree<B, P: Port>(
+    host: &mut Host,
+    viewers: &mut [Viewer<B>],
+    steps: &[Stamped],
+    rounds: u32,
+    own: u16,
+    port: &mut P,
+    ports: &mut [P],
+    out: &mut Vec<u8>,
+) -> Result<(), SeriesFault>
+    requires some { 1 ≤ length viewers.old }
+    requires ports { length ports.old ≡ length viewers.old }
+    ensures mark { host.new.mark ≡ host.old.mark }
+    ensures done { OnOk result (AreAgreed (record { told = P.told; failures = P.failure_count })
+        host.old.mark steps.now own rounds
+        (record {
+          host = host.old.host;
+          port = port.old;
+          seats = record { viewers = viewers.old; ports = ports.old };
+        })
+        (record {
+          host = host.new.host;
+          port = port.new;
+          seats = record { viewers = viewers.new; ports = ports.new };
+        })) }
+    ensures texts { OnOk result
+        (IsAgreedText (length steps.now) viewers.new out.old.items out.new.items) }
+    ensures ended { IfErr result (λ fault.
+        IsAgreeRunEnd (record { told = P.told; failures = P.failure_count })
+        host.old.mark steps.now own rounds
+        (record {
+          host = host.old.host;
+          port = port.old;
+          seats = record { viewers = viewers.old; ports = ports.old };
+        }) fault
+        (record {
+          host = host.new.host;
+          port = port.new;
+          seats = record { viewers = viewers.new; ports = ports.new };
+        })) }
+    ensures kept { OnErr result (out.new.items ≡ out.old.items) }
+{
+    agree_until(host, viewers, steps, rounds, own, port, ports)?;
+    push_agreed(steps.len(), viewers, out)?;
+    Ok(())
+}

@@ -1,0 +1,40 @@
+-- The program as `clap` has it: its commands, each with its options.
+use Rattle.std.specs.Prelude.{codes, true}
+use Rattle.clap.specs.Words.{App, new_app, with_rule, with_subcommand}
+use Rattle.clap.specs.Simple.{on_top}
+use Rattle.share_words.specs.Options.{viewers_rule, turns_rule, port_rule}
+
+-- the program without its commands: one of them has to be named, and all know `--version`
+unfoldable pub bare_program : App
+bare_program =
+    on_top (λ s. record s {
+      has_version = true;
+      propagate_version = true;
+      subcommand_required = true;
+      disable_help_subcommand = true;
+    })
+    (new_app (codes "x3d_share"))
+
+-- `run`, `format` and `check`, without options
+unfoldable pub run_app : App
+run_app = new_app (codes "run")
+
+unfoldable pub format_app : App
+format_app = new_app (codes "format")
+
+unfoldable pub check_app : App
+check_app = new_app (codes "check")
+
+-- `host --port P --viewers K --turns T`
+unfoldable pub host_app : App
+host_app =
+    with_rule (with_rule (with_rule (new_app (codes "host")) port_rule) viewers_rule) turns_rule
+
+-- the program with the commands that take no options, then all
+unfoldable pub single_program : App
+single_program =
+    with_subcommand (with_subcommand (with_subcommand bare_program run_app.top) format_app.top)
+    check_app.top
+
+unfoldable pub program : App
+program = with_subcommand single_program host_app.top

@@ -1,0 +1,29 @@
+-- The options of the commands, as `clap` has them: each has a name, a range, and a default or is required.
+use Rattle.std.specs.Prelude.{[], ◌∷◌, Some, codes, pos, true}
+use Rattle.clap.specs.Words.{Rule, Text, new_rule}
+use Rattle.clap.specs.declared.builder.value_parser.ValueParser.TheVariants.{Signed}
+
+-- `--NAME VALUE`
+abbrev pub option : Text → Rule
+option name = record (new_rule name) { long = Some name; value_names = 1 }
+
+-- `--viewers K`, from 1 to 16, by default 2
+abbrev pub viewers_rule : Rule
+viewers_rule = record (option (codes "viewers")) {
+  parser = Some (Signed (pos 1) (pos 16));
+  defaults = codes "2" ∷ [];
+}
+
+-- `--turns T`, from 1 to 10000000, by default 1000000
+abbrev pub turns_rule : Rule
+turns_rule = record (option (codes "turns")) {
+  parser = Some (Signed (pos 1) (pos 10000000));
+  defaults = codes "1000000" ∷ [];
+}
+
+-- `--port P`, from 1 to 65535, required
+abbrev pub port_rule : Rule
+port_rule = record (option (codes "port")) {
+  parser = Some (Signed (pos 1) (pos 65535));
+  required = true;
+}

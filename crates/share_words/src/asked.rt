@@ -1,0 +1,70 @@
+//! What a command with its options asks for.
+
+ghost use Rattle.std.specs.Prelude.{◌≡◌, ℕ, IfSome, IfNone, IsSomeAnd, codes};
+ghost use Rattle.clap.specs.Words.{rows_of, found_of, subcommand_rows_of};
+ghost use Rattle.share_words.specs.Words.{Asks, IsViewers, IsTurns, IsPort};
+ghost use Rattle.share_words.specs.declared.order.Order.{Order as OrderOf};
+
+use crate::numbers::number_in;
+use crate::order::Order;
+use clap::ArgMatches;
+
+fn viewers_in(found: &ArgMatches<'_>) -> Option<u8>
+    ensures some { IfSome result (λ n. IsViewers (rows_of (found_of found.now)) n) }
+    ensures none { IfNone result ((n : ℕ) → ¬ IsViewers (rows_of (found_of found.now)) n) }
+{
+    let viewers = number_in(found, "viewers", 1, 16)?;
+    Some(viewers as u8)
+}
+
+fn turns_in(found: &ArgMatches<'_>) -> Option<u32>
+    ensures some { IfSome result (λ n. IsTurns (rows_of (found_of found.now)) n) }
+    ensures none { IfNone result ((n : ℕ) → ¬ IsTurns (rows_of (found_of found.now)) n) }
+{
+    number_in(found, "turns", 1, 10_000_000)
+}
+
+fn port_in(found: &ArgMatches<'_>) -> Option<u16>
+    ensures some { IfSome result (λ n. IsPort (rows_of (found_of found.now)) n) }
+    ensures none { IfNone result ((n : ℕ) → ¬ IsPort (rows_of (found_of found.now)) n) }
+{
+    let port = number_in(found, "port", 1, 65535)?;
+    Some(port as u16)
+}
+
+fn host_in(found: &ArgMatches<'_>) -> Option<Order>
+    ensures some { IfSome result (λ o. Asks o (codes "host", rows_of (found_of found.now))) }
+    ensures none { IfNone result
+        ((o : OrderOf) → ¬ Asks o (codes "host", rows_of (found_of found.now))) }
+{
+    let Some(port) = port_in(found) else {
+        return None;
+    };
+    let Some(viewers) = viewers_in(found) else {
+        return None;
+    };
+    let Some(turns) = turns_in(found) else {
+        return None;
+    };
+    Some(Order::Host {
+        port,
+        viewers,
+        turns,
+    })
+}
+
+/// The order of the command that the matches have.
+pub fn order_in(matches: &ArgMatches<'_>) -> Option<Order>
+    ensures some { IfSome result (λ o. IsSomeAnd (subcommand_rows_of matches.now) (Asks o)) }
+    ensures none { IfNone result
+        ((o : OrderOf) → ¬ IsSomeAnd (subcommand_rows_of matches.now) (Asks o)) }
+{
+    let (name, found) = matches.subcommand()?;
+    match name {
+        "run" => Some(Order::Run),
+        "format" => Some(Order::Format),
+        "check" => Some(Order::Check),
+        "host" => host_in(found),
+        _ => None,
+    }
+}

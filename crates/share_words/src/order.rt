@@ -1,0 +1,43 @@
+//! What a command line asks for.
+
+ghost use Rattle.std.specs.Prelude.{◌≡◌};
+ghost use Rattle.std.specs.IoError.{error_kind};
+ghost use Rattle.share_words.specs.Words.{order_fault_of};
+
+use std::io;
+use thiserror::Error;
+
+/// A command with its numbers.
+#[derive(Clone, Copy, Debug, PartialEq, Eq)]
+pub enum Order {
+    /// `run`: the input is a job.
+    Run,
+    /// `format`: the input is a scene.
+    Format,
+    /// `check`: the input is a scene.
+    Check,
+    /// `host`: the input is a job of clocks; the port, 1 to 65,535, that is bound, 1 to
+    /// 16 viewers, 1 to 10,000,000 turns.
+    Host { port: u16, viewers: u8, turns: u32 },
+}
+
+/// Why words give no command.
+#[derive(Clone, Copy, Debug, PartialEq, Eq, Error)]
+pub enum OrderFault {
+    #[error("the words are no command")]
+    Words,
+    #[error("memory was refused")]
+    Memory,
+}
+
+/// Why the process's own words could not be had.
+impl From<io::Error> for OrderFault {
+    ghost from_gives = { λ error fault. fault ≡ order_fault_of (error_kind error) };
+
+    fn from(error: io::Error) -> OrderFault {
+        match error.kind() {
+            io::ErrorKind::OutOfMemory => OrderFault::Memory,
+            _ => OrderFault::Words,
+        }
+    }
+}
