@@ -3,4 +3,4 @@ mod Kept
 mod Openings
 mod Routes
 mod Typed
-mod Worlds
+pub mod Worlds

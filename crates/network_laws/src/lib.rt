@@ -1,0 +1,6 @@
+//! That the worlds of a network have snapshots, so that a viewer's own snapshot loads again.
+#![tactic(auto)]
+
+mod networks;
+
+pub use networks::saved_worlds_load_again;
