@@ -2,8 +2,8 @@
 //! is hit in their coordinates. A Box without a size reaches from -1 to 1 on each axis.
 
 use classic_text::read;
-use pick_core::{BoxCache, Hit, local_point, pick, sensors_of};
 use flat_document::Flat;
+use pick_core::{BoxCache, Hit, local_point, pick, sensors_of};
 use proto_walk::expand;
 use scene_core::Scene;
 use std::alloc::Global;

@@ -8,8 +8,8 @@ ghost use Rattle.route_core.specs.Resolved.{at_line, each_of, memory, without_re
 
 use crate::ends::route_of;
 use crate::fault::RouteFault;
-use indexmap::IndexSet;
 use flat_document::FlatRoute;
+use indexmap::IndexSet;
 use scene_core::{Route, Scene};
 use std::alloc::{AllocError, Global};
 use x3d_lists::Items;

@@ -10,9 +10,9 @@ ghost use Rattle.scene_core.specs.Labels as spec;
 ghost use Rattle.scene_core.specs.Labels.{known_of};
 
 use crate::scene::SceneNode;
+use flat_document::FlatNode;
 use indexmap::IndexMap;
 use itoa::Buffer;
-use flat_document::FlatNode;
 use std::alloc::{AllocError, AllocFailed, Global};
 use x3d_lists::{Duplicate, Text};
 
