@@ -1,7 +1,7 @@
 -- A turn adds to the trace a line for each output that sends, and each output sends once.
 use Rattle.std.proofs.Common.{◌≡◌, ℕ, ℤ, ◌+◌, Bool, true, false, not, ◌&&◌, ◌||◌, List, [], ◌∷◌, ◌++◌, ◌∙◌, ap, sym, refl, append_assoc}
 use Rattle.x3d_values.specs.Pointing.{Pointing}
-use Rattle.scene_core.specs.Scene.{SceneView, types_of}
+use Rattle.scene_core.specs.Scene.{SceneView, shapes_of, types_of}
 use Rattle.cascade_core.specs.declared.pointer.Inside.{Inside}
 use Rattle.x3d_values.specs.declared.stamped.Event.{Event}
 use Rattle.x3d_values.specs.declared.stamped.Event.TheVariants.{Clock, Pointer}
@@ -19,11 +19,11 @@ use Rattle.cascade_core.specs.Work.{all_differ, sources_of}
 use Rattle.cascade_core.proofs.Folds.{fold-keeps, all_free}
 use Rattle.cascade_core.proofs.Keeps.{send-keeps}
 use Rattle.cascade_core.proofs.Fuel.{same_end-is, same_end-self}
-use Rattle.x3d_values.specs.declared.node_type.NodeType.{NodeType}
 use Rattle.x3d_values.specs.declared.value.Value.{Value}
 use Rattle.react_core.specs.declared.outbox.Reply.{Reply}
 use Rattle.scene_core.specs.declared.scene.End.{End}
 use Rattle.scene_core.specs.declared.scene.Route.{Route}
+use Rattle.scene_core.specs.Shape.{Shape}
 use Rattle.cascade_core.specs.declared.world.TraceLine.{TraceLine}
 use Rattle.cascade_core.specs.declared.world.Turn.{Turn}
 
@@ -77,37 +77,37 @@ gain-record start turn source v h g =
 gain-state : (start : List TraceLine) (turn : Turn) (a : Answer) → IsGain start turn → IsGain start (with_answer turn a)
 gain-state start turn a g = record { lines = g.lines; gained = g.gained; sources = g.sources; differ = g.differ }
 
-module _ (kinds : List NodeType) (routes : List Route) (start : List TraceLine) where
-  gain-send : (depth : ℕ) (turn : Turn) (source : End) (v : Value) → IsGain start turn → IsGain start (send kinds routes depth turn source v)
-  gain-send depth turn source v g = send-keeps kinds routes (IsGain start) (gain-record start) (gain-state start) depth turn source v g
+module _ (shapes : List Shape) (routes : List Route) (start : List TraceLine) where
+  gain-send : (depth : ℕ) (turn : Turn) (source : End) (v : Value) → IsGain start turn → IsGain start (send shapes routes depth turn source v)
+  gain-send depth turn source v g = send-keeps shapes routes (IsGain start) (gain-record start) (gain-state start) depth turn source v g
 
-  gain-sends : (node : ℕ) (turn : Turn) (replies : List Reply) → IsGain start turn → IsGain start (send_all (send kinds routes (outputs_of kinds + 1)) node turn replies)
+  gain-sends : (node : ℕ) (turn : Turn) (replies : List Reply) → IsGain start turn → IsGain start (send_all (send shapes routes (outputs_of shapes + 1)) node turn replies)
   gain-sends node turn replies g =
       fold-keeps (IsGain start) (λ (r : Reply). Unit {0})
-      (λ (s : Turn) (r : Reply). send kinds routes (outputs_of kinds + 1) s (record { node = node; field = r.field }) r.value)
-      (λ s r q p. gain-send (outputs_of kinds + 1) s (record { node = node; field = r.field }) r.value p)
+      (λ (s : Turn) (r : Reply). send shapes routes (outputs_of shapes + 1) s (record { node = node; field = r.field }) r.value)
+      (λ s r q p. gain-send (outputs_of shapes + 1) s (record { node = node; field = r.field }) r.value p)
       turn replies (all_free replies) g
 
-  gain-node : (now : ℤ) (turn : Turn) (node : ℕ) → IsGain start turn → IsGain start (tick_node kinds routes now turn node)
+  gain-node : (now : ℤ) (turn : Turn) (node : ℕ) → IsGain start turn → IsGain start (tick_node shapes routes now turn node)
   unfolding tick_node
   gain-node now turn node g =
       let t = ticked turn.world node now in gain-sends node (with_answer turn t) t.replies (gain-state start turn t g)
-
-  pub gain-clock : (now : ℤ) (turn : Turn) → IsGain start turn → IsGain start (clock kinds routes now turn)
-  gain-clock now turn g =
-      fold-keeps (IsGain start) (λ (n : ℕ). Unit {0}) (tick_node kinds routes now) (λ t n q p. gain-node now t n p)
-      turn (clocks_of kinds) (all_free (clocks_of kinds)) g
 
   -- a turn that begins
   pub gain-begin : (turn : Turn) → turn.world.trace ≡ start → turn.sent ≡ [] → IsGain start turn
   gain-begin turn t s = record { lines = []; gained = t ∙ sym (append-nil start); sources = sym s; differ = rw s refl }
 
 module _ (scene : SceneView) (routes : List Route) (start : List TraceLine) where
+  gain-clock : (now : ℤ) (turn : Turn) → IsGain start turn → IsGain start (clock scene routes now turn)
+  gain-clock now turn g =
+      fold-keeps (IsGain start) (λ (n : ℕ). Unit {0}) (tick_node (shapes_of scene) routes now) (λ t n q p. gain-node (shapes_of scene) routes start now t n p)
+      turn (clocks_of (types_of scene)) (all_free (clocks_of (types_of scene))) g
+
   gain-touch : (p : Pointing) (before : Bool) (is : List Inside) (turn : Turn) (node : ℕ) → IsGain start turn → IsGain start (point_node scene routes p before is turn node)
   unfolding point_node
   gain-touch p before is turn node g =
       let a = met scene turn.world node p before (place_in is node) in
-      gain-sends (types_of scene) routes start node (with_answer turn a) a.replies (gain-state start turn a g)
+      gain-sends (shapes_of scene) routes start node (with_answer turn a) a.replies (gain-state start turn a g)
 
   gain-button : (turn : Turn) (p : Pointing) → IsGain start turn → IsGain start (with_button turn p)
   gain-button turn p g = record { lines = g.lines; gained = g.gained; sources = g.sources; differ = g.differ }
@@ -122,5 +122,5 @@ module _ (scene : SceneView) (routes : List Route) (start : List TraceLine) wher
       (with_button turn p) nodes (all_free nodes) (gain-button turn p g)
 
   pub gain-happen : (now : ℤ) (turn : Turn) (event : Event) → IsGain start turn → IsGain start (happen scene routes now turn event)
-  gain-happen now turn Clock g = gain-clock (types_of scene) routes start now turn g
+  gain-happen now turn Clock g = gain-clock now turn g
   gain-happen now turn (Pointer p) g = gain-point turn p g

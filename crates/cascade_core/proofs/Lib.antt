@@ -3,6 +3,7 @@ pub mod Sends
 pub mod Keeps
 pub mod Runs
 pub mod Turns
+pub mod Shapes
 pub mod Senders
 pub mod SensorReplies
 pub mod TouchReplies

@@ -1,5 +1,5 @@
 -- What nodes send leaves by outputs of the scene.
-use Rattle.std.proofs.Common.{◌≡◌, ℕ, ℤ, ◌+◌, ◌<◌, Bool, true, false, ◌&&◌, ◌||◌, List, [], ◌∷◌, zero, suc, refl, Option, Some, None, arith, map, length, eq-eqb, sym, rules, ◌∙◌, ap}
+use Rattle.std.proofs.Common.{◌≡◌, ℕ, ℤ, ◌+◌, ◌<◌, Bool, true, false, ◌&&◌, ◌||◌, List, [], ◌∷◌, ◌++◌, zero, suc, refl, Option, Some, None, arith, map, length, eq-eqb, sym, rules, ◌∙◌, ap}
 use Rattle.std.specs.Prelude.{◌==◌, slice_get, if◌then◌else◌}
 use Rattle.std.specs.Option.{option_map, option_map_or}
 use Rattle.std.specs.List.{list_any, filter, range_with_len, AllByRecursion}
@@ -14,26 +14,30 @@ use Rattle.x3d_values.specs.declared.value.Value.{Value}
 use Rattle.x3d_values.specs.Tables.{Entry, numbered, rows}
 use Rattle.x3d_values.specs.declared.table.FieldRow.{FieldRow}
 use Rattle.react_core.specs.declared.outbox.Reply.{Reply}
-use Rattle.react_core.specs.Access.{is_output, is_sender, leave_by_outputs}
+use Rattle.react_core.specs.Access.{is_sender, leave_by_outputs}
+use Rattle.react_core.specs.Access.{is_output as is_output_of_type}
 use Rattle.react_core.specs.Reaction.{is_time_sensor}
 use Rattle.sensor_core.specs.Timing.{Timing, timing_of}
 use Rattle.scene_core.specs.declared.scene.End.{End}
 use Rattle.cascade_core.specs.Ends.{has_sent, same_end}
+use Rattle.cascade_core.specs.Access.{is_set, is_output}
 use Rattle.cascade_core.specs.Outputs.{output_fields, ends_from, is_scene_output}
 use Rattle.x3d_values.specs.Pointing.{Pointing}
 use Rattle.x3d_values.specs.declared.vector.Vec3.{Vec3}
-use Rattle.scene_core.specs.Scene.{SceneView, types_of}
+use Rattle.scene_core.specs.Scene.{SceneView, shapes_of, types_of}
+use Rattle.scene_core.specs.Shape.{Shape, rows_of}
 use Rattle.pick_core.specs.Sensors.{is_enabled, is_enabled_as}
-use Rattle.cascade_core.specs.Answers.{answer, answer_as, is_touch_sensor, meeting, met, nothing, reacting, setting, setting_at, ticked, ticking, ticking_at, touching}
+use Rattle.cascade_core.specs.Answers.{answer, answer_as, answer_by, is_script, is_touch_sensor, keeping, meeting, met, not_run, nothing, reacting, setting, setting_at, ticked, ticking, ticking_at, touching}
 use Rattle.cascade_core.specs.Nodes.{is_clock}
-use Rattle.cascade_core.proofs.Senders.{reaction-leaves}
+use Rattle.cascade_core.proofs.Shapes.{HasShape, shape_at}
+use Rattle.cascade_core.proofs.Senders.{kept-sends, reaction-leaves}
 use Rattle.cascade_core.proofs.SensorReplies.{set-leaves, tick-leaves}
 use Rattle.cascade_core.proofs.TouchReplies.{meeting-leaves, touching-leaves}
 use Rattle.cascade_core.specs.declared.world.WorldData.{WorldData}
 
 -- all of these are sent by outputs of the scene
-abbrev pub AllOutputs : List NodeType → ℕ → List Reply → Type 0
-AllOutputs kinds node replies = AllByRecursion (λ (r : Reply). is_scene_output kinds (record { node = node; field = r.field }) ≡ true) replies
+abbrev pub AllOutputs : List Shape → ℕ → List Reply → Type 0
+AllOutputs shapes node replies = AllByRecursion (λ (r : Reply). is_scene_output shapes (record { node = node; field = r.field }) ≡ true) replies
 
 or_left : (a b : Bool) → a ≡ true → (a || b) ≡ true
 or_left a b h = rw h refl
@@ -70,17 +74,27 @@ slice_get_some [] i n = absurd (n refl)
 slice_get_some (x ∷ xs) zero n = omega arith
 slice_get_some (x ∷ xs) (suc i) n = omega (arith, slice_get_some xs i n)
 
--- a field of the table has a number below the number of rows
-output-below : (kind : NodeType) (field : ℕ) → is_output kind field ≡ true → field < length (rows kind)
-output-below kind field h = within (rows kind) field h
+-- a field of a node has a number below the number of its rows
+output-below : (shape : Shape) (field : ℕ) → is_output shape field ≡ true → field < length (rows_of shape)
+output-below shape field h = within (rows_of shape) h
   where
-    within : (es : List Entry) (field : ℕ) → option_map_or (λ (row : FieldRow). is_sender row.access) (option_map (numbered field) (slice_get es field)) false ≡ true → field < length es
-    within es field h = slice_get_some es field (λ k. let no : option_map_or (λ (row : FieldRow). is_sender row.access) (option_map (numbered field) (slice_get es field)) false ≡ false = rw k refl in cc)
+    within : (es : List Entry) → option_map_or (λ (e : Entry). is_sender e.access) (slice_get es field) false ≡ true → field < length es
+    within es h = slice_get_some es field (λ k. let no : option_map_or (λ (e : Entry). is_sender e.access) (slice_get es field) false ≡ false = rw k refl in cc)
 
-output-listed : (kind : NodeType) (field : ℕ) → is_output kind field ≡ true → list_any (λ g. g == field) (output_fields kind) ≡ true
+output-listed : (shape : Shape) (field : ℕ) → is_output shape field ≡ true → list_any (λ g. g == field) (output_fields shape) ≡ true
 unfolding output_fields
-output-listed kind field h =
-    filtered-has (is_output kind) 0 (length (rows kind)) field field (sym (zero-add field)) (output-below kind field h) h
+output-listed shape field h =
+    filtered-has (is_output shape) 0 (length (rows_of shape)) field field (sym (zero-add field)) (output-below shape field h) h
+
+-- a node sends by the outputs of its type, whatever it declares
+typed-output : (shape : Shape) (field : ℕ) → is_output_of_type shape.node_type field ≡ true → is_output shape field ≡ true
+typed-output shape field h = front (rows shape.node_type) field field h
+  where
+    front : (es : List Entry) (n i : ℕ) → option_map_or (λ (row : FieldRow). is_sender row.access) (option_map (numbered n) (slice_get es i)) false ≡ true →
+        option_map_or (λ (e : Entry). is_sender e.access) (slice_get (es ++ shape.declared) i) false ≡ true
+    front [] n i h = cc
+    front (e ∷ es) n zero h = h
+    front (e ∷ es) n (suc i) h = front es n i h
 
 same_node : (n field : ℕ) (fields : List ℕ) → list_any (λ g. g == field) fields ≡ true →
     list_any (λ e. same_end e (record { node = n; field = field })) (map (λ (g : ℕ). record { node = n; field = g }) fields) ≡ true
@@ -88,24 +102,35 @@ same_node n field [] h = h
 same_node n field (g ∷ fields) h = rw (eq-eqb n n refl) (either (g == field) _ _ h (λ k. same_node n field fields k))
 
 -- an output of a node is one of the scene's
-ends_from-has : (n : ℕ) (kinds : List NodeType) (i : ℕ) (kind : NodeType) (field : ℕ) → slice_get kinds i ≡ Some kind →
-    list_any (λ g. g == field) (output_fields kind) ≡ true → has_sent (ends_from n kinds) (record { node = n + i; field = field }) ≡ true
+ends_from-has : (n : ℕ) (shapes : List Shape) (i : ℕ) (shape : Shape) (field : ℕ) → slice_get shapes i ≡ Some shape →
+    list_any (λ g. g == field) (output_fields shape) ≡ true → has_sent (ends_from n shapes) (record { node = n + i; field = field }) ≡ true
 unfolding ends_from
-ends_from-has n [] i kind field h m = cc
-ends_from-has n (k ∷ ks) zero kind field h m =
-    let e : k ≡ kind = cc in
-    let m' : list_any (λ g. g == field) (output_fields k) ≡ true = rw e m in
-    rw (add-zero, list_any-append) (or_left _ _ (same_node n field (output_fields k) m'))
-ends_from-has n (k ∷ ks) (suc i) kind field h m =
+ends_from-has n [] i shape field h m = cc
+ends_from-has n (s ∷ ss) zero shape field h m =
+    let e : s ≡ shape = cc in
+    let m' : list_any (λ g. g == field) (output_fields s) ≡ true = rw e m in
+    rw (add-zero, list_any-append) (or_left _ _ (same_node n field (output_fields s) m'))
+ends_from-has n (s ∷ ss) (suc i) shape field h m =
     let e : n + suc i ≡ (n + 1) + i = omega arith in
-    rw (e, list_any-append) (or_right _ _ (ends_from-has (n + 1) ks i kind field h m))
+    rw (e, list_any-append) (or_right _ _ (ends_from-has (n + 1) ss i shape field h m))
 
--- the replies of a node of the scene are sent by outputs of the scene
-all_outputs : (kinds : List NodeType) (node : ℕ) (kind : NodeType) → slice_get kinds node ≡ Some kind → (replies : List Reply) → leave_by_outputs kind replies ≡ true → AllOutputs kinds node replies
-all_outputs kinds node kind h [] all = tt
-all_outputs kinds node kind h (r ∷ replies) all =
-    let (one, rest) = and_both (is_output kind r.field) (leave_by_outputs kind replies) all in
-    (rw (zero-add node) at (ends_from-has 0 kinds node kind r.field h (output-listed kind r.field one)), all_outputs kinds node kind h replies rest)
+-- what a node sends by an output is sent by one of the scene's
+one_output : (shapes : List Shape) (node : ℕ) (shape : Shape) (field : ℕ) → slice_get shapes node ≡ Some shape → is_output shape field ≡ true →
+    is_scene_output shapes (record { node = node; field = field }) ≡ true
+one_output shapes node shape field h o = rw (zero-add node) at (ends_from-has 0 shapes node shape field h (output-listed shape field o))
+
+-- the replies of a node of the scene that leave by outputs of its type are sent by outputs of the scene
+all_outputs : (shapes : List Shape) (node : ℕ) (shape : Shape) → slice_get shapes node ≡ Some shape → (replies : List Reply) → leave_by_outputs shape.node_type replies ≡ true →
+    AllOutputs shapes node replies
+all_outputs shapes node shape h [] all = tt
+all_outputs shapes node shape h (r ∷ replies) all =
+    let (one, rest) = and_both (is_output_of_type shape.node_type r.field) (leave_by_outputs shape.node_type replies) all in
+    (one_output shapes node shape r.field h (typed-output shape r.field one), all_outputs shapes node shape h replies rest)
+
+-- the same of a node whose type is known
+all_by : (shapes : List Shape) (node : ℕ) (shape : Shape) (kind : NodeType) → slice_get shapes node ≡ Some shape → shape.node_type ≡ kind → (replies : List Reply) →
+    leave_by_outputs kind replies ≡ true → AllOutputs shapes node replies
+all_by shapes node shape kind h is replies all = all_outputs shapes node shape h replies (rw is all)
 
 sensor_is : (kind : NodeType) → is_time_sensor kind ≡ true → kind ≡ TimeSensor
 sensor_is kind h = same_true the_type (search rules) _ _ h
@@ -115,64 +140,94 @@ touch_is kind h = same_true the_type (search rules) _ _ h
 
 -- ---- an event
 
-reacting-sends : (kinds : List NodeType) (w : WorldData) (target : End) (v : Value) (kind : NodeType) (fields : Option Fields) → slice_get kinds target.node ≡ Some kind →
-    AllOutputs kinds target.node (reacting w target v kind fields).replies
-reacting-sends kinds w target v kind None h = tt
-reacting-sends kinds w target v kind (Some fields) h = all_outputs kinds target.node kind h _ (reaction-leaves kind fields target.field v w.last_time)
+reacting-sends : (shapes : List Shape) (w : WorldData) (target : End) (v : Value) (shape : Shape) (fields : Option Fields) → slice_get shapes target.node ≡ Some shape →
+    AllOutputs shapes target.node (reacting w target v shape.node_type fields).replies
+reacting-sends shapes w target v shape None h = tt
+reacting-sends shapes w target v shape (Some fields) h = all_outputs shapes target.node shape h _ (reaction-leaves shape.node_type fields target.field v w.last_time)
 
-setting-sends : (kinds : List NodeType) (w : WorldData) (target : End) (v : Value) (fields : Fields) (timing : Option Timing) (cycle : Option (Option ℕ)) →
-    slice_get kinds target.node ≡ Some TimeSensor → AllOutputs kinds target.node (setting w target v fields timing cycle).replies
-setting-sends kinds w target v fields None cycle h = tt
-setting-sends kinds w target v fields (Some timing) None h = tt
-setting-sends kinds w target v fields (Some timing) (Some cycle) h = all_outputs kinds target.node TimeSensor h _ (set-leaves cycle timing target.field v)
+-- a Script that isn't run sends by the field that the event comes to, which is an inputOutput one
+not_run-sends : (shapes : List Shape) (w : WorldData) (target : End) (v : Value) (shape : Shape) (fields : Option Fields) → slice_get shapes target.node ≡ Some shape →
+    AllOutputs shapes target.node (not_run w target v (slice_get (rows_of shape) target.field) fields).replies
+not_run-sends shapes w target v shape None h = tt
+not_run-sends shapes w target v shape (Some fields) h = kept (is_set v (slice_get (rows_of shape) target.field)) refl
+  where
+    kept : (b : Bool) → is_set v (slice_get (rows_of shape) target.field) ≡ b → AllOutputs shapes target.node (if b then keeping w target v fields else nothing w).replies
+    kept true is = (one_output shapes target.node shape target.field h (kept-sends v (slice_get (rows_of shape) target.field) is), tt)
+    kept false is = tt
 
-setting_at-sends : (kinds : List NodeType) (w : WorldData) (target : End) (v : Value) (fields : Option Fields) → slice_get kinds target.node ≡ Some TimeSensor →
-    AllOutputs kinds target.node (setting_at w target v fields).replies
-setting_at-sends kinds w target v None h = tt
-setting_at-sends kinds w target v (Some fields) h = setting-sends kinds w target v fields (timing_of fields) (slice_get w.sensors target.node) h
+setting-sends : (shapes : List Shape) (w : WorldData) (target : End) (v : Value) (shape : Shape) (fields : Fields) (timing : Option Timing) (cycle : Option (Option ℕ)) →
+    slice_get shapes target.node ≡ Some shape → shape.node_type ≡ TimeSensor → AllOutputs shapes target.node (setting w target v fields timing cycle).replies
+setting-sends shapes w target v shape fields None cycle h is = tt
+setting-sends shapes w target v shape fields (Some timing) None h is = tt
+setting-sends shapes w target v shape fields (Some timing) (Some cycle) h is =
+    all_by shapes target.node shape TimeSensor h is _ (set-leaves cycle timing target.field v)
+
+setting_at-sends : (shapes : List Shape) (w : WorldData) (target : End) (v : Value) (shape : Shape) (fields : Option Fields) → slice_get shapes target.node ≡ Some shape →
+    shape.node_type ≡ TimeSensor → AllOutputs shapes target.node (setting_at w target v fields).replies
+setting_at-sends shapes w target v shape None h is = tt
+setting_at-sends shapes w target v shape (Some fields) h is = setting-sends shapes w target v shape fields (timing_of fields) (slice_get w.sensors target.node) h is
 
 -- what a node answers is sent by outputs of the scene
-pub answer-sends : (kinds : List NodeType) (w : WorldData) (target : End) (v : Value) → AllOutputs kinds target.node (answer kinds w target v).replies
+pub answer-sends : (shapes : List Shape) (w : WorldData) (target : End) (v : Value) → AllOutputs shapes target.node (answer shapes w target v).replies
 unfolding answer
-answer-sends kinds w target v = by_kind (slice_get kinds target.node) refl
+answer-sends shapes w target v = by_shape (slice_get shapes target.node) refl
   where
-    other : (kind : NodeType) → slice_get kinds target.node ≡ Some kind → (b : Bool) → is_touch_sensor kind ≡ b →
-        AllOutputs kinds target.node (if b then touching w target v (slice_get w.fields target.node) else reacting w target v kind (slice_get w.fields target.node)).replies
-    other kind h true is = all_outputs kinds target.node TouchSensor (h ∙ ap Some (touch_is kind is)) _ (touching-leaves w target v (slice_get w.fields target.node))
-    other kind h false is = reacting-sends kinds w target v kind (slice_get w.fields target.node) h
+    other : (shape : Shape) → slice_get shapes target.node ≡ Some shape → (b : Bool) →
+        AllOutputs shapes target.node (if b
+        then not_run w target v (slice_get (rows_of shape) target.field) (slice_get w.fields target.node)
+        else reacting w target v shape.node_type (slice_get w.fields target.node)).replies
+    other shape h true = not_run-sends shapes w target v shape (slice_get w.fields target.node) h
+    other shape h false = reacting-sends shapes w target v shape (slice_get w.fields target.node) h
 
-    by_rule : (kind : NodeType) → slice_get kinds target.node ≡ Some kind → (b : Bool) → is_time_sensor kind ≡ b →
-        AllOutputs kinds target.node (if b
+    by_touch : (shape : Shape) → slice_get shapes target.node ≡ Some shape → (b : Bool) → is_touch_sensor shape.node_type ≡ b →
+        AllOutputs shapes target.node (if b
+        then touching w target v (slice_get w.fields target.node)
+        else (if is_script shape.node_type
+        then not_run w target v (slice_get (rows_of shape) target.field) (slice_get w.fields target.node)
+        else reacting w target v shape.node_type (slice_get w.fields target.node))).replies
+    by_touch shape h true is =
+        all_by shapes target.node shape TouchSensor h (touch_is shape.node_type is) _ (touching-leaves w target v (slice_get w.fields target.node))
+    by_touch shape h false is = other shape h (is_script shape.node_type)
+
+    by_time : (shape : Shape) → slice_get shapes target.node ≡ Some shape → (b : Bool) → is_time_sensor shape.node_type ≡ b →
+        AllOutputs shapes target.node (if b
         then setting_at w target v (slice_get w.fields target.node)
-        else (if is_touch_sensor kind then touching w target v (slice_get w.fields target.node) else reacting w target v kind (slice_get w.fields target.node))).replies
-    by_rule kind h true is = setting_at-sends kinds w target v (slice_get w.fields target.node) (h ∙ ap Some (sensor_is kind is))
-    by_rule kind h false is = other kind h (is_touch_sensor kind) refl
+        else (if is_touch_sensor shape.node_type
+        then touching w target v (slice_get w.fields target.node)
+        else (if is_script shape.node_type
+        then not_run w target v (slice_get (rows_of shape) target.field) (slice_get w.fields target.node)
+        else reacting w target v shape.node_type (slice_get w.fields target.node)))).replies
+    by_time shape h true is = setting_at-sends shapes w target v shape (slice_get w.fields target.node) h (sensor_is shape.node_type is)
+    by_time shape h false is = by_touch shape h (is_touch_sensor shape.node_type) refl
 
-    by_kind : (kind : Option NodeType) → slice_get kinds target.node ≡ kind → AllOutputs kinds target.node (answer_as w target v kind).replies
-    by_kind None h = tt
-    by_kind (Some kind) h = by_rule kind h (is_time_sensor kind) refl
+    by_shape : (shape : Option Shape) → slice_get shapes target.node ≡ shape → AllOutputs shapes target.node (answer_as w target v shape).replies
+    by_shape None h = tt
+    by_shape (Some shape) h = by_time shape h (is_time_sensor shape.node_type) refl
 
 -- ---- a tick
 
-ticking-sends : (kinds : List NodeType) (w : WorldData) (node : ℕ) (now : ℤ) (timing : Option Timing) (cycle : Option (Option ℕ)) →
-    slice_get kinds node ≡ Some TimeSensor → AllOutputs kinds node (ticking w node now timing cycle).replies
-ticking-sends kinds w node now None cycle h = tt
-ticking-sends kinds w node now (Some timing) None h = tt
-ticking-sends kinds w node now (Some timing) (Some cycle) h = all_outputs kinds node TimeSensor h _ (tick-leaves cycle timing now)
+ticking-sends : (scene : SceneView) (w : WorldData) (node : ℕ) (now : ℤ) (timing : Option Timing) (cycle : Option (Option ℕ)) →
+    HasShape scene node TimeSensor → AllOutputs (shapes_of scene) node (ticking w node now timing cycle).replies
+ticking-sends scene w node now None cycle h = tt
+ticking-sends scene w node now (Some timing) None h = tt
+ticking-sends scene w node now (Some timing) (Some cycle) h = all_by (shapes_of scene) node h.shape TimeSensor h.at h.is _ (tick-leaves cycle timing now)
 
-ticking_at-sends : (kinds : List NodeType) (w : WorldData) (node : ℕ) (now : ℤ) (fields : Option Fields) → slice_get kinds node ≡ Some TimeSensor →
-    AllOutputs kinds node (ticking_at w node now fields).replies
-ticking_at-sends kinds w node now None h = tt
-ticking_at-sends kinds w node now (Some fields) h = ticking-sends kinds w node now (timing_of fields) (slice_get w.sensors node) h
+ticking_at-sends : (scene : SceneView) (w : WorldData) (node : ℕ) (now : ℤ) (fields : Option Fields) →
+    HasShape scene node TimeSensor → AllOutputs (shapes_of scene) node (ticking_at w node now fields).replies
+ticking_at-sends scene w node now None h = tt
+ticking_at-sends scene w node now (Some fields) h = ticking-sends scene w node now (timing_of fields) (slice_get w.sensors node) h
 
 clock_is : (kinds : List NodeType) (node : ℕ) (kind : Option NodeType) → slice_get kinds node ≡ kind → option_map_or is_time_sensor kind false ≡ true → slice_get kinds node ≡ Some TimeSensor
 clock_is kinds node None h is = cc
 clock_is kinds node (Some kind) h is = h ∙ ap Some (sensor_is kind is)
 
 -- what a time sensor sends at a tick is sent by outputs of the scene
-pub ticked-sends : (kinds : List NodeType) (w : WorldData) (node : ℕ) (now : ℤ) → is_clock kinds node ≡ true → AllOutputs kinds node (ticked w node now).replies
+pub ticked-sends : (scene : SceneView) (w : WorldData) (node : ℕ) (now : ℤ) → is_clock (types_of scene) node ≡ true →
+    AllOutputs (shapes_of scene) node (ticked w node now).replies
 unfolding ticked
-ticked-sends kinds w node now h = ticking_at-sends kinds w node now (slice_get w.fields node) (clock_is kinds node (slice_get kinds node) refl h)
+ticked-sends scene w node now h =
+    ticking_at-sends scene w node now (slice_get w.fields node)
+    (shape_at scene node TimeSensor (clock_is (types_of scene) node (slice_get (types_of scene) node) refl h))
 
 -- ---- a pointer
 
@@ -182,13 +237,14 @@ enabled_is _ own h = cc
 
 -- what a touch sensor sends at a pointer is sent by outputs of the scene
 pub met-sends : (scene : SceneView) (w : WorldData) (node : ℕ) (p : Pointing) (before : Bool) (place : Option Vec3) →
-    AllOutputs (types_of scene) node (met scene w node p before place).replies
+    AllOutputs (shapes_of scene) node (met scene w node p before place).replies
 unfolding met is_enabled
 met-sends scene w node p before place = cases (is_enabled scene w.fields node) refl
   where
+    touch : HasShape scene node TouchSensor → AllOutputs (shapes_of scene) node (meeting w node p before place (slice_get w.touches node)).replies
+    touch h = all_by (shapes_of scene) node h.shape TouchSensor h.at h.is _ (meeting-leaves w node p before place (slice_get w.touches node))
+
     cases : (b : Bool) → is_enabled_as (slice_get (types_of scene) node) (slice_get w.fields node) ≡ b →
-        AllOutputs (types_of scene) node (if b then meeting w node p before place (slice_get w.touches node) else nothing w).replies
-    cases true is =
-        all_outputs (types_of scene) node TouchSensor (enabled_is (slice_get (types_of scene) node) (slice_get w.fields node) is) _
-        (meeting-leaves w node p before place (slice_get w.touches node))
+        AllOutputs (shapes_of scene) node (if b then meeting w node p before place (slice_get w.touches node) else nothing w).replies
+    cases true is = touch (shape_at scene node TouchSensor (enabled_is (slice_get (types_of scene) node) (slice_get w.fields node) is))
     cases false is = tt

@@ -10,6 +10,7 @@ use Rattle.x3d_values.specs.declared.node_type.NodeType.TheVariants.{ScalarInter
 use Rattle.x3d_values.specs.declared.table.FieldRow.{FieldRow}
 use Rattle.x3d_values.specs.declared.value.Value.{Value}
 use Rattle.x3d_values.specs.declared.value.Value.TheVariants.{SFBool, SFInt32, SFTime}
+use Rattle.x3d_values.specs.Tables.{Entry}
 use Rattle.x3d_values.specs.Values.{type_of}
 use Rattle.react_core.specs.declared.sequence.Step.{Step}
 use Rattle.react_core.specs.Sequence.{step_after}
@@ -37,6 +38,13 @@ exposed-sends InputOutput b h = refl
 exposed-sends InputOnly b h = cc
 exposed-sends OutputOnly b h = refl
 exposed-sends InitializeOnly b h = cc
+
+-- a field that an event sets is one that the node sends by
+pub kept-sends : (value : Value) (row : Option Entry) →
+    option_map_or (λ (row : Entry). is_exposed row.access && (are_same row.field_type (type_of value) && not (names_nodes value))) row false ≡ true →
+    option_map_or (λ (row : Entry). is_sender row.access) row false ≡ true
+kept-sends value None h = h
+kept-sends value (Some row) h = exposed-sends row.access (are_same row.field_type (type_of value) && not (names_nodes value)) h
 
 kept-is_output : (value : Value) (row : Option FieldRow) →
     option_map_or (λ (row : FieldRow). is_exposed row.access && (are_same row.field_type (type_of value) && not (names_nodes value))) row false ≡ true →

@@ -5,17 +5,20 @@ use Rattle.x3d_values.specs.declared.fields.Fields.{Fields}
 use Rattle.x3d_values.specs.declared.node_type.NodeType.{NodeType}
 use Rattle.x3d_values.specs.declared.node_type.NodeType.TheVariants as type
 use Rattle.x3d_values.specs.declared.value.Value.{Value}
+use Rattle.x3d_values.specs.Tables.{Entry}
 use Rattle.react_core.specs.Reaction.{is_time_sensor}
 use Rattle.sensor_core.specs.Timing.{Timing, timing_of}
 use Rattle.sensor_core.specs.Touches.{Touch}
 use Rattle.x3d_values.specs.Pointing.{Pointing}
 use Rattle.x3d_values.specs.declared.vector.Vec3.{Vec3}
-use Rattle.scene_core.specs.Scene.{SceneView, types_of}
+use Rattle.scene_core.specs.Scene.{SceneView, shapes_of, types_of}
+use Rattle.scene_core.specs.Shape.{Shape, rows_of as shape_rows}
 use Rattle.scene_core.specs.declared.scene.End.{End}
 use Rattle.pick_core.specs.Sensors.{is_enabled}
 use Rattle.pick_core.specs.Sites.{IsSameBut, rows_of}
 use Rattle.pick_core.proofs.Alike.{alike_but, alike_rows}
-use Rattle.cascade_core.specs.Answers.{Answer, answer, answer_as, forgetting, is_touch_sensor, meeting, met, nothing, reacting, setting, setting_at, ticked, ticking, ticking_at, touching, turns_off}
+use Rattle.cascade_core.specs.Access.{is_set}
+use Rattle.cascade_core.specs.Answers.{Answer, answer, answer_as, answer_by, forgetting, is_script, is_touch_sensor, keeping, meeting, met, not_run, nothing, reacting, setting, setting_at, ticked, ticking, ticking_at, touching, turns_off}
 use Rattle.cascade_core.specs.Nodes.{moves_boxes}
 use Rattle.cascade_core.specs.declared.world.WorldData.{WorldData}
 
@@ -57,23 +60,36 @@ touching-same : (w : WorldData) (target : End) (v : Value) (fields : Option Fiel
 touching-same w target v fields k n =
     reacting-same w target v type.TouchSensor fields k n ∙ ap (λ (fs : List Fields). slice_get fs k) (sym (touching-fields w target v fields))
 
-pub answer-same : (kinds : List NodeType) (w : WorldData) (target : End) (v : Value) → IsSameBut target.node w.fields (answer kinds w target v).fields
-unfolding answer
-answer-same kinds w target v = by_kind (slice_get kinds target.node)
+not_run-same : (w : WorldData) (target : End) (v : Value) (field : Option Entry) (fields : Option Fields) → IsSameBut target.node w.fields (not_run w target v field fields).fields
+not_run-same w target v field None k n = refl
+not_run-same w target v field (Some fields) k n = kept (is_set v field)
   where
-    other : (kind : NodeType) (b : Bool) → IsSameBut target.node w.fields (if b then touching w target v (slice_get w.fields target.node) else reacting w target v kind (slice_get w.fields target.node)).fields
-    other kind true k n = touching-same w target v (slice_get w.fields target.node) k n
-    other kind false k n = reacting-same w target v kind (slice_get w.fields target.node) k n
+    kept : (b : Bool) → slice_get w.fields k ≡ slice_get (if b then keeping w target v fields else nothing w).fields k
+    kept true = set_other w.fields target.node _ k n
+    kept false = refl
 
-    by_rule : (kind : NodeType) (b : Bool) → IsSameBut target.node w.fields (if b
+answer_by-same : (w : WorldData) (target : End) (v : Value) (kind : NodeType) (field : Option Entry) → IsSameBut target.node w.fields (answer_by w target v kind field).fields
+answer_by-same w target v kind field k n = by_time (is_time_sensor kind) (is_touch_sensor kind) (is_script kind)
+  where
+    by_time : (time touch script : Bool) → slice_get w.fields k ≡ slice_get (if time
         then setting_at w target v (slice_get w.fields target.node)
-        else (if is_touch_sensor kind then touching w target v (slice_get w.fields target.node) else reacting w target v kind (slice_get w.fields target.node))).fields
-    by_rule kind true k n = setting_at-same w target v (slice_get w.fields target.node) k n
-    by_rule kind false k n = other kind (is_touch_sensor kind) k n
+        else (if touch
+        then touching w target v (slice_get w.fields target.node)
+        else (if script
+        then not_run w target v field (slice_get w.fields target.node)
+        else reacting w target v kind (slice_get w.fields target.node)))).fields k
+    by_time true touch script = setting_at-same w target v (slice_get w.fields target.node) k n
+    by_time false true script = touching-same w target v (slice_get w.fields target.node) k n
+    by_time false false true = not_run-same w target v field (slice_get w.fields target.node) k n
+    by_time false false false = reacting-same w target v kind (slice_get w.fields target.node) k n
 
-    by_kind : (kind : Option NodeType) → IsSameBut target.node w.fields (answer_as w target v kind).fields
-    by_kind None k n = refl
-    by_kind (Some kind) k n = by_rule kind (is_time_sensor kind) k n
+pub answer-same : (shapes : List Shape) (w : WorldData) (target : End) (v : Value) → IsSameBut target.node w.fields (answer shapes w target v).fields
+unfolding answer
+answer-same shapes w target v = by_shape (slice_get shapes target.node)
+  where
+    by_shape : (shape : Option Shape) → IsSameBut target.node w.fields (answer_as w target v shape).fields
+    by_shape None k n = refl
+    by_shape (Some shape) k n = answer_by-same w target v shape.node_type (slice_get (shape_rows shape) target.field) k n
 
 -- ---- a ray sees nothing of the fields of other nodes than Transforms and Switches
 
@@ -84,11 +100,11 @@ unmoved kind h = (λ e. not_moved type.Transform refl e, λ e. not_moved type.Sw
     not_moved t is e = let moved : moves_boxes kind ≡ true = rw e is in absurd (cc)
 
 pub answer-rows : (scene : SceneView) (w : WorldData) (target : End) (v : Value) → moves_boxes (slice_get (types_of scene) target.node) ≡ false →
-    rows_of scene w.fields ≡ rows_of scene (answer (types_of scene) w target v).fields
+    rows_of scene w.fields ≡ rows_of scene (answer (shapes_of scene) w target v).fields
 answer-rows scene w target v h =
     let u = unmoved (slice_get (types_of scene) target.node) h in
-    alike_rows scene w.fields (answer (types_of scene) w target v).fields
-    (alike_but scene target.node w.fields (answer (types_of scene) w target v).fields u.0 u.1 (answer-same (types_of scene) w target v))
+    alike_rows scene w.fields (answer (shapes_of scene) w target v).fields
+    (alike_but scene target.node w.fields (answer (shapes_of scene) w target v).fields u.0 u.1 (answer-same (shapes_of scene) w target v))
 
 -- ---- ticks and pointers change no field
 

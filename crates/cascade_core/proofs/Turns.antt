@@ -5,7 +5,7 @@ use Rattle.x3d_values.specs.declared.stamped.Event.TheVariants.{Clock, Pointer}
 use Rattle.x3d_values.specs.Pointing.{Pointing}
 use Rattle.x3d_values.specs.Stamp.{Stamp}
 use Rattle.scene_core.specs.declared.scene.Route.{Route}
-use Rattle.scene_core.specs.Scene.{SceneView, types_of}
+use Rattle.scene_core.specs.Scene.{SceneView, shapes_of, types_of}
 use Rattle.cascade_core.specs.declared.pointer.Inside.{Inside}
 use Rattle.react_core.specs.declared.outbox.Reply.{Reply}
 use Rattle.cascade_core.specs.Answers.{met, ticked, with_answer}
@@ -26,13 +26,13 @@ module _ (scene : SceneView) (routes : List Route) (number : ℕ) (time : ℤ) w
   abbrev IsAt : Turn → Type 0
   IsAt turn = (turn.world.applied ≡ number) × (turn.world.last_time ≡ time)
 
-  sends-keeps : (node : ℕ) (turn : Turn) (replies : List Reply) → IsAt turn → IsAt (send_all (send (types_of scene) routes (outputs_of (types_of scene) + 1)) node turn replies)
+  sends-keeps : (node : ℕ) (turn : Turn) (replies : List Reply) → IsAt turn → IsAt (send_all (send (shapes_of scene) routes (outputs_of (shapes_of scene) + 1)) node turn replies)
   sends-keeps node turn replies at =
-      fold-keeps IsAt (λ (r : Reply). Unit {0}) (λ (u : Turn) (r : Reply). send (types_of scene) routes (outputs_of (types_of scene) + 1) u (record { node = node; field = r.field }) r.value)
-      (λ u r q p. send-keeps (types_of scene) routes IsAt (λ v source w h p. p) (λ v a p. p) (outputs_of (types_of scene) + 1) u (record { node = node; field = r.field }) r.value p)
+      fold-keeps IsAt (λ (r : Reply). Unit {0}) (λ (u : Turn) (r : Reply). send (shapes_of scene) routes (outputs_of (shapes_of scene) + 1) u (record { node = node; field = r.field }) r.value)
+      (λ u r q p. send-keeps (shapes_of scene) routes IsAt (λ v source w h p. p) (λ v a p. p) (outputs_of (shapes_of scene) + 1) u (record { node = node; field = r.field }) r.value p)
       turn replies (all_free replies) at
 
-  ticks-keeps : (now : ℤ) (turn : Turn) (node : ℕ) → IsAt turn → IsAt (tick_node (types_of scene) routes now turn node)
+  ticks-keeps : (now : ℤ) (turn : Turn) (node : ℕ) → IsAt turn → IsAt (tick_node (shapes_of scene) routes now turn node)
   unfolding tick_node
   ticks-keeps now turn node at = let t = ticked turn.world node now in sends-keeps node (with_answer turn t) t.replies at
 
@@ -50,7 +50,7 @@ module _ (scene : SceneView) (routes : List Route) (number : ℕ) (time : ℤ) w
 
   happen-keeps : (now : ℤ) (turn : Turn) (event : Event) → IsAt turn → IsAt (happen scene routes now turn event)
   happen-keeps now turn Clock at =
-      fold-keeps IsAt (λ (n : ℕ). Unit {0}) (tick_node (types_of scene) routes now) (λ u n q p. ticks-keeps now u n p) turn (clocks_of (types_of scene)) (all_free (clocks_of (types_of scene))) at
+      fold-keeps IsAt (λ (n : ℕ). Unit {0}) (tick_node (shapes_of scene) routes now) (λ u n q p. ticks-keeps now u n p) turn (clocks_of (types_of scene)) (all_free (clocks_of (types_of scene))) at
   happen-keeps now turn (Pointer p) at = point-keeps turn p at
 
 pub apply-at : (scene : SceneView) (routes : List Route) (w : WorldData) (input : Stamp) →

@@ -3,23 +3,26 @@
 use Rattle.std.specs.Prelude.{ℕ, ℤ, Bool, false, not, ◌&&◌, ◌==◌, ◌++◌, List, [], Option, Some, None, slice_get, slice_set, if◌then◌else◌}
 use Rattle.x3d_values.specs.declared.fields.Fields.{Fields}
 use Rattle.x3d_values.specs.declared.node_type.NodeType.{NodeType}
-use Rattle.x3d_values.specs.declared.node_type.NodeType.TheVariants.{TouchSensor}
+use Rattle.x3d_values.specs.declared.node_type.NodeType.TheVariants.{Script, TouchSensor}
 use Rattle.x3d_values.specs.declared.value.Value.{Value}
 use Rattle.x3d_values.specs.declared.value.Value.TheVariants.{SFBool}
 use Rattle.react_core.specs.declared.outbox.Reply.{Reply}
 use denote.Enum.Bare.{sameb}
 use Rattle.x3d_values.specs.contracts.node_type.NodeType.{the_type}
-use Rattle.react_core.specs.Reaction.{reaction, is_time_sensor}
+use Rattle.react_core.specs.Reaction.{reaction, keeps, is_time_sensor}
 use Rattle.sensor_core.specs.Timing.{Timing, timing_of, with_timing}
 use Rattle.sensor_core.specs.Events.{set}
 use Rattle.sensor_core.specs.Ticks.{tick}
 use Rattle.sensor_core.specs.Touches.{Touch, disable, point, pointer}
 use Rattle.x3d_values.specs.Pointing.{Pointing}
 use Rattle.x3d_values.specs.declared.vector.Vec3.{Vec3}
+use Rattle.x3d_values.specs.Tables.{Entry}
 use Rattle.sensor_core.specs.declared.touch_numbers.TheConstants.{TOUCH_ENABLED}
 use Rattle.scene_core.specs.declared.scene.End.{End}
 use Rattle.scene_core.specs.Scene.{SceneView}
+use Rattle.scene_core.specs.Shape.{Shape, rows_of}
 use Rattle.pick_core.specs.Sensors.{is_enabled}
+use Rattle.cascade_core.specs.Access.{is_set}
 use Rattle.cascade_core.specs.declared.world.WorldData.{WorldData}
 use Rattle.cascade_core.specs.declared.world.Turn.{Turn}
 
@@ -104,18 +107,47 @@ touching w target v fields =
     then forgetting w target.node a (slice_get w.touches target.node)
     else a
 
-abbrev pub answer_as : WorldData → End → Value → Option NodeType → Answer
-answer_as w target v (Some kind) =
+-- a Script goes by the fields that it declares, beside those of its type
+abbrev pub is_script : NodeType → Bool
+is_script kind = sameb the_type kind Script
+
+-- a node with these fields sets the one that an event comes to, and sends it
+abbrev pub keeping : WorldData → End → Value → Fields → Answer
+keeping w target v fields =
+    let r = keeps fields target.field v in
+    record {
+      fields = slice_set w.fields target.node r.fields;
+      sensors = w.sensors;
+      touches = w.touches;
+      replies = r.replies;
+    }
+
+-- a Script that isn't run sets its inputOutput fields and sends them, its own and those that it
+-- declares; an event at one of its inputOnly fields does nothing
+abbrev pub not_run : WorldData → End → Value → Option Entry → Option Fields → Answer
+not_run w target v field (Some fields) =
+    if is_set v field then keeping w target v fields else nothing w
+not_run w target v field None = nothing w
+
+-- what a node of this type does at an event that comes to this field of it
+abbrev pub answer_by : WorldData → End → Value → NodeType → Option Entry → Answer
+answer_by w target v kind field =
     if is_time_sensor kind
     then setting_at w target v (slice_get w.fields target.node)
     else (if is_touch_sensor kind
     then touching w target v (slice_get w.fields target.node)
-    else reacting w target v kind (slice_get w.fields target.node))
+    else (if is_script kind
+    then not_run w target v field (slice_get w.fields target.node)
+    else reacting w target v kind (slice_get w.fields target.node)))
+
+abbrev pub answer_as : WorldData → End → Value → Option Shape → Answer
+answer_as w target v (Some shape) =
+    answer_by w target v shape.node_type (slice_get (rows_of shape) target.field)
 answer_as w target v None = nothing w
 
 -- what the target of an event does; where there is no such node nothing happens
-unfoldable pub answer : List NodeType → WorldData → End → Value → Answer
-answer kinds w target v = answer_as w target v (slice_get kinds target.node)
+unfoldable pub answer : List Shape → WorldData → End → Value → Answer
+answer shapes w target v = answer_as w target v (slice_get shapes target.node)
 
 -- ---- the clock ticks
 

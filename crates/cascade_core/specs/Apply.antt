@@ -2,7 +2,6 @@
 -- time sensors, and a pointer to the touch sensors, in number order is our choice).
 use Rattle.std.specs.Prelude.{Bool, ℕ, ℤ, ◌+◌, pos, false, List, [], None, slice_set, length, replicate}
 use Rattle.std.specs.List.{fold}
-use Rattle.x3d_values.specs.declared.node_type.NodeType.{NodeType}
 use Rattle.x3d_values.specs.declared.stamped.Event.{Event}
 use Rattle.x3d_values.specs.declared.stamped.Event.TheVariants.{Clock, Pointer}
 use Rattle.x3d_values.specs.Pointing.{Pointing}
@@ -10,7 +9,8 @@ use Rattle.x3d_values.specs.Stamp.{Stamp}
 use Rattle.x3d_values.specs.declared.ranges.TheConstants.{MAX_VIEWERS}
 use Rattle.sensor_core.specs.Touches.{untouched}
 use Rattle.scene_core.specs.declared.scene.Route.{Route}
-use Rattle.scene_core.specs.Scene.{SceneView, types_of, state_of}
+use Rattle.scene_core.specs.Scene.{SceneView, shapes_of, types_of, state_of}
+use Rattle.scene_core.specs.Shape.{Shape}
 use Rattle.cascade_core.specs.Outputs.{outputs_of}
 use Rattle.cascade_core.specs.Answers.{met, ticked, with_answer}
 use Rattle.cascade_core.specs.Cascade.{send, send_all}
@@ -21,22 +21,23 @@ use Rattle.cascade_core.specs.declared.world.WorldData.{WorldData}
 use Rattle.cascade_core.specs.declared.world.Turn.{Turn}
 
 -- a time sensor ticks, and what it sends is followed
-unfoldable pub tick_node : List NodeType → List Route → ℤ → Turn → ℕ → Turn
-tick_node kinds routes now turn node =
+unfoldable pub tick_node : List Shape → List Route → ℤ → Turn → ℕ → Turn
+tick_node shapes routes now turn node =
     let t = ticked turn.world node now in
-    send_all (send kinds routes (outputs_of kinds + 1)) node (with_answer turn t) t.replies
+    send_all (send shapes routes (outputs_of shapes + 1)) node (with_answer turn t) t.replies
 
 -- each time sensor ticks at its turn
-abbrev pub clock : List NodeType → List Route → ℤ → Turn → Turn
-clock kinds routes now turn = fold (tick_node kinds routes now) turn (clocks_of kinds)
+abbrev pub clock : SceneView → List Route → ℤ → Turn → Turn
+clock scene routes now turn =
+    fold (tick_node (shapes_of scene) routes now) turn (clocks_of (types_of scene))
 
 -- a touch sensor meets a viewer's pointer, and what it sends is followed
 unfoldable pub point_node :
     SceneView → List Route → Pointing → Bool → List Inside → Turn → ℕ → Turn
 point_node scene routes p before is turn sensor =
     let a = met scene turn.world sensor p before (place_in is sensor) in
-    let kinds = types_of scene in
-    send_all (send kinds routes (outputs_of kinds + 1)) sensor (with_answer turn a) a.replies
+    let shapes = shapes_of scene in
+    send_all (send shapes routes (outputs_of shapes + 1)) sensor (with_answer turn a) a.replies
 
 abbrev pub with_button : Turn → Pointing → Turn
 with_button turn p =
@@ -54,7 +55,7 @@ point scene routes turn p =
     (concerned (types_of scene) turn.world p.who)
 
 abbrev pub happen : SceneView → List Route → ℤ → Turn → Event → Turn
-happen scene routes now turn Clock = clock (types_of scene) routes now turn
+happen scene routes now turn Clock = clock scene routes now turn
 happen scene routes now turn (Pointer p) = point scene routes turn p
 
 -- one input more, at its time; no output has sent yet

@@ -1,4 +1,5 @@
 pub mod Ends
+pub mod Access
 pub mod Outputs
 pub mod Nodes
 pub mod World

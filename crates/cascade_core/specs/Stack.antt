@@ -1,11 +1,11 @@
 -- What the tasks of a work stack mean: the last is done first.
 use Rattle.std.specs.Prelude.{ℕ, Bool, ◌≡◌, true, false, ◌+◌, ◌-◌, ◌*◌, List, [], ◌∷◌, length, drop, reverse}
 use Rattle.std.specs.List.{fold}
-use Rattle.x3d_values.specs.declared.node_type.NodeType.{NodeType}
 use Rattle.x3d_values.specs.declared.value.Value.{Value}
 use Rattle.react_core.specs.declared.outbox.Reply.{Reply}
 use Rattle.scene_core.specs.declared.scene.End.{End}
 use Rattle.scene_core.specs.declared.scene.Route.{Route}
+use Rattle.scene_core.specs.Shape.{Shape}
 use Rattle.cascade_core.specs.Ends.{has_sent, targets_of}
 use Rattle.cascade_core.specs.Cascade.{send, deliver}
 use Rattle.cascade_core.specs.Outputs.{outputs_of, is_scene_output, ends_from}
@@ -14,23 +14,23 @@ use Rattle.cascade_core.specs.declared.stack.Task.TheVariants.{Send, Follow}
 use Rattle.cascade_core.specs.declared.world.Turn.{Turn}
 
 -- an event is sent with all its consequences
-abbrev pub send_full : List NodeType → List Route → Turn → End → Value → Turn
-send_full kinds routes = send kinds routes (outputs_of kinds + 1)
+abbrev pub send_full : List Shape → List Route → Turn → End → Value → Turn
+send_full shapes routes = send shapes routes (outputs_of shapes + 1)
 
 -- a task by the definition of the cascade
-abbrev pub do_task : List NodeType → List Route → Turn → Task → Turn
-do_task kinds routes turn (Send source v) = send_full kinds routes turn source v
-do_task kinds routes turn (Follow source v next) =
-    fold (deliver (send_full kinds routes) kinds v) turn (drop next (targets_of routes source))
+abbrev pub do_task : List Shape → List Route → Turn → Task → Turn
+do_task shapes routes turn (Send source v) = send_full shapes routes turn source v
+do_task shapes routes turn (Follow source v next) =
+    fold (deliver (send_full shapes routes) shapes v) turn (drop next (targets_of routes source))
 
 -- the tasks from the last to the first
-unfoldable pub finish : List NodeType → List Route → Turn → List Task → Turn
-finish kinds routes turn tasks = fold (do_task kinds routes) turn (reverse tasks)
+unfoldable pub finish : List Shape → List Route → Turn → List Task → Turn
+finish shapes routes turn tasks = fold (do_task shapes routes) turn (reverse tasks)
 
 -- only outputs of the scene send
-abbrev pub IsReady : List NodeType → Task → Type 0
-IsReady kinds (Send source v) = is_scene_output kinds source ≡ true
-IsReady kinds (Follow source v next) = Unit {0}
+abbrev pub IsReady : List Shape → Task → Type 0
+IsReady shapes (Send source v) = is_scene_output shapes source ≡ true
+IsReady shapes (Follow source v next) = Unit {0}
 
 -- how many tasks can still come of this one, events that were not sent before apart
 abbrev pub weight : List Route → Task → ℕ
@@ -52,13 +52,13 @@ unsent_among [] sent = 0
 unsent_among (o ∷ os) sent = one_unless (has_sent sent o) + unsent_among os sent
 
 -- how many outputs of the scene have not sent
-abbrev pub unsent : List NodeType → Turn → ℕ
-unsent kinds turn = unsent_among (ends_from 0 kinds) turn.sent
+abbrev pub unsent : List Shape → Turn → ℕ
+unsent shapes turn = unsent_among (ends_from 0 shapes) turn.sent
 
 -- a bound on the tasks that are still to be done
-unfoldable pub work_left : List NodeType → List Route → Turn → List Task → ℕ
-work_left kinds routes turn tasks =
-    unsent kinds turn * (6 * length routes + 2) + weights routes tasks
+unfoldable pub work_left : List Shape → List Route → Turn → List Task → ℕ
+work_left shapes routes turn tasks =
+    unsent shapes turn * (6 * length routes + 2) + weights routes tasks
 
 -- a reply of a node is to be sent
 abbrev pub send_by : ℕ → Reply → Task

@@ -2,23 +2,20 @@
 -- texts there are is our choice).
 use Rattle.std.specs.Prelude.{ℕ, ℤ, ◌++◌, List, [], ◌∷◌, decimal, slice_get}
 use Rattle.std.specs.List.{flat_map}
-use Rattle.std.specs.Option.{option_map_or, option_and_then}
-use Rattle.x3d_values.specs.declared.node_type.NodeType.{NodeType}
+use Rattle.std.specs.Option.{option_map_or}
 use Rattle.x3d_values.specs.declared.value.Value.TheVariants.{SFTime}
-use Rattle.x3d_values.specs.Tables.{rows}
 use Rattle.x3d_values.specs.ValueText.{value_text}
 use Rattle.scene_core.specs.declared.scene.End.{End}
 use Rattle.scene_core.specs.declared.scene.Route.{Route}
-use Rattle.scene_core.specs.Scene.{SceneView, types_of, label_of}
+use Rattle.scene_core.specs.Scene.{SceneView, label_of, rows_at}
 use Rattle.scene_text.specs.SceneText.{scene_text as text_of_scene}
 use Rattle.cascade_core.specs.declared.world.TraceLine.{TraceLine}
 use Rattle.cascade_core.specs.declared.world.WorldData.{WorldData}
 
--- the plain name of a field, by the table of fields
-unfoldable pub field_name : List NodeType → End → List ℕ
-field_name kinds e =
-    option_map_or (λ row. row.name)
-    (option_and_then (λ kind. slice_get (rows kind) e.field) (slice_get kinds e.node)) []
+-- the plain name of a field: by the table of fields, or as a Script declares it
+unfoldable pub field_name : SceneView → End → List ℕ
+field_name scene e =
+    option_map_or (λ row. row.name) (slice_get (rows_at scene e.node) e.field) []
 
 -- `<input> <seconds> `
 unfoldable pub stamp_text : ℕ → ℤ → List ℕ
@@ -26,7 +23,7 @@ stamp_text input time = decimal input ++ 32 ∷ value_text (SFTime time) ++ 32 �
 
 -- `<label>.<field>`
 unfoldable pub source_text : SceneView → End → List ℕ
-source_text scene source = label_of scene source.node ++ 46 ∷ field_name (types_of scene) source
+source_text scene source = label_of scene source.node ++ 46 ∷ field_name scene source
 
 -- `<input> <seconds> <label>.<field> <value>` and a line feed
 unfoldable pub line_text : SceneView → TraceLine → List ℕ

@@ -1,8 +1,8 @@
 //! What one node does when an event comes to it, and when the clock ticks.
 
 ghost use Rattle.std.specs.Prelude.{◌≡◌, [], OnOk, pos, ◌≤ℤ◌, ◌^◌, Some, slice_get};
-ghost use Rattle.scene_core.specs.Scene.{types_of};
-ghost use Rattle.cascade_core.specs.Answers.{answer, answered, setting_at, reacting, ticked};
+ghost use Rattle.scene_core.specs.Scene.{rows_at, shapes_of};
+ghost use Rattle.cascade_core.specs.Answers.{answer, answer_by, answered, setting_at, reacting, ticked};
 
 use crate::nodes::type_at;
 use crate::world::WorldData;
@@ -38,31 +38,34 @@ impl WorldData {
         self.sensors.set(target.node as usize, state);
     }
 
-    /// What the target of an event does, if there is such a node.
-    #[tactic(auto, unfolding(crate::specs::Answers::answer))]
-    pub(crate) fn reply_to(
+    /// What the target of an event does, a node of this type.
+    fn reply_by(
         &mut self,
         alloc: Global,
         scene: &Scene,
+        node_type: NodeType,
         target: End,
         value: &Value,
         out: &mut Outbox,
     ) -> Result<(), AllocError>
         requires empty { out.old.items ≡ [] }
         ensures world { OnOk result (self.new
-            ≡ answered self.old (answer (types_of scene.now) self.old target value.now)) }
+            ≡ answered self.old
+            (answer_by self.old target value.now node_type
+            (slice_get (rows_at scene.now target.node) target.field))) }
         ensures replies { OnOk result (out.new.items
-            ≡ (answer (types_of scene.now) self.old target value.now).replies) }
+            ≡ (answer_by self.old target value.now node_type
+            (slice_get (rows_at scene.now target.node) target.field)).replies) }
     {
-        let Some(node_type) = type_at(scene, target.node) else {
-            return Ok(());
-        };
         if node_type == NodeType::TimeSensor {
             self.set_sensor(target, value, out);
             return Ok(());
         }
         if node_type == NodeType::TouchSensor {
             return self.touch(alloc, target, value, out);
+        }
+        if node_type == NodeType::Script {
+            return self.set_script(alloc, scene, target, value, out);
         }
         self.fields.react(
             alloc,
@@ -73,6 +76,27 @@ impl WorldData {
             self.last_time,
             out,
         )
+    }
+
+    /// What the target of an event does, if there is such a node.
+    pub(crate) fn reply_to(
+        &mut self,
+        alloc: Global,
+        scene: &Scene,
+        target: End,
+        value: &Value,
+        out: &mut Outbox,
+    ) -> Result<(), AllocError>
+        requires empty { out.old.items ≡ [] }
+        ensures world { OnOk result (self.new
+            ≡ answered self.old (answer (shapes_of scene.now) self.old target value.now)) }
+        ensures replies { OnOk result (out.new.items
+            ≡ (answer (shapes_of scene.now) self.old target value.now).replies) }
+    {
+        let Some(node_type) = type_at(scene, target.node) else {
+            return Ok(());
+        };
+        self.reply_by(alloc, scene, node_type, target, value, out)
     }
 
     /// The clock ticks for a TimeSensor.

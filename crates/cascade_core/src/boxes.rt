@@ -2,7 +2,7 @@
 
 ghost use Rattle.std.specs.Prelude.{◌≡◌, [], OnOk, slice_get};
 ghost use Rattle.pick_core.specs.Sites.{rows_of};
-ghost use Rattle.scene_core.specs.Scene.{types_of};
+ghost use Rattle.scene_core.specs.Scene.{shapes_of, types_of};
 ghost use Rattle.cascade_core.specs.Answers.{answer, answered, with_answer};
 ghost use Rattle.cascade_core.specs.Nodes.{moves_boxes};
 
@@ -40,9 +40,9 @@ impl Turn {
         requires empty { out.old.items ≡ [] }
         requires boxes { boxes.old ≡ rows_of scene.now self.old.world.fields }
         ensures turn { OnOk result (self.new
-            ≡ with_answer self.old (answer (types_of scene.now) self.old.world target value.now)) }
+            ≡ with_answer self.old (answer (shapes_of scene.now) self.old.world target value.now)) }
         ensures replies { OnOk result (out.new.items
-            ≡ (answer (types_of scene.now) self.old.world target value.now).replies) }
+            ≡ (answer (shapes_of scene.now) self.old.world target value.now).replies) }
         ensures boxes { OnOk result (boxes.new ≡ rows_of scene.now self.new.world.fields) }
     {
         self.world.answer(alloc, scene, boxes, target, value, out)
@@ -63,9 +63,9 @@ impl WorldData {
         requires empty { out.old.items ≡ [] }
         requires boxes { boxes.old ≡ rows_of scene.now self.old.fields }
         ensures world { OnOk result
-            (self.new ≡ answered self.old (answer (types_of scene.now) self.old target value.now)) }
+            (self.new ≡ answered self.old (answer (shapes_of scene.now) self.old target value.now)) }
         ensures replies { OnOk result
-            (out.new.items ≡ (answer (types_of scene.now) self.old target value.now).replies) }
+            (out.new.items ≡ (answer (shapes_of scene.now) self.old target value.now).replies) }
         ensures boxes { OnOk result (boxes.new ≡ rows_of scene.now self.new.fields) }
     {
         self.reply_to(alloc, scene, target, value, out)?;

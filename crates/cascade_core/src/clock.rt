@@ -1,7 +1,7 @@
 //! The clock ticks for each TimeSensor in number order.
 
 ghost use Rattle.std.specs.Prelude.{◌≡◌, [], OnOk, true, length};
-ghost use Rattle.scene_core.specs.Scene.{types_of};
+ghost use Rattle.scene_core.specs.Scene.{shapes_of, types_of};
 ghost use Rattle.pick_core.specs.Sites.{rows_of};
 ghost use Rattle.cascade_core.specs.Apply.{clock as clock_of, tick_node as tick_node_of};
 ghost use Rattle.cascade_core.specs.Nodes.{clocks_of, is_clock};
@@ -31,7 +31,7 @@ fn tick_node(
     requires boxes { boxes.old ≡ rows_of scene.now turn.old.world.fields }
     requires clock { is_clock (types_of scene.now) node ≡ true }
     ensures turn { OnOk result (turn.new
-        ≡ tick_node_of (types_of scene.now) routes.now input.now.time turn.old node) }
+        ≡ tick_node_of (shapes_of scene.now) routes.now input.now.time turn.old node) }
     ensures empty { OnOk result (tasks.new.items ≡ []) }
     ensures none { OnOk result (replies.new.items ≡ []) }
     ensures boxes { OnOk result (boxes.new ≡ rows_of scene.now turn.new.world.fields) }
@@ -56,7 +56,7 @@ pub fn clock(
     requires clocks { clocks.now ≡ clocks_of (types_of scene.now) }
     requires boxes { boxes.old ≡ rows_of scene.now turn.old.world.fields }
     ensures turn { OnOk result
-        (turn.new ≡ clock_of (types_of scene.now) routes.now input.now.time turn.old) }
+        (turn.new ≡ clock_of scene.now routes.now input.now.time turn.old) }
     ensures boxes { OnOk result (boxes.new ≡ rows_of scene.now turn.new.world.fields) }
 {
     let mut replies = Outbox::new();

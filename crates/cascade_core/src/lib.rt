@@ -21,6 +21,7 @@ mod state;
 mod texts;
 mod touch;
 mod trace;
+mod unrun;
 mod work;
 mod world;
 

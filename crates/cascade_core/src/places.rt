@@ -7,7 +7,6 @@ ghost use Rattle.cascade_core.specs.Ends.{same_end};
 use crate::nodes::count_of;
 use scene_core::{End, Scene};
 use std::alloc::AllocError;
-use x3d_values::{NodeType, fields_of};
 
 /// Whether two ends are the same.
 pub fn same_end(one: End, other: End) -> bool
@@ -44,19 +43,15 @@ fn push_unset(bits: &mut Vec<bool>, count: usize) -> Result<(), AllocError>
     Ok(())
 }
 
-/// A node starts behind the bits that are there, and has one for each of its fields.
-fn push_node(
-    node_type: NodeType,
-    starts: &mut Vec<usize>,
-    bits: &mut Vec<bool>,
-) -> Result<(), AllocError>
+/// A node with so many fields starts behind the bits that are there, and has one for each.
+fn push_node(fields: usize, starts: &mut Vec<usize>, bits: &mut Vec<bool>) -> Result<(), AllocError>
     requires rising { IsRising starts.old.items (length bits.old.items) }
     requires unset { All (λ bit. bit ≡ false) bits.old.items }
     ensures rising { OnOk result (IsRising starts.new.items (length bits.new.items)) }
     ensures unset { OnOk result (All (λ bit. bit ≡ false) bits.new.items) }
 {
     starts.push(bits.len())?;
-    push_unset(bits, fields_of(node_type).len())
+    push_unset(bits, fields)
 }
 
 /// The starts of all nodes, and where the bits of the last one end.
@@ -72,7 +67,7 @@ pub fn push_starts(
 {
     let count = count_of(scene)?;
     for node in 0..count {
-        push_node(scene.node_type(node), starts, bits)?;
+        push_node(scene.field_count(node) as usize, starts, bits)?;
     }
     starts.push(bits.len())?;
     Ok(())

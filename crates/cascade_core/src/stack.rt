@@ -2,7 +2,7 @@
 
 ghost use Rattle.std.specs.Prelude.{◌≡◌, ◌+◌, ◌≤◌, ◌<◌, ◌^◌, ◌++◌, [], ◌∷◌, true, false, None, Some, IfNone, IfSome, OnOk, length, map, reverse, slice_get};
 ghost use Rattle.std.specs.List.{AllByRecursion};
-ghost use Rattle.scene_core.specs.Scene.{types_of};
+ghost use Rattle.scene_core.specs.Scene.{shapes_of};
 ghost use Rattle.pick_core.specs.Sites.{rows_of};
 ghost use Rattle.cascade_core.specs.Ends.{targets_of};
 ghost use Rattle.cascade_core.specs.Outputs.{is_scene_output};
@@ -35,10 +35,10 @@ pub fn run_tasks(
     boxes: &mut BoxCache,
 ) -> Result<(), AllocError>
     requires none { replies.old.items ≡ [] }
-    requires ready { AllByRecursion (IsReady (types_of scene.now)) tasks.old.items }
+    requires ready { AllByRecursion (IsReady (shapes_of scene.now)) tasks.old.items }
     requires boxes { boxes.old ≡ rows_of scene.now turn.old.world.fields }
     ensures turn { OnOk result
-        (turn.new ≡ finish (types_of scene.now) routes.now turn.old tasks.old.items) }
+        (turn.new ≡ finish (shapes_of scene.now) routes.now turn.old tasks.old.items) }
     ensures empty { OnOk result (tasks.new.items ≡ []) }
     ensures none { OnOk result (replies.new.items ≡ []) }
     ensures boxes { OnOk result (boxes.new ≡ rows_of scene.now turn.new.world.fields) }
@@ -60,17 +60,17 @@ fn step(
     task: Task,
 ) -> Result<(), AllocError>
     requires none { replies.old.items ≡ [] }
-    requires task { IsReady (types_of scene.now) task }
-    requires tasks { AllByRecursion (IsReady (types_of scene.now)) tasks.old.items }
+    requires task { IsReady (shapes_of scene.now) task }
+    requires tasks { AllByRecursion (IsReady (shapes_of scene.now)) tasks.old.items }
     requires boxes { boxes.old ≡ rows_of scene.now turn.old.world.fields }
     ensures done { OnOk result
-        (finish (types_of scene.now) routes.now turn.new tasks.new.items
-        ≡ finish (types_of scene.now) routes.now
-        (do_task (types_of scene.now) routes.now turn.old task)
+        (finish (shapes_of scene.now) routes.now turn.new tasks.new.items
+        ≡ finish (shapes_of scene.now) routes.now
+        (do_task (shapes_of scene.now) routes.now turn.old task)
         tasks.old.items) }
-    ensures ready { OnOk result (AllByRecursion (IsReady (types_of scene.now)) tasks.new.items) }
-    ensures fewer { OnOk result (work_left (types_of scene.now) routes.now turn.new tasks.new.items
-        + 1 ≤ work_left (types_of scene.now) routes.now turn.old tasks.old.items
+    ensures ready { OnOk result (AllByRecursion (IsReady (shapes_of scene.now)) tasks.new.items) }
+    ensures fewer { OnOk result (work_left (shapes_of scene.now) routes.now turn.new tasks.new.items
+        + 1 ≤ work_left (shapes_of scene.now) routes.now turn.old tasks.old.items
         + weight routes.now task) }
     ensures none { OnOk result (replies.new.items ≡ []) }
     ensures boxes { OnOk result (boxes.new ≡ rows_of scene.now turn.new.world.fields) }
@@ -97,17 +97,17 @@ fn begin(
     value: Value,
 ) -> Result<(), AllocError>
     requires none { replies.old.items ≡ [] }
-    requires task { is_scene_output (types_of scene.now) source ≡ true }
-    requires tasks { AllByRecursion (IsReady (types_of scene.now)) tasks.old.items }
+    requires task { is_scene_output (shapes_of scene.now) source ≡ true }
+    requires tasks { AllByRecursion (IsReady (shapes_of scene.now)) tasks.old.items }
     requires boxes { boxes.old ≡ rows_of scene.now turn.old.world.fields }
     ensures done { OnOk result
-        (finish (types_of scene.now) routes.now turn.new tasks.new.items
-        ≡ finish (types_of scene.now) routes.now
-        (send_full (types_of scene.now) routes.now turn.old source value)
+        (finish (shapes_of scene.now) routes.now turn.new tasks.new.items
+        ≡ finish (shapes_of scene.now) routes.now
+        (send_full (shapes_of scene.now) routes.now turn.old source value)
         tasks.old.items) }
-    ensures ready { OnOk result (AllByRecursion (IsReady (types_of scene.now)) tasks.new.items) }
-    ensures fewer { OnOk result (work_left (types_of scene.now) routes.now turn.new tasks.new.items
-        + 1 ≤ work_left (types_of scene.now) routes.now turn.old tasks.old.items + 1) }
+    ensures ready { OnOk result (AllByRecursion (IsReady (shapes_of scene.now)) tasks.new.items) }
+    ensures fewer { OnOk result (work_left (shapes_of scene.now) routes.now turn.new tasks.new.items
+        + 1 ≤ work_left (shapes_of scene.now) routes.now turn.old tasks.old.items + 1) }
     ensures none { OnOk result (replies.new.items ≡ []) }
     ensures boxes { OnOk result (boxes.new ≡ rows_of scene.now turn.new.world.fields) }
 {
@@ -133,16 +133,16 @@ fn follow(
     next: usize,
 ) -> Result<(), AllocError>
     requires none { replies.old.items ≡ [] }
-    requires tasks { AllByRecursion (IsReady (types_of scene.now)) tasks.old.items }
+    requires tasks { AllByRecursion (IsReady (shapes_of scene.now)) tasks.old.items }
     requires boxes { boxes.old ≡ rows_of scene.now turn.old.world.fields }
     ensures done { OnOk result
-        (finish (types_of scene.now) routes.now turn.new tasks.new.items
-        ≡ finish (types_of scene.now) routes.now
-        (do_task (types_of scene.now) routes.now turn.old (Task.Follow source value next))
+        (finish (shapes_of scene.now) routes.now turn.new tasks.new.items
+        ≡ finish (shapes_of scene.now) routes.now
+        (do_task (shapes_of scene.now) routes.now turn.old (Task.Follow source value next))
         tasks.old.items) }
-    ensures ready { OnOk result (AllByRecursion (IsReady (types_of scene.now)) tasks.new.items) }
-    ensures fewer { OnOk result (work_left (types_of scene.now) routes.now turn.new tasks.new.items
-        + 1 ≤ work_left (types_of scene.now) routes.now turn.old tasks.old.items
+    ensures ready { OnOk result (AllByRecursion (IsReady (shapes_of scene.now)) tasks.new.items) }
+    ensures fewer { OnOk result (work_left (shapes_of scene.now) routes.now turn.new tasks.new.items
+        + 1 ≤ work_left (shapes_of scene.now) routes.now turn.old tasks.old.items
         + weight routes.now (Task.Follow source value next)) }
     ensures none { OnOk result (replies.new.items ≡ []) }
     ensures boxes { OnOk result (boxes.new ≡ rows_of scene.now turn.new.world.fields) }

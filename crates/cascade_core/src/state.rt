@@ -3,10 +3,11 @@
 ghost use Rattle.std.specs.Prelude.{◌≡◌, [], OnOk, Some, None, option_copied, slice_get, slice_set};
 ghost use Rattle.std.specs.Option.{option_map_or};
 ghost use Rattle.x3d_values.specs.Kept.{field_value};
-ghost use Rattle.react_core.specs.Reaction.{reaction};
+ghost use Rattle.react_core.specs.Reaction.{keeps, reaction};
 ghost use Rattle.sensor_core.specs.Timing.{with_timing};
 
-use react_core::{Outbox, react};
+use react_core::{Outbox, Reply, copy_of, react};
+use scene_core::End;
 use sensor_core::TimeFields;
 use std::alloc::{AllocError, Global};
 use std::marker::Model;
@@ -80,6 +81,37 @@ impl State {
             time,
             out,
         )
+    }
+
+    /// A node sets the field that an event comes to, and sends it, where there is such a node.
+    pub fn keep(
+        &mut self,
+        alloc: Global,
+        target: End,
+        value: &Value,
+        out: &mut Outbox,
+    ) -> Result<(), AllocError>
+        requires empty { out.old.items ≡ [] }
+        ensures fields { OnOk result (self.new
+            ≡ option_map_or (λ fields.
+            slice_set self.old target.node (keeps fields target.field value.now).fields)
+            (slice_get self.old target.node) self.old) }
+        ensures replies { OnOk result (out.new.items
+            ≡ option_map_or (λ fields. (keeps fields target.field value.now).replies)
+            (slice_get self.old target.node) []) }
+    {
+        let node = target.node as usize;
+        if node >= self.items.len() {
+            return Ok(());
+        }
+        let kept = copy_of(alloc, value)?;
+        let sent = copy_of(alloc, value)?;
+        self.items[node].set(target.field, kept);
+        out.push(Reply {
+            field: target.field,
+            value: sent,
+        });
+        Ok(())
     }
 
     /// A TimeSensor keeps these values, where there is such a node.

@@ -3,30 +3,25 @@
 ghost use Rattle.std.specs.Prelude.{◌≡◌, ◌++◌, [], ◌∷◌, OnErr, OnOk};
 ghost use Rattle.std.specs.List.{flat_map};
 ghost use Rattle.x3d_lists.specs.Extends.{Extends};
-ghost use Rattle.scene_core.specs.Scene.{types_of};
 ghost use Rattle.cascade_core.specs.Texts.{field_name, line_text, source_text, stamp_text};
 ghost use Rattle.x3d_values.specs.ValueText.{value_text};
 
 use crate::lines::{LineHead, Moment, WritesLines};
-use crate::nodes::type_at;
 use crate::trace::Trace;
 use itoa::Buffer;
 use scene_core::{End, Scene};
 use std::alloc::{AllocError, Global};
 use std::marker::Model;
 use x3d_numerals::push_number;
-use x3d_values::{Value, fields_of, show_value};
+use x3d_values::{Value, show_value};
 
 /// The plain name of a field.
 #[tactic(auto, unfolding(crate::specs::Texts::field_name))]
-fn field_name(scene: &Scene, end: End) -> &'static str
-    ensures { result.now ≡ field_name (types_of scene.now) end }
+fn field_name(scene: &Scene, end: End) -> &str
+    ensures { result.now ≡ field_name scene.now end }
 {
-    let Some(node_type) = type_at(scene, end.node) else {
-        return "";
-    };
-    match fields_of(node_type).get(end.field as usize) {
-        Some(field) => field.name,
+    match scene.row(end.node, end.field) {
+        Some(row) => row.name,
         None => "",
     }
 }

@@ -1,9 +1,9 @@
 -- The fields of all nodes by number: different fields have different numbers.
-use Rattle.std.proofs.Common.{◌≡◌, ℕ, ◌+◌, ◌-◌, ◌*◌, ◌^◌, ◌<◌, ◌≤◌, false, List, [], ◌∷◌, Some, None, length, take, map, sum, get_or, refl, sym, ap, ◌∙◌, subst, arith, ⊎_elim, inl, inr}
+use Rattle.std.proofs.Common.{◌≡◌, ℕ, ◌+◌, ◌-◌, ◌*◌, ◌^◌, ◌<◌, ◌≤◌, false, List, [], ◌∷◌, Some, None, length, take, map, sum, refl, sym, ap, ◌∙◌, subst, arith, ⊎_elim, inl, inr}
 use Rattle.std.specs.Prelude.{◌==◌, All, slice_index, if◌then◌else◌}
 use Rattle.std.proofs.lemmas.Bool.{cases_eq, cases_lt, cases_order, cond-true, cond-false, eq-eqb, ne_eqb, and_from, and_left, and_right, and_parts, eqb-true, lt-ltb, le-ltb, false_from_ne_true}
 use Rattle.std.proofs.lemmas.List.{get_or_past, take-take, take_all}
-use Rattle.std.proofs.lemmas.List.Elements.{All-head, All-tail, All-map, All-from_get_or}
+use Rattle.std.proofs.lemmas.List.Elements.{All-head, All-tail, All-map}
 use Rattle.std.proofs.lemmas.List.Sums.{sum_by_more, sum_by-take-le, sum_by-le}
 use Rattle.scene_core.specs.declared.scene.End.{End}
 use Rattle.scene_core.specs.declared.scene.Route.{Route}
@@ -31,9 +31,9 @@ pub places-below : (counts firsts : List ℕ) (routes : List Route) → AreFirst
 places-below counts firsts routes a fields =
     All-map (λ (k : ℕ). k < slice_index firsts (length counts)) (λ (r : Route). place_in firsts r.source) routes (λ k d h. place-below counts firsts a _ (fields k d h))
 
-pub last-below : (counts firsts : List ℕ) → AreFirsts counts firsts → ((k : ℕ) → get_or counts k 0 < 65536) → length counts ≤ 2 ^ 32 → slice_index firsts (length counts) < 2 ^ 49
+pub last-below : (counts firsts : List ℕ) → AreFirsts counts firsts → All (λ c. c ≤ 65536) counts → length counts ≤ 2 ^ 32 → slice_index firsts (length counts) < 2 ^ 49
 last-below counts firsts a small short =
-    let bound : sum counts ≤ length counts * 65535 = sum_by-le (λ (x : ℕ). x) 65535 counts (All-from_get_or (λ (x : ℕ). x ≤ 65535) counts 0 (λ k h. omega (arith, small k))) in
+    let bound : sum counts ≤ length counts * 65536 = sum_by-le (λ (x : ℕ). x) 65536 counts small in
     omega (arith, bound, a.sums (length counts) (omega arith), ap sum (take_all (length counts) counts (omega arith)))
 
 gap : (counts firsts : List ℕ) → AreFirsts counts firsts → (n : ℕ) → slice_index firsts (n + 1) - slice_index firsts n ≡ slice_index counts n

@@ -1,29 +1,29 @@
 -- What the ends of a document's route name in its scene (ISO/IEC 19775-1, ROUTE).
-use Rattle.std.specs.Prelude.{◌^◌, ◌<◌, ℕ, Bool, List, Option, Some, None, Result, Ok, Err, map, length, if◌then◌else◌}
-use Rattle.std.specs.Option.{option_and_then, option_map}
+use Rattle.std.specs.Prelude.{◌^◌, ◌<◌, ℕ, Bool, List, Option, Some, None, Result, Ok, Err, map, length, nat_lt, if◌then◌else◌}
+use Rattle.std.specs.Option.{option_and_then}
 use denote.Enum.Bare.{sameb}
 use Rattle.x3d_values.specs.contracts.field_type.FieldType as types
 use Rattle.x3d_values.specs.declared.field_type.Access.{Access}
-use Rattle.x3d_values.specs.declared.node_type.NodeType.{NodeType}
 use Rattle.x3d_values.specs.declared.table.FieldRow.{FieldRow}
 use Rattle.x3d_values.specs.Access.{receives, sends, holds_nodes}
-use Rattle.x3d_values.specs.Aliases.{source_field, target_field}
-use Rattle.x3d_values.specs.Tables.{rows}
 use Rattle.flat_document.specs.declared.flat.FlatEnd.{FlatEnd}
 use Rattle.flat_document.specs.declared.flat.FlatEnd.TheVariants.{At, NoNode, NoField, WrongWay}
 use Rattle.flat_document.specs.declared.flat.FlatRoute.{FlatRoute}
-use Rattle.scene_core.specs.Scene.{SceneView, types_of, type_at, number_of}
+use Rattle.scene_core.specs.Scene.{SceneView, shapes_of, rows_at, number_of}
+use Rattle.scene_core.specs.Shape.{rows_of}
 use Rattle.scene_core.specs.declared.scene.End.{End}
 use Rattle.scene_core.specs.declared.scene.Route.{Route}
+use Rattle.route_core.specs.Names.{source_field, target_field}
 use Rattle.route_core.specs.Outputs.{IsField}
 use Rattle.route_core.specs.declared.ends.SceneField.{SceneField}
 use Rattle.route_core.specs.declared.fault.RouteFaultKind.{RouteFaultKind}
 use Rattle.route_core.specs.declared.fault.RouteFaultKind.TheVariants.{NoSuchNode, NoSuchField, NotOutput, NotInput, TypesDiffer, NodeEvent}
 
--- a node of the document, where the scene has it: its number in the scene, and its type
-abbrev pub node_of : SceneView → ℕ → Option (ℕ × NodeType)
+-- the number in the scene of a node of the document, where the scene has it
+abbrev pub node_of : SceneView → ℕ → Option ℕ
 node_of scene node =
-    option_and_then (λ n. option_map (λ t. (n, t)) (type_at scene n)) (number_of scene node)
+    option_and_then (λ n. if nat_lt n (length scene.nodes) then Some n else None)
+    (number_of scene node)
 
 abbrev pub field_at : ℕ → FieldRow → SceneField
 field_at node row =
@@ -36,24 +36,24 @@ usable allowed fault node None = Err NoSuchField
 usable allowed fault node (Some row) =
     if allowed row.access then Ok (field_at node row) else Err fault
 
-abbrev pub output_named : List ℕ → Option (ℕ × NodeType) → Result SceneField RouteFaultKind
-output_named name None = Err NoSuchNode
-output_named name (Some n) = usable sends NotOutput n.0 (source_field n.1 name)
+abbrev pub output_named : SceneView → List ℕ → Option ℕ → Result SceneField RouteFaultKind
+output_named scene name None = Err NoSuchNode
+output_named scene name (Some n) = usable sends NotOutput n (source_field (rows_at scene n) name)
 
-abbrev pub input_named : List ℕ → Option (ℕ × NodeType) → Result SceneField RouteFaultKind
-input_named name None = Err NoSuchNode
-input_named name (Some n) = usable receives NotInput n.0 (target_field n.1 name)
+abbrev pub input_named : SceneView → List ℕ → Option ℕ → Result SceneField RouteFaultKind
+input_named scene name None = Err NoSuchNode
+input_named scene name (Some n) = usable receives NotInput n (target_field (rows_at scene n) name)
 
 -- the output that a source names
 abbrev pub source_of : SceneView → FlatEnd → Result SceneField RouteFaultKind
-source_of scene (At node name) = output_named name (node_of scene node)
+source_of scene (At node name) = output_named scene name (node_of scene node)
 source_of scene NoNode = Err NoSuchNode
 source_of scene NoField = Err NoSuchField
 source_of scene WrongWay = Err NotOutput
 
 -- the input that a destination names
 abbrev pub target_of : SceneView → FlatEnd → Result SceneField RouteFaultKind
-target_of scene (At node name) = input_named name (node_of scene node)
+target_of scene (At node name) = input_named scene name (node_of scene node)
 target_of scene NoNode = Err NoSuchNode
 target_of scene NoField = Err NoSuchField
 target_of scene WrongWay = Err NotInput
@@ -79,7 +79,7 @@ route_of scene r = joined_ends (source_of scene r.source) (target_of scene r.tar
 
 -- how many fields each node of the scene has
 abbrev pub field_counts : SceneView → List ℕ
-field_counts scene = map (λ t. length (rows t)) (types_of scene)
+field_counts scene = map (λ s. length (rows_of s)) (shapes_of scene)
 
 -- the end is a field of a node of the scene
 pub record IsKnown (scene : SceneView) (e : End) : Type 0 where

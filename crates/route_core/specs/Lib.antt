@@ -1,5 +1,6 @@
 pub mod Ends
 pub mod FaultName
 pub mod Grouped
+pub mod Names
 pub mod Outputs
 pub mod Resolved

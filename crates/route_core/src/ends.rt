@@ -1,13 +1,13 @@
 //! What the ends of a document's route name in its scene.
 
-ghost use Rattle.std.specs.Prelude.{◌≡◌, ◌^◌, ◌<◌, Some, IfOk, IfSome, slice_get};
-ghost use Rattle.scene_core.specs.Scene.{types_of};
+ghost use Rattle.std.specs.Prelude.{◌≡◌, ◌^◌, ◌<◌, IfOk, IfSome};
 ghost use Rattle.route_core.specs.Ends as spec;
 
 use crate::fault::RouteFaultKind;
+use crate::names::{source_field, target_field};
 use flat_document::{FlatEnd, FlatRoute};
 use scene_core::{End, Route, Scene};
-use x3d_values::{FieldRow, FieldType, NodeType, source_field, target_field};
+use x3d_values::{FieldRow, FieldType};
 
 /// A field of a node of the scene, and its type.
 #[derive(Clone, Copy)]
@@ -26,18 +26,16 @@ pub(crate) fn route_of(scene: &Scene, route: &FlatRoute) -> Result<Route, RouteF
     joined(source, target)
 }
 
-/// The number in the scene, and the type, of a node of the document; none where the scene hasn't
-/// the node.
-fn node_of(scene: &Scene, node: u32) -> Option<(u32, NodeType)>
+/// The number in the scene of a node of the document; none where the scene hasn't the node.
+fn node_of(scene: &Scene, node: u32) -> Option<u32>
     ensures exact { result ≡ spec.node_of scene.now node }
-    ensures numbered { IfSome result (λ n. n.0 < 2 ^ 32) }
-    ensures typed { IfSome result (λ n. slice_get (types_of scene.now) n.0 ≡ Some n.1) }
+    ensures numbered { IfSome result (λ n. n < 2 ^ 32) }
 {
     let number = scene.number(node)?;
-    if number as usize >= scene.node_count() {
-        return None;
+    if (number as usize) < scene.node_count() {
+        return Some(number);
     }
-    Some((number, scene.node_type(number)))
+    None
 }
 
 fn field_at(node: u32, row: FieldRow) -> SceneField
@@ -53,13 +51,13 @@ fn field_at(node: u32, row: FieldRow) -> SceneField
 }
 
 fn output_named(scene: &Scene, node: u32, name: &str) -> Result<SceneField, RouteFaultKind>
-    ensures exact { result ≡ spec.output_named name.now (spec.node_of scene.now node) }
+    ensures exact { result ≡ spec.output_named scene.now name.now (spec.node_of scene.now node) }
     ensures known { IfOk result (λ field. spec.IsKnown scene.now field.end) }
 {
-    let Some((node, node_type)) = node_of(scene, node) else {
+    let Some(node) = node_of(scene, node) else {
         return Err(RouteFaultKind::NoSuchNode);
     };
-    let Some(row) = source_field(node_type, name) else {
+    let Some(row) = source_field(scene, node, name) else {
         return Err(RouteFaultKind::NoSuchField);
     };
     if row.access.sends() {
@@ -69,12 +67,12 @@ fn output_named(scene: &Scene, node: u32, name: &str) -> Result<SceneField, Rout
 }
 
 fn input_named(scene: &Scene, node: u32, name: &str) -> Result<SceneField, RouteFaultKind>
-    ensures { result ≡ spec.input_named name.now (spec.node_of scene.now node) }
+    ensures { result ≡ spec.input_named scene.now name.now (spec.node_of scene.now node) }
 {
-    let Some((node, node_type)) = node_of(scene, node) else {
+    let Some(node) = node_of(scene, node) else {
         return Err(RouteFaultKind::NoSuchNode);
     };
-    let Some(row) = target_field(node_type, name) else {
+    let Some(row) = target_field(scene, node, name) else {
         return Err(RouteFaultKind::NoSuchField);
     };
     if row.access.receives() {

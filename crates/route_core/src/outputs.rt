@@ -7,8 +7,9 @@ use scene_core::{End, Route};
 use std::alloc::{AllocError, Global};
 
 /// The number of each node's first field, and behind these how many fields there are.
-pub fn firsts_of(alloc: Global, field_counts: &[u16]) -> Result<Vec<usize>, AllocError>
-    requires { length field_counts.now ≤ 2 ^ 32 }
+pub fn firsts_of(alloc: Global, field_counts: &[u32]) -> Result<Vec<usize>, AllocError>
+    requires few { All (λ count. count ≤ 65536) field_counts.now }
+    requires nodes { length field_counts.now ≤ 2 ^ 32 }
     ensures { IfOk result (λ firsts. AreFirsts field_counts.now firsts.items) }
 {
     let mut firsts = Vec::new(alloc);
@@ -37,11 +38,12 @@ pub fn number_of(firsts: &[usize], end: End) -> Option<usize>
 /// The numbers of the sources of the routes.
 pub(crate) fn sources_of(
     alloc: Global,
-    field_counts: &[u16],
+    field_counts: &[u32],
     firsts: &[usize],
     routes: &[Route],
 ) -> Result<Vec<usize>, AllocError>
     requires nodes { length field_counts.now ≤ 2 ^ 32 }
+    requires counts { All (λ count. count ≤ 65536) field_counts.now }
     requires firsts { AreFirsts field_counts.now firsts.now }
     requires fields { All (λ r. IsField field_counts.now r.source) routes.now }
     ensures { IfOk result (λ all. all.items ≡ map (λ r. place_in firsts.now r.source) routes.now) }

@@ -1,6 +1,6 @@
 //! From the routes of a document to those of its scene.
 
-ghost use Rattle.std.specs.Prelude.{◌≡◌, ◌^◌, IfOk, All, take};
+ghost use Rattle.std.specs.Prelude.{◌≡◌, ◌^◌, ◌≤◌, IfOk, All, take};
 ghost use Rattle.x3d_lists.specs.Answers.{Gives};
 ghost use Rattle.route_core.specs.Ends as ends;
 ghost use Rattle.route_core.specs.Ends.{IsKnown, field_counts};
@@ -13,7 +13,6 @@ use indexmap::IndexSet;
 use scene_core::{Route, Scene};
 use std::alloc::{AllocError, Global};
 use x3d_lists::Items;
-use x3d_values::fields_of;
 
 /// More routes aren't kept. An expanded document has no more.
 pub const MOST_ROUTES: usize = 65_536;
@@ -51,12 +50,13 @@ pub(crate) fn without_repeats(alloc: Global, routes: &[Route]) -> Result<Items<R
 
 /// How many fields each node of the scene has: of the first 2^32 nodes, which is of all nodes of a
 /// scene that was built.
-pub fn field_counts(alloc: Global, scene: &Scene) -> Result<Vec<u16>, AllocError>
-    ensures { IfOk result (λ counts. counts.items ≡ take (2 ^ 32) (field_counts scene.now)) }
+pub fn field_counts(alloc: Global, scene: &Scene) -> Result<Vec<u32>, AllocError>
+    ensures are { IfOk result (λ counts. counts.items ≡ take (2 ^ 32) (field_counts scene.now)) }
+    ensures few { IfOk result (λ counts. All (λ count. count ≤ 65536) counts.items) }
 {
     let mut counts = Vec::new(alloc);
     for node in 0..scene.node_count().min(MOST_NODES) {
-        counts.push(fields_of(scene.node_type(node as u32)).len() as u16)?;
+        counts.push(scene.field_count(node as u32))?;
     }
     Ok(counts)
 }

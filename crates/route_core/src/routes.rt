@@ -58,9 +58,10 @@ impl Routes {
     pub(crate) fn new(
         alloc: Global,
         routes: Items<Route>,
-        field_counts: &[u16],
+        field_counts: &[u32],
     ) -> Result<Routes, AllocError>
         requires nodes { length field_counts.now ≤ 2 ^ 32 }
+        requires counts { All (λ count. count ≤ 65536) field_counts.now }
         requires few { length routes ≤ 65536 }
         requires fields { All (λ r. IsField field_counts.now r.source) routes }
         ensures { IfOk result (λ r. r ≡ routes) }

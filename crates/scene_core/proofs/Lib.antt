@@ -3,3 +3,8 @@ pub mod Crowds
 pub mod Fuel
 pub mod NameLemmas
 pub mod TaskLemmas
+pub mod DeclaredSteps
+pub mod GivenFields
+pub mod KeptFields
+pub mod RowLemmas
+pub mod ShapeLemmas

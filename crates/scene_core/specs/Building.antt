@@ -13,6 +13,7 @@ use Rattle.scene_core.specs.Labels.{label_by, is_alone, names_of}
 use Rattle.scene_core.specs.Numbers.{numbering}
 use Rattle.scene_core.specs.Places.{places, max_places, any_crowded}
 use Rattle.scene_core.specs.Scene.{SceneView}
+use Rattle.scene_core.specs.Shape.{declared_by}
 use Rattle.scene_core.specs.Typed.{values_of, all_children}
 
 -- a node; it keeps the names that one node alone has
@@ -20,7 +21,12 @@ abbrev pub node_of : List FlatNode → List ℕ → (List ℕ → Bool) → Flat
     → Result SceneNode SceneFault
 node_of nodes numbers alone node =
     values_of nodes numbers node >>= λ values.
-    Ok (record { node_type = node.node_type; label = label_by alone node.name; values = values })
+    Ok (record {
+      node_type = node.node_type;
+      label = label_by alone node.name;
+      declared = map declared_by node.interface;
+      values = values;
+    })
 
 -- the next node behind those made so far
 abbrev pub with_node : List FlatNode → List ℕ → (List ℕ → Bool) → Option FlatNode → List SceneNode

@@ -6,5 +6,6 @@ pub mod Numbers
 pub mod Parts
 pub mod Places
 pub mod Scene
+pub mod Shape
 pub mod Tasks
 pub mod Typed

@@ -1,13 +1,15 @@
 -- The nodes that stand in the node fields of a node (ISO/IEC 19775-1, scene graph).
-use Rattle.std.specs.Prelude.{ℕ, ◌+◌, ◌==◌, ◌++◌, List, [], ◌∷◌, Option, slice_get, if◌then◌else◌}
+use Rattle.std.specs.Prelude.{ℕ, ◌+◌, ◌==◌, ◌++◌, List, [], ◌∷◌, Option, length, map, slice_get, if◌then◌else◌}
 use Rattle.std.specs.List.{find}
 use Rattle.std.specs.Option.{option_map_or}
+use Rattle.x3d_values.specs.declared.field_type.FieldType.{FieldType}
 use Rattle.x3d_values.specs.Access.{holds_nodes}
 use Rattle.x3d_values.specs.Tables.{Entry, rows}
 use Rattle.classic_tree.specs.declared.tree.RawValue.{RawValue}
 use Rattle.classic_tree.specs.declared.tree.RawValue.TheVariants.{Node, NodeList}
 use Rattle.flat_document.specs.declared.flat.FlatNode.{FlatNode}
 use Rattle.flat_document.specs.declared.flat.FlatField.{FlatField}
+use Rattle.scene_core.specs.Shape.{declaration_entry, numbered_fields}
 
 -- what a node gives to the field of that number
 abbrev pub given : List FlatField → ℕ → Option FlatField
@@ -19,21 +21,26 @@ inner_nodes (Node n) = n ∷ []
 inner_nodes (NodeList ns) = ns
 inner_nodes _ = []
 
--- the nodes in a field of a node type
-abbrev pub parts_at : List FlatField → ℕ → Entry → List ℕ
-parts_at fields number e =
-    if holds_nodes e.field_type
-    then option_map_or (λ (f : FlatField). inner_nodes f.value) (given fields number) []
+-- the nodes in a field of that type that was given this
+abbrev pub parts_in : FieldType → Option FlatField → List ℕ
+parts_in field_type given =
+    if holds_nodes field_type
+    then option_map_or (λ (f : FlatField). inner_nodes f.value) given []
     else []
 
 -- the nodes in the fields of these rows, the first of which has that number
 abbrev pub parts_from : List FlatField → ℕ → List Entry → List ℕ
 parts_from fields number [] = []
-parts_from fields number (e ∷ es) = parts_at fields number e ++ parts_from fields (number + 1) es
+parts_from fields number (e ∷ es) =
+    parts_in e.field_type (given fields number) ++ parts_from fields (number + 1) es
 
--- the nodes in the node fields of a node, in table order
+-- the nodes in the node fields of a node: those of its type in table order, then those that it
+-- declares
 abbrev pub parts : FlatNode → List ℕ
-parts node = parts_from node.fields 0 (rows node.node_type)
+parts node =
+    parts_from node.fields 0 (rows node.node_type)
+    ++ parts_from node.fields (length (rows node.node_type))
+    (map declaration_entry (numbered_fields node.node_type node.interface))
 
 -- the same of the node of that number
 unfoldable pub parts_of : List FlatNode → ℕ → List ℕ

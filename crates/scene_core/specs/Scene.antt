@@ -1,6 +1,6 @@
 -- A scene by its nodes' numbers (ISO/IEC 19775-1, scene graph).
 use Rattle.std.specs.Prelude.{ℕ, Bool, false, ◌++◌, List, [], Option, Some, None, codes, decimal, map, slice_get, slice_index_or, if◌then◌else◌}
-use Rattle.std.specs.Option.{option_and_then}
+use Rattle.std.specs.Option.{option_and_then, option_map_or}
 use Rattle.std.specs.List.{zip}
 use Rattle.x3d_values.specs.declared.table.FieldRow.{FieldRow}
 use Rattle.x3d_values.specs.declared.fields.Fields.{Fields}
@@ -11,6 +11,8 @@ use Rattle.x3d_values.specs.Access.{is_kept}
 use Rattle.x3d_values.specs.Tables.{Entry, rows, row_named}
 use Rattle.flat_document.specs.declared.flat.Header.{Header}
 use Rattle.scene_core.specs.declared.scene.SceneNode.{SceneNode}
+use Rattle.scene_core.specs.declared.row.DeclaredField.{DeclaredField}
+use Rattle.scene_core.specs.Shape.{Shape, shape_by, numbered_fields, rows_of}
 
 -- the nodes of a scene, its roots and helpers, which nodes of the expanded document it has, and the
 -- number of each
@@ -24,6 +26,13 @@ pub record SceneView : Type 0 where
 
 abbrev pub types_of : SceneView → List NodeType
 types_of s = map (λ (n : SceneNode). n.node_type) s.nodes
+
+-- the fields of each node
+abbrev pub shape_of : SceneNode → Shape
+shape_of n = shape_by n.node_type n.declared
+
+abbrev pub shapes_of : SceneView → List Shape
+shapes_of s = map shape_of s.nodes
 
 -- the number in the scene of a node of the expanded document, where the scene has the node
 abbrev pub number_of : SceneView → ℕ → Option ℕ
@@ -39,6 +48,19 @@ value_at s node field =
 
 abbrev pub type_at : SceneView → ℕ → Option NodeType
 type_at s node = slice_get (types_of s) node
+
+abbrev pub shape_at : SceneView → ℕ → Option Shape
+shape_at s node = slice_get (shapes_of s) node
+
+-- the fields of a node, none where there is no such node
+abbrev pub rows_at : SceneView → ℕ → List Entry
+rows_at s node = option_map_or rows_of (shape_at s node) []
+
+-- those of them that the node declares
+abbrev pub declared_at : SceneView → ℕ → List DeclaredField
+declared_at s node =
+    option_map_or (λ (n : SceneNode). numbered_fields n.node_type n.declared)
+    (slice_get s.nodes node) []
 
 abbrev pub nodes_in : Option Value → List ℕ
 nodes_in (Some (MFNode nodes)) = nodes
@@ -73,7 +95,7 @@ kept e value = if is_kept e.access e.field_type then value else None
 
 abbrev pub fields_of : SceneNode → Fields
 fields_of n = record {
-  values = map (λ p. kept p.0 p.1) (zip (rows n.node_type) n.values);
+  values = map (λ p. kept p.0 p.1) (zip (rows_of (shape_of n)) n.values);
   position = record { at = None };
 }
 

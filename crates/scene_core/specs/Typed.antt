@@ -1,12 +1,12 @@
 -- The values that the fields of a node have before any event (ISO/IEC 19775-1, field semantics).
-use Rattle.std.specs.Prelude.{ℕ, ◌+◌, ◌++◌, pos, Bool, true, false, not, ◌||◌, nat_eq, int_lt, List, [], ◌∷◌, codes, Option, Some, None, Result, Ok, Err, slice_get, if◌then◌else◌}
+use Rattle.std.specs.Prelude.{ℕ, ◌+◌, ◌++◌, pos, length, Bool, true, false, not, ◌||◌, nat_eq, int_lt, List, [], ◌∷◌, codes, Option, Some, None, Result, Ok, Err, slice_get, if◌then◌else◌}
 use Rattle.std.specs.Option.{option_and_then}
 use Rattle.std.specs.List.{list_all}
 use Rattle.std.specs.Cmp.Lexicographic.{pointwise}
 use denote.Enum.Bare.{sameb}
-use Rattle.x3d_values.specs.contracts.field_type.FieldType as types
 use Rattle.x3d_values.specs.contracts.node_type.NodeKind as kinds
-use Rattle.x3d_values.specs.declared.field_type.FieldType.TheVariants.{SFRotation}
+use Rattle.x3d_values.specs.declared.field_type.Access.{Access}
+use Rattle.x3d_values.specs.declared.field_type.FieldType.{FieldType}
 use Rattle.x3d_values.specs.declared.node_type.NodeKind.{NodeKind}
 use Rattle.x3d_values.specs.declared.node_type.NodeKind.TheVariants.{Child}
 use Rattle.x3d_values.specs.declared.vector.Vec3.{Vec3}
@@ -16,6 +16,7 @@ use Rattle.x3d_values.specs.Access.{is_initial}
 use Rattle.x3d_values.specs.Defaults.{default_value}
 use Rattle.x3d_values.specs.Nodes.{kind_of}
 use Rattle.x3d_values.specs.Tables.{Entry, rows}
+use Rattle.classic_tree.specs.declared.tree.Declaration.{Declaration}
 use Rattle.flat_document.specs.declared.flat.FlatNode.{FlatNode}
 use Rattle.flat_document.specs.declared.flat.FlatField.{FlatField}
 use Rattle.scene_values.specs.declared.fault.ValueFault.{ValueFault}
@@ -26,6 +27,7 @@ use Rattle.scene_core.specs.declared.fault.SceneFault.{SceneFault}
 use Rattle.scene_core.specs.declared.fault.SceneFaultKind.TheVariants.{WrongType, ValueRange, RotationUnsupported, NotInitial, BadChild}
 use Rattle.scene_core.specs.Faults.{fault, memory, ◌>>=◌}
 use Rattle.scene_core.specs.Parts.{given, inner_nodes}
+use Rattle.scene_core.specs.Shape.{declaration_entry, is_rotation, numbered_fields}
 
 -- a fault of a value, in the line of its field
 abbrev pub fault_at : ℕ → ValueFault → SceneFault
@@ -62,27 +64,34 @@ takes kind None = false
 abbrev pub all_taken : Option NodeKind → List FlatNode → List ℕ → Bool
 all_taken kind nodes inner = list_all (λ n. takes kind (slice_get nodes n)) inner
 
--- a value of its type, unless another fault keeps it from the field: that with the lowest number
--- is answered
-abbrev pub accepted : List FlatNode → Entry → FlatField → Value → Result (Option Value) SceneFault
-accepted nodes e f value =
-    if not (in_range e.name value)
-    then Err (fault ValueRange f.line)
-    else (if not (is_initial e.access)
+-- a value of its type goes into a field of that access and kind, unless another fault keeps it from
+-- there: that with the lowest number is answered
+abbrev pub accepted : List FlatNode → Access → Option NodeKind → FlatField → Value
+    → Result (Option Value) SceneFault
+accepted nodes access kind f value =
+    if not (is_initial access)
     then Err (fault NotInitial f.line)
-    else (if all_taken e.kind nodes (inner_nodes f.value)
+    else (if all_taken kind nodes (inner_nodes f.value)
     then Ok (Some value)
-    else Err (fault BadChild f.line)))
+    else Err (fault BadChild f.line))
 
-abbrev pub typed_value : List ℕ → Entry → FlatField → Result Value SceneFault
-typed_value numbers e f = at_line f.line (typed e.field_type f.value numbers)
+-- the same of a field of a node type, some of which have ranges of their own
+abbrev pub accepted_in_range : List FlatNode → Entry → FlatField → Value
+    → Result (Option Value) SceneFault
+accepted_in_range nodes e f value =
+    if in_range e.name value
+    then accepted nodes e.access e.kind f value
+    else Err (fault ValueRange f.line)
+
+abbrev pub typed_value : List ℕ → FieldType → FlatField → Result Value SceneFault
+typed_value numbers field_type f = at_line f.line (typed field_type f.value numbers)
 
 abbrev pub given_value : List FlatNode → List ℕ → Entry → FlatField
     → Result (Option Value) SceneFault
 given_value nodes numbers e f =
-    if sameb types.the_type e.field_type SFRotation
+    if is_rotation e.field_type
     then dropped_rotation e f
-    else (typed_value numbers e f >>= accepted nodes e f)
+    else (typed_value numbers e.field_type f >>= accepted_in_range nodes e f)
 
 abbrev pub default_of : Entry → Option Value
 default_of e = option_and_then (default_value e.field_type) e.default
@@ -101,10 +110,46 @@ values_from nodes numbers fields number (e ∷ es) made =
     field_value nodes numbers e (given fields number) >>= λ value.
     values_from nodes numbers fields (number + 1) es (made ++ value ∷ [])
 
--- the values of a node's fields, in table order
+-- ---- the fields that a Script declares: no rotation, any node, and no range but that of the type
+
+abbrev pub no_rotation : FlatField → Result (Option Value) SceneFault
+no_rotation f =
+    at_line f.line (checked_rotation f.value true) >>= λ _. Err (fault RotationUnsupported f.line)
+
+abbrev pub declared_given : List FlatNode → List ℕ → Declaration ℕ → FlatField
+    → Result (Option Value) SceneFault
+declared_given nodes numbers d f =
+    if is_rotation d.field_type
+    then no_rotation f
+    else (typed_value numbers d.field_type f >>= accepted nodes d.access None f)
+
+-- nothing is given
+abbrev pub declared_empty : Declaration ℕ → Result (Option Value) SceneFault
+declared_empty d =
+    if is_rotation d.field_type
+    then Err (fault RotationUnsupported d.line)
+    else Ok (default_of (declaration_entry d))
+
+unfoldable pub declared_value : List FlatNode → List ℕ → Declaration ℕ → Option FlatField
+    → Result (Option Value) SceneFault
+declared_value nodes numbers d (Some f) = declared_given nodes numbers d f
+declared_value nodes numbers d None = declared_empty d
+
+-- the values of these, the first of which has that number, behind those made so far
+abbrev pub declared_from : List FlatNode → List ℕ → List FlatField → ℕ → List (Declaration ℕ)
+    → List (Option Value) → Result (List (Option Value)) SceneFault
+declared_from nodes numbers fields number [] made = Ok made
+declared_from nodes numbers fields number (d ∷ ds) made =
+    declared_value nodes numbers d (given fields number) >>= λ value.
+    declared_from nodes numbers fields (number + 1) ds (made ++ value ∷ [])
+
+-- the values of a node's fields: those of its type in table order, then those that it declares
 unfoldable pub values_of : List FlatNode → List ℕ → FlatNode
     → Result (List (Option Value)) SceneFault
-values_of nodes numbers node = values_from nodes numbers node.fields 0 (rows node.node_type) []
+values_of nodes numbers node =
+    values_from nodes numbers node.fields 0 (rows node.node_type) [] >>=
+    declared_from nodes numbers node.fields (length (rows node.node_type))
+    (numbered_fields node.node_type node.interface)
 
 -- ---- roots and helpers are child nodes
 

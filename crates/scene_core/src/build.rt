@@ -11,6 +11,7 @@ use crate::fault::{SceneFault, SceneFaultKind, fault};
 use crate::labels::{Marks, label_of, marked};
 use crate::numbering::Numbering;
 use crate::places::{has_too_many_places, is_any_crowded};
+use crate::row::declared_fields;
 use crate::scene::SceneNode;
 use crate::values::{Known, values_of};
 use flat_document::{FlatNode, Header};
@@ -88,9 +89,11 @@ fn node_of(
 {
     let values = values_of(alloc, known, node)?;
     let label = label_of(alloc, marks, &node.name)?;
+    let declared = declared_fields(alloc, node.interface.as_slice())?;
     Ok(SceneNode {
         node_type: node.node_type,
         label,
+        declared,
         values,
     })
 }

@@ -10,13 +10,16 @@ mod at;
 mod build;
 mod deep;
 mod fault;
+mod given;
 mod labels;
 mod numbering;
 mod parts;
 mod places;
+mod row;
 mod scene;
 mod state;
 mod values;
 
 pub use fault::{SceneFault, SceneFaultKind};
+pub use row::{DeclaredField, Row};
 pub use scene::{End, Route, Scene, SceneNode};

@@ -102,7 +102,7 @@ fn parts_of(alloc: Global, nodes: &[FlatNode], node: u32) -> Result<Vec<u32>, Al
 {
     let mut parts = Vec::new(alloc);
     if let Some(node) = nodes.get(node as usize) {
-        push_parts(node, &mut parts)?;
+        push_parts(alloc, node, &mut parts)?;
     }
     Ok(parts)
 }

@@ -4,18 +4,14 @@ ghost use Rattle.std.specs.Prelude.{◌≡◌, ◌+◌, ◌<◌, ◌++◌, ◌^�
 ghost use Rattle.std.specs.Option.{option_copied};
 ghost use Rattle.x3d_values.specs.Tables.{entry};
 ghost use Rattle.scene_core.specs.Parts as spec;
+ghost use Rattle.scene_core.specs.Shape.{declaration_entry};
 
-use classic_tree::RawValue;
+use crate::given::{all_given, given};
+use crate::row::numbered_fields;
+use classic_tree::{Declaration, RawValue};
 use flat_document::{FlatField, FlatNode};
-use std::alloc::AllocError;
-use x3d_values::{Field, fields_of};
-
-/// What a node gives to the field of that number.
-pub(crate) fn given(fields: &[FlatField], number: usize) -> Option<&FlatField>
-    ensures { option_copied result ≡ spec.given fields.now number }
-{
-    fields.iter().find(|field| field.number as usize == number)
-}
+use std::alloc::{AllocError, Global};
+use x3d_values::{Field, FieldType, fields_of};
 
 /// The nodes in a value.
 pub(crate) fn inner_nodes(value: &RawValue<u32>) -> &[u32]
@@ -28,26 +24,35 @@ pub(crate) fn inner_nodes(value: &RawValue<u32>) -> &[u32]
     }
 }
 
-/// Appends the nodes in the node fields of a node, in table order.
-pub(crate) fn push_parts(node: &FlatNode, out: &mut Vec<u32>) -> Result<(), AllocError>
+/// Appends the nodes in the node fields of a node: those of its type in table order, then those
+/// that it declares.
+pub(crate) fn push_parts(
+    alloc: Global,
+    node: &FlatNode,
+    out: &mut Vec<u32>,
+) -> Result<(), AllocError>
     ensures { OnOk result (out.new.items ≡ out.old.items ++ spec.parts node.now) }
 {
-    push_parts_from(node.fields.as_slice(), 0, fields_of(node.node_type), out)
+    let fields = node.fields.as_slice();
+    let rows = fields_of(node.node_type);
+    push_parts_from(fields, 0, rows, out)?;
+    let interface = numbered_fields(node.node_type, node.interface.as_slice());
+    push_declared_parts(alloc, fields, rows.len(), interface, out)
 }
 
-fn push_parts_at(
-    fields: &[FlatField],
-    number: usize,
-    row: &Field,
+/// Appends the nodes in a field of that type that was given this.
+fn push_given(
+    field_type: FieldType,
+    field: Option<&FlatField>,
     out: &mut Vec<u32>,
 ) -> Result<(), AllocError>
     ensures { OnOk result
-        (out.new.items ≡ out.old.items ++ spec.parts_at fields.now number (entry row.now)) }
+        (out.new.items ≡ out.old.items ++ spec.parts_in field_type (option_copied field.entry)) }
 {
-    if !row.field_type.holds_nodes() {
+    if !field_type.holds_nodes() {
         return Ok(());
     }
-    let Some(field) = given(fields, number) else {
+    let Some(field) = field else {
         return Ok(());
     };
     out.extend_from_slice(inner_nodes(&field.value))
@@ -66,8 +71,28 @@ fn push_parts_from(
     match rows {
         [] => Ok(()),
         [row, others @ ..] => {
-            push_parts_at(fields, number, row, out)?;
+            push_given(row.field_type, given(fields, number), out)?;
             push_parts_from(fields, number + 1, others, out)
         }
     }
+}
+
+/// Appends the nodes in the declared fields, which are numbered from `number` on.
+#[tactic(auto, using(crate::proofs::DeclaredSteps::nodes))]
+fn push_declared_parts(
+    alloc: Global,
+    fields: &[FlatField],
+    number: usize,
+    interface: &[Declaration<u32>],
+    out: &mut Vec<u32>,
+) -> Result<(), AllocError>
+    ensures { OnOk result
+        (out.new.items ≡ out.old.items
+        ++ spec.parts_from fields.now number (map declaration_entry interface.now)) }
+{
+    let given = all_given(alloc, fields, number, interface.len())?;
+    for i in 0..interface.len() {
+        push_given(interface[i].field_type, given[i], out)?;
+    }
+    Ok(())
 }

@@ -1,11 +1,14 @@
 //! A scene and what is asked of it.
 
-ghost use Rattle.std.specs.Prelude.{◌≡◌, ◌<◌, Some, IfOk, length, slice_get, ◌++◌, OnOk, OnErr};
-ghost use Rattle.std.specs.Option.{option_copied};
+ghost use Rattle.std.specs.Prelude.{◌≡◌, ◌+◌, ◌<◌, ◌≤◌, Some, IfOk, length, slice_get, ◌++◌, OnOk, OnErr};
+ghost use Rattle.std.specs.Option.{option_copied, option_map};
 ghost use Rattle.x3d_lists.specs.Answers.{Gives};
 ghost use Rattle.scene_core.specs.Building.{scene_of};
 ghost use Rattle.scene_core.specs.Faults.{memory};
-ghost use Rattle.scene_core.specs.Scene.{types_of, number_of, value_at, children_of, state_of, label_of, name_at};
+ghost use Rattle.scene_core.specs.Scene.{types_of, rows_at, declared_at, number_of, value_at, children_of, state_of, label_of, name_at};
+ghost use Rattle.scene_core.specs.Shape.{row_entry};
+ghost use Rattle.x3d_values.specs.declared.node_type.NodeType.{NodeType};
+ghost use Rattle.x3d_values.specs.Tables.{row_named, rows};
 
 use crate::at::flag_at;
 use crate::build::{called, check_limits, header_copy, nodes_of};
@@ -13,13 +16,14 @@ use crate::fault::SceneFault;
 use crate::labels::push_label;
 use crate::numbering::numbered;
 use crate::places::own_children;
+use crate::row::{DeclaredField, Row, count_by, named_by, numbered_fields, row_by};
 use crate::state::state_of;
 use crate::values::check_children;
 use flat_document::{Flat, Header};
 use std::alloc::{AllocError, Global};
 use std::marker::Model;
 use x3d_lists::{Items, Text};
-use x3d_values::{Fields, NodeType, Value};
+use x3d_values::{FieldRow, Fields, NodeType, Value};
 
 /// A field of a node of a scene.
 #[derive(Clone, Copy, Debug, PartialEq, Eq, Hash)]
@@ -42,6 +46,8 @@ pub struct SceneNode {
     pub node_type: NodeType,
     /// Its DEF name, where no other node has it and it isn't an `N` before digits.
     pub label: Option<Text>,
+    /// The fields that a Script declares behind those of its type, in the order of the text.
+    pub declared: Items<DeclaredField>,
     /// The values of its inputOutput and initializeOnly fields by the fields' numbers, and nothing
     /// at the numbers of other fields and of rotations. Nodes in them are numbers of nodes of the
     /// scene.
@@ -76,12 +82,15 @@ impl Model for Scene {
 }
 
 impl Scene {
-    ghost use Rattle.std.specs.Prelude.{◌≡◌, ◌<◌, Some, IfOk, length, slice_get, ◌++◌, OnOk, OnErr};
-    ghost use Rattle.std.specs.Option.{option_copied};
+    ghost use Rattle.std.specs.Prelude.{◌≡◌, ◌+◌, ◌<◌, ◌≤◌, Some, IfOk, length, slice_get, ◌++◌, OnOk, OnErr};
+    ghost use Rattle.std.specs.Option.{option_copied, option_map};
     ghost use Rattle.x3d_lists.specs.Answers.{Gives};
     ghost use Rattle.scene_core.specs.Building.{scene_of};
     ghost use Rattle.scene_core.specs.Faults.{memory};
-    ghost use Rattle.scene_core.specs.Scene.{types_of, number_of, value_at, children_of, state_of, label_of, name_at};
+    ghost use Rattle.scene_core.specs.Scene.{types_of, rows_at, declared_at, number_of, value_at, children_of, state_of, label_of, name_at};
+    ghost use Rattle.scene_core.specs.Shape.{row_entry};
+    ghost use Rattle.x3d_values.specs.declared.node_type.NodeType.{NodeType};
+    ghost use Rattle.x3d_values.specs.Tables.{row_named, rows};
 
     pub fn node_count(&self) -> usize
         ensures { result ≡ length self.now.nodes }
@@ -95,6 +104,50 @@ impl Scene {
         ensures { slice_get (types_of self.now) node ≡ Some result }
     {
         self.nodes.as_slice()[node as usize].node_type
+    }
+
+    /// How many fields the node of that number has: those of its type, and behind them those that
+    /// a Script declares. 0 where there is no such node.
+    #[tactic(auto, using(crate::proofs::ShapeLemmas::shapes))]
+    pub fn field_count(&self, node: u32) -> u32
+        ensures is { result ≡ length (rows_at self.now node) }
+        ensures few { result ≤ 65536 }
+    {
+        match self.nodes.get(node as usize) {
+            Some(node) => count_by(node.node_type, node.declared.as_slice()),
+            None => 0,
+        }
+    }
+
+    /// The field of that number of a node; none where there is no such field.
+    #[tactic(auto, using(crate::proofs::ShapeLemmas::shapes))]
+    pub fn row(&self, node: u32, number: u16) -> Option<Row<'_>>
+        ensures { option_map row_entry result ≡ slice_get (rows_at self.now node) number }
+    {
+        let node = self.nodes.get(node as usize)?;
+        row_by(node.node_type, node.declared.as_slice(), number)
+    }
+
+    /// The first field of that name of a node; none where there is no such field.
+    #[tactic(auto, using(crate::proofs::ShapeLemmas::shapes))]
+    pub fn field_named(&self, node: u32, name: &str) -> Option<FieldRow>
+        ensures { result ≡ row_named 0 name.now (rows_at self.now node) }
+    {
+        let node = self.nodes.get(node as usize)?;
+        named_by(node.node_type, node.declared.as_slice(), name)
+    }
+
+    /// The fields that a node declares behind those of its type, in the order of the text.
+    #[tactic(auto, using(crate::proofs::ShapeLemmas::shapes))]
+    pub fn declared(&self, node: u32) -> &[DeclaredField]
+        ensures are { result.now ≡ declared_at self.now node }
+        ensures few { (t : NodeType) → slice_get (types_of self.now) node ≡ Some t
+            → length (rows t) + length (declared_at self.now node) ≤ 65536 }
+    {
+        match self.nodes.get(node as usize) {
+            Some(node) => numbered_fields(node.node_type, node.declared.as_slice()),
+            None => &[],
+        }
     }
 
     /// The opening value of a field of a node; none where it holds no value.

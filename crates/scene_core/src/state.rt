@@ -1,14 +1,17 @@
 //! What nodes keep before any event.
 
-ghost use Rattle.std.specs.Prelude.{◌≡◌, ◌++◌, IfOk, map};
+ghost use Rattle.std.specs.Prelude.{◌≡◌, IfOk, None, map};
 ghost use Rattle.std.specs.List.{zip};
-ghost use Rattle.x3d_values.specs.Tables.{entry};
+ghost use Rattle.std.specs.Option.{option_map, option_map_or};
 ghost use Rattle.scene_core.specs.Scene as spec;
+ghost use Rattle.scene_core.specs.Scene.{shape_of};
+ghost use Rattle.scene_core.specs.Shape.{row_entry, rows_of};
 
+use crate::row::{Row, count_by, row_by};
 use crate::scene::SceneNode;
 use std::alloc::{AllocError, Global};
 use x3d_lists::Items;
-use x3d_values::{Duplicate, Field, Fields, Position, Value, fields_of};
+use x3d_values::{Duplicate, Fields, Position, Value};
 
 /// What each node keeps, by their numbers.
 pub(crate) fn state_of(alloc: Global, nodes: &[SceneNode]) -> Result<Vec<Fields>, AllocError>
@@ -21,10 +24,18 @@ pub(crate) fn state_of(alloc: Global, nodes: &[SceneNode]) -> Result<Vec<Fields>
     Ok(state)
 }
 
-/// What a node keeps of a field.
-fn kept(alloc: Global, row: &Field, value: &Option<Value>) -> Result<Option<Value>, AllocError>
-    ensures { IfOk result (λ copy. copy ≡ spec.kept (entry row.now) value.now) }
+/// What a node keeps of a field of that row; nothing where there is no row.
+fn kept(
+    alloc: Global,
+    row: Option<Row<'_>>,
+    value: &Option<Value>,
+) -> Result<Option<Value>, AllocError>
+    ensures { IfOk result (λ copy. copy
+        ≡ option_map_or (λ e. spec.kept e value.now) (option_map row_entry row.entry) None) }
 {
+    let Some(row) = row else {
+        return Ok(None);
+    };
     if row.access.is_kept(row.field_type) {
         value.duplicate(alloc)
     } else {
@@ -32,37 +43,27 @@ fn kept(alloc: Global, row: &Field, value: &Option<Value>) -> Result<Option<Valu
     }
 }
 
-/// What is kept of these fields, behind what is kept of others.
-fn push_kept(
-    alloc: Global,
-    rows: &[Field],
-    values: &[Option<Value>],
-    mut made: Items<Option<Value>>,
-) -> Result<Items<Option<Value>>, AllocError>
-    ensures { IfOk result
-        (λ all. all ≡ made ++ map (λ p. spec.kept p.0 p.1) (zip (map entry rows.now) values.now)) }
+/// What is kept at each number, in the order of the rows.
+fn values_kept(alloc: Global, node: &SceneNode) -> Result<Items<Option<Value>>, AllocError>
+    ensures { IfOk result (λ all. all
+        ≡ map (λ p. spec.kept p.0 p.1) (zip (rows_of (shape_of node.now)) node.now.values)) }
 {
-    let [row, rows @ ..] = rows else {
-        return Ok(made);
-    };
-    let [value, values @ ..] = values else {
-        return Ok(made);
-    };
-    made.push(kept(alloc, row, value)?)?;
-    push_kept(alloc, rows, values, made)
+    let declared = node.declared.as_slice();
+    let values = node.values.as_slice();
+    let count = count_by(node.node_type, declared) as usize;
+    let mut made = Items::new(alloc);
+    for number in 0..count.min(values.len()) {
+        let row = row_by(node.node_type, declared, number as u16);
+        made.push(kept(alloc, row, &values[number])?)?;
+    }
+    Ok(made)
 }
 
 fn fields_kept(alloc: Global, node: &SceneNode) -> Result<Fields, AllocError>
     ensures { IfOk result (λ fields. fields ≡ spec.fields_of node.now) }
 {
-    let values = push_kept(
-        alloc,
-        fields_of(node.node_type),
-        node.values.as_slice(),
-        Items::new(alloc),
-    )?;
     Ok(Fields {
-        values,
+        values: values_kept(alloc, node)?,
         position: Position { at: None },
     })
 }

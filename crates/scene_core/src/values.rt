@@ -9,12 +9,17 @@ ghost use Rattle.scene_core.specs.Faults.{memory};
 ghost use Rattle.scene_core.specs.Typed as spec;
 
 use crate::fault::{SceneFault, SceneFaultKind, fault};
-use crate::parts::{given, inner_nodes};
+use crate::given::{all_given, given};
+use crate::parts::inner_nodes;
+use crate::row::numbered_fields;
+use classic_tree::Declaration;
 use flat_document::{FlatField, FlatNode};
 use scene_values::{ValueFault, checked_rotation, typed};
 use std::alloc::{AllocError, Global};
 use x3d_lists::Items;
-use x3d_values::{Field, FieldType, NodeKind, Value, Vec3, default_value, fields_of};
+use x3d_values::{
+    Access, Field, FieldDefault, FieldType, NodeKind, Value, Vec3, default_value, fields_of,
+};
 
 /// The nodes of a document, and the numbers that they have in the scene.
 #[derive(Clone, Copy)]
@@ -23,7 +28,7 @@ pub struct Known<'a> {
     pub numbers: &'a [u32],
 }
 
-/// The values of a node's fields, in table order.
+/// The values of a node's fields: those of its type in table order, then those that it declares.
 #[tactic(auto, unfolding(crate::specs::Typed::values_of))]
 pub(crate) fn values_of(
     alloc: Global,
@@ -33,14 +38,11 @@ pub(crate) fn values_of(
     ensures { Gives memory (λ v. v) result
         (spec.values_of known.entry.nodes.now known.entry.numbers.now node.now) }
 {
-    push_values(
-        alloc,
-        known,
-        node.fields.as_slice(),
-        0,
-        fields_of(node.node_type),
-        Items::new(alloc),
-    )
+    let fields = node.fields.as_slice();
+    let rows = fields_of(node.node_type);
+    let made = push_values(alloc, known, fields, 0, rows, Items::new(alloc))?;
+    let interface = numbered_fields(node.node_type, node.interface.as_slice());
+    push_declared(alloc, known, fields, rows.len(), interface, made)
 }
 
 /// All of them are child nodes; the first that isn't is the fault.
@@ -109,37 +111,49 @@ fn all_taken(kind: Option<NodeKind>, nodes: &[FlatNode], inner: &[u32]) -> bool
     inner.iter().all(|n| is_taken(kind, nodes, *n))
 }
 
-/// A value of its type, unless another fault keeps it from the field.
+/// A value of its type goes into a field of that access and kind, unless another fault keeps it
+/// from there.
 fn accepted(
-    known: Known<'_>,
-    row: &Field,
+    nodes: &[FlatNode],
+    access: Access,
+    kind: Option<NodeKind>,
     field: &FlatField,
     value: Value,
 ) -> Result<Option<Value>, SceneFault>
-    ensures { result ≡ spec.accepted known.entry.nodes.now (entry row.now) field.now value }
+    ensures { result ≡ spec.accepted nodes.now access kind field.now value }
 {
-    if !in_range(row.name, &value) {
-        return Err(fault(SceneFaultKind::ValueRange, field.line));
-    }
-    if !row.access.is_initial() {
+    if !access.is_initial() {
         return Err(fault(SceneFaultKind::NotInitial, field.line));
     }
-    if !all_taken(row.kind, known.nodes, inner_nodes(&field.value)) {
+    if !all_taken(kind, nodes, inner_nodes(&field.value)) {
         return Err(fault(SceneFaultKind::BadChild, field.line));
     }
     Ok(Some(value))
 }
 
-fn typed_value(
-    alloc: Global,
-    known: Known<'_>,
+fn accepted_in_range(
+    nodes: &[FlatNode],
     row: &Field,
     field: &FlatField,
-) -> Result<Value, SceneFault>
-    ensures { Gives memory (λ v. v) result
-        (spec.typed_value known.entry.numbers.now (entry row.now) field.now) }
+    value: Value,
+) -> Result<Option<Value>, SceneFault>
+    ensures { result ≡ spec.accepted_in_range nodes.now (entry row.now) field.now value }
 {
-    match typed(alloc, row.field_type, &field.value, known.numbers) {
+    if !in_range(row.name, &value) {
+        return Err(fault(SceneFaultKind::ValueRange, field.line));
+    }
+    accepted(nodes, row.access, row.kind, field, value)
+}
+
+fn typed_value(
+    alloc: Global,
+    numbers: &[u32],
+    field_type: FieldType,
+    field: &FlatField,
+) -> Result<Value, SceneFault>
+    ensures { Gives memory (λ v. v) result (spec.typed_value numbers.now field_type field.now) }
+{
+    match typed(alloc, field_type, &field.value, numbers) {
         Ok(value) => Ok(value),
         Err(refused) => Err(fault_at(field.line, refused)),
     }
@@ -157,8 +171,8 @@ fn given_value(
     if row.field_type == FieldType::SFRotation {
         return dropped_rotation(row, field);
     }
-    let value = typed_value(alloc, known, row, field)?;
-    accepted(known, row, field, value)
+    let value = typed_value(alloc, known.numbers, row.field_type, field)?;
+    accepted_in_range(known.nodes, row, field, value)
 }
 
 fn default_of(alloc: Global, row: &Field) -> Result<Option<Value>, AllocError>
@@ -209,6 +223,90 @@ fn push_values(
             push_values(alloc, known, fields, number + 1, others, made)
         }
     }
+}
+
+fn declared_given(
+    alloc: Global,
+    known: Known<'_>,
+    declaration: &Declaration<u32>,
+    field: &FlatField,
+) -> Result<Option<Value>, SceneFault>
+    ensures { Gives memory (λ v. v) result
+        (spec.declared_given known.entry.nodes.now known.entry.numbers.now declaration.now
+        field.now) }
+{
+    if declaration.field_type == FieldType::SFRotation {
+        return no_rotation(field);
+    }
+    let value = typed_value(alloc, known.numbers, declaration.field_type, field)?;
+    accepted(known.nodes, declaration.access, None, field, value)
+}
+
+/// A Script declares no rotation: four numerals are none that is supported.
+fn no_rotation(field: &FlatField) -> Result<Option<Value>, SceneFault>
+    ensures { result ≡ spec.no_rotation field.now }
+{
+    match checked_rotation(&field.value, true) {
+        Ok(()) => Err(fault(SceneFaultKind::RotationUnsupported, field.line)),
+        Err(refused) => Err(fault_at(field.line, refused)),
+    }
+}
+
+/// What a declared field holds that is given nothing.
+fn declared_empty(
+    alloc: Global,
+    declaration: &Declaration<u32>,
+) -> Result<Option<Value>, SceneFault>
+    ensures { Gives memory (λ v. v) result (spec.declared_empty declaration.now) }
+{
+    if declaration.field_type == FieldType::SFRotation {
+        return Err(fault(SceneFaultKind::RotationUnsupported, declaration.line));
+    }
+    if declaration.access.is_initial() {
+        Ok(default_value(alloc, declaration.field_type, FieldDefault::Empty)?)
+    } else {
+        Ok(None)
+    }
+}
+
+/// What a declared field holds: the value given, or the empty value of its type.
+#[tactic(auto, unfolding(crate::specs::Typed::declared_value))]
+fn declared_value(
+    alloc: Global,
+    known: Known<'_>,
+    declaration: &Declaration<u32>,
+    field: Option<&FlatField>,
+) -> Result<Option<Value>, SceneFault>
+    ensures { Gives memory (λ v. v) result
+        (spec.declared_value known.entry.nodes.now known.entry.numbers.now declaration.now
+        (option_copied field.entry)) }
+{
+    match field {
+        Some(field) => declared_given(alloc, known, declaration, field),
+        None => declared_empty(alloc, declaration),
+    }
+}
+
+/// The values of the declared fields, which are numbered from `number` on, behind those made so
+/// far.
+#[tactic(auto, using(crate::proofs::DeclaredSteps::values))]
+fn push_declared(
+    alloc: Global,
+    known: Known<'_>,
+    fields: &[FlatField],
+    number: usize,
+    interface: &[Declaration<u32>],
+    mut made: Items<Option<Value>>,
+) -> Result<Items<Option<Value>>, SceneFault>
+    ensures { Gives memory (λ v. v) result
+        (spec.declared_from known.entry.nodes.now known.entry.numbers.now fields.now number
+        interface.now made) }
+{
+    let given = all_given(alloc, fields, number, interface.len())?;
+    for i in 0..interface.len() {
+        made.push(declared_value(alloc, known, &interface[i], given[i])?)?;
+    }
+    Ok(made)
 }
 
 /// A root or helper is a child node.

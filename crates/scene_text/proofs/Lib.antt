@@ -1,3 +1,4 @@
+pub mod DeclaredFields
 pub mod Listed
 pub mod Ranges
 pub mod Trees

@@ -1,22 +1,16 @@
 -- How often the nodes of a scene appear, and which need a DEF (ISO/IEC 19776-2, DEF and USE).
-use Rattle.std.specs.Prelude.{ℕ, ◌==◌, ◌||◌, Bool, List, [], ◌∷◌, ◌++◌, Option, Some, None, is_some, length, map, nat_le, count_by, flat_map}
+use Rattle.std.specs.Prelude.{ℕ, ◌==◌, ◌||◌, Bool, List, [], ◌∷◌, ◌++◌, is_some, length, map, nat_le, count_by, flat_map}
 use Rattle.std.specs.List.{range_with_len}
-use Rattle.x3d_values.specs.declared.node_type.NodeType.{NodeType}
-use Rattle.x3d_values.specs.Tables.{rows}
 use Rattle.scene_core.specs.Deep.{linked}
 use Rattle.scene_core.specs.declared.scene.Route.{Route}
-use Rattle.scene_core.specs.Scene.{SceneView, name_at, type_at, value_at}
+use Rattle.scene_core.specs.Scene.{SceneView, name_at, rows_at, value_at}
 
 -- ---- every appearance
 
--- the nodes in the fields of a node of that type
-abbrev pub nodes_below : SceneView → ℕ → Option NodeType → List ℕ
-nodes_below s n (Some t) =
-    flat_map (λ number. linked (value_at s n number)) (range_with_len 0 (length (rows t)))
-nodes_below s n None = []
-
+-- the nodes in the fields of a node
 abbrev pub nodes_within : SceneView → ℕ → List ℕ
-nodes_within s n = nodes_below s n (type_at s n)
+nodes_within s n =
+    flat_map (λ number. linked (value_at s n number)) (range_with_len 0 (length (rows_at s n)))
 
 -- the nodes as they appear in the text: among the roots and the helpers and in the fields of each
 -- node

@@ -1,25 +1,29 @@
 -- The trees of the nodes of a scene: a node's first appearance in full, later ones by USE (ISO/IEC
 -- 19776-2, DEF and USE).
-use Rattle.std.specs.Prelude.{ℕ, zero, suc, ◌+◌, Bool, true, false, not, List, [], ◌∷◌, ◌++◌, Option, Some, None, get_or, slice_get, slice_set, fold, option_and_then, if◌then◌else◌}
+use Rattle.std.specs.Prelude.{ℕ, zero, suc, ◌+◌, Bool, true, false, not, List, [], ◌∷◌, ◌++◌, Option, Some, None, get_or, length, slice_get, slice_set, fold, option_and_then, if◌then◌else◌}
 use Rattle.std.specs.Option.{option_or}
 use Rattle.x3d_values.specs.declared.default.FieldDefault.{FieldDefault}
+use Rattle.x3d_values.specs.declared.field_type.Access.{Access}
+use Rattle.x3d_values.specs.declared.field_type.FieldType.{FieldType}
 use Rattle.x3d_values.specs.declared.node_type.NodeType.{NodeType}
 use Rattle.x3d_values.specs.declared.fields.Fields.{Fields}
 use Rattle.x3d_values.specs.declared.value.Value.{Value}
 use Rattle.x3d_values.specs.declared.value.Value.TheVariants.{SFNode, MFNode}
-use Rattle.x3d_values.specs.Access.{is_kept}
+use Rattle.x3d_values.specs.Access.{is_initial, is_kept}
 use Rattle.x3d_values.specs.Kept.{field_value}
 use Rattle.x3d_values.specs.Names.{node_type_name}
 use Rattle.x3d_values.specs.Tables.{Entry, rows}
 use Rattle.classic_tree.specs.declared.tree.RawValue.{RawValue}
 use Rattle.classic_tree.specs.declared.tree.RawValue.TheVariants as raw
+use Rattle.classic_tree.specs.declared.tree.Given.{Given}
 use Rattle.classic_tree.specs.declared.tree.Given.TheVariants as given
 use Rattle.classic_tree.specs.declared.tree.BodyItem.{BodyItem}
 use Rattle.classic_tree.specs.declared.tree.BodyItem.TheVariants as item
 use Rattle.classic_tree.specs.declared.tree.NodeText.{NodeText}
 use Rattle.classic_tree.specs.declared.tree.NodeText.TheVariants as node
 use Rattle.scene_core.specs.declared.scene.Route.{Route}
-use Rattle.scene_core.specs.Scene.{SceneView, label_of, type_at, value_at}
+use Rattle.scene_core.specs.declared.row.DeclaredField.{DeclaredField}
+use Rattle.scene_core.specs.Scene.{SceneView, declared_at, label_of, type_at, value_at}
 use Rattle.scene_text.specs.Defaulted.{is_default}
 use Rattle.scene_text.specs.Raw.{plain}
 
@@ -33,24 +37,25 @@ pub record PlanView : Type 0 where
 
 -- ---- the fields of a node that stand in the text
 
--- a field and its present value
-pub record Shown : Type 0 where
-  pub name : List ℕ
-  pub value : Value
+-- a field of a type with its present value, or a declared field with what it holds
+pub data Shown : Type 0 where
+  Plain : List ℕ → Value → Shown
+  Declared : DeclaredField → Option Value → Shown
 
 -- what the node keeps of an inputOutput field without nodes
-abbrev pub kept_value : PlanView → ℕ → ℕ → Entry → Option Value
-kept_value p n number e =
-    if is_kept e.access e.field_type
+abbrev pub kept_value : PlanView → ℕ → ℕ → Access → FieldType → Option Value
+kept_value p n number access field_type =
+    if is_kept access field_type
     then option_and_then (λ (fields : Fields). field_value fields number) (slice_get p.state n)
     else None
 
 -- and otherwise what the scene gives
-abbrev pub present_value : PlanView → ℕ → ℕ → Entry → Option Value
-present_value p n number e = option_or (kept_value p n number e) (value_at p.scene n number)
+abbrev pub present_value : PlanView → ℕ → ℕ → Access → FieldType → Option Value
+present_value p n number access field_type =
+    option_or (kept_value p n number access field_type) (value_at p.scene n number)
 
 abbrev pub shown_if : Bool → List ℕ → Value → List Shown
-shown_if stands name value = if stands then record { name = name; value = value } ∷ [] else []
+shown_if stands name value = if stands then Plain name value ∷ [] else []
 
 -- a field stands where it can hold a value, and holds another than its default
 abbrev pub shown_field : List ℕ → Option FieldDefault → Option Value → List Shown
@@ -61,10 +66,24 @@ shown_field name _ _ = []
 abbrev pub shown_from : PlanView → ℕ → ℕ → List Entry → List Shown
 shown_from p n number [] = []
 shown_from p n number (e ∷ others) =
-    shown_field e.name e.default (present_value p n number e) ++ shown_from p n (number + 1) others
+    shown_field e.name e.default (present_value p n number e.access e.field_type)
+    ++ shown_from p n (number + 1) others
 
+-- what a declared field holds: inputOnly and outputOnly ones hold nothing
+abbrev pub held_value : PlanView → ℕ → ℕ → DeclaredField → Option Value
+held_value p n number d =
+    if is_initial d.access then present_value p n number d.access d.field_type else None
+
+-- all declared fields stand, the first of these being of that number
+abbrev pub declared_from : PlanView → ℕ → ℕ → List DeclaredField → List Shown
+declared_from p n number [] = []
+declared_from p n number (d ∷ others) =
+    Declared d (held_value p n number d) ∷ declared_from p n (number + 1) others
+
+-- those of the type, then those that a Script declares
 unfoldable pub shown_fields : PlanView → ℕ → NodeType → List Shown
-shown_fields p n t = shown_from p n 0 (rows t)
+shown_fields p n t =
+    shown_from p n 0 (rows t) ++ declared_from p n (length (rows t)) (declared_at p.scene n)
 
 -- ---- trees, by which nodes have appeared
 
@@ -98,10 +117,29 @@ value_tree tree seen (SFNode (Some n)) = as_node (tree seen n)
 value_tree tree seen (MFNode ns) = node_list tree seen ns
 value_tree tree seen value = record { seen = seen; made = plain value }
 
+abbrev pub plain_tree : List ℕ → Step (RawValue NodeText) → Step BodyItem
+plain_tree name m = record { seen = m.seen; made = item.Field 0 name (given.Value m.made) }
+
+abbrev pub given_tree : Makes ℕ NodeText → Makes (Option Value) (Given NodeText)
+given_tree tree seen None = record { seen = seen; made = given.Nothing }
+given_tree tree seen (Some value) =
+    let m = value_tree tree seen value in record { seen = m.seen; made = given.Value m.made }
+
+abbrev pub declaration : DeclaredField → Given NodeText → BodyItem
+declaration d held = item.Declaration (record {
+  line = 0;
+  access = d.access;
+  field_type = d.field_type;
+  name = d.name;
+  given = held;
+})
+
+abbrev pub declared_tree : DeclaredField → Step (Given NodeText) → Step BodyItem
+declared_tree d m = record { seen = m.seen; made = declaration d m.made }
+
 abbrev pub field_tree : Makes ℕ NodeText → Makes Shown BodyItem
-field_tree tree seen shown =
-    let m = value_tree tree seen shown.value in
-    record { seen = m.seen; made = item.Field 0 shown.name (given.Value m.made) }
+field_tree tree seen (Plain name value) = plain_tree name (value_tree tree seen value)
+field_tree tree seen (Declared d held) = declared_tree d (given_tree tree seen held)
 
 -- the type of a node that has not appeared
 abbrev pub new_type : PlanView → List Bool → ℕ → Option NodeType

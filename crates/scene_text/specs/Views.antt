@@ -1,7 +1,9 @@
 -- A plan and a shown field of the program by what stands behind their references.
+use Rattle.std.specs.Option.{option_copied}
 use Rattle.scene_text.specs.declared.plan.Plan.{Plan}
 use Rattle.scene_text.specs.declared.plan.ShownField.{ShownField}
-use Rattle.scene_text.specs.Tree.{PlanView, Shown}
+use Rattle.scene_text.specs.declared.plan.ShownField.TheVariants as shown
+use Rattle.scene_text.specs.Tree.{PlanView, Shown, Plain, Declared}
 
 abbrev pub plan_of : Plan → PlanView
 plan_of p = record {
@@ -12,4 +14,5 @@ plan_of p = record {
 }
 
 abbrev pub shown_of : ShownField → Shown
-shown_of f = record { name = f.name.now; value = f.value.now }
+shown_of (shown.Plain name value) = Plain name.now value.now
+shown_of (shown.Declared d held) = Declared d.now (option_copied held)

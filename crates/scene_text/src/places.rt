@@ -1,15 +1,15 @@
 //! How often nodes appear, and which first appearances need a DEF.
 
-ghost use Rattle.std.specs.Prelude.{◌≡◌, ◌++◌, ◌+◌, ◌^◌, ◌<◌, ◌≤◌, ◌==◌, ℕ, cond, IfOk, OnOk, Some, length, get_or, flat_map};
+ghost use Rattle.std.specs.Prelude.{◌≡◌, ◌++◌, ◌+◌, ◌^◌, ◌<◌, ◌≤◌, ◌==◌, ℕ, cond, IfOk, OnOk, length, get_or, flat_map};
 ghost use Rattle.std.specs.Option.{option_copied};
 ghost use Rattle.std.specs.List.{range_with_len};
-ghost use Rattle.x3d_values.specs.Tables.{rows};
 ghost use Rattle.scene_core.specs.Deep.{linked};
-ghost use Rattle.scene_text.specs.Places.{nodes_below, nodes_within, places, ends_of, times, is_named, named};
+ghost use Rattle.scene_core.specs.Scene.{value_at};
+ghost use Rattle.scene_text.specs.Places.{nodes_within, places, ends_of, times, is_named, named};
 
 use scene_core::{Route, Scene};
 use std::alloc::{AllocError, Global};
-use x3d_values::{NodeType, Value, fields_of};
+use x3d_values::Value;
 
 /// By node number: its first appearance needs a DEF.
 #[tactic(auto, using(crate::proofs::Ranges::ranges), unfolding(crate::specs::Places::named))]
@@ -43,29 +43,6 @@ fn push_nodes_of(value: Option<&Value>, out: &mut Vec<u32>) -> Result<(), AllocE
     }
 }
 
-/// How many fields the table has for the type.
-fn field_count(node_type: NodeType) -> u16
-    ensures { result ≡ length (rows node_type) }
-{
-    fields_of(node_type).len() as u16
-}
-
-/// The nodes in the fields of a node of that type.
-fn push_nodes_below(
-    scene: &Scene,
-    node: u32,
-    node_type: NodeType,
-    out: &mut Vec<u32>,
-) -> Result<(), AllocError>
-    ensures { OnOk result
-        (out.new.items ≡ out.old.items ++ nodes_below scene.now node (Some node_type)) }
-{
-    for number in 0..field_count(node_type) {
-        push_nodes_of(scene.value(node, number), out)?;
-    }
-    Ok(())
-}
-
 /// How many nodes the scene has. A scene has at most 65,536.
 fn node_count(scene: &Scene) -> Result<u32, AllocError>
     ensures { IfOk result (λ count. count ≡ length scene.now.nodes) }
@@ -76,11 +53,27 @@ fn node_count(scene: &Scene) -> Result<u32, AllocError>
     }
 }
 
+fn push_nodes_at(
+    scene: &Scene,
+    node: u32,
+    number: u32,
+    out: &mut Vec<u32>,
+) -> Result<(), AllocError>
+    requires { number < 65536 }
+    ensures { OnOk result
+        (out.new.items ≡ out.old.items ++ linked (value_at scene.now node number)) }
+{
+    push_nodes_of(scene.value(node, number as u16), out)
+}
+
+/// The nodes in the fields of a node.
 fn push_nodes_within(scene: &Scene, node: u32, out: &mut Vec<u32>) -> Result<(), AllocError>
-    requires { node < length scene.now.nodes }
     ensures { OnOk result (out.new.items ≡ out.old.items ++ nodes_within scene.now node) }
 {
-    push_nodes_below(scene, node, scene.node_type(node), out)
+    for number in 0..scene.field_count(node) {
+        push_nodes_at(scene, node, number, out)?;
+    }
+    Ok(())
 }
 
 /// Every appearance of a node in the text.

@@ -1,17 +1,17 @@
 //! What of a node stands in the text: its label, and those of its fields that differ from their
 //! defaults.
 
-ghost use Rattle.std.specs.Prelude.{◌≡◌, ◌+◌, ◌++◌, ◌<◌, IfOk, OnOk, length, map};
+ghost use Rattle.std.specs.Prelude.{◌≡◌, ◌+◌, ◌++◌, ◌<◌, ◌≤◌, IfOk, OnOk, Some, length, map, slice_get};
 ghost use Rattle.std.specs.Option.{option_copied};
 ghost use Rattle.x3d_values.specs.Tables.{entry};
-ghost use Rattle.scene_core.specs.Scene.{label_of};
-ghost use Rattle.scene_text.specs.Tree.{kept_value, present_value, shown_field, shown_from, shown_fields, def_name};
+ghost use Rattle.scene_core.specs.Scene.{label_of, types_of};
+ghost use Rattle.scene_text.specs.Tree.{kept_value, present_value, held_value, declared_from, shown_field, shown_from, shown_fields, def_name};
 ghost use Rattle.scene_text.specs.Views.{plan_of, shown_of};
 
 use crate::defaults::is_default;
-use scene_core::{Route, Scene};
+use scene_core::{DeclaredField, Route, Scene};
 use std::alloc::{AllocError, Global};
-use x3d_values::{Duplicate, Field, Fields, NodeType, Text, Value, fields_of};
+use x3d_values::{Access, Duplicate, Field, FieldType, Fields, NodeType, Text, Value, fields_of};
 
 /// A scene with its routes and what its nodes keep.
 #[derive(Clone, Copy)]
@@ -23,11 +23,13 @@ pub(crate) struct Plan<'a> {
     pub named: &'a [bool],
 }
 
-/// A field that stands in the text, with its present value.
+/// A field that stands in the text.
 #[derive(Clone, Copy)]
-pub(crate) struct ShownField<'a> {
-    pub name: &'a str,
-    pub value: &'a Value,
+pub(crate) enum ShownField<'a> {
+    /// A field of the node's type, with its present value.
+    Plain(&'a str, &'a Value),
+    /// A field that the node declares, with what it holds.
+    Declared(&'a DeclaredField, Option<&'a Value>),
 }
 
 /// The name of a node that no other node has.
@@ -63,19 +65,29 @@ pub(crate) fn shown_fields<'a>(
     node: u32,
     node_type: NodeType,
 ) -> Result<Vec<ShownField<'a>>, AllocError>
+    requires { slice_get (types_of plan.now.scene.now) node ≡ Some node_type }
     ensures { IfOk result
         (λ fields. map shown_of fields.items ≡ shown_fields (plan_of plan.now) node node_type) }
 {
     let mut shown = Vec::new(alloc);
-    push_shown_from(plan, node, 0, fields_of(node_type), &mut shown)?;
+    let rows = fields_of(node_type);
+    push_shown_from(plan, node, 0, rows, &mut shown)?;
+    let scene: &'a Scene = plan.scene;
+    push_declared(plan, node, rows.len(), scene.declared(node), &mut shown)?;
     Ok(shown)
 }
 
 /// What the node keeps of an inputOutput field without nodes.
-fn kept_value<'a>(plan: &Plan<'a>, node: u32, number: u16, field: &Field) -> Option<&'a Value>
-    ensures { option_copied result ≡ kept_value (plan_of plan.now) node number (entry field.now) }
+fn kept_value<'a>(
+    plan: &Plan<'a>,
+    node: u32,
+    number: u16,
+    access: Access,
+    field_type: FieldType,
+) -> Option<&'a Value>
+    ensures { option_copied result ≡ kept_value (plan_of plan.now) node number access field_type }
 {
-    if field.access.is_kept(field.field_type) {
+    if access.is_kept(field_type) {
         plan.state.get(node as usize)?.value(number)
     } else {
         None
@@ -83,11 +95,17 @@ fn kept_value<'a>(plan: &Plan<'a>, node: u32, number: u16, field: &Field) -> Opt
 }
 
 /// The present value of a field: what the node keeps, or else what the scene gives.
-fn present_value<'a>(plan: &Plan<'a>, node: u32, number: u16, field: &Field) -> Option<&'a Value>
+fn present_value<'a>(
+    plan: &Plan<'a>,
+    node: u32,
+    number: u16,
+    access: Access,
+    field_type: FieldType,
+) -> Option<&'a Value>
     ensures { option_copied result
-        ≡ present_value (plan_of plan.now) node number (entry field.now) }
+        ≡ present_value (plan_of plan.now) node number access field_type }
 {
-    match kept_value(plan, node, number, field) {
+    match kept_value(plan, node, number, access, field_type) {
         Some(value) => Some(value),
         None => plan.scene.value(node, number),
     }
@@ -111,10 +129,7 @@ fn push_shown<'a>(
     if is_default(&default, value) {
         return Ok(());
     }
-    out.push(ShownField {
-        name: field.name,
-        value,
-    })?;
+    out.push(ShownField::Plain(field.name, value))?;
     Ok(())
 }
 
@@ -133,8 +148,45 @@ fn push_shown_from<'a>(
     match fields {
         [] => Ok(()),
         [field, others @ ..] => {
-            push_shown(field, present_value(plan, node, number, field), out)?;
+            let present = present_value(plan, node, number, field.access, field.field_type);
+            push_shown(field, present, out)?;
             push_shown_from(plan, node, number + 1, others, out)
         }
     }
+}
+
+/// What a declared field holds: inputOnly and outputOnly ones hold nothing.
+fn held_value<'a>(
+    plan: &Plan<'a>,
+    node: u32,
+    number: u16,
+    field: &DeclaredField,
+) -> Option<&'a Value>
+    ensures { option_copied result ≡ held_value (plan_of plan.now) node number field.now }
+{
+    if field.access.is_initial() {
+        present_value(plan, node, number, field.access, field.field_type)
+    } else {
+        None
+    }
+}
+
+/// Puts the declared fields of a node behind the others; they are numbered from `first` on.
+#[tactic(auto, using(crate::proofs::DeclaredFields::declaring))]
+fn push_declared<'a>(
+    plan: &Plan<'a>,
+    node: u32,
+    first: usize,
+    fields: &'a [DeclaredField],
+    out: &mut Vec<ShownField<'a>>,
+) -> Result<(), AllocError>
+    requires { first + length fields.now ≤ 65536 }
+    ensures { OnOk result (map shown_of out.new.items ≡ map shown_of out.old.items
+        ++ declared_from (plan_of plan.now) node first fields.now) }
+{
+    for i in 0..fields.len() {
+        let held = held_value(plan, node, (first + i) as u16, &fields[i]);
+        out.push(ShownField::Declared(&fields[i], held))?;
+    }
+    Ok(())
 }

@@ -11,7 +11,7 @@ use crate::tree::{node_tree, node_trees};
 use classic_tree::{BodyItem, Given, NodeText, Place, RawValue, RouteText, Statement};
 use scene_core::{End, Route, Scene};
 use std::alloc::{AllocError, Global};
-use x3d_values::{Items, MAX_DEPTH, Text, fields_of};
+use x3d_values::{Items, MAX_DEPTH, Text};
 
 /// All statements of the scene.
 #[tactic(auto, unfolding(crate::specs::Statements::statements_of))]
@@ -27,16 +27,12 @@ pub(crate) fn statements_of(alloc: Global, plan: &Plan<'_>) -> Result<Vec<Statem
 
 /// The field's own name.
 #[tactic(auto, using(crate::proofs::Ranges::names))]
-fn field_name(scene: &Scene, end: &End) -> &'static str
-    ensures { result.now ≡ field_name scene.now end.now }
+fn field_name(scene: &Scene, end: End) -> &str
+    ensures { result.now ≡ field_name scene.now end }
 {
-    if (end.node as usize) < scene.node_count() {
-        match fields_of(scene.node_type(end.node)).get(end.field as usize) {
-            Some(field) => field.name,
-            None => "",
-        }
-    } else {
-        ""
+    match scene.row(end.node, end.field) {
+        Some(row) => row.name,
+        None => "",
     }
 }
 
@@ -45,7 +41,7 @@ fn place_of(alloc: Global, scene: &Scene, end: &End) -> Result<Place, AllocError
 {
     Ok(Place {
         node: label(alloc, scene, end.node)?,
-        field: Text::from_str(alloc, field_name(scene, end))?,
+        field: Text::from_str(alloc, field_name(scene, *end))?,
     })
 }
 

@@ -1,17 +1,19 @@
 //! The trees of nodes: a node's first appearance in full, later ones by USE.
 
-ghost use Rattle.std.specs.Prelude.{◌≡◌, ◌<◌, IfOk, IfSome, length, map};
-ghost use Rattle.scene_core.specs.Scene.{label_of};
-ghost use Rattle.scene_text.specs.Tree.{new_type, use_tree, each, node_list, value_tree, field_tree, node_tree, def_name};
+ghost use Rattle.std.specs.Prelude.{◌≡◌, ◌<◌, IfOk, IfSome, Some, length, map, slice_get};
+ghost use Rattle.std.specs.Option.{option_copied};
+ghost use Rattle.scene_core.specs.Scene.{label_of, types_of};
+ghost use Rattle.scene_text.specs.Tree.{new_type, use_tree, each, node_list, value_tree, plain_tree, given_tree, declaration, declared_tree, field_tree, node_tree, def_name};
 ghost use Rattle.scene_text.specs.Views.{plan_of, shown_of};
 ghost use Rattle.x3d_values.specs.Names.{node_type_name};
 ghost use Rattle.classic_tree.specs.declared.tree.NodeText.TheVariants as text;
 
 use crate::plan::{Plan, ShownField, def_name, label, shown_fields};
 use crate::raw::plain;
-use classic_tree::{BodyItem, Given, NodeText, RawValue};
+use classic_tree::{BodyItem, Declaration, Given, NodeText, RawValue};
+use scene_core::DeclaredField;
 use std::alloc::{AllocError, Global};
-use x3d_values::{Items, NodeType, Text, Value};
+use x3d_values::{Duplicate, Items, NodeType, Text, Value};
 
 /// The tree of a node where nodes may be nested to that depth.
 #[cycle(tree)]
@@ -59,6 +61,8 @@ pub(crate) fn node_trees(
 /// The type of a node that has not appeared.
 fn new_type(plan: &Plan<'_>, seen: &[bool], node: u32) -> Option<NodeType>
     ensures is { result ≡ new_type (plan_of plan.now) seen.now node }
+    ensures typed { IfSome result
+        (λ t. slice_get (types_of plan.now.scene.now) node ≡ Some t) }
     ensures within { IfSome result (λ t. node < length seen.now) }
 {
     match seen.get(node as usize) {
@@ -121,9 +125,81 @@ fn field_tree(
     ensures { IfOk result (λ made. record { seen = seen.new.items; made = made }
         ≡ field_tree (node_tree depth (plan_of plan.now)) seen.old.items (shown_of shown.now)) }
 {
-    let value = value_tree(alloc, plan, seen, depth, shown.value)?;
-    let name = Text::from_str(alloc, shown.name)?;
+    match shown {
+        ShownField::Plain(name, value) => plain_tree(alloc, plan, seen, depth, name, value),
+        ShownField::Declared(field, held) => declared_tree(alloc, plan, seen, depth, field, *held),
+    }
+}
+
+#[cycle(tree)]
+fn plain_tree(
+    alloc: Global,
+    plan: &Plan<'_>,
+    seen: &mut Vec<bool>,
+    depth: u32,
+    name: &str,
+    value: &Value,
+) -> Result<BodyItem, AllocError>
+    ensures { IfOk result (λ made. record { seen = seen.new.items; made = made }
+        ≡ plain_tree name.now
+        (value_tree (node_tree depth (plan_of plan.now)) seen.old.items value.now)) }
+{
+    let value = value_tree(alloc, plan, seen, depth, value)?;
+    let name = Text::from_str(alloc, name)?;
     Ok(BodyItem::Field(0, name, Given::Value(value)))
+}
+
+#[cycle(tree)]
+fn declared_tree(
+    alloc: Global,
+    plan: &Plan<'_>,
+    seen: &mut Vec<bool>,
+    depth: u32,
+    field: &DeclaredField,
+    held: Option<&Value>,
+) -> Result<BodyItem, AllocError>
+    ensures { IfOk result (λ made. record { seen = seen.new.items; made = made }
+        ≡ declared_tree field.now
+        (given_tree (node_tree depth (plan_of plan.now)) seen.old.items
+        (option_copied held.entry))) }
+{
+    let given = given_tree(alloc, plan, seen, depth, held)?;
+    declaration(alloc, field, given)
+}
+
+#[cycle(tree)]
+fn given_tree(
+    alloc: Global,
+    plan: &Plan<'_>,
+    seen: &mut Vec<bool>,
+    depth: u32,
+    held: Option<&Value>,
+) -> Result<Given<NodeText>, AllocError>
+    ensures { IfOk result (λ made. record { seen = seen.new.items; made = made }
+        ≡ given_tree (node_tree depth (plan_of plan.now)) seen.old.items
+        (option_copied held.entry)) }
+{
+    match held {
+        Some(value) => Ok(Given::Value(value_tree(alloc, plan, seen, depth, value)?)),
+        None => Ok(Given::Nothing),
+    }
+}
+
+fn declaration(
+    alloc: Global,
+    field: &DeclaredField,
+    given: Given<NodeText>,
+) -> Result<BodyItem, AllocError>
+    ensures { IfOk result (λ made. made ≡ declaration field.now given) }
+{
+    let name = field.name.duplicate(alloc)?;
+    Ok(BodyItem::Declaration(Declaration {
+        line: 0,
+        access: field.access,
+        field_type: field.field_type,
+        name,
+        given,
+    }))
 }
 
 #[cycle(tree)]

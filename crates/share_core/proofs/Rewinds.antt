@@ -3,7 +3,7 @@ use Rattle.std.proofs.Common.{◌≡◌, ℕ, ◌^◌, ◌<◌, ◌≤◌, ◌�
 use Rattle.std.specs.Prelude.{◌&&◌, nat_le, not, Result, Ok, Err}
 use Rattle.std.proofs.lemmas.Bool.{and_parts, and_from, cond-true, cond-false, cases_lt, leb-true, le-leb, lt-leb}
 use Rattle.byte_codec.specs.Exact.{IsBytes}
-use Rattle.scene_core.specs.Scene.{SceneView, types_of}
+use Rattle.scene_core.specs.Scene.{SceneView, shapes_of}
 use Rattle.cascade_core.specs.declared.world.WorldData.{WorldData}
 use Rattle.cascade_core.specs.Held.{StageView, Running, holding, applied_of}
 use Rattle.snapshot_codec.specs.Trace.{is_moment}
@@ -24,8 +24,8 @@ use Rattle.share_core.specs.Viewer.{ViewerView, machine_of}
 fits-both : (scene : SceneView) (w : WorldData) → (world_codec scene).fits w ≡ true → (w.applied ≤ 2 ^ 20) × (world_fits w ≡ true)
 unfolding world_codec
 fits-both scene w fits =
-    let parts = and_parts (nat_le w.applied (2 ^ 20)) (is_moment w.last_time && (parts_codec (types_of scene)).fits (parts_in w)) fits in
-    let rest = and_parts (is_moment w.last_time) ((parts_codec (types_of scene)).fits (parts_in w)) parts.1 in
+    let parts = and_parts (nat_le w.applied (2 ^ 20)) (is_moment w.last_time && (parts_codec (shapes_of scene)).fits (parts_in w)) fits in
+    let rest = and_parts (is_moment w.last_time) ((parts_codec (shapes_of scene)).fits (parts_in w)) parts.1 in
     (leb-true w.applied (2 ^ 20) parts.0, and_from (nat_le w.applied (2 ^ 20)) (is_moment w.last_time) parts.0 rest.0)
 
 -- ---- what was loaded

@@ -12,6 +12,7 @@ mod exactness;
 mod fault;
 mod head;
 mod kept;
+mod lists;
 mod numbers;
 mod parts;
 mod rest;

@@ -5,13 +5,14 @@ ghost use Rattle.x3d_lists.specs.Extends.{Extends};
 ghost use Rattle.snapshot_codec.specs.Reads.{Reads};
 ghost use Rattle.snapshot_codec.specs.Values.{list_at, value_codec, value_text};
 
-use crate::coded::{Coded, list_of, list_within, push_list};
+use crate::coded::{Coded, push_list};
 use crate::fault::PartFault;
+use crate::lists;
 use crate::numbers::within_of;
 use crate::vectors::{color_of, number_of, vector2_of, vector3_of};
 use byte_codec::{flag_of, i32_of};
 use std::alloc::{AllocError, Global};
-use x3d_values::{FieldType, MAX_COORDINATE, Text, Value};
+use x3d_values::{FieldType, Text, Value};
 
 /// The largest size of a time, in microseconds.
 pub(crate) const MAX_TIME: u64 = 1_000_000_000_000_000_000;
@@ -89,38 +90,14 @@ fn list_value_of(
     ensures { Reads (λ x. (x.0, x.1.now)) result (list_at field_type bytes.now) }
 {
     match field_type {
-        FieldType::MFBool => {
-            let (truths, rest) = list_of(alloc, bytes)?;
-            Ok((Value::MFBool(truths), rest))
-        }
-        FieldType::MFInt32 => {
-            let (numbers, rest) = list_of(alloc, bytes)?;
-            Ok((Value::MFInt32(numbers), rest))
-        }
-        FieldType::MFFloat => {
-            let (numbers, rest) = list_within(alloc, MAX_COORDINATE, bytes)?;
-            Ok((Value::MFFloat(numbers), rest))
-        }
-        FieldType::MFTime => {
-            let (times, rest) = list_within(alloc, MAX_TIME, bytes)?;
-            Ok((Value::MFTime(times), rest))
-        }
-        FieldType::MFString => {
-            let (texts, rest) = list_of(alloc, bytes)?;
-            Ok((Value::MFString(texts), rest))
-        }
-        FieldType::MFVec2f => {
-            let (vectors, rest) = list_of(alloc, bytes)?;
-            Ok((Value::MFVec2f(vectors), rest))
-        }
-        FieldType::MFVec3f => {
-            let (vectors, rest) = list_of(alloc, bytes)?;
-            Ok((Value::MFVec3f(vectors), rest))
-        }
-        FieldType::MFColor => {
-            let (colors, rest) = list_of(alloc, bytes)?;
-            Ok((Value::MFColor(colors), rest))
-        }
+        FieldType::MFBool => lists::truths_of(alloc, bytes),
+        FieldType::MFInt32 => lists::whole_numbers_of(alloc, bytes),
+        FieldType::MFFloat => lists::numbers_of(alloc, bytes),
+        FieldType::MFTime => lists::times_of(alloc, bytes),
+        FieldType::MFString => lists::texts_of(alloc, bytes),
+        FieldType::MFVec2f => lists::plane_points_of(alloc, bytes),
+        FieldType::MFVec3f => lists::points_of(alloc, bytes),
+        FieldType::MFColor => lists::colors_of(alloc, bytes),
         _ => Err(PartFault::NotCanonical),
     }
 }

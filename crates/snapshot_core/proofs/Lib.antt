@@ -1,3 +1,4 @@
+mod KeptRows
 mod LineLaws
 mod NodeLaws
 mod NodeLoops

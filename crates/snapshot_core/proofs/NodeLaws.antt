@@ -13,6 +13,7 @@ use Rattle.x3d_values.specs.declared.fields.Position.{Position}
 use Rattle.x3d_values.specs.declared.node_type.NodeType.{NodeType}
 use Rattle.x3d_values.specs.declared.node_type.NodeType.TheVariants.{TimeSensor, TouchSensor, BooleanSequencer, IntegerSequencer}
 use Rattle.x3d_values.specs.Ranges.{is_viewer}
+use Rattle.scene_core.specs.Shape.{Shape}
 use Rattle.snapshot_codec.specs.declared.viewers.Touch.{Touch as TouchBytes}
 use Rattle.snapshot_codec.specs.declared.viewers.Viewers.TheVariants.{Sixteen}
 use Rattle.snapshot_codec.specs.Parts.{touch_codec, viewer_set_codec, presser_codec, presser_fits}
@@ -131,9 +132,9 @@ beside_exact : (t : NodeType) → IsExact (n.beside_codec t)
 unfolding n.beside_codec
 beside_exact t = named_exact _ _ _ (λ a. refl) (λ b. refl) (pair_exact _ _ (time_exact t) (pair_exact _ _ (touch_part_exact t) (position_part_exact t)))
 
-pub node_exact : (t : NodeType) → IsExact (n.node_codec t)
-unfolding n.node_codec
-node_exact t = named_exact n.node_of n.node_parts _ (λ a. refl) (λ b. refl) (pair_exact _ _ (fields_exact (n.kept_fields t)) (beside_exact t))
+pub node_exact : (s : Shape) → IsExact (n.node_codec s)
+unfolding n.node_codec n.state_codec
+node_exact s = named_exact n.node_of n.node_parts _ (λ a. refl) (λ b. refl) (pair_exact _ _ (fields_exact (n.kept_fields s)) (beside_exact s.node_type))
 
 -- ---- all nodes
 
@@ -165,15 +166,15 @@ long_lists nodes =
     let u = length-map nodes (λ (node : NodeState). node.touch) in
     and_true _ _ (eq-eqb _ _ (s ∙ sym f)) (eq-eqb _ _ (u ∙ sym f))
 
-pub nodes_exact : (types : List NodeType) → IsExact (n.nodes_codec types)
+pub nodes_exact : (shapes : List Shape) → IsExact (n.nodes_codec shapes)
 unfolding n.nodes_codec
-nodes_exact types = refined_exact (λ nodes. Some (n.by_lists nodes)) n.by_nodes (n.lists_fit types) (rows n.node_codec types) (record {
+nodes_exact shapes = refined_exact (λ nodes. Some (n.by_lists nodes)) n.by_nodes (n.lists_fit shapes) (rows n.node_codec shapes) (record {
   back = λ a b fits e.
-      let P : NodeLists → Type 0 = λ ls. (n.by_nodes ls ≡ a) × (n.lists_fit types ls ≡ true) in
+      let P : NodeLists → Type 0 = λ ls. (n.by_nodes ls ≡ a) × (n.lists_fit shapes ls ≡ true) in
       subst P (some_is (n.by_lists a) b e)
-      (nodes_back a, and_true _ _ (long_lists a) (ap (λ (ns : List NodeState). (rows n.node_codec types).fits ns) (nodes_back a) ∙ fits));
+      (nodes_back a, and_true _ _ (long_lists a) (ap (λ (ns : List NodeState). (rows n.node_codec shapes).fits ns) (nodes_back a) ∙ fits));
   forth = λ b ok.
-      let f = both (as_long b) ((rows n.node_codec types).fits (n.by_nodes b)) ok in
+      let f = both (as_long b) ((rows n.node_codec shapes).fits (n.by_nodes b)) ok in
       let g = both (eqb (length b.sensors) (length b.fields)) (eqb (length b.touches) (length b.fields)) f.0 in
       (f.1, ap (λ (ls : NodeLists). Some ls) (lists_back b.fields b.sensors b.touches (eqb-true _ _ g.0) (eqb-true _ _ g.1)));
-}) (rows_exact n.node_codec node_exact types)
+}) (rows_exact n.node_codec node_exact shapes)

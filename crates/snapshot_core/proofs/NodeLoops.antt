@@ -6,9 +6,8 @@ use Rattle.std.proofs.lemmas.Option.{slice_get_within, get_or_from_slice_get}
 use Rattle.byte_codec.specs.Codec.{◌>>?◌, at_front, rows_at, rows_text}
 use Rattle.x3d_lists.specs.Extends.{Extends}
 use Rattle.x3d_values.specs.declared.fields.Fields.{Fields}
-use Rattle.x3d_values.specs.declared.node_type.NodeType.{NodeType}
-use Rattle.scene_core.specs.Scene.{SceneView, types_of}
-use Rattle.scene_core.specs.declared.scene.SceneNode.{SceneNode}
+use Rattle.scene_core.specs.Shape.{Shape}
+use Rattle.scene_core.specs.Scene.{SceneView, shape_of, shapes_of}
 use Rattle.snapshot_codec.specs.Reads.{Fails}
 use Rattle.snapshot_codec.specs.declared.fault.PartFault.{PartFault}
 use Rattle.snapshot_codec.specs.declared.fault.PartFault.TheVariants as faults
@@ -46,63 +45,63 @@ regroup front node (Some x) =
     let rest = by_lists x.0 in
     rw (append_assoc front.fields (node.fields ∷ []) rest.fields, append_assoc front.sensors (node.time ∷ []) rest.sensors, append_assoc front.touches (node.touch ∷ []) rest.touches) refl
 
-pub nodes_begin : (types : List NodeType) (bytes : List ℕ) → behind_lists no_lists (rows_at node_codec types bytes) ≡ (nodes_codec types).read bytes
+pub nodes_begin : (shapes : List Shape) (bytes : List ℕ) → behind_lists no_lists (rows_at node_codec shapes bytes) ≡ (nodes_codec shapes).read bytes
 unfolding nodes_codec
-nodes_begin types bytes = begun (rows_at node_codec types bytes)
+nodes_begin shapes bytes = begun (rows_at node_codec shapes bytes)
   where
     begun : (r : Option (List NodeState × List ℕ)) → behind_lists no_lists r ≡ (r >>? at_front (λ nodes. Some (by_lists nodes)))
     begun None = refl
     begun (Some x) = refl
 
-nodes_go_on : (front : NodeLists) (types : List NodeType) (i : ℕ) (d : NodeType) (bytes : List ℕ) (node : NodeState) (after : List ℕ) (total : Option (NodeLists × List ℕ)) → i < length types → (node_codec (get_or types i d)).read bytes ≡ Some (node, after)
-    → behind_lists front (rows_at node_codec (drop i types) bytes) ≡ total → behind_lists (with_node front node) (rows_at node_codec (drop (i + 1) types) after) ≡ total
+nodes_go_on : (front : NodeLists) (shapes : List Shape) (i : ℕ) (d : Shape) (bytes : List ℕ) (node : NodeState) (after : List ℕ) (total : Option (NodeLists × List ℕ)) → i < length shapes → (node_codec (get_or shapes i d)).read bytes ≡ Some (node, after)
+    → behind_lists front (rows_at node_codec (drop i shapes) bytes) ≡ total → behind_lists (with_node front node) (rows_at node_codec (drop (i + 1) shapes) after) ≡ total
 unfolding rows_at
-nodes_go_on front types i d bytes node after total lt h so_far =
-    let e : drop i types ≡ get_or types i d ∷ drop (i + 1) types = rw (add-one, drop-cons types i d) refl in
-    let one : behind_lists front (rows_at node_codec (drop i types) bytes) ≡ behind_lists (with_node front node) (rows_at node_codec (drop (i + 1) types) after) = rw (e, h) (regroup front node (rows_at node_codec (drop (i + 1) types) after)) in
+nodes_go_on front shapes i d bytes node after total lt h so_far =
+    let e : drop i shapes ≡ get_or shapes i d ∷ drop (i + 1) shapes = rw (add-one, drop-cons shapes i d) refl in
+    let one : behind_lists front (rows_at node_codec (drop i shapes) bytes) ≡ behind_lists (with_node front node) (rows_at node_codec (drop (i + 1) shapes) after) = rw (e, h) (regroup front node (rows_at node_codec (drop (i + 1) shapes) after)) in
     sym one ∙ so_far
 
-nodes_end : (e : PartFault) (front : NodeLists) (types : List NodeType) (i : ℕ) (d : NodeType) (bytes : List ℕ) (total : Option (NodeLists × List ℕ)) → i < length types → Fails e ((node_codec (get_or types i d)).read bytes)
-    → behind_lists front (rows_at node_codec (drop i types) bytes) ≡ total → Fails e total
+nodes_end : (e : PartFault) (front : NodeLists) (shapes : List Shape) (i : ℕ) (d : Shape) (bytes : List ℕ) (total : Option (NodeLists × List ℕ)) → i < length shapes → Fails e ((node_codec (get_or shapes i d)).read bytes)
+    → behind_lists front (rows_at node_codec (drop i shapes) bytes) ≡ total → Fails e total
 unfolding rows_at
-nodes_end faults.Memory front types i d bytes total lt h so_far = tt
-nodes_end faults.NotCanonical front types i d bytes total lt h so_far =
-    let e : drop i types ≡ get_or types i d ∷ drop (i + 1) types = rw (add-one, drop-cons types i d) refl in
-    let one : behind_lists front (rows_at node_codec (drop i types) bytes) ≡ None = rw (e, h) refl in
+nodes_end faults.Memory front shapes i d bytes total lt h so_far = tt
+nodes_end faults.NotCanonical front shapes i d bytes total lt h so_far =
+    let e : drop i shapes ≡ get_or shapes i d ∷ drop (i + 1) shapes = rw (add-one, drop-cons shapes i d) refl in
+    let one : behind_lists front (rows_at node_codec (drop i shapes) bytes) ≡ None = rw (e, h) refl in
     sym so_far ∙ one
 
-nodes_done : (front : NodeLists) (types : List NodeType) (i : ℕ) (bytes : List ℕ) (total : Option (NodeLists × List ℕ)) → length types ≤ i
-    → behind_lists front (rows_at node_codec (drop i types) bytes) ≡ total → total ≡ Some (front, bytes)
+nodes_done : (front : NodeLists) (shapes : List Shape) (i : ℕ) (bytes : List ℕ) (total : Option (NodeLists × List ℕ)) → length shapes ≤ i
+    → behind_lists front (rows_at node_codec (drop i shapes) bytes) ≡ total → total ≡ Some (front, bytes)
 unfolding rows_at
-nodes_done front types i bytes total le so_far =
-    let e : drop i types ≡ [] = nil_from_length (drop i types) (omega (arith, length-drop i types)) in
-    let one : behind_lists front (rows_at node_codec (drop i types) bytes) ≡ Some (front, bytes) = rw (e, append-nil front.fields, append-nil front.sensors, append-nil front.touches) refl in
+nodes_done front shapes i bytes total le so_far =
+    let e : drop i shapes ≡ [] = nil_from_length (drop i shapes) (omega (arith, length-drop i shapes)) in
+    let one : behind_lists front (rows_at node_codec (drop i shapes) bytes) ≡ Some (front, bytes) = rw (e, append-nil front.fields, append-nil front.sensors, append-nil front.touches) refl in
     sym so_far ∙ one
 
--- ---- the same, where the type of the node is known by its number
+-- ---- the same, where the shape of the node is known by its number
 
-pub nodes_go_on_at : (front : NodeLists) (types : List NodeType) (i : ℕ) (t : NodeType) (bytes : List ℕ) (node : NodeState) (after : List ℕ) (total : Option (NodeLists × List ℕ)) → slice_get types i ≡ Some t → (node_codec t).read bytes ≡ Some (node, after)
-    → behind_lists front (rows_at node_codec (drop i types) bytes) ≡ total → behind_lists (with_node front node) (rows_at node_codec (drop (i + 1) types) after) ≡ total
-nodes_go_on_at front types i t bytes node after total at h so_far =
-    let there : get_or types i t ≡ t = get_or_from_slice_get types i t t at in
-    nodes_go_on front types i t bytes node after total (slice_get_within types i t at) (ap (λ (k : NodeType). (node_codec k).read bytes) there ∙ h) so_far
+pub nodes_go_on_at : (front : NodeLists) (shapes : List Shape) (i : ℕ) (t : Shape) (bytes : List ℕ) (node : NodeState) (after : List ℕ) (total : Option (NodeLists × List ℕ)) → slice_get shapes i ≡ Some t → (node_codec t).read bytes ≡ Some (node, after)
+    → behind_lists front (rows_at node_codec (drop i shapes) bytes) ≡ total → behind_lists (with_node front node) (rows_at node_codec (drop (i + 1) shapes) after) ≡ total
+nodes_go_on_at front shapes i t bytes node after total at h so_far =
+    let there : get_or shapes i t ≡ t = get_or_from_slice_get shapes i t t at in
+    nodes_go_on front shapes i t bytes node after total (slice_get_within shapes i t at) (ap (λ (k : Shape). (node_codec k).read bytes) there ∙ h) so_far
 
-pub nodes_end_at : (e : PartFault) (front : NodeLists) (types : List NodeType) (i : ℕ) (t : NodeType) (bytes : List ℕ) (total : Option (NodeLists × List ℕ)) → slice_get types i ≡ Some t → Fails e ((node_codec t).read bytes)
-    → behind_lists front (rows_at node_codec (drop i types) bytes) ≡ total → Fails e total
-nodes_end_at e front types i t bytes total at h so_far =
-    let there : get_or types i t ≡ t = get_or_from_slice_get types i t t at in
-    nodes_end e front types i t bytes total (slice_get_within types i t at) (rw there h) so_far
+pub nodes_end_at : (e : PartFault) (front : NodeLists) (shapes : List Shape) (i : ℕ) (t : Shape) (bytes : List ℕ) (total : Option (NodeLists × List ℕ)) → slice_get shapes i ≡ Some t → Fails e ((node_codec t).read bytes)
+    → behind_lists front (rows_at node_codec (drop i shapes) bytes) ≡ total → Fails e total
+nodes_end_at e front shapes i t bytes total at h so_far =
+    let there : get_or shapes i t ≡ t = get_or_from_slice_get shapes i t t at in
+    nodes_end e front shapes i t bytes total (slice_get_within shapes i t at) (rw there h) so_far
 
 pub nodes_done_at : (front : NodeLists) (scene : SceneView) (i : ℕ) (bytes : List ℕ) (total : Option (NodeLists × List ℕ)) → {count : ℕ} → count ≤ i → count ≡ length scene.nodes
-    → behind_lists front (rows_at node_codec (drop i (types_of scene)) bytes) ≡ total → total ≡ Some (front, bytes)
+    → behind_lists front (rows_at node_codec (drop i (shapes_of scene)) bytes) ≡ total → total ≡ Some (front, bytes)
 nodes_done_at front scene i bytes total le all so_far =
-    nodes_done front (types_of scene) i bytes total (omega (arith, le, all, length-map scene.nodes (λ (n : SceneNode). n.node_type))) so_far
+    nodes_done front (shapes_of scene) i bytes total (omega (arith, le, all, length-map scene.nodes shape_of)) so_far
 
 -- ---- writing
 
 -- the nodes from a place on
-abbrev pub text_from : List NodeType → List Fields → List (Option ℕ) → List Touch → ℕ → List ℕ
-text_from types fields sensors touches i = rows_text node_codec (drop i types) (nodes_from (drop i fields) (drop i sensors) (drop i touches))
+abbrev pub text_from : List Shape → List Fields → List (Option ℕ) → List Touch → ℕ → List ℕ
+text_from shapes fields sensors touches i = rows_text node_codec (drop i shapes) (nodes_from (drop i fields) (drop i sensors) (drop i touches))
 
 split_at : {A : Type 0} (xs : List A) (i : ℕ) (x : A) → i < length xs → x ≡ get_or xs i x → drop i xs ≡ x ∷ drop (i + 1) xs
 split_at {A} xs i x lt is =
@@ -113,31 +112,31 @@ pub extends_on : (old now new : List ℕ) → Extends old now → Extends now ne
 extends_on old now new p q = record { more = p.more ++ q.more; is = q.is ∙ ap (λ (z : List ℕ). z ++ q.more) p.is ∙ append_assoc old p.more q.more }
 
 -- a node more, of those that all lists have
-pub text_goes_on : (types : List NodeType) (fields : List Fields) (sensors : List (Option ℕ)) (touches : List Touch) (i count : ℕ) (t : NodeType) (f : Fields) (s : Option ℕ) (u : Touch) (out new total : List ℕ) → i < count → count ≡ min (length types) (min (length fields) (min (length sensors) (length touches)))
-    → slice_get types i ≡ Some t → f ≡ get_or fields i f → s ≡ get_or sensors i s → u ≡ get_or touches i u → new ≡ out ++ (node_codec t).write (record { fields = f; time = s; touch = u })
-    → out ++ text_from types fields sensors touches i ≡ total → new ++ text_from types fields sensors touches (i + 1) ≡ total
-text_goes_on types fields sensors touches i count t f s u out new total lt all t-is f-is s-is u-is more so_far =
-    let a = split_at types i t (omega (arith, lt, all)) (sym (get_or_from_slice_get types i t t t-is)) in
+pub text_goes_on : (shapes : List Shape) (fields : List Fields) (sensors : List (Option ℕ)) (touches : List Touch) (i count : ℕ) (t : Shape) (f : Fields) (s : Option ℕ) (u : Touch) (out new total : List ℕ) → i < count → count ≡ min (length shapes) (min (length fields) (min (length sensors) (length touches)))
+    → slice_get shapes i ≡ Some t → f ≡ get_or fields i f → s ≡ get_or sensors i s → u ≡ get_or touches i u → new ≡ out ++ (node_codec t).write (record { fields = f; time = s; touch = u })
+    → out ++ text_from shapes fields sensors touches i ≡ total → new ++ text_from shapes fields sensors touches (i + 1) ≡ total
+text_goes_on shapes fields sensors touches i count t f s u out new total lt all t-is f-is s-is u-is more so_far =
+    let a = split_at shapes i t (omega (arith, lt, all)) (sym (get_or_from_slice_get shapes i t t t-is)) in
     let b = split_at fields i f (omega (arith, lt, all)) f-is in
     let c = split_at sensors i s (omega (arith, lt, all)) s-is in
     let d = split_at touches i u (omega (arith, lt, all)) u-is in
     let node : NodeState = record { fields = f; time = s; touch = u } in
-    let here : text_from types fields sensors touches i ≡ (node_codec t).write node ++ text_from types fields sensors touches (i + 1) = rw (a, b, c, d) refl in
-    ap (λ (z : List ℕ). z ++ text_from types fields sensors touches (i + 1)) more ∙ append_assoc out ((node_codec t).write node) (text_from types fields sensors touches (i + 1)) ∙ ap (λ (z : List ℕ). out ++ z) (sym here) ∙ so_far
+    let here : text_from shapes fields sensors touches i ≡ (node_codec t).write node ++ text_from shapes fields sensors touches (i + 1) = rw (a, b, c, d) refl in
+    ap (λ (z : List ℕ). z ++ text_from shapes fields sensors touches (i + 1)) more ∙ append_assoc out ((node_codec t).write node) (text_from shapes fields sensors touches (i + 1)) ∙ ap (λ (z : List ℕ). out ++ z) (sym here) ∙ so_far
 
-none_left : (types : List NodeType) (fields : List Fields) (sensors : List (Option ℕ)) (touches : List Touch) → min (length types) (min (length fields) (min (length sensors) (length touches))) ≡ 0 → rows_text node_codec types (nodes_from fields sensors touches) ≡ []
+none_left : (shapes : List Shape) (fields : List Fields) (sensors : List (Option ℕ)) (touches : List Touch) → min (length shapes) (min (length fields) (min (length sensors) (length touches))) ≡ 0 → rows_text node_codec shapes (nodes_from fields sensors touches) ≡ []
 none_left [] fields sensors touches h = refl
-none_left (t ∷ types) [] sensors touches h = refl
-none_left (t ∷ types) (f ∷ fields) [] touches h = refl
-none_left (t ∷ types) (f ∷ fields) (s ∷ sensors) [] h = refl
-none_left (t ∷ types) (f ∷ fields) (s ∷ sensors) (u ∷ touches) h = absurd (omega (arith, h))
+none_left (t ∷ shapes) [] sensors touches h = refl
+none_left (t ∷ shapes) (f ∷ fields) [] touches h = refl
+none_left (t ∷ shapes) (f ∷ fields) (s ∷ sensors) [] h = refl
+none_left (t ∷ shapes) (f ∷ fields) (s ∷ sensors) (u ∷ touches) h = absurd (omega (arith, h))
 
-pub text_done : (types : List NodeType) (fields : List Fields) (sensors : List (Option ℕ)) (touches : List Touch) (i count : ℕ) (out total : List ℕ) → count ≤ i → count ≡ min (length types) (min (length fields) (min (length sensors) (length touches)))
-    → out ++ text_from types fields sensors touches i ≡ total → out ≡ total
-text_done types fields sensors touches i count out total le all so_far =
-    let none = none_left (drop i types) (drop i fields) (drop i sensors) (drop i touches) (omega (arith, le, all, length-drop i types, length-drop i fields, length-drop i sensors, length-drop i touches)) in
+pub text_done : (shapes : List Shape) (fields : List Fields) (sensors : List (Option ℕ)) (touches : List Touch) (i count : ℕ) (out total : List ℕ) → count ≤ i → count ≡ min (length shapes) (min (length fields) (min (length sensors) (length touches)))
+    → out ++ text_from shapes fields sensors touches i ≡ total → out ≡ total
+text_done shapes fields sensors touches i count out total le all so_far =
+    let none = none_left (drop i shapes) (drop i fields) (drop i sensors) (drop i touches) (omega (arith, le, all, length-drop i shapes, length-drop i fields, length-drop i sensors, length-drop i touches)) in
     sym (append-nil out) ∙ ap (λ (z : List ℕ). out ++ z) (sym none) ∙ so_far
 
--- the types of a scene's nodes are as many as its nodes
-pub counted : (scene : SceneView) (count fields sensors touches : ℕ) → count ≡ min (length scene.nodes) (min fields (min sensors touches)) → count ≡ min (length (types_of scene)) (min fields (min sensors touches))
-counted scene count fields sensors touches e = omega (arith, e, length-map scene.nodes (λ (n : SceneNode). n.node_type))
+-- the shapes of a scene's nodes are as many as its nodes
+pub counted : (scene : SceneView) (count fields sensors touches : ℕ) → count ≡ min (length scene.nodes) (min fields (min sensors touches)) → count ≡ min (length (shapes_of scene)) (min fields (min sensors touches))
+counted scene count fields sensors touches e = omega (arith, e, length-map scene.nodes shape_of)

@@ -6,7 +6,7 @@ use Rattle.std.proofs.lemmas.List.{length-append}
 use Rattle.byte_codec.specs.Codec.{number, number_text, whole}
 use Rattle.byte_codec.specs.Exact.{IsBytes}
 use Rattle.byte_codec.proofs.Laws.{IsBytes-rest, both, and_true, whole_again, whole_takes, wide32, wide64}
-use Rattle.scene_core.specs.Scene.{SceneView, types_of}
+use Rattle.scene_core.specs.Scene.{SceneView, shapes_of}
 use Rattle.snapshot_codec.specs.declared.head.HeadFault.{HeadFault}
 use Rattle.snapshot_codec.specs.Head.{applied_codec, front, opened, snapshot}
 use Rattle.snapshot_codec.specs.Trace.{moment_codec}
@@ -34,7 +34,7 @@ long boot applied moment rest a m = omega (arith, a, m, length4 boot, length-app
 
 some_body : (scene : SceneView) (boot : ℕ) (w : WorldData) → 16 ≤ length ((body_codec scene).write (boot, w))
 unfolding world_codec
-some_body scene boot w = long boot (applied_codec.write w.applied) (moment_codec.write w.last_time) ((parts_codec (types_of scene)).write (parts_in w)) (length4 w.applied) (length8 _)
+some_body scene boot w = long boot (applied_codec.write w.applied) (moment_codec.write w.last_time) ((parts_codec (shapes_of scene)).write (parts_in w)) (length4 w.applied) (length8 _)
 
 read_again : (scene : SceneView) (boot : ℕ) (w : WorldData) → boot < 2 ^ 32 → (world_codec scene).fits w ≡ true → whole ((body_codec scene).read ((body_codec scene).write (boot, w))) ≡ Some (boot, w)
 read_again scene boot w small fits = whole_again (body_codec scene) (body_exact scene) (boot, w) (and_true _ _ (lt-ltb boot (2 ^ 32) small) fits)

@@ -6,8 +6,8 @@ use Rattle.std.proofs.lemmas.Bool.{eqb-true, lt-ltb, ltb-true}
 use Rattle.byte_codec.specs.Codec.{◌>>?◌, number, number_text}
 use Rattle.byte_codec.specs.Exact.{IsExact}
 use Rattle.byte_codec.proofs.Laws.{some_is, refined_exact, named_exact, pair_exact, number_exact, wide16, wide32}
-use Rattle.x3d_values.specs.declared.node_type.NodeType.{NodeType}
-use Rattle.scene_core.specs.Scene.{SceneView, types_of}
+use Rattle.scene_core.specs.Shape.{Shape}
+use Rattle.scene_core.specs.Scene.{SceneView, shapes_of}
 use Rattle.snapshot_codec.specs.declared.fault.PartFault.{PartFault}
 use Rattle.snapshot_codec.specs.declared.fault.PartFault.TheVariants as faults
 use Rattle.snapshot_codec.specs.declared.head.Progress.{Progress}
@@ -80,18 +80,18 @@ module _ (f : List ℕ → Option (ℕ × List ℕ)) (g : List ℕ → Option (�
   at_boot None = refl
   at_boot (Some b) = at_applied b.0 (f b.1)
 
-body_read : (scene : SceneView) (bytes : List ℕ) → (body_codec scene).read bytes ≡ (progress_codec.read bytes >>? λ p. (parts_codec (types_of scene)).read p.1 >>? found_with p.0)
+body_read : (scene : SceneView) (bytes : List ℕ) → (body_codec scene).read bytes ≡ (progress_codec.read bytes >>? λ p. (parts_codec (shapes_of scene)).read p.1 >>? found_with p.0)
 unfolding world_codec progress_codec
-body_read scene bytes = at_boot applied_codec.read moment_codec.read (parts_codec (types_of scene)).read ((number w32).read bytes)
+body_read scene bytes = at_boot applied_codec.read moment_codec.read (parts_codec (shapes_of scene)).read ((number w32).read bytes)
 
 pub no_progress : (scene : SceneView) (bytes : List ℕ) → None ≡ progress_codec.read bytes → (body_codec scene).read bytes ≡ None
 no_progress scene bytes e = body_read scene bytes ∙ rw (sym e) refl
 
-pub no_parts : (scene : SceneView) (bytes : List ℕ) (p : Progress) (rest : List ℕ) (e : PartFault) → Some (p, rest) ≡ progress_codec.read bytes → Fails e ((parts_codec (types_of scene)).read rest) → Fails e ((body_codec scene).read bytes)
+pub no_parts : (scene : SceneView) (bytes : List ℕ) (p : Progress) (rest : List ℕ) (e : PartFault) → Some (p, rest) ≡ progress_codec.read bytes → Fails e ((parts_codec (shapes_of scene)).read rest) → Fails e ((body_codec scene).read bytes)
 no_parts scene bytes p rest faults.Memory front h = tt
 no_parts scene bytes p rest faults.NotCanonical front h = body_read scene bytes ∙ rw (sym front, h) refl
 
-pub whole_body : (scene : SceneView) (bytes : List ℕ) (p : Progress) (rest : List ℕ) (parts : WorldParts) (after : List ℕ) → Some (p, rest) ≡ progress_codec.read bytes → (parts_codec (types_of scene)).read rest ≡ Some (parts, after) → (body_codec scene).read bytes ≡ Some ((p.boot, world_with p parts), after)
+pub whole_body : (scene : SceneView) (bytes : List ℕ) (p : Progress) (rest : List ℕ) (parts : WorldParts) (after : List ℕ) → Some (p, rest) ≡ progress_codec.read bytes → (parts_codec (shapes_of scene)).read rest ≡ Some (parts, after) → (body_codec scene).read bytes ≡ Some ((p.boot, world_with p parts), after)
 whole_body scene bytes p rest parts after front h = body_read scene bytes ∙ rw (sym front, h) refl
 
 -- ---- writing
@@ -100,12 +100,12 @@ regroup : (old b a t n u l : List ℕ) → (((old ++ (b ++ (a ++ t))) ++ n) ++ u
 regroup old b a t n u l = simp append_assoc refl
 
 pub body_written : (scene : SceneView) (boot : ℕ) (w : WorldData) (old o1 o2 o3 new : List ℕ) → o1 ≡ old ++ progress_codec.write (record { boot = boot; applied = w.applied; last_time = w.last_time })
-    → o2 ≡ o1 ++ (nodes_codec (types_of scene)).write (lists_in w) → o3 ≡ o2 ++ buttons_codec.write w.buttons → new ≡ o3 ++ (lines_codec (types_of scene)).write w.trace
+    → o2 ≡ o1 ++ (nodes_codec (shapes_of scene)).write (lists_in w) → o3 ≡ o2 ++ buttons_codec.write w.buttons → new ≡ o3 ++ (lines_codec (shapes_of scene)).write w.trace
     → new ≡ old ++ (body_codec scene).write (boot, w)
 unfolding world_codec parts_codec progress_codec
 body_written scene boot w old o1 o2 o3 new p n u l =
-    let types = types_of scene in
-    rw (l, u, n, p) (regroup old (number_text w32 boot) (applied_codec.write w.applied) (moment_codec.write w.last_time) ((nodes_codec types).write (lists_in w)) (buttons_codec.write w.buttons) ((lines_codec types).write w.trace))
+    let shapes = shapes_of scene in
+    rw (l, u, n, p) (regroup old (number_text w32 boot) (applied_codec.write w.applied) (moment_codec.write w.last_time) ((nodes_codec shapes).write (lists_in w)) (buttons_codec.write w.buttons) ((lines_codec shapes).write w.trace))
 
 -- ---- exactness
 
@@ -120,13 +120,13 @@ buttons_exact = refined_exact (λ n. Some (over_of n)) number_of (λ set. eqb (l
       (lt-ltb _ _ (number_small b len), ap (λ (set : List Bool). Some set) (over_back b len));
 }) (number_exact w16 wide16)
 
-parts_exact : (types : List NodeType) → IsExact (parts_codec types)
+parts_exact : (shapes : List Shape) → IsExact (parts_codec shapes)
 unfolding parts_codec
-parts_exact types = named_exact _ _ _ (λ a. refl) (λ b. refl) (pair_exact _ _ (nodes_exact types) (pair_exact _ _ buttons_exact (lines_exact types)))
+parts_exact shapes = named_exact _ _ _ (λ a. refl) (λ b. refl) (pair_exact _ _ (nodes_exact shapes) (pair_exact _ _ buttons_exact (lines_exact shapes)))
 
 pub world_exact : (scene : SceneView) → IsExact (world_codec scene)
 unfolding world_codec
-world_exact scene = named_exact world_of (λ w. (w.applied, (w.last_time, parts_in w))) _ (λ a. refl) (λ b. refl) (pair_exact _ _ applied_exact (pair_exact _ _ moment_exact (parts_exact (types_of scene))))
+world_exact scene = named_exact world_of (λ w. (w.applied, (w.last_time, parts_in w))) _ (λ a. refl) (λ b. refl) (pair_exact _ _ applied_exact (pair_exact _ _ moment_exact (parts_exact (shapes_of scene))))
 
 pub body_exact : (scene : SceneView) → IsExact (body_codec scene)
 body_exact scene = pair_exact _ _ (number_exact w32 wide32) (world_exact scene)

@@ -1,15 +1,17 @@
--- What a snapshot has of the nodes of a scene, by their types (our choice).
-use Rattle.std.specs.Prelude.{ℕ, ◌+◌, ◌==◌, ◌&&◌, Bool, true, not, is_none, List, [], ◌∷◌, length, map, Option, Some, None}
+-- What a snapshot has of the nodes of a scene, by their types and what Scripts declare (our choice).
+use Rattle.std.specs.Prelude.{ℕ, ◌+◌, ◌==◌, ◌&&◌, Bool, true, not, is_none, List, [], ◌∷◌, length, map, Option, Some, None, slice_index_or}
 use Rattle.std.specs.Option.{option_map_or}
 use Rattle.byte_codec.specs.Codec.{Codec, refined, named, pair, rows}
 use Rattle.x3d_values.specs.declared.fields.Fields.{Fields}
 use Rattle.x3d_values.specs.declared.fields.Position.{Position}
 use Rattle.x3d_values.specs.declared.node_type.NodeType.{NodeType}
-use Rattle.x3d_values.specs.declared.node_type.NodeType.TheVariants.{TimeSensor, TouchSensor, BooleanSequencer, IntegerSequencer}
+use Rattle.x3d_values.specs.declared.node_type.NodeType.TheVariants.{Group, TimeSensor, TouchSensor, BooleanSequencer, IntegerSequencer}
 use Rattle.x3d_values.specs.declared.ranges.TheConstants.{MAX_VIEWERS}
 use Rattle.x3d_values.specs.declared.value.Value.{Value}
 use Rattle.x3d_values.specs.Ranges.{is_viewer}
-use Rattle.x3d_values.specs.Tables.{Entry, rows as rows_of_type}
+use Rattle.x3d_values.specs.Tables.{Entry}
+use Rattle.scene_core.specs.Scene.{SceneView, shapes_of}
+use Rattle.scene_core.specs.Shape.{Shape, rows_of}
 use Rattle.snapshot_codec.specs.declared.kept.KeptField.{KeptField}
 use Rattle.snapshot_codec.specs.declared.viewers.Touch.{Touch as TouchBytes}
 use Rattle.snapshot_codec.specs.declared.viewers.Viewers.TheVariants.{Sixteen}
@@ -29,8 +31,14 @@ kept_from node_type n [] = []
 kept_from node_type n (row ∷ others) =
     kept_field node_type n row.access row.field_type ∷ kept_from node_type (n + 1) others
 
-unfoldable pub kept_fields : NodeType → List KeptField
-kept_fields node_type = kept_from node_type 0 (rows_of_type node_type)
+-- of all fields of a node, those that a Script declares behind those of its type
+unfoldable pub kept_fields : Shape → List KeptField
+kept_fields shape = kept_from shape.node_type 0 (rows_of shape)
+
+-- the shape of a node of the scene
+abbrev pub shape_in : SceneView → ℕ → Shape
+shape_in scene node =
+    slice_index_or (shapes_of scene) node (record { node_type = Group; declared = [] })
 
 -- ---- what stands behind them
 
@@ -91,10 +99,13 @@ node_parts node = (
   record { time = node.time; touch = node.touch; position = node.fields.position },
 )
 
--- the values of its fields, and what stands behind them
-unfoldable pub node_codec : NodeType → Codec NodeState
-node_codec node_type = named node_of node_parts
-    (pair (fields_codec (kept_fields node_type)) (beside_codec node_type))
+-- the values of these fields, and what stands behind them
+unfoldable pub state_codec : List KeptField → NodeType → Codec NodeState
+state_codec kept node_type =
+    named node_of node_parts (pair (fields_codec kept) (beside_codec node_type))
+
+unfoldable pub node_codec : Shape → Codec NodeState
+node_codec shape = state_codec (kept_fields shape) shape.node_type
 
 -- ---- all nodes
 
@@ -117,12 +128,12 @@ by_lists nodes = record {
 }
 
 -- the lists are as long, and each node has bytes
-abbrev pub lists_fit : List NodeType → NodeLists → Bool
-lists_fit types lists =
+abbrev pub lists_fit : List Shape → NodeLists → Bool
+lists_fit shapes lists =
     ((length lists.sensors == length lists.fields) && (length lists.touches == length lists.fields))
-    && (rows node_codec types).fits (by_nodes lists)
+    && (rows node_codec shapes).fits (by_nodes lists)
 
 -- the nodes one after the other
-unfoldable pub nodes_codec : List NodeType → Codec NodeLists
-nodes_codec types =
-    refined (λ nodes. Some (by_lists nodes)) by_nodes (lists_fit types) (rows node_codec types)
+unfoldable pub nodes_codec : List Shape → Codec NodeLists
+nodes_codec shapes =
+    refined (λ nodes. Some (by_lists nodes)) by_nodes (lists_fit shapes) (rows node_codec shapes)

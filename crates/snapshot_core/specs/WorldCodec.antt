@@ -1,12 +1,11 @@
 -- The state of a scene as bytes (our choice).
-use Rattle.std.specs.Prelude.{ℕ, ◌==◌, ℤ, Bool, List, length, map, Option, Some, None, slice_get, if◌then◌else◌}
-use Rattle.std.specs.Option.{option_and_then}
+use Rattle.std.specs.Prelude.{ℕ, ◌==◌, ℤ, Bool, List, [], length, map, Option, Some, None, slice_get, if◌then◌else◌}
+use Rattle.std.specs.Option.{option_and_then, option_map_or}
 use Rattle.byte_codec.specs.Codec.{Codec, refined, named, pair}
 use Rattle.x3d_values.specs.declared.field_type.FieldType.{FieldType}
-use Rattle.x3d_values.specs.declared.node_type.NodeType.{NodeType}
 use Rattle.x3d_values.specs.declared.ranges.TheConstants.{MAX_VIEWERS}
 use Rattle.x3d_values.specs.Access.{sends}
-use Rattle.x3d_values.specs.Tables.{Entry, rows}
+use Rattle.x3d_values.specs.Tables.{Entry}
 use Rattle.snapshot_codec.specs.declared.head.Progress.{Progress}
 use Rattle.snapshot_codec.specs.declared.trace.TraceEntry.{TraceEntry}
 use Rattle.snapshot_codec.specs.declared.viewers.Viewers.TheVariants.{Sixteen}
@@ -14,7 +13,8 @@ use Rattle.snapshot_codec.specs.Head.{applied_codec}
 use Rattle.snapshot_codec.specs.Parts.{viewer_set_codec}
 use Rattle.snapshot_codec.specs.Trace.{moment_codec, trace_codec, entry_text}
 use Rattle.sensor_core.specs.Parts.{number_of, over_of}
-use Rattle.scene_core.specs.Scene.{SceneView, types_of}
+use Rattle.scene_core.specs.Scene.{SceneView, shapes_of}
+use Rattle.scene_core.specs.Shape.{Shape, rows_of}
 use Rattle.cascade_core.specs.declared.world.TraceLine.{TraceLine}
 use Rattle.cascade_core.specs.declared.world.WorldData.{WorldData}
 use Rattle.snapshot_core.specs.declared.nodes.NodeLists.{NodeLists}
@@ -35,10 +35,10 @@ abbrev pub sent_type : Entry → Option FieldType
 sent_type row = if sends row.access then Some row.field_type else None
 
 -- the type of the events that a node sends by its field of that number, if it sends any
-abbrev pub output_type : List NodeType → ℕ → ℕ → Option FieldType
-output_type types node field =
+abbrev pub output_type : List Shape → ℕ → ℕ → Option FieldType
+output_type shapes node field =
     option_and_then sent_type
-    (option_and_then (λ node_type. slice_get (rows node_type) field) (slice_get types node))
+    (slice_get (option_map_or rows_of (slice_get shapes node) []) field)
 
 abbrev pub line_of : TraceEntry → TraceLine
 line_of entry = record {
@@ -63,17 +63,17 @@ entry_of line = record {
 abbrev pub line_text : TraceLine → List ℕ
 line_text line = entry_text (entry_of line).sent line.value
 
-unfoldable pub lines_codec : List NodeType → Codec (List TraceLine)
-lines_codec types = named (map line_of) (map entry_of) (trace_codec (output_type types))
+unfoldable pub lines_codec : List Shape → Codec (List TraceLine)
+lines_codec shapes = named (map line_of) (map entry_of) (trace_codec (output_type shapes))
 
 -- ---- a world
 
 -- nodes, buttons, trace
-unfoldable pub parts_codec : List NodeType → Codec WorldParts
-parts_codec types =
+unfoldable pub parts_codec : List Shape → Codec WorldParts
+parts_codec shapes =
     named (λ t. record { nodes = t.0; buttons = t.1.0; trace = t.1.1 })
     (λ p. (p.nodes, (p.buttons, p.trace)))
-    (pair (nodes_codec types) (pair buttons_codec (lines_codec types)))
+    (pair (nodes_codec shapes) (pair buttons_codec (lines_codec shapes)))
 
 -- inputs applied, time of the last, and the parts
 abbrev pub world_of : ℕ × (ℤ × WorldParts) → WorldData
@@ -93,11 +93,11 @@ lists_in w = record { fields = w.fields; sensors = w.sensors; touches = w.touche
 abbrev pub parts_in : WorldData → WorldParts
 parts_in w = record { nodes = lists_in w; buttons = w.buttons; trace = w.trace }
 
--- the worlds of a scene, by the types of its nodes: those that fit have a snapshot
+-- the worlds of a scene, by the shapes of its nodes: those that fit have a snapshot
 unfoldable pub world_codec : SceneView → Codec WorldData
 world_codec scene =
     named world_of (λ w. (w.applied, (w.last_time, parts_in w)))
-    (pair applied_codec (pair moment_codec (parts_codec (types_of scene))))
+    (pair applied_codec (pair moment_codec (parts_codec (shapes_of scene))))
 
 -- a world that had come so far, of these parts
 abbrev pub world_with : Progress → WorldParts → WorldData

@@ -1,38 +1,53 @@
 //! Which fields of a node stand in a snapshot.
 
-ghost use Rattle.std.specs.Prelude.{◌≡◌, ◌+◌, ◌<◌, ◌++◌, ◌^◌, OnOk, length, map};
-ghost use Rattle.x3d_values.specs.Tables.{entry};
-ghost use Rattle.snapshot_core.specs.Nodes.{kept_from, kept_fields};
+ghost use Rattle.std.specs.Prelude.{◌≡◌, ◌<◌, ◌++◌, [], ◌∷◌, OnOk, length, slice_get};
+ghost use Rattle.std.specs.Option.{option_map_or};
+ghost use Rattle.scene_core.specs.Scene.{rows_at};
+ghost use Rattle.snapshot_codec.specs.Fields.{kept_field};
+ghost use Rattle.snapshot_core.specs.Nodes.{kept_fields, shape_in};
 
+use scene_core::Scene;
 use snapshot_codec::{KeptField, kept_field};
 use std::alloc::AllocError;
-use x3d_values::{Field, NodeType, fields_of};
+use x3d_values::NodeType;
 
-/// Appends what a snapshot has of these fields of a node, which are numbered from `number` on.
-fn push_kept_from(
+/// Appends what a snapshot has of the field of that number of a node of this type, if it has such a
+/// field.
+fn push_kept(
+    scene: &Scene,
+    node: u32,
     node_type: NodeType,
     number: u16,
-    rows: &[Field],
     kept: &mut Vec<KeptField>,
 ) -> Result<(), AllocError>
-    requires { number + length rows.now < 2 ^ 16 }
-    ensures { OnOk result
-        (kept.new.items ≡ kept.old.items ++ kept_from node_type number (map entry rows.now)) }
+    ensures { OnOk result (kept.new.items
+        ≡ kept.old.items
+        ++ option_map_or
+        (λ row. kept_field node_type number row.access row.field_type ∷ [])
+        (slice_get (rows_at scene.now node) number) []) }
 {
-    match rows {
-        [] => Ok(()),
-        [row, others @ ..] => {
+    match scene.row(node, number) {
+        Some(row) => {
             kept.push(kept_field(node_type, number, row.access, row.field_type))?;
-            push_kept_from(node_type, number + 1, others, kept)
+            Ok(())
         }
+        None => Ok(()),
     }
 }
 
-/// Lists what a snapshot has of each field of a node of this type, in place of what was listed.
-#[tactic(auto, unfolding(crate::specs::Nodes::kept_fields))]
-pub(crate) fn list_kept(node_type: NodeType, kept: &mut Vec<KeptField>) -> Result<(), AllocError>
-    ensures { OnOk result (kept.new.items ≡ kept_fields node_type) }
+/// Lists what a snapshot has of each field of a node, in place of what was listed.
+pub(crate) fn list_kept(
+    scene: &Scene,
+    node: u32,
+    kept: &mut Vec<KeptField>,
+) -> Result<(), AllocError>
+    requires { node < length scene.now.nodes }
+    ensures { OnOk result (kept.new.items ≡ kept_fields (shape_in scene.now node)) }
 {
     kept.clear();
-    push_kept_from(node_type, 0, fields_of(node_type), kept)
+    let node_type = scene.node_type(node);
+    for number in 0..scene.field_count(node) {
+        push_kept(scene, node, node_type, number as u16, kept)?;
+    }
+    Ok(())
 }

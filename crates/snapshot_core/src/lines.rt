@@ -1,25 +1,24 @@
 //! The trace as bytes.
 
 ghost use Rattle.std.specs.Prelude.{◌≡◌, ◌++◌, List, OnOk};
-ghost use Rattle.x3d_values.specs.declared.node_type.NodeType.{NodeType};
 ghost use Rattle.std.specs.Option.{option_map};
 ghost use Rattle.x3d_lists.specs.Extends.{Extends};
-ghost use Rattle.scene_core.specs.Scene.{types_of};
+ghost use Rattle.scene_core.specs.Scene.{shapes_of};
+ghost use Rattle.scene_core.specs.Shape.{Shape, row_entry};
 ghost use Rattle.snapshot_codec.specs.Reads.{Reads};
 ghost use Rattle.snapshot_core.specs.WorldCodec.{sent_type, output_type, lines_codec};
-ghost use Rattle.x3d_values.specs.Tables.{entry};
 
 use cascade_core::{LineHead, Trace, WritesLines};
-use scene_core::{End, Scene};
+use scene_core::{End, Row, Scene};
 use snapshot_codec::{
     Outputs, PartFault, SentAt, TakesEntries, TraceEntry, push_entry, push_entry_count, trace_of,
 };
 use std::alloc::{AllocError, Global};
-use x3d_values::{Field, FieldType, Value, fields_of};
+use x3d_values::{FieldType, Value};
 
 /// The type of the events that leave by a field, if any do.
-fn sent_type(row: &Field) -> Option<FieldType>
-    ensures { result ≡ sent_type (entry row.now) }
+fn sent_type(row: Row<'_>) -> Option<FieldType>
+    ensures { result ≡ sent_type (row_entry row.entry) }
 {
     if row.access.sends() {
         Some(row.field_type)
@@ -35,16 +34,13 @@ struct SceneOutputs<'a> {
 }
 
 impl<'a> Outputs for SceneOutputs<'a> {
-    ghost use Rattle.scene_core.specs.Scene.{types_of};
+    ghost use Rattle.scene_core.specs.Scene.{shapes_of};
     ghost use Rattle.snapshot_core.specs.WorldCodec.{output_type};
 
-    ghost types = { λ outputs. output_type (types_of outputs.scene.now) };
+    ghost types = { λ outputs. output_type (shapes_of outputs.scene.now) };
 
     fn output_type(&self, node: u32, field: u16) -> Option<FieldType> {
-        if node as usize >= self.scene.node_count() {
-            return None;
-        }
-        let row = fields_of(self.scene.node_type(node)).get(field as usize)?;
+        let row = self.scene.row(node, field)?;
         sent_type(row)
     }
 }
@@ -80,7 +76,7 @@ pub(crate) fn lines_of<'a>(
     bytes: &'a [u8],
 ) -> Result<(Trace, &'a [u8]), PartFault>
     ensures { Reads (λ x. (x.0, x.1.now)) result
-        ((lines_codec (types_of scene.now)).read bytes.now) }
+        ((lines_codec (shapes_of scene.now)).read bytes.now) }
 {
     let outputs = SceneOutputs { scene };
     let mut read = ReadTrace {
@@ -118,8 +114,8 @@ impl WritesLines for LineBytes {
 
 /// Appends a trace; on a refusal perhaps a part of it.
 pub(crate) fn push_lines(trace: &Trace, out: &mut Vec<u8>) -> Result<(), AllocError>
-    ensures ok { (types : List NodeType)
-        → OnOk result (out.new.items ≡ out.old.items ++ (lines_codec types).write trace.now) }
+    ensures ok { (shapes : List Shape)
+        → OnOk result (out.new.items ≡ out.old.items ++ (lines_codec shapes).write trace.now) }
     ensures kept { Extends out.old.items out.new.items }
 {
     push_entry_count(trace.len(), out)?;

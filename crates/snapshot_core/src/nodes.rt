@@ -1,11 +1,12 @@
 //! The nodes of a world, one after the other.
 
-ghost use Rattle.std.specs.Prelude.{◌≡◌, ◌++◌, [], ◌∷◌, IfOk, OnErr, OnOk, length, min};
+ghost use Rattle.std.specs.Prelude.{◌≡◌, ◌<◌, ◌++◌, [], ◌∷◌, List, IfOk, OnErr, OnOk, length, min};
 ghost use Rattle.std.specs.Option.{option_map};
 ghost use Rattle.x3d_lists.specs.Extends.{Extends};
-ghost use Rattle.scene_core.specs.Scene.{types_of};
+ghost use Rattle.scene_core.specs.Scene.{shapes_of};
 ghost use Rattle.snapshot_codec.specs.Reads.{Reads};
-ghost use Rattle.snapshot_core.specs.Nodes.{node_of, node_codec, nodes_codec};
+ghost use Rattle.snapshot_codec.specs.declared.kept.KeptField.{KeptField as Kept};
+ghost use Rattle.snapshot_core.specs.Nodes.{node_of, node_codec, nodes_codec, shape_in, state_codec};
 ghost use Rattle.snapshot_core.specs.WorldCodec.{lists_in};
 
 use crate::beside::{Beside, beside_of, push_beside};
@@ -75,22 +76,39 @@ fn node_with(values: Items<Option<Value>>, beside: Beside) -> NodeState
     }
 }
 
-/// What a node of this type keeps, at the front of the bytes, and the bytes behind it.
-#[tactic(auto, unfolding(crate::specs::Nodes::node_codec))]
-fn node_of<'a>(
+/// What a node of this type keeps of these fields, at the front of the bytes, and the bytes behind
+/// it.
+#[tactic(auto, unfolding(crate::specs::Nodes::state_codec))]
+fn state_of<'a>(
     alloc: Global,
-    kept: &mut Vec<KeptField>,
+    kept: &[KeptField],
     node_type: NodeType,
     bytes: &'a [u8],
 ) -> Result<(NodeState, &'a [u8]), PartFault>
-    ensures { Reads (λ x. (x.0, x.1.now)) result ((node_codec node_type).read bytes.now) }
+    ensures { Reads (λ x. (x.0, x.1.now)) result
+        ((state_codec kept.now node_type).read bytes.now) }
 {
-    list_kept(node_type, kept)?;
     let (values, rest) = kept_fields_of(alloc, kept, bytes)?;
     let Some((beside, rest)) = beside_of(node_type, rest) else {
         return Err(PartFault::NotCanonical);
     };
     Ok((node_with(values, beside), rest))
+}
+
+/// What the node of that number keeps, at the front of the bytes, and the bytes behind it.
+fn node_of<'a>(
+    alloc: Global,
+    kept: &mut Vec<KeptField>,
+    scene: &Scene,
+    node: u32,
+    bytes: &'a [u8],
+) -> Result<(NodeState, &'a [u8]), PartFault>
+    requires { node < length scene.now.nodes }
+    ensures { Reads (λ x. (x.0, x.1.now)) result
+        ((node_codec (shape_in scene.now node)).read bytes.now) }
+{
+    list_kept(scene, node, kept)?;
+    state_of(alloc, kept, scene.node_type(node), bytes)
 }
 
 /// How many nodes the scene has. No memory holds a scene of 2^32 nodes.
@@ -111,14 +129,14 @@ pub(crate) fn nodes_of<'a>(
     bytes: &'a [u8],
 ) -> Result<(NodeLists, &'a [u8]), PartFault>
     ensures { Reads (λ x. (x.0, x.1.now)) result
-        ((nodes_codec (types_of scene.now)).read bytes.now) }
+        ((nodes_codec (shapes_of scene.now)).read bytes.now) }
 {
     let count = count_of(scene)?;
     let mut lists = NodeLists::new(alloc);
     let mut kept = Vec::new(alloc);
     let mut rest = bytes;
     for node in 0..count {
-        let (state, after) = node_of(alloc, &mut kept, scene.node_type(node), rest)?;
+        let (state, after) = node_of(alloc, &mut kept, scene, node, rest)?;
         lists.push(state)?;
         rest = after;
     }
@@ -126,7 +144,7 @@ pub(crate) fn nodes_of<'a>(
 }
 
 /// Appends what a node of this type keeps; on a refusal perhaps a part of it.
-#[tactic(auto, unfolding(crate::specs::Nodes::node_codec))]
+#[tactic(auto, unfolding(crate::specs::Nodes::state_codec))]
 fn push_node(
     node_type: NodeType,
     fields: &Fields,
@@ -134,9 +152,10 @@ fn push_node(
     touch: TouchState,
     out: &mut Vec<u8>,
 ) -> Result<(), AllocError>
-    ensures ok { OnOk result (out.new.items
+    ensures ok { (kept : List Kept)
+        → OnOk result (out.new.items
         ≡ out.old.items
-        ++ (node_codec node_type).write
+        ++ (state_codec kept node_type).write
         (record { fields = fields.now; time = time; touch = touch })) }
     ensures kept { Extends out.old.items out.new.items }
 {
@@ -170,7 +189,7 @@ pub(crate) fn push_nodes(
     out: &mut Vec<u8>,
 ) -> Result<(), AllocError>
     ensures ok { OnOk result (out.new.items
-        ≡ out.old.items ++ (nodes_codec (types_of scene.now)).write (lists_in world.now)) }
+        ≡ out.old.items ++ (nodes_codec (shapes_of scene.now)).write (lists_in world.now)) }
     ensures kept { Extends out.old.items out.new.items }
 {
     let count = shared_count(scene, world)?;

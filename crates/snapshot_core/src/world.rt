@@ -3,7 +3,7 @@
 ghost use Rattle.std.specs.Prelude.{◌≡◌, ◌++◌, OnOk};
 ghost use Rattle.x3d_lists.specs.Extends.{Extends};
 ghost use Rattle.byte_codec.specs.Codec.{whole};
-ghost use Rattle.scene_core.specs.Scene.{types_of};
+ghost use Rattle.scene_core.specs.Scene.{shapes_of};
 ghost use Rattle.snapshot_codec.specs.Reads.{Reads};
 ghost use Rattle.snapshot_core.specs.Shot.{body_codec};
 ghost use Rattle.snapshot_core.specs.WorldCodec.{parts_codec, world_with};
@@ -33,7 +33,7 @@ fn parts_of<'a>(
     bytes: &'a [u8],
 ) -> Result<(WorldParts, &'a [u8]), PartFault>
     ensures { Reads (λ x. (x.0, x.1.now)) result
-        ((parts_codec (types_of scene.now)).read bytes.now) }
+        ((parts_codec (shapes_of scene.now)).read bytes.now) }
 {
     let (nodes, rest) = nodes_of(alloc, scene, bytes)?;
     let Some(read) = buttons_of(rest) else {

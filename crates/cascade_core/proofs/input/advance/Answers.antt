@@ -1,6 +1,6 @@
 use Rattle.std.proofs.Common.{◌≡◌, ◌∙◌, List, ap, sym, length, refl}
 use Rattle.std.proofs.lemmas.List.{length-map}
-use Rattle.scene_core.specs.Scene.{types_of}
+use Rattle.scene_core.specs.Scene.{shapes_of}
 use Rattle.cascade_core.specs.declared.world.Turn.{Turn}
 use Rattle.cascade_core.specs.declared.world.TraceLine.{TraceLine}
 use Rattle.cascade_core.proofs.Gains.{IsGain, gain-begin, gain-happen}
@@ -13,7 +13,7 @@ deliveries-requires c =
     let g : IsGain start c.happen.new.turn =
     rw c.in_ok-happen.ensures.turn
     (gain-happen c.args.scene.now c.args.routes.now start c.args.input.now.time c.begin.new.self c.args.input.now.event
-    (gain-begin (types_of c.args.scene.now) c.args.routes.now start c.begin.new.self same (ap (λ (t : Turn). t.sent) c.begin.ensures)))
+    (gain-begin (shapes_of c.args.scene.now) c.args.routes.now start c.begin.new.self same (ap (λ (t : Turn). t.sent) c.begin.ensures)))
     in
     record { differ = rw c.as_slice-2.ensures g.differ }
 
@@ -24,7 +24,7 @@ returns-clause-work c =
     let g : IsGain start c.happen.new.turn =
     rw c.in_ok-happen.ensures.turn
     (gain-happen c.args.scene.now c.args.routes.now start c.args.input.now.time c.begin.new.self c.args.input.now.event
-    (gain-begin (types_of c.args.scene.now) c.args.routes.now start c.begin.new.self same (ap (λ (t : Turn). t.sent) c.begin.ensures)))
+    (gain-begin (shapes_of c.args.scene.now) c.args.routes.now start c.begin.new.self same (ap (λ (t : Turn). t.sent) c.begin.ensures)))
     in
     record {
       lines = g.lines;

@@ -2,7 +2,7 @@ use Rattle.std.proofs.Common.{◌∙◌}
 use Rattle.cascade_core.specs.Answers.{met, with_answer}
 use Rattle.cascade_core.specs.Apply.{point_node}
 use Rattle.cascade_core.specs.Pointer.{place_in}
-use Rattle.scene_core.specs.Scene.{types_of}
+use Rattle.scene_core.specs.Scene.{shapes_of}
 use Rattle.cascade_core.proofs.Shown.{met-fields}
 use Rattle.cascade_core.proofs.Tasks.{finish-all, met-ready}
 use Rattle.cascade_core.proofs.pointer.point_node.Goals as goal
@@ -24,4 +24,4 @@ returns-clause-turn c =
     let a = met c.args.scene.now c.args.turn.now.world c.args.sensor c.args.aim.now.pointer c.args.aim.now.before (place_in c.args.aim.now.inside.items c.args.sensor) in
     c.in_ok-run_tasks.ensures.turn
     ∙ rw (c.in_ok-push_replies.ensures.tasks, c.requires.empty, c.meet.ensures.replies, c.meet.ensures.world)
-    (finish-all (types_of c.args.scene.now) c.args.routes.now c.args.sensor a.replies (with_answer c.args.turn.now a))
+    (finish-all (shapes_of c.args.scene.now) c.args.routes.now c.args.sensor a.replies (with_answer c.args.turn.now a))

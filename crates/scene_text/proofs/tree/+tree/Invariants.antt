@@ -16,11 +16,20 @@ decreases-node_list l = 8 * l.depth + 2
 abbrev pub decreases-value_tree : goal.decreases-value_tree
 decreases-value_tree l = 8 * l.depth + 3
 
+abbrev pub decreases-plain_tree : goal.decreases-plain_tree
+decreases-plain_tree l = 8 * l.depth + 4
+
+abbrev pub decreases-given_tree : goal.decreases-given_tree
+decreases-given_tree l = 8 * l.depth + 4
+
+abbrev pub decreases-declared_tree : goal.decreases-declared_tree
+decreases-declared_tree l = 8 * l.depth + 5
+
 abbrev pub decreases-field_tree : goal.decreases-field_tree
-decreases-field_tree l = 8 * l.depth + 4
+decreases-field_tree l = 8 * l.depth + 6
 
 abbrev pub decreases-field_trees : goal.decreases-field_trees
-decreases-field_trees l = 8 * l.depth + 5
+decreases-field_trees l = 8 * l.depth + 7
 
 abbrev pub invariant-field_trees-loop-field : goal.invariant-field_trees-loop-field
 invariant-field_trees-loop-field l =

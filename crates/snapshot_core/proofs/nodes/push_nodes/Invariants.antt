@@ -1,7 +1,7 @@
 use Rattle.std.proofs.Common.{◌≡◌, ◌++◌, drop}
 use Rattle.byte_codec.specs.Codec.{rows_text}
 use Rattle.x3d_lists.specs.Extends.{Extends}
-use Rattle.scene_core.specs.Scene.{types_of}
+use Rattle.scene_core.specs.Scene.{shapes_of}
 use Rattle.snapshot_core.specs.Nodes.{node_codec, nodes_codec, nodes_from}
 use Rattle.snapshot_core.specs.WorldCodec.{lists_in}
 use Rattle.snapshot_core.proofs.nodes.push_nodes.Given as goal
@@ -10,7 +10,7 @@ use Rattle.snapshot_core.proofs.nodes.push_nodes.Given as goal
 abbrev pub invariant-loop-node : goal.invariant-loop-node
 invariant-loop-node l = record {
   told :
-      l.out.items ++ rows_text node_codec (drop l.node (types_of l.scene)) (nodes_from (drop l.node l.world.fields) (drop l.node l.world.sensors) (drop l.node l.world.touches))
-      ≡ l.fn.out.items ++ (nodes_codec (types_of l.scene)).write (lists_in l.world);
+      l.out.items ++ rows_text node_codec (drop l.node (shapes_of l.scene)) (nodes_from (drop l.node l.world.fields) (drop l.node l.world.sensors) (drop l.node l.world.touches))
+      ≡ l.fn.out.items ++ (nodes_codec (shapes_of l.scene)).write (lists_in l.world);
   kept : Extends l.fn.out.items l.out.items;
 }

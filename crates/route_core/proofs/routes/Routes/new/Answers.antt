@@ -27,7 +27,7 @@ group-requires-clause-room c =
     let firsts = c.in_ok-firsts.firsts.items in
     let sums = c.in_ok-firsts.ensures in
     let count : c.index-count.result.now ≡ slice_index firsts (length counts) = get_or_read firsts (length counts) _ (omega (arith, sums.one_more)) c.index-count.ensures 0 in
-    omega (arith, count, last-below counts firsts sums (λ k. (c.type_inv.field_counts k).fits) c.requires.nodes)
+    omega (arith, count, last-below counts firsts sums c.requires.counts c.requires.nodes)
 
 pub invariant_of-result : goal.invariant_of-result
 invariant_of-result c =

@@ -1,4 +1,4 @@
-use Rattle.std.proofs.Common.{◌≡◌, ℕ, List, [], length, take, sym, ap, subst, ◌∙◌, arith}
+use Rattle.std.proofs.Common.{◌≡◌, ◌≤◌, ℕ, List, [], length, take, sym, ap, subst, ◌∙◌, arith}
 use Rattle.std.specs.Prelude.{All}
 use Rattle.std.specs.List.{fold}
 use Rattle.std.proofs.lemmas.List.{length-take}
@@ -11,8 +11,12 @@ use Rattle.route_core.proofs.routes.Routes.resolve.Goals as goal
 
 pub new-requires-clause-nodes : goal.new-requires-clause-nodes
 new-requires-clause-nodes c =
-    let counts : c.as_slice-3.result.now ≡ take 4294967296 (field_counts c.args.scene.now) = c.as_slice-3.ensures.value ∙ c.in_ok-counts.ensures in
+    let counts : c.as_slice-3.result.now ≡ take 4294967296 (field_counts c.args.scene.now) = c.as_slice-3.ensures.value ∙ c.in_ok-counts.ensures.are in
     omega (arith, ap (λ (l : List ℕ). length l) counts, length-take 4294967296 (field_counts c.args.scene.now))
+
+pub new-requires-clause-counts : goal.new-requires-clause-counts
+new-requires-clause-counts c =
+    subst (λ (l : List ℕ). All (λ (count : ℕ). count ≤ 65536) l) (sym c.as_slice-3.ensures.value) c.in_ok-counts.ensures.few
 
 pub new-requires-clause-few : goal.new-requires-clause-few
 new-requires-clause-few c =
@@ -21,7 +25,7 @@ new-requires-clause-few c =
 pub new-requires-clause-fields : goal.new-requires-clause-fields
 new-requires-clause-fields c =
     let scene = c.args.scene.now in
-    let counts : c.as_slice-3.result.now ≡ take 4294967296 (field_counts scene) = c.as_slice-3.ensures.value ∙ c.in_ok-counts.ensures in
+    let counts : c.as_slice-3.result.now ≡ take 4294967296 (field_counts scene) = c.as_slice-3.ensures.value ∙ c.in_ok-counts.ensures.are in
     let each : All (λ (r : Route). IsKnown scene r.source) c.as_slice-2.result.now =
     subst (λ (l : List Route). All (λ (r : Route). IsKnown scene r.source) l) (sym c.as_slice-2.ensures) c.in_ok-each.ensures.known in
     let kept : All (λ (r : Route). IsKnown scene r.source) c.in_ok-routes.routes =

@@ -1,0 +1,74 @@
+-- The fields of nodes: those of a type, and behind them those that a Script declares (ISO/IEC
+-- 19775-1, Script).
+use Rattle.std.specs.Prelude.{ℕ, ◌-◌, ◌++◌, Bool, ◌&&◌, not, List, Option, Some, None, length, map, take, if◌then◌else◌}
+use denote.Enum.Bare.{sameb}
+use Rattle.x3d_values.specs.contracts.field_type.FieldType as types
+use Rattle.x3d_values.specs.declared.default.FieldDefault.{FieldDefault}
+use Rattle.x3d_values.specs.declared.default.FieldDefault.TheVariants.{Empty}
+use Rattle.x3d_values.specs.declared.field_type.Access.{Access}
+use Rattle.x3d_values.specs.declared.field_type.FieldType.{FieldType}
+use Rattle.x3d_values.specs.declared.field_type.FieldType.TheVariants.{SFRotation}
+use Rattle.x3d_values.specs.declared.node_type.NodeType.{NodeType}
+use Rattle.x3d_values.specs.Access.{is_initial}
+use Rattle.x3d_values.specs.Tables.{Entry, rows}
+use Rattle.classic_tree.specs.declared.tree.Declaration.{Declaration}
+use Rattle.scene_core.specs.declared.row.DeclaredField.{DeclaredField}
+use Rattle.scene_core.specs.declared.row.Row.{Row}
+
+-- which fields a node has: those of its type, and behind them those that a Script declares
+pub record Shape : Type 0 where
+  pub node_type : NodeType
+  pub declared : List Entry
+
+abbrev pub rows_of : Shape → List Entry
+rows_of s = rows s.node_type ++ s.declared
+
+-- ---- a declared field
+
+abbrev pub is_rotation : FieldType → Bool
+is_rotation field_type = sameb types.the_type field_type SFRotation
+
+-- a field that a scene may give a value holds the empty value of its type where none is given
+abbrev pub declared_default : Access → FieldType → Option FieldDefault
+declared_default access field_type =
+    if is_initial access && not (is_rotation field_type) then Some Empty else None
+
+-- its node fields take any node
+abbrev pub declared_entry : DeclaredField → Entry
+declared_entry d = record {
+  name = d.name;
+  access = d.access;
+  field_type = d.field_type;
+  default = declared_default d.access d.field_type;
+  kind = None;
+}
+
+abbrev pub declared_by : Declaration ℕ → DeclaredField
+declared_by d = record { name = d.name; access = d.access; field_type = d.field_type }
+
+abbrev pub declaration_entry : Declaration ℕ → Entry
+declaration_entry d = declared_entry (declared_by d)
+
+-- ---- numbers have 16 bits: an expanded document has no node with more fields
+
+abbrev pub most_declared : NodeType → ℕ
+most_declared t = 65536 - length (rows t)
+
+-- those of the declared fields that have numbers
+abbrev pub numbered_fields : {A : Type 0} → NodeType → List A → List A
+numbered_fields t declared = take (most_declared t) declared
+
+abbrev pub shape_by : NodeType → List DeclaredField → Shape
+shape_by t declared =
+    record { node_type = t; declared = map declared_entry (numbered_fields t declared) }
+
+-- ---- a row of the program
+
+abbrev pub row_entry : Row → Entry
+row_entry r = record {
+  name = r.name.now;
+  access = r.access;
+  field_type = r.field_type;
+  default = r.default;
+  kind = r.kind;
+}

@@ -1,0 +1,167 @@
+//! The fields of nodes: those of a type, and behind them those that a Script declares.
+
+ghost use Rattle.std.specs.Prelude.{◌≡◌, ◌+◌, ◌≤◌, IfOk, length, map, slice_get};
+ghost use Rattle.std.specs.Option.{option_map};
+ghost use Rattle.x3d_values.specs.Tables.{entry, numbered, row_named};
+ghost use Rattle.scene_core.specs.Shape as spec;
+ghost use Rattle.scene_core.specs.Shape.{row_entry, rows_of, shape_by};
+
+use classic_tree::Declaration;
+use std::alloc::{AllocError, Global};
+use x3d_lists::{Duplicate, Items, Text};
+use x3d_values::{
+    Access, Field, FieldDefault, FieldRow, FieldType, NodeKind, NodeType, field_of, fields_of,
+};
+
+/// More fields of a node have no numbers of 16 bits. A node of an expanded document has no more.
+const MOST_FIELDS: usize = 65_536;
+
+/// A field that a Script declares (ISO/IEC 19775-1, Script).
+#[derive(Debug, Drop)]
+pub struct DeclaredField {
+    pub name: Text,
+    pub access: Access,
+    pub field_type: FieldType,
+}
+
+/// A field of a node.
+#[derive(Clone, Copy)]
+pub struct Row<'a> {
+    pub name: &'a str,
+    pub access: Access,
+    pub field_type: FieldType,
+    /// What the field holds where a scene gives nothing; none where it holds no value.
+    pub default: Option<FieldDefault>,
+    /// Which nodes a field of a node type takes, where it doesn't take any.
+    pub kind: Option<NodeKind>,
+}
+
+fn own_row(field: &'static Field) -> Row<'static>
+    ensures { row_entry result ≡ entry field.now }
+{
+    Row {
+        name: field.name,
+        access: field.access,
+        field_type: field.field_type,
+        default: field.default,
+        kind: field.kind,
+    }
+}
+
+fn declared_default(access: Access, field_type: FieldType) -> Option<FieldDefault>
+    ensures { result ≡ spec.declared_default access field_type }
+{
+    if access.is_initial() && field_type != FieldType::SFRotation {
+        Some(FieldDefault::Empty)
+    } else {
+        None
+    }
+}
+
+fn declared_row(field: &DeclaredField) -> Row<'_>
+    ensures { row_entry result ≡ spec.declared_entry field.now }
+{
+    Row {
+        name: field.name.as_str(),
+        access: field.access,
+        field_type: field.field_type,
+        default: declared_default(field.access, field.field_type),
+        kind: None,
+    }
+}
+
+/// Those of the declared fields of a node that have numbers.
+pub(crate) fn numbered_fields<A>(node_type: NodeType, declared: &[A]) -> &[A]
+    ensures { result.now ≡ spec.numbered_fields node_type declared.now }
+{
+    let most = MOST_FIELDS - fields_of(node_type).len();
+    &declared[..most.min(declared.len())]
+}
+
+/// The field of that number of a node that declares these.
+#[tactic(auto, using(crate::proofs::RowLemmas::by_number))]
+pub(crate) fn row_by(
+    node_type: NodeType,
+    declared: &[DeclaredField],
+    number: u16,
+) -> Option<Row<'_>>
+    ensures { option_map row_entry result
+        ≡ slice_get (rows_of (shape_by node_type declared.now)) number }
+{
+    let own = fields_of(node_type);
+    let place = number as usize;
+    if place < own.len() {
+        return Some(own_row(&own[place]));
+    }
+    let field = declared.get(place - own.len())?;
+    Some(declared_row(field))
+}
+
+/// How many fields a node has that declares these.
+#[tactic(auto, using(crate::proofs::RowLemmas::by_number))]
+pub(crate) fn count_by(node_type: NodeType, declared: &[DeclaredField]) -> u32
+    ensures is { result ≡ length (rows_of (shape_by node_type declared.now)) }
+    ensures few { result ≤ 65536 }
+{
+    (fields_of(node_type).len() + numbered_fields(node_type, declared).len()) as u32
+}
+
+/// The first of these declared fields that has the name, where they are numbered from `first` on.
+#[tactic(auto, using(crate::proofs::RowLemmas::by_name))]
+fn declared_named(first: usize, declared: &[DeclaredField], name: &str) -> Option<FieldRow>
+    requires { first + length declared.now ≤ 65536 }
+    ensures { result ≡ row_named first name.now (map spec.declared_entry declared.now) }
+{
+    for i in 0..declared.len() {
+        if name == declared[i].name.as_str() {
+            return Some(numbered_row(&declared[i], (first + i) as u16));
+        }
+    }
+    None
+}
+
+fn numbered_row(field: &DeclaredField, number: u16) -> FieldRow
+    ensures { result ≡ numbered number (spec.declared_entry field.now) }
+{
+    FieldRow {
+        number,
+        access: field.access,
+        field_type: field.field_type,
+        default: declared_default(field.access, field.field_type),
+        kind: None,
+    }
+}
+
+/// The first field of that name of a node that declares these.
+#[tactic(auto, using(crate::proofs::RowLemmas::by_name))]
+pub(crate) fn named_by(
+    node_type: NodeType,
+    declared: &[DeclaredField],
+    name: &str,
+) -> Option<FieldRow>
+    ensures { result ≡ row_named 0 name.now (rows_of (shape_by node_type declared.now)) }
+{
+    if let Some(row) = field_of(node_type, name) {
+        return Some(row);
+    }
+    let own = fields_of(node_type).len();
+    declared_named(own, numbered_fields(node_type, declared), name)
+}
+
+/// The declarations of a Script as fields.
+pub(crate) fn declared_fields(
+    alloc: Global,
+    interface: &[Declaration<u32>],
+) -> Result<Items<DeclaredField>, AllocError>
+    ensures { IfOk result (λ fields. fields ≡ map spec.declared_by interface.now) }
+{
+    let mut fields = Items::new(alloc);
+    for declaration in interface {
+        fields.push(DeclaredField {
+            name: declaration.name.duplicate(alloc)?,
+            access: declaration.access,
+            field_type: declaration.field_type,
+        })?;
+    }
+    Ok(fields)
+}
