@@ -3,7 +3,7 @@ use Rattle.std.specs.Prelude.{ℕ, List, Result, Ok}
 use Rattle.sha2.specs.Sha256.{sha256}
 use Rattle.share_jobs.specs.Job.{Lined, job_lines}
 use Rattle.share_jobs.specs.declared.fault.JobFault.{JobFault}
-use Rattle.share_program.specs.Opening.{next, same, opened}
+use Rattle.share_program.specs.Opening.{next, same, opened_to_run}
 use Rattle.share_program.specs.declared.open.Opened.{Opened}
 use Rattle.share_words.specs.declared.order.Order.{Order}
 use Rattle.share_commands.specs.Fits.{fits}
@@ -21,7 +21,7 @@ with_mark l o =
 
 -- the steps of the lines before the first line `scene`, and the scene behind it
 unfoldable pub shared : List ℕ → Result SharedJob JobFault
-shared bytes = next same (job_lines bytes) (λ l. next same (opened l.scene) (with_mark l))
+shared bytes = next same (job_lines bytes) (λ l. next same (opened_to_run l.scene) (with_mark l))
 
 abbrev pub if_fits : Order → SharedJob → Result SharedJob JobFault
 if_fits order job = next same (fits order job.inputs) (λ _. Ok job)

@@ -13,7 +13,7 @@ mod stream;
 pub use check::check_text;
 pub use fault::{RunFault, ShareFault};
 pub use format::format_text;
-pub use open::{Job, Opened, open_job, open_scene, read_job, read_schedule};
+pub use open::{Job, Opened, open_job, open_scene, open_to_run, read_job, read_schedule};
 pub use refusal::{Failure, refusal_line, status_of};
 pub use runs::{run, run_job};
 pub use share_jobs::{Inputs, JobFault, Schedule, Steps, job_of, schedule_of};

@@ -6,20 +6,23 @@ ghost use Rattle.std.specs.Io.KnownBytes.{Consumes, IsAtEnd};
 ghost use Rattle.x3d_lists.specs.Answers.{Gives};
 ghost use Rattle.cascade_core.specs.InTurn.{AreInTurn};
 ghost use Rattle.share_jobs.specs.Schedule.{schedule_lines};
-ghost use Rattle.share_program.specs.Opening.{routed, built, opened, opened_job, IsDeviceOrMemory};
-ghost use Rattle.share_program.specs.Opening.{declares_fields, first_declaring, none_declares};
+ghost use Rattle.share_program.specs.Opening.{routed, built, built_to_run, flattened, opened, opened_to_run, opened_job, IsDeviceOrMemory};
+ghost use Rattle.share_program.specs.Opening.{asks, some_asks, url_asks, asks_to_run, first_asking, none_asks};
 ghost use Rattle.share_program.specs.Opening.{IsNoJob, IsNoSchedule};
 ghost use Rattle.share_jobs.specs.declared.fault.JobFault.TheVariants.{Memory};
 
 use crate::stream::read_whole;
 use classic_text::read;
-use flat_document::{ExpandFault, ExpandFaultKind, Flat, FlatNode};
+use classic_tree::RawValue;
+use flat_document::{ExpandFault, ExpandFaultKind, Flat, FlatField, FlatNode};
 use proto_walk::expand;
 use route_core::Routes;
 use scene_core::Scene;
 use share_jobs::{Inputs, JobFault, Schedule, job_of, schedule_of};
 use std::alloc::Global;
 use std::io::Read;
+use x3d_lists::Text;
+use x3d_values::NodeType;
 
 /// A scene with its routes.
 #[derive(Drop)]
@@ -44,24 +47,52 @@ fn routed(alloc: Global, flat: &Flat, scene: Scene) -> Result<Opened, JobFault>
     Ok(Opened { scene, routes })
 }
 
-/// Whether the node is a Script that declares fields of its own.
-fn declares_fields(node: &FlatNode) -> bool
-    ensures { result ≡ declares_fields node.now }
+/// The number of a Script's field `url`, behind `metadata`.
+const URL: u16 = 1;
+
+/// Whether this URL asks for a script that is run.
+fn asks(url: &Text) -> bool
+    ensures { result ≡ asks url.now }
 {
-    node.interface.len() > 0
+    url.as_bytes().starts_with(b"x3dshare:")
 }
 
-fn first_declaring(nodes: &[FlatNode]) -> Option<&FlatNode>
-    ensures { option_copied result ≡ first_declaring nodes.now }
+/// Whether this value of `url` does.
+fn some_asks(value: &RawValue<u32>) -> bool
+    ensures { result ≡ some_asks value.now }
 {
-    nodes.iter().find(|node| declares_fields(node))
+    match value {
+        RawValue::String(url) => asks(url),
+        RawValue::StringList(urls) => urls.as_slice().iter().any(|url| asks(url)),
+        _ => false,
+    }
 }
 
-/// A Script that declares fields of its own is not run yet.
-fn check_interfaces(nodes: &[FlatNode]) -> Result<(), ExpandFault>
-    ensures { result ≡ none_declares nodes.now }
+/// Whether the field is a Script's `url`, and asks.
+fn url_asks(field: &FlatField) -> bool
+    ensures { result ≡ url_asks field.now }
 {
-    match first_declaring(nodes) {
+    field.number == URL && some_asks(&field.value)
+}
+
+/// Whether the node is a Script that asks to be run.
+fn asks_to_run(node: &FlatNode) -> bool
+    ensures { result ≡ asks_to_run node.now }
+{
+    node.node_type == NodeType::Script && node.fields.as_slice().iter().any(|field| url_asks(field))
+}
+
+fn first_asking(nodes: &[FlatNode]) -> Option<&FlatNode>
+    ensures { option_copied result ≡ first_asking nodes.now }
+{
+    nodes.iter().find(|node| asks_to_run(node))
+}
+
+/// A Script that asks to be run is not run yet.
+fn check_scripts(nodes: &[FlatNode]) -> Result<(), ExpandFault>
+    ensures { result ≡ none_asks nodes.now }
+{
+    match first_asking(nodes) {
         None => Ok(()),
         Some(node) => Err(ExpandFaultKind::NotYet.on_line(node.line)),
     }
@@ -71,9 +102,25 @@ fn check_interfaces(nodes: &[FlatNode]) -> Result<(), ExpandFault>
 fn built(alloc: Global, flat: &Flat) -> Result<Opened, JobFault>
     ensures { Gives Memory (λ o. o) result (built flat.now) }
 {
-    check_interfaces(flat.nodes.as_slice())?;
     let scene = Scene::build(alloc, flat)?;
     routed(alloc, flat, scene)
+}
+
+/// The same of a document that is to be run.
+fn built_to_run(alloc: Global, flat: &Flat) -> Result<Opened, JobFault>
+    ensures { Gives Memory (λ o. o) result (built_to_run flat.now) }
+{
+    check_scripts(flat.nodes.as_slice())?;
+    built(alloc, flat)
+}
+
+/// The nodes of a text's document, by number.
+#[tactic(auto, unfolding(crate::specs::Opening::flattened))]
+fn flattened(alloc: Global, text: &[u8]) -> Result<Flat, JobFault>
+    ensures { Gives Memory (λ f. f) result (flattened text.now) }
+{
+    let document = read(alloc, text)?;
+    Ok(expand(alloc, document)?)
 }
 
 /// The scene of a text, and its routes.
@@ -81,9 +128,18 @@ fn built(alloc: Global, flat: &Flat) -> Result<Opened, JobFault>
 pub fn open_scene(alloc: Global, text: &[u8]) -> Result<Opened, JobFault>
     ensures { Gives Memory (λ o. o) result (opened text.now) }
 {
-    let document = read(alloc, text)?;
-    let flat = expand(alloc, document)?;
+    let flat = flattened(alloc, text)?;
     built(alloc, &flat)
+}
+
+/// The scene of a text that is to be run, and its routes: `NotYet`, at the line of the first of its
+/// Scripts with a `url` that begins `x3dshare:`, as these are not run yet.
+#[tactic(auto, unfolding(crate::specs::Opening::opened_to_run))]
+pub fn open_to_run(alloc: Global, text: &[u8]) -> Result<Opened, JobFault>
+    ensures { Gives Memory (λ o. o) result (opened_to_run text.now) }
+{
+    let flat = flattened(alloc, text)?;
+    built_to_run(alloc, &flat)
 }
 
 /// The job of these bytes: first its lines, then its scene.
@@ -93,7 +149,7 @@ pub fn open_job(alloc: Global, bytes: &[u8]) -> Result<Job, JobFault>
     ensures in_turn { IfOk result (λ j. AreInTurn j.inputs) }
 {
     let steps = job_of(alloc, bytes)?;
-    let opened = open_scene(alloc, steps.scene)?;
+    let opened = open_to_run(alloc, steps.scene)?;
     Ok(Job {
         inputs: steps.inputs,
         scene: opened.scene,

@@ -9,5 +9,6 @@ mod pointers;
 mod reading;
 mod scenes;
 mod schedules;
+mod scripts;
 mod texts;
 mod works;

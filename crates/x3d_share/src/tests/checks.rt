@@ -8,7 +8,7 @@ use std::process::Abort;
 
 /// The scene is answered with this line, on the output or as a refusal; a refused one writes
 /// nothing.
-fn is_answered(rt: &impl Abort, alloc: Global, scene: &[u8], wanted: &[u8]) {
+pub(super) fn is_answered(rt: &impl Abort, alloc: Global, scene: &[u8], wanted: &[u8]) {
     let mut reader = scene;
     let mut out = Vec::new(alloc);
     match check_text(alloc, &mut reader, &mut out) {
