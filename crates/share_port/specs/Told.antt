@@ -1,4 +1,4 @@
--- What a port tells of the datagrams that passed.
+-- What a port tells of what passed.
 use Rattle.std.specs.Prelude.{◌≡◌, ℕ, ◌+◌, ◌-◌, ◌^◌, min, List, ◌++◌, Option, Some, None, ⊤}
 use Rattle.share_port.specs.declared.traffic.Traffic.{Traffic}
 

@@ -51,7 +51,7 @@ impl FakePort {
         Ok(())
     }
 
-    /// What was received and sent, in order.
+    /// What was received and sent, and each receive for which nothing came, in order.
     pub fn traffic(&self) -> &[Traffic]
         ensures { result.now ≡ self.now.passed.items }
     {
@@ -110,6 +110,7 @@ impl Port for FakePort {
             return Err(self.fail());
         }
         let Some(datagram) = self.inbox.pop_front() else {
+            self.tell(Traffic::Nothing)?;
             return Ok(None);
         };
         let count = copy_front(into, datagram.bytes.as_slice());

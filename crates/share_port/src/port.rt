@@ -4,7 +4,7 @@ ghost use Rattle.std.specs.Prelude.{◌≡◌, ◌≤◌, ℕ, List, [], ◌∷�
 ghost use Rattle.std.specs.Prelude.{OnOk, OnErr, MatchResult, MatchOption};
 ghost use Rattle.share_port.specs.Told.{Grows, one_more};
 ghost use Rattle.share_port.specs.declared.traffic.Traffic.{Traffic};
-ghost use Rattle.share_port.specs.declared.traffic.Traffic.TheVariants.{Received, Sent};
+ghost use Rattle.share_port.specs.declared.traffic.Traffic.TheVariants.{Nothing, Received, Sent};
 
 use thiserror::Error;
 
@@ -20,7 +20,7 @@ pub struct PortFault;
 /// An end that sends and receives datagrams, and never waits for one. A peer is its port number on
 /// 127.0.0.1.
 pub trait Port {
-    // The datagrams that passed, in order, where the port tells them.
+    // What passed, in order, where the port tells it.
     ghost told: { Self → Option (List Traffic) } = { λ _. None };
 
     // How many sends and receives failed, up to 2^64 - 1.
@@ -41,7 +41,7 @@ pub trait Port {
     /// front of `into`. Of a datagram of more than 257 bytes the first 257 are received.
     fn receive(&mut self, into: &mut [u8; 257]) -> Result<Option<(u16, usize)>, PortFault>
         ensures got { MatchResult result
-            (λ came. MatchOption came (Grows (told self.old) (told self.new) [])
+            (λ came. MatchOption came (Grows (told self.old) (told self.new) (Nothing ∷ []))
             (λ r. (r.1 ≤ 257) × Grows (told self.old) (told self.new)
             (Received (record { peer = r.0; bytes = take r.1 into.new }) ∷ [])))
             (λ _. Grows (told self.old) (told self.new) []) }

@@ -44,9 +44,13 @@ pub struct Datagram {
     pub bytes: Bytes,
 }
 
-/// One datagram that passed.
+/// What a port tells of one call that didn't fail.
 #[derive(Debug, Drop)]
 pub enum Traffic {
+    /// A datagram came.
     Received(Datagram),
+    /// A receive for which nothing came.
+    Nothing,
+    /// A datagram was sent.
     Sent(Datagram),
 }

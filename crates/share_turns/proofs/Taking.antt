@@ -1,6 +1,6 @@
 -- What a viewer takes in a turn, datagram by datagram.
-use Rattle.std.proofs.Common.{◌≡◌, ℕ, ◌+◌, ◌≤◌, List, [], ◌∷◌, ◌++◌, length, length-append, refl, ap, ◌∙◌, arith, append-nil, subst}
-use Rattle.std.specs.Prelude.{Bool, Option, Result, Err, IfOk, is_ok}
+use Rattle.std.proofs.Common.{◌≡◌, ℕ, ◌+◌, ◌≤◌, List, [], ◌∷◌, ◌++◌, length, length-append, refl, ap, ◌∙◌, arith, append-nil, subst, inl, inr}
+use Rattle.std.specs.Prelude.{Bool, true, false, Option, Result, Err, IfOk, is_ok}
 use Rattle.x3d_values.specs.declared.pointing.Point.{Point}
 use Rattle.std.proofs.lemmas.List.{map-append}
 use Rattle.cascade_core.specs.declared.world.WorldData.{WorldData}
@@ -12,7 +12,7 @@ use Rattle.share_port.specs.declared.traffic.Traffic.{Traffic}
 use Rattle.share_port.specs.declared.traffic.Traffic.TheVariants.{Received}
 use Rattle.share_port.specs.Told.{Grows}
 use Rattle.share_turns.specs.declared.fault.TurnFault.{TurnFault}
-use Rattle.share_turns.specs.Exchanges.{AreSent, sent_to}
+use Rattle.share_turns.specs.Exchanges.{AreSent, IsEnd, sent_to}
 use Rattle.share_turns.specs.ViewerTurn.{AreTaken, IsOffered, IsTaking, IsViewerTurn, Takes, received, requests}
 use Rattle.share_turns.proofs.Sending.{grows_none, grows_then}
 
@@ -25,25 +25,28 @@ one_more_taken m mark who x (e ∷ ds) d mid y before t = (before.0, before.1, o
 pub record TakesSoFar (v : ViewerView) (a b : Option (List Traffic)) (new : ViewerState WorldData) (n : ℕ) : Type 0 where
   pub came : List Datagram
   pub taken : AreTaken (machine_of v) v.mark v.who v.state came new
-  pub most : length came ≤ n
+  pub count : length came ≡ n
   pub told : Grows a b (received came)
 
 pub takes_none : (v : ViewerView) (a : Option (List Traffic)) → TakesSoFar v a a v.state 0
-takes_none v a = record { came = []; taken = refl; most = omega arith; told = grows_none a }
+takes_none v a = record { came = []; taken = refl; count = refl; told = grows_none a }
 
--- nothing came, or the port failed
-pub takes_quiet : (v : ViewerView) (a b c : Option (List Traffic)) (new : ViewerState WorldData) (n : ℕ)
-    → TakesSoFar v a b new n → n ≤ 64 → Grows b c [] → Takes (machine_of v) v.mark v.who a c v.state new
-takes_quiet v a b c new n t few grows = record {
+-- what came was taken, and then this was told
+pub takes_end : (v : ViewerView) (all : Bool) (a b c : Option (List Traffic)) (new : ViewerState WorldData) (n : ℕ) (rest : List Traffic)
+    → TakesSoFar v a b new n → n ≤ 64 → IsEnd all n rest → Grows b c rest → Takes (machine_of v) v.mark v.who all a c v.state new
+takes_end v all a b c new n rest t few end grows = record {
   came = t.came;
   taken = t.taken;
-  most = omega (arith, t.most, few);
-  told = rw (← append-nil (received t.came)) (grows_then a b c (received t.came) [] t.told grows);
+  most = omega (arith, t.count, few);
+  rest = rest;
+  ended = rw t.count end;
+  told = grows_then a b c (received t.came) rest t.told grows;
 }
 
-pub takes_all : (v : ViewerView) (a b : Option (List Traffic)) (new : ViewerState WorldData) (n : ℕ)
-    → TakesSoFar v a b new n → n ≤ 64 → Takes (machine_of v) v.mark v.who a b v.state new
-takes_all v a b new n t few = record { came = t.came; taken = t.taken; most = omega (arith, t.most, few); told = t.told }
+-- 64 came, or one was refused memory
+pub takes_all : (v : ViewerView) (all : Bool) (a b : Option (List Traffic)) (new : ViewerState WorldData) (n : ℕ)
+    → TakesSoFar v a b new n → n ≤ 64 → IsEnd all n [] → Takes (machine_of v) v.mark v.who all a b v.state new
+takes_all v all a b new n t few end = takes_end v all a b b new n [] t few end (grows_none b)
 
 -- one more, by a viewer that came of this one
 pub takes_more : (v x : ViewerView) (a b c : Option (List Traffic)) (d : Datagram) (new : ViewerState WorldData) (n : ℕ)
@@ -51,7 +54,7 @@ pub takes_more : (v x : ViewerView) (a b c : Option (List Traffic)) (d : Datagra
 takes_more v x a b c d new n same t grows took = record {
   came = t.came ++ d ∷ [];
   taken = one_more_taken (machine_of v) v.mark v.who v.state t.came d x.state new t.taken (subst (λ (y : ViewerView). IsTaking (machine_of y) y.mark y.who x.state d.bytes new) same took);
-  most = rw (length-append t.came (d ∷ [])) (omega (arith, t.most));
+  count = length-append t.came (d ∷ []) ∙ ap (λ (k : ℕ). k + 1) t.count;
   told = rw (map-append (λ (datagram : Datagram). Received datagram) t.came (d ∷ [])) (grows_then a b c (received t.came) (Received d ∷ []) t.told grows);
 }
 
@@ -59,10 +62,10 @@ takes_more v x a b c d new n same t grows took = record {
 
 -- it ended early, before anything was sent
 pub turn_stopped : (v begun : ViewerView) (host : ℕ) (point : Option Point) (offered : Bool) (a b : Option (List Traffic)) (fault : TurnFault) (new : ViewerState WorldData)
-    → begun ≡ with_state v begun.state → IsOffered v.state point offered begun.state → Takes (machine_of begun) begun.mark begun.who a b begun.state new
+    → begun ≡ with_state v begun.state → IsOffered v.state point offered begun.state → Takes (machine_of begun) begun.mark begun.who false a b begun.state new
     → IsViewerTurn (machine_of v) v.mark v.who host point a b v.state (Err fault) new
 turn_stopped v begun host point offered a b fault new same offers takes =
-    let t = subst (λ (y : ViewerView). Takes (machine_of y) y.mark y.who a b begun.state new) same takes in
+    let t = subst (λ (y : ViewerView). Takes (machine_of y) y.mark y.who false a b begun.state new) same takes in
     record {
       offered = offered;
       answer = tt;
@@ -71,20 +74,22 @@ turn_stopped v begun host point offered a b fault new same offers takes =
       came = t.came;
       taken = t.taken;
       most = t.most;
+      rest = t.rest;
       sent = [];
+      ended = inr (t.ended, refl);
       of_wanted = (requests (machine_of v) v.mark v.who new, refl);
-      told = rw (append-nil (received t.came)) t.told;
+      told = rw (append-nil (received t.came ++ t.rest)) t.told;
     }
 
 -- all was taken, and then sent as far as the port did
 pub turn_sent : (v begun taken : ViewerView) (host : ℕ) (point : Option Point) (offered : Bool) (a b c : Option (List Traffic)) (result : Result Bool TurnFault)
     → begun ≡ with_state v begun.state → IsOffered v.state point offered begun.state → taken ≡ with_state begun taken.state
-    → Takes (machine_of begun) begun.mark begun.who a b begun.state taken.state
+    → Takes (machine_of begun) begun.mark begun.who true a b begun.state taken.state
     → AreSent (is_ok result) host b c (requests (machine_of taken) taken.mark taken.who taken.state)
     → IfOk result (λ (x : Bool). x ≡ offered) → IsViewerTurn (machine_of v) v.mark v.who host point a c v.state result taken.state
 turn_sent v begun taken host point offered a b c result same offers then takes sent answer =
     let whole : taken ≡ with_state v taken.state = then ∙ ap (λ (y : ViewerView). with_state y taken.state) same in
-    let t = subst (λ (y : ViewerView). Takes (machine_of y) y.mark y.who a b begun.state taken.state) same takes in
+    let t = subst (λ (y : ViewerView). Takes (machine_of y) y.mark y.who true a b begun.state taken.state) same takes in
     let s = subst (λ (y : ViewerView). AreSent (is_ok result) host b c (requests (machine_of y) y.mark y.who taken.state)) whole sent in
     record {
       offered = offered;
@@ -94,9 +99,11 @@ turn_sent v begun taken host point offered a b c result same offers then takes s
       came = t.came;
       taken = t.taken;
       most = t.most;
+      rest = t.rest;
       sent = s.sent;
+      ended = inl t.ended;
       of_wanted = s.of_wanted;
-      told = grows_then a b c (received t.came) (sent_to host s.sent) t.told s.told;
+      told = grows_then a b c (received t.came ++ t.rest) (sent_to host s.sent) t.told s.told;
     }
 
 pub while_running : (view : View WorldData) (P : Type 0) → P → IfRunning view (λ w. P)

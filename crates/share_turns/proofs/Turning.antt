@@ -1,14 +1,15 @@
 -- A turn of the host, datagram by datagram.
-use Rattle.std.proofs.Common.{ℕ, ◌+◌, ◌<◌, ◌≤◌, ℤ, Bool, true, false, List, [], ◌∷◌, ◌++◌, length, length-append, refl, ◌∙◌, arith, append-nil}
-use Rattle.std.specs.Prelude.{Option}
+use Rattle.std.proofs.Common.{◌≡◌, ℕ, ◌+◌, ◌<◌, ◌≤◌, ℤ, Bool, true, false, List, [], ◌∷◌, ◌++◌, length, length-append, refl, ap, ◌∙◌, arith, append-nil}
+use Rattle.std.specs.Prelude.{Option, Result, Err, is_ok}
 use Rattle.std.proofs.lemmas.Grind.{flat_map-append}
 use Rattle.share_law.specs.Host.{HostState}
 use Rattle.share_port.specs.declared.traffic.Datagram.{Datagram}
 use Rattle.share_port.specs.declared.traffic.Traffic.{Traffic}
 use Rattle.share_port.specs.declared.traffic.Traffic.TheVariants.{Received}
 use Rattle.share_port.specs.Told.{Grows}
-use Rattle.share_turns.specs.Exchanges.{Exchange, IsSentOf, all_traffic, sent_to, traffic_of}
-use Rattle.share_turns.specs.HostTurn.{AreAnswered, IsAnswered, IsBegun, IsExchange, IsHostTurn}
+use Rattle.share_turns.specs.Exchanges.{Exchange, IsEnd, IsSentOf, all_traffic, sent_to, traffic_of}
+use Rattle.share_turns.specs.HostTurn.{AreAnswered, IsAnswered, IsBegun, IsExchange, IsHostTurn, is_whole}
+use Rattle.share_turns.specs.declared.fault.TurnFault.{TurnFault}
 use Rattle.share_turns.proofs.Sending.{grows_none, grows_then}
 
 all_is_front : (whole : Bool) (sent wanted : List (List ℕ)) → IsSentOf true sent wanted → IsSentOf whole sent wanted
@@ -28,48 +29,64 @@ one_more_answered whole mark h (x ∷ es) e mid new before a =
 
 -- after so many datagrams
 pub record Turned (mark : List ℕ) (clock : Option ℤ) (a b : Option (List Traffic)) (old new : HostState) (n : ℕ) : Type 0 where
-  pub turn : IsHostTurn true mark clock a b old new
-  pub most : length turn.exchanges ≤ n
-
-pub turn_begun : (mark : List ℕ) (clock : Option ℤ) (a : Option (List Traffic)) (old begun : HostState) → IsBegun old clock begun → IsHostTurn true mark clock a a old begun
-turn_begun mark clock a old begun clocked =
-    record { begun = begun; exchanges = []; clocked = clocked; answered = refl; most = omega arith; told = grows_none a }
+  pub begun : HostState
+  pub exchanges : List Exchange
+  pub clocked : IsBegun old clock begun
+  pub answered : AreAnswered true mark begun exchanges new
+  pub count : length exchanges ≡ n
+  pub told : Grows a b (all_traffic exchanges)
 
 pub turned_begun : (mark : List ℕ) (clock : Option ℤ) (a : Option (List Traffic)) (old begun : HostState) → IsBegun old clock begun → Turned mark clock a a old begun 0
-unfolding turn_begun
-turned_begun mark clock a old begun clocked = record { turn = turn_begun mark clock a old begun clocked; most = omega arith }
+turned_begun mark clock a old begun clocked =
+    record { begun = begun; exchanges = []; clocked = clocked; answered = refl; count = refl; told = grows_none a }
 
--- nothing came, or the port failed
-pub turn_quiet : (whole : Bool) (mark : List ℕ) (clock : Option ℤ) (a b c : Option (List Traffic)) (old new : HostState)
-    → IsHostTurn true mark clock a b old new → Grows b c [] → IsHostTurn whole mark clock a c old new
-turn_quiet whole mark clock a b c old new t grows = record {
+-- then this was told
+pub turn_end : (result : Result (Unit {0}) TurnFault) (mark : List ℕ) (clock : Option ℤ) (a b c : Option (List Traffic)) (old new : HostState) (n : ℕ) (rest : List Traffic)
+    → Turned mark clock a b old new n → n ≤ 64 → IsEnd (is_ok result) n rest → Grows b c rest → IsHostTurn result mark clock a c old new
+turn_end result mark clock a b c old new n rest t few end grows = record {
   begun = t.begun;
   exchanges = t.exchanges;
   clocked = t.clocked;
-  answered = whole_or_not whole mark t.begun t.exchanges new t.answered;
-  most = t.most;
-  told = rw (← append-nil (all_traffic t.exchanges)) (grows_then a b c (all_traffic t.exchanges) [] t.told grows);
+  answered = whole_or_not (is_whole result) mark t.begun t.exchanges new t.answered;
+  most = omega (arith, t.count, few);
+  rest = rest;
+  ended = rw t.count end;
+  told = grows_then a b c (all_traffic t.exchanges) rest t.told grows;
 }
 
--- one datagram more
-pub turn_more : (whole : Bool) (mark : List ℕ) (clock : Option ℤ) (a b c d : Option (List Traffic)) (came : Datagram) (old mid new : HostState) (n : ℕ)
-    → Turned mark clock a b old mid n → n < 64 → Grows b c (Received came ∷ []) → IsExchange whole mark mid came c d new → IsHostTurn whole mark clock a d old new
-turn_more whole mark clock a b c d came old mid new n t few received x =
-    let e : Exchange = record { came = came; sent = x.sent } in
-    let grown = grows_then a b d (all_traffic t.turn.exchanges) (traffic_of e) t.turn.told (grows_then b c d (Received came ∷ []) (sent_to came.peer x.sent) received x.told) in
-    record {
-      begun = t.turn.begun;
-      exchanges = t.turn.exchanges ++ e ∷ [];
-      clocked = t.turn.clocked;
-      answered = one_more_answered whole mark t.turn.begun t.turn.exchanges e mid new (whole_or_not whole mark t.turn.begun t.turn.exchanges mid t.turn.answered) x.answered;
-      most = rw (length-append t.turn.exchanges (e ∷ [])) (omega (arith, t.most, few));
-      told = rw (flat_map-append traffic_of t.turn.exchanges (e ∷ [])) (rw (append-nil (traffic_of e)) grown);
+grown_more : (a b c d : Option (List Traffic)) (came : Datagram) (es : List Exchange) (sent : List (List ℕ))
+    → Grows a b (all_traffic es) → Grows b c (Received came ∷ []) → Grows c d (sent_to came.peer sent) → Grows a d (all_traffic (es ++ record { came = came; sent = sent } ∷ []))
+grown_more a b c d came es sent told received sends =
+    let e : Exchange = record { came = came; sent = sent } in
+    let grown = grows_then a b d (all_traffic es) (traffic_of e) told (grows_then b c d (Received came ∷ []) (sent_to came.peer sent) received sends) in
+    rw (flat_map-append traffic_of es (e ∷ [])) (rw (append-nil (traffic_of e)) grown)
+
+-- one datagram more, at which the turn ended
+pub turn_cut : (fault : TurnFault) (mark : List ℕ) (clock : Option ℤ) (a b c d : Option (List Traffic)) (came : Datagram) (old mid new : HostState) (n : ℕ)
+    → Turned mark clock a b old mid n → n < 64 → Grows b c (Received came ∷ []) → IsExchange (is_whole {A = Unit {0}} (Err fault)) mark mid came c d new
+    → IsHostTurn (Err fault) mark clock a d old new
+turn_cut fault mark clock a b c d came old mid new n t few received x =
+    let whole = is_whole {A = Unit {0}} (Err fault) in
+    let e : Exchange = record { came = came; sent = x.sent } in record {
+      begun = t.begun;
+      exchanges = t.exchanges ++ e ∷ [];
+      clocked = t.clocked;
+      answered = one_more_answered whole mark t.begun t.exchanges e mid new (whole_or_not whole mark t.begun t.exchanges mid t.answered) x.answered;
+      most = rw (length-append t.exchanges (e ∷ [])) (omega (arith, t.count, few));
+      rest = [];
+      ended = refl;
+      told = rw (append-nil (all_traffic (t.exchanges ++ e ∷ []))) (grown_more a b c d came t.exchanges x.sent t.told received x.told);
     }
 
+-- one datagram more
 pub turned_more : (mark : List ℕ) (clock : Option ℤ) (a b c d : Option (List Traffic)) (came : Datagram) (old mid new : HostState) (n : ℕ)
-    → Turned mark clock a b old mid n → n < 64 → Grows b c (Received came ∷ []) → IsExchange true mark mid came c d new → Turned mark clock a d old new (n + 1)
-unfolding turn_more
-turned_more mark clock a b c d came old mid new n t few received x = record {
-  turn = turn_more true mark clock a b c d came old mid new n t few received x;
-  most = rw (length-append t.turn.exchanges (record { came = came; sent = x.sent } ∷ [])) (omega (arith, t.most));
-}
+    → Turned mark clock a b old mid n → Grows b c (Received came ∷ []) → IsExchange true mark mid came c d new → Turned mark clock a d old new (n + 1)
+turned_more mark clock a b c d came old mid new n t received x =
+    let e : Exchange = record { came = came; sent = x.sent } in record {
+      begun = t.begun;
+      exchanges = t.exchanges ++ e ∷ [];
+      clocked = t.clocked;
+      answered = one_more_answered true mark t.begun t.exchanges e mid new t.answered x.answered;
+      count = length-append t.exchanges (e ∷ []) ∙ ap (λ (k : ℕ). k + 1) t.count;
+      told = grown_more a b c d came t.exchanges x.sent t.told received x.told;
+    }

@@ -16,7 +16,7 @@ use Rattle.share_turns.specs.declared.fault.SeriesFault.{SeriesFault}
 use Rattle.share_turns.specs.declared.fault.SeriesFault.TheVariants.{Turn, TurnsUsedUp}
 use Rattle.share_turns.specs.declared.fault.TurnFault.{TurnFault}
 use Rattle.share_turns.specs.declared.fault.TurnFault.TheVariants.{Memory}
-use Rattle.share_turns.specs.HostTurn.{IsHostTurn, failures_after, is_whole}
+use Rattle.share_turns.specs.HostTurn.{IsHostTurn, failures_after}
 use Rattle.share_turns.specs.Views.{AreAppended, IsTextFault, IsTurnOf, applied_by, one_more_if}
 
 -- ---- steps
@@ -99,7 +99,7 @@ is_issued step offered = offered || is_some (clock_of step)
 -- a turn of the host and one of each viewer, and whether this step was issued in them
 pub record IsRoundOf {P : Type 0} (ways : Ways P) (mark : List ℕ) (step : Option Stamp) (own : ℕ)
     (old : Meeting P) (issued : Bool) (new : Meeting P) : Type 0 where
-  pub hosted : IsHostTurn true mark (clock_of step) (ways.told old.port) (ways.told new.port)
+  pub hosted : IsHostTurn (Ok tt) mark (clock_of step) (ways.told old.port) (ways.told new.port)
       old.host new.host
   pub failures : ways.failures new.port ≡ ways.failures old.port
   pub offered : Bool
@@ -110,11 +110,11 @@ pub record IsRoundOf {P : Type 0} (ways : Ways P) (mark : List ℕ) (step : Opti
 abbrev pub IsRoundEnd : {P : Type 0} → Ways P → (mark : List ℕ) → Option Stamp → (own : ℕ)
     → Meeting P → TurnFault → Meeting P → Type 0
 IsRoundEnd ways mark step own old fault new =
-    (IsHostTurn (is_whole {A = Unit {0}} (Err fault)) mark (clock_of step) (ways.told old.port)
+    (IsHostTurn (Err fault) mark (clock_of step) (ways.told old.port)
     (ways.told new.port) old.host new.host
     × (ways.failures new.port ≡ failures_after {A = Unit {0}} (Err fault) (ways.failures old.port))
     × (new.seats ≡ old.seats))
-    ⊎ (IsHostTurn true mark (clock_of step) (ways.told old.port) (ways.told new.port) old.host
+    ⊎ (IsHostTurn (Ok tt) mark (clock_of step) (ways.told old.port) (ways.told new.port) old.host
     new.host
     × (ways.failures new.port ≡ ways.failures old.port)
     × SeatTurnsEnd ways step own old.seats fault new.seats)

@@ -1,9 +1,9 @@
 -- What passes in a turn: datagrams that come, each with what is sent to its peer for it.
-use Rattle.std.specs.Prelude.{◌≡◌, ℕ, Bool, true, false, List, ◌∷◌, ◌++◌, map, Option}
+use Rattle.std.specs.Prelude.{◌≡◌, ◌⊎◌, ℕ, Bool, true, false, List, [], ◌∷◌, ◌++◌, map, Option}
 use Rattle.std.specs.List.{flat_map}
 use Rattle.share_port.specs.declared.traffic.Datagram.{Datagram}
 use Rattle.share_port.specs.declared.traffic.Traffic.{Traffic}
-use Rattle.share_port.specs.declared.traffic.Traffic.TheVariants.{Received, Sent}
+use Rattle.share_port.specs.declared.traffic.Traffic.TheVariants.{Nothing, Received, Sent}
 use Rattle.share_port.specs.Told.{Grows}
 
 -- a datagram that came, and what was sent to its peer for it
@@ -20,6 +20,12 @@ traffic_of e = Received e.came ∷ sent_to e.came.peer e.sent
 
 abbrev pub all_traffic : List Exchange → List Traffic
 all_traffic es = flat_map traffic_of es
+
+-- what a port tells at the end of what came: where all was taken, that nothing more came, or nothing
+-- where 64 datagrams came; where a turn ended before that, nothing
+abbrev pub IsEnd : (all : Bool) → (came : ℕ) → List Traffic → Type 0
+IsEnd true came rest = (rest ≡ Nothing ∷ []) ⊎ ((rest ≡ []) × (came ≡ 64))
+IsEnd false came rest = rest ≡ []
 
 -- what was sent is all that had to be sent, or where the port failed the front of it
 abbrev pub IsSentOf : (whole : Bool) → (sent wanted : List (List ℕ)) → Type 0

@@ -1,6 +1,6 @@
 -- A turn of the host: the next clock of its job, then datagrams that come, each answered.
 use Rattle.std.specs.Prelude.{◌≡◌, ℕ, ◌≤◌, ℤ, Bool, true, false, List, [], ◌∷◌, ◌++◌, map, slice_get, length}
-use Rattle.std.specs.Prelude.{Option, Some, None, Result, Ok, Err}
+use Rattle.std.specs.Prelude.{Option, Some, None, Result, Ok, Err, is_ok}
 use Rattle.std.specs.List.{flat_map, range_with_len}
 use Rattle.share_wire.specs.Datagram.{datagram}
 use Rattle.share_wire.specs.Decoding.{decoded}
@@ -20,7 +20,7 @@ use Rattle.share_port.specs.declared.traffic.Traffic.{Traffic}
 use Rattle.share_port.specs.Told.{Grows, one_more}
 use Rattle.share_turns.specs.declared.fault.TurnFault.{TurnFault}
 use Rattle.share_turns.specs.declared.fault.TurnFault.TheVariants.{Port}
-use Rattle.share_turns.specs.Exchanges.{Exchange, all_traffic, sent_to, IsSentOf}
+use Rattle.share_turns.specs.Exchanges.{Exchange, all_traffic, sent_to, IsEnd, IsSentOf}
 
 -- ---- what is sent for a datagram
 
@@ -105,12 +105,14 @@ AreAnswered whole mark h [] new = new ≡ h
 AreAnswered whole mark h (e ∷ es) new =
     (next : HostState) × IsAnswered whole mark h e next × AreAnswered whole mark next es new
 
--- the clock, and then at most 64 datagrams
-pub record IsHostTurn (whole : Bool) (mark : List ℕ) (clock : Option ℤ)
+-- the clock, and then datagrams, at most 64, until no more come
+pub record IsHostTurn (result : Result (Unit {0}) TurnFault) (mark : List ℕ) (clock : Option ℤ)
     (told_before told_after : Option (List Traffic)) (old new : HostState) : Type 0 where
   pub begun : HostState
   pub exchanges : List Exchange
   pub clocked : IsBegun old clock begun
-  pub answered : AreAnswered whole mark begun exchanges new
+  pub answered : AreAnswered (is_whole result) mark begun exchanges new
   pub most : length exchanges ≤ 64
-  pub told : Grows told_before told_after (all_traffic exchanges)
+  pub rest : List Traffic
+  pub ended : IsEnd (is_ok result) (length exchanges) rest
+  pub told : Grows told_before told_after (all_traffic exchanges ++ rest)

@@ -1,10 +1,10 @@
 -- Turns of the host, one after another.
-use Rattle.std.specs.Prelude.{◌≡◌, ℕ, zero, suc, ◌<◌, ℤ, true, List, slice_get}
-use Rattle.std.specs.Prelude.{Option, Err}
+use Rattle.std.specs.Prelude.{◌≡◌, ℕ, zero, suc, ◌<◌, ℤ, List, slice_get}
+use Rattle.std.specs.Prelude.{Option, Ok, Err}
 use Rattle.share_law.specs.Host.{HostState}
 use Rattle.share_port.specs.declared.traffic.Traffic.{Traffic}
 use Rattle.share_turns.specs.declared.fault.TurnFault.{TurnFault}
-use Rattle.share_turns.specs.HostTurn.{IsHostTurn, is_whole}
+use Rattle.share_turns.specs.HostTurn.{IsHostTurn}
 
 -- turn n, from 0, has the clock at place n of its job
 
@@ -14,7 +14,7 @@ HostTurns mark clocks zero a b old new = (b ≡ a) × (new ≡ old)
 HostTurns mark clocks (suc n) a b old new =
     (between : Option (List Traffic)) × (mid : HostState)
     × HostTurns mark clocks n a between old mid
-    × IsHostTurn true mark (slice_get clocks n) between b mid new
+    × IsHostTurn (Ok tt) mark (slice_get clocks n) between b mid new
 
 -- the same, up to a turn that ended early
 pub record HostTurnsEnd (mark : List ℕ) (clocks : List ℤ) (turns : ℕ)
@@ -25,5 +25,4 @@ pub record HostTurnsEnd (mark : List ℕ) (clocks : List ℤ) (turns : ℕ)
   pub between : Option (List Traffic)
   pub mid : HostState
   pub before : HostTurns mark clocks done a between old mid
-  pub last : IsHostTurn (is_whole {A = Unit {0}} (Err fault)) mark (slice_get clocks done) between b
-      mid new
+  pub last : IsHostTurn (Err fault) mark (slice_get clocks done) between b mid new

@@ -1,7 +1,7 @@
 -- A turn of a viewer: a point that it offers, then datagrams that come, and then what it sends to
 -- its host.
-use Rattle.std.specs.Prelude.{◌≡◌, ℕ, ◌≤◌, Bool, false, is_ok, List, [], ◌∷◌, ◌++◌, map, length}
-use Rattle.std.specs.Prelude.{Option, Some, None, Result, IfOk}
+use Rattle.std.specs.Prelude.{◌≡◌, ◌⊎◌, ⊥, ℕ, ◌≤◌, Bool, true, false, is_ok, List, [], ◌∷◌, ◌++◌, map, length}
+use Rattle.std.specs.Prelude.{Option, Some, None, Result, Ok, Err, IfOk}
 use Rattle.x3d_values.specs.declared.pointing.Point.{Point}
 use Rattle.share_wire.specs.Decoding.{decoded}
 use Rattle.share_law.specs.declared.fault.OfferFault.{OfferFault}
@@ -15,7 +15,7 @@ use Rattle.share_port.specs.declared.traffic.Traffic.{Traffic}
 use Rattle.share_port.specs.declared.traffic.Traffic.TheVariants.{Received}
 use Rattle.share_port.specs.Told.{Grows}
 use Rattle.share_turns.specs.declared.fault.TurnFault.{TurnFault}
-use Rattle.share_turns.specs.Exchanges.{IsSentOf, sent_to}
+use Rattle.share_turns.specs.Exchanges.{IsEnd, IsSentOf, sent_to}
 use Rattle.share_turns.specs.HostTurn.{datagrams_of, listed}
 
 -- a viewer offers a point, if there is one, or refuses it
@@ -43,19 +43,26 @@ AreTaken {W} m mark who x (came ∷ others) y =
 abbrev pub received : List Datagram → List Traffic
 received came = map (λ datagram. Received datagram) came
 
--- the same, of at most 64 datagrams, as a port tells them
-pub record Takes {W : Type 0} (m : Machine W) (mark : List ℕ) (who : ℕ)
+-- the same, of at most 64 datagrams until no more come, as a port tells them
+pub record Takes {W : Type 0} (m : Machine W) (mark : List ℕ) (who : ℕ) (all : Bool)
     (told_before told_after : Option (List Traffic)) (old new : ViewerState W) : Type 0 where
   pub came : List Datagram
   pub taken : AreTaken m mark who old came new
   pub most : length came ≤ 64
-  pub told : Grows told_before told_after (received came)
+  pub rest : List Traffic
+  pub ended : IsEnd all (length came) rest
+  pub told : Grows told_before told_after (received came ++ rest)
 
 -- the offer that has waited longest, and an ask
 abbrev pub requests : {W : Type 0} → Machine W → (mark : List ℕ) (who : ℕ) → ViewerState W
     → List (List ℕ)
 requests m mark who x =
     datagrams_of mark (listed (viewer_resend who x 0) ++ viewer_ask m who x ∷ [])
+
+-- the turn ended before all was taken: nothing was sent
+abbrev pub IsCut : Result Bool TurnFault → (rest : List Traffic) → (sent : List (List ℕ)) → Type 0
+IsCut (Ok offered) rest sent = ⊥
+IsCut (Err fault) rest sent = (rest ≡ []) × (sent ≡ [])
 
 -- a turn; where it ends early, perhaps not all is sent
 pub record IsViewerTurn {W : Type 0} (m : Machine W) (mark : List ℕ) (who host : ℕ)
@@ -68,6 +75,8 @@ pub record IsViewerTurn {W : Type 0} (m : Machine W) (mark : List ℕ) (who host
   pub came : List Datagram
   pub taken : AreTaken m mark who begun came new
   pub most : length came ≤ 64
+  pub rest : List Traffic
   pub sent : List (List ℕ)
+  pub ended : IsEnd true (length came) rest ⊎ IsCut result rest sent
   pub of_wanted : IsSentOf (is_ok result) sent (requests m mark who new)
-  pub told : Grows told_before told_after (received came ++ sent_to host sent)
+  pub told : Grows told_before told_after ((received came ++ rest) ++ sent_to host sent)

@@ -161,8 +161,8 @@ pub fn host_turn<P: Port>(
     port: &mut P,
 ) -> Result<(), TurnFault>
     ensures mark { host.new.mark ≡ host.old.mark }
-    ensures turn { IsHostTurn (is_whole result) host.old.mark clock (P.told port.old)
-        (P.told port.new) host.old.host host.new.host }
+    ensures turn { IsHostTurn result host.old.mark clock (P.told port.old) (P.told port.new)
+        host.old.host host.new.host }
     ensures failures { P.failure_count port.new
         ≡ failures_after result (P.failure_count port.old) }
 {

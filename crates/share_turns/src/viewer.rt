@@ -43,7 +43,7 @@ fn take_one<B>(viewer: &mut Viewer<B>, bytes: &[u8]) -> Result<(), TurnFault>
 /// Takes the datagrams of a turn.
 fn take_all<B, P: Port>(viewer: &mut Viewer<B>, port: &mut P) -> Result<(), TurnFault>
     ensures others { viewer.new ≡ with_state viewer.old viewer.new.state }
-    ensures takes { Takes (machine_of viewer.old) viewer.old.mark viewer.old.who
+    ensures takes { Takes (machine_of viewer.old) viewer.old.mark viewer.old.who (is_ok result)
         (P.told port.old) (P.told port.new) viewer.old.state viewer.new.state }
     ensures failures { P.failure_count port.new
         ≡ failures_after result (P.failure_count port.old) }

@@ -1,8 +1,9 @@
-use Rattle.std.proofs.Common.{rules, ◌≡◌, true, take, refl, ◌∙◌, arith}
-use Rattle.std.specs.Prelude.{Err}
+use Rattle.std.proofs.Common.{rules, ◌≡◌, [], ◌∷◌, take, refl, inl, inr, ◌∙◌, arith}
+use Rattle.std.specs.Prelude.{Ok, Err}
 use Rattle.share_port.specs.declared.traffic.Datagram.{Datagram}
-use Rattle.share_turns.specs.HostTurn.{is_whole}
-use Rattle.share_turns.proofs.Turning.{turn_more, turn_quiet, turned_begun, turned_more}
+use Rattle.share_port.specs.declared.traffic.Traffic.TheVariants.{Nothing}
+use Rattle.share_turns.specs.declared.fault.TurnFault.TheVariants.{Port}
+use Rattle.share_turns.proofs.Turning.{turn_cut, turn_end, turned_begun, turned_more}
 use Rattle.share_turns.proofs.host.host_turn.Goals as goal
 
 pub loop-turn-init : goal.loop-turn-init
@@ -10,8 +11,9 @@ loop-turn-init g c = (turned_begun c.args.host.now.mark c.args.clock (g.P.Port.t
 
 pub returns-in_err-from-clause-turn : goal.returns-in_err-from-clause-turn
 returns-in_err-from-clause-turn g c =
-    turn_quiet (is_whole c.from_residual-in_err-from.result) c.args.host.now.mark c.args.clock (g.P.Port.told c.args.port.now) (g.P.Port.told c.loop-turn.port) (g.P.Port.told c.receive.new.self)
-    c.args.host.now.host c.loop-turn.host.host c.loop-turn.invariant.0.turn c.in_err-from.ensures.got
+    let failed : c.from_residual-in_err-from.result ≡ Err Port = search rules in
+    rw failed (turn_end (Err Port) c.args.host.now.mark c.args.clock (g.P.Port.told c.args.port.now) (g.P.Port.told c.loop-turn.port) (g.P.Port.told c.receive.new.self)
+    c.args.host.now.host c.loop-turn.host.host c.loop-turn._turn [] c.loop-turn.invariant.0 (omega (arith, c.loop-turn-test.true)) refl c.in_err-from.ensures.got)
 
 pub returns-in_err-answer-in-Some-clause-turn : goal.returns-in_err-answer-in-Some-clause-turn
 returns-in_err-answer-in-Some-clause-turn g c =
@@ -19,14 +21,14 @@ returns-in_err-answer-in-Some-clause-turn g c =
     let came : Datagram = record { peer = c.in-Some.from; bytes = take c.in-Some.count c.receive.new.into } in
     let got = rw c.in-Some.is at c.in_ok-from.ensures.got in
     let exchange = rw c.loop-turn.invariant.1 at c.in_err-answer-in-Some.ensures.exchange in
-    rw failed (turn_more _ c.args.host.now.mark c.args.clock (g.P.Port.told c.args.port.now) (g.P.Port.told c.loop-turn.port) (g.P.Port.told c.receive.new.self) (g.P.Port.told c.answer.new.port)
+    rw failed (turn_cut c.in_err-answer-in-Some.field-0.0 c.args.host.now.mark c.args.clock (g.P.Port.told c.args.port.now) (g.P.Port.told c.loop-turn.port) (g.P.Port.told c.receive.new.self) (g.P.Port.told c.answer.new.port)
     came c.args.host.now.host c.loop-turn.host.host c.answer.new.host.host c.loop-turn._turn c.loop-turn.invariant.0 (omega (arith, c.loop-turn-test.true)) got.1 exchange)
 
 pub returns-in-None-clause-turn : goal.returns-in-None-clause-turn
 returns-in-None-clause-turn g c =
     let got = rw c.in-None.is at c.in_ok-from.ensures.got in
-    turn_quiet true c.args.host.now.mark c.args.clock (g.P.Port.told c.args.port.now) (g.P.Port.told c.loop-turn.port) (g.P.Port.told c.receive.new.self)
-    c.args.host.now.host c.loop-turn.host.host c.loop-turn.invariant.0.turn got
+    turn_end (Ok tt) c.args.host.now.mark c.args.clock (g.P.Port.told c.args.port.now) (g.P.Port.told c.loop-turn.port) (g.P.Port.told c.receive.new.self)
+    c.args.host.now.host c.loop-turn.host.host c.loop-turn._turn (Nothing ∷ []) c.loop-turn.invariant.0 (omega (arith, c.loop-turn-test.true)) (inl refl) got
 
 pub loop-turn-preserved : goal.loop-turn-preserved
 loop-turn-preserved g c =
@@ -34,10 +36,7 @@ loop-turn-preserved g c =
     let got = rw c.in-Some.is at c.in_ok-from.ensures.got in
     let exchange = rw c.loop-turn.invariant.1 at c.in_ok-answer-in-Some.ensures.exchange in (
       turned_more c.args.host.now.mark c.args.clock (g.P.Port.told c.args.port.now) (g.P.Port.told c.loop-turn.port) (g.P.Port.told c.receive.new.self) (g.P.Port.told c.answer.new.port)
-          came c.args.host.now.host c.loop-turn.host.host c.answer.new.host.host c.loop-turn._turn c.loop-turn.invariant.0 (omega (arith, c.loop-turn-test.true)) got.1 exchange,
+          came c.args.host.now.host c.loop-turn.host.host c.answer.new.host.host c.loop-turn._turn c.loop-turn.invariant.0 got.1 exchange,
       c.in_ok-answer-in-Some.ensures.mark ∙ c.loop-turn.invariant.1,
       c.in_ok-answer-in-Some.ensures.failures ∙ c.in_ok-from.ensures.count_ok ∙ c.loop-turn.invariant.2,
     )
-
-pub returns-clause-turn : goal.returns-clause-turn
-returns-clause-turn g c = c.loop-turn.invariant.0.turn
