@@ -1,1 +1,2 @@
+mod Rewound
 mod Saved

@@ -2,5 +2,7 @@
 #![tactic(auto)]
 
 mod networks;
+mod rewinding;
 
 pub use networks::saved_worlds_load_again;
+pub use rewinding::own_snapshots_rewind;
