@@ -1,6 +1,6 @@
 -- The scene of a text, and the job of a byte list: what each layer makes of it, one after the
 -- other.
-use Rattle.std.specs.Prelude.{◌≡◌, ◌⊎◌, Option, None, Some, ℕ, Bool, false, nat_eq, ◌==◌, ◌&&◌, List, Result, Ok, Err}
+use Rattle.std.specs.Prelude.{◌≡◌, ◌⊎◌, Option, None, Some, ℕ, Bool, false, nat_eq, ◌==◌, ◌&&◌, List, codes, Result, Ok, Err}
 use Rattle.std.specs.List.{find, list_any, starts_with}
 use Rattle.x3d_values.specs.Stamp.{Stamp}
 use Rattle.classic_text.specs.Reading.{read_text}
@@ -34,6 +34,9 @@ abbrev pub next : {X Y E : Type 0} → (E → JobFault) → Result X E → (X �
     → Result Y JobFault
 next fault (Ok x) f = f x
 next fault (Err e) f = Err (fault e)
+
+abbrev pub same : JobFault → JobFault
+same fault = fault
 
 abbrev pub with_routes : SceneView → List Route → Result Opened JobFault
 with_routes scene routes = Ok (record { scene = scene; routes = routes })
@@ -96,9 +99,6 @@ opened_to_run text = next same (flattened text) built_to_run
 
 abbrev pub with_inputs : List Stamp → Opened → Result Job JobFault
 with_inputs inputs o = Ok (record { inputs = inputs; scene = o.scene; routes = o.routes })
-
-abbrev pub same : JobFault → JobFault
-same fault = fault
 
 -- the steps of the lines before the first line `scene`, and the scene behind it
 unfoldable pub opened_job : List ℕ → Result Job JobFault

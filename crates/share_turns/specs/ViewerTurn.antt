@@ -1,6 +1,6 @@
 -- A turn of a viewer: a point that it offers, then datagrams that come, and then what it sends to
 -- its host.
-use Rattle.std.specs.Prelude.{◌≡◌, ◌⊎◌, ⊥, ℕ, ◌≤◌, Bool, true, false, is_ok, List, [], ◌∷◌, ◌++◌, map, length}
+use Rattle.std.specs.Prelude.{◌≡◌, ◌⊎◌, ℕ, ◌≤◌, Bool, true, false, is_ok, List, [], ◌∷◌, ◌++◌, map, length}
 use Rattle.std.specs.Prelude.{Option, Some, None, Result, Ok, Err, IfOk}
 use Rattle.x3d_values.specs.declared.pointing.Point.{Point}
 use Rattle.share_wire.specs.Decoding.{decoded}
