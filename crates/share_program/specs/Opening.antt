@@ -49,19 +49,25 @@ routed f s = next of_route (resolved f s) (with_routes s)
 abbrev pub asks : List ℕ → Bool
 asks url = starts_with nat_eq url (codes "x3dshare:")
 
+abbrev pub any_asks : List (List ℕ) → Bool
+any_asks urls = list_any asks urls
+
 -- this value of `url` does
 abbrev pub some_asks : RawValue ℕ → Bool
 some_asks (String url) = asks url
-some_asks (StringList urls) = list_any asks urls
+some_asks (StringList urls) = any_asks urls
 some_asks _ = false
 
 -- the field is a Script's `url` (its second, behind `metadata`), and asks
 abbrev pub url_asks : FlatField → Bool
 url_asks field = (field.number == 1) && some_asks field.value
 
+abbrev pub any_url_asks : List FlatField → Bool
+any_url_asks fields = list_any url_asks fields
+
 -- the node is a Script that asks to be run
 abbrev pub asks_to_run : FlatNode → Bool
-asks_to_run node = sameb the_type node.node_type Script && list_any url_asks node.fields
+asks_to_run node = sameb the_type node.node_type Script && any_url_asks node.fields
 
 abbrev pub first_asking : List FlatNode → Option FlatNode
 first_asking nodes = find asks_to_run nodes

@@ -7,7 +7,7 @@ ghost use Rattle.x3d_lists.specs.Answers.{Gives};
 ghost use Rattle.cascade_core.specs.InTurn.{AreInTurn};
 ghost use Rattle.share_jobs.specs.Schedule.{schedule_lines};
 ghost use Rattle.share_program.specs.Opening.{routed, built, built_to_run, flattened, opened, opened_to_run, opened_job, IsDeviceOrMemory};
-ghost use Rattle.share_program.specs.Opening.{asks, some_asks, url_asks, asks_to_run, first_asking, none_asks};
+ghost use Rattle.share_program.specs.Opening.{any_asks, any_url_asks, asks, some_asks, url_asks, asks_to_run, first_asking, none_asks};
 ghost use Rattle.share_program.specs.Opening.{IsNoJob, IsNoSchedule};
 ghost use Rattle.share_jobs.specs.declared.fault.JobFault.TheVariants.{Memory};
 
@@ -57,13 +57,19 @@ fn asks(url: &Text) -> bool
     url.as_bytes().starts_with(b"x3dshare:")
 }
 
+fn any_asks(urls: &[Text]) -> bool
+    ensures { result ≡ any_asks urls.now }
+{
+    urls.iter().any(|url| asks(url))
+}
+
 /// Whether this value of `url` does.
 fn some_asks(value: &RawValue<u32>) -> bool
     ensures { result ≡ some_asks value.now }
 {
     match value {
         RawValue::String(url) => asks(url),
-        RawValue::StringList(urls) => urls.as_slice().iter().any(|url| asks(url)),
+        RawValue::StringList(urls) => any_asks(urls.as_slice()),
         _ => false,
     }
 }
@@ -75,11 +81,17 @@ fn url_asks(field: &FlatField) -> bool
     field.number == URL && some_asks(&field.value)
 }
 
+fn any_url_asks(fields: &[FlatField]) -> bool
+    ensures { result ≡ any_url_asks fields.now }
+{
+    fields.iter().any(|field| url_asks(field))
+}
+
 /// Whether the node is a Script that asks to be run.
 fn asks_to_run(node: &FlatNode) -> bool
     ensures { result ≡ asks_to_run node.now }
 {
-    node.node_type == NodeType::Script && node.fields.as_slice().iter().any(|field| url_asks(field))
+    node.node_type == NodeType::Script && any_url_asks(node.fields.as_slice())
 }
 
 fn first_asking(nodes: &[FlatNode]) -> Option<&FlatNode>
