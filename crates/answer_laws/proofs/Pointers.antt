@@ -1,9 +1,10 @@
 -- What a TouchSensor does keeps its ranges.
-use Rattle.std.proofs.Common.{◌≡◌, ℕ, ℤ, Bool, true, false, ◌==◌, ◌++◌, if◌then◌else◌, List, [], ◌∷◌, length, Option, Some, None, is_some, is_none, ◌||◌, refl, ◌∙◌, eq-eqb, eqb-true, length-set}
+use Rattle.std.proofs.Common.{◌≡◌, ℕ, ℤ, Bool, true, false, ◌++◌, if◌then◌else◌, List, [], ◌∷◌, length, Option, Some, None, is_some, is_none, ◌||◌, refl, ◌∙◌, length-set}
 use Rattle.std.specs.Option.{option_map_or}
 use Rattle.std.specs.List.{list_all}
 use Rattle.byte_codec.proofs.Laws.{both, and_true}
 use Rattle.x3d_values.specs.declared.node_type.NodeType.TheVariants.{TouchSensor}
+use Rattle.x3d_values.specs.declared.ranges.TheConstants.{MAX_VIEWERS}
 use Rattle.x3d_values.specs.declared.value.Value.TheVariants.{SFBool, SFVec3f}
 use Rattle.x3d_values.specs.declared.vector.Vec3.{Vec3}
 use Rattle.x3d_values.specs.Ranges.{is_viewer}
@@ -14,7 +15,7 @@ use Rattle.sensor_core.specs.declared.touch_numbers.TheConstants.{IS_OVER, HIT_P
 use Rattle.sensor_core.specs.Touches.{Touch, is_over, is_pressed_by, over_after, over_replies, hit_replies, presses, releases, time_replies, press_replies, touch_after, pointer, point, disable}
 use Rattle.snapshot_codec.specs.Trace.{is_moment}
 use Rattle.snapshot_codec.specs.Values.{vector3, value_fits}
-use Rattle.answer_laws.specs.Answers.{TouchFit, touch_fits}
+use Rattle.answer_laws.specs.Answers.{TouchFit}
 use Rattle.answer_laws.specs.Ranges.{replies_fit}
 use Rattle.answer_laws.proofs.Reactions.{moment_fits}
 
@@ -23,7 +24,7 @@ pub all_append : {X : Type 0} (p : X → Bool) (xs ys : List X) → list_all p x
 all_append p [] ys f g = g
 all_append p (x ∷ xs) ys f g = let b = both (p x) (list_all p xs) f in and_true _ _ b.0 (all_append p xs ys b.1 g)
 
-abbrev Viewer : Option ℕ → Type 0
+abbrev pub Viewer : Option ℕ → Type 0
 Viewer presser = option_map_or is_viewer presser true ≡ true
 
 viewer_if : (b : Bool) (one other : Option ℕ) → Viewer one → Viewer other → Viewer (if b then one else other)
@@ -66,16 +67,15 @@ module _ (ds : List Entry) where
         sent_if (presses touch (pointer who before down inside)) _ _ refl
         (sent_if (releases touch (pointer who before down inside)) _ [] (time_sent inside now m) refl)
 
-  pub all_points_fit : (touch : Touch) (who : ℕ) (before down : Bool) (inside : Option Vec3) (now : ℤ) → touch_fits touch ≡ true → is_viewer who ≡ true → option_map_or vector3.fits inside true ≡ true → is_moment now ≡ true → TouchFit ds (point touch (pointer who before down inside) now)
+  pub all_points_fit : (touch : Touch) (who : ℕ) (before down : Bool) (inside : Option Vec3) (now : ℤ) → length touch.over ≡ MAX_VIEWERS → Viewer touch.presser → is_viewer who ≡ true → option_map_or vector3.fits inside true ≡ true → is_moment now ≡ true → TouchFit ds (point touch (pointer who before down inside) now)
   unfolding point
-  all_points_fit touch who before down inside now f v i m =
-      let b = both (length touch.over == 16) (option_map_or is_viewer touch.presser true) f in
-      let long : length (over_after touch (pointer who before down inside)) ≡ 16 = length-set touch.over who (is_some inside) ∙ eqb-true _ _ b.0 in
+  all_points_fit touch who before down inside now f g v i m =
+      let long : length (over_after touch (pointer who before down inside)) ≡ MAX_VIEWERS = length-set touch.over who (is_some inside) ∙ f in
       let after : Bool = is_over (touch_after touch (pointer who before down inside)) in
       record {
-        in_touch = and_true _ _ (eq-eqb _ _ long)
-            (viewer_if (presses touch (pointer who before down inside)) (Some who) _ v
-            (viewer_if (releases touch (pointer who before down inside)) None touch.presser refl b.1));
+        in_over = long;
+        in_presser = viewer_if (presses touch (pointer who before down inside)) (Some who) _ v
+            (viewer_if (releases touch (pointer who before down inside)) None touch.presser refl g);
         in_replies = sent_append (over_replies (is_over touch) after ++ hit_replies touch (pointer who before down inside) inside) _
             (sent_append (over_replies (is_over touch) after) _ (over_sent (is_over touch) after) (hit_sent touch who before down inside inside i))
             (press_sent touch who before down inside now m);
@@ -86,7 +86,8 @@ module _ (ds : List Entry) where
   pub all_disables_fit : (touch : Touch) → TouchFit ds (disable touch)
   unfolding disable value_fits
   all_disables_fit touch = record {
-    in_touch = refl;
+    in_over = refl;
+    in_presser = refl;
     in_replies = sent_append
         (if is_over touch then reply IS_OVER (SFBool false) ∷ [] else [])
         (if is_some touch.presser then reply IS_PRESSED (SFBool false) ∷ [] else [])

@@ -32,7 +32,7 @@ use Rattle.snapshot_codec.specs.Fields.{has_bytes, is_interval, kept_field, kept
 use Rattle.snapshot_codec.specs.Trace.{is_moment, typed_fits}
 use Rattle.snapshot_codec.specs.Values.{value_fits}
 use Rattle.answer_laws.specs.Answers.{Fit}
-use Rattle.answer_laws.specs.Ranges.{row_at, event_fits, sent_type, sent_fits, replies_fit, position_fits, fields_fit}
+use Rattle.answer_laws.specs.Ranges.{row_at, event_fits, sent_fits, replies_fit, position_fits, fields_fit}
 use Rattle.answer_laws.proofs.Between.{scalar_fits, position_fits as vector_fits, point_fits, coordinates_fit}
 use Rattle.answer_laws.proofs.Rows.{some_is, then_some, map_some, get_left, kept_by, values-get, values-set}
 
@@ -55,7 +55,7 @@ unfolding kept_fits
 exposed_fits t n InputOutput ft value e f i = rw (i, bytes_of ft value f) f
 exposed_fits t n _ ft value e f i = absurd cc
 
-exposed_sent : (access : Access) (ft : FieldType) (value : Value) → is_exposed access ≡ true → value_fits ft value ≡ true → typed_fits (if is_sender access then Some ft else None) value ≡ true
+exposed_sent : (access : Access) (ft : FieldType) (value : Value) → is_exposed access ≡ true → value_fits ft value ≡ true → (is_sender access && value_fits ft value) ≡ true
 exposed_sent InputOutput ft value e f = f
 exposed_sent _ ft value e f = absurd cc
 
@@ -156,7 +156,7 @@ module _ (ds : List Entry) where
   pub set_field_fits : (t : NodeType) (fields : Fields) (input : ℕ) (value : Value) (row : Entry) → fields_fit t ds fields ≡ true → event_fits t ds input value ≡ true → is_time_sensor t ≡ false → row_at t ds input ≡ Some row → is_exposed row.access ≡ true → Fit t ds (keeps fields input value)
   set_field_fits t fields input value row f v s is k =
       let typed : value_fits row.field_type value ≡ true = subst (λ (o : Option Entry). typed_fits (option_map (λ (row : Entry). row.field_type) o) value ≡ true) is v in
-      let sent : sent_fits t ds input value ≡ true = subst (λ (o : Option Entry). typed_fits (option_and_then sent_type o) value ≡ true) (sym is) (exposed_sent row.access row.field_type value k typed) in
+      let sent : sent_fits t ds input value ≡ true = subst (λ (o : Option Entry). option_map_or (λ (row : Entry). is_sender row.access && value_fits row.field_type value) o false ≡ true) (sym is) (exposed_sent row.access row.field_type value k typed) in
       record {
         in_fields = set_fits t fields input row value f is (exposed_fits t input row.access row.field_type value k typed (no_interval t input s));
         in_replies = and_true _ _ sent refl;

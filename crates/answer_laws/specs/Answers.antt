@@ -1,5 +1,5 @@
 -- What nodes do keeps the ranges of their fields.
-use Rattle.std.specs.Prelude.{◌≡◌, ℕ, ◌==◌, ◌&&◌, ℤ, Bool, true, List, length, Option, Some}
+use Rattle.std.specs.Prelude.{◌≡◌, ℕ, ℤ, Bool, true, List, length, Option, Some}
 use Rattle.std.specs.Option.{option_map_or}
 use Rattle.x3d_values.specs.declared.fields.Fields.{Fields}
 use Rattle.x3d_values.specs.declared.node_type.NodeType.{NodeType}
@@ -64,13 +64,11 @@ TicksFit =
 
 -- ---- a TouchSensor
 
--- it tells of each viewer whether its pointer is over it, and a viewer presses it if anybody does
-abbrev pub touch_fits : Touch → Bool
-touch_fits touch =
-    (length touch.over == MAX_VIEWERS) && option_map_or is_viewer touch.presser true
-
+-- it tells of each viewer whether its pointer is over it, a viewer presses it if anybody does, and
+-- it sends what fits
 pub record TouchFit (declared : List Entry) (t : Touched) : Type 0 where
-  pub in_touch : touch_fits t.touch ≡ true
+  pub in_over : length t.touch.over ≡ MAX_VIEWERS
+  pub in_presser : option_map_or is_viewer t.touch.presser true ≡ true
   pub in_replies : replies_fit TouchSensor declared t.replies ≡ true
 
 -- a viewer points, inside at a place of its range or outside
@@ -78,7 +76,8 @@ abbrev pub PointsFit : Type 0
 PointsFit =
     (declared : List Entry) (touch : Touch) (who : ℕ) (before down : Bool) (inside : Option Vec3)
     (now : ℤ)
-    → touch_fits touch ≡ true → is_viewer who ≡ true
+    → length touch.over ≡ MAX_VIEWERS → option_map_or is_viewer touch.presser true ≡ true
+    → is_viewer who ≡ true
     → option_map_or vector3.fits inside true ≡ true → is_moment now ≡ true
     → TouchFit declared (point touch (pointer who before down inside) now)
 

@@ -1,10 +1,9 @@
 -- What is in its range, of one node: the values that it keeps, the events that come to it, and what
 -- it sends (ISO/IEC 19775-1, field semantics; the ranges are our choice). A node has the fields of
 -- its type, and behind them those that it declares, if it is a Script.
-use Rattle.std.specs.Prelude.{ℕ, ◌+◌, ◌++◌, Bool, true, false, ◌&&◌, is_none, List, [], ◌∷◌, Option, Some, None, slice_get, if◌then◌else◌}
+use Rattle.std.specs.Prelude.{ℕ, ◌+◌, ◌++◌, Bool, true, false, ◌&&◌, is_none, List, [], ◌∷◌, Option, slice_get}
 use Rattle.std.specs.List.{list_all}
-use Rattle.std.specs.Option.{option_map, option_and_then}
-use Rattle.x3d_values.specs.declared.field_type.FieldType.{FieldType}
+use Rattle.std.specs.Option.{option_map, option_map_or}
 use Rattle.x3d_values.specs.declared.fields.Fields.{Fields}
 use Rattle.x3d_values.specs.declared.fields.Position.{Position}
 use Rattle.x3d_values.specs.declared.node_type.NodeType.{NodeType}
@@ -16,6 +15,7 @@ use Rattle.react_core.specs.declared.outbox.Reply.{Reply}
 use Rattle.snapshot_codec.specs.Fields.{kept_field, kept_fits}
 use Rattle.snapshot_codec.specs.Parts.{place_fits}
 use Rattle.snapshot_codec.specs.Trace.{typed_fits}
+use Rattle.snapshot_codec.specs.Values.{value_fits}
 
 -- ---- events
 
@@ -29,14 +29,12 @@ event_fits node_type declared field value =
     typed_fits (option_map (λ (row : Entry). row.field_type) (row_at node_type declared field))
     value
 
--- the type of the events that leave by a field, if any do
-abbrev pub sent_type : Entry → Option FieldType
-sent_type row = if sends row.access then Some row.field_type else None
-
--- an event may leave by that field
+-- an event may leave by that field: the field sends, and the value is of its type, in the range of
+-- the type
 abbrev pub sent_fits : NodeType → List Entry → ℕ → Value → Bool
 sent_fits node_type declared field value =
-    typed_fits (option_and_then sent_type (row_at node_type declared field)) value
+    option_map_or (λ (row : Entry). sends row.access && value_fits row.field_type value)
+    (row_at node_type declared field) false
 
 abbrev pub replies_fit : NodeType → List Entry → List Reply → Bool
 replies_fit node_type declared replies =

@@ -18,8 +18,7 @@ use Rattle.cascade_core.specs.Ends.{same_end, has_sent, targets_of}
 use Rattle.cascade_core.specs.World.{record_event}
 use Rattle.cascade_core.specs.declared.world.TraceLine.{TraceLine}
 use Rattle.cascade_core.specs.declared.world.Turn.{Turn}
-use Rattle.snapshot_core.specs.WorldCodec.{output_type}
-use Rattle.answer_laws.specs.Ranges.{sent_type}
+use Rattle.snapshot_core.specs.WorldCodec.{sent_type, output_type}
 use Rattle.answer_laws.proofs.Pointers.{all_append}
 use Rattle.answer_laws.proofs.Rows.{then_some}
 use Rattle.world_laws.specs.Fits.{input_type, line_fits, WorldFits, Joins, AllJoin}

@@ -1,5 +1,5 @@
 -- What fits has a snapshot.
-use Rattle.std.proofs.Common.{◌≡◌, ℕ, suc, ◌+◌, ◌^◌, ◌<◌, ◌≤◌, ◌==◌, true, ◌&&◌, List, [], ◌∷◌, length, map, Option, Some, None, nat_lt, nat_le, slice_get, refl, sym, ap, subst, ◌∙◌, arith, eq-eqb, eqb-true, lt-ltb, le-leb, leb-true}
+use Rattle.std.proofs.Common.{◌≡◌, ℕ, suc, ◌+◌, ◌^◌, ◌<◌, ◌≤◌, ◌==◌, true, ◌&&◌, List, [], ◌∷◌, length, map, Option, nat_lt, nat_le, refl, sym, ap, subst, ◌∙◌, arith, eq-eqb, eqb-true, lt-ltb, le-leb, leb-true}
 use Rattle.std.specs.List.{list_all}
 use Rattle.std.proofs.lemmas.List.{length-map, nil_from_length}
 use Rattle.byte_codec.specs.Codec.{rows_fit, all_fit}

@@ -1,5 +1,5 @@
 -- One node among all, and what it does in a world.
-use Rattle.std.proofs.Common.{◌≡◌, ℕ, zero, suc, ℤ, Bool, true, false, ◌&&◌, if◌then◌else◌, List, [], ◌∷◌, Option, Some, None, slice_get, slice_set, option_map, refl, sym, ap, subst, ◌∙◌}
+use Rattle.std.proofs.Common.{◌≡◌, ◌==◌, ℕ, zero, suc, ℤ, Bool, true, false, ◌&&◌, if◌then◌else◌, List, [], ◌∷◌, length, Option, Some, None, slice_get, slice_set, option_map, refl, sym, ap, subst, ◌∙◌, eq-eqb, eqb-true}
 use Rattle.std.specs.List.{list_all}
 use Rattle.std.specs.Option.{option_and_then, option_map_or}
 use Rattle.byte_codec.proofs.Laws.{both, and_true}
@@ -9,15 +9,17 @@ use Rattle.x3d_values.specs.declared.node_type.NodeType.TheVariants.{TimeSensor,
 use Rattle.x3d_values.specs.declared.value.Value.{Value}
 use Rattle.x3d_values.specs.Pointing.{Pointing}
 use Rattle.x3d_values.specs.declared.vector.Vec3.{Vec3}
+use Rattle.x3d_values.specs.Access.{sends}
+use Rattle.x3d_values.specs.declared.ranges.TheConstants.{MAX_VIEWERS}
 use Rattle.x3d_values.specs.Ranges.{is_viewer}
 use Rattle.x3d_values.specs.Tables.{Entry}
 use Rattle.react_core.specs.declared.outbox.Reply.{Reply}
 use Rattle.react_core.specs.Access.{is_exposed}
 use Rattle.react_core.specs.Reaction.{is_time_sensor, keeps, reaction}
 use Rattle.sensor_core.specs.Timing.{Timing, timing_of}
-use Rattle.sensor_core.specs.Touches.{Touch, disable}
+use Rattle.sensor_core.specs.Touches.{Touch, Touched, disable, point, pointer}
 use Rattle.snapshot_codec.specs.Trace.{is_moment, typed_fits}
-use Rattle.snapshot_codec.specs.Values.{vector3}
+use Rattle.snapshot_codec.specs.Values.{value_fits, vector3}
 use Rattle.scene_core.specs.declared.scene.End.{End}
 use Rattle.scene_core.specs.Scene.{SceneView}
 use Rattle.scene_core.specs.Shape.{Shape, rows_of}
@@ -25,8 +27,9 @@ use Rattle.pick_core.specs.Sensors.{is_enabled}
 use Rattle.cascade_core.specs.Access.{is_set}
 use Rattle.cascade_core.specs.Answers.{Answer, nothing, reacting, setting, setting_at, is_touch_sensor, is_script, turns_off, forgetting, touching, keeping, not_run, answer_as, answer, ticking, ticking_at, ticked, meeting, met}
 use Rattle.cascade_core.specs.declared.world.WorldData.{WorldData}
-use Rattle.snapshot_core.specs.WorldCodec.{output_type}
-use Rattle.answer_laws.specs.Ranges.{fields_fit, event_fits, replies_fit, sent_type}
+use Rattle.snapshot_core.specs.Nodes.{touch_fits}
+use Rattle.snapshot_core.specs.WorldCodec.{sent_type, output_type}
+use Rattle.answer_laws.specs.Ranges.{fields_fit, event_fits, sent_fits, replies_fit}
 use Rattle.answer_laws.proofs.Clocks.{all_sets_fit, all_ticks_fit, timing_is}
 use Rattle.answer_laws.proofs.Pointers.{all_append, all_points_fit, all_disables_fit}
 use Rattle.answer_laws.proofs.Reactions.{all_reactions_fit, set_field_fits}
@@ -84,9 +87,27 @@ pub record Answered (shapes : List Shape) (node : ℕ) (a : Answer) : Type 0 whe
   pub nodes : nodes_fit shapes a.fields a.sensors a.touches ≡ true
   pub replies : list_all (leave shapes node) a.replies ≡ true
 
+-- what a row lets out is of the type that leaves by it
+sent_leaves : (o : Option Entry) (v : Value) → option_map_or (λ (row : Entry). sends row.access && value_fits row.field_type v) o false ≡ true → typed_fits (option_and_then sent_type o) v ≡ true
+sent_leaves None v e = absurd cc
+sent_leaves (Some row) v e = given (sends row.access) e
+  where
+    given : (b : Bool) → (b && value_fits row.field_type v) ≡ true → typed_fits (if b then Some row.field_type else None) v ≡ true
+    given true h = h
+    given false h = absurd cc
+
+all_imply : {X : Type 0} (p q : X → Bool) → ((x : X) → p x ≡ true → q x ≡ true) → (xs : List X) → list_all p xs ≡ true → list_all q xs ≡ true
+all_imply p q k [] f = refl
+all_imply p q k (x ∷ xs) f = let b = both (p x) (list_all p xs) f in and_true _ _ (k x b.0) (all_imply p q k xs b.1)
+
 leaving : (shapes : List Shape) (node : ℕ) (s : Shape) (rs : List Reply) → slice_get shapes node ≡ Some s → replies_fit s.node_type s.declared rs ≡ true → list_all (leave shapes node) rs ≡ true
 leaving shapes node s rs e h =
-    subst (λ (o : Option Shape). list_all (λ (r : Reply). typed_fits (option_and_then sent_type (slice_get (option_map_or rows_of o []) r.field)) r.value) rs ≡ true) (sym e) h
+    all_imply (λ (r : Reply). sent_fits s.node_type s.declared r.field r.value) (leave shapes node)
+    (λ r f. subst (λ (o : Option Shape). typed_fits (option_and_then sent_type (slice_get (option_map_or rows_of o []) r.field)) r.value ≡ true) (sym e) (sent_leaves (slice_get (rows_of s) r.field) r.value f))
+    rs h
+
+touch_right : (u : Touch) → length u.over ≡ MAX_VIEWERS → option_map_or is_viewer u.presser true ≡ true → touch_fits u ≡ true
+touch_right u f g = and_true _ _ (eq-eqb _ _ f) g
 
 -- a node of this type that declares these fields
 abbrev pub with_type : NodeType → List Entry → Shape
@@ -188,7 +209,7 @@ module _ (shapes : List Shape) (w : WorldData) (fit : nodes_fit shapes w.fields 
           let d = all_disables_fit ds at.touch in
           subst (λ (o : Option Fields). Answered shapes target.node (forgetting w target.node (reacting w target v TouchSensor o) (slice_get w.touches target.node))) (sym at.fields_is)
           (subst (λ (u : Option Touch). Answered shapes target.node (forgetting w target.node (reacting w target v TouchSensor (Some at.fields)) u)) (sym at.touch_is) (record {
-            nodes = put_touch target.node (with_type TouchSensor ds) is (reaction TouchSensor at.fields target.field v w.last_time).fields (disable at.touch).touch r.in_fields d.in_touch;
+            nodes = put_touch target.node (with_type TouchSensor ds) is (reaction TouchSensor at.fields target.field v w.last_time).fields (disable at.touch).touch r.in_fields (touch_right (disable at.touch).touch d.in_over d.in_presser);
             replies = all_append (leave shapes target.node) (reaction TouchSensor at.fields target.field v w.last_time).replies (disable at.touch).replies (leaving shapes target.node (with_type TouchSensor ds) _ is r.in_replies) (leaving shapes target.node (with_type TouchSensor ds) _ is d.in_replies);
           }))
 
@@ -257,9 +278,11 @@ module _ (shapes : List Shape) (w : WorldData) (fit : nodes_fit shapes w.fields 
       meeting_fits : Answered shapes n (meeting w n p before place (slice_get w.touches n))
       meeting_fits =
           let at = here n (with_type TouchSensor ds) is in
-          let r = all_points_fit ds at.touch p.who before p.down place w.last_time (beside n (with_type TouchSensor ds) is).1 viewer inside now in
+          let u = both (length at.touch.over == MAX_VIEWERS) (option_map_or is_viewer at.touch.presser true) (beside n (with_type TouchSensor ds) is).1 in
+          let r = all_points_fit ds at.touch p.who before p.down place w.last_time (eqb-true _ _ u.0) u.1 viewer inside now in
+          let made : Touched = point at.touch (pointer p.who before p.down place) w.last_time in
           subst (λ (u : Option Touch). Answered shapes n (meeting w n p before place u)) (sym at.touch_is)
-          (record { nodes = only_touch n (with_type TouchSensor ds) is _ r.in_touch; replies = leaving shapes n (with_type TouchSensor ds) _ is r.in_replies })
+          (record { nodes = only_touch n (with_type TouchSensor ds) is made.touch (touch_right made.touch r.in_over r.in_presser); replies = leaving shapes n (with_type TouchSensor ds) _ is r.in_replies })
 
       given : (b : Bool) → Answered shapes n (if b then meeting w n p before place (slice_get w.touches n) else nothing w)
       given true = meeting_fits

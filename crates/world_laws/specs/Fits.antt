@@ -1,6 +1,6 @@
 -- Worlds in which each value is in the range of its field (ISO/IEC 19775-1, field semantics; the
 -- ranges are our choice).
-use Rattle.std.specs.Prelude.{◌≡◌, ℕ, ◌+◌, ◌^◌, ◌≤◌, ◌==◌, ◌&&◌, not, is_none, nat_le, nat_lt, Bool, true, false, List, [], ◌∷◌, length, Option, Some, slice_get}
+use Rattle.std.specs.Prelude.{◌≡◌, ℕ, ◌+◌, ◌^◌, ◌≤◌, ◌==◌, ◌&&◌, is_none, nat_le, nat_lt, Bool, true, false, List, [], ◌∷◌, length, Option, Some, slice_get}
 use Rattle.std.specs.List.{list_all}
 use Rattle.std.specs.Option.{option_map, option_map_or}
 use Rattle.x3d_values.specs.declared.field_type.FieldType.{FieldType}
@@ -15,14 +15,14 @@ use Rattle.x3d_values.specs.Stamp.{Stamp}
 use Rattle.x3d_values.specs.Tables.{Entry}
 use Rattle.snapshot_codec.specs.Parts.{cycle_fits}
 use Rattle.snapshot_codec.specs.Trace.{is_moment, typed_fits}
-use Rattle.sensor_core.specs.Touches.{Touch, is_over}
+use Rattle.sensor_core.specs.Touches.{Touch}
 use Rattle.scene_core.specs.declared.scene.Route.{Route}
 use Rattle.scene_core.specs.Scene.{SceneView, shapes_of}
 use Rattle.scene_core.specs.Shape.{Shape, rows_of}
 use Rattle.cascade_core.specs.Apply.{apply}
 use Rattle.cascade_core.specs.declared.world.TraceLine.{TraceLine}
 use Rattle.cascade_core.specs.declared.world.WorldData.{WorldData}
-use Rattle.answer_laws.specs.Answers.{touch_fits}
+use Rattle.snapshot_core.specs.Nodes.{touch_fits, is_untouched}
 use Rattle.snapshot_core.specs.WorldCodec.{output_type}
 use Rattle.answer_laws.specs.Ranges.{fields_fit}
 
@@ -44,7 +44,7 @@ time_fits _ cycle = is_none cycle
 -- pointers are over TouchSensors alone, and they alone are pressed
 abbrev pub pointers_fit : NodeType → Touch → Bool
 pointers_fit TouchSensor touch = touch_fits touch
-pointers_fit _ touch = touch_fits touch && (not (is_over touch) && is_none touch.presser)
+pointers_fit _ touch = is_untouched touch
 
 abbrev pub node_fits : Shape → Fields → Option ℕ → Touch → Bool
 node_fits s fields cycle touch =
