@@ -113,7 +113,7 @@ fn is_outlined(rt: &impl Abort, alloc: Global, scene: &str, wanted: &str) -> Res
 
 /// Scenes, each with its nodes (name, type, numbers of fields with the line of each), roots and
 /// helpers.
-const FLATS: [(&str, &str); 14] = [
+const FLATS: [(&str, &str); 24] = [
     (
         "Shape { geometry Box {} } Group {}",
         "Box, Shape 4@2, Group, roots 1 2 helpers",
@@ -191,10 +191,63 @@ DEF X P { a 2 } DEF T BooleanTrigger {} ROUTE T.triggerTrue TO X.b ROUTE X.c TO 
         "Group { PROTO P [] { Box {} } } P {}",
         "Group, Box, roots 0 1 helpers",
     ),
+    // USE is of a node that is finished, also one between the same braces
+    (
+        "DEF A Group { children [ DEF A Box {} USE A ] }",
+        "A Box, A Group 3@2, roots 1 helpers",
+    ),
+    // default values in the order of the interface, behind what the instance gives
+    (
+        "PROTO P [ initializeOnly SFNode a Box {} initializeOnly SFNode b Sphere {} ] {
+Shape { geometry IS b } Shape { geometry IS a } }
+P {} P { b Group {} }",
+        "Box, Sphere, Shape 4@3, Shape 4@3, Group, Box, Shape 4@3, Shape 4@3, \
+roots 2 6 helpers 3 7",
+    ),
+    // a DEF in a default value may be used in the body
+    (
+        "PROTO P [ initializeOnly SFNode n DEF D Box {} ] { Shape { geometry IS n }
+Shape { geometry USE D } } P {}",
+        "D Box, Shape 4@2, Shape 4@3, roots 1 helpers 2",
+    ),
+    // a USE may be the first node of a body, and takes the instance's name
+    (
+        "PROTO P [ initializeOnly SFNode n DEF D Box {} ] { USE D Shape { geometry IS n } }
+DEF X P {}",
+        "X Box, Shape 4@2, roots 0 helpers 1",
+    ),
+    // a default value that no IS takes is not put in
+    (
+        "PROTO P [ initializeOnly SFNode n Nothing {} ] { Group {} } P {}",
+        "Group, roots 0 helpers",
+    ),
+    // a PROTO in a default value is in sight in the body
+    (
+        "PROTO P [ initializeOnly SFNode n Group { PROTO Q [] { Box {} } } ] {
+Shape { geometry IS n } Q {} } P {}",
+        "Group, Shape 4@3, Box, roots 1 helpers 2",
+    ),
+    // what is left out is not checked
+    (
+        "PROTO P [ initializeOnly SFNode n NULL ] { Group {} } P { n Group { PROTO Box [] { } } }",
+        "Group, roots 0 helpers",
+    ),
+    // a PROTO of the same name in a scope inside hides the name
+    (
+        "PROTO P [] { PROTO Q [] { PROTO P [] { Group {} } P {} } Q {} } P {}",
+        "Group, roots 0 helpers",
+    ),
+    // a USE makes a body that is not empty; it is looked at where it is put in
+    ("PROTO P [] { USE A } Group {}", "Group, roots 0 helpers"),
+    // an IS to an input gives no value, and the default value of the field stands
+    (
+        "PROTO P [ inputOnly SFInt32 n ] { Switch { whichChoice IS n } } P {}",
+        "Switch, roots 0 helpers",
+    ),
 ];
 
 /// Scenes with ROUTEs, each as above with its routes: the line, the node and the field of each end.
-const ROUTED: [(&str, &str); 10] = [
+const ROUTED: [(&str, &str); 11] = [
     (
         "DEF A Group {} DEF B Switch {}\nROUTE A.x TO B.y",
         "A Group, B Switch, roots 0 1 helpers; 3 0.x TO 1.y",
@@ -269,6 +322,12 @@ DEF T BooleanTrigger {} DEF X P { ROUTE T.triggerTrue TO X.p }",
 ROUTE S.x TO D.y } P {}",
         "D Box, S Shape 4@2, roots 1 helpers; 3 1.x TO 0.y",
     ),
+    // a field's own name is tried first, also where its direction is wrong
+    (
+        "PROTO P [ inputOutput SFBool f TRUE outputOnly SFBool set_f inputOnly SFBool f_changed ] {
+Group {} } DEF X P {} DEF A Group {} ROUTE A.x TO X.set_f ROUTE X.f_changed TO A.x",
+        "X Group, A Group, roots 0 1 helpers; 3 1.x TO WrongWay; 3 WrongWay TO 1.x",
+    ),
 ];
 
 /// 512 outputs of `DEF X`, 128 inputs of `DEF Y`: as many pairs as there may be.
@@ -294,7 +353,7 @@ DEF X I {} DEF Y P {}
 ";
 
 /// Scenes, each with its fault and the fault's line.
-const FAULTS: [(&str, &str); 28] = [
+const FAULTS: [(&str, &str); 51] = [
     ("Nothing {}", "UnknownNode 2"),
     ("Box {\ncolour 1 }", "UnknownField 3"),
     ("PROTO P [] { Group {} }\nP { a 1 }", "UnknownField 3"),
@@ -375,6 +434,96 @@ Shape { geometry IS n } }\nP {}",
 Script { inputOnly SFBool a\noutputOnly SFBool a IS b } }\nP {}",
         "BadIs 4",
     ),
+    // the prototype itself: in a default value, in a body inside, in what no IS takes
+    (
+        "PROTO P [ initializeOnly SFNode n\nP {} ] { Group {} }",
+        "ProtoItself 3",
+    ),
+    (
+        "PROTO P [] { PROTO Q [] {\nP {} } Group {} }",
+        "ProtoItself 3",
+    ),
+    (
+        "PROTO Q [ initializeOnly SFNode n NULL ] { Group {} }\nPROTO P [] { Q { n\nP {} } }",
+        "ProtoItself 4",
+    ),
+    // one of that name further out doesn't excuse it
+    (
+        "PROTO P [] { Group {} } PROTO Q [] { PROTO P [] {\nP {} } P {} }",
+        "ProtoItself 3",
+    ),
+    // the faults of the outer declaration before those inside, which are found though never put in
+    (
+        "PROTO P [] { PROTO Box [] { Group {} }\nP {} }",
+        "ProtoItself 3",
+    ),
+    ("PROTO P [] {\nPROTO Box [] { Group {} } }", "EmptyBody 2"),
+    (
+        "PROTO P [] { Group {}\nPROTO Box [] { Group {} } }",
+        "ProtoTwice 3",
+    ),
+    // a field's fault before those of the nodes in its value
+    (
+        "Shape { geometry Box {}\ngeometry Nothing {} }",
+        "FieldTwice 3",
+    ),
+    ("Box {\ncolour Nothing {} }", "UnknownField 3"),
+    // the names that routes give to fields are for routes alone
+    ("Switch {\nset_whichChoice 1 }", "UnknownField 3"),
+    (
+        "PROTO P [ inputOnly SFInt32 x ] { Switch {\nset_whichChoice IS x } }\nP {}",
+        "UnknownField 3",
+    ),
+    // a PROTO in a default value that is not put in, and one in what is left out
+    (
+        "PROTO P [ initializeOnly SFNode n Group { PROTO Q [] { Box {} } } ] {
+Shape { geometry IS n }\nQ {} }\nP { n NULL }",
+        "UnknownNode 4",
+    ),
+    (
+        "PROTO P [ initializeOnly SFNode n NULL ] { Group {} }
+P { n Group { PROTO Q [] { Box {} } } }\nQ {}",
+        "UnknownNode 4",
+    ),
+    // a name in what is left out
+    (
+        "PROTO P [ initializeOnly SFNode n NULL ] { Group {} } P { n DEF A Box {} }\nUSE A",
+        "UseWithoutDef 3",
+    ),
+    // an instance's values before its body
+    (
+        "PROTO P [ initializeOnly SFNode n NULL ] { Nothing { } Shape { geometry IS n } }
+P { n\nNothing {} }",
+        "UnknownNode 4",
+    ),
+    // two declarations between the same braces: the first in the text, also one in a value
+    (
+        "Group {\nPROTO P [] {}\nPROTO Box [] { Group {} } }",
+        "EmptyBody 3",
+    ),
+    (
+        "Group {\nPROTO Box [] { Group {} }\nPROTO P [] {} }",
+        "ProtoTwice 3",
+    ),
+    (
+        "Group { children Group {\nPROTO P [] {} }\nPROTO Box [] { Group {} } }",
+        "EmptyBody 3",
+    ),
+    (
+        "Script { initializeOnly SFNode a Group {\nPROTO P [] {} }\nPROTO Box [] { Group {} } }",
+        "EmptyBody 3",
+    ),
+    (
+        "Script {\ninputOnly SFBool url\ninputOnly SFBool a IS b }",
+        "FieldTwice 3",
+    ),
+    (
+        "Script {\ninputOnly SFBool a IS b\ninputOnly SFBool url }",
+        "BadIs 3",
+    ),
+    // those of a statement are checked before anything of it is put in
+    ("Box {\ncolour 1\nPROTO P [] {} }", "EmptyBody 4"),
+    ("Box { colour 1 }\nPROTO P [] {}", "UnknownField 2"),
 ];
 
 #[test]
@@ -423,5 +572,116 @@ fn what_has_no_flat_form_is_refused(rt: HostRuntime) -> Result<(), Fail> {
     for (scene, wanted) in FAULTS {
         is_outlined(&rt, rt.alloc(), scene, wanted)?;
     }
+    Ok(())
+}
+
+/// How many prototypes, and how many instances, the long texts have.
+const MANY_PROTOTYPES: u32 = 20_000;
+
+fn push_name(out: &mut Vec<u8>, number: u32) -> Result<(), AllocError> {
+    out.extend_from_slice(b" P")?;
+    out.extend_from_slice(itoa::Buffer::new().format(number).as_bytes())
+}
+
+/// A prototype whose body is an instance of the one before it.
+fn push_link(out: &mut Vec<u8>, number: u32, before: u32) -> Result<(), AllocError> {
+    out.extend_from_slice(b"\nPROTO")?;
+    push_name(out, number)?;
+    out.extend_from_slice(b" [] {")?;
+    push_name(out, before)?;
+    out.extend_from_slice(b" {} }")
+}
+
+/// Prototypes, each of which stands for one of the one before it, and an instance of the last.
+fn chain(alloc: Global) -> Result<Vec<u8>, AllocError> {
+    let mut text = Vec::new(alloc);
+    text.extend_from_slice(b"#X3D V3.0 utf8\nPROTO P0 [] { Group {} }")?;
+    for number in 0..MANY_PROTOTYPES {
+        push_link(&mut text, number + 1, number)?;
+    }
+    push_name(&mut text, MANY_PROTOTYPES)?;
+    text.extend_from_slice(b" {}")?;
+    Ok(text)
+}
+
+/// As many instances of one prototype.
+fn instances(alloc: Global) -> Result<Vec<u8>, AllocError> {
+    let mut text = Vec::new(alloc);
+    text.extend_from_slice(b"#X3D V3.0 utf8\nPROTO P [] { Group {} Group {} }")?;
+    for _number in 0..MANY_PROTOTYPES {
+        text.extend_from_slice(b"P {}\n")?;
+    }
+    Ok(text)
+}
+
+/// How many nodes, roots and helpers the text has.
+fn counts(alloc: Global, text: &[u8]) -> Result<(usize, usize, usize), Fail> {
+    let document = read(alloc, text)?;
+    let flat = expand(alloc, document)?;
+    Ok((flat.nodes.len(), flat.roots.len(), flat.helpers.len()))
+}
+
+/// The same of the chain.
+fn chain_counts(alloc: Global) -> Result<(usize, usize, usize), Fail> {
+    let text = chain(alloc)?;
+    counts(alloc, text.as_slice())
+}
+
+/// The same of the instances.
+fn instance_counts(alloc: Global) -> Result<(usize, usize, usize), Fail> {
+    let text = instances(alloc)?;
+    counts(alloc, text.as_slice())
+}
+
+#[test]
+fn long_texts_are_put_in(rt: HostRuntime) -> Result<(), Fail> {
+    let found = chain_counts(rt.alloc())?;
+    assert!(rt; found == (1, 1, 0), "a chain of prototypes");
+    let found = instance_counts(rt.alloc())?;
+    assert!(rt; found == (40_000, 20_000, 20_000), "instances of one");
+    Ok(())
+}
+
+/// How many fields the interface of the long prototype has.
+const MANY_FIELDS: u32 = 4_096;
+
+fn push_field_named(out: &mut Vec<u8>, number: u32) -> Result<(), AllocError> {
+    out.extend_from_slice(b"\ninputOnly SFBool f")?;
+    out.extend_from_slice(itoa::Buffer::new().format(number).as_bytes())
+}
+
+/// As many instances of a prototype with a long interface.
+fn wide(alloc: Global, instances: u32) -> Result<Vec<u8>, AllocError> {
+    let mut text = Vec::new(alloc);
+    text.extend_from_slice(b"#X3D V3.0 utf8\nPROTO P [")?;
+    for number in 0..MANY_FIELDS {
+        push_field_named(&mut text, number)?;
+    }
+    text.extend_from_slice(b" ] { Group {} }\n")?;
+    for _number in 0..instances {
+        text.extend_from_slice(b"P {}\n")?;
+    }
+    Ok(text)
+}
+
+/// How many nodes stand for the instances, or the fault.
+fn wide_count(alloc: Global, instances: u32) -> Result<Result<usize, ExpandFault>, Fail> {
+    let text = wide(alloc, instances)?;
+    let document = read(alloc, text.as_slice())?;
+    match expand(alloc, document) {
+        Ok(flat) => Ok(Ok(flat.nodes.len())),
+        Err(fault) => Ok(Err(fault)),
+    }
+}
+
+#[test]
+fn interfaces_are_counted(rt: HostRuntime) -> Result<(), Fail> {
+    let most = wide_count(rt.alloc(), 2_048)?;
+    assert!(rt; most == Ok(2_048), "as many as there may be");
+    let more = wide_count(rt.alloc(), 2_049)?;
+    assert!(rt;
+        more == Err(ExpandFaultKind::TooLarge.on_line(0)),
+        "one instance more"
+    );
     Ok(())
 }

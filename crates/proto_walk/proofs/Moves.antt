@@ -12,8 +12,8 @@ use Rattle.classic_tree.specs.declared.tree.Statement.TheVariants as statement
 use Rattle.classic_tree.specs.declared.tree.ProtoText.{ProtoText, out-ProtoText}
 use Rattle.classic_tree.specs.declared.tree.RouteText.{RouteText}
 use Rattle.flat_document.specs.declared.fault.ExpandFault.{ExpandFault}
-use Rattle.proto_walk.specs.declared.held.GivenField.{GivenField}
-use Rattle.proto_walk.specs.declared.held.Joined.{Joined}
+use Rattle.proto_fields.specs.declared.given.GivenField.{GivenField}
+use Rattle.proto_fields.specs.declared.given.Joined.{Joined}
 use Rattle.proto_links.specs.declared.links.Link.{Link}
 use Rattle.proto_walk.specs.declared.frames.Frame.{Frame}
 use Rattle.proto_walk.specs.declared.frames.Task.{Task}
@@ -23,14 +23,19 @@ use Rattle.proto_walk.specs.declared.frames.Filling.{Filling}
 use Rattle.proto_walk.specs.declared.frames.Open.{Open}
 use Rattle.proto_walk.specs.declared.frames.Listing.{Listing}
 use Rattle.proto_walk.specs.declared.frames.Body.{Body}
-use Rattle.proto_walk.specs.Fields.{signatures}
-use Rattle.proto_walk.specs.Machine.{keep, Sight, Bound, Walk, Machine, Outcome, through, and_then, ◌>>=◌, pure, Made, no_names, no_defs, definition, Does}
-use Rattle.proto_walk.specs.Limits.{count_items, item_count}
-use Rattle.proto_walk.specs.Routes.{wire}
-use Rattle.proto_walk.specs.Meaning.{with_place, Place, is_wanted, add_default_value, within as inside_of, begin_body, add_default, add_defaults, add_new, add_taken, is_taken, add_joined, hand_over, stand_in, body_of, item_does, numbered, add_number, back, close_instance, hold, in_body, leave, meaning_of, node_does, proto_does, statement_does, with_field}
-use Rattle.proto_walk.specs.Frames.{place_of, fill, owner_in, seen_in, value_does, names_of, defs_of, bound_of, close_with, body_does, open_does, list_does, in_sight, sight_of, frame_does, frames_do, task_sight, task_does, task_comes, rest_does, comes_to, shown, AllSee, Holds, Fits, Goes, Keeps, Steps, Ends}
-use Rattle.proto_walk.proofs.Equations.{item_does-proto, and_then-congr, body_map, statement_does-node, statement_does-proto, statement_does-route}
-use Rattle.proto_walk.proofs.Sights.{reverse-snoc, frames-more, in_sight-more}
+use Rattle.proto_fields.specs.Fields.{signatures}
+use Rattle.proto_steps.specs.Machine.{keep, Sight, Bound, Walk, Machine, Outcome, through, and_then, ◌>>=◌, pure, Made, no_names, no_defs}
+use Rattle.proto_fields.specs.Owners.{definition}
+use Rattle.proto_steps.specs.Limits.{count_items}
+use Rattle.proto_fields.specs.Values.{item_count}
+use Rattle.proto_steps.specs.Routes.{wire}
+use Rattle.proto_steps.specs.Meaning.{with_place, add_default_value, within as inside_of, begin_body, add_default, add_defaults, add_new, add_taken, add_joined, hand_over, stand_in, item_does, numbered, add_number, back, close_instance, hold, in_body, leave, meaning_of, node_does, proto_does, statement_does}
+use Rattle.proto_fields.specs.Owners.{Place, is_wanted, is_taken, body_of, with_field}
+use Rattle.proto_steps.specs.Held.{place_of, owner_in, seen_in, names_of, defs_of, bound_of, in_sight}
+use Rattle.proto_walk.specs.Frames.{fill, value_does, close_with, body_does, open_does, list_does, sight_of, frame_does, frames_do, task_sight, task_does, task_comes, rest_does, comes_to, shown, AllSee, Holds, Fits, Goes, Keeps, Steps, Ends}
+use Rattle.proto_steps.proofs.Equations.{item_does-proto, and_then-congr, body_map, statement_does-node, statement_does-proto, statement_does-route}
+use Rattle.proto_steps.proofs.Sights.{reverse-snoc, in_sight-more}
+use Rattle.proto_walk.proofs.Sights.{frames-more}
 
 pub and_then-assoc : {A B C : Type 0} (o : Outcome A) (f : A → Machine B) (g : B → Machine C) → and_then (and_then o f) g ≡ and_then o (λ a w. and_then (f a w) g)
 and_then-assoc (Ok p) f g = refl
@@ -323,9 +328,6 @@ add-new ps opened line number v w u counts =
     ap (λ o. and_then (and_then o (λ _. numbered node_does v >>= λ x. keep x >>= λ n. pure (with_field line number opened.fields (Some n)))) (open_does ps opened)) counts
     ∙ and_then-assoc (numbered node_does v u) (λ x. keep x >>= λ n. pure (with_field line number opened.fields (Some n))) (open_does ps opened)
     ∙ and_then-congr _ _ (λ x t. and_then-assoc (keep x t) (λ n. pure (with_field line number opened.fields (Some n))) (open_does ps opened)) (numbered node_does v u)
-
-pub does-as : {A : Type 0} (o other : Outcome A) (result : Result A ExpandFault) (new : Walk) → o ≡ other → Does other result new → Does o result new
-does-as o other result new is k = rw is k
 
 -- a default value that is put in, and one that is not
 pub default-wanted : (place : Place) (number : ℕ) (d : Declaration NodeText) (fields : List GivenField) (w : Walk) (g : List GivenField → Machine ℕ) → is_wanted place number d.name fields w.declared ≡ true →

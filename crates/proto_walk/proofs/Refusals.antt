@@ -1,16 +1,16 @@
 -- What becomes of a value and of an IS, case by case.
-use Rattle.std.proofs.Common.{◌≡◌, ℕ, nat_lt, List, Some, None, Err, true, false, ◌∙◌, refl}
+use Rattle.std.proofs.Common.{◌≡◌, ℕ, List, Some, None, Err, true, false, ◌∙◌, refl}
 use Rattle.classic_tree.specs.declared.tree.RawValue.{RawValue}
 use Rattle.classic_tree.specs.declared.tree.NodeText.{NodeText}
 use Rattle.flat_document.specs.Fault.{fault}
 use Rattle.flat_document.specs.declared.fault.ExpandFault.{ExpandFault}
-use Rattle.flat_document.specs.declared.fault.ExpandFaultKind.TheVariants.{UnknownField, FieldTwice, BadIs, TooLarge}
-use Rattle.proto_walk.specs.declared.held.GivenField.{GivenField}
-use Rattle.proto_walk.specs.declared.held.KnownField.{KnownField}
-use Rattle.proto_walk.specs.Fields.{Signature, of_interface, of_signature, fits}
-use Rattle.proto_walk.specs.Limits.{max_fields}
-use Rattle.proto_walk.specs.Machine.{Walk, Machine}
-use Rattle.proto_walk.specs.Meaning.{Owner, known, admits, has_field, joined_by, add_value, add_taken, add_is, add_joined, add_declared_is, with_place, node_does}
+use Rattle.flat_document.specs.declared.fault.ExpandFaultKind.TheVariants.{UnknownField, FieldTwice, BadIs}
+use Rattle.proto_fields.specs.declared.given.GivenField.{GivenField}
+use Rattle.proto_fields.specs.declared.given.KnownField.{KnownField}
+use Rattle.proto_fields.specs.Fields.{Signature, of_interface, of_signature, fits}
+use Rattle.proto_steps.specs.Machine.{Walk, Machine}
+use Rattle.proto_fields.specs.Owners.{Owner, known, admits, has_field}
+use Rattle.proto_steps.specs.Meaning.{joined_by, add_value, add_taken, add_is, add_joined, add_declared_is, with_place, node_does}
 
 -- ---- a value
 
@@ -59,26 +59,6 @@ unfolding add_is
 is-joined line field name o fields w f g some bound fit once = rw (some, bound, fit, once) refl
 
 -- ---- a declaration of a Script
-
-pub declared-own : (line : ℕ) (o : Owner) (fields : List GivenField) (name : List ℕ) (f : ℕ → Machine (List GivenField)) (w : Walk) (own : KnownField) → o.fields name ≡ Some own → with_place line o fields name f w ≡ Err (fault FieldTwice line)
-unfolding with_place
-declared-own line o fields name f w own some = rw some refl
-
-pub declared-unknown : (line : ℕ) (o : Owner) (fields : List GivenField) (name : List ℕ) (f : ℕ → Machine (List GivenField)) (w : Walk) → o.fields name ≡ None → o.declares name ≡ None → with_place line o fields name f w ≡ Err (fault UnknownField line)
-unfolding with_place
-declared-unknown line o fields name f w none missing = rw (none, missing) refl
-
-pub declared-twice : (line : ℕ) (o : Owner) (fields : List GivenField) (name : List ℕ) (f : ℕ → Machine (List GivenField)) (w : Walk) (d : KnownField) → o.fields name ≡ None → o.declares name ≡ Some d → has_field d.number fields ≡ true → with_place line o fields name f w ≡ Err (fault FieldTwice line)
-unfolding with_place
-declared-twice line o fields name f w d none some twice = rw (none, some, twice) refl
-
-pub declared-beyond : (line : ℕ) (o : Owner) (fields : List GivenField) (name : List ℕ) (f : ℕ → Machine (List GivenField)) (w : Walk) (d : KnownField) → o.fields name ≡ None → o.declares name ≡ Some d → has_field d.number fields ≡ false → nat_lt d.number max_fields ≡ false → with_place line o fields name f w ≡ Err (fault TooLarge 0)
-unfolding with_place
-declared-beyond line o fields name f w d none some once beyond = rw (none, some, once, beyond) refl
-
-pub declared-free : (line : ℕ) (o : Owner) (fields : List GivenField) (name : List ℕ) (f : ℕ → Machine (List GivenField)) (d : KnownField) → o.fields name ≡ None → o.declares name ≡ Some d → has_field d.number fields ≡ false → nat_lt d.number max_fields ≡ true → with_place line o fields name f ≡ f d.number
-unfolding with_place
-declared-free line o fields name f d none some once within = rw (none, some, once, within) refl
 
 pub declared-unbound : (s : Signature) (name : List ℕ) (o : Owner) (fields : List GivenField) (w : Walk) → of_interface w.sight.interface name ≡ None → add_declared_is s name o fields w ≡ Err (fault BadIs s.line)
 unfolding add_declared_is

@@ -1,26 +1,18 @@
 -- What the frames still do. None of this is part of the definition of a flat document.
-use Rattle.std.specs.Prelude.{◌≡◌, ◌⊎◌, ◌≤◌, true, ℕ, nat_lt, if◌then◌else◌, List, [], ◌∷◌, ◌++◌, length, map, reverse, Option, Some, None, option_map, Result, Ok, Err}
-use Rattle.std.specs.Str.{bytes_eq}
-use Rattle.indexmap.specs.IndexMap.{get_by}
+use Rattle.std.specs.Prelude.{◌≡◌, ◌⊎◌, ◌≤◌, true, ℕ, List, [], ◌∷◌, ◌++◌, length, reverse, Option, Some, None, Result, Ok, Err}
 use Rattle.classic_tree.specs.declared.tree.RawValue.{RawValue}
 use Rattle.classic_tree.specs.declared.tree.RawValue.TheVariants as value
-use Rattle.classic_tree.specs.declared.tree.ProtoText.{ProtoText, out-ProtoText}
+use Rattle.classic_tree.specs.declared.tree.ProtoText.{out-ProtoText}
 use Rattle.classic_tree.specs.declared.tree.BodyItem.{BodyItem}
 use Rattle.classic_tree.specs.declared.tree.NodeText.{NodeText}
-use Rattle.flat_document.specs.Fault.{fault, memory}
-use Rattle.flat_document.specs.declared.fault.ExpandFaultKind.TheVariants.{FieldTwice}
+use Rattle.flat_document.specs.Fault.{memory}
 use Rattle.flat_document.specs.declared.fault.ExpandFault.{ExpandFault}
-use Rattle.proto_declarations.specs.declared.sight.Declarations.{Declarations}
-use Rattle.proto_declarations.specs.Held.{shown as all_declared}
-use Rattle.proto_walk.specs.declared.held.GivenField.{GivenField}
-use Rattle.proto_walk.specs.declared.held.Joined.{Joined}
-use Rattle.proto_walk.specs.declared.held.KnownField.{KnownField}
-use Rattle.proto_walk.specs.declared.held.Store.{Store}
-use Rattle.proto_walk.specs.declared.frames.BegunNode.{BegunNode}
+use Rattle.proto_fields.specs.declared.given.GivenField.{GivenField}
+use Rattle.proto_fields.specs.declared.given.Joined.{Joined}
+use Rattle.proto_fields.specs.declared.given.KnownField.{KnownField}
 use Rattle.proto_links.specs.declared.links.Link.{Link}
-use Rattle.proto_walk.specs.declared.frames.Scope.{Scope}
-use Rattle.proto_walk.specs.declared.frames.Owner.TheVariants as owner
-use Rattle.proto_walk.specs.declared.frames.Owner.{Owner as Holder}
+use Rattle.proto_steps.specs.declared.held.Owner.TheVariants as owner
+use Rattle.proto_steps.specs.declared.held.Owner.{Owner as Holder}
 use Rattle.proto_walk.specs.declared.frames.Filling.{Filling}
 use Rattle.proto_walk.specs.declared.frames.Open.{Open}
 use Rattle.proto_walk.specs.declared.frames.Listing.{Listing}
@@ -30,71 +22,13 @@ use Rattle.proto_walk.specs.declared.frames.Frame.TheVariants as frame
 use Rattle.proto_walk.specs.declared.frames.Task.{Task}
 use Rattle.proto_walk.specs.declared.frames.Task.TheVariants as task
 use Rattle.proto_walk.specs.declared.frames.Walker.{Walker}
-use Rattle.proto_walk.specs.Fields.{Signature, signatures, of_interface, of_signature, fits}
-use Rattle.proto_walk.specs.Machine.{Sight, keep, Names, Defs, Begun, Bound, Walk, Machine, Outcome, and_then, ◌>>=◌, pure, through}
-use Rattle.proto_walk.specs.Meaning.{Owner, Place, add_defaults, begin_body, node_owner, declared_in, with_place, add_declared_is, stand_in, add_number, add_value, add_taken, back, close_node, close_instance, hold, in_body, item_does, leave, meaning_of, node_does, statement_does, with_field}
-
--- ---- what is in sight
-
--- the map as a function of names
-unfoldable pub names_of : Scope → Names
-names_of scope name = get_by (λ k. bytes_eq name k.now) scope.names
-
-abbrev pub begun_of : BegunNode → Begun
-begun_of b = record { at = b.at; interface = option_map (λ i. signatures i.now) b.interface }
-
-unfoldable pub defs_of : Scope → Defs
-defs_of scope name = option_map begun_of (get_by (λ k. bytes_eq name k.now) scope.defs)
-
-abbrev pub place_of : ProtoText → Option ℕ → Place
-place_of p within = record { within = within; name = (out-ProtoText p).name }
-
--- a prototype as it is bound where those are in sight
-abbrev pub bound_of : ProtoText → Option ℕ → List Bound → Bound
-bound_of p within protos = record {
-  name = (out-ProtoText p).name;
-  within = within;
-  interface = signatures (out-ProtoText p).interface;
-  meaning = meaning_of (out-ProtoText p).line (signatures (out-ProtoText p).interface)
-      (add_defaults node_does (place_of p within) (length (out-ProtoText p).interface)
-      (out-ProtoText p).interface) (map statement_does (out-ProtoText p).body) protos;
-}
-
-abbrev pub bound_by : Link → List Bound → Bound
-bound_by l protos = bound_of l.proto.now l.within protos
-
--- what so many links see, of links from the last to the first
-unfoldable pub seen : List Link → ℕ → List Bound
-seen [] sight = []
-seen (l ∷ older) sight =
-    if nat_lt (length older) sight then bound_by l (seen older l.before) ∷ seen older l.before
-    else seen older sight
-
-abbrev pub in_sight : List Link → ℕ → List Bound
-in_sight links sight = seen (reverse links) sight
+use Rattle.proto_fields.specs.Fields.{Signature, signatures, of_interface, of_signature, fits}
+use Rattle.proto_steps.specs.Machine.{keep, Bound, Walk, Machine, Outcome, and_then, ◌>>=◌, pure, through}
+use Rattle.proto_fields.specs.Owners.{Owner, with_field}
+use Rattle.proto_steps.specs.Meaning.{add_defaults, begin_body, declared_in, add_declared_is, stand_in, add_number, add_value, add_taken, back, close_node, close_instance, hold, in_body, item_does, leave, node_does, statement_does}
+use Rattle.proto_steps.specs.Held.{place_of, bound_of, in_sight, owner_in, seen_in, view, AreLinked}
 
 -- ---- frames
-
-abbrev pub owner_in : Holder → Owner
-owner_in (owner.Node node_type items at) = node_owner at node_type (declared_in items.now)
-owner_in (owner.Instance p within at) = record {
-  at = at;
-  fields = of_interface (signatures (out-ProtoText p.now).interface);
-  declares = λ name. None;
-  proto = Some (place_of p.now within);
-}
-
--- all that a scope has in sight
-abbrev pub seen_in : Scope → List Bound → Sight
-seen_in scope protos = record {
-  names = names_of scope;
-  defs = defs_of scope;
-  protos = protos;
-  given = scope.given;
-  interface = signatures scope.interface.now;
-  ties = scope.ties;
-  inside = scope.inside;
-}
 
 -- what an open node still does
 abbrev pub close_by : List Bound → Open → Holder → List GivenField → Machine ℕ
@@ -177,13 +111,6 @@ task_does protos (task.Number n) = pure n
 
 -- ---- the whole
 
-abbrev pub view : Store → Declarations → Scope → List Link → Walk
-view store declarations scope links = record {
-  store = store;
-  declared = all_declared declarations;
-  sight = seen_in scope (in_sight links scope.sight);
-}
-
 abbrev pub shown : Walker → Walk
 shown walker = view walker.store walker.declarations walker.scope walker.links
 
@@ -200,10 +127,6 @@ unfoldable pub comes_to : Walker → Task → Outcome ℕ
 comes_to walker t = and_then (task_comes walker t) (rest_does walker)
 
 -- ---- all that is seen is there
-
-unfoldable pub AreLinked : List Link → Type 0
-AreLinked [] = Unit
-AreLinked (l ∷ older) = (l.before ≤ length older) × AreLinked older
 
 unfoldable pub AllSee : ℕ → List Frame → Type 0
 AllSee most [] = Unit
@@ -247,13 +170,6 @@ IsFree o fields line name (Ok number) =
 IsFree o fields line name (Err e) =
     (v : RawValue NodeText) (w : Walk) → add_value node_does line name v o fields w ≡ Err e
 
--- the number of a declared field, or why it has none
-abbrev pub IsPlaced : Owner → List GivenField → ℕ → List ℕ → Result ℕ ExpandFault → Type 0
-IsPlaced o fields line name (Ok number) =
-    (f : ℕ → Machine (List GivenField)) → with_place line o fields name f ≡ f number
-IsPlaced o fields line name (Err e) =
-    (f : ℕ → Machine (List GivenField)) (w : Walk) → with_place line o fields name f w ≡ Err e
-
 -- the interface field that a declared field may be joined to, or why none
 abbrev pub IsOuter : Signature → List ℕ → Walk → Result KnownField ExpandFault → Type 0
 IsOuter s name w (Ok outer) =
@@ -270,21 +186,3 @@ IsJoined outcome f (Err e) = outcome ≡ Err e
 abbrev pub IfHanded : Outcome (Unit {0}) → Result (Unit {0}) ExpandFault → Walk → Type 0
 IfHanded outcome (Ok u) w = outcome ≡ Ok (u, w)
 IfHanded outcome (Err e) w = (e ≡ memory) ⊎ (outcome ≡ Err e)
-
--- no name stood before, or the fault says on which line one did
-abbrev pub IsOnce : Option ℕ → Result (Unit {0}) ExpandFault → Type 0
-IsOnce twice (Ok u) = twice ≡ None
-IsOnce twice (Err e) = (e ≡ memory) ⊎ (option_map (fault FieldTwice) twice ≡ Some e)
-
--- a value without nodes as it is
-abbrev pub plain : RawValue NodeText → RawValue ℕ
-plain value.Null = value.Null
-plain (value.Truth truth) = value.Truth truth
-plain (value.String text) = value.String text
-plain (value.Numbers numbers) = value.Numbers numbers
-plain (value.Node node) = value.EmptyList
-plain value.EmptyList = value.EmptyList
-plain (value.TruthList truths) = value.TruthList truths
-plain (value.StringList texts) = value.StringList texts
-plain (value.NumberList numbers) = value.NumberList numbers
-plain (value.NodeList nodes) = value.EmptyList

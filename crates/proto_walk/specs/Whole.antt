@@ -12,11 +12,11 @@ use Rattle.proto_declarations.specs.Sight.{Sight as Declared}
 use Rattle.proto_declarations.specs.Sight.{nothing as nothing_declared}
 use Rattle.proto_declarations.specs.Meaning.{statement as checked}
 use Rattle.proto_ends.specs.Pairs.{routes_of}
-use Rattle.proto_walk.specs.declared.held.Store.{Store}
-use Rattle.proto_walk.specs.declared.held.PlacedNode.{PlacedNode}
-use Rattle.proto_walk.specs.Machine.{Walk, Machine, Outcome, ◌>>=◌, pure, through}
-use Rattle.proto_walk.specs.Limits.{max_items, max_joined}
-use Rattle.proto_walk.specs.Meaning.{statement_does, within}
+use Rattle.proto_steps.specs.declared.held.Store.{Store}
+use Rattle.proto_steps.specs.declared.held.PlacedNode.{PlacedNode}
+use Rattle.proto_steps.specs.Machine.{Walk, Machine, Outcome, ◌>>=◌, pure, through}
+use Rattle.proto_steps.specs.Limits.{max_interface_fields, max_items, max_joined}
+use Rattle.proto_steps.specs.Meaning.{statement_does, within}
 
 abbrev pub empty : Store
 empty =
@@ -31,6 +31,7 @@ empty =
       begun_nodes = 0;
       begun_instances =
           0;
+      interface_room = max_interface_fields;
       room = max_items;
       joined_room = max_joined;
     }

@@ -1,17 +1,19 @@
 //! What stands between braces: values and ISs.
 
 ghost use Rattle.std.specs.Prelude.{◌≡◌, ◌≤◌, length};
-ghost use Rattle.proto_walk.specs.Machine.{and_then};
-ghost use Rattle.proto_walk.specs.Meaning as spec;
-ghost use Rattle.proto_walk.specs.Meaning.{node_does};
+ghost use Rattle.proto_steps.specs.Held.{in_sight, owner_in};
+ghost use Rattle.proto_steps.specs.Machine.{and_then};
+ghost use Rattle.proto_steps.specs.Meaning as spec;
+ghost use Rattle.proto_steps.specs.Meaning.{node_does};
 ghost use Rattle.proto_walk.specs.Frames as does;
-ghost use Rattle.proto_walk.specs.Frames.{Holds, Keeps, IsJoined, in_sight, owner_in, shown};
+ghost use Rattle.proto_walk.specs.Frames.{Holds, IsJoined, Keeps, shown};
 
-use crate::frames::{Frame, Listing, Open, Owner, Task, Walker};
-use crate::held::{GivenField, Joined};
-use crate::{fields, routes, stands, steps};
+use crate::frames::{Frame, Listing, Open, Task, Walker};
+use crate::items::with_field;
 use classic_tree::{Given, NodeText, RawValue};
 use flat_document::{ExpandFault, ExpandFaultKind};
+use proto_fields::{GivenField, Joined};
+use proto_steps::Owner;
 use std::alloc::Global;
 use x3d_lists::{Items, Text};
 
@@ -30,14 +32,14 @@ pub fn keep_value<'a>(
         (in_sight walker.old.links opened.entry.sight) opened.entry line number value
         (shown walker.old)) walker.old result walker.new }
 {
-    let kept = steps::keep(
+    let kept = proto_steps::keep(
         &mut walker.store,
         &walker.declarations,
         &walker.scope,
         &walker.links,
         value,
     )?;
-    Ok(Task::Items(steps::with_field(opened, line, number, Some(kept))?))
+    Ok(Task::Items(with_field(opened, line, number, Some(kept))?))
 }
 
 /// A field whose items are counted.
@@ -71,7 +73,7 @@ fn put_counted<'a>(
             },
         )),
         _ => {
-            let value = fields::plain(alloc, value)?;
+            let value = proto_fields::plain(alloc, value)?;
             keep_value(walker, opened, line, number, value)
         }
     }
@@ -93,12 +95,12 @@ pub fn put_taken<'a>(
         (in_sight walker.old.links opened.entry.sight) opened.entry)) walker.old
         result walker.new }
 {
-    steps::count_items(
+    proto_steps::count_items(
         &mut walker.store,
         &walker.declarations,
         &walker.scope,
         &walker.links,
-        fields::item_count(value),
+        proto_fields::item_count(value),
     )?;
     put_counted(alloc, walker, opened, line, number, value)
 }
@@ -121,10 +123,10 @@ fn put_once<'a>(
         (in_sight walker.old.links opened.entry.sight) opened.entry)) walker.old
         result walker.new }
 {
-    if fields::is_taken(&walker.declarations, opened.owner, name) {
+    if proto_steps::is_taken(&walker.declarations, opened.owner, name) {
         return put_taken(alloc, walker, opened, line, number, value);
     }
-    Ok(Task::Items(steps::with_field(opened, line, number, None)?))
+    Ok(Task::Items(with_field(opened, line, number, None)?))
 }
 
 /// The number of the field, if it may be given a value here.
@@ -136,13 +138,13 @@ fn free_field(
 ) -> Result<usize, ExpandFault>
     ensures { does.IsFree (owner_in owner.entry) fields.now line name.now result }
 {
-    let Some(field) = fields::known_field(owner, fields, name) else {
+    let Some(field) = proto_steps::known_field(owner, fields, name) else {
         return Err(ExpandFaultKind::UnknownField.on_line(line));
     };
-    if !fields::admits(owner, field) {
+    if !proto_steps::admits(owner, field) {
         return Err(ExpandFaultKind::UnknownField.on_line(line));
     }
-    if fields::has_field(field.number, fields) {
+    if proto_fields::has_field(field.number, fields) {
         return Err(ExpandFaultKind::FieldTwice.on_line(line));
     }
     Ok(field.number)
@@ -180,19 +182,19 @@ fn joined(
         (shown walker.now)) (λ j. spec.add_joined line field.now
         (owner_in owner.entry) fields.now j (shown walker.now)) result }
 {
-    let Some(inner) = fields::known_field(owner, fields, field) else {
+    let Some(inner) = proto_steps::known_field(owner, fields, field) else {
         return Err(ExpandFaultKind::UnknownField.on_line(line));
     };
-    let Some(outer) = fields::field_of_interface(walker.scope.interface, name.as_str()) else {
+    let Some(outer) = proto_fields::field_of_interface(walker.scope.interface, name.as_str()) else {
         return Err(ExpandFaultKind::BadIs.on_line(line));
     };
-    if !fields::fits(outer, inner) {
+    if !proto_fields::fits(outer, inner) {
         return Err(ExpandFaultKind::BadIs.on_line(line));
     }
-    if fields::has_field(inner.number, fields) {
+    if proto_fields::has_field(inner.number, fields) {
         return Err(ExpandFaultKind::FieldTwice.on_line(line));
     }
-    let value = fields::value_of(outer.number, walker.scope.given.as_slice());
+    let value = proto_fields::value_of(outer.number, walker.scope.given.as_slice());
     Ok(Joined {
         number: inner.number,
         outer: outer.number,
@@ -216,7 +218,7 @@ fn hand_on<'a>(
         return Ok(());
     };
     match owner {
-        Owner::Node(_node_type, _items, _at) => steps::count_again(
+        Owner::Node(_node_type, _items, _at) => proto_steps::count_again(
             &mut walker.store,
             &walker.declarations,
             &walker.scope,
@@ -241,7 +243,7 @@ fn tie_field<'a>(
     ensures frames { walker.new.frames ≡ walker.old.frames }
     ensures sight { walker.new.scope.sight ≡ walker.old.scope.sight }
 {
-    let name = routes::keep_name(
+    let name = proto_steps::keep_name(
         alloc,
         &mut walker.store,
         &walker.declarations,
@@ -249,12 +251,12 @@ fn tie_field<'a>(
         &walker.links,
         field,
     )?;
-    stands::tie(
+    proto_steps::tie(
         &walker.store,
         &walker.declarations,
         &mut walker.scope,
         &walker.links,
-        fields::place(owner),
+        proto_steps::place(owner),
         joined,
         name,
     )
@@ -295,7 +297,7 @@ pub fn put_joined<'a>(
         result walker.new }
 {
     hand_over(alloc, walker, opened.owner, field, joined)?;
-    Ok(Task::Items(steps::with_field(opened, line, joined.number, joined.value)?))
+    Ok(Task::Items(with_field(opened, line, joined.number, joined.value)?))
 }
 
 /// IS: the field has what the instance gives, if it gives something.

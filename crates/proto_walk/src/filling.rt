@@ -1,15 +1,15 @@
 //! The default values of an instance, in the scope of its body.
 
 ghost use Rattle.std.specs.Prelude.{◌≡◌, ◌≤◌, [], length};
-ghost use Rattle.proto_walk.specs.Machine.{and_then};
-ghost use Rattle.proto_walk.specs.Meaning as spec;
-ghost use Rattle.proto_walk.specs.Meaning.{node_does};
+ghost use Rattle.proto_steps.specs.Held.{bound_of, in_sight, owner_in, place_of};
+ghost use Rattle.proto_steps.specs.Machine.{and_then};
+ghost use Rattle.proto_steps.specs.Meaning as spec;
+ghost use Rattle.proto_steps.specs.Meaning.{node_does};
 ghost use Rattle.proto_walk.specs.Frames as does;
-ghost use Rattle.proto_walk.specs.Frames.{Holds, Keeps, in_sight, owner_in, shown};
+ghost use Rattle.proto_walk.specs.Frames.{Holds, Keeps, shown};
 
 use crate::between::put_taken;
 use crate::frames::{Body, Filling, Open, Task, Walker};
-use crate::{fields, steps};
 use classic_tree::{Declaration, Given, NodeText, ProtoText};
 use flat_document::{ExpandFault, ExpandFaultKind};
 use std::alloc::Global;
@@ -27,7 +27,7 @@ pub fn open_defaults<'a>(
     requires holds { Holds walker.old }
     requires sees { opened.sight ≤ length walker.old.links }
     ensures { Keeps (spec.close_instance opened.entry.name.now (owner_in opened.entry.owner).at
-        (does.bound_of proto.now within
+        (bound_of proto.now within
         (in_sight walker.old.links opened.entry.sight)) opened.entry.fields
         (shown walker.old)) walker.old result walker.new }
 {
@@ -40,8 +40,8 @@ pub fn open_defaults<'a>(
         fields,
         ..
     } = opened;
-    let inside = fields::body_of(&walker.declarations, within, &proto.name);
-    let inner = steps::empty_scope(alloc, sight, inside);
+    let inside = proto_fields::body_of(&walker.declarations, within, &proto.name);
+    let inner = proto_steps::empty_scope(alloc, sight, inside);
     let outer = mem::replace(&mut walker.scope, inner);
     Ok(Task::Items(Open {
         line,
@@ -95,15 +95,15 @@ fn put_default<'a>(
     requires holds { Holds walker.old }
     requires sees { opened.sight ≤ length walker.old.links }
     ensures { Keeps (and_then (spec.add_default node_does
-        (does.place_of proto.now within) number declaration.now opened.entry.fields
+        (place_of proto.now within) number declaration.now opened.entry.fields
         (shown walker.old)) (does.open_does
         (in_sight walker.old.links opened.entry.sight) opened.entry)) walker.old
         result walker.new }
 {
-    if fields::is_wanted(
+    if proto_fields::is_wanted(
         &walker.declarations,
-        proto,
         within,
+        &proto.name,
         number,
         &declaration.name,
         opened.fields.as_slice(),
@@ -141,7 +141,7 @@ fn start_body<'a>(
     Ok(Task::Statements(Body {
         line: proto.line,
         name,
-        at: fields::place(owner),
+        at: proto_steps::place(owner),
         rest: proto.body.as_slice(),
         first: None,
         outer,

@@ -1,50 +1,11 @@
-//! What is in sight, and what is still to be done, on the heap.
+//! What is still to be done, on the heap.
 
-use crate::held::{GivenField, Store};
 use classic_tree::{BodyItem, Declaration, NodeText, ProtoText, Statement};
-use indexmap::IndexMap;
 use proto_declarations::Declarations;
-use proto_ends::Tie;
+use proto_fields::GivenField;
 use proto_links::Links;
+use proto_steps::{Owner, Scope, Store};
 use x3d_lists::{Items, Text};
-use x3d_values::NodeType;
-
-/// A finished node, and where its word DEF stood among all nodes and instances begun.
-#[derive(Clone, Copy, Debug)]
-pub struct Named {
-    pub at: usize,
-    pub node: u32,
-}
-
-/// A node or an instance whose DEF was met: its place, and the interface of an instance.
-#[derive(Clone, Copy)]
-pub struct BegunNode<'a> {
-    pub at: usize,
-    pub interface: Option<&'a [Declaration<NodeText>]>,
-}
-
-/// What is in sight: the names of finished nodes, those of all nodes and instances whose DEF was
-/// met, and in a body what the instance gives, the interface, the ISs so far, and the number of the
-/// body. `sight` counts links as in `Link`.
-#[derive(Drop)]
-pub struct Scope<'a> {
-    pub names: IndexMap<&'a str, Named>,
-    pub defs: IndexMap<&'a str, BegunNode<'a>>,
-    pub sight: usize,
-    pub given: Items<GivenField>,
-    pub interface: &'a [Declaration<NodeText>],
-    pub ties: Items<Tie>,
-    pub inside: Option<usize>,
-}
-
-/// Whose braces are open, and its place among all nodes and instances begun.
-#[derive(Clone, Copy)]
-pub enum Owner<'a> {
-    /// The type, and all that stands between the braces.
-    Node(NodeType, &'a [BodyItem], usize),
-    /// The prototype of an instance, and the body that it is declared in.
-    Instance(&'a ProtoText, Option<usize>, usize),
-}
 
 /// The default values of an instance, which are put in before its body: its prototype, the body
 /// that this is declared in, the declarations that are left, and what was in sight where the

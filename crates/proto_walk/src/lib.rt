@@ -3,14 +3,13 @@
 #![tactic(auto)]
 
 mod between;
-mod fields;
+mod bodies;
+mod entering;
 mod filling;
 mod frames;
-mod held;
-mod routes;
+mod items;
+mod met;
 mod scripts;
-mod stands;
-mod steps;
 mod walk;
 mod whole;
 

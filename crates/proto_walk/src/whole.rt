@@ -3,23 +3,26 @@
 ghost use Rattle.std.specs.Prelude.{◌≡◌, [], slice_get, IfOk, None};
 ghost use Rattle.x3d_lists.specs.Answers.{Gives};
 ghost use Rattle.flat_document.specs.Fault.{memory};
-ghost use Rattle.proto_walk.specs.Machine.{and_then, pure, through};
-ghost use Rattle.proto_walk.specs.Routes.{wire};
-ghost use Rattle.proto_walk.specs.Meaning.{statement_does};
+ghost use Rattle.proto_steps.specs.Machine.{and_then, pure, through};
+ghost use Rattle.proto_steps.specs.Routes.{wire};
+ghost use Rattle.proto_steps.specs.Meaning.{statement_does};
 ghost use Rattle.proto_walk.specs.Whole as spec;
 ghost use Rattle.proto_walk.specs.Whole.{flat, nothing};
 ghost use Rattle.proto_walk.specs.Frames.{Holds, Ends, shown};
 
 use crate::frames::Walker;
-use crate::held::{PlacedNode, Store};
-use crate::{steps, walk};
+use crate::{met, walk};
 use classic_tree::{Document, RouteText, Statement};
 use flat_document::{ExpandFault, ExpandFaultKind, Flat, FlatNode, Header};
 use proto_declarations::Declarations;
 use proto_ends::routes_of;
 use proto_links::Links;
+use proto_steps::{PlacedNode, Store};
 use std::alloc::{AllocError, Global};
 use x3d_lists::{Duplicate, Items, Text};
+
+/// The most fields that the interfaces of instances have, over all instances.
+const MAX_INTERFACE_FIELDS: usize = 8_388_608;
 
 /// The most items that the values of a document may have.
 const MAX_ITEMS: usize = 8_388_608;
@@ -38,12 +41,12 @@ fn put_route<'a>(
     ensures { Ends (and_then (wire route.now (shown walker.old)) (λ _. pure None)) result
         walker.new }
 {
-    walk::meet_route(alloc, walker, route)?;
+    met::meet_route(alloc, walker, route)?;
     Ok(None)
 }
 
 /// Puts a statement in that declares nothing wrong. A node gives its number.
-#[tactic(auto, using(crate::proofs::Equations::tree_does))]
+#[tactic(auto, using(proto_steps::proofs::Equations::tree_does))]
 fn put_checked<'a>(
     alloc: Global,
     walker: &mut Walker<'a>,
@@ -60,7 +63,7 @@ fn put_checked<'a>(
         }
         Statement::Route(route) => put_route(alloc, walker, route),
         Statement::Proto(proto) => {
-            walk::declare(alloc, walker, proto)?;
+            met::declare(alloc, walker, proto)?;
             Ok(None)
         }
     }
@@ -127,12 +130,13 @@ fn empty_walker<'a>(alloc: Global) -> Walker<'a>
             wires: Items::new(alloc),
             begun_nodes: 0,
             begun_instances: 0,
+            interface_room: MAX_INTERFACE_FIELDS,
             room: MAX_ITEMS,
             joined_room: MAX_JOINED,
         },
         declarations: Declarations::new(alloc),
         links: Links::new(alloc),
-        scope: steps::empty_scope(alloc, 0, None),
+        scope: proto_steps::empty_scope(alloc, 0, None),
         frames: Vec::new(alloc),
     }
 }

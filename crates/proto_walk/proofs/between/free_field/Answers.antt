@@ -1,6 +1,6 @@
 use Rattle.std.proofs.Common.{◌≡◌, rules, sym, ◌∙◌, true, false, None, Some}
-use Rattle.proto_walk.specs.Meaning.{admits, known}
-use Rattle.proto_walk.specs.Frames.{owner_in}
+use Rattle.proto_fields.specs.Owners.{admits, known}
+use Rattle.proto_steps.specs.Held.{owner_in}
 use Rattle.proto_walk.proofs.Refusals.{value-unknown, value-refused, value-twice, value-free}
 use Rattle.proto_walk.proofs.between.free_field.Goals as goal
 

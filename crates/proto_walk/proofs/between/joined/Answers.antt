@@ -1,8 +1,9 @@
 use Rattle.std.proofs.Common.{◌≡◌, rules, sym, ◌∙◌, ap, true, false, None, Some}
-use Rattle.proto_walk.specs.Fields.{signatures, of_interface, fits}
-use Rattle.proto_walk.specs.Meaning.{add_joined}
-use Rattle.proto_walk.specs.Meaning.{known, value_of}
-use Rattle.proto_walk.specs.Frames.{owner_in, shown}
+use Rattle.proto_fields.specs.Fields.{signatures, of_interface, fits}
+use Rattle.proto_steps.specs.Meaning.{add_joined}
+use Rattle.proto_fields.specs.Owners.{known, value_of}
+use Rattle.proto_steps.specs.Held.{owner_in}
+use Rattle.proto_walk.specs.Frames.{shown}
 use Rattle.proto_walk.proofs.Refusals.{is-unknown, is-unbound, is-unfit, is-twice, is-joined}
 use Rattle.proto_walk.proofs.between.joined.Goals as goal
 

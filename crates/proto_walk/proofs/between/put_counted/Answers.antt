@@ -1,7 +1,8 @@
 use Rattle.std.proofs.Common.{arith, ◌∙◌, ap, refl}
-use Rattle.proto_walk.specs.Machine.{and_then}
-use Rattle.proto_walk.specs.Meaning.{numbered, node_does}
-use Rattle.proto_walk.specs.Frames.{in_sight, shown, frame_does, task_does, list_does, value_does}
+use Rattle.proto_steps.specs.Machine.{and_then}
+use Rattle.proto_steps.specs.Meaning.{numbered, node_does}
+use Rattle.proto_steps.specs.Held.{in_sight}
+use Rattle.proto_walk.specs.Frames.{shown, frame_does, task_does, list_does, value_does}
 use Rattle.proto_walk.proofs.Moves.{value-node, value-nodes, stays, pushes}
 use Rattle.proto_walk.proofs.between.put_counted.Goals as goal
 

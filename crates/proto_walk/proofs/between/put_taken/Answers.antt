@@ -1,5 +1,6 @@
 use Rattle.std.proofs.Common.{refl}
-use Rattle.proto_walk.specs.Frames.{in_sight, shown}
+use Rattle.proto_steps.specs.Held.{in_sight}
+use Rattle.proto_walk.specs.Frames.{shown}
 use Rattle.proto_walk.proofs.Moves.{keeps-from, add-new}
 use Rattle.proto_walk.proofs.between.put_taken.Goals as goal
 

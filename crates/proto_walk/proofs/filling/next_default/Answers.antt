@@ -1,5 +1,6 @@
 use Rattle.std.proofs.Common.{sym, ◌∙◌, refl}
-use Rattle.proto_walk.specs.Frames.{in_sight, shown, task_does}
+use Rattle.proto_steps.specs.Held.{in_sight}
+use Rattle.proto_walk.specs.Frames.{shown, task_does}
 use Rattle.proto_walk.proofs.Moves.{stays, unfilled}
 use Rattle.proto_walk.proofs.filling.next_default.Goals as goal
 

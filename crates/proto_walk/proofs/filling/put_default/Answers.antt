@@ -1,6 +1,7 @@
 use Rattle.std.proofs.Common.{◌≡◌, ap, sym, ◌∙◌, true, false}
-use Rattle.proto_walk.specs.Meaning.{is_wanted}
-use Rattle.proto_walk.specs.Frames.{place_of, in_sight, shown, open_does, task_does}
+use Rattle.proto_fields.specs.Owners.{is_wanted}
+use Rattle.proto_steps.specs.Held.{place_of, in_sight}
+use Rattle.proto_walk.specs.Frames.{shown, open_does, task_does}
 use Rattle.std.proofs.Common.{refl}
 use Rattle.proto_walk.proofs.Moves.{stays, keeps-as, default-wanted, default-left}
 use Rattle.proto_walk.proofs.filling.put_default.Goals as goal

@@ -1,7 +1,9 @@
 use Rattle.std.proofs.Common.{rules, ◌≡◌, Err, sym, ◌∙◌, ap}
-use Rattle.proto_walk.specs.Fields.{signature, of_signature}
-use Rattle.proto_walk.specs.Meaning.{add_joined, joined_by, value_of}
-use Rattle.proto_walk.specs.Frames.{owner_in, shown}
+use Rattle.proto_fields.specs.Fields.{signature, of_signature}
+use Rattle.proto_steps.specs.Meaning.{add_joined, joined_by}
+use Rattle.proto_fields.specs.Owners.{value_of}
+use Rattle.proto_steps.specs.Held.{owner_in}
+use Rattle.proto_walk.specs.Frames.{shown}
 use Rattle.proto_walk.proofs.Refusals.{declared-fit, declared-refused}
 use Rattle.proto_walk.proofs.scripts.declared_joined.Goals as goal
 

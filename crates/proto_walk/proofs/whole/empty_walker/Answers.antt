@@ -1,5 +1,6 @@
 use Rattle.std.proofs.Common.{rules, arith}
-use Rattle.proto_walk.specs.Frames.{seen, AllSee, AreLinked}
+use Rattle.proto_steps.specs.Held.{seen, AreLinked}
+use Rattle.proto_walk.specs.Frames.{AllSee}
 use Rattle.proto_walk.proofs.whole.empty_walker.Goals as goal
 
 pub returns-clause-nothing : goal.returns-clause-nothing

@@ -1,6 +1,6 @@
 use Rattle.std.proofs.Common.{◌≡◌, drop, []}
 use Rattle.proto_walk.specs.Frames.{Holds, shown}
-use Rattle.proto_walk.specs.Machine.{through}
+use Rattle.proto_steps.specs.Machine.{through}
 use Rattle.proto_walk.specs.Whole.{at_top}
 use Rattle.proto_walk.proofs.whole.put_roots.Given as goal
 

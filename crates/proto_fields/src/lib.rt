@@ -1,0 +1,15 @@
+//! Fields by name, what was given at them, and whether that goes anywhere (ISO/IEC 19775-1, PROTO
+//! interface and IS).
+#![tactic(auto)]
+
+mod aliases;
+mod fields;
+mod given;
+mod taken;
+mod values;
+
+pub use aliases::{source_field, target_field};
+pub use fields::{field_of_interface, field_of_type, first_twice, fits, same};
+pub use given::{GivenField, Joined, KnownField, has_field, value_of};
+pub use taken::{body_of, is_passed_on, is_wanted};
+pub use values::{flat_fields, item_count, plain};

@@ -1,0 +1,4 @@
+pub mod Declared
+pub mod Equations
+pub mod Refusals
+pub mod Sights

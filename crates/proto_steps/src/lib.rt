@@ -1,0 +1,19 @@
+//! The single steps by which prototypes are put in: what was put in, what is in sight, and what
+//! each part of a tree does to them (ISO/IEC 19775-1, PROTO statement and run-time name scope).
+#![tactic(auto)]
+
+mod held;
+mod names;
+mod owners;
+mod routes;
+mod scripts;
+mod stands;
+mod steps;
+
+pub use held::{BegunNode, Named, Owner, PlacedNode, Scope, Store};
+pub use names::{know, label, lookup, meet, use_node};
+pub use owners::{admits, is_taken, known_field, place};
+pub use routes::{keep_name, wire};
+pub use scripts::declared_number;
+pub use stands::{join, stand, tie};
+pub use steps::{begin, begin_node, count_again, count_items, empty_scope, help, keep, put};

@@ -1,0 +1,184 @@
+//! The fields that a Script declares between its braces.
+
+ghost use Rattle.std.specs.Prelude.{◌≡◌, ◌≤◌, ◌++◌, ◌∷◌, [], IfOk, length, map};
+ghost use Rattle.proto_fields.specs.Fields as fields_spec;
+ghost use Rattle.proto_fields.specs.Fields.{own_interface, signature};
+ghost use Rattle.proto_steps.specs.Closing as closing;
+ghost use Rattle.proto_steps.specs.Held.{IsPlaced, owner_in};
+ghost use Rattle.proto_steps.specs.Meaning as spec;
+ghost use Rattle.proto_steps.specs.Meaning.{declared_in};
+
+use crate::held::Owner;
+use crate::owners;
+use classic_tree::{BodyItem, Declaration, Given, NodeText};
+use flat_document::{ExpandFault, ExpandFaultKind};
+use proto_fields::{GivenField, KnownField, has_field, same};
+use std::alloc::{AllocError, Global};
+use x3d_lists::{Duplicate, Items, Text};
+use x3d_values::NodeType;
+
+/// How many fields a Script has before those that it declares.
+const SCRIPT_FIELDS: usize = 4;
+
+/// The most fields that a node may have.
+const MAX_FIELDS: usize = 65_536;
+
+/// How many fields the item declares.
+#[tactic(auto, using(crate::proofs::Equations::tree_does))]
+fn declared_count(item: &BodyItem) -> usize
+    ensures count { result ≡ length (spec.item_declares item.now) }
+    ensures few { result ≤ 1 }
+{
+    match item {
+        BodyItem::Declaration(_declaration) => 1,
+        BodyItem::Field(_line, _name, _given) => 0,
+        BodyItem::Route(_route) => 0,
+        BodyItem::Proto(_proto) => 0,
+    }
+}
+
+/// The field of that number, if the declaration has the name.
+fn named(declaration: &Declaration<NodeText>, name: &Text, number: usize) -> Option<KnownField>
+    ensures { result ≡ fields_spec.numbered_from number name.now (signature declaration.now ∷ []) }
+{
+    if !same(&declaration.name, name) {
+        return None;
+    }
+    Some(KnownField {
+        number,
+        access: declaration.access,
+        field_type: declaration.field_type,
+    })
+}
+
+/// The field of that number, if the item declares the name.
+#[tactic(auto, using(crate::proofs::Equations::tree_does))]
+fn declared_here(item: &BodyItem, name: &Text, number: usize) -> Option<KnownField>
+    ensures { result ≡ fields_spec.numbered_from number name.now (spec.item_declares item.now) }
+{
+    match item {
+        BodyItem::Declaration(declaration) => named(declaration, name, number),
+        BodyItem::Field(_line, _name, _given) => None,
+        BodyItem::Route(_route) => None,
+        BodyItem::Proto(_proto) => None,
+    }
+}
+
+/// The first declaration of that name, numbered behind the other fields of a Script.
+fn find_declared(items: &[BodyItem], name: &Text) -> Option<KnownField>
+    ensures { result ≡ fields_spec.numbered_from 4 name.now (declared_in items.now) }
+{
+    let mut number = SCRIPT_FIELDS;
+    for item in items {
+        if let Some(field) = declared_here(item, name, number) {
+            return Some(field);
+        }
+        number += declared_count(item);
+    }
+    None
+}
+
+/// The field of that name that is declared between these braces.
+pub fn declared_field(owner: Owner<'_>, name: &Text) -> Option<KnownField>
+    ensures { result ≡ (owner_in owner.entry).declares name.now }
+{
+    match owner {
+        Owner::Node(NodeType::Script, items, _at) => find_declared(items, name),
+        _ => None,
+    }
+}
+
+/// A field of an interface, without its value.
+fn declared(
+    alloc: Global,
+    declaration: &Declaration<NodeText>,
+) -> Result<Declaration<u32>, AllocError>
+    ensures { IfOk result (λ d. d ≡ closing.declared (signature declaration.now)) }
+{
+    Ok(Declaration {
+        line: declaration.line,
+        access: declaration.access,
+        field_type: declaration.field_type,
+        name: declaration.name.duplicate(alloc)?,
+        given: Given::Nothing,
+    })
+}
+
+fn push_declared(
+    alloc: Global,
+    declaration: &Declaration<NodeText>,
+    all: Items<Declaration<u32>>,
+) -> Result<Items<Declaration<u32>>, AllocError>
+    ensures { IfOk result (λ ds. ds ≡ all ++ closing.declared (signature declaration.now) ∷ []) }
+{
+    let mut all = all;
+    all.push(declared(alloc, declaration)?)?;
+    Ok(all)
+}
+
+/// What the item declares, behind what was declared before.
+#[tactic(auto, using(crate::proofs::Equations::tree_does))]
+fn with_declared(
+    alloc: Global,
+    item: &BodyItem,
+    all: Items<Declaration<u32>>,
+) -> Result<Items<Declaration<u32>>, AllocError>
+    ensures { IfOk result (λ ds. ds ≡ all ++ map closing.declared (spec.item_declares item.now)) }
+{
+    match item {
+        BodyItem::Declaration(declaration) => push_declared(alloc, declaration, all),
+        BodyItem::Field(_line, _name, _given) => Ok(all),
+        BodyItem::Route(_route) => Ok(all),
+        BodyItem::Proto(_proto) => Ok(all),
+    }
+}
+
+/// All that is declared between these braces.
+fn all_declared(alloc: Global, items: &[BodyItem]) -> Result<Items<Declaration<u32>>, AllocError>
+    ensures { IfOk result (λ ds. ds ≡ map closing.declared (declared_in items.now)) }
+{
+    let mut all = Items::new(alloc);
+    for item in items {
+        all = with_declared(alloc, item, all)?;
+    }
+    Ok(all)
+}
+
+/// The interface of a Script; no other node has one.
+pub fn interface_of(
+    alloc: Global,
+    node_type: NodeType,
+    items: &[BodyItem],
+) -> Result<Items<Declaration<u32>>, AllocError>
+    ensures { IfOk result (λ ds. ds ≡ map closing.declared
+        (own_interface node_type (declared_in items.now))) }
+{
+    if node_type == NodeType::Script {
+        return all_declared(alloc, items);
+    }
+    Ok(Items::new(alloc))
+}
+
+/// The number of a declared field, if its name is new.
+pub fn declared_number(
+    owner: Owner<'_>,
+    fields: &[GivenField],
+    line: u32,
+    name: &Text,
+) -> Result<usize, ExpandFault>
+    ensures { IsPlaced (owner_in owner.entry) fields.now line name.now result }
+{
+    if let Some(_own) = owners::own_field(owner, name) {
+        return Err(ExpandFaultKind::FieldTwice.on_line(line));
+    }
+    let Some(field) = declared_field(owner, name) else {
+        return Err(ExpandFaultKind::UnknownField.on_line(line));
+    };
+    if has_field(field.number, fields) {
+        return Err(ExpandFaultKind::FieldTwice.on_line(line));
+    }
+    if field.number >= MAX_FIELDS {
+        return Err(ExpandFaultKind::TooLarge.on_line(0));
+    }
+    Ok(field.number)
+}

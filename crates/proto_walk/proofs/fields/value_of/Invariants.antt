@@ -1,6 +1,0 @@
-use Rattle.std.proofs.Common.{◌≡◌, drop}
-use Rattle.proto_walk.specs.Meaning.{value_of}
-use Rattle.proto_walk.proofs.fields.value_of.Given as goal
-
-abbrev pub invariant-loop-field : goal.invariant-loop-field
-invariant-loop-field l = value_of l.number l.fields ≡ value_of l.number (drop l.field-index l.fields)

@@ -1,0 +1,9 @@
+use Rattle.std.proofs.Common.{rules, arith, refl}
+use Rattle.proto_steps.specs.Meaning.{close_node}
+use Rattle.proto_walk.specs.Frames.{task_does}
+use Rattle.proto_walk.proofs.Moves.{stays}
+use Rattle.proto_walk.proofs.items.close_node.Goals as goal
+
+pub returns : goal.returns
+unfolding close_node task_does
+returns c = stays c.requires.holds refl refl (rw c.in_ok-number-2.ensures.sight c.requires.holds.scope) (omega arith) (search rules)

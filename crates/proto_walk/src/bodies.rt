@@ -1,0 +1,175 @@
+//! The bodies of prototypes, statement by statement.
+
+ghost use Rattle.std.specs.Prelude.{◌≡◌, ◌≤◌, [], length};
+ghost use Rattle.proto_steps.specs.Held.{in_sight};
+ghost use Rattle.proto_steps.specs.Machine.{and_then};
+ghost use Rattle.proto_steps.specs.Meaning as spec;
+ghost use Rattle.proto_steps.specs.Routes.{wire};
+ghost use Rattle.proto_walk.specs.Frames as does;
+ghost use Rattle.proto_walk.specs.Frames.{Holds, Keeps, shown};
+
+use crate::frames::{Body, Frame, Task, Walker};
+use crate::met::{declare, meet_route};
+use classic_tree::{RouteText, Statement};
+use flat_document::{ExpandFault, ExpandFaultKind};
+use proto_ends::{Spot, Stand};
+use std::alloc::Global;
+use x3d_lists::{Items, Text};
+
+/// A body is done: what was in sight outside is in sight again.
+#[tactic(auto, unfolding(crate::specs::Frames::body_does, crate::specs::Frames::task_does))]
+fn leave<'a>(
+    alloc: Global,
+    walker: &mut Walker<'a>,
+    body: Body<'a>,
+) -> Result<Task<'a>, ExpandFault>
+    requires holds { Holds walker.old }
+    requires sees { body.outer.sight ≤ length walker.old.links }
+    requires done { body.rest.now ≡ [] }
+    ensures { Keeps (does.body_does
+        (in_sight walker.old.links body.entry.outer.sight) body.entry body.entry.first
+        (shown walker.old)) walker.old result walker.new }
+{
+    let Body {
+        line,
+        name,
+        at,
+        first,
+        outer,
+        ..
+    } = body;
+    let Some(number) = first else {
+        return Err(ExpandFaultKind::EmptyBody.on_line(line));
+    };
+    let inlets = proto_steps::join(
+        alloc,
+        &mut walker.store,
+        &walker.declarations,
+        &walker.scope,
+        &walker.links,
+    )?;
+    walker.scope = outer;
+    stand_in(alloc, walker, name, at, number, inlets)
+}
+
+/// The first node of a body stands for the instance.
+#[tactic(auto, unfolding(crate::specs::Frames::task_does))]
+fn stand_in<'a>(
+    alloc: Global,
+    walker: &mut Walker<'a>,
+    name: &'a Option<Text>,
+    at: usize,
+    number: u32,
+    inlets: Items<Items<Spot>>,
+) -> Result<Task<'a>, ExpandFault>
+    requires { Holds walker.old }
+    ensures { Keeps (spec.stand_in name.now at (record { node = number; inlets = inlets })
+        (shown walker.old)) walker.old result walker.new }
+{
+    proto_steps::stand(
+        &mut walker.store,
+        &walker.declarations,
+        &walker.scope,
+        &walker.links,
+        at,
+        Stand::Instance(inlets),
+    )?;
+    let number = proto_steps::label(
+        alloc,
+        &mut walker.store,
+        &walker.declarations,
+        &walker.scope,
+        &walker.links,
+        name,
+        number,
+    )?;
+    let number = proto_steps::know(
+        &walker.store,
+        &walker.declarations,
+        &mut walker.scope,
+        &walker.links,
+        name,
+        at,
+        number,
+    )?;
+    Ok(Task::Number(number))
+}
+
+/// A ROUTE of a body.
+#[tactic(auto, unfolding(crate::specs::Frames::task_does))]
+fn next_route<'a>(
+    alloc: Global,
+    walker: &mut Walker<'a>,
+    body: Body<'a>,
+    route: &RouteText,
+) -> Result<Task<'a>, ExpandFault>
+    requires holds { Holds walker.old }
+    requires sees { body.outer.sight ≤ length walker.old.links }
+    ensures { Keeps (and_then (wire route.now (shown walker.old)) (λ _. does.body_does
+        (in_sight walker.old.links body.entry.outer.sight) body.entry body.entry.first))
+        walker.old result walker.new }
+{
+    meet_route(alloc, walker, route)?;
+    Ok(Task::Statements(body))
+}
+
+#[tactic(auto, using(proto_steps::proofs::Equations::tree_does), unfolding(crate::specs::Frames::body_does))]
+pub fn next_statement<'a>(
+    alloc: Global,
+    walker: &mut Walker<'a>,
+    body: Body<'a>,
+) -> Result<Task<'a>, ExpandFault>
+    requires holds { Holds walker.old }
+    requires sees { body.outer.sight ≤ length walker.old.links }
+    ensures { Keeps (does.body_does
+        (in_sight walker.old.links body.entry.outer.sight) body.entry body.entry.first
+        (shown walker.old)) walker.old result walker.new }
+{
+    let Some((statement, rest)) = body.rest.split_first() else {
+        return leave(alloc, walker, body);
+    };
+    let mut body = body;
+    body.rest = rest;
+    match statement {
+        Statement::Node(node) => {
+            walker.frames.push(Frame::Inside(body))?;
+            Ok(Task::Node(node))
+        }
+        Statement::Route(route) => next_route(alloc, walker, body, route),
+        Statement::Proto(proto) => {
+            declare(alloc, walker, proto)?;
+            Ok(Task::Statements(body))
+        }
+    }
+}
+
+/// The body has the node: its first stands for the instance, the others are helpers.
+#[tactic(auto, unfolding(crate::specs::Frames::frame_does, crate::specs::Frames::task_does))]
+pub fn hold<'a>(
+    walker: &mut Walker<'a>,
+    body: Body<'a>,
+    number: u32,
+) -> Result<Task<'a>, ExpandFault>
+    requires holds { Holds walker.old }
+    requires sees { body.outer.sight ≤ length walker.old.links }
+    ensures { Keeps (does.frame_does (in_sight walker.old.links body.entry.outer.sight)
+        (Frame.Inside body.entry) number (shown walker.old)) walker.old result walker.new }
+{
+    match body.first {
+        None => {
+            let mut body = body;
+            body.first = Some(number);
+            Ok(Task::Statements(body))
+        }
+        Some(_first) => {
+            proto_steps::help(
+                &mut walker.store,
+                &walker.declarations,
+                &walker.scope,
+                &walker.links,
+                number,
+            )?;
+            Ok(Task::Statements(body))
+        }
+    }
+}
