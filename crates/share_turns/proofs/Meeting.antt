@@ -1,9 +1,9 @@
 -- Rounds, one after another.
 use Rattle.std.proofs.Common.{◌≡◌, ℕ, suc, ◌+◌, ◌<◌, Bool, false, List, ap, sym, ◌∙◌, subst, arith}
-use Rattle.std.specs.Prelude.{◌==◌, ◌&&◌, length, Option, None, slice_get, if◌then◌else◌}
+use Rattle.std.specs.Prelude.{◌==◌, ◌&&◌, ◌||◌, length, Option, None, Ok, slice_get, if◌then◌else◌}
 use Rattle.x3d_values.specs.Stamp.{Stamp}
 use Rattle.share_turns.specs.declared.fault.TurnFault.{TurnFault}
-use Rattle.share_turns.specs.Agreeing.{AreCut, IsRoundEnd, IsRoundOf, Meeting, Rounds, Ways, due, is_over, is_settled}
+use Rattle.share_turns.specs.Agreeing.{AreCut, IsRoundEnd, IsRoundOf, IsSeatTurn, Meeting, Rounds, SeatTurns, Seats, Ways, due, is_over, is_settled}
 use Rattle.share_turns.specs.Views.{one_more_if}
 
 -- the step that a round was made with is the one that is due
@@ -15,6 +15,12 @@ due_is steps issued m settled step is e = e ∙ ap (λ (s : Bool). if s then sli
 pub goes_on : {P : Type 0} (steps : List Stamp) (issued : ℕ) (m : Meeting P) (settled over : Bool)
     → settled ≡ is_settled issued m → over ≡ (settled && (issued == length steps)) → over ≡ false → is_over steps issued m ≡ false
 goes_on steps issued m settled over is e ended = sym (e ∙ ap (λ (s : Bool). s && (issued == length steps)) is) ∙ ended
+
+pub one_more_seat : {P : Type 0} (ways : Ways P) (step : Option Stamp) (host n : ℕ) (old mid new : Seats P) (before did offered : Bool)
+    → SeatTurns ways step host n old before mid → IsSeatTurn ways step host n mid (Ok did) new → offered ≡ (before || did) → SeatTurns ways step host (n + 1) old offered new
+one_more_seat ways step host n old mid new before did offered turns turn is =
+    let next : suc n ≡ n + 1 = omega arith in
+    subst (λ k. SeatTurns ways step host k old offered new) next (mid, before, did, turns, turn, is)
 
 pub one_more_round : {P : Type 0} (ways : Ways P) (mark host_mark : List ℕ) (steps : List Stamp) (own n : ℕ) (old mid new : Meeting P) (before issued : ℕ)
     (did settled : Bool) (step : Option Stamp)

@@ -3,11 +3,20 @@ use Rattle.std.specs.Prelude.{Ok, Err}
 use Rattle.share_port.specs.declared.traffic.Datagram.{Datagram}
 use Rattle.share_port.specs.declared.traffic.Traffic.TheVariants.{Nothing}
 use Rattle.share_turns.specs.declared.fault.TurnFault.TheVariants.{Port}
+use Rattle.share_turns.proofs.Sending.{grows_none}
 use Rattle.share_turns.proofs.Turning.{turn_cut, turn_end, turned_begun, turned_more}
 use Rattle.share_turns.proofs.host.host_turn.Goals as goal
 
 pub loop-turn-init : goal.loop-turn-init
 loop-turn-init g c = (turned_begun c.args.host.now.mark c.args.clock (g.P.Port.told c.args.port.now) c.args.host.now.host c.number_clock.new.host.host c.in_ok-number_clock.ensures.step, c.in_ok-number_clock.ensures.mark, refl)
+
+pub returns-in_err-number_clock-clause-turn : goal.returns-in_err-number_clock-clause-turn
+returns-in_err-number_clock-clause-turn g c =
+    let failed : c.from_residual.result ≡ Err c.in_err-number_clock.field-0.0 = search rules in
+    let told = g.P.Port.told c.args.port.now in
+    rw failed (turn_end (Err c.in_err-number_clock.field-0.0) c.args.host.now.mark c.args.clock told told told
+    c.args.host.now.host c.number_clock.new.host.host 0 [] (turned_begun c.args.host.now.mark c.args.clock told c.args.host.now.host c.number_clock.new.host.host c.in_err-number_clock.ensures.step)
+    (omega arith) refl (grows_none told))
 
 pub returns-in_err-from-clause-turn : goal.returns-in_err-from-clause-turn
 returns-in_err-from-clause-turn g c =
