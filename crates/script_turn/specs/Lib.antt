@@ -1,0 +1,3 @@
+pub mod Acting
+pub mod Ports
+pub mod Values
