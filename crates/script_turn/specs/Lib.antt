@@ -1,3 +1,4 @@
 pub mod Acting
+pub mod Laws
 pub mod Ports
 pub mod Values

@@ -6,9 +6,11 @@
 #![tactic(auto)]
 
 mod acting;
+mod laws;
 mod ports;
 mod values;
 
 pub use acting::{initialize, receive, settle};
+pub use laws::{kinds_law, values_law};
 pub use ports::{MAX_PORTS, Ports};
 pub use values::{numbers_of, value_of};
