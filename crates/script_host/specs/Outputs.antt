@@ -1,5 +1,5 @@
 -- From which outputs scripts send.
-use Rattle.std.specs.Prelude.{ℕ, ℤ, List, Bool, IsTrue, length, nat_lt}
+use Rattle.std.specs.Prelude.{ℤ, List, Bool, IsTrue, length, nat_lt}
 use Rattle.std.specs.List.{list_all}
 use Rattle.x3d_values.specs.declared.script.Kind.{Kind}
 use Rattle.script_host.specs.Behaviour.{behave, Call}

@@ -1,6 +1,6 @@
 //! The kinds of scripts by their words, and the fields that the Script of each declares.
 
-ghost use Rattle.std.specs.Prelude.{◌≡◌, map};
+ghost use Rattle.std.specs.Prelude.{◌≡◌, ◌≤◌, length, map};
 ghost use Rattle.x3d_values.specs.Tables.{entry};
 ghost use Rattle.script_host.specs.Interface.{first_kind, inputs as inputs_of, interface as interface_of, kind_named, kind_word, outputs as outputs_of};
 
@@ -143,7 +143,8 @@ pub fn interface(kind: Kind) -> &'static [Field]
 
 /// The inputs of a kind by their numbers.
 pub fn inputs(kind: Kind) -> &'static [Field]
-    ensures { map entry result.now ≡ inputs_of kind }
+    ensures are { map entry result.now ≡ inputs_of kind }
+    ensures few { length result.now ≤ 2 }
 {
     match kind {
         Kind::Counter => &COUNTER[..1],
@@ -157,7 +158,8 @@ pub fn inputs(kind: Kind) -> &'static [Field]
 
 /// The outputs of a kind by their numbers.
 pub fn outputs(kind: Kind) -> &'static [Field]
-    ensures { map entry result.now ≡ outputs_of kind }
+    ensures are { map entry result.now ≡ outputs_of kind }
+    ensures few { length result.now ≤ 2 }
 {
     match kind {
         Kind::Counter => &COUNTER[3..],

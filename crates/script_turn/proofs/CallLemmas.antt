@@ -5,9 +5,9 @@ use Rattle.x3d_values.specs.declared.value.Value.TheVariants.{SFBool, SFInt32, S
 use Rattle.script_host.specs.Behaviour.{Call}
 use Rattle.script_host.specs.Hosting.{ScriptRecord, after_call}
 use Rattle.script_host.specs.States.{integer_fits}
-use Rattle.script_turn.specs.declared.ports.Ports.{Ports}
 use Rattle.script_turn.specs.Acting.{act, acting, kinds_of}
 use Rattle.script_turn.specs.Laws.{KindsStand, ValuesReturn}
+use Rattle.script_turn.specs.Ports.{Wiring}
 use Rattle.script_turn.specs.Values.{as_integer}
 
 -- a script is put in the place of one of its kind
@@ -17,7 +17,7 @@ kinds-set [] k r after here same = refl
 kinds-set (x ∷ scripts) zero r after here same = cc
 kinds-set (x ∷ scripts) (suc k) r after here same = ap (λ kinds. x.kind ∷ kinds) (kinds-set scripts k r after here same)
 
-kinds-acting : (ports : Ports) (call : Call) (k : ℕ) (scripts : List ScriptRecord) (place : Option ScriptRecord) → slice_get scripts k ≡ place →
+kinds-acting : (ports : Wiring) (call : Call) (k : ℕ) (scripts : List ScriptRecord) (place : Option ScriptRecord) → slice_get scripts k ≡ place →
     kinds_of (acting ports call k scripts place).scripts ≡ kinds_of scripts
 kinds-acting ports call k scripts None here = refl
 kinds-acting ports call k scripts (Some r) here = kinds-set scripts k r (after_call call r) here refl

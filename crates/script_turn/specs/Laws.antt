@@ -6,13 +6,13 @@ use Rattle.x3d_values.specs.Values.{type_of}
 use Rattle.script_host.specs.Behaviour.{Call}
 use Rattle.script_host.specs.Hosting.{ScriptRecord}
 use Rattle.script_host.specs.States.{integer_fits}
-use Rattle.script_turn.specs.declared.ports.Ports.{Ports}
 use Rattle.script_turn.specs.Acting.{act, kinds_of}
+use Rattle.script_turn.specs.Ports.{Wiring}
 use Rattle.script_turn.specs.Values.{numbers_of, value_of}
 
 -- no call changes a kind, or the number of scripts
 abbrev pub KindsStand : Type 0
-KindsStand = (ports : Ports) (call : Call) (k : ℕ) (scripts : List ScriptRecord)
+KindsStand = (ports : Wiring) (call : Call) (k : ℕ) (scripts : List ScriptRecord)
     → kinds_of (act ports call k scripts).scripts ≡ kinds_of scripts
 
 -- a value of a type that scripts take or send, in the range of its type

@@ -14,8 +14,12 @@ use Rattle.script_host.specs.declared.reply.Reply.{Reply}
 use Rattle.script_host.specs.Behaviour.{Call, Receive}
 use Rattle.script_host.specs.Events.{takes_event}
 use Rattle.script_host.specs.Interface.{inputs, outputs}
-use Rattle.script_turn.specs.declared.ports.Ports.{Ports}
 use Rattle.script_turn.specs.Values.{numbers_of, value_of}
+
+-- the numbers of the fields that are a script's inputs and outputs, in the order of its kind's
+pub record Wiring : Type 0 where
+  pub inputs : List ℕ
+  pub outputs : List ℕ
 
 -- ---- an event comes to a field
 
@@ -26,8 +30,8 @@ place_from field n (other ∷ others) =
     if other == field then Some n else place_from field (n + 1) others
 
 -- the input that the field is
-abbrev pub input_at : Ports → ℕ → Option ℕ
-input_at ports field = place_from field 0 ports.inputs.items
+abbrev pub input_at : Wiring → ℕ → Option ℕ
+input_at ports field = place_from field 0 ports.inputs
 
 abbrev pub is_of_type : Kind → ℕ → Value → Bool
 is_of_type kind input value =
@@ -44,7 +48,7 @@ call_by kind value input =
     if takes kind input value then Some (Receive input (numbers_of value)) else None
 
 -- the call that an event is: none where the field is no input of the script, or takes no such value
-abbrev pub call_at : Kind → Ports → ℕ → Value → Option Call
+abbrev pub call_at : Kind → Wiring → ℕ → Value → Option Call
 call_at kind ports field value = option_and_then (call_by kind value) (input_at ports field)
 
 -- ---- a script sends
@@ -55,8 +59,8 @@ value_from (Some e) numbers = value_of e.field_type numbers
 value_from None numbers = SFBool false
 
 -- what the node sends where its script sends this
-abbrev pub reply_of : Kind → Ports → Reply → node.Reply
+abbrev pub reply_of : Kind → Wiring → Reply → node.Reply
 reply_of kind ports r = record {
-  field = slice_index_or ports.outputs.items r.output 0;
+  field = slice_index_or ports.outputs r.output 0;
   value = value_from (slice_get (outputs kind) r.output) r.numbers;
 }

@@ -11,6 +11,7 @@ use crate::values::{numbers_of, value_of};
 use arrayvec::ArrayVec;
 use react_core::Reply;
 use script_host::{inputs, outputs, takes_event};
+use std::marker::Model;
 use x3d_values::{Kind, Value};
 
 /// The most inputs, and the most outputs, that a kind of script has.
@@ -20,8 +21,26 @@ pub const MAX_PORTS: usize = 2;
 /// the kind's.
 #[derive(Debug, Drop)]
 pub struct Ports {
-    pub inputs: ArrayVec<u16, MAX_PORTS>,
-    pub outputs: ArrayVec<u16, MAX_PORTS>,
+    inputs: ArrayVec<u16, MAX_PORTS>,
+    outputs: ArrayVec<u16, MAX_PORTS>,
+}
+
+impl Model for Ports {
+    ghost use Rattle.script_turn.specs.Ports.{Wiring};
+
+    ghost Value = { Wiring };
+
+    ghost view = { λ p. record { inputs = p.inputs.items; outputs = p.outputs.items } };
+}
+
+impl Ports {
+    ghost use Rattle.std.specs.Prelude.{◌≡◌};
+
+    pub fn new(inputs: ArrayVec<u16, MAX_PORTS>, outputs: ArrayVec<u16, MAX_PORTS>) -> Ports
+        ensures { result ≡ record { inputs = inputs.items; outputs = outputs.items } }
+    {
+        Ports { inputs, outputs }
+    }
 }
 
 /// An event as a script receives it.
@@ -92,7 +111,7 @@ fn value_from(kind: Kind, output: u32, numbers: [i64; 3]) -> Value
 
 /// The number of the field that is the output; 0 where there is none.
 fn field_of(ports: &Ports, output: u32) -> u16
-    ensures { result ≡ slice_index_or ports.now.outputs.items output 0 }
+    ensures { result ≡ slice_index_or ports.now.outputs output 0 }
 {
     match ports.outputs.as_slice().get(output as usize) {
         Some(field) => *field,
