@@ -68,17 +68,23 @@ fn ports_by(scene: &Scene, node: u32, kind: Option<Kind>) -> Ports
     }
 }
 
+/// A script that is asked for, as a world runs it.
+fn run_of(scene: &Scene, asked: &ScriptSpec) -> Run
+    ensures { result ≡ spec.run_of scene.now asked.now }
+{
+    Run {
+        node: asked.node,
+        ports: ports_by(scene, asked.node, asked.kind),
+    }
+}
+
 /// The scripts that are asked for, as a world runs them.
 pub fn runs_of(alloc: Global, scene: &Scene, specs: &[ScriptSpec]) -> Result<Vec<Run>, AllocError>
     ensures { IfOk result (λ runs. runs.items ≡ map (spec.run_of scene.now) specs.now) }
 {
     let mut runs = Vec::new(alloc);
     for asked in specs {
-        let ports = ports_by(scene, asked.node, asked.kind);
-        runs.push(Run {
-            node: asked.node,
-            ports,
-        })?;
+        runs.push(run_of(scene, asked))?;
     }
     Ok(runs)
 }
