@@ -1,0 +1,5 @@
+pub mod Course
+pub mod Laws
+pub mod Sending
+pub mod Settling
+pub mod Worlds
