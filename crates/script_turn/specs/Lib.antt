@@ -1,4 +1,5 @@
 pub mod Acting
 pub mod Laws
 pub mod Ports
+pub mod Settling
 pub mod Values

@@ -1,2 +1,4 @@
-pub mod PlainLemmas
+pub mod Keeping
 pub mod KindLemmas
+pub mod PlainLemmas
+pub mod SettleLemmas

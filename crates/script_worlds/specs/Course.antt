@@ -7,6 +7,7 @@ use Rattle.scene_core.specs.Scene.{SceneView, shapes_of}
 use Rattle.scene_core.specs.Shape.{Shape}
 use Rattle.script_host.specs.Hosting.{ScriptRecord}
 use Rattle.script_turn.specs.Ports.{Wiring}
+use Rattle.script_turn.specs.Settling.{Settling, unsettled}
 use Rattle.scene_scripts.specs.Runs.{runs_of}
 use Rattle.scene_scripts.specs.declared.runs.Run.{Run}
 use Rattle.cascade_core.specs.declared.world.Turn.{Turn}
@@ -31,20 +32,18 @@ pub record Scripted : Type 0 where
 abbrev pub states_of : Scripted → List (List ℤ)
 states_of w = map (λ (r : ScriptRecord). r.state) w.scripts
 
--- a world in the course of one input: which scripts have received an event, once for each, and
--- which were settled, in order
+-- a world in the course of one input, and which of its scripts received and were settled
 pub record Course : Type 0 where
   pub turn : Turn
   pub scripts : List ScriptRecord
-  pub received : List ℕ
-  pub settled : List ℕ
+  pub settling : Settling
 
 abbrev pub with_turn : Course → Turn → Course
 with_turn c turn = record c { turn = turn }
 
 -- an input begins: no script has received, and none is settled
 abbrev pub course : Turn → List ScriptRecord → Course
-course turn scripts = record { turn = turn; scripts = scripts; received = []; settled = [] }
+course turn scripts = record { turn = turn; scripts = scripts; settling = unsettled }
 
 abbrev pub ended : Course → Scripted
 ended c = record { world = c.turn.world; scripts = c.scripts }

@@ -1,6 +1,6 @@
 -- An event cascade through scripts (ISO/IEC 19775-1, event model: execution model): as one without
 -- them, and an event at an input of a script is a call of it, whose replies its node sends.
-use Rattle.std.specs.Prelude.{ℕ, zero, suc, ◌+◌, ◌++◌, List, [], ◌∷◌, Option, Some, None, if◌then◌else◌}
+use Rattle.std.specs.Prelude.{ℕ, zero, suc, ◌+◌, List, Option, Some, None, if◌then◌else◌}
 use Rattle.std.specs.List.{fold}
 use Rattle.std.specs.Option.{option_and_then, option_map}
 use Rattle.x3d_values.specs.declared.value.Value.{Value}
@@ -8,6 +8,7 @@ use Rattle.react_core.specs.declared.outbox.Reply.{Reply}
 use Rattle.scene_core.specs.declared.scene.End.{End}
 use Rattle.script_host.specs.Behaviour.{Call}
 use Rattle.script_turn.specs.Acting.{act, call_of}
+use Rattle.script_turn.specs.Settling.{with_received}
 use Rattle.cascade_core.specs.Answers.{answer, with_answer}
 use Rattle.cascade_core.specs.Ends.{has_sent, targets_of}
 use Rattle.cascade_core.specs.Outputs.{outputs_of}
@@ -43,7 +44,7 @@ abbrev pub receiving : (Course → End → Value → Course) → Plan → ℕ �
 receiving go plan node c at =
     let a = act (ports_of plan at.number) at.call at.number c.scripts in
     send_all go node
-    (record c { scripts = a.scripts; received = c.received ++ at.number ∷ [] }) a.replies
+    (record c { scripts = a.scripts; settling = with_received c.settling at.number }) a.replies
 
 abbrev pub delivering : (Course → End → Value → Course) → Plan → Value → Course → End
     → Option Arrival → Course

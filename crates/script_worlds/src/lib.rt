@@ -4,4 +4,4 @@
 
 mod laws;
 
-pub use laws::{kinds_law, plain_law};
+pub use laws::{kinds_law, plain_law, settling_law};
