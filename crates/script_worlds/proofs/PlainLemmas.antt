@@ -132,7 +132,7 @@ module _ (scene : SceneView) (routes : List Route) where
   settles-none c none = rw none refl
 
   apply-lifts : (w : WorldData) (input : Stamp) → apply scene here (alone w) input ≡ alone (plain_apply scene routes w input)
-  unfolding apply plain_apply
+  unfolding apply plain_apply settle_up_to
   apply-lifts w input =
       let c : Course = course (begin w input) [] in
       let e : happen scene here input.time c input.event ≡ with_turn c (plain_happen scene routes input.time c.turn input.event) =

@@ -40,7 +40,7 @@ is-not false h = refl
 is-not true h = cc
 
 -- how many of these aren't among the others
-left : List ℕ → List ℕ → ℕ
+abbrev left : List ℕ → List ℕ → ℕ
 left [] settled = 0
 left (k ∷ ks) settled = one_unless (is_among settled k) + left ks settled
 
@@ -78,35 +78,37 @@ left-le (k ∷ ks) settled = omega (arith, left-le ks settled, fewer false (is_a
 
 found : (p : ℕ → Bool) (ks : List ℕ) (k : ℕ) → find p ks ≡ Some k → (p k ≡ true) × (is_among ks k ≡ true)
 found p [] k h = cc
-found p (j ∷ ks) k h = cases (p j) refl
+found p (j ∷ ks) k h = cases (p j) refl (λ e. found p ks k e)
   where
-    cases : (b : Bool) → p j ≡ b → (p k ≡ true) × (is_among (j ∷ ks) k ≡ true)
-    cases true is =
+    either : (b : Bool) → (b || true) ≡ true
+    either true = refl
+    either false = refl
+
+    cases : (b : Bool) → p j ≡ b → (find p ks ≡ Some k → (p k ≡ true) × (is_among ks k ≡ true)) → (p k ≡ true) × (is_among (j ∷ ks) k ≡ true)
+    cases true is rest =
         let e : Some j ≡ Some k = rw is at h in
         let same : j ≡ k = cc in
         (rw (sym same) is, rw (same, self k) refl)
-    cases false is =
+    cases false is rest =
         let e : find p ks ≡ Some k = rw is at h in
-        let (one, rest) = found p ks k e in
-        (one, rw rest (either (j == k)))
-      where
-        either : (b : Bool) → (b || true) ≡ true
-        either true = refl
-        either false = refl
+        let (one, others) = rest e in
+        (one, rw others (either (j == k)))
 
 settled-all : (ks received settled : List ℕ) → left ks settled ≤ 0 → find (λ k. is_among received k && not (is_among settled k)) ks ≡ None
 settled-all [] received settled h = refl
-settled-all (k ∷ ks) received settled h = cases (is_among settled k) refl
+settled-all (k ∷ ks) received settled h = cases (is_among settled k) refl (λ less. settled-all ks received settled less)
   where
     never : (b : Bool) → (b && not true) ≡ false
     never true = refl
     never false = refl
 
-    cases : (b : Bool) → is_among settled k ≡ b → find (λ k. is_among received k && not (is_among settled k)) (k ∷ ks) ≡ None
-    cases true is =
+    cases : (b : Bool) → is_among settled k ≡ b →
+        (left ks settled ≤ 0 → find (λ k. is_among received k && not (is_among settled k)) ks ≡ None) →
+        find (λ k. is_among received k && not (is_among settled k)) (k ∷ ks) ≡ None
+    cases true is rest =
         let e : left (k ∷ ks) settled ≡ left ks settled = rw is refl in
-        rw (is, never (is_among received k)) (settled-all ks received settled (omega (arith, h, e)))
-    cases false is =
+        rw (is, never (is_among received k)) (rest (omega (arith, h, e)))
+    cases false is rest =
         let e : left (k ∷ ks) settled ≡ 1 + left ks settled = rw is refl in
         absurd (omega (arith, h, e))
 
@@ -142,7 +144,7 @@ module _ (plan : Plan) where
       (refl, kinds_stand (ports_of plan k) Settle k c.scripts)
 
   as-many : (xs ys : List ScriptRecord) → kinds_of xs ≡ kinds_of ys → length xs ≡ length ys
-  as-many xs ys e = sym (length-map (λ (r : ScriptRecord). r.kind) xs) ∙ ap length e ∙ length-map (λ (r : ScriptRecord). r.kind) ys
+  as-many xs ys e = sym (length-map xs (λ (r : ScriptRecord). r.kind)) ∙ ap length e ∙ length-map ys (λ (r : ScriptRecord). r.kind)
 
   abbrev due_left : Course → ℕ
   due_left c = left (range_with_len 0 (length c.scripts)) c.settling.settled
