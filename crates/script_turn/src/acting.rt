@@ -28,12 +28,13 @@ fn push_replies(kind: Kind, ports: &Ports, replies: &Replies, out: &mut Outbox)
 }
 
 /// The k-th script is initialized, and its node sends what it sends. Takes no memory.
-#[tactic(auto, unfolding(crate::specs::Acting::act))]
+#[tactic(auto, using(crate::proofs::CallLemmas::kinds_kept), unfolding(crate::specs::Acting::act))]
 pub fn initialize<B: Behaviour>(scripts: &mut Scripts<B>, k: usize, ports: &Ports, out: &mut Outbox)
     requires there { k < length scripts.old }
     requires empty { out.old.items ≡ [] }
     ensures scripts { scripts.new ≡ (act ports.now Initialize k scripts.old).scripts }
     ensures replies { out.new.items ≡ (act ports.now Initialize k scripts.old).replies }
+    ensures kinds { kinds_of scripts.new ≡ kinds_of scripts.old }
 {
     let kind = scripts.kind(k);
     let replies = scripts.call_initialize(k);
@@ -41,12 +42,13 @@ pub fn initialize<B: Behaviour>(scripts: &mut Scripts<B>, k: usize, ports: &Port
 }
 
 /// The events of a timestamp were received by the k-th script. Takes no memory.
-#[tactic(auto, unfolding(crate::specs::Acting::act))]
+#[tactic(auto, using(crate::proofs::CallLemmas::kinds_kept), unfolding(crate::specs::Acting::act))]
 pub fn settle<B: Behaviour>(scripts: &mut Scripts<B>, k: usize, ports: &Ports, out: &mut Outbox)
     requires there { k < length scripts.old }
     requires empty { out.old.items ≡ [] }
     ensures scripts { scripts.new ≡ (act ports.now Settle k scripts.old).scripts }
     ensures replies { out.new.items ≡ (act ports.now Settle k scripts.old).replies }
+    ensures kinds { kinds_of scripts.new ≡ kinds_of scripts.old }
 {
     let kind = scripts.kind(k);
     let replies = scripts.call_settle(k);
@@ -55,7 +57,7 @@ pub fn settle<B: Behaviour>(scripts: &mut Scripts<B>, k: usize, ports: &Ports, o
 
 /// An event comes to a field of the node of the k-th script: whether the script received it, whose
 /// node then sends what it sends. Takes no memory.
-#[tactic(auto, unfolding(crate::specs::Acting::act))]
+#[tactic(auto, using(crate::proofs::CallLemmas::kinds_kept), unfolding(crate::specs::Acting::act))]
 pub fn receive<B: Behaviour>(
     scripts: &mut Scripts<B>,
     k: usize,
@@ -70,6 +72,7 @@ pub fn receive<B: Behaviour>(
     ensures scripts { scripts.new ≡ (spec.receive ports.now k field value.now scripts.old).scripts }
     ensures replies { out.new.items
         ≡ (spec.receive ports.now k field value.now scripts.old).replies }
+    ensures kinds { kinds_of scripts.new ≡ kinds_of scripts.old }
 {
     let kind = scripts.kind(k);
     let Some(event) = event_at(kind, ports, field, value) else {

@@ -106,7 +106,7 @@ settled-all (k ∷ ks) received settled h = cases (is_among settled k) refl (λ 
         (left ks settled ≤ 0 → find (λ k. is_among received k && not (is_among settled k)) ks ≡ None) →
         find (λ k. is_among received k && not (is_among settled k)) (k ∷ ks) ≡ None
     cases true is rest =
-        let e : left (k ∷ ks) settled ≡ left ks settled = rw is refl in
+        let e : left (k ∷ ks) settled ≡ 0 + left ks settled = rw is refl in
         rw (is, never (is_among received k)) (rest (omega (arith, h, e)))
     cases false is rest =
         let e : left (k ∷ ks) settled ≡ 1 + left ks settled = rw is refl in
@@ -180,6 +180,7 @@ module _ (plan : Plan) where
 
 pub settles_all : SettlesAll
 settles_all plan c none =
-    settles plan (length c.scripts) c
-    (rw (sym (length-range_with_len 0 (length c.scripts))) at (left-le (range_with_len 0 (length c.scripts)) c.settling.settled))
-    (rw none refl)
+    let ks : List ℕ = range_with_len 0 (length c.scripts) in
+    let few : left ks c.settling.settled ≤ length c.scripts =
+    omega (arith, left-le ks c.settling.settled, length-range_with_len 0 (length c.scripts)) in
+    settles plan (length c.scripts) c few (rw none refl)

@@ -4,7 +4,7 @@ use classic_text::read;
 use proto_walk::expand;
 use react_core::Outbox;
 use scene_core::Scene;
-use scene_scripts::{runs_of, script_list};
+use scene_scripts::{Run, runs_of, script_list};
 use script_host::{Behaviour, Scripts};
 use script_stock::Counter;
 use script_turn::receive;
@@ -120,51 +120,32 @@ fn is_count(out: &Outbox, count: i32) -> bool {
     }
 }
 
-/// Two events at `tick`, one at `url`, and one at `tick` of another type.
+/// An event at a field of the Counter's node: whether the script received it.
+fn event<B: Behaviour>(
+    rt: &impl Abort,
+    scripts: &mut Scripts<B>,
+    runs: &[Run],
+    field: u16,
+    value: &Value,
+    out: &mut Outbox,
+) -> bool {
+    assert!(rt; scripts.len() == 1 && runs.len() == 1);
+    assert!(rt; out.as_slice().is_empty());
+    receive(scripts, 0, &runs[0].ports, field, value, out)
+}
+
+/// An event at `tick` counts; one at `url`, and one of another type, don't.
 fn counts<B: Behaviour>(rt: &impl Abort, alloc: Global, boxes: Vec<B>) -> Result<(), Fail> {
     let scene = scene_of(alloc, COUNTER)?;
     let list = script_list(alloc, &scene)?;
     let runs = runs_of(alloc, &scene, list.as_slice())?;
     let mut scripts = Scripts::attach(alloc, list.as_slice(), boxes)?;
-    let run = runs.as_slice().first();
-    let Some(run) = run else {
-        return Ok(());
-    };
-    assert!(rt; scripts.len() == 1);
     let mut out = Outbox::new();
-    assert!(rt;
-        receive(
-            &mut scripts,
-            0,
-            &run.ports,
-            4,
-            &Value::SFBool(true),
-            &mut out
-        )
-    );
+    let (on, one) = (Value::SFBool(true), Value::SFInt32(1));
+    assert!(rt; !event(rt, &mut scripts, runs.as_slice(), 1, &on, &mut out));
+    assert!(rt; !event(rt, &mut scripts, runs.as_slice(), 4, &one, &mut out));
+    assert!(rt; event(rt, &mut scripts, runs.as_slice(), 4, &on, &mut out));
     assert!(rt; is_count(&out, 7));
-    let mut none = Outbox::new();
-    assert!(rt;
-        !receive(
-            &mut scripts,
-            0,
-            &run.ports,
-            1,
-            &Value::SFBool(true),
-            &mut none
-        )
-    );
-    assert!(rt;
-        !receive(
-            &mut scripts,
-            0,
-            &run.ports,
-            4,
-            &Value::SFInt32(1),
-            &mut none
-        )
-    );
-    assert!(rt; none.as_slice().is_empty());
     Ok(())
 }
 
