@@ -1,5 +1,5 @@
 -- What each event and each call of a script keep, a whole course of events keeps.
-use Rattle.std.proofs.Common.{◌≡◌, ℕ, ℤ, ◌+◌, ◌++◌, Bool, true, false, List, [], ◌∷◌, Option, Some, None, zero, suc, refl}
+use Rattle.std.proofs.Common.{◌≡◌, ℕ, ℤ, ◌+◌, Bool, true, false, List, [], ◌∷◌, Option, Some, None, zero, suc, refl}
 use Rattle.std.specs.List.{fold}
 use Rattle.x3d_values.specs.declared.value.Value.{Value}
 use Rattle.x3d_values.specs.declared.stamped.Event.{Event}
@@ -21,7 +21,7 @@ use Rattle.cascade_core.specs.Pointer.{concerned, insides, is_down, place_in}
 use Rattle.cascade_core.specs.declared.pointer.Inside.{Inside}
 use Rattle.cascade_core.specs.declared.world.Turn.{Turn}
 use Rattle.script_worlds.specs.Course.{Course, Plan, ports_of, with_turn}
-use Rattle.script_worlds.specs.Sending.{Arrival, answering, arrival, deliver, delivering, receiving, recorded, send, send_all, send_full, send_replies}
+use Rattle.script_worlds.specs.Sending.{Arrival, arrival, deliver, delivering, recorded, send, send_all, send_replies}
 use Rattle.script_worlds.specs.Worlds.{happen, point, point_node, tick_node}
 
 -- a script was called by an event

@@ -1,34 +1,24 @@
 -- The kinds of scripts stand in every course.
-use Rattle.std.proofs.Common.{◌≡◌, ℕ, ℤ, ◌+◌, Bool, true, false, List, [], ◌∷◌, ◌++◌, Option, Some, None, ◌∙◌, ap, sym, zero, suc, refl, length}
+use Rattle.std.proofs.Common.{◌≡◌, ℕ, ℤ, List, [], ◌∷◌, Option, Some, None, ◌∙◌, zero, suc, refl, length}
 use Rattle.std.specs.List.{fold, range_with_len}
 use Rattle.x3d_values.specs.declared.script.Kind.{Kind}
-use Rattle.x3d_values.specs.declared.value.Value.{Value}
 use Rattle.x3d_values.specs.declared.stamped.Event.{Event}
-use Rattle.x3d_values.specs.declared.stamped.Event.TheVariants.{Clock, Pointer}
-use Rattle.x3d_values.specs.Pointing.{Pointing}
 use Rattle.x3d_values.specs.Stamp.{Stamp}
 use Rattle.react_core.specs.declared.outbox.Reply.{Reply}
-use Rattle.scene_core.specs.declared.scene.End.{End}
-use Rattle.scene_core.specs.declared.scene.Route.{Route}
-use Rattle.scene_core.specs.Scene.{SceneView, shapes_of, types_of}
+use Rattle.scene_core.specs.Scene.{SceneView}
 use Rattle.script_host.specs.Behaviour.{Call, Initialize, Settle}
 use Rattle.script_host.specs.Hosting.{ScriptRecord}
 use Rattle.script_turn.specs.Acting.{act, kinds_of}
 use Rattle.script_turn.specs.Settling.{with_settled}
 use Rattle.script_turn.proofs.CallLemmas.{kinds_stand}
-use Rattle.cascade_core.specs.Answers.{answer, met, ticked, with_answer}
-use Rattle.cascade_core.specs.Apply.{begin, with_button}
-use Rattle.cascade_core.specs.Ends.{has_sent, targets_of}
-use Rattle.cascade_core.specs.Nodes.{clocks_of}
-use Rattle.cascade_core.specs.Outputs.{outputs_of}
-use Rattle.cascade_core.specs.Pointer.{concerned, insides, is_down, place_in}
+use Rattle.cascade_core.specs.Apply.{begin}
 use Rattle.cascade_core.specs.declared.world.Turn.{Turn}
-use Rattle.script_worlds.specs.Course.{Course, Plan, Scripted, course, ended, node_of, plan_of, ports_of, with_turn}
+use Rattle.script_worlds.specs.Course.{Course, Plan, Scripted, course, node_of, plan_of, ports_of, with_turn}
 use Rattle.script_worlds.specs.Laws.{KindsStand}
 use Rattle.script_worlds.specs.Sending.{send_replies}
 use Rattle.script_worlds.proofs.Keeping.{called, fold-of, happen-of as happen-keeps, replies-of as replies-keep}
-use Rattle.script_worlds.specs.Settling.{next_due, settle, settle_one, settle_up_to}
-use Rattle.script_worlds.specs.Worlds.{Sending, Started, apply, happen, opened, opening_turn, point, point_node, sent_by_all, start_one, started, tick_node, world}
+use Rattle.script_worlds.specs.Settling.{next_due, settle_one, settle_up_to}
+use Rattle.script_worlds.specs.Worlds.{Sending, Started, apply, happen, opened, opening_turn, sent_by_all, start_one, started, world}
 
 module _ (plan : Plan) (kinds : List Kind) where
   abbrev Of : Course → Type 0

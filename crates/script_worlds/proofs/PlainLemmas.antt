@@ -1,5 +1,5 @@
 -- Without scripts a world goes as it goes in a scene that runs none.
-use Rattle.std.proofs.Common.{◌≡◌, ℕ, ℤ, ◌+◌, Bool, true, false, List, [], ◌∷◌, ◌∙◌, ap, sym, zero, suc, refl, map}
+use Rattle.std.proofs.Common.{◌≡◌, ℕ, ℤ, ◌+◌, Bool, true, false, List, [], ◌∷◌, ◌∙◌, ap, zero, suc, refl, map}
 use Rattle.std.specs.List.{fold}
 use Rattle.x3d_values.specs.declared.value.Value.{Value}
 use Rattle.x3d_values.specs.declared.stamped.Event.{Event}
@@ -11,7 +11,7 @@ use Rattle.scene_core.specs.declared.scene.End.{End}
 use Rattle.scene_core.specs.declared.scene.Route.{Route}
 use Rattle.scene_core.specs.Scene.{SceneView, shapes_of, types_of}
 use Rattle.scene_core.specs.Shape.{Shape}
-use Rattle.scene_scripts.specs.Runs.{run_of, runs_of}
+use Rattle.scene_scripts.specs.Runs.{run_of}
 use Rattle.scene_scripts.specs.Scripts.{script_list}
 use Rattle.cascade_core.specs.Answers.{answer, met, ticked, with_answer}
 use Rattle.cascade_core.specs.Apply.{apply as plain_apply, begin, happen as plain_happen, opening, point as plain_point, point_node as plain_point_node, tick_node as plain_tick_node, with_button}
@@ -26,9 +26,9 @@ use Rattle.cascade_core.specs.declared.world.Turn.{Turn}
 use Rattle.cascade_core.specs.declared.world.WorldData.{WorldData}
 use Rattle.script_worlds.specs.Course.{Course, Plan, Scripted, course, ended, plan_of, with_turn}
 use Rattle.script_worlds.specs.Laws.{PlainWorlds}
-use Rattle.script_worlds.specs.Sending.{deliver, recorded, send, send_all, send_full, send_replies}
+use Rattle.script_worlds.specs.Sending.{deliver, recorded, send, send_all, send_replies}
 use Rattle.script_worlds.specs.Settling.{settle, settle_up_to}
-use Rattle.script_worlds.specs.Worlds.{apply, happen, opened, opening_turn, point, point_node, sent_by_all, started, tick_node, world}
+use Rattle.script_worlds.specs.Worlds.{apply, happen, opened, point, point_node, started, tick_node, world}
 
 -- a step of a course that is a step of its turn alone
 abbrev Lifts : {X : Type 0} → (Course → X → Course) → (Turn → X → Turn) → Type 0

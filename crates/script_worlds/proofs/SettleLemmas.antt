@@ -1,24 +1,21 @@
 -- Settling ends with no script due, and settles no script twice.
-use Rattle.std.proofs.Common.{◌≡◌, ℕ, ◌+◌, ◌<◌, ◌≤◌, Bool, true, false, ◌&&◌, ◌||◌, List, [], ◌∷◌, ◌++◌, Option, Some, None, ◌∙◌, ap, sym, zero, suc, refl, arith, length, map, eqb-true, eq-eqb}
+use Rattle.std.proofs.Common.{◌≡◌, ℕ, ◌+◌, ◌<◌, ◌≤◌, Bool, true, false, ◌&&◌, ◌||◌, List, [], ◌∷◌, ◌++◌, Option, Some, None, ◌∙◌, ap, sym, zero, suc, refl, arith, length, eqb-true, eq-eqb}
 use Rattle.std.specs.Prelude.{◌==◌, not}
 use Rattle.std.specs.List.{find, range_with_len}
 use Rattle.std.proofs.lemmas.List.{length-map}
 use Rattle.std.proofs.lemmas.List.Folds.{list_any-append}
 use Rattle.std.proofs.lemmas.List.FromFn.{length-range_with_len}
 use Rattle.x3d_values.specs.declared.script.Kind.{Kind}
-use Rattle.react_core.specs.declared.outbox.Reply.{Reply}
-use Rattle.script_host.specs.Behaviour.{Call, Settle}
+use Rattle.script_host.specs.Behaviour.{Settle}
 use Rattle.script_host.specs.Hosting.{ScriptRecord}
 use Rattle.script_turn.specs.Acting.{act, kinds_of}
 use Rattle.script_turn.proofs.CallLemmas.{kinds_stand}
 use Rattle.cascade_core.specs.Stack.{one_unless}
-use Rattle.cascade_core.specs.declared.world.Turn.{Turn}
-use Rattle.script_worlds.specs.Course.{Course, Plan, node_of, ports_of, with_turn}
+use Rattle.script_worlds.specs.Course.{Course, Plan, node_of, ports_of}
 use Rattle.script_worlds.specs.Laws.{SettlesAll}
-use Rattle.script_worlds.specs.Sending.{send_replies}
 use Rattle.script_turn.specs.Settling.{all_differ, is_among, is_due, with_settled}
-use Rattle.script_worlds.specs.Settling.{next_due, settle, settle_one, settle_up_to}
-use Rattle.script_worlds.proofs.Keeping.{called, replies-of}
+use Rattle.script_worlds.specs.Settling.{next_due, settle_one, settle_up_to}
+use Rattle.script_worlds.proofs.Keeping.{replies-of}
 
 -- ---- numbers among others
 
