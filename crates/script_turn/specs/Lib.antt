@@ -1,5 +1,4 @@
 pub mod Acting
 pub mod Laws
 pub mod Ports
-pub mod Settling
 pub mod Values

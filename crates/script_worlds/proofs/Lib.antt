@@ -1,4 +1,0 @@
-pub mod Keeping
-pub mod KindLemmas
-pub mod PlainLemmas
-pub mod SettleLemmas
