@@ -1,21 +1,12 @@
--- What scripts may be given: the inputs of each kind and the range of each type (our choice of
--- kinds).
+-- What scripts may be given: the range of each type (our choice of kinds).
 use Rattle.std.specs.Prelude.{ℕ, ◌^◌, ℤ, pos, negsuc, List, [], ◌∷◌, Bool, true, false, ◌&&◌, ◌==◌, nat_le, nat_lt, slice_get, unsigned_abs}
 use Rattle.std.specs.Option.{option_map_or}
 use Rattle.x3d_values.specs.Ranges.{coordinate_fits}
 use Rattle.x3d_values.specs.declared.script.Kind.{Kind}
-use Rattle.x3d_values.specs.declared.script.Kind.TheVariants.{Counter, Gate, Adder, Batch, Mover, Meter}
 use Rattle.x3d_values.specs.declared.field_type.FieldType.{FieldType}
 use Rattle.x3d_values.specs.declared.field_type.FieldType.TheVariants.{SFBool, SFFloat, SFTime}
-
--- the types of a kind's inputs, which are numbered from 0
-abbrev pub input_types : Kind → List FieldType
-input_types Counter = SFBool ∷ []
-input_types Gate = SFBool ∷ SFTime ∷ []
-input_types Adder = SFFloat ∷ SFFloat ∷ []
-input_types Batch = SFBool ∷ []
-input_types Mover = SFFloat ∷ []
-input_types Meter = SFFloat ∷ []
+use Rattle.x3d_values.specs.Tables.{Entry}
+use Rattle.script_host.specs.Interface.{inputs}
 
 -- 0 for FALSE, 1 for TRUE
 abbrev pub truth_fits : ℤ → Bool
@@ -42,4 +33,5 @@ event_fits t _ = false
 -- the event is a value of the type of this input, where the kind has such an input
 abbrev pub takes_event : Kind → ℕ → List ℤ → Bool
 takes_event kind input event =
-    option_map_or (λ t. event_fits t event) (slice_get (input_types kind) input) true
+    option_map_or (λ (e : Entry). event_fits e.field_type event)
+    (slice_get (inputs kind) input) true

@@ -4,6 +4,7 @@ pub mod Events
 pub mod Faults
 pub mod Growing
 pub mod Hosting
+pub mod Interface
 pub mod Outputs
 pub mod Pairs
 pub mod Restoring

@@ -1,25 +1,13 @@
 //! What scripts may be given.
 
 ghost use Rattle.std.specs.Prelude.{◌≡◌, slice_get};
-ghost use Rattle.script_host.specs.Events.{input_types, number_fits, event_fits, takes_event, time_fits};
+ghost use Rattle.script_host.specs.Events.{number_fits, event_fits, takes_event, time_fits};
 
+use crate::kinds::inputs;
 use x3d_values::{FieldType, Kind, coordinate_fits};
 
 /// The largest size of a time, in microseconds.
 const MAX_TIME: u64 = 1_000_000_000_000_000_000;
-
-fn input_types(kind: Kind) -> &'static [FieldType]
-    ensures { result.now ≡ input_types kind }
-{
-    match kind {
-        Kind::Counter => &[FieldType::SFBool],
-        Kind::Gate => &[FieldType::SFBool, FieldType::SFTime],
-        Kind::Adder => &[FieldType::SFFloat, FieldType::SFFloat],
-        Kind::Batch => &[FieldType::SFBool],
-        Kind::Mover => &[FieldType::SFFloat],
-        Kind::Meter => &[FieldType::SFFloat],
-    }
-}
 
 fn number_fits(field_type: FieldType, number: i64) -> bool
     ensures { result ≡ number_fits field_type number }
@@ -43,8 +31,8 @@ fn event_fits(field_type: FieldType, event: [i64; 3]) -> bool
 pub fn takes_event(kind: Kind, input: u32, event: [i64; 3]) -> bool
     ensures { result ≡ takes_event kind input event }
 {
-    match input_types(kind).get(input as usize) {
-        Some(field_type) => event_fits(*field_type, event),
+    match inputs(kind).get(input as usize) {
+        Some(field) => event_fits(field.field_type, event),
         None => true,
     }
 }

@@ -4,4 +4,5 @@ mod examples;
 mod hosting;
 mod probe;
 mod refusals;
+mod scenes;
 mod steps;

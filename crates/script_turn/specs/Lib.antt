@@ -1,0 +1,4 @@
+pub mod Acting
+pub mod Laws
+pub mod Ports
+pub mod Values
