@@ -25,7 +25,7 @@ pub(super) fn printed(alloc: Global, job: &[u8]) -> Result<Vec<u8>, Failure> {
 pub(super) fn print(rt: &impl Abort, alloc: Global, jobs: &[(&str, &str)]) {
     for (job, wanted) in jobs {
         match printed(alloc, job.as_bytes()) {
-            Ok(text) => assert_eq!(rt; text.as_slice(), wanted.as_bytes(), "of {job}"),
+            Ok(text) => assert!(rt; text.as_slice() == wanted.as_bytes(), "of {job}"),
             Err(failure) => assert!(rt; wanted.is_empty(), "{failure} of {job}"),
         }
     }
@@ -42,8 +42,8 @@ pub(super) fn are_refused(rt: &impl Abort, alloc: Global, jobs: &[(&str, &str, u
 }
 
 pub(super) fn is_said(rt: &impl Abort, job: &str, failure: &Failure, wanted: &str, status: u8) {
-    assert_eq!(rt; refusal_line(failure).as_str(), wanted, "of {job}");
-    assert_eq!(rt; status_of(failure), status, "of {job}");
+    assert!(rt; refusal_line(failure).as_str() == wanted, "of {job}");
+    assert!(rt; status_of(failure) == status, "of {job}");
 }
 
 const CLOCKS: [(&str, &str); 8] = [
@@ -789,7 +789,7 @@ fn every_node_is_written_as_it_was_read(rt: HostRuntime) -> Result<(), Fail> {
     job.extend_from_slice(b"scene\n")?;
     job.extend_from_slice(EVERY_NODE.as_bytes())?;
     match printed(rt.alloc(), job.as_slice()) {
-        Ok(text) => assert_eq!(rt; text.as_slice(), EVERY_NODE.as_bytes()),
+        Ok(text) => assert!(rt; text.as_slice() == EVERY_NODE.as_bytes()),
         Err(failure) => assert!(rt; job.is_empty(), "{failure}"),
     }
     Ok(())

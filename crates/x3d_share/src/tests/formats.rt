@@ -20,7 +20,7 @@ fn formatted(alloc: Global, scene: &[u8]) -> Result<Vec<u8>, JobFault> {
 fn is_formatted(rt: &impl Abort, alloc: Global, scene: &str, wanted: &str) {
     for text in [scene, wanted] {
         match formatted(alloc, text.as_bytes()) {
-            Ok(out) => assert_eq!(rt; out.as_slice(), wanted.as_bytes(), "of {text}"),
+            Ok(out) => assert!(rt; out.as_slice() == wanted.as_bytes(), "of {text}"),
             Err(fault) => assert!(rt; false, "{fault} of {text}"),
         }
     }
@@ -199,19 +199,19 @@ fn numerals_are_rounded(rt: HostRuntime) -> Result<(), Fail> {
 
 #[test]
 fn numerals(rt: HostRuntime) {
-    assert_eq!(rt; millionths(b"-.5"), Ok(-500_000));
-    assert_eq!(rt; millionths(b"1e-7"), Ok(0));
-    assert_eq!(rt; millionths(b"1.0000005"), Ok(1_000_001));
-    assert_eq!(rt; millionths(b"1e13"), Err(NumeralFault::NumberRange));
-    assert_eq!(rt; millionths(b"1.5.5"), Err(NumeralFault::NotNumeral));
-    assert_eq!(rt; millionths(b"0xFFFFFFFF"), Ok(-1_000_000));
-    assert_eq!(rt; millionths(b"-0x10"), Ok(-16_000_000));
+    assert!(rt; millionths(b"-.5") == Ok(-500_000));
+    assert!(rt; millionths(b"1e-7") == Ok(0));
+    assert!(rt; millionths(b"1.0000005") == Ok(1_000_001));
+    assert!(rt; millionths(b"1e13") == Err(NumeralFault::NumberRange));
+    assert!(rt; millionths(b"1.5.5") == Err(NumeralFault::NotNumeral));
+    assert!(rt; millionths(b"0xFFFFFFFF") == Ok(-1_000_000));
+    assert!(rt; millionths(b"-0x10") == Ok(-16_000_000));
 }
 
 fn is_shown_as_half(rt: &impl Abort, alloc: Global, value: &Value) -> Result<(), Fail> {
     let mut shown = Vec::new(alloc);
     show_value(value, &mut shown)?;
-    assert_eq!(rt; shown.as_slice(), b"-0.5".as_slice());
+    assert!(rt; shown.as_slice() == b"-0.5".as_slice());
     Ok(())
 }
 

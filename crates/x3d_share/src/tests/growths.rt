@@ -56,7 +56,7 @@ fn reads(rt: &impl Abort, alloc: Global, spare: usize) -> Result<bool, Fail> {
     let Some(fault) = fault else {
         return Ok(true);
     };
-    assert_eq!(rt; (fault.kind, fault.line), (ReadFaultKind::Memory, 0));
+    assert!(rt; (fault.kind, fault.line) == (ReadFaultKind::Memory, 0));
     Ok(false)
 }
 
@@ -109,7 +109,7 @@ fn expands(rt: &impl Abort, alloc: Global, spare: usize) -> Result<bool, Fail> {
     let Some(fault) = fault else {
         return Ok(true);
     };
-    assert_eq!(rt; (fault.kind, fault.line), (ExpandFaultKind::Memory, 0));
+    assert!(rt; (fault.kind, fault.line) == (ExpandFaultKind::Memory, 0));
     Ok(false)
 }
 
@@ -128,7 +128,7 @@ fn build_of(rt: &impl Abort, alloc: Global, flat: &Flat, spare: usize) -> Result
     let Some(fault) = fault else {
         return Ok(true);
     };
-    assert_eq!(rt; (fault.kind, fault.line), (SceneFaultKind::Memory, 0));
+    assert!(rt; (fault.kind, fault.line) == (SceneFaultKind::Memory, 0));
     Ok(false)
 }
 
@@ -160,7 +160,7 @@ fn resolve_of(
     let Some(fault) = fault else {
         return Ok(true);
     };
-    assert_eq!(rt; (fault.kind, fault.line), (RouteFaultKind::Memory, 0));
+    assert!(rt; (fault.kind, fault.line) == (RouteFaultKind::Memory, 0));
     Ok(false)
 }
 
@@ -249,7 +249,7 @@ fn clock_of(
     match answer {
         Ok(_work) => Ok(true),
         Err(fault) => {
-            assert_eq!(rt; fault, ApplyFault::Memory);
+            assert!(rt; fault == ApplyFault::Memory);
             is_spoiled(rt, alloc, stage);
             Ok(false)
         }

@@ -361,9 +361,6 @@ fn faults_of_a_text_are_shown(rt: HostRuntime) -> Result<(), Fail> {
         line: 0,
     };
     let shown = format!(in rt.alloc(); "{unexpected}; {memory}")?;
-    assert_eq!(rt;
-        shown.as_str(),
-        "line 3: this may not stand here; memory was refused"
-    );
+    assert!(rt; shown.as_str() == "line 3: this may not stand here; memory was refused");
     Ok(())
 }
