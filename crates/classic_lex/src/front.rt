@@ -11,7 +11,7 @@ use crate::token::TokenKind;
 use x3d_numerals::{NumeralFault, millionths};
 
 /// White space or a comment of so many bytes, a token of so many bytes, or what is neither.
-#[derive(Clone, Copy)]
+#[derive(Clone, Copy, Debug, PartialEq, Eq)]
 pub(crate) enum Start {
     Blank(usize),
     Piece(TokenKind, usize),
