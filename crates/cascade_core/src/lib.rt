@@ -11,6 +11,7 @@ mod fault;
 mod input;
 mod lines;
 mod nodes;
+mod parts;
 mod places;
 mod pointer;
 mod scripts;

@@ -1,34 +1,24 @@
 //! A stage holds the world of a scene, and applies inputs to it.
 
-ghost use Rattle.std.specs.Prelude.{◌≡◌, ◌++◌, ◌⊎◌, IfOk, IfErr, IfNone, IfSome, None, Some, OnOk, OnErr, replicate};
+ghost use Rattle.std.specs.Prelude.{◌≡◌, ◌++◌, ◌⊎◌, IfOk, IfErr, IfNone, IfSome, None, Some, OnOk, OnErr};
 ghost use Rattle.cascade_core.specs.Held.{Running, refusal_in};
 ghost use Rattle.cascade_core.specs.Apply.{opening, world};
 ghost use Rattle.cascade_core.specs.InTurn.{AreInTurn};
-ghost use Rattle.cascade_core.specs.Nodes.{clocks_of, touch_sensors_of};
-ghost use Rattle.pick_core.specs.Sites.{rows_of};
-ghost use Rattle.scene_core.specs.Scene.{types_of};
-ghost use Rattle.sensor_core.specs.Touches.{untouched};
 
 use crate::bench::{Bench, Sensors};
 use crate::fault::{ApplyFault, LoadFault, TextFault};
 use crate::input::advance;
-use crate::nodes::numbers_of;
+use crate::parts::{Parts, bench_of, parts_of};
 use crate::scripts::Scripts;
-use crate::sent::SentBits;
-use crate::state::State;
 use crate::texts::push_trace;
-use crate::trace::Trace;
 use crate::work::Work;
-use crate::world::{Turn, VIEWERS, WorldData};
-use pick_core::BoxCache;
+use crate::world::{Turn, WorldData};
 use route_core::Routes;
 use scene_core::Scene;
 use scene_text::write_scene;
-use sensor_core::{TimeState, TouchState};
 use std::alloc::{AllocError, Global};
 use std::marker::Model;
-use x3d_lists::Items;
-use x3d_values::{NodeType, Stamped};
+use x3d_values::Stamped;
 
 /// A scene with its world, which moves on by inputs.
 #[derive(Drop)]
@@ -59,71 +49,6 @@ impl<B> Model for Stage<B> {
         × IfNone s.spoiled (s.bench.boxes ≡ rows_of s.scene s.turn.world.fields) };
 }
 
-/// No node runs a cycle.
-fn idle_sensors(alloc: Global, nodes: usize) -> Result<Items<TimeState>, AllocError>
-    ensures { IfOk result (λ sensors. sensors ≡ replicate nodes None) }
-{
-    let sensors = vec![in alloc; TimeState::inactive(); nodes]?;
-    Ok(Items::from_vec(sensors))
-}
-
-/// No pointer is over a node.
-fn untouched_sensors(alloc: Global, nodes: usize) -> Result<Items<TouchState>, AllocError>
-    ensures { IfOk result (λ touches. touches ≡ replicate nodes untouched) }
-{
-    let touches = vec![in alloc; TouchState::untouched(); nodes]?;
-    Ok(Items::from_vec(touches))
-}
-
-/// The world of a scene before any input.
-fn opening(alloc: Global, scene: &Scene) -> Result<WorldData, AllocError>
-    ensures { IfOk result (λ w. w ≡ opening scene.now) }
-{
-    let fields = scene.state(alloc)?;
-    let sensors = idle_sensors(alloc, fields.len())?;
-    let touches = untouched_sensors(alloc, fields.len())?;
-    Ok(WorldData {
-        applied: 0,
-        last_time: 0,
-        fields: State::from_vec(fields),
-        sensors,
-        touches,
-        buttons: [false; VIEWERS],
-        trace: Trace::new(alloc),
-    })
-}
-
-/// The sensors of a scene.
-fn sensors_of(alloc: Global, scene: &Scene) -> Result<Sensors, AllocError>
-    ensures clocks { IfOk result
-        (λ sensors. sensors.clocks.items ≡ clocks_of (types_of scene.now)) }
-    ensures touches { IfOk result
-        (λ sensors. sensors.touches.items ≡ touch_sensors_of (types_of scene.now)) }
-{
-    let clocks = numbers_of(alloc, scene, NodeType::TimeSensor)?;
-    let touches = numbers_of(alloc, scene, NodeType::TouchSensor)?;
-    Ok(Sensors { clocks, touches })
-}
-
-/// What a stage works with: no task is left, and the boxes are those of the world. There is room
-/// for as many pressed sensors as there are.
-fn bench_of(
-    alloc: Global,
-    scene: &Scene,
-    world: &WorldData,
-    sensors: usize,
-) -> Result<Bench, AllocError>
-    ensures { IfOk result (λ bench. bench.boxes ≡ rows_of scene.now world.now.fields) }
-{
-    let boxes = BoxCache::new(alloc, scene, world.fields.as_slice())?;
-    let pressed = Vec::with_capacity(alloc, sensors)?;
-    Ok(Bench {
-        tasks: Vec::new(alloc),
-        pressed,
-        boxes,
-    })
-}
-
 impl<B> Stage<B> {
     ghost use Rattle.std.specs.Prelude.{◌≡◌, ◌++◌, ◌⊎◌, IfOk, IfErr, IfNone, IfSome, None, Some, OnOk, OnErr};
     ghost use Rattle.std.specs.Option.{option_copied};
@@ -142,16 +67,17 @@ impl<B> Stage<B> {
         ensures { IfOk result (λ stage. stage
             ≡ record { scene = scene; routes = routes; held = Running (opening scene) }) }
     {
-        let sensors = sensors_of(alloc, &scene)?;
-        let world = opening(alloc, &scene)?;
-        let bench = bench_of(alloc, &scene, &world, sensors.touches.len())?;
-        let sent = SentBits::new(alloc, &scene)?;
+        let Parts {
+            sensors,
+            turn,
+            bench,
+        } = parts_of(alloc, &scene)?;
         Ok(Stage {
             scene,
             routes,
             scripts,
             sensors,
-            turn: Turn { world, sent },
+            turn,
             bench,
             spoiled: None,
         })

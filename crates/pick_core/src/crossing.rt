@@ -8,7 +8,7 @@ use crate::bounds::{Bounds, Fraction};
 use x3d_values::{Ray, Vec3};
 
 /// The ray is between two sides of a box from `near / slope` to `far / slope` of its way.
-#[derive(Clone, Copy, Debug)]
+#[derive(Clone, Copy)]
 pub(crate) struct Span {
     pub near: u64,
     pub far: u64,
@@ -16,7 +16,7 @@ pub(crate) struct Span {
 }
 
 /// The spans of the three axes.
-#[derive(Clone, Copy, Debug)]
+#[derive(Clone, Copy)]
 pub(crate) struct Spans {
     pub x: Span,
     pub y: Span,

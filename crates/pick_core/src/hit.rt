@@ -8,7 +8,7 @@ use arrayvec::ArrayVec;
 use std::marker::Model;
 
 /// The positions that lead from the roots of a scene down to a Shape, from 0, the root's first.
-#[derive(Debug, Drop)]
+#[derive(Drop)]
 pub struct Path {
     positions: ArrayVec<usize, 64>,
 }
@@ -23,7 +23,7 @@ impl Model for Path {
 
 /// A box that a ray hits, by its path, and the place `n / m` of the way along the ray's direction
 /// where it enters the box. `m` is above 0.
-#[derive(Debug, Drop)]
+#[derive(Drop)]
 pub struct Hit {
     pub path: Path,
     pub n: u64,

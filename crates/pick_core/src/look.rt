@@ -10,7 +10,7 @@ use scene_core::Scene;
 use x3d_values::{Fields, NodeType, Value, Vec3};
 
 /// What a node is for a ray. A Shape may hold a Box of a size.
-#[derive(Clone, Copy, Debug)]
+#[derive(Clone, Copy)]
 pub(crate) enum Kind {
     Group,
     Transform,
@@ -20,7 +20,7 @@ pub(crate) enum Kind {
 }
 
 /// How a Transform moves what is inside it, in millionths.
-#[derive(Clone, Copy, Debug)]
+#[derive(Clone, Copy)]
 pub(crate) struct Motion {
     pub translation: Vec3,
     pub scale: Vec3,

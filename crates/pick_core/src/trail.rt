@@ -12,7 +12,7 @@ use x3d_lists::Items;
 use x3d_values::Fields;
 
 /// A node and its position among its siblings, from 0.
-#[derive(Clone, Copy, Debug, Default)]
+#[derive(Clone, Copy, Default)]
 pub struct Place {
     pub position: usize,
     pub node: u32,

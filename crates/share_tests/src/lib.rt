@@ -1,4 +1,4 @@
-//! Tests of the host and the viewers of a shared world, of their turns and of snapshots. It has
+//! Tests of snapshots, of the host and the viewers of a shared world, and of their turns. It has
 //! nothing else.
 #![tactic(auto)]
 

@@ -39,7 +39,7 @@ pub enum HeadFault {
 }
 
 /// Whose snapshot it is, and how far its world had come.
-#[derive(Clone, Copy, Debug, PartialEq, Eq)]
+#[derive(Clone, Copy, PartialEq, Eq)]
 pub struct Progress {
     /// Which start of the viewer.
     pub boot: u32,

@@ -17,7 +17,7 @@ use x3d_values::{Access, FieldType, Items, NodeType, Value};
 const CYCLE_INTERVAL: u16 = 1;
 
 /// What a snapshot has of a field.
-#[derive(Clone, Copy, Debug, PartialEq, Eq)]
+#[derive(Clone, Copy, PartialEq, Eq)]
 pub enum KeptField {
     /// Nothing: the field keeps no value, or is one of nodes or of a rotation.
     Absent,

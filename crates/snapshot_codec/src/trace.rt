@@ -21,7 +21,7 @@ use x3d_values::{FieldType, Items, Value};
 const LATEST: i64 = 1_000_000_000_000_000_000;
 
 /// When and where an event was sent.
-#[derive(Clone, Copy, Debug, PartialEq, Eq)]
+#[derive(Clone, Copy, PartialEq, Eq)]
 pub struct SentAt {
     /// The number of the input.
     pub input: u32,
@@ -34,7 +34,7 @@ pub struct SentAt {
 }
 
 /// An event that was sent.
-#[derive(Debug, Drop)]
+#[derive(Drop)]
 pub struct TraceEntry {
     pub sent: SentAt,
     pub value: Value,

@@ -10,14 +10,14 @@ use byte_codec::{byte_of, u16_of, u64_of};
 use std::alloc::AllocError;
 
 /// How many viewers a world may have, and so how many bits a set of them has.
-#[derive(Clone, Copy, Debug, PartialEq, Eq)]
+#[derive(Clone, Copy, PartialEq, Eq)]
 pub enum Viewers {
     Sixteen,
     SixtyFour,
 }
 
 /// Who is over a TouchSensor, and who presses it.
-#[derive(Clone, Copy, Debug, PartialEq, Eq)]
+#[derive(Clone, Copy, PartialEq, Eq)]
 pub struct Touch {
     /// Bit v is set where viewer v's pointer is over the sensor.
     pub over: u64,

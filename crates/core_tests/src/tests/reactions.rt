@@ -173,23 +173,25 @@ fn passes_on_truth_values_and_times(rt: HostRuntime) -> Result<(), Fail> {
     Ok(())
 }
 
+/// What comes to the sequencer, and what it sends.
+const SEQUENCE: [(u16, Given, &str); 8] = [
+    (4, Given::Truth(true), "6 9;"),
+    (3, Given::Truth(true), "6 7;"),
+    (3, Given::Truth(false), ""),
+    (5, Given::Float(750_000), "6 8;"),
+    (3, Given::Truth(true), "6 9;"),
+    (3, Given::Truth(true), "6 7;"),
+    (5, Given::Float(-1), "6 7;"),
+    (5, Given::Truth(true), ""),
+];
+
 /// An IntegerSequencer of three keys: what it sends at these events, in turn.
 #[test]
 fn sequencer(rt: HostRuntime) -> Result<(), Fail> {
     let alloc = rt.alloc();
     let values = Value::MFInt32(Items::from_slice(alloc, &[7, 8, 9])?);
     let mut node = keyed(alloc, &[0, 500_000, 1_000_000], values)?;
-    let steps = [
-        (4, Given::Truth(true), "6 9;"),
-        (3, Given::Truth(true), "6 7;"),
-        (3, Given::Truth(false), ""),
-        (5, Given::Float(750_000), "6 8;"),
-        (3, Given::Truth(true), "6 9;"),
-        (3, Given::Truth(true), "6 7;"),
-        (5, Given::Float(-1), "6 7;"),
-        (5, Given::Truth(true), ""),
-    ];
-    for (input, given, wanted) in steps {
+    for (input, given, wanted) in SEQUENCE {
         let node_type = NodeType::IntegerSequencer;
         let sent = sends(alloc, node_type, &mut node, input, value_of(given), wanted)?;
         assert!(rt; sent, "{input} {wanted}");
@@ -222,18 +224,20 @@ fn a_position_past_the_end_counts_as_none(rt: HostRuntime) -> Result<(), Fail> {
     Ok(())
 }
 
+/// Keys, a fraction, and the last key that it reaches.
+const REACHED: [(&[i64], i64, Option<usize>); 7] = [
+    (&[], 0, None),
+    (&[2, 1], 0, None),
+    (&[0, 5, 5, 9], -1, Some(0)),
+    (&[0, 5, 5, 9], 0, Some(0)),
+    (&[0, 5, 5, 9], 5, Some(2)),
+    (&[0, 5, 5, 9], 8, Some(2)),
+    (&[0, 5, 5, 9], 10, Some(3)),
+];
+
 #[test]
 fn finds_the_last_key_that_was_reached(rt: HostRuntime) {
-    let cases: [(&[i64], i64, Option<usize>); 7] = [
-        (&[], 0, None),
-        (&[2, 1], 0, None),
-        (&[0, 5, 5, 9], -1, Some(0)),
-        (&[0, 5, 5, 9], 0, Some(0)),
-        (&[0, 5, 5, 9], 5, Some(2)),
-        (&[0, 5, 5, 9], 8, Some(2)),
-        (&[0, 5, 5, 9], 10, Some(3)),
-    ];
-    for (keys, fraction, wanted) in cases {
+    for (keys, fraction, wanted) in REACHED {
         assert!(rt; step_index(keys, fraction) == wanted);
     }
 }
@@ -258,32 +262,34 @@ fn is_vector_at(
     is_between(alloc, node_type, &[0, 4], &values, fraction, wanted)
 }
 
+/// Vectors at the keys, a fraction, and the text of what stands there.
+const VECTORS: [(NodeType, &[Vec3], i64, &str); 6] = [
+    (
+        NodeType::PositionInterpolator,
+        &[ONE, OTHER],
+        1,
+        "1 -1 0.000008",
+    ),
+    (
+        NodeType::CoordinateInterpolator,
+        &[ONE, OTHER, OTHER, ONE],
+        2,
+        "[2 -2 0.000008 2 -2 0.000008]",
+    ),
+    (
+        NodeType::CoordinateInterpolator,
+        &[ONE, OTHER, OTHER],
+        2,
+        "",
+    ),
+    (NodeType::CoordinateInterpolator, &[], 2, ""),
+    (NodeType::ScalarInterpolator, &[ONE, OTHER], 2, ""),
+    (NodeType::TimeSensor, &[ONE, OTHER], 2, ""),
+];
+
 #[test]
 fn interpolates_each_component(rt: HostRuntime) -> Result<(), Fail> {
-    let cases: [(NodeType, &[Vec3], i64, &str); 6] = [
-        (
-            NodeType::PositionInterpolator,
-            &[ONE, OTHER],
-            1,
-            "1 -1 0.000008",
-        ),
-        (
-            NodeType::CoordinateInterpolator,
-            &[ONE, OTHER, OTHER, ONE],
-            2,
-            "[2 -2 0.000008 2 -2 0.000008]",
-        ),
-        (
-            NodeType::CoordinateInterpolator,
-            &[ONE, OTHER, OTHER],
-            2,
-            "",
-        ),
-        (NodeType::CoordinateInterpolator, &[], 2, ""),
-        (NodeType::ScalarInterpolator, &[ONE, OTHER], 2, ""),
-        (NodeType::TimeSensor, &[ONE, OTHER], 2, ""),
-    ];
-    for (node_type, vectors, fraction, wanted) in cases {
+    for (node_type, vectors, fraction, wanted) in VECTORS {
         let there = is_vector_at(rt.alloc(), node_type, vectors, fraction, wanted)?;
         assert!(rt; there, "{wanted}");
     }
@@ -316,12 +322,6 @@ fn keeps_a_title(alloc: Global) -> Result<bool, AllocError> {
     Ok(sent && kept.as_slice() == b"\"here\"".as_slice())
 }
 
-#[test]
-fn keeps_what_it_sets(rt: HostRuntime) -> Result<(), Fail> {
-    assert!(rt; keeps_a_title(rt.alloc())?);
-    Ok(())
-}
-
 /// Whether an IntegerTrigger sends its number.
 fn sends_its_number(alloc: Global) -> Result<bool, AllocError> {
     let mut node = fields(alloc, 4)?;
@@ -338,7 +338,8 @@ fn sends_what_lies_between(alloc: Global) -> Result<bool, AllocError> {
 }
 
 #[test]
-fn sends_what_it_holds(rt: HostRuntime) -> Result<(), Fail> {
+fn sends_what_it_holds_and_keeps_what_it_sets(rt: HostRuntime) -> Result<(), Fail> {
+    assert!(rt; keeps_a_title(rt.alloc())?);
     assert!(rt; sends_its_number(rt.alloc())?);
     assert!(rt; sends_what_lies_between(rt.alloc())?);
     Ok(())

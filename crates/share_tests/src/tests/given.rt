@@ -1,25 +1,61 @@
 //! What tests begin with.
 
+ghost use Rattle.std.specs.Prelude.{◌≡◌, IfOk};
+ghost use Rattle.cascade_core.specs.Apply.{opening};
+ghost use Rattle.cascade_core.specs.Held.{Running};
+
 use cascade_core::{Scripts, Stage};
 use share_program::open_scene;
 use std::alloc::Global;
 use std::test::Fail;
+use x3d_values::{Point, Vec3};
 
-/// More than a test appends.
-const FULL: usize = 4096;
+pub(super) const MARK: [u8; 32] = *b"abcdefghijklmnopqrstuvwxyzABCDEF";
 
-/// A buffer that has room for nothing more.
-pub(super) fn full(alloc: Global) -> Result<Vec<u8>, Fail> {
-    let mut out = Vec::with_capacity(alloc, FULL)?;
-    for _ in 0..out.capacity() {
-        out.push(b'x')?;
-    }
-    Ok(out)
-}
+/// scene A
+pub(super) const CLOCKED: &str = "#X3D V3.0 utf8
+DEF T TimeSensor { cycleInterval 2 loop TRUE startTime 1 } DEF B BooleanTrigger {}
+DEF G BooleanToggle {} ROUTE T.cycleTime TO B.set_triggerTime
+ROUTE B.triggerTrue TO G.set_boolean";
+
+/// A sensor on a box, and a clock.
+pub(super) const BOX_AND_CLOCK: &str = "#X3D V3.0 utf8
+DEF T TimeSensor { cycleInterval 2 loop TRUE startTime 1 }
+Transform { translation 10 0 0 scale 2 2 2
+children [ DEF S TouchSensor {} Shape { geometry Box {} } ] }";
+
+/// In front of the box.
+pub(super) const ORIGIN: Vec3 = Vec3 {
+    x: 10_000_000,
+    y: 0,
+    z: 20_000_000,
+};
+
+/// Towards the box.
+pub(super) const DIRECTION: Vec3 = Vec3 {
+    x: 0,
+    y: 0,
+    z: -1_000_000,
+};
+
+/// The button at the box.
+pub(super) const POINT: Point = Point {
+    down: true,
+    origin: ORIGIN,
+    dir: DIRECTION,
+};
 
 /// The stage of a scene after no input.
-pub(super) fn loaded(alloc: Global, text: &[u8]) -> Result<Stage<()>, Fail> {
-    let opened = open_scene(alloc, text)?;
+pub(super) fn fresh(alloc: Global, text: &str) -> Result<Stage<()>, Fail>
+    ensures { IfOk result (λ stage. stage.held ≡ Running (opening stage.scene)) }
+{
+    let opened = open_scene(alloc, text.as_bytes())?;
     let scripts: Scripts<()> = Scripts::none();
     Ok(Stage::load(alloc, opened.scene, opened.routes, scripts)?)
+}
+
+/// Whether the second half of these bytes, of which there are some, is the first one again.
+pub(super) fn is_twice(bytes: &[u8]) -> bool {
+    let (first, second) = bytes.split_at(bytes.len() / 2);
+    !first.is_empty() && first == second
 }

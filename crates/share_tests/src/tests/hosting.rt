@@ -1,5 +1,6 @@
 //! The host by hand: offers of several boots, asks, its limits, and memory that is refused.
 
+use super::given::MARK;
 use share_core::Host;
 use share_law::{HostFault, HostReply, NumberFault};
 use share_wire::{Ack, Ask, Body, Message, Offer, decode, encode};
@@ -7,8 +8,6 @@ use std::process::Abort;
 use std::test::Fail;
 use test_memory::UsedUp;
 use x3d_values::{Event, MAX_INPUTS, Pointer, Ray, Stamped, Vec3};
-
-const MARK: [u8; 32] = *b"abcdefghijklmnopqrstuvwxyzABCDEF";
 
 /// What viewer 0 points with: from 0 0 10 along 0 0 -1, in millionths.
 fn pointer(rt: &impl Abort) -> Pointer {

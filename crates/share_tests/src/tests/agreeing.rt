@@ -2,8 +2,9 @@
 //! applies the steps, also where datagrams are lost, come twice or late; a port that fails ends the
 //! rounds.
 
-use super::given::{MARK, push_wanted, steps, viewers_of};
+use super::given::{BOX_AND_CLOCK, DIRECTION, MARK, ORIGIN, fresh, is_twice};
 use super::way::Way;
+use cascade_core::Stage;
 use share_core::{Host, Viewer};
 use share_port::{FakePort, Port, UdpPort};
 use share_turns::{SeriesFault, TurnFault, agree};
@@ -12,9 +13,54 @@ use std::io;
 use std::net::Net;
 use std::process::Abort;
 use std::test::Fail;
+use x3d_values::{Event, Pointer, Ray, Stamped};
 
 /// More rounds than it takes.
 const ROUNDS: u32 = 10_000;
+
+/// What is tried with two viewers.
+#[derive(Clone, Copy)]
+enum Trial {
+    /// They agree over sockets, perhaps lossy ones.
+    Sockets { lossy: bool },
+    /// They are alone, and a port fails.
+    Failures,
+}
+
+/// Tries it with viewers 0 and 1 of a scene, as their boot 1.
+fn try_on_two<R: Net + Abort>(rt: &R, alloc: Global, trial: Trial) -> Result<(), Fail> {
+    let first = Viewer::start(fresh(alloc, BOX_AND_CLOCK)?, MARK, 0, 1);
+    let second = Viewer::start(fresh(alloc, BOX_AND_CLOCK)?, MARK, 1, 1);
+    let mut viewers = [first, second];
+    attempt(rt, alloc, &mut viewers, trial)
+}
+
+fn attempt<R: Net + Abort>(
+    rt: &R,
+    alloc: Global,
+    viewers: &mut [Viewer<()>; 2],
+    trial: Trial,
+) -> Result<(), Fail> {
+    match trial {
+        Trial::Sockets { lossy } => share(rt, alloc, viewers, lossy),
+        Trial::Failures => {
+            fail(rt, alloc, viewers);
+            Ok(())
+        }
+    }
+}
+
+/// Clocks at 1 and 2 seconds, with a point of viewer 1 between them, and one of viewer 0.
+fn steps() -> [Stamped; 4] {
+    let pointed = Event::Pointer(Pointer::new(1, true, Ray::new(ORIGIN, DIRECTION)));
+    let let_go = Event::Pointer(Pointer::new(0, false, Ray::new(ORIGIN, DIRECTION)));
+    [
+        Stamped::new(1, 1_000_000, Event::Clock),
+        Stamped::new(2, 1_000_001, pointed),
+        Stamped::new(3, 2_000_000, Event::Clock),
+        Stamped::new(4, 2_000_001, let_go),
+    ]
+}
 
 fn agreed<P: Port>(
     alloc: Global,
@@ -27,6 +73,22 @@ fn agreed<P: Port>(
 ) -> Result<(), SeriesFault> {
     let mut host = Host::new(alloc, MARK, 2);
     agree(&mut host, viewers, &steps(), rounds, own, port, ports, out)
+}
+
+fn apply_all(stage: &mut Stage<()>, out: &mut Vec<u8>) -> Result<(), Fail> {
+    out.extend_from_slice(b"agreed 4\n")?;
+    for step in steps() {
+        stage.apply(&step)?;
+    }
+    stage.trace_text(out)?;
+    stage.scene_text(out)?;
+    Ok(())
+}
+
+/// What `agree` writes of these steps, by a stage that applies them.
+fn push_wanted(alloc: Global, out: &mut Vec<u8>) -> Result<(), Fail> {
+    let mut stage = fresh(alloc, BOX_AND_CLOCK)?;
+    apply_all(&mut stage, out)
 }
 
 fn way<R: Net>(rt: &R, lossy: bool) -> io::Result<Way> {
@@ -47,12 +109,11 @@ fn come_to<P: Port>(
     own: u16,
     port: &mut P,
     ports: &mut [P; 2],
+    out: &mut Vec<u8>,
 ) -> Result<(), Fail> {
-    let mut out = Vec::new(alloc);
-    agreed(alloc, viewers, ROUNDS, own, port, ports, &mut out)?;
-    let mut wanted = Vec::new(alloc);
-    push_wanted(alloc, &mut wanted)?;
-    assert!(rt; out == wanted);
+    agreed(alloc, viewers, ROUNDS, own, port, ports, out)?;
+    push_wanted(alloc, out)?;
+    assert!(rt; is_twice(out.as_slice()));
     Ok(())
 }
 
@@ -62,23 +123,22 @@ fn share<R: Net + Abort>(
     viewers: &mut [Viewer<()>; 2],
     lossy: bool,
 ) -> Result<(), Fail> {
+    let mut ports = ways(rt, lossy)?;
     let bound = UdpPort::bind(rt, 0)?;
     let own = bound.local_port()?;
     let mut port = Way::new(bound, lossy);
-    let mut ports = ways(rt, lossy)?;
-    come_to(rt, alloc, viewers, own, &mut port, &mut ports)
+    let mut out = Vec::new(alloc);
+    come_to(rt, alloc, viewers, own, &mut port, &mut ports, &mut out)
 }
 
 #[test]
 fn two_viewers_agree(rt: HostRuntime) -> Result<(), Fail> {
-    let mut viewers = viewers_of(rt.alloc())?;
-    share(&rt, rt.alloc(), &mut viewers, false)
+    try_on_two(&rt, rt.alloc(), Trial::Sockets { lossy: false })
 }
 
 #[test]
 fn two_viewers_agree_over_a_bad_way(rt: HostRuntime) -> Result<(), Fail> {
-    let mut viewers = viewers_of(rt.alloc())?;
-    share(&rt, rt.alloc(), &mut viewers, true)
+    try_on_two(&rt, rt.alloc(), Trial::Sockets { lossy: true })
 }
 
 /// Nothing comes: the host's port fails at one call, and that of viewer 1 at another; none at 0.
@@ -113,7 +173,5 @@ fn fail(rt: &impl Abort, alloc: Global, viewers: &mut [Viewer<()>; 2]) {
 
 #[test]
 fn a_port_that_fails_ends_the_rounds(rt: HostRuntime) -> Result<(), Fail> {
-    let mut viewers = viewers_of(rt.alloc())?;
-    fail(&rt, rt.alloc(), &mut viewers);
-    Ok(())
+    try_on_two(&rt, rt.alloc(), Trial::Failures)
 }

@@ -1,0 +1,123 @@
+//! What a stage makes of its scene.
+
+ghost use Rattle.std.specs.Prelude.{◌≡◌, IfOk, None, replicate};
+ghost use Rattle.cascade_core.specs.Apply.{opening};
+ghost use Rattle.cascade_core.specs.Nodes.{clocks_of, touch_sensors_of};
+ghost use Rattle.pick_core.specs.Sites.{rows_of};
+ghost use Rattle.scene_core.specs.Scene.{types_of};
+ghost use Rattle.sensor_core.specs.Touches.{untouched};
+
+use crate::bench::{Bench, Sensors};
+use crate::nodes::numbers_of;
+use crate::sent::SentBits;
+use crate::state::State;
+use crate::trace::Trace;
+use crate::world::{Turn, VIEWERS, WorldData};
+use pick_core::BoxCache;
+use scene_core::Scene;
+use sensor_core::{TimeState, TouchState};
+use std::alloc::{AllocError, Global};
+use x3d_lists::Items;
+use x3d_values::NodeType;
+
+/// No node runs a cycle.
+fn idle_sensors(alloc: Global, nodes: usize) -> Result<Items<TimeState>, AllocError>
+    ensures { IfOk result (λ sensors. sensors ≡ replicate nodes None) }
+{
+    let sensors = vec![in alloc; TimeState::inactive(); nodes]?;
+    Ok(Items::from_vec(sensors))
+}
+
+/// No pointer is over a node.
+fn untouched_sensors(alloc: Global, nodes: usize) -> Result<Items<TouchState>, AllocError>
+    ensures { IfOk result (λ touches. touches ≡ replicate nodes untouched) }
+{
+    let touches = vec![in alloc; TouchState::untouched(); nodes]?;
+    Ok(Items::from_vec(touches))
+}
+
+/// The world of a scene before any input.
+fn opening(alloc: Global, scene: &Scene) -> Result<WorldData, AllocError>
+    ensures { IfOk result (λ w. w ≡ opening scene.now) }
+{
+    let fields = scene.state(alloc)?;
+    let sensors = idle_sensors(alloc, fields.len())?;
+    let touches = untouched_sensors(alloc, fields.len())?;
+    Ok(WorldData {
+        applied: 0,
+        last_time: 0,
+        fields: State::from_vec(fields),
+        sensors,
+        touches,
+        buttons: [false; VIEWERS],
+        trace: Trace::new(alloc),
+    })
+}
+
+/// The sensors of a scene.
+fn sensors_of(alloc: Global, scene: &Scene) -> Result<Sensors, AllocError>
+    ensures clocks { IfOk result
+        (λ sensors. sensors.clocks.items ≡ clocks_of (types_of scene.now)) }
+    ensures touches { IfOk result
+        (λ sensors. sensors.touches.items ≡ touch_sensors_of (types_of scene.now)) }
+{
+    let clocks = numbers_of(alloc, scene, NodeType::TimeSensor)?;
+    let touches = numbers_of(alloc, scene, NodeType::TouchSensor)?;
+    Ok(Sensors { clocks, touches })
+}
+
+/// What a stage works with: no task is left, and the boxes are those of the world. There is room
+/// for as many pressed sensors as there are.
+pub(crate) fn bench_of(
+    alloc: Global,
+    scene: &Scene,
+    world: &WorldData,
+    sensors: usize,
+) -> Result<Bench, AllocError>
+    ensures { IfOk result (λ bench. bench.boxes ≡ rows_of scene.now world.now.fields) }
+{
+    let boxes = BoxCache::new(alloc, scene, world.fields.as_slice())?;
+    let pressed = Vec::with_capacity(alloc, sensors)?;
+    Ok(Bench {
+        tasks: Vec::new(alloc),
+        pressed,
+        boxes,
+    })
+}
+
+/// The turn of a scene before any input.
+fn turn_of(alloc: Global, scene: &Scene) -> Result<Turn, AllocError>
+    ensures { IfOk result (λ turn. turn.world ≡ opening scene.now) }
+{
+    let sent = SentBits::new(alloc, scene)?;
+    let world = opening(alloc, scene)?;
+    Ok(Turn { world, sent })
+}
+
+/// What a stage has beside its scene, its routes and its scripts.
+#[derive(Drop)]
+pub(crate) struct Parts {
+    pub(crate) sensors: Sensors,
+    pub(crate) turn: Turn,
+    pub(crate) bench: Bench,
+}
+
+/// The parts of a stage before any input.
+pub(crate) fn parts_of(alloc: Global, scene: &Scene) -> Result<Parts, AllocError>
+    ensures clocks { IfOk result
+        (λ parts. parts.sensors.clocks.items ≡ clocks_of (types_of scene.now)) }
+    ensures touches { IfOk result
+        (λ parts. parts.sensors.touches.items ≡ touch_sensors_of (types_of scene.now)) }
+    ensures world { IfOk result (λ parts. parts.turn.world ≡ opening scene.now) }
+    ensures boxes { IfOk result
+        (λ parts. parts.bench.boxes ≡ rows_of scene.now parts.turn.world.fields) }
+{
+    let sensors = sensors_of(alloc, scene)?;
+    let turn = turn_of(alloc, scene)?;
+    let bench = bench_of(alloc, scene, &turn.world, sensors.touches.len())?;
+    Ok(Parts {
+        sensors,
+        turn,
+        bench,
+    })
+}

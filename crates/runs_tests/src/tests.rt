@@ -1,6 +1,0 @@
-//! The tests.
-
-mod agreeing;
-mod given;
-mod viewing;
-mod way;
