@@ -1,11 +1,10 @@
 -- What the walk keeps holds of the flat document.
-use Rattle.std.proofs.Common.{◌≡◌, ℕ, ◌+◌, ◌≤◌, List, [], ◌∷◌, ◌++◌, length, Option, Some, None, Result, Ok, Err, slice_get, refl, sym, subst, arith, length-append}
+use Rattle.std.proofs.Common.{◌≡◌, ℕ, ◌+◌, ◌≤◌, List, [], ◌∷◌, ◌++◌, length, Option, Result, Ok, Err, slice_get, subst, arith, length-append}
 use Rattle.std.specs.List.{AllByRecursion, fold}
 use Rattle.classic_tree.specs.declared.tree.Document.{Document}
 use Rattle.classic_tree.specs.declared.tree.Statement.{Statement}
 use Rattle.flat_document.specs.declared.fault.ExpandFault.{ExpandFault}
 use Rattle.flat_document.specs.declared.flat.Flat.{Flat}
-use Rattle.flat_document.specs.declared.flat.FlatField.{FlatField}
 use Rattle.flat_document.specs.declared.flat.FlatNode.{FlatNode}
 use Rattle.flat_document.specs.declared.flat.FlatRoute.{FlatRoute}
 use Rattle.flat_document.specs.declared.flat.Header.{Header}
@@ -15,9 +14,9 @@ use Rattle.proto_ends.specs.Pairs.{max_routes, routes_of}
 use Rattle.proto_walk.specs.declared.held.PlacedNode.{PlacedNode}
 use Rattle.proto_walk.specs.declared.held.Store.{Store}
 use Rattle.proto_walk.specs.Limits.{max_nodes}
-use Rattle.proto_walk.specs.Machine.{Machine, Outcome, Walk, ◌>>=◌, pure, through}
+use Rattle.proto_walk.specs.Machine.{Outcome, pure, through}
 use Rattle.proto_walk.specs.Meaning.{statement_does}
-use Rattle.proto_walk.specs.Whole.{add_node, at_top, check, flat, flat_node, flat_nodes, flat_of, grown, header_of, label_at, nothing, put_statement, with_declared, with_routes}
+use Rattle.proto_walk.specs.Whole.{add_node, at_top, check, flat, flat_node, flat_of, grown, header_of, label_at, nothing, put_statement, with_declared, with_routes}
 use Rattle.document_limits.proofs.Every.{AnyCount, AnyText, every_all}
 use Rattle.document_limits.proofs.Routes.{AreFew, routes_few}
 use Rattle.document_limits.proofs.Trees.{StatementKeeps}

@@ -1,7 +1,7 @@
 -- Whatever the document: the number of its nodes is kept.
-use Rattle.std.proofs.Common.{◌≡◌, ℕ, List, [], ◌∷◌, map, sym, subst}
+use Rattle.std.proofs.Common.{ℕ, List, [], ◌∷◌, map, sym, subst}
 use Rattle.std.specs.List.{AllByRecursion}
-use Rattle.classic_tree.specs.declared.tree.BodyItem.{BodyItem, roll-BodyItem, map-BodyItem, ind-BodyItem}
+use Rattle.classic_tree.specs.declared.tree.BodyItem.{BodyItem, roll-BodyItem, map-BodyItem}
 use Rattle.classic_tree.specs.declared.tree.BodyItem.TheOpen.{BodyItem-F, NodeText-F, Statement-F, ProtoText-F}
 use Rattle.classic_tree.specs.declared.tree.BodyItem.TheShapes.{former-BodyItem-Field-2-at-11, former-BodyItem-Declaration-0-at-16, former-ProtoText-interface-at-16}
 use Rattle.classic_tree.specs.declared.tree.BodyItem.TheVariants as item
@@ -10,8 +10,7 @@ use Rattle.classic_tree.specs.declared.tree.Given.{Given}
 use Rattle.classic_tree.specs.declared.tree.Given.TheVariants as given
 use Rattle.classic_tree.specs.declared.tree.NodeText.{NodeText, roll-NodeText, map-NodeText}
 use Rattle.classic_tree.specs.declared.tree.NodeText.TheVariants as node
-use Rattle.classic_tree.specs.declared.tree.ProtoText.{ProtoText, roll-ProtoText, out-ProtoText, out-roll-ProtoText, map-ProtoText}
-use Rattle.classic_tree.specs.declared.tree.RawValue.{RawValue}
+use Rattle.classic_tree.specs.declared.tree.ProtoText.{ProtoText, roll-ProtoText, out-roll-ProtoText, map-ProtoText}
 use Rattle.classic_tree.specs.declared.tree.RawValue.TheVariants as value
 use Rattle.classic_tree.specs.declared.tree.Statement.{Statement, roll-Statement, map-Statement, ind-Statement}
 use Rattle.classic_tree.specs.declared.tree.Statement.TheVariants as statement

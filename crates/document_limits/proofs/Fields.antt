@@ -1,5 +1,5 @@
 -- What stands between braces keeps it, where the nodes inside do.
-use Rattle.std.proofs.Common.{◌≡◌, ℕ, ◌+◌, ◌-◌, ◌&&◌, Bool, true, false, if◌then◌else◌, nat_lt, is_none, List, [], ◌∷◌, ◌++◌, length, map, Option, Some, None, Result, Ok, Err, refl, arith}
+use Rattle.std.proofs.Common.{ℕ, ◌-◌, if◌then◌else◌, nat_lt, is_none, List, [], ◌∷◌, ◌++◌, length, Option, Some, None, Ok}
 use Rattle.std.specs.List.{AllByRecursion}
 use Rattle.classic_tree.specs.declared.tree.Declaration.{Declaration}
 use Rattle.classic_tree.specs.declared.tree.Given.{Given}
@@ -12,10 +12,10 @@ use Rattle.proto_walk.specs.declared.held.Joined.{Joined}
 use Rattle.proto_walk.specs.declared.held.KnownField.{KnownField}
 use Rattle.proto_walk.specs.Fields.{Signature, fits, of_interface, of_signature}
 use Rattle.proto_walk.specs.Limits.{count_again, count_items, item_count, max_fields}
-use Rattle.proto_walk.specs.Machine.{Machine, Walk, ◌>>=◌, keep, keep_name, pure, refuse, through, tie}
+use Rattle.proto_walk.specs.Machine.{Machine, ◌>>=◌, keep, keep_name, pure, refuse, through, tie}
 use Rattle.proto_walk.specs.Meaning.{Owner, Place, add_declaration, add_declared_is, add_default, add_default_value, add_defaults, add_given, add_is, add_joined, add_known, add_known_is, add_new, add_number, add_taken, add_tied, add_value, admits, hand_on, hand_over, has_field, is_taken, is_wanted, joined_by, known, numbered, tie_declared, tie_field, unless_own, with_field, with_number, with_place}
 use Rattle.document_limits.specs.Lengths.{HasParts}
-use Rattle.document_limits.proofs.Walks.{GoodValue, GoodWalk, Ends, Does, Keeps, then_ends, bind_so, bind, pure_keeps, either, either_way, through_keeps, count_again_keeps, count_items_keeps, keep_keeps, keep_name_keeps, tie_keeps}
+use Rattle.document_limits.proofs.Walks.{GoodValue, Does, Keeps, then_ends, bind_so, bind, pure_keeps, either, either_way, through_keeps, count_again_keeps, count_items_keeps, keep_keeps, keep_name_keeps, tie_keeps}
 
 module _ (Text : List ℕ → Type 0) (Count : ℕ → Type 0) where
   -- ---- IS

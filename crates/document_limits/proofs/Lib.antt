@@ -5,6 +5,7 @@ pub mod Every
 pub mod Documents
 pub mod Routes
 pub mod Tokens
+pub mod Counts
 pub mod Spelled
 pub mod Values
 pub mod Scenes

@@ -1,13 +1,13 @@
 -- The tokens of a text are no longer, and no more, than its bytes.
-use Rattle.std.proofs.Common.{◌≡◌, ℕ, ◌+◌, ◌≤◌, ◌<◌, List, [], ◌∷◌, ◌++◌, length, refl, sym, subst, ap, inl, inr, arith, length-append}
-use Rattle.std.specs.Prelude.{All, codes}
-use Rattle.std.specs.List.{AllByRecursion, flat_map}
+use Rattle.std.proofs.Common.{ℕ, ◌≤◌, ◌<◌, List, [], ◌∷◌, length, sym, subst, arith, length-append}
+use Rattle.std.specs.Prelude.{All}
+use Rattle.std.specs.List.{AllByRecursion}
 use Rattle.std.specs.Str.{IsUtf8}
 use Rattle.std.proofs.lemmas.List.Elements.{All-head, All-tail}
 use Rattle.classic_lex.specs.declared.token.TokenKind.{TokenKind}
 use Rattle.classic_lex.specs.declared.token.TokenKind.TheVariants as kind
 use Rattle.classic_lex.specs.Lexed.{Tok, line_after}
-use Rattle.classic_lex.specs.Tokens.{ArePieces, HasTokens, IsToken, Piece, blank, bytes_of, text_of, token, tokens_among}
+use Rattle.classic_lex.specs.Tokens.{ArePieces, HasTokens, IsToken, Piece, blank, text_of, token, tokens_among}
 use Rattle.classic_lex.proofs.Utf8Lemmas.{IsUtf8-HasTokens}
 use Rattle.document_limits.specs.Lengths.{IsShortText}
 

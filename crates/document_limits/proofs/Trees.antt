@@ -1,5 +1,5 @@
 -- Nodes, statements and prototypes keep it, where what stands in them does.
-use Rattle.std.proofs.Common.{◌≡◌, ℕ, List, [], ◌∷◌, ◌++◌, length, map, Option, Some, None, Result, Ok, Err, refl, sym, subst}
+use Rattle.std.proofs.Common.{ℕ, List, [], ◌∷◌, length, map, Option, Some, None, Result, Ok, Err, sym, subst}
 use Rattle.std.specs.List.{AllByRecursion}
 use Rattle.x3d_values.specs.declared.node_type.NodeType.{NodeType}
 use Rattle.x3d_values.specs.Names.{node_type_named}
@@ -14,10 +14,9 @@ use Rattle.classic_tree.specs.declared.tree.RouteText.{RouteText}
 use Rattle.classic_tree.specs.declared.tree.Statement.{Statement}
 use Rattle.classic_tree.specs.declared.tree.Statement.TheVariants as statement
 use Rattle.flat_document.specs.declared.fault.ExpandFault.{ExpandFault}
-use Rattle.flat_document.specs.declared.fault.ExpandFaultKind.TheVariants.{EmptyBody, FieldTwice, UnknownNode}
 use Rattle.proto_declarations.specs.Sight.{Sight as Declared}
 use Rattle.proto_declarations.specs.Sight.{no_names as no_names_yet}
-use Rattle.proto_ends.specs.Spots.{spots_of, with_spots}
+use Rattle.proto_ends.specs.Spots.{spots_of}
 use Rattle.proto_ends.specs.declared.ends.Spot.{Spot}
 use Rattle.proto_ends.specs.declared.ends.Stand.TheVariants.{Node, Instance}
 use Rattle.proto_ends.specs.declared.ends.Tie.{Tie}
@@ -26,12 +25,12 @@ use Rattle.proto_walk.specs.declared.held.Store.{Store}
 use Rattle.proto_walk.specs.Closing.{put}
 use Rattle.proto_walk.specs.Fields.{Signature, first_twice, own_interface, signature, signatures}
 use Rattle.proto_walk.specs.Limits.{begin_instance, begin_node, count_joined}
-use Rattle.proto_walk.specs.Machine.{Begun, Bound, Made, Machine, Meaning, Outcome, Walk, and_then, ◌>>=◌, definition, help, know, label, lookup, meet, pure, refuse, stand, through, use_node}
+use Rattle.proto_walk.specs.Machine.{Bound, Made, Machine, Outcome, Walk, and_then, ◌>>=◌, definition, help, know, label, lookup, meet, pure, stand, through}
 use Rattle.proto_walk.specs.Meaning.{OnFields, Owner, Place, add_defaults, add_spots, back, begin, begin_body, body, body_of, close_body, close_instance, close_node, declare, declared_in, full_node, hold, in_body, instance, item_does, items_do, join, join_tie, leave, meaning_of, no_spots, node_does, node_owner, of_bound, of_word, out_of, owner_of, proto_does, stand_in, statement_does, typed_node, unless_twice, within}
 use Rattle.proto_walk.specs.Routes.{wire}
 use Rattle.proto_walk.proofs.Equations.{item_does-declaration, item_does-field, item_does-proto, item_does-route, node_does-full, node_does-use, proto_does_is, statement_does-node, statement_does-proto, statement_does-route}
 use Rattle.document_limits.proofs.Fields.{IsFineDeclaration, IsFineGiven, add_declaration_keeps, add_defaults_keeps, add_given_keeps}
-use Rattle.document_limits.proofs.Walks.{Comes, Does, Ends, GoodBound, GoodMeaning, GoodStore, GoodWalk, IfBound, Keeps, all_map, always, begin_instance_keeps, begin_node_keeps, bind, count_joined_keeps, found, help_keeps, know_keeps, label_keeps, meet_keeps, pure_keeps, put_keeps, stand_keeps, then_ends, through_keeps, use_keeps, wire_keeps}
+use Rattle.document_limits.proofs.Walks.{Comes, Ends, GoodBound, GoodMeaning, GoodWalk, IfBound, Keeps, all_map, always, begin_instance_keeps, begin_node_keeps, bind, count_joined_keeps, found, help_keeps, know_keeps, label_keeps, meet_keeps, pure_keeps, put_keeps, stand_keeps, then_ends, through_keeps, use_keeps, wire_keeps}
 
 module _ (Text : List ℕ → Type 0) (Count : ℕ → Type 0) where
   abbrev Kept : {A : Type 0} → Outcome A → Type 0

@@ -1,14 +1,13 @@
 -- A typed value has texts and lists no longer than the raw one, and so have defaults.
-use Rattle.std.proofs.Common.{◌≡◌, ℕ, zero, suc, ◌+◌, ◌≤◌, ◌<◌, ◌%◌, ◌^◌, ◌==◌, ℤ, unsigned_abs, nat_le, Bool, true, false, if◌then◌else◌, nat_lt, List, [], ◌∷◌, length, map, Option, Some, None, Result, Ok, Err, refl, sym, subst, arith}
+use Rattle.std.proofs.Common.{◌≡◌, ℕ, zero, suc, ◌≤◌, ◌%◌, ◌^◌, ◌==◌, ℤ, unsigned_abs, nat_le, Bool, true, false, if◌then◌else◌, nat_lt, List, [], ◌∷◌, length, map, Option, Some, None, Result, Ok, Err, refl, arith}
 use Rattle.std.specs.Prelude.{◌&&◌, codes}
 use Rattle.std.specs.List.{AllByRecursion, list_all}
 use Rattle.std.specs.Option.{option_and_then}
-use Rattle.std.specs.Str.{IsUtf8, IsAscii}
+use Rattle.std.specs.Str.{IsAscii}
 use Rattle.std.proofs.lemmas.Bool.{ltb-true}
 use Rattle.std.proofs.lemmas.List.{length-map}
 use Rattle.std.proofs.lemmas.Str.{IsUtf8-from_ascii}
 use Rattle.x3d_values.specs.Defaults.{default_value}
-use Rattle.x3d_values.specs.Tables.{Entry}
 use Rattle.x3d_values.specs.Values.{empty_value}
 use Rattle.x3d_values.specs.declared.default.FieldDefault.{FieldDefault}
 use Rattle.x3d_values.specs.declared.default.FieldDefault.TheVariants as default

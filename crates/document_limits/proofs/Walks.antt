@@ -1,15 +1,13 @@
 -- What every step of the walk keeps: how many nodes there are, and what holds of texts and lists.
-use Rattle.std.proofs.Common.{◌≡◌, ℕ, zero, suc, ◌+◌, ◌-◌, ◌≤◌, ◌<◌, Bool, true, false, if◌then◌else◌, nat_lt, List, [], ◌∷◌, ◌++◌, length, map, Option, Some, None, Result, Ok, Err, slice_get, slice_set, refl, arith, length-append}
+use Rattle.std.proofs.Common.{◌≡◌, ℕ, zero, suc, ◌+◌, ◌-◌, ◌≤◌, Bool, true, false, if◌then◌else◌, nat_lt, List, [], ◌∷◌, ◌++◌, length, map, Option, Some, None, Result, Ok, Err, slice_get, refl, arith, length-append}
 use Rattle.std.specs.List.{AllByRecursion}
 use Rattle.std.specs.Str.{bytes_eq}
 use Rattle.std.proofs.lemmas.Bool.{ltb-true}
 use Rattle.x3d_values.specs.declared.node_type.NodeType.{NodeType}
 use Rattle.classic_tree.specs.declared.tree.RawValue.{RawValue}
-use Rattle.classic_tree.specs.declared.tree.RawValue.TheVariants as value
 use Rattle.classic_tree.specs.declared.tree.RouteText.{RouteText}
 use Rattle.flat_document.specs.Fault.{fault}
 use Rattle.flat_document.specs.declared.fault.ExpandFault.{ExpandFault}
-use Rattle.flat_document.specs.declared.fault.ExpandFaultKind.{ExpandFaultKind}
 use Rattle.flat_document.specs.declared.fault.ExpandFaultKind.TheVariants.{TooLarge}
 use Rattle.flat_document.specs.declared.flat.FlatField.{FlatField}
 use Rattle.proto_declarations.specs.Sight.{Sight as Declared}
@@ -22,7 +20,7 @@ use Rattle.proto_walk.specs.declared.held.Store.{Store}
 use Rattle.proto_walk.specs.Closing.{declared, flat_fields, add_flat, put, put_flat, value_at, with_fields, with_value}
 use Rattle.proto_walk.specs.Fields.{Signature}
 use Rattle.proto_walk.specs.Limits.{begin_instance, begin_node, count_again, count_items, count_joined, count_of, max_fields, max_instances, max_nodes}
-use Rattle.proto_walk.specs.Machine.{Begun, Bound, Made, Meaning, Machine, Outcome, Walk, and_then, ◌>>=◌, help, is_later, keep, keep_name, know, label, lookup, meet, pure, refuse, stand, through, tie, use_node, used, with_name}
+use Rattle.proto_walk.specs.Machine.{Begun, Bound, Made, Meaning, Machine, Outcome, Walk, and_then, ◌>>=◌, help, is_later, keep, keep_name, know, label, lookup, meet, pure, stand, through, tie, use_node, used, with_name}
 use Rattle.proto_walk.specs.Routes.{add_wire, wire}
 use Rattle.document_limits.specs.Lengths.{HasParts}
 

@@ -1,4 +1,5 @@
--- How many lines a trace has: no output sends twice at one timestamp (ISO/IEC 19775-1, event model).
+-- How many lines a trace has: no output sends twice at one timestamp (ISO/IEC 19775-1, event
+-- model).
 use Rattle.std.specs.Prelude.{◌+◌, ◌^◌, ◌≤◌, ◌<◌, List, length}
 use Rattle.x3d_values.specs.Ranges.{max_inputs}
 use Rattle.x3d_values.specs.Stamp.{Stamp}
