@@ -7,6 +7,7 @@ use Rattle.x3d_values.specs.declared.node_type.NodeType.TheVariants.{TouchSensor
 use Rattle.x3d_values.specs.declared.value.Value.TheVariants.{SFBool, SFVec3f}
 use Rattle.x3d_values.specs.declared.vector.Vec3.{Vec3}
 use Rattle.x3d_values.specs.Ranges.{is_viewer}
+use Rattle.x3d_values.specs.Tables.{Entry}
 use Rattle.react_core.specs.declared.outbox.Reply.{Reply}
 use Rattle.react_core.specs.Reaction.{reply}
 use Rattle.sensor_core.specs.declared.touch_numbers.TheConstants.{IS_OVER, HIT_POINT_CHANGED, IS_PRESSED}
@@ -17,33 +18,10 @@ use Rattle.answer_laws.specs.Answers.{TouchFit, touch_fits}
 use Rattle.answer_laws.specs.Ranges.{replies_fit}
 use Rattle.answer_laws.proofs.Reactions.{moment_fits}
 
-abbrev Sent : List Reply → Type 0
-Sent replies = replies_fit TouchSensor replies ≡ true
-
 -- two lists of events that fit
 pub all_append : {X : Type 0} (p : X → Bool) (xs ys : List X) → list_all p xs ≡ true → list_all p ys ≡ true → list_all p (xs ++ ys) ≡ true
 all_append p [] ys f g = g
 all_append p (x ∷ xs) ys f g = let b = both (p x) (list_all p xs) f in and_true _ _ b.0 (all_append p xs ys b.1 g)
-
-sent_append : (xs ys : List Reply) → Sent xs → Sent ys → Sent (xs ++ ys)
-sent_append xs ys f g = all_append _ xs ys f g
-
-sent_if : (b : Bool) (xs ys : List Reply) → Sent xs → Sent ys → Sent (if b then xs else ys)
-sent_if true xs ys f g = f
-sent_if false xs ys f g = g
-
--- ---- a pointer
-
-over_sent : (was is : Bool) → Sent (over_replies was is)
-unfolding value_fits
-over_sent true true = refl
-over_sent true false = refl
-over_sent false true = refl
-over_sent false false = refl
-
-time_sent : (inside : Option Vec3) (now : ℤ) → is_moment now ≡ true → Sent (time_replies inside now)
-time_sent None now m = refl
-time_sent (Some p) now m = and_true _ _ (moment_fits now m) refl
 
 abbrev Viewer : Option ℕ → Type 0
 Viewer presser = option_map_or is_viewer presser true ≡ true
@@ -52,42 +30,66 @@ viewer_if : (b : Bool) (one other : Option ℕ) → Viewer one → Viewer other 
 viewer_if true one other f g = f
 viewer_if false one other f g = g
 
-module _ (touch : Touch) (who : ℕ) (before down : Bool) where
-  hit_sent : (at inside : Option Vec3) → option_map_or vector3.fits inside true ≡ true → Sent (hit_replies touch (pointer who before down at) inside)
+module _ (ds : List Entry) where
+  abbrev pub Sent : List Reply → Type 0
+  Sent replies = replies_fit TouchSensor ds replies ≡ true
+
+  sent_append : (xs ys : List Reply) → Sent xs → Sent ys → Sent (xs ++ ys)
+  sent_append xs ys f g = all_append _ xs ys f g
+
+  sent_if : (b : Bool) (xs ys : List Reply) → Sent xs → Sent ys → Sent (if b then xs else ys)
+  sent_if true xs ys f g = f
+  sent_if false xs ys f g = g
+
+  -- ---- a pointer
+
+  over_sent : (was is : Bool) → Sent (over_replies was is)
   unfolding value_fits
-  hit_sent at None f = refl
-  hit_sent at (Some p) f = sent_if (is_none touch.presser || is_pressed_by touch who) (reply HIT_POINT_CHANGED (SFVec3f p) ∷ []) [] (and_true _ _ f refl) refl
+  over_sent true true = refl
+  over_sent true false = refl
+  over_sent false true = refl
+  over_sent false false = refl
 
-  press_sent : (inside : Option Vec3) (now : ℤ) → is_moment now ≡ true → Sent (press_replies touch (pointer who before down inside) now)
-  unfolding value_fits
-  press_sent inside now m =
-      sent_if (presses touch (pointer who before down inside)) _ _ refl
-      (sent_if (releases touch (pointer who before down inside)) _ [] (time_sent inside now m) refl)
+  time_sent : (inside : Option Vec3) (now : ℤ) → is_moment now ≡ true → Sent (time_replies inside now)
+  time_sent None now m = refl
+  time_sent (Some p) now m = and_true _ _ (moment_fits now m) refl
 
-pub all_points_fit : (touch : Touch) (who : ℕ) (before down : Bool) (inside : Option Vec3) (now : ℤ) → touch_fits touch ≡ true → is_viewer who ≡ true → option_map_or vector3.fits inside true ≡ true → is_moment now ≡ true → TouchFit (point touch (pointer who before down inside) now)
-unfolding point
-all_points_fit touch who before down inside now f v i m =
-    let b = both (length touch.over == 16) (option_map_or is_viewer touch.presser true) f in
-    let long : length (over_after touch (pointer who before down inside)) ≡ 16 = length-set touch.over who (is_some inside) ∙ eqb-true _ _ b.0 in
-    let after : Bool = is_over (touch_after touch (pointer who before down inside)) in
-    record {
-      in_touch = and_true _ _ (eq-eqb _ _ long)
-          (viewer_if (presses touch (pointer who before down inside)) (Some who) _ v
-          (viewer_if (releases touch (pointer who before down inside)) None touch.presser refl b.1));
-      in_replies = sent_append (over_replies (is_over touch) after ++ hit_replies touch (pointer who before down inside) inside) _
-          (sent_append (over_replies (is_over touch) after) _ (over_sent (is_over touch) after) (hit_sent touch who before down inside inside i))
-          (press_sent touch who before down inside now m);
-    }
+  module _ (touch : Touch) (who : ℕ) (before down : Bool) where
+    hit_sent : (at inside : Option Vec3) → option_map_or vector3.fits inside true ≡ true → Sent (hit_replies touch (pointer who before down at) inside)
+    unfolding value_fits
+    hit_sent at None f = refl
+    hit_sent at (Some p) f = sent_if (is_none touch.presser || is_pressed_by touch who) (reply HIT_POINT_CHANGED (SFVec3f p) ∷ []) [] (and_true _ _ f refl) refl
 
--- ---- it is turned off
+    press_sent : (inside : Option Vec3) (now : ℤ) → is_moment now ≡ true → Sent (press_replies touch (pointer who before down inside) now)
+    unfolding value_fits
+    press_sent inside now m =
+        sent_if (presses touch (pointer who before down inside)) _ _ refl
+        (sent_if (releases touch (pointer who before down inside)) _ [] (time_sent inside now m) refl)
 
-pub all_disables_fit : (touch : Touch) → TouchFit (disable touch)
-unfolding disable value_fits
-all_disables_fit touch = record {
-  in_touch = refl;
-  in_replies = sent_append
-      (if is_over touch then reply IS_OVER (SFBool false) ∷ [] else [])
-      (if is_some touch.presser then reply IS_PRESSED (SFBool false) ∷ [] else [])
-      (sent_if (is_over touch) (reply IS_OVER (SFBool false) ∷ []) [] refl refl)
-      (sent_if (is_some touch.presser) (reply IS_PRESSED (SFBool false) ∷ []) [] refl refl);
-}
+  pub all_points_fit : (touch : Touch) (who : ℕ) (before down : Bool) (inside : Option Vec3) (now : ℤ) → touch_fits touch ≡ true → is_viewer who ≡ true → option_map_or vector3.fits inside true ≡ true → is_moment now ≡ true → TouchFit ds (point touch (pointer who before down inside) now)
+  unfolding point
+  all_points_fit touch who before down inside now f v i m =
+      let b = both (length touch.over == 16) (option_map_or is_viewer touch.presser true) f in
+      let long : length (over_after touch (pointer who before down inside)) ≡ 16 = length-set touch.over who (is_some inside) ∙ eqb-true _ _ b.0 in
+      let after : Bool = is_over (touch_after touch (pointer who before down inside)) in
+      record {
+        in_touch = and_true _ _ (eq-eqb _ _ long)
+            (viewer_if (presses touch (pointer who before down inside)) (Some who) _ v
+            (viewer_if (releases touch (pointer who before down inside)) None touch.presser refl b.1));
+        in_replies = sent_append (over_replies (is_over touch) after ++ hit_replies touch (pointer who before down inside) inside) _
+            (sent_append (over_replies (is_over touch) after) _ (over_sent (is_over touch) after) (hit_sent touch who before down inside inside i))
+            (press_sent touch who before down inside now m);
+      }
+
+  -- ---- it is turned off
+
+  pub all_disables_fit : (touch : Touch) → TouchFit ds (disable touch)
+  unfolding disable value_fits
+  all_disables_fit touch = record {
+    in_touch = refl;
+    in_replies = sent_append
+        (if is_over touch then reply IS_OVER (SFBool false) ∷ [] else [])
+        (if is_some touch.presser then reply IS_PRESSED (SFBool false) ∷ [] else [])
+        (sent_if (is_over touch) (reply IS_OVER (SFBool false) ∷ []) [] refl refl)
+        (sent_if (is_some touch.presser) (reply IS_PRESSED (SFBool false) ∷ []) [] refl refl);
+  }

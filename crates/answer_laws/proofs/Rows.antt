@@ -1,5 +1,5 @@
 -- Values by their rows.
-use Rattle.std.proofs.Common.{◌≡◌, ℕ, zero, suc, ◌+◌, ◌≤◌, Bool, true, List, [], ◌∷◌, length, map, zip, take, drop, Option, Some, None, slice_get, slice_set, option_map, refl, sym, subst, arith}
+use Rattle.std.proofs.Common.{◌≡◌, ℕ, zero, suc, ◌+◌, ◌≤◌, Bool, true, List, [], ◌∷◌, ◌++◌, length, map, zip, take, drop, Option, Some, None, slice_get, slice_set, option_map, refl, sym, subst, arith}
 use Rattle.std.specs.Option.{option_and_then}
 use Rattle.byte_codec.specs.Codec.{Codec, all_fit}
 use Rattle.byte_codec.proofs.Laws.{both, and_true}
@@ -23,6 +23,11 @@ then_some f (Some x) y e = (x, refl, e)
 pub map_some : {A B : Type 0} (f : A → B) (o : Option A) (y : B) → option_map f o ≡ Some y → (x : A) × (o ≡ Some x) × (f x ≡ y)
 map_some f None y e = absurd cc
 map_some f (Some x) y e = (x, refl, some_is (f x) y e)
+
+pub get_left : {A : Type 0} (xs ys : List A) (i : ℕ) (x : A) → slice_get xs i ≡ Some x → slice_get (xs ++ ys) i ≡ Some x
+get_left [] ys i x e = absurd cc
+get_left (y ∷ xs) ys zero x e = e
+get_left (y ∷ xs) ys (suc i) x e = get_left xs ys i x e
 
 -- ---- a value for each row
 

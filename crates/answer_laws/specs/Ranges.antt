@@ -1,6 +1,7 @@
 -- What is in its range, of one node: the values that it keeps, the events that come to it, and what
--- it sends (ISO/IEC 19775-1, field semantics; the ranges are our choice).
-use Rattle.std.specs.Prelude.{ℕ, ◌+◌, Bool, true, false, ◌&&◌, is_none, List, [], ◌∷◌, Option, Some, None, slice_get, if◌then◌else◌}
+-- it sends (ISO/IEC 19775-1, field semantics; the ranges are our choice). A node has the fields of
+-- its type, and behind them those that it declares, if it is a Script.
+use Rattle.std.specs.Prelude.{ℕ, ◌+◌, ◌++◌, Bool, true, false, ◌&&◌, is_none, List, [], ◌∷◌, Option, Some, None, slice_get, if◌then◌else◌}
 use Rattle.std.specs.List.{list_all}
 use Rattle.std.specs.Option.{option_map, option_and_then}
 use Rattle.x3d_values.specs.declared.field_type.FieldType.{FieldType}
@@ -19,26 +20,27 @@ use Rattle.snapshot_codec.specs.Trace.{typed_fits}
 -- ---- events
 
 -- the row of a node's field
-abbrev pub row_at : NodeType → ℕ → Option Entry
-row_at node_type field = slice_get (rows node_type) field
+abbrev pub row_at : NodeType → List Entry → ℕ → Option Entry
+row_at node_type declared field = slice_get (rows node_type ++ declared) field
 
 -- an event may come to that field: its value is of the field's type, in the range of the type
-abbrev pub event_fits : NodeType → ℕ → Value → Bool
-event_fits node_type field value =
-    typed_fits (option_map (λ (row : Entry). row.field_type) (row_at node_type field)) value
+abbrev pub event_fits : NodeType → List Entry → ℕ → Value → Bool
+event_fits node_type declared field value =
+    typed_fits (option_map (λ (row : Entry). row.field_type) (row_at node_type declared field))
+    value
 
 -- the type of the events that leave by a field, if any do
 abbrev pub sent_type : Entry → Option FieldType
 sent_type row = if sends row.access then Some row.field_type else None
 
 -- an event may leave by that field
-abbrev pub sent_fits : NodeType → ℕ → Value → Bool
-sent_fits node_type field value =
-    typed_fits (option_and_then sent_type (row_at node_type field)) value
+abbrev pub sent_fits : NodeType → List Entry → ℕ → Value → Bool
+sent_fits node_type declared field value =
+    typed_fits (option_and_then sent_type (row_at node_type declared field)) value
 
-abbrev pub replies_fit : NodeType → List Reply → Bool
-replies_fit node_type replies =
-    list_all (λ (reply : Reply). sent_fits node_type reply.field reply.value) replies
+abbrev pub replies_fit : NodeType → List Entry → List Reply → Bool
+replies_fit node_type declared replies =
+    list_all (λ (reply : Reply). sent_fits node_type declared reply.field reply.value) replies
 
 -- ---- what a node keeps
 
@@ -59,7 +61,7 @@ position_fits IntegerSequencer position = place_fits position.at
 position_fits _ position = is_none position.at
 
 -- the node keeps for each field what its row says
-abbrev pub fields_fit : NodeType → Fields → Bool
-fields_fit node_type fields =
-    values_fit node_type 0 (rows node_type) fields.values
+abbrev pub fields_fit : NodeType → List Entry → Fields → Bool
+fields_fit node_type declared fields =
+    values_fit node_type 0 (rows node_type ++ declared) fields.values
     && position_fits node_type fields.position

@@ -1,5 +1,5 @@
 -- The opening world of a document's scene fits.
-use Rattle.std.proofs.Common.{◌≡◌, ℕ, suc, ◌^◌, ◌≤◌, Bool, true, false, List, [], ◌∷◌, ◌++◌, length, map, Option, Some, None, Result, Ok, slice_get, refl, sym, subst, ◌∙◌, arith}
+use Rattle.std.proofs.Common.{◌≡◌, ℕ, zero, suc, ◌^◌, ◌≤◌, Bool, true, false, List, [], ◌∷◌, ◌++◌, length, map, take, zip, Option, Some, None, Result, Ok, slice_get, refl, sym, ap, subst, ◌∙◌, arith}
 use Rattle.std.specs.Prelude.{All, replicate}
 use Rattle.std.specs.List.{list_all}
 use Rattle.std.proofs.lemmas.List.{length-map, length-replicate}
@@ -9,8 +9,9 @@ use Rattle.x3d_values.specs.declared.node_type.NodeType.{NodeType}
 use Rattle.x3d_values.specs.declared.node_type.NodeType.TheVariants.{TimeSensor, TouchSensor}
 use Rattle.x3d_values.specs.declared.ranges.TheConstants.{MAX_VIEWERS}
 use Rattle.x3d_values.specs.declared.value.Value.{Value}
-use Rattle.x3d_values.specs.Tables.{rows}
+use Rattle.x3d_values.specs.Tables.{Entry, rows}
 use Rattle.sensor_core.specs.Touches.{Touch, untouched}
+use Rattle.classic_tree.specs.declared.tree.Declaration.{Declaration}
 use Rattle.flat_document.specs.declared.flat.Flat.{Flat}
 use Rattle.flat_document.specs.declared.flat.FlatNode.{FlatNode}
 use Rattle.scene_core.specs.declared.fault.SceneFault.{SceneFault}
@@ -20,35 +21,53 @@ use Rattle.scene_core.specs.Building.{node_of, with_node, nodes_by, nodes_of, li
 use Rattle.scene_core.specs.Faults.{through, ◌>>=◌}
 use Rattle.scene_core.specs.Labels.{label_by, is_alone, names_of}
 use Rattle.scene_core.specs.Numbers.{numbering}
-use Rattle.scene_core.specs.Scene.{SceneView, types_of, fields_of, state_of}
-use Rattle.scene_core.specs.Typed.{values_of, all_children}
+use Rattle.scene_core.specs.Scene.{SceneView, shape_of, shapes_of, kept, fields_of, state_of}
+use Rattle.scene_core.specs.Shape.{declared_by, declared_entry, declaration_entry, most_declared, numbered_fields}
+use Rattle.scene_core.specs.Typed.{values_from, declared_from, values_of, all_children}
 use Rattle.cascade_core.specs.Apply.{opening}
-use Rattle.answer_laws.specs.Ranges.{fields_fit}
+use Rattle.answer_laws.specs.Ranges.{values_fit, fields_fit}
 use Rattle.world_laws.specs.Fits.{time_fits, pointers_fit, nodes_fit, WorldFits}
 use Rattle.document_laws.specs.Openings.{is_countable_node, IsCountable}
 use Rattle.document_laws.proofs.Routes.{ok_is}
-use Rattle.document_laws.proofs.Kept.{bind_is, AreValues, are_values, all_kept_fit, no_position}
+use Rattle.document_laws.proofs.Kept.{bind_is, AreValues, are_values, AreDeclared, are_declared, all_kept_fit, no_position}
 
 -- ---- a node
 
 abbrev Begins : SceneNode → Type 0
-Begins n = is_countable_node n ≡ true → fields_fit n.node_type (fields_of n) ≡ true
+Begins n = is_countable_node n ≡ true → fields_fit n.node_type (shape_of n).declared (fields_of n) ≡ true
 
-abbrev new_node : NodeType → Option (List ℕ) → List (Option Value) → SceneNode
-new_node t label values = record { node_type = t; label = label; values = values }
+abbrev new_node : FlatNode → Option (List ℕ) → List (Option Value) → SceneNode
+new_node node label values = record { node_type = node.node_type; label = label; declared = map declared_by node.interface; values = values }
 
-new_begins : (nodes : List FlatNode) (numbers : List ℕ) (node : FlatNode) (label : Option (List ℕ)) (values : List (Option Value)) → AreValues nodes numbers node.fields 0 (rows node.node_type) values → Begins (new_node node.node_type label values)
-new_begins nodes numbers node label values a c =
-    and_true _ _ (all_kept_fit nodes numbers node.fields node.node_type values a c) (no_position node.node_type)
+-- what it declares is what its Script declares in the document
+entries_are : (m : ℕ) (ds : List (Declaration ℕ)) → map declared_entry (take m (map declared_by ds)) ≡ map declaration_entry (take m ds)
+entries_are zero ds = refl
+entries_are (suc m) [] = refl
+entries_are (suc m) (d ∷ ds) = ap (λ (es : List Entry). declaration_entry d ∷ es) (entries_are m ds)
 
-node_begins : (nodes : List FlatNode) (numbers : List ℕ) (alone : List ℕ → Bool) (node : FlatNode) (n : SceneNode) → node_of nodes numbers alone node ≡ Ok n → Begins n
-unfolding values_of
-node_begins nodes numbers alone node n h =
-    let label : Option (List ℕ) = label_by alone node.name in
-    let b = bind_is (values_of nodes numbers node) (λ values. Ok (new_node node.node_type label values)) n h in
-    let r = are_values nodes numbers node.fields 0 (rows node.node_type) [] b.0 b.1 in
-    subst Begins (ok_is (new_node node.node_type label b.0) n b.2)
-    (new_begins nodes numbers node label b.0 (subst (λ (vs : List (Option Value)). AreValues nodes numbers node.fields 0 (rows node.node_type) vs) r.1 r.2))
+module _ (nodes : List FlatNode) (numbers : List ℕ) (node : FlatNode) where
+  new_begins : (label : Option (List ℕ)) (own more : List (Option Value)) → AreValues nodes numbers node.fields 0 (rows node.node_type) own
+      → AreDeclared nodes numbers (numbered_fields node.node_type node.interface) more → Begins (new_node node label (own ++ more))
+  new_begins label own more a d c =
+      let fit = all_kept_fit nodes numbers node.fields node.node_type own (numbered_fields node.node_type node.interface) more a d c in
+      and_true _ _
+      (subst (λ (es : List Entry). values_fit node.node_type 0 (rows node.node_type ++ es) (map (λ p. kept p.0 p.1) (zip (rows node.node_type ++ es) (own ++ more))) ≡ true)
+      (sym (entries_are (most_declared node.node_type) node.interface)) fit)
+      (no_position node.node_type)
+
+  node_begins : (alone : List ℕ → Bool) (n : SceneNode) → node_of nodes numbers alone node ≡ Ok n → Begins n
+  unfolding values_of
+  node_begins alone n h =
+      let label : Option (List ℕ) = label_by alone node.name in
+      let declared : List (Declaration ℕ) = numbered_fields node.node_type node.interface in
+      let first : ℕ = length (rows node.node_type) in
+      let b = bind_is (values_of nodes numbers node) (λ values. Ok (new_node node label values)) n h in
+      let c = bind_is (values_from nodes numbers node.fields 0 (rows node.node_type) []) (declared_from nodes numbers node.fields first declared) b.0 b.1 in
+      let r = are_values nodes numbers node.fields 0 (rows node.node_type) [] c.0 c.1 in
+      let q = are_declared nodes numbers node.fields first declared c.0 b.0 c.2 in
+      let own = subst (λ (vs : List (Option Value)). AreValues nodes numbers node.fields 0 (rows node.node_type) vs) r.1 r.2 in
+      subst Begins (ok_is (new_node node label b.0) n b.2)
+      (subst (λ (vs : List (Option Value)). Begins (new_node node label vs)) q.1 (new_begins label c.0 q.0 own q.2))
 
 -- ---- all nodes
 
@@ -62,7 +81,7 @@ with_begins : (nodes : List FlatNode) (numbers : List ℕ) (alone : List ℕ →
 with_begins nodes numbers alone None x y h p = subst (All Begins) (ok_is x y h) p
 with_begins nodes numbers alone (Some node) x y h p =
     let b = bind_is (node_of nodes numbers alone node) (λ n. Ok (x ++ n ∷ [])) y h in
-    subst (All Begins) (ok_is (x ++ b.0 ∷ []) y b.2) (All-push Begins x b.0 p (node_begins nodes numbers alone node b.0 b.1))
+    subst (All Begins) (ok_is (x ++ b.0 ∷ []) y b.2) (All-push Begins x b.0 p (node_begins nodes numbers node alone b.0 b.1))
 
 nodes_begin : (nodes : List FlatNode) (s : Numbering) (alone : List ℕ → Bool) (all : List SceneNode) → nodes_by nodes s alone ≡ Ok all → All Begins all
 unfolding nodes_by
@@ -126,7 +145,7 @@ one_less : (m n : ℕ) → suc m ≡ suc n → m ≡ n
 one_less m n e = omega (arith, e)
 
 all_begin : (ns : List SceneNode) (cs : List (Option ℕ)) (us : List Touch) → length cs ≡ length ns → length us ≡ length ns → All (λ c. c ≡ None) cs → All (λ u. u ≡ untouched) us → All Begins ns → list_all is_countable_node ns ≡ true
-    → nodes_fit (map (λ (n : SceneNode). n.node_type) ns) (map fields_of ns) cs us ≡ true
+    → nodes_fit (map shape_of ns) (map fields_of ns) cs us ≡ true
 all_begin [] [] [] k l p q b c = refl
 all_begin [] (x ∷ cs) us k l p q b c = absurd cc
 all_begin [] [] (y ∷ us) k l p q b c = absurd cc
@@ -145,7 +164,7 @@ all_begin (n ∷ ns) (x ∷ cs) (y ∷ us) k l p q b c =
 none_yet : 0 ≤ 2 ^ 20
 none_yet = omega arith
 
-pub all_openings_fit : (flat : Flat) (scene : SceneView) → scene_of flat ≡ Ok scene → IsCountable scene → WorldFits (types_of scene) (opening scene)
+pub all_openings_fit : (flat : Flat) (scene : SceneView) → scene_of flat ≡ Ok scene → IsCountable scene → WorldFits (shapes_of scene) (opening scene)
 unfolding state_of
 all_openings_fit flat scene h c =
     let count : ℕ = length (map fields_of scene.nodes) in

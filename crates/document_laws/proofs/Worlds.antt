@@ -7,8 +7,7 @@ use Rattle.x3d_values.specs.Ranges.{is_input_number, is_input_time}
 use Rattle.x3d_values.specs.Stamp.{Stamp}
 use Rattle.flat_document.specs.declared.flat.Flat.{Flat}
 use Rattle.scene_core.specs.declared.scene.Route.{Route}
-use Rattle.scene_core.specs.declared.scene.SceneNode.{SceneNode}
-use Rattle.scene_core.specs.Scene.{SceneView, types_of}
+use Rattle.scene_core.specs.Scene.{SceneView, shape_of, shapes_of}
 use Rattle.cascade_core.specs.declared.world.WorldData.{WorldData}
 use Rattle.cascade_core.specs.Apply.{apply, opening, world, world_after}
 use Rattle.cascade_core.specs.InTurn.{Follow}
@@ -28,8 +27,8 @@ next_of w s number i =
     let b = both (is_input_time s.time) (is_event s.event) a.1 in
     record { next = number; number = a.0; time = b.0; event = b.1 }
 
-module _ (scene : SceneView) (routes : List Route) (few : length (types_of scene) ≤ 2 ^ 32) (joined : AllJoin (types_of scene) routes) where
-  after_fits : (inputs : List Stamp) (w : WorldData) → Follow w.applied w.last_time inputs → list_all is_input inputs ≡ true → WorldFits (types_of scene) w → WorldFits (types_of scene) (world_after scene routes w inputs)
+module _ (scene : SceneView) (routes : List Route) (few : length (shapes_of scene) ≤ 2 ^ 32) (joined : AllJoin (shapes_of scene) routes) where
+  after_fits : (inputs : List Stamp) (w : WorldData) → Follow w.applied w.last_time inputs → list_all is_input inputs ≡ true → WorldFits (shapes_of scene) w → WorldFits (shapes_of scene) (world_after scene routes w inputs)
   after_fits [] w f i p = p
   after_fits (s ∷ inputs) w f i p =
       let b = both (is_input s) (list_all is_input inputs) i in
@@ -39,9 +38,9 @@ module _ (scene : SceneView) (routes : List Route) (few : length (types_of scene
       (subst (λ (t : ℤ). Follow s.number t inputs) (sym at.1) f.2))
       b.1 (all_steps_fit scene routes w s few joined (next_of w s f.0 b.0) p)
 
-pub all_worlds_fit : (flat : Flat) (scene : SceneView) (routes : List Route) (inputs : List Stamp) → IsDocument flat scene routes → AreInputs inputs → WorldFits (types_of scene) (world scene routes inputs)
+pub all_worlds_fit : (flat : Flat) (scene : SceneView) (routes : List Route) (inputs : List Stamp) → IsDocument flat scene routes → AreInputs inputs → WorldFits (shapes_of scene) (world scene routes inputs)
 all_worlds_fit flat scene routes inputs d i =
-    let few : length (types_of scene) ≤ 2 ^ 32 = omega (arith, length-map scene.nodes (λ (n : SceneNode). n.node_type), scene_few flat scene d.is_scene, d.numbered) in
+    let few : length (shapes_of scene) ≤ 2 ^ 32 = omega (arith, length-map scene.nodes shape_of, scene_few flat scene d.is_scene, d.numbered) in
     after_fits scene routes few (all_routes_join flat scene routes d.are_routes) inputs (opening scene) i.in_turn i.in_range
     (all_openings_fit flat scene d.is_scene d.countable)
 

@@ -9,7 +9,7 @@ use Rattle.x3d_values.specs.declared.value.Value.TheVariants.{SFString, MFBool, 
 use Rattle.flat_document.specs.declared.flat.Flat.{Flat}
 use Rattle.scene_core.specs.declared.scene.SceneNode.{SceneNode}
 use Rattle.scene_core.specs.Building.{scene_of}
-use Rattle.scene_core.specs.Scene.{SceneView, types_of}
+use Rattle.scene_core.specs.Scene.{SceneView, shapes_of}
 use Rattle.cascade_core.specs.Apply.{opening}
 use Rattle.world_laws.specs.Fits.{WorldFits}
 
@@ -45,4 +45,4 @@ IsCountable scene = list_all is_countable_node scene.nodes ≡ true
 abbrev pub OpeningsFit : Type 0
 OpeningsFit =
     (flat : Flat) (scene : SceneView)
-    → scene_of flat ≡ Ok scene → IsCountable scene → WorldFits (types_of scene) (opening scene)
+    → scene_of flat ≡ Ok scene → IsCountable scene → WorldFits (shapes_of scene) (opening scene)

@@ -2,7 +2,7 @@
 use Rattle.std.specs.Prelude.{◌≡◌, List, Ok}
 use Rattle.flat_document.specs.declared.flat.Flat.{Flat}
 use Rattle.scene_core.specs.declared.scene.Route.{Route}
-use Rattle.scene_core.specs.Scene.{SceneView, types_of}
+use Rattle.scene_core.specs.Scene.{SceneView, shapes_of}
 use Rattle.route_core.specs.Resolved.{resolved}
 use Rattle.world_laws.specs.Fits.{AllJoin}
 
@@ -10,4 +10,4 @@ use Rattle.world_laws.specs.Fits.{AllJoin}
 abbrev pub RoutesJoin : Type 0
 RoutesJoin =
     (flat : Flat) (scene : SceneView) (routes : List Route)
-    → resolved flat scene ≡ Ok routes → AllJoin (types_of scene) routes
+    → resolved flat scene ≡ Ok routes → AllJoin (shapes_of scene) routes

@@ -6,7 +6,7 @@ use Rattle.x3d_values.specs.Stamp.{Stamp}
 use Rattle.flat_document.specs.declared.flat.Flat.{Flat}
 use Rattle.scene_core.specs.declared.scene.Route.{Route}
 use Rattle.scene_core.specs.Building.{scene_of}
-use Rattle.scene_core.specs.Scene.{SceneView, types_of}
+use Rattle.scene_core.specs.Scene.{SceneView, shapes_of}
 use Rattle.route_core.specs.Resolved.{resolved}
 use Rattle.cascade_core.specs.Apply.{world}
 use Rattle.cascade_core.specs.InTurn.{AreInTurn}
@@ -36,7 +36,7 @@ abbrev pub WorldsFit : Type 0
 WorldsFit =
     (flat : Flat) (scene : SceneView) (routes : List Route) (inputs : List Stamp)
     → IsDocument flat scene routes → AreInputs inputs
-    → WorldFits (types_of scene) (world scene routes inputs)
+    → WorldFits (shapes_of scene) (world scene routes inputs)
 
 -- and has a snapshot, which counts the events that were sent in 64 bits
 abbrev pub WorldsHaveSnapshots : Type 0

@@ -2,7 +2,7 @@
 -- ranges are our choice).
 use Rattle.std.specs.Prelude.{◌≡◌, ℕ, ◌+◌, ◌^◌, ◌≤◌, ◌==◌, ◌&&◌, not, is_none, nat_le, nat_lt, Bool, true, false, List, [], ◌∷◌, length, Option, Some, slice_get}
 use Rattle.std.specs.List.{list_all}
-use Rattle.std.specs.Option.{option_map, option_and_then}
+use Rattle.std.specs.Option.{option_map, option_map_or}
 use Rattle.x3d_values.specs.declared.field_type.FieldType.{FieldType}
 use Rattle.x3d_values.specs.declared.fields.Fields.{Fields}
 use Rattle.x3d_values.specs.declared.node_type.NodeType.{NodeType}
@@ -17,27 +17,22 @@ use Rattle.snapshot_codec.specs.Parts.{cycle_fits}
 use Rattle.snapshot_codec.specs.Trace.{is_moment, typed_fits}
 use Rattle.sensor_core.specs.Touches.{Touch, is_over}
 use Rattle.scene_core.specs.declared.scene.Route.{Route}
-use Rattle.scene_core.specs.Scene.{SceneView, types_of}
+use Rattle.scene_core.specs.Scene.{SceneView, shapes_of}
+use Rattle.scene_core.specs.Shape.{Shape, rows_of}
 use Rattle.cascade_core.specs.Apply.{apply}
 use Rattle.cascade_core.specs.declared.world.TraceLine.{TraceLine}
 use Rattle.cascade_core.specs.declared.world.WorldData.{WorldData}
 use Rattle.answer_laws.specs.Answers.{touch_fits}
-use Rattle.answer_laws.specs.Ranges.{fields_fit, row_at, sent_type}
+use Rattle.snapshot_core.specs.WorldCodec.{output_type}
+use Rattle.answer_laws.specs.Ranges.{fields_fit}
 
--- ---- what may come to a field, and leave by one
+-- ---- what may come to a field; what leaves by one is snapshot_core's `output_type`
 
 -- the type of a node's field, by the numbers of both
-abbrev pub input_type : List NodeType → ℕ → ℕ → Option FieldType
-input_type types node field =
-    option_and_then
-    (λ (t : NodeType). option_map (λ (row : Entry). row.field_type) (row_at t field))
-    (slice_get types node)
-
--- the type of the events that a node sends by a field, if it sends any
-abbrev pub output_type : List NodeType → ℕ → ℕ → Option FieldType
-output_type types node field =
-    option_and_then (λ (t : NodeType). option_and_then sent_type (row_at t field))
-    (slice_get types node)
+abbrev pub input_type : List Shape → ℕ → ℕ → Option FieldType
+input_type shapes node field =
+    option_map (λ (row : Entry). row.field_type)
+    (slice_get (option_map_or rows_of (slice_get shapes node) []) field)
 
 -- ---- the nodes
 
@@ -51,47 +46,48 @@ abbrev pub pointers_fit : NodeType → Touch → Bool
 pointers_fit TouchSensor touch = touch_fits touch
 pointers_fit _ touch = touch_fits touch && (not (is_over touch) && is_none touch.presser)
 
-abbrev pub node_fits : NodeType → Fields → Option ℕ → Touch → Bool
-node_fits t fields cycle touch =
-    fields_fit t fields && (time_fits t cycle && pointers_fit t touch)
+abbrev pub node_fits : Shape → Fields → Option ℕ → Touch → Bool
+node_fits s fields cycle touch =
+    fields_fit s.node_type s.declared fields
+    && (time_fits s.node_type cycle && pointers_fit s.node_type touch)
 
 -- node by node; each of the lists is as long
-abbrev pub nodes_fit : List NodeType → List Fields → List (Option ℕ) → List Touch → Bool
+abbrev pub nodes_fit : List Shape → List Fields → List (Option ℕ) → List Touch → Bool
 nodes_fit [] fields cycles touches =
     (length fields == 0) && ((length cycles == 0) && (length touches == 0))
-nodes_fit (t ∷ types) [] cycles touches = false
-nodes_fit (t ∷ types) (f ∷ fields) [] touches = false
-nodes_fit (t ∷ types) (f ∷ fields) (c ∷ cycles) [] = false
-nodes_fit (t ∷ types) (f ∷ fields) (c ∷ cycles) (u ∷ touches) =
-    node_fits t f c u && nodes_fit types fields cycles touches
+nodes_fit (s ∷ shapes) [] cycles touches = false
+nodes_fit (s ∷ shapes) (f ∷ fields) [] touches = false
+nodes_fit (s ∷ shapes) (f ∷ fields) (c ∷ cycles) [] = false
+nodes_fit (s ∷ shapes) (f ∷ fields) (c ∷ cycles) (u ∷ touches) =
+    node_fits s f c u && nodes_fit shapes fields cycles touches
 
 -- ---- a world
 
 -- an event that was sent: at 0 to 10^18 microseconds, with a value that may leave by its output
-abbrev pub line_fits : List NodeType → TraceLine → Bool
-line_fits types line =
+abbrev pub line_fits : List Shape → TraceLine → Bool
+line_fits shapes line =
     nat_le line.input (2 ^ 20)
     && (is_moment line.time
     && ((nat_lt line.source.node (2 ^ 32) && nat_lt line.source.field (2 ^ 16))
-    && typed_fits (output_type types line.source.node line.source.field) line.value))
+    && typed_fits (output_type shapes line.source.node line.source.field) line.value))
 
-pub record WorldFits (types : List NodeType) (w : WorldData) : Type 0 where
+pub record WorldFits (shapes : List Shape) (w : WorldData) : Type 0 where
   pub count : w.applied ≤ 2 ^ 20
   pub last : is_moment w.last_time ≡ true
-  pub nodes : nodes_fit types w.fields w.sensors w.touches ≡ true
+  pub nodes : nodes_fit shapes w.fields w.sensors w.touches ≡ true
   pub buttons : length w.buttons ≡ MAX_VIEWERS
-  pub lines : list_all (line_fits types) w.trace ≡ true
+  pub lines : list_all (line_fits shapes) w.trace ≡ true
 
 -- ---- an input
 
 -- each route leads from an output to a field of the same type
-abbrev pub Joins : List NodeType → Route → Type 0
-Joins types r = (t : FieldType) × (output_type types r.source.node r.source.field ≡ Some t)
-    × (input_type types r.target.node r.target.field ≡ Some t)
+abbrev pub Joins : List Shape → Route → Type 0
+Joins shapes r = (t : FieldType) × (output_type shapes r.source.node r.source.field ≡ Some t)
+    × (input_type shapes r.target.node r.target.field ≡ Some t)
 
-abbrev pub AllJoin : List NodeType → List Route → Type 0
-AllJoin types [] = Unit {0}
-AllJoin types (r ∷ routes) = (Joins types r) × (AllJoin types routes)
+abbrev pub AllJoin : List Shape → List Route → Type 0
+AllJoin shapes [] = Unit {0}
+AllJoin shapes (r ∷ routes) = (Joins shapes r) × (AllJoin shapes routes)
 
 -- nobody but a viewer points
 abbrev pub is_event : Event → Bool
@@ -109,5 +105,5 @@ pub record IsNext (w : WorldData) (input : Stamp) : Type 0 where
 abbrev pub StepsFit : Type 0
 StepsFit =
     (scene : SceneView) (routes : List Route) (w : WorldData) (input : Stamp)
-    → length (types_of scene) ≤ 2 ^ 32 → AllJoin (types_of scene) routes → IsNext w input
-    → WorldFits (types_of scene) w → WorldFits (types_of scene) (apply scene routes w input)
+    → length (shapes_of scene) ≤ 2 ^ 32 → AllJoin (shapes_of scene) routes → IsNext w input
+    → WorldFits (shapes_of scene) w → WorldFits (shapes_of scene) (apply scene routes w input)

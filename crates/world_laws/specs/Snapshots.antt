@@ -1,6 +1,6 @@
 -- Worlds that fit have snapshots.
 use Rattle.std.specs.Prelude.{◌≡◌, ◌^◌, ◌<◌, true, length}
-use Rattle.scene_core.specs.Scene.{SceneView, types_of}
+use Rattle.scene_core.specs.Scene.{SceneView, shapes_of}
 use Rattle.cascade_core.specs.declared.world.WorldData.{WorldData}
 use Rattle.snapshot_core.specs.WorldCodec.{world_codec}
 use Rattle.world_laws.specs.Fits.{WorldFits}
@@ -9,4 +9,4 @@ use Rattle.world_laws.specs.Fits.{WorldFits}
 abbrev pub FittingHaveSnapshots : Type 0
 FittingHaveSnapshots =
     (scene : SceneView) (w : WorldData)
-    → length w.trace < 2 ^ 64 → WorldFits (types_of scene) w → (world_codec scene).fits w ≡ true
+    → length w.trace < 2 ^ 64 → WorldFits (shapes_of scene) w → (world_codec scene).fits w ≡ true
