@@ -1,17 +1,17 @@
 -- All lines that a world may have are fewer than 2^64.
-use Rattle.std.proofs.Common.{◌≡◌, ℕ, ℤ, zero, suc, ◌+◌, ◌*◌, ◌-◌, ◌^◌, ◌≤◌, ◌<◌, pos, true, Bool, ◌&&◌, nat_le, List, [], ◌∷◌, ◌++◌, length, map, take, min, refl, sym, ap, subst, arith, length-append}
-use Rattle.std.specs.List.{filter, list_all, range_with_len}
+use Rattle.std.proofs.Common.{◌≡◌, ◌+◌, ◌*◌, ◌^◌, ◌≤◌, ◌<◌, true, nat_le, List, [], ◌∷◌, length, map, refl, arith, length-append}
+use Rattle.std.specs.List.{range_with_len}
 use Rattle.std.proofs.lemmas.Bool.{leb-true}
 use Rattle.std.proofs.lemmas.List.{length-map, length-take}
 use Rattle.std.proofs.lemmas.List.FromFn.{length-range_with_len}
 use Rattle.std.proofs.lemmas.List.Sums.{count_by-le-length, length-filter, sum_by-cons}
 use Rattle.x3d_values.specs.Ranges.{max_inputs}
 use Rattle.x3d_values.specs.Stamp.{Stamp}
-use Rattle.x3d_values.specs.Tables.{Entry, rows}
+use Rattle.x3d_values.specs.Tables.{rows}
 use Rattle.x3d_values.specs.declared.node_type.NodeType.{NodeType}
 use Rattle.x3d_values.specs.declared.node_type.NodeType.TheVariants.{Group}
 use Rattle.scene_core.specs.Scene.{SceneView, shape_of, shapes_of}
-use Rattle.scene_core.specs.Shape.{Shape, declared_entry, most_declared, numbered_fields, rows_of, shape_by}
+use Rattle.scene_core.specs.Shape.{Shape, declared_entry, most_declared, numbered_fields, rows_of}
 use Rattle.scene_core.specs.declared.row.DeclaredField.{DeclaredField}
 use Rattle.scene_core.specs.declared.scene.Route.{Route}
 use Rattle.scene_core.specs.declared.scene.SceneNode.{SceneNode}

@@ -1,10 +1,9 @@
 -- An input sends by outputs of the scene alone, by each once.
-use Rattle.std.proofs.Common.{◌≡◌, ℕ, ℤ, zero, suc, ◌+◌, ◌≤◌, ◌<◌, Bool, true, false, List, [], ◌∷◌, ◌++◌, length, if◌then◌else◌, refl, sym, subst, ap, ◌∙◌, arith, length-append}
+use Rattle.std.proofs.Common.{◌≡◌, ℕ, ℤ, zero, suc, ◌+◌, ◌≤◌, Bool, true, false, List, [], ◌∷◌, length, if◌then◌else◌, refl, ap, arith, length-append}
 use Rattle.std.specs.List.{AllByRecursion, filter, fold, range_with_len}
 use Rattle.std.proofs.lemmas.List.{length-map}
 use Rattle.x3d_values.specs.Pointing.{Pointing}
 use Rattle.x3d_values.specs.Stamp.{Stamp}
-use Rattle.x3d_values.specs.declared.node_type.NodeType.{NodeType}
 use Rattle.x3d_values.specs.declared.stamped.Event.{Event}
 use Rattle.x3d_values.specs.declared.stamped.Event.TheVariants.{Clock, Pointer}
 use Rattle.x3d_values.specs.declared.value.Value.{Value}
