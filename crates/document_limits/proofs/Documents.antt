@@ -11,11 +11,11 @@ use Rattle.flat_document.specs.declared.flat.Header.{Header}
 use Rattle.proto_declarations.specs.Meaning.{statement as checked}
 use Rattle.proto_declarations.specs.Sight.{Sight as Declared}
 use Rattle.proto_ends.specs.Pairs.{max_routes, routes_of}
-use Rattle.proto_walk.specs.declared.held.PlacedNode.{PlacedNode}
-use Rattle.proto_walk.specs.declared.held.Store.{Store}
-use Rattle.proto_walk.specs.Limits.{max_nodes}
-use Rattle.proto_walk.specs.Machine.{Outcome, pure, through}
-use Rattle.proto_walk.specs.Meaning.{statement_does}
+use Rattle.proto_steps.specs.declared.held.PlacedNode.{PlacedNode}
+use Rattle.proto_steps.specs.declared.held.Store.{Store}
+use Rattle.proto_steps.specs.Limits.{max_nodes}
+use Rattle.proto_steps.specs.Machine.{Outcome, pure, through}
+use Rattle.proto_steps.specs.Meaning.{statement_does}
 use Rattle.proto_walk.specs.Whole.{add_node, at_top, check, flat, flat_node, flat_of, grown, header_of, label_at, nothing, put_statement, with_declared, with_routes}
 use Rattle.document_limits.proofs.Every.{AnyCount, AnyText, every_all}
 use Rattle.document_limits.proofs.Routes.{AreFew, routes_few}

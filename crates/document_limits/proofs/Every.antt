@@ -14,7 +14,7 @@ use Rattle.classic_tree.specs.declared.tree.ProtoText.{ProtoText, roll-ProtoText
 use Rattle.classic_tree.specs.declared.tree.RawValue.TheVariants as value
 use Rattle.classic_tree.specs.declared.tree.Statement.{Statement, roll-Statement, map-Statement, ind-Statement}
 use Rattle.classic_tree.specs.declared.tree.Statement.TheVariants as statement
-use Rattle.proto_walk.specs.Meaning.{node_does}
+use Rattle.proto_steps.specs.Meaning.{node_does}
 use Rattle.document_limits.proofs.Fields.{IsFineDeclaration, IsFineGiven}
 use Rattle.document_limits.proofs.Trees.{ItemKeeps, NodeKeeps, ProtoKeeps, StatementKeeps, declaration_keeps, field_keeps, full_keeps, inner_proto_keeps, node_statement_keeps, proto_keeps, proto_statement_keeps, route_keeps, route_statement_keeps, used_keeps}
 

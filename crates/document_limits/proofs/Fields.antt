@@ -7,13 +7,16 @@ use Rattle.classic_tree.specs.declared.tree.Given.TheVariants as given
 use Rattle.classic_tree.specs.declared.tree.RawValue.{RawValue}
 use Rattle.classic_tree.specs.declared.tree.RawValue.TheVariants as value
 use Rattle.flat_document.specs.declared.fault.ExpandFaultKind.TheVariants.{BadIs, FieldTwice, TooLarge, UnknownField}
-use Rattle.proto_walk.specs.declared.held.GivenField.{GivenField}
-use Rattle.proto_walk.specs.declared.held.Joined.{Joined}
-use Rattle.proto_walk.specs.declared.held.KnownField.{KnownField}
-use Rattle.proto_walk.specs.Fields.{Signature, fits, of_interface, of_signature}
-use Rattle.proto_walk.specs.Limits.{count_again, count_items, item_count, max_fields}
-use Rattle.proto_walk.specs.Machine.{Machine, ◌>>=◌, keep, keep_name, pure, refuse, through, tie}
-use Rattle.proto_walk.specs.Meaning.{Owner, Place, add_declaration, add_declared_is, add_default, add_default_value, add_defaults, add_given, add_is, add_joined, add_known, add_known_is, add_new, add_number, add_taken, add_tied, add_value, admits, hand_on, hand_over, has_field, is_taken, is_wanted, joined_by, known, numbered, tie_declared, tie_field, unless_own, with_field, with_number, with_place}
+use Rattle.proto_fields.specs.declared.given.GivenField.{GivenField}
+use Rattle.proto_fields.specs.declared.given.Joined.{Joined}
+use Rattle.proto_fields.specs.declared.given.KnownField.{KnownField}
+use Rattle.proto_fields.specs.Fields.{Signature, fits, of_interface, of_signature}
+use Rattle.proto_steps.specs.Limits.{count_again, count_items}
+use Rattle.proto_fields.specs.Values.{item_count, max_fields}
+use Rattle.proto_steps.specs.Machine.{Machine, ◌>>=◌, keep, keep_name, pure, refuse, through, tie}
+use Rattle.proto_fields.specs.Owners.{Owner, Place, admits, has_field, is_taken, is_wanted, known, with_field}
+use Rattle.proto_steps.specs.Meaning.{add_declaration, add_default, add_default_value, add_defaults, add_given, add_known, add_new, add_number, add_taken, add_value, numbered}
+use Rattle.proto_steps.specs.Meaning.{add_declared_is, add_is, add_joined, add_known_is, add_tied, hand_on, hand_over, joined_by, tie_declared, tie_field, unless_own, with_number, with_place}
 use Rattle.document_limits.specs.Lengths.{HasParts}
 use Rattle.document_limits.proofs.Walks.{GoodValue, Does, Keeps, then_ends, bind_so, bind, pure_keeps, either, either_way, through_keeps, count_again_keeps, count_items_keeps, keep_keeps, keep_name_keeps, tie_keeps}
 

@@ -29,7 +29,7 @@ use Rattle.classic_text.proofs.Documents.{is_spelled}
 use Rattle.classic_text.proofs.HeldLemmas.{Holds-unquoted}
 use Rattle.classic_text.proofs.Utf8Lemmas.{IsUtf8-unquoted}
 use Rattle.flat_document.specs.declared.flat.Flat.{Flat}
-use Rattle.proto_walk.specs.Meaning.{node_does}
+use Rattle.proto_steps.specs.Meaning.{node_does}
 use Rattle.proto_walk.specs.Whole.{flat}
 use Rattle.document_limits.specs.Lengths.{IsShortFlat, IsShortText}
 use Rattle.document_limits.proofs.Counts.{Terminal, held_short, number_shorter, numbers_few, string_shorter, truth_shorter, until_few, within, within_strictly}

@@ -20,17 +20,20 @@ use Rattle.proto_ends.specs.Spots.{spots_of}
 use Rattle.proto_ends.specs.declared.ends.Spot.{Spot}
 use Rattle.proto_ends.specs.declared.ends.Stand.TheVariants.{Node, Instance}
 use Rattle.proto_ends.specs.declared.ends.Tie.{Tie}
-use Rattle.proto_walk.specs.declared.held.GivenField.{GivenField}
-use Rattle.proto_walk.specs.declared.held.Store.{Store}
-use Rattle.proto_walk.specs.Closing.{put}
-use Rattle.proto_walk.specs.Fields.{Signature, first_twice, own_interface, signature, signatures}
-use Rattle.proto_walk.specs.Limits.{begin_instance, begin_node, count_joined}
-use Rattle.proto_walk.specs.Machine.{Bound, Made, Machine, Outcome, Walk, and_then, ◌>>=◌, definition, help, know, label, lookup, meet, pure, stand, through}
-use Rattle.proto_walk.specs.Meaning.{OnFields, Owner, Place, add_defaults, add_spots, back, begin, begin_body, body, body_of, close_body, close_instance, close_node, declare, declared_in, full_node, hold, in_body, instance, item_does, items_do, join, join_tie, leave, meaning_of, no_spots, node_does, node_owner, of_bound, of_word, out_of, owner_of, proto_does, stand_in, statement_does, typed_node, unless_twice, within}
-use Rattle.proto_walk.specs.Routes.{wire}
-use Rattle.proto_walk.proofs.Equations.{item_does-declaration, item_does-field, item_does-proto, item_does-route, node_does-full, node_does-use, proto_does_is, statement_does-node, statement_does-proto, statement_does-route}
+use Rattle.proto_fields.specs.declared.given.GivenField.{GivenField}
+use Rattle.proto_steps.specs.declared.held.Store.{Store}
+use Rattle.proto_steps.specs.Closing.{put}
+use Rattle.proto_fields.specs.Fields.{Signature, first_twice, own_interface, signature, signatures}
+use Rattle.proto_steps.specs.Limits.{begin_instance, begin_node, count_interface, count_joined}
+use Rattle.proto_steps.specs.Machine.{Bound, Made, Machine, Outcome, Walk, and_then, ◌>>=◌, help, know, label, lookup, meet, pure, stand, through}
+use Rattle.proto_fields.specs.Owners.{definition}
+use Rattle.proto_steps.specs.Meaning.{OnFields, add_spots, back, begin, begin_body, body, close_body, close_instance, close_node, declare, declared_in, full_node, hold, in_body, instance, item_does, items_do, join, join_tie, leave, meaning_of, no_spots, node_does, node_owner, of_bound, of_word, out_of, owner_of, proto_does, stand_in, statement_does, typed_node, unless_twice, within}
+use Rattle.proto_fields.specs.Owners.{Owner, Place, body_of}
+use Rattle.proto_steps.specs.Meaning.{add_defaults}
+use Rattle.proto_steps.specs.Routes.{wire}
+use Rattle.proto_steps.proofs.Equations.{item_does-declaration, item_does-field, item_does-proto, item_does-route, node_does-full, node_does-use, proto_does_is, statement_does-node, statement_does-proto, statement_does-route}
 use Rattle.document_limits.proofs.Fields.{IsFineDeclaration, IsFineGiven, add_declaration_keeps, add_defaults_keeps, add_given_keeps}
-use Rattle.document_limits.proofs.Walks.{Comes, Ends, GoodBound, GoodMeaning, GoodWalk, IfBound, Keeps, all_map, always, begin_instance_keeps, begin_node_keeps, bind, count_joined_keeps, found, help_keeps, know_keeps, label_keeps, meet_keeps, pure_keeps, put_keeps, stand_keeps, then_ends, through_keeps, use_keeps, wire_keeps}
+use Rattle.document_limits.proofs.Walks.{Comes, Ends, GoodBound, GoodMeaning, GoodWalk, IfBound, Keeps, all_map, always, begin_instance_keeps, begin_node_keeps, bind, count_interface_keeps, count_joined_keeps, found, help_keeps, know_keeps, label_keeps, meet_keeps, pure_keeps, put_keeps, stand_keeps, then_ends, through_keeps, use_keeps, wire_keeps}
 
 module _ (Text : List ℕ → Type 0) (Count : ℕ → Type 0) where
   abbrev Kept : {A : Type 0} → Outcome A → Type 0
@@ -111,8 +114,9 @@ module _ (Text : List ℕ → Type 0) (Count : ℕ → Type 0) where
   begin_keeps : (interface : List Signature) → Keeps Text Count (begin interface)
   unfolding begin
   begin_keeps interface =
-      bind Text Count begin_instance (λ at. unless_twice (first_twice no_names_yet interface) >>= λ _. pure at) (begin_instance_keeps Text Count)
-      (λ at. bind Text Count (unless_twice (first_twice no_names_yet interface)) (λ _. pure at) (unless_twice_keeps (first_twice no_names_yet interface)) (λ _. pure_keeps Text Count at))
+      bind Text Count begin_instance (λ at. count_interface (length interface) >>= λ _. unless_twice (first_twice no_names_yet interface) >>= λ _. pure at) (begin_instance_keeps Text Count)
+      (λ at. bind Text Count (count_interface (length interface)) (λ _. unless_twice (first_twice no_names_yet interface) >>= λ _. pure at) (count_interface_keeps Text Count (length interface))
+      (λ _. bind Text Count (unless_twice (first_twice no_names_yet interface)) (λ _. pure at) (unless_twice_keeps (first_twice no_names_yet interface)) (λ _. pure_keeps Text Count at)))
 
   instance_keeps : (name : Option (List ℕ)) (b : Bound) (items : OnFields) → GoodBound Text Count b → OnFieldsKeeps items → Keeps Text Count (instance name b items)
   unfolding instance

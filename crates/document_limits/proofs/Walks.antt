@@ -13,15 +13,17 @@ use Rattle.flat_document.specs.declared.flat.FlatField.{FlatField}
 use Rattle.proto_declarations.specs.Sight.{Sight as Declared}
 use Rattle.proto_declarations.specs.Sight.{and_then as next, through as each}
 use Rattle.proto_ends.specs.declared.ends.Stand.{Stand}
-use Rattle.proto_walk.specs.declared.frames.Named.{Named}
-use Rattle.proto_walk.specs.declared.held.GivenField.{GivenField}
-use Rattle.proto_walk.specs.declared.held.PlacedNode.{PlacedNode}
-use Rattle.proto_walk.specs.declared.held.Store.{Store}
-use Rattle.proto_walk.specs.Closing.{declared, flat_fields, add_flat, put, put_flat, value_at, with_fields, with_value}
-use Rattle.proto_walk.specs.Fields.{Signature}
-use Rattle.proto_walk.specs.Limits.{begin_instance, begin_node, count_again, count_items, count_joined, count_of, max_fields, max_instances, max_nodes}
-use Rattle.proto_walk.specs.Machine.{Begun, Bound, Made, Meaning, Machine, Outcome, Walk, and_then, ◌>>=◌, help, is_later, keep, keep_name, know, label, lookup, meet, pure, stand, through, tie, use_node, used, with_name}
-use Rattle.proto_walk.specs.Routes.{add_wire, wire}
+use Rattle.proto_steps.specs.declared.held.Named.{Named}
+use Rattle.proto_fields.specs.declared.given.GivenField.{GivenField}
+use Rattle.proto_steps.specs.declared.held.PlacedNode.{PlacedNode}
+use Rattle.proto_steps.specs.declared.held.Store.{Store}
+use Rattle.proto_steps.specs.Closing.{declared, put, put_flat, with_fields}
+use Rattle.proto_fields.specs.Values.{flat_fields, add_flat, value_at, with_value}
+use Rattle.proto_fields.specs.Fields.{Signature}
+use Rattle.proto_steps.specs.Limits.{begin_instance, begin_node, count_again, count_interface, count_items, count_joined, max_instances, max_nodes}
+use Rattle.proto_fields.specs.Values.{count_of, max_fields}
+use Rattle.proto_steps.specs.Machine.{Begun, Bound, Made, Meaning, Machine, Outcome, Walk, and_then, ◌>>=◌, help, is_later, keep, keep_name, know, label, lookup, meet, pure, stand, through, tie, use_node, used, with_name}
+use Rattle.proto_steps.specs.Routes.{add_wire, wire}
 use Rattle.document_limits.specs.Lengths.{HasParts}
 
 pub all_append : {X : Type 0} (P : X → Type 0) (xs ys : List X) → AllByRecursion P xs → AllByRecursion P ys → AllByRecursion P (xs ++ ys)
@@ -200,6 +202,15 @@ module _ (Text : List ℕ → Type 0) (Count : ℕ → Type 0) where
     where
       by : (w : Walk) → GoodWalk w → (b : Bool)
           → Ends (λ (n : Unit {0}). Unit {0}) (if b then Err (fault TooLarge 0) else Ok (tt, record w { store = record w.store { joined_room = w.store.joined_room - fields } }))
+      by w g true = tt
+      by w g false = (tt, record { store = record { few = g.store.few; values = g.store.values; nodes = g.store.nodes }; protos = g.protos })
+
+  pub count_interface_keeps : (fields : ℕ) → Keeps (count_interface fields)
+  unfolding count_interface
+  count_interface_keeps fields = λ w g. by w g (nat_lt w.store.interface_room fields)
+    where
+      by : (w : Walk) → GoodWalk w → (b : Bool)
+          → Ends (λ (n : Unit {0}). Unit {0}) (if b then Err (fault TooLarge 0) else Ok (tt, record w { store = record w.store { interface_room = w.store.interface_room - fields } }))
       by w g true = tt
       by w g false = (tt, record { store = record { few = g.store.few; values = g.store.values; nodes = g.store.nodes }; protos = g.protos })
 

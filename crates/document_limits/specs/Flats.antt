@@ -3,7 +3,7 @@ use Rattle.std.specs.Prelude.{◌≡◌, ◌≤◌, length, Ok}
 use Rattle.classic_tree.specs.declared.tree.Document.{Document}
 use Rattle.flat_document.specs.declared.flat.Flat.{Flat}
 use Rattle.proto_ends.specs.Pairs.{max_routes}
-use Rattle.proto_walk.specs.Limits.{max_nodes}
+use Rattle.proto_steps.specs.Limits.{max_nodes}
 use Rattle.proto_walk.specs.Whole.{flat}
 
 abbrev pub FlatsAreNumbered : Type 0
