@@ -1,0 +1,17 @@
+mod Chains
+mod Defaults
+mod Fields
+mod Labels
+mod Lists
+mod Names
+mod Nodes
+mod Numbered
+mod Numbers
+mod Opened
+mod Routes
+mod Scenes
+mod Sound
+mod Steps
+mod Tests
+mod Values
+mod Written

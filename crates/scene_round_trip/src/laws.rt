@@ -1,0 +1,32 @@
+//! Laws of written scenes, each the contract of a function that does nothing.
+
+ghost use Rattle.scene_round_trip.specs.Defaults.{DefaultsAreLeftOut, LeftOutAreDefaults};
+ghost use Rattle.scene_round_trip.specs.Labels.{LabelsAreDistinct};
+ghost use Rattle.scene_round_trip.specs.Values.{WrittenValuesAreTyped};
+ghost use Rattle.scene_round_trip.specs.Written.{ScenesAreWritable, WrittenScenesSpell};
+
+/// What is written of a value without nodes is that value again, by the type of its field.
+pub fn values_are_typed()
+    ensures { WrittenValuesAreTyped }
+{}
+
+/// The fields that are left out are those that hold what they hold where nothing is given.
+pub fn fields_are_left_out()
+    ensures defaults { LeftOutAreDefaults }
+    ensures all { DefaultsAreLeftOut }
+{}
+
+/// No two nodes of a document's scene have the same label.
+pub fn labels_are_distinct()
+    ensures { LabelsAreDistinct }
+{}
+
+/// The text of a writable scene spells the document that the scene is written as.
+pub fn written_scenes_spell()
+    ensures { WrittenScenesSpell }
+{}
+
+/// The scene of a document whose names are names and whose texts are UTF-8 is writable.
+pub fn scenes_are_writable()
+    ensures { ScenesAreWritable }
+{}

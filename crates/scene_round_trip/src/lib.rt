@@ -1,0 +1,9 @@
+//! That the text of a scene is read again as the scene.
+#![tactic(auto)]
+
+mod laws;
+
+pub use laws::{
+    fields_are_left_out, labels_are_distinct, scenes_are_writable, values_are_typed,
+    written_scenes_spell,
+};
