@@ -1,8 +1,11 @@
 mod Chains
 mod Defaults
+mod Documents
+mod Expanded
 mod Fields
 mod Labels
 mod Lists
+mod Machines
 mod Names
 mod Nodes
 mod Numbered

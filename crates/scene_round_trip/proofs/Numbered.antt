@@ -22,7 +22,7 @@ pub record IsNumbering (count : ℕ) (s : Numbering) : Type 0 where
   pub order : AllByRecursion (λ (n : ℕ). n < count) s.order
   pub numbers : AllByRecursion (IsLow (length s.order)) s.numbers
 
-all_set : {A : Type 0} (P : A → Type 0) (xs : List A) (n : ℕ) (x : A) → AllByRecursion P xs → P x → AllByRecursion P (slice_set xs n x)
+pub all_set : {A : Type 0} (P : A → Type 0) (xs : List A) (n : ℕ) (x : A) → AllByRecursion P xs → P x → AllByRecursion P (slice_set xs n x)
 all_set P [] n x h k = tt
 all_set P (y ∷ ys) zero x h k = (k, h.1)
 all_set P (y ∷ ys) (suc n) x h k = (h.0, all_set P ys n x h.1 k)

@@ -1,10 +1,13 @@
 -- That a written scene is read again (ISO/IEC 19776-2, grammar).
-use Rattle.std.specs.Prelude.{◌≡◌, ◌-◌, ◌≤◌, ◌^◌, Bool, true, false, not, List, length, slice_index_or, Ok}
+use Rattle.std.specs.Prelude.{◌≡◌, ◌-◌, ◌≤◌, ◌^◌, ℕ, Bool, true, false, not, List, length, slice_index_or, Ok}
 use Rattle.std.specs.List.{list_all}
 use Rattle.x3d_values.specs.declared.fields.Fields.{Fields}
 use Rattle.x3d_values.specs.Ranges.{max_depth}
+use Rattle.classic_tree.specs.declared.tree.Document.{Document}
+use Rattle.classic_text.specs.Spells.{SpellsButLines}
 use Rattle.classic_round_trip.specs.AnyLength.{SpellsAtAnyLength}
 use Rattle.flat_document.specs.declared.flat.Flat.{Flat}
+use Rattle.proto_walk.specs.Whole.{flat}
 use Rattle.scene_core.specs.declared.scene.Route.{Route}
 use Rattle.scene_core.specs.Building.{scene_of}
 use Rattle.scene_core.specs.Deep.{deeper_than}
@@ -35,3 +38,13 @@ ScenesAreWritable =
     → IsNamed flat → scene_of flat ≡ Ok scene → length scene.nodes ≤ 2 ^ 64
     → resolved flat scene ≡ Ok routes → AreKeepable state → has_room scene ≡ true
     → IsWritable scene routes state
+
+-- the scene of a document that some text spells, lines apart, is written as a text that is read
+-- again, with the document's routes and what its nodes keep
+abbrev pub DocumentScenesSpell : Type 0
+DocumentScenesSpell =
+    (text : List ℕ) (d : Document) (expanded : Flat) (scene : SceneView) (routes : List Route)
+    (state : List Fields) → SpellsButLines text d → flat d ≡ Ok expanded
+    → scene_of expanded ≡ Ok scene → length scene.nodes ≤ 2 ^ 64
+    → resolved expanded scene ≡ Ok routes → AreKeepable state → has_room scene ≡ true
+    → SpellsAtAnyLength (scene_text scene routes state) (scene_document scene routes state)

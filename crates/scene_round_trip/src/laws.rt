@@ -2,8 +2,9 @@
 
 ghost use Rattle.scene_round_trip.specs.Defaults.{DefaultsAreLeftOut, LeftOutAreDefaults};
 ghost use Rattle.scene_round_trip.specs.Labels.{LabelsAreDistinct};
+ghost use Rattle.scene_round_trip.specs.Named.{ExpandedAreNamed};
 ghost use Rattle.scene_round_trip.specs.Values.{WrittenValuesAreTyped};
-ghost use Rattle.scene_round_trip.specs.Written.{ScenesAreWritable, WrittenScenesSpell};
+ghost use Rattle.scene_round_trip.specs.Written.{DocumentScenesSpell, ScenesAreWritable, WrittenScenesSpell};
 
 /// What is written of a value without nodes is that value again, by the type of its field.
 pub fn values_are_typed()
@@ -21,12 +22,20 @@ pub fn labels_are_distinct()
     ensures { LabelsAreDistinct }
 {}
 
-/// The text of a writable scene spells the document that the scene is written as.
+/// The text of a writable scene spells the document that the scene is written as, and so does that
+/// of the scene of a document that some text spells.
 pub fn written_scenes_spell()
-    ensures { WrittenScenesSpell }
+    ensures writable { WrittenScenesSpell }
+    ensures documents { DocumentScenesSpell }
 {}
 
 /// The scene of a document whose names are names and whose texts are UTF-8 is writable.
 pub fn scenes_are_writable()
     ensures { ScenesAreWritable }
+{}
+
+/// The expanded form of a document that some text spells has names that are names, and texts that
+/// are UTF-8.
+pub fn expanded_are_named()
+    ensures { ExpandedAreNamed }
 {}

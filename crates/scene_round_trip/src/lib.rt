@@ -4,6 +4,6 @@
 mod laws;
 
 pub use laws::{
-    fields_are_left_out, labels_are_distinct, scenes_are_writable, values_are_typed,
-    written_scenes_spell,
+    expanded_are_named, fields_are_left_out, labels_are_distinct, scenes_are_writable,
+    values_are_typed, written_scenes_spell,
 };
