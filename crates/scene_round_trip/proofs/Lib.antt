@@ -1,8 +1,11 @@
 mod Chains
+mod Defaulted
 mod Defaults
 mod Documents
 mod Expanded
 mod Fields
+mod Headers
+mod Joined
 mod Labels
 mod Lists
 mod Machines

@@ -1,6 +1,6 @@
 -- What is written of a sound value is typed as itself.
 use Rattle.std.proofs.Common.{◌≡◌, ℕ, suc, ◌+◌, ◌*◌, ◌/◌, ◌%◌, ◌^◌, ◌-◌, ◌==◌, ℤ, pos, negsuc, neg_ℤ, int_le, unsigned_abs, Bool, true, false, ◌&&◌, if◌then◌else◌, List, [], ◌∷◌, length, map, Some, None, Result, Ok, Err, refl, sym, ap, subst, ◌∙◌, arith, eq-eqb}
-use Rattle.std.specs.List.{flat_map, list_all}
+use Rattle.std.specs.List.{AllByRecursion, flat_map, list_all}
 use Rattle.std.proofs.lemmas.Int.{unsigned_abs-mul}
 use Rattle.x3d_values.specs.declared.value.Value.{Value}
 use Rattle.x3d_values.specs.declared.value.Value.TheVariants as value
@@ -11,9 +11,9 @@ use Rattle.scene_values.specs.declared.fault.ValueFault.{ValueFault}
 use Rattle.scene_values.specs.declared.fault.ValueFault.TheVariants.{ValueRange, WrongType}
 use Rattle.scene_values.specs.Grouping.{component, pair, vector, color, pairs, vectors, colors}
 use Rattle.scene_values.specs.Quantities.{is_integer, whole}
-use Rattle.scene_values.specs.Typing.{made}
+use Rattle.scene_values.specs.Typing.{called, made}
 use Rattle.scene_text.specs.Raw.{in_millionths, integer_run, number_run, pair_run, vector_run, color_run}
-use Rattle.scene_round_trip.specs.Values.{is_int32, is_number, is_time, WrittenValuesAreTyped}
+use Rattle.scene_round_trip.specs.Values.{is_int32, is_number, is_time, WrittenNodesAreTyped, WrittenValuesAreTyped}
 use Rattle.scene_round_trip.proofs.Tests.{both, and_true}
 
 -- ---- whole numbers
@@ -157,3 +157,34 @@ written_values_are_typed (value.MFColor []) ns n s = refl
 written_values_are_typed (value.MFColor (k ∷ ks)) ns n s =
     run_typed is_number (λ l. value.MFColor (colors l)) (length (flat_map color_run (k ∷ ks)) % 3 == 0) (flat_map color_run (k ∷ ks)) (value.MFColor (k ∷ ks))
     (some_triples (length (flat_map color_run (k ∷ ks))) (length (k ∷ ks)) (color_count (k ∷ ks))) s (ap (λ l. value.MFColor l) (colors_again (k ∷ ks)))
+
+-- ---- with nodes
+
+called_again : (put : ℕ → ℕ) (numbers : List ℕ) (ns : List ℕ) → AllByRecursion (λ n. called numbers (put n) ≡ n) ns
+    → map (called numbers) (map put ns) ≡ ns
+called_again put numbers [] h = refl
+called_again put numbers (n ∷ ns) h =
+    ap (λ k. k ∷ map (called numbers) (map put ns)) h.0 ∙ ap (λ l. n ∷ l) (called_again put numbers ns h.1)
+
+pub written_nodes_are_typed : WrittenNodesAreTyped
+written_nodes_are_typed (value.SFNode (Some n)) put numbers h s = ap (λ k. ok (value.SFNode (Some k))) h.0
+written_nodes_are_typed (value.SFNode None) put numbers h s = refl
+written_nodes_are_typed (value.MFNode []) put numbers h s = refl
+written_nodes_are_typed (value.MFNode (n ∷ ns)) put numbers h s =
+    ap (λ l. ok (value.MFNode l)) (called_again put numbers (n ∷ ns) h)
+written_nodes_are_typed (value.SFBool x) put numbers h s = written_values_are_typed (value.SFBool x) numbers refl s
+written_nodes_are_typed (value.SFInt32 x) put numbers h s = written_values_are_typed (value.SFInt32 x) numbers refl s
+written_nodes_are_typed (value.SFFloat x) put numbers h s = written_values_are_typed (value.SFFloat x) numbers refl s
+written_nodes_are_typed (value.SFTime x) put numbers h s = written_values_are_typed (value.SFTime x) numbers refl s
+written_nodes_are_typed (value.SFString x) put numbers h s = written_values_are_typed (value.SFString x) numbers refl s
+written_nodes_are_typed (value.SFVec2f x) put numbers h s = written_values_are_typed (value.SFVec2f x) numbers refl s
+written_nodes_are_typed (value.SFVec3f x) put numbers h s = written_values_are_typed (value.SFVec3f x) numbers refl s
+written_nodes_are_typed (value.SFColor x) put numbers h s = written_values_are_typed (value.SFColor x) numbers refl s
+written_nodes_are_typed (value.MFBool x) put numbers h s = written_values_are_typed (value.MFBool x) numbers refl s
+written_nodes_are_typed (value.MFInt32 x) put numbers h s = written_values_are_typed (value.MFInt32 x) numbers refl s
+written_nodes_are_typed (value.MFFloat x) put numbers h s = written_values_are_typed (value.MFFloat x) numbers refl s
+written_nodes_are_typed (value.MFTime x) put numbers h s = written_values_are_typed (value.MFTime x) numbers refl s
+written_nodes_are_typed (value.MFString x) put numbers h s = written_values_are_typed (value.MFString x) numbers refl s
+written_nodes_are_typed (value.MFVec2f x) put numbers h s = written_values_are_typed (value.MFVec2f x) numbers refl s
+written_nodes_are_typed (value.MFVec3f x) put numbers h s = written_values_are_typed (value.MFVec3f x) numbers refl s
+written_nodes_are_typed (value.MFColor x) put numbers h s = written_values_are_typed (value.MFColor x) numbers refl s

@@ -1,4 +1,5 @@
 pub mod Defaults
+pub mod Headers
 pub mod Labels
 pub mod Named
 pub mod Values

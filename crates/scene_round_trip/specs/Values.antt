@@ -1,12 +1,14 @@
 -- Values that a field may hold, and that what is written of one is read as itself (ISO/IEC 19775-1,
 -- field types; ISO/IEC 19776-2, field values).
-use Rattle.std.specs.Prelude.{◌≡◌, ℕ, ◌-◌, ◌^◌, ◌&&◌, ℤ, pos, negsuc, int_le, nat_le, unsigned_abs, Bool, true, List, [], Ok}
-use Rattle.std.specs.List.{flat_map, list_all}
+use Rattle.std.specs.Prelude.{◌≡◌, ℕ, ◌-◌, ◌^◌, ◌&&◌, ℤ, pos, negsuc, int_le, nat_le, unsigned_abs, Bool, true, List, [], Ok, map, Some, ◌∷◌}
+use Rattle.std.specs.List.{AllByRecursion, flat_map, list_all}
 use Rattle.std.specs.Str.{is_utf8}
 use Rattle.x3d_values.specs.declared.value.Value.{Value}
-use Rattle.x3d_values.specs.declared.value.Value.TheVariants.{SFInt32, SFFloat, SFTime, SFString, SFVec2f, SFVec3f, SFColor, MFInt32, MFFloat, MFTime, MFString, MFVec2f, MFVec3f, MFColor}
+use Rattle.x3d_values.specs.declared.value.Value.TheVariants.{SFInt32, SFFloat, SFTime, SFString, SFVec2f, SFVec3f, SFColor, SFNode, MFNode, MFInt32, MFFloat, MFTime, MFString, MFVec2f, MFVec3f, MFColor}
 use Rattle.x3d_values.specs.Values.{type_of, nodes_of}
-use Rattle.scene_values.specs.Typing.{typed}
+use Rattle.classic_tree.specs.declared.tree.RawValue.{RawValue}
+use Rattle.classic_tree.specs.declared.tree.RawValue.TheVariants as raw
+use Rattle.scene_values.specs.Typing.{called, typed}
 use Rattle.scene_text.specs.Raw.{pair_run, vector_run, color_run, plain}
 
 -- a whole number of 32 bits
@@ -43,3 +45,16 @@ abbrev pub WrittenValuesAreTyped : Type 0
 WrittenValuesAreTyped =
     (v : Value) (numbers : List ℕ) → nodes_of v ≡ [] → is_sound v ≡ true
     → typed (type_of v) (plain v) numbers ≡ Ok v
+
+-- what is written of a value, where the tree of each node in it is put in as the node of that number
+abbrev pub placed : (ℕ → ℕ) → Value → RawValue ℕ
+placed put (SFNode (Some n)) = raw.Node (put n)
+placed put (MFNode (n ∷ ns)) = raw.NodeList (map put (n ∷ ns))
+placed put value = plain value
+
+-- so with nodes, where each that is put in is called in the scene what it was called there
+abbrev pub WrittenNodesAreTyped : Type 0
+WrittenNodesAreTyped =
+    (v : Value) (put : ℕ → ℕ) (numbers : List ℕ)
+    → AllByRecursion (λ n. called numbers (put n) ≡ n) (nodes_of v) → is_sound v ≡ true
+    → typed (type_of v) (placed put v) numbers ≡ Ok v

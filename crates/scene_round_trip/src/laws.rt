@@ -1,14 +1,16 @@
 //! Laws of written scenes, each the contract of a function that does nothing.
 
 ghost use Rattle.scene_round_trip.specs.Defaults.{DefaultsAreLeftOut, LeftOutAreDefaults};
+ghost use Rattle.scene_round_trip.specs.Headers.{HeadersAreKept};
 ghost use Rattle.scene_round_trip.specs.Labels.{LabelsAreDistinct};
 ghost use Rattle.scene_round_trip.specs.Named.{ExpandedAreNamed};
-ghost use Rattle.scene_round_trip.specs.Values.{WrittenValuesAreTyped};
+ghost use Rattle.scene_round_trip.specs.Values.{WrittenNodesAreTyped, WrittenValuesAreTyped};
 ghost use Rattle.scene_round_trip.specs.Written.{DocumentScenesSpell, ScenesAreWritable, WrittenScenesSpell};
 
-/// What is written of a value without nodes is that value again, by the type of its field.
+/// What is written of a value is that value again, by the type of its field.
 pub fn values_are_typed()
-    ensures { WrittenValuesAreTyped }
+    ensures plain { WrittenValuesAreTyped }
+    ensures nodes { WrittenNodesAreTyped }
 {}
 
 /// The fields that are left out are those that hold what they hold where nothing is given.
@@ -38,4 +40,9 @@ pub fn scenes_are_writable()
 /// are UTF-8.
 pub fn expanded_are_named()
     ensures { ExpandedAreNamed }
+{}
+
+/// The scene of what is written of a scene has the same header statements.
+pub fn headers_are_kept()
+    ensures { HeadersAreKept }
 {}

@@ -4,6 +4,6 @@
 mod laws;
 
 pub use laws::{
-    expanded_are_named, fields_are_left_out, labels_are_distinct, scenes_are_writable,
-    values_are_typed, written_scenes_spell,
+    expanded_are_named, fields_are_left_out, headers_are_kept, labels_are_distinct,
+    scenes_are_writable, values_are_typed, written_scenes_spell,
 };
