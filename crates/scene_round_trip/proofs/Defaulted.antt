@@ -1,51 +1,23 @@
 -- The values that fields hold where nothing is given are sound.
-use Rattle.std.proofs.Common.{◌≡◌, ℕ, suc, ◌+◌, ◌<◌, pos, Bool, true, false, not, ◌&&◌, List, [], ◌∷◌, ◌++◌, codes, length, map, Option, Some, None, Result, Ok, Err, if◌then◌else◌, slice_get, refl, sym, ap, subst, ◌∙◌, ◌⊎◌, inl, inr, append_assoc, append-nil, nat_eq, ◌==◌}
-use Rattle.std.specs.Cmp.Lexicographic.{pointwise}
-use Rattle.std.specs.List.{AllByRecursion, list_all}
+use Rattle.std.proofs.Common.{◌≡◌, ℕ, Bool, true, List, [], codes, Option, Some, None, refl}
+use Rattle.std.specs.List.{list_all}
 use Rattle.std.specs.Option.{option_and_then, option_map_or}
 use Rattle.std.specs.Str.{is_utf8}
-use Rattle.std.proofs.lemmas.List.{length-append, take-map}
 use Rattle.std.proofs.lemmas.Str.{is_utf8-from_IsUtf8, IsUtf8-nil}
 use Rattle.x3d_values.specs.declared.default.FieldDefault.{FieldDefault}
 use Rattle.x3d_values.specs.declared.default.FieldDefault.TheVariants as default
-use Rattle.x3d_values.specs.declared.field_type.Access.{Access}
 use Rattle.x3d_values.specs.declared.field_type.FieldType.{FieldType}
 use Rattle.x3d_values.specs.declared.field_type.FieldType.TheVariants as types
-use Rattle.x3d_values.specs.declared.node_type.NodeKind.{NodeKind}
 use Rattle.x3d_values.specs.declared.node_type.NodeType.{NodeType}
-use Rattle.x3d_values.specs.declared.node_type.NodeType.TheVariants.{Group, Script}
-use Rattle.x3d_values.specs.declared.value.Value.{Value}
+use Rattle.x3d_values.specs.declared.node_type.NodeType.TheVariants.{Group}
 use Rattle.x3d_values.specs.declared.value.Value.TheVariants as value
-use Rattle.x3d_values.specs.Access.{is_initial}
 use Rattle.x3d_values.specs.Defaults.{default_value}
 use Rattle.x3d_values.specs.Tables.{Entry, rows}
 use Rattle.x3d_values.specs.Values.{empty_value}
 use Rattle.classic_lex.specs.Bytes.{begins_name, continues_name, is_digit}
-use Rattle.classic_tree.specs.declared.tree.Declaration.{Declaration}
-use Rattle.classic_tree.specs.declared.tree.RawValue.{RawValue}
-use Rattle.classic_round_trip.specs.Spellable.{IsFreeName, IsNameOrNone}
-use Rattle.flat_document.specs.declared.flat.FlatField.{FlatField}
-use Rattle.flat_document.specs.declared.flat.FlatNode.{FlatNode}
-use Rattle.scene_values.specs.declared.fault.ValueFault.{ValueFault}
-use Rattle.scene_values.specs.Rotations.{checked_rotation}
-use Rattle.scene_values.specs.Typing.{called, typed}
-use Rattle.scene_core.specs.declared.fault.SceneFault.{SceneFault}
-use Rattle.scene_core.specs.declared.fault.SceneFaultKind.TheVariants.{ValueRange, NotInitial, BadChild, RotationUnsupported}
-use Rattle.scene_core.specs.declared.row.DeclaredField.{DeclaredField}
-use Rattle.scene_core.specs.declared.scene.SceneNode.{SceneNode}
-use Rattle.scene_core.specs.Building.{node_of}
-use Rattle.scene_core.specs.Deep.{linked}
-use Rattle.scene_core.specs.Faults.{fault, ◌>>=◌}
-use Rattle.scene_core.specs.Labels.{is_numbered, label_by}
-use Rattle.scene_core.specs.Parts.{given, inner_nodes}
-use Rattle.scene_core.specs.Shape.{is_rotation, declared_by, declared_default, declaration_entry, numbered_fields, most_declared}
-use Rattle.scene_core.specs.Typed.{at_line, dropped_rotation, in_range, all_taken, accepted, accepted_in_range, typed_value, given_value, default_of, field_value, values_from, no_rotation, declared_given, declared_empty, declared_value, declared_from, values_of}
-use Rattle.scene_round_trip.specs.Named.{has_utf8, IsNamedNode}
 use Rattle.scene_round_trip.specs.Values.{is_int32, is_number, is_time, is_sound}
-use Rattle.scene_round_trip.specs.Writable.{is_sound_or_none, HoldValues, IsWritableNode}
-use Rattle.scene_round_trip.proofs.Lists.{all_append, all_map, all_weaker}
 use Rattle.scene_round_trip.proofs.Names.{is_free, free_name}
-use Rattle.scene_round_trip.proofs.Tests.{both, and_true}
+use Rattle.scene_round_trip.proofs.Tests.{and_true}
 
 -- ---- defaults
 

@@ -1,22 +1,20 @@
 -- The expanded form of a document that some text spells has names that are names, and texts that
 -- are UTF-8.
-use Rattle.std.proofs.Common.{◌≡◌, ℕ, List, [], ◌∷◌, ◌++◌, length, fold, Option, Some, None, Result, Ok, Err, slice_get, refl, sym, ap, subst, ◌∙◌}
+use Rattle.std.proofs.Common.{◌≡◌, ℕ, List, [], ◌∷◌, ◌++◌, length, fold, Option, Some, None, Result, Ok, Err, slice_get, refl, subst}
 use Rattle.std.specs.List.{AllByRecursion}
 use Rattle.classic_tree.specs.declared.tree.Document.{Document}
 use Rattle.classic_tree.specs.declared.tree.Statement.{Statement}
-use Rattle.classic_text.specs.Spells.{SpellsButLines}
 use Rattle.classic_round_trip.proofs.Routes.{Any as AnyLine}
 use Rattle.classic_round_trip.proofs.Spelled.{spellable}
-use Rattle.classic_round_trip.specs.Spellable.{IsNameOrNone, IsSpellableComponent, IsSpellableMeta, IsSpellableTopStatement, AreSpellableStatements, IsSpellable, head_words, unread_words}
+use Rattle.classic_round_trip.specs.Spellable.{IsNameOrNone, IsSpellableTopStatement, AreSpellableStatements, IsSpellable, head_words, unread_words}
 use Rattle.flat_document.specs.declared.fault.ExpandFault.{ExpandFault}
 use Rattle.flat_document.specs.declared.flat.Flat.{Flat}
 use Rattle.flat_document.specs.declared.flat.FlatNode.{FlatNode}
 use Rattle.flat_document.specs.declared.flat.FlatRoute.{FlatRoute}
-use Rattle.flat_document.specs.declared.flat.Header.{Header}
 use Rattle.proto_declarations.specs.Sight.{Sight as Declared}
 use Rattle.proto_declarations.specs.Meaning.{statement as checked}
 use Rattle.proto_ends.specs.Pairs.{routes_of}
-use Rattle.proto_walk.specs.Machine.{Walk, Outcome, Machine, and_then, ◌>>=◌, pure, through}
+use Rattle.proto_walk.specs.Machine.{Outcome, pure, through}
 use Rattle.proto_walk.specs.Meaning.{statement_does}
 use Rattle.proto_walk.specs.Whole.{nothing, with_declared, check, put_statement, grown, at_top, label_at, flat_node, add_node, flat_nodes, header_of, with_routes, flat_of, flat}
 use Rattle.scene_round_trip.specs.Named.{IsNamedNode, IsNamed, ExpandedAreNamed}

@@ -1,38 +1,33 @@
 -- What is expanded of a spellable tree has names that are names, and texts that are UTF-8.
-use Rattle.std.proofs.Common.{◌≡◌, ℕ, zero, suc, ◌+◌, ◌-◌, Bool, true, false, List, [], ◌∷◌, ◌++◌, length, map, nat_lt, Option, Some, None, is_none, Result, Ok, Err, if◌then◌else◌, refl, sym, ap, subst, ◌∙◌, ◌⊎◌, inl, inr}
-use Rattle.std.specs.List.{AllByRecursion, flat_map, list_all}
+use Rattle.std.proofs.Common.{◌≡◌, ℕ, zero, suc, ◌-◌, Bool, true, false, List, [], ◌∷◌, length, map, Option, Some, None, Result, Ok, Err, if◌then◌else◌, refl, sym, subst, ◌⊎◌, inl, inr}
+use Rattle.std.specs.List.{AllByRecursion, list_all}
 use Rattle.std.specs.Str.{bytes_eq, IsUtf8, is_utf8}
 use Rattle.std.proofs.lemmas.Str.{is_utf8-from_IsUtf8}
 use Rattle.x3d_values.specs.declared.node_type.NodeType.{NodeType}
-use Rattle.x3d_values.specs.declared.table.FieldRow.{FieldRow}
 use Rattle.x3d_values.specs.Names.{node_type_named}
 use Rattle.classic_tree.specs.declared.tree.BodyItem.{BodyItem}
-use Rattle.classic_tree.specs.declared.tree.BodyItem.TheVariants as held
 use Rattle.classic_tree.specs.declared.tree.Declaration.{Declaration}
 use Rattle.classic_tree.specs.declared.tree.Given.{Given}
 use Rattle.classic_tree.specs.declared.tree.Given.TheVariants as given
 use Rattle.classic_tree.specs.declared.tree.NodeText.{NodeText}
-use Rattle.classic_tree.specs.declared.tree.NodeText.TheVariants as text
 use Rattle.classic_tree.specs.declared.tree.ProtoText.{ProtoText, out-ProtoText}
 use Rattle.classic_tree.specs.declared.tree.RawValue.{RawValue}
 use Rattle.classic_tree.specs.declared.tree.RawValue.TheVariants as value
 use Rattle.classic_tree.specs.declared.tree.Statement.{Statement}
-use Rattle.classic_tree.specs.declared.tree.Statement.TheVariants as stands
-use Rattle.classic_round_trip.specs.Spellable.{AreSome, IsFreeName, IsNameOrNone, IsSpellableValue, IsSpellableGiven, IsSpellableDeclared, IsSpellableDeclaration, IsSpellableItem, IsSpellableStatement, IsSpellableUse, IsSpellableFull, IsSpellableProtoBy, IsSpellableNode, IsSpellableProtoBody, IsSpellableProto, IsSpellableTopStatement, unread_words}
+use Rattle.classic_round_trip.specs.Spellable.{IsFreeName, IsNameOrNone, IsSpellableValue, IsSpellableGiven, IsSpellableDeclared, IsSpellableDeclaration, IsSpellableItem, IsSpellableStatement, IsSpellableUse, IsSpellableFull, IsSpellableNode, IsSpellableProtoBody, IsSpellableProto, IsSpellableTopStatement, unread_words}
 use Rattle.classic_text.specs.Spells.{max_depth}
 use Rattle.flat_document.specs.declared.fault.ExpandFault.{ExpandFault}
 use Rattle.proto_declarations.specs.Sight.{no_names as no_names_yet}
 use Rattle.proto_walk.proofs.Equations.{proto_does_is, item_does-field, item_does-declaration, item_does-route, item_does-proto, declares-field, declares-declaration, declares-route, declares-proto, node_does-use, node_does-full, statement_does-node, statement_does-route, statement_does-proto}
 use Rattle.proto_walk.specs.Closing.{put}
-use Rattle.proto_walk.specs.Fields.{Signature, signature, signatures, of_row, of_interface, of_signature, own_interface, first_twice, fits}
-use Rattle.proto_walk.specs.Limits.{begin_node, begin_instance, count_items, count_joined, count_again, item_count}
-use Rattle.proto_walk.specs.Machine.{Made, Bound, Walk, Outcome, Machine, and_then, ◌>>=◌, pure, refuse, through, keep, keep_name, tie, stand, meet, label, help, know, use_node, lookup, definition}
-use Rattle.proto_walk.specs.Meaning.{Place, Owner, has_field, with_field, known, admits, is_taken, hand_on, tie_field, hand_over, add_joined, joined_by, add_tied, add_known_is, add_is, with_number, unless_own, with_place, tie_declared, add_declared_is, add_number, numbered, add_new, add_taken, add_known, add_value, add_given, add_declaration, add_default_value, add_default, add_defaults, is_wanted, back, body_of, body, owner_of, node_owner, close_node, stand_in, close_instance, typed_node, unless_twice, begin, instance, of_bound, of_word, full_node, hold, in_body, add_spots, join_tie, join, close_body, out_of, leave, within, begin_body, meaning_of, declare, item_does, item_declares, declared_in, items_do, node_does, proto_does, statement_does}
+use Rattle.proto_walk.specs.Fields.{Signature, signature, signatures, own_interface, first_twice}
+use Rattle.proto_walk.specs.Limits.{begin_node, begin_instance, count_items, count_joined, item_count}
+use Rattle.proto_walk.specs.Machine.{Made, Bound, Outcome, Machine, and_then, pure, through, keep, stand, meet, label, help, lookup, definition}
+use Rattle.proto_walk.specs.Meaning.{Place, Owner, has_field, known, admits, is_taken, add_number, numbered, add_new, add_known, add_value, add_given, add_declaration, add_default_value, add_default, add_defaults, is_wanted, back, body_of, body, owner_of, node_owner, close_node, stand_in, close_instance, typed_node, unless_twice, begin, instance, of_bound, of_word, full_node, hold, in_body, join_tie, join, close_body, out_of, within, begin_body, meaning_of, declare, item_does, item_declares, declared_in, items_do, node_does, proto_does, statement_does}
 use Rattle.proto_walk.specs.Routes.{wire}
-use Rattle.scene_round_trip.specs.Named.{has_utf8}
 use Rattle.scene_round_trip.proofs.Joined.{KnownField, Fields, keeps_if, keeps_refuse, keeps_pure, is_kept, placed_kept, declared_is_kept}
 use Rattle.scene_round_trip.proofs.Lists.{all_append, all_map, all_weaker}
-use Rattle.scene_round_trip.proofs.Machines.{TypeOf, ItemOf, Store, GivenField, Declarations, HasUtf8, IsGoodStore, IsGoodBound, IsGoodWalk, IsDone, Ends, Keeps, Any, ends_ok, ends_err, ends_if, ends_then, keeps_through, label_good, keep_good, help_good, know_good, use_good, meet_good, stand_good, keep_name_good, tie_good, begin_good, begin_instance_good, count_good, joined_good, again_good, wire_good, put_good, scripted_own, free_own}
+use Rattle.scene_round_trip.proofs.Machines.{Store, Declarations, HasUtf8, IsGoodStore, IsGoodBound, Ends, Keeps, Any, ends_ok, ends_err, ends_if, ends_then, keeps_through, label_good, keep_good, help_good, know_good, use_good, meet_good, stand_good, begin_good, begin_instance_good, count_good, joined_good, wire_good, put_good, scripted_own, free_own}
 use Rattle.scene_round_trip.proofs.Tests.{and_true}
 
 -- ---- values and fields, by the nodes in them

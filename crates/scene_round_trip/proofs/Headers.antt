@@ -1,5 +1,5 @@
 -- The scene of what is written has the same header statements.
-use Rattle.std.proofs.Common.{◌≡◌, ℕ, List, [], Result, Ok, Err, refl, sym, ap, subst, ◌∙◌}
+use Rattle.std.proofs.Common.{◌≡◌, ℕ, List, [], Result, Ok, Err, sym, ap, ◌∙◌}
 use Rattle.classic_tree.specs.declared.tree.Document.{Document}
 use Rattle.flat_document.specs.declared.fault.ExpandFault.{ExpandFault}
 use Rattle.flat_document.specs.declared.flat.Flat.{Flat}

@@ -1,7 +1,6 @@
 -- What the steps of expansion keep: names are names, and texts are UTF-8.
-use Rattle.std.proofs.Common.{rules, ◌≡◌, ℕ, ◌+◌, ◌-◌, Bool, true, false, List, [], ◌∷◌, ◌++◌, length, map, nat_lt, Option, Some, None, Result, Ok, Err, if◌then◌else◌, slice_get, slice_set, refl, sym, ap, subst, ◌∙◌, ◌⊎◌, inl, inr}
+use Rattle.std.proofs.Common.{rules, ◌≡◌, ℕ, Bool, true, false, List, [], ◌∷◌, ◌++◌, length, map, nat_lt, Option, Some, None, Result, Ok, Err, if◌then◌else◌, slice_get, refl, ap, subst, ◌⊎◌, inl, inr}
 use Rattle.std.specs.List.{AllByRecursion, list_all}
-use Rattle.std.specs.Str.{bytes_eq}
 use denote.Enum.Bare.{sameb, same_true}
 use Rattle.x3d_values.specs.contracts.node_type.NodeType as node_types
 use Rattle.x3d_values.specs.declared.node_type.NodeType.{NodeType}
@@ -18,7 +17,7 @@ use Rattle.proto_ends.specs.declared.ends.Stand.{Stand}
 use Rattle.proto_walk.specs.Closing.{value_at, with_value, add_flat, flat_fields, declared, put_flat, with_fields, put}
 use Rattle.proto_walk.specs.Fields.{Signature, own_interface}
 use Rattle.proto_walk.specs.Limits.{max_nodes, max_fields, max_instances, begin_node, begin_instance, count_items, count_joined, count_again, count_of}
-use Rattle.proto_walk.specs.Machine.{Made, Bound, Begun, Walk, Outcome, Machine, and_then, ◌>>=◌, pure, refuse, through, label, keep, help, is_later, know, used, use_node, meet, stand, keep_name, tie}
+use Rattle.proto_walk.specs.Machine.{Made, Bound, Begun, Walk, Outcome, Machine, and_then, ◌>>=◌, through, label, keep, help, is_later, know, used, use_node, meet, stand, keep_name, tie}
 use Rattle.proto_walk.specs.Routes.{add_wire, wire}
 use Rattle.proto_walk.specs.Whole.{nothing}
 use Rattle.scene_round_trip.specs.Named.{has_utf8}
