@@ -14,8 +14,8 @@ use Rattle.flat_document.specs.declared.flat.FlatRoute.{FlatRoute}
 use Rattle.proto_declarations.specs.Sight.{Sight as Declared}
 use Rattle.proto_declarations.specs.Meaning.{statement as checked}
 use Rattle.proto_ends.specs.Pairs.{routes_of}
-use Rattle.proto_walk.specs.Machine.{Outcome, pure, through}
-use Rattle.proto_walk.specs.Meaning.{statement_does}
+use Rattle.proto_steps.specs.Machine.{Outcome, pure, through}
+use Rattle.proto_steps.specs.Meaning.{statement_does}
 use Rattle.proto_walk.specs.Whole.{nothing, with_declared, check, put_statement, grown, at_top, label_at, flat_node, add_node, flat_nodes, header_of, with_routes, flat_of, flat}
 use Rattle.scene_round_trip.specs.Named.{IsNamedNode, IsNamed, ExpandedAreNamed}
 use Rattle.scene_round_trip.specs.Written.{DocumentScenesSpell}

@@ -18,16 +18,19 @@ use Rattle.classic_round_trip.specs.Spellable.{IsFreeName, IsNameOrNone, IsSpell
 use Rattle.classic_text.specs.Spells.{max_depth}
 use Rattle.flat_document.specs.declared.fault.ExpandFault.{ExpandFault}
 use Rattle.proto_declarations.specs.Sight.{no_names as no_names_yet}
-use Rattle.proto_walk.proofs.Equations.{proto_does_is, item_does-field, item_does-declaration, item_does-route, item_does-proto, declares-field, declares-declaration, declares-route, declares-proto, node_does-use, node_does-full, statement_does-node, statement_does-route, statement_does-proto}
-use Rattle.proto_walk.specs.Closing.{put}
-use Rattle.proto_walk.specs.Fields.{Signature, signature, signatures, own_interface, first_twice}
-use Rattle.proto_walk.specs.Limits.{begin_node, begin_instance, count_items, count_joined, item_count}
-use Rattle.proto_walk.specs.Machine.{Made, Bound, Outcome, Machine, and_then, pure, through, keep, stand, meet, label, help, lookup, definition}
-use Rattle.proto_walk.specs.Meaning.{Place, Owner, has_field, known, admits, is_taken, add_number, numbered, add_new, add_known, add_value, add_given, add_declaration, add_default_value, add_default, add_defaults, is_wanted, back, body_of, body, owner_of, node_owner, close_node, stand_in, close_instance, typed_node, unless_twice, begin, instance, of_bound, of_word, full_node, hold, in_body, join_tie, join, close_body, out_of, within, begin_body, meaning_of, declare, item_does, item_declares, declared_in, items_do, node_does, proto_does, statement_does}
-use Rattle.proto_walk.specs.Routes.{wire}
+use Rattle.proto_steps.proofs.Equations.{proto_does_is, item_does-field, item_does-declaration, item_does-route, item_does-proto, declares-field, declares-declaration, declares-route, declares-proto, node_does-use, node_does-full, statement_does-node, statement_does-route, statement_does-proto}
+use Rattle.proto_steps.specs.Closing.{put}
+use Rattle.proto_fields.specs.Fields.{Signature, signature, signatures, own_interface, first_twice}
+use Rattle.proto_steps.specs.Limits.{begin_node, begin_instance, count_interface, count_items, count_joined}
+use Rattle.proto_fields.specs.Values.{item_count}
+use Rattle.proto_steps.specs.Machine.{Made, Bound, Outcome, Machine, and_then, pure, through, keep, stand, meet, label, help, lookup}
+use Rattle.proto_fields.specs.Owners.{definition}
+use Rattle.proto_fields.specs.Owners.{Place, Owner, has_field, known, admits, is_taken, is_wanted, body_of}
+use Rattle.proto_steps.specs.Meaning.{add_number, numbered, add_new, add_known, add_value, add_given, add_declaration, add_default_value, add_default, add_defaults, back, body, owner_of, node_owner, close_node, stand_in, close_instance, typed_node, unless_twice, begin, instance, of_bound, of_word, full_node, hold, in_body, join_tie, join, close_body, out_of, within, begin_body, meaning_of, declare, item_does, item_declares, declared_in, items_do, node_does, proto_does, statement_does}
+use Rattle.proto_steps.specs.Routes.{wire}
 use Rattle.scene_round_trip.proofs.Joined.{KnownField, Fields, keeps_if, keeps_refuse, keeps_pure, is_kept, placed_kept, declared_is_kept}
 use Rattle.scene_round_trip.proofs.Lists.{all_append, all_map, all_weaker}
-use Rattle.scene_round_trip.proofs.Machines.{Store, Declarations, HasUtf8, IsGoodStore, IsGoodBound, Ends, Keeps, Any, ends_ok, ends_err, ends_if, ends_then, keeps_through, label_good, keep_good, help_good, know_good, use_good, meet_good, stand_good, begin_good, begin_instance_good, count_good, joined_good, wire_good, put_good, scripted_own, free_own}
+use Rattle.scene_round_trip.proofs.Machines.{Store, Declarations, HasUtf8, IsGoodStore, IsGoodBound, Ends, Keeps, Any, ends_ok, ends_err, ends_if, ends_then, keeps_through, label_good, keep_good, help_good, know_good, use_good, meet_good, stand_good, begin_good, begin_instance_good, count_good, interface_good, joined_good, wire_good, put_good, scripted_own, free_own}
 use Rattle.scene_round_trip.proofs.Tests.{and_true}
 
 -- ---- values and fields, by the nodes in them
@@ -167,8 +170,9 @@ module _ (line : ℕ) (name : Option (List ℕ)) (named : IsNameOrNone name) (it
   unfolding begin
   begun_kept interface w g =
       ends_then Any Any (begin_instance w) _ (begin_instance_good w g) (λ at v i p.
-      ends_then Any Any (unless_twice (first_twice no_names_yet interface) v) _ (once (first_twice no_names_yet interface) v i) (λ _ u j q.
-      keeps_pure Any at tt u j)) where
+      ends_then Any Any (count_interface (length interface) v) _ (interface_good (length interface) v i) (λ _ x k m.
+      ends_then Any Any (unless_twice (first_twice no_names_yet interface) x) _ (once (first_twice no_names_yet interface) x k) (λ _ u j q.
+      keeps_pure Any at tt u j))) where
         once : (o : Option ℕ) → Keeps Any (unless_twice o)
         once None = keeps_pure Any tt tt
         once (Some at) = keeps_refuse Any _

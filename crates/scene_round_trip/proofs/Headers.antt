@@ -6,7 +6,7 @@ use Rattle.flat_document.specs.declared.flat.Flat.{Flat}
 use Rattle.flat_document.specs.declared.flat.FlatRoute.{FlatRoute}
 use Rattle.flat_document.specs.declared.flat.Header.{Header}
 use Rattle.proto_ends.specs.Pairs.{routes_of}
-use Rattle.proto_walk.specs.Machine.{Outcome, through}
+use Rattle.proto_steps.specs.Machine.{Outcome, through}
 use Rattle.proto_walk.specs.Whole.{nothing, at_top, flat_nodes, header_of, with_routes, flat_of, flat}
 use Rattle.scene_core.specs.Scene.{SceneView}
 use Rattle.scene_text.specs.Statements.{scene_document}

@@ -1,10 +1,11 @@
 -- What an IS joins, and a declared field, keep names and texts.
 use Rattle.std.proofs.Common.{ℕ, Bool, true, false, List, nat_lt, Option, Some, None, is_none, Err, if◌then◌else◌}
 use Rattle.flat_document.specs.declared.fault.ExpandFault.{ExpandFault}
-use Rattle.proto_walk.specs.Fields.{Signature, of_row, of_interface, of_signature, fits}
-use Rattle.proto_walk.specs.Limits.{count_again}
-use Rattle.proto_walk.specs.Machine.{Machine, pure, keep_name, tie}
-use Rattle.proto_walk.specs.Meaning.{Owner, has_field, with_field, known, hand_on, tie_field, hand_over, add_joined, joined_by, add_tied, add_known_is, add_is, with_number, unless_own, with_place, tie_declared, add_declared_is}
+use Rattle.proto_fields.specs.Fields.{Signature, of_row, of_interface, of_signature, fits}
+use Rattle.proto_steps.specs.Limits.{count_again}
+use Rattle.proto_steps.specs.Machine.{Machine, pure, keep_name, tie}
+use Rattle.proto_fields.specs.Owners.{Owner, has_field, with_field, known}
+use Rattle.proto_steps.specs.Meaning.{hand_on, tie_field, hand_over, add_joined, joined_by, add_tied, add_known_is, add_is, with_number, unless_own, with_place, tie_declared, add_declared_is}
 use Rattle.scene_round_trip.proofs.Machines.{GivenField, Keeps, Any, ends_ok, ends_err, ends_then, keep_name_good, tie_good, again_good}
 
 abbrev pub ResultOf : {A B : Type 0} → (A → B) → Type 0

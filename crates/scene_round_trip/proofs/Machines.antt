@@ -14,11 +14,13 @@ use Rattle.flat_document.specs.declared.flat.FlatField.{FlatField}
 use Rattle.proto_declarations.specs.Sight.{through as each}
 use Rattle.proto_declarations.specs.Sight.{and_then as then_each}
 use Rattle.proto_ends.specs.declared.ends.Stand.{Stand}
-use Rattle.proto_walk.specs.Closing.{value_at, with_value, add_flat, flat_fields, declared, put_flat, with_fields, put}
-use Rattle.proto_walk.specs.Fields.{Signature, own_interface}
-use Rattle.proto_walk.specs.Limits.{max_nodes, max_fields, max_instances, begin_node, begin_instance, count_items, count_joined, count_again, count_of}
-use Rattle.proto_walk.specs.Machine.{Made, Bound, Begun, Walk, Outcome, Machine, and_then, ◌>>=◌, through, label, keep, help, is_later, know, used, use_node, meet, stand, keep_name, tie}
-use Rattle.proto_walk.specs.Routes.{add_wire, wire}
+use Rattle.proto_fields.specs.Values.{value_at, with_value, add_flat, flat_fields}
+use Rattle.proto_steps.specs.Closing.{declared, put_flat, with_fields, put}
+use Rattle.proto_fields.specs.Fields.{Signature, own_interface}
+use Rattle.proto_steps.specs.Limits.{max_nodes, max_instances, begin_node, begin_instance, count_interface, count_items, count_joined, count_again}
+use Rattle.proto_fields.specs.Values.{max_fields, count_of}
+use Rattle.proto_steps.specs.Machine.{Made, Bound, Begun, Walk, Outcome, Machine, and_then, ◌>>=◌, through, label, keep, help, is_later, know, used, use_node, meet, stand, keep_name, tie}
+use Rattle.proto_steps.specs.Routes.{add_wire, wire}
 use Rattle.proto_walk.specs.Whole.{nothing}
 use Rattle.scene_round_trip.specs.Named.{has_utf8}
 use Rattle.scene_round_trip.proofs.Lists.{all_push, all_at, all_map}
@@ -187,6 +189,10 @@ count_good n w g = ends_if Any (nat_lt w.store.room n) _ _ (ends_err Any _) (end
 pub joined_good : (n : ℕ) → Keeps Any (count_joined n)
 unfolding count_joined
 joined_good n w g = ends_if Any (nat_lt w.store.joined_room n) _ _ (ends_err Any _) (ends_ok Any tt _ tt (record { store = record { nodes = g.store.nodes; labels = g.store.labels; values = g.store.values }; protos = g.protos }))
+
+pub interface_good : (n : ℕ) → Keeps Any (count_interface n)
+unfolding count_interface
+interface_good n w g = ends_if Any (nat_lt w.store.interface_room n) _ _ (ends_err Any _) (ends_ok Any tt _ tt (record { store = record { nodes = g.store.nodes; labels = g.store.labels; values = g.store.values }; protos = g.protos }))
 
 pub again_good : (n : ℕ) → Keeps Any (count_again n)
 unfolding count_again
