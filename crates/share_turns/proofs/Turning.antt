@@ -8,7 +8,7 @@ use Rattle.share_port.specs.declared.traffic.Traffic.{Traffic}
 use Rattle.share_port.specs.declared.traffic.Traffic.TheVariants.{Received}
 use Rattle.share_port.specs.Told.{Grows}
 use Rattle.share_turns.specs.Exchanges.{Exchange, IsEnd, IsSentOf, all_traffic, sent_to, traffic_of}
-use Rattle.share_turns.specs.HostTurn.{AreAnswered, IsAnswered, IsBegun, IsExchange, IsHostTurn, is_whole}
+use Rattle.share_turns.specs.HostTurn.{AreAnswered, IsAnswered, IsBegun, IsExchange, IsHostTurn, is_whole, is_whole_before}
 use Rattle.share_turns.specs.declared.fault.TurnFault.{TurnFault}
 use Rattle.share_turns.proofs.Sending.{grows_none, grows_then}
 
@@ -16,16 +16,27 @@ all_is_front : (whole : Bool) (sent wanted : List (List ℕ)) → IsSentOf true 
 all_is_front true sent wanted e = e
 all_is_front false sent wanted e = ([], append-nil sent ∙ e)
 
+front_before : (whole : Bool) (others : List Exchange) (sent wanted : List (List ℕ)) → IsSentOf (is_whole_before true others) sent wanted
+    → IsSentOf (is_whole_before whole others) sent wanted
+front_before whole [] sent wanted e = all_is_front whole sent wanted e
+front_before whole (x ∷ others) sent wanted e = e
+
 whole_or_not : (whole : Bool) (mark : List ℕ) (h : HostState) (es : List Exchange) (new : HostState) → AreAnswered true mark h es new → AreAnswered whole mark h es new
 whole_or_not whole mark h [] new e = e
 whole_or_not whole mark h (e ∷ es) new a =
-    (a.0, record { result = a.1.result; took = a.1.took; sent = all_is_front whole _ _ a.1.sent }, whole_or_not whole mark a.0 es new a.2)
+    (a.0, record { result = a.1.result; took = a.1.took; sent = front_before whole es _ _ a.1.sent }, whole_or_not whole mark a.0 es new a.2)
+
+-- what was answered before a datagram was answered whole
+whole_then : (whole : Bool) (mark : List ℕ) (h next : HostState) (x e : Exchange) (es : List Exchange)
+    → IsAnswered (is_whole_before true es) mark h x next → IsAnswered (is_whole_before whole (es ++ e ∷ [])) mark h x next
+whole_then whole mark h next x e [] a = a
+whole_then whole mark h next x e (y ∷ es) a = a
 
 one_more_answered : (whole : Bool) (mark : List ℕ) (h : HostState) (es : List Exchange) (e : Exchange) (mid new : HostState)
-    → AreAnswered whole mark h es mid → IsAnswered whole mark mid e new → AreAnswered whole mark h (es ++ e ∷ []) new
+    → AreAnswered true mark h es mid → IsAnswered whole mark mid e new → AreAnswered whole mark h (es ++ e ∷ []) new
 one_more_answered whole mark h [] e mid new same a = (new, rw (← same) a, refl)
 one_more_answered whole mark h (x ∷ es) e mid new before a =
-    (before.0, before.1, one_more_answered whole mark before.0 es e mid new before.2 a)
+    (before.0, whole_then whole mark h before.0 x e es before.1, one_more_answered whole mark before.0 es e mid new before.2 a)
 
 -- after so many datagrams
 pub record Turned (mark : List ℕ) (clock : Option ℤ) (a b : Option (List Traffic)) (old new : HostState) (n : ℕ) : Type 0 where
@@ -71,7 +82,7 @@ turn_cut fault mark clock a b c d came old mid new n t few received x =
       begun = t.begun;
       exchanges = t.exchanges ++ e ∷ [];
       clocked = t.clocked;
-      answered = one_more_answered whole mark t.begun t.exchanges e mid new (whole_or_not whole mark t.begun t.exchanges mid t.answered) x.answered;
+      answered = one_more_answered whole mark t.begun t.exchanges e mid new t.answered x.answered;
       most = rw (length-append t.exchanges (e ∷ [])) (omega (arith, t.count, few));
       rest = [];
       ended = refl;

@@ -98,12 +98,18 @@ pub record IsExchange (whole : Bool) (mark : List ℕ) (h : HostState) (came : D
   pub answered : IsAnswered whole mark h (record { came = came; sent = sent }) new
   pub told : Grows told_before told_after (sent_to came.peer sent)
 
+-- where others follow, all was sent: a port that fails ends the turn
+abbrev pub is_whole_before : (whole : Bool) → (others : List Exchange) → Bool
+is_whole_before whole [] = whole
+is_whole_before whole (e ∷ es) = true
+
 -- one datagram after another
 abbrev pub AreAnswered : (whole : Bool) (mark : List ℕ) → HostState → List Exchange → HostState
     → Type 0
 AreAnswered whole mark h [] new = new ≡ h
 AreAnswered whole mark h (e ∷ es) new =
-    (next : HostState) × IsAnswered whole mark h e next × AreAnswered whole mark next es new
+    (next : HostState) × IsAnswered (is_whole_before whole es) mark h e next
+    × AreAnswered whole mark next es new
 
 -- the clock, and then datagrams, at most 64, until no more come
 pub record IsHostTurn (result : Result (Unit {0}) TurnFault) (mark : List ℕ) (clock : Option ℤ)
