@@ -1,0 +1,127 @@
+//! The scripts that have received in a timestamp, and those of them that are still to settle.
+
+ghost use Rattle.std.specs.Prelude.{◌≡◌, ◌≤◌, [], length};
+ghost use Rattle.script_due.specs.Table.{AreFlags};
+
+use std::alloc::{AllocError, Global};
+use std::collections::BTreeSet;
+use std::marker::Model;
+
+/// The scripts that have received in a timestamp, and those that were settled in it.
+///
+/// Each call takes time logarithmic in the number of scripts, but `begin`, which takes as much as
+/// what is held.
+#[derive(Drop)]
+pub struct DueScripts {
+    /// Whether each script has received, by its number.
+    has_received: Vec<bool>,
+    /// Those that have received.
+    received: Vec<usize>,
+    settled: Vec<usize>,
+    /// Those that have received and aren't settled.
+    due: BTreeSet<usize>,
+}
+
+impl Model for DueScripts {
+    ghost use Rattle.std.specs.Prelude.{length};
+    ghost use Rattle.script_due.specs.Settling.{Settling};
+    ghost use Rattle.script_due.specs.Table.{IsTable};
+
+    ghost Value = { Settling };
+
+    ghost view = { λ s.
+        record {
+          count = length s.has_received.items;
+          received = s.received.items;
+          settled = s.settled.items;
+        } };
+
+    ghost invariant = { λ s.
+        IsTable s.has_received.items s.due
+        (record {
+          count = length s.has_received.items;
+          received = s.received.items;
+          settled = s.settled.items;
+        }) };
+}
+
+impl DueScripts {
+    ghost use Rattle.std.specs.Prelude.{◌≡◌, ◌<◌, IfOk, OnOk, OnErr, true, length};
+    ghost use Rattle.script_due.specs.Settling.{is_due, lowest_due, unsettled, with_received, with_settled};
+
+    /// Of so many scripts none has received.
+    pub fn new(alloc: Global, count: usize) -> Result<DueScripts, AllocError>
+        ensures { IfOk result (λ s. s ≡ unsettled count) }
+    {
+        Ok(DueScripts {
+            has_received: vec![in alloc; false; count]?,
+            received: Vec::new(alloc),
+            settled: Vec::new(alloc),
+            due: BTreeSet::new(alloc),
+        })
+    }
+
+    /// A script receives an event. Where memory is refused nothing changes.
+    pub fn receive(&mut self, script: usize) -> Result<(), AllocError>
+        requires { script < self.old.count }
+        ensures ok { OnOk result (self.new ≡ with_received self.old script) }
+        ensures err { OnErr result (self.new ≡ self.old) }
+    {
+        if self.has_received[script] {
+            return Ok(());
+        }
+        self.received.push(script)?;
+        if self.due.insert(script).is_err() {
+            self.received.pop();
+            return Err(AllocError);
+        }
+        self.has_received[script] = true;
+        Ok(())
+    }
+
+    /// The lowest script that has received and isn't settled.
+    pub fn next(&self) -> Option<usize>
+        ensures { result ≡ lowest_due self.now }
+    {
+        self.due.first().copied()
+    }
+
+    /// A script that is due was settled. Where memory is refused nothing changes.
+    pub fn settle(&mut self, script: usize) -> Result<(), AllocError>
+        requires { is_due self.old script ≡ true }
+        ensures ok { OnOk result (self.new ≡ with_settled self.old script) }
+        ensures err { OnErr result (self.new ≡ self.old) }
+    {
+        self.settled.push(script)?;
+        self.due.remove(&script);
+        Ok(())
+    }
+
+    /// How many scripts were settled.
+    pub fn settles(&self) -> usize
+        ensures { result ≡ length self.now.settled }
+    {
+        self.settled.len()
+    }
+
+    /// Another timestamp begins: no script has received.
+    pub fn begin(&mut self)
+        ensures { self.new ≡ unsettled self.old.count }
+    {
+        unmark(&mut self.has_received, &self.received);
+        self.received.clear();
+        self.settled.clear();
+        self.due.clear();
+    }
+}
+
+/// Clears the flags of these scripts.
+fn unmark(flags: &mut [bool], scripts: &[usize])
+    requires { AreFlags flags.old scripts.now }
+    ensures cleared { AreFlags flags.new [] }
+    ensures len { length flags.new ≡ length flags.old }
+{
+    for script in scripts {
+        flags[*script] = false;
+    }
+}
