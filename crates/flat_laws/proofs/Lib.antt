@@ -1,0 +1,10 @@
+pub mod Lists
+pub mod Trees
+pub mod OrderWalks
+pub mod OrderFields
+pub mod OrderTrees
+pub mod OrderFlat
+pub mod ClosingParts
+pub mod ClosingWalks
+pub mod ClosingFields
+pub mod ClosingFlat
