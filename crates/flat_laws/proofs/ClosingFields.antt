@@ -32,7 +32,7 @@ refuse_does braces kind line w = tt
 -- ---- IS
 
 hand_on_keeps : (owner : Owner) (v : Option ℕ) → Keeps (hand_on owner v)
-hand_on_keeps owner None w = nothing_put w
+hand_on_keeps owner None = λ w. nothing_put w
 hand_on_keeps owner (Some v) = does_if {A = Unit {0}} [] (is_none owner.proto) (count_again v) (pure tt) (count_again_keeps v) (λ w. nothing_put w)
 
 tie_field_keeps : (field : List ℕ) (owner : Owner) (j : Joined) → Keeps (tie_field field owner j)
