@@ -8,3 +8,9 @@ pub mod ClosingParts
 pub mod ClosingWalks
 pub mod ClosingFields
 pub mod ClosingFlat
+pub mod LinesParts
+pub mod LinesChecked
+pub mod LinesWalks
+pub mod LinesFields
+pub mod LinesTrees
+pub mod LinesFlat

@@ -1,6 +1,7 @@
 //! Laws of flat documents, each the contract of a function that does nothing.
 
 ghost use Rattle.flat_laws.specs.Closings.{NodesClose};
+ghost use Rattle.flat_laws.specs.Lines.{LinesAreForFaults};
 ghost use Rattle.flat_laws.specs.Order.{FlatsAreOrdered};
 
 /// What a flat document names stands in it, and what a node holds has a lower number.
@@ -12,4 +13,9 @@ pub fn flats_are_ordered()
 /// which these close, with the type that the word before the braces names, and the name of its DEF.
 pub fn nodes_close()
     ensures { NodesClose }
+{}
+
+/// Documents that differ in lines alone have flat forms that do, or faults of one kind.
+pub fn lines_are_for_faults()
+    ensures { LinesAreForFaults }
 {}

@@ -1,6 +1,6 @@
-//! Stub.
+//! What the flat form of a document is, said without the walk that makes it.
 #![tactic(auto)]
 
 mod laws;
 
-pub use laws::{flats_are_ordered, nodes_close};
+pub use laws::{flats_are_ordered, lines_are_for_faults, nodes_close};
