@@ -1,7 +1,6 @@
 -- What stands between the braces of a node puts in the nodes of the braces inside.
-use Rattle.std.proofs.Common.{◌≡◌, ℕ, ◌-◌, Bool, true, false, if◌then◌else◌, nat_lt, is_none, List, [], ◌∷◌, ◌++◌, length, Option, Some, None, Ok, refl, sym, subst}
+use Rattle.std.proofs.Common.{◌≡◌, ℕ, if◌then◌else◌, nat_lt, is_none, List, [], ◌∷◌, ◌++◌, Option, Some, None}
 use Rattle.std.specs.List.{AllByRecursion, flat_map}
-use Rattle.classic_tree.specs.declared.tree.Declaration.{Declaration}
 use Rattle.classic_tree.specs.declared.tree.Given.{Given}
 use Rattle.classic_tree.specs.declared.tree.Given.TheVariants as given
 use Rattle.classic_tree.specs.declared.tree.NodeText.{NodeText}
@@ -9,7 +8,6 @@ use Rattle.classic_tree.specs.declared.tree.RawValue.{RawValue}
 use Rattle.classic_tree.specs.declared.tree.RawValue.TheVariants as value
 use Rattle.flat_document.specs.declared.fault.ExpandFaultKind.{ExpandFaultKind}
 use Rattle.flat_document.specs.declared.fault.ExpandFaultKind.TheVariants.{BadIs, FieldTwice, TooLarge, UnknownField}
-use Rattle.proto_declarations.specs.Sight.{Sight as Declared}
 use Rattle.proto_fields.specs.Fields.{Signature, fits, of_interface, of_signature}
 use Rattle.proto_fields.specs.Owners.{Owner, Place, admits, has_field, is_taken, known, with_field}
 use Rattle.proto_fields.specs.Values.{item_count, max_fields}

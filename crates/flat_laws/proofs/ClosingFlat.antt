@@ -1,7 +1,7 @@
 -- A document without instances has the nodes of its braces.
-use Rattle.std.proofs.Common.{◌≡◌, ℕ, ◌+◌, Bool, true, false, List, [], ◌∷◌, ◌++◌, length, map, fold, Option, Some, None, Result, Ok, Err, is_some, slice_get, zero, suc, refl, sym, subst, ap, ◌∙◌, arith, length-append}
+use Rattle.std.proofs.Common.{◌≡◌, ℕ, true, List, [], ◌∷◌, ◌++◌, length, map, fold, Option, Some, None, Result, Ok, Err, is_some, slice_get, zero, suc, refl, sym, subst, ap, ◌∙◌, arith, length-append}
 use Rattle.std.specs.List.{AllByRecursion, flat_map}
-use Rattle.std.proofs.lemmas.List.{append-nil, append_assoc, length-map, map-append}
+use Rattle.std.proofs.lemmas.List.{append-nil, append_assoc, map-append}
 use Rattle.x3d_values.specs.Names.{node_type_named}
 use Rattle.x3d_values.specs.declared.node_type.NodeType.{NodeType}
 use Rattle.classic_tree.specs.declared.tree.BodyItem.{BodyItem}
@@ -30,16 +30,16 @@ use Rattle.proto_fields.specs.declared.given.GivenField.{GivenField}
 use Rattle.proto_steps.proofs.Equations.{item_does-declaration, item_does-field, item_does-proto, item_does-route, node_does-full, node_does-use, proto_does_is, statement_does-node, statement_does-proto, statement_does-route}
 use Rattle.proto_steps.specs.Closing.{put}
 use Rattle.proto_steps.specs.Limits.{begin_node}
-use Rattle.proto_steps.specs.Machine.{Machine, Outcome, Walk, and_then, ◌>>=◌, know, meet, pure, stand, through}
+use Rattle.proto_steps.specs.Machine.{Machine, Outcome, Walk, ◌>>=◌, know, meet, pure, stand, through}
 use Rattle.proto_steps.specs.Meaning.{OnFields, add_defaults, close_node, declare, declared_in, full_node, item_does, items_do, node_does, node_owner, of_word, proto_does, statement_does, typed_node}
 use Rattle.proto_steps.specs.Routes.{wire}
 use Rattle.proto_steps.specs.declared.held.PlacedNode.{PlacedNode}
 use Rattle.proto_steps.specs.declared.held.Store.{Store}
-use Rattle.proto_walk.specs.Whole.{add_node, at_top, check, flat, flat_node, flat_nodes, flat_of, grown, header_of, label_at, nothing, put_statement, with_declared, with_routes}
+use Rattle.proto_walk.specs.Whole.{add_node, at_top, check, flat, flat_node, flat_of, grown, header_of, label_at, nothing, put_statement, with_declared, with_routes}
 use Rattle.flat_laws.specs.Closings.{Braces, IsOfNode, Shown, closings, expected, in_given, in_item, in_node, in_statement, shown}
 use Rattle.flat_laws.proofs.ClosingFields.{GivenPuts, NodePuts, add_declaration_does, add_given_does}
 use Rattle.flat_laws.proofs.ClosingParts.{in_declaration, in_field, in_full, in_item_proto, in_item_route, in_node_statement, in_proto, in_route, in_use}
-use Rattle.flat_laws.proofs.ClosingWalks.{Does, Ends, Keeps, Puts, a_type, begin_node_keeps, does_through, ends_then, expected_name, expected_type, keeps_pure, keeps_then, know_keeps, meet_keeps, nothing_put, put_does, stand_keeps, then_keeps, types, use_keeps, wire_keeps}
+use Rattle.flat_laws.proofs.ClosingWalks.{Does, Ends, Keeps, a_type, begin_node_keeps, does_through, ends_then, expected_name, expected_type, keeps_pure, keeps_then, know_keeps, meet_keeps, nothing_put, put_does, stand_keeps, then_keeps, types, use_keeps, wire_keeps}
 use Rattle.flat_laws.proofs.Trees.{Layers, every}
 
 abbrev Fields : Type 0

@@ -12,7 +12,7 @@ use Rattle.classic_tree.specs.declared.tree.NodeText.TheVariants as node
 use Rattle.classic_tree.specs.declared.tree.ProtoText.{ProtoText}
 use Rattle.classic_tree.specs.declared.tree.RawValue.TheVariants as value
 use Rattle.classic_tree.specs.declared.tree.RouteText.{RouteText}
-use Rattle.classic_tree.specs.declared.tree.Statement.{Statement, fold-roll-Statement}
+use Rattle.classic_tree.specs.declared.tree.Statement.{fold-roll-Statement}
 use Rattle.classic_tree.specs.declared.tree.Statement.TheVariants as statement
 use Rattle.classic_tree.proofs.Mapped.{given_mapped}
 use Rattle.flat_laws.specs.Closings.{Braces, Step, in_given, in_item, in_node, in_statement, inside, item_step, node_step, proto_step, statement_step}

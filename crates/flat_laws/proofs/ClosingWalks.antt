@@ -1,14 +1,12 @@
 -- Which nodes each step of the walk puts in.
-use Rattle.std.proofs.Common.{◌≡◌, ℕ, ◌+◌, ◌-◌, Bool, true, false, if◌then◌else◌, nat_lt, List, [], ◌∷◌, ◌++◌, length, map, Option, Some, None, Result, Ok, Err, slice_get, slice_set, refl, sym, subst, ◌∙◌, ap}
+use Rattle.std.proofs.Common.{◌≡◌, ℕ, Bool, true, false, if◌then◌else◌, nat_lt, List, [], ◌∷◌, ◌++◌, length, map, Option, Some, None, Result, Ok, Err, slice_get, refl, sym, subst, ◌∙◌, ap}
 use Rattle.std.specs.List.{AllByRecursion, flat_map}
 use Rattle.std.proofs.lemmas.List.{append-nil, append_assoc, map-append}
 use Rattle.x3d_values.specs.Names.{node_type_named}
 use Rattle.x3d_values.specs.declared.node_type.NodeType.{NodeType}
 use Rattle.classic_tree.specs.declared.tree.RawValue.{RawValue}
 use Rattle.classic_tree.specs.declared.tree.RouteText.{RouteText}
-use Rattle.flat_document.specs.Fault.{fault}
 use Rattle.flat_document.specs.declared.fault.ExpandFault.{ExpandFault}
-use Rattle.flat_document.specs.declared.fault.ExpandFaultKind.TheVariants.{TooLarge}
 use Rattle.flat_document.specs.declared.flat.FlatField.{FlatField}
 use Rattle.proto_ends.specs.declared.ends.Stand.{Stand}
 use Rattle.proto_fields.specs.Fields.{Signature}
@@ -16,7 +14,7 @@ use Rattle.proto_fields.specs.Values.{count_of, flat_fields}
 use Rattle.proto_fields.specs.declared.given.GivenField.{GivenField}
 use Rattle.proto_steps.specs.Closing.{declared, put, put_flat, with_fields}
 use Rattle.proto_steps.specs.Limits.{begin_node, count_again, count_items, max_nodes}
-use Rattle.proto_steps.specs.Machine.{Begun, Machine, Outcome, Walk, and_then, ◌>>=◌, is_later, keep, keep_name, know, meet, pure, stand, through, tie, use_node, used, with_name}
+use Rattle.proto_steps.specs.Machine.{Begun, Machine, Outcome, Walk, and_then, ◌>>=◌, is_later, keep, keep_name, know, meet, pure, stand, through, tie, use_node, used}
 use Rattle.proto_steps.specs.Routes.{add_wire, wire}
 use Rattle.proto_steps.specs.declared.held.Named.{Named}
 use Rattle.proto_steps.specs.declared.held.PlacedNode.{PlacedNode}

@@ -1,7 +1,7 @@
 -- What is checked of declarations has no use of lines but for faults.
-use Rattle.std.proofs.Common.{◌≡◌, ℕ, Bool, true, false, if◌then◌else◌, List, [], ◌∷◌, map, Option, Some, None, Result, Ok, Err, refl, ap, sym, subst, ◌∙◌}
+use Rattle.std.proofs.Common.{◌≡◌, ℕ, Bool, true, false, if◌then◌else◌, List, [], ◌∷◌, map, Option, Result, Ok, Err, refl, ap, sym, subst, ◌∙◌}
 use Rattle.std.specs.Prelude.{◌&&◌, ◌||◌, not}
-use Rattle.std.specs.List.{AllByRecursion, list_any}
+use Rattle.std.specs.List.{AllByRecursion}
 use Rattle.std.specs.Str.{bytes_eq}
 use Rattle.classic_tree.specs.declared.tree.BodyItem.{BodyItem}
 use Rattle.classic_tree.specs.declared.tree.BodyItem.TheVariants as item
@@ -22,8 +22,8 @@ use Rattle.proto_declarations.proofs.Equations as part
 use Rattle.proto_declarations.specs.Meaning as spec
 use Rattle.proto_declarations.specs.Meaning.{Part, checked, closed, declares, enters, finds_given, finds_in_node, finds_in_proto, finds_inside, given_does, has_node, inside_does, is_given, is_known, item_does, opened, taken_by, unless_found}
 use Rattle.proto_declarations.specs.Sight.{Names, Sight, and_then, in_sight, no_names, through}
-use Rattle.flat_laws.specs.Lines.{unlined_declaration, unlined_item, unlined_node, unlined_proto, unlined_route, unlined_statement}
-use Rattle.flat_laws.proofs.LinesParts.{Opened, item-declaration, item-field, item-proto, item-route, node-full, node-use, proto-open, statement-node, statement-proto, statement-route, unlined_given, unlined_interface, unlined_open, unlined_own}
+use Rattle.flat_laws.specs.Lines.{unlined_item, unlined_node, unlined_proto, unlined_route, unlined_statement}
+use Rattle.flat_laws.proofs.LinesParts.{Opened, item-declaration, item-field, item-proto, item-route, node-full, node-use, proto-open, statement-node, statement-proto, statement-route, unlined_given, unlined_interface, unlined_own}
 use Rattle.flat_laws.proofs.Trees.{Layers, OfDeclaration, OfGiven, every_statement}
 
 -- ---- answers alike

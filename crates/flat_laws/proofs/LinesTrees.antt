@@ -1,6 +1,6 @@
 -- Nodes, statements and prototypes do the same without lines, where what stands in them does.
 use Rattle.std.proofs.Common.{◌≡◌, ℕ, Bool, true, false, if◌then◌else◌, List, [], ◌∷◌, ◌++◌, length, map, Option, Some, None, option_map, Result, Ok, Err, refl, ap, sym, subst, ◌∙◌}
-use Rattle.std.specs.List.{AllByRecursion, flat_map}
+use Rattle.std.specs.List.{AllByRecursion}
 use Rattle.std.proofs.Math.Path.{fun_ext}
 use Rattle.std.proofs.lemmas.List.{length-map, map-append}
 use denote.Enum.Bare.{sameb}
@@ -9,7 +9,6 @@ use Rattle.x3d_values.specs.Names.{node_type_named}
 use Rattle.x3d_values.specs.Tables.{rows}
 use Rattle.x3d_values.specs.declared.node_type.NodeType.{NodeType}
 use Rattle.x3d_values.specs.declared.node_type.NodeType.TheVariants.{Script}
-use Rattle.classic_tree.proofs.Mapped.{interface_mapped}
 use Rattle.classic_tree.specs.declared.tree.BodyItem.{BodyItem}
 use Rattle.classic_tree.specs.declared.tree.BodyItem.TheVariants as item
 use Rattle.classic_tree.specs.declared.tree.Declaration.{Declaration}
@@ -38,7 +37,7 @@ use Rattle.proto_steps.specs.Machine.{Bound, Made, Machine, Meaning, Outcome, Si
 use Rattle.proto_steps.specs.Meaning.{OnFields, add_defaults, add_spots, back, begin, begin_body, body, close_body, close_instance, close_node, declare, declared_in, full_node, hold, in_body, instance, item_declares, item_does, items_do, join, join_tie, leave, meaning_of, no_spots, node_does, node_owner, of_bound, of_word, out_of, owner_of, proto_does, stand_in, statement_does, typed_node, unless_twice, within}
 use Rattle.proto_steps.specs.Routes.{wire}
 use Rattle.proto_steps.specs.declared.held.Store.{Store}
-use Rattle.flat_laws.specs.Lines.{unlined_declaration, unlined_item, unlined_node, unlined_proto, unlined_route, unlined_statement}
+use Rattle.flat_laws.specs.Lines.{unlined_item, unlined_node, unlined_proto, unlined_route, unlined_statement}
 use Rattle.flat_laws.proofs.LinesFields.{NodeAlike, add_declaration_does, add_defaults_does, add_given_does, as_long}
 use Rattle.flat_laws.proofs.LinesParts.{Opened, item-declaration, item-field, item-proto, item-route, node-full, node-use, proto-open, statement-node, statement-proto, statement-route, unlined_given, unlined_interface, unlined_open, unlined_own}
 use Rattle.flat_laws.proofs.LinesWalks.{AreAlike, AreMeaningsAlike, Comes, Does, Ends, IfAlike, Keeps, as_is, bare, bare_bound, bare_fields, bare_signature, bare_sight, bare_signatures, bare_store, begin_instance_does, begin_node_does, count_interface_does, count_joined_does, does_pure, does_then, does_through, ends_ok, ends_then, found, help_does, interface_same, know_does, label_does, meet_does, numbered_same, pair, put_does, stand_does, triple, use_does, wire_does}

@@ -1,5 +1,5 @@
 -- What every step of the walk does without lines.
-use Rattle.std.proofs.Common.{◌≡◌, ℕ, zero, suc, ◌+◌, ◌-◌, ◌==◌, Bool, true, false, if◌then◌else◌, nat_lt, is_none, List, [], ◌∷◌, ◌++◌, length, map, Option, Some, None, option_map, Result, Ok, Err, slice_get, slice_set, refl, ap, sym, subst, ◌∙◌}
+use Rattle.std.proofs.Common.{◌≡◌, ℕ, ◌+◌, ◌-◌, Bool, true, false, if◌then◌else◌, nat_lt, List, [], ◌∷◌, ◌++◌, length, map, Option, Some, None, option_map, Result, Ok, Err, slice_get, slice_set, refl, ap, sym, subst, ◌∙◌}
 use Rattle.std.specs.Prelude.{codes, drop, nat_eq, take}
 use Rattle.std.specs.List.{AllByRecursion, ends_with, starts_with}
 use Rattle.std.specs.Option.{option_and_then, option_or}

@@ -1,5 +1,5 @@
 -- What stands between braces keeps the order, where the nodes inside do.
-use Rattle.std.proofs.Common.{ℕ, ◌-◌, ◌≤◌, Bool, true, false, if◌then◌else◌, nat_lt, is_none, List, [], ◌∷◌, ◌++◌, length, Option, Some, None, Ok}
+use Rattle.std.proofs.Common.{ℕ, ◌-◌, Bool, true, false, if◌then◌else◌, nat_lt, is_none, List, [], ◌∷◌, ◌++◌, length, Option, Some, None, Ok}
 use Rattle.std.specs.List.{AllByRecursion}
 use Rattle.classic_tree.specs.declared.tree.Declaration.{Declaration}
 use Rattle.classic_tree.specs.declared.tree.Given.{Given}

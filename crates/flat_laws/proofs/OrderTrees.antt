@@ -1,5 +1,5 @@
 -- Nodes, statements and prototypes keep the order, where what stands in them does.
-use Rattle.std.proofs.Common.{ℕ, ◌≤◌, List, [], ◌∷◌, ◌++◌, length, map, Option, Some, None, Result, Ok, Err, slice_get, slice_set, sym, subst}
+use Rattle.std.proofs.Common.{ℕ, List, [], ◌∷◌, ◌++◌, length, map, Option, Some, None, Result, Ok, Err, slice_get, sym, subst}
 use Rattle.std.specs.List.{AllByRecursion}
 use Rattle.x3d_values.specs.declared.node_type.NodeType.{NodeType}
 use Rattle.x3d_values.specs.Names.{node_type_named}
@@ -7,7 +7,6 @@ use Rattle.classic_tree.specs.declared.tree.BodyItem.{BodyItem}
 use Rattle.classic_tree.specs.declared.tree.BodyItem.TheVariants as item
 use Rattle.classic_tree.specs.declared.tree.Declaration.{Declaration}
 use Rattle.classic_tree.specs.declared.tree.Given.{Given}
-use Rattle.classic_tree.specs.declared.tree.Given.TheVariants as given
 use Rattle.classic_tree.specs.declared.tree.NodeText.{NodeText}
 use Rattle.classic_tree.specs.declared.tree.NodeText.TheVariants as node
 use Rattle.classic_tree.specs.declared.tree.ProtoText.{ProtoText, out-ProtoText}
@@ -35,7 +34,7 @@ use Rattle.proto_steps.specs.Routes.{wire}
 use Rattle.proto_steps.specs.declared.held.Store.{Store}
 use Rattle.flat_laws.proofs.Lists.{IfSome, all_append, all_map, all_set, at_all}
 use Rattle.flat_laws.proofs.OrderFields.{DeclarationDoes, GivenDoes, NodeDoes, add_declaration_does, add_defaults_does, add_given_does, keeps_pure, keeps_then}
-use Rattle.flat_laws.proofs.OrderWalks.{Any, AreInletsBelow, AreSpotsBelow, Comes, Does, Ends, HasMade, IsBelow, IsGoodBound, IsGoodMeaning, IsGoodStore, IsGoodWalk, IsMadeBelow, IsPlaceBelow, IsSpotBelow, Keeps, begin_instance_does, begin_node_does, count, count_interface_does, count_joined_does, ends_lower, ends_ok, ends_then, ends_through, found, help_does, know_does, label_does, meet_does, put_does, raise, raise_if, raise_inlets, raise_names, same, stand_does, use_does, wire_does}
+use Rattle.flat_laws.proofs.OrderWalks.{Any, AreInletsBelow, AreSpotsBelow, Comes, Does, Ends, IsBelow, IsGoodBound, IsGoodMeaning, IsGoodWalk, IsMadeBelow, IsPlaceBelow, IsSpotBelow, Keeps, begin_instance_does, begin_node_does, count, count_interface_does, count_joined_does, ends_ok, ends_then, ends_through, found, help_does, know_does, label_does, meet_does, put_does, raise, raise_if, raise_inlets, raise_names, same, stand_does, use_does, wire_does}
 use Rattle.flat_laws.proofs.Trees.{Layers}
 
 abbrev Fields : Type 0

@@ -1,5 +1,5 @@
 -- What every step of the walk keeps: whatever it names was put in before.
-use Rattle.std.proofs.Common.{◌≡◌, ℕ, zero, suc, ◌+◌, ◌-◌, ◌<◌, ◌≤◌, Bool, true, false, if◌then◌else◌, nat_lt, List, [], ◌∷◌, ◌++◌, length, map, Option, Some, None, Result, Ok, Err, slice_get, slice_set, refl, subst, arith, length-append}
+use Rattle.std.proofs.Common.{◌≡◌, ℕ, zero, suc, ◌+◌, ◌<◌, ◌≤◌, Bool, true, false, if◌then◌else◌, nat_lt, List, [], ◌∷◌, ◌++◌, length, map, Option, Some, None, Result, Ok, Err, slice_get, slice_set, subst, arith, length-append}
 use Rattle.std.specs.List.{AllByRecursion}
 use Rattle.std.specs.Str.{bytes_eq}
 use Rattle.x3d_values.specs.declared.node_type.NodeType.{NodeType}
@@ -19,7 +19,7 @@ use Rattle.proto_fields.specs.Fields.{Signature}
 use Rattle.proto_fields.specs.Values.{add_flat, count_of, flat_fields, max_fields, value_at, with_value}
 use Rattle.proto_steps.specs.Closing.{declared, put, put_flat, with_fields}
 use Rattle.proto_steps.specs.Limits.{begin_instance, begin_node, count_again, count_interface, count_items, count_joined, max_instances, max_nodes}
-use Rattle.proto_steps.specs.Machine.{Begun, Bound, Made, Machine, Meaning, Names, Outcome, Walk, and_then, help, is_later, keep, keep_name, know, label, lookup, meet, pure, stand, through, tie, use_node, used, with_name}
+use Rattle.proto_steps.specs.Machine.{Begun, Bound, Made, Machine, Meaning, Names, Outcome, Walk, and_then, help, is_later, keep, keep_name, know, label, lookup, meet, stand, through, tie, use_node, used, with_name}
 use Rattle.proto_steps.specs.Routes.{add_wire, wire}
 use Rattle.proto_steps.specs.declared.held.Named.{Named}
 use Rattle.proto_steps.specs.declared.held.PlacedNode.{PlacedNode}

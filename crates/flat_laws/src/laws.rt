@@ -9,8 +9,9 @@ pub fn flats_are_ordered()
     ensures { FlatsAreOrdered }
 {}
 
-/// The flat form of a document without instances has a node for each pair of braces, in the order in
-/// which these close, with the type that the word before the braces names, and the name of its DEF.
+/// The flat form of a document without instances has a node for each pair of braces, in the order
+/// in which these close, with the type that the word before the braces names, and the name of its
+/// DEF.
 pub fn nodes_close()
     ensures { NodesClose }
 {}
