@@ -1,0 +1,16 @@
+pub mod Lists
+pub mod Trees
+pub mod OrderWalks
+pub mod OrderFields
+pub mod OrderTrees
+pub mod OrderFlat
+pub mod ClosingParts
+pub mod ClosingWalks
+pub mod ClosingFields
+pub mod ClosingFlat
+pub mod LinesParts
+pub mod LinesChecked
+pub mod LinesWalks
+pub mod LinesFields
+pub mod LinesTrees
+pub mod LinesFlat

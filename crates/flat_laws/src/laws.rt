@@ -1,0 +1,22 @@
+//! Laws of flat documents, each the contract of a function that does nothing.
+
+ghost use Rattle.flat_laws.specs.Closings.{NodesClose};
+ghost use Rattle.flat_laws.specs.Lines.{LinesAreForFaults};
+ghost use Rattle.flat_laws.specs.Order.{FlatsAreOrdered};
+
+/// What a flat document names stands in it, and what a node holds has a lower number.
+pub fn flats_are_ordered()
+    ensures { FlatsAreOrdered }
+{}
+
+/// The flat form of a document without instances has a node for each pair of braces, in the order
+/// in which these close, with the type that the word before the braces names, and the name of its
+/// DEF.
+pub fn nodes_close()
+    ensures { NodesClose }
+{}
+
+/// Documents that differ in lines alone have flat forms that do, or faults of one kind.
+pub fn lines_are_for_faults()
+    ensures { LinesAreForFaults }
+{}
