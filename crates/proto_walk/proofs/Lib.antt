@@ -1,3 +1,4 @@
+pub mod Contents
 pub mod Moves
 pub mod Refusals
 pub mod Sights

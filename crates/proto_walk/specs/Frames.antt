@@ -157,6 +157,11 @@ abbrev pub Steps : Outcome ℕ → Result Task ExpandFault → Walker → Type 0
 Steps whole (Ok next) new = (whole ≡ comes_to new next) × Fits new next
 Steps whole (Err e) new = (e ≡ memory) ⊎ (whole ≡ Err e)
 
+-- the same, with what is next in the place of the task
+abbrev pub StepsOn : Outcome ℕ → Result (Unit {0}) ExpandFault → Walker → Task → Type 0
+StepsOn whole (Ok u) new next = (whole ≡ comes_to new next) × Fits new next
+StepsOn whole (Err e) new next = (e ≡ memory) ⊎ (whole ≡ Err e)
+
 -- all that was to be done came to this
 abbrev pub Ends : {A : Type 0} → Outcome A → Result A ExpandFault → Walker → Type 0
 Ends outcome (Ok a) new = (outcome ≡ Ok (a, shown new)) × (new.frames.items ≡ []) × Holds new

@@ -39,39 +39,33 @@ pub fn with_field<'a>(
     Ok(opened)
 }
 
-/// The braces of a node close: it is put in.
+/// A node whose braces close is put in.
 #[tactic(auto, unfolding(proto_steps::specs::Meaning::close_node, crate::specs::Frames::task_does))]
-fn close_node<'a>(
+fn put_closed<'a>(
     alloc: Global,
     walker: &mut Walker<'a>,
-    opened: Open<'a>,
+    opened: &Open<'a>,
     node_type: NodeType,
     items: &[BodyItem],
     at: usize,
 ) -> Result<Task<'a>, ExpandFault>
     requires holds { Holds walker.old }
     ensures { Keeps
-        (spec.close_node opened.entry.line opened.entry.name.now at node_type
-        (spec.declared_in items.now) opened.entry.fields (shown walker.old)) walker.old result
+        (spec.close_node opened.now.line opened.now.name.now at node_type
+        (spec.declared_in items.now) opened.now.fields (shown walker.old)) walker.old result
         walker.new }
 {
-    let Open {
-        line,
-        name,
-        fields,
-        ..
-    } = opened;
     let number = proto_steps::put(
         alloc,
         &mut walker.store,
         &walker.declarations,
         &walker.scope,
         &walker.links,
-        line,
-        name,
+        opened.line,
+        opened.name,
         node_type,
         items,
-        fields.as_slice(),
+        opened.fields.as_slice(),
     )?;
     proto_steps::stand(
         &mut walker.store,
@@ -86,7 +80,7 @@ fn close_node<'a>(
         &walker.declarations,
         &mut walker.scope,
         &walker.links,
-        name,
+        opened.name,
         at,
         number,
     )?;
@@ -106,7 +100,7 @@ fn close<'a>(
 {
     match opened.owner {
         Owner::Node(node_type, items, at) => {
-            close_node(alloc, walker, opened, node_type, items, at)
+            put_closed(alloc, walker, &opened, node_type, items, at)
         }
         Owner::Instance(proto, within, _at) => filling::open_defaults(
             alloc, walker, opened, proto, within,

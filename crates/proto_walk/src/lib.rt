@@ -4,6 +4,7 @@
 
 mod between;
 mod bodies;
+mod content;
 mod entering;
 mod filling;
 mod frames;

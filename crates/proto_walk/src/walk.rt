@@ -4,13 +4,15 @@ ghost use Rattle.std.specs.Prelude.{◌≡◌, ◌≤◌, [], length, IfSome};
 ghost use Rattle.proto_steps.specs.Held.{in_sight};
 ghost use Rattle.proto_steps.specs.Meaning.{node_does};
 ghost use Rattle.proto_walk.specs.Frames as does;
-ghost use Rattle.proto_walk.specs.Frames.{Ends, Fits, Holds, Keeps, Steps, comes_to, shown};
+ghost use Rattle.proto_walk.specs.Frames.{Ends, Fits, Holds, Keeps, Steps};
+ghost use Rattle.proto_walk.specs.Frames.{StepsOn, comes_to, shown};
 
 use crate::frames::{Frame, Task, Walker};
 use crate::{between, bodies, entering, items};
 use classic_tree::{NodeText, RawValue};
 use flat_document::{ExpandFault, ExpandFaultKind};
 use std::alloc::Global;
+use std::mem;
 
 /// The frame has the number that it waits for.
 #[tactic(auto, unfolding(crate::specs::Frames::frame_does, crate::specs::Frames::task_does))]
@@ -63,16 +65,29 @@ fn result_of(walker: &Walker<'_>, task: &Task<'_>) -> Option<u32>
     }
 }
 
-fn run<'a>(alloc: Global, walker: &mut Walker<'a>, task: Task<'a>) -> Result<u32, ExpandFault>
-    requires { Fits walker.old task }
-    ensures { Ends (comes_to walker.old task.entry) result walker.new }
+/// One step: what is to be done next stands in the place of the task.
+fn step_on<'a>(
+    alloc: Global,
+    walker: &mut Walker<'a>,
+    task: &mut Task<'a>,
+) -> Result<(), ExpandFault>
+    requires { Fits walker.old task.old }
+    ensures { StepsOn (comes_to walker.old task.old) result walker.new task.new }
 {
-    let mut task = task;
+    let begun = mem::replace(task, Task::Number(0));
+    *task = step(alloc, walker, begun)?;
+    Ok(())
+}
+
+fn run<'a>(alloc: Global, walker: &mut Walker<'a>, task: &mut Task<'a>) -> Result<u32, ExpandFault>
+    requires { Fits walker.old task.old }
+    ensures { Ends (comes_to walker.old task.old) result walker.new }
+{
     for _ in 0..u64::MAX {
-        if let Some(number) = result_of(walker, &task) {
+        if let Some(number) = result_of(walker, task) {
             return Ok(number);
         }
-        task = step(alloc, walker, task)?;
+        step_on(alloc, walker, task)?;
     }
     Err(ExpandFaultKind::Memory.on_line(0))
 }
@@ -88,5 +103,6 @@ pub fn put_node<'a>(
     requires idle { walker.old.frames.items ≡ [] }
     ensures { Ends (node_does node.now (shown walker.old)) result walker.new }
 {
-    run(alloc, walker, Task::Node(node))
+    let mut task = Task::Node(node);
+    run(alloc, walker, &mut task)
 }

@@ -1,25 +1,26 @@
 //! A whole document.
 
-ghost use Rattle.std.specs.Prelude.{◌≡◌, [], slice_get, IfOk, None};
+ghost use Rattle.std.specs.Prelude.{◌≡◌, [], IfOk, None};
 ghost use Rattle.x3d_lists.specs.Answers.{Gives};
 ghost use Rattle.flat_document.specs.Fault.{memory};
 ghost use Rattle.proto_steps.specs.Machine.{and_then, pure, through};
 ghost use Rattle.proto_steps.specs.Routes.{wire};
 ghost use Rattle.proto_steps.specs.Meaning.{statement_does};
+ghost use Rattle.proto_walk.specs.Content.{content_by};
 ghost use Rattle.proto_walk.specs.Whole as spec;
 ghost use Rattle.proto_walk.specs.Whole.{flat, nothing};
 ghost use Rattle.proto_walk.specs.Frames.{Holds, Ends, shown};
 
+use crate::content::Content;
 use crate::frames::Walker;
-use crate::{met, walk};
+use crate::{content, met, walk};
 use classic_tree::{Document, RouteText, Statement};
-use flat_document::{ExpandFault, ExpandFaultKind, Flat, FlatNode, Header};
+use flat_document::{ExpandFault, ExpandFaultKind, Flat, Header};
 use proto_declarations::Declarations;
-use proto_ends::routes_of;
 use proto_links::Links;
-use proto_steps::{PlacedNode, Store};
+use proto_steps::Store;
 use std::alloc::{AllocError, Global};
-use x3d_lists::{Duplicate, Items, Text};
+use x3d_lists::Items;
 
 /// The most fields that the interfaces of instances have, over all instances.
 const MAX_INTERFACE_FIELDS: usize = 8_388_608;
@@ -141,46 +142,46 @@ fn empty_walker<'a>(alloc: Global) -> Walker<'a>
     }
 }
 
-/// The name of the node of that number.
-fn label_at(
+/// Puts all in, and gives what it comes to.
+fn put_all<'a>(
     alloc: Global,
-    labels: &[Option<Text>],
-    number: usize,
-) -> Result<Option<Text>, AllocError>
-    ensures { IfOk result (λ name. name ≡ spec.label_at (slice_get labels.now number)) }
+    walker: &mut Walker<'a>,
+    statements: &'a [Statement],
+) -> Result<Content, ExpandFault>
+    requires holds { Holds walker.old }
+    requires idle { walker.old.frames.items ≡ [] }
+    ensures { Gives memory (λ c. c) result (content_by (through spec.at_top statements.now []
+        (shown walker.old))) }
 {
-    match labels.get(number) {
-        None => Ok(None),
-        Some(label) => label.duplicate(alloc),
-    }
+    let roots = put_roots(alloc, walker, statements)?;
+    content::content(alloc, &mut walker.store, roots)
 }
 
-fn flat_node(name: Option<Text>, node: PlacedNode) -> FlatNode
-    ensures { result ≡ spec.flat_node name node }
+/// What these statements come to.
+fn content_of(alloc: Global, statements: &[Statement]) -> Result<Content, ExpandFault>
+    ensures { Gives memory (λ c. c) result (content_by (through spec.at_top statements.now []
+        nothing)) }
 {
-    FlatNode {
-        line: node.line,
-        name,
-        node_type: node.node_type,
-        fields: node.fields,
-        interface: node.interface,
-    }
+    let mut walker = empty_walker(alloc);
+    put_all(alloc, &mut walker, statements)
 }
 
-/// The nodes with their names.
-fn flat_nodes(
-    alloc: Global,
-    labels: &[Option<Text>],
-    nodes: Vec<PlacedNode>,
-) -> Result<Items<FlatNode>, AllocError>
-    ensures { IfOk result (λ ns. ns ≡ spec.flat_nodes labels.now nodes.items) }
+fn header_of(document: Document) -> Header
+    ensures { result ≡ spec.header_of document }
 {
-    let mut flat = Items::new(alloc);
-    for node in nodes {
-        let name = label_at(alloc, labels, flat.len())?;
-        flat.push(flat_node(name, node))?;
+    let Document {
+        version,
+        profile,
+        components,
+        metas,
+        ..
+    } = document;
+    Header {
+        version,
+        profile,
+        components,
+        metas,
     }
-    Ok(flat)
 }
 
 /// The nodes of the document by number.
@@ -188,37 +189,6 @@ fn flat_nodes(
 pub fn expand(alloc: Global, document: Document) -> Result<Flat, ExpandFault>
     ensures { Gives memory (λ f. f) result (flat document) }
 {
-    let Document {
-        version,
-        profile,
-        components,
-        metas,
-        statements,
-    } = document;
-    let mut walker = empty_walker(alloc);
-    let roots = put_roots(alloc, &mut walker, statements.as_slice())?;
-    let Walker { store, .. } = walker;
-    let Store {
-        nodes,
-        labels,
-        helpers,
-        places,
-        names,
-        wires,
-        ..
-    } = store;
-    let routes = routes_of(alloc, places.as_slice(), names.as_slice(), wires.as_slice())?;
-    let nodes = flat_nodes(alloc, labels.as_slice(), nodes.into_vec())?;
-    Ok(Flat {
-        header: Header {
-            version,
-            profile,
-            components,
-            metas,
-        },
-        nodes,
-        roots,
-        helpers,
-        routes,
-    })
+    let content = content_of(alloc, document.statements.as_slice());
+    content::with_header(header_of(document), content)
 }

@@ -2,7 +2,7 @@ use Rattle.std.proofs.Common.{rules, arith, refl}
 use Rattle.proto_steps.specs.Meaning.{close_node}
 use Rattle.proto_walk.specs.Frames.{task_does}
 use Rattle.proto_walk.proofs.Moves.{stays}
-use Rattle.proto_walk.proofs.items.close_node.Goals as goal
+use Rattle.proto_walk.proofs.items.put_closed.Goals as goal
 
 pub returns : goal.returns
 unfolding close_node task_does
