@@ -1,4 +1,3 @@
-pub mod Contents
 pub mod Moves
 pub mod Refusals
 pub mod Sights

@@ -1,5 +1,5 @@
 -- What frames do stays as it is when links are added.
-use Rattle.std.proofs.Common.{◌≡◌, ℕ, ◌+◌, ◌-◌, ◌≤◌, List, [], ◌∷◌, ◌++◌, length, ap, ◌∙◌, arith, refl}
+use Rattle.std.proofs.Common.{◌≡◌, ℕ, ◌≤◌, List, [], ◌∷◌, ◌++◌, length, ap, ◌∙◌, arith, refl}
 use Rattle.proto_links.specs.declared.links.Link.{Link}
 use Rattle.proto_walk.specs.declared.frames.Frame.{Frame}
 use Rattle.proto_steps.specs.Machine.{Walk, and_then}

@@ -66,7 +66,7 @@ fn flat_nodes(
 }
 
 /// Takes the nodes and helpers out of the store, with these roots and all pairs of routes.
-pub fn content(alloc: Global, store: &mut Store, roots: Items<u32>) -> Result<Content, ExpandFault>
+pub fn gather(alloc: Global, store: &mut Store, roots: Items<u32>) -> Result<Content, ExpandFault>
     ensures { Gives memory (λ c. c) result (with_pairs roots store.old
         (all_routes store.old.places store.old.names store.old.wires)) }
 {

@@ -154,7 +154,7 @@ fn put_all<'a>(
         (shown walker.old))) }
 {
     let roots = put_roots(alloc, walker, statements)?;
-    content::content(alloc, &mut walker.store, roots)
+    content::gather(alloc, &mut walker.store, roots)
 }
 
 /// What these statements come to.

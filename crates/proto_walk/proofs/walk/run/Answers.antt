@@ -8,11 +8,11 @@ loop-init c = (refl, c.requires)
 pub returns-in-Some : goal.returns-in-Some
 returns-in-Some c = (sym c.loop.invariant.0 ∙ all-done c.loop.walker c.loop.task c.in-Some.number c.in-Some.ensures.0 c.in-Some.ensures.1, c.in-Some.ensures.1, c.loop.invariant.1.holds)
 
-pub step-requires : goal.step-requires
-step-requires c = c.loop.invariant.1
+pub step_on-requires : goal.step_on-requires
+step_on-requires c = c.loop.invariant.1
 
-pub returns-in_err-task : goal.returns-in_err-task
-returns-in_err-task c = ends-as _ _ c.from_residual.result c.step.new.walker (sym c.loop.invariant.0) (search rules)
+pub returns-in_err-step_on : goal.returns-in_err-step_on
+returns-in_err-step_on c = ends-as _ _ c.from_residual.result c.step_on.new.walker (sym c.loop.invariant.0) (search rules)
 
 pub loop-preserved : goal.loop-preserved
-loop-preserved c = (sym c.in_ok-task.ensures.0 ∙ c.loop.invariant.0, c.in_ok-task.ensures.1)
+loop-preserved c = (sym c.in_ok-step_on.ensures.0 ∙ c.loop.invariant.0, c.in_ok-step_on.ensures.1)
