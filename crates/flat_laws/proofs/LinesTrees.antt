@@ -380,11 +380,14 @@ declare_does line name ss defaults others ms ns h k w protos a =
     let meaning : Meaning = meaning_of 0 (bare_signatures ss) (others place) ns protos in
     record {
       protos = record { name = name; within = w.sight.inside; interface = bare_signatures ss; meaning = meaning } ∷ protos;
-      alike = (record {
-        meaning = meaning;
-        same = refl;
-        alike = meaning_alike line ss (defaults place) (others place) ms ns w.sight.protos protos (h place) k a;
-      }, a);
+      alike = (
+        record {
+          meaning = meaning;
+          same = refl;
+          alike = meaning_alike line ss (defaults place) (others place) ms ns w.sight.protos protos (h place) k a;
+        },
+        a,
+      );
       is = refl;
     }
 
