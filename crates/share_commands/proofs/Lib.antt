@@ -1,0 +1,4 @@
+pub mod Failing
+pub mod Staging
+pub mod Logging
+pub mod Meeting
