@@ -31,10 +31,9 @@ fn push_pointed(event: Event, points: &mut Vec<Point>) -> Result<(), AllocError>
     ensures { OnOk result (points.new.items ≡ points.old.items ++ pointed event) }
 {
     match event {
-        Event::Clock => {}
-        Event::Pointer(pointer) => points.push(point_of(pointer))?,
+        Event::Clock => Ok(()),
+        Event::Pointer(pointer) => Ok(points.push(point_of(pointer))?),
     }
-    Ok(())
 }
 
 /// What a viewer is asked to point.
