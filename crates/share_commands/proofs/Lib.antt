@@ -1,4 +1,5 @@
-pub mod Failing
 pub mod Staging
 pub mod Logging
 pub mod Meeting
+pub mod Viewed
+pub mod Agreed

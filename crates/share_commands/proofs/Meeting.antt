@@ -1,12 +1,13 @@
 -- The job of bytes with its viewers, part by part.
-use Rattle.std.proofs.Common.{◌≡◌, ℕ, List, refl, ◌∙◌, ap, subst}
-use Rattle.std.specs.Prelude.{Result, Ok, replicate}
+use Rattle.std.proofs.Common.{◌≡◌, ◌⊎◌, inl, inr, ℕ, List, refl, ◌∙◌, ap, subst}
+use Rattle.std.specs.Prelude.{Result, Ok, Err, replicate}
 use Rattle.sha2.specs.Sha256.{sha256}
 use Rattle.x3d_values.specs.Stamp.{Stamp}
 use Rattle.cascade_core.specs.Held.{StageView}
 use Rattle.share_core.specs.Viewer.{ViewerView}
 use Rattle.share_jobs.specs.Job.{Lined, job_lines}
 use Rattle.share_jobs.specs.declared.fault.JobFault.{JobFault}
+use Rattle.share_jobs.specs.declared.fault.JobFault.TheVariants.{Memory}
 use Rattle.share_program.specs.Opening.{next, opened_to_run, same}
 use Rattle.share_program.specs.declared.open.Opened.{Opened}
 use Rattle.share_rehearsal.specs.Calls.{viewers_from}
@@ -57,3 +58,20 @@ is_joint order viewers bytes inputs mark stages own_inputs own_mark own_viewers 
       ap (λ (i : List Stamp). joint i own_mark own_viewers) (e ∙ staged.2)
           ∙ ap (λ (k : List ℕ). joint job.inputs k own_viewers) (m ∙ staged.3) ∙ ap (joint job.inputs job.mark) seated,
     )
+
+-- the lines or the scene are refused
+pub refused_before : (order : Order) (bytes : List ℕ) (f : JobFault) → (f ≡ Memory) ⊎ (shared bytes ≡ Err f)
+    → (f ≡ Memory) ⊎ (fitting order bytes ≡ Err f)
+unfolding fitting
+refused_before order bytes f (inl e) = inl e
+refused_before order bytes f (inr e) = inr (ap (λ (r : Result SharedJob JobFault). next same r (if_fits order)) e)
+
+-- the command doesn't take the steps
+pub refused_steps : (order : Order) (viewers : ℕ) (bytes : List ℕ) (inputs : List Stamp) (mark : List ℕ) (stages : List StageView) (f : JobFault)
+    → IsStaged viewers bytes inputs mark stages → fits order inputs ≡ Err f → (f ≡ Memory) ⊎ (fitting order bytes ≡ Err f)
+unfolding fitting
+refused_steps order viewers bytes inputs mark stages f staged e =
+    let job = staged.0 in
+    let fit : fits order job.inputs ≡ Err f = subst (λ (i : List Stamp). fits order i ≡ Err f) staged.2 e in
+    inr (ap (λ (r : Result SharedJob JobFault). next same r (if_fits order)) staged.1
+    ∙ ap (λ (r : Result (Unit {0}) JobFault). next same r (λ _. Ok job)) fit)

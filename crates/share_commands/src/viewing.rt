@@ -1,11 +1,13 @@
 //! The work of a viewer.
 
-ghost use Rattle.std.specs.Prelude.{◌≡◌, ◌≤◌, ◌++◌, IfOk, IfErr, OnOk};
+ghost use Rattle.std.specs.Prelude.{◌≡◌, ◌≤◌, ◌++◌, [], IfOk, IfErr, OnOk};
 ghost use Rattle.share_commands.specs.Viewing.{pointed, points, viewer_of, series_fault};
 ghost use Rattle.share_commands.specs.Hosting.{failures_after};
 ghost use Rattle.share_commands.specs.Viewing.{IsViewed, IsViewedInPart};
+ghost use Rattle.share_core.specs.Viewer.{with_state};
 ghost use Rattle.share_law.specs.Viewer.{point_of};
-ghost use Rattle.share_program.specs.declared.fault.ShareFault.TheVariants as share;
+ghost use Rattle.share_turns.specs.Views.{AreAppended, AreViewed, IsRunEnd};
+ghost use Rattle.share_turns.specs.declared.fault.SeriesFault.{SeriesFault as EarlyFault};
 
 use crate::hosting::share_fault;
 use crate::job::SharedJob;
@@ -48,11 +50,10 @@ fn points_of(alloc: Global, inputs: &[Stamped]) -> Result<Vec<Point>, AllocError
 }
 
 /// The viewer of a job's scene, before any input.
-fn viewer_of(alloc: Global, job: SharedJob, who: u8, boot: u32) -> Result<Viewer<()>, ShareFault>
+fn viewer_of(alloc: Global, job: SharedJob, who: u8, boot: u32) -> Result<Viewer<()>, AllocError>
     requires who { who ≤ 15 }
     requires boot { 1 ≤ boot }
-    ensures viewer { IfOk result (λ v. v ≡ viewer_of job who boot) }
-    ensures memory { IfErr result (λ f. f ≡ share.Memory) }
+    ensures { IfOk result (λ v. v ≡ viewer_of job who boot) }
 {
     let SharedJob {
         inputs: _,
@@ -62,7 +63,7 @@ fn viewer_of(alloc: Global, job: SharedJob, who: u8, boot: u32) -> Result<Viewer
     } = job;
     match Stage::load(alloc, scene, routes, Scripts::none()) {
         Ok(stage) => Ok(Viewer::start(stage, mark, who, boot)),
-        Err(_refused) => Err(ShareFault::Memory),
+        Err(_refused) => Err(AllocError),
     }
 }
 
@@ -73,6 +74,51 @@ pub(crate) fn series_fault(fault: SeriesFault) -> ShareFault
     match fault {
         SeriesFault::Turn(fault) => share_fault(fault),
         SeriesFault::TurnsUsedUp => ShareFault::TurnsUsedUp,
+    }
+}
+
+/// A viewer of a job's scene, and what it is asked to point.
+#[derive(Drop)]
+struct Seat {
+    viewer: Viewer<()>,
+    points: Vec<Point>,
+}
+
+fn seat_of(alloc: Global, job: SharedJob, who: u8, boot: u32) -> Result<Seat, AllocError>
+    requires who { who ≤ 15 }
+    requires boot { 1 ≤ boot }
+    ensures viewer { IfOk result (λ s. s.viewer ≡ viewer_of job who boot) }
+    ensures points { IfOk result (λ s. s.points.items ≡ points job.inputs) }
+{
+    let points = points_of(alloc, job.inputs.as_slice())?;
+    let viewer = viewer_of(alloc, job, who, boot)?;
+    Ok(Seat { viewer, points })
+}
+
+/// The trace and the scene of a viewer after its turns.
+fn view_text<P: Port>(
+    alloc: Global,
+    viewer: &mut Viewer<()>,
+    points: &[Point],
+    host: u16,
+    until: u32,
+    turns: u32,
+    port: &mut P,
+) -> Result<Vec<u8>, ShareFault>
+    ensures others { viewer.new ≡ with_state viewer.old viewer.new.state }
+    ensures done { IfOk result (λ text. AreViewed viewer.old host points.now until turns
+        (P.told port.old) (P.told port.new) viewer.new.state
+        × AreAppended viewer.new [] text.items) }
+    ensures ended { IfErr result (λ fault. (early : EarlyFault) × (fault ≡ series_fault early)
+        × IsRunEnd viewer.old host points.now until turns
+        (P.told port.old) (P.told port.new) early viewer.new.state) }
+    ensures failures { P.failure_count port.new
+        ≡ failures_after result (P.failure_count port.old) }
+{
+    let mut text = Vec::new(alloc);
+    match view_run(viewer, points, until, turns, host, port, &mut text) {
+        Ok(()) => Ok(text),
+        Err(fault) => Err(series_fault(fault)),
     }
 }
 
@@ -100,23 +146,16 @@ pub fn view_job<P: Port>(
     ensures failures { P.failure_count port.new
         ≡ failures_after result (P.failure_count port.old) }
 {
-    let Ok(points) = points_of(alloc, job.inputs.as_slice()) else {
+    let Ok(mut seat) = seat_of(alloc, job, who, boot) else {
         return Err(ShareFault::Memory);
     };
-    let Ok(mut viewer) = viewer_of(alloc, job, who, boot) else {
-        return Err(ShareFault::Memory);
-    };
-    let mut text = Vec::new(alloc);
-    match view_run(
-        &mut viewer,
-        points.as_slice(),
+    view_text(
+        alloc,
+        &mut seat.viewer,
+        seat.points.as_slice(),
+        host,
         until,
         turns,
-        host,
         port,
-        &mut text,
-    ) {
-        Ok(()) => Ok(text),
-        Err(fault) => Err(series_fault(fault)),
-    }
+    )
 }
