@@ -1,7 +1,7 @@
 # `make run` shows the program at work, `make test` is the gate.
 SHELL := bash
 .SHELLFLAGS := -eu -o pipefail -c
-.PHONY: run try test check definitions bench format install
+.PHONY: run try share test check definitions bench format install
 
 JOB ?= examples/two-clocks.job
 PREFIX ?= /usr/local
@@ -13,6 +13,12 @@ run:
 # The same without a proof, in half a minute.
 try:
 	@job=$$(realpath $(JOB)); cd crates/x3d_share && rt try -- run < "$$job"
+
+# Proves and builds the program, and has a host and two viewers do a job over UDP, twice: the second
+# time through a proxy that loses, repeats and reorders datagrams.
+share:
+	@cd crates/x3d_share && rt run -- --version > /dev/null
+	@scripts/share
 
 # The gate: every proof from nothing, the must-fail edits, the tests; and then the examples.
 test: definitions

@@ -1,5 +1,6 @@
 -- Which steps a command's job may have (our choice).
-use Rattle.std.specs.Prelude.{Bool, true, false, List, Option, Some, None, Result, Ok, Err}
+use Rattle.std.specs.Prelude.{ℕ, ◌==◌, nat_lt, not, Bool, true, false, List}
+use Rattle.std.specs.Prelude.{Option, Some, None, Result, Ok, Err}
 use Rattle.std.specs.List.{find}
 use Rattle.x3d_values.specs.Stamp.{Stamp}
 use Rattle.x3d_values.specs.declared.stamped.Event.{Event}
@@ -7,15 +8,28 @@ use Rattle.x3d_values.specs.declared.stamped.Event.TheVariants.{Clock, Pointer}
 use Rattle.share_jobs.specs.declared.fault.JobFault.{JobFault}
 use Rattle.share_jobs.specs.declared.fault.JobFault.TheVariants.{BadJob}
 use Rattle.share_words.specs.declared.order.Order.{Order}
-use Rattle.share_words.specs.declared.order.Order.TheVariants.{Host}
+use Rattle.share_words.specs.declared.order.Order.TheVariants.{Agree, Host, View}
 
 abbrev pub is_point : Event → Bool
 is_point Clock = false
 is_point (Pointer p) = true
 
--- `host` takes clocks alone, another command every step
+-- a clock, or a point of another viewer
+abbrev pub is_foreign : (who : ℕ) → Event → Bool
+is_foreign who Clock = true
+is_foreign who (Pointer p) = not (p.who == who)
+
+-- a point of a viewer that isn't below so many
+abbrev pub is_beyond : (viewers : ℕ) → Event → Bool
+is_beyond viewers Clock = false
+is_beyond viewers (Pointer p) = not (nat_lt p.who viewers)
+
+-- `agree` takes clocks and points of its viewers, `host` clocks alone, `view` points of its viewer
+-- alone, another command every step
 abbrev pub refuses : Order → Stamp → Bool
+refuses (Agree viewers turns) input = is_beyond viewers input.event
 refuses (Host port viewers turns) input = is_point input.event
+refuses (View port who boot until turns) input = is_foreign who input.event
 refuses _ input = false
 
 abbrev pub first_refused : Order → List Stamp → Option Stamp

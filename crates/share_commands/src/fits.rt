@@ -2,7 +2,8 @@
 
 ghost use Rattle.std.specs.Prelude.{◌≡◌};
 ghost use Rattle.std.specs.Option.{option_copied};
-ghost use Rattle.share_commands.specs.Fits.{is_point, refuses, first_refused, fits};
+ghost use Rattle.share_commands.specs.Fits.{is_beyond, is_point, is_foreign};
+ghost use Rattle.share_commands.specs.Fits.{refuses, first_refused, fits};
 
 use share_jobs::{Inputs, JobFault};
 use share_words::Order;
@@ -17,12 +18,34 @@ fn is_point(event: Event) -> bool
     }
 }
 
+/// Whether it is something else than a point of this viewer.
+fn is_foreign(who: u8, event: Event) -> bool
+    ensures { result ≡ is_foreign who event }
+{
+    match event {
+        Event::Clock => true,
+        Event::Pointer(pointer) => pointer.who() != who,
+    }
+}
+
+/// Whether it is a point of a viewer that isn't below so many.
+fn is_beyond(viewers: u8, event: Event) -> bool
+    ensures { result ≡ is_beyond viewers event }
+{
+    match event {
+        Event::Clock => false,
+        Event::Pointer(pointer) => pointer.who() >= viewers,
+    }
+}
+
 /// Whether a command's job may not have this step.
 fn refuses(order: &Order, input: &Stamped) -> bool
     ensures { result ≡ refuses order.now input.now }
 {
     match order {
+        Order::Agree { viewers, .. } => is_beyond(*viewers, input.event()),
         Order::Host { .. } => is_point(input.event()),
+        Order::View { who, .. } => is_foreign(*who, input.event()),
         _ => false,
     }
 }
@@ -33,8 +56,9 @@ fn first_refused<'a>(order: &Order, inputs: &'a [Stamped]) -> Option<&'a Stamped
     inputs.iter().find(|input| refuses(order, input))
 }
 
-/// Whether a command's job may have these steps: one of `host` has clocks alone. `BadJob` tells the
-/// line of the first that it may not have. Takes no memory.
+/// Whether a command's job may have these steps: one of `agree` has clocks and points of its
+/// viewers, one of `host` clocks alone, one of `view` points of its viewer alone. `BadJob` tells
+/// the line of the first that it may not have. Takes no memory.
 pub fn job_fits(inputs: &Inputs, order: &Order) -> Result<(), JobFault>
     ensures { result ≡ fits order.now inputs.now }
 {

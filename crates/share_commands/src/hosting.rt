@@ -1,7 +1,8 @@
 //! The work of a host.
 
 ghost use Rattle.std.specs.Prelude.{◌≡◌, ◌≤◌, IfOk, IfErr, OnOk};
-ghost use Rattle.share_commands.specs.Hosting.{times, share_fault, IsHosted, IsHostedInPart};
+ghost use Rattle.share_commands.specs.Hosting.{times, share_fault, failures_after};
+ghost use Rattle.share_commands.specs.Hosting.{IsHosted, IsHostedInPart};
 
 use crate::job::SharedJob;
 use share_core::Host;
@@ -19,7 +20,7 @@ fn times_of(alloc: Global, inputs: &[Stamped]) -> Result<Vec<i64>, AllocError>
 }
 
 /// Why a turn ended early, as a fault of the program.
-fn share_fault(fault: TurnFault) -> ShareFault
+pub(crate) fn share_fault(fault: TurnFault) -> ShareFault
     ensures { result ≡ share_fault fault }
 {
     match fault {
@@ -46,6 +47,8 @@ pub fn host_job<P: Port>(
         (IsHosted job.now viewers turns (P.told port.old) (P.told port.new)) }
     ensures ended { IfErr result
         (IsHostedInPart job.now viewers turns (P.told port.old) (P.told port.new)) }
+    ensures failures { P.failure_count port.new
+        ≡ failures_after result (P.failure_count port.old) }
 {
     let Ok(times) = times_of(alloc, job.inputs.as_slice()) else {
         return Err(ShareFault::Memory);

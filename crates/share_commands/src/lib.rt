@@ -1,12 +1,22 @@
-//! The commands by which several nodes do a job: what a job may have, and the work of a host.
+//! The commands by which several nodes do a job: what a job may have, and the work of a host, of a
+//! viewer, and of both together, in memory or each at a port.
 #![tactic(auto)]
 
 mod fits;
 mod hosting;
 mod job;
+mod joining;
 mod patient;
+mod rehearsing;
+mod sockets;
+mod stages;
+mod viewing;
 
 pub use fits::job_fits;
 pub use hosting::host_job;
 pub use job::{SharedJob, shared_job};
+pub use joining::{JointJob, agree_job, joint_job};
 pub use patient::PatientPort;
+pub use rehearsing::rehearse_job;
+pub use sockets::{bound, bound_free, number_of};
+pub use viewing::view_job;

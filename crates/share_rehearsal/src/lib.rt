@@ -15,4 +15,4 @@ mod rehearsal;
 pub use answer::Answer;
 pub use fault::RehearseFault;
 pub use nodes::Shot;
-pub use rehearsal::{Rehearsal, rehearse};
+pub use rehearsal::{Rehearsal, rehearse, viewers_of};

@@ -24,7 +24,7 @@ pub struct Rehearsal<B> {
 }
 
 /// A viewer for each stage, numbered in their order, as its boot 1.
-fn viewers_of<B: Drop>(
+pub fn viewers_of<B: Drop>(
     alloc: Global,
     stages: Vec<Stage<B>>,
     mark: [u8; 32],

@@ -3,6 +3,7 @@ use Rattle.std.specs.Prelude.{codes, true}
 use Rattle.clap.specs.Words.{App, new_app, with_rule, with_subcommand}
 use Rattle.clap.specs.Simple.{on_top}
 use Rattle.share_words.specs.Options.{viewers_rule, turns_rule, port_rule}
+use Rattle.share_words.specs.Options.{who_rule, boot_rule, until_rule}
 
 -- the program without its commands: one of them has to be named, and all know `--version`
 unfoldable pub bare_program : App
@@ -25,16 +26,35 @@ format_app = new_app (codes "format")
 unfoldable pub check_app : App
 check_app = new_app (codes "check")
 
+-- `rehearse --viewers K`
+unfoldable pub rehearse_app : App
+rehearse_app = with_rule (new_app (codes "rehearse")) viewers_rule
+
+-- `agree --viewers K --turns T`
+unfoldable pub agree_app : App
+agree_app = with_rule (with_rule (new_app (codes "agree")) viewers_rule) turns_rule
+
 -- `host --port P --viewers K --turns T`
 unfoldable pub host_app : App
 host_app =
     with_rule (with_rule (with_rule (new_app (codes "host")) port_rule) viewers_rule) turns_rule
 
--- the program with the commands that take no options, then all
+-- `view --port P --who V --boot B --until N --turns T`: first which viewer of which host it is
+unfoldable pub seat_app : App
+seat_app =
+    with_rule (with_rule (with_rule (new_app (codes "view")) port_rule) who_rule) boot_rule
+
+unfoldable pub view_app : App
+view_app = with_rule (with_rule seat_app until_rule) turns_rule
+
+-- the program with the commands that take no options, then those of one process, then all
 unfoldable pub single_program : App
 single_program =
     with_subcommand (with_subcommand (with_subcommand bare_program run_app.top) format_app.top)
     check_app.top
 
+unfoldable pub local_program : App
+local_program = with_subcommand (with_subcommand single_program rehearse_app.top) agree_app.top
+
 unfoldable pub program : App
-program = with_subcommand single_program host_app.top
+program = with_subcommand (with_subcommand local_program host_app.top) view_app.top

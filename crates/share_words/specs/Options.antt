@@ -27,3 +27,24 @@ port_rule = record (option (codes "port")) {
   parser = Some (Signed (pos 1) (pos 65535));
   required = true;
 }
+
+-- `--who V`, from 0 to 15, required
+abbrev pub who_rule : Rule
+who_rule = record (option (codes "who")) {
+  parser = Some (Signed (pos 0) (pos 15));
+  required = true;
+}
+
+-- `--boot B`, from 1 to 2^32 - 1, required
+abbrev pub boot_rule : Rule
+boot_rule = record (option (codes "boot")) {
+  parser = Some (Signed (pos 1) (pos 4294967295));
+  required = true;
+}
+
+-- `--until N`, from 0 to 2^20, required
+abbrev pub until_rule : Rule
+until_rule = record (option (codes "until")) {
+  parser = Some (Signed (pos 0) (pos 1048576));
+  required = true;
+}

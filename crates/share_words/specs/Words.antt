@@ -6,7 +6,7 @@ use Rattle.clap.specs.declared.error.kind.ErrorKind.{ErrorKind}
 use Rattle.clap.specs.declared.error.kind.ErrorKind.TheVariants as kind
 use Rattle.share_words.specs.Commands.{program}
 use Rattle.share_words.specs.declared.order.Order.{Order}
-use Rattle.share_words.specs.declared.order.Order.TheVariants.{Run, Format, Check, Host}
+use Rattle.share_words.specs.declared.order.Order.TheVariants.{Run, Format, Check, Rehearse, Agree, Host, View}
 use Rattle.share_words.specs.declared.order.OrderFault.{OrderFault}
 use Rattle.share_words.specs.declared.order.OrderFault.TheVariants.{Words, Memory}
 use Rattle.std.specs.declared.io.ErrorKind.{ErrorKind as IoErrorKind}
@@ -34,22 +34,44 @@ IsTurns rows turns = HasNumberIn (codes "turns") rows 1 10000000 turns
 abbrev pub IsPort : List Row → ℕ → Type 0
 IsPort rows port = HasNumberIn (codes "port") rows 1 65535 port
 
+abbrev pub IsWho : List Row → ℕ → Type 0
+IsWho rows who = HasNumberIn (codes "who") rows 0 15 who
+
+abbrev pub IsBoot : List Row → ℕ → Type 0
+IsBoot rows boot = HasNumberIn (codes "boot") rows 1 4294967295 boot
+
+abbrev pub IsUntil : List Row → ℕ → Type 0
+IsUntil rows until = HasNumberIn (codes "until") rows 0 1048576 until
+
 -- the command of this name with these matches asks for this
 abbrev pub Asks : Order → Text × List Row → Type 0
 Asks Run p = p.0 ≡ codes "run"
 Asks Format p = p.0 ≡ codes "format"
 Asks Check p = p.0 ≡ codes "check"
+Asks (Rehearse viewers) p = (p.0 ≡ codes "rehearse") × IsViewers p.1 viewers
+Asks (Agree viewers turns) p =
+    (p.0 ≡ codes "agree") × IsViewers p.1 viewers × IsTurns p.1 turns
 Asks (Host port viewers turns) p =
     (p.0 ≡ codes "host") × IsPort p.1 port × IsViewers p.1 viewers × IsTurns p.1 turns
+Asks (View port who boot until turns) p =
+    (p.0 ≡ codes "view")
+    × IsPort p.1 port
+    × IsWho p.1 who
+    × IsBoot p.1 boot
+    × IsUntil p.1 until
+    × IsTurns p.1 turns
 
 -- `clap` takes the words, and the command that they name asks for this
 pub record Means (words : List Text) (order : Order) : Type 0 where
   pub taken : fault_of program words ≡ []
   pub asks : IsSomeAnd (subcommand_of program words) (Asks order)
 
--- the number of viewers is one that hosts take
+-- the numbers of viewers, of a viewer and of its boot are those that hosts and viewers take
 abbrev pub IsInRange : Order → Type 0
+IsInRange (Rehearse viewers) = (1 ≤ viewers) × (viewers ≤ 16)
+IsInRange (Agree viewers turns) = (1 ≤ viewers) × (viewers ≤ 16)
 IsInRange (Host port viewers turns) = (1 ≤ viewers) × (viewers ≤ 16)
+IsInRange (View port who boot until turns) = (who ≤ 15) × (1 ≤ boot)
 IsInRange _ = ⊤
 
 -- why the process's own words can't be had: memory was refused, or one of them is no text

@@ -2,7 +2,7 @@
 
 ghost use Rattle.std.specs.Prelude.{◌≡◌, ℕ, IfSome, IfNone, IsSomeAnd, codes};
 ghost use Rattle.clap.specs.Words.{rows_of, found_of, subcommand_rows_of};
-ghost use Rattle.share_words.specs.Words.{Asks, IsViewers, IsTurns, IsPort};
+ghost use Rattle.share_words.specs.Words.{Asks, IsViewers, IsTurns, IsPort, IsWho, IsBoot, IsUntil};
 ghost use Rattle.share_words.specs.declared.order.Order.{Order as OrderOf};
 
 use crate::numbers::number_in;
@@ -32,6 +32,53 @@ fn port_in(found: &ArgMatches<'_>) -> Option<u16>
     Some(port as u16)
 }
 
+fn who_in(found: &ArgMatches<'_>) -> Option<u8>
+    ensures some { IfSome result (λ n. IsWho (rows_of (found_of found.now)) n) }
+    ensures none { IfNone result ((n : ℕ) → ¬ IsWho (rows_of (found_of found.now)) n) }
+{
+    let who = number_in(found, "who", 0, 15)?;
+    Some(who as u8)
+}
+
+fn boot_in(found: &ArgMatches<'_>) -> Option<u32>
+    ensures some { IfSome result (λ n. IsBoot (rows_of (found_of found.now)) n) }
+    ensures none { IfNone result ((n : ℕ) → ¬ IsBoot (rows_of (found_of found.now)) n) }
+{
+    number_in(found, "boot", 1, u32::MAX)
+}
+
+fn until_in(found: &ArgMatches<'_>) -> Option<u32>
+    ensures some { IfSome result (λ n. IsUntil (rows_of (found_of found.now)) n) }
+    ensures none { IfNone result ((n : ℕ) → ¬ IsUntil (rows_of (found_of found.now)) n) }
+{
+    number_in(found, "until", 0, 1_048_576)
+}
+
+fn rehearse_in(found: &ArgMatches<'_>) -> Option<Order>
+    ensures some { IfSome result (λ o. Asks o (codes "rehearse", rows_of (found_of found.now))) }
+    ensures none { IfNone result
+        ((o : OrderOf) → ¬ Asks o (codes "rehearse", rows_of (found_of found.now))) }
+{
+    let Some(viewers) = viewers_in(found) else {
+        return None;
+    };
+    Some(Order::Rehearse { viewers })
+}
+
+fn agree_in(found: &ArgMatches<'_>) -> Option<Order>
+    ensures some { IfSome result (λ o. Asks o (codes "agree", rows_of (found_of found.now))) }
+    ensures none { IfNone result
+        ((o : OrderOf) → ¬ Asks o (codes "agree", rows_of (found_of found.now))) }
+{
+    let Some(viewers) = viewers_in(found) else {
+        return None;
+    };
+    let Some(turns) = turns_in(found) else {
+        return None;
+    };
+    Some(Order::Agree { viewers, turns })
+}
+
 fn host_in(found: &ArgMatches<'_>) -> Option<Order>
     ensures some { IfSome result (λ o. Asks o (codes "host", rows_of (found_of found.now))) }
     ensures none { IfNone result
@@ -53,6 +100,35 @@ fn host_in(found: &ArgMatches<'_>) -> Option<Order>
     })
 }
 
+fn view_in(found: &ArgMatches<'_>) -> Option<Order>
+    ensures some { IfSome result (λ o. Asks o (codes "view", rows_of (found_of found.now))) }
+    ensures none { IfNone result
+        ((o : OrderOf) → ¬ Asks o (codes "view", rows_of (found_of found.now))) }
+{
+    let Some(port) = port_in(found) else {
+        return None;
+    };
+    let Some(who) = who_in(found) else {
+        return None;
+    };
+    let Some(boot) = boot_in(found) else {
+        return None;
+    };
+    let Some(until) = until_in(found) else {
+        return None;
+    };
+    let Some(turns) = turns_in(found) else {
+        return None;
+    };
+    Some(Order::View {
+        port,
+        who,
+        boot,
+        until,
+        turns,
+    })
+}
+
 /// The order of the command that the matches have.
 pub fn order_in(matches: &ArgMatches<'_>) -> Option<Order>
     ensures some { IfSome result (λ o. IsSomeAnd (subcommand_rows_of matches.now) (Asks o)) }
@@ -64,7 +140,10 @@ pub fn order_in(matches: &ArgMatches<'_>) -> Option<Order>
         "run" => Some(Order::Run),
         "format" => Some(Order::Format),
         "check" => Some(Order::Check),
+        "rehearse" => rehearse_in(found),
+        "agree" => agree_in(found),
         "host" => host_in(found),
+        "view" => view_in(found),
         _ => None,
     }
 }

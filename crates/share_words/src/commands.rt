@@ -3,20 +3,23 @@
 ghost use Rattle.std.specs.Prelude.{◌≡◌, false, IfOk};
 ghost use Rattle.clap.specs.Words.{app_of};
 ghost use Rattle.clap.specs.declared.builder.command.Command.TheViews.{out-Command as fields_of};
-ghost use Rattle.share_words.specs.Commands.{bare_program, single_program, program};
-ghost use Rattle.share_words.specs.Commands.{run_app, format_app, check_app, host_app};
+ghost use Rattle.share_words.specs.Commands.{bare_program, single_program, local_program, program};
+ghost use Rattle.share_words.specs.Commands.{run_app, format_app, check_app};
+ghost use Rattle.share_words.specs.Commands.{rehearse_app, agree_app, host_app, seat_app, view_app};
 
-use crate::options::{port_arg, turns_arg, viewers_arg};
+use crate::options::{boot_arg, port_arg, turns_arg, until_arg, viewers_arg, who_arg};
 use clap::Command;
 use std::alloc::{AllocError, Global};
 
 const PROGRAM_HELP: &str =
-    "A job or a scene is read from standard input; the help of each command says which.
+    "A job, a schedule or a scene is read from standard input; the help of each command says which.
 
 Examples:
   x3d_share run < examples/two-clocks.job
   x3d_share format < examples/lamp.x3dv
   x3d_share check < examples/lamp.x3dv
+  x3d_share rehearse < examples/rehearsal.schedule
+  x3d_share agree < examples/two-clocks.job
 
 Status:
   0  all was done
@@ -63,6 +66,36 @@ Status:
   4  a device failed
   5  memory was refused";
 
+const REHEARSE_HELP: &str =
+    "A schedule is read from standard input: lines of steps, a line `scene`, and then the scene.
+Steps are `clock T`, `packet N`, `ack V`, `give P host`, `give P V`, `offer V D ox oy oz dx dy dz`,
+`resend V I`, `ask V`, `save V` and `rewind V S B`. Packets and snapshots are numbered from 0
+as they are made.
+
+Example:
+  x3d_share rehearse --viewers 2 < examples/rehearsal.schedule
+
+Status:
+  0  the answer of each step, and what each viewer is left with, are printed
+  1  the scene is refused
+  2  the words or the schedule are refused
+  4  a device failed
+  5  memory was refused";
+
+const AGREE_HELP: &str = "A job is read from standard input, as by `run`; its points are those of
+viewers below K.
+
+Example:
+  x3d_share agree --viewers 2 < examples/two-clocks.job
+
+Status:
+  0  `agreed` and how many inputs there are, the trace and the scene are printed
+  1  the scene is refused
+  2  the words or the job are refused
+  3  all turns were used up
+  4  a device failed
+  5  memory was refused";
+
 const HOST_HELP: &str = "A job of clocks is read from standard input; nothing is printed.
 
 Example:
@@ -72,6 +105,19 @@ Status:
   0  all turns were taken
   1  the scene is refused
   2  the words or the job are refused
+  4  a device failed
+  5  memory was refused";
+
+const VIEW_HELP: &str = "A job of this viewer's points is read from standard input.
+
+Example:
+  x3d_share view --port 4000 --who 0 --boot 1 --until 10 < examples/view.job
+
+Status:
+  0  the trace and the scene are printed
+  1  the scene is refused
+  2  the words or the job are refused
+  3  all turns were used up
   4  a device failed
   5  memory was refused";
 
@@ -121,6 +167,29 @@ fn check_command<'a>(alloc: Global) -> Command<'a>
         .after_help(CHECK_HELP)
 }
 
+#[tactic(auto, unfolding(crate::specs::Commands::rehearse_app))]
+fn rehearse_command<'a>(alloc: Global) -> Result<Command<'a>, AllocError>
+    ensures app { IfOk result (λ c. app_of c ≡ rehearse_app) }
+    ensures local { IfOk result (λ c. (fields_of c).has_globals ≡ false) }
+{
+    Command::new(alloc, "rehearse")
+        .about("Take a host and viewers through a schedule, and print each step's answer")
+        .after_help(REHEARSE_HELP)
+        .arg(viewers_arg(alloc))
+}
+
+#[tactic(auto, unfolding(crate::specs::Commands::agree_app))]
+fn agree_command<'a>(alloc: Global) -> Result<Command<'a>, AllocError>
+    ensures app { IfOk result (λ c. app_of c ≡ agree_app) }
+    ensures local { IfOk result (λ c. (fields_of c).has_globals ≡ false) }
+{
+    Command::new(alloc, "agree")
+        .about("Have a host and viewers do a job over UDP, and print trace and scene of viewer 0")
+        .after_help(AGREE_HELP)
+        .arg(viewers_arg(alloc))?
+        .arg(turns_arg(alloc))
+}
+
 #[tactic(auto, unfolding(crate::specs::Commands::host_app))]
 fn host_command<'a>(alloc: Global) -> Result<Command<'a>, AllocError>
     ensures app { IfOk result (λ c. app_of c ≡ host_app) }
@@ -131,6 +200,30 @@ fn host_command<'a>(alloc: Global) -> Result<Command<'a>, AllocError>
         .after_help(HOST_HELP)
         .arg(port_arg(alloc))?
         .arg(viewers_arg(alloc))?
+        .arg(turns_arg(alloc))
+}
+
+/// `view` with the options that say which viewer of which host it is.
+#[tactic(auto, unfolding(crate::specs::Commands::seat_app))]
+fn seat_command<'a>(alloc: Global) -> Result<Command<'a>, AllocError>
+    ensures app { IfOk result (λ c. app_of c ≡ seat_app) }
+    ensures local { IfOk result (λ c. (fields_of c).has_globals ≡ false) }
+{
+    Command::new(alloc, "view")
+        .about("Offer points to a host over UDP, apply what it numbers, and print trace and scene")
+        .after_help(VIEW_HELP)
+        .arg(port_arg(alloc))?
+        .arg(who_arg(alloc))?
+        .arg(boot_arg(alloc))
+}
+
+#[tactic(auto, unfolding(crate::specs::Commands::view_app))]
+fn view_command<'a>(alloc: Global) -> Result<Command<'a>, AllocError>
+    ensures app { IfOk result (λ c. app_of c ≡ view_app) }
+    ensures local { IfOk result (λ c. (fields_of c).has_globals ≡ false) }
+{
+    seat_command(alloc)?
+        .arg(until_arg(alloc))?
         .arg(turns_arg(alloc))
 }
 
@@ -146,10 +239,23 @@ fn single_command<'a>(alloc: Global) -> Result<Command<'a>, AllocError>
         .subcommand(check_command(alloc))
 }
 
+/// The program with the commands of one process.
+#[tactic(auto, unfolding(crate::specs::Commands::local_program))]
+fn local_command<'a>(alloc: Global) -> Result<Command<'a>, AllocError>
+    ensures app { IfOk result (λ c. app_of c ≡ local_program) }
+    ensures local { IfOk result (λ c. (fields_of c).has_globals ≡ false) }
+{
+    single_command(alloc)?
+        .subcommand(rehearse_command(alloc)?)?
+        .subcommand(agree_command(alloc)?)
+}
+
 /// The program with all its commands.
 #[tactic(auto, unfolding(crate::specs::Commands::program))]
 pub fn program_command<'a>(alloc: Global) -> Result<Command<'a>, AllocError>
     ensures { IfOk result (λ c. app_of c ≡ program) }
 {
-    single_command(alloc)?.subcommand(host_command(alloc)?)
+    local_command(alloc)?
+        .subcommand(host_command(alloc)?)?
+        .subcommand(view_command(alloc)?)
 }

@@ -16,9 +16,31 @@ pub enum Order {
     Format,
     /// `check`: the input is a scene.
     Check,
+    /// `rehearse`: the input is a schedule; 1 to 16 viewers.
+    Rehearse {
+        viewers: u8,
+    },
+    /// `agree`: the input is a job; 1 to 16 viewers, 1 to 10,000,000 rounds.
+    Agree {
+        viewers: u8,
+        turns: u32,
+    },
     /// `host`: the input is a job of clocks; the port, 1 to 65,535, that is bound, 1 to
     /// 16 viewers, 1 to 10,000,000 turns.
-    Host { port: u16, viewers: u8, turns: u32 },
+    Host {
+        port: u16,
+        viewers: u8,
+        turns: u32,
+    },
+    /// `view`: the input is a job of this viewer's points; the host's port, the viewer, 0 to 15,
+    /// its boot from 1 on, and how many inputs, 0 to 2^20, end it.
+    View {
+        port: u16,
+        who: u8,
+        boot: u32,
+        until: u32,
+        turns: u32,
+    },
 }
 
 /// Why words give no command.

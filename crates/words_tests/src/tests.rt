@@ -6,11 +6,27 @@ use std::process::Abort;
 use std::test::Fail;
 
 /// Words with what they ask for.
-const TAKEN: [(&str, Order); 8] = [
+const TAKEN: [(&str, Order); 14] = [
     ("x3d_share run", Order::Run),
     ("./other run", Order::Run),
     ("x3d_share format", Order::Format),
     ("x3d_share check", Order::Check),
+    ("x3d_share rehearse", Order::Rehearse { viewers: 2 }),
+    ("x rehearse --viewers=16", Order::Rehearse { viewers: 16 }),
+    (
+        "x agree",
+        Order::Agree {
+            viewers: 2,
+            turns: 1_000_000,
+        },
+    ),
+    (
+        "x agree --turns 10000000 --viewers 1",
+        Order::Agree {
+            viewers: 1,
+            turns: 10_000_000,
+        },
+    ),
     (
         "x host --port 1",
         Order::Host {
@@ -43,15 +59,35 @@ const TAKEN: [(&str, Order); 8] = [
             turns: 7,
         },
     ),
+    (
+        "x view --port 4000 --who 15 --boot 4294967295 --until 1048576",
+        Order::View {
+            port: 4_000,
+            who: 15,
+            boot: 4_294_967_295,
+            until: 1_048_576,
+            turns: 1_000_000,
+        },
+    ),
+    (
+        "x view --until 0 --boot 1 --who 0 --port 1 --turns 5",
+        Order::View {
+            port: 1,
+            who: 0,
+            boot: 1,
+            until: 0,
+            turns: 5,
+        },
+    ),
 ];
 
 /// Words that are no command.
-const REFUSED: [&str; 32] = [
+const REFUSED: [&str; 46] = [
     "",
     "x",
     "x walk",
     "x view",
-    "x rehearse",
+    "x rehears",
     "x run run",
     "x run --viewers=2",
     "x Run",
@@ -79,6 +115,20 @@ const REFUSED: [&str; 32] = [
     "x host --port 4000 --turns 10000001",
     "x host --port 4000 --turns 4294967297",
     "x host --port 4000 2",
+    "x rehearse --viewers 0",
+    "x rehearse --viewers 17",
+    "x rehearse --turns 5",
+    "x agree --viewers 17",
+    "x agree --turns 0",
+    "x agree --port 4000",
+    "x view --who 1 --boot 1 --until 1",
+    "x view --port 1 --boot 1 --until 1",
+    "x view --port 1 --who 1 --until 1",
+    "x view --port 1 --who 1 --boot 1",
+    "x view --port 1 --who 16 --boot 1 --until 1",
+    "x view --port 1 --who 1 --boot 0 --until 1",
+    "x view --port 1 --who 1 --boot 4294967296 --until 1",
+    "x view --port 1 --who 1 --boot 1 --until 1048577",
 ];
 
 /// What words that single spaces part ask for.
@@ -107,7 +157,7 @@ fn other_words_are_refused(rt: HostRuntime) -> Result<(), Fail> {
 }
 
 /// Words that ask for help, with a line of it.
-const SHOWN: [(&str, &str); 9] = [
+const SHOWN: [(&str, &str); 12] = [
     ("x --help", "Usage: x3d_share <COMMAND>"),
     ("x --help", "  x3d_share format < examples/lamp.x3dv"),
     ("x --help", "  3  all turns were used up"),
@@ -118,6 +168,12 @@ const SHOWN: [(&str, &str); 9] = [
         "x host -h",
         "  x3d_share host --port 4000 --turns 100000 < examples/two-clocks.job",
     ),
+    ("x view --help", "  3  all turns were used up"),
+    (
+        "x rehearse --help",
+        "  x3d_share rehearse --viewers 2 < examples/rehearsal.schedule",
+    ),
+    ("x agree --help", "  3  all turns were used up"),
     ("x --version", "x3d_share 0.1.0"),
     ("x host --version", "x3d_share-host 0.1.0"),
 ];

@@ -5,7 +5,7 @@ mod nodes;
 #[cfg(test)]
 mod tests;
 
-use crate::nodes::host;
+use crate::nodes::{agree, host, rehearse, view};
 use cascade_core::Scripts;
 use share_program::{
     Failure, RunFault, StreamFault, check_text, format_text, refusal_line, run_job, status_of,
@@ -61,11 +61,20 @@ fn obey<R: AllocGlobal + Input + Print + Net + Clock>(
         Order::Run => run_own(rt),
         Order::Format => format_scene(rt),
         Order::Check => check_scene(rt),
+        Order::Rehearse { viewers } => rehearse(rt, viewers),
+        Order::Agree { viewers, turns } => agree(rt, &order, viewers, turns),
         Order::Host {
             port,
             viewers,
             turns,
         } => host(rt, &order, port, viewers, turns),
+        Order::View {
+            port,
+            who,
+            boot,
+            until,
+            turns,
+        } => view(rt, &order, port, who, boot, until, turns),
     }
 }
 

@@ -1,11 +1,15 @@
-//! The commands of a node that others join over UDP.
+//! The commands by which several nodes do a job: in memory, each at a port of this machine, or each
+//! in a process of its own.
 
-ghost use Rattle.std.specs.Prelude.{◌≤◌};
+ghost use Rattle.std.specs.Prelude.{◌≡◌, ◌≤◌, IfOk, length};
 
-use share_commands::{PatientPort, SharedJob, host_job, shared_job};
-use share_port::UdpPort;
-use share_program::{Failure, JobFault, ShareFault, read_whole};
+use share_commands::{
+    JointJob, PatientPort, SharedJob, agree_job, bound, bound_free, host_job, joint_job, number_of,
+    rehearse_job, shared_job, view_job,
+};
+use share_program::{Failure, JobFault, RunFault, ShareFault, read_whole, write_whole};
 use share_words::Order;
+use std::io;
 use std::net::Net;
 use std::time::Clock;
 
@@ -15,9 +19,72 @@ fn read_shared<R: AllocGlobal + Input>(rt: &R, order: &Order) -> Result<SharedJo
     shared_job(rt.alloc(), bytes.as_slice(), order)
 }
 
-/// Binds a port of this machine; 0 is a free one.
-fn bound<R: Net>(rt: &R, port: u16) -> Result<UdpPort, ShareFault> {
-    UdpPort::bind(rt, port).map_err(|_| ShareFault::Port)
+fn print<R: Print>(rt: &R, text: &[u8]) -> Result<(), RunFault> {
+    Ok(write_whole(&mut io::writer(rt), text)?)
+}
+
+/// The log of a schedule that is read.
+fn read_log<R: AllocGlobal + Input>(rt: &R, viewers: u8) -> Result<Vec<u8>, JobFault>
+    requires some { 1 ≤ viewers }
+    requires most { viewers ≤ 16 }
+{
+    let bytes = read_whole(rt.alloc(), &mut rt.reader())?;
+    rehearse_job(rt.alloc(), bytes.as_slice(), viewers)
+}
+
+/// Reads a schedule, has a host and viewers in memory go through it, and prints its log.
+pub fn rehearse<R: AllocGlobal + Input + Print>(rt: &R, viewers: u8) -> Result<(), Failure>
+    requires some { 1 ≤ viewers }
+    requires most { viewers ≤ 16 }
+{
+    let log = read_log(rt, viewers)?;
+    print(rt, log.as_slice())?;
+    Ok(())
+}
+
+/// Reads a job, and makes its viewers.
+fn read_joint<R: AllocGlobal + Input>(
+    rt: &R,
+    order: &Order,
+    viewers: u8,
+) -> Result<JointJob, JobFault>
+    requires some { 1 ≤ viewers }
+    requires most { viewers ≤ 16 }
+    ensures { IfOk result (λ j. length j.viewers.items ≡ viewers) }
+{
+    let bytes = read_whole(rt.alloc(), &mut rt.reader())?;
+    joint_job(rt.alloc(), bytes.as_slice(), order, viewers)
+}
+
+/// Has the host and the viewers of a job do it, each at a free port of this machine.
+fn agreed<R: AllocGlobal + Net>(
+    rt: &R,
+    job: &mut JointJob,
+    turns: u32,
+) -> Result<Vec<u8>, ShareFault>
+    requires some { 1 ≤ length job.old.viewers.items }
+    requires most { length job.old.viewers.items ≤ 16 }
+{
+    let mut port = bound(rt, 0)?;
+    let own = number_of(&port)?;
+    let mut ports = bound_free(rt, rt.alloc(), job.viewers.len())?;
+    agree_job(rt.alloc(), job, turns, own, &mut port, &mut ports)
+}
+
+/// Reads a job, has a host and viewers do it over UDP, and prints what came of it.
+pub fn agree<R: AllocGlobal + Input + Print + Net>(
+    rt: &R,
+    order: &Order,
+    viewers: u8,
+    turns: u32,
+) -> Result<(), Failure>
+    requires some { 1 ≤ viewers }
+    requires most { viewers ≤ 16 }
+{
+    let mut job = read_joint(rt, order, viewers)?;
+    let text = agreed(rt, &mut job, turns)?;
+    print(rt, text.as_slice())?;
+    Ok(())
 }
 
 /// Reads a job of clocks, and numbers them and what viewers offer at a port.
@@ -34,5 +101,25 @@ pub fn host<R: AllocGlobal + Input + Net + Clock>(
     let job = read_shared(rt, order)?;
     let mut port = PatientPort::new(bound(rt, port)?, rt);
     host_job(rt.alloc(), &job, viewers, turns, &mut port)?;
+    Ok(())
+}
+
+/// Reads a job of points, offers them to a host, and prints what came of the inputs.
+pub fn view<R: AllocGlobal + Input + Print + Net + Clock>(
+    rt: &R,
+    order: &Order,
+    host: u16,
+    who: u8,
+    boot: u32,
+    until: u32,
+    turns: u32,
+) -> Result<(), Failure>
+    requires who { who ≤ 15 }
+    requires boot { 1 ≤ boot }
+{
+    let job = read_shared(rt, order)?;
+    let mut port = PatientPort::new(bound(rt, 0)?, rt);
+    let text = view_job(rt.alloc(), job, who, boot, host, until, turns, &mut port)?;
+    print(rt, text.as_slice())?;
     Ok(())
 }

@@ -1,0 +1,5 @@
+//! Bytes in, bytes out.
+
+mod agreeing;
+mod given;
+mod rehearsing;

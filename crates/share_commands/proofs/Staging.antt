@@ -1,0 +1,52 @@
+-- Stages of one text.
+use Rattle.std.proofs.Common.{◌≡◌, ℕ, zero, suc, ◌+◌, ◌++◌, List, [], ◌∷◌, replicate, length, refl, sym, ◌∙◌, ap, subst}
+use Rattle.std.specs.Prelude.{Result, Ok, Err}
+use Rattle.std.proofs.lemmas.List.{length-replicate, replicate_more}
+use Rattle.cascade_core.specs.Held.{StageView}
+use Rattle.share_core.specs.Viewer.{ViewerView}
+use Rattle.share_jobs.specs.declared.fault.JobFault.{JobFault}
+use Rattle.share_program.specs.Opening.{opened_to_run}
+use Rattle.share_program.specs.declared.open.Opened.{Opened}
+use Rattle.share_rehearsal.specs.Calls.{viewers_from}
+use Rattle.share_rehearsal.specs.Rehearsed.{AreFresh, AreOf}
+use Rattle.share_commands.specs.Stages.{AreStages, IsStage, fresh}
+
+same_ok : {A E : Type 0} (x y : A) → ◌≡◌ {A = Result A E} (Ok x) (Ok y) → x ≡ y
+same_ok x y e = cc
+
+-- two stages of a text are equal
+same_stage : (text : List ℕ) (a b : StageView) → IsStage text a → IsStage text b → a ≡ b
+same_stage text a b p q =
+    p.is ∙ ap fresh (same_ok {E = JobFault} p.scene q.scene (sym p.is_scene ∙ q.is_scene)) ∙ sym q.is
+
+-- one stage more
+pub one_more : (text : List ℕ) (n : ℕ) (first next : StageView) (before after : List StageView)
+    → IsStage text first → IsStage text next → before ≡ replicate n first → after ≡ before ++ next ∷ []
+    → after ≡ replicate (n + 1) first
+one_more text n first next before after p q are more =
+    more ∙ ap (λ (l : List StageView). l ++ next ∷ []) are
+    ∙ ap (λ (s : StageView). replicate n first ++ s ∷ []) (same_stage text next first q p) ∙ replicate_more n first
+
+are_fresh : (n : ℕ) (o : Opened) → AreFresh (replicate n (fresh o))
+are_fresh zero o = tt
+are_fresh (suc n) o = (refl, are_fresh n o)
+
+pub are_of : (n : ℕ) (o : Opened) → AreOf o.scene o.routes (replicate n (fresh o))
+are_of zero o = tt
+are_of (suc n) o = (refl, refl, are_of n o)
+
+-- stages of which the first is one of the text
+pub are_stages : (text : List ℕ) (n : ℕ) (first : StageView) (stages : List StageView)
+    → IsStage text first → stages ≡ replicate n first → AreStages n text stages
+are_stages text n first stages p are =
+    record { scene = p.scene; is_scene = p.is_scene; are = are ∙ ap (replicate n) p.is }
+
+pub fresh_stages : (text : List ℕ) (n : ℕ) (stages : List StageView) → AreStages n text stages → AreFresh stages
+fresh_stages text n stages s = subst AreFresh (sym s.are) (are_fresh n s.scene)
+
+pub stage_count : (text : List ℕ) (n : ℕ) (stages : List StageView) → AreStages n text stages → length stages ≡ n
+stage_count text n stages s = ap length s.are ∙ length-replicate n (fresh s.scene)
+
+pub viewer_count : (mark : List ℕ) (n : ℕ) (stages : List StageView) → length (viewers_from mark n stages) ≡ length stages
+viewer_count mark n [] = refl
+viewer_count mark n (stage ∷ stages) = ap suc (viewer_count mark (suc n) stages)

@@ -1,0 +1,10 @@
+use Rattle.std.proofs.Common.{◌≡◌, replicate, ◌∙◌, ap, arith}
+use Rattle.share_commands.proofs.Staging.{are_stages, fresh_stages}
+use Rattle.share_commands.proofs.stages.with_others.Goals as goal
+
+pub returns-clause-fresh : goal.returns-clause-fresh
+returns-clause-fresh c =
+    let stages = c.loop-stage.stages.items in
+    let all : c.loop-stage._stage ≡ c.args.count = omega (arith, c.loop-stage.invariant.1, c.loop-stage-test.false) in
+    let are : stages ≡ replicate c.args.count c.args.first = c.loop-stage.invariant.0 ∙ ap (λ n. replicate n c.args.first) all in
+    fresh_stages c.args.text.now c.args.count stages (are_stages c.args.text.now c.args.count c.args.first stages c.requires.first are)

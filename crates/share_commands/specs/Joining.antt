@@ -1,0 +1,69 @@
+-- What a host and its viewers, each at a port, do with a job.
+use Rattle.std.specs.Prelude.{◌≡◌, ℕ, List, [], length, Ok, replicate}
+use Rattle.x3d_values.specs.Stamp.{Stamp}
+use Rattle.cascade_core.specs.Held.{StageView}
+use Rattle.share_law.specs.Host.{new_host}
+use Rattle.share_core.specs.Viewer.{ViewerView}
+use Rattle.share_rehearsal.specs.Calls.{viewers_from}
+use Rattle.share_turns.specs.Agreeing.{Meeting, Seats, Ways, AreAgreed, IsAgreeRunEnd, IsAgreedText}
+use Rattle.share_turns.specs.declared.fault.SeriesFault.{SeriesFault}
+use Rattle.share_program.specs.declared.fault.ShareFault.{ShareFault}
+use Rattle.share_words.specs.declared.order.Order.{Order}
+use Rattle.share_commands.specs.Jobs.{fitting, shared}
+use Rattle.share_commands.specs.Stages.{fresh}
+use Rattle.share_commands.specs.Viewing.{series_fault}
+use Rattle.share_commands.specs.declared.job.SharedJob.{SharedJob}
+
+-- the inputs and the mark of a job, and its viewers
+pub record Joint : Type 0 where
+  pub inputs : List Stamp
+  pub mark : List ℕ
+  pub viewers : List ViewerView
+
+-- the job of bytes, with so many viewers of its scene, numbered from 0, in their first boots
+abbrev pub joint_of : SharedJob → (viewers : ℕ) → Joint
+joint_of job viewers = record {
+  inputs = job.inputs;
+  mark = job.mark;
+  viewers = viewers_from job.mark 0
+      (replicate viewers (fresh (record { scene = job.scene; routes = job.routes })));
+}
+
+-- a stage for each viewer of the job of bytes
+abbrev pub IsStaged : (viewers : ℕ) → (bytes : List ℕ) → List Stamp → (mark : List ℕ)
+    → List StageView → Type 0
+IsStaged viewers bytes inputs mark stages =
+    (job : SharedJob) × (shared bytes ≡ Ok job) × (inputs ≡ job.inputs) × (mark ≡ job.mark)
+    × (stages ≡ replicate viewers (fresh (record { scene = job.scene; routes = job.routes })))
+
+abbrev pub IsJoint : Order → (viewers : ℕ) → (bytes : List ℕ) → Joint → Type 0
+IsJoint order viewers bytes joint =
+    (job : SharedJob) × (fitting order bytes ≡ Ok job) × (joint ≡ joint_of job viewers)
+
+-- a host that was made just now, and viewers, each at its port
+abbrev pub met : {P : Type 0} → (port : P) → Seats P → Meeting P
+met port seats = record {
+  host = new_host (length seats.viewers);
+  port = port;
+  seats = seats;
+}
+
+-- rounds until all inputs are issued and applied by every viewer, and the text is `agreed`, how
+-- many they are, and the trace and the scene of viewer 0
+abbrev pub IsAgreed : {P : Type 0} → Ways P → Joint → (own turns : ℕ) → (port : P)
+    → (ports : List P) → (left_port : P) → (left : Seats P) → (text : List ℕ) → Type 0
+IsAgreed {P} ways job own turns port ports left_port left text =
+    (new : Meeting P)
+    × AreAgreed ways job.mark job.inputs own turns
+    (met port (record { viewers = job.viewers; ports = ports })) new
+    × (new.port ≡ left_port) × (new.seats ≡ left)
+    × IsAgreedText (length job.inputs) new.seats.viewers [] text
+
+-- the rounds or the texts ended early
+abbrev pub IsAgreedInPart : {P : Type 0} → Ways P → Joint → (own turns : ℕ) → (port : P)
+    → (ports : List P) → (left_port : P) → (left : Seats P) → ShareFault → Type 0
+IsAgreedInPart {P} ways job own turns port ports left_port left fault =
+    (early : SeriesFault) × (new : Meeting P) × (fault ≡ series_fault early)
+    × (new.port ≡ left_port) × (new.seats ≡ left)
+    × IsAgreeRunEnd ways job.mark job.inputs own turns
+    (met port (record { viewers = job.viewers; ports = ports })) early new

@@ -1,0 +1,48 @@
+-- What a host and viewers in memory do with a schedule.
+use Rattle.std.specs.Prelude.{◌≡◌, ℕ, List, [], Result, Ok, replicate}
+use Rattle.sha2.specs.Sha256.{sha256}
+use Rattle.cascade_core.specs.Held.{StageView}
+use Rattle.share_law.specs.declared.step.Step.{Step}
+use Rattle.share_core.specs.Host.{HostView}
+use Rattle.share_core.specs.Viewer.{ViewerView}
+use Rattle.share_jobs.specs.Schedule.{schedule_lines}
+use Rattle.share_jobs.specs.declared.fault.JobFault.{JobFault}
+use Rattle.share_jobs.specs.declared.schedule.Schedule.{Schedule}
+use Rattle.share_program.specs.Opening.{next, same, opened_to_run}
+use Rattle.share_program.specs.declared.open.Opened.{Opened}
+use Rattle.share_rehearsal.specs.declared.answer.Answer.{Answer}
+use Rattle.share_rehearsal.specs.Calls.{Seen, AreCalls, begun_with}
+use Rattle.share_rehearsal.specs.Log.{log_text}
+use Rattle.share_rehearsal.specs.Rehearsed.{IsRehearsal, IsRehearsed, WorldsFit}
+use Rattle.share_commands.specs.Stages.{fresh}
+
+-- the scene of a schedule, or the first fault of its lines and then of its scene
+abbrev pub schedule_scene : List ℕ → Result Opened JobFault
+schedule_scene bytes = next same (schedule_lines bytes) (λ s. opened_to_run s.scene)
+
+-- the log of steps that viewers with these stages and their host went through
+pub record IsLogOf (mark : List ℕ) (stages : List StageView) (steps : List Step) (text : List ℕ) :
+    Type 0 where
+  pub host : HostView
+  pub viewers : List ViewerView
+  pub rehearsed : IsRehearsed mark stages steps [] text host viewers
+
+-- the log of a schedule's steps, through which so many viewers of its scene and their host went:
+-- it has the answers of the calls, and where worlds fit snapshots they are those of the law's
+-- network
+pub record IsScheduleLog (viewers : ℕ) (schedule : Schedule) (text : List ℕ) : Type 0 where
+  pub scene : Opened
+  pub is_scene : opened_to_run schedule.scene ≡ Ok scene
+  pub answers : List Answer
+  pub left : Seen
+  pub calls : AreCalls (begun_with (sha256 schedule.scene) (replicate viewers (fresh scene)))
+      schedule.steps answers left
+  pub log : text ≡ log_text answers left.viewers
+  pub law : WorldsFit scene.scene scene.routes
+      → IsRehearsal (sha256 schedule.scene) scene.scene scene.routes viewers schedule.steps
+      answers left
+
+-- the same of the schedule of bytes
+abbrev pub IsRehearsedLog : (viewers : ℕ) → (bytes text : List ℕ) → Type 0
+IsRehearsedLog viewers bytes text =
+    (s : Schedule) × (schedule_lines bytes ≡ Ok s) × IsScheduleLog viewers s text

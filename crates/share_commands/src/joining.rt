@@ -1,0 +1,159 @@
+//! The work of a host and its viewers, each at a port of its own.
+
+ghost use Rattle.std.specs.Prelude.{◌≡◌, ◌≤◌, ◌⊎◌, IfOk, IfErr, Err, length};
+ghost use Rattle.share_commands.specs.Jobs.{fitting, shared};
+ghost use Rattle.share_commands.specs.Joining.{IsAgreed, IsAgreedInPart, IsJoint, IsStaged};
+ghost use Rattle.share_rehearsal.specs.Calls.{viewers_from};
+ghost use Rattle.share_rehearsal.specs.Rehearsed.{AreFresh};
+ghost use Rattle.share_jobs.specs.declared.fault.JobFault.TheVariants.{Memory};
+
+use crate::fits::job_fits;
+use crate::stages::stages_of;
+use crate::viewing::series_fault;
+use cascade_core::Stage;
+use share_core::{Host, Viewer};
+use share_jobs::{Inputs, JobFault, job_of};
+use share_port::Port;
+use share_program::ShareFault;
+use share_rehearsal::viewers_of;
+use share_turns::agree;
+use share_words::Order;
+use snapshot_codec::scene_mark;
+use std::alloc::{AllocError, Global};
+
+/// The steps of a job, and its viewers.
+#[derive(Drop)]
+pub struct JointJob {
+    pub inputs: Inputs,
+    /// The SHA-256 of the scene's bytes.
+    pub mark: [u8; 32],
+    /// Numbered from 0.
+    pub viewers: Vec<Viewer<()>>,
+}
+
+/// The steps of a job, and a stage of its scene for each viewer.
+#[derive(Drop)]
+struct StagedJob {
+    inputs: Inputs,
+    mark: [u8; 32],
+    stages: Vec<Stage<()>>,
+}
+
+/// The job of these bytes, with so many stages of its scene: first its lines, then its scene.
+#[tactic(auto, unfolding(crate::specs::Jobs::shared))]
+fn staged_job(alloc: Global, bytes: &[u8], viewers: u8) -> Result<StagedJob, JobFault>
+    requires { 1 ≤ viewers }
+    ensures ok { IfOk result (λ j. IsStaged viewers bytes.now j.inputs j.mark j.stages.items) }
+    ensures fresh { IfOk result (λ j. AreFresh j.stages.items) }
+    ensures count { IfOk result (λ j. length j.stages.items ≡ viewers) }
+    ensures err { IfErr result (λ f. (f ≡ Memory) ⊎ (shared bytes.now ≡ Err f)) }
+{
+    let steps = job_of(alloc, bytes)?;
+    let stages = stages_of(alloc, steps.scene, viewers)?;
+    Ok(StagedJob {
+        mark: scene_mark(steps.scene),
+        inputs: steps.inputs,
+        stages,
+    })
+}
+
+/// The same with a viewer for each stage.
+fn with_viewers(alloc: Global, job: StagedJob) -> Result<JointJob, AllocError>
+    requires fresh { AreFresh job.stages.items }
+    requires most { length job.stages.items ≤ 16 }
+    ensures inputs { IfOk result (λ j. j.inputs ≡ job.inputs) }
+    ensures mark { IfOk result (λ j. j.mark ≡ job.mark) }
+    ensures viewers { IfOk result
+        (λ j. j.viewers.items ≡ viewers_from job.mark 0 job.stages.items) }
+{
+    let StagedJob {
+        inputs,
+        mark,
+        stages,
+    } = job;
+    let viewers = viewers_of(alloc, stages, mark)?;
+    Ok(JointJob {
+        inputs,
+        mark,
+        viewers,
+    })
+}
+
+/// The job of these bytes, with so many viewers of its scene, 1 to 16, in their first boots: first
+/// its lines, then its scene, then whether a command takes its steps.
+pub fn joint_job(
+    alloc: Global,
+    bytes: &[u8],
+    order: &Order,
+    viewers: u8,
+) -> Result<JointJob, JobFault>
+    requires some { 1 ≤ viewers }
+    requires most { viewers ≤ 16 }
+    ensures ok { IfOk result (λ j. IsJoint order.now viewers bytes.now
+        (record { inputs = j.inputs; mark = j.mark; viewers = j.viewers.items })) }
+    ensures count { IfOk result (λ j. length j.viewers.items ≡ viewers) }
+    ensures err { IfErr result (λ f. (f ≡ Memory) ⊎ (fitting order.now bytes.now ≡ Err f)) }
+{
+    let job = staged_job(alloc, bytes, viewers)?;
+    job_fits(&job.inputs, order)?;
+    Ok(with_viewers(alloc, job)?)
+}
+
+fn count_of(viewers: &[Viewer<()>]) -> u8
+    requires { length viewers.now ≤ 16 }
+    ensures { result ≡ length viewers.now }
+{
+    viewers.len() as u8
+}
+
+/// Rounds of the host and the viewers of a job, each at a port of its own, that of the host with
+/// this number, until all the job's steps are issued and every viewer has applied them; so many
+/// rounds at most. In a round each node takes its turn, the host first. Then the line `agreed` with
+/// how many inputs there are, and the trace and the scene of viewer 0.
+///
+/// `TurnsUsedUp` where it came to less, `Port` where a send or a receive failed, `Memory` where
+/// memory was refused, `Spoiled` in a turn after that.
+pub fn agree_job<P: Port>(
+    alloc: Global,
+    job: &mut JointJob,
+    turns: u32,
+    own: u16,
+    port: &mut P,
+    ports: &mut [P],
+) -> Result<Vec<u8>, ShareFault>
+    requires some { 1 ≤ length job.old.viewers.items }
+    requires most { length job.old.viewers.items ≤ 16 }
+    requires ports { length ports.old ≡ length job.old.viewers.items }
+    ensures done { IfOk result (λ text.
+        IsAgreed (record { told = P.told; failures = P.failure_count })
+        (record {
+          inputs = job.old.inputs;
+          mark = job.old.mark;
+          viewers = job.old.viewers.items;
+        }) own turns port.old ports.old port.new
+        (record { viewers = job.new.viewers.items; ports = ports.new }) text.items) }
+    ensures ended { IfErr result
+        (IsAgreedInPart (record { told = P.told; failures = P.failure_count })
+        (record {
+          inputs = job.old.inputs;
+          mark = job.old.mark;
+          viewers = job.old.viewers.items;
+        }) own turns port.old ports.old port.new
+        (record { viewers = job.new.viewers.items; ports = ports.new })) }
+{
+    let mut host = Host::new(alloc, job.mark, count_of(&job.viewers));
+    let mut text = Vec::new(alloc);
+    match agree(
+        &mut host,
+        &mut job.viewers,
+        job.inputs.as_slice(),
+        turns,
+        own,
+        port,
+        ports,
+        &mut text,
+    ) {
+        Ok(()) => Ok(text),
+        Err(fault) => Err(series_fault(fault)),
+    }
+}

@@ -1,0 +1,63 @@
+//! The work of a host and its viewers in memory.
+
+ghost use Rattle.std.specs.Prelude.{◌≡◌, ◌≤◌, ◌⊎◌, IfOk, IfErr, Err, length};
+ghost use Rattle.share_commands.specs.Rehearsing.{IsLogOf, IsRehearsedLog, IsScheduleLog};
+ghost use Rattle.share_commands.specs.Rehearsing.{schedule_scene};
+ghost use Rattle.share_program.specs.Opening.{opened_to_run};
+ghost use Rattle.share_rehearsal.specs.Rehearsed.{AreFresh};
+ghost use Rattle.share_jobs.specs.declared.fault.JobFault.TheVariants.{Memory};
+
+use crate::stages::stages_of;
+use cascade_core::Stage;
+use share_jobs::{JobFault, Schedule, schedule_of};
+use share_law::Step;
+use share_rehearsal::rehearse;
+use snapshot_codec::scene_mark;
+use std::alloc::{AllocError, Global};
+
+/// The log of steps, by viewers with these stages and their host.
+fn log_of(
+    alloc: Global,
+    stages: Vec<Stage<()>>,
+    mark: [u8; 32],
+    steps: &[Step],
+) -> Result<Vec<u8>, AllocError>
+    requires fresh { AreFresh stages.items }
+    requires some { 1 ≤ length stages.items }
+    requires most { length stages.items ≤ 16 }
+    ensures { IfOk result (λ text. IsLogOf mark stages.items steps.now text.items) }
+{
+    let mut log = Vec::new(alloc);
+    match rehearse(alloc, stages, mark, steps, &mut log) {
+        Ok(_left) => Ok(log),
+        Err(_refused) => Err(AllocError),
+    }
+}
+
+/// The log of a schedule.
+fn schedule_log(alloc: Global, schedule: &Schedule, viewers: u8) -> Result<Vec<u8>, JobFault>
+    requires some { 1 ≤ viewers }
+    requires most { viewers ≤ 16 }
+    ensures done { IfOk result (λ text. IsScheduleLog viewers schedule.now text.items) }
+    ensures refused { IfErr result
+        (λ f. (f ≡ Memory) ⊎ (opened_to_run schedule.now.scene ≡ Err f)) }
+{
+    let text = schedule.scene.as_slice();
+    let stages = stages_of(alloc, text, viewers)?;
+    Ok(log_of(alloc, stages, scene_mark(text), schedule.steps.as_slice())?)
+}
+
+/// A host and so many viewers of a schedule's scene, 1 to 16, in memory go through its steps: a
+/// line of each step's number and its answer, and then what each viewer is left with.
+///
+/// First the schedule's lines are read, then its scene; what a host or a viewer refuses is logged.
+pub fn rehearse_job(alloc: Global, bytes: &[u8], viewers: u8) -> Result<Vec<u8>, JobFault>
+    requires some { 1 ≤ viewers }
+    requires most { viewers ≤ 16 }
+    ensures done { IfOk result (λ text. IsRehearsedLog viewers bytes.now text.items) }
+    ensures refused { IfErr result
+        (λ f. (f ≡ Memory) ⊎ (schedule_scene bytes.now ≡ Err f)) }
+{
+    let schedule = schedule_of(alloc, bytes)?;
+    schedule_log(alloc, &schedule, viewers)
+}
