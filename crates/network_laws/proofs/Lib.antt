@@ -1,2 +1,2 @@
 mod Rewound
-mod Saved
+pub mod Saved
