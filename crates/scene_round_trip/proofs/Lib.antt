@@ -1,7 +1,7 @@
 mod Chains
 mod Defaulted
 mod Defaults
-mod Documents
+pub mod Documents
 mod Expanded
 mod Fields
 mod Headers

@@ -60,8 +60,8 @@ numbered n (s ∷ inputs) h f i =
     omega (arith, numbered (suc n) inputs (omega (arith, few, e)) (λ k x at. next n k x (f (suc k) x at)) (λ k x at. i (suc k) x at))
 
 module _ (text : List ℕ) (f : Flat) (scene : SceneView) (routes : List Route) (o : IsOpened text f scene routes) where
-  nodes : length scene.nodes ≤ 2 ^ 16
-  nodes = omega (arith, scene_few f scene o.is_scene, nodes_few o.document f o.put_in)
+  pub few_nodes : length scene.nodes ≤ 2 ^ 16
+  few_nodes = omega (arith, scene_few f scene o.is_scene, nodes_few o.document f o.put_in)
 
   module _ (net : Network WorldData) (reached : Reached (cascade scene routes) net) where
     few_inputs : length net.host.list ≤ max_inputs
@@ -73,7 +73,7 @@ module _ (text : List ℕ) (f : Flat) (scene : SceneView) (routes : List Route) 
     few_lines : (w : WorldData) → IsAt (cascade scene routes) net.host.list w → length w.trace < 2 ^ 64
     few_lines w a =
         let front : length a.done ≤ max_inputs = omega (arith, length-append a.done a.todo, ap length a.whole, few_inputs) in
-        subst (λ (v : WorldData). length v.trace < 2 ^ 64) (sym a.is) (counted scene routes a.done nodes front)
+        subst (λ (v : WorldData). length v.trace < 2 ^ 64) (sym a.is) (counted scene routes a.done few_nodes front)
 
 pub worlds_fit : (text : List ℕ) (f : Flat) (scene : SceneView) (routes : List Route) (inputs : List Stamp) → IsOpened text f scene routes → AreInputs inputs → WorldFits (shapes_of scene) (world scene routes inputs)
 worlds_fit text f scene routes inputs o i = all_worlds_fit f scene routes inputs (is_document text f scene routes o) i
@@ -81,7 +81,7 @@ worlds_fit text f scene routes inputs o i = all_worlds_fit f scene routes inputs
 pub worlds_have : (text : List ℕ) (f : Flat) (scene : SceneView) (routes : List Route) (inputs : List Stamp) → IsOpened text f scene routes → AreInputs inputs → (world_codec scene).fits (world scene routes inputs) ≡ true
 worlds_have text f scene routes inputs o i =
     let few : length inputs ≤ max_inputs = omega (arith, in_turn 0 (pos 0) inputs (omega arith) i.in_turn i.in_range) in
-    all_have_snapshots f scene routes inputs (is_document text f scene routes o) i (counted scene routes inputs (nodes text f scene routes o) few)
+    all_have_snapshots f scene routes inputs (is_document text f scene routes o) i (counted scene routes inputs (few_nodes text f scene routes o) few)
 
 pub saved_have : (text : List ℕ) (f : Flat) (scene : SceneView) (routes : List Route) (net : Network WorldData) → IsOpened text f scene routes → Reached (cascade scene routes) net
     → (s : ℕ) (shot : Shot WorldData) → slice_get net.shots s ≡ Some shot → (world_codec scene).fits shot.state ≡ true
