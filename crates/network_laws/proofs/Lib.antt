@@ -1,2 +1,2 @@
-mod Rewound
+pub mod Rewound
 pub mod Saved

@@ -92,6 +92,9 @@ module _ (nodes : List FlatNode) where
   no_way_back (suc most) depth k x l w h =
       let r = down (suc k) depth x x w h in no_way_back most r.0 k x (omega (arith, r.1, l)) w r.2
 
+moved : (made node : SceneNode) (m : ℕ) → made ≡ node → In m (children node) → In m (children made)
+moved made node m e k = subst (λ (o : SceneNode). In m (children o)) (sym e) k
+
 -- ---- a scene and its document
 
 module _ (flat : Flat) (scene : SceneView) (h : IsSceneOf flat scene) where
@@ -174,7 +177,7 @@ module _ (flat : Flat) (scene : SceneView) (h : IsSceneOf flat scene) where
       let made = h.each n f.0 f.1 in
       let same : made.node ≡ node = some_is made.node node (sym made.node_is ∙ at) in
       let i = inner n f.0 made in
-      let from = in_map (called S.numbers) m (parts_of flat.nodes f.0) (subst (λ (l : List ℕ). In m l) i.linked_are (subst (λ (o : SceneNode). In m (children o)) (sym same) k)) in
+      let from = in_map (called S.numbers) m (parts_of flat.nodes f.0) (subst (λ (l : List ℕ). In m l) i.linked_are (moved made.node node m same k)) in
       subst (λ (j : ℕ). j < n) (sym from.2) (inside_lower n f.0 from.0 f.1 (from.1, i.valid from.0 from.1))
 
   abbrev field_of : ℕ → Option SceneNode → Option Value

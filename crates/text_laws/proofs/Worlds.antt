@@ -70,7 +70,7 @@ module _ (text : List ℕ) (f : Flat) (scene : SceneView) (routes : List Route) 
         let ranges : InRange net = (both-reached (cascade scene routes) net reached).0 in
         omega (arith, numbered 0 net.host.list (omega arith) (λ k x at. from_none k x (sound.numbers k x at)) ranges.list)
 
-    few_lines : (w : WorldData) → IsAt (cascade scene routes) net.host.list w → length w.trace < 2 ^ 64
+    pub few_lines : (w : WorldData) → IsAt (cascade scene routes) net.host.list w → length w.trace < 2 ^ 64
     few_lines w a =
         let front : length a.done ≤ max_inputs = omega (arith, length-append a.done a.todo, ap length a.whole, few_inputs) in
         subst (λ (v : WorldData). length v.trace < 2 ^ 64) (sym a.is) (counted scene routes a.done few_nodes front)

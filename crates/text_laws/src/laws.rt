@@ -1,6 +1,7 @@
 //! Laws of worlds, each the contract of a function that does nothing.
 
 ghost use Rattle.text_laws.specs.Opened.{OpenedAreDocuments};
+ghost use Rattle.text_laws.specs.Rewinding.{OwnSnapshotsOfTextsRewind};
 ghost use Rattle.text_laws.specs.Worlds.{
   RunningOfTextsHaveSnapshots,
   SavedOfTextsHaveSnapshots,
@@ -24,4 +25,10 @@ pub fn worlds_of_texts_fit()
 pub fn saved_worlds_of_texts_load_again()
     ensures saved { SavedOfTextsHaveSnapshots }
     ensures running { RunningOfTextsHaveSnapshots }
+{}
+
+/// A viewer of the scene of a text that is rewound by the bytes of a snapshot that was taken makes
+/// the network's step for it.
+pub fn own_snapshots_of_texts_rewind()
+    ensures { OwnSnapshotsOfTextsRewind }
 {}

@@ -3,4 +3,7 @@
 
 mod laws;
 
-pub use laws::{saved_worlds_of_texts_load_again, texts_have_documents, worlds_of_texts_fit};
+pub use laws::{
+    own_snapshots_of_texts_rewind, saved_worlds_of_texts_load_again, texts_have_documents,
+    worlds_of_texts_fit,
+};

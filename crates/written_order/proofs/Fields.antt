@@ -1,9 +1,11 @@
 -- What the fields of a scene's node hold: where a field is of no node type it holds no nodes, and
 -- where nothing may be given to it, it holds nothing.
-use Rattle.std.proofs.Common.{◌≡◌, ℕ, ◌+◌, Bool, true, false, not, ◌&&◌, ◌||◌, if◌then◌else◌, is_some, List, [], ◌∷◌, ◌++◌, codes, length, map, nat_eq, Option, Some, None, Result, Ok, Err, refl, sym, ap, subst, ◌∙◌, append_assoc, append-nil}
+use Rattle.std.proofs.Common.{◌≡◌, ℕ, ◌+◌, Bool, true, false, not, ◌&&◌, ◌||◌, if◌then◌else◌, List, [], ◌∷◌, ◌++◌, codes, length, map, nat_eq, Option, Some, None, Result, Ok, Err, refl, sym, ap, subst, ◌∙◌, append_assoc, append-nil}
+use Rattle.std.specs.Prelude.{is_some}
 use Rattle.std.specs.Cmp.Lexicographic.{pointwise}
 use Rattle.std.specs.List.{list_all}
 use Rattle.std.specs.Option.{option_and_then}
+use Rattle.x3d_values.specs.declared.default.FieldDefault.{FieldDefault}
 use Rattle.x3d_values.specs.declared.field_type.Access.{Access}
 use Rattle.x3d_values.specs.declared.field_type.FieldType.{FieldType}
 use Rattle.x3d_values.specs.declared.node_type.NodeKind.{NodeKind}
@@ -119,7 +121,7 @@ module _ (all : List FlatNode) (numbers : List ℕ) where
       let is = scene_ok_is (default_of e) v h in
       record {
         plain = λ p. ap linked (sym is) ∙ default_none e.field_type e.default;
-        held = λ d. sym is ∙ ap (λ x. option_and_then (default_value e.field_type) x) d;
+        held = λ d. sym is ∙ ap (λ (x : Option FieldDefault). option_and_then (default_value e.field_type) x) d;
       }
   row_is e (Some f) v k h = by_rotation (is_rotation e.field_type) refl h where
     by_rotation : (b : Bool) → is_rotation e.field_type ≡ b

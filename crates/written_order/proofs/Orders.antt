@@ -28,7 +28,7 @@ use Rattle.scene_text.specs.Tree.{Declared, Makes, Plain, PlanView, Shown, Step,
 use Rattle.numbered_scenes.specs.Children.{children}
 use Rattle.numbered_scenes.proofs.Lists.{length_set, some_is, within}
 use Rattle.numbered_scenes.proofs.Lower.{children_lower, helpers_low, roots_low}
-use Rattle.numbered_scenes.proofs.Scenes.{IsMade, IsSceneOf, alone_in, found, numbers_of, scene_is}
+use Rattle.numbered_scenes.proofs.Scenes.{IsSceneOf, alone_in, found, numbers_of, scene_is}
 use Rattle.numbered_scenes.proofs.Visits.{full, unopened_few}
 use Rattle.scene_round_trip.specs.Writable.{IsShallow}
 use Rattle.scene_round_trip.proofs.Chains.{IsClosedNode, all_shallow}
@@ -97,12 +97,11 @@ module _ (nodes : List FlatNode) where
       each_leaves Q make k (one_more make made n) (F s n) ns (ap (λ (seen : List Bool). (make seen n).seen) e ∙ k s n l h.0) (one_length s n l) h.1
 
   module _ (Q : ℕ → Type 0) (tree : Makes ℕ NodeText) (k : Leaves Q tree) where
-    none_yet : List Bool → Step (List NodeText)
+    abbrev none_yet : List Bool → Step (List NodeText)
     none_yet seen = record { seen = seen; made = [] }
 
     value_leaves : (s : Numbering) (v : Value) → length s.opened ≡ length nodes → AllByRecursion Q (nodes_of v)
         → (value_tree tree s.opened v).seen ≡ (fold F s (nodes_of v)).opened
-    unfolding none_yet
     value_leaves s (value.SFNode (Some n)) l h = k s n l h.0
     value_leaves s (value.MFNode []) l h = refl
     value_leaves s (value.MFNode (n ∷ ns)) l h = each_leaves Q tree k (none_yet s.opened) s (n ∷ ns) refl l h
@@ -161,16 +160,12 @@ module _ (flat : Flat) (p : PlanView) (nodes : List FlatNode) (w : IsWritten fla
 
   shown_is : (n : ℕ) (node : SceneNode) → slice_get p.scene.nodes n ≡ Some node → flat_map links (shown_fields p n node.node_type) ≡ children node
   shown_is n node is =
-      let f = found (numbers_of flat).order n (low_order n node is) in
+      let l = within p.scene.nodes n node is in
+      let f = found (numbers_of flat).order n (omega (arith, l, scene.many)) in
       let m = scene.each n f.0 f.1 in
-      let same : m.node ≡ node = node_is m is in
+      let same : m.node ≡ node = some_is m.node node (sym m.node_is ∙ is) in
       shown_links p n node w.kept is m.flat
-      (subst (λ (o : SceneNode). HasValues m.flat o) same (has_values flat.nodes (numbers_of flat).numbers (alone_in flat) m.flat m.node m.made)) where
-        low_order : (n : ℕ) (node : SceneNode) → slice_get p.scene.nodes n ≡ Some node → n < length (numbers_of flat).order
-        low_order n node is = let l = within p.scene.nodes n node is in omega (arith, l, scene.many)
-
-        node_is : {x : ℕ} (m : IsMade flat.nodes (numbers_of flat).numbers (alone_in flat) p.scene.nodes n x) → slice_get p.scene.nodes n ≡ Some node → m.node ≡ node
-        node_is m is = some_is m.node node (sym m.node_is ∙ is)
+      (subst (λ (o : SceneNode). HasValues m.flat o) same (has_values flat.nodes (numbers_of flat).numbers (alone_in flat) m.flat m.node m.made))
 
   abbrev InOrder : ℕ → Type 0
   InOrder depth = Leaves nodes (IsShallow p.scene depth) (node_tree depth p)
