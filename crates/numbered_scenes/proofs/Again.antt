@@ -1,6 +1,6 @@
 -- A numbered scene is numbered the same again: a visit of a node of its document goes with a visit of
 -- the node's number, where there stands the same.
-use Rattle.std.proofs.Common.{◌≡◌, ℕ, zero, suc, ◌+◌, ◌<◌, ◌≤◌, Bool, true, false, not, List, [], ◌∷◌, ◌++◌, length, map, replicate, Option, Some, None, Ok, slice_get, slice_set, refl, sym, ap, subst, ◌∙◌, ◌⊎◌, inl, inr, arith, append-nil, true≢false}
+use Rattle.std.proofs.Common.{◌≡◌, ℕ, zero, suc, ◌+◌, ◌<◌, ◌≤◌, Bool, true, false, not, List, [], ◌∷◌, ◌++◌, length, map, replicate, Option, Some, slice_get, slice_set, refl, sym, ap, subst, ◌∙◌, ◌⊎◌, inl, inr, arith, append-nil, true≢false}
 use Rattle.std.specs.Prelude.{slice_index_or}
 use Rattle.std.specs.List.{fold, range_with_len}
 use Rattle.std.proofs.lemmas.List.{length-replicate, map-append}
@@ -15,10 +15,10 @@ use Rattle.scene_core.specs.Tasks.{unopened}
 use Rattle.scene_core.proofs.Fuel.{appear-fewer, visit-keeps, visit-new, visit-old}
 use Rattle.scene_values.specs.Typing.{called}
 use Rattle.numbered_scenes.specs.Again.{HaveChildren, NumberedAgain, NumberedUnderRoot, in_place}
-use Rattle.numbered_scenes.proofs.Lists.{In, IsMarked, at_map, at_push, in_back, in_front, mark_now, some_is, within}
+use Rattle.numbered_scenes.proofs.Lists.{In, IsMarked, at_map, at_push, in_back, in_front, mark_now, some_is}
 use Rattle.numbered_scenes.proofs.Lower.{called_is, inner, inside_has, low, root_has}
 use Rattle.numbered_scenes.proofs.Scenes.{IsSceneOf, numbers_of, scene_is}
-use Rattle.numbered_scenes.proofs.Visits.{Has, IsNumbered, IsOpen, Seen, full, numbered, unopened_few}
+use Rattle.numbered_scenes.proofs.Visits.{Has, IsOpen, Seen, full, numbered, unopened_few}
 
 abbrev some : {A : Type 0} → A → Option A
 some x = Some x

@@ -1,9 +1,9 @@
 -- What stands in a node of a scene is what stands in the node of its document, by the numbers of the
 -- scene.
-use Rattle.std.proofs.Common.{◌≡◌, ℕ, zero, suc, ◌+◌, ◌<◌, Bool, true, false, not, ◌&&◌, if◌then◌else◌, List, [], ◌∷◌, ◌++◌, codes, length, map, nat_eq, Option, Some, None, Result, Ok, Err, slice_get, refl, sym, ap, subst, ◌∙◌, ◌⊎◌, inl, inr, arith, append_assoc, append-nil}
+use Rattle.std.proofs.Common.{◌≡◌, ℕ, ◌+◌, ◌<◌, Bool, true, false, not, ◌&&◌, if◌then◌else◌, List, [], ◌∷◌, ◌++◌, codes, length, map, nat_eq, Option, Some, None, Result, Ok, Err, slice_get, refl, sym, ap, subst, ◌∙◌, inl, inr, append_assoc, append-nil}
 use Rattle.std.specs.Cmp.Lexicographic.{pointwise}
 use Rattle.std.specs.List.{flat_map, list_all}
-use Rattle.std.specs.Option.{option_and_then, option_map_or}
+use Rattle.std.specs.Option.{option_and_then}
 use Rattle.std.proofs.lemmas.Grind.{flat_map-append}
 use Rattle.std.proofs.lemmas.List.{map-append}
 use Rattle.x3d_values.specs.declared.default.FieldDefault.{FieldDefault}
@@ -38,7 +38,7 @@ use Rattle.scene_core.specs.Faults.{fault, ◌>>=◌}
 use Rattle.scene_core.specs.Labels.{label_by}
 use Rattle.scene_core.specs.Parts.{given, inner_nodes, parts, parts_from, parts_in}
 use Rattle.scene_core.specs.Shape.{declaration_entry, declared_by, is_rotation, numbered_fields}
-use Rattle.scene_core.specs.Typed.{accepted, accepted_in_range, all_taken, at_line, declared_empty, declared_from, declared_given, declared_value, default_of, dropped_rotation, field_value, given_value, in_range, no_rotation, takes, typed_value, values_from, values_of}
+use Rattle.scene_core.specs.Typed.{accepted, accepted_in_range, all_taken, at_line, declared_from, declared_value, default_of, dropped_rotation, field_value, given_value, in_range, no_rotation, takes, typed_value, values_from, values_of}
 use Rattle.numbered_scenes.specs.Children.{children}
 use Rattle.numbered_scenes.proofs.Lists.{In, within}
 

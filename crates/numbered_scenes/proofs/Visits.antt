@@ -1,6 +1,6 @@
 -- What holds of a numbering while nodes are visited: a node that appeared is begun or has a number, and
 -- what stands in a node with a number comes before it, or leads back to it.
-use Rattle.std.proofs.Common.{◌≡◌, ℕ, zero, suc, ◌+◌, ◌<◌, ◌≤◌, Bool, true, false, not, List, [], ◌∷◌, ◌++◌, length, replicate, Option, Some, slice_get, slice_set, refl, sym, ap, subst, ◌∙◌, ◌⊎◌, inl, inr, arith, true≢false}
+use Rattle.std.proofs.Common.{◌≡◌, ℕ, zero, suc, ◌+◌, ◌<◌, ◌≤◌, Bool, true, false, List, [], ◌∷◌, ◌++◌, length, replicate, Option, Some, slice_get, refl, sym, ap, subst, ◌∙◌, ◌⊎◌, inl, inr, arith, true≢false}
 use Rattle.std.specs.List.{fold}
 use Rattle.std.proofs.lemmas.List.{length-replicate}
 use Rattle.flat_document.specs.declared.flat.FlatNode.{FlatNode}
