@@ -1,4 +1,4 @@
-mod Counted
+pub mod Counted
 mod Kept
 mod Openings
 mod Routes

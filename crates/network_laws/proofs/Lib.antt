@@ -1,2 +1,2 @@
-mod Rewound
-mod Saved
+pub mod Rewound
+pub mod Saved

@@ -70,7 +70,7 @@ from_one k x e = omega (arith, e)
 -- ---- worlds
 
 module _ (flat : Flat) (scene : SceneView) (routes : List Route) (net : Network WorldData) (d : IsDocument flat scene routes) (reached : Reached (cascade scene routes) net) where
-  front_inputs : (front back : List Stamp) → front ++ back ≡ net.host.list → AreInputs front
+  pub front_inputs : (front back : List Stamp) → front ++ back ≡ net.host.list → AreInputs front
   front_inputs front back whole =
       let sound : Sound (cascade scene routes) net = Sound-reached (cascade-is scene routes) reached in
       let ranges : InRange net = (both-reached (cascade scene routes) net reached).0 in

@@ -1,11 +1,13 @@
 -- The expanded form of a document that some text spells has names that are names, and texts that
 -- are UTF-8.
-use Rattle.std.proofs.Common.{◌≡◌, ℕ, List, [], ◌∷◌, ◌++◌, length, fold, Option, Some, None, Result, Ok, Err, slice_get, refl, subst}
+use Rattle.std.proofs.Common.{◌≡◌, ℕ, ◌^◌, ◌≤◌, true, List, [], ◌∷◌, ◌++◌, length, fold, Option, Some, None, Result, Ok, Err, slice_get, refl, subst}
 use Rattle.std.specs.List.{AllByRecursion}
+use Rattle.x3d_values.specs.declared.fields.Fields.{Fields}
 use Rattle.classic_tree.specs.declared.tree.Document.{Document}
 use Rattle.classic_tree.specs.declared.tree.Statement.{Statement}
 use Rattle.classic_round_trip.proofs.Routes.{Any as AnyLine}
 use Rattle.classic_round_trip.proofs.Spelled.{spellable}
+use Rattle.classic_round_trip.specs.AnyLength.{SpellsAtAnyLength}
 use Rattle.classic_round_trip.specs.Spellable.{IsNameOrNone, IsSpellableTopStatement, AreSpellableStatements, IsSpellable, head_words, unread_words}
 use Rattle.flat_document.specs.declared.fault.ExpandFault.{ExpandFault}
 use Rattle.flat_document.specs.declared.flat.Flat.{Flat}
@@ -17,8 +19,15 @@ use Rattle.proto_ends.specs.Pairs.{routes_of}
 use Rattle.proto_steps.specs.Machine.{Outcome, pure, through}
 use Rattle.proto_steps.specs.Meaning.{statement_does}
 use Rattle.proto_walk.specs.Whole.{nothing, with_declared, check, put_statement, grown, at_top, label_at, flat_node, add_node, flat_nodes, header_of, with_routes, flat_of, flat}
+use Rattle.route_core.specs.Resolved.{resolved}
+use Rattle.scene_core.specs.declared.scene.Route.{Route}
+use Rattle.scene_core.specs.Building.{scene_of}
+use Rattle.scene_core.specs.Scene.{SceneView}
+use Rattle.scene_text.specs.SceneText.{scene_text}
+use Rattle.scene_text.specs.Statements.{scene_document}
 use Rattle.scene_round_trip.specs.Named.{IsNamedNode, IsNamed, ExpandedAreNamed}
-use Rattle.scene_round_trip.specs.Written.{DocumentScenesSpell}
+use Rattle.scene_round_trip.specs.Writable.{AreKeepable}
+use Rattle.scene_round_trip.specs.Written.{DocumentScenesSpell, has_room}
 use Rattle.scene_round_trip.proofs.Expanded.{top_kept}
 use Rattle.scene_round_trip.proofs.Lists.{all_at, all_push, all_weaker}
 use Rattle.scene_round_trip.proofs.Scenes.{scenes_are_writable}
@@ -111,6 +120,13 @@ module _ (d : Document) (s : IsSpellable d) where
 pub expanded_are_named : ExpandedAreNamed
 expanded_are_named text d f h e = document_named d (spellable AnyLine text d h) f e
 
+-- the same of a document that is spellable
+pub spellable_scenes_spell : (d : Document) (f : Flat) (scene : SceneView) (routes : List Route) (state : List Fields)
+    → IsSpellable d → flat d ≡ Ok f → scene_of f ≡ Ok scene → length scene.nodes ≤ 2 ^ 64 → resolved f scene ≡ Ok routes
+    → AreKeepable state → has_room scene ≡ true → SpellsAtAnyLength (scene_text scene routes state) (scene_document scene routes state)
+spellable_scenes_spell d f scene routes state h e i few j kept room =
+    written_scenes_spell scene routes state (scenes_are_writable f scene routes state (document_named d h f e) i few j kept room)
+
 pub document_scenes_spell : DocumentScenesSpell
 document_scenes_spell text d f scene routes state h e i few j kept room =
-    written_scenes_spell scene routes state (scenes_are_writable f scene routes state (expanded_are_named text d f h e) i few j kept room)
+    spellable_scenes_spell d f scene routes state (spellable AnyLine text d h) e i few j kept room

@@ -1,13 +1,13 @@
-mod Chains
+pub mod Chains
 mod Defaulted
-mod Defaults
-mod Documents
+pub mod Defaults
+pub mod Documents
 mod Expanded
 mod Fields
 mod Headers
 mod Joined
 mod Labels
-mod Lists
+pub mod Lists
 mod Machines
 mod Names
 mod Nodes

@@ -1,0 +1,3 @@
+pub mod Countable
+pub mod Rewound
+pub mod Worlds

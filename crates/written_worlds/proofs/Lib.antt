@@ -1,0 +1,2 @@
+pub mod Keepable
+pub mod Spelled
