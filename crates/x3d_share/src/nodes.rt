@@ -87,6 +87,21 @@ pub fn agree<R: AllocGlobal + Input + Print + Net>(
     Ok(())
 }
 
+/// Numbers the clocks of a job and what viewers offer at a port.
+fn hosted<R: AllocGlobal + Net + Clock>(
+    rt: &R,
+    job: &SharedJob,
+    port: u16,
+    viewers: u8,
+    turns: u32,
+) -> Result<(), ShareFault>
+    requires some { 1 ≤ viewers }
+    requires most { viewers ≤ 16 }
+{
+    let mut port = PatientPort::new(bound(rt, port)?, rt);
+    host_job(rt.alloc(), job, viewers, turns, &mut port)
+}
+
 /// Reads a job of clocks, and numbers them and what viewers offer at a port.
 pub fn host<R: AllocGlobal + Input + Net + Clock>(
     rt: &R,
@@ -99,9 +114,7 @@ pub fn host<R: AllocGlobal + Input + Net + Clock>(
     requires most { viewers ≤ 16 }
 {
     let job = read_shared(rt, order)?;
-    let mut port = PatientPort::new(bound(rt, port)?, rt);
-    host_job(rt.alloc(), &job, viewers, turns, &mut port)?;
-    Ok(())
+    Ok(hosted(rt, &job, port, viewers, turns)?)
 }
 
 /// Reads a job of points, offers them to a host, and prints what came of the inputs.
