@@ -205,7 +205,7 @@ module _ (flat : Flat) (scene : SceneView) (h : IsSceneOf flat scene) (again : L
       let f : G t (number x) ≡ close (fold G (appear t (number x)) (parts_of again (number x))) (number x) =
       visit-new again (length again) t (number x) (new_again s t x a n new) a.few_again in
       let g : close (fold G (appear t (number x)) (parts_of again (number x))) (number x)
-          ≡ close (fold G (appear t (number x)) (map number (parts_of flat.nodes x))) (number x) =
+      ≡ close (fold G (appear t (number x)) (map number (parts_of flat.nodes x))) (number x) =
       ap (λ (l : List ℕ). close (fold G (appear t (number x)) l) (number x)) (same_parts n.0 x n.1) in
       let inside = in_turn most v (appear s x) (appear t (number x)) (parts_of flat.nodes x) (omega (arith, few, fewer))
       (λ y m. parts_have n.0 x y n.1 m) (appear_alike s t x a n new) in
