@@ -20,11 +20,13 @@ share:
 	@cd crates/x3d_share && rt run -- --version > /dev/null
 	@scripts/share
 
-# The gate: every proof from nothing, the must-fail edits, the tests; and then the examples.
+# The gate: every proof from nothing, the must-fail edits, the tests; and then the examples, and a
+# shared world over UDP by the program that was proved.
 test: definitions
 	@log=$$(mktemp); trap 'rm -f "$$log"' EXIT; \
 	rt ci 2>&1 | tee "$$log"; \
 	(cd crates/x3d_share && rt try --cases ../../examples); \
+	if [ -x crates/x3d_share/out/x3d_share ]; then scripts/share || scripts/share || scripts/share; fi; \
 	tail -n 1 "$$log"
 
 # While you edit: every crate, over what earlier checks kept.
