@@ -5,9 +5,11 @@
 #![tactic(auto)]
 
 mod held;
+mod laws;
 mod list;
 mod runs;
 mod start;
 
+pub use laws::outputs_law;
 pub use list::script_list;
 pub use runs::{Run, runs_of};
