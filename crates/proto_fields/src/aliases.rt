@@ -2,18 +2,16 @@
 
 ghost use Rattle.std.specs.Prelude.{◌≡◌};
 ghost use Rattle.proto_fields.specs.Aliases as spec;
-ghost use Rattle.proto_fields.specs.Fields.{signatures};
 
-use crate::fields::field_of_interface;
 use crate::given::KnownField;
-use classic_tree::{Declaration, NodeText};
+use crate::interface::Interface;
 use x3d_lists::Text;
 
 /// The inputOutput field of that name.
-fn exposed(interface: &[Declaration<NodeText>], name: &str) -> Option<KnownField>
-    ensures { result ≡ spec.exposed (signatures interface.now) name.now }
+fn exposed(interface: &Interface<'_>, name: &str) -> Option<KnownField>
+    ensures { result ≡ spec.exposed interface.now name.now }
 {
-    let field = field_of_interface(interface, name)?;
+    let field = interface.field(name)?;
     if field.access.is_exposed() {
         return Some(field);
     }
@@ -21,16 +19,16 @@ fn exposed(interface: &[Declaration<NodeText>], name: &str) -> Option<KnownField
 }
 
 /// The inputOutput field of the name behind `set_`.
-fn set_alias(interface: &[Declaration<NodeText>], name: &str) -> Option<KnownField>
-    ensures { result ≡ spec.set_alias (signatures interface.now) name.now }
+fn set_alias(interface: &Interface<'_>, name: &str) -> Option<KnownField>
+    ensures { result ≡ spec.set_alias interface.now name.now }
 {
     let name = name.strip_prefix("set_")?;
     exposed(interface, name)
 }
 
 /// The inputOutput field of the name before `_changed`.
-fn changed_alias(interface: &[Declaration<NodeText>], name: &str) -> Option<KnownField>
-    ensures { result ≡ spec.changed_alias (signatures interface.now) name.now }
+fn changed_alias(interface: &Interface<'_>, name: &str) -> Option<KnownField>
+    ensures { result ≡ spec.changed_alias interface.now name.now }
 {
     let name = name.strip_suffix("_changed")?;
     exposed(interface, name)
@@ -38,10 +36,10 @@ fn changed_alias(interface: &[Declaration<NodeText>], name: &str) -> Option<Know
 
 /// The interface field that a source names.
 #[tactic(auto, unfolding(crate::specs::Aliases::source_field))]
-pub fn source_field(interface: &[Declaration<NodeText>], name: &Text) -> Option<KnownField>
-    ensures { result ≡ spec.source_field (signatures interface.now) name.now }
+pub fn source_field(interface: &Interface<'_>, name: &Text) -> Option<KnownField>
+    ensures { result ≡ spec.source_field interface.now name.now }
 {
-    if let Some(field) = field_of_interface(interface, name.as_str()) {
+    if let Some(field) = interface.field(name.as_str()) {
         return Some(field);
     }
     changed_alias(interface, name.as_str())
@@ -49,10 +47,10 @@ pub fn source_field(interface: &[Declaration<NodeText>], name: &Text) -> Option<
 
 /// The interface field that a destination names.
 #[tactic(auto, unfolding(crate::specs::Aliases::target_field))]
-pub fn target_field(interface: &[Declaration<NodeText>], name: &Text) -> Option<KnownField>
-    ensures { result ≡ spec.target_field (signatures interface.now) name.now }
+pub fn target_field(interface: &Interface<'_>, name: &Text) -> Option<KnownField>
+    ensures { result ≡ spec.target_field interface.now name.now }
 {
-    if let Some(field) = field_of_interface(interface, name.as_str()) {
+    if let Some(field) = interface.field(name.as_str()) {
         return Some(field);
     }
     set_alias(interface, name.as_str())

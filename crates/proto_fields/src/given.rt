@@ -1,9 +1,16 @@
 //! Fields by number, and what they were given.
 
-ghost use Rattle.std.specs.Prelude.{◌≡◌, ◌==◌};
+ghost use Rattle.std.specs.Prelude.{◌≡◌, ◌==◌, ◌++◌, ◌∷◌, [], List, IfOk};
 ghost use Rattle.std.specs.List.{list_any};
+ghost use Rattle.proto_fields.specs.declared.given.GivenField.{GivenField};
+ghost use Rattle.proto_fields.specs.Given.{values_of, no_values, with_value, with_given, IsIndexed};
 ghost use Rattle.proto_fields.specs.Owners as spec;
 
+use indexmap::IndexMap;
+use std::alloc::{AllocError, AllocFailed, Global};
+use std::marker::Model;
+use std::mem;
+use x3d_lists::Items;
 use x3d_values::{Access, FieldType};
 
 /// A field by its number among the fields of its node's type, or among the declarations of an
@@ -38,15 +45,81 @@ pub struct Joined {
     pub value: Option<usize>,
 }
 
+/// The value of each field that was given something, by the field's number.
+#[derive(Drop)]
+pub struct ValueTable {
+    pub values: IndexMap<usize, Option<usize>>,
+}
+
+impl ValueTable {
+    fn new(alloc: Global) -> ValueTable
+        ensures { values_of result ≡ no_values }
+    {
+        ValueTable {
+            values: IndexMap::new(alloc),
+        }
+    }
+
+    #[tactic(auto, unfolding(crate::specs::Given::values_of))]
+    fn get(&self, number: usize) -> Option<Option<usize>>
+        ensures { result ≡ values_of self.now number }
+    {
+        self.values.get(&number).copied()
+    }
+
+    fn insert(
+        &mut self,
+        number: usize,
+        value: Option<usize>,
+    ) -> Result<(), AllocFailed<(usize, Option<usize>)>>
+        ensures { IfOk result (λ _. values_of self.new
+            ≡ with_value number value (values_of self.old)) }
+    {
+        self.values.insert(number, value)?;
+        Ok(())
+    }
+
+    /// The field was given this value, if it was given none before.
+    fn add(&mut self, field: GivenField) -> Result<(), AllocFailed<(usize, Option<usize>)>>
+        ensures { IfOk result (λ _. values_of self.new
+            ≡ with_given field (values_of self.old)) }
+    {
+        match self.get(field.number) {
+            Some(Some(_earlier)) => Ok(()),
+            _ => self.insert(field.number, field.value),
+        }
+    }
+}
+
+/// What was given so far between braces, in the order of the text.
+#[derive(Drop)]
+pub struct GivenFields {
+    fields: Items<GivenField>,
+    /// With none, the fields are searched.
+    values: Option<ValueTable>,
+}
+
+impl Model for GivenFields {
+    ghost use Rattle.std.specs.Prelude.{List};
+    ghost use Rattle.proto_fields.specs.declared.given.GivenField.{GivenField};
+    ghost use Rattle.proto_fields.specs.Given.{IsIndexed};
+
+    ghost Value = { List GivenField };
+
+    ghost view = { λ s. s.fields };
+
+    ghost invariant = { λ s. IsIndexed s.fields s.values };
+}
+
 /// Whether the field was given something.
-pub fn has_field(number: usize, fields: &[GivenField]) -> bool
+fn has(fields: &[GivenField], number: usize) -> bool
     ensures { result ≡ spec.has_field number fields.now }
 {
     fields.iter().any(|field| field.number == number)
 }
 
 /// The number of the value that the field was given.
-pub fn value_of(number: usize, fields: &[GivenField]) -> Option<usize>
+fn value(fields: &[GivenField], number: usize) -> Option<usize>
     ensures { result ≡ spec.value_of number fields.now }
 {
     for field in fields {
@@ -55,4 +128,78 @@ pub fn value_of(number: usize, fields: &[GivenField]) -> Option<usize>
         }
     }
     None
+}
+
+/// The table with one field more.
+fn indexed(values: Option<ValueTable>, field: GivenField) -> Result<Option<ValueTable>, AllocError>
+    ensures { IfOk result (λ more. (fields : List GivenField) → IsIndexed fields values →
+        IsIndexed (fields ++ field ∷ []) more) }
+{
+    let Some(mut values) = values else {
+        return Ok(None);
+    };
+    values.add(field)?;
+    Ok(Some(values))
+}
+
+impl GivenFields {
+    /// Nothing is given yet, and few fields will be: they are searched.
+    pub fn few(alloc: Global) -> GivenFields
+        ensures { result ≡ [] }
+    {
+        GivenFields {
+            fields: Items::new(alloc),
+            values: None,
+        }
+    }
+
+    /// Nothing is given yet. The fields are found by a table.
+    pub fn many(alloc: Global) -> GivenFields
+        ensures { result ≡ [] }
+    {
+        GivenFields {
+            fields: Items::new(alloc),
+            values: Some(ValueTable::new(alloc)),
+        }
+    }
+
+    pub fn as_slice(&self) -> &[GivenField]
+        ensures { result.now ≡ self.now }
+    {
+        self.fields.as_slice()
+    }
+
+    /// One field more. After a refused growth the fields are searched.
+    pub fn push(&mut self, field: GivenField) -> Result<(), AllocError>
+        ensures { IfOk result (λ _. self.new ≡ self.old ++ field ∷ []) }
+    {
+        let values = mem::replace(&mut self.values, None);
+        let values = indexed(values, field)?;
+        self.fields.push(field)?;
+        self.values = values;
+        Ok(())
+    }
+
+    /// Whether the field was given something.
+    pub fn has(&self, number: usize) -> bool
+        ensures { result ≡ spec.has_field number self.now }
+    {
+        match &self.values {
+            None => has(self.fields.as_slice(), number),
+            Some(values) => values.get(number).is_some(),
+        }
+    }
+
+    /// The number of the value that the field was given.
+    pub fn value(&self, number: usize) -> Option<usize>
+        ensures { result ≡ spec.value_of number self.now }
+    {
+        match &self.values {
+            None => value(self.fields.as_slice(), number),
+            Some(values) => match values.get(number) {
+                None => None,
+                Some(value) => value,
+            },
+        }
+    }
 }

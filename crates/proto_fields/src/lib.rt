@@ -5,11 +5,14 @@
 mod aliases;
 mod fields;
 mod given;
+mod interface;
+mod named;
 mod taken;
 mod values;
 
 pub use aliases::{source_field, target_field};
-pub use fields::{field_of_interface, field_of_type, first_twice, fits, same};
-pub use given::{GivenField, Joined, KnownField, has_field, value_of};
+pub use fields::{field_of_type, fits, same};
+pub use given::{GivenField, GivenFields, Joined, KnownField};
+pub use interface::Interface;
 pub use taken::{body_of, is_passed_on, is_wanted};
 pub use values::{flat_fields, item_count, plain};

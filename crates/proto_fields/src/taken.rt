@@ -4,7 +4,7 @@ ghost use Rattle.std.specs.Prelude.{◌≡◌, option_map};
 ghost use Rattle.proto_declarations.specs.Held.{definition_of, shown};
 ghost use Rattle.proto_fields.specs.Owners as spec;
 
-use crate::given::{GivenField, value_of};
+use crate::given::GivenFields;
 use proto_declarations::{Declarations, Prototype};
 use x3d_lists::Text;
 
@@ -57,12 +57,12 @@ pub fn is_wanted(
     prototype: &Text,
     number: usize,
     name: &Text,
-    fields: &[GivenField],
+    fields: &GivenFields,
 ) -> bool
     ensures { result ≡ spec.is_wanted (record { within = within; name = prototype.now }) number
         name.now fields.now (shown declarations.now) }
 {
-    value_of(number, fields).is_none() && is_passed_on(declarations, within, prototype, name)
+    fields.value(number).is_none() && is_passed_on(declarations, within, prototype, name)
 }
 
 /// The number of the prototype's body.

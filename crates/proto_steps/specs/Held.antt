@@ -16,8 +16,9 @@ use Rattle.proto_links.specs.declared.links.Link.{Link}
 use Rattle.proto_steps.specs.declared.held.Scope.{Scope}
 use Rattle.proto_steps.specs.declared.held.Owner.TheVariants as owner
 use Rattle.proto_steps.specs.declared.held.Owner.{Owner as Holder}
-use Rattle.proto_fields.specs.Fields.{signatures, of_interface}
-use Rattle.proto_steps.specs.Machine.{Sight, Names, Defs, Begun, Bound, Walk, Machine}
+use Rattle.proto_declarations.specs.Sight.{no_names as no_names_yet}
+use Rattle.proto_fields.specs.Fields.{Signature, signatures, first_twice, of_interface}
+use Rattle.proto_steps.specs.Machine.{Sight, Names, Defs, Begun, Bound, Walk, Machine, Outcome}
 use Rattle.proto_fields.specs.Owners.{Owner, Place}
 use Rattle.proto_steps.specs.Meaning.{add_defaults, node_owner, declared_in, with_place, meaning_of, node_does, statement_does}
 
@@ -28,7 +29,7 @@ unfoldable pub names_of : Scope → Names
 names_of scope name = get_by (λ k. bytes_eq name k.now) scope.names
 
 abbrev pub begun_of : BegunNode → Begun
-begun_of b = record { at = b.at; interface = option_map (λ i. signatures i.now) b.interface }
+begun_of b = record { at = b.at; interface = b.interface }
 
 unfoldable pub defs_of : Scope → Defs
 defs_of scope name = option_map begun_of (get_by (λ k. bytes_eq name k.now) scope.defs)
@@ -64,11 +65,11 @@ in_sight links sight = seen (reverse links) sight
 
 abbrev pub owner_in : Holder → Owner
 owner_in (owner.Node node_type items at) = node_owner at node_type (declared_in items.now)
-owner_in (owner.Instance p within at) = record {
-  at = at;
-  fields = of_interface (signatures (out-ProtoText p.now).interface);
+owner_in (owner.Instance i) = record {
+  at = i.at;
+  fields = of_interface (signatures (out-ProtoText i.proto.now).interface);
   declares = λ name. None;
-  proto = Some (place_of p.now within);
+  proto = Some (place_of i.proto.now i.within);
 }
 
 -- ---- the whole
@@ -80,7 +81,7 @@ seen_in scope protos = record {
   defs = defs_of scope;
   protos = protos;
   given = scope.given;
-  interface = signatures scope.interface.now;
+  interface = scope.interface;
   ties = scope.ties;
   inside = scope.inside;
 }
@@ -106,7 +107,14 @@ IsPlaced o fields line name (Ok number) =
 IsPlaced o fields line name (Err e) =
     (f : ℕ → Machine (List GivenField)) (w : Walk) → with_place line o fields name f w ≡ Err e
 
--- no name stood before, or the fault says on which line one did
-abbrev pub IsOnce : Option ℕ → Result (Unit {0}) ExpandFault → Type 0
-IsOnce twice (Ok u) = twice ≡ None
-IsOnce twice (Err e) = (e ≡ memory) ⊎ (option_map (fault FieldTwice) twice ≡ Some e)
+-- the interface, if no name stood before; or the fault says on which line one did
+abbrev pub IsOnce : List Signature → Result (List Signature) ExpandFault → Type 0
+IsOnce interface (Ok i) = (first_twice no_names_yet interface ≡ None) × (i ≡ interface)
+IsOnce interface (Err e) =
+    (e ≡ memory) ⊎ (option_map (fault FieldTwice) (first_twice no_names_yet interface) ≡ Some e)
+
+-- an instance with that interface began
+abbrev pub Begins : Outcome ℕ → List Signature → Result (ℕ × List Signature) ExpandFault → Walk
+    → Type 0
+Begins outcome interface (Ok (at, i)) new = (outcome ≡ Ok (at, new)) × (i ≡ interface)
+Begins outcome interface (Err e) new = (e ≡ memory) ⊎ (outcome ≡ Err e)

@@ -1,10 +1,11 @@
 //! What was put in so far, and what is in sight.
 
-use classic_tree::{BodyItem, Declaration, NodeText, ProtoText, RawValue};
+use crate::instance::Instance;
+use classic_tree::{BodyItem, Declaration, RawValue};
 use flat_document::FlatField;
 use indexmap::IndexMap;
 use proto_ends::{Stand, Tie, Wire};
-use proto_fields::GivenField;
+use proto_fields::{GivenFields, Interface};
 use x3d_lists::{Items, Text};
 use x3d_values::NodeType;
 
@@ -56,10 +57,10 @@ pub struct Named {
 }
 
 /// A node or an instance whose DEF was met: its place, and the interface of an instance.
-#[derive(Clone, Copy)]
+#[derive(Drop)]
 pub struct BegunNode<'a> {
     pub at: usize,
-    pub interface: Option<&'a [Declaration<NodeText>]>,
+    pub interface: Option<Interface<'a>>,
 }
 
 /// What is in sight: the names of finished nodes, those of all nodes and instances whose DEF was
@@ -70,17 +71,16 @@ pub struct Scope<'a> {
     pub names: IndexMap<&'a str, Named>,
     pub defs: IndexMap<&'a str, BegunNode<'a>>,
     pub sight: usize,
-    pub given: Items<GivenField>,
-    pub interface: &'a [Declaration<NodeText>],
+    pub given: GivenFields,
+    pub interface: Interface<'a>,
     pub ties: Items<Tie>,
     pub inside: Option<usize>,
 }
 
 /// Whose braces are open, and its place among all nodes and instances begun.
-#[derive(Clone, Copy)]
+#[derive(Drop)]
 pub enum Owner<'a> {
     /// The type, and all that stands between the braces.
     Node(NodeType, &'a [BodyItem], usize),
-    /// The prototype of an instance, and the body that it is declared in.
-    Instance(&'a ProtoText, Option<usize>, usize),
+    Instance(Instance<'a>),
 }

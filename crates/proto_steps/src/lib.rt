@@ -3,6 +3,7 @@
 #![tactic(auto)]
 
 mod held;
+mod instance;
 mod names;
 mod owners;
 mod routes;
@@ -11,6 +12,7 @@ mod stands;
 mod steps;
 
 pub use held::{BegunNode, Named, Owner, PlacedNode, Scope, Store};
+pub use instance::{Instance, Placed};
 pub use names::{know, label, lookup, meet, use_node};
 pub use owners::{admits, is_taken, known_field, place};
 pub use routes::{keep_name, wire};

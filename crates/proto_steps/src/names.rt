@@ -176,8 +176,8 @@ pub fn meet<'a>(
 
 /// The nearest DEF of that name before.
 #[tactic(auto, unfolding(crate::specs::Held::defs_of))]
-pub fn begun<'a>(scope: &Scope<'a>, name: &Text) -> Option<BegunNode<'a>>
-    ensures { option_map begun_of result ≡ defs_of scope.now name.now }
+pub fn begun<'a, 'b>(scope: &'b Scope<'a>, name: &Text) -> Option<&'b BegunNode<'a>>
+    ensures { option_map (λ b. begun_of b.now) result ≡ defs_of scope.now name.now }
 {
-    scope.defs.get(name.as_str()).copied()
+    scope.defs.get(name.as_str())
 }

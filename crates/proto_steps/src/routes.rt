@@ -70,36 +70,38 @@ fn target_by(at: usize, name: usize, field: Option<KnownField>) -> Tip
 }
 
 /// What a source names: its field, and the number of the field's name.
-fn source_tip(field: &Text, name: usize, begun: Option<BegunNode<'_>>) -> Tip
-    ensures { result ≡ spec.source_tip field.now name (option_map begun_of begun.entry) }
+fn source_tip(field: &Text, name: usize, begun: Option<&BegunNode<'_>>) -> Tip
+    ensures { result ≡ spec.source_tip field.now name (option_map (λ b. begun_of b.now)
+        begun.entry) }
 {
-    let Some(BegunNode { at, interface }) = begun else {
+    let Some(begun) = begun else {
         return Tip::NoNode;
     };
-    match interface {
+    match &begun.interface {
         None => Tip::Of(Joint {
-            at,
+            at: begun.at,
             number: 0,
             name,
         }),
-        Some(interface) => source_by(at, name, source_field(interface, field)),
+        Some(interface) => source_by(begun.at, name, source_field(interface, field)),
     }
 }
 
 /// What a destination names: its field, and the number of the field's name.
-fn target_tip(field: &Text, name: usize, begun: Option<BegunNode<'_>>) -> Tip
-    ensures { result ≡ spec.target_tip field.now name (option_map begun_of begun.entry) }
+fn target_tip(field: &Text, name: usize, begun: Option<&BegunNode<'_>>) -> Tip
+    ensures { result ≡ spec.target_tip field.now name (option_map (λ b. begun_of b.now)
+        begun.entry) }
 {
-    let Some(BegunNode { at, interface }) = begun else {
+    let Some(begun) = begun else {
         return Tip::NoNode;
     };
-    match interface {
+    match &begun.interface {
         None => Tip::Of(Joint {
-            at,
+            at: begun.at,
             number: 0,
             name,
         }),
-        Some(interface) => target_by(at, name, target_field(interface, field)),
+        Some(interface) => target_by(begun.at, name, target_field(interface, field)),
     }
 }
 

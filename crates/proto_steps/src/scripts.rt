@@ -12,7 +12,7 @@ use crate::held::Owner;
 use crate::owners;
 use classic_tree::{BodyItem, Declaration, Given, NodeText};
 use flat_document::{ExpandFault, ExpandFaultKind};
-use proto_fields::{GivenField, KnownField, has_field, same};
+use proto_fields::{GivenFields, KnownField, same};
 use std::alloc::{AllocError, Global};
 use x3d_lists::{Duplicate, Items, Text};
 use x3d_values::NodeType;
@@ -79,8 +79,8 @@ fn find_declared(items: &[BodyItem], name: &Text) -> Option<KnownField>
 }
 
 /// The field of that name that is declared between these braces.
-pub fn declared_field(owner: Owner<'_>, name: &Text) -> Option<KnownField>
-    ensures { result ≡ (owner_in owner.entry).declares name.now }
+pub fn declared_field(owner: &Owner<'_>, name: &Text) -> Option<KnownField>
+    ensures { result ≡ (owner_in owner.now).declares name.now }
 {
     match owner {
         Owner::Node(NodeType::Script, items, _at) => find_declared(items, name),
@@ -161,12 +161,12 @@ pub fn interface_of(
 
 /// The number of a declared field, if its name is new.
 pub fn declared_number(
-    owner: Owner<'_>,
-    fields: &[GivenField],
+    owner: &Owner<'_>,
+    fields: &GivenFields,
     line: u32,
     name: &Text,
 ) -> Result<usize, ExpandFault>
-    ensures { IsPlaced (owner_in owner.entry) fields.now line name.now result }
+    ensures { IsPlaced (owner_in owner.now) fields.now line name.now result }
 {
     if let Some(_own) = owners::own_field(owner, name) {
         return Err(ExpandFaultKind::FieldTwice.on_line(line));
@@ -174,7 +174,7 @@ pub fn declared_number(
     let Some(field) = declared_field(owner, name) else {
         return Err(ExpandFaultKind::UnknownField.on_line(line));
     };
-    if has_field(field.number, fields) {
+    if fields.has(field.number) {
         return Err(ExpandFaultKind::FieldTwice.on_line(line));
     }
     if field.number >= MAX_FIELDS {

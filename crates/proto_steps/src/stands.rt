@@ -1,7 +1,6 @@
 //! What stands at a place, and what the fields of an interface are joined to.
 
 ghost use Rattle.std.specs.Prelude.{◌≡◌, IfOk, map};
-ghost use Rattle.proto_fields.specs.Fields.{signatures};
 ghost use Rattle.proto_steps.specs.Held.{view};
 ghost use Rattle.proto_steps.specs.Machine as machine;
 ghost use Rattle.proto_steps.specs.Machine.{Does};
@@ -9,11 +8,10 @@ ghost use Rattle.proto_steps.specs.Limits as limit;
 ghost use Rattle.proto_steps.specs.Meaning as meaning;
 
 use crate::held::{Scope, Store};
-use classic_tree::{Declaration, NodeText};
 use flat_document::{ExpandFault, ExpandFaultKind};
 use proto_declarations::Declarations;
 use proto_ends::{Joint, Spot, Stand, Tie, spot_count, with_spots};
-use proto_fields::Joined;
+use proto_fields::{Interface, Joined};
 use proto_links::Links;
 use std::alloc::{AllocError, Global};
 use x3d_lists::Items;
@@ -103,14 +101,12 @@ fn join_tie(
 }
 
 /// For each field of the interface an empty list.
-fn no_spots(
-    alloc: Global,
-    interface: &[Declaration<NodeText>],
-) -> Result<Items<Items<Spot>>, AllocError>
-    ensures { IfOk result (λ inlets. inlets ≡ map meaning.no_spots (signatures interface.now)) }
+fn no_spots(alloc: Global, interface: &Interface<'_>) -> Result<Items<Items<Spot>>, AllocError>
+    ensures { IfOk result (λ inlets. inlets ≡ map meaning.no_spots interface.now) }
 {
     let mut inlets = Items::new(alloc);
-    for _ in interface {
+    let declarations = interface.declarations();
+    for _ in declarations {
         inlets.push(Items::new(alloc))?;
     }
     Ok(inlets)
@@ -128,7 +124,7 @@ pub fn join(
     ensures { Does (meaning.join (view store.old declarations.now scope.now links.now)) result
         (view store.new declarations.now scope.now links.now) }
 {
-    let mut inlets = no_spots(alloc, scope.interface)?;
+    let mut inlets = no_spots(alloc, &scope.interface)?;
     for tie in scope.ties.as_slice() {
         inlets = join_tie(alloc, store, declarations, scope, links, *tie, inlets)?;
     }

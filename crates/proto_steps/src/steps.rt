@@ -1,11 +1,10 @@
 //! The single steps of the walk.
 
 ghost use Rattle.std.specs.Prelude.{◌≡◌, [], slice_get, IfOk};
-ghost use Rattle.proto_declarations.specs.Sight.{no_names as no_names_yet};
-ghost use Rattle.proto_fields.specs.Fields.{first_twice, own_interface, signatures};
+ghost use Rattle.proto_fields.specs.Fields.{own_interface, signatures};
 ghost use Rattle.proto_fields.specs.Values.{count_of};
 ghost use Rattle.proto_steps.specs.Closing as closing;
-ghost use Rattle.proto_steps.specs.Held.{IsOnce, defs_of, names_of, view};
+ghost use Rattle.proto_steps.specs.Held.{Begins, IsOnce, defs_of, names_of, view};
 ghost use Rattle.proto_steps.specs.Limits as limit;
 ghost use Rattle.proto_steps.specs.Machine as spec;
 ghost use Rattle.proto_steps.specs.Machine.{Does, no_defs, no_names};
@@ -18,7 +17,7 @@ use classic_tree::{BodyItem, Declaration, NodeText, RawValue};
 use flat_document::{ExpandFault, ExpandFaultKind, FlatField};
 use indexmap::IndexMap;
 use proto_declarations::Declarations;
-use proto_fields::{GivenField, flat_fields, item_count};
+use proto_fields::{GivenFields, Interface, flat_fields, item_count};
 use proto_links::Links;
 use std::alloc::{AllocError, Global};
 use x3d_lists::{Duplicate, Items, Text};
@@ -54,15 +53,15 @@ pub fn empty_scope<'a>(alloc: Global, sight: usize, inside: Option<usize>) -> Sc
     ensures ties { result.ties ≡ [] }
     ensures sight { result.sight ≡ sight }
     ensures given { result.given ≡ [] }
-    ensures interface { result.interface.now ≡ [] }
+    ensures interface { result.interface ≡ [] }
     ensures inside { result.inside ≡ inside }
 {
     Scope {
         names: IndexMap::new(alloc),
         defs: IndexMap::new(alloc),
         sight,
-        given: Items::new(alloc),
-        interface: &[],
+        given: GivenFields::few(alloc),
+        interface: Interface::none(),
         ties: Items::new(alloc),
         inside,
     }
@@ -128,34 +127,37 @@ fn count_interface(
     Ok(())
 }
 
-/// No name stands twice in the interface.
-fn unless_twice(alloc: Global, interface: &[Declaration<NodeText>]) -> Result<(), ExpandFault>
-    ensures { IsOnce (first_twice no_names_yet (signatures interface.now)) result }
+/// The interface, in which no name stands twice.
+fn unless_twice<'a>(
+    alloc: Global,
+    declarations: &'a [Declaration<NodeText>],
+) -> Result<Interface<'a>, ExpandFault>
+    ensures { IsOnce (signatures declarations.now) result }
 {
-    match proto_fields::first_twice(alloc, interface)? {
-        None => Ok(()),
-        Some(line) => Err(ExpandFaultKind::FieldTwice.on_line(line)),
+    match Interface::read(alloc, declarations)? {
+        Ok(interface) => Ok(interface),
+        Err(line) => Err(ExpandFaultKind::FieldTwice.on_line(line)),
     }
 }
 
 /// An instance of a prototype with that interface begins.
 #[tactic(auto, unfolding(crate::specs::Meaning::begin))]
-pub fn begin(
+pub fn begin<'a>(
     alloc: Global,
     store: &mut Store,
     declarations: &Declarations<'_>,
     scope: &Scope<'_>,
     links: &Links<'_>,
-    interface: &[Declaration<NodeText>],
-) -> Result<usize, ExpandFault>
-    ensures { Does (meaning.begin (signatures interface.now)
-        (view store.old declarations.now scope.now links.now)) result
+    interface: &'a [Declaration<NodeText>],
+) -> Result<(usize, Interface<'a>), ExpandFault>
+    ensures { Begins (meaning.begin (signatures interface.now)
+        (view store.old declarations.now scope.now links.now)) (signatures interface.now) result
         (view store.new declarations.now scope.now links.now) }
 {
     let at = begin_instance(store, declarations, scope, links)?;
     count_interface(store, declarations, scope, links, interface.len())?;
-    unless_twice(alloc, interface)?;
-    Ok(at)
+    let interface = unless_twice(alloc, interface)?;
+    Ok((at, interface))
 }
 
 /// So many more items are in values.
@@ -233,14 +235,14 @@ pub fn put(
     name: &Option<Text>,
     node_type: NodeType,
     items: &[BodyItem],
-    given: &[GivenField],
+    given: &GivenFields,
 ) -> Result<u32, ExpandFault>
     ensures { Does (closing.put line name.now node_type
         (own_interface node_type (declared_in items.now)) given.now
         (view store.old declarations.now scope.now links.now)) result
         (view store.new declarations.now scope.now links.now) }
 {
-    let fields = flat_fields(alloc, store.values.as_slice(), given)?;
+    let fields = flat_fields(alloc, store.values.as_slice(), given.as_slice())?;
     put_flat(
         alloc,
         store,

@@ -23,7 +23,7 @@ use Rattle.proto_walk.specs.declared.frames.Filling.{Filling}
 use Rattle.proto_walk.specs.declared.frames.Open.{Open}
 use Rattle.proto_walk.specs.declared.frames.Listing.{Listing}
 use Rattle.proto_walk.specs.declared.frames.Body.{Body}
-use Rattle.proto_fields.specs.Fields.{signatures}
+use Rattle.proto_fields.specs.Fields.{Signature, signatures}
 use Rattle.proto_steps.specs.Machine.{keep, Sight, Bound, Walk, Machine, Outcome, through, and_then, ◌>>=◌, pure, Made, no_names, no_defs}
 use Rattle.proto_fields.specs.Owners.{definition}
 use Rattle.proto_steps.specs.Limits.{count_items}
@@ -146,8 +146,8 @@ abbrev defaults_from : ProtoText → Option ℕ → List (Declaration NodeText) 
 defaults_from p around ds = add_defaults node_does (place_of p around) (length (out-ProtoText p).interface) ds
 
 pub opens : (walker new : Walker) (p : Bor ProtoText) (around : Option ℕ) (opened o : Open) (f : Filling) → new.store ≡ walker.store → new.declarations ≡ walker.declarations → new.links ≡ walker.links →
-    names_of new.scope ≡ no_names → defs_of new.scope ≡ no_defs → new.scope.ties ≡ [] → new.scope.sight ≡ opened.sight → new.scope.given ≡ [] → new.scope.interface.now ≡ [] → new.scope.inside ≡ body_of (definition (shown walker).declared around (out-ProtoText p.now).name) →
-    f.proto ≡ p → f.within ≡ around → f.rest.now ≡ (out-ProtoText p.now).interface → f.outer ≡ walker.scope →
+    names_of new.scope ≡ no_names → defs_of new.scope ≡ no_defs → new.scope.ties ≡ [] → new.scope.sight ≡ opened.sight → new.scope.given ≡ [] → new.scope.interface ≡ [] → new.scope.inside ≡ body_of (definition (shown walker).declared around (out-ProtoText p.now).name) →
+    f.instance.proto ≡ p → f.instance.within ≡ around → f.rest.now ≡ (out-ProtoText p.now).interface → f.outer ≡ walker.scope →
     o.name.now ≡ opened.name.now → o.owner ≡ opened.owner → o.fields ≡ opened.fields → o.sight ≡ walker.scope.sight → o.filling ≡ Some f →
     close_instance opened.name.now (owner_in opened.owner).at (bound_of p.now around (in_sight walker.links opened.sight)) opened.fields (shown walker) ≡ task_comes new (task.Items o)
 unfolding close_instance meaning_of task_does open_does
@@ -178,22 +178,22 @@ leave-later sight line k (Err e) f = refl
 
 -- ---- the next default value of an instance
 
-pub fill-next : (ps : List Bound) (opened next : Open) (f g : Filling) (d : Declaration NodeText) (fields : List GivenField) (w : Walk) → f.rest.now ≡ d ∷ g.rest.now → g.proto ≡ f.proto → g.within ≡ f.within → g.outer ≡ f.outer →
+pub fill-next : (ps : List Bound) (opened next : Open) (f g : Filling) (d : Declaration NodeText) (fields : List GivenField) (w : Walk) → f.rest.now ≡ d ∷ g.rest.now → g.instance.proto ≡ f.instance.proto → g.instance.within ≡ f.instance.within → g.outer ≡ f.outer →
     next ≡ record opened { filling = Some g } →
-    fill ps opened f fields w ≡ and_then (add_default node_does (place_of f.proto.now f.within) (length (out-ProtoText f.proto.now).interface - length (d ∷ g.rest.now)) d fields w) (open_does ps next)
+    fill ps opened f fields w ≡ and_then (add_default node_does (place_of f.instance.proto.now f.instance.within) (length (out-ProtoText f.instance.proto.now).interface - length (d ∷ g.rest.now)) d fields w) (open_does ps next)
 unfolding open_does
 fill-next ps opened next f g d fields w rest proto within outer is =
     rw (is, rest, proto, within, outer)
-    (ap (λ o. and_then (back (seen_in f.outer ps) (leave (out-ProtoText f.proto.now).line o)) (stand_in opened.name.now (owner_in opened.owner).at))
-    (and_then-assoc (add_default node_does (place_of f.proto.now f.within) (length (out-ProtoText f.proto.now).interface - length (d ∷ g.rest.now)) d fields w)
-    (λ fs. defaults_from f.proto.now f.within g.rest.now fs) (begin_body (signatures (out-ProtoText f.proto.now).interface) (statements_of f.proto.now)))
-    ∙ leave-later (seen_in f.outer ps) (out-ProtoText f.proto.now).line (stand_in opened.name.now (owner_in opened.owner).at)
-    (add_default node_does (place_of f.proto.now f.within) (length (out-ProtoText f.proto.now).interface - length (d ∷ g.rest.now)) d fields w)
-    (λ fs v. and_then (defaults_from f.proto.now f.within g.rest.now fs v) (begin_body (signatures (out-ProtoText f.proto.now).interface) (statements_of f.proto.now))))
+    (ap (λ o. and_then (back (seen_in f.outer ps) (leave (out-ProtoText f.instance.proto.now).line o)) (stand_in opened.name.now (owner_in opened.owner).at))
+    (and_then-assoc (add_default node_does (place_of f.instance.proto.now f.instance.within) (length (out-ProtoText f.instance.proto.now).interface - length (d ∷ g.rest.now)) d fields w)
+    (λ fs. defaults_from f.instance.proto.now f.instance.within g.rest.now fs) (begin_body (signatures (out-ProtoText f.instance.proto.now).interface) (statements_of f.instance.proto.now)))
+    ∙ leave-later (seen_in f.outer ps) (out-ProtoText f.instance.proto.now).line (stand_in opened.name.now (owner_in opened.owner).at)
+    (add_default node_does (place_of f.instance.proto.now f.instance.within) (length (out-ProtoText f.instance.proto.now).interface - length (d ∷ g.rest.now)) d fields w)
+    (λ fs v. and_then (defaults_from f.instance.proto.now f.instance.within g.rest.now fs v) (begin_body (signatures (out-ProtoText f.instance.proto.now).interface) (statements_of f.instance.proto.now))))
 
-pub fill-last : (walker new : Walker) (opened : Open) (f : Filling) (i : Bor (List (Declaration NodeText))) (b : Body) → f.rest.now ≡ [] → new.store ≡ walker.store → new.declarations ≡ walker.declarations → new.links ≡ walker.links →
-    new.scope ≡ record walker.scope { given = opened.fields; interface = i } → i.now ≡ (out-ProtoText f.proto.now).interface →
-    b.line ≡ (out-ProtoText f.proto.now).line → b.name.now ≡ opened.name.now → b.at ≡ (owner_in opened.owner).at → b.rest.now ≡ (out-ProtoText f.proto.now).body → b.first ≡ None → b.outer ≡ record f.outer { sight = opened.sight } →
+pub fill-last : (walker new : Walker) (opened : Open) (f : Filling) (i : List Signature) (b : Body) → f.rest.now ≡ [] → new.store ≡ walker.store → new.declarations ≡ walker.declarations → new.links ≡ walker.links →
+    new.scope ≡ record walker.scope { given = opened.fields; interface = i } → i ≡ signatures (out-ProtoText f.instance.proto.now).interface →
+    b.line ≡ (out-ProtoText f.instance.proto.now).line → b.name.now ≡ opened.name.now → b.at ≡ (owner_in opened.owner).at → b.rest.now ≡ (out-ProtoText f.instance.proto.now).body → b.first ≡ None → b.outer ≡ record f.outer { sight = opened.sight } →
     fill (in_sight walker.links opened.sight) opened f opened.fields (shown walker) ≡ task_comes new (task.Statements b)
 unfolding task_does body_does names_of defs_of
 fill-last walker new opened f i b rest store declarations links scope interface line name at body first outer =

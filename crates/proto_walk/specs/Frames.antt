@@ -34,8 +34,8 @@ use Rattle.proto_steps.specs.Held.{place_of, bound_of, in_sight, owner_in, seen_
 abbrev pub close_by : List Bound → Open → Holder → List GivenField → Machine ℕ
 close_by protos opened (owner.Node node_type items at) fields =
     close_node opened.line opened.name.now at node_type (declared_in items.now) fields
-close_by protos opened (owner.Instance p within at) fields =
-    close_instance opened.name.now at (bound_of p.now within protos) fields
+close_by protos opened (owner.Instance i) fields =
+    close_instance opened.name.now i.at (bound_of i.proto.now i.within protos) fields
 
 abbrev pub close_with : List Bound → Open → List GivenField → Machine ℕ
 close_with protos opened fields = close_by protos opened opened.owner fields
@@ -43,11 +43,11 @@ close_with protos opened fields = close_by protos opened opened.owner fields
 -- the default values that are left, and then the body
 abbrev pub fill : List Bound → Open → Filling → List GivenField → Machine ℕ
 fill protos opened f fields = λ w.
-    and_then (back (seen_in f.outer protos) (leave (out-ProtoText f.proto.now).line
-    (and_then (add_defaults node_does (place_of f.proto.now f.within)
-    (length (out-ProtoText f.proto.now).interface) f.rest.now fields w)
-    (begin_body (signatures (out-ProtoText f.proto.now).interface)
-    (through (λ s. in_body (statement_does s)) (out-ProtoText f.proto.now).body None)))))
+    and_then (back (seen_in f.outer protos) (leave (out-ProtoText f.instance.proto.now).line
+    (and_then (add_defaults node_does (place_of f.instance.proto.now f.instance.within)
+    (length (out-ProtoText f.instance.proto.now).interface) f.rest.now fields w)
+    (begin_body (signatures (out-ProtoText f.instance.proto.now).interface)
+    (through (λ s. in_body (statement_does s)) (out-ProtoText f.instance.proto.now).body None)))))
     (stand_in opened.name.now (owner_in opened.owner).at)
 
 abbrev pub left_by : List Bound → Open → Option Filling → List GivenField → Machine ℕ

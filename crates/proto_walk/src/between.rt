@@ -12,7 +12,7 @@ use crate::frames::{Frame, Listing, Open, Task, Walker};
 use crate::items::with_field;
 use classic_tree::{Given, NodeText, RawValue};
 use flat_document::{ExpandFault, ExpandFaultKind};
-use proto_fields::{GivenField, Joined};
+use proto_fields::{GivenFields, Joined};
 use proto_steps::Owner;
 use std::alloc::Global;
 use x3d_lists::{Items, Text};
@@ -123,7 +123,7 @@ fn put_once<'a>(
         (in_sight walker.old.links opened.entry.sight) opened.entry)) walker.old
         result walker.new }
 {
-    if proto_steps::is_taken(&walker.declarations, opened.owner, name) {
+    if proto_steps::is_taken(&walker.declarations, &opened.owner, name) {
         return put_taken(alloc, walker, opened, line, number, value);
     }
     Ok(Task::Items(with_field(opened, line, number, None)?))
@@ -131,12 +131,12 @@ fn put_once<'a>(
 
 /// The number of the field, if it may be given a value here.
 fn free_field(
-    owner: Owner<'_>,
-    fields: &[GivenField],
+    owner: &Owner<'_>,
+    fields: &GivenFields,
     line: u32,
     name: &Text,
 ) -> Result<usize, ExpandFault>
-    ensures { does.IsFree (owner_in owner.entry) fields.now line name.now result }
+    ensures { does.IsFree (owner_in owner.now) fields.now line name.now result }
 {
     let Some(field) = proto_steps::known_field(owner, fields, name) else {
         return Err(ExpandFaultKind::UnknownField.on_line(line));
@@ -144,7 +144,7 @@ fn free_field(
     if !proto_steps::admits(owner, field) {
         return Err(ExpandFaultKind::UnknownField.on_line(line));
     }
-    if proto_fields::has_field(field.number, fields) {
+    if fields.has(field.number) {
         return Err(ExpandFaultKind::FieldTwice.on_line(line));
     }
     Ok(field.number)
@@ -165,36 +165,36 @@ fn put_value<'a>(
         (in_sight walker.old.links opened.entry.sight) opened.entry)) walker.old
         result walker.new }
 {
-    let number = free_field(opened.owner, opened.fields.as_slice(), line, name)?;
+    let number = free_field(&opened.owner, &opened.fields, line, name)?;
     put_once(alloc, walker, opened, line, name, number, value)
 }
 
 /// What an IS joins.
 fn joined(
     walker: &Walker<'_>,
-    owner: Owner<'_>,
-    fields: &[GivenField],
+    owner: &Owner<'_>,
+    fields: &GivenFields,
     line: u32,
     field: &Text,
     name: &Text,
 ) -> Result<Joined, ExpandFault>
-    ensures { IsJoined (spec.add_is line field.now name.now (owner_in owner.entry) fields.now
+    ensures { IsJoined (spec.add_is line field.now name.now (owner_in owner.now) fields.now
         (shown walker.now)) (λ j. spec.add_joined line field.now
-        (owner_in owner.entry) fields.now j (shown walker.now)) result }
+        (owner_in owner.now) fields.now j (shown walker.now)) result }
 {
     let Some(inner) = proto_steps::known_field(owner, fields, field) else {
         return Err(ExpandFaultKind::UnknownField.on_line(line));
     };
-    let Some(outer) = proto_fields::field_of_interface(walker.scope.interface, name.as_str()) else {
+    let Some(outer) = walker.scope.interface.field(name.as_str()) else {
         return Err(ExpandFaultKind::BadIs.on_line(line));
     };
     if !proto_fields::fits(outer, inner) {
         return Err(ExpandFaultKind::BadIs.on_line(line));
     }
-    if proto_fields::has_field(inner.number, fields) {
+    if fields.has(inner.number) {
         return Err(ExpandFaultKind::FieldTwice.on_line(line));
     }
-    let value = proto_fields::value_of(outer.number, walker.scope.given.as_slice());
+    let value = walker.scope.given.value(outer.number);
     Ok(Joined {
         number: inner.number,
         outer: outer.number,
@@ -205,10 +205,10 @@ fn joined(
 /// The field has the value of that number, which is counted again where it goes to a node.
 fn hand_on<'a>(
     walker: &mut Walker<'a>,
-    owner: Owner<'_>,
+    owner: &Owner<'_>,
     value: Option<usize>,
 ) -> Result<(), ExpandFault>
-    ensures does { does.IfHanded (spec.hand_on (owner_in owner.entry) value (shown walker.old))
+    ensures does { does.IfHanded (spec.hand_on (owner_in owner.now) value (shown walker.old))
         result (shown walker.new) }
     ensures links { walker.new.links ≡ walker.old.links }
     ensures frames { walker.new.frames ≡ walker.old.frames }
@@ -225,7 +225,7 @@ fn hand_on<'a>(
             &walker.links,
             number,
         ),
-        Owner::Instance(_proto, _within, _at) => Ok(()),
+        Owner::Instance(_instance) => Ok(()),
     }
 }
 
@@ -233,11 +233,11 @@ fn hand_on<'a>(
 fn tie_field<'a>(
     alloc: Global,
     walker: &mut Walker<'a>,
-    owner: Owner<'_>,
+    owner: &Owner<'_>,
     field: &Text,
     joined: Joined,
 ) -> Result<(), ExpandFault>
-    ensures does { does.IfHanded (spec.tie_field field.now (owner_in owner.entry) joined
+    ensures does { does.IfHanded (spec.tie_field field.now (owner_in owner.now) joined
         (shown walker.old)) result (shown walker.new) }
     ensures links { walker.new.links ≡ walker.old.links }
     ensures frames { walker.new.frames ≡ walker.old.frames }
@@ -266,11 +266,11 @@ fn tie_field<'a>(
 fn hand_over<'a>(
     alloc: Global,
     walker: &mut Walker<'a>,
-    owner: Owner<'_>,
+    owner: &Owner<'_>,
     field: &Text,
     joined: Joined,
 ) -> Result<(), ExpandFault>
-    ensures does { does.IfHanded (spec.hand_over field.now (owner_in owner.entry) joined
+    ensures does { does.IfHanded (spec.hand_over field.now (owner_in owner.now) joined
         (shown walker.old)) result (shown walker.new) }
     ensures links { walker.new.links ≡ walker.old.links }
     ensures frames { walker.new.frames ≡ walker.old.frames }
@@ -296,7 +296,7 @@ pub fn put_joined<'a>(
         (in_sight walker.old.links opened.entry.sight) opened.entry)) walker.old
         result walker.new }
 {
-    hand_over(alloc, walker, opened.owner, field, joined)?;
+    hand_over(alloc, walker, &opened.owner, field, joined)?;
     Ok(Task::Items(with_field(opened, line, joined.number, joined.value)?))
 }
 
@@ -316,14 +316,7 @@ fn put_is<'a>(
         (in_sight walker.old.links opened.entry.sight) opened.entry)) walker.old
         result walker.new }
 {
-    let joined = joined(
-        walker,
-        opened.owner,
-        opened.fields.as_slice(),
-        line,
-        field,
-        name,
-    )?;
+    let joined = joined(walker, &opened.owner, &opened.fields, line, field, name)?;
     put_joined(alloc, walker, opened, line, field, joined)
 }
 

@@ -9,10 +9,11 @@ ghost use Rattle.proto_walk.specs.Frames.{Holds, Keeps, shown};
 use crate::frames::{Open, Task, Walker};
 use classic_tree::{BodyItem, NodeText};
 use flat_document::{ExpandFault, ExpandFaultKind};
+use proto_fields::GivenFields;
 use proto_links::Link;
-use proto_steps::{BegunNode, Owner};
+use proto_steps::{BegunNode, Instance, Owner, Placed};
 use std::alloc::Global;
-use x3d_lists::{Items, Text};
+use x3d_lists::Text;
 use x3d_values::NodeType;
 
 /// A node begins.
@@ -53,7 +54,7 @@ fn enter_typed<'a>(
         owner: Owner::Node(node_type, items, at),
         sight: 0,
         rest: items,
-        fields: Items::new(alloc),
+        fields: GivenFields::few(alloc),
         filling: None,
     }))
 }
@@ -74,7 +75,7 @@ fn enter_instance<'a>(
         (in_sight walker.old.links link.entry.before)) (spec.items_do items.now)
         (shown walker.old)) walker.old result walker.new }
 {
-    let at = proto_steps::begin(
+    let (at, interface) = proto_steps::begin(
         alloc,
         &mut walker.store,
         &walker.declarations,
@@ -90,16 +91,23 @@ fn enter_instance<'a>(
         name,
         BegunNode {
             at,
-            interface: Some(link.proto.interface.as_slice()),
+            interface: Some(interface.share()?),
         },
     )?;
     Ok(Task::Items(Open {
         line,
         name,
-        owner: Owner::Instance(link.proto, link.within, at),
+        owner: Owner::Instance(Instance::new(
+            Placed {
+                proto: link.proto,
+                within: link.within,
+                at,
+            },
+            interface,
+        )),
         sight: link.before,
         rest: items,
-        fields: Items::new(alloc),
+        fields: GivenFields::many(alloc),
         filling: None,
     }))
 }

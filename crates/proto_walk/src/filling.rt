@@ -10,8 +10,10 @@ ghost use Rattle.proto_walk.specs.Frames.{Holds, Keeps, shown};
 
 use crate::between::put_taken;
 use crate::frames::{Body, Filling, Open, Task, Walker};
-use classic_tree::{Declaration, Given, NodeText, ProtoText};
+use classic_tree::{Declaration, Given, NodeText};
 use flat_document::{ExpandFault, ExpandFaultKind};
+use proto_fields::{GivenFields, Interface};
+use proto_steps::{Instance, Placed, Scope};
 use std::alloc::Global;
 use std::mem;
 
@@ -21,13 +23,12 @@ pub fn open_defaults<'a>(
     alloc: Global,
     walker: &mut Walker<'a>,
     opened: Open<'a>,
-    proto: &'a ProtoText,
-    within: Option<usize>,
+    instance: Instance<'a>,
 ) -> Result<Task<'a>, ExpandFault>
     requires holds { Holds walker.old }
     requires sees { opened.sight ≤ length walker.old.links }
     ensures { Keeps (spec.close_instance opened.entry.name.now (owner_in opened.entry.owner).at
-        (bound_of proto.now within
+        (bound_of instance.entry.proto.now instance.entry.within
         (in_sight walker.old.links opened.entry.sight)) opened.entry.fields
         (shown walker.old)) walker.old result walker.new }
 {
@@ -40,6 +41,7 @@ pub fn open_defaults<'a>(
         fields,
         ..
     } = opened;
+    let Placed { proto, within, .. } = instance.placed();
     let inside = proto_fields::body_of(&walker.declarations, within, &proto.name);
     let inner = proto_steps::empty_scope(alloc, sight, inside);
     let outer = mem::replace(&mut walker.scope, inner);
@@ -51,8 +53,7 @@ pub fn open_defaults<'a>(
         rest,
         fields,
         filling: Some(Filling {
-            proto,
-            within,
+            instance,
             rest: proto.interface.as_slice(),
             outer,
         }),
@@ -87,30 +88,37 @@ fn put_default<'a>(
     alloc: Global,
     walker: &mut Walker<'a>,
     opened: Open<'a>,
-    proto: &'a ProtoText,
-    within: Option<usize>,
+    placed: Placed<'a>,
     number: usize,
     declaration: &'a Declaration<NodeText>,
 ) -> Result<Task<'a>, ExpandFault>
     requires holds { Holds walker.old }
     requires sees { opened.sight ≤ length walker.old.links }
     ensures { Keeps (and_then (spec.add_default node_does
-        (place_of proto.now within) number declaration.now opened.entry.fields
+        (place_of placed.entry.proto.now placed.entry.within) number declaration.now opened.entry.fields
         (shown walker.old)) (does.open_does
         (in_sight walker.old.links opened.entry.sight) opened.entry)) walker.old
         result walker.new }
 {
     if proto_fields::is_wanted(
         &walker.declarations,
-        within,
-        &proto.name,
+        placed.within,
+        &placed.proto.name,
         number,
         &declaration.name,
-        opened.fields.as_slice(),
+        &opened.fields,
     ) {
         return put_default_value(alloc, walker, opened, number, declaration);
     }
     Ok(Task::Items(opened))
+}
+
+/// What the body of an instance sees of it.
+fn give<'a>(scope: &mut Scope<'a>, given: GivenFields, interface: Interface<'a>)
+    ensures { scope.new ≡ record scope.old { given = given; interface = interface.entry } }
+{
+    scope.given = given;
+    let _before = mem::replace(&mut scope.interface, interface);
 }
 
 /// The default values are done: the body begins.
@@ -133,15 +141,19 @@ fn start_body<'a>(
         fields: given,
         ..
     } = opened;
-    let Filling { proto, outer, .. } = filling;
+    let Filling {
+        instance,
+        outer,
+        ..
+    } = filling;
+    let Placed { proto, .. } = instance.placed();
     let mut outer = outer;
     outer.sight = sight;
-    walker.scope.given = given;
-    walker.scope.interface = proto.interface.as_slice();
+    give(&mut walker.scope, given, instance.into_interface());
     Ok(Task::Statements(Body {
         line: proto.line,
         name,
-        at: proto_steps::place(owner),
+        at: proto_steps::place(&owner),
         rest: proto.body.as_slice(),
         first: None,
         outer,
@@ -166,20 +178,19 @@ fn next_filling<'a>(
         return start_body(walker, opened, filling);
     };
     let Filling {
-        proto,
-        within,
+        instance,
         outer,
         ..
     } = filling;
-    let number = proto.interface.len().saturating_sub(rest.len() + 1);
+    let placed = instance.placed();
+    let number = placed.proto.interface.len().saturating_sub(rest.len() + 1);
     let mut opened = opened;
     opened.filling = Some(Filling {
-        proto,
-        within,
+        instance,
         rest,
         outer,
     });
-    put_default(alloc, walker, opened, proto, within, number, declaration)
+    put_default(alloc, walker, opened, placed, number, declaration)
 }
 
 #[tactic(auto, unfolding(crate::specs::Frames::open_does))]

@@ -1,19 +1,17 @@
 //! What is still to be done, on the heap.
 
-use classic_tree::{BodyItem, Declaration, NodeText, ProtoText, Statement};
+use classic_tree::{BodyItem, Declaration, NodeText, Statement};
 use proto_declarations::Declarations;
-use proto_fields::GivenField;
+use proto_fields::GivenFields;
 use proto_links::Links;
-use proto_steps::{Owner, Scope, Store};
+use proto_steps::{Instance, Owner, Scope, Store};
 use x3d_lists::{Items, Text};
 
-/// The default values of an instance, which are put in before its body: its prototype, the body
-/// that this is declared in, the declarations that are left, and what was in sight where the
-/// instance stands.
+/// The default values of an instance, which are put in before its body: the instance, the
+/// declarations that are left, and what was in sight where the instance stands.
 #[derive(Drop)]
 pub struct Filling<'a> {
-    pub proto: &'a ProtoText,
-    pub within: Option<usize>,
+    pub instance: Instance<'a>,
     pub rest: &'a [Declaration<NodeText>],
     pub outer: Scope<'a>,
 }
@@ -28,7 +26,7 @@ pub struct Open<'a> {
     pub owner: Owner<'a>,
     pub sight: usize,
     pub rest: &'a [BodyItem],
-    pub fields: Items<GivenField>,
+    pub fields: GivenFields,
     pub filling: Option<Filling<'a>>,
 }
 

@@ -65,7 +65,7 @@ fn put_closed<'a>(
         opened.name,
         node_type,
         items,
-        opened.fields.as_slice(),
+        &opened.fields,
     )?;
     proto_steps::stand(
         &mut walker.store,
@@ -98,13 +98,14 @@ fn close<'a>(
         (in_sight walker.old.links opened.entry.sight) opened.entry opened.entry.fields
         (shown walker.old)) walker.old result walker.new }
 {
-    match opened.owner {
+    match &opened.owner {
         Owner::Node(node_type, items, at) => {
-            put_closed(alloc, walker, &opened, node_type, items, at)
+            put_closed(alloc, walker, &opened, *node_type, items, *at)
         }
-        Owner::Instance(proto, within, _at) => filling::open_defaults(
-            alloc, walker, opened, proto, within,
-        ),
+        Owner::Instance(instance) => {
+            let instance = instance.share()?;
+            filling::open_defaults(alloc, walker, opened, instance)
+        }
     }
 }
 

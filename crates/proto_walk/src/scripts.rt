@@ -14,7 +14,7 @@ use crate::frames::{Open, Task, Walker};
 use crate::{between, items};
 use classic_tree::{Declaration, Given, NodeText, RawValue};
 use flat_document::{ExpandFault, ExpandFaultKind};
-use proto_fields::{GivenField, Joined, KnownField};
+use proto_fields::{GivenFields, Joined, KnownField};
 use proto_steps::{Owner, declared_number};
 use std::alloc::Global;
 use x3d_lists::Text;
@@ -27,7 +27,7 @@ fn outer_field(
 ) -> Result<KnownField, ExpandFault>
     ensures { does.IsOuter (signature declaration.now) name.now (shown walker.now) result }
 {
-    let Some(outer) = proto_fields::field_of_interface(walker.scope.interface, name.as_str()) else {
+    let Some(outer) = walker.scope.interface.field(name.as_str()) else {
         return Err(ExpandFaultKind::BadIs.on_line(declaration.line));
     };
     let inner = KnownField {
@@ -44,19 +44,19 @@ fn outer_field(
 /// What the IS of a declared field joins.
 fn declared_joined(
     walker: &Walker<'_>,
-    owner: Owner<'_>,
-    fields: &[GivenField],
+    owner: &Owner<'_>,
+    fields: &GivenFields,
     declaration: &Declaration<NodeText>,
     name: &Text,
 ) -> Result<Joined, ExpandFault>
     ensures { IsJoined (spec.add_declared_is (signature declaration.now) name.now
-        (owner_in owner.entry) fields.now (shown walker.now))
+        (owner_in owner.now) fields.now (shown walker.now))
         (λ j. spec.add_joined declaration.now.line declaration.now.name
-        (owner_in owner.entry) fields.now j (shown walker.now)) result }
+        (owner_in owner.now) fields.now j (shown walker.now)) result }
 {
     let outer = outer_field(walker, declaration, name)?;
     let number = declared_number(owner, fields, declaration.line, &declaration.name)?;
-    let value = proto_fields::value_of(outer.number, walker.scope.given.as_slice());
+    let value = walker.scope.given.value(outer.number);
     Ok(Joined {
         number,
         outer: outer.number,
@@ -79,7 +79,7 @@ fn put_plain<'a>(
         (in_sight walker.old.links opened.entry.sight) opened.entry)) walker.old
         result walker.new }
 {
-    let number = declared_number(opened.owner, opened.fields.as_slice(), line, name)?;
+    let number = declared_number(&opened.owner, &opened.fields, line, name)?;
     Ok(Task::Items(items::with_field(opened, line, number, None)?))
 }
 
@@ -101,7 +101,7 @@ fn put_value<'a>(
         (in_sight walker.old.links opened.entry.sight) opened.entry)) walker.old
         result walker.new }
 {
-    let number = declared_number(opened.owner, opened.fields.as_slice(), line, name)?;
+    let number = declared_number(&opened.owner, &opened.fields, line, name)?;
     between::put_taken(alloc, walker, opened, line, number, value)
 }
 
@@ -120,13 +120,7 @@ fn put_is<'a>(
         (in_sight walker.old.links opened.entry.sight) opened.entry)) walker.old
         result walker.new }
 {
-    let joined = declared_joined(
-        walker,
-        opened.owner,
-        opened.fields.as_slice(),
-        declaration,
-        name,
-    )?;
+    let joined = declared_joined(walker, &opened.owner, &opened.fields, declaration, name)?;
     between::put_joined(
         alloc,
         walker,

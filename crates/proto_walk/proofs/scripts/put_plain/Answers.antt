@@ -1,4 +1,4 @@
-use Rattle.std.proofs.Common.{sym, refl}
+use Rattle.std.proofs.Common.{refl}
 use Rattle.proto_walk.specs.Frames.{shown, task_does}
 use Rattle.proto_walk.proofs.Moves.{stays, placed}
 use Rattle.proto_walk.proofs.scripts.put_plain.Goals as goal
@@ -7,4 +7,4 @@ pub returns : goal.returns
 unfolding task_does
 returns c = stays c.requires.holds refl refl c.requires.holds.scope (rw c.in_ok-with_field.ensures c.requires.sees)
     (placed c.args.walker.now.links c.args.opened c.in_ok-with_field.field-0 c.args.line c.in_ok-number.number c.args.name.now (shown c.args.walker.now)
-    (λ f. rw (sym c.as_slice.ensures) (c.in_ok-number.ensures f)) c.in_ok-with_field.ensures)
+    (λ f. c.in_ok-number.ensures f) c.in_ok-with_field.ensures)

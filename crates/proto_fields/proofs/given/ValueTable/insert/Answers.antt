@@ -1,0 +1,7 @@
+use Rattle.std.proofs.Math.Path.{fun_ext}
+use Rattle.proto_fields.specs.Given.{values_of}
+use Rattle.proto_fields.proofs.given.ValueTable.insert.Goals as goal
+
+pub returns : goal.returns
+unfolding values_of
+returns c = fun_ext (λ number. c.in_ok-insert.ensures.updates.0 number)
