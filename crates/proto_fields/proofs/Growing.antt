@@ -100,11 +100,10 @@ grown ds i number d old new within at is none has more_than twice =
     let front : signatures (take (i + 1) ds) ≡ signatures (take i ds) ++ signature d ∷ [] =
     ap signatures (take_more ds i d within ∙ ap (λ x. take i ds ++ x ∷ []) (sym at)) ∙ map-append (λ (x : Declaration NodeText). signature x) (take i ds) (d ∷ []) in
     let behind : signatures (drop i ds) ≡ signature d ∷ signatures (drop (i + 1) ds) =
-    ap signatures (drop_more ds i d within ∙ ap (λ x. x ∷ drop (i + 1) ds) (sym at)) in
-    (
+    ap signatures (drop_more ds i d within ∙ ap (λ x. x ∷ drop (i + 1) ds) (sym at)) in (
       more_than ∙ next-added 0 number (signatures (take i ds)) (signature d) old (omega (arith, is, short)) has ∙ sym (ap of_interface front),
       twice
-      ∙ ap (first_twice (names_in old)) behind
-      ∙ twice-next old (signature d) (signatures (drop (i + 1) ds)) (of_signature number (signature d)) none
-      ∙ ap (λ (fields : Fields). first_twice (names_in fields) (signatures (drop (i + 1) ds))) (sym more_than),
+          ∙ ap (first_twice (names_in old)) behind
+          ∙ twice-next old (signature d) (signatures (drop (i + 1) ds)) (of_signature number (signature d)) none
+          ∙ ap (λ (fields : Fields). first_twice (names_in fields) (signatures (drop (i + 1) ds))) (sym more_than),
     )

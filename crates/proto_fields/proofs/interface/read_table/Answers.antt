@@ -7,7 +7,7 @@ pub loop-declaration-preserved : goal.loop-declaration-preserved
 loop-declaration-preserved c =
     let none : fields_of c.loop-declaration.named c.declaration-item.result.name ≡ None = not-yet _ c.in_ok-add.field-0 c.in_ok-add.ensures.new c.if-not-branch.false in
     let more = grown c.args.declarations.now c.loop-declaration.declaration-index c.loop-declaration.number c.declaration-item.result (fields_of c.loop-declaration.named) (fields_of c.add.new.self)
-        c.loop-declaration-test.true c.declaration-item.is c.loop-declaration.invariant.at none c.loop-declaration.invariant.fields c.in_ok-add.ensures.fields c.loop-declaration.invariant.twice in
+    c.loop-declaration-test.true c.declaration-item.is c.loop-declaration.invariant.at none c.loop-declaration.invariant.fields c.in_ok-add.ensures.fields c.loop-declaration.invariant.twice in
     record {
       at = omega (arith, c.loop-declaration.invariant.at);
       fields = more.0;
