@@ -14,3 +14,8 @@ pub mod LinesWalks
 pub mod LinesFields
 pub mod LinesTrees
 pub mod LinesFlat
+pub mod UsesNames
+pub mod UsesParts
+pub mod UsesWalks
+pub mod UsesFields
+pub mod UsesFlat

@@ -1,3 +1,4 @@
 pub mod Closings
 pub mod Lines
 pub mod Order
+pub mod Uses

@@ -3,6 +3,7 @@
 ghost use Rattle.flat_laws.specs.Closings.{NodesClose};
 ghost use Rattle.flat_laws.specs.Lines.{LinesAreForFaults};
 ghost use Rattle.flat_laws.specs.Order.{FlatsAreOrdered};
+ghost use Rattle.flat_laws.specs.Uses.{UsesAreNamed};
 
 /// What a flat document names stands in it, and what a node holds has a lower number.
 pub fn flats_are_ordered()
@@ -19,4 +20,10 @@ pub fn nodes_close()
 /// Documents that differ in lines alone have flat forms that do, or faults of one kind.
 pub fn lines_are_for_faults()
     ensures { LinesAreForFaults }
+{}
+
+/// The flat form of a document without instances has each node in its place: between its braces or
+/// as a root, where each USE is the nearest node before it of that name whose braces are closed.
+pub fn uses_are_named()
+    ensures { UsesAreNamed }
 {}

@@ -3,4 +3,4 @@
 
 mod laws;
 
-pub use laws::{flats_are_ordered, lines_are_for_faults, nodes_close};
+pub use laws::{flats_are_ordered, lines_are_for_faults, nodes_close, uses_are_named};

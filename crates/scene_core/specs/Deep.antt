@@ -1,7 +1,7 @@
 -- Chains of nodes, each in a node field of the one before (the limit of their length is our
 -- choice).
-use Rattle.std.specs.Prelude.{ℕ, zero, suc, Bool, true, false, List, [], map, Option, Some, None, slice_index_or}
-use Rattle.std.specs.List.{list_any}
+use Rattle.std.specs.Prelude.{ℕ, ◌+◌, zero, suc, Bool, true, false, min, max, List, [], map, Option, Some, None, slice_index_or}
+use Rattle.std.specs.List.{fold, list_any}
 use Rattle.x3d_values.specs.declared.value.Value.{Value}
 use Rattle.x3d_values.specs.Values.{nodes_of}
 use Rattle.x3d_values.specs.Ranges.{max_depth}
@@ -25,3 +25,17 @@ deeper_than nodes (suc d) = map (leads_to (deeper_than nodes d)) nodes
 -- a chain is too long
 abbrev pub too_deep : List SceneNode → Bool
 too_deep nodes = list_any (λ b. b) (deeper_than nodes max_depth)
+
+-- ---- heights: how many nodes the longest chain has that begins at a node
+
+-- heights go no further than to where a chain is too long
+abbrev pub most_height : ℕ
+most_height = 65
+
+-- the greatest of a height and those of the nodes in a field
+abbrev pub raised : List ℕ → ℕ → Option Value → ℕ
+raised heights h value = fold (λ h n. max h (slice_index_or heights n 0)) h (linked value)
+
+-- of a node, by the heights of the others
+abbrev pub height : List ℕ → SceneNode → ℕ
+height heights node = min (fold (raised heights) 0 node.values + 1) most_height

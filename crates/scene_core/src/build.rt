@@ -131,8 +131,9 @@ fn nodes_by(
         nodes,
         numbers: numbering.numbers.as_slice(),
     };
-    let mut made = Items::new(alloc);
-    for n in numbering.order.as_slice() {
+    let order = numbering.order.as_slice();
+    let mut made = Items::from_vec(Vec::with_capacity(alloc, order.len())?);
+    for n in order {
         made = with_node(alloc, known, marks, *n, made)?;
     }
     Ok(made)

@@ -1,21 +1,30 @@
 //! Chains of nodes, each in a node field of the one before.
 
-ghost use Rattle.std.specs.Prelude.{◌≡◌, IfOk, false, map, slice_index_or};
+ghost use Rattle.std.specs.Prelude.{◌≡◌, IfOk, map, nat_lt};
 ghost use Rattle.std.specs.List.{list_any};
 ghost use Rattle.x3d_values.specs.Ranges.{max_depth};
 ghost use Rattle.scene_core.specs.Deep as spec;
 
-use crate::at::flag_at;
+use crate::at::number_at;
 use crate::scene::SceneNode;
 use std::alloc::{AllocError, Global};
 use x3d_values::{MAX_DEPTH, Value};
+
+/// The height of a node whose chains are too long, and so many passes find all heights.
+const MOST_HEIGHT: u32 = MAX_DEPTH + 1;
 
 /// Whether a chain is too long.
 pub(crate) fn is_too_deep(alloc: Global, nodes: &[SceneNode]) -> Result<bool, AllocError>
     ensures { IfOk result (λ deep. deep ≡ spec.too_deep nodes.now) }
 {
-    let these = deep_nodes(alloc, nodes)?;
-    Ok(these.iter().any(|deep| *deep))
+    let heights = heights_of(alloc, nodes)?;
+    Ok(is_any_over(heights.as_slice()))
+}
+
+fn is_any_over(heights: &[u32]) -> bool
+    ensures { result ≡ list_any (nat_lt max_depth) heights.now }
+{
+    heights.iter().any(|height| MAX_DEPTH < *height)
 }
 
 /// The nodes in a field.
@@ -28,44 +37,61 @@ fn linked(value: &Option<Value>) -> &[u32]
     }
 }
 
-fn holds_one(these: &[bool], value: &Option<Value>) -> bool
-    ensures { result ≡ list_any (λ n. slice_index_or these.now n false) (spec.linked value.now) }
+/// The greatest of a height and those of the nodes in a field.
+fn raised(heights: &[u32], height: u32, value: &Option<Value>) -> u32
+    ensures { result ≡ spec.raised heights.now height value.now }
 {
-    linked(value).iter().any(|n| flag_at(these, *n))
+    let mut greatest = height;
+    for n in linked(value) {
+        greatest = greatest.max(number_at(heights, *n));
+    }
+    greatest
 }
 
-/// Whether a node of these is in a field of the node.
-fn leads_to(these: &[bool], node: &SceneNode) -> bool
-    ensures { result ≡ spec.leads_to these.now node.now }
+/// The height of a node by those of the nodes in its fields.
+fn height(heights: &[u32], node: &SceneNode) -> u32
+    ensures { result ≡ spec.height heights.now node.now }
 {
-    node.values
-        .as_slice()
-        .iter()
-        .any(|value| holds_one(these, value))
+    let mut greatest = 0;
+    for value in node.values.as_slice() {
+        greatest = raised(heights, greatest, value);
+    }
+    greatest.saturating_add(1).min(MOST_HEIGHT)
 }
 
-/// The nodes whose chains are longer by one.
-fn one_deeper(alloc: Global, nodes: &[SceneNode], these: &[bool]) -> Result<Vec<bool>, AllocError>
-    ensures { IfOk result (λ deeper. deeper.items ≡ map (spec.leads_to these.now) nodes.now) }
+/// All heights by others.
+fn one_higher(alloc: Global, nodes: &[SceneNode], heights: &[u32]) -> Result<Vec<u32>, AllocError>
+    ensures { IfOk result (λ higher. higher.items ≡ map (spec.height heights.now) nodes.now) }
 {
-    let mut deeper = Vec::with_capacity(alloc, nodes.len())?;
+    let mut higher = Vec::with_capacity(alloc, nodes.len())?;
     for node in nodes {
-        deeper.push(leads_to(these, node))?;
+        higher.push(height(heights, node))?;
     }
-    Ok(deeper)
+    Ok(higher)
 }
 
-/// Of each node, whether a chain of more than `MAX_DEPTH` nodes begins there.
-fn deep_nodes(alloc: Global, nodes: &[SceneNode]) -> Result<Vec<bool>, AllocError>
-    ensures { IfOk result (λ these. these.items ≡ spec.deeper_than nodes.now max_depth) }
-{
-    let mut these = vec![in alloc; true; nodes.len()]?;
-    for _level in 0..MAX_DEPTH {
-        let deeper = one_deeper(alloc, nodes, these.as_slice())?;
-        if deeper == these {
-            return Ok(these);
-        }
-        these = deeper;
+/// Heights in the order of the nodes: right where nodes stand behind those in their fields.
+fn heights_in_order(alloc: Global, nodes: &[SceneNode]) -> Result<Vec<u32>, AllocError> {
+    let mut heights = Vec::with_capacity(alloc, nodes.len())?;
+    for node in nodes {
+        heights.push(height(heights.as_slice(), node))?;
     }
-    Ok(these)
+    Ok(heights)
+}
+
+/// Of each node, how many nodes the longest chain has that begins there, or `MOST_HEIGHT` where
+/// that is less.
+fn heights_of(alloc: Global, nodes: &[SceneNode]) -> Result<Vec<u32>, AllocError>
+    ensures { IfOk result
+        (λ heights. map (nat_lt max_depth) heights.items ≡ spec.deeper_than nodes.now max_depth) }
+{
+    let mut heights = heights_in_order(alloc, nodes)?;
+    for _level in 0..MOST_HEIGHT {
+        let higher = one_higher(alloc, nodes, heights.as_slice())?;
+        if higher == heights {
+            return Ok(heights);
+        }
+        heights = higher;
+    }
+    Ok(heights)
 }

@@ -1,15 +1,17 @@
 //! Places and sensors.
 
-ghost use Rattle.std.specs.Prelude.{◌≡◌, ◌+◌, ◌<◌, ◌≤◌, ◌==◌, true, false, min, map, length, IfOk, nat_lt, slice_index_or};
+ghost use Rattle.std.specs.Prelude.{◌≡◌, ℕ, codes, ◌+◌, ◌<◌, ◌≤◌, ◌==◌, true, false, min, map, length, IfOk, nat_lt, slice_index_or};
 ghost use Rattle.std.specs.List.{list_any, sum_by};
 ghost use Rattle.x3d_values.specs.Ranges.{max_depth};
+ghost use Rattle.x3d_values.specs.Tables.{row_named, rows};
+ghost use Rattle.scene_core.specs.Deep.{too_deep};
 ghost use Rattle.scene_core.specs.Places as spec;
 
 use crate::at::number_at;
 use crate::scene::SceneNode;
 use arrayvec::ArrayVec;
 use std::alloc::{AllocError, Global};
-use x3d_values::{MAX_DEPTH, NodeType, Value, field_of};
+use x3d_values::{FieldRow, MAX_DEPTH, NodeType, Value, field_at};
 
 /// The most places that a scene may have. Counts stop at one more.
 const MAX_PLACES: u32 = 65_536;
@@ -23,12 +25,24 @@ const MAX_SENSORS: usize = 64;
 pub(crate) fn own_children(node: &SceneNode) -> &[u32]
     ensures { result.now ≡ spec.own_children node.now }
 {
-    let Some(row) = field_of(node.node_type, "children") else {
+    let Some(row) = children_row(node.node_type) else {
         return &[];
     };
     match node.values.get(row.number as usize) {
         Some(Some(Value::MFNode(nodes))) => nodes.as_slice(),
         _ => &[],
+    }
+}
+
+/// The field `children` of a grouping node.
+fn children_row(node_type: NodeType) -> Option<FieldRow>
+    ensures { result ≡ row_named 0 (codes "children") (rows node_type) }
+{
+    match node_type {
+        NodeType::Group => field_at(node_type, 3),
+        NodeType::Transform => field_at(node_type, 4),
+        NodeType::Switch => field_at(node_type, 3),
+        _ => None,
     }
 }
 
@@ -38,6 +52,7 @@ pub(crate) fn has_too_many_places(
     nodes: &[SceneNode],
     roots: &[u32],
 ) -> Result<bool, AllocError>
+    requires { too_deep nodes.now ≡ false }
     ensures { IfOk result
         (λ many. many ≡ nat_lt spec.max_places (spec.places max_depth nodes.now roots.now)) }
 {
@@ -88,13 +103,25 @@ fn one_deeper(alloc: Global, nodes: &[SceneNode], counts: &[u32]) -> Result<Vec<
     Ok(more)
 }
 
+/// Places in the order of the nodes: right where nodes stand behind their children.
+fn counts_in_order(alloc: Global, nodes: &[SceneNode]) -> Result<Vec<u32>, AllocError>
+    ensures { IfOk result (λ counts. length counts.items ≡ length nodes.now) }
+{
+    let mut counts = Vec::with_capacity(alloc, nodes.len())?;
+    for node in nodes {
+        counts.push(counted(counts.as_slice(), node))?;
+    }
+    Ok(counts)
+}
+
 /// Of each node, the places from one place of it down, or `ENOUGH` where that is less.
 fn counts_of(alloc: Global, nodes: &[SceneNode]) -> Result<Vec<u32>, AllocError>
+    requires { too_deep nodes.now ≡ false }
     ensures { IfOk result
-        (λ counts. counts.items
-        ≡ map (λ k. min k spec.enough) (spec.places_below nodes.now max_depth)) }
+        (λ counts. (n : ℕ) → slice_index_or counts.items n 0
+        ≡ min (slice_index_or (spec.places_below nodes.now max_depth) n 0) spec.enough) }
 {
-    let mut counts = vec![in alloc; 0; nodes.len()]?;
+    let mut counts = counts_in_order(alloc, nodes)?;
     for _level in 0..MAX_DEPTH {
         let more = one_deeper(alloc, nodes, counts.as_slice())?;
         if more == counts {

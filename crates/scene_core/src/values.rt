@@ -40,8 +40,9 @@ pub(crate) fn values_of(
 {
     let fields = node.fields.as_slice();
     let rows = fields_of(node.node_type);
-    let made = push_values(alloc, known, fields, 0, rows, Items::new(alloc))?;
     let interface = numbered_fields(node.node_type, node.interface.as_slice());
+    let room = Items::from_vec(Vec::with_capacity(alloc, rows.len() + interface.len())?);
+    let made = push_values(alloc, known, fields, 0, rows, room)?;
     push_declared(alloc, known, fields, rows.len(), interface, made)
 }
 

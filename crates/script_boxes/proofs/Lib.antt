@@ -1,0 +1,2 @@
+pub mod Faults
+mod Making

@@ -1,0 +1,91 @@
+//! A box for each script that is asked for.
+
+ghost use Rattle.std.specs.Prelude.{◌≡◌, ◌⊎◌, ◌++◌, List, [], IfOk, IfErr, None, OnOk, Some, map};
+ghost use Rattle.std.specs.List.{cons_option};
+ghost use Rattle.script_host.specs.Attaching.{Fits};
+ghost use Rattle.script_host.specs.declared.fault.AttachFault.TheVariants.{Memory};
+ghost use Rattle.script_boxes.specs.Boxes.{made, made_for, made_of, stock_for, stock_kind, stock_state, zeros};
+ghost use Rattle.script_boxes.specs.Refused.{scripts_fault};
+ghost use Rattle.script_boxes.specs.declared.stock.StockScript.{StockScript as Stocked};
+
+use crate::stock::StockScript;
+use script_host::{AttachFault, Behaviour, Scripts, StateFault};
+use script_stock::{Adder, Batch, Counter, Gate, Meter, Mover};
+use std::alloc::{AllocError, Global};
+use x3d_values::{Kind, ScriptSpec, Vec3};
+
+const ORIGIN: Vec3 = Vec3 { x: 0, y: 0, z: 0 };
+
+/// A script of the kind that isn't told its start.
+fn blank(alloc: Global, kind: Kind) -> Result<StockScript, AllocError>
+    ensures kind { IfOk result (λ script. stock_kind script ≡ kind) }
+    ensures zeros { IfOk result (λ script. stock_state script ≡ zeros kind) }
+{
+    match kind {
+        Kind::Counter => Ok(StockScript::Counter(Counter::new(0, 0))),
+        Kind::Gate => Ok(StockScript::Gate(Gate::new(false))),
+        Kind::Adder => Ok(StockScript::Adder(Adder::new())),
+        Kind::Batch => Ok(StockScript::Batch(Batch::new())),
+        Kind::Mover => Ok(StockScript::Mover(Mover::new(ORIGIN, ORIGIN))),
+        Kind::Meter => Ok(StockScript::Meter(Meter::new(alloc)?)),
+    }
+}
+
+/// A script of the kind in this state, where it is one of the kind.
+fn started(alloc: Global, kind: Kind, start: &[i64]) -> Result<StockScript, AllocError>
+    ensures { IfOk result (λ script. made_of script ≡ made kind start.now) }
+{
+    let mut script = blank(alloc, kind)?;
+    match script.restore(start) {
+        Ok(()) => Ok(script),
+        Err(StateFault::StateLength) => Ok(script),
+        Err(StateFault::StateRange) => Ok(script),
+        Err(StateFault::Memory) => Err(AllocError),
+    }
+}
+
+/// Appends the box of a script, where its kind is known.
+fn push_box(
+    alloc: Global,
+    spec: &ScriptSpec,
+    boxes: &mut Vec<StockScript>,
+) -> Result<(), AllocError>
+    ensures { OnOk result (map made_of boxes.new.items
+        ≡ map made_of boxes.old.items ++ cons_option (made_for spec.now) []) }
+{
+    let Some(kind) = spec.kind else {
+        return Ok(());
+    };
+    boxes.push(started(alloc, kind, spec.start.as_slice())?)?;
+    Ok(())
+}
+
+/// A box for each script whose kind is known, in the state in which it starts; with zeros where
+/// that is no state of its kind.
+pub fn boxes_of(alloc: Global, specs: &[ScriptSpec]) -> Result<Vec<StockScript>, AllocError>
+    ensures { IfOk result (λ boxes. map made_of boxes.items ≡ stock_for specs.now) }
+{
+    let mut boxes = Vec::new(alloc);
+    for spec in specs {
+        push_box(alloc, spec, &mut boxes)?;
+    }
+    Ok(boxes)
+}
+
+/// The scripts that are asked for, with boxes of the stock, which are not initialized. They are
+/// refused for memory, or else for the first whose kind is unknown, and then for the first whose
+/// interface isn't that of its kind, or that is to start in no state of its kind.
+pub fn attach_stock(
+    alloc: Global,
+    specs: &[ScriptSpec],
+) -> Result<Scripts<StockScript>, AttachFault>
+    ensures fits { IfOk result (λ scripts. Fits specs.now scripts) }
+    ensures stock { IfOk result
+        (λ scripts. (boxes : List Stocked) × (scripts ≡ map made_of boxes)) }
+    ensures taken { OnOk result (scripts_fault specs.now ≡ None) }
+    ensures refused { IfErr result
+        (λ fault. (fault ≡ Memory) ⊎ (scripts_fault specs.now ≡ Some fault)) }
+{
+    let boxes = boxes_of(alloc, specs)?;
+    Scripts::attach(alloc, specs, boxes)
+}

@@ -1,0 +1,3 @@
+pub mod Behaviours
+pub mod Outputs
+pub mod Running
