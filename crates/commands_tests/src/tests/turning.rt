@@ -1,0 +1,286 @@
+//! A host and two viewers whose runs take turns over a cable, where datagrams may be lost, come
+//! twice or late: each viewer comes to what `run` prints. And turns in which nothing comes.
+
+use super::cable::{End, HOST, ends, laid};
+use super::given::{CLOCKS, joined, push_run};
+use super::worked::{ORDER, POINTERS, SCENE_X, TWO_CLOCKS};
+use share_commands::{JointJob, joint_job};
+use share_core::{Host, Viewer};
+use share_port::{Port, Traffic};
+use share_turns::{SeriesFault, host_run, host_turn, view_run, viewer_turn};
+use std::alloc::Global;
+use std::process::Abort;
+use std::test::Fail;
+use x3d_values::{Point, Vec3};
+
+/// More turns than it takes.
+const TURNS: usize = 100;
+
+/// What the nodes of a job do: the host's clocks, in microseconds, what the viewers point, and how
+/// many inputs that makes.
+#[derive(Clone, Copy)]
+struct Steps {
+    clocks: &'static [i64],
+    first: &'static [Point],
+    second: &'static [Point],
+    inputs: u32,
+}
+
+const ORIGIN: Vec3 = Vec3 {
+    x: 10_000_000,
+    y: 0,
+    z: 20_000_000,
+};
+
+const TOWARDS: Vec3 = Vec3 {
+    x: 0,
+    y: 0,
+    z: -1_000_000,
+};
+
+const AWAY: Vec3 = Vec3 {
+    x: 0,
+    y: 0,
+    z: 1_000_000,
+};
+
+/// At the box, pressed there, and away from it.
+const POINTS: [Point; 3] = [
+    Point {
+        down: false,
+        origin: ORIGIN,
+        dir: TOWARDS,
+    },
+    Point {
+        down: true,
+        origin: ORIGIN,
+        dir: TOWARDS,
+    },
+    Point {
+        down: false,
+        origin: ORIGIN,
+        dir: AWAY,
+    },
+];
+
+const CLOCKED: Steps = Steps {
+    clocks: &[1_000_000, 2_000_000],
+    first: &[],
+    second: &[],
+    inputs: 2,
+};
+
+const POINTED: Steps = Steps {
+    clocks: &[],
+    first: &POINTS,
+    second: &POINTS,
+    inputs: 6,
+};
+
+const POINTED_ALONE: Steps = Steps {
+    clocks: &[],
+    first: &POINTS,
+    second: &[],
+    inputs: 3,
+};
+
+/// The steps of `POINTED_ALONE`.
+const ALONE: &str = "point 0 0 10 0 20 0 0 -1
+point 0 1 10 0 20 0 0 -1
+point 0 0 10 0 20 0 0 1
+";
+
+/// What viewers 0 and 1 print.
+#[derive(Drop)]
+struct Texts {
+    first: Vec<u8>,
+    second: Vec<u8>,
+}
+
+/// What is left of these after so many turns.
+fn after<T>(items: &[T], turns: usize) -> &[T] {
+    items.split_at(turns.min(items.len())).1
+}
+
+/// The next turn of a viewer's run, unless it came to its end.
+fn view_on<P: Port>(
+    viewer: &mut Viewer<()>,
+    points: &[Point],
+    until: u32,
+    port: &mut P,
+    out: &mut Vec<u8>,
+) -> Result<(), SeriesFault> {
+    if !out.is_empty() {
+        return Ok(());
+    }
+    match view_run(viewer, points, until, 1, HOST, port, out) {
+        Err(SeriesFault::TurnsUsedUp) => Ok(()),
+        answer => answer,
+    }
+}
+
+/// The next turn of each run.
+fn turn_on<P: Port>(
+    host: &mut Host,
+    viewers: &mut [Viewer<()>],
+    steps: &Steps,
+    turn: usize,
+    port: &mut P,
+    ports: &mut [P; 2],
+    texts: &mut Texts,
+) -> Result<(), SeriesFault> {
+    let [first, second] = viewers else {
+        return Ok(());
+    };
+    host_run(host, after(steps.clocks, turn), 1, port)?;
+    view_on(
+        first,
+        after(steps.first, turn),
+        steps.inputs,
+        &mut ports[0],
+        &mut texts.first,
+    )?;
+    view_on(
+        second,
+        after(steps.second, turn),
+        steps.inputs,
+        &mut ports[1],
+        &mut texts.second,
+    )
+}
+
+/// The runs of a host and two viewers, turn for turn.
+fn share(
+    alloc: Global,
+    job: &mut JointJob,
+    steps: &Steps,
+    lossy: bool,
+    texts: &mut Texts,
+) -> Result<(), SeriesFault> {
+    let mut host = Host::new(alloc, job.mark, 2);
+    let cable = laid(alloc, lossy, 0);
+    let mut port = End::new(alloc, &cable, HOST);
+    let mut ports = ends(alloc, &cable);
+    for turn in 0..TURNS {
+        turn_on(
+            &mut host,
+            &mut job.viewers,
+            steps,
+            turn,
+            &mut port,
+            &mut ports,
+            texts,
+        )?;
+    }
+    Ok(())
+}
+
+fn push_shared(
+    alloc: Global,
+    bytes: &[u8],
+    steps: &Steps,
+    lossy: bool,
+    texts: &mut Texts,
+) -> Result<(), Fail> {
+    let mut job = joint_job(alloc, bytes, &ORDER, 2)?;
+    share(alloc, &mut job, steps, lossy, texts)?;
+    Ok(())
+}
+
+/// Each viewer comes to what `run` prints.
+fn come_to_run(
+    rt: &impl Abort,
+    alloc: Global,
+    bytes: &[u8],
+    steps: &Steps,
+    lossy: bool,
+) -> Result<(), Fail> {
+    let mut texts = Texts {
+        first: Vec::new(alloc),
+        second: Vec::new(alloc),
+    };
+    push_shared(alloc, bytes, steps, lossy, &mut texts)?;
+    let mut run = Vec::new(alloc);
+    push_run(alloc, bytes, &mut run)?;
+    assert!(rt; !run.is_empty());
+    assert!(rt; texts.first == run && texts.second == run);
+    Ok(())
+}
+
+#[test]
+fn clocks_come_to_a_run(rt: HostRuntime) -> Result<(), Fail> {
+    let bytes = joined(rt.alloc(), TWO_CLOCKS, CLOCKS)?;
+    come_to_run(&rt, rt.alloc(), bytes.as_slice(), &CLOCKED, false)?;
+    come_to_run(&rt, rt.alloc(), bytes.as_slice(), &CLOCKED, true)
+}
+
+#[test]
+fn points_come_to_a_run(rt: HostRuntime) -> Result<(), Fail> {
+    let bytes = joined(rt.alloc(), POINTERS, SCENE_X)?;
+    come_to_run(&rt, rt.alloc(), bytes.as_slice(), &POINTED, false)
+}
+
+#[test]
+fn points_of_one_come_to_a_run(rt: HostRuntime) -> Result<(), Fail> {
+    let bytes = joined(rt.alloc(), ALONE, SCENE_X)?;
+    come_to_run(&rt, rt.alloc(), bytes.as_slice(), &POINTED_ALONE, true)
+}
+
+/// Whether one receive passed, for which nothing came, and then so many sends.
+fn is_idle(end: &End<'_>, sends: usize) -> bool {
+    let [Traffic::Nothing, sent @ ..] = end.traffic() else {
+        return false;
+    };
+    sent.len() == sends && sent.iter().all(|one| matches!(one, Traffic::Sent(_)))
+}
+
+/// A turn of the host without a clock sends nothing, and the host has its input and its ack as
+/// before.
+#[test]
+fn an_idle_turn_of_the_host(rt: HostRuntime) {
+    let cable = laid(rt.alloc(), false, 0);
+    let mut end = End::new(rt.alloc(), &cable, HOST);
+    let mut host = Host::new(rt.alloc(), [7; 32], 2);
+    assert!(rt; host.clock(1_000_000) == Ok(1));
+    let ack = host.ack(0);
+    assert!(rt; host_turn(&mut host, None, &mut end) == Ok(()));
+    assert!(rt; is_idle(&end, 0));
+    assert!(rt; host.len() == 1 && host.ack(0).as_slice() == ack.as_slice());
+}
+
+/// The trace and the scene of a viewer.
+fn push_texts(viewer: &Viewer<()>, out: &mut Vec<u8>) -> Result<(), Fail> {
+    viewer.trace_text(out)?;
+    viewer.scene_text(out)?;
+    Ok(())
+}
+
+/// A turn of a viewer without a point sends an ask, and the viewer is as before.
+fn stay(rt: &impl Abort, alloc: Global, viewer: &mut Viewer<()>) {
+    let cable = laid(alloc, false, 0);
+    let mut end = End::new(alloc, &cable, 1);
+    let ask = viewer.ask();
+    assert!(rt; viewer_turn(viewer, None, HOST, &mut end) == Ok(false));
+    assert!(rt; is_idle(&end, 1) && viewer.ask().as_slice() == ask.as_slice());
+    assert!(rt; viewer.applied() == 0 && viewer.waiting() == 0);
+}
+
+fn stay_and_print(rt: &impl Abort, alloc: Global, viewers: &mut [Viewer<()>]) -> Result<(), Fail> {
+    let [viewer, _other] = viewers else {
+        panic!(rt; "there are two viewers");
+    };
+    let mut before = Vec::new(alloc);
+    push_texts(viewer, &mut before)?;
+    stay(rt, alloc, viewer);
+    let mut then = Vec::new(alloc);
+    push_texts(viewer, &mut then)?;
+    assert!(rt; before == then);
+    Ok(())
+}
+
+#[test]
+fn an_idle_turn_of_a_viewer(rt: HostRuntime) -> Result<(), Fail> {
+    let bytes = joined(rt.alloc(), TWO_CLOCKS, CLOCKS)?;
+    let mut job = joint_job(rt.alloc(), bytes.as_slice(), &ORDER, 2)?;
+    stay_and_print(&rt, rt.alloc(), &mut job.viewers)
+}
