@@ -70,6 +70,29 @@ const CLOCKED: Steps = Steps {
     inputs: 2,
 };
 
+const CLOCKED_LONG: Steps = Steps {
+    clocks: &[
+        1_000_000, 2_000_000, 3_000_000, 4_000_000, 5_000_000, 6_000_000, 7_000_000, 8_000_000,
+        9_000_000, 10_000_000,
+    ],
+    first: &[],
+    second: &[],
+    inputs: 10,
+};
+
+/// The steps of `CLOCKED_LONG`.
+const LONG: &str = "clock 1
+clock 2
+clock 3
+clock 4
+clock 5
+clock 6
+clock 7
+clock 8
+clock 9
+clock 10
+";
+
 const POINTED: Steps = Steps {
     clocks: &[],
     first: &POINTS,
@@ -210,8 +233,13 @@ fn come_to_run(
 #[test]
 fn clocks_come_to_a_run(rt: HostRuntime) -> Result<(), Fail> {
     let bytes = joined(rt.alloc(), TWO_CLOCKS, CLOCKS)?;
-    come_to_run(&rt, rt.alloc(), bytes.as_slice(), &CLOCKED, false)?;
-    come_to_run(&rt, rt.alloc(), bytes.as_slice(), &CLOCKED, true)
+    come_to_run(&rt, rt.alloc(), bytes.as_slice(), &CLOCKED, false)
+}
+
+#[test]
+fn clocks_come_to_a_run_over_a_bad_cable(rt: HostRuntime) -> Result<(), Fail> {
+    let bytes = joined(rt.alloc(), LONG, CLOCKS)?;
+    come_to_run(&rt, rt.alloc(), bytes.as_slice(), &CLOCKED_LONG, true)
 }
 
 #[test]
@@ -221,7 +249,7 @@ fn points_come_to_a_run(rt: HostRuntime) -> Result<(), Fail> {
 }
 
 #[test]
-fn points_of_one_come_to_a_run(rt: HostRuntime) -> Result<(), Fail> {
+fn points_come_to_a_run_over_a_bad_cable(rt: HostRuntime) -> Result<(), Fail> {
     let bytes = joined(rt.alloc(), ALONE, SCENE_X)?;
     come_to_run(&rt, rt.alloc(), bytes.as_slice(), &POINTED_ALONE, true)
 }
