@@ -4,6 +4,8 @@ mod agreeing;
 mod cable;
 mod failing;
 mod given;
+mod idle;
 mod rehearsing;
 mod turning;
+mod whole;
 mod worked;

@@ -1,13 +1,13 @@
 //! A host and two viewers whose runs take turns over a cable, where datagrams may be lost, come
-//! twice or late: each viewer comes to what `run` prints. And turns in which nothing comes.
+//! twice or late: each viewer comes to what `run` prints.
 
 use super::cable::{End, HOST, ends, laid};
 use super::given::{CLOCKS, joined, push_run};
 use super::worked::{ORDER, POINTERS, SCENE_X, TWO_CLOCKS};
 use share_commands::{JointJob, joint_job};
 use share_core::{Host, Viewer};
-use share_port::{Port, Traffic};
-use share_turns::{SeriesFault, host_run, host_turn, view_run, viewer_turn};
+use share_port::Port;
+use share_turns::{SeriesFault, host_run, view_run};
 use std::alloc::Global;
 use std::process::Abort;
 use std::test::Fail;
@@ -19,11 +19,11 @@ const TURNS: usize = 100;
 /// What the nodes of a job do: the host's clocks, in microseconds, what the viewers point, and how
 /// many inputs that makes.
 #[derive(Clone, Copy)]
-struct Steps {
-    clocks: &'static [i64],
-    first: &'static [Point],
-    second: &'static [Point],
-    inputs: u32,
+pub(super) struct Steps {
+    pub(super) clocks: &'static [i64],
+    pub(super) first: &'static [Point],
+    pub(super) second: &'static [Point],
+    pub(super) inputs: u32,
 }
 
 const ORIGIN: Vec3 = Vec3 {
@@ -63,7 +63,7 @@ const POINTS: [Point; 3] = [
     },
 ];
 
-const CLOCKED: Steps = Steps {
+pub(super) const CLOCKED: Steps = Steps {
     clocks: &[1_000_000, 2_000_000],
     first: &[],
     second: &[],
@@ -100,7 +100,7 @@ const POINTED: Steps = Steps {
     inputs: 6,
 };
 
-const POINTED_ALONE: Steps = Steps {
+pub(super) const POINTED_ALONE: Steps = Steps {
     clocks: &[],
     first: &POINTS,
     second: &[],
@@ -108,20 +108,20 @@ const POINTED_ALONE: Steps = Steps {
 };
 
 /// The steps of `POINTED_ALONE`.
-const ALONE: &str = "point 0 0 10 0 20 0 0 -1
+pub(super) const ALONE: &str = "point 0 0 10 0 20 0 0 -1
 point 0 1 10 0 20 0 0 -1
 point 0 0 10 0 20 0 0 1
 ";
 
 /// What viewers 0 and 1 print.
 #[derive(Drop)]
-struct Texts {
-    first: Vec<u8>,
-    second: Vec<u8>,
+pub(super) struct Texts {
+    pub(super) first: Vec<u8>,
+    pub(super) second: Vec<u8>,
 }
 
 /// What is left of these after so many turns.
-fn after<T>(items: &[T], turns: usize) -> &[T] {
+pub(super) fn after<T>(items: &[T], turns: usize) -> &[T] {
     items.split_at(turns.min(items.len())).1
 }
 
@@ -142,20 +142,17 @@ fn view_on<P: Port>(
     }
 }
 
-/// The next turn of each run.
-fn turn_on<P: Port>(
-    host: &mut Host,
+/// The next turn of the runs of both viewers.
+pub(super) fn views_on<P: Port>(
     viewers: &mut [Viewer<()>],
     steps: &Steps,
     turn: usize,
-    port: &mut P,
     ports: &mut [P; 2],
     texts: &mut Texts,
 ) -> Result<(), SeriesFault> {
     let [first, second] = viewers else {
         return Ok(());
     };
-    host_run(host, after(steps.clocks, turn), 1, port)?;
     view_on(
         first,
         after(steps.first, turn),
@@ -185,15 +182,8 @@ fn share(
     let mut port = End::new(alloc, &cable, HOST);
     let mut ports = ends(alloc, &cable);
     for turn in 0..TURNS {
-        turn_on(
-            &mut host,
-            &mut job.viewers,
-            steps,
-            turn,
-            &mut port,
-            &mut ports,
-            texts,
-        )?;
+        host_run(&mut host, after(steps.clocks, turn), 1, &mut port)?;
+        views_on(&mut job.viewers, steps, turn, &mut ports, texts)?;
     }
     Ok(())
 }
@@ -252,63 +242,4 @@ fn points_come_to_a_run(rt: HostRuntime) -> Result<(), Fail> {
 fn points_come_to_a_run_over_a_bad_cable(rt: HostRuntime) -> Result<(), Fail> {
     let bytes = joined(rt.alloc(), ALONE, SCENE_X)?;
     come_to_run(&rt, rt.alloc(), bytes.as_slice(), &POINTED_ALONE, true)
-}
-
-/// Whether one receive passed, for which nothing came, and then so many sends.
-fn is_idle(end: &End<'_>, sends: usize) -> bool {
-    let [Traffic::Nothing, sent @ ..] = end.traffic() else {
-        return false;
-    };
-    sent.len() == sends && sent.iter().all(|one| matches!(one, Traffic::Sent(_)))
-}
-
-/// A turn of the host without a clock sends nothing, and the host has its input and its ack as
-/// before.
-#[test]
-fn an_idle_turn_of_the_host(rt: HostRuntime) {
-    let cable = laid(rt.alloc(), false, 0);
-    let mut end = End::new(rt.alloc(), &cable, HOST);
-    let mut host = Host::new(rt.alloc(), [7; 32], 2);
-    assert!(rt; host.clock(1_000_000) == Ok(1));
-    let ack = host.ack(0);
-    assert!(rt; host_turn(&mut host, None, &mut end) == Ok(()));
-    assert!(rt; is_idle(&end, 0));
-    assert!(rt; host.len() == 1 && host.ack(0).as_slice() == ack.as_slice());
-}
-
-/// The trace and the scene of a viewer.
-fn push_texts(viewer: &Viewer<()>, out: &mut Vec<u8>) -> Result<(), Fail> {
-    viewer.trace_text(out)?;
-    viewer.scene_text(out)?;
-    Ok(())
-}
-
-/// A turn of a viewer without a point sends an ask, and the viewer is as before.
-fn stay(rt: &impl Abort, alloc: Global, viewer: &mut Viewer<()>) {
-    let cable = laid(alloc, false, 0);
-    let mut end = End::new(alloc, &cable, 1);
-    let ask = viewer.ask();
-    assert!(rt; viewer_turn(viewer, None, HOST, &mut end) == Ok(false));
-    assert!(rt; is_idle(&end, 1) && viewer.ask().as_slice() == ask.as_slice());
-    assert!(rt; viewer.applied() == 0 && viewer.waiting() == 0);
-}
-
-fn stay_and_print(rt: &impl Abort, alloc: Global, viewers: &mut [Viewer<()>]) -> Result<(), Fail> {
-    let [viewer, _other] = viewers else {
-        panic!(rt; "there are two viewers");
-    };
-    let mut before = Vec::new(alloc);
-    push_texts(viewer, &mut before)?;
-    stay(rt, alloc, viewer);
-    let mut then = Vec::new(alloc);
-    push_texts(viewer, &mut then)?;
-    assert!(rt; before == then);
-    Ok(())
-}
-
-#[test]
-fn an_idle_turn_of_a_viewer(rt: HostRuntime) -> Result<(), Fail> {
-    let bytes = joined(rt.alloc(), TWO_CLOCKS, CLOCKS)?;
-    let mut job = joint_job(rt.alloc(), bytes.as_slice(), &ORDER, 2)?;
-    stay_and_print(&rt, rt.alloc(), &mut job.viewers)
 }
