@@ -1,5 +1,7 @@
 //! Runs that go on to their end, where the other nodes take a turn before each receive.
 
+ghost use Rattle.std.specs.Prelude.{◌≤◌, Some};
+
 use super::cable::{Cable, End, HOST, ends, laid};
 use super::given::{CLOCKS, joined, push_run};
 use super::turning::{ALONE, CLOCKED, POINTED_ALONE, Steps, Texts, after, views_on};
@@ -136,17 +138,137 @@ fn viewed(
     Ok(view_job(alloc, job, who, 1, HOST, until, 100, &mut port)?)
 }
 
-/// Both viewers print what `run` does, one after the other: of these points the first offers all.
+/// The steps of a job, those of its host and of its viewer 0, and what these make; viewer 1 has
+/// none.
+struct Parts {
+    run: &'static str,
+    host: &'static str,
+    view: &'static str,
+    scene: &'static str,
+    steps: &'static Steps,
+}
+
+const OF_CLOCKS: Parts = Parts {
+    run: TWO_CLOCKS,
+    host: TWO_CLOCKS,
+    view: "",
+    scene: CLOCKS,
+    steps: &CLOCKED,
+};
+
+const OF_POINTS: Parts = Parts {
+    run: ALONE,
+    host: "",
+    view: ALONE,
+    scene: SCENE_X,
+    steps: &POINTED_ALONE,
+};
+
+/// Viewer 0, and then viewer 1, comes to what `run` prints.
 fn view_both(
     rt: &impl Abort,
     alloc: Global,
-    host: &RefCell<Hosting<'_>>,
+    parts: &Parts,
     cable: &RefCell<Cable>,
-    jobs: [&[u8]; 2],
+    host: &RefCell<Hosting<'_>>,
     run: &[u8],
-    until: u32,
 ) -> Result<(), Fail> {
-    assert!(rt; viewed(alloc, cable, host, jobs[0], 0, until)?.as_slice() == run);
-    assert!(rt; viewed(alloc, cable, host, jobs[1], 1, until)?.as_slice() == run);
+    let first = joined(alloc, parts.view, parts.scene)?;
+    let until = parts.steps.inputs;
+    let text = viewed(alloc, cable, host, first.as_slice(), 0, until)?;
+    assert!(rt; text.as_slice() == run);
+    let second = joined(alloc, "", parts.scene)?;
+    let text = viewed(alloc, cable, host, second.as_slice(), 1, until)?;
+    assert!(rt; text.as_slice() == run);
     Ok(())
+}
+
+fn view_to_their_ends(rt: &impl Abort, alloc: Global, parts: &Parts) -> Result<(), Fail> {
+    let bytes = joined(alloc, parts.run, parts.scene)?;
+    let mut run = Vec::new(alloc);
+    push_run(alloc, bytes.as_slice(), &mut run)?;
+    let cable = laid(alloc, false, 0);
+    let host = hosting(alloc, &cable, bytes.as_slice(), parts.steps.clocks)?;
+    view_both(rt, alloc, parts, &cable, &host, run.as_slice())
+}
+
+#[test]
+fn viewers_of_clocks_go_on_to_their_ends(rt: HostRuntime) -> Result<(), Fail> {
+    view_to_their_ends(&rt, rt.alloc(), &OF_CLOCKS)
+}
+
+#[test]
+fn viewers_of_points_go_on_to_their_ends(rt: HostRuntime) -> Result<(), Fail> {
+    view_to_their_ends(&rt, rt.alloc(), &OF_POINTS)
+}
+
+/// Two viewers of a job's scene.
+fn viewing<'a>(
+    alloc: Global,
+    cable: &'a RefCell<Cable>,
+    bytes: &[u8],
+    steps: &'static Steps,
+) -> Result<RefCell<Viewing<'a>>, Fail> {
+    let job = joint_job(alloc, bytes, &ORDER, 2)?;
+    Ok(RefCell::new(Viewing {
+        job,
+        steps,
+        turn: 0,
+        ends: ends(alloc, cable),
+        texts: Texts {
+            first: Vec::new(alloc),
+            second: Vec::new(alloc),
+        },
+    }))
+}
+
+/// Turns of a host, with two viewers at the other ends.
+fn hosted(
+    alloc: Global,
+    cable: &RefCell<Cable>,
+    viewers: &RefCell<Viewing<'_>>,
+    bytes: &[u8],
+) -> Result<(), Fail> {
+    let order = Order::Host {
+        port: HOST,
+        viewers: 2,
+        turns: 20,
+    };
+    let job = shared_job(alloc, bytes, &order)?;
+    let mut port = Between {
+        end: End::new(alloc, cable, HOST),
+        others: viewers,
+    };
+    Ok(host_job(alloc, &job, 2, 20, &mut port)?)
+}
+
+/// Whether both viewers printed this.
+fn both_printed(viewers: &RefCell<Viewing<'_>>, run: &[u8]) -> bool {
+    match viewers.try_borrow() {
+        Ok(nodes) => nodes.texts.first.as_slice() == run && nodes.texts.second.as_slice() == run,
+        Err(_) => false,
+    }
+}
+
+/// Both viewers come to what `run` prints.
+fn host_to_its_end(rt: &impl Abort, alloc: Global, parts: &Parts) -> Result<(), Fail> {
+    let bytes = joined(alloc, parts.run, parts.scene)?;
+    let cable = laid(alloc, false, 0);
+    let viewers = viewing(alloc, &cable, bytes.as_slice(), parts.steps)?;
+    let job = joined(alloc, parts.host, parts.scene)?;
+    hosted(alloc, &cable, &viewers, job.as_slice())?;
+    let mut run = Vec::new(alloc);
+    push_run(alloc, bytes.as_slice(), &mut run)?;
+    assert!(rt; both_printed(&viewers, run.as_slice()));
+    Ok(())
+}
+
+#[test]
+fn a_host_of_clocks_goes_on_to_its_end(rt: HostRuntime) -> Result<(), Fail> {
+    host_to_its_end(&rt, rt.alloc(), &OF_CLOCKS)
+}
+
+#[test]
+fn a_host_of_points_goes_on_to_its_end(rt: HostRuntime) -> Result<(), Fail> {
+    host_to_its_end(&rt, rt.alloc(), &OF_POINTS)
 }
