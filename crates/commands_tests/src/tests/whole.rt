@@ -97,7 +97,7 @@ impl<'a, N: Nodes> Port for Between<'a, N> {
 }
 
 /// A host of a job's scene, which numbers these clocks.
-fn hosting<'a>(
+fn host_of<'a>(
     alloc: Global,
     cable: &'a RefCell<Cable>,
     bytes: &[u8],
@@ -188,7 +188,7 @@ fn view_to_their_ends(rt: &impl Abort, alloc: Global, parts: &Parts) -> Result<(
     let mut run = Vec::new(alloc);
     push_run(alloc, bytes.as_slice(), &mut run)?;
     let cable = laid(alloc, false, 0);
-    let host = hosting(alloc, &cable, bytes.as_slice(), parts.steps.clocks)?;
+    let host = host_of(alloc, &cable, bytes.as_slice(), parts.steps.clocks)?;
     view_both(rt, alloc, parts, &cable, &host, run.as_slice())
 }
 
@@ -203,7 +203,7 @@ fn viewers_of_points_go_on_to_their_ends(rt: HostRuntime) -> Result<(), Fail> {
 }
 
 /// Two viewers of a job's scene.
-fn viewing<'a>(
+fn viewers_of<'a>(
     alloc: Global,
     cable: &'a RefCell<Cable>,
     bytes: &[u8],
@@ -254,7 +254,7 @@ fn both_printed(viewers: &RefCell<Viewing<'_>>, run: &[u8]) -> bool {
 fn host_to_its_end(rt: &impl Abort, alloc: Global, parts: &Parts) -> Result<(), Fail> {
     let bytes = joined(alloc, parts.run, parts.scene)?;
     let cable = laid(alloc, false, 0);
-    let viewers = viewing(alloc, &cable, bytes.as_slice(), parts.steps)?;
+    let viewers = viewers_of(alloc, &cable, bytes.as_slice(), parts.steps)?;
     let job = joined(alloc, parts.host, parts.scene)?;
     hosted(alloc, &cable, &viewers, job.as_slice())?;
     let mut run = Vec::new(alloc);
