@@ -1,7 +1,7 @@
 //! A host and two viewers whose runs take turns over a cable, where datagrams may be lost, come
 //! twice or late: each viewer comes to what `run` prints.
 
-use super::cable::{End, HOST, ends, laid};
+use super::cable::{End, HOST, laid};
 use super::given::{CLOCKS, joined, push_run};
 use super::worked::{ORDER, POINTERS, SCENE_X, TWO_CLOCKS};
 use share_commands::{JointJob, joint_job};
@@ -147,7 +147,8 @@ pub(super) fn views_on<P: Port>(
     viewers: &mut [Viewer<()>],
     steps: &Steps,
     turn: usize,
-    ports: &mut [P; 2],
+    first_port: &mut P,
+    second_port: &mut P,
     texts: &mut Texts,
 ) -> Result<(), SeriesFault> {
     let [first, second] = viewers else {
@@ -157,14 +158,14 @@ pub(super) fn views_on<P: Port>(
         first,
         after(steps.first, turn),
         steps.inputs,
-        &mut ports[0],
+        first_port,
         &mut texts.first,
     )?;
     view_on(
         second,
         after(steps.second, turn),
         steps.inputs,
-        &mut ports[1],
+        second_port,
         &mut texts.second,
     )
 }
@@ -180,10 +181,18 @@ fn share(
     let mut host = Host::new(alloc, job.mark, 2);
     let cable = laid(alloc, lossy, 0);
     let mut port = End::new(alloc, &cable, HOST);
-    let mut ports = ends(alloc, &cable);
+    let mut first = End::new(alloc, &cable, 1);
+    let mut second = End::new(alloc, &cable, 2);
     for turn in 0..TURNS {
         host_run(&mut host, after(steps.clocks, turn), 1, &mut port)?;
-        views_on(&mut job.viewers, steps, turn, &mut ports, texts)?;
+        views_on(
+            &mut job.viewers,
+            steps,
+            turn,
+            &mut first,
+            &mut second,
+            texts,
+        )?;
     }
     Ok(())
 }

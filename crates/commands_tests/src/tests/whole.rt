@@ -2,7 +2,7 @@
 
 ghost use Rattle.std.specs.Prelude.{◌≤◌, Some};
 
-use super::cable::{Cable, End, HOST, ends, laid};
+use super::cable::{Cable, End, HOST, laid};
 use super::given::{CLOCKS, joined, push_run};
 use super::turning::{ALONE, CLOCKED, POINTED_ALONE, Steps, Texts, after, views_on};
 use super::worked::{ORDER, SCENE_X, TWO_CLOCKS};
@@ -45,7 +45,8 @@ struct Viewing<'a> {
     job: JointJob,
     steps: &'static Steps,
     turn: usize,
-    ends: [End<'a>; 2],
+    first: End<'a>,
+    second: End<'a>,
     texts: Texts,
 }
 
@@ -57,7 +58,8 @@ impl<'a> Nodes for Viewing<'a> {
             &mut self.job.viewers,
             self.steps,
             turn,
-            &mut self.ends,
+            &mut self.first,
+            &mut self.second,
             &mut self.texts,
         )
     }
@@ -214,7 +216,8 @@ fn viewers_of<'a>(
         job,
         steps,
         turn: 0,
-        ends: ends(alloc, cable),
+        first: End::new(alloc, cable, 1),
+        second: End::new(alloc, cable, 2),
         texts: Texts {
             first: Vec::new(alloc),
             second: Vec::new(alloc),
