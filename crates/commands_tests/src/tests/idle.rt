@@ -11,12 +11,22 @@ use std::alloc::Global;
 use std::process::Abort;
 use std::test::Fail;
 
-/// Whether one receive passed, for which nothing came, and then so many sends.
-fn is_idle(end: &End<'_>, sends: usize) -> bool {
-    let [Traffic::Nothing, sent @ ..] = end.traffic() else {
-        return false;
-    };
-    sent.len() == sends && sent.iter().all(|one| matches!(one, Traffic::Sent(_)))
+/// What was sent after one receive, for which nothing came.
+fn sent<'a>(end: &'a End<'_>) -> Option<&'a [Traffic]> {
+    match end.traffic() {
+        [Traffic::Nothing, sent @ ..] => Some(sent),
+        _ => None,
+    }
+}
+
+/// Whether these bytes alone were sent, to the host.
+fn is_sent(sent: Option<&[Traffic]>, bytes: &[u8]) -> bool {
+    match sent {
+        Some([Traffic::Sent(datagram)]) => {
+            datagram.peer == HOST && datagram.bytes.as_slice() == bytes
+        }
+        _ => false,
+    }
 }
 
 /// A turn of the host without a clock sends nothing, and the host has its input and its ack as
@@ -29,8 +39,9 @@ fn an_idle_turn_of_the_host(rt: HostRuntime) {
     assert!(rt; host.clock(1_000_000) == Ok(1) && host.viewers() == 2);
     let ack = host.ack(0);
     assert!(rt; host_turn(&mut host, None, &mut end) == Ok(()));
-    assert!(rt; is_idle(&end, 0) && host.viewers() == 2);
-    assert!(rt; host.len() == 1 && host.ack(0).as_slice() == ack.as_slice());
+    assert!(rt; matches!(sent(&end), Some([])));
+    assert!(rt; host.len() == 1 && host.viewers() == 2);
+    assert!(rt; host.ack(0).as_slice() == ack.as_slice());
 }
 
 /// The trace and the scene of a viewer.
@@ -46,7 +57,8 @@ fn stay(rt: &impl Abort, alloc: Global, viewer: &mut Viewer<()>) {
     let mut end = End::new(alloc, &cable, 1);
     let ask = viewer.ask();
     assert!(rt; viewer_turn(viewer, None, HOST, &mut end) == Ok(false));
-    assert!(rt; is_idle(&end, 1) && viewer.ask().as_slice() == ask.as_slice());
+    assert!(rt; is_sent(sent(&end), ask.as_slice()));
+    assert!(rt; viewer.ask().as_slice() == ask.as_slice());
     assert!(rt; viewer.applied() == 0 && viewer.waiting() == 0);
 }
 

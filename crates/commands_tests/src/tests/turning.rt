@@ -18,7 +18,6 @@ const TURNS: usize = 100;
 
 /// What the nodes of a job do: the host's clocks, in microseconds, what the viewers point, and how
 /// many inputs that makes.
-#[derive(Clone, Copy)]
 pub(super) struct Steps {
     pub(super) clocks: &'static [i64],
     pub(super) first: &'static [Point],
