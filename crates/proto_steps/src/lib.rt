@@ -2,18 +2,22 @@
 //! each part of a tree does to them (ISO/IEC 19775-1, PROTO statement and run-time name scope).
 #![tactic(auto)]
 
+mod braces;
 mod held;
 mod instance;
 mod names;
+mod outer;
 mod owners;
 mod routes;
 mod scripts;
 mod stands;
 mod steps;
 
+pub use braces::Braces;
 pub use held::{BegunNode, Named, Owner, PlacedNode, Scope, Store};
 pub use instance::{Instance, Placed};
 pub use names::{know, label, lookup, meet, use_node};
+pub use outer::Outer;
 pub use owners::{admits, is_taken, known_field, place};
 pub use routes::{keep_name, wire};
 pub use scripts::declared_number;

@@ -33,7 +33,7 @@ use Rattle.proto_steps.specs.Held.{place_of, bound_of, in_sight, owner_in, seen_
 -- what an open node still does
 abbrev pub close_by : List Bound → Open → Holder → List GivenField → Machine ℕ
 close_by protos opened (owner.Node node_type items at) fields =
-    close_node opened.line opened.name.now at node_type (declared_in items.now) fields
+    close_node opened.line opened.name.now at node_type (declared_in items) fields
 close_by protos opened (owner.Instance i) fields =
     close_instance opened.name.now i.at (bound_of i.proto.now i.within protos) fields
 

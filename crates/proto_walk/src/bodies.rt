@@ -48,7 +48,7 @@ fn leave<'a>(
         &walker.scope,
         &walker.links,
     )?;
-    walker.scope = outer;
+    walker.scope = outer.into_scope();
     stand_in(alloc, walker, name, at, number, inlets)
 }
 

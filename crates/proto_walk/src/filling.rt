@@ -13,7 +13,7 @@ use crate::frames::{Body, Filling, Open, Task, Walker};
 use classic_tree::{Declaration, Given, NodeText};
 use flat_document::{ExpandFault, ExpandFaultKind};
 use proto_fields::{GivenFields, Interface};
-use proto_steps::{Instance, Placed, Scope};
+use proto_steps::{Instance, Outer, Placed, Scope};
 use std::alloc::Global;
 use std::mem;
 
@@ -45,11 +45,13 @@ pub fn open_defaults<'a>(
     let inside = proto_fields::body_of(&walker.declarations, within, &proto.name);
     let inner = proto_steps::empty_scope(alloc, sight, inside);
     let outer = mem::replace(&mut walker.scope, inner);
+    let seen = outer.sight;
+    let outer = Outer::new(alloc, outer)?;
     Ok(Task::Items(Open {
         line,
         name,
         owner,
-        sight: outer.sight,
+        sight: seen,
         rest,
         fields,
         filling: Some(Filling {
@@ -148,7 +150,7 @@ fn start_body<'a>(
     } = filling;
     let Placed { proto, .. } = instance.placed();
     let mut outer = outer;
-    outer.sight = sight;
+    outer.see(sight);
     give(&mut walker.scope, given, instance.into_interface());
     Ok(Task::Statements(Body {
         line: proto.line,

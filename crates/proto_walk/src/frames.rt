@@ -4,7 +4,7 @@ use classic_tree::{BodyItem, Declaration, NodeText, Statement};
 use proto_declarations::Declarations;
 use proto_fields::GivenFields;
 use proto_links::Links;
-use proto_steps::{Instance, Owner, Scope, Store};
+use proto_steps::{Instance, Outer, Owner, Scope, Store};
 use x3d_lists::{Items, Text};
 
 /// The default values of an instance, which are put in before its body: the instance, the
@@ -13,7 +13,7 @@ use x3d_lists::{Items, Text};
 pub struct Filling<'a> {
     pub instance: Instance<'a>,
     pub rest: &'a [Declaration<NodeText>],
-    pub outer: Scope<'a>,
+    pub outer: Outer<'a>,
 }
 
 /// A node or an instance whose braces are open: its fields so far, and what is left between them;
@@ -49,7 +49,7 @@ pub struct Body<'a> {
     pub at: usize,
     pub rest: &'a [Statement],
     pub first: Option<u32>,
-    pub outer: Scope<'a>,
+    pub outer: Outer<'a>,
 }
 
 /// What waits for the number of a node.
