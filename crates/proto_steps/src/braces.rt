@@ -1,8 +1,8 @@
 //! What stands between the braces of a node, and the fields that it declares there.
 
-ghost use Rattle.std.specs.Prelude.{◌≡◌, ◌≤◌, ◌∷◌, [], IfOk, length, option_map};
+ghost use Rattle.std.specs.Prelude.{◌≡◌, ◌≤◌, ◌∷◌, [], IfOk, length};
 ghost use Rattle.proto_fields.specs.Fields as fields_spec;
-ghost use Rattle.proto_fields.specs.Fields.{of_signature, signature};
+ghost use Rattle.proto_fields.specs.Fields.{signature};
 ghost use Rattle.proto_fields.specs.Tables.{fields_of};
 ghost use Rattle.proto_steps.specs.Braces as spec;
 ghost use Rattle.proto_steps.specs.Meaning as meaning;
@@ -104,7 +104,7 @@ fn find_declared(items: &[BodyItem], name: &Text) -> Option<KnownField>
 #[tactic(auto, using(crate::proofs::Equations::tree_does))]
 fn add_item<'a>(named: &mut Named<'a>, item: &'a BodyItem, number: usize) -> Result<(), AllocError>
     ensures { IfOk result (λ _. fields_of named.new
-        ≡ spec.all_added number (meaning.item_declares item.now) (fields_of named.old)) }
+        ≡ spec.with_all number (meaning.item_declares item.now) (fields_of named.old)) }
 {
     match item {
         BodyItem::Declaration(declaration) => {

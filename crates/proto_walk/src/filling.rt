@@ -13,7 +13,7 @@ use crate::frames::{Body, Filling, Open, Task, Walker};
 use classic_tree::{Declaration, Given, NodeText};
 use flat_document::{ExpandFault, ExpandFaultKind};
 use proto_fields::{GivenFields, Interface};
-use proto_steps::{Instance, Outer, Placed, Scope};
+use proto_steps::{Instance, Placed, Scope};
 use std::alloc::Global;
 use std::mem;
 
@@ -46,7 +46,7 @@ pub fn open_defaults<'a>(
     let inner = proto_steps::empty_scope(alloc, sight, inside);
     let outer = mem::replace(&mut walker.scope, inner);
     let seen = outer.sight;
-    let outer = Outer::new(alloc, outer)?;
+    let outer = Box::new(alloc, outer)?;
     Ok(Task::Items(Open {
         line,
         name,
@@ -150,7 +150,7 @@ fn start_body<'a>(
     } = filling;
     let Placed { proto, .. } = instance.placed();
     let mut outer = outer;
-    outer.see(sight);
+    outer.sight = sight;
     give(&mut walker.scope, given, instance.into_interface());
     Ok(Task::Statements(Body {
         line: proto.line,
