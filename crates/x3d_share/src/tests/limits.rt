@@ -162,10 +162,7 @@ fn nested(alloc: Global, around: u32) -> Result<Vec<u8>, AllocError> {
 /// `limits`: sixteen Groups, each but the innermost with the next twice, are 65,535 places.
 #[test]
 fn groups_that_double(rt: HostRuntime) -> Result<(), Fail> {
-    let cases: [(u32, &[u8]); 2] = [
-        (15, b"good 16 nodes 0 routes\n"),
-        (16, b"refused TooMany"),
-    ];
+    let cases: [(u32, &[u8]); 2] = [(15, b"good 16 nodes 0 routes\n"), (16, b"refused TooMany")];
     for (around, wanted) in cases {
         let text = nested(rt.alloc(), around)?;
         is_answered(&rt, rt.alloc(), text.as_slice(), wanted);

@@ -1,4 +1,4 @@
-use Rattle.std.proofs.Common.{arith, ◌≡◌, ◌++◌, drop, ◌+◌, sym, ◌∙◌, ap}
+use Rattle.std.proofs.Common.{arith, ◌++◌, drop, ◌+◌, sym, ◌∙◌, ap}
 use Rattle.std.proofs.lemmas.List.{drop_all, drop_more}
 use Rattle.proto_fields.specs.Tables.{fields_of}
 use Rattle.proto_steps.specs.Braces.{with_all}
