@@ -1,5 +1,5 @@
 -- What the tables of names hold. None of this is part of a definition.
-use Rattle.std.specs.Prelude.{◌≡◌, ℕ, if◌then◌else◌, List, [], Option, Some, None, option_map, is_none, not, Bool, Result, Ok, Err}
+use Rattle.std.specs.Prelude.{◌≡◌, ℕ, if◌then◌else◌, List, [], Option, Some, None, Result, Ok, Err}
 use Rattle.std.specs.Option.{option_or}
 use Rattle.std.specs.Str.{bytes_eq}
 use Rattle.indexmap.specs.IndexMap.{get_by}
@@ -9,7 +9,7 @@ use Rattle.proto_declarations.specs.Sight.{no_names}
 use Rattle.proto_fields.specs.declared.given.KnownField.{KnownField}
 use Rattle.proto_fields.specs.declared.named.Named.{Named}
 use Rattle.proto_fields.specs.declared.interface.Table.{Table}
-use Rattle.proto_fields.specs.Fields.{Signature, signatures, numbered_from, of_interface, first_twice}
+use Rattle.proto_fields.specs.Fields.{Signature, signatures, of_interface, first_twice}
 
 -- the fields of names
 abbrev pub Fields : Type 0

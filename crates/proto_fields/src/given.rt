@@ -1,6 +1,6 @@
 //! Fields by number, and what they were given.
 
-ghost use Rattle.std.specs.Prelude.{◌≡◌, ◌==◌, ◌++◌, ◌∷◌, [], List, IfOk};
+ghost use Rattle.std.specs.Prelude.{◌≡◌, ◌==◌, ◌++◌, ◌∷◌, [], List, IfOk, option_map};
 ghost use Rattle.std.specs.List.{list_any};
 ghost use Rattle.proto_fields.specs.declared.given.GivenField.{GivenField};
 ghost use Rattle.proto_fields.specs.Given.{values_of, no_values, with_value, with_given, IsIndexed};
@@ -96,11 +96,14 @@ impl ValueTable {
 pub struct GivenFields {
     fields: Items<GivenField>,
     /// With none, the fields are searched.
-    values: Option<ValueTable>,
+    values: Option<Box<ValueTable>>,
 }
 
+/// So many fields are found faster by a search than by a table.
+const FEW: usize = 16;
+
 impl Model for GivenFields {
-    ghost use Rattle.std.specs.Prelude.{List};
+    ghost use Rattle.std.specs.Prelude.{List, option_map};
     ghost use Rattle.proto_fields.specs.declared.given.GivenField.{GivenField};
     ghost use Rattle.proto_fields.specs.Given.{IsIndexed};
 
@@ -108,7 +111,7 @@ impl Model for GivenFields {
 
     ghost view = { λ s. s.fields };
 
-    ghost invariant = { λ s. IsIndexed s.fields s.values };
+    ghost invariant = { λ s. IsIndexed s.fields (option_map (λ t. t.value) s.values) };
 }
 
 /// Whether the field was given something.
@@ -131,9 +134,13 @@ fn value(fields: &[GivenField], number: usize) -> Option<usize>
 }
 
 /// The table with one field more.
-fn indexed(values: Option<ValueTable>, field: GivenField) -> Result<Option<ValueTable>, AllocError>
-    ensures { IfOk result (λ more. (fields : List GivenField) → IsIndexed fields values →
-        IsIndexed (fields ++ field ∷ []) more) }
+fn indexed(
+    values: Option<Box<ValueTable>>,
+    field: GivenField,
+) -> Result<Option<Box<ValueTable>>, AllocError>
+    ensures { IfOk result (λ more. (fields : List GivenField)
+        → IsIndexed fields (option_map (λ t. t.value) values)
+        → IsIndexed (fields ++ field ∷ []) (option_map (λ t. t.value) more)) }
 {
     let Some(mut values) = values else {
         return Ok(None);
@@ -154,13 +161,25 @@ impl GivenFields {
     }
 
     /// Nothing is given yet. The fields are found by a table.
-    pub fn many(alloc: Global) -> GivenFields
-        ensures { result ≡ [] }
+    fn many(alloc: Global) -> Result<GivenFields, AllocError>
+        ensures { IfOk result (λ given. given ≡ []) }
     {
-        GivenFields {
+        let values = Box::new(alloc, ValueTable::new(alloc))?;
+        Ok(GivenFields {
             fields: Items::new(alloc),
-            values: Some(ValueTable::new(alloc)),
+            values: Some(values),
+        })
+    }
+
+    /// Nothing is given yet. Where so many fields may be given, they are found by a table, unless
+    /// they are few.
+    pub fn for_fields(alloc: Global, most: usize) -> Result<GivenFields, AllocError>
+        ensures { IfOk result (λ given. given ≡ []) }
+    {
+        if most <= FEW {
+            return Ok(GivenFields::few(alloc));
         }
+        GivenFields::many(alloc)
     }
 
     pub fn as_slice(&self) -> &[GivenField]

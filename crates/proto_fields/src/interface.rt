@@ -72,6 +72,9 @@ impl<'a> Interface<'a> {
     ) -> Result<Result<Interface<'a>, u32>, AllocError>
         ensures { IfOk result (λ i. i ≡ spec.read (signatures declarations.now)) }
     {
+        if declarations.is_empty() {
+            return Ok(Ok(Interface::none()));
+        }
         match read_table(alloc, declarations)? {
             Err(line) => Ok(Err(line)),
             Ok(table) => {

@@ -14,5 +14,6 @@ pub use aliases::{source_field, target_field};
 pub use fields::{field_of_type, fits, same};
 pub use given::{GivenField, GivenFields, Joined, KnownField};
 pub use interface::Interface;
+pub use named::Named;
 pub use taken::{body_of, is_passed_on, is_wanted};
 pub use values::{flat_fields, item_count, plain};

@@ -2,3 +2,4 @@ pub mod Declared
 pub mod Equations
 pub mod Refusals
 pub mod Sights
+pub mod Tables

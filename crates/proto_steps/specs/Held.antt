@@ -64,7 +64,7 @@ in_sight links sight = seen (reverse links) sight
 -- ---- whose braces are open
 
 abbrev pub owner_in : Holder → Owner
-owner_in (owner.Node node_type items at) = node_owner at node_type (declared_in items.now)
+owner_in (owner.Node node_type items at) = node_owner at node_type (declared_in items)
 owner_in (owner.Instance i) = record {
   at = i.at;
   fields = of_interface (signatures (out-ProtoText i.proto.now).interface);

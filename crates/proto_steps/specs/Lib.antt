@@ -1,3 +1,4 @@
+pub mod Braces
 pub mod Closing
 pub mod Held
 pub mod Limits

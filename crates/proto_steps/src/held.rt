@@ -1,7 +1,8 @@
 //! What was put in so far, and what is in sight.
 
+use crate::braces::Braces;
 use crate::instance::Instance;
-use classic_tree::{BodyItem, Declaration, RawValue};
+use classic_tree::{Declaration, RawValue};
 use flat_document::FlatField;
 use indexmap::IndexMap;
 use proto_ends::{Stand, Tie, Wire};
@@ -81,6 +82,6 @@ pub struct Scope<'a> {
 #[derive(Drop)]
 pub enum Owner<'a> {
     /// The type, and all that stands between the braces.
-    Node(NodeType, &'a [BodyItem], usize),
+    Node(NodeType, Braces<'a>, usize),
     Instance(Instance<'a>),
 }

@@ -2,6 +2,7 @@
 //! each part of a tree does to them (ISO/IEC 19775-1, PROTO statement and run-time name scope).
 #![tactic(auto)]
 
+mod braces;
 mod held;
 mod instance;
 mod names;
@@ -11,6 +12,7 @@ mod scripts;
 mod stands;
 mod steps;
 
+pub use braces::Braces;
 pub use held::{BegunNode, Named, Owner, PlacedNode, Scope, Store};
 pub use instance::{Instance, Placed};
 pub use names::{know, label, lookup, meet, use_node};

@@ -1,7 +1,6 @@
 //! The fields that a Script declares between its braces.
 
-ghost use Rattle.std.specs.Prelude.{◌≡◌, ◌≤◌, ◌++◌, ◌∷◌, [], IfOk, length, map};
-ghost use Rattle.proto_fields.specs.Fields as fields_spec;
+ghost use Rattle.std.specs.Prelude.{◌≡◌, ◌++◌, ◌∷◌, [], IfOk, map};
 ghost use Rattle.proto_fields.specs.Fields.{own_interface, signature};
 ghost use Rattle.proto_steps.specs.Closing as closing;
 ghost use Rattle.proto_steps.specs.Held.{IsPlaced, owner_in};
@@ -12,78 +11,20 @@ use crate::held::Owner;
 use crate::owners;
 use classic_tree::{BodyItem, Declaration, Given, NodeText};
 use flat_document::{ExpandFault, ExpandFaultKind};
-use proto_fields::{GivenFields, KnownField, same};
+use proto_fields::{GivenFields, KnownField};
 use std::alloc::{AllocError, Global};
 use x3d_lists::{Duplicate, Items, Text};
 use x3d_values::NodeType;
 
-/// How many fields a Script has before those that it declares.
-const SCRIPT_FIELDS: usize = 4;
-
 /// The most fields that a node may have.
 const MAX_FIELDS: usize = 65_536;
-
-/// How many fields the item declares.
-#[tactic(auto, using(crate::proofs::Equations::tree_does))]
-fn declared_count(item: &BodyItem) -> usize
-    ensures count { result ≡ length (spec.item_declares item.now) }
-    ensures few { result ≤ 1 }
-{
-    match item {
-        BodyItem::Declaration(_declaration) => 1,
-        BodyItem::Field(_line, _name, _given) => 0,
-        BodyItem::Route(_route) => 0,
-        BodyItem::Proto(_proto) => 0,
-    }
-}
-
-/// The field of that number, if the declaration has the name.
-fn named(declaration: &Declaration<NodeText>, name: &Text, number: usize) -> Option<KnownField>
-    ensures { result ≡ fields_spec.numbered_from number name.now (signature declaration.now ∷ []) }
-{
-    if !same(&declaration.name, name) {
-        return None;
-    }
-    Some(KnownField {
-        number,
-        access: declaration.access,
-        field_type: declaration.field_type,
-    })
-}
-
-/// The field of that number, if the item declares the name.
-#[tactic(auto, using(crate::proofs::Equations::tree_does))]
-fn declared_here(item: &BodyItem, name: &Text, number: usize) -> Option<KnownField>
-    ensures { result ≡ fields_spec.numbered_from number name.now (spec.item_declares item.now) }
-{
-    match item {
-        BodyItem::Declaration(declaration) => named(declaration, name, number),
-        BodyItem::Field(_line, _name, _given) => None,
-        BodyItem::Route(_route) => None,
-        BodyItem::Proto(_proto) => None,
-    }
-}
-
-/// The first declaration of that name, numbered behind the other fields of a Script.
-fn find_declared(items: &[BodyItem], name: &Text) -> Option<KnownField>
-    ensures { result ≡ fields_spec.numbered_from 4 name.now (declared_in items.now) }
-{
-    let mut number = SCRIPT_FIELDS;
-    for item in items {
-        if let Some(field) = declared_here(item, name, number) {
-            return Some(field);
-        }
-        number += declared_count(item);
-    }
-    None
-}
 
 /// The field of that name that is declared between these braces.
 pub fn declared_field(owner: &Owner<'_>, name: &Text) -> Option<KnownField>
     ensures { result ≡ (owner_in owner.now).declares name.now }
 {
     match owner {
-        Owner::Node(NodeType::Script, items, _at) => find_declared(items, name),
+        Owner::Node(NodeType::Script, braces, _at) => braces.declared(name),
         _ => None,
     }
 }

@@ -575,8 +575,11 @@ fn what_has_no_flat_form_is_refused(rt: HostRuntime) -> Result<(), Fail> {
     Ok(())
 }
 
-/// How many prototypes, and how many instances, the long texts have.
-const MANY_PROTOTYPES: u32 = 20_000;
+/// How many prototypes the chain has.
+const MANY_PROTOTYPES: u32 = 100_000;
+
+/// How many instances of one the other long text has.
+const MANY_INSTANCES: u32 = 20_000;
 
 fn push_name(out: &mut Vec<u8>, number: u32) -> Result<(), AllocError> {
     out.extend_from_slice(b" P")?;
@@ -608,7 +611,7 @@ fn chain(alloc: Global) -> Result<Vec<u8>, AllocError> {
 fn instances(alloc: Global) -> Result<Vec<u8>, AllocError> {
     let mut text = Vec::new(alloc);
     text.extend_from_slice(b"#X3D V3.0 utf8\nPROTO P [] { Group {} Group {} }")?;
-    for _number in 0..MANY_PROTOTYPES {
+    for _number in 0..MANY_INSTANCES {
         text.extend_from_slice(b"P {}\n")?;
     }
     Ok(text)

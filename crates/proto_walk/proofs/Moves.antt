@@ -147,7 +147,7 @@ defaults_from p around ds = add_defaults node_does (place_of p around) (length (
 
 pub opens : (walker new : Walker) (p : Bor ProtoText) (around : Option ℕ) (opened o : Open) (f : Filling) → new.store ≡ walker.store → new.declarations ≡ walker.declarations → new.links ≡ walker.links →
     names_of new.scope ≡ no_names → defs_of new.scope ≡ no_defs → new.scope.ties ≡ [] → new.scope.sight ≡ opened.sight → new.scope.given ≡ [] → new.scope.interface ≡ [] → new.scope.inside ≡ body_of (definition (shown walker).declared around (out-ProtoText p.now).name) →
-    f.instance.proto ≡ p → f.instance.within ≡ around → f.rest.now ≡ (out-ProtoText p.now).interface → f.outer ≡ walker.scope →
+    f.instance.proto ≡ p → f.instance.within ≡ around → f.rest.now ≡ (out-ProtoText p.now).interface → f.outer.value ≡ walker.scope →
     o.name.now ≡ opened.name.now → o.owner ≡ opened.owner → o.fields ≡ opened.fields → o.sight ≡ walker.scope.sight → o.filling ≡ Some f →
     close_instance opened.name.now (owner_in opened.owner).at (bound_of p.now around (in_sight walker.links opened.sight)) opened.fields (shown walker) ≡ task_comes new (task.Items o)
 unfolding close_instance meaning_of task_does open_does
@@ -184,16 +184,16 @@ pub fill-next : (ps : List Bound) (opened next : Open) (f g : Filling) (d : Decl
 unfolding open_does
 fill-next ps opened next f g d fields w rest proto within outer is =
     rw (is, rest, proto, within, outer)
-    (ap (λ o. and_then (back (seen_in f.outer ps) (leave (out-ProtoText f.instance.proto.now).line o)) (stand_in opened.name.now (owner_in opened.owner).at))
+    (ap (λ o. and_then (back (seen_in f.outer.value ps) (leave (out-ProtoText f.instance.proto.now).line o)) (stand_in opened.name.now (owner_in opened.owner).at))
     (and_then-assoc (add_default node_does (place_of f.instance.proto.now f.instance.within) (length (out-ProtoText f.instance.proto.now).interface - length (d ∷ g.rest.now)) d fields w)
     (λ fs. defaults_from f.instance.proto.now f.instance.within g.rest.now fs) (begin_body (signatures (out-ProtoText f.instance.proto.now).interface) (statements_of f.instance.proto.now)))
-    ∙ leave-later (seen_in f.outer ps) (out-ProtoText f.instance.proto.now).line (stand_in opened.name.now (owner_in opened.owner).at)
+    ∙ leave-later (seen_in f.outer.value ps) (out-ProtoText f.instance.proto.now).line (stand_in opened.name.now (owner_in opened.owner).at)
     (add_default node_does (place_of f.instance.proto.now f.instance.within) (length (out-ProtoText f.instance.proto.now).interface - length (d ∷ g.rest.now)) d fields w)
     (λ fs v. and_then (defaults_from f.instance.proto.now f.instance.within g.rest.now fs v) (begin_body (signatures (out-ProtoText f.instance.proto.now).interface) (statements_of f.instance.proto.now))))
 
 pub fill-last : (walker new : Walker) (opened : Open) (f : Filling) (i : List Signature) (b : Body) → f.rest.now ≡ [] → new.store ≡ walker.store → new.declarations ≡ walker.declarations → new.links ≡ walker.links →
     new.scope ≡ record walker.scope { given = opened.fields; interface = i } → i ≡ signatures (out-ProtoText f.instance.proto.now).interface →
-    b.line ≡ (out-ProtoText f.instance.proto.now).line → b.name.now ≡ opened.name.now → b.at ≡ (owner_in opened.owner).at → b.rest.now ≡ (out-ProtoText f.instance.proto.now).body → b.first ≡ None → b.outer ≡ record f.outer { sight = opened.sight } →
+    b.line ≡ (out-ProtoText f.instance.proto.now).line → b.name.now ≡ opened.name.now → b.at ≡ (owner_in opened.owner).at → b.rest.now ≡ (out-ProtoText f.instance.proto.now).body → b.first ≡ None → b.outer.value ≡ record f.outer.value { sight = opened.sight } →
     fill (in_sight walker.links opened.sight) opened f opened.fields (shown walker) ≡ task_comes new (task.Statements b)
 unfolding task_does body_does names_of defs_of
 fill-last walker new opened f i b rest store declarations links scope interface line name at body first outer =
@@ -207,12 +207,12 @@ pub body-node : (ps : List Bound) (b next : Body) (node : NodeText) (first : Opt
 unfolding body_does
 body-node ps b next node first w rest same =
     rw (rest, same.0, same.1, same.2, same.3, statement_does-node node w)
-    (ap (λ o. and_then (back (seen_in b.outer ps) (leave b.line o)) (stand_in b.name.now b.at))
+    (ap (λ o. and_then (back (seen_in b.outer.value ps) (leave b.line o)) (stand_in b.name.now b.at))
     (and_then-assoc (and_then (node_does node w) (λ n. pure (Some n))) (hold first) (λ f. through (λ s. in_body (statement_does s)) next.rest.now f)
     ∙ and_then-assoc (node_does node w) (λ n. pure (Some n)) (λ a v. and_then (hold first a v) (λ f. through (λ s. in_body (statement_does s)) next.rest.now f)))
-    ∙ leave-later (seen_in b.outer ps) b.line (stand_in b.name.now b.at) (node_does node w)
+    ∙ leave-later (seen_in b.outer.value ps) b.line (stand_in b.name.now b.at) (node_does node w)
     (λ k v. and_then (hold first (Some k) v) (λ f. through (λ s. in_body (statement_does s)) next.rest.now f))
-    ∙ and_then-congr _ _ (λ k v. leave-later (seen_in b.outer ps) b.line (stand_in b.name.now b.at) (hold first (Some k) v) (λ f. through (λ s. in_body (statement_does s)) next.rest.now f)) (node_does node w))
+    ∙ and_then-congr _ _ (λ k v. leave-later (seen_in b.outer.value ps) b.line (stand_in b.name.now b.at) (hold first (Some k) v) (λ f. through (λ s. in_body (statement_does s)) next.rest.now f)) (node_does node w))
 
 pub body-proto : (ps : List Bound) (b next : Body) (proto : ProtoText) (first : Option ℕ) (w v : Walk) → b.rest.now ≡ statement.Proto proto ∷ next.rest.now → AreSame b next → proto_does proto w ≡ Ok (tt, v) →
     body_does ps b first w ≡ body_does ps next first v
@@ -228,10 +228,10 @@ pub body-route : (ps : List Bound) (b next : Body) (route : RouteText) (first : 
     body_does ps b first w ≡ and_then (wire route w) (λ _. body_does ps next first)
 unfolding body_does
 body-route ps b next route first w rest same = rw (rest, same.0, same.1, same.2, same.3, statement_does-route route w)
-    (route-later (seen_in b.outer ps) b.line (stand_in b.name.now b.at) first (wire route w) (λ f. through (λ s. in_body (statement_does s)) next.rest.now f))
+    (route-later (seen_in b.outer.value ps) b.line (stand_in b.name.now b.at) first (wire route w) (λ f. through (λ s. in_body (statement_does s)) next.rest.now f))
 
 pub routed-body : (links more : List Link) (b : Body) (route : RouteText) (w u : Walk) → more ≡ links → wire route w ≡ Ok (tt, u) →
-    and_then (wire route w) (λ _. body_does (in_sight links b.outer.sight) b b.first) ≡ body_does (in_sight more b.outer.sight) b b.first u
+    and_then (wire route w) (λ _. body_does (in_sight links b.outer.value.sight) b b.first) ≡ body_does (in_sight more b.outer.value.sight) b b.first u
 routed-body links more b route w u same does = rw (same, does) refl
 
 pub body-refused : (ps : List Bound) (b : Body) (proto : ProtoText) (more : List Statement) (first : Option ℕ) (w : Walk) (e : ExpandFault) → b.rest.now ≡ statement.Proto proto ∷ more → proto_does proto w ≡ Err e →

@@ -33,7 +33,7 @@ use Rattle.proto_steps.specs.Held.{place_of, bound_of, in_sight, owner_in, seen_
 -- what an open node still does
 abbrev pub close_by : List Bound → Open → Holder → List GivenField → Machine ℕ
 close_by protos opened (owner.Node node_type items at) fields =
-    close_node opened.line opened.name.now at node_type (declared_in items.now) fields
+    close_node opened.line opened.name.now at node_type (declared_in items) fields
 close_by protos opened (owner.Instance i) fields =
     close_instance opened.name.now i.at (bound_of i.proto.now i.within protos) fields
 
@@ -43,7 +43,7 @@ close_with protos opened fields = close_by protos opened opened.owner fields
 -- the default values that are left, and then the body
 abbrev pub fill : List Bound → Open → Filling → List GivenField → Machine ℕ
 fill protos opened f fields = λ w.
-    and_then (back (seen_in f.outer protos) (leave (out-ProtoText f.instance.proto.now).line
+    and_then (back (seen_in f.outer.value protos) (leave (out-ProtoText f.instance.proto.now).line
     (and_then (add_defaults node_does (place_of f.instance.proto.now f.instance.within)
     (length (out-ProtoText f.instance.proto.now).interface) f.rest.now fields w)
     (begin_body (signatures (out-ProtoText f.instance.proto.now).interface)
@@ -71,7 +71,7 @@ list_does protos opened listing numbers =
 
 unfoldable pub body_does : List Bound → Body → Option ℕ → Machine ℕ
 body_does protos b first = λ w.
-    and_then (back (seen_in b.outer protos) (leave b.line (through
+    and_then (back (seen_in b.outer.value protos) (leave b.line (through
     (λ s. in_body (statement_does s)) b.rest.now first w)))
     (stand_in b.name.now b.at)
 
@@ -79,7 +79,7 @@ body_does protos b first = λ w.
 abbrev pub sight_of : Frame → ℕ
 sight_of (frame.One opened line field) = opened.sight
 sight_of (frame.Next opened listing) = opened.sight
-sight_of (frame.Inside b) = b.outer.sight
+sight_of (frame.Inside b) = b.outer.value.sight
 
 -- what a frame does with the number that it waits for
 unfoldable pub frame_does : List Bound → Frame → ℕ → Machine ℕ
@@ -99,7 +99,7 @@ abbrev pub task_sight : Task → ℕ
 task_sight (task.Node node) = 0
 task_sight (task.Items opened) = opened.sight
 task_sight (task.List opened listing) = opened.sight
-task_sight (task.Statements b) = b.outer.sight
+task_sight (task.Statements b) = b.outer.value.sight
 task_sight (task.Number n) = 0
 
 unfoldable pub task_does : List Bound → Task → Machine ℕ

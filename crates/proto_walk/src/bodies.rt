@@ -24,10 +24,10 @@ fn leave<'a>(
     body: Body<'a>,
 ) -> Result<Task<'a>, ExpandFault>
     requires holds { Holds walker.old }
-    requires sees { body.outer.sight ≤ length walker.old.links }
+    requires sees { body.outer.value.sight ≤ length walker.old.links }
     requires done { body.rest.now ≡ [] }
     ensures { Keeps (does.body_does
-        (in_sight walker.old.links body.entry.outer.sight) body.entry body.entry.first
+        (in_sight walker.old.links body.entry.outer.value.sight) body.entry body.entry.first
         (shown walker.old)) walker.old result walker.new }
 {
     let Body {
@@ -48,7 +48,7 @@ fn leave<'a>(
         &walker.scope,
         &walker.links,
     )?;
-    walker.scope = outer;
+    walker.scope = Box::into_inner(outer);
     stand_in(alloc, walker, name, at, number, inlets)
 }
 
@@ -104,9 +104,9 @@ fn next_route<'a>(
     route: &RouteText,
 ) -> Result<Task<'a>, ExpandFault>
     requires holds { Holds walker.old }
-    requires sees { body.outer.sight ≤ length walker.old.links }
+    requires sees { body.outer.value.sight ≤ length walker.old.links }
     ensures { Keeps (and_then (wire route.now (shown walker.old)) (λ _. does.body_does
-        (in_sight walker.old.links body.entry.outer.sight) body.entry body.entry.first))
+        (in_sight walker.old.links body.entry.outer.value.sight) body.entry body.entry.first))
         walker.old result walker.new }
 {
     meet_route(alloc, walker, route)?;
@@ -120,9 +120,9 @@ pub fn next_statement<'a>(
     body: Body<'a>,
 ) -> Result<Task<'a>, ExpandFault>
     requires holds { Holds walker.old }
-    requires sees { body.outer.sight ≤ length walker.old.links }
+    requires sees { body.outer.value.sight ≤ length walker.old.links }
     ensures { Keeps (does.body_does
-        (in_sight walker.old.links body.entry.outer.sight) body.entry body.entry.first
+        (in_sight walker.old.links body.entry.outer.value.sight) body.entry body.entry.first
         (shown walker.old)) walker.old result walker.new }
 {
     let Some((statement, rest)) = body.rest.split_first() else {
@@ -151,8 +151,8 @@ pub fn hold<'a>(
     number: u32,
 ) -> Result<Task<'a>, ExpandFault>
     requires holds { Holds walker.old }
-    requires sees { body.outer.sight ≤ length walker.old.links }
-    ensures { Keeps (does.frame_does (in_sight walker.old.links body.entry.outer.sight)
+    requires sees { body.outer.value.sight ≤ length walker.old.links }
+    ensures { Keeps (does.frame_does (in_sight walker.old.links body.entry.outer.value.sight)
         (Frame.Inside body.entry) number (shown walker.old)) walker.old result walker.new }
 {
     match body.first {

@@ -11,7 +11,7 @@ use classic_tree::{BodyItem, NodeText};
 use flat_document::{ExpandFault, ExpandFaultKind};
 use proto_fields::GivenFields;
 use proto_links::Link;
-use proto_steps::{BegunNode, Instance, Owner, Placed};
+use proto_steps::{BegunNode, Braces, Instance, Owner, Placed};
 use std::alloc::Global;
 use x3d_lists::Text;
 use x3d_values::NodeType;
@@ -48,13 +48,15 @@ fn enter_typed<'a>(
             interface: None,
         },
     )?;
+    let braces = Braces::of_node(alloc, node_type, items)?;
+    let fields = GivenFields::for_fields(alloc, items.len())?;
     Ok(Task::Items(Open {
         line,
         name,
-        owner: Owner::Node(node_type, items, at),
+        owner: Owner::Node(node_type, braces, at),
         sight: 0,
         rest: items,
-        fields: GivenFields::few(alloc),
+        fields,
         filling: None,
     }))
 }
@@ -94,6 +96,7 @@ fn enter_instance<'a>(
             interface: Some(interface.share()?),
         },
     )?;
+    let fields = GivenFields::for_fields(alloc, interface.declarations().len())?;
     Ok(Task::Items(Open {
         line,
         name,
@@ -107,7 +110,7 @@ fn enter_instance<'a>(
         )),
         sight: link.before,
         rest: items,
-        fields: GivenFields::many(alloc),
+        fields,
         filling: None,
     }))
 }

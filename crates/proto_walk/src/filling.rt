@@ -45,17 +45,19 @@ pub fn open_defaults<'a>(
     let inside = proto_fields::body_of(&walker.declarations, within, &proto.name);
     let inner = proto_steps::empty_scope(alloc, sight, inside);
     let outer = mem::replace(&mut walker.scope, inner);
+    let before = outer.sight;
+    let kept = Box::new(alloc, outer)?;
     Ok(Task::Items(Open {
         line,
         name,
         owner,
-        sight: outer.sight,
+        sight: before,
         rest,
         fields,
         filling: Some(Filling {
             instance,
             rest: proto.interface.as_slice(),
-            outer,
+            outer: kept,
         }),
     }))
 }
@@ -121,6 +123,15 @@ fn give<'a>(scope: &mut Scope<'a>, given: GivenFields, interface: Interface<'a>)
     let _before = mem::replace(&mut scope.interface, interface);
 }
 
+/// So much is in sight outside.
+fn seeing<'a>(outer: Box<Scope<'a>>, sight: usize) -> Box<Scope<'a>>
+    ensures { result.value ≡ record outer.entry.value { sight = sight } }
+{
+    let mut outer = outer;
+    outer.sight = sight;
+    outer
+}
+
 /// The default values are done: the body begins.
 fn start_body<'a>(
     walker: &mut Walker<'a>,
@@ -147,8 +158,7 @@ fn start_body<'a>(
         ..
     } = filling;
     let Placed { proto, .. } = instance.placed();
-    let mut outer = outer;
-    outer.sight = sight;
+    let outer = seeing(outer, sight);
     give(&mut walker.scope, given, instance.into_interface());
     Ok(Task::Statements(Body {
         line: proto.line,

@@ -8,12 +8,13 @@ use proto_steps::{Instance, Owner, Scope, Store};
 use x3d_lists::{Items, Text};
 
 /// The default values of an instance, which are put in before its body: the instance, the
-/// declarations that are left, and what was in sight where the instance stands.
+/// declarations that are left, and what was in sight where the instance stands, which is on the heap
+/// so that what waits is small.
 #[derive(Drop)]
 pub struct Filling<'a> {
     pub instance: Instance<'a>,
     pub rest: &'a [Declaration<NodeText>],
-    pub outer: Scope<'a>,
+    pub outer: Box<Scope<'a>>,
 }
 
 /// A node or an instance whose braces are open: its fields so far, and what is left between them;
@@ -49,7 +50,7 @@ pub struct Body<'a> {
     pub at: usize,
     pub rest: &'a [Statement],
     pub first: Option<u32>,
-    pub outer: Scope<'a>,
+    pub outer: Box<Scope<'a>>,
 }
 
 /// What waits for the number of a node.

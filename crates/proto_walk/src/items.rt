@@ -99,8 +99,8 @@ fn close<'a>(
         (shown walker.old)) walker.old result walker.new }
 {
     match &opened.owner {
-        Owner::Node(node_type, items, at) => {
-            put_closed(alloc, walker, &opened, *node_type, items, *at)
+        Owner::Node(node_type, braces, at) => {
+            put_closed(alloc, walker, &opened, *node_type, braces.as_slice(), *at)
         }
         Owner::Instance(instance) => {
             let instance = instance.share()?;

@@ -5,6 +5,7 @@ mod examples;
 mod formats;
 mod growths;
 mod jobs;
+mod limits;
 mod pointers;
 mod reading;
 mod scenes;

@@ -1,4 +1,4 @@
-use Rattle.std.proofs.Common.{◌≡◌, Ok, ap, sym, ◌∙◌}
+use Rattle.std.proofs.Common.{◌≡◌, Ok, ap}
 use Rattle.proto_steps.specs.Closing.{put, with_fields}
 use Rattle.proto_fields.specs.Values.{flat_fields}
 use Rattle.proto_fields.specs.Fields.{own_interface}

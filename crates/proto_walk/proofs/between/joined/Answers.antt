@@ -1,7 +1,7 @@
 use Rattle.std.proofs.Common.{◌≡◌, rules, sym, ◌∙◌, ap, true, false, None, Some}
-use Rattle.proto_fields.specs.Fields.{signatures, of_interface, fits}
+use Rattle.proto_fields.specs.Fields.{of_interface, fits}
 use Rattle.proto_steps.specs.Meaning.{add_joined}
-use Rattle.proto_fields.specs.Owners.{known, value_of}
+use Rattle.proto_fields.specs.Owners.{known}
 use Rattle.proto_steps.specs.Held.{owner_in}
 use Rattle.proto_walk.specs.Frames.{shown}
 use Rattle.proto_walk.proofs.Refusals.{is-unknown, is-unbound, is-unfit, is-twice, is-joined}

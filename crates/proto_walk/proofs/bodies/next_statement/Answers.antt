@@ -24,5 +24,5 @@ pub returns-in-Route : goal.returns-in-Route
 returns-in-Route c =
     let split : c.args.body.rest.now ≡ c.in-Some.statement.now ∷ c.in-Some.rest.now = search rules in
     keeps-as _ _ _ c.next_route.result _
-    (body-route (in_sight c.args.walker.now.links c.args.body.outer.sight) c.args.body (record { line = c.args.body.line; name = c.args.body.name; at = c.args.body.at; rest = c.in-Some.rest; first = c.args.body.first; outer = c.args.body.outer }) c.in-Route.route c.args.body.first (shown c.args.walker.now)
+    (body-route (in_sight c.args.walker.now.links c.args.body.outer.value.sight) c.args.body (record { line = c.args.body.line; name = c.args.body.name; at = c.args.body.at; rest = c.in-Some.rest; first = c.args.body.first; outer = c.args.body.outer }) c.in-Route.route c.args.body.first (shown c.args.walker.now)
     (split ∙ ap (λ s. s ∷ c.in-Some.rest.now) c.in-Route.is) (refl, refl, refl, refl)) c.next_route.ensures

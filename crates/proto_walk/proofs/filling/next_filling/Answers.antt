@@ -1,4 +1,4 @@
-use Rattle.std.proofs.Common.{rules, ◌≡◌, ℕ, ◌-◌, ◌∷◌, length, refl, ap, ◌∙◌, subst, Some}
+use Rattle.std.proofs.Common.{rules, ◌≡◌, ℕ, ◌-◌, ◌∷◌, length, refl, subst, Some}
 use Rattle.classic_tree.specs.declared.tree.ProtoText.{out-ProtoText}
 use Rattle.proto_steps.specs.declared.instance.Placed.{Placed}
 use Rattle.proto_steps.specs.Held.{in_sight, place_of}

@@ -1,7 +1,6 @@
 use Rattle.std.proofs.Common.{rules, ◌≡◌, Err, sym, ◌∙◌, ap}
 use Rattle.proto_fields.specs.Fields.{signature, of_signature}
 use Rattle.proto_steps.specs.Meaning.{add_joined, joined_by}
-use Rattle.proto_fields.specs.Owners.{value_of}
 use Rattle.proto_steps.specs.Held.{owner_in}
 use Rattle.proto_walk.specs.Frames.{shown}
 use Rattle.proto_walk.proofs.Refusals.{declared-fit, declared-refused}

@@ -1,5 +1,5 @@
 use Rattle.std.proofs.Common.{rules, ◌≡◌, None, Some, false}
-use Rattle.proto_fields.specs.Fields.{signature, signatures, of_interface, of_signature, fits}
+use Rattle.proto_fields.specs.Fields.{signature, of_interface, of_signature, fits}
 use Rattle.proto_walk.specs.Frames.{shown}
 use Rattle.proto_walk.proofs.Refusals.{declared-unbound, declared-unfit}
 use Rattle.proto_walk.proofs.scripts.outer_field.Goals as goal

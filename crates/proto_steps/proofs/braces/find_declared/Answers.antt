@@ -3,7 +3,7 @@ use Rattle.std.proofs.lemmas.List.{drop_more}
 use Rattle.proto_fields.specs.Fields.{numbered_from}
 use Rattle.proto_steps.specs.Meaning.{declared_in, item_declares}
 use Rattle.proto_steps.proofs.Declared.{here, later}
-use Rattle.proto_steps.proofs.scripts.find_declared.Goals as goal
+use Rattle.proto_steps.proofs.braces.find_declared.Goals as goal
 
 pub returns-in-Some : goal.returns-in-Some
 returns-in-Some c =

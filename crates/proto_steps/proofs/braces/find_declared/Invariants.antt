@@ -1,7 +1,7 @@
 use Rattle.std.proofs.Common.{◌≡◌, ◌≤◌, ◌+◌, drop}
 use Rattle.proto_fields.specs.Fields.{numbered_from}
 use Rattle.proto_steps.specs.Meaning.{declared_in}
-use Rattle.proto_steps.proofs.scripts.find_declared.Given as goal
+use Rattle.proto_steps.proofs.braces.find_declared.Given as goal
 
 abbrev pub invariant-loop-item : goal.invariant-loop-item
 invariant-loop-item l = record {
