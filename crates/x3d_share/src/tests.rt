@@ -5,7 +5,6 @@ mod examples;
 mod formats;
 mod growths;
 mod jobs;
-mod limits;
 mod pointers;
 mod reading;
 mod scenes;
