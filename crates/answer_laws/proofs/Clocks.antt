@@ -1,6 +1,6 @@
 -- What a TimeSensor does keeps its ranges.
-use Rattle.std.proofs.Common.{◌≡◌, ℕ, ◌-◌, ◌*◌, ◌/◌, ◌%◌, ◌^◌, ◌≤◌, ◌<◌, ℤ, pos, negsuc, ◌-ℤ◌, ◌≤ℤ◌, ◌<ℤ◌, int_le, int_lt, unsigned_abs, Bool, true, false, not, ◌==◌, ◌&&◌, ◌||◌, if◌then◌else◌, List, [], ◌∷◌, Option, Some, None, is_some, refl, sym, subst, arith, lt-ltb, le-leb, leb-true, eqb-true}
-use Rattle.std.specs.Int.{int_div_euclid, int_rem_euclid, int_min}
+use Rattle.std.proofs.Common.{◌≡◌, ℕ, ◌-◌, ◌^◌, ℤ, pos, negsuc, ◌-ℤ◌, ◌≤ℤ◌, ◌<ℤ◌, int_le, int_lt, unsigned_abs, Bool, true, false, not, ◌==◌, ◌&&◌, ◌||◌, if◌then◌else◌, List, [], ◌∷◌, Option, Some, None, is_some, refl, sym, subst, arith, lt-ltb, le-leb, eqb-true}
+use Rattle.std.specs.Int.{int_rem_euclid, int_min}
 use Rattle.std.proofs.lemmas.Int.{ints}
 use Rattle.byte_codec.proofs.Laws.{both, and_true}
 use Rattle.x3d_values.specs.declared.field_type.FieldType.TheVariants as types
@@ -18,7 +18,6 @@ use Rattle.sensor_core.specs.Events.{Answer, answer, set, changed, is_disabled, 
 use Rattle.sensor_core.specs.Ticks.{Tick, tick, tick_active, tick_inactive, is_started, is_stopped, is_over, last_place, cycle_of, begin_of, end_of, progress, goes_on, ends}
 use Rattle.sensor_core.specs.Timing.{Timing, is_time, is_interval, are_times, is_timing, time_at, truth_at, checked, timing_of, with_timing}
 use Rattle.sensor_core.proofs.CycleLemmas.{cycle_time-rest, cycle_end-length}
-use Rattle.react_core.proofs.PartLemmas.{quotient_small}
 use Rattle.snapshot_codec.specs.Fields.{kept_fits}
 use Rattle.snapshot_codec.specs.Parts.{cycle_fits}
 use Rattle.snapshot_codec.specs.Trace.{is_moment}
@@ -28,6 +27,7 @@ use Rattle.answer_laws.specs.Ranges.{fields_fit, sent_fits, replies_fit}
 use Rattle.answer_laws.proofs.Pointers.{all_append}
 use Rattle.answer_laws.proofs.Reactions.{moment_fits, set_fits}
 use Rattle.answer_laws.proofs.Rows.{some_is, then_some}
+use Rattle.answer_laws.proofs.Times.{lt_of, moment_is, not_before, part_small, quotient_le, remainder, remainder_le, time_is, time_low}
 
 -- ---- what it keeps
 
@@ -81,63 +81,6 @@ positive_of active t input time e is =
   where
     above : (z : ℤ) → int_le z (pos 0) ≡ false → int_lt (pos 0) z ≡ true
     above z h = grind (arith, ints)
-
--- ---- a tick
-
-mod_small : (a b : ℕ) → 0 < b → a % b < b
-mod_small a b h = grind arith
-
-mod_le : (a b : ℕ) → 0 < b → a % b ≤ a
-mod_le a b h = grind arith
-
-div_le : (a b : ℕ) → 0 < b → a / b ≤ a
-div_le a b h = grind arith
-
-part_small : (r d : ℕ) → r < d → r * 1000000 / d ≤ 1000000
-part_small r d h =
-    let e : 1000000 * r ≡ r * 1000000 = omega arith in
-    subst (λ (n : ℕ). n / d ≤ 1000000) e (quotient_small 1000000 r d (omega arith) (omega arith))
-
-positive_size : (n : ℕ) → pos 0 <ℤ pos n → 0 < n
-positive_size n h = omega (arith, ints)
-
--- the remainder of a time, and the quotient of one that isn't before
-remainder : (z interval : ℤ) → pos 0 <ℤ interval → (pos 0 ≤ℤ int_rem_euclid z interval) × (unsigned_abs (int_rem_euclid z interval) < unsigned_abs interval)
-remainder (pos a) (pos b) h = (omega (arith, ints), mod_small a b (positive_size b h))
-remainder (negsuc a) (pos b) h = let s = positive_size b h in (omega (arith, ints), omega arith)
-remainder (pos a) (negsuc b) h = absurd (omega (arith, ints))
-remainder (negsuc a) (negsuc b) h = absurd (omega (arith, ints))
-
-remainder_le : (z interval : ℤ) → pos 0 ≤ℤ z → pos 0 <ℤ interval → int_rem_euclid z interval ≤ℤ z
-remainder_le (pos a) (pos b) p h = let s = mod_le a b (positive_size b h) in omega (arith, ints)
-remainder_le (negsuc a) interval p h = absurd (omega (arith, ints))
-remainder_le (pos a) (negsuc b) p h = absurd (omega (arith, ints))
-
-quotient_le : (z interval : ℤ) → pos 0 ≤ℤ z → pos 0 <ℤ interval → unsigned_abs (int_div_euclid z interval) ≤ unsigned_abs z
-quotient_le (pos a) (pos b) p h = div_le a b (positive_size b h)
-quotient_le (negsuc a) interval p h = absurd (omega (arith, ints))
-quotient_le (pos a) (negsuc b) p h = absurd (omega (arith, ints))
-
-not_before : (z interval : ℤ) (c : ℕ) → pos 0 <ℤ interval → pos c <ℤ int_div_euclid z interval → pos 0 ≤ℤ z
-not_before (pos a) interval c h l = omega (arith, ints)
-not_before (negsuc a) (pos b) c h l = absurd (omega (arith, ints, l))
-not_before (negsuc a) (negsuc b) c h l = absurd (omega (arith, ints, h))
-
--- a time from a test, and a test from a time
-time_low : (z : ℤ) → is_time z ≡ true → (negsuc (10 ^ 18 - 1) ≤ℤ z) × (z ≤ℤ pos (10 ^ 18))
-time_low z e = let l = leb-true (unsigned_abs z) (10 ^ 18) e in (omega (arith, ints, l), omega (arith, ints, l))
-
-time_is : (z : ℤ) → negsuc (10 ^ 18 - 1) ≤ℤ z → z ≤ℤ pos (10 ^ 18) → is_within (10 ^ 18) z ≡ true
-time_is z l h = le-leb (unsigned_abs z) (10 ^ 18) (omega (arith, ints, l, h))
-
-moment_is : (t : ℤ) → is_moment t ≡ true → (pos 0 ≤ℤ t) × (t ≤ℤ pos (10 ^ 18))
-moment_is t e = let b = both (int_le (pos 0) t) (int_le t (pos (10 ^ 18))) e in (le_of _ _ b.0, le_of _ _ b.1)
-  where
-    le_of : (x y : ℤ) → int_le x y ≡ true → x ≤ℤ y
-    le_of x y h = grind (arith, ints)
-
-lt_of : (x y : ℤ) → int_lt x y ≡ true → x <ℤ y
-lt_of x y h = grind (arith, ints)
 
 -- ---- what is sent of a place
 

@@ -1,4 +1,5 @@
 mod Between
+pub mod Times
 pub mod Clocks
 pub mod Pointers
 pub mod Reactions

@@ -1,6 +1,4 @@
 pub mod Folds
-pub mod Sends
-pub mod Keeps
 pub mod Runs
 pub mod Turns
 pub mod Shapes
@@ -18,3 +16,18 @@ pub mod Marks
 pub mod Counting
 mod Traces
 mod Told
+pub mod Keeping
+pub mod Settled
+mod KindLemmas
+pub mod SettleLemmas
+pub mod SoundLemmas
+pub mod Depths
+pub mod Initialized
+pub mod SoundPlans
+pub mod Openings
+pub mod Gained
+pub mod Runnings
+mod Inputs
+mod Numbers
+pub mod Installs
+pub mod RunFaults

@@ -4,10 +4,10 @@ use Rattle.x3d_values.specs.Stamp.{Stamp}
 use Rattle.scene_core.specs.declared.scene.Route.{Route}
 use Rattle.scene_core.specs.Scene.{SceneView}
 use Rattle.cascade_core.specs.Apply.{world_after, apply}
+use Rattle.cascade_core.specs.Course.{Scripted}
 use Rattle.cascade_core.specs.Held.{Running, after_all}
-use Rattle.cascade_core.specs.declared.world.WorldData.{WorldData}
 
-pub after_all_running : (scene : SceneView) (routes : List Route) (w : WorldData) (inputs : List Stamp) →
+pub after_all_running : (scene : SceneView) (routes : List Route) (w : Scripted) (inputs : List Stamp) →
     after_all (record { scene = scene; routes = routes; held = Running w }) inputs ≡ record { scene = scene; routes = routes; held = Running (world_after scene routes w inputs) }
 after_all_running scene routes w [] = refl
 after_all_running scene routes w (input ∷ inputs) = after_all_running scene routes (apply scene routes w input) inputs

@@ -27,7 +27,7 @@ use Rattle.x3d_values.specs.declared.vector.Vec3.{Vec3}
 use Rattle.scene_core.specs.Scene.{SceneView, shapes_of, types_of}
 use Rattle.scene_core.specs.Shape.{Shape, rows_of}
 use Rattle.pick_core.specs.Sensors.{is_enabled, is_enabled_as}
-use Rattle.cascade_core.specs.Answers.{answer, answer_as, answer_by, is_script, is_touch_sensor, keeping, meeting, met, not_run, nothing, reacting, setting, setting_at, ticked, ticking, ticking_at, touching}
+use Rattle.cascade_core.specs.Answers.{answer, answer_as, is_script, is_touch_sensor, keeping, meeting, met, not_run, nothing, reacting, setting, setting_at, ticked, ticking, ticking_at, touching}
 use Rattle.cascade_core.specs.Nodes.{is_clock}
 use Rattle.cascade_core.proofs.Shapes.{HasShape, shape_at}
 use Rattle.cascade_core.proofs.Senders.{kept-sends, reaction-leaves}
@@ -115,7 +115,7 @@ ends_from-has n (s ∷ ss) (suc i) shape field h m =
     rw (e, list_any-append) (or_right _ _ (ends_from-has (n + 1) ss i shape field h m))
 
 -- what a node sends by an output is sent by one of the scene's
-one_output : (shapes : List Shape) (node : ℕ) (shape : Shape) (field : ℕ) → slice_get shapes node ≡ Some shape → is_output shape field ≡ true →
+pub one_output : (shapes : List Shape) (node : ℕ) (shape : Shape) (field : ℕ) → slice_get shapes node ≡ Some shape → is_output shape field ≡ true →
     is_scene_output shapes (record { node = node; field = field }) ≡ true
 one_output shapes node shape field h o = rw (zero-add node) at (ends_from-has 0 shapes node shape field h (output-listed shape field o))
 

@@ -5,21 +5,26 @@ use Rattle.std.specs.List.{fold, AllByRecursion}
 use Rattle.cascade_core.proofs.RoutePlaces.{drop-none, drop-some}
 use Rattle.std.proofs.lemmas.List.{reverse-append, length-reverse, map-append, reverse-reverse}
 use Rattle.cascade_core.specs.Ends.{has_sent, targets_of}
-use Rattle.cascade_core.specs.World.{record_event}
-use Rattle.cascade_core.specs.Answers.{answer, met, ticked, with_answer, Answer}
-use Rattle.cascade_core.specs.Cascade.{deliver, send_all}
+use Rattle.x3d_values.specs.declared.script.Kind.{Kind}
+use Rattle.script_host.specs.Behaviour.{Call}
+use Rattle.script_host.specs.Hosting.{ScriptRecord}
+use Rattle.script_turn.specs.Acting.{act, kinds_of}
+use Rattle.cascade_core.specs.Course.{Course, Plan, node_of, ports_of}
+use Rattle.cascade_core.specs.Cascade.{deliver, reached, recorded, send_all, send_full}
+use Rattle.cascade_core.specs.Sound.{IsSound}
+use Rattle.cascade_core.specs.Answers.{met, ticked}
 use Rattle.cascade_core.specs.Outputs.{is_scene_output, ends_from}
-use Rattle.cascade_core.specs.Stack.{send_full, do_task, finish, IsReady, weight, weights, unsent, work_left, send_by}
-use Rattle.cascade_core.proofs.SceneOutputs.{answer-sends, met-sends, ticked-sends}
-use Rattle.cascade_core.proofs.Fuel.{unsent-less, send_full-new}
+use Rattle.cascade_core.specs.Stack.{do_task, finish, IsReady, weight, weights, unsent, work_left, send_by}
+use Rattle.cascade_core.proofs.SceneOutputs.{met-sends, ticked-sends}
+use Rattle.cascade_core.proofs.Fuel.{unsent-less}
+use Rattle.cascade_core.proofs.Depths.{send_full-new}
+use Rattle.cascade_core.proofs.SoundLemmas.{act-sends, reached-sends, reached-sent}
 use Rattle.x3d_values.specs.declared.value.Value.{Value}
 use Rattle.react_core.specs.declared.outbox.Reply.{Reply}
 use Rattle.scene_core.specs.declared.scene.End.{End}
-use Rattle.scene_core.specs.declared.scene.Route.{Route}
 use Rattle.scene_core.specs.Shape.{Shape}
 use Rattle.cascade_core.specs.declared.stack.Task.{Task}
 use Rattle.cascade_core.specs.declared.stack.Task.TheVariants.{Send, Follow}
-use Rattle.cascade_core.specs.declared.world.Turn.{Turn}
 use Rattle.cascade_core.specs.declared.world.WorldData.{WorldData}
 use Rattle.cascade_core.specs.Nodes.{is_clock}
 use Rattle.scene_core.specs.Scene.{SceneView, shapes_of, types_of}
@@ -41,126 +46,126 @@ map-reverse f (x ∷ xs) =
 reversed : (node : ℕ) (replies : List Reply) (tasks : List Task) → reverse (tasks ++ map (send_by node) (reverse replies)) ≡ map (send_by node) replies ++ reverse tasks
 reversed node replies tasks = rw (reverse-append, map-reverse, reverse-reverse) refl
 
-module _ (shapes : List Shape) (routes : List Route) where
+module _ (plan : Plan) where
   -- the last task is done first
-  pub finish-push : (turn : Turn) (tasks : List Task) (task : Task) → finish shapes routes turn (tasks ++ task ∷ []) ≡ finish shapes routes (do_task shapes routes turn task) tasks
+  pub finish-push : (c : Course) (tasks : List Task) (task : Task) → finish plan c (tasks ++ task ∷ []) ≡ finish plan (do_task plan c task) tasks
   unfolding finish
-  finish-push turn tasks task = ap (fold (do_task shapes routes) turn) (reverse-push tasks task)
+  finish-push c tasks task = ap (fold (do_task plan) c) (reverse-push tasks task)
 
-  sends-done : (node : ℕ) (replies : List Reply) (turn : Turn) → fold (do_task shapes routes) turn (map (send_by node) replies) ≡ send_all (send_full shapes routes) node turn replies
-  sends-done node [] turn = refl
-  sends-done node (r ∷ replies) turn = sends-done node replies (send_full shapes routes turn (record { node = node; field = r.field }) r.value)
+  sends-done : (node : ℕ) (replies : List Reply) (c : Course) → fold (do_task plan) c (map (send_by node) replies) ≡ send_all (send_full plan) node c replies
+  sends-done node [] c = refl
+  sends-done node (r ∷ replies) c = sends-done node replies (send_full plan c (record { node = node; field = r.field }) r.value)
 
   -- replies that are pushed last to first are sent first to last
-  pub finish-replies : (node : ℕ) (replies : List Reply) (turn : Turn) (tasks : List Task) →
-      finish shapes routes turn (tasks ++ map (send_by node) (reverse replies)) ≡ finish shapes routes (send_all (send_full shapes routes) node turn replies) tasks
+  pub finish-replies : (node : ℕ) (replies : List Reply) (c : Course) (tasks : List Task) →
+      finish plan c (tasks ++ map (send_by node) (reverse replies)) ≡ finish plan (send_all (send_full plan) node c replies) tasks
   unfolding finish
-  finish-replies node replies turn tasks =
-      ap (fold (do_task shapes routes) turn) (reversed node replies tasks)
-      ∙ fold-append (do_task shapes routes) turn (map (send_by node) replies) (reverse tasks)
-      ∙ ap (λ (t : Turn). fold (do_task shapes routes) t (reverse tasks)) (sends-done node replies turn)
+  finish-replies node replies c tasks =
+      ap (fold (do_task plan) c) (reversed node replies tasks)
+      ∙ fold-append (do_task plan) c (map (send_by node) replies) (reverse tasks)
+      ∙ ap (λ (t : Course). fold (do_task plan) t (reverse tasks)) (sends-done node replies c)
 
-  pub begin-done : (turn : Turn) (source : End) (v : Value) (tasks : List Task) → is_scene_output shapes source ≡ true → has_sent turn.sent source ≡ false →
-      finish shapes routes (record_event turn source v) (tasks ++ Follow source v 0 ∷ []) ≡ finish shapes routes (send_full shapes routes turn source v) tasks
-  begin-done turn source v tasks o h =
-      finish-push (record_event turn source v) tasks (Follow source v 0)
-      ∙ ap (λ (t : Turn). finish shapes routes t tasks) (sym (send_full-new shapes routes turn source v o h))
+  pub begin-done : (kinds : List Kind) → IsSound plan kinds → (c : Course) (source : End) (v : Value) (tasks : List Task) → is_scene_output plan.shapes source ≡ true → kinds_of c.scripts ≡ kinds →
+      has_sent c.turn.sent source ≡ false → finish plan (recorded c source v) (tasks ++ Follow source v 0 ∷ []) ≡ finish plan (send_full plan c source v) tasks
+  begin-done kinds sound c source v tasks o of h =
+      finish-push (recorded c source v) tasks (Follow source v 0)
+      ∙ ap (λ (t : Course). finish plan t tasks) (sym (send_full-new plan kinds sound c source v o of h))
 
   -- no route is left
-  pub follow-none : (turn : Turn) (source : End) (v : Value) (next : ℕ) → slice_get (targets_of routes source) next ≡ None → do_task shapes routes turn (Follow source v next) ≡ turn
-  follow-none turn source v next h = rw (drop-none (targets_of routes source) next h) refl
+  pub follow-none : (c : Course) (source : End) (v : Value) (next : ℕ) → slice_get (targets_of plan.routes source) next ≡ None → do_task plan c (Follow source v next) ≡ c
+  follow-none c source v next h = rw (drop-none (targets_of plan.routes source) next h) refl
 
   -- the next route is followed, and the rest are left
-  pub follow-one : (turn : Turn) (source : End) (v : Value) (next : ℕ) (target : End) (tasks : List Task) → slice_get (targets_of routes source) next ≡ Some target →
-      finish shapes routes (deliver (send_full shapes routes) shapes v turn target) (tasks ++ Follow source v (next + 1) ∷ []) ≡ finish shapes routes (do_task shapes routes turn (Follow source v next)) tasks
-  follow-one turn source v next target tasks h =
-      finish-push (deliver (send_full shapes routes) shapes v turn target) tasks (Follow source v (next + 1))
-      ∙ ap (λ (targets : List End). finish shapes routes (fold (deliver (send_full shapes routes) shapes v) turn targets) tasks) (sym (drop-some (targets_of routes source) next target h))
+  pub follow-one : (c : Course) (source : End) (v : Value) (next : ℕ) (target : End) (tasks : List Task) → slice_get (targets_of plan.routes source) next ≡ Some target →
+      finish plan (deliver (send_full plan) plan v c target) (tasks ++ Follow source v (next + 1) ∷ []) ≡ finish plan (do_task plan c (Follow source v next)) tasks
+  follow-one c source v next target tasks h =
+      finish-push (deliver (send_full plan) plan v c target) tasks (Follow source v (next + 1))
+      ∙ ap (λ (targets : List End). finish plan (fold (deliver (send_full plan) plan v) c targets) tasks) (sym (drop-some (targets_of plan.routes source) next target h))
 
-  pub finish-one : (turn : Turn) (source : End) (v : Value) → finish shapes routes turn (Send source v ∷ []) ≡ send_full shapes routes turn source v
+  pub finish-one : (c : Course) (source : End) (v : Value) → finish plan c (Send source v ∷ []) ≡ send_full plan c source v
   unfolding finish
-  finish-one turn source v = refl
+  finish-one c source v = refl
 
-  pub finish-none : (turn : Turn) → finish shapes routes turn [] ≡ turn
+  pub finish-none : (c : Course) → finish plan c [] ≡ c
   unfolding finish
-  finish-none turn = refl
+  finish-none c = refl
 
   -- replies alone
-  pub finish-all : (node : ℕ) (replies : List Reply) (turn : Turn) → finish shapes routes turn (map (send_by node) (reverse replies)) ≡ send_all (send_full shapes routes) node turn replies
-  finish-all node replies turn = finish-replies node replies turn [] ∙ finish-none (send_all (send_full shapes routes) node turn replies)
+  pub finish-all : (node : ℕ) (replies : List Reply) (c : Course) → finish plan c (map (send_by node) (reverse replies)) ≡ send_all (send_full plan) node c replies
+  finish-all node replies c = finish-replies node replies c [] ∙ finish-none (send_all (send_full plan) node c replies)
 
-  pub answer-done : (turn : Turn) (target : End) (v : Value) (tasks : List Task) →
-      finish shapes routes (with_answer turn (answer shapes turn.world target v)) (tasks ++ map (send_by target.node) (reverse (answer shapes turn.world target v).replies))
-      ≡ finish shapes routes (deliver (send_full shapes routes) shapes v turn target) tasks
+  pub reached-done : (c : Course) (target : End) (v : Value) (tasks : List Task) →
+      finish plan (reached plan c target v).course (tasks ++ map (send_by target.node) (reverse (reached plan c target v).replies))
+      ≡ finish plan (deliver (send_full plan) plan v c target) tasks
   unfolding deliver
-  answer-done turn target v tasks =
-      let a = answer shapes turn.world target v in finish-replies target.node a.replies (with_answer turn a) tasks
+  reached-done c target v tasks =
+      let r = reached plan c target v in finish-replies target.node r.replies r.course tasks
 
-  pub follow-done : (turn : Turn) (source : End) (v : Value) (next : ℕ) (target : End) (tasks : List Task) → slice_get (targets_of routes source) next ≡ Some target →
-      finish shapes routes (with_answer turn (answer shapes turn.world target v))
-      ((tasks ++ Follow source v (next + 1) ∷ []) ++ map (send_by target.node) (reverse (answer shapes turn.world target v).replies))
-      ≡ finish shapes routes (do_task shapes routes turn (Follow source v next)) tasks
-  follow-done turn source v next target tasks h =
-      answer-done turn target v (tasks ++ Follow source v (next + 1) ∷ []) ∙ follow-one turn source v next target tasks h
+  pub follow-done : (c : Course) (source : End) (v : Value) (next : ℕ) (target : End) (tasks : List Task) → slice_get (targets_of plan.routes source) next ≡ Some target →
+      finish plan (reached plan c target v).course ((tasks ++ Follow source v (next + 1) ∷ []) ++ map (send_by target.node) (reverse (reached plan c target v).replies))
+      ≡ finish plan (do_task plan c (Follow source v next)) tasks
+  follow-done c source v next target tasks h =
+      reached-done c target v (tasks ++ Follow source v (next + 1) ∷ []) ∙ follow-one c source v next target tasks h
 
   -- the last route is followed, and no other is left
-  pub last-done : (turn : Turn) (source : End) (v : Value) (next : ℕ) (target : End) (tasks : List Task) → slice_get (targets_of routes source) next ≡ Some target →
-      slice_get (targets_of routes source) (next + 1) ≡ None →
-      finish shapes routes (with_answer turn (answer shapes turn.world target v)) (tasks ++ map (send_by target.node) (reverse (answer shapes turn.world target v).replies))
-      ≡ finish shapes routes (do_task shapes routes turn (Follow source v next)) tasks
-  last-done turn source v next target tasks h last =
-      let after : Turn = deliver (send_full shapes routes) shapes v turn target in
-      answer-done turn target v tasks
-      ∙ ap (λ (t : Turn). finish shapes routes t tasks) (sym (follow-none after source v (next + 1) last))
+  pub last-done : (c : Course) (source : End) (v : Value) (next : ℕ) (target : End) (tasks : List Task) → slice_get (targets_of plan.routes source) next ≡ Some target →
+      slice_get (targets_of plan.routes source) (next + 1) ≡ None →
+      finish plan (reached plan c target v).course (tasks ++ map (send_by target.node) (reverse (reached plan c target v).replies)) ≡ finish plan (do_task plan c (Follow source v next)) tasks
+  last-done c source v next target tasks h last =
+      let after : Course = deliver (send_full plan) plan v c target in
+      reached-done c target v tasks
+      ∙ ap (λ (t : Course). finish plan t tasks) (sym (follow-none after source v (next + 1) last))
       ∙ sym (finish-push after tasks (Follow source v (next + 1)))
-      ∙ follow-one turn source v next target tasks h
+      ∙ follow-one c source v next target tasks h
 
-  weights-append : (xs ys : List Task) → weights routes (xs ++ ys) ≡ weights routes xs + weights routes ys
+  weights-append : (xs ys : List Task) → weights plan.routes (xs ++ ys) ≡ weights plan.routes xs + weights plan.routes ys
   unfolding weights
   weights-append [] ys = omega arith
   weights-append (x ∷ xs) ys = omega (arith, weights-append xs ys)
 
-  weights-sends : (node : ℕ) (replies : List Reply) → weights routes (map (send_by node) replies) ≡ length replies
+  weights-sends : (node : ℕ) (replies : List Reply) → weights plan.routes (map (send_by node) replies) ≡ length replies
   unfolding weights
   weights-sends node [] = refl
   weights-sends node (r ∷ replies) = omega (arith, weights-sends node replies)
 
-  weights-one : (task : Task) → weights routes (task ∷ []) ≡ weight routes task
+  weights-one : (task : Task) → weights plan.routes (task ∷ []) ≡ weight plan.routes task
   unfolding weights
   weights-one task = omega arith
 
-  pub work-push : (turn : Turn) (tasks : List Task) (task : Task) → work_left shapes routes turn (tasks ++ task ∷ []) ≡ work_left shapes routes turn tasks + weight routes task
+  pub work-push : (c : Course) (tasks : List Task) (task : Task) → work_left plan c (tasks ++ task ∷ []) ≡ work_left plan c tasks + weight plan.routes task
   unfolding work_left
-  work-push turn tasks task = omega (arith, weights-append tasks (task ∷ []), weights-one task)
+  work-push c tasks task = omega (arith, weights-append tasks (task ∷ []), weights-one task)
 
-  pub begin-fewer : (turn : Turn) (source : End) (v : Value) (tasks : List Task) → is_scene_output shapes source ≡ true → has_sent turn.sent source ≡ false →
-      work_left shapes routes (record_event turn source v) (tasks ++ Follow source v 0 ∷ []) + 1 ≤ work_left shapes routes turn tasks + 1
+  pub begin-fewer : (c : Course) (source : End) (v : Value) (tasks : List Task) → is_scene_output plan.shapes source ≡ true → has_sent c.turn.sent source ≡ false →
+      work_left plan (recorded c source v) (tasks ++ Follow source v 0 ∷ []) + 1 ≤ work_left plan c tasks + 1
   unfolding work_left
-  begin-fewer turn source v tasks o h =
-      let recorded : Turn = record_event turn source v in
-      let less : unsent shapes recorded + 1 ≤ unsent shapes turn = omega (arith, unsent-less (ends_from 0 shapes) turn.sent source o h) in
-      omega (arith, weights-append tasks (Follow source v 0 ∷ []), weights-one (Follow source v 0), mul-le-mul_right (6 * length routes + 2) less)
+  begin-fewer c source v tasks o h =
+      let after : Course = recorded c source v in
+      let less : unsent plan.shapes after.turn + 1 ≤ unsent plan.shapes c.turn = omega (arith, unsent-less (ends_from 0 plan.shapes) c.turn.sent source o h) in
+      omega (arith, weights-append tasks (Follow source v 0 ∷ []), weights-one (Follow source v 0), mul-le-mul_right (6 * length plan.routes + 2) less)
 
-  pub follow-fewer : (turn : Turn) (a : Answer) (source : End) (v : Value) (next node : ℕ) (replies : List Reply) (tasks : List Task) → length replies ≤ 5 → next < length routes →
-      work_left shapes routes (with_answer turn a) ((tasks ++ Follow source v (next + 1) ∷ []) ++ map (send_by node) (reverse replies)) + 1
-      ≤ work_left shapes routes turn tasks + weight routes (Follow source v next)
+  pub follow-fewer : (c : Course) (target source : End) (v : Value) (next node : ℕ) (replies : List Reply) (tasks : List Task) → length replies ≤ 5 → next < length plan.routes →
+      work_left plan (reached plan c target v).course ((tasks ++ Follow source v (next + 1) ∷ []) ++ map (send_by node) (reverse replies)) + 1
+      ≤ work_left plan c tasks + weight plan.routes (Follow source v next)
   unfolding work_left
-  follow-fewer turn a source v next node replies tasks h n =
-      omega (
+  follow-fewer c target source v next node replies tasks h n =
+      rw (reached-sent plan c target v)
+      (omega (
         arith,
         weights-append (tasks ++ Follow source v (next + 1) ∷ []) (map (send_by node) (reverse replies)),
         weights-append tasks (Follow source v (next + 1) ∷ []),
         weights-one (Follow source v (next + 1)),
         weights-sends node (reverse replies),
         length-reverse replies,
-      )
+      ))
 
-  pub last-fewer : (turn : Turn) (a : Answer) (source : End) (v : Value) (next node : ℕ) (replies : List Reply) (tasks : List Task) → length replies ≤ 5 → next < length routes →
-      work_left shapes routes (with_answer turn a) (tasks ++ map (send_by node) (reverse replies)) + 1
-      ≤ work_left shapes routes turn tasks + weight routes (Follow source v next)
+  pub last-fewer : (c : Course) (target source : End) (v : Value) (next node : ℕ) (replies : List Reply) (tasks : List Task) → length replies ≤ 5 → next < length plan.routes →
+      work_left plan (reached plan c target v).course (tasks ++ map (send_by node) (reverse replies)) + 1
+      ≤ work_left plan c tasks + weight plan.routes (Follow source v next)
   unfolding work_left
-  last-fewer turn a source v next node replies tasks h n =
-      omega (arith, weights-append tasks (map (send_by node) (reverse replies)), weights-sends node (reverse replies), length-reverse replies)
+  last-fewer c target source v next node replies tasks h n =
+      rw (reached-sent plan c target v)
+      (omega (arith, weights-append tasks (map (send_by node) (reverse replies)), weights-sends node (reverse replies), length-reverse replies))
 
 -- what holds of each of two lists
 pub all-append : {X : Type 0} (P : X → Type 0) (xs ys : List X) → AllByRecursion P xs → AllByRecursion P ys → AllByRecursion P (xs ++ ys)
@@ -200,13 +205,22 @@ met-ready scene w node p before place =
     all-map (shapes_of scene) node (reverse rs)
     (all-reverse (λ (r : Reply). is_scene_output (shapes_of scene) (record { node = node; field = r.field }) ≡ true) rs (met-sends scene w node p before place))
 
+-- what the node of a script sends is sent by outputs
+pub act-ready : (plan : Plan) (scripts : List ScriptRecord) → IsSound plan (kinds_of scripts) → (k : ℕ) (call : Call) →
+    AllByRecursion (IsReady plan.shapes) (map (send_by (node_of plan k)) (reverse (act (ports_of plan k) call k scripts).replies))
+act-ready plan scripts sound k call =
+    let rs = (act (ports_of plan k) call k scripts).replies in
+    all-map plan.shapes (node_of plan k) (reverse rs)
+    (all-reverse (λ (r : Reply). is_scene_output plan.shapes (record { node = node_of plan k; field = r.field }) ≡ true) rs (act-sends plan scripts sound k call))
+
 -- the replies of a target are sent by outputs
-pub answer-ready : (shapes : List Shape) (w : WorldData) (target : End) (v : Value) (tasks : List Task) → AllByRecursion (IsReady shapes) tasks →
-    AllByRecursion (IsReady shapes) (tasks ++ map (send_by target.node) (reverse (answer shapes w target v).replies))
-answer-ready shapes w target v tasks p =
-    let rs = (answer shapes w target v).replies in
-    all-append (IsReady shapes) tasks (map (send_by target.node) (reverse rs)) p
-    (all-map shapes target.node (reverse rs) (all-reverse (λ (r : Reply). is_scene_output shapes (record { node = target.node; field = r.field }) ≡ true) rs (answer-sends shapes w target v)))
+pub reached-ready : (plan : Plan) (c : Course) (target : End) (v : Value) (tasks : List Task) → IsSound plan (kinds_of c.scripts) → AllByRecursion (IsReady plan.shapes) tasks →
+    AllByRecursion (IsReady plan.shapes) (tasks ++ map (send_by target.node) (reverse (reached plan c target v).replies))
+reached-ready plan c target v tasks sound p =
+    let rs = (reached plan c target v).replies in
+    all-append (IsReady plan.shapes) tasks (map (send_by target.node) (reverse rs)) p
+    (all-map plan.shapes target.node (reverse rs)
+    (all-reverse (λ (r : Reply). is_scene_output plan.shapes (record { node = target.node; field = r.field }) ≡ true) rs (reached-sends plan c target v sound)))
 
 pub follow-ready : (shapes : List Shape) (source : End) (v : Value) (next : ℕ) (tasks : List Task) → AllByRecursion (IsReady shapes) tasks →
     AllByRecursion (IsReady shapes) (tasks ++ Follow source v next ∷ [])

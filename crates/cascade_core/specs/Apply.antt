@@ -1,43 +1,44 @@
--- What an input does (ISO/IEC 19775-1, event model: execution model; that the clock goes to the
--- time sensors, and a pointer to the touch sensors, in number order is our choice).
-use Rattle.std.specs.Prelude.{Bool, ℕ, ℤ, ◌+◌, pos, false, List, [], None, slice_set, length, replicate}
-use Rattle.std.specs.List.{fold}
+-- What an input does, and the world of a scene and its inputs (ISO/IEC 19775-1, event model:
+-- execution model; that the clock goes to the time sensors, and a pointer to the touch sensors, in
+-- number order, and the order of scripts, is our choice).
+use Rattle.std.specs.Prelude.{ℕ, ℤ, pos, Bool, false, ◌+◌, ◌++◌, List, [], ◌∷◌, None, length, replicate, slice_set}
+use Rattle.std.specs.List.{fold, range_with_len}
+use Rattle.x3d_values.specs.declared.ranges.TheConstants.{MAX_VIEWERS}
 use Rattle.x3d_values.specs.declared.stamped.Event.{Event}
 use Rattle.x3d_values.specs.declared.stamped.Event.TheVariants.{Clock, Pointer}
 use Rattle.x3d_values.specs.Pointing.{Pointing}
 use Rattle.x3d_values.specs.Stamp.{Stamp}
-use Rattle.x3d_values.specs.declared.ranges.TheConstants.{MAX_VIEWERS}
 use Rattle.sensor_core.specs.Touches.{untouched}
+use Rattle.react_core.specs.declared.outbox.Reply.{Reply}
 use Rattle.scene_core.specs.declared.scene.Route.{Route}
-use Rattle.scene_core.specs.Scene.{SceneView, shapes_of, types_of, state_of}
-use Rattle.scene_core.specs.Shape.{Shape}
-use Rattle.cascade_core.specs.Outputs.{outputs_of}
+use Rattle.scene_core.specs.Scene.{SceneView, state_of, types_of}
+use Rattle.script_host.specs.Behaviour.{Initialize}
+use Rattle.script_host.specs.Hosting.{ScriptRecord}
+use Rattle.script_turn.specs.Acting.{act}
 use Rattle.cascade_core.specs.Answers.{met, ticked, with_answer}
-use Rattle.cascade_core.specs.Cascade.{send, send_all}
+use Rattle.cascade_core.specs.Cascade.{send_replies}
+use Rattle.cascade_core.specs.Course.{Course, Plan, Scripted, course, ended, node_of, plan_of, ports_of, with_turn}
 use Rattle.cascade_core.specs.Nodes.{clocks_of}
 use Rattle.cascade_core.specs.Pointer.{concerned, insides, is_down, place_in}
+use Rattle.cascade_core.specs.Scripts.{kinds_in, running, scripts_in}
+use Rattle.cascade_core.specs.Settles.{settle}
 use Rattle.cascade_core.specs.declared.pointer.Inside.{Inside}
-use Rattle.cascade_core.specs.declared.world.WorldData.{WorldData}
 use Rattle.cascade_core.specs.declared.world.Turn.{Turn}
+use Rattle.cascade_core.specs.declared.world.WorldData.{WorldData}
+
+-- ---- an input
 
 -- a time sensor ticks, and what it sends is followed
-unfoldable pub tick_node : List Shape → List Route → ℤ → Turn → ℕ → Turn
-tick_node shapes routes now turn node =
-    let t = ticked turn.world node now in
-    send_all (send shapes routes (outputs_of shapes + 1)) node (with_answer turn t) t.replies
-
--- each time sensor ticks at its turn
-abbrev pub clock : SceneView → List Route → ℤ → Turn → Turn
-clock scene routes now turn =
-    fold (tick_node (shapes_of scene) routes now) turn (clocks_of (types_of scene))
+unfoldable pub tick_node : Plan → ℤ → Course → ℕ → Course
+tick_node plan now c node =
+    let t = ticked c.turn.world node now in
+    send_replies plan node (with_turn c (with_answer c.turn t)) t.replies
 
 -- a touch sensor meets a viewer's pointer, and what it sends is followed
-unfoldable pub point_node :
-    SceneView → List Route → Pointing → Bool → List Inside → Turn → ℕ → Turn
-point_node scene routes p before is turn sensor =
-    let a = met scene turn.world sensor p before (place_in is sensor) in
-    let shapes = shapes_of scene in
-    send_all (send shapes routes (outputs_of shapes + 1)) sensor (with_answer turn a) a.replies
+unfoldable pub point_node : SceneView → Plan → Pointing → Bool → List Inside → Course → ℕ → Course
+point_node scene plan p before is c sensor =
+    let a = met scene c.turn.world sensor p before (place_in is sensor) in
+    send_replies plan sensor (with_turn c (with_answer c.turn a)) a.replies
 
 abbrev pub with_button : Turn → Pointing → Turn
 with_button turn p =
@@ -47,34 +48,46 @@ with_button turn p =
 -- a viewer points: where its ray hits, which sensors that is inside of, which of them it presses
 -- and whether its button was down are fixed first; then each sensor that is concerned meets the
 -- pointer at its turn
-unfoldable pub point : SceneView → List Route → Turn → Pointing → Turn
-point scene routes turn p =
-    let is = insides scene turn.world.fields p.ray in
-    let before = is_down turn.world p.who in
-    fold (point_node scene routes p before is) (with_button turn p)
-    (concerned (types_of scene) turn.world p.who)
+unfoldable pub point : SceneView → Plan → Course → Pointing → Course
+point scene plan c p =
+    let is = insides scene c.turn.world.fields p.ray in
+    let before = is_down c.turn.world p.who in
+    fold (point_node scene plan p before is) (with_turn c (with_button c.turn p))
+    (concerned (types_of scene) c.turn.world p.who)
 
-abbrev pub happen : SceneView → List Route → ℤ → Turn → Event → Turn
-happen scene routes now turn Clock = clock scene routes now turn
-happen scene routes now turn (Pointer p) = point scene routes turn p
+-- each time sensor ticks at its turn, or a viewer points
+abbrev pub happen : SceneView → Plan → ℤ → Course → Event → Course
+happen scene plan now c Clock = fold (tick_node plan now) c (clocks_of (types_of scene))
+happen scene plan now c (Pointer p) = point scene plan c p
 
 -- one input more, at its time; no output has sent yet
 abbrev pub begin : WorldData → Stamp → Turn
 begin w input =
     record { world = record w { applied = w.applied + 1; last_time = input.time }; sent = [] }
 
+-- an input comes to a world: no script has received yet
+abbrev pub begun : SceneView → Scripted → Stamp → Course
+begun scene w input = course (begin w.world input) (running (kinds_in scene) w.states)
+
+-- what happened goes to the nodes that it concerns, and then scripts settle
+abbrev pub after_input : SceneView → Plan → Course → Stamp → Course
+after_input scene plan c input = settle plan (happen scene plan input.time c input.event)
+
 -- the world after an input
-unfoldable pub apply : SceneView → List Route → WorldData → Stamp → WorldData
-apply scene routes w input = (happen scene routes input.time (begin w input) input.event).world
+unfoldable pub apply : SceneView → List Route → Scripted → Stamp → Scripted
+apply scene routes w input =
+    ended (after_input scene (plan_of scene routes) (begun scene w input) input)
 
 -- the world after a list of inputs
-abbrev pub world_after : SceneView → List Route → WorldData → List Stamp → WorldData
+abbrev pub world_after : SceneView → List Route → Scripted → List Stamp → Scripted
 world_after scene routes w inputs = fold (apply scene routes) w inputs
 
--- the world before any input: the scene's own fields, no sensor active or touched, no button down,
+-- ---- input 0: all scripts are initialized, then what they sent is sent, and then they settle
+
+-- before anything happened: the scene's own fields, no sensor active or touched, no button down,
 -- and nothing sent
-abbrev pub opening : SceneView → WorldData
-opening scene =
+abbrev pub untold : SceneView → WorldData
+untold scene =
     record {
       applied = 0;
       last_time = pos 0;
@@ -85,6 +98,46 @@ opening scene =
       trace = [];
     }
 
+-- what the node of a script sends
+pub record Sending : Type 0 where
+  pub node : ℕ
+  pub replies : List Reply
+
+-- scripts of which some were initialized, and what their nodes are to send
+pub record Started : Type 0 where
+  pub scripts : List ScriptRecord
+  pub sendings : List Sending
+
+abbrev pub start_one : Plan → Started → ℕ → Started
+start_one plan s k =
+    let a = act (ports_of plan k) Initialize k s.scripts in
+    record {
+      scripts = a.scripts;
+      sendings = s.sendings ++ record { node = node_of plan k; replies = a.replies } ∷ [];
+    }
+
+-- all of them, in the order of their numbers
+unfoldable pub started : Plan → List ScriptRecord → Started
+started plan scripts =
+    fold (start_one plan) (record { scripts = scripts; sendings = [] })
+    (range_with_len 0 (length scripts))
+
+-- their replies are sent in that order
+abbrev pub sent_by_all : Plan → Course → List Sending → Course
+sent_by_all plan c sendings =
+    fold (λ c (x : Sending). send_replies plan x.node c x.replies) c sendings
+
+-- the course of input 0, at time 0, behind the initialization of all scripts
+abbrev pub opening_course : SceneView → List ScriptRecord → Course
+opening_course scene scripts = course (record { world = untold scene; sent = [] }) scripts
+
+-- the world of a scene before any input: what input 0 leaves
+unfoldable pub opening : SceneView → List Route → Scripted
+opening scene routes =
+    let plan = plan_of scene routes in
+    let s = started plan (scripts_in scene) in
+    ended (settle plan (sent_by_all plan (opening_course scene s.scripts) s.sendings))
+
 -- the world of a scene and a list of inputs
-abbrev pub world : SceneView → List Route → List Stamp → WorldData
-world scene routes inputs = world_after scene routes (opening scene) inputs
+abbrev pub world : SceneView → List Route → List Stamp → Scripted
+world scene routes inputs = world_after scene routes (opening scene routes) inputs

@@ -1,10 +1,11 @@
 -- A stage holds the world of its scene, or is spoiled with the number of inputs that it had
 -- applied.
-use Rattle.std.specs.Prelude.{ℕ, Bool, true, false, List, [], ◌∷◌, Option, Some, None, if◌then◌else◌, ◌+◌, ◌==◌, int_lt, not}
+use Rattle.std.specs.Prelude.{ℕ, ℤ, Bool, true, false, List, [], ◌∷◌, Option, Some, None, if◌then◌else◌, ◌+◌, ◌==◌, int_lt, not}
 use Rattle.std.specs.List.{fold}
 use Rattle.x3d_values.specs.Stamp.{Stamp}
 use Rattle.scene_core.specs.declared.scene.Route.{Route}
 use Rattle.scene_core.specs.Scene.{SceneView}
+use Rattle.cascade_core.specs.Course.{Scripted}
 use Rattle.cascade_core.specs.Apply.{apply}
 use Rattle.cascade_core.specs.declared.fault.ApplyFault.{ApplyFault}
 use Rattle.cascade_core.specs.declared.fault.ApplyFault.TheVariants as fault
@@ -12,7 +13,7 @@ use Rattle.cascade_core.specs.declared.world.TraceLine.{TraceLine}
 use Rattle.cascade_core.specs.declared.world.WorldData.{WorldData}
 
 pub data Held : Type 0 where
-  Running : WorldData → Held
+  Running : Scripted → Held
   Spoiled : ℕ → Held
 
 -- a scene, its routes, and what became of its world
@@ -22,12 +23,12 @@ pub record StageView : Type 0 where
   pub held : Held
 
 -- what a stage holds, by its world and its mark
-abbrev pub held_of : Option ℕ → WorldData → Held
+abbrev pub held_of : Option ℕ → Scripted → Held
 held_of None w = Running w
 held_of (Some n) w = Spoiled n
 
 -- a fact about the world of a stage that isn't spoiled
-abbrev pub IfRunning : Held → (WorldData → Type 0) → Type 0
+abbrev pub IfRunning : Held → (Scripted → Type 0) → Type 0
 IfRunning (Running w) P = P w
 IfRunning (Spoiled n) P = Unit {0}
 
@@ -42,17 +43,22 @@ is_spoiled (Spoiled n) = true
 
 -- the world of a stage that isn't spoiled
 abbrev pub world_in : Held → Option WorldData
-world_in (Running w) = Some w
+world_in (Running w) = Some w.world
 world_in (Spoiled n) = None
+
+-- the states of the scripts of a stage that isn't spoiled
+abbrev pub states_in : Held → Option (List (List ℤ))
+states_in (Running w) = Some w.states
+states_in (Spoiled n) = None
 
 -- how many inputs a stage has applied, or had when it was spoiled
 abbrev pub applied_of : Held → ℕ
-applied_of (Running w) = w.applied
+applied_of (Running w) = w.world.applied
 applied_of (Spoiled n) = n
 
 -- the trace of a stage
 abbrev pub trace_of : Held → List TraceLine
-trace_of (Running w) = w.trace
+trace_of (Running w) = w.world.trace
 trace_of (Spoiled n) = []
 
 -- why a world refuses an input: the first that holds
@@ -63,7 +69,7 @@ world_refusal w input =
     else (if int_lt w.last_time input.time then None else Some fault.TimeNotLater)
 
 abbrev pub refusal_of : Held → Stamp → Option ApplyFault
-refusal_of (Running w) input = world_refusal w input
+refusal_of (Running w) input = world_refusal w.world input
 refusal_of (Spoiled n) input = Some fault.Spoiled
 
 -- the stage with this in it

@@ -15,3 +15,11 @@ pub mod Texts
 pub mod Stack
 pub mod Bits
 pub mod FaultNames
+pub mod Scripts
+pub mod Course
+pub mod Settles
+pub mod ScriptLaws
+pub mod Installing
+pub mod Placing
+pub mod Sound
+pub mod Table

@@ -1,31 +1,27 @@
 -- What the tasks of a work stack mean: the last is done first.
 use Rattle.std.specs.Prelude.{ℕ, Bool, ◌≡◌, true, false, ◌+◌, ◌-◌, ◌*◌, List, [], ◌∷◌, length, drop, reverse}
 use Rattle.std.specs.List.{fold}
-use Rattle.x3d_values.specs.declared.value.Value.{Value}
 use Rattle.react_core.specs.declared.outbox.Reply.{Reply}
 use Rattle.scene_core.specs.declared.scene.End.{End}
 use Rattle.scene_core.specs.declared.scene.Route.{Route}
 use Rattle.scene_core.specs.Shape.{Shape}
+use Rattle.cascade_core.specs.Course.{Course, Plan}
 use Rattle.cascade_core.specs.Ends.{has_sent, targets_of}
-use Rattle.cascade_core.specs.Cascade.{send, deliver}
-use Rattle.cascade_core.specs.Outputs.{outputs_of, is_scene_output, ends_from}
+use Rattle.cascade_core.specs.Outputs.{is_scene_output, ends_from}
+use Rattle.cascade_core.specs.Cascade.{deliver, send_full}
 use Rattle.cascade_core.specs.declared.stack.Task.{Task}
 use Rattle.cascade_core.specs.declared.stack.Task.TheVariants.{Send, Follow}
 use Rattle.cascade_core.specs.declared.world.Turn.{Turn}
 
--- an event is sent with all its consequences
-abbrev pub send_full : List Shape → List Route → Turn → End → Value → Turn
-send_full shapes routes = send shapes routes (outputs_of shapes + 1)
-
 -- a task by the definition of the cascade
-abbrev pub do_task : List Shape → List Route → Turn → Task → Turn
-do_task shapes routes turn (Send source v) = send_full shapes routes turn source v
-do_task shapes routes turn (Follow source v next) =
-    fold (deliver (send_full shapes routes) shapes v) turn (drop next (targets_of routes source))
+abbrev pub do_task : Plan → Course → Task → Course
+do_task plan c (Send source v) = send_full plan c source v
+do_task plan c (Follow source v next) =
+    fold (deliver (send_full plan) plan v) c (drop next (targets_of plan.routes source))
 
 -- the tasks from the last to the first
-unfoldable pub finish : List Shape → List Route → Turn → List Task → Turn
-finish shapes routes turn tasks = fold (do_task shapes routes) turn (reverse tasks)
+unfoldable pub finish : Plan → Course → List Task → Course
+finish plan c tasks = fold (do_task plan) c (reverse tasks)
 
 -- only outputs of the scene send
 abbrev pub IsReady : List Shape → Task → Type 0
@@ -56,9 +52,9 @@ abbrev pub unsent : List Shape → Turn → ℕ
 unsent shapes turn = unsent_among (ends_from 0 shapes) turn.sent
 
 -- a bound on the tasks that are still to be done
-unfoldable pub work_left : List Shape → List Route → Turn → List Task → ℕ
-work_left shapes routes turn tasks =
-    unsent shapes turn * (6 * length routes + 2) + weights routes tasks
+unfoldable pub work_left : Plan → Course → List Task → ℕ
+work_left plan c tasks =
+    unsent plan.shapes c.turn * (6 * length plan.routes + 2) + weights plan.routes tasks
 
 -- a reply of a node is to be sent
 abbrev pub send_by : ℕ → Reply → Task

@@ -10,7 +10,7 @@ use Rattle.scene_core.specs.declared.scene.Route.{Route}
 use Rattle.scene_core.specs.Scene.{SceneView, label_of, rows_at}
 use Rattle.scene_text.specs.SceneText.{scene_text as text_of_scene}
 use Rattle.cascade_core.specs.declared.world.TraceLine.{TraceLine}
-use Rattle.cascade_core.specs.declared.world.WorldData.{WorldData}
+use Rattle.cascade_core.specs.Course.{Scripted}
 
 -- the plain name of a field: by the table of fields, or as a Script declares it
 unfoldable pub field_name : SceneView → End → List ℕ
@@ -32,9 +32,9 @@ line_text scene line =
     ++ 32 ∷ value_text line.value ++ 10 ∷ []
 
 -- all events in the order in which they were sent
-unfoldable pub trace_text : SceneView → WorldData → List ℕ
-trace_text scene w = flat_map (line_text scene) w.trace
+unfoldable pub trace_text : SceneView → Scripted → List ℕ
+trace_text scene w = flat_map (line_text scene) w.world.trace
 
 -- the scene with its routes and what its nodes keep
-unfoldable pub scene_text : SceneView → List Route → WorldData → List ℕ
-scene_text scene routes w = text_of_scene scene routes w.fields
+unfoldable pub scene_text : SceneView → List Route → Scripted → List ℕ
+scene_text scene routes w = text_of_scene scene routes w.world.fields

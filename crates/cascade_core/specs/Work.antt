@@ -1,5 +1,5 @@
 -- What an input gave rise to, by the lines that the trace gained.
-use Rattle.std.specs.Prelude.{Bool, ◌≡◌, true, not, ◌&&◌, ◌++◌, List, [], ◌∷◌, length, map, count_by}
+use Rattle.std.specs.Prelude.{ℕ, Bool, ◌≡◌, true, not, ◌&&◌, ◌++◌, List, [], ◌∷◌, length, map, count_by}
 use Rattle.scene_core.specs.declared.scene.End.{End}
 use Rattle.scene_core.specs.declared.scene.Route.{Route}
 use Rattle.cascade_core.specs.Ends.{has_sent}
@@ -16,11 +16,12 @@ abbrev pub sources_of : List TraceLine → List End
 sources_of lines = map (λ line. line.source) lines
 
 -- the trace gained these lines, of different outputs; the work counts them, and the routes whose
--- source sent; there is no script to settle
-pub record IsWork (routes : List Route) (old new : List TraceLine) (work : Work) : Type 0 where
+-- source sent; and the scripts that were settled
+pub record IsWork (routes : List Route) (old new : List TraceLine) (settled : List ℕ) (work : Work)
+    : Type 0 where
   pub lines : List TraceLine
   pub gained : new ≡ old ++ lines
   pub differ : all_differ (sources_of lines) ≡ true
   pub sends : work.sends ≡ length lines
   pub deliveries : work.deliveries ≡ count_by (λ r. has_sent (sources_of lines) r.source) routes
-  pub settles : work.settles ≡ 0
+  pub settles : work.settles ≡ length settled

@@ -4,7 +4,6 @@ ghost use Rattle.std.specs.Prelude.{◌≡◌, [], OnOk, pos, ◌≤ℤ◌, ◌^
 ghost use Rattle.scene_core.specs.Scene.{rows_at, shapes_of};
 ghost use Rattle.cascade_core.specs.Answers.{answer, answer_by, answered, setting_at, reacting, ticked};
 
-use crate::nodes::type_at;
 use crate::world::WorldData;
 use react_core::Outbox;
 use scene_core::{End, Scene};
@@ -93,7 +92,7 @@ impl WorldData {
         ensures replies { OnOk result (out.new.items
             ≡ (answer (shapes_of scene.now) self.old target value.now).replies) }
     {
-        let Some(node_type) = type_at(scene, target.node) else {
+        let Some(node_type) = scene.type_at(target.node) else {
             return Ok(());
         };
         self.reply_by(alloc, scene, node_type, target, value, out)

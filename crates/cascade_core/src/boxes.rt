@@ -6,7 +6,6 @@ ghost use Rattle.scene_core.specs.Scene.{shapes_of, types_of};
 ghost use Rattle.cascade_core.specs.Answers.{answer, answered, with_answer};
 ghost use Rattle.cascade_core.specs.Nodes.{moves_boxes};
 
-use crate::nodes::type_at;
 use crate::world::{Turn, WorldData};
 use pick_core::BoxCache;
 use react_core::Outbox;
@@ -19,7 +18,7 @@ use x3d_values::{NodeType, Value};
 fn moves_boxes(scene: &Scene, node: u32) -> bool
     ensures { result ≡ moves_boxes (slice_get (types_of scene.now) node) }
 {
-    match type_at(scene, node) {
+    match scene.type_at(node) {
         Some(NodeType::Transform) => true,
         Some(NodeType::Switch) => true,
         _ => false,
@@ -63,7 +62,8 @@ impl WorldData {
         requires empty { out.old.items ≡ [] }
         requires boxes { boxes.old ≡ rows_of scene.now self.old.fields }
         ensures world { OnOk result
-            (self.new ≡ answered self.old (answer (shapes_of scene.now) self.old target value.now)) }
+            (self.new ≡ answered self.old
+            (answer (shapes_of scene.now) self.old target value.now)) }
         ensures replies { OnOk result
             (out.new.items ≡ (answer (shapes_of scene.now) self.old target value.now).replies) }
         ensures boxes { OnOk result (boxes.new ≡ rows_of scene.now self.new.fields) }

@@ -1,26 +1,29 @@
 //! The clock ticks for each TimeSensor in number order.
 
 ghost use Rattle.std.specs.Prelude.{◌≡◌, [], OnOk, true, length};
-ghost use Rattle.scene_core.specs.Scene.{shapes_of, types_of};
+ghost use Rattle.std.specs.List.{fold};
+ghost use Rattle.scene_core.specs.Scene.{types_of};
 ghost use Rattle.pick_core.specs.Sites.{rows_of};
-ghost use Rattle.cascade_core.specs.Apply.{clock as clock_of, tick_node as tick_node_of};
+ghost use Rattle.script_turn.specs.Acting.{kinds_of};
+ghost use Rattle.cascade_core.specs.Course.{plan_at, seen};
+ghost use Rattle.cascade_core.specs.Sound.{IsCast};
 ghost use Rattle.cascade_core.specs.Nodes.{clocks_of, is_clock};
+ghost use Rattle.cascade_core.specs.Apply.{tick_node as tick_node_of};
 
+use crate::course::Course;
+use crate::fixed::Fixed;
 use crate::stack::{Task, push_replies, run_tasks};
-use crate::world::Turn;
 use pick_core::BoxCache;
 use react_core::Outbox;
-use route_core::Routes;
-use scene_core::Scene;
+use script_host::Behaviour;
 use std::alloc::AllocError;
 use x3d_values::Stamped;
 
 /// A TimeSensor ticks, and what it sends is followed.
-fn tick_node(
-    scene: &Scene,
-    routes: &Routes,
+fn tick_node<B: Behaviour>(
+    fixed: &Fixed,
     tasks: &mut Vec<Task>,
-    turn: &mut Turn,
+    course: &mut Course<B>,
     replies: &mut Outbox,
     boxes: &mut BoxCache,
     node: u32,
@@ -28,49 +31,49 @@ fn tick_node(
 ) -> Result<(), AllocError>
     requires empty { tasks.old.items ≡ [] }
     requires none { replies.old.items ≡ [] }
-    requires boxes { boxes.old ≡ rows_of scene.now turn.old.world.fields }
-    requires clock { is_clock (types_of scene.now) node ≡ true }
-    ensures turn { OnOk result (turn.new
-        ≡ tick_node_of (shapes_of scene.now) routes.now input.now.time turn.old node) }
+    requires boxes { boxes.old ≡ rows_of fixed.now.scene course.old.turn.world.fields }
+    requires cast { IsCast (plan_at fixed.now) (seen course.old) }
+    requires clock { is_clock (types_of fixed.now.scene) node ≡ true }
+    ensures course { OnOk result (seen course.new
+        ≡ tick_node_of (plan_at fixed.now) input.now.time (seen course.old) node) }
     ensures empty { OnOk result (tasks.new.items ≡ []) }
     ensures none { OnOk result (replies.new.items ≡ []) }
-    ensures boxes { OnOk result (boxes.new ≡ rows_of scene.now turn.new.world.fields) }
+    ensures boxes { OnOk result
+        (boxes.new ≡ rows_of fixed.now.scene course.new.turn.world.fields) }
+    ensures kinds { kinds_of course.new.scripts ≡ kinds_of course.old.scripts }
+    ensures count { course.new.settling.count ≡ course.old.settling.count }
 {
-    turn.world.tick(node, input, replies);
+    course.turn.world.tick(node, input, replies);
     push_replies(tasks, node, replies)?;
-    run_tasks(scene, routes, tasks, turn, replies, boxes)?;
+    run_tasks(fixed, tasks, course, replies, boxes)?;
     Ok(())
 }
 
 /// Each TimeSensor ticks at its turn.
-pub fn clock(
-    scene: &Scene,
-    routes: &Routes,
+pub fn clock<B: Behaviour>(
+    fixed: &Fixed,
     clocks: &[u32],
     tasks: &mut Vec<Task>,
-    turn: &mut Turn,
+    course: &mut Course<B>,
     boxes: &mut BoxCache,
     input: &Stamped,
 ) -> Result<(), AllocError>
     requires empty { tasks.old.items ≡ [] }
-    requires clocks { clocks.now ≡ clocks_of (types_of scene.now) }
-    requires boxes { boxes.old ≡ rows_of scene.now turn.old.world.fields }
-    ensures turn { OnOk result
-        (turn.new ≡ clock_of scene.now routes.now input.now.time turn.old) }
-    ensures boxes { OnOk result (boxes.new ≡ rows_of scene.now turn.new.world.fields) }
+    requires clocks { clocks.now ≡ clocks_of (types_of fixed.now.scene) }
+    requires boxes { boxes.old ≡ rows_of fixed.now.scene course.old.turn.world.fields }
+    requires cast { IsCast (plan_at fixed.now) (seen course.old) }
+    ensures course { OnOk result (seen course.new
+        ≡ fold (tick_node_of (plan_at fixed.now) input.now.time) (seen course.old)
+        (clocks_of (types_of fixed.now.scene))) }
+    ensures empty { OnOk result (tasks.new.items ≡ []) }
+    ensures boxes { OnOk result
+        (boxes.new ≡ rows_of fixed.now.scene course.new.turn.world.fields) }
+    ensures kinds { kinds_of course.new.scripts ≡ kinds_of course.old.scripts }
+    ensures count { course.new.settling.count ≡ course.old.settling.count }
 {
     let mut replies = Outbox::new();
     for node in clocks {
-        tick_node(
-            scene,
-            routes,
-            tasks,
-            turn,
-            &mut replies,
-            boxes,
-            *node,
-            input,
-        )?;
+        tick_node(fixed, tasks, course, &mut replies, boxes, *node, input)?;
     }
     Ok(())
 }

@@ -1,10 +1,13 @@
 //! What may be refused.
 
 ghost use Rattle.std.specs.Prelude.{◌≡◌};
-ghost use Rattle.cascade_core.specs.FaultNames.{load_fault_name, apply_fault_name, text_fault_name};
+ghost use Rattle.cascade_core.specs.FaultNames.{load_fault_name, apply_fault_name, text_fault_name, states_fault_name, place_fault_name};
 ghost use Rattle.cascade_core.specs.declared.fault.LoadFault.TheVariants.{Memory};
 ghost use Rattle.cascade_core.specs.declared.fault.TextFault.TheVariants as text_fault;
+ghost use Rattle.cascade_core.specs.declared.fault.StatesFault.TheVariants as states_fault;
+ghost use Rattle.cascade_core.specs.Placing.{place_fault_of};
 
+use script_host::ReplaceFault;
 use std::alloc::AllocError;
 use std::fmt;
 use thiserror::Error;
@@ -38,6 +41,28 @@ pub enum TextFault {
     Memory,
 }
 
+/// Why the states of scripts were not given, in the order of precedence.
+#[derive(Clone, Copy, Debug, PartialEq, Eq, Error)]
+pub enum StatesFault {
+    #[error("memory was refused at an earlier input")]
+    Spoiled,
+    #[error("memory was refused")]
+    Memory,
+}
+
+/// Why a script was not replaced, in the order of precedence.
+#[derive(Clone, Copy, Debug, PartialEq, Eq, Error)]
+pub enum PlaceFault {
+    #[error("memory was refused at an earlier input")]
+    Spoiled,
+    #[error("there is no script of that number")]
+    NoSuchScript,
+    #[error("the script is of another kind")]
+    KindDiffers,
+    #[error("memory was refused")]
+    Memory,
+}
+
 impl From<AllocError> for LoadFault {
     ghost from_gives = { λ _ fault. fault ≡ Memory };
 
@@ -51,6 +76,26 @@ impl From<AllocError> for TextFault {
 
     fn from(_refused: AllocError) -> TextFault {
         TextFault::Memory
+    }
+}
+
+impl From<AllocError> for StatesFault {
+    ghost from_gives = { λ _ fault. fault ≡ states_fault.Memory };
+
+    fn from(_refused: AllocError) -> StatesFault {
+        StatesFault::Memory
+    }
+}
+
+impl From<ReplaceFault> for PlaceFault {
+    ghost from_gives = { λ refused fault. fault ≡ place_fault_of refused };
+
+    fn from(refused: ReplaceFault) -> PlaceFault {
+        match refused {
+            ReplaceFault::NoSuchScript => PlaceFault::NoSuchScript,
+            ReplaceFault::KindDiffers => PlaceFault::KindDiffers,
+            ReplaceFault::Memory => PlaceFault::Memory,
+        }
     }
 }
 
@@ -87,6 +132,32 @@ impl TextFault {
         match self {
             TextFault::Spoiled => "Spoiled",
             TextFault::Memory => "Memory",
+        }
+    }
+}
+
+impl StatesFault {
+    /// The name of the variant.
+    pub fn name(self) -> &'static str
+        ensures { result.now ≡ states_fault_name self }
+    {
+        match self {
+            StatesFault::Spoiled => "Spoiled",
+            StatesFault::Memory => "Memory",
+        }
+    }
+}
+
+impl PlaceFault {
+    /// The name of the variant.
+    pub fn name(self) -> &'static str
+        ensures { result.now ≡ place_fault_name self }
+    {
+        match self {
+            PlaceFault::Spoiled => "Spoiled",
+            PlaceFault::NoSuchScript => "NoSuchScript",
+            PlaceFault::KindDiffers => "KindDiffers",
+            PlaceFault::Memory => "Memory",
         }
     }
 }

@@ -1,79 +1,115 @@
-//! An input happens: it goes to the nodes that it concerns, and the world moves on.
+//! An input happens: it goes to the nodes that it concerns, scripts settle, and the world moves on.
 
 ghost use Rattle.std.specs.Prelude.{◌≡◌, ◌+◌, [], IfOk, OnOk, true, length};
 ghost use Rattle.scene_core.specs.Scene.{types_of};
 ghost use Rattle.pick_core.specs.Sites.{rows_of};
-ghost use Rattle.cascade_core.specs.Apply.{apply, happen};
+ghost use Rattle.script_turn.specs.Acting.{kinds_of};
+ghost use Rattle.cascade_core.specs.Course.{plan_at, seen};
+ghost use Rattle.cascade_core.specs.Sound.{IsCast, IsFixed};
+ghost use Rattle.cascade_core.specs.Course.{course as course_of, ended, plan_of};
+ghost use Rattle.cascade_core.specs.Scripts.{kinds_in, running, states_of};
+ghost use Rattle.cascade_core.specs.Apply.{begin as begin_of};
 ghost use Rattle.cascade_core.specs.Nodes.{clocks_of, touch_sensors_of};
-ghost use Rattle.cascade_core.specs.Work.{IsWork, all_differ};
+ghost use Rattle.cascade_core.specs.Work.{IsWork};
+ghost use Rattle.cascade_core.specs.Apply.{after_input, apply, begun, happen};
 
 use crate::bench::{Bench, Sensors};
 use crate::clock::clock;
+use crate::course::Course;
 use crate::deliveries::deliveries;
+use crate::fixed::Fixed;
 use crate::pointer::point;
+use crate::settle::settle;
 use crate::work::Work;
-use crate::world::Turn;
-use route_core::Routes;
-use scene_core::Scene;
+use script_host::Behaviour;
 use std::alloc::AllocError;
 use x3d_values::{Event, Stamped};
 
+impl<B: Behaviour> Course<B> {
+    /// An input begins: no output has sent, and no script has received.
+    fn begin(&mut self, input: &Stamped)
+        requires next { input.now.number ≡ self.old.turn.world.applied + 1 }
+        requires counted { self.old.settling.count ≡ length self.old.scripts }
+        ensures course { seen self.new
+            ≡ course_of (begin_of self.old.turn.world input.now) self.old.scripts }
+        ensures begun { self.old.scripts
+            ≡ running (kinds_of self.old.scripts) (states_of self.old.scripts) }
+    {
+        self.turn.begin(input);
+        self.scripts.begin(&mut self.settling);
+    }
+}
+
 /// What happened at an input goes to the nodes that it concerns.
-fn happen(
-    scene: &Scene,
-    routes: &Routes,
+fn happen<B: Behaviour>(
+    fixed: &Fixed,
     sensors: &Sensors,
     bench: &mut Bench,
-    turn: &mut Turn,
+    course: &mut Course<B>,
     input: &Stamped,
 ) -> Result<(), AllocError>
     requires empty { bench.old.tasks.items ≡ [] }
-    requires clocks { sensors.now.clocks.items ≡ clocks_of (types_of scene.now) }
-    requires touches { sensors.now.touches.items ≡ touch_sensors_of (types_of scene.now) }
-    requires boxes { bench.old.boxes ≡ rows_of scene.now turn.old.world.fields }
-    ensures turn { OnOk result
-        (turn.new ≡ happen scene.now routes.now input.now.time turn.old input.now.event) }
-    ensures boxes { OnOk result (bench.new.boxes ≡ rows_of scene.now turn.new.world.fields) }
+    requires clocks { sensors.now.clocks.items ≡ clocks_of (types_of fixed.now.scene) }
+    requires touches { sensors.now.touches.items ≡ touch_sensors_of (types_of fixed.now.scene) }
+    requires boxes { bench.old.boxes ≡ rows_of fixed.now.scene course.old.turn.world.fields }
+    requires cast { IsCast (plan_at fixed.now) (seen course.old) }
+    ensures course { OnOk result (seen course.new
+        ≡ happen fixed.now.scene (plan_at fixed.now) input.now.time (seen course.old)
+        input.now.event) }
+    ensures empty { OnOk result (bench.new.tasks.items ≡ []) }
+    ensures boxes { OnOk result
+        (bench.new.boxes ≡ rows_of fixed.now.scene course.new.turn.world.fields) }
+    ensures kinds { kinds_of course.new.scripts ≡ kinds_of course.old.scripts }
+    ensures count { course.new.settling.count ≡ course.old.settling.count }
 {
     match input.event() {
         Event::Clock => clock(
-            scene,
-            routes,
+            fixed,
             &sensors.clocks,
             &mut bench.tasks,
-            turn,
+            course,
             &mut bench.boxes,
             input,
         ),
-        Event::Pointer(pointer) => point(scene, routes, &sensors.touches, bench, turn, pointer),
+        Event::Pointer(pointer) => point(fixed, &sensors.touches, bench, course, pointer),
     }
 }
 
 /// The world moves on by one input.
 #[tactic(auto, unfolding(crate::specs::Apply::apply))]
-pub fn advance(
-    scene: &Scene,
-    routes: &Routes,
+pub fn advance<B: Behaviour>(
+    fixed: &Fixed,
     sensors: &Sensors,
     bench: &mut Bench,
-    turn: &mut Turn,
+    course: &mut Course<B>,
     input: &Stamped,
 ) -> Result<Work, AllocError>
-    requires clocks { sensors.now.clocks.items ≡ clocks_of (types_of scene.now) }
-    requires touches { sensors.now.touches.items ≡ touch_sensors_of (types_of scene.now) }
-    requires boxes { bench.old.boxes ≡ rows_of scene.now turn.old.world.fields }
-    requires next { input.now.number ≡ turn.old.world.applied + 1 }
-    ensures world { OnOk result
-        (turn.new.world ≡ apply scene.now routes.now turn.old.world input.now) }
-    ensures boxes { OnOk result (bench.new.boxes ≡ rows_of scene.now turn.new.world.fields) }
-    ensures work { IfOk result (IsWork routes.now turn.old.world.trace turn.new.world.trace) }
+    requires clocks { sensors.now.clocks.items ≡ clocks_of (types_of fixed.now.scene) }
+    requires touches { sensors.now.touches.items ≡ touch_sensors_of (types_of fixed.now.scene) }
+    requires boxes { bench.old.boxes ≡ rows_of fixed.now.scene course.old.turn.world.fields }
+    requires cast { IsCast (plan_at fixed.now) (seen course.old) }
+    requires next { input.now.number ≡ course.old.turn.world.applied + 1 }
+    requires fixed { IsFixed fixed.now }
+    requires scripts { kinds_of course.old.scripts ≡ kinds_in fixed.now.scene }
+    ensures world { OnOk result (ended (seen course.new)
+        ≡ apply fixed.now.scene fixed.now.routes (ended (seen course.old)) input.now) }
+    ensures boxes { OnOk result
+        (bench.new.boxes ≡ rows_of fixed.now.scene course.new.turn.world.fields) }
+    ensures work { IfOk result
+        (IsWork fixed.now.routes course.old.turn.world.trace course.new.turn.world.trace
+        (after_input fixed.now.scene (plan_of fixed.now.scene fixed.now.routes)
+        (begun fixed.now.scene (ended (seen course.old)) input.now) input.now).settling.settled) }
+    ensures kinds { kinds_of course.new.scripts ≡ kinds_of course.old.scripts }
+    ensures count { course.new.settling.count ≡ course.old.settling.count }
 {
     bench.tasks.clear();
-    turn.begin(input);
-    happen(scene, routes, sensors, bench, turn, input)?;
+    course.begin(input);
+    happen(fixed, sensors, bench, course, input)?;
+    settle(fixed, &mut bench.tasks, course, &mut bench.boxes)?;
+    let sent = course.turn.sent.as_slice();
     Ok(Work {
-        sends: turn.sent.as_slice().len(),
-        deliveries: deliveries(routes, turn.sent.as_slice()),
-        settles: 0,
+        sends: sent.len(),
+        deliveries: deliveries(&fixed.routes, sent),
+        settles: course.settling.settles(),
     })
 }

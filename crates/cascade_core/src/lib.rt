@@ -3,19 +3,25 @@
 #![tactic(auto)]
 
 mod answer;
+mod begun;
 mod bench;
 mod boxes;
 mod clock;
+mod course;
 mod deliveries;
 mod fault;
+mod fixed;
 mod input;
+mod laws;
 mod lines;
 mod nodes;
+mod opening;
 mod parts;
 mod places;
 mod pointer;
-mod scripts;
 mod sent;
+mod series;
+mod settle;
 mod stack;
 mod stage;
 mod state;
@@ -26,10 +32,11 @@ mod unrun;
 mod work;
 mod world;
 
-pub use fault::{ApplyFault, LoadFault, TextFault};
+pub use fault::{ApplyFault, LoadFault, PlaceFault, StatesFault, TextFault};
+pub use laws::{kinds_law, settling_law, states_law};
 pub use lines::{LineHead, WritesLines};
-pub use scripts::Scripts;
-pub use stage::{Stage, run};
+pub use series::run;
+pub use stage::Stage;
 pub use state::State;
 pub use trace::Trace;
 pub use work::Work;

@@ -1,19 +1,27 @@
 //! What a stage makes of its scene.
 
-ghost use Rattle.std.specs.Prelude.{◌≡◌, IfOk, None, replicate};
-ghost use Rattle.cascade_core.specs.Apply.{opening};
+ghost use Rattle.std.specs.Prelude.{◌≡◌, [], IfOk, List, None, replicate};
+ghost use Rattle.script_turn.specs.Acting.{kinds_of};
+ghost use Rattle.script_host.specs.Attaching.{Fits};
+ghost use Rattle.script_host.specs.Hosting.{ScriptRecord};
+ghost use Rattle.scene_scripts.specs.Scripts.{script_list};
+ghost use Rattle.cascade_core.specs.Course.{plan_at};
+ghost use Rattle.cascade_core.specs.Sound.{IsFixed, IsSound};
+ghost use Rattle.cascade_core.specs.Apply.{untold};
 ghost use Rattle.cascade_core.specs.Nodes.{clocks_of, touch_sensors_of};
 ghost use Rattle.pick_core.specs.Sites.{rows_of};
 ghost use Rattle.scene_core.specs.Scene.{types_of};
 ghost use Rattle.sensor_core.specs.Touches.{untouched};
 
 use crate::bench::{Bench, Sensors};
+use crate::fixed::{Fixed, Runs};
 use crate::nodes::numbers_of;
 use crate::sent::SentBits;
 use crate::state::State;
 use crate::trace::Trace;
 use crate::world::{Turn, VIEWERS, WorldData};
 use pick_core::BoxCache;
+use route_core::Routes;
 use scene_core::Scene;
 use sensor_core::{TimeState, TouchState};
 use std::alloc::{AllocError, Global};
@@ -36,9 +44,9 @@ fn untouched_sensors(alloc: Global, nodes: usize) -> Result<Items<TouchState>, A
     Ok(Items::from_vec(touches))
 }
 
-/// The world of a scene before any input.
-fn opening(alloc: Global, scene: &Scene) -> Result<WorldData, AllocError>
-    ensures { IfOk result (λ w. w ≡ opening scene.now) }
+/// The world of a scene in which nothing has happened.
+fn untold(alloc: Global, scene: &Scene) -> Result<WorldData, AllocError>
+    ensures { IfOk result (λ w. w ≡ untold scene.now) }
 {
     let fields = scene.state(alloc)?;
     let sensors = idle_sensors(alloc, fields.len())?;
@@ -74,7 +82,8 @@ pub(crate) fn bench_of(
     world: &WorldData,
     sensors: usize,
 ) -> Result<Bench, AllocError>
-    ensures { IfOk result (λ bench. bench.boxes ≡ rows_of scene.now world.now.fields) }
+    ensures boxes { IfOk result (λ bench. bench.boxes ≡ rows_of scene.now world.now.fields) }
+    ensures tasks { IfOk result (λ bench. bench.tasks.items ≡ []) }
 {
     let boxes = BoxCache::new(alloc, scene, world.fields.as_slice())?;
     let pressed = Vec::with_capacity(alloc, sensors)?;
@@ -85,12 +94,13 @@ pub(crate) fn bench_of(
     })
 }
 
-/// The turn of a scene before any input.
+/// The turn of a scene in which nothing has happened.
 fn turn_of(alloc: Global, scene: &Scene) -> Result<Turn, AllocError>
-    ensures { IfOk result (λ turn. turn.world ≡ opening scene.now) }
+    ensures world { IfOk result (λ turn. turn.world ≡ untold scene.now) }
+    ensures sent { IfOk result (λ turn. turn.sent ≡ []) }
 {
     let sent = SentBits::new(alloc, scene)?;
-    let world = opening(alloc, scene)?;
+    let world = untold(alloc, scene)?;
     Ok(Turn { world, sent })
 }
 
@@ -108,7 +118,9 @@ pub(crate) fn parts_of(alloc: Global, scene: &Scene) -> Result<Parts, AllocError
         (λ parts. parts.sensors.clocks.items ≡ clocks_of (types_of scene.now)) }
     ensures touches { IfOk result
         (λ parts. parts.sensors.touches.items ≡ touch_sensors_of (types_of scene.now)) }
-    ensures world { IfOk result (λ parts. parts.turn.world ≡ opening scene.now) }
+    ensures world { IfOk result (λ parts. parts.turn.world ≡ untold scene.now) }
+    ensures sent { IfOk result (λ parts. parts.turn.sent ≡ []) }
+    ensures tasks { IfOk result (λ parts. parts.bench.tasks.items ≡ []) }
     ensures boxes { IfOk result
         (λ parts. parts.bench.boxes ≡ rows_of scene.now parts.turn.world.fields) }
 {
@@ -119,5 +131,24 @@ pub(crate) fn parts_of(alloc: Global, scene: &Scene) -> Result<Parts, AllocError
         sensors,
         turn,
         bench,
+    })
+}
+
+/// What events go by in a scene with these routes.
+pub fn fixed_of(alloc: Global, scene: Scene, routes: Routes) -> Result<Fixed, AllocError>
+    ensures scene { IfOk result (λ made. made.scene ≡ scene) }
+    ensures routes { IfOk result (λ made. made.routes ≡ routes) }
+    ensures runs { IfOk result (λ made. IsFixed made) }
+    ensures sound { IfOk result (λ made. (scripts : List ScriptRecord)
+        → Fits (script_list scene) scripts
+        → IsSound (plan_at made) (kinds_of scripts)) }
+{
+    let asked = scene_scripts::script_list(alloc, &scene)?;
+    let listed = scene_scripts::runs_of(alloc, &scene, &asked)?;
+    let runs = Runs::new(alloc, listed, &scene)?;
+    Ok(Fixed {
+        scene,
+        routes,
+        runs,
     })
 }

@@ -4,7 +4,6 @@ ghost use Rattle.std.specs.Prelude.{◌≡◌, ◌≤◌, OnOk, false, length, A
 ghost use Rattle.cascade_core.specs.Bits.{IsRising, place_of};
 ghost use Rattle.cascade_core.specs.Ends.{same_end};
 
-use crate::nodes::count_of;
 use scene_core::{End, Scene};
 use std::alloc::AllocError;
 
@@ -65,7 +64,7 @@ pub fn push_starts(
     ensures rising { OnOk result (IsRising starts.new.items (length bits.new.items)) }
     ensures unset { OnOk result (All (λ bit. bit ≡ false) bits.new.items) }
 {
-    let count = count_of(scene)?;
+    let count = scene.count()?;
     for node in 0..count {
         push_node(scene.field_count(node) as usize, starts, bits)?;
     }

@@ -7,18 +7,23 @@ ghost use Rattle.x3d_values.specs.Pointing.{Pointing};
 ghost use Rattle.scene_core.specs.Scene.{types_of};
 ghost use Rattle.pick_core.specs.Local.{local_of};
 ghost use Rattle.pick_core.specs.Sites.{rows_of};
-ghost use Rattle.cascade_core.specs.Apply.{point as point_of, point_node as point_node_of, with_button};
+ghost use Rattle.script_turn.specs.Acting.{kinds_of};
+ghost use Rattle.cascade_core.specs.Course.{plan_at, seen};
+ghost use Rattle.cascade_core.specs.Sound.{IsCast};
+ghost use Rattle.cascade_core.specs.Apply.{point as point_of, point_node as point_node_of};
 ghost use Rattle.cascade_core.specs.Nodes.{touch_sensors_of};
 ghost use Rattle.cascade_core.specs.Pointer.{insides as insides_of, is_down, or_all, place_in};
 
 use crate::bench::Bench;
+use crate::course::Course;
+use crate::fixed::Fixed;
 use crate::stack::{Task, push_replies, run_tasks};
 use crate::world::{Turn, WorldData};
 use arrayvec::ArrayVec;
 use pick_core::{BoxCache, Hit, MAX_SENSORS, local_point, sensors_of};
 use react_core::Outbox;
-use route_core::Routes;
 use scene_core::Scene;
+use script_host::Behaviour;
 use std::alloc::AllocError;
 use x3d_values::{Fields, Pointer, Ray, Vec3};
 
@@ -149,11 +154,10 @@ fn or_all<'a>(pressed: &'a [u32], sensors: &'a [u32]) -> &'a [u32]
 }
 
 /// A TouchSensor meets a pointer, and what it sends is followed.
-fn point_node(
-    scene: &Scene,
-    routes: &Routes,
+fn point_node<B: Behaviour>(
+    fixed: &Fixed,
     tasks: &mut Vec<Task>,
-    turn: &mut Turn,
+    course: &mut Course<B>,
     replies: &mut Outbox,
     boxes: &mut BoxCache,
     sensor: u32,
@@ -161,92 +165,95 @@ fn point_node(
 ) -> Result<(), AllocError>
     requires empty { tasks.old.items ≡ [] }
     requires none { replies.old.items ≡ [] }
-    requires boxes { boxes.old ≡ rows_of scene.now turn.old.world.fields }
-    ensures turn { OnOk result
-        (turn.new
-        ≡ point_node_of scene.now routes.now aim.now.pointer aim.now.before aim.now.inside.items
-        turn.old sensor) }
+    requires boxes { boxes.old ≡ rows_of fixed.now.scene course.old.turn.world.fields }
+    requires cast { IsCast (plan_at fixed.now) (seen course.old) }
+    ensures course { OnOk result
+        (seen course.new
+        ≡ point_node_of fixed.now.scene (plan_at fixed.now) aim.now.pointer aim.now.before
+        aim.now.inside.items (seen course.old) sensor) }
     ensures empty { OnOk result (tasks.new.items ≡ []) }
     ensures none { OnOk result (replies.new.items ≡ []) }
-    ensures boxes { OnOk result (boxes.new ≡ rows_of scene.now turn.new.world.fields) }
+    ensures boxes { OnOk result
+        (boxes.new ≡ rows_of fixed.now.scene course.new.turn.world.fields) }
+    ensures kinds { kinds_of course.new.scripts ≡ kinds_of course.old.scripts }
+    ensures count { course.new.settling.count ≡ course.old.settling.count }
 {
-    turn.world.meet(scene, sensor, aim, replies);
+    course.turn.world.meet(&fixed.scene, sensor, aim, replies);
     push_replies(tasks, sensor, replies)?;
-    run_tasks(scene, routes, tasks, turn, replies, boxes)?;
+    run_tasks(fixed, tasks, course, replies, boxes)?;
     Ok(())
 }
 
 /// Each of these sensors meets a pointer at its turn.
-fn point_all(
-    scene: &Scene,
-    routes: &Routes,
+fn point_all<B: Behaviour>(
+    fixed: &Fixed,
     sensors: &[u32],
     tasks: &mut Vec<Task>,
-    turn: &mut Turn,
+    course: &mut Course<B>,
     boxes: &mut BoxCache,
     aim: &Aim,
 ) -> Result<(), AllocError>
     requires empty { tasks.old.items ≡ [] }
-    requires boxes { boxes.old ≡ rows_of scene.now turn.old.world.fields }
-    ensures turn { OnOk result
-        (turn.new
+    requires boxes { boxes.old ≡ rows_of fixed.now.scene course.old.turn.world.fields }
+    requires cast { IsCast (plan_at fixed.now) (seen course.old) }
+    ensures course { OnOk result
+        (seen course.new
         ≡ fold
-        (point_node_of scene.now routes.now aim.now.pointer aim.now.before
+        (point_node_of fixed.now.scene (plan_at fixed.now) aim.now.pointer aim.now.before
         aim.now.inside.items)
-        turn.old sensors.now) }
-    ensures boxes { OnOk result (boxes.new ≡ rows_of scene.now turn.new.world.fields) }
+        (seen course.old) sensors.now) }
+    ensures empty { OnOk result (tasks.new.items ≡ []) }
+    ensures boxes { OnOk result
+        (boxes.new ≡ rows_of fixed.now.scene course.new.turn.world.fields) }
+    ensures kinds { kinds_of course.new.scripts ≡ kinds_of course.old.scripts }
+    ensures count { course.new.settling.count ≡ course.old.settling.count }
 {
     let mut replies = Outbox::new();
     for sensor in sensors {
-        point_node(
-            scene,
-            routes,
-            tasks,
-            turn,
-            &mut replies,
-            boxes,
-            *sensor,
-            aim,
-        )?;
+        point_node(fixed, tasks, course, &mut replies, boxes, *sensor, aim)?;
     }
     Ok(())
 }
 
 /// A viewer points.
 #[tactic(auto, unfolding(crate::specs::Apply::point, crate::specs::Pointer::concerned))]
-pub fn point(
-    scene: &Scene,
-    routes: &Routes,
+pub fn point<B: Behaviour>(
+    fixed: &Fixed,
     sensors: &[u32],
     bench: &mut Bench,
-    turn: &mut Turn,
+    course: &mut Course<B>,
     pointer: Pointer,
 ) -> Result<(), AllocError>
-    requires sensors { sensors.now ≡ touch_sensors_of (types_of scene.now) }
+    requires sensors { sensors.now ≡ touch_sensors_of (types_of fixed.now.scene) }
     requires empty { bench.old.tasks.items ≡ [] }
-    requires boxes { bench.old.boxes ≡ rows_of scene.now turn.old.world.fields }
-    ensures turn { OnOk result (turn.new ≡ point_of scene.now routes.now turn.old pointer) }
-    ensures boxes { OnOk result (bench.new.boxes ≡ rows_of scene.now turn.new.world.fields) }
+    requires boxes { bench.old.boxes ≡ rows_of fixed.now.scene course.old.turn.world.fields }
+    requires cast { IsCast (plan_at fixed.now) (seen course.old) }
+    ensures course { OnOk result (seen course.new
+        ≡ point_of fixed.now.scene (plan_at fixed.now) (seen course.old) pointer) }
+    ensures empty { OnOk result (bench.new.tasks.items ≡ []) }
+    ensures boxes { OnOk result
+        (bench.new.boxes ≡ rows_of fixed.now.scene course.new.turn.world.fields) }
+    ensures kinds { kinds_of course.new.scripts ≡ kinds_of course.old.scripts }
+    ensures count { course.new.settling.count ≡ course.old.settling.count }
 {
-    turn.world
-        .list_pressed(pointer.who(), sensors, &mut bench.pressed)?;
+    let world = &course.turn.world;
+    world.list_pressed(pointer.who(), sensors, &mut bench.pressed)?;
     let aim = Aim {
         pointer,
-        before: turn.world.is_down(pointer.who()),
+        before: world.is_down(pointer.who()),
         inside: insides(
-            scene,
-            turn.world.fields.as_slice(),
+            &fixed.scene,
+            world.fields.as_slice(),
             &bench.boxes,
             pointer.ray(),
         ),
     };
-    turn.set_button(pointer);
+    course.turn.set_button(pointer);
     point_all(
-        scene,
-        routes,
+        fixed,
         or_all(&bench.pressed, sensors),
         &mut bench.tasks,
-        turn,
+        course,
         &mut bench.boxes,
         &aim,
     )

@@ -6,13 +6,19 @@ ghost use Rattle.scene_core.specs.Scene.{shapes_of};
 ghost use Rattle.pick_core.specs.Sites.{rows_of};
 ghost use Rattle.cascade_core.specs.Ends.{targets_of};
 ghost use Rattle.cascade_core.specs.Outputs.{is_scene_output};
-ghost use Rattle.cascade_core.specs.Stack.{send_full, do_task, finish, IsReady, weight, work_left, send_by};
+ghost use Rattle.cascade_core.specs.Course.{plan_at, seen};
+ghost use Rattle.cascade_core.specs.Cascade.{send_full};
+ghost use Rattle.cascade_core.specs.Sound.{IsCast};
+ghost use Rattle.cascade_core.specs.Stack.{do_task, finish, IsReady, weight, work_left, send_by};
+ghost use Rattle.script_turn.specs.Acting.{kinds_of};
 
-use crate::world::Turn;
+use crate::course::Course;
+use crate::fixed::Fixed;
 use pick_core::BoxCache;
 use react_core::Outbox;
 use route_core::Routes;
-use scene_core::{End, Scene};
+use scene_core::End;
+use script_host::Behaviour;
 use std::alloc::AllocError;
 use x3d_values::Value;
 
@@ -26,106 +32,115 @@ pub enum Task {
 }
 
 /// Does all tasks, the last first.
-pub fn run_tasks(
-    scene: &Scene,
-    routes: &Routes,
+pub fn run_tasks<B: Behaviour>(
+    fixed: &Fixed,
     tasks: &mut Vec<Task>,
-    turn: &mut Turn,
+    course: &mut Course<B>,
     replies: &mut Outbox,
     boxes: &mut BoxCache,
 ) -> Result<(), AllocError>
     requires none { replies.old.items ≡ [] }
-    requires ready { AllByRecursion (IsReady (shapes_of scene.now)) tasks.old.items }
-    requires boxes { boxes.old ≡ rows_of scene.now turn.old.world.fields }
-    ensures turn { OnOk result
-        (turn.new ≡ finish (shapes_of scene.now) routes.now turn.old tasks.old.items) }
+    requires ready { AllByRecursion (IsReady (shapes_of fixed.now.scene)) tasks.old.items }
+    requires boxes { boxes.old ≡ rows_of fixed.now.scene course.old.turn.world.fields }
+    requires cast { IsCast (plan_at fixed.now) (seen course.old) }
+    ensures course { OnOk result
+        (seen course.new ≡ finish (plan_at fixed.now) (seen course.old) tasks.old.items) }
     ensures empty { OnOk result (tasks.new.items ≡ []) }
     ensures none { OnOk result (replies.new.items ≡ []) }
-    ensures boxes { OnOk result (boxes.new ≡ rows_of scene.now turn.new.world.fields) }
+    ensures boxes { OnOk result
+        (boxes.new ≡ rows_of fixed.now.scene course.new.turn.world.fields) }
+    ensures kinds { kinds_of course.new.scripts ≡ kinds_of course.old.scripts }
+    ensures count { course.new.settling.count ≡ course.old.settling.count }
 {
     while let Some(task) = tasks.pop() {
-        step(scene, routes, tasks, turn, replies, boxes, task)?;
+        step(fixed, tasks, course, replies, boxes, task)?;
     }
     Ok(())
 }
 
 /// Does one task, which may leave others.
-fn step(
-    scene: &Scene,
-    routes: &Routes,
+fn step<B: Behaviour>(
+    fixed: &Fixed,
     tasks: &mut Vec<Task>,
-    turn: &mut Turn,
+    course: &mut Course<B>,
     replies: &mut Outbox,
     boxes: &mut BoxCache,
     task: Task,
 ) -> Result<(), AllocError>
     requires none { replies.old.items ≡ [] }
-    requires task { IsReady (shapes_of scene.now) task }
-    requires tasks { AllByRecursion (IsReady (shapes_of scene.now)) tasks.old.items }
-    requires boxes { boxes.old ≡ rows_of scene.now turn.old.world.fields }
+    requires task { IsReady (shapes_of fixed.now.scene) task }
+    requires tasks { AllByRecursion (IsReady (shapes_of fixed.now.scene)) tasks.old.items }
+    requires boxes { boxes.old ≡ rows_of fixed.now.scene course.old.turn.world.fields }
+    requires cast { IsCast (plan_at fixed.now) (seen course.old) }
     ensures done { OnOk result
-        (finish (shapes_of scene.now) routes.now turn.new tasks.new.items
-        ≡ finish (shapes_of scene.now) routes.now
-        (do_task (shapes_of scene.now) routes.now turn.old task)
+        (finish (plan_at fixed.now) (seen course.new) tasks.new.items
+        ≡ finish (plan_at fixed.now) (do_task (plan_at fixed.now) (seen course.old) task)
         tasks.old.items) }
-    ensures ready { OnOk result (AllByRecursion (IsReady (shapes_of scene.now)) tasks.new.items) }
-    ensures fewer { OnOk result (work_left (shapes_of scene.now) routes.now turn.new tasks.new.items
-        + 1 ≤ work_left (shapes_of scene.now) routes.now turn.old tasks.old.items
-        + weight routes.now task) }
+    ensures ready { OnOk result
+        (AllByRecursion (IsReady (shapes_of fixed.now.scene)) tasks.new.items) }
+    ensures fewer { OnOk result
+        (work_left (plan_at fixed.now) (seen course.new) tasks.new.items + 1
+        ≤ work_left (plan_at fixed.now) (seen course.old) tasks.old.items
+        + weight fixed.now.routes task) }
     ensures none { OnOk result (replies.new.items ≡ []) }
-    ensures boxes { OnOk result (boxes.new ≡ rows_of scene.now turn.new.world.fields) }
+    ensures boxes { OnOk result
+        (boxes.new ≡ rows_of fixed.now.scene course.new.turn.world.fields) }
+    ensures kinds { kinds_of course.new.scripts ≡ kinds_of course.old.scripts }
+    ensures count { course.new.settling.count ≡ course.old.settling.count }
 {
     match task {
-        Task::Send(source, value) => {
-            begin(scene, routes, tasks, turn, replies, boxes, source, value)
+        Task::Send(source, value) => begin(fixed, tasks, course, replies, boxes, source, value),
+        Task::Follow(source, value, next) => {
+            follow(fixed, tasks, course, replies, boxes, source, value, next)
         }
-        Task::Follow(source, value, next) => follow(
-            scene, routes, tasks, turn, replies, boxes, source, value, next,
-        ),
     }
 }
 
 /// An output sends, unless it has sent before.
-fn begin(
-    scene: &Scene,
-    routes: &Routes,
+fn begin<B: Behaviour>(
+    fixed: &Fixed,
     tasks: &mut Vec<Task>,
-    turn: &mut Turn,
+    course: &mut Course<B>,
     replies: &mut Outbox,
     boxes: &mut BoxCache,
     source: End,
     value: Value,
 ) -> Result<(), AllocError>
     requires none { replies.old.items ≡ [] }
-    requires task { is_scene_output (shapes_of scene.now) source ≡ true }
-    requires tasks { AllByRecursion (IsReady (shapes_of scene.now)) tasks.old.items }
-    requires boxes { boxes.old ≡ rows_of scene.now turn.old.world.fields }
+    requires task { is_scene_output (shapes_of fixed.now.scene) source ≡ true }
+    requires tasks { AllByRecursion (IsReady (shapes_of fixed.now.scene)) tasks.old.items }
+    requires boxes { boxes.old ≡ rows_of fixed.now.scene course.old.turn.world.fields }
+    requires cast { IsCast (plan_at fixed.now) (seen course.old) }
     ensures done { OnOk result
-        (finish (shapes_of scene.now) routes.now turn.new tasks.new.items
-        ≡ finish (shapes_of scene.now) routes.now
-        (send_full (shapes_of scene.now) routes.now turn.old source value)
+        (finish (plan_at fixed.now) (seen course.new) tasks.new.items
+        ≡ finish (plan_at fixed.now)
+        (send_full (plan_at fixed.now) (seen course.old) source value)
         tasks.old.items) }
-    ensures ready { OnOk result (AllByRecursion (IsReady (shapes_of scene.now)) tasks.new.items) }
-    ensures fewer { OnOk result (work_left (shapes_of scene.now) routes.now turn.new tasks.new.items
-        + 1 ≤ work_left (shapes_of scene.now) routes.now turn.old tasks.old.items + 1) }
+    ensures ready { OnOk result
+        (AllByRecursion (IsReady (shapes_of fixed.now.scene)) tasks.new.items) }
+    ensures fewer { OnOk result
+        (work_left (plan_at fixed.now) (seen course.new) tasks.new.items + 1
+        ≤ work_left (plan_at fixed.now) (seen course.old) tasks.old.items + 1) }
     ensures none { OnOk result (replies.new.items ≡ []) }
-    ensures boxes { OnOk result (boxes.new ≡ rows_of scene.now turn.new.world.fields) }
+    ensures boxes { OnOk result
+        (boxes.new ≡ rows_of fixed.now.scene course.new.turn.world.fields) }
+    ensures kinds { kinds_of course.new.scripts ≡ kinds_of course.old.scripts }
+    ensures count { course.new.settling.count ≡ course.old.settling.count }
 {
-    if turn.sent.contains(source) {
+    if course.turn.sent.contains(source) {
         return Ok(());
     }
     let alloc = *tasks.allocator();
-    turn.record_event(alloc, source, &value)?;
-    follow(scene, routes, tasks, turn, replies, boxes, source, value, 0)?;
+    course.turn.record_event(alloc, source, &value)?;
+    follow(fixed, tasks, course, replies, boxes, source, value, 0)?;
     Ok(())
 }
 
 /// The route at this place among those of the output is followed, and the rest are left.
-fn follow(
-    scene: &Scene,
-    routes: &Routes,
+fn follow<B: Behaviour>(
+    fixed: &Fixed,
     tasks: &mut Vec<Task>,
-    turn: &mut Turn,
+    course: &mut Course<B>,
     replies: &mut Outbox,
     boxes: &mut BoxCache,
     source: End,
@@ -133,25 +148,31 @@ fn follow(
     next: usize,
 ) -> Result<(), AllocError>
     requires none { replies.old.items ≡ [] }
-    requires tasks { AllByRecursion (IsReady (shapes_of scene.now)) tasks.old.items }
-    requires boxes { boxes.old ≡ rows_of scene.now turn.old.world.fields }
+    requires tasks { AllByRecursion (IsReady (shapes_of fixed.now.scene)) tasks.old.items }
+    requires boxes { boxes.old ≡ rows_of fixed.now.scene course.old.turn.world.fields }
+    requires cast { IsCast (plan_at fixed.now) (seen course.old) }
     ensures done { OnOk result
-        (finish (shapes_of scene.now) routes.now turn.new tasks.new.items
-        ≡ finish (shapes_of scene.now) routes.now
-        (do_task (shapes_of scene.now) routes.now turn.old (Task.Follow source value next))
+        (finish (plan_at fixed.now) (seen course.new) tasks.new.items
+        ≡ finish (plan_at fixed.now)
+        (do_task (plan_at fixed.now) (seen course.old) (Task.Follow source value next))
         tasks.old.items) }
-    ensures ready { OnOk result (AllByRecursion (IsReady (shapes_of scene.now)) tasks.new.items) }
-    ensures fewer { OnOk result (work_left (shapes_of scene.now) routes.now turn.new tasks.new.items
-        + 1 ≤ work_left (shapes_of scene.now) routes.now turn.old tasks.old.items
-        + weight routes.now (Task.Follow source value next)) }
+    ensures ready { OnOk result
+        (AllByRecursion (IsReady (shapes_of fixed.now.scene)) tasks.new.items) }
+    ensures fewer { OnOk result
+        (work_left (plan_at fixed.now) (seen course.new) tasks.new.items + 1
+        ≤ work_left (plan_at fixed.now) (seen course.old) tasks.old.items
+        + weight fixed.now.routes (Task.Follow source value next)) }
     ensures none { OnOk result (replies.new.items ≡ []) }
-    ensures boxes { OnOk result (boxes.new ≡ rows_of scene.now turn.new.world.fields) }
+    ensures boxes { OnOk result
+        (boxes.new ≡ rows_of fixed.now.scene course.new.turn.world.fields) }
+    ensures kinds { kinds_of course.new.scripts ≡ kinds_of course.old.scripts }
+    ensures count { course.new.settling.count ≡ course.old.settling.count }
 {
-    let Some(hop) = hop_at(routes, source, next) else {
+    let Some(hop) = hop_at(&fixed.routes, source, next) else {
         return Ok(());
     };
     let alloc = *tasks.allocator();
-    turn.deliver(alloc, scene, boxes, hop.target, &value, replies)?;
+    course.deliver(alloc, fixed, boxes, hop.target, &value, replies)?;
     if hop.more {
         let rest = Task::Follow(source, value, next + 1);
         push_before(tasks, rest, hop.target.node, replies)?;

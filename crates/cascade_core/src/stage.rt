@@ -1,83 +1,101 @@
 //! A stage holds the world of a scene, and applies inputs to it.
 
-ghost use Rattle.std.specs.Prelude.{◌≡◌, ◌++◌, ◌⊎◌, IfOk, IfErr, IfNone, IfSome, None, Some, OnOk, OnErr};
-ghost use Rattle.cascade_core.specs.Held.{Running, refusal_in};
-ghost use Rattle.cascade_core.specs.Apply.{opening, world};
-ghost use Rattle.cascade_core.specs.InTurn.{AreInTurn};
-
 use crate::bench::{Bench, Sensors};
-use crate::fault::{ApplyFault, LoadFault, TextFault};
+use crate::course::Course;
+use crate::fault::{ApplyFault, LoadFault, PlaceFault, StatesFault, TextFault};
+use crate::fixed::Fixed;
 use crate::input::advance;
-use crate::parts::{Parts, bench_of, parts_of};
-use crate::scripts::Scripts;
+use crate::opening::open;
+use crate::parts::{Parts, bench_of, fixed_of, parts_of};
 use crate::texts::push_trace;
 use crate::work::Work;
-use crate::world::{Turn, WorldData};
+use crate::world::WorldData;
 use route_core::Routes;
 use scene_core::Scene;
 use scene_text::write_scene;
-use std::alloc::{AllocError, Global};
+use script_host::{Behaviour, Scripts, StateFault};
+use std::alloc::Global;
 use std::marker::Model;
-use x3d_values::Stamped;
+use x3d_values::{Items, Stamped};
 
 /// A scene with its world, which moves on by inputs.
 #[derive(Drop)]
-pub struct Stage<B> {
-    scene: Scene,
-    routes: Routes,
-    scripts: Scripts<B>,
+pub struct Stage<B: Behaviour> {
+    fixed: Fixed,
     sensors: Sensors,
-    turn: Turn,
+    course: Course<B>,
     bench: Bench,
     spoiled: Option<u32>,
 }
 
-impl<B> Model for Stage<B> {
+impl<B: Behaviour> Model for Stage<B> {
     ghost use Rattle.std.specs.Prelude.{◌≡◌, IfNone};
     ghost use Rattle.pick_core.specs.Sites.{rows_of};
     ghost use Rattle.scene_core.specs.Scene.{types_of};
     ghost use Rattle.cascade_core.specs.Nodes.{clocks_of, touch_sensors_of};
     ghost use Rattle.cascade_core.specs.Held.{StageView, held_of};
+    ghost use Rattle.cascade_core.specs.Course.{ended, plan_at, seen};
+    ghost use Rattle.cascade_core.specs.Scripts.{kinds_in};
+    ghost use Rattle.cascade_core.specs.Sound.{IsCast, IsFixed};
+    ghost use Rattle.script_turn.specs.Acting.{kinds_of};
 
     ghost Value = { StageView };
 
     ghost view = { λ s.
-        record { scene = s.scene; routes = s.routes; held = held_of s.spoiled s.turn.world } };
+        record {
+          scene = s.fixed.scene;
+          routes = s.fixed.routes;
+          held = held_of s.spoiled (ended (seen s.course));
+        } };
 
-    ghost invariant = { λ s. (s.sensors.clocks.items ≡ clocks_of (types_of s.scene))
-        × (s.sensors.touches.items ≡ touch_sensors_of (types_of s.scene))
-        × IfNone s.spoiled (s.bench.boxes ≡ rows_of s.scene s.turn.world.fields) };
+    ghost invariant = { λ s. (s.sensors.clocks.items ≡ clocks_of (types_of s.fixed.scene))
+        × (s.sensors.touches.items ≡ touch_sensors_of (types_of s.fixed.scene))
+        × IfNone s.spoiled (s.bench.boxes ≡ rows_of s.fixed.scene s.course.turn.world.fields)
+        × IsFixed s.fixed
+        × IsCast (plan_at s.fixed) (seen s.course)
+        × (kinds_of s.course.scripts ≡ kinds_in s.fixed.scene) };
 }
 
-impl<B> Stage<B> {
-    ghost use Rattle.std.specs.Prelude.{◌≡◌, ◌++◌, ◌⊎◌, IfOk, IfErr, IfNone, IfSome, None, Some, OnOk, OnErr};
-    ghost use Rattle.std.specs.Option.{option_copied};
-    ghost use Rattle.cascade_core.specs.Held.{Running, after, holding, refusal_of, refusal_in, spoiled as spoiled_of, applied_of, after_all, IfRunning, IfSpoiled, is_spoiled, trace_of, world_in};
+impl<B: Behaviour> Stage<B> {
+    ghost use Rattle.std.specs.Prelude.{◌≡◌, ◌++◌, ◌⊎◌, ℕ, ℤ, List, IfOk, IfErr, IfNone, IfSome, IsSomeAnd, None, Some, OnOk, OnErr, length, option_copied, slice_get};
     ghost use Rattle.cascade_core.specs.Apply.{opening};
+    ghost use Rattle.cascade_core.specs.Scripts.{kinds_in, scripts_in};
+    ghost use Rattle.cascade_core.specs.Held.{Running, after, holding, refusal_of, refusal_in, spoiled as spoiled_of, applied_of, after_all, IfRunning, IfSpoiled, is_spoiled, trace_of, world_in};
+    ghost use Rattle.cascade_core.specs.Installing.{RefusesBox, RefusesInstall, StatesFit};
     ghost use Rattle.cascade_core.specs.Texts.{trace_text, scene_text};
     ghost use Rattle.cascade_core.specs.Work.{IsWork};
+    ghost use Rattle.scene_scripts.specs.Scripts.{script_list};
+    ghost use Rattle.script_host.specs.Attaching.{Fits};
 
-    /// The stage of a scene with its routes and scripts, before any input.
+    /// The stage of a scene with its routes and the scripts that were attached for it, none of
+    /// which is initialized, behind input 0: all scripts are initialized in the order of their
+    /// numbers, then what they sent is sent, and then they settle.
     pub fn load(
         alloc: Global,
         scene: Scene,
         routes: Routes,
         scripts: Scripts<B>,
     ) -> Result<Stage<B>, LoadFault>
+        requires fits { Fits (script_list scene) scripts }
+        requires fresh { scripts ≡ scripts_in scene }
         ensures { IfOk result (λ stage. stage
-            ≡ record { scene = scene; routes = routes; held = Running (opening scene) }) }
+            ≡ record {
+              scene = scene;
+              routes = routes;
+              held = Running (opening scene routes);
+            }) }
     {
+        let fixed = fixed_of(alloc, scene, routes)?;
         let Parts {
             sensors,
             turn,
-            bench,
-        } = parts_of(alloc, &scene)?;
+            mut bench,
+        } = parts_of(alloc, &fixed.scene)?;
+        let course = open(alloc, &fixed, &mut bench, turn, scripts)?;
         Ok(Stage {
-            scene,
-            routes,
-            scripts,
+            fixed,
             sensors,
-            turn,
+            course,
             bench,
             spoiled: None,
         })
@@ -87,7 +105,7 @@ impl<B> Stage<B> {
     pub fn scene(&self) -> &Scene
         ensures { result.now ≡ self.now.scene }
     {
-        &self.scene
+        &self.fixed.scene
     }
 
     /// The allocator that the stage takes its memory from.
@@ -102,7 +120,7 @@ impl<B> Stage<B> {
         if self.spoiled.is_some() {
             return None;
         }
-        Some(&self.turn.world)
+        Some(&self.course.turn.world)
     }
 
     /// How many inputs were applied, or had been when the stage was spoiled.
@@ -111,7 +129,7 @@ impl<B> Stage<B> {
     {
         match self.spoiled {
             Some(count) => count,
-            None => self.turn.world.applied,
+            None => self.course.turn.world.applied,
         }
     }
 
@@ -123,13 +141,16 @@ impl<B> Stage<B> {
     }
 
     /// Applies the next input.
+    #[tactic(auto, using(crate::proofs::SoundLemmas::cast_stands))]
     pub fn apply(&mut self, input: &Stamped) -> Result<Work, ApplyFault>
         // Whatever can be said before the work starts is answered then, and the stage is as it was.
         ensures refused { IfSome (refusal_of self.old.held input.now) (λ fault. (result ≡ Err fault)
             × (self.new ≡ self.old)) }
         ensures ok { OnOk result (self.new ≡ after self.old input.now) }
         ensures work { IfOk result
-            (IsWork self.old.routes (trace_of self.old.held) (trace_of self.new.held)) }
+            (λ work. (settled : List ℕ)
+            × IsWork self.old.routes (trace_of self.old.held) (trace_of self.new.held) settled
+            work) }
         ensures taken { OnOk result (refusal_of self.old.held input.now ≡ None) }
         ensures err { IfErr result (λ fault. (fault ≡ ApplyFault.Memory)
             ⊎ (refusal_of self.old.held input.now ≡ Some fault)) }
@@ -140,19 +161,18 @@ impl<B> Stage<B> {
         if self.spoiled.is_some() {
             return Err(ApplyFault::Spoiled);
         }
-        let before = self.turn.world.applied;
+        let before = self.course.turn.world.applied;
         if input.number() - 1 != before {
             return Err(ApplyFault::NotNext);
         }
-        if input.time() <= self.turn.world.last_time {
+        if input.time() <= self.course.turn.world.last_time {
             return Err(ApplyFault::TimeNotLater);
         }
         match advance(
-            &self.scene,
-            &self.routes,
+            &self.fixed,
             &self.sensors,
             &mut self.bench,
-            &mut self.turn,
+            &mut self.course,
             input,
         ) {
             Ok(work) => Ok(work),
@@ -164,7 +184,7 @@ impl<B> Stage<B> {
     }
 
     /// Applies inputs in order, up to the first that is refused.
-    fn apply_all(&mut self, inputs: &[Stamped]) -> Result<(), ApplyFault>
+    pub(crate) fn apply_all(&mut self, inputs: &[Stamped]) -> Result<(), ApplyFault>
         ensures ok { OnOk result (self.new ≡ after_all self.old inputs.now) }
         ensures taken { OnOk result (refusal_in self.old inputs.now ≡ None) }
         ensures err { IfErr result (λ fault. (fault ≡ ApplyFault.Memory)
@@ -189,7 +209,7 @@ impl<B> Stage<B> {
         if self.spoiled.is_some() {
             return Err(TextFault::Spoiled);
         }
-        push_trace(&self.scene, &self.turn.world.trace, out)?;
+        push_trace(&self.fixed.scene, &self.course.turn.world.trace, out)?;
         Ok(())
     }
 
@@ -207,25 +227,81 @@ impl<B> Stage<B> {
         if self.spoiled.is_some() {
             return Err(TextFault::Spoiled);
         }
-        let fields = self.turn.world.fields.as_slice();
-        write_scene(&self.scene, self.routes.as_slice(), fields, out)?;
+        let fields = self.course.turn.world.fields.as_slice();
+        write_scene(&self.fixed.scene, self.fixed.routes.as_slice(), fields, out)?;
         Ok(())
     }
 
-    /// Puts a world in place of what the stage held, also of a spoiled one. Where memory is refused
-    /// the stage is spoiled, with the inputs that it had applied.
-    pub fn install(&mut self, world: WorldData) -> Result<(), AllocError>
-        ensures ok { OnOk result (self.new ≡ holding self.old (Running world)) }
-        ensures err { OnErr result (self.new ≡ spoiled_of self.old) }
+    /// How many scripts the scene runs.
+    pub fn script_count(&self) -> usize
+        ensures { result ≡ length (kinds_in self.now.scene) }
     {
+        self.course.scripts.len()
+    }
+
+    /// Appends the states of the scripts by their numbers; on a refusal the buffer is as it was.
+    pub fn script_states(&self, out: &mut Vec<Items<i64>>) -> Result<(), StatesFault>
+        ensures refused { IfSpoiled self.now.held (result ≡ Err StatesFault.Spoiled) }
+        ensures ok { IfRunning self.now.held (λ w.
+            OnOk result (out.new.items ≡ out.old.items ++ w.states)) }
+        ensures memory { IfRunning self.now.held (λ w.
+            IfErr result (λ fault. fault ≡ StatesFault.Memory)) }
+        ensures err { OnErr result (out.new.items ≡ out.old.items) }
+    {
+        if self.spoiled.is_some() {
+            return Err(StatesFault::Spoiled);
+        }
+        self.course.scripts.states(out)?;
+        Ok(())
+    }
+
+    /// Puts a world, with a state for each script, in place of what the stage held, also of a
+    /// spoiled one. Where there is no state for each script the stage is as it was; where memory is
+    /// refused it is spoiled, with the inputs that it had applied.
+    #[tactic(auto, using(crate::proofs::Installs::installs))]
+    pub fn install(&mut self, world: WorldData, states: &[Items<i64>]) -> Result<(), StateFault>
+        ensures fit { OnOk result (StatesFit self.old.scene states.now) }
+        ensures ok { OnOk result (self.new
+            ≡ holding self.old (Running (record { world = world; states = states.now }))) }
+        ensures refused { IfErr result (λ fault.
+            RefusesInstall fault self.old states.now self.new) }
+    {
+        match self.course.scripts.restore(states) {
+            Ok(()) => {}
+            Err(StateFault::Memory) => {
+                self.spoil();
+                return Err(StateFault::Memory);
+            }
+            Err(StateFault::StateLength) => return Err(StateFault::StateLength),
+            Err(StateFault::StateRange) => return Err(StateFault::StateRange),
+        }
         let alloc = *self.bench.tasks.allocator();
-        let Ok(bench) = bench_of(alloc, &self.scene, &world, self.sensors.touches.len()) else {
+        let Ok(bench) = bench_of(alloc, &self.fixed.scene, &world, self.sensors.touches.len())
+        else {
             self.spoil();
-            return Err(AllocError);
+            return Err(StateFault::Memory);
         };
         self.bench = bench;
-        self.turn.world = world;
+        self.course.turn.world = world;
         self.spoiled = None;
+        Ok(())
+    }
+
+    /// Puts a box of the same kind in the place of the k-th script, in its state: the world is as
+    /// it was, whatever the answer. Where the new box is refused it is dropped.
+    #[tactic(auto, using(crate::proofs::Installs::places_box))]
+    pub fn replace_script(&mut self, k: usize, script: B) -> Result<(), PlaceFault>
+        ensures same { self.new ≡ self.old }
+        ensures ok { OnOk result (IsSomeAnd (slice_get (kinds_in self.old.scene) k)
+            (λ kind. B.kind_of script ≡ kind)) }
+        ensures spoiled { IfSpoiled self.old.held (result ≡ Err PlaceFault.Spoiled) }
+        ensures refused { IfErr result (λ fault. RefusesBox fault self.old.held
+            (slice_get (scripts_in self.old.scene) k) (B.kind_of script)) }
+    {
+        if self.spoiled.is_some() {
+            return Err(PlaceFault::Spoiled);
+        }
+        self.course.scripts.replace(k, script)?;
         Ok(())
     }
 
@@ -239,36 +315,4 @@ impl<B> Stage<B> {
 
     /// Ends the stage with its scripts.
     pub fn close(self) {}
-}
-
-/// The stage of a scene after these inputs, up to the first that is refused.
-#[tactic(auto, using(crate::proofs::Runs::after_all_running, crate::proofs::Turns::follows_taken))]
-pub fn run<B>(
-    alloc: Global,
-    scene: Scene,
-    routes: Routes,
-    scripts: Scripts<B>,
-    inputs: &[Stamped],
-) -> Result<Stage<B>, ApplyFault>
-    ensures ok { IfOk result (λ stage. stage
-        ≡ record {
-          scene = scene;
-          routes = routes;
-          held = Running (world scene routes inputs.now);
-        }) }
-    // It answers no input's fault but that of the first that is refused.
-    ensures taken { OnOk result
-        (refusal_in (record { scene = scene; routes = routes; held = Running (opening scene) })
-        inputs.now ≡ None) }
-    ensures err { IfErr result (λ fault. (fault ≡ ApplyFault.Memory)
-        ⊎ (refusal_in (record { scene = scene; routes = routes; held = Running (opening scene) })
-        inputs.now ≡ Some fault)) }
-    // Of inputs in turn none is refused.
-    ensures in_turn { AreInTurn inputs.now → IfErr result (λ fault. fault ≡ ApplyFault.Memory) }
-{
-    let Ok(mut stage) = Stage::load(alloc, scene, routes, scripts) else {
-        return Err(ApplyFault::Memory);
-    };
-    stage.apply_all(inputs)?;
-    Ok(stage)
 }

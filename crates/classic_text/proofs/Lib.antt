@@ -11,4 +11,5 @@ pub mod Steps
 pub mod StringLemmas
 pub mod Turns
 pub mod Utf8Lemmas
+pub mod Runs
 pub mod Values

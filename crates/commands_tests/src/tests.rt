@@ -5,6 +5,7 @@ mod cable;
 mod failing;
 mod given;
 mod idle;
+mod refusing;
 mod rehearsing;
 mod turning;
 mod whole;

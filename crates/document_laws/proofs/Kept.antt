@@ -51,7 +51,7 @@ pub bind_is : {A B : Type 0} (r : Result A SceneFault) (k : A → Result B Scene
 bind_is (Err e) k b h = absurd cc
 bind_is (Ok a) k b h = (a, refl, h)
 
-line_is : {A : Type 0} (line : ℕ) (r : Result A ValueFault) (a : A) → at_line line r ≡ Ok a → r ≡ Ok a
+pub line_is : {A : Type 0} (line : ℕ) (r : Result A ValueFault) (a : A) → at_line line r ≡ Ok a → r ≡ Ok a
 line_is {A} line (Err e) a h = absurd cc
 line_is {A} line (Ok x) a h = ap (λ (k : A). Ok k) (ok_is x a h)
 
@@ -123,7 +123,7 @@ some_fits t n InputOnly ft x s b i r = refl
 some_fits t n OutputOnly ft x s b i r = refl
 some_fits t n InitializeOnly ft x s b i r = refl
 
-range_is : (a : Bool) (x : SceneFault) (r : Result (Option Value) SceneFault) (v : Option Value) → (if a then r else Err x) ≡ Ok v → (a ≡ true) × (r ≡ Ok v)
+pub range_is : (a : Bool) (x : SceneFault) (r : Result (Option Value) SceneFault) (v : Option Value) → (if a then r else Err x) ≡ Ok v → (a ≡ true) × (r ≡ Ok v)
 range_is true x r v h = (refl, h)
 range_is false x r v h = absurd cc
 
@@ -132,7 +132,7 @@ tests_are false c y z k v h = absurd cc
 tests_are true false y z k v h = absurd cc
 tests_are true true y z k v h = ok_is k v h
 
-accepted_is : (nodes : List FlatNode) (access : Access) (kind : Option NodeKind) (f : FlatField) (x : Value) (v : Option Value) → accepted nodes access kind f x ≡ Ok v → Some x ≡ v
+pub accepted_is : (nodes : List FlatNode) (access : Access) (kind : Option NodeKind) (f : FlatField) (x : Value) (v : Option Value) → accepted nodes access kind f x ≡ Ok v → Some x ≡ v
 accepted_is nodes access kind f x v h =
     tests_are (is_initial access) (all_taken kind nodes (inner_nodes f.value)) (fault NotInitial f.line) (fault BadChild f.line) (Some x) v h
 

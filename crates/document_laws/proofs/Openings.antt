@@ -3,7 +3,7 @@ use Rattle.std.proofs.Common.{◌≡◌, ℕ, zero, suc, ◌^◌, ◌≤◌, Boo
 use Rattle.std.specs.Prelude.{All, replicate}
 use Rattle.std.specs.List.{list_all}
 use Rattle.std.proofs.lemmas.List.{length-map, length-replicate}
-use Rattle.std.proofs.lemmas.List.Elements.{All-nil, All-push, All-head, All-tail, All-replicate}
+use Rattle.std.proofs.lemmas.List.Elements.{All-cons, All-nil, All-push, All-head, All-tail, All-replicate}
 use Rattle.byte_codec.proofs.Laws.{both, and_true}
 use Rattle.x3d_values.specs.declared.node_type.NodeType.{NodeType}
 use Rattle.x3d_values.specs.declared.node_type.NodeType.TheVariants.{TimeSensor, TouchSensor}
@@ -21,20 +21,23 @@ use Rattle.scene_core.specs.Building.{node_of, with_node, nodes_by, nodes_of, li
 use Rattle.scene_core.specs.Faults.{through, ◌>>=◌}
 use Rattle.scene_core.specs.Labels.{label_by, is_alone, names_of}
 use Rattle.scene_core.specs.Numbers.{numbering}
-use Rattle.scene_core.specs.Scene.{SceneView, shape_of, shapes_of, kept, fields_of, state_of}
+use Rattle.scene_core.specs.Scene.{SceneView, shape_of, kept, fields_of, state_of}
 use Rattle.scene_core.specs.Shape.{declared_by, declared_entry, declaration_entry, most_declared, numbered_fields}
 use Rattle.scene_core.specs.Typed.{values_from, declared_from, values_of, all_children}
-use Rattle.cascade_core.specs.Apply.{opening}
 use Rattle.answer_laws.specs.Ranges.{values_fit, fields_fit}
-use Rattle.world_laws.specs.Fits.{time_fits, pointers_fit, nodes_fit, WorldFits}
-use Rattle.document_laws.specs.Openings.{is_countable_node, IsCountable}
+use Rattle.answer_laws.proofs.Pointers.{all_append}
+use Rattle.world_laws.specs.Fits.{time_fits, pointers_fit, nodes_fit}
+use Rattle.document_laws.specs.Openings.{OpeningsFit, StartsAreStates, is_countable_node}
 use Rattle.document_laws.proofs.Routes.{ok_is}
 use Rattle.document_laws.proofs.Kept.{bind_is, AreValues, are_values, AreDeclared, are_declared, all_kept_fit, no_position}
+use Rattle.document_laws.proofs.Ranged.{all_ranged, ranged_if}
+use Rattle.document_laws.proofs.Starts.{IsRanged, starts_fit}
 
 -- ---- a node
 
+-- what it keeps fits, and all that it begins with is in range
 abbrev Begins : SceneNode → Type 0
-Begins n = is_countable_node n ≡ true → fields_fit n.node_type (shape_of n).declared (fields_of n) ≡ true
+Begins n = (is_countable_node n ≡ true → fields_fit n.node_type (shape_of n).declared (fields_of n) ≡ true) × IsRanged n
 
 abbrev new_node : FlatNode → Option (List ℕ) → List (Option Value) → SceneNode
 new_node node label values = record { node_type = node.node_type; label = label; declared = map declared_by node.interface; values = values }
@@ -46,14 +49,21 @@ entries_are (suc m) [] = refl
 entries_are (suc m) (d ∷ ds) = ap (λ (es : List Entry). declaration_entry d ∷ es) (entries_are m ds)
 
 module _ (nodes : List FlatNode) (numbers : List ℕ) (node : FlatNode) where
-  new_begins : (label : Option (List ℕ)) (own more : List (Option Value)) → AreValues nodes numbers node.fields 0 (rows node.node_type) own
-      → AreDeclared nodes numbers (numbered_fields node.node_type node.interface) more → Begins (new_node node label (own ++ more))
-  new_begins label own more a d c =
+  new_fits : (label : Option (List ℕ)) (own more : List (Option Value)) → AreValues nodes numbers node.fields 0 (rows node.node_type) own
+      → AreDeclared nodes numbers (numbered_fields node.node_type node.interface) more → is_countable_node (new_node node label (own ++ more)) ≡ true
+      → fields_fit node.node_type (shape_of (new_node node label (own ++ more))).declared (fields_of (new_node node label (own ++ more))) ≡ true
+  new_fits label own more a d c =
       let fit = all_kept_fit nodes numbers node.fields node.node_type own (numbered_fields node.node_type node.interface) more a d c in
       and_true _ _
       (subst (λ (es : List Entry). values_fit node.node_type 0 (rows node.node_type ++ es) (map (λ p. kept p.0 p.1) (zip (rows node.node_type ++ es) (own ++ more))) ≡ true)
       (sym (entries_are (most_declared node.node_type) node.interface)) fit)
       (no_position node.node_type)
+
+  new_begins : (label : Option (List ℕ)) (own more : List (Option Value)) → AreValues nodes numbers node.fields 0 (rows node.node_type) own
+      → AreDeclared nodes numbers (numbered_fields node.node_type node.interface) more → Begins (new_node node label (own ++ more))
+  new_begins label own more a d =
+      let r = all_ranged nodes numbers node.fields node.node_type (numbered_fields node.node_type node.interface) own more a d in
+      (λ c. new_fits label own more a d c, all_append ranged_if own more r.0 r.1)
 
   node_begins : (alone : List ℕ → Bool) (n : SceneNode) → node_of nodes numbers alone node ≡ Ok n → Begins n
   unfolding values_of
@@ -156,7 +166,7 @@ all_begin (n ∷ ns) (x ∷ cs) (y ∷ us) k l p q b c =
     let cycle = All-head (λ (o : Option ℕ). o ≡ None) x cs p in
     let touch = All-head (λ (u : Touch). u ≡ untouched) y us q in
     and_true _ _
-    (and_true _ _ (All-head Begins n ns b d.0)
+    (and_true _ _ ((All-head Begins n ns b).0 d.0)
     (and_true _ _ (subst (λ (o : Option ℕ). time_fits n.node_type o ≡ true) (sym cycle) (no_cycle n.node_type))
     (subst (λ (u : Touch). pointers_fit n.node_type u ≡ true) (sym touch) (no_pointers n.node_type))))
     (all_begin ns cs us (one_less (length cs) (length ns) k) (one_less (length us) (length ns) l) (All-tail (λ (o : Option ℕ). o ≡ None) x cs p) (All-tail (λ (u : Touch). u ≡ untouched) y us q) (All-tail Begins n ns b) d.1)
@@ -164,7 +174,7 @@ all_begin (n ∷ ns) (x ∷ cs) (y ∷ us) k l p q b c =
 none_yet : 0 ≤ 2 ^ 20
 none_yet = omega arith
 
-pub all_openings_fit : (flat : Flat) (scene : SceneView) → scene_of flat ≡ Ok scene → IsCountable scene → WorldFits (shapes_of scene) (opening scene)
+pub all_openings_fit : OpeningsFit
 unfolding state_of
 all_openings_fit flat scene h c =
     let count : ℕ = length (map fields_of scene.nodes) in
@@ -179,3 +189,10 @@ all_openings_fit flat scene h c =
       buttons = length-replicate MAX_VIEWERS false;
       lines = refl;
     }
+
+only_ranged : (ns : List SceneNode) → All Begins ns → All IsRanged ns
+only_ranged [] b = All-nil IsRanged
+only_ranged (n ∷ ns) b = All-cons IsRanged n ns (All-head Begins n ns b).1 (only_ranged ns (All-tail Begins n ns b))
+
+pub all_starts_fit : StartsAreStates
+all_starts_fit flat scene h run = starts_fit scene (only_ranged scene.nodes (scene_begins flat scene h)) run

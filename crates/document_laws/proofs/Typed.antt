@@ -21,7 +21,7 @@ use Rattle.scene_values.specs.Typing.{made, truth as truth_in, truths, string, s
 use Rattle.document_laws.specs.Openings.{is_counted, is_text, is_countable}
 use Rattle.document_laws.proofs.Routes.{ok_is}
 
-made_is : {X Y : Type 0} (f : X → Y) (r : Result X ValueFault) (y : Y) → made f r ≡ Ok y → (x : X) × (r ≡ Ok x) × (f x ≡ y)
+pub made_is : {X Y : Type 0} (f : X → Y) (r : Result X ValueFault) (y : Y) → made f r ≡ Ok y → (x : X) × (r ≡ Ok x) × (f x ≡ y)
 made_is f (Err e) y h = absurd cc
 made_is f (Ok x) y h = (x, refl, ok_is (f x) y h)
 

@@ -1,5 +1,5 @@
--- The world of a document before any input fits, if its lengths can be counted (our choice: 32
--- bits).
+-- The world of a document before anything has happened fits, if its lengths can be counted (our
+-- choice: 32 bits), and so do the states in which its scripts start.
 use Rattle.std.specs.Prelude.{◌≡◌, ℕ, ◌^◌, ◌&&◌, Bool, true, List, length, nat_lt, Ok}
 use Rattle.std.specs.List.{list_all}
 use Rattle.std.specs.Option.{option_map_or}
@@ -10,8 +10,9 @@ use Rattle.flat_document.specs.declared.flat.Flat.{Flat}
 use Rattle.scene_core.specs.declared.scene.SceneNode.{SceneNode}
 use Rattle.scene_core.specs.Building.{scene_of}
 use Rattle.scene_core.specs.Scene.{SceneView, shapes_of}
-use Rattle.cascade_core.specs.Apply.{opening}
-use Rattle.world_laws.specs.Fits.{WorldFits}
+use Rattle.script_laws.specs.Nodes.{RunsAll}
+use Rattle.cascade_core.specs.Apply.{untold}
+use Rattle.world_laws.specs.Fits.{StartsFit, WorldFits}
 
 -- fewer than 2^32 items
 abbrev pub is_counted : {A : Type 0} → List A → Bool
@@ -41,8 +42,14 @@ is_countable_node n = list_all (λ v. option_map_or is_countable v true) n.value
 abbrev pub IsCountable : SceneView → Type 0
 IsCountable scene = list_all is_countable_node scene.nodes ≡ true
 
--- the opening world of a document's scene fits
+-- the world of a document's scene in which nothing has happened yet fits
 abbrev pub OpeningsFit : Type 0
 OpeningsFit =
     (flat : Flat) (scene : SceneView)
-    → scene_of flat ≡ Ok scene → IsCountable scene → WorldFits (shapes_of scene) (opening scene)
+    → scene_of flat ≡ Ok scene → IsCountable scene → WorldFits (shapes_of scene) (untold scene)
+
+-- where all its scripts run, the states in which they start are states of their kinds
+abbrev pub StartsAreStates : Type 0
+StartsAreStates =
+    (flat : Flat) (scene : SceneView)
+    → scene_of flat ≡ Ok scene → RunsAll scene → StartsFit scene

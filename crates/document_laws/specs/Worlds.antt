@@ -6,12 +6,13 @@ use Rattle.x3d_values.specs.Stamp.{Stamp}
 use Rattle.flat_document.specs.declared.flat.Flat.{Flat}
 use Rattle.scene_core.specs.declared.scene.Route.{Route}
 use Rattle.scene_core.specs.Building.{scene_of}
-use Rattle.scene_core.specs.Scene.{SceneView, shapes_of}
+use Rattle.scene_core.specs.Scene.{SceneView}
 use Rattle.route_core.specs.Resolved.{resolved}
 use Rattle.cascade_core.specs.Apply.{world}
 use Rattle.cascade_core.specs.InTurn.{AreInTurn}
-use Rattle.snapshot_core.specs.WorldCodec.{world_codec}
-use Rattle.world_laws.specs.Fits.{WorldFits, is_event}
+use Rattle.script_laws.specs.Nodes.{RunsAll}
+use Rattle.snapshot_core.specs.Loading.{HasSnapshot}
+use Rattle.world_laws.specs.Fits.{ScriptedFits, is_event}
 use Rattle.document_laws.specs.Openings.{IsCountable}
 
 -- the scene and the routes of a document: its nodes can be numbered in 32 bits, and its lengths
@@ -31,17 +32,17 @@ pub record AreInputs (inputs : List Stamp) : Type 0 where
   pub in_turn : AreInTurn inputs
   pub in_range : list_all is_input inputs ≡ true
 
--- the world of a document and such inputs fits
+-- the world of a document and such inputs fits, where all scripts of the scene run
 abbrev pub WorldsFit : Type 0
 WorldsFit =
     (flat : Flat) (scene : SceneView) (routes : List Route) (inputs : List Stamp)
-    → IsDocument flat scene routes → AreInputs inputs
-    → WorldFits (shapes_of scene) (world scene routes inputs)
+    → IsDocument flat scene routes → RunsAll scene → AreInputs inputs
+    → ScriptedFits scene (world scene routes inputs)
 
 -- and has a snapshot, which counts the events that were sent in 64 bits
 abbrev pub WorldsHaveSnapshots : Type 0
 WorldsHaveSnapshots =
     (flat : Flat) (scene : SceneView) (routes : List Route) (inputs : List Stamp)
-    → IsDocument flat scene routes → AreInputs inputs
-    → length (world scene routes inputs).trace < 2 ^ 64
-    → (world_codec scene).fits (world scene routes inputs) ≡ true
+    → IsDocument flat scene routes → RunsAll scene → AreInputs inputs
+    → length (world scene routes inputs).world.trace < 2 ^ 64
+    → HasSnapshot scene (world scene routes inputs)

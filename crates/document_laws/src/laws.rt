@@ -1,6 +1,6 @@
 //! What holds of the routes of documents, of their opening worlds, and of those that follow.
 
-ghost use Rattle.document_laws.specs.Openings.{OpeningsFit};
+ghost use Rattle.document_laws.specs.Openings.{OpeningsFit, StartsAreStates};
 ghost use Rattle.document_laws.specs.Routes.{RoutesJoin};
 ghost use Rattle.document_laws.specs.Worlds.{WorldsFit, WorldsHaveSnapshots};
 
@@ -9,9 +9,11 @@ pub fn routes_join()
     ensures { RoutesJoin }
 {}
 
-/// The world of a document before any input fits.
+/// The world of a document before anything has happened fits, and so do the states in which its
+/// scripts start.
 pub fn openings_fit()
-    ensures { OpeningsFit }
+    ensures world { OpeningsFit }
+    ensures starts { StartsAreStates }
 {}
 
 /// Each world that a document comes to by inputs in turn fits, and has a snapshot.

@@ -1,7 +1,7 @@
 -- The names of faults.
 use Rattle.std.specs.Prelude.{ℕ, List, codes}
 use Rattle.flat_document.specs.declared.fault.ExpandFaultKind.{ExpandFaultKind}
-use Rattle.flat_document.specs.declared.fault.ExpandFaultKind.TheVariants.{UnknownNode, UnknownField, ProtoTwice, ProtoItself, EmptyBody, BadIs, UseWithoutDef, FieldTwice, TooLarge, NotYet, Memory}
+use Rattle.flat_document.specs.declared.fault.ExpandFaultKind.TheVariants.{UnknownNode, UnknownField, ProtoTwice, ProtoItself, EmptyBody, BadIs, UseWithoutDef, FieldTwice, TooLarge, Memory}
 
 -- the name of the fault, as it stands in the type
 abbrev pub fault_name : ExpandFaultKind → List ℕ
@@ -14,5 +14,4 @@ fault_name BadIs = codes "BadIs"
 fault_name UseWithoutDef = codes "UseWithoutDef"
 fault_name FieldTwice = codes "FieldTwice"
 fault_name TooLarge = codes "TooLarge"
-fault_name NotYet = codes "NotYet"
 fault_name Memory = codes "Memory"

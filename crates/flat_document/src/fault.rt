@@ -47,9 +47,6 @@ pub enum ExpandFaultKind {
     /// values or instances.
     #[error("the scene is too large")]
     TooLarge,
-    /// What is read but not put in yet.
-    #[error("this is not supported yet")]
-    NotYet,
     #[error("memory was refused")]
     Memory,
 }
@@ -69,7 +66,6 @@ impl ExpandFaultKind {
             ExpandFaultKind::UseWithoutDef => "UseWithoutDef",
             ExpandFaultKind::FieldTwice => "FieldTwice",
             ExpandFaultKind::TooLarge => "TooLarge",
-            ExpandFaultKind::NotYet => "NotYet",
             ExpandFaultKind::Memory => "Memory",
         }
     }

@@ -1,5 +1,6 @@
 pub mod Lists
 pub mod Trees
+pub mod OrderOutcomes
 pub mod OrderWalks
 pub mod OrderFields
 pub mod OrderTrees
@@ -10,12 +11,15 @@ pub mod ClosingFields
 pub mod ClosingFlat
 pub mod LinesParts
 pub mod LinesChecked
+pub mod LinesAlike
 pub mod LinesWalks
 pub mod LinesFields
+pub mod LinesNodes
 pub mod LinesTrees
 pub mod LinesFlat
 pub mod UsesNames
 pub mod UsesParts
 pub mod UsesWalks
 pub mod UsesFields
+pub mod UsesNodes
 pub mod UsesFlat

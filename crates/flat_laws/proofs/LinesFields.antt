@@ -24,7 +24,8 @@ use Rattle.proto_steps.specs.Machine.{Machine, ◌>>=◌, keep, keep_name, pure,
 use Rattle.proto_steps.specs.Meaning.{add_declaration, add_declared_is, add_default, add_default_value, add_defaults, add_given, add_is, add_joined, add_known, add_known_is, add_new, add_number, add_taken, add_tied, add_value, hand_on, hand_over, joined_by, node_does, numbered, tie_declared, tie_field, unless_own, with_number, with_place}
 use Rattle.flat_laws.specs.Lines.{unlined_declaration, unlined_node}
 use Rattle.flat_laws.proofs.LinesParts.{unlined_given, unlined_interface}
-use Rattle.flat_laws.proofs.LinesWalks.{Does, Ends, Keeps, as_is, bare, bare_field, bare_fields, bare_signature, count_again_does, count_items_does, does_if, does_pure, does_refuse, does_then, does_through, ends_if, ends_ok, interface_same, keep_does, keep_name_does, tie_does}
+use Rattle.flat_laws.proofs.LinesAlike.{Does, Ends, Keeps, as_is, bare, bare_field, bare_fields, bare_signature, does_if, does_pure, does_refuse, does_then, does_through, ends_if, ends_ok}
+use Rattle.flat_laws.proofs.LinesWalks.{count_again_does, count_items_does, interface_same, keep_does, keep_name_does, tie_does}
 use Rattle.flat_laws.proofs.Trees.{OfDeclaration, OfGiven, OfValue}
 
 abbrev Fields : Type 0

@@ -25,7 +25,7 @@ use Rattle.flat_laws.specs.Lines.{AreAlike, unlined, unlined_flat, unlined_flat_
 use Rattle.flat_laws.proofs.LinesChecked.{Alike, SameKind, declared_alike}
 use Rattle.flat_laws.proofs.LinesFields.{NodeAlike}
 use Rattle.flat_laws.proofs.LinesTrees.{ItemAlike, ProtoAlike, StatementAlike, layers}
-use Rattle.flat_laws.proofs.LinesWalks.{Ends, Keeps, as_is, bare, bare_node, bare_store, bare_wire, does_pure, does_then, does_through, ended}
+use Rattle.flat_laws.proofs.LinesAlike.{Ends, Keeps, as_is, bare, bare_node, bare_store, bare_wire, does_pure, does_then, does_through, ended}
 use Rattle.flat_laws.proofs.Trees.{every}
 
 -- ---- statements

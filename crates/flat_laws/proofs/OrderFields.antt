@@ -21,7 +21,8 @@ use Rattle.proto_steps.specs.Meaning.{add_declaration, add_default, add_default_
 use Rattle.proto_steps.specs.Meaning.{add_declared_is, add_is, add_joined, add_known_is, add_tied, hand_on, hand_over, joined_by, tie_declared, tie_field, unless_own, with_number, with_place}
 use Rattle.flat_laws.specs.Order.{AreBelow, IsValueBelow}
 use Rattle.flat_laws.proofs.Lists.{all_push}
-use Rattle.flat_laws.proofs.OrderWalks.{Any, Does, Ends, IsBelow, IsGoodWalk, Keeps, count, count_again_does, count_items_does, ends_if, ends_ok, ends_then, ends_through, keep_does, keep_name_does, raise_all, tie_does}
+use Rattle.flat_laws.proofs.OrderOutcomes.{Any, Does, Ends, IsBelow, IsGoodWalk, Keeps, count, ends_if, ends_ok, ends_then, ends_through, raise_all}
+use Rattle.flat_laws.proofs.OrderWalks.{count_again_does, count_items_does, keep_does, keep_name_does, tie_does}
 use Rattle.flat_laws.proofs.Trees.{OfDeclaration, OfGiven, OfValue}
 
 abbrev Fields : Type 0

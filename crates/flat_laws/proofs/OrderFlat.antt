@@ -29,7 +29,7 @@ use Rattle.flat_laws.specs.Order.{AreBelow, AreFieldsBelow, IsEndBelow, IsOrdere
 use Rattle.flat_laws.proofs.Lists.{IfSome, all_append, all_flat, all_map, all_push}
 use Rattle.flat_laws.proofs.OrderTrees.{IfBelow, ItemDoes, ProtoDoes, StatementDoes, layers, spots_below}
 use Rattle.flat_laws.proofs.OrderFields.{NodeDoes}
-use Rattle.flat_laws.proofs.OrderWalks.{Any, AreOrdered, Ends, IsBelow, IsGoodStore, IsGoodWalk, IsPlaceBelow, IsSpotBelow, Keeps, count, ends_ok, ends_then, ends_through, fields_of, ordered_at, ordered_push, raise_all, same}
+use Rattle.flat_laws.proofs.OrderOutcomes.{Any, AreOrdered, Ends, IsBelow, IsGoodStore, IsGoodWalk, IsPlaceBelow, IsSpotBelow, Keeps, count, ends_ok, ends_then, ends_through, fields_of, ordered_at, ordered_push, raise_all, same}
 use Rattle.flat_laws.proofs.Trees.{every}
 
 -- ---- statements

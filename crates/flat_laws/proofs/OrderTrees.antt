@@ -34,7 +34,8 @@ use Rattle.proto_steps.specs.Routes.{wire}
 use Rattle.proto_steps.specs.declared.held.Store.{Store}
 use Rattle.flat_laws.proofs.Lists.{IfSome, all_append, all_map, all_set, at_all}
 use Rattle.flat_laws.proofs.OrderFields.{DeclarationDoes, GivenDoes, NodeDoes, add_declaration_does, add_defaults_does, add_given_does, keeps_pure, keeps_then}
-use Rattle.flat_laws.proofs.OrderWalks.{Any, AreInletsBelow, AreSpotsBelow, Comes, Does, Ends, IsBelow, IsGoodBound, IsGoodMeaning, IsGoodWalk, IsMadeBelow, IsPlaceBelow, IsSpotBelow, Keeps, begin_instance_does, begin_node_does, count, count_interface_does, count_joined_does, ends_ok, ends_then, ends_through, found, help_does, know_does, label_does, meet_does, put_does, raise, raise_if, raise_inlets, raise_names, same, stand_does, use_does, wire_does}
+use Rattle.flat_laws.proofs.OrderOutcomes.{Any, AreInletsBelow, AreSpotsBelow, Comes, Does, Ends, IsBelow, IsGoodBound, IsGoodMeaning, IsGoodWalk, IsMadeBelow, IsPlaceBelow, IsSpotBelow, Keeps, count, ends_ok, ends_then, ends_through, raise, raise_if, raise_inlets, raise_names, same}
+use Rattle.flat_laws.proofs.OrderWalks.{begin_instance_does, begin_node_does, count_interface_does, count_joined_does, found, help_does, know_does, label_does, meet_does, put_does, stand_does, use_does, wire_does}
 use Rattle.flat_laws.proofs.Trees.{Layers}
 
 abbrev Fields : Type 0

@@ -1,5 +1,5 @@
--- Which node a USE gives in a document without instances (ISO/IEC 19775-1, DEF and USE): the nearest
--- DEF before it of that name whose braces are closed.
+-- Which node a USE gives in a document without instances (ISO/IEC 19775-1, DEF and USE): the
+-- nearest DEF before it of that name whose braces are closed.
 use Rattle.std.specs.Prelude.{◌≡◌, ℕ, Bool, false, if◌then◌else◌, List, [], ◌∷◌, ◌++◌, length, map, Option, Some, None, Ok, slice_set}
 use Rattle.std.specs.List.{AllByRecursion, flat_map, fold}
 use Rattle.std.specs.Option.{option_or}

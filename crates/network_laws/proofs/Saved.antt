@@ -11,9 +11,10 @@ use Rattle.x3d_values.specs.Stamp.{Stamp}
 use Rattle.flat_document.specs.declared.flat.Flat.{Flat}
 use Rattle.scene_core.specs.declared.scene.Route.{Route}
 use Rattle.scene_core.specs.Scene.{SceneView}
-use Rattle.cascade_core.specs.declared.world.WorldData.{WorldData}
+use Rattle.script_laws.specs.Nodes.{RunsAll}
+use Rattle.cascade_core.specs.Course.{Scripted}
 use Rattle.cascade_core.specs.InTurn.{Follow}
-use Rattle.snapshot_core.specs.WorldCodec.{world_codec}
+use Rattle.snapshot_core.specs.Loading.{HasSnapshot}
 use Rattle.share_wire.specs.Datagram.{stamp_fits, event_fits}
 use Rattle.share_law.specs.Cascade.{cascade}
 use Rattle.share_law.specs.Lists.{Rises}
@@ -69,7 +70,7 @@ from_one k x e = omega (arith, e)
 
 -- ---- worlds
 
-module _ (flat : Flat) (scene : SceneView) (routes : List Route) (net : Network WorldData) (d : IsDocument flat scene routes) (reached : Reached (cascade scene routes) net) where
+module _ (flat : Flat) (scene : SceneView) (routes : List Route) (net : Network Scripted) (d : IsDocument flat scene routes) (run : RunsAll scene) (reached : Reached (cascade scene routes) net) where
   pub front_inputs : (front back : List Stamp) → front ++ back ≡ net.host.list → AreInputs front
   front_inputs front back whole =
       let sound : Sound (cascade scene routes) net = Sound-reached (cascade-is scene routes) reached in
@@ -82,18 +83,18 @@ module _ (flat : Flat) (scene : SceneView) (routes : List Route) (net : Network 
         in_range = all_inputs front (λ k x at. ranges.list k x (there k x at));
       }
 
-  at_has : (w : WorldData) → IsAt (cascade scene routes) net.host.list w → length w.trace < 2 ^ 64 → (world_codec scene).fits w ≡ true
+  at_has : (w : Scripted) → IsAt (cascade scene routes) net.host.list w → length w.world.trace < 2 ^ 64 → HasSnapshot scene w
   at_has w a =
-      subst (λ (v : WorldData). length v.trace < 2 ^ 64 → (world_codec scene).fits v ≡ true) (sym a.is)
-      (all_have_snapshots flat scene routes a.done d (front_inputs a.done a.todo a.whole))
+      subst (λ (v : Scripted). length v.world.trace < 2 ^ 64 → HasSnapshot scene v) (sym a.is)
+      (all_have_snapshots flat scene routes a.done d run (front_inputs a.done a.todo a.whole))
 
-  pub saved_have : (s : ℕ) (shot : Shot WorldData) → slice_get net.shots s ≡ Some shot → length shot.state.trace < 2 ^ 64 → (world_codec scene).fits shot.state ≡ true
+  pub saved_have : (s : ℕ) (shot : Shot Scripted) → slice_get net.shots s ≡ Some shot → length shot.state.world.trace < 2 ^ 64 → HasSnapshot scene shot.state
   saved_have s shot at few =
       let sound : Sound (cascade scene routes) net = Sound-reached (cascade-is scene routes) reached in
       at_has shot.state (sound.shots s shot at) few
 
-  pub running_have : (viewer : ℕ) (held : WorldData) (window : List (Option Stamp)) → IsRunning net viewer held window → length held.trace < 2 ^ 64 → (world_codec scene).fits held ≡ true
+  pub running_have : (viewer : ℕ) (held : Scripted) (window : List (Option Stamp)) → IsRunning net viewer held window → length held.world.trace < 2 ^ 64 → HasSnapshot scene held
   running_have viewer held window r few =
       let sound : Sound (cascade scene routes) net = Sound-reached (cascade-is scene routes) reached in
-      let step : InStep (cascade scene routes) net.host.list held window = subst (λ (v : View WorldData). ViewSound (cascade scene routes) net.host.list v) r.view (sound.viewers viewer r.seat r.is) in
+      let step : InStep (cascade scene routes) net.host.list held window = subst (λ (v : View Scripted). ViewSound (cascade scene routes) net.host.list v) r.view (sound.viewers viewer r.seat r.is) in
       at_has held step.at few

@@ -3,7 +3,8 @@ use Rattle.std.specs.Prelude.{◌≡◌, ℕ, ◌<◌, ◌^◌, List, length, So
 use Rattle.flat_document.specs.declared.flat.Flat.{Flat}
 use Rattle.scene_core.specs.declared.scene.Route.{Route}
 use Rattle.scene_core.specs.Scene.{SceneView}
-use Rattle.cascade_core.specs.declared.world.WorldData.{WorldData}
+use Rattle.script_laws.specs.Nodes.{RunsAll}
+use Rattle.cascade_core.specs.Course.{Scripted}
 use Rattle.snapshot_core.specs.declared.fault.SnapFault.{SnapFault}
 use Rattle.snapshot_core.specs.Shot.{shot}
 use Rattle.share_law.specs.Calls.{IsRewind}
@@ -15,17 +16,18 @@ use Rattle.share_core.specs.Rewinds.{IsRewound}
 use Rattle.share_core.specs.Viewer.{ViewerView, machine_of}
 use Rattle.document_laws.specs.Worlds.{IsDocument}
 
--- whatever 1 to 16 viewers, their host and their network came to in the scene of a document: what a
--- viewer of that scene makes of the bytes of a snapshot that was taken (`IsRewound`, the clause of
--- its call) is the network's step for that snapshot, so it is refused for its boot or for memory
--- alone. The snapshot counts its boot in 32 bits and the events that were sent in 64
+-- whatever 1 to 16 viewers, their host and their network came to in the scene of a document, all of
+-- whose scripts run: what a viewer of that scene makes of the bytes of a snapshot that was taken
+-- (`IsRewound`, the clause of its call) is the network's step for that snapshot, so it is refused
+-- for its boot or for memory alone. The snapshot counts its boot in 32 bits and the events that
+-- were sent in 64
 abbrev pub OwnSnapshotsRewind : Type 0
 OwnSnapshotsRewind =
-    (flat : Flat) (scene : SceneView) (routes : List Route) (net : Network WorldData)
-    → IsDocument flat scene routes → Reached (cascade scene routes) net
-    → (s : ℕ) (from : Shot WorldData) → slice_get net.shots s ≡ Some from
-    → length from.state.trace < 2 ^ 64 → from.boot < 2 ^ 32
+    (flat : Flat) (scene : SceneView) (routes : List Route) (net : Network Scripted)
+    → IsDocument flat scene routes → RunsAll scene → Reached (cascade scene routes) net
+    → (s : ℕ) (from : Shot Scripted) → slice_get net.shots s ≡ Some from
+    → length from.state.world.trace < 2 ^ 64 → from.boot < 2 ^ 32
     → (v : ViewerView) → v.scene ≡ scene → length v.mark ≡ 32
-    → (boot : ℕ) (result : Result ℕ SnapFault) (new : ViewerState WorldData)
+    → (boot : ℕ) (result : Result ℕ SnapFault) (new : ViewerState Scripted)
     → IsRewound v boot (shot v.mark from.boot scene from.state) result new
     → IsRewind (machine_of v) v.state from boot result new

@@ -1,3 +1,4 @@
+pub mod NumbersInOrder
 pub mod Again
 pub mod Inner
 pub mod Lists

@@ -25,8 +25,8 @@ HaveChildren scene nodes =
     (n : ℕ) (node : SceneNode) → slice_get scene.nodes n ≡ Some node
     → parts_of nodes n ≡ children node
 
--- where they are as many as the scene's, and have the same roots and helpers, each has its own place
--- as its number
+-- where they are as many as the scene's, and have the same roots and helpers, each has its own
+-- place as its number
 abbrev pub NumberedAgain : Type 0
 NumberedAgain =
     (flat : Flat) (scene : SceneView) (nodes : List FlatNode) → scene_of flat ≡ Ok scene

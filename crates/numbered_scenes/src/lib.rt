@@ -1,4 +1,5 @@
-//! That the nodes in a node have lower numbers, and that a numbered scene is numbered the same again.
+//! That the nodes in a node have lower numbers, and that a numbered scene is numbered the same
+//! again.
 #![tactic(auto)]
 
 mod laws;

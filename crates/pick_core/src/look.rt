@@ -35,22 +35,11 @@ const ONES: Vec3 = Vec3 {
     z: 1_000_000,
 };
 
-/// The type of the node of that number, if there is one.
-pub(crate) fn type_at(scene: &Scene, node: u32) -> Option<NodeType>
-    ensures { result ≡ type_at scene.now node }
-{
-    if (node as usize) < scene.node_count() {
-        Some(scene.node_type(node))
-    } else {
-        None
-    }
-}
-
 /// The size of a geometry, if it is a Box.
 fn size_of(scene: &Scene, geometry: u32) -> Option<Vec3>
     ensures { result ≡ spec.size_as scene.now geometry (type_at scene.now geometry) }
 {
-    match type_at(scene, geometry) {
+    match scene.type_at(geometry) {
         Some(NodeType::Box) => match scene.value(geometry, SIZE) {
             Some(Value::SFVec3f(size)) => Some(*size),
             _ => None,
@@ -74,7 +63,7 @@ fn size_in(scene: &Scene, shape: u32) -> Option<Vec3>
 pub(crate) fn kind_of(scene: &Scene, node: u32) -> Kind
     ensures { result ≡ spec.kind_of scene.now node }
 {
-    match type_at(scene, node) {
+    match scene.type_at(node) {
         Some(NodeType::Group) => Kind::Group,
         Some(NodeType::Transform) => Kind::Transform,
         Some(NodeType::Switch) => Kind::Switch,

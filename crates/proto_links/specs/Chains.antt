@@ -76,6 +76,7 @@ pub record IsPlace (entries : List Entry) (name : List ℕ) (before c : ℕ) (ch
   pub there : slice_get chains c ≡ Some chain
   pub from : chain.from ≤ length entries
   pub same : (other : List ℕ)
-      → (if bytes_eq name other then Some (length entries) else found (links_of entries) other before)
+      → (if bytes_eq name other then Some (length entries)
+      else found (links_of entries) other before)
       ≡ or_else (below (length entries + 1) (table_of chain other))
       (found (links_of entries) other chain.from)

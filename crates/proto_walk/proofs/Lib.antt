@@ -1,3 +1,4 @@
 pub mod Moves
+pub mod InstanceMoves
 pub mod Refusals
 pub mod Sights

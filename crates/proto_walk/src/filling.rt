@@ -97,8 +97,8 @@ fn put_default<'a>(
     requires holds { Holds walker.old }
     requires sees { opened.sight ≤ length walker.old.links }
     ensures { Keeps (and_then (spec.add_default node_does
-        (place_of placed.entry.proto.now placed.entry.within) number declaration.now opened.entry.fields
-        (shown walker.old)) (does.open_does
+        (place_of placed.entry.proto.now placed.entry.within) number declaration.now
+        opened.entry.fields (shown walker.old)) (does.open_does
         (in_sight walker.old.links opened.entry.sight) opened.entry)) walker.old
         result walker.new }
 {

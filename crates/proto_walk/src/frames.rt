@@ -8,8 +8,8 @@ use proto_steps::{Instance, Owner, Scope, Store};
 use x3d_lists::{Items, Text};
 
 /// The default values of an instance, which are put in before its body: the instance, the
-/// declarations that are left, and what was in sight where the instance stands, which is on the heap
-/// so that what waits is small.
+/// declarations that are left, and what was in sight where the instance stands, which is on the
+/// heap so that what waits is small.
 #[derive(Drop)]
 pub struct Filling<'a> {
     pub instance: Instance<'a>,

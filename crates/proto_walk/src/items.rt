@@ -27,8 +27,9 @@ pub fn with_field<'a>(
     number: usize,
     value: Option<usize>,
 ) -> Result<Open<'a>, AllocError>
-    ensures { IfOk result (λ o. o
-        ≡ record opened.entry { fields = owners.with_field line number opened.entry.fields value }) }
+    ensures { IfOk result (λ o. o ≡ record opened.entry {
+      fields = owners.with_field line number opened.entry.fields value;
+    }) }
 {
     let mut opened = opened;
     opened.fields.push(GivenField {

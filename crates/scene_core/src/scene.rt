@@ -87,7 +87,7 @@ impl Scene {
     ghost use Rattle.x3d_lists.specs.Answers.{Gives};
     ghost use Rattle.scene_core.specs.Building.{scene_of};
     ghost use Rattle.scene_core.specs.Faults.{memory};
-    ghost use Rattle.scene_core.specs.Scene.{types_of, rows_at, declared_at, number_of, value_at, children_of, state_of, label_of, name_at};
+    ghost use Rattle.scene_core.specs.Scene.{type_at, types_of, rows_at, declared_at, number_of, value_at, children_of, state_of, label_of, name_at};
     ghost use Rattle.scene_core.specs.Shape.{row_entry};
     ghost use Rattle.x3d_values.specs.declared.node_type.NodeType.{NodeType};
     ghost use Rattle.x3d_values.specs.Tables.{row_named, rows};
@@ -104,6 +104,27 @@ impl Scene {
         ensures { slice_get (types_of self.now) node ≡ Some result }
     {
         self.nodes.as_slice()[node as usize].node_type
+    }
+
+    /// The type of the node of that number, if there is one.
+    pub fn type_at(&self, node: u32) -> Option<NodeType>
+        ensures { result ≡ type_at self.now node }
+    {
+        if (node as usize) < self.node_count() {
+            Some(self.node_type(node))
+        } else {
+            None
+        }
+    }
+
+    /// How many nodes there are, as node numbers count them. No memory holds a scene of 2^32 nodes.
+    pub fn count(&self) -> Result<u32, AllocError>
+        ensures { IfOk result (λ count. count ≡ length self.now.nodes) }
+    {
+        let Ok(count) = u32::try_from(self.node_count()) else {
+            return Err(AllocError);
+        };
+        Ok(count)
     }
 
     /// How many fields the node of that number has: those of its type, and behind them those that

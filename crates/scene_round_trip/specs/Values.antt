@@ -46,7 +46,8 @@ WrittenValuesAreTyped =
     (v : Value) (numbers : List ℕ) → nodes_of v ≡ [] → is_sound v ≡ true
     → typed (type_of v) (plain v) numbers ≡ Ok v
 
--- what is written of a value, where the tree of each node in it is put in as the node of that number
+-- what is written of a value, where the tree of each node in it is put in as the node of that
+-- number
 abbrev pub placed : (ℕ → ℕ) → Value → RawValue ℕ
 placed put (SFNode (Some n)) = raw.Node (put n)
 placed put (MFNode (n ∷ ns)) = raw.NodeList (map put (n ∷ ns))

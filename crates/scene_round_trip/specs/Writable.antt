@@ -1,6 +1,6 @@
--- Which scenes can be written so that they are read again: names are names, texts are UTF-8, numbers
--- are in their ranges, chains of nodes are short enough (ISO/IEC 19775-1, scene graph; ISO/IEC
--- 19776-2, grammar; the limit is our choice).
+-- Which scenes can be written so that they are read again: names are names, texts are UTF-8,
+-- numbers are in their ranges, chains of nodes are short enough (ISO/IEC 19775-1, scene graph;
+-- ISO/IEC 19776-2, grammar; the limit is our choice).
 use Rattle.std.specs.Prelude.{◌≡◌, ◌⊎◌, ℕ, zero, suc, ◌+◌, ◌-◌, ◌^◌, ◌<◌, ◌≤◌, Bool, true, List, [], ◌∷◌, Option, Some, length, slice_get}
 use Rattle.std.specs.List.{AllByRecursion, list_all}
 use Rattle.std.specs.Option.{option_and_then, option_map_or}
@@ -52,7 +52,8 @@ pub record IsWritableNode (n : SceneNode) : Type 0 where
   pub scripted : (n.node_type ≡ Script) ⊎ (n.declared ≡ [])
   pub declared : AllByRecursion (λ (d : DeclaredField). IsFreeName d.name) n.declared
   pub sound : list_all is_sound_or_none n.values ≡ true
-  pub held : HoldValues n.values (length (rows n.node_type)) (numbered_fields n.node_type n.declared)
+  pub held : HoldValues n.values (length (rows n.node_type))
+      (numbered_fields n.node_type n.declared)
 
 -- ---- what nodes keep
 

@@ -1,2 +1,2 @@
 pub mod Listing
-mod Outputs
+pub mod Outputs

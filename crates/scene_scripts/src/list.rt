@@ -28,22 +28,11 @@ fn first_word(urls: &[Text]) -> Option<&str>
     }
 }
 
-/// The type of the node of that number, if there is one.
-fn type_at(scene: &Scene, node: u32) -> Option<NodeType>
-    ensures { result ≡ type_at scene.now node }
-{
-    if (node as usize) < scene.node_count() {
-        Some(scene.node_type(node))
-    } else {
-        None
-    }
-}
-
 /// The word by which a node asks to be run.
 fn word_of(scene: &Scene, node: u32) -> Option<&str>
     ensures { option_copied result ≡ spec.word_of scene.now node }
 {
-    match type_at(scene, node) {
+    match scene.type_at(node) {
         Some(NodeType::Script) => first_word(strings_named(scene, node, "url")),
         _ => None,
     }
@@ -135,23 +124,13 @@ fn push_script(
     Ok(())
 }
 
-/// How many nodes the scene has. No memory holds a scene of 2^32 nodes.
-fn count_of(scene: &Scene) -> Result<u32, AllocError>
-    ensures { IfOk result (λ count. count ≡ length scene.now.nodes) }
-{
-    let Ok(count) = u32::try_from(scene.node_count()) else {
-        return Err(AllocError);
-    };
-    Ok(count)
-}
-
 /// What the scene asks for: its Scripts that are run, in the order of their nodes' numbers. A
 /// Script is run where one of its urls begins `x3dshare:`; the first such names the kind.
 #[tactic(auto, unfolding(crate::specs::Scripts::script_list))]
 pub fn script_list(alloc: Global, scene: &Scene) -> Result<Vec<ScriptSpec>, AllocError>
     ensures { IfOk result (λ list. list.items ≡ spec.script_list scene.now) }
 {
-    let count = count_of(scene)?;
+    let count = scene.count()?;
     let mut list = Vec::new(alloc);
     for node in 0..count {
         push_script(alloc, scene, node, &mut list)?;

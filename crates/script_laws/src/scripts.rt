@@ -1,5 +1,5 @@
-//! That a call keeps the range of a script's state and of what it sends, and by which outputs of its
-//! node a script sends.
+//! That a call keeps the range of a script's state and of what it sends, and by which outputs of
+//! its node a script sends.
 
 ghost use Rattle.script_laws.specs.Calls.{CallsFit};
 ghost use Rattle.script_laws.specs.Nodes.{AttachedRun, OutputsTyped};

@@ -9,11 +9,11 @@ use Rattle.share_jobs.specs.Schedule.{schedule_lines}
 use Rattle.share_jobs.specs.declared.fault.JobFault.{JobFault}
 use Rattle.share_jobs.specs.declared.fault.JobFault.TheVariants.{Memory}
 use Rattle.share_jobs.specs.declared.schedule.Schedule.{Schedule}
-use Rattle.share_program.specs.Opening.{next, opened_to_run, same}
+use Rattle.share_program.specs.Opening.{next, same}
 use Rattle.share_rehearsal.specs.Calls.{Seen, seen_of}
 use Rattle.share_rehearsal.specs.Rehearsed.{IsRehearsal, IsRehearsed}
 use Rattle.share_commands.specs.Rehearsing.{IsLogOf, IsScheduleLog, schedule_scene}
-use Rattle.share_commands.specs.Stages.{AreStages, fresh}
+use Rattle.share_commands.specs.Stages.{AreStages, fresh, staged}
 use Rattle.share_commands.proofs.Staging.{are_of}
 
 is_log : (viewers : ℕ) (schedule : Schedule) (stages : List StageView) (text : List ℕ)
@@ -46,7 +46,7 @@ is_schedule_log viewers schedule bytes mark steps stages text is marked stepped 
 
 -- the scene of a schedule is refused
 pub refused_scene : (bytes : List ℕ) (schedule : Schedule) (f : JobFault) → schedule_lines bytes ≡ Ok schedule
-    → (f ≡ Memory) ⊎ (opened_to_run schedule.scene ≡ Err f) → (f ≡ Memory) ⊎ (schedule_scene bytes ≡ Err f)
+    → (f ≡ Memory) ⊎ (staged schedule.scene ≡ Err f) → (f ≡ Memory) ⊎ (schedule_scene bytes ≡ Err f)
 refused_scene bytes schedule f lines (inl e) = inl e
 refused_scene bytes schedule f lines (inr e) =
-    inr (ap (λ (r : Result Schedule JobFault). next same r (λ s. opened_to_run s.scene)) lines ∙ e)
+    inr (ap (λ (r : Result Schedule JobFault). next same r (λ s. staged s.scene)) lines ∙ e)

@@ -1,18 +1,30 @@
 -- Stages of one text.
 use Rattle.std.proofs.Common.{◌≡◌, ℕ, zero, suc, ◌+◌, ◌++◌, List, [], ◌∷◌, replicate, length, refl, sym, ◌∙◌, ap, subst}
-use Rattle.std.specs.Prelude.{Result, Ok, Err}
+use Rattle.std.specs.Prelude.{Option, None, Some, Result, Ok, Err}
 use Rattle.std.proofs.lemmas.List.{length-replicate, replicate_more}
 use Rattle.cascade_core.specs.Held.{StageView}
 use Rattle.share_core.specs.Viewer.{ViewerView}
 use Rattle.share_jobs.specs.declared.fault.JobFault.{JobFault}
-use Rattle.share_program.specs.Opening.{opened_to_run}
+use Rattle.share_program.specs.Opening.{next, opened, same}
 use Rattle.share_program.specs.declared.open.Opened.{Opened}
 use Rattle.share_rehearsal.specs.Calls.{viewers_from}
 use Rattle.share_rehearsal.specs.Rehearsed.{AreFresh, AreOf}
-use Rattle.share_commands.specs.Stages.{AreStages, IsStage, fresh}
+use Rattle.share_commands.specs.Stages.{AreStages, IsStage, fresh, scripted, scripts_refusal, staged, unless_refused}
 
-same_ok : {A E : Type 0} (x y : A) → ◌≡◌ {A = Result A E} (Ok x) (Ok y) → x ≡ y
+pub same_ok : {A E : Type 0} (x y : A) → ◌≡◌ {A = Result A E} (Ok x) (Ok y) → x ≡ y
 same_ok x y e = cc
+
+-- a scene whose scripts are taken is that of its text
+pub is_staged_scene : (text : List ℕ) (o : Opened) → opened text ≡ Ok o → scripts_refusal o.scene ≡ None → staged text ≡ Ok o
+unfolding staged
+is_staged_scene text o is taken =
+    ap (λ (r : Result Opened JobFault). next same r scripted) is
+    ∙ ap (λ (f : Option JobFault). unless_refused o f) taken
+
+-- the first stage
+pub is_stage : (text : List ℕ) (o : Opened) (stage : StageView) → opened text ≡ Ok o → scripts_refusal o.scene ≡ None
+    → stage ≡ fresh o → IsStage text stage
+is_stage text o stage is taken made = record { scene = o; is_scene = is_staged_scene text o is taken; is = made }
 
 -- two stages of a text are equal
 same_stage : (text : List ℕ) (a b : StageView) → IsStage text a → IsStage text b → a ≡ b

@@ -3,10 +3,11 @@ use Rattle.std.specs.Prelude.{ℕ, List, Result, Ok}
 use Rattle.sha2.specs.Sha256.{sha256}
 use Rattle.share_jobs.specs.Job.{Lined, job_lines}
 use Rattle.share_jobs.specs.declared.fault.JobFault.{JobFault}
-use Rattle.share_program.specs.Opening.{next, same, opened_to_run}
+use Rattle.share_program.specs.Opening.{next, same, opened}
 use Rattle.share_program.specs.declared.open.Opened.{Opened}
 use Rattle.share_words.specs.declared.order.Order.{Order}
 use Rattle.share_commands.specs.Fits.{fits}
+use Rattle.share_commands.specs.Stages.{scripts_refusal, unless_refused}
 use Rattle.share_commands.specs.declared.job.SharedJob.{SharedJob}
 
 -- the mark is that of the scene's bytes
@@ -21,7 +22,7 @@ with_mark l o =
 
 -- the steps of the lines before the first line `scene`, and the scene behind it
 unfoldable pub shared : List ℕ → Result SharedJob JobFault
-shared bytes = next same (job_lines bytes) (λ l. next same (opened_to_run l.scene) (with_mark l))
+shared bytes = next same (job_lines bytes) (λ l. next same (opened l.scene) (with_mark l))
 
 abbrev pub if_fits : Order → SharedJob → Result SharedJob JobFault
 if_fits order job = next same (fits order job.inputs) (λ _. Ok job)
@@ -29,3 +30,10 @@ if_fits order job = next same (fits order job.inputs) (λ _. Ok job)
 -- the same, where a command takes its steps
 unfoldable pub fitting : Order → List ℕ → Result SharedJob JobFault
 fitting order bytes = next same (shared bytes) (if_fits order)
+
+abbrev pub if_scripted : SharedJob → Result SharedJob JobFault
+if_scripted job = unless_refused job (scripts_refusal job.scene)
+
+-- the same, where the scripts of its scene are taken
+unfoldable pub staffed : Order → List ℕ → Result SharedJob JobFault
+staffed order bytes = next same (fitting order bytes) if_scripted

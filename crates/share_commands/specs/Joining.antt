@@ -9,7 +9,7 @@ use Rattle.share_turns.specs.Agreeing.{Meeting, Seats, Ways, AreAgreed, IsAgreeR
 use Rattle.share_turns.specs.declared.fault.SeriesFault.{SeriesFault}
 use Rattle.share_program.specs.declared.fault.ShareFault.{ShareFault}
 use Rattle.share_words.specs.declared.order.Order.{Order}
-use Rattle.share_commands.specs.Jobs.{fitting, shared}
+use Rattle.share_commands.specs.Jobs.{staffed}
 use Rattle.share_commands.specs.Stages.{fresh}
 use Rattle.share_commands.specs.Viewing.{series_fault}
 use Rattle.share_commands.specs.declared.job.SharedJob.{SharedJob}
@@ -30,15 +30,15 @@ joint_of job viewers = record {
 }
 
 -- a stage for each viewer of the job of bytes
-abbrev pub IsStaged : (viewers : ℕ) → (bytes : List ℕ) → List Stamp → (mark : List ℕ)
+abbrev pub IsStaged : Order → (viewers : ℕ) → (bytes : List ℕ) → List Stamp → (mark : List ℕ)
     → List StageView → Type 0
-IsStaged viewers bytes inputs mark stages =
-    (job : SharedJob) × (shared bytes ≡ Ok job) × (inputs ≡ job.inputs) × (mark ≡ job.mark)
+IsStaged order viewers bytes inputs mark stages =
+    (job : SharedJob) × (staffed order bytes ≡ Ok job) × (inputs ≡ job.inputs) × (mark ≡ job.mark)
     × (stages ≡ replicate viewers (fresh (record { scene = job.scene; routes = job.routes })))
 
 abbrev pub IsJoint : Order → (viewers : ℕ) → (bytes : List ℕ) → Joint → Type 0
 IsJoint order viewers bytes joint =
-    (job : SharedJob) × (fitting order bytes ≡ Ok job) × (joint ≡ joint_of job viewers)
+    (job : SharedJob) × (staffed order bytes ≡ Ok job) × (joint ≡ joint_of job viewers)
 
 -- a host that was made just now, and viewers, each at its port
 abbrev pub met : {P : Type 0} → (port : P) → Seats P → Meeting P

@@ -1,7 +1,7 @@
 pub mod Fits
+pub mod Stages
 pub mod Jobs
 pub mod Hosting
 pub mod Viewing
-pub mod Stages
 pub mod Rehearsing
 pub mod Joining

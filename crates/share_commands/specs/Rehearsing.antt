@@ -8,17 +8,18 @@ use Rattle.share_core.specs.Viewer.{ViewerView}
 use Rattle.share_jobs.specs.Schedule.{schedule_lines}
 use Rattle.share_jobs.specs.declared.fault.JobFault.{JobFault}
 use Rattle.share_jobs.specs.declared.schedule.Schedule.{Schedule}
-use Rattle.share_program.specs.Opening.{next, same, opened_to_run}
+use Rattle.share_program.specs.Opening.{next, same}
 use Rattle.share_program.specs.declared.open.Opened.{Opened}
 use Rattle.share_rehearsal.specs.declared.answer.Answer.{Answer}
 use Rattle.share_rehearsal.specs.Calls.{Seen, AreCalls, begun_with}
 use Rattle.share_rehearsal.specs.Log.{log_text}
 use Rattle.share_rehearsal.specs.Rehearsed.{IsRehearsal, IsRehearsed, WorldsFit}
-use Rattle.share_commands.specs.Stages.{fresh}
+use Rattle.share_commands.specs.Stages.{fresh, staged}
 
--- the scene of a schedule, or the first fault of its lines and then of its scene
+-- the scene of a schedule, or the first fault of its lines, then of its scene, then of
+-- its scripts
 abbrev pub schedule_scene : List ℕ → Result Opened JobFault
-schedule_scene bytes = next same (schedule_lines bytes) (λ s. opened_to_run s.scene)
+schedule_scene bytes = next same (schedule_lines bytes) (λ s. staged s.scene)
 
 -- the log of steps that viewers with these stages and their host went through
 pub record IsLogOf (mark : List ℕ) (stages : List StageView) (steps : List Step) (text : List ℕ) :
@@ -32,7 +33,7 @@ pub record IsLogOf (mark : List ℕ) (stages : List StageView) (steps : List Ste
 -- network
 pub record IsScheduleLog (viewers : ℕ) (schedule : Schedule) (text : List ℕ) : Type 0 where
   pub scene : Opened
-  pub is_scene : opened_to_run schedule.scene ≡ Ok scene
+  pub is_scene : staged schedule.scene ≡ Ok scene
   pub answers : List Answer
   pub left : Seen
   pub calls : AreCalls (begun_with (sha256 schedule.scene) (replicate viewers (fresh scene)))

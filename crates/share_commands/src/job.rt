@@ -9,7 +9,7 @@ use crate::fits::job_fits;
 use route_core::Routes;
 use scene_core::Scene;
 use share_jobs::{Inputs, JobFault, job_of};
-use share_program::open_to_run;
+use share_program::open_scene;
 use share_words::Order;
 use snapshot_codec::scene_mark;
 use std::alloc::Global;
@@ -29,7 +29,7 @@ fn shared(alloc: Global, bytes: &[u8]) -> Result<SharedJob, JobFault>
     ensures { Gives Memory (λ j. j) result (shared bytes.now) }
 {
     let steps = job_of(alloc, bytes)?;
-    let opened = open_to_run(alloc, steps.scene)?;
+    let opened = open_scene(alloc, steps.scene)?;
     Ok(SharedJob {
         mark: scene_mark(steps.scene),
         inputs: steps.inputs,

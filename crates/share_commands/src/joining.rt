@@ -1,20 +1,21 @@
 //! The work of a host and its viewers, each at a port of its own.
 
 ghost use Rattle.std.specs.Prelude.{◌≡◌, ◌≤◌, ◌⊎◌, IfOk, IfErr, Err, length};
-ghost use Rattle.share_commands.specs.Jobs.{fitting, shared};
+ghost use Rattle.share_commands.specs.Jobs.{staffed};
 ghost use Rattle.share_commands.specs.Joining.{IsAgreed, IsAgreedInPart, IsJoint, IsStaged};
 ghost use Rattle.share_rehearsal.specs.Calls.{viewers_from};
 ghost use Rattle.share_rehearsal.specs.Rehearsed.{AreFresh};
 ghost use Rattle.share_jobs.specs.declared.fault.JobFault.TheVariants.{Memory};
 
 use crate::fits::job_fits;
-use crate::stages::stages_of;
+use crate::stages::{fresh_stage, with_others};
 use crate::viewing::series_fault;
 use cascade_core::Stage;
+use script_boxes::StockScript;
 use share_core::{Host, Viewer};
 use share_jobs::{Inputs, JobFault, job_of};
 use share_port::Port;
-use share_program::ShareFault;
+use share_program::{ShareFault, open_scene};
 use share_rehearsal::viewers_of;
 use share_turns::agree;
 use share_words::Order;
@@ -28,7 +29,7 @@ pub struct JointJob {
     /// The SHA-256 of the scene's bytes.
     pub mark: [u8; 32],
     /// Numbered from 0.
-    pub viewers: Vec<Viewer<()>>,
+    pub viewers: Vec<Viewer<StockScript>>,
 }
 
 /// The steps of a job, and a stage of its scene for each viewer.
@@ -36,20 +37,30 @@ pub struct JointJob {
 struct StagedJob {
     inputs: Inputs,
     mark: [u8; 32],
-    stages: Vec<Stage<()>>,
+    stages: Vec<Stage<StockScript>>,
 }
 
-/// The job of these bytes, with so many stages of its scene: first its lines, then its scene.
-#[tactic(auto, unfolding(crate::specs::Jobs::shared))]
-fn staged_job(alloc: Global, bytes: &[u8], viewers: u8) -> Result<StagedJob, JobFault>
+/// The job of these bytes, with so many stages of its scene: first its lines, then its scene, then
+/// whether a command takes its steps, then its scripts.
+#[tactic(auto, unfolding(crate::specs::Jobs::staffed, crate::specs::Jobs::fitting, crate::specs::Jobs::shared))]
+fn staged_job(
+    alloc: Global,
+    bytes: &[u8],
+    order: &Order,
+    viewers: u8,
+) -> Result<StagedJob, JobFault>
     requires { 1 ≤ viewers }
-    ensures ok { IfOk result (λ j. IsStaged viewers bytes.now j.inputs j.mark j.stages.items) }
+    ensures ok { IfOk result
+        (λ j. IsStaged order.now viewers bytes.now j.inputs j.mark j.stages.items) }
     ensures fresh { IfOk result (λ j. AreFresh j.stages.items) }
     ensures count { IfOk result (λ j. length j.stages.items ≡ viewers) }
-    ensures err { IfErr result (λ f. (f ≡ Memory) ⊎ (shared bytes.now ≡ Err f)) }
+    ensures err { IfErr result (λ f. (f ≡ Memory) ⊎ (staffed order.now bytes.now ≡ Err f)) }
 {
     let steps = job_of(alloc, bytes)?;
-    let stages = stages_of(alloc, steps.scene, viewers)?;
+    let opened = open_scene(alloc, steps.scene)?;
+    job_fits(&steps.inputs, order)?;
+    let first = fresh_stage(alloc, opened)?;
+    let stages = with_others(alloc, steps.scene, first, viewers)?;
     Ok(StagedJob {
         mark: scene_mark(steps.scene),
         inputs: steps.inputs,
@@ -80,7 +91,7 @@ fn with_viewers(alloc: Global, job: StagedJob) -> Result<JointJob, AllocError>
 }
 
 /// The job of these bytes, with so many viewers of its scene, 1 to 16, in their first boots: first
-/// its lines, then its scene, then whether a command takes its steps.
+/// its lines, then its scene, then whether a command takes its steps, then its scripts.
 pub fn joint_job(
     alloc: Global,
     bytes: &[u8],
@@ -92,14 +103,13 @@ pub fn joint_job(
     ensures ok { IfOk result (λ j. IsJoint order.now viewers bytes.now
         (record { inputs = j.inputs; mark = j.mark; viewers = j.viewers.items })) }
     ensures count { IfOk result (λ j. length j.viewers.items ≡ viewers) }
-    ensures err { IfErr result (λ f. (f ≡ Memory) ⊎ (fitting order.now bytes.now ≡ Err f)) }
+    ensures err { IfErr result (λ f. (f ≡ Memory) ⊎ (staffed order.now bytes.now ≡ Err f)) }
 {
-    let job = staged_job(alloc, bytes, viewers)?;
-    job_fits(&job.inputs, order)?;
+    let job = staged_job(alloc, bytes, order, viewers)?;
     Ok(with_viewers(alloc, job)?)
 }
 
-fn count_of(viewers: &[Viewer<()>]) -> u8
+fn count_of(viewers: &[Viewer<StockScript>]) -> u8
     requires { length viewers.now ≤ 16 }
     ensures { result ≡ length viewers.now }
 {

@@ -3,12 +3,13 @@
 ghost use Rattle.std.specs.Prelude.{◌≡◌, ◌≤◌, ◌⊎◌, IfOk, IfErr, Err, length};
 ghost use Rattle.share_commands.specs.Rehearsing.{IsLogOf, IsRehearsedLog, IsScheduleLog};
 ghost use Rattle.share_commands.specs.Rehearsing.{schedule_scene};
-ghost use Rattle.share_program.specs.Opening.{opened_to_run};
+ghost use Rattle.share_commands.specs.Stages.{staged};
 ghost use Rattle.share_rehearsal.specs.Rehearsed.{AreFresh};
 ghost use Rattle.share_jobs.specs.declared.fault.JobFault.TheVariants.{Memory};
 
 use crate::stages::stages_of;
 use cascade_core::Stage;
+use script_boxes::StockScript;
 use share_jobs::{JobFault, Schedule, schedule_of};
 use share_law::Step;
 use share_rehearsal::rehearse;
@@ -18,7 +19,7 @@ use std::alloc::{AllocError, Global};
 /// The log of steps, by viewers with these stages and their host.
 fn log_of(
     alloc: Global,
-    stages: Vec<Stage<()>>,
+    stages: Vec<Stage<StockScript>>,
     mark: [u8; 32],
     steps: &[Step],
 ) -> Result<Vec<u8>, AllocError>
@@ -40,7 +41,7 @@ fn schedule_log(alloc: Global, schedule: &Schedule, viewers: u8) -> Result<Vec<u
     requires most { viewers ≤ 16 }
     ensures done { IfOk result (λ text. IsScheduleLog viewers schedule.now text.items) }
     ensures refused { IfErr result
-        (λ f. (f ≡ Memory) ⊎ (opened_to_run schedule.now.scene ≡ Err f)) }
+        (λ f. (f ≡ Memory) ⊎ (staged schedule.now.scene ≡ Err f)) }
 {
     let text = schedule.scene.as_slice();
     let stages = stages_of(alloc, text, viewers)?;
@@ -50,7 +51,8 @@ fn schedule_log(alloc: Global, schedule: &Schedule, viewers: u8) -> Result<Vec<u
 /// A host and so many viewers of a schedule's scene, 1 to 16, in memory go through its steps: a
 /// line of each step's number and its answer, and then what each viewer is left with.
 ///
-/// First the schedule's lines are read, then its scene; what a host or a viewer refuses is logged.
+/// First the schedule's lines are read, then its scene, then its scripts; what a host or a viewer
+/// refuses is logged.
 pub fn rehearse_job(alloc: Global, bytes: &[u8], viewers: u8) -> Result<Vec<u8>, JobFault>
     requires some { 1 ≤ viewers }
     requires most { viewers ≤ 16 }

@@ -1,33 +1,27 @@
 //! The work of a viewer.
 
-ghost use Rattle.std.specs.Prelude.{◌≡◌, ◌≤◌, ◌++◌, [], IfOk, IfErr, OnOk};
+ghost use Rattle.std.specs.Prelude.{◌≡◌, ◌≤◌, ◌⊎◌, ◌++◌, IfOk, IfErr, OnOk, Err, None, Some};
 ghost use Rattle.share_commands.specs.Viewing.{pointed, points, viewer_of, series_fault};
 ghost use Rattle.share_commands.specs.Hosting.{failures_after};
-ghost use Rattle.share_commands.specs.Viewing.{IsViewed, IsViewedInPart};
+ghost use Rattle.share_commands.specs.Jobs.{staffed};
+ghost use Rattle.share_commands.specs.Stages.{scripts_refusal};
+ghost use Rattle.share_commands.specs.Viewing.{IsSeated, IsViewed, IsViewedInPart};
 ghost use Rattle.share_core.specs.Viewer.{with_state};
-ghost use Rattle.share_law.specs.Viewer.{point_of};
-ghost use Rattle.share_turns.specs.Views.{AreAppended, AreViewed, IsRunEnd};
-ghost use Rattle.share_turns.specs.declared.fault.SeriesFault.{SeriesFault as EarlyFault};
+ghost use Rattle.share_jobs.specs.declared.fault.JobFault.TheVariants.{Memory};
 
 use crate::hosting::share_fault;
-use crate::job::SharedJob;
-use cascade_core::{Scripts, Stage};
+use crate::job::{SharedJob, shared_job};
+use crate::stages::fresh_stage;
+use script_boxes::StockScript;
 use share_core::Viewer;
+use share_jobs::JobFault;
+use share_law::point_of;
 use share_port::Port;
-use share_program::ShareFault;
+use share_program::{Opened, ShareFault};
 use share_turns::{SeriesFault, view_run};
+use share_words::Order;
 use std::alloc::{AllocError, Global};
-use x3d_values::{Event, Point, Pointer, Stamped};
-
-fn point_of(pointer: Pointer) -> Point
-    ensures { result ≡ point_of pointer }
-{
-    Point {
-        down: pointer.is_down(),
-        origin: pointer.ray().origin(),
-        dir: pointer.ray().dir(),
-    }
-}
+use x3d_values::{Event, Point, Stamped};
 
 fn push_pointed(event: Event, points: &mut Vec<Point>) -> Result<(), AllocError>
     ensures { OnOk result (points.new.items ≡ points.old.items ++ pointed event) }
@@ -49,11 +43,18 @@ fn points_of(alloc: Global, inputs: &[Stamped]) -> Result<Vec<Point>, AllocError
     Ok(points)
 }
 
-/// The viewer of a job's scene, before any input.
-fn viewer_of(alloc: Global, job: SharedJob, who: u8, boot: u32) -> Result<Viewer<()>, AllocError>
+/// The viewer of a job's scene, before any input, unless the scene's scripts are refused.
+fn viewer_of(
+    alloc: Global,
+    job: SharedJob,
+    who: u8,
+    boot: u32,
+) -> Result<Viewer<StockScript>, JobFault>
     requires who { who ≤ 15 }
     requires boot { 1 ≤ boot }
-    ensures { IfOk result (λ v. v ≡ viewer_of job who boot) }
+    ensures ok { IfOk result (λ v. v ≡ viewer_of job who boot) }
+    ensures taken { OnOk result (scripts_refusal job.scene ≡ None) }
+    ensures err { IfErr result (λ f. (f ≡ Memory) ⊎ (scripts_refusal job.scene ≡ Some f)) }
 {
     let SharedJob {
         inputs: _,
@@ -61,10 +62,8 @@ fn viewer_of(alloc: Global, job: SharedJob, who: u8, boot: u32) -> Result<Viewer
         scene,
         routes,
     } = job;
-    match Stage::load(alloc, scene, routes, Scripts::none()) {
-        Ok(stage) => Ok(Viewer::start(stage, mark, who, boot)),
-        Err(_refused) => Err(AllocError),
-    }
+    let stage = fresh_stage(alloc, Opened { scene, routes })?;
+    Ok(Viewer::start(stage, mark, who, boot))
 }
 
 /// Why turns didn't come to their end, as a fault of the program.
@@ -79,83 +78,77 @@ pub(crate) fn series_fault(fault: SeriesFault) -> ShareFault
 
 /// A viewer of a job's scene, and what it is asked to point.
 #[derive(Drop)]
-struct Seat {
-    viewer: Viewer<()>,
-    points: Vec<Point>,
+pub struct Seat {
+    pub viewer: Viewer<StockScript>,
+    pub points: Vec<Point>,
 }
 
-fn seat_of(alloc: Global, job: SharedJob, who: u8, boot: u32) -> Result<Seat, AllocError>
+fn seat_of(alloc: Global, job: SharedJob, who: u8, boot: u32) -> Result<Seat, JobFault>
     requires who { who ≤ 15 }
     requires boot { 1 ≤ boot }
     ensures viewer { IfOk result (λ s. s.viewer ≡ viewer_of job who boot) }
     ensures points { IfOk result (λ s. s.points.items ≡ points job.inputs) }
+    ensures taken { OnOk result (scripts_refusal job.scene ≡ None) }
+    ensures err { IfErr result (λ f. (f ≡ Memory) ⊎ (scripts_refusal job.scene ≡ Some f)) }
 {
     let points = points_of(alloc, job.inputs.as_slice())?;
     let viewer = viewer_of(alloc, job, who, boot)?;
     Ok(Seat { viewer, points })
 }
 
-/// The trace and the scene of a viewer after its turns.
-fn view_text<P: Port>(
+/// The job of these bytes as that of a viewer, as this boot, before any input: first its lines,
+/// then its scene, then whether a command takes its steps, then its scripts.
+#[tactic(auto, unfolding(crate::specs::Jobs::staffed))]
+pub fn seated_job(
     alloc: Global,
-    viewer: &mut Viewer<()>,
-    points: &[Point],
-    host: u16,
-    until: u32,
-    turns: u32,
-    port: &mut P,
-) -> Result<Vec<u8>, ShareFault>
-    ensures others { viewer.new ≡ with_state viewer.old viewer.new.state }
-    ensures done { IfOk result (λ text. AreViewed viewer.old host points.now until turns
-        (P.told port.old) (P.told port.new) viewer.new.state
-        × AreAppended viewer.new [] text.items) }
-    ensures ended { IfErr result (λ fault. (early : EarlyFault) × (fault ≡ series_fault early)
-        × IsRunEnd viewer.old host points.now until turns
-        (P.told port.old) (P.told port.new) early viewer.new.state) }
-    ensures failures { P.failure_count port.new
-        ≡ failures_after result (P.failure_count port.old) }
+    bytes: &[u8],
+    order: &Order,
+    who: u8,
+    boot: u32,
+) -> Result<Seat, JobFault>
+    requires who { who ≤ 15 }
+    requires boot { 1 ≤ boot }
+    ensures ok { IfOk result
+        (λ s. IsSeated order.now bytes.now who boot s.viewer s.points.items) }
+    ensures err { IfErr result (λ f. (f ≡ Memory) ⊎ (staffed order.now bytes.now ≡ Err f)) }
 {
-    let mut text = Vec::new(alloc);
-    match view_run(viewer, points, until, turns, host, port, &mut text) {
-        Ok(()) => Ok(text),
-        Err(fault) => Err(series_fault(fault)),
-    }
+    let job = shared_job(alloc, bytes, order)?;
+    seat_of(alloc, job, who, boot)
 }
 
-/// Turns of a viewer of a job's scene, as this boot, until so many inputs are applied: its trace
-/// and then its scene. Each of the job's points is offered to the host.
+/// Turns of a viewer until so many inputs are applied: its trace and then its scene. Each of its
+/// points is offered to the host.
 ///
 /// `TurnsUsedUp` where fewer were applied after so many turns, `Port` where a send or a receive
 /// failed, `Memory` where memory was refused, `Spoiled` in a turn after that.
 pub fn view_job<P: Port>(
     alloc: Global,
-    job: SharedJob,
-    who: u8,
-    boot: u32,
+    seat: &mut Seat,
     host: u16,
     until: u32,
     turns: u32,
     port: &mut P,
 ) -> Result<Vec<u8>, ShareFault>
-    requires who { who ≤ 15 }
-    requires boot { 1 ≤ boot }
-    ensures done { IfOk result (λ text. IsViewed job who boot host until turns
-        (P.told port.old) (P.told port.new) text.items) }
-    ensures ended { IfErr result (IsViewedInPart job who boot host until turns
-        (P.told port.old) (P.told port.new)) }
+    ensures points { seat.new.points ≡ seat.old.points }
+    ensures others { seat.new.viewer ≡ with_state seat.old.viewer seat.new.viewer.state }
+    ensures done { IfOk result (λ text. IsViewed seat.old.viewer seat.old.points.items host
+        until turns (P.told port.old) (P.told port.new) seat.new.viewer.state text.items) }
+    ensures ended { IfErr result (IsViewedInPart seat.old.viewer seat.old.points.items host
+        until turns (P.told port.old) (P.told port.new) seat.new.viewer.state) }
     ensures failures { P.failure_count port.new
         ≡ failures_after result (P.failure_count port.old) }
 {
-    let Ok(mut seat) = seat_of(alloc, job, who, boot) else {
-        return Err(ShareFault::Memory);
-    };
-    view_text(
-        alloc,
+    let mut text = Vec::new(alloc);
+    match view_run(
         &mut seat.viewer,
         seat.points.as_slice(),
-        host,
         until,
         turns,
+        host,
         port,
-    )
+        &mut text,
+    ) {
+        Ok(()) => Ok(text),
+        Err(fault) => Err(series_fault(fault)),
+    }
 }

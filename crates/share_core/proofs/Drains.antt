@@ -5,7 +5,7 @@ use Rattle.std.proofs.lemmas.Bool.{cond_both, cond-true, cond-false}
 use Rattle.std.proofs.lemmas.List.{append-nil}
 use Rattle.std.proofs.lemmas.Option.{same_Some, none-some}
 use Rattle.x3d_values.specs.Stamp.{Stamp}
-use Rattle.cascade_core.specs.declared.world.WorldData.{WorldData}
+use Rattle.cascade_core.specs.Course.{Scripted}
 use Rattle.cascade_core.specs.Held.{Held, Running, Spoiled}
 use Rattle.share_law.specs.declared.fault.TakeFault.{TakeFault}
 use Rattle.share_law.specs.declared.fault.TakeFault.TheVariants as take_fault
@@ -119,7 +119,7 @@ drained-at : {W : Type 0} (m : Machine W) (first : W) (ws : List (Option Stamp))
 drained-at m first ws w now count o front h = subst (λ l. Goes m first ws w l count) (front_is now o front) h
 
 -- the next input did not come
-pub drained-gap : (m : Machine WorldData) (first : WorldData) (ws : List (Option Stamp)) (w : WorldData) (now rest : List (Option Stamp)) (held : Held) (count : ℕ)
+pub drained-gap : (m : Machine Scripted) (first : Scripted) (ws : List (Option Stamp)) (w : Scripted) (now rest : List (Option Stamp)) (held : Held) (count : ℕ)
     → length now ≡ 64 → slice_get now 0 ≡ Some None → held ≡ Running w → rest ≡ now → Goes m first ws w now count
     → IsDrained m first ws (cond (count == 0) (Ok taken.Kept) (Ok (taken.Applied count))) held rest
 drained-gap m first ws w now rest held count room front is same h =
@@ -135,30 +135,30 @@ drained-gap m first ws w now rest held count room front is same h =
     )
 
 -- the next input isn't later than the last
-pub drained-late : (m : Machine WorldData) (first : WorldData) (ws : List (Option Stamp)) (w : WorldData) (now rest : List (Option Stamp)) (held : Held) (count : ℕ) (x : Stamp) (fault : TakeFault)
+pub drained-late : (m : Machine Scripted) (first : Scripted) (ws : List (Option Stamp)) (w : Scripted) (now rest : List (Option Stamp)) (held : Held) (count : ℕ) (x : Stamp) (fault : TakeFault)
     → length now ≡ 64 → slice_get now 0 ≡ Some (Some x) → fault ≡ take_fault.TimeNotLater → int_lt (m.last w) x.time ≡ false → held ≡ Running w → rest ≡ slice_set now 0 None
     → Goes m first ws w now count → IsDrained m first ws (Err fault) held rest
 drained-late m first ws w now rest held count x fault room front late ge is left h =
     let g : Goes m first ws w (Some x ∷ drop 1 now) count = drained-at m first ws w now count (Some x) front h in
     let one : drain m w (Some x ∷ drop 1 now) ≡ stopped w (drop 1 now) = drain-late m w x (drop 1 now) ge in
-    let stuck : (drain m first ws).stuck ≡ true = g.stuck ∙ ap (λ (z : Drained WorldData). z.stuck) one in
+    let stuck : (drain m first ws).stuck ≡ true = g.stuck ∙ ap (λ (z : Drained Scripted). z.stuck) one in
     let full : length (None ∷ drop 1 now) ≡ 64 = ap length (sym (front_is now (Some x) front)) ∙ room in
     let answer : input_answer (drain m first ws) ≡ Err take_fault.TimeNotLater =
     cond-true (drain m first ws).stuck (Err take_fault.TimeNotLater) (cond ((drain m first ws).count == 0) (Ok taken.Kept) (Ok (taken.Applied (drain m first ws).count))) stuck in
     inl (
       ap (λ (f : TakeFault). let z : Result Taken TakeFault = Err f in z) late ∙ sym answer,
-      is ∙ ap Running (sym (g.state ∙ ap (λ (z : Drained WorldData). z.state) one)),
+      is ∙ ap Running (sym (g.state ∙ ap (λ (z : Drained Scripted). z.state) one)),
       left ∙ ap (λ (l : List (Option Stamp)). slice_set l 0 None) (front_is now (Some x) front)
-          ∙ sym (refilled-full (None ∷ drop 1 now) full) ∙ sym (g.rest ∙ ap (λ (z : Drained WorldData). refilled z.rest) one),
+          ∙ sym (refilled-full (None ∷ drop 1 now) full) ∙ sym (g.rest ∙ ap (λ (z : Drained Scripted). refilled z.rest) one),
     )
 
 -- memory was refused at the next input
-pub drained-refused : (m : Machine WorldData) (first : WorldData) (ws : List (Option Stamp)) (w : WorldData) (now rest : List (Option Stamp)) (held : Held) (count : ℕ) (x : Stamp) (fault : TakeFault)
+pub drained-refused : (m : Machine Scripted) (first : Scripted) (ws : List (Option Stamp)) (w : Scripted) (now rest : List (Option Stamp)) (held : Held) (count : ℕ) (x : Stamp) (fault : TakeFault)
     → slice_get now 0 ≡ Some (Some x) → fault ≡ take_fault.Memory → int_lt (m.last w) x.time ≡ true → held ≡ Spoiled (m.applied w)
     → Goes m first ws w now count → IsDrained m first ws (Err fault) held rest
 drained-refused m first ws w now rest held count x fault front memory lt is h =
     let g : Goes m first ws w (Some x ∷ drop 1 now) count = drained-at m first ws w now count (Some x) front h in
-    let one : (drain m w (Some x ∷ drop 1 now)).count ≡ suc (drain m (m.apply w x) (drop 1 now)).count = ap (λ (z : Drained WorldData). z.count) (drain-applied m w x (drop 1 now) lt) in
+    let one : (drain m w (Some x ∷ drop 1 now)).count ≡ suc (drain m (m.apply w x) (drop 1 now)).count = ap (λ (z : Drained Scripted). z.count) (drain-applied m w x (drop 1 now) lt) in
     inr (
       ap (λ (f : TakeFault). let z : Result Taken TakeFault = Err f in z) memory,
       (count, omega (arith, g.total, one), is ∙ ap Spoiled g.applied),

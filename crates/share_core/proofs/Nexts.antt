@@ -6,20 +6,20 @@ use Rattle.std.proofs.lemmas.Option.{same_Some, none-some}
 use Rattle.x3d_values.specs.Stamp.{Stamp}
 use Rattle.scene_core.specs.declared.scene.Route.{Route}
 use Rattle.scene_core.specs.Scene.{SceneView}
-use Rattle.cascade_core.specs.Apply.{opening}
+use Rattle.cascade_core.specs.Apply.{untold}
 use Rattle.cascade_core.specs.declared.fault.ApplyFault.{ApplyFault}
 use Rattle.cascade_core.specs.declared.fault.ApplyFault.TheVariants as apply_fault
 use Rattle.cascade_core.specs.declared.work.Work.{Work}
-use Rattle.cascade_core.specs.declared.world.WorldData.{WorldData}
+use Rattle.cascade_core.specs.Course.{Scripted}
 use Rattle.cascade_core.specs.Held.{Held, StageView, Running, Spoiled, after, after_held, applied_of, is_spoiled, refusal_of}
 use Rattle.cascade_core.proofs.Turns.{apply-at}
 use Rattle.share_core.specs.Ahead.{InPlace}
 use Rattle.share_core.proofs.Places.{InPlace-advance, InPlace-drop, InPlace-front}
 
 -- the world of a stage that isn't spoiled
-abbrev pub world_in : SceneView → Held → WorldData
+abbrev pub world_in : SceneView → Held → Scripted
 world_in scene (Running w) = w
-world_in scene (Spoiled n) = opening scene
+world_in scene (Spoiled n) = record { world = untold scene; states = [] }
 
 pub running : (scene : SceneView) (h : Held) → is_spoiled h ≡ false → h ≡ Running (world_in scene h)
 running scene (Running w) e = refl
@@ -52,8 +52,8 @@ kept old new x result fault is h =
 late_alone : (h : Held) (x : Stamp) (fault : ApplyFault) → is_spoiled h ≡ false → x.number ≡ applied_of h + 1 → refusal_of h x ≡ Some fault → fault ≡ apply_fault.TimeNotLater
 late_alone (Spoiled n) x fault runs number is = absurd (false≢true (sym runs))
 late_alone (Running w) x fault runs number is =
-    let next : not (x.number == w.applied + 1) ≡ false = ap not (eq-eqb x.number (w.applied + 1) number) in
-    by_time (int_lt w.last_time x.time) (sym (cond-false (not (x.number == w.applied + 1)) (Some apply_fault.NotNext) (cond (int_lt w.last_time x.time) None (Some apply_fault.TimeNotLater)) next) ∙ is) where
+    let next : not (x.number == w.world.applied + 1) ≡ false = ap not (eq-eqb x.number (w.world.applied + 1) number) in
+    by_time (int_lt w.world.last_time x.time) (sym (cond-false (not (x.number == w.world.applied + 1)) (Some apply_fault.NotNext) (cond (int_lt w.world.last_time x.time) None (Some apply_fault.TimeNotLater)) next) ∙ is) where
       by_time : (later : Bool) → cond later None (Some apply_fault.TimeNotLater) ≡ Some fault → fault ≡ apply_fault.TimeNotLater
       by_time true e = absurd (none-some fault e)
       by_time false e = sym (same_Some apply_fault.TimeNotLater fault e)

@@ -5,7 +5,7 @@ use Rattle.std.proofs.lemmas.Bool.{false≢true}
 use Rattle.x3d_values.specs.Stamp.{Stamp}
 use Rattle.scene_core.specs.declared.scene.Route.{Route}
 use Rattle.scene_core.specs.Scene.{SceneView}
-use Rattle.cascade_core.specs.declared.world.WorldData.{WorldData}
+use Rattle.cascade_core.specs.Course.{Scripted}
 use Rattle.cascade_core.specs.Held.{Held, Running, is_spoiled}
 use Rattle.share_law.specs.declared.fault.TakeFault.{TakeFault}
 use Rattle.share_law.specs.declared.reply.Taken.{Taken}
@@ -20,7 +20,7 @@ use Rattle.share_core.proofs.Nexts.{world_in, running}
 module _ (scene : SceneView) (routes : List Route) (first h new : Held) (ws now rest : List (Option Stamp)) (count : ℕ) where
   -- what was done to the stage at hand, in the terms of the stage at the start
   pub stepped : (s : SceneView) (r : List Route) (result : Result Bool TakeFault) → s ≡ scene → r ≡ routes → is_spoiled h ≡ false
-      → ((w : WorldData) → h ≡ Running w → IsNext (cascade s r) w now result new rest) → IsNext (cascade scene routes) (world_in scene h) now result new rest
+      → ((w : Scripted) → h ≡ Running w → IsNext (cascade s r) w now result new rest) → IsNext (cascade scene routes) (world_in scene h) now result new rest
   stepped s r result same_scene same_routes runs step =
       subst (λ z. IsNext (cascade z routes) (world_in scene h) now result new rest) same_scene
       (subst (λ z. IsNext (cascade s z) (world_in scene h) now result new rest) same_routes (step (world_in scene h) (running scene h runs)))
@@ -36,7 +36,7 @@ module _ (scene : SceneView) (routes : List Route) (first h new : Held) (ws now 
       let w = world_in scene h in
       let more = (cascade-is scene routes).applied-apply w step.0 in (
         ap is_spoiled step.3,
-        subst (λ (z : WorldData). Goes (cascade scene routes) (world_in scene first) ws z rest (count + 1)) (sym (ap (world_in scene) step.3))
+        subst (λ (z : Scripted). Goes (cascade scene routes) (world_in scene first) ws z rest (count + 1)) (sym (ap (world_in scene) step.3))
             (Goes-next (cascade scene routes) (world_in scene first) ws w now rest step.0 count room step.1 more step.2 step.4 goes),
       )
 
@@ -47,16 +47,16 @@ module _ (scene : SceneView) (routes : List Route) (first h new : Held) (ws now 
   -- the next input did not come
   pub ended : (go : Bool) (result : Result Taken TakeFault) → go ≡ false → cond (count == 0) (Ok taken.Kept) (Ok (taken.Applied count)) ≡ result → length now ≡ 64
       → IsNext (cascade scene routes) (world_in scene h) now (Ok go) new rest → GoesTo h now count
-      → (w : WorldData) → first ≡ Running w → IsDrained (cascade scene routes) w ws result new rest
+      → (w : Scripted) → first ≡ Running w → IsDrained (cascade scene routes) w ws result new rest
   ended true result e answer room step goes w is = absurd (false≢true (sym e))
   ended false result e answer room step goes w is =
-      subst (λ (z : WorldData). IsDrained (cascade scene routes) z ws result new rest) (ap (world_in scene) is)
+      subst (λ (z : Scripted). IsDrained (cascade scene routes) z ws result new rest) (ap (world_in scene) is)
       (subst (λ z. IsDrained (cascade scene routes) (world_in scene first) ws z new rest) answer
       (drained-gap (cascade scene routes) (world_in scene first) ws (world_in scene h) now rest new count room step.0 step.1 step.2 goes))
 
   -- it was refused
   pub failed : (fault : TakeFault) → length now ≡ 64 → IsNext (cascade scene routes) (world_in scene h) now (Err fault) new rest → GoesTo h now count
-      → (w : WorldData) → first ≡ Running w → IsDrained (cascade scene routes) w ws (Err fault) new rest
+      → (w : Scripted) → first ≡ Running w → IsDrained (cascade scene routes) w ws (Err fault) new rest
   failed fault room step goes w is =
       let m = cascade scene routes in
       let first_world = world_in scene first in
@@ -65,4 +65,4 @@ module _ (scene : SceneView) (routes : List Route) (first h new : Held) (ws now 
         | inl l ↦ drained-late m first_world ws w_now now rest new count step.0 fault room step.1 l.0 l.1 l.2 l.3 goes
         | inr r ↦ drained-refused m first_world ws w_now now rest new count step.0 fault step.1 r.0 r.1 r.2 goes
       ] in
-      subst (λ (z : WorldData). IsDrained m z ws (Err fault) new rest) (ap (world_in scene) is) answer
+      subst (λ (z : Scripted). IsDrained m z ws (Err fault) new rest) (ap (world_in scene) is) answer

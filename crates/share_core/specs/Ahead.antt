@@ -3,7 +3,7 @@ use Rattle.std.specs.Prelude.{◌≡◌, ◌⊎◌, ◌≤◌, ◌<◌, ℕ, suc
 use Rattle.std.specs.Prelude.{◌∷◌, ◌++◌, drop, slice_get, slice_set, int_lt, Option, None, Some}
 use Rattle.std.specs.Prelude.{Result, Ok, Err}
 use Rattle.x3d_values.specs.Stamp.{Stamp}
-use Rattle.cascade_core.specs.declared.world.WorldData.{WorldData}
+use Rattle.cascade_core.specs.Course.{Scripted}
 use Rattle.cascade_core.specs.Held.{Held, Running, Spoiled}
 use Rattle.share_law.specs.declared.fault.TakeFault.{TakeFault}
 use Rattle.share_law.specs.declared.fault.TakeFault.TheVariants as take_fault
@@ -18,7 +18,7 @@ InPlace n (None ∷ rest) = InPlace (suc n) rest
 InPlace n (Some x ∷ rest) = (x.number ≡ n) × (n ≤ 2 ^ 20) × InPlace (suc n) rest
 
 -- the input in the first place is applied where it is later than the last; else it leaves
-abbrev pub IsNext : Machine WorldData → WorldData → List (Option Stamp) → Result Bool TakeFault
+abbrev pub IsNext : Machine Scripted → Scripted → List (Option Stamp) → Result Bool TakeFault
     → Held → List (Option Stamp) → Type 0
 IsNext m w window (Ok false) held rest =
     (slice_get window 0 ≡ Some None) × (held ≡ Running w) × (rest ≡ window)
@@ -34,7 +34,7 @@ IsNext m w window (Err fault) held rest =
 
 -- the inputs at the window's front are applied up to the first gap; memory may be refused at any
 -- of them
-abbrev pub IsDrained : Machine WorldData → WorldData → List (Option Stamp)
+abbrev pub IsDrained : Machine Scripted → Scripted → List (Option Stamp)
     → Result Taken TakeFault → Held → List (Option Stamp) → Type 0
 IsDrained m w window result held rest =
     let d = drain m w window in

@@ -3,7 +3,7 @@ use Rattle.std.specs.Prelude.{ℕ, Bool, true, false, List, Option}
 use Rattle.x3d_values.specs.Stamp.{Stamp}
 use Rattle.scene_core.specs.declared.scene.Route.{Route}
 use Rattle.scene_core.specs.Scene.{SceneView}
-use Rattle.cascade_core.specs.declared.world.WorldData.{WorldData}
+use Rattle.cascade_core.specs.Course.{Scripted}
 use Rattle.cascade_core.specs.Held.{Held}
 use Rattle.cascade_core.specs.Held as held
 use Rattle.share_law.specs.Cascade.{cascade}
@@ -16,31 +16,36 @@ pub record ViewerView : Type 0 where
   pub who : ℕ
   pub scene : SceneView
   pub routes : List Route
-  pub state : ViewerState WorldData
+  pub state : ViewerState Scripted
 
 -- the worlds that it may hold
-abbrev pub machine_of : ViewerView → Machine WorldData
+abbrev pub machine_of : ViewerView → Machine Scripted
 machine_of v = cascade v.scene v.routes
 
 -- the same viewer with another world, other offers or in another boot
-abbrev pub with_state : ViewerView → ViewerState WorldData → ViewerView
+abbrev pub with_state : ViewerView → ViewerState Scripted → ViewerView
 with_state v state = record v { state = state }
 
 -- what is held by a stage and a window
-abbrev pub view_of : Held → List (Option Stamp) → View WorldData
+abbrev pub view_of : Held → List (Option Stamp) → View Scripted
 view_of (held.Running w) window = Running w window
 view_of (held.Spoiled count) window = Spoiled count
 
-abbrev pub is_spoiled : View WorldData → Bool
+-- what the stage of a viewer holds
+abbrev pub held_in : View Scripted → Held
+held_in (Running w window) = held.Running w
+held_in (Spoiled count) = held.Spoiled count
+
+abbrev pub is_spoiled : View Scripted → Bool
 is_spoiled (Running w window) = false
 is_spoiled (Spoiled count) = true
 
 -- a fact about the world of a viewer that runs
-abbrev pub IfRunning : View WorldData → (WorldData → Type 0) → Type 0
+abbrev pub IfRunning : View Scripted → (Scripted → Type 0) → Type 0
 IfRunning (Running w window) P = P w
 IfRunning (Spoiled count) P = Unit {0}
 
 -- a fact about a viewer that is spoiled
-abbrev pub IfSpoiled : View WorldData → Type 0 → Type 0
+abbrev pub IfSpoiled : View Scripted → Type 0 → Type 0
 IfSpoiled (Running w window) P = Unit {0}
 IfSpoiled (Spoiled count) P = P

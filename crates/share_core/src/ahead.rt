@@ -1,7 +1,7 @@
 //! A stage, and the window of the inputs that come next: they are applied in turn.
 
 ghost use Rattle.std.specs.Prelude.{◌≡◌, ◌≤◌, ◌+◌, ◌^◌, false, length};
-ghost use Rattle.cascade_core.specs.declared.world.WorldData.{WorldData};
+ghost use Rattle.cascade_core.specs.Course.{Scripted};
 ghost use Rattle.cascade_core.specs.Held.{Running, applied_of, is_spoiled};
 ghost use Rattle.share_wire.specs.declared.message.Body.TheVariants as body;
 ghost use Rattle.share_law.specs.Calls.{IsTake};
@@ -12,6 +12,7 @@ ghost use Rattle.share_core.specs.Waiting.{Offers, with_offers};
 
 use crate::window::Window;
 use cascade_core::{ApplyFault, Stage};
+use script_host::Behaviour;
 use share_law::{TakeFault, Taken};
 use x3d_values::Stamped;
 
@@ -19,7 +20,7 @@ use x3d_values::Stamped;
 const AHEAD: u32 = 64;
 
 /// Applies the next input, if it came.
-fn apply_next<B>(stage: &mut Stage<B>, window: &mut Window) -> Result<bool, TakeFault>
+fn apply_next<B: Behaviour>(stage: &mut Stage<B>, window: &mut Window) -> Result<bool, TakeFault>
     requires runs { is_spoiled stage.old.held ≡ false }
     requires place { InPlace (applied_of stage.old.held + 1) window.old }
     requires most { applied_of stage.old.held ≤ 2 ^ 20 }
@@ -28,7 +29,7 @@ fn apply_next<B>(stage: &mut Stage<B>, window: &mut Window) -> Result<bool, Take
     ensures place { InPlace (applied_of stage.new.held + 1) window.new }
     ensures most { applied_of stage.new.held ≤ 2 ^ 20 }
     ensures places { length window.old ≡ 64 }
-    ensures step { (w : WorldData) → stage.old.held ≡ Running w
+    ensures step { (w : Scripted) → stage.old.held ≡ Running w
         → IsNext (cascade stage.old.scene stage.old.routes) w window.old result stage.new.held
         window.new }
 {
@@ -51,7 +52,7 @@ fn apply_next<B>(stage: &mut Stage<B>, window: &mut Window) -> Result<bool, Take
 }
 
 /// Applies the inputs that come next, up to the first that did not come.
-fn apply_ready<B>(stage: &mut Stage<B>, window: &mut Window) -> Result<Taken, TakeFault>
+fn apply_ready<B: Behaviour>(stage: &mut Stage<B>, window: &mut Window) -> Result<Taken, TakeFault>
     requires runs { is_spoiled stage.old.held ≡ false }
     requires place { InPlace (applied_of stage.old.held + 1) window.old }
     requires most { applied_of stage.old.held ≤ 2 ^ 20 }
@@ -59,7 +60,7 @@ fn apply_ready<B>(stage: &mut Stage<B>, window: &mut Window) -> Result<Taken, Ta
     ensures routes { stage.new.routes ≡ stage.old.routes }
     ensures place { InPlace (applied_of stage.new.held + 1) window.new }
     ensures most { applied_of stage.new.held ≤ 2 ^ 20 }
-    ensures step { (w : WorldData) → stage.old.held ≡ Running w
+    ensures step { (w : Scripted) → stage.old.held ≡ Running w
         → IsDrained (cascade stage.old.scene stage.old.routes) w window.old result stage.new.held
         window.new }
 {
@@ -75,7 +76,7 @@ fn apply_ready<B>(stage: &mut Stage<B>, window: &mut Window) -> Result<Taken, Ta
 }
 
 /// Takes an input that came.
-pub(crate) fn take_input<B>(
+pub(crate) fn take_input<B: Behaviour>(
     stage: &mut Stage<B>,
     window: &mut Window,
     input: Stamped,

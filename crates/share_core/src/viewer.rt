@@ -3,7 +3,8 @@
 use crate::ahead::take_input;
 use crate::waiting::Waiting;
 use crate::window::Window;
-use cascade_core::{Stage, TextFault};
+use cascade_core::{PlaceFault, Stage, TextFault};
+use script_host::Behaviour;
 use share_law::{OfferFault, TakeFault, Taken};
 use share_wire::{Ack, Ask, Body, Message, Packet, decode, encode};
 use snapshot_core::{SaveFault, SnapFault, load_into, save};
@@ -13,14 +14,14 @@ use x3d_values::{Point, Stamped};
 /// A viewer of a shared world: the mark of its scene, its stage, the inputs that came before their
 /// turn, and the offers that wait.
 #[derive(Drop)]
-pub struct Viewer<B> {
+pub struct Viewer<B: Behaviour> {
     mark: [u8; 32],
     stage: Stage<B>,
     window: Window,
     offers: Waiting,
 }
 
-impl<B> Model for Viewer<B> {
+impl<B: Behaviour> Model for Viewer<B> {
     ghost use Rattle.std.specs.Prelude.{◌≡◌, ◌≤◌, ◌+◌, ◌^◌, length};
     ghost use Rattle.cascade_core.specs.Held.{applied_of};
     ghost use Rattle.share_core.specs.Ahead.{InPlace};
@@ -41,8 +42,8 @@ impl<B> Model for Viewer<B> {
         × InPlace (applied_of v.stage.held + 1) v.window × (length v.mark ≡ 32) };
 }
 
-impl<B> Viewer<B> {
-    ghost use Rattle.std.specs.Prelude.{◌≡◌, ◌<◌, ◌++◌, ◌^◌, false, Err, IfErr, IsTrue};
+impl<B: Behaviour> Viewer<B> {
+    ghost use Rattle.std.specs.Prelude.{◌≡◌, ◌<◌, ◌++◌, ◌^◌, false, Err, IfErr, IsSomeAnd, IsTrue, slice_get};
     ghost use Rattle.std.specs.Prelude.{OnErr, OnOk, length};
     ghost use Rattle.std.specs.Option.{option_map};
     ghost use Rattle.x3d_values.specs.Ranges.{is_viewer};
@@ -52,16 +53,18 @@ impl<B> Viewer<B> {
     ghost use Rattle.share_wire.specs.declared.message.Body.TheVariants as body;
     ghost use Rattle.cascade_core.specs.Apply.{opening};
     ghost use Rattle.cascade_core.specs.Held.{Running};
+    ghost use Rattle.cascade_core.specs.Installing.{RefusesBox};
+    ghost use Rattle.cascade_core.specs.Scripts.{kinds_in, scripts_in};
     ghost use Rattle.cascade_core.specs.Texts.{scene_text, trace_text};
-    ghost use Rattle.cascade_core.specs.declared.world.WorldData.{WorldData};
+    ghost use Rattle.cascade_core.specs.Course.{Scripted};
     ghost use Rattle.share_law.specs.Calls.{IsRewind, IsTake, IsTakeOf};
     ghost use Rattle.share_law.specs.Viewer.{Shot, applied_in, begun, viewer_ask, viewer_offer};
     ghost use Rattle.share_law.specs.Viewer.{viewer_resend};
-    ghost use Rattle.share_core.specs.Viewer.{IfRunning, IfSpoiled, is_spoiled, machine_of};
+    ghost use Rattle.share_core.specs.Viewer.{IfRunning, IfSpoiled, held_in, is_spoiled, machine_of};
     ghost use Rattle.share_core.specs.Viewer.{with_state};
     ghost use Rattle.share_core.specs.Rewinds.{IsRewound};
     ghost use Rattle.snapshot_core.specs.Shot.{shot};
-    ghost use Rattle.snapshot_core.specs.WorldCodec.{world_codec};
+    ghost use Rattle.snapshot_core.specs.Loading.{HasSnapshot};
 
     /// A viewer of the scene with this mark, as this boot of viewer number `who`, which begins with
     /// a stage that has had no input. It takes no memory. `is_viewer` and `is_ordinal` are the
@@ -69,13 +72,13 @@ impl<B> Viewer<B> {
     pub fn start(stage: Stage<B>, mark: [u8; 32], who: u8, boot: u32) -> Viewer<B>
         requires who { IsTrue (is_viewer who) }
         requires boot { IsTrue (is_ordinal boot) }
-        requires fresh { stage.held ≡ Running (opening stage.scene) }
+        requires fresh { stage.held ≡ Running (opening stage.scene stage.routes) }
         ensures { result ≡ record {
           mark = mark;
           who = who;
           scene = stage.scene;
           routes = stage.routes;
-          state = begun boot (opening stage.scene);
+          state = begun boot (opening stage.scene stage.routes);
         } }
     {
         Viewer {
@@ -278,9 +281,9 @@ impl<B> Viewer<B> {
     pub fn rewind(&mut self, bytes: &[u8], boot: u32) -> Result<u32, SnapFault>
         ensures others { self.new ≡ with_state self.old self.new.state }
         ensures step { IsRewound self.old boot bytes.now result self.new.state }
-        // By the snapshot of a world that fits one it is the law's step.
-        ensures law { (from : Shot WorldData) → from.boot < 2 ^ 32
-            → IsTrue ((world_codec self.old.scene).fits from.state)
+        // By the snapshot of a world that has one it is the law's step.
+        ensures law { (from : Shot Scripted) → from.boot < 2 ^ 32
+            → HasSnapshot self.old.scene from.state
             → bytes.now ≡ shot self.old.mark from.boot self.old.scene from.state
             → IsRewind (machine_of self.old) self.old.state from boot result self.new.state }
     {
@@ -299,6 +302,21 @@ impl<B> Viewer<B> {
         self.window = Window::new();
         self.offers = Waiting::new(self.offers.who(), boot);
         Ok(saved.applied)
+    }
+
+    /// Puts a box of the same kind in the place of the k-th script, in its state: what the viewer
+    /// holds is as it was, whatever the answer. Where the new box is refused it is dropped.
+    ///
+    /// `Spoiled` where memory was refused before, `NoSuchScript`, `KindDiffers`, `Memory`.
+    pub fn replace_script(&mut self, k: usize, script: B) -> Result<(), PlaceFault>
+        ensures same { self.new ≡ self.old }
+        ensures ok { OnOk result (IsSomeAnd (slice_get (kinds_in self.old.scene) k)
+            (λ kind. B.kind_of script ≡ kind)) }
+        ensures spoiled { IfSpoiled self.old.state.view (result ≡ Err PlaceFault.Spoiled) }
+        ensures refused { IfErr result (λ fault. RefusesBox fault (held_in self.old.state.view)
+            (slice_get (scripts_in self.old.scene) k) (B.kind_of script)) }
+    {
+        self.stage.replace_script(k, script)
     }
 
     /// Ends the viewer with its stage.

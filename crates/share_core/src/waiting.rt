@@ -8,7 +8,7 @@ ghost use Rattle.x3d_values.specs.Ranges.{is_viewer};
 ghost use Rattle.x3d_values.specs.Stamp.{Stamp};
 ghost use Rattle.share_wire.specs.Messages.{is_ordinal};
 ghost use Rattle.share_wire.specs.declared.message.Body.TheVariants as body;
-ghost use Rattle.cascade_core.specs.declared.world.WorldData.{WorldData};
+ghost use Rattle.cascade_core.specs.Course.{Scripted};
 ghost use Rattle.share_law.specs.Viewer.{View, Running, settled_by, viewer_offer, viewer_resend};
 ghost use Rattle.share_core.specs.Steps.{offer_fault, point_aimed};
 ghost use Rattle.share_core.specs.Waiting.{with_offers};
@@ -156,7 +156,7 @@ impl Waiting {
     /// offers of this boot. A refusal changes nothing.
     pub(crate) fn offer(&mut self, point: Point) -> Result<u32, OfferFault>
         ensures who { self.new.who ≡ self.old.who }
-        ensures step { (world : WorldData) (window : List (Option Stamp))
+        ensures step { (world : Scripted) (window : List (Option Stamp))
             → viewer_offer (with_offers self.old (Running world window)) point
             ≡ (result, with_offers self.new (Running world window)) }
     {
@@ -169,7 +169,7 @@ impl Waiting {
 
     /// The waiting offer at a place from 0, if there is one.
     pub(crate) fn resend(&self, place: u32) -> Option<Offer>
-        ensures { (view : View WorldData) → option_map (λ o. body.Offer o) result
+        ensures { (view : View Scripted) → option_map (λ o. body.Offer o) result
             ≡ viewer_resend self.now.who (with_offers self.now view) place }
     {
         if place >= self.made - self.settled {
@@ -183,7 +183,7 @@ impl Waiting {
     /// The host tells how many offers of a boot it has numbered: so many of this boot wait no more.
     pub(crate) fn heed(&mut self, ack: Ack)
         ensures who { self.new.who ≡ self.old.who }
-        ensures step { (view : View WorldData) → with_offers self.new view
+        ensures step { (view : View Scripted) → with_offers self.new view
             ≡ (if ack.boot == self.old.boot
             then settled_by (with_offers self.old view) ack.count
             else with_offers self.old view) }

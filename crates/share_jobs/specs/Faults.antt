@@ -13,8 +13,10 @@ use Rattle.scene_core.specs.contracts.fault.SceneFaultKind as scenes
 use Rattle.route_core.specs.declared.fault.RouteFault.{RouteFault}
 use Rattle.route_core.specs.declared.fault.RouteFaultKind.TheVariants as route
 use Rattle.route_core.specs.contracts.fault.RouteFaultKind as routes
+use Rattle.script_host.specs.declared.fault.AttachFault.{AttachFault}
+use Rattle.script_host.specs.declared.fault.AttachFault.TheVariants as attach
 use Rattle.share_jobs.specs.declared.fault.JobFault.{JobFault}
-use Rattle.share_jobs.specs.declared.fault.JobFault.TheVariants.{Read, Expand, Scene, Route, Memory}
+use Rattle.share_jobs.specs.declared.fault.JobFault.TheVariants.{Read, Expand, Scene, Route, Attach, Memory}
 
 abbrev pub of_read : ReadFault → JobFault
 of_read fault = if sameb reads.the_type fault.kind read.Memory then Memory else Read fault
@@ -27,3 +29,7 @@ of_scene fault = if sameb scenes.the_type fault.kind scene.Memory then Memory el
 
 abbrev pub of_route : RouteFault → JobFault
 of_route fault = if sameb routes.the_type fault.kind route.Memory then Memory else Route fault
+
+abbrev pub of_attach : AttachFault → JobFault
+of_attach attach.Memory = Memory
+of_attach fault = Attach fault

@@ -2,17 +2,19 @@
 
 ghost use Rattle.std.specs.Prelude.{◌≡◌};
 ghost use Rattle.share_jobs.specs.declared.fault.JobFault.TheVariants as job;
-ghost use Rattle.share_jobs.specs.Faults.{of_read, of_expand, of_scene, of_route};
+ghost use Rattle.share_jobs.specs.Faults.{of_read, of_expand, of_scene, of_route, of_attach};
 
 use classic_text::{ReadFault, ReadFaultKind};
 use flat_document::{ExpandFault, ExpandFaultKind};
 use route_core::{RouteFault, RouteFaultKind};
 use scene_core::{SceneFault, SceneFaultKind};
+use script_host::AttachFault;
 use std::alloc::{AllocError, AllocFailed};
 use thiserror::Error;
 
-/// Why bytes are no job or no scene, in the order in which a job is tested: the whole input is read
-/// first, then its lines, then its scene.
+/// Why bytes are no job or no scene, or the scripts of the scene are not run, in the order in which
+/// a job is tested: the whole input is read first, then its lines, then its scene, then its
+/// scripts.
 #[derive(Clone, Copy, Debug, PartialEq, Eq, Error)]
 pub enum JobFault {
     #[error("the input or the output failed, or the input had no end")]
@@ -27,6 +29,8 @@ pub enum JobFault {
     Scene(SceneFault),
     #[error(transparent)]
     Route(RouteFault),
+    #[error(transparent)]
+    Attach(AttachFault),
     #[error("memory was refused")]
     Memory,
 }
@@ -72,6 +76,17 @@ impl From<RouteFault> for JobFault {
             return JobFault::Memory;
         }
         JobFault::Route(fault)
+    }
+}
+
+impl From<AttachFault> for JobFault {
+    ghost from_gives = { λ attach_fault fault. fault ≡ of_attach attach_fault };
+
+    fn from(fault: AttachFault) -> JobFault {
+        match fault {
+            AttachFault::Memory => JobFault::Memory,
+            _ => JobFault::Attach(fault),
+        }
     }
 }
 

@@ -12,6 +12,9 @@ use Rattle.scene_core.specs.Faults.{fault_name as scene_fault_name}
 use Rattle.route_core.specs.declared.fault.RouteFaultKind.{RouteFaultKind}
 use Rattle.route_core.specs.declared.fault.RouteFaultKind.TheVariants as route
 use Rattle.route_core.specs.FaultName.{fault_name as route_fault_name}
+use Rattle.script_host.specs.declared.fault.AttachFault.{AttachFault}
+use Rattle.script_host.specs.declared.fault.AttachFault.TheVariants as attach
+use Rattle.script_host.specs.Faults.{attach_fault_name}
 use Rattle.share_program.specs.declared.stream.StreamFault.{StreamFault}
 use Rattle.share_program.specs.declared.stream.StreamFault.TheVariants as stream
 use Rattle.share_words.specs.declared.order.OrderFault.TheVariants as order
@@ -34,8 +37,13 @@ abbrev pub run_fault_of : StreamFault → RunFault
 run_fault_of stream.Device = run.Device
 run_fault_of stream.Memory = run.Memory
 
--- ---- statuses: 1 for scenes, 2 for words and jobs, 3 for turns that are used up, 4 for devices, 5
--- for memory
+-- the fault of boxes as one of a run: want of memory is the run's own
+abbrev pub run_fault_of_boxes : AttachFault → RunFault
+run_fault_of_boxes attach.Memory = run.Memory
+run_fault_of_boxes fault = run.Attach fault
+
+-- ---- statuses: 1 for scenes and scripts, 2 for words and jobs, 3 for turns that are used up, 4
+-- for devices, 5 for memory
 
 abbrev pub read_status : ReadFaultKind → ℕ
 read_status read.Memory = 5
@@ -53,6 +61,10 @@ abbrev pub route_status : RouteFaultKind → ℕ
 route_status route.Memory = 5
 route_status _ = 1
 
+abbrev pub attach_status : AttachFault → ℕ
+attach_status attach.Memory = 5
+attach_status _ = 1
+
 abbrev pub job_status : JobFault → ℕ
 job_status job.Device = 4
 job_status (job.BadJob _) = 2
@@ -60,7 +72,13 @@ job_status (job.Read fault) = read_status fault.kind
 job_status (job.Expand fault) = expand_status fault.kind
 job_status (job.Scene fault) = scene_status fault.kind
 job_status (job.Route fault) = route_status fault.kind
+job_status (job.Attach fault) = attach_status fault
 job_status job.Memory = 5
+
+abbrev pub run_status : RunFault → ℕ
+run_status (run.Attach fault) = attach_status fault
+run_status run.Device = 4
+run_status run.Memory = 5
 
 abbrev pub share_status : ShareFault → ℕ
 share_status share.Port = 4
@@ -72,8 +90,7 @@ abbrev pub status : Failure → ℕ
 status (Order order.Words) = 2
 status (Order order.Memory) = 5
 status (Job fault) = job_status fault
-status (Run run.Device) = 4
-status (Run run.Memory) = 5
+status (Run fault) = run_status fault
 status (Share fault) = share_status fault
 
 -- ---- names: that of the innermost fault
@@ -85,7 +102,13 @@ job_fault_name (job.Read fault) = fault_name fault.kind
 job_fault_name (job.Expand fault) = expand_fault_name fault.kind
 job_fault_name (job.Scene fault) = scene_fault_name fault.kind
 job_fault_name (job.Route fault) = route_fault_name fault.kind
+job_fault_name (job.Attach fault) = attach_fault_name fault
 job_fault_name job.Memory = codes "Memory"
+
+abbrev pub run_fault_name : RunFault → List ℕ
+run_fault_name (run.Attach fault) = attach_fault_name fault
+run_fault_name run.Device = codes "Device"
+run_fault_name run.Memory = codes "Memory"
 
 abbrev pub share_fault_name : ShareFault → List ℕ
 share_fault_name share.Port = codes "Port"
@@ -97,8 +120,7 @@ abbrev pub failure_name : Failure → List ℕ
 failure_name (Order order.Words) = codes "Words"
 failure_name (Order order.Memory) = codes "Memory"
 failure_name (Job fault) = job_fault_name fault
-failure_name (Run run.Device) = codes "Device"
-failure_name (Run run.Memory) = codes "Memory"
+failure_name (Run fault) = run_fault_name fault
 failure_name (Share fault) = share_fault_name fault
 
 -- ---- lines, and 0 for a fault without one

@@ -1,51 +1,113 @@
 -- What a job's run writes.
-use Rattle.std.specs.Prelude.{◌≡◌, ◌⊎◌, ⊤, ℕ, ◌++◌, List, Option, Result, Ok}
+use Rattle.std.specs.Prelude.{◌≡◌, ◌⊎◌, ⊤, ℕ, ◌++◌, List, Option, Some, None, Result, Ok, Err}
 use Rattle.std.specs.Io.KnownBytes.{Appends, Consumes, IsAtEnd, Keeps}
 use Rattle.cascade_core.specs.Apply.{world}
 use Rattle.cascade_core.specs.Texts.{trace_text, scene_text}
-use Rattle.cascade_core.specs.declared.world.WorldData.{WorldData}
+use Rattle.cascade_core.specs.Course.{Scripted}
 use Rattle.scene_core.specs.declared.scene.Route.{Route}
 use Rattle.scene_core.specs.Scene.{SceneView}
+use Rattle.scene_scripts.specs.Scripts.{script_list}
+use Rattle.script_boxes.specs.Refused.{scripts_fault}
+use Rattle.script_host.specs.Attaching.{Fits, Refuses}
+use Rattle.script_host.specs.Hosting.{ScriptRecord}
+use Rattle.script_host.specs.declared.fault.AttachFault.{AttachFault}
+use Rattle.script_host.specs.declared.fault.AttachFault.TheVariants as attach
 use Rattle.share_jobs.specs.declared.fault.JobFault.{JobFault}
+use Rattle.share_program.specs.declared.fault.RunFault.{RunFault}
 use Rattle.share_program.specs.declared.fault.RunFault.TheVariants as run_fault
 use Rattle.share_program.specs.declared.open.Job.{Job}
 use Rattle.share_program.specs.declared.refusal.Failure.{Failure}
 use Rattle.share_program.specs.declared.refusal.Failure.TheVariants as failure
-use Rattle.share_program.specs.Opening.{opened_job, next, same, IsDeviceOrMemory, IsNoJob}
+use Rattle.share_program.specs.Opening.{opened_job, IsDeviceOrMemory, IsNoJob}
 
-abbrev pub texts : SceneView → List Route → WorldData → List ℕ
+abbrev pub texts : SceneView → List Route → Scripted → List ℕ
 texts scene routes w = trace_text scene w ++ scene_text scene routes w
 
 -- the trace and then the scene of the world of the job's scene after its inputs
 unfoldable pub run_text : Job → List ℕ
 run_text job = texts job.scene job.routes (world job.scene job.routes job.inputs)
 
-abbrev pub written : Job → Result (List ℕ) JobFault
-written job = Ok (run_text job)
+-- ---- boxes
 
--- bytes in, bytes out: what a run writes whose input has these bytes, or why they are no job
-abbrev pub output_of : List ℕ → Result (List ℕ) JobFault
-output_of bytes = next same (opened_job bytes) written
+-- the boxes are those that the scripts of the job's scene ask for
+abbrev pub FitsJob : Job → List ScriptRecord → Type 0
+FitsJob job boxes = Fits (script_list job.scene) boxes
 
--- the reader was read to its end, and the writer took what its bytes come to
-pub record IsRun (reader_old reader_new writer_old writer_new : Option (List ℕ)) : Type 0 where
+-- they aren't, for this reason; want of memory is none
+abbrev pub RefusesBoxes : AttachFault → SceneView → List ScriptRecord → Type 0
+RefusesBoxes attach.Memory scene boxes = ⊥
+RefusesBoxes fault scene boxes = Refuses fault (script_list scene) boxes
+
+-- why boxes are not attached
+abbrev pub IsRefused : SceneView → List ScriptRecord → RunFault → Type 0
+IsRefused scene boxes (run_fault.Attach fault) = RefusesBoxes fault scene boxes
+IsRefused scene boxes run_fault.Memory = ⊤
+IsRefused scene boxes run_fault.Device = ⊥
+
+-- why a run with these boxes ended early: they aren't those that the scene's scripts ask for, or
+-- memory was refused, and nothing was written; or they are, and the writer's device failed
+abbrev pub IsUnrun : Job → List ScriptRecord → (old new : Option (List ℕ)) → RunFault → Type 0
+IsUnrun job boxes old new (run_fault.Attach fault) =
+    RefusesBoxes fault job.scene boxes × Keeps old new
+IsUnrun job boxes old new run_fault.Memory = Keeps old new
+IsUnrun job boxes old new run_fault.Device = FitsJob job boxes
+
+-- ---- boxes of the stock
+
+-- why the scripts of the job's scene are refused
+abbrev pub job_scripts_fault : Job → Option AttachFault
+job_scripts_fault job = scripts_fault (script_list job.scene)
+
+-- why a run with boxes of the stock ended early
+abbrev pub IsUnrunStock : Job → (old new : Option (List ℕ)) → RunFault → Type 0
+IsUnrunStock job old new (run_fault.Attach fault) =
+    (job_scripts_fault job ≡ Some fault) × Keeps old new
+IsUnrunStock job old new run_fault.Memory = Keeps old new
+IsUnrunStock job old new run_fault.Device = job_scripts_fault job ≡ None
+
+-- the same of a failure of the whole program
+abbrev pub IsFailed : Job → (old new : Option (List ℕ)) → Failure → Type 0
+IsFailed job old new (failure.Run fault) = IsUnrunStock job old new fault
+IsFailed job old new fault = ⊥
+
+-- ---- bytes in, bytes out
+
+abbrev pub unless_refused : List ℕ → Option AttachFault → Result (List ℕ) Failure
+unless_refused text None = Ok text
+unless_refused text (Some fault) = Err (failure.Run (run_fault.Attach fault))
+
+-- what a job's run comes to, where there is a job
+abbrev pub written : Result Job JobFault → Result (List ℕ) Failure
+written (Ok job) = unless_refused (run_text job) (job_scripts_fault job)
+written (Err fault) = Err (failure.Job fault)
+
+-- what a run writes whose input has these bytes, or why they are no job, or the scripts of its
+-- scene refused
+abbrev pub output_of : List ℕ → Result (List ℕ) Failure
+output_of bytes = written (opened_job bytes)
+
+-- the reader was read to its end, and this is what its bytes come to
+pub record Comes (old new : Option (List ℕ)) (output : Result (List ℕ) Failure) : Type 0 where
   pub bytes : List ℕ
+  pub consumed : Consumes old new bytes
+  pub ended : IsAtEnd new
+  pub is : output_of bytes ≡ output
+
+-- and the writer took it
+pub record IsRun (reader_old reader_new writer_old writer_new : Option (List ℕ)) : Type 0 where
   pub text : List ℕ
-  pub consumed : Consumes reader_old reader_new bytes
-  pub ended : IsAtEnd reader_new
-  pub comes : output_of bytes ≡ Ok text
+  pub comes : Comes reader_old reader_new (Ok text)
   pub appended : Appends writer_old writer_new text
 
--- why a job's run ended early: memory was refused, and nothing was written, or the writer's device
--- failed
-abbrev pub IsNoRunOf : (old new : Option (List ℕ)) → Failure → Type 0
-IsNoRunOf old new (failure.Run run_fault.Memory) = Keeps old new
-IsNoRunOf old new (failure.Run run_fault.Device) = ⊤
-IsNoRunOf old new fault = ⊥
-
--- the same of a run from the reader's bytes: where there is no job nothing was written
+-- why a run from the reader's bytes ended early: where there is no job, its scripts are refused or
+-- memory was, nothing was written; where the writer's device failed there was something to write
 abbrev pub IsNoRun :
     (reader_old reader_new writer_old writer_new : Option (List ℕ)) → Failure → Type 0
 IsNoRun old new kept left (failure.Job fault) =
     (IsDeviceOrMemory fault ⊎ IsNoJob old new fault) × Keeps kept left
-IsNoRun old new kept left fault = IsNoRunOf kept left fault
+IsNoRun old new kept left (failure.Run (run_fault.Attach fault)) =
+    Comes old new (Err (failure.Run (run_fault.Attach fault))) × Keeps kept left
+IsNoRun old new kept left (failure.Run run_fault.Memory) = Keeps kept left
+IsNoRun old new kept left (failure.Run run_fault.Device) =
+    (text : List ℕ) × Comes old new (Ok text)
+IsNoRun old new kept left fault = ⊥

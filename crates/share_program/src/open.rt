@@ -1,28 +1,23 @@
 //! From the bytes of a job to a scene that can be run.
 
 ghost use Rattle.std.specs.Prelude.{◌≡◌, IfOk, IfErr, ◌⊎◌, List, ℕ};
-ghost use Rattle.std.specs.Option.{option_copied};
 ghost use Rattle.std.specs.Io.KnownBytes.{Consumes, IsAtEnd};
 ghost use Rattle.x3d_lists.specs.Answers.{Gives};
 ghost use Rattle.cascade_core.specs.InTurn.{AreInTurn};
 ghost use Rattle.share_jobs.specs.Schedule.{schedule_lines};
-ghost use Rattle.share_program.specs.Opening.{routed, built, built_to_run, flattened, opened, opened_to_run, opened_job, IsDeviceOrMemory};
-ghost use Rattle.share_program.specs.Opening.{any_asks, any_url_asks, asks, some_asks, url_asks, asks_to_run, first_asking, none_asks};
+ghost use Rattle.share_program.specs.Opening.{routed, built, flattened, opened, opened_job, IsDeviceOrMemory};
 ghost use Rattle.share_program.specs.Opening.{IsNoJob, IsNoSchedule};
 ghost use Rattle.share_jobs.specs.declared.fault.JobFault.TheVariants.{Memory};
 
 use crate::stream::read_whole;
 use classic_text::read;
-use classic_tree::RawValue;
-use flat_document::{ExpandFault, ExpandFaultKind, Flat, FlatField, FlatNode};
+use flat_document::Flat;
 use proto_walk::expand;
 use route_core::Routes;
 use scene_core::Scene;
 use share_jobs::{Inputs, JobFault, Schedule, job_of, schedule_of};
 use std::alloc::Global;
 use std::io::Read;
-use x3d_lists::Text;
-use x3d_values::NodeType;
 
 /// A scene with its routes.
 #[derive(Drop)]
@@ -47,83 +42,12 @@ fn routed(alloc: Global, flat: &Flat, scene: Scene) -> Result<Opened, JobFault>
     Ok(Opened { scene, routes })
 }
 
-/// The number of a Script's field `url`, behind `metadata`.
-const URL: u16 = 1;
-
-/// Whether this URL asks for a script that is run.
-fn asks(url: &Text) -> bool
-    ensures { result ≡ asks url.now }
-{
-    url.as_bytes().starts_with(b"x3dshare:")
-}
-
-fn any_asks(urls: &[Text]) -> bool
-    ensures { result ≡ any_asks urls.now }
-{
-    urls.iter().any(|url| asks(url))
-}
-
-/// Whether this value of `url` does.
-fn some_asks(value: &RawValue<u32>) -> bool
-    ensures { result ≡ some_asks value.now }
-{
-    match value {
-        RawValue::String(url) => asks(url),
-        RawValue::StringList(urls) => any_asks(urls.as_slice()),
-        _ => false,
-    }
-}
-
-/// Whether the field is a Script's `url`, and asks.
-fn url_asks(field: &FlatField) -> bool
-    ensures { result ≡ url_asks field.now }
-{
-    field.number == URL && some_asks(&field.value)
-}
-
-fn any_url_asks(fields: &[FlatField]) -> bool
-    ensures { result ≡ any_url_asks fields.now }
-{
-    fields.iter().any(|field| url_asks(field))
-}
-
-/// Whether the node is a Script that asks to be run.
-fn asks_to_run(node: &FlatNode) -> bool
-    ensures { result ≡ asks_to_run node.now }
-{
-    node.node_type == NodeType::Script && any_url_asks(node.fields.as_slice())
-}
-
-fn first_asking(nodes: &[FlatNode]) -> Option<&FlatNode>
-    ensures { option_copied result ≡ first_asking nodes.now }
-{
-    nodes.iter().find(|node| asks_to_run(node))
-}
-
-/// A Script that asks to be run is not run yet.
-fn check_scripts(nodes: &[FlatNode]) -> Result<(), ExpandFault>
-    ensures { result ≡ none_asks nodes.now }
-{
-    match first_asking(nodes) {
-        None => Ok(()),
-        Some(node) => Err(ExpandFaultKind::NotYet.on_line(node.line)),
-    }
-}
-
 /// The scene of a document, and its routes.
 fn built(alloc: Global, flat: &Flat) -> Result<Opened, JobFault>
     ensures { Gives Memory (λ o. o) result (built flat.now) }
 {
     let scene = Scene::build(alloc, flat)?;
     routed(alloc, flat, scene)
-}
-
-/// The same of a document that is to be run.
-fn built_to_run(alloc: Global, flat: &Flat) -> Result<Opened, JobFault>
-    ensures { Gives Memory (λ o. o) result (built_to_run flat.now) }
-{
-    check_scripts(flat.nodes.as_slice())?;
-    built(alloc, flat)
 }
 
 /// The nodes of a text's document, by number.
@@ -144,16 +68,6 @@ pub fn open_scene(alloc: Global, text: &[u8]) -> Result<Opened, JobFault>
     built(alloc, &flat)
 }
 
-/// The scene of a text that is to be run, and its routes: `NotYet`, at the line of the first of its
-/// Scripts with a `url` that begins `x3dshare:`, as these are not run yet.
-#[tactic(auto, unfolding(crate::specs::Opening::opened_to_run))]
-pub fn open_to_run(alloc: Global, text: &[u8]) -> Result<Opened, JobFault>
-    ensures { Gives Memory (λ o. o) result (opened_to_run text.now) }
-{
-    let flat = flattened(alloc, text)?;
-    built_to_run(alloc, &flat)
-}
-
 /// The job of these bytes: first its lines, then its scene.
 #[tactic(auto, unfolding(crate::specs::Opening::opened_job))]
 pub fn open_job(alloc: Global, bytes: &[u8]) -> Result<Job, JobFault>
@@ -161,7 +75,7 @@ pub fn open_job(alloc: Global, bytes: &[u8]) -> Result<Job, JobFault>
     ensures in_turn { IfOk result (λ j. AreInTurn j.inputs) }
 {
     let steps = job_of(alloc, bytes)?;
-    let opened = open_to_run(alloc, steps.scene)?;
+    let opened = open_scene(alloc, steps.scene)?;
     Ok(Job {
         inputs: steps.inputs,
         scene: opened.scene,

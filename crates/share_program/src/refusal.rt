@@ -1,8 +1,8 @@
 //! What a refusal prints, and the status that the program then ends with.
 
 ghost use Rattle.std.specs.Prelude.{◌≡◌, ◌≤◌, length};
-ghost use Rattle.share_program.specs.Refusal.{status, job_status, share_status, refusal_text};
-ghost use Rattle.share_program.specs.Refusal.{failure_name, job_fault_name, share_fault_name};
+ghost use Rattle.share_program.specs.Refusal.{status, attach_status, job_status, run_status, share_status, refusal_text};
+ghost use Rattle.share_program.specs.Refusal.{failure_name, job_fault_name, run_fault_name, share_fault_name};
 ghost use Rattle.share_program.specs.Refusal.{failure_line};
 
 use crate::fault::{RunFault, ShareFault};
@@ -11,6 +11,7 @@ use classic_text::ReadFaultKind;
 use flat_document::ExpandFaultKind;
 use route_core::RouteFaultKind;
 use scene_core::SceneFaultKind;
+use script_host::AttachFault;
 use share_jobs::JobFault;
 use share_words::OrderFault;
 use thiserror::Error;
@@ -28,6 +29,15 @@ pub enum Failure {
     Share(#[from] ShareFault),
 }
 
+fn attach_status(fault: AttachFault) -> u8
+    ensures { result ≡ attach_status fault }
+{
+    match fault {
+        AttachFault::Memory => 5,
+        _ => 1,
+    }
+}
+
 fn job_status(fault: &JobFault) -> u8
     ensures { result ≡ job_status fault.now }
 {
@@ -42,7 +52,18 @@ fn job_status(fault: &JobFault) -> u8
         JobFault::Expand(_) => 1,
         JobFault::Scene(_) => 1,
         JobFault::Route(_) => 1,
+        JobFault::Attach(fault) => attach_status(*fault),
         JobFault::Memory => 5,
+    }
+}
+
+fn run_status(fault: RunFault) -> u8
+    ensures { result ≡ run_status fault }
+{
+    match fault {
+        RunFault::Attach(fault) => attach_status(fault),
+        RunFault::Device => 4,
+        RunFault::Memory => 5,
     }
 }
 
@@ -57,8 +78,8 @@ fn share_status(fault: ShareFault) -> u8
     }
 }
 
-/// 1 for a scene that is refused, 2 for words and jobs, 3 for turns that are used up, 4 for
-/// devices, 5 for memory.
+/// 1 for a scene that is refused or its scripts, 2 for words and jobs, 3 for turns that are used
+/// up, 4 for devices, 5 for memory.
 pub fn status_of(failure: &Failure) -> u8
     ensures { result ≡ status failure.now }
 {
@@ -66,8 +87,7 @@ pub fn status_of(failure: &Failure) -> u8
         Failure::Order(OrderFault::Words) => 2,
         Failure::Order(OrderFault::Memory) => 5,
         Failure::Job(fault) => job_status(fault),
-        Failure::Run(RunFault::Device) => 4,
-        Failure::Run(RunFault::Memory) => 5,
+        Failure::Run(fault) => run_status(*fault),
         Failure::Share(fault) => share_status(*fault),
     }
 }
@@ -83,7 +103,19 @@ fn job_fault_name(fault: &JobFault) -> &'static str
         JobFault::Expand(fault) => fault.kind.name(),
         JobFault::Scene(fault) => fault.kind.name(),
         JobFault::Route(fault) => fault.kind.name(),
+        JobFault::Attach(fault) => fault.name(),
         JobFault::Memory => "Memory",
+    }
+}
+
+fn run_fault_name(fault: RunFault) -> &'static str
+    ensures name { result.now ≡ run_fault_name fault }
+    ensures short { length result.now ≤ 20 }
+{
+    match fault {
+        RunFault::Attach(fault) => fault.name(),
+        RunFault::Device => "Device",
+        RunFault::Memory => "Memory",
     }
 }
 
@@ -107,8 +139,7 @@ fn name_of(failure: &Failure) -> &'static str
         Failure::Order(OrderFault::Words) => "Words",
         Failure::Order(OrderFault::Memory) => "Memory",
         Failure::Job(fault) => job_fault_name(fault),
-        Failure::Run(RunFault::Device) => "Device",
-        Failure::Run(RunFault::Memory) => "Memory",
+        Failure::Run(fault) => run_fault_name(*fault),
         Failure::Share(fault) => share_fault_name(*fault),
     }
 }

@@ -1,31 +1,40 @@
 //! Runs a job: bytes in, bytes out.
 
-ghost use Rattle.std.specs.Prelude.{◌≡◌, ◌++◌, OnOk, IfOk, IfErr};
-ghost use Rattle.std.specs.Io.KnownBytes.{Appends, Keeps};
+ghost use Rattle.std.specs.Prelude.{◌≡◌, ◌++◌, ◌⊎◌, OnOk, IfOk, IfErr, None, map};
+ghost use Rattle.std.specs.Io.KnownBytes.{Appends};
 ghost use Rattle.cascade_core.specs.Apply.{world};
 ghost use Rattle.cascade_core.specs.Held.{Running, IfRunning, IfSpoiled};
+ghost use Rattle.cascade_core.specs.Scripts.{scripts_in};
 ghost use Rattle.cascade_core.specs.declared.fault.ApplyFault.TheVariants as ApplyFault;
 ghost use Rattle.cascade_core.specs.declared.fault.TextFault.TheVariants as TextFault;
-ghost use Rattle.share_program.specs.Running.{texts, run_text, IsRun, IsNoRun, IsNoRunOf};
-ghost use Rattle.share_program.specs.declared.fault.RunFault.TheVariants.{Memory};
+ghost use Rattle.scene_scripts.specs.Scripts.{script_list};
+ghost use Rattle.script_boxes.specs.Boxes.{made_of, stock_for};
+ghost use Rattle.script_host.specs.Attaching.{Fits};
+ghost use Rattle.script_host.specs.Hosting.{fresh_record};
+ghost use Rattle.share_program.specs.Running.{texts, run_text, FitsJob, IsRefused, IsUnrun};
+ghost use Rattle.share_program.specs.Running.{IsUnrunStock, IsFailed, IsRun, IsNoRun, job_scripts_fault};
+ghost use Rattle.share_program.specs.declared.fault.RunFault.TheVariants.{Device, Memory};
 
 use crate::fault::RunFault;
 use crate::open::{Job, read_job};
 use crate::refusal::Failure;
 use crate::stream::write_whole;
-use cascade_core::{ApplyFault, Scripts, Stage, TextFault};
+use cascade_core::{ApplyFault, Stage, TextFault};
 use route_core::Routes;
 use scene_core::Scene;
+use scene_scripts::script_list;
+use script_boxes::{StockScript, boxes_of};
+use script_host::{Behaviour, Scripts};
 use share_jobs::Inputs;
-use std::alloc::Global;
+use std::alloc::{AllocError, Global};
 use std::io::{Read, Write};
 
-/// Reads a job to the reader's end, applies its inputs to its scene, and writes the trace and then
-/// the scene. Both texts are made before the first byte is written.
-pub fn run_job<B, R: Read, W: Write>(
+/// Reads a job to the reader's end, applies its inputs to its scene, whose scripts get boxes of the
+/// stock, and writes the trace and then the scene. Both texts are made before the first byte is
+/// written.
+pub fn run_job<R: Read, W: Write>(
     alloc: Global,
     reader: &mut R,
-    scripts: Scripts<B>,
     writer: &mut W,
 ) -> Result<(), Failure>
     // Bytes in, bytes out.
@@ -36,9 +45,29 @@ pub fn run_job<B, R: Read, W: Write>(
         (W.contents writer.old) (W.contents writer.new)) }
 {
     match read_job(alloc, reader) {
-        Ok(job) => run_read(alloc, job, scripts, writer),
+        Ok(job) => run_read(alloc, job, writer),
         Err(fault) => Err(Failure::Job(fault)),
     }
+}
+
+/// The scripts of a scene with these boxes, none of which is initialized, as a stage of the scene
+/// takes them. Where they are refused the boxes are dropped.
+pub fn attach<B: Behaviour>(
+    alloc: Global,
+    scene: &Scene,
+    boxes: Vec<B>,
+) -> Result<Scripts<B>, RunFault>
+    ensures fits { IfOk result (λ scripts. Fits (script_list scene.now) scripts) }
+    ensures fresh { IfOk result (λ scripts. scripts ≡ scripts_in scene.now) }
+    ensures boxes { OnOk result
+        (Fits (script_list scene.now) (map (fresh_record B.kind_of B.numbers) boxes.items)) }
+    ensures takes { Fits (script_list scene.now)
+        (map (fresh_record B.kind_of B.numbers) boxes.items) → IfErr result (λ f. f ≡ Memory) }
+    ensures refused { IfErr result
+        (IsRefused scene.now (map (fresh_record B.kind_of B.numbers) boxes.items)) }
+{
+    let specs = script_list(alloc, scene)?;
+    Ok(Scripts::attach(alloc, specs.as_slice(), boxes)?)
 }
 
 /// Why inputs in turn were not applied.
@@ -53,13 +82,15 @@ fn memory_alone(fault: ApplyFault) -> RunFault
 }
 
 /// The stage of a scene after inputs in turn.
-fn stage_of<B>(
+fn stage_of<B: Behaviour>(
     alloc: Global,
     scene: Scene,
     routes: Routes,
     scripts: Scripts<B>,
     inputs: &Inputs,
 ) -> Result<Stage<B>, RunFault>
+    requires fits { Fits (script_list scene) scripts }
+    requires fresh { scripts ≡ scripts_in scene }
     ensures ok { IfOk result (λ stage. stage
         ≡ record {
           scene = scene;
@@ -75,7 +106,7 @@ fn stage_of<B>(
 }
 
 /// Appends the trace and then the scene of a stage.
-fn push_texts<B>(stage: &Stage<B>, out: &mut Vec<u8>) -> Result<(), TextFault>
+fn push_texts<B: Behaviour>(stage: &Stage<B>, out: &mut Vec<u8>) -> Result<(), TextFault>
     ensures ok { IfRunning stage.now.held (λ w.
         OnOk result (out.new.items ≡ out.old.items ++ texts stage.now.scene stage.now.routes w)) }
     ensures memory { IfRunning stage.now.held (λ w.
@@ -87,7 +118,7 @@ fn push_texts<B>(stage: &Stage<B>, out: &mut Vec<u8>) -> Result<(), TextFault>
 }
 
 /// The trace and then the scene of a stage that isn't spoiled.
-fn texts_of<B>(alloc: Global, stage: &Stage<B>) -> Result<Vec<u8>, RunFault>
+fn texts_of<B: Behaviour>(alloc: Global, stage: &Stage<B>) -> Result<Vec<u8>, RunFault>
     requires { IfSpoiled stage.now.held ⊥ }
     ensures ok { IfRunning stage.now.held (λ w.
         IfOk result (λ text. text.items ≡ texts stage.now.scene stage.now.routes w)) }
@@ -103,7 +134,9 @@ fn texts_of<B>(alloc: Global, stage: &Stage<B>) -> Result<Vec<u8>, RunFault>
 
 /// The trace and then the scene of a job's world after its inputs.
 #[tactic(auto, unfolding(crate::specs::Running::run_text))]
-fn text_of<B>(alloc: Global, job: Job, scripts: Scripts<B>) -> Result<Vec<u8>, RunFault>
+fn text_of<B: Behaviour>(alloc: Global, job: Job, scripts: Scripts<B>) -> Result<Vec<u8>, RunFault>
+    requires fits { Fits (script_list job.scene) scripts }
+    requires fresh { scripts ≡ scripts_in job.scene }
     ensures ok { IfOk result (λ text. text.items ≡ run_text job) }
     ensures err { IfErr result (λ f. f ≡ Memory) }
 {
@@ -116,36 +149,61 @@ fn text_of<B>(alloc: Global, job: Job, scripts: Scripts<B>) -> Result<Vec<u8>, R
     texts_of(alloc, &stage)
 }
 
-/// Applies the inputs of a job to its scene, and writes the trace and then the scene. Both texts
-/// are made before the first byte is written.
-pub fn run<B, W: Write>(
+/// Applies the inputs of a job to its scene, with these boxes for its scripts in the order of their
+/// nodes, and writes the trace and then the scene. Both texts are made before the first byte is
+/// written. Where it is refused the boxes are dropped.
+pub fn run<B: Behaviour, W: Write>(
     alloc: Global,
     job: Job,
-    scripts: Scripts<B>,
+    boxes: Vec<B>,
     writer: &mut W,
 ) -> Result<(), RunFault>
     ensures ok { OnOk result
         (Appends (W.contents writer.old) (W.contents writer.new) (run_text job)) }
-    ensures nothing { IfErr result (λ f. f ≡ Memory
-        → Keeps (W.contents writer.old) (W.contents writer.new)) }
+    // Boxes that aren't those that the scene's scripts ask for are refused, and others for memory
+    // and devices alone.
+    ensures fits { OnOk result (FitsJob job (map (fresh_record B.kind_of B.numbers) boxes.items)) }
+    ensures takes { FitsJob job (map (fresh_record B.kind_of B.numbers) boxes.items)
+        → IfErr result (λ f. (f ≡ Device) ⊎ (f ≡ Memory)) }
+    ensures refused { IfErr result (IsUnrun job (map (fresh_record B.kind_of B.numbers) boxes.items)
+        (W.contents writer.old) (W.contents writer.new)) }
 {
+    let scripts = attach(alloc, &job.scene, boxes)?;
     let text = text_of(alloc, job, scripts)?;
     write_whole(writer, text.as_slice())?;
     Ok(())
 }
 
-/// The same, with a failure of the whole program for its fault.
-fn run_read<B, W: Write>(
-    alloc: Global,
-    job: Job,
-    scripts: Scripts<B>,
-    writer: &mut W,
-) -> Result<(), Failure>
+/// A box of the stock for each script of a scene.
+fn stock_of(alloc: Global, scene: &Scene) -> Result<Vec<StockScript>, AllocError>
+    ensures { IfOk result
+        (λ boxes. map made_of boxes.items ≡ stock_for (script_list scene.now)) }
+{
+    let specs = script_list(alloc, scene)?;
+    boxes_of(alloc, specs.as_slice())
+}
+
+/// Runs a job as `run` does, with boxes of the stock for the scripts of its scene.
+pub fn run_stock<W: Write>(alloc: Global, job: Job, writer: &mut W) -> Result<(), RunFault>
     ensures ok { OnOk result
         (Appends (W.contents writer.old) (W.contents writer.new) (run_text job)) }
-    ensures refused { IfErr result (IsNoRunOf (W.contents writer.old) (W.contents writer.new)) }
+    ensures fits { OnOk result (job_scripts_fault job ≡ None) }
+    ensures refused { IfErr result
+        (IsUnrunStock job (W.contents writer.old) (W.contents writer.new)) }
 {
-    match run(alloc, job, scripts, writer) {
+    let boxes = stock_of(alloc, &job.scene)?;
+    run(alloc, job, boxes, writer)
+}
+
+/// The same, with a failure of the whole program for its fault.
+fn run_read<W: Write>(alloc: Global, job: Job, writer: &mut W) -> Result<(), Failure>
+    ensures ok { OnOk result
+        (Appends (W.contents writer.old) (W.contents writer.new) (run_text job)) }
+    ensures fits { OnOk result (job_scripts_fault job ≡ None) }
+    ensures refused { IfErr result
+        (IsFailed job (W.contents writer.old) (W.contents writer.new)) }
+{
+    match run_stock(alloc, job, writer) {
         Ok(()) => Ok(()),
         Err(fault) => Err(Failure::Run(fault)),
     }

@@ -1,5 +1,6 @@
 mod Calling
 mod Endings
 mod Plays
+mod Seating
 mod Ties
 mod Whole

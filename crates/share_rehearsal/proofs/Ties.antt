@@ -1,6 +1,6 @@
 -- Each call of a rehearsal is its step of the network.
 use Rattle.std.proofs.Common.{◌≡◌, ℕ, zero, suc, ◌^◌, ◌<◌, ◌≤◌, inl, inr, List, [], ◌∷◌, ◌++◌, length, map, replicate, refl, ap, sym, ◌∙◌, subst}
-use Rattle.std.specs.Prelude.{slice_get, slice_set, Option, Some, None, Result, Ok, Err, IsTrue, ◌==◌}
+use Rattle.std.specs.Prelude.{slice_get, slice_set, Option, Some, None, Result, Ok, Err, ◌==◌}
 use Rattle.std.specs.Option.{option_map}
 use Rattle.std.proofs.lemmas.Option.{same_Some, none-some, slice_get-map}
 use Rattle.std.proofs.lemmas.Bool.{cond-false, ne_eqb}
@@ -8,7 +8,7 @@ use Rattle.std.proofs.lemmas.List.{map-append, length-map}
 use Rattle.x3d_values.specs.declared.pointing.Point.{Point}
 use Rattle.scene_core.specs.declared.scene.Route.{Route}
 use Rattle.scene_core.specs.Scene.{SceneView}
-use Rattle.cascade_core.specs.declared.world.WorldData.{WorldData}
+use Rattle.cascade_core.specs.Course.{Scripted}
 use Rattle.share_wire.specs.Datagram.{datagram}
 use Rattle.share_wire.specs.Decoding.{decoded}
 use Rattle.share_wire.specs.declared.fault.WireFault.{WireFault}
@@ -16,7 +16,7 @@ use Rattle.share_wire.specs.declared.message.Body.{Body}
 use Rattle.share_wire.specs.declared.message.Message.{Message}
 use Rattle.snapshot_core.specs.declared.fault.SaveFault.TheVariants as save_fault
 use Rattle.snapshot_core.specs.declared.fault.SnapFault.{SnapFault}
-use Rattle.snapshot_core.specs.WorldCodec.{world_codec}
+use Rattle.snapshot_core.specs.Loading.{HasSnapshot}
 use Rattle.share_law.specs.declared.fault.OfferFault.{OfferFault}
 use Rattle.share_law.specs.declared.kept.Kept.{Kept}
 use Rattle.share_law.specs.declared.step.Step.{Step}
@@ -57,20 +57,20 @@ set-both f (z ∷ xs) (y ∷ ys) (suc v) x (suc u) h = set-both (λ k. f (suc k)
 -- ---- a step, with what stands after it
 
 module _ (mark : List ℕ) (scene : SceneView) (routes : List Route) where
-  abbrev pub m : Machine WorldData
+  abbrev pub m : Machine Scripted
   m = cascade scene routes
 
   -- snapshots can be loaded
-  abbrev pub ShotsFit : Network WorldData → Type 0
-  ShotsFit net = (n : ℕ) (x : LawShot WorldData) → slice_get net.shots n ≡ Some x → (x.boot < 2 ^ 32) × IsTrue ((world_codec scene).fits x.state)
+  abbrev pub ShotsFit : Network Scripted → Type 0
+  ShotsFit net = (n : ℕ) (x : LawShot Scripted) → slice_get net.shots n ≡ Some x → (x.boot < 2 ^ 32) × HasSnapshot scene x.state
 
-  pub record Goes (net : Network WorldData) (s : Step) (a : Answer) (new : Seen) : Type 0 where
-    pub next : Network WorldData
+  pub record Goes (net : Network Scripted) (s : Step) (a : Answer) (new : Seen) : Type 0 where
+    pub next : Network Scripted
     pub is : IsStep m net s (law_answer a) next
     pub stand : StandFor mark scene routes new next
     pub fit : ShotsFit next
 
-  goes : (net next : Network WorldData) (s : Step) (a b : Answer) (new made : Seen) → a ≡ b → new ≡ made → IsStep m net s (law_answer b) next → StandFor mark scene routes made next → ShotsFit next → Goes net s a new
+  goes : (net next : Network Scripted) (s : Step) (a b : Answer) (new made : Seen) → a ≡ b → new ≡ made → IsStep m net s (law_answer b) next → StandFor mark scene routes made next → ShotsFit next → Goes net s a new
   goes net next s a b new made answers leaves is stand fit = record {
     next = next;
     is = subst (λ (x : Answer). IsStep m net s (law_answer x) next) (sym answers) is;
@@ -78,17 +78,17 @@ module _ (mark : List ℕ) (scene : SceneView) (routes : List Route) where
     fit = fit;
   }
 
-  unknown : (net : Network WorldData) (s : Step) (old : Seen) (a : Answer) (new : Seen) → StandFor mark scene routes old net → ShotsFit net → step m net s ≡ (law.NoSuch, net) → IsUnknown old a new → Goes net s a new
+  unknown : (net : Network Scripted) (s : Step) (old : Seen) (a : Answer) (new : Seen) → StandFor mark scene routes old net → ShotsFit net → step m net s ≡ (law.NoSuch, net) → IsUnknown old a new → Goes net s a new
   unknown net s old a new stand fit e call = goes net net s a NoSuch new old call.0 call.1 (inl e) stand fit
 
   -- ---- packets that are made
 
-  sent-count : (net : Network WorldData) (old : Seen) → StandFor mark scene routes old net → length old.packets ≡ length net.sent
+  sent-count : (net : Network Scripted) (old : Seen) → StandFor mark scene routes old net → length old.packets ≡ length net.sent
   sent-count net old stand =
       let said : Body → Result Message WireFault = λ body. Ok (message mark body) in
       sym (length-map old.packets decoded) ∙ ap length stand.packets ∙ length-map net.sent said
 
-  sent-more : (net : Network WorldData) (old : Seen) (k : List ℕ) (body : Body) → StandFor mark scene routes old net → k ≡ mark → decoded (datagram (message k body)) ≡ Ok (message k body)
+  sent-more : (net : Network Scripted) (old : Seen) (k : List ℕ) (body : Body) → StandFor mark scene routes old net → k ≡ mark → decoded (datagram (message k body)) ≡ Ok (message k body)
       → StandFor mark scene routes (with_packets old (old.packets ++ datagram (message k body) ∷ [])) (with_packet net body)
   sent-more net old k body stand own again =
       let said : Body → Result Message WireFault = λ b. Ok (message mark b) in
@@ -105,14 +105,14 @@ module _ (mark : List ℕ) (scene : SceneView) (routes : List Route) where
         shots = stand.shots;
       }
 
-  made : (net : Network WorldData) (s : Step) (old : Seen) (k : List ℕ) (a : Answer) (new : Seen) (body : Option Body) → StandFor mark scene routes old net → ShotsFit net → k ≡ mark → IsStep m net s (sends net body).0 (sends net body).1
+  made : (net : Network Scripted) (s : Step) (old : Seen) (k : List ℕ) (a : Answer) (new : Seen) (body : Option Body) → StandFor mark scene routes old net → ShotsFit net → k ≡ mark → IsStep m net s (sends net body).0 (sends net body).1
       → IsMade old k body a new → Goes net s a new
   made net s old k a new None stand fit own is call = goes net net s a (Sent None) new old call.0 call.1 is stand fit
   made net s old k a new (Some body) stand fit own is call =
       let count : Sent (Some (length old.packets)) ≡ Sent (Some (length net.sent)) = ap (λ (n : ℕ). Sent (Some n)) (sent-count net old stand) in
       goes net (with_packet net body) s a (Sent (Some (length net.sent))) new _ (call.0 ∙ count) call.1 is (sent-more net old k body stand own call.2) fit
 
-  acked : (net : Network WorldData) (v : ℕ) (old : Seen) (a : Answer) (new : Seen) (kept : Option Kept) → StandFor mark scene routes old net → ShotsFit net → slice_get net.host.kept v ≡ kept → IsAcked old v kept a new → Goes net (HostAck v) a new
+  acked : (net : Network Scripted) (v : ℕ) (old : Seen) (a : Answer) (new : Seen) (kept : Option Kept) → StandFor mark scene routes old net → ShotsFit net → slice_get net.host.kept v ≡ kept → IsAcked old v kept a new → Goes net (HostAck v) a new
   acked net v old a new None stand fit at call = unknown net (HostAck v) old a new stand fit (ap (λ (o : Option Kept). host_acks net v o) at) call
   acked net v old a new (Some kept) stand fit at call = made net (HostAck v) old old.host.mark a new (Some (ack_of v kept)) stand fit (ap (λ (h : HostView). h.mark) stand.host) (ack-step m net v kept at) call
 
@@ -121,11 +121,11 @@ module _ (mark : List ℕ) (scene : SceneView) (routes : List Route) where
   abbrev said : Body → Result Message WireFault
   said body = Ok (message mark body)
 
-  sent-at : (net : Network WorldData) (old : Seen) (p : ℕ) → StandFor mark scene routes old net → option_map decoded (slice_get old.packets p) ≡ option_map said (slice_get net.sent p)
+  sent-at : (net : Network Scripted) (old : Seen) (p : ℕ) → StandFor mark scene routes old net → option_map decoded (slice_get old.packets p) ≡ option_map said (slice_get net.sent p)
   sent-at net old p stand =
       sym (slice_get-map decoded old.packets p) ∙ ap (λ (rs : List (Result Message WireFault)). slice_get rs p) stand.packets ∙ slice_get-map said net.sent p
 
-  host-stands : (net : Network WorldData) (old : Seen) (h : HostState) → StandFor mark scene routes old net → StandFor mark scene routes (with_host old h) (net_host net h)
+  host-stands : (net : Network Scripted) (old : Seen) (h : HostState) → StandFor mark scene routes old net → StandFor mark scene routes (with_host old h) (net_host net h)
   host-stands net old h stand = record {
     host = ap (λ (k : List ℕ). let v : HostView = record { mark = k; host = h } in v) (ap (λ x. x.mark) stand.host);
     viewers = stand.viewers;
@@ -133,7 +133,7 @@ module _ (mark : List ℕ) (scene : SceneView) (routes : List Route) where
     shots = stand.shots;
   }
 
-  host_given : (net : Network WorldData) (p : ℕ) (old : Seen) (a : Answer) (new : Seen) (bytes : Option (List ℕ)) (body : Option Body) → StandFor mark scene routes old net → ShotsFit net
+  host_given : (net : Network Scripted) (p : ℕ) (old : Seen) (a : Answer) (new : Seen) (bytes : Option (List ℕ)) (body : Option Body) → StandFor mark scene routes old net → ShotsFit net
       → option_map decoded bytes ≡ option_map said body → slice_get net.sent p ≡ body → IsHostGiven old bytes a new → Goes net (HostTake p) a new
   host_given net p old a new None None stand fit e at call = unknown net (HostTake p) old a new stand fit (ap (λ (o : Option Body). host_takes net o) at) call
   host_given net p old a new None (Some body) stand fit e at call = absurd (none-some (said body) e)
@@ -149,7 +149,7 @@ module _ (mark : List ℕ) (scene : SceneView) (routes : List Route) where
 
   -- ---- a viewer changes
 
-  viewer-stands : (net : Network WorldData) (old : Seen) (v : ℕ) (x x' : Seat WorldData) → StandFor mark scene routes old net
+  viewer-stands : (net : Network Scripted) (old : Seen) (v : ℕ) (x x' : Seat Scripted) → StandFor mark scene routes old net
       → StandFor mark scene routes (with_viewer old v (viewer_at mark scene routes v x')) (with_seat net v x')
   viewer-stands net old v x x' stand = record {
     host = stand.host;
@@ -159,19 +159,19 @@ module _ (mark : List ℕ) (scene : SceneView) (routes : List Route) where
   }
 
   -- by a state that the seat then has
-  moves : (net : Network WorldData) (s : Step) (old : Seen) (a b : Answer) (new : Seen) (v : ℕ) (x x' : Seat WorldData) (y : ViewerState WorldData) → StandFor mark scene routes old net → ShotsFit net → a ≡ b
+  moves : (net : Network Scripted) (s : Step) (old : Seen) (a b : Answer) (new : Seen) (v : ℕ) (x x' : Seat Scripted) (y : ViewerState Scripted) → StandFor mark scene routes old net → ShotsFit net → a ≡ b
       → new ≡ with_viewer old v (with_state (viewer_at mark scene routes v x) y) → x'.node ≡ y → IsStep m net s (law_answer b) (with_seat net v x') → Goes net s a new
   moves net s old a b new v x x' y stand fit answers leaves node is =
-      let there = ap (λ (z : ViewerState WorldData). with_viewer old v (with_state (viewer_at mark scene routes v x) z)) (sym node) in
+      let there = ap (λ (z : ViewerState Scripted). with_viewer old v (with_state (viewer_at mark scene routes v x) z)) (sym node) in
       goes net (with_seat net v x') s a b new (with_viewer old v (viewer_at mark scene routes v x')) answers (leaves ∙ there) is (viewer-stands net old v x x' stand) fit
 
-  given : (net : Network WorldData) (v p : ℕ) (old : Seen) (a : Answer) (new : Seen) (seat : Option (Seat WorldData)) (bytes : Option (List ℕ)) (body : Option Body) → StandFor mark scene routes old net → ShotsFit net
+  given : (net : Network Scripted) (v p : ℕ) (old : Seen) (a : Answer) (new : Seen) (seat : Option (Seat Scripted)) (bytes : Option (List ℕ)) (body : Option Body) → StandFor mark scene routes old net → ShotsFit net
       → slice_get net.viewers v ≡ seat → option_map decoded bytes ≡ option_map said body → slice_get net.sent p ≡ body
       → IsGiven old v (option_map (viewer_at mark scene routes v) seat) bytes a new → Goes net (ViewerTake v p) a new
   given net v p old a new None bytes body stand fit at e sent call =
-      unknown net (ViewerTake v p) old a new stand fit (ap (λ (o : Option (Seat WorldData)). viewer_step m net (ViewerTake v p) v o) at) call
+      unknown net (ViewerTake v p) old a new stand fit (ap (λ (o : Option (Seat Scripted)). viewer_step m net (ViewerTake v p) v o) at) call
   given net v p old a new (Some x) None None stand fit at e sent call =
-      unknown net (ViewerTake v p) old a new stand fit (ap (λ (o : Option (Seat WorldData)). viewer_step m net (ViewerTake v p) v o) at ∙ ap (λ (o : Option Body). viewer_takes m net v x o) sent) call
+      unknown net (ViewerTake v p) old a new stand fit (ap (λ (o : Option (Seat Scripted)). viewer_step m net (ViewerTake v p) v o) at ∙ ap (λ (o : Option Body). viewer_takes m net v x o) sent) call
   given net v p old a new (Some x) None (Some body) stand fit at e sent call = absurd (none-some (said body) e)
   given net v p old a new (Some x) (Some bytes) None stand fit at e sent call = absurd (none-some (decoded bytes) (sym e))
   given net v p old a new (Some x) (Some bytes) (Some body) stand fit at e sent call =
@@ -184,49 +184,49 @@ module _ (mark : List ℕ) (scene : SceneView) (routes : List Route) where
 
   -- ---- points, and packets of viewers
 
-  offered-node : (x : Seat WorldData) (point : Point) (r : Result ℕ OfferFault × ViewerState WorldData) → (offered_by x point r).node ≡ r.1
+  offered-node : (x : Seat Scripted) (point : Point) (r : Result ℕ OfferFault × ViewerState Scripted) → (offered_by x point r).node ≡ r.1
   offered-node x point (Ok n, node) = refl
   offered-node x point (Err fault, node) = refl
 
-  offers : (net : Network WorldData) (v : ℕ) (point : Point) (old : Seen) (a : Answer) (new : Seen) (seat : Option (Seat WorldData)) → StandFor mark scene routes old net → ShotsFit net → slice_get net.viewers v ≡ seat
+  offers : (net : Network Scripted) (v : ℕ) (point : Point) (old : Seen) (a : Answer) (new : Seen) (seat : Option (Seat Scripted)) → StandFor mark scene routes old net → ShotsFit net → slice_get net.viewers v ≡ seat
       → IsOffering old v (ViewerOffer v point) (option_map (viewer_at mark scene routes v) seat) a new → Goes net (ViewerOffer v point) a new
   offers net v point old a new None stand fit at call =
-      unknown net (ViewerOffer v point) old a new stand fit (ap (λ (o : Option (Seat WorldData)). viewer_step m net (ViewerOffer v point) v o) at) call
+      unknown net (ViewerOffer v point) old a new stand fit (ap (λ (o : Option (Seat Scripted)). viewer_step m net (ViewerOffer v point) v o) at) call
   offers net v point old a new (Some x) stand fit at call =
       let offered = viewer_offer x.node point in
       moves net (ViewerOffer v point) old a (Offered offered.0) new v x (offered_by x point offered) offered.1 stand fit call.0 call.1 (offered-node x point offered) (offer-step m net v x point at)
 
-  resends : (net : Network WorldData) (v place : ℕ) (old : Seen) (a : Answer) (new : Seen) (seat : Option (Seat WorldData)) → StandFor mark scene routes old net → ShotsFit net → slice_get net.viewers v ≡ seat
+  resends : (net : Network Scripted) (v place : ℕ) (old : Seen) (a : Answer) (new : Seen) (seat : Option (Seat Scripted)) → StandFor mark scene routes old net → ShotsFit net → slice_get net.viewers v ≡ seat
       → IsOffering old v (ViewerResend v place) (option_map (viewer_at mark scene routes v) seat) a new → Goes net (ViewerResend v place) a new
   resends net v place old a new None stand fit at call =
-      unknown net (ViewerResend v place) old a new stand fit (ap (λ (o : Option (Seat WorldData)). viewer_step m net (ViewerResend v place) v o) at) call
+      unknown net (ViewerResend v place) old a new stand fit (ap (λ (o : Option (Seat Scripted)). viewer_step m net (ViewerResend v place) v o) at) call
   resends net v place old a new (Some x) stand fit at call =
       made net (ViewerResend v place) old mark a new (viewer_resend v x.node place) stand fit refl (resend-step m net v x place at) call
 
-  asks : (net : Network WorldData) (v : ℕ) (old : Seen) (a : Answer) (new : Seen) (seat : Option (Seat WorldData)) → StandFor mark scene routes old net → ShotsFit net → slice_get net.viewers v ≡ seat
+  asks : (net : Network Scripted) (v : ℕ) (old : Seen) (a : Answer) (new : Seen) (seat : Option (Seat Scripted)) → StandFor mark scene routes old net → ShotsFit net → slice_get net.viewers v ≡ seat
       → IsOffering old v (ViewerAsk v) (option_map (viewer_at mark scene routes v) seat) a new → Goes net (ViewerAsk v) a new
   asks net v old a new None stand fit at call =
-      unknown net (ViewerAsk v) old a new stand fit (ap (λ (o : Option (Seat WorldData)). viewer_step m net (ViewerAsk v) v o) at) call
+      unknown net (ViewerAsk v) old a new stand fit (ap (λ (o : Option (Seat Scripted)). viewer_step m net (ViewerAsk v) v o) at) call
   asks net v old a new (Some x) stand fit at call =
       made net (ViewerAsk v) old mark a new (Some (viewer_ask m v x.node)) stand fit refl (ask-step m net v x at) call
 
   -- ---- snapshots
 
-  shot-count : (net : Network WorldData) (old : Seen) → StandFor mark scene routes old net → length old.shots ≡ length net.shots
+  shot-count : (net : Network Scripted) (old : Seen) → StandFor mark scene routes old net → length old.shots ≡ length net.shots
   shot-count net old stand = ap length stand.shots ∙ length-map net.shots (shot_at mark scene)
 
-  shots-fit : (net : Network WorldData) (taken : LawShot WorldData) → ShotsFit net → (taken.boot < 2 ^ 32) × IsTrue ((world_codec scene).fits taken.state) → ShotsFit (with_shot net taken)
+  shots-fit : (net : Network Scripted) (taken : LawShot Scripted) → ShotsFit net → (taken.boot < 2 ^ 32) × HasSnapshot scene taken.state → ShotsFit (with_shot net taken)
   shots-fit net taken fit new n x at = elim (slice_get_push net.shots taken n x at) [
     | inl before ↦ fit n x before
-    | inr last ↦ subst (λ (z : LawShot WorldData). (z.boot < 2 ^ 32) × IsTrue ((world_codec scene).fits z.state)) last.1 new
+    | inr last ↦ subst (λ (z : LawShot Scripted). (z.boot < 2 ^ 32) × HasSnapshot scene z.state) last.1 new
   ]
 
-  saved-in : WorldsFit scene routes → (net : Network WorldData) (v : ℕ) (old : Seen) (a : Answer) (new : Seen) (x : Seat WorldData) (view : View WorldData) → Reached m net → StandFor mark scene routes old net → ShotsFit net
+  saved-in : WorldsFit scene routes → (net : Network Scripted) (v : ℕ) (old : Seen) (a : Answer) (new : Seen) (x : Seat Scripted) (view : View Scripted) → Reached m net → StandFor mark scene routes old net → ShotsFit net
       → slice_get net.viewers v ≡ Some x → x.node.view ≡ view → new ≡ with_shots old new.shots → IsSaving v (viewer_at mark scene routes v x) old.shots view a new.shots → Goes net (ViewerSave v) a new
   saved-in worlds net v old a new x (Spoiled count) reached stand fit at view leaves call =
       goes net net (ViewerSave v) a (Saved (Err save_fault.Spoiled)) new old call.0 (leaves ∙ ap (with_shots old) call.1) (save-spoiled-step m net v x count at view) stand fit
   saved-in worlds net v old a new x (Running w window) reached stand fit at view leaves (inl call) =
-      let taken : LawShot WorldData = record { viewer = v; boot = x.node.boot; state = w } in
+      let taken : LawShot Scripted = record { viewer = v; boot = x.node.boot; state = w } in
       let count : Saved (Ok (length old.shots)) ≡ Saved (Ok (length net.shots)) = ap (λ (n : ℕ). Saved (Ok n)) (shot-count net old stand) in
       let fits = worlds net reached v w window (record { seat = x; is = at; view = view }) in
       let more : StandFor mark scene routes (with_shots old (old.shots ++ shot_at mark scene taken ∷ [])) (with_shot net taken) = record {
@@ -239,26 +239,26 @@ module _ (mark : List ℕ) (scene : SceneView) (routes : List Route) where
   saved-in worlds net v old a new x (Running w window) reached stand fit at view leaves (inr call) =
       goes net net (ViewerSave v) a (Saved (Err save_fault.Memory)) new old call.0 (leaves ∙ ap (with_shots old) call.1) (save-refused-step m net v x w window at view) stand fit
 
-  saves : WorldsFit scene routes → (net : Network WorldData) (v : ℕ) (old : Seen) (a : Answer) (new : Seen) (seat : Option (Seat WorldData)) → Reached m net → StandFor mark scene routes old net → ShotsFit net → slice_get net.viewers v ≡ seat
+  saves : WorldsFit scene routes → (net : Network Scripted) (v : ℕ) (old : Seen) (a : Answer) (new : Seen) (seat : Option (Seat Scripted)) → Reached m net → StandFor mark scene routes old net → ShotsFit net → slice_get net.viewers v ≡ seat
       → IsSaved old v (option_map (viewer_at mark scene routes v) seat) a new → Goes net (ViewerSave v) a new
   saves worlds net v old a new None reached stand fit at call =
-      unknown net (ViewerSave v) old a new stand fit (ap (λ (o : Option (Seat WorldData)). viewer_step m net (ViewerSave v) v o) at) call
+      unknown net (ViewerSave v) old a new stand fit (ap (λ (o : Option (Seat Scripted)). viewer_step m net (ViewerSave v) v o) at) call
   saves worlds net v old a new (Some x) reached stand fit at call = saved-in worlds net v old a new x x.node.view reached stand fit at refl call.0 call.1
 
-  rewound-node : (x : Seat WorldData) (r : Result ℕ SnapFault) (y : ViewerState WorldData) → (rewound_by x (r, y)).node ≡ y
+  rewound-node : (x : Seat Scripted) (r : Result ℕ SnapFault) (y : ViewerState Scripted) → (rewound_by x (r, y)).node ≡ y
   rewound-node x (Ok n) y = refl
   rewound-node x (Err fault) y = refl
 
-  rewinds : (net : Network WorldData) (v n boot : ℕ) (old : Seen) (a : Answer) (new : Seen) (seat : Option (Seat WorldData)) (taken : Option (LawShot WorldData)) → StandFor mark scene routes old net → ShotsFit net
+  rewinds : (net : Network Scripted) (v n boot : ℕ) (old : Seen) (a : Answer) (new : Seen) (seat : Option (Seat Scripted)) (taken : Option (LawShot Scripted)) → StandFor mark scene routes old net → ShotsFit net
       → slice_get net.viewers v ≡ seat → slice_get net.shots n ≡ taken
       → IsRewinding old v boot (option_map (viewer_at mark scene routes v) seat) (option_map (shot_at mark scene) taken) a new → Goes net (ViewerRewind v n boot) a new
   rewinds net v n boot old a new None taken stand fit at shots call =
-      unknown net (ViewerRewind v n boot) old a new stand fit (ap (λ (o : Option (Seat WorldData)). viewer_step m net (ViewerRewind v n boot) v o) at) call
+      unknown net (ViewerRewind v n boot) old a new stand fit (ap (λ (o : Option (Seat Scripted)). viewer_step m net (ViewerRewind v n boot) v o) at) call
   rewinds net v n boot old a new (Some x) None stand fit at shots call =
-      unknown net (ViewerRewind v n boot) old a new stand fit (ap (λ (o : Option (Seat WorldData)). viewer_step m net (ViewerRewind v n boot) v o) at ∙ ap (λ (o : Option (LawShot WorldData)). viewer_rewinds m net v x boot o) shots) call
+      unknown net (ViewerRewind v n boot) old a new stand fit (ap (λ (o : Option (Seat Scripted)). viewer_step m net (ViewerRewind v n boot) v o) at ∙ ap (λ (o : Option (LawShot Scripted)). viewer_rewinds m net v x boot o) shots) call
   rewinds net v n boot old a new (Some x) (Some k) stand fit at shots (inl other) =
       let none : viewer_rewinds m net v x boot (Some k) ≡ (law.NoSuch, net) = cond-false (k.viewer == v) _ _ (ne_eqb k.viewer v other.0) in
-      unknown net (ViewerRewind v n boot) old a new stand fit (ap (λ (o : Option (Seat WorldData)). viewer_step m net (ViewerRewind v n boot) v o) at ∙ ap (λ (o : Option (LawShot WorldData)). viewer_rewinds m net v x boot o) shots ∙ none) other.1
+      unknown net (ViewerRewind v n boot) old a new stand fit (ap (λ (o : Option (Seat Scripted)). viewer_step m net (ViewerRewind v n boot) v o) at ∙ ap (λ (o : Option (LawShot Scripted)). viewer_rewinds m net v x boot o) shots ∙ none) other.1
   rewinds net v n boot old a new (Some x) (Some k) stand fit at shots (inr own) =
       let call = own.1 in
       let result = call.0 in
@@ -269,7 +269,7 @@ module _ (mark : List ℕ) (scene : SceneView) (routes : List Route) where
 
   -- ---- any step
 
-  tie : WorldsFit scene routes → (net : Network WorldData) (old : Seen) (s : Step) (a : Answer) (new : Seen) → Reached m net → StandFor mark scene routes old net → ShotsFit net → IsCall old s a new → Goes net s a new
+  tie : WorldsFit scene routes → (net : Network Scripted) (old : Seen) (s : Step) (a : Answer) (new : Seen) → Reached m net → StandFor mark scene routes old net → ShotsFit net → IsCall old s a new → Goes net s a new
   tie worlds net old (HostClock t) a new reached stand fit call =
       let clocked = subst (λ (v : HostView). IsClocked v.host t call.0 call.1) stand.host call.4 in
       goes net (net_host net call.1) (HostClock t) a (Clocked call.0) new (with_host old call.1) call.2 call.3 (IsClocked-step m net t call.0 call.1 clocked) (host-stands net old call.1 stand) fit
@@ -296,8 +296,8 @@ module _ (mark : List ℕ) (scene : SceneView) (routes : List Route) where
 
   -- ---- all steps
 
-  pub tied : WorldsFit scene routes → (viewers : ℕ) → 1 ≤ viewers → viewers ≤ 16 → (before : List Step) (told : List law.Answer) (net : Network WorldData) → Run m (start m (replicate viewers 1)) before told net → (old : Seen) → StandFor mark scene routes old net → ShotsFit net
-      → (steps : List Step) (answers : List Answer) (new : Seen) → AreCalls old steps answers new → (end : Network WorldData) × Run m net steps (map law_answer answers) end × StandFor mark scene routes new end
+  pub tied : WorldsFit scene routes → (viewers : ℕ) → 1 ≤ viewers → viewers ≤ 16 → (before : List Step) (told : List law.Answer) (net : Network Scripted) → Run m (start m (replicate viewers 1)) before told net → (old : Seen) → StandFor mark scene routes old net → ShotsFit net
+      → (steps : List Step) (answers : List Answer) (new : Seen) → AreCalls old steps answers new → (end : Network Scripted) × Run m net steps (map law_answer answers) end × StandFor mark scene routes new end
   tied worlds viewers some most before told net run old stand fit [] [] new calls = (net, refl, subst (λ (s : Seen). StandFor mark scene routes s net) (sym calls) stand)
   tied worlds viewers some most before told net run old stand fit (s ∷ steps) (a ∷ answers) new calls =
       let reached : Reached m net = Run-reached m viewers before told net some most run in

@@ -1,17 +1,17 @@
 -- What the calls of a rehearsal's nodes make of them, step by step.
 use Rattle.std.specs.Prelude.{◌≡◌, ◌≢◌, ◌⊎◌, ◌<◌, ◌^◌, ℕ, suc, ◌++◌, List, [], ◌∷◌, length}
-use Rattle.std.specs.Prelude.{slice_get, slice_set, IsTrue, Option, Some, None, Result, Ok, Err}
+use Rattle.std.specs.Prelude.{slice_get, slice_set, Option, Some, None, Result, Ok, Err}
 use Rattle.share_wire.specs.Datagram.{datagram}
 use Rattle.share_wire.specs.Decoding.{decoded}
 use Rattle.share_wire.specs.declared.message.Body.{Body}
 use Rattle.share_wire.specs.declared.message.Message.{Message}
-use Rattle.cascade_core.specs.declared.world.WorldData.{WorldData}
+use Rattle.cascade_core.specs.Course.{Scripted}
 use Rattle.cascade_core.specs.Apply.{opening}
 use Rattle.cascade_core.specs.Held.{StageView}
 use Rattle.snapshot_core.specs.declared.fault.SaveFault.TheVariants as save_fault
 use Rattle.snapshot_core.specs.declared.fault.SnapFault.{SnapFault}
 use Rattle.snapshot_core.specs.Shot.{shot}
-use Rattle.snapshot_core.specs.WorldCodec.{world_codec}
+use Rattle.snapshot_core.specs.Loading.{HasSnapshot}
 use Rattle.share_law.specs.declared.fault.NumberFault.{NumberFault}
 use Rattle.share_law.specs.declared.fault.HostFault.{HostFault}
 use Rattle.share_law.specs.declared.fault.TakeFault.{TakeFault}
@@ -69,7 +69,7 @@ viewers_from mark n (stage ∷ stages) =
       who = n;
       scene = stage.scene;
       routes = stage.routes;
-      state = law.begun 1 (opening stage.scene);
+      state = law.begun 1 (opening stage.scene stage.routes);
     }
     ∷ viewers_from mark (suc n) stages
 
@@ -120,14 +120,14 @@ abbrev pub IsGiven : Seen → (v : ℕ) → Option ViewerView → Option (List �
 IsGiven s v None bytes a new = IsUnknown s a new
 IsGiven s v (Some x) None a new = IsUnknown s a new
 IsGiven s v (Some x) (Some bytes) a new =
-    (result : Result Taken TakeFault) × (y : law.ViewerState WorldData)
+    (result : Result Taken TakeFault) × (y : law.ViewerState Scripted)
     × (a ≡ ViewerTook result) × (new ≡ with_viewer s v (with_state x y))
     × IsTakeOf (machine_of x) x.mark x.who x.state x.state.view (decoded bytes) result y
 
 -- ---- snapshots
 
 -- of a viewer that runs or is spoiled
-abbrev pub IsSaving : (number : ℕ) → ViewerView → List Shot → View WorldData → Answer → List Shot
+abbrev pub IsSaving : (number : ℕ) → ViewerView → List Shot → View Scripted → Answer → List Shot
     → Type 0
 IsSaving number x old (Spoiled count) a new = (a ≡ Saved (Err save_fault.Spoiled)) × (new ≡ old)
 IsSaving number x old (Running w window) a new =
@@ -143,10 +143,10 @@ IsSaved s v (Some x) a new =
 
 -- bytes are a snapshot of this scene's, so a rewind by them is the law's
 abbrev pub IsLawful : ViewerView → (boot : ℕ) → (bytes : List ℕ) → Result ℕ SnapFault
-    → law.ViewerState WorldData → Type 0
+    → law.ViewerState Scripted → Type 0
 IsLawful x boot bytes result y =
-    (from : law.Shot WorldData) → from.boot < 2 ^ 32
-    → IsTrue ((world_codec x.scene).fits from.state)
+    (from : law.Shot Scripted) → from.boot < 2 ^ 32
+    → HasSnapshot x.scene from.state
     → bytes ≡ shot x.mark from.boot x.scene from.state
     → IsRewind (machine_of x) x.state from boot result y
 
@@ -157,7 +157,7 @@ IsRewinding s v boot (Some x) None a new = IsUnknown s a new
 IsRewinding s v boot (Some x) (Some kept) a new =
     ((kept.viewer ≢ v) × IsUnknown s a new)
     ⊎ ((kept.viewer ≡ v)
-    × ((result : Result ℕ SnapFault) × (y : law.ViewerState WorldData)
+    × ((result : Result ℕ SnapFault) × (y : law.ViewerState Scripted)
     × (a ≡ Rewound result) × (new ≡ with_viewer s v (with_state x y))
     × IsRewound x boot kept.bytes result y × IsLawful x boot kept.bytes result y))
 

@@ -10,7 +10,7 @@ use Rattle.share_law.specs.declared.reply.Taken.{Taken}
 use Rattle.share_law.specs.declared.reply.Taken.TheVariants as taken
 use Rattle.share_law.specs.Viewer.{View, Spoiled, Running}
 use Rattle.cascade_core.specs.Texts.{scene_text, trace_text}
-use Rattle.cascade_core.specs.declared.world.WorldData.{WorldData}
+use Rattle.cascade_core.specs.Course.{Scripted}
 use Rattle.share_core.specs.Viewer.{ViewerView}
 use Rattle.share_rehearsal.specs.declared.answer.Answer.{Answer}
 use Rattle.share_rehearsal.specs.declared.answer.Answer.TheVariants as answer
@@ -68,12 +68,13 @@ lines_from n (a ∷ answers) = line_text n a ++ lines_from (suc n) answers
 -- ---- the ending
 
 -- a viewer that runs, with its trace and its scene, or one that is spoiled
-abbrev pub ending_in : (number : ℕ) → ViewerView → View WorldData → List ℕ
+abbrev pub ending_in : (number : ℕ) → ViewerView → View Scripted → List ℕ
 ending_in number v (Running w window) =
-    codes "viewer " ++ decimal number ++ codes " at " ++ decimal w.applied
+    codes "viewer " ++ decimal number ++ codes " at " ++ decimal w.world.applied
     ++ codes " boot " ++ decimal v.state.boot ++ 10 ∷ trace_text v.scene w
     ++ scene_text v.scene v.routes w
-ending_in number v (Spoiled count) = codes "viewer " ++ decimal number ++ codes " spoiled" ++ 10 ∷ []
+ending_in number v (Spoiled count) =
+    codes "viewer " ++ decimal number ++ codes " spoiled" ++ 10 ∷ []
 
 unfoldable pub ending_text : (number : ℕ) → ViewerView → List ℕ
 ending_text number v = ending_in number v v.state.view

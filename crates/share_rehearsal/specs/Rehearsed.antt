@@ -1,6 +1,6 @@
--- A rehearsal is a run of the law's network: its answers are the network's, and the real nodes stand
--- where the network's do.
-use Rattle.std.specs.Prelude.{◌≡◌, ℕ, IsTrue, List, [], ◌∷◌, ◌++◌, length, map, replicate, slice_get, Option}
+-- A rehearsal is a run of the law's network: its answers are the network's, and the real nodes
+-- stand where the network's do.
+use Rattle.std.specs.Prelude.{◌≡◌, ℕ, List, [], ◌∷◌, ◌++◌, length, map, replicate, slice_get, Option}
 use Rattle.std.specs.Prelude.{Ok}
 use Rattle.std.specs.Option.{option_map}
 use Rattle.x3d_values.specs.Stamp.{Stamp}
@@ -8,10 +8,10 @@ use Rattle.scene_core.specs.declared.scene.Route.{Route}
 use Rattle.scene_core.specs.Scene.{SceneView}
 use Rattle.cascade_core.specs.Apply.{opening}
 use Rattle.cascade_core.specs.Held.{StageView, Running}
-use Rattle.cascade_core.specs.declared.world.WorldData.{WorldData}
+use Rattle.cascade_core.specs.Course.{Scripted}
 use Rattle.share_wire.specs.Decoding.{decoded}
 use Rattle.snapshot_core.specs.Shot.{shot}
-use Rattle.snapshot_core.specs.WorldCodec.{world_codec}
+use Rattle.snapshot_core.specs.Loading.{HasSnapshot}
 use Rattle.share_law.specs.declared.step.Step.{Step}
 use Rattle.share_law.specs.Cascade.{cascade}
 use Rattle.share_law.specs.Network as law
@@ -40,19 +40,19 @@ law_answer (Rewound r) = law.Rewound r
 law_answer NoSuch = law.NoSuch
 
 -- the real viewer of a seat, by its number
-abbrev pub viewer_at : (mark : List ℕ) → SceneView → List Route → (v : ℕ) → Seat WorldData
+abbrev pub viewer_at : (mark : List ℕ) → SceneView → List Route → (v : ℕ) → Seat Scripted
     → ViewerView
 viewer_at mark scene routes v x =
     record { mark = mark; who = v; scene = scene; routes = routes; state = x.node }
 
 -- the bytes of a snapshot
-abbrev pub shot_at : (mark : List ℕ) → SceneView → law_viewer.Shot WorldData → Shot
+abbrev pub shot_at : (mark : List ℕ) → SceneView → law_viewer.Shot Scripted → Shot
 shot_at mark scene x =
     record { viewer = x.viewer; bytes = shot mark x.boot scene x.state }
 
 -- real nodes, packets and snapshots stand where those of a network do
 pub record StandFor (mark : List ℕ) (scene : SceneView) (routes : List Route) (s : Seen)
-    (net : Network WorldData) : Type 0 where
+    (net : Network Scripted) : Type 0 where
   pub host : s.host ≡ record { mark = mark; host = net.host }
   pub viewers : (v : ℕ) → slice_get s.viewers v
       ≡ option_map (viewer_at mark scene routes v) (slice_get net.viewers v)
@@ -62,15 +62,15 @@ pub record StandFor (mark : List ℕ) (scene : SceneView) (routes : List Route) 
 -- each world that a viewer runs with fits a snapshot, whatever happened before
 abbrev pub WorldsFit : SceneView → List Route → Type 0
 WorldsFit scene routes =
-    (net : Network WorldData) → Reached (cascade scene routes) net
-    → (v : ℕ) (w : WorldData) (window : List (Option Stamp)) → IsRunning net v w window
-    → IsTrue ((world_codec scene).fits w)
+    (net : Network Scripted) → Reached (cascade scene routes) net
+    → (v : ℕ) (w : Scripted) (window : List (Option Stamp)) → IsRunning net v w window
+    → HasSnapshot scene w
 
--- so many viewers of a scene, in their first boots, and their host may be left so by the steps, with
--- these answers
+-- so many viewers of a scene, in their first boots, and their host may be left so by the steps,
+-- with these answers
 pub record IsRehearsal (mark : List ℕ) (scene : SceneView) (routes : List Route) (viewers : ℕ)
     (steps : List Step) (answers : List Answer) (new : Seen) : Type 0 where
-  pub net : Network WorldData
+  pub net : Network Scripted
   pub run : Run (cascade scene routes) (start (cascade scene routes) (replicate viewers 1)) steps
       (map law_answer answers) net
   pub stand : StandFor mark scene routes new net
@@ -85,7 +85,8 @@ AreOf scene routes (stage ∷ stages) =
 -- stages that have had no input
 abbrev pub AreFresh : List StageView → Type 0
 AreFresh [] = Unit {0}
-AreFresh (stage ∷ stages) = (stage.held ≡ Running (opening stage.scene)) × AreFresh stages
+AreFresh (stage ∷ stages) =
+    (stage.held ≡ Running (opening stage.scene stage.routes)) × AreFresh stages
 
 -- from these nodes the steps were gone through, and their lines appended
 pub record IsPlayed (old : Seen) (steps : List Step) (before after : List ℕ) (new : Seen) :

@@ -7,6 +7,7 @@ ghost use Rattle.share_rehearsal.specs.Log.{ending_text, endings_from};
 
 use crate::log::{push_number, push_word};
 use cascade_core::TextFault;
+use script_host::Behaviour;
 use share_core::Viewer;
 use std::alloc::AllocError;
 
@@ -45,7 +46,7 @@ fn push_boot(boot: u32, out: &mut Vec<u8>) -> Result<(), AllocError>
 }
 
 /// Appends the trace and the scene of a viewer that runs; on a refusal perhaps a part of them.
-fn push_texts<B>(viewer: &Viewer<B>, out: &mut Vec<u8>) -> Result<(), AllocError>
+fn push_texts<B: Behaviour>(viewer: &Viewer<B>, out: &mut Vec<u8>) -> Result<(), AllocError>
     ensures { IfRunning viewer.now.state.view (λ w. OnOk result (out.new.items
         ≡ out.old.items ++ trace_text viewer.now.scene w
         ++ scene_text viewer.now.scene viewer.now.routes w)) }
@@ -55,7 +56,11 @@ fn push_texts<B>(viewer: &Viewer<B>, out: &mut Vec<u8>) -> Result<(), AllocError
 }
 
 /// The same, behind a line on the viewer.
-fn push_running<B>(number: usize, viewer: &Viewer<B>, out: &mut Vec<u8>) -> Result<(), AllocError>
+fn push_running<B: Behaviour>(
+    number: usize,
+    viewer: &Viewer<B>,
+    out: &mut Vec<u8>,
+) -> Result<(), AllocError>
     requires { is_spoiled viewer.now.state.view ≡ false }
     ensures { OnOk result (out.new.items ≡ out.old.items ++ ending_text number viewer.now) }
 {
@@ -65,7 +70,11 @@ fn push_running<B>(number: usize, viewer: &Viewer<B>, out: &mut Vec<u8>) -> Resu
 }
 
 /// Appends what a viewer is left with; on a refusal perhaps a part of it.
-fn push_ending<B>(number: usize, viewer: &Viewer<B>, out: &mut Vec<u8>) -> Result<(), AllocError>
+fn push_ending<B: Behaviour>(
+    number: usize,
+    viewer: &Viewer<B>,
+    out: &mut Vec<u8>,
+) -> Result<(), AllocError>
     ensures { OnOk result (out.new.items ≡ out.old.items ++ ending_text number viewer.now) }
 {
     if viewer.spoiled() {
@@ -75,7 +84,10 @@ fn push_ending<B>(number: usize, viewer: &Viewer<B>, out: &mut Vec<u8>) -> Resul
 }
 
 /// The same of each viewer in turn.
-pub(crate) fn push_endings<B>(viewers: &[Viewer<B>], out: &mut Vec<u8>) -> Result<(), AllocError>
+pub(crate) fn push_endings<B: Behaviour>(
+    viewers: &[Viewer<B>],
+    out: &mut Vec<u8>,
+) -> Result<(), AllocError>
     ensures { OnOk result (out.new.items ≡ out.old.items ++ endings_from 0 viewers.now) }
 {
     for (number, viewer) in viewers.iter().enumerate() {

@@ -12,6 +12,7 @@ ghost use Rattle.share_rehearsal.specs.Calls.{IsCall, IsSaving, IsSent, seen_of}
 
 use crate::answer::Answer;
 use crate::made::Made;
+use script_host::Behaviour;
 use share_core::{Host, Viewer};
 use share_law::Step;
 use share_wire::Packet;
@@ -28,7 +29,7 @@ pub struct Shot {
 
 /// The nodes of a rehearsal. Packets and snapshots have their places as numbers.
 #[derive(Drop)]
-pub(crate) struct Nodes<B> {
+pub(crate) struct Nodes<B: Behaviour> {
     pub(crate) host: Host,
     pub(crate) viewers: Vec<Viewer<B>>,
     pub(crate) packets: Vec<Made>,
@@ -68,7 +69,7 @@ fn keep(viewer: u32, bytes: Vec<u8>, shots: &mut Vec<Shot>) -> Result<Answer, Al
 }
 
 /// A viewer takes a snapshot.
-fn save<B>(
+fn save<B: Behaviour>(
     alloc: Global,
     number: u32,
     viewer: &Viewer<B>,
@@ -85,30 +86,36 @@ fn save<B>(
     }
 }
 
-impl<B> Nodes<B> {
+impl<B: Behaviour> Nodes<B> {
     fn clock(&mut self, time: i64) -> Answer
         ensures { IsCall
-            (seen_of self.old.host self.old.viewers.items self.old.packets.items self.old.shots.items)
+            (seen_of self.old.host self.old.viewers.items
+            self.old.packets.items self.old.shots.items)
             (HostClock time) result
-            (seen_of self.new.host self.new.viewers.items self.new.packets.items self.new.shots.items) }
+            (seen_of self.new.host self.new.viewers.items
+            self.new.packets.items self.new.shots.items) }
     {
         Answer::Clocked(self.host.clock(time))
     }
 
     fn packet(&mut self, input: u32) -> Result<Answer, AllocError>
         ensures { IfOk result (λ a. IsCall
-            (seen_of self.old.host self.old.viewers.items self.old.packets.items self.old.shots.items)
+            (seen_of self.old.host self.old.viewers.items
+            self.old.packets.items self.old.shots.items)
             (HostPacket input) a
-            (seen_of self.new.host self.new.viewers.items self.new.packets.items self.new.shots.items)) }
+            (seen_of self.new.host self.new.viewers.items
+            self.new.packets.items self.new.shots.items)) }
     {
         send_any(self.host.packet(input), &mut self.packets)
     }
 
     fn ack(&mut self, viewer: u32) -> Result<Answer, AllocError>
         ensures { IfOk result (λ a. IsCall
-            (seen_of self.old.host self.old.viewers.items self.old.packets.items self.old.shots.items)
+            (seen_of self.old.host self.old.viewers.items
+            self.old.packets.items self.old.shots.items)
             (HostAck viewer) a
-            (seen_of self.new.host self.new.viewers.items self.new.packets.items self.new.shots.items)) }
+            (seen_of self.new.host self.new.viewers.items
+            self.new.packets.items self.new.shots.items)) }
     {
         if viewer >= u32::from(self.host.viewers()) {
             return Ok(Answer::NoSuch);
@@ -118,9 +125,11 @@ impl<B> Nodes<B> {
 
     fn give_host(&mut self, packet: u32) -> Answer
         ensures { IsCall
-            (seen_of self.old.host self.old.viewers.items self.old.packets.items self.old.shots.items)
+            (seen_of self.old.host self.old.viewers.items
+            self.old.packets.items self.old.shots.items)
             (HostTake packet) result
-            (seen_of self.new.host self.new.viewers.items self.new.packets.items self.new.shots.items) }
+            (seen_of self.new.host self.new.viewers.items
+            self.new.packets.items self.new.shots.items) }
     {
         match self.packets.get(packet as usize) {
             Some(packet) => Answer::HostTook(self.host.take(packet.bytes())),
@@ -130,9 +139,11 @@ impl<B> Nodes<B> {
 
     fn offer(&mut self, viewer: u32, point: Point) -> Answer
         ensures { IsCall
-            (seen_of self.old.host self.old.viewers.items self.old.packets.items self.old.shots.items)
+            (seen_of self.old.host self.old.viewers.items
+            self.old.packets.items self.old.shots.items)
             (ViewerOffer viewer point) result
-            (seen_of self.new.host self.new.viewers.items self.new.packets.items self.new.shots.items) }
+            (seen_of self.new.host self.new.viewers.items
+            self.new.packets.items self.new.shots.items) }
     {
         match self.viewers.get_mut(viewer as usize) {
             Some(viewer) => Answer::Offered(viewer.offer(point)),
@@ -142,9 +153,11 @@ impl<B> Nodes<B> {
 
     fn resend(&mut self, viewer: u32, place: u32) -> Result<Answer, AllocError>
         ensures { IfOk result (λ a. IsCall
-            (seen_of self.old.host self.old.viewers.items self.old.packets.items self.old.shots.items)
+            (seen_of self.old.host self.old.viewers.items
+            self.old.packets.items self.old.shots.items)
             (ViewerResend viewer place) a
-            (seen_of self.new.host self.new.viewers.items self.new.packets.items self.new.shots.items)) }
+            (seen_of self.new.host self.new.viewers.items
+            self.new.packets.items self.new.shots.items)) }
     {
         match self.viewers.get(viewer as usize) {
             Some(viewer) => send_any(viewer.resend(place), &mut self.packets),
@@ -154,9 +167,11 @@ impl<B> Nodes<B> {
 
     fn ask(&mut self, viewer: u32) -> Result<Answer, AllocError>
         ensures { IfOk result (λ a. IsCall
-            (seen_of self.old.host self.old.viewers.items self.old.packets.items self.old.shots.items)
+            (seen_of self.old.host self.old.viewers.items
+            self.old.packets.items self.old.shots.items)
             (ViewerAsk viewer) a
-            (seen_of self.new.host self.new.viewers.items self.new.packets.items self.new.shots.items)) }
+            (seen_of self.new.host self.new.viewers.items
+            self.new.packets.items self.new.shots.items)) }
     {
         match self.viewers.get(viewer as usize) {
             Some(viewer) => send(viewer.ask(), &mut self.packets),
@@ -166,9 +181,11 @@ impl<B> Nodes<B> {
 
     fn give(&mut self, viewer: u32, packet: u32) -> Answer
         ensures { IsCall
-            (seen_of self.old.host self.old.viewers.items self.old.packets.items self.old.shots.items)
+            (seen_of self.old.host self.old.viewers.items
+            self.old.packets.items self.old.shots.items)
             (ViewerTake viewer packet) result
-            (seen_of self.new.host self.new.viewers.items self.new.packets.items self.new.shots.items) }
+            (seen_of self.new.host self.new.viewers.items
+            self.new.packets.items self.new.shots.items) }
     {
         let Some(packet) = self.packets.get(packet as usize) else {
             return Answer::NoSuch;
@@ -181,9 +198,11 @@ impl<B> Nodes<B> {
 
     fn save(&mut self, alloc: Global, viewer: u32) -> Result<Answer, AllocError>
         ensures { IfOk result (λ a. IsCall
-            (seen_of self.old.host self.old.viewers.items self.old.packets.items self.old.shots.items)
+            (seen_of self.old.host self.old.viewers.items
+            self.old.packets.items self.old.shots.items)
             (ViewerSave viewer) a
-            (seen_of self.new.host self.new.viewers.items self.new.packets.items self.new.shots.items)) }
+            (seen_of self.new.host self.new.viewers.items
+            self.new.packets.items self.new.shots.items)) }
     {
         match self.viewers.get(viewer as usize) {
             Some(node) => save(alloc, viewer, node, &mut self.shots),
@@ -193,9 +212,11 @@ impl<B> Nodes<B> {
 
     fn rewind(&mut self, viewer: u32, snapshot: u32, boot: u32) -> Answer
         ensures { IsCall
-            (seen_of self.old.host self.old.viewers.items self.old.packets.items self.old.shots.items)
+            (seen_of self.old.host self.old.viewers.items
+            self.old.packets.items self.old.shots.items)
             (ViewerRewind viewer snapshot boot) result
-            (seen_of self.new.host self.new.viewers.items self.new.packets.items self.new.shots.items) }
+            (seen_of self.new.host self.new.viewers.items
+            self.new.packets.items self.new.shots.items) }
     {
         let Some(shot) = self.shots.get(snapshot as usize) else {
             return Answer::NoSuch;
@@ -213,9 +234,11 @@ impl<B> Nodes<B> {
     /// that of snapshots.
     pub(crate) fn go(&mut self, alloc: Global, step: Step) -> Result<Answer, AllocError>
         ensures { IfOk result (λ a. IsCall
-            (seen_of self.old.host self.old.viewers.items self.old.packets.items self.old.shots.items)
+            (seen_of self.old.host self.old.viewers.items
+            self.old.packets.items self.old.shots.items)
             step a
-            (seen_of self.new.host self.new.viewers.items self.new.packets.items self.new.shots.items)) }
+            (seen_of self.new.host self.new.viewers.items
+            self.new.packets.items self.new.shots.items)) }
     {
         match step {
             Step::HostClock { time } => Ok(self.clock(time)),

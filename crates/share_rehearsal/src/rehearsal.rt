@@ -9,6 +9,7 @@ use crate::fault::RehearseFault;
 use crate::nodes::Nodes;
 use crate::play::play;
 use cascade_core::Stage;
+use script_host::Behaviour;
 use share_core::{Host, Viewer};
 use share_law::Step;
 use std::alloc::{AllocError, Global};
@@ -18,13 +19,13 @@ const MOST: usize = 16;
 
 /// The host and the viewers as the steps left them.
 #[derive(Drop)]
-pub struct Rehearsal<B> {
+pub struct Rehearsal<B: Behaviour> {
     pub host: Host,
     pub viewers: Vec<Viewer<B>>,
 }
 
 /// A viewer for each stage, numbered in their order, as its boot 1.
-pub fn viewers_of<B: Drop>(
+pub fn viewers_of<B: Behaviour>(
     alloc: Global,
     stages: Vec<Stage<B>>,
     mark: [u8; 32],
@@ -42,16 +43,18 @@ pub fn viewers_of<B: Drop>(
 }
 
 /// Goes through the steps, and appends their log; on a refusal the buffer is as it was.
-fn log_all<B>(
+fn log_all<B: Behaviour>(
     alloc: Global,
     nodes: &mut Nodes<B>,
     steps: &[Step],
     out: &mut Vec<u8>,
 ) -> Result<(), AllocError>
     ensures ok { OnOk result (IsLogged
-        (seen_of nodes.old.host nodes.old.viewers.items nodes.old.packets.items nodes.old.shots.items)
+        (seen_of nodes.old.host nodes.old.viewers.items
+        nodes.old.packets.items nodes.old.shots.items)
         steps.now out.old.items out.new.items
-        (seen_of nodes.new.host nodes.new.viewers.items nodes.new.packets.items nodes.new.shots.items)) }
+        (seen_of nodes.new.host nodes.new.viewers.items
+        nodes.new.packets.items nodes.new.shots.items)) }
     ensures err { OnErr result (out.new.items ≡ out.old.items) }
 {
     let mut log = Vec::new(alloc);
@@ -61,7 +64,7 @@ fn log_all<B>(
 }
 
 /// What is left of the nodes.
-fn ended<B: Drop>(nodes: Nodes<B>) -> Rehearsal<B>
+fn ended<B: Behaviour>(nodes: Nodes<B>) -> Rehearsal<B>
     ensures host { result.host ≡ nodes.host }
     ensures viewers { result.viewers.items ≡ nodes.viewers.items }
 {
@@ -75,7 +78,7 @@ fn ended<B: Drop>(nodes: Nodes<B>) -> Rehearsal<B>
 }
 
 /// A host and its viewers before the first step.
-fn begun<B: Drop>(
+fn begun<B: Behaviour>(
     alloc: Global,
     stages: Vec<Stage<B>>,
     mark: [u8; 32],
@@ -103,10 +106,10 @@ fn begun<B: Drop>(
 /// scene, or a line that it is spoiled.
 ///
 /// A refusal of memory inside a step is the step's answer, and the steps go on. The rehearsal is
-/// refused in this order: `NoViewers`; `TooManyViewers`, more than 16 stages; `Memory`, where it was
-/// refused to the log, or to the lists of viewers, packets and snapshots. The buffer is then as it
-/// was.
-pub fn rehearse<B: Drop>(
+/// refused in this order: `NoViewers`; `TooManyViewers`, more than 16 stages; `Memory`, where it
+/// was refused to the log, or to the lists of viewers, packets and snapshots. The buffer is then as
+/// it was.
+pub fn rehearse<B: Behaviour>(
     alloc: Global,
     stages: Vec<Stage<B>>,
     mark: [u8; 32],

@@ -3,7 +3,7 @@ use Rattle.std.proofs.Common.{◌≡◌, ℕ, ◌+◌, ◌≤◌, List, [], ◌�
 use Rattle.std.specs.Prelude.{Bool, true, false, Option, Result, Err, IfOk, is_ok}
 use Rattle.x3d_values.specs.declared.pointing.Point.{Point}
 use Rattle.std.proofs.lemmas.List.{map-append}
-use Rattle.cascade_core.specs.declared.world.WorldData.{WorldData}
+use Rattle.cascade_core.specs.Course.{Scripted}
 use Rattle.share_law.specs.Machine.{Machine}
 use Rattle.share_law.specs.Viewer.{View, Running, Spoiled, ViewerState}
 use Rattle.share_core.specs.Viewer.{IfRunning, ViewerView, machine_of, with_state}
@@ -22,7 +22,7 @@ one_more_taken m mark who x [] d mid y same t = (y, rw (← same) t, refl)
 one_more_taken m mark who x (e ∷ ds) d mid y before t = (before.0, before.1, one_more_taken m mark who before.0 ds d mid y before.2 t)
 
 -- so many datagrams at most were taken
-pub record TakesSoFar (v : ViewerView) (a b : Option (List Traffic)) (new : ViewerState WorldData) (n : ℕ) : Type 0 where
+pub record TakesSoFar (v : ViewerView) (a b : Option (List Traffic)) (new : ViewerState Scripted) (n : ℕ) : Type 0 where
   pub came : List Datagram
   pub taken : AreTaken (machine_of v) v.mark v.who v.state came new
   pub count : length came ≡ n
@@ -32,7 +32,7 @@ pub takes_none : (v : ViewerView) (a : Option (List Traffic)) → TakesSoFar v a
 takes_none v a = record { came = []; taken = refl; count = refl; told = grows_none a }
 
 -- what came was taken, and then this was told
-pub takes_end : (v : ViewerView) (all : Bool) (a b c : Option (List Traffic)) (new : ViewerState WorldData) (n : ℕ) (rest : List Traffic)
+pub takes_end : (v : ViewerView) (all : Bool) (a b c : Option (List Traffic)) (new : ViewerState Scripted) (n : ℕ) (rest : List Traffic)
     → TakesSoFar v a b new n → n ≤ 64 → IsEnd all n rest → Grows b c rest → Takes (machine_of v) v.mark v.who all a c v.state new
 takes_end v all a b c new n rest t few end grows = record {
   came = t.came;
@@ -44,12 +44,12 @@ takes_end v all a b c new n rest t few end grows = record {
 }
 
 -- 64 came, or one was refused memory
-pub takes_all : (v : ViewerView) (all : Bool) (a b : Option (List Traffic)) (new : ViewerState WorldData) (n : ℕ)
+pub takes_all : (v : ViewerView) (all : Bool) (a b : Option (List Traffic)) (new : ViewerState Scripted) (n : ℕ)
     → TakesSoFar v a b new n → n ≤ 64 → IsEnd all n [] → Takes (machine_of v) v.mark v.who all a b v.state new
 takes_all v all a b new n t few end = takes_end v all a b b new n [] t few end (grows_none b)
 
 -- one more, by a viewer that came of this one
-pub takes_more : (v x : ViewerView) (a b c : Option (List Traffic)) (d : Datagram) (new : ViewerState WorldData) (n : ℕ)
+pub takes_more : (v x : ViewerView) (a b c : Option (List Traffic)) (d : Datagram) (new : ViewerState Scripted) (n : ℕ)
     → x ≡ with_state v x.state → TakesSoFar v a b x.state n → Grows b c (Received d ∷ []) → IsTaking (machine_of x) x.mark x.who x.state d.bytes new → TakesSoFar v a c new (n + 1)
 takes_more v x a b c d new n same t grows took = record {
   came = t.came ++ d ∷ [];
@@ -61,7 +61,7 @@ takes_more v x a b c d new n same t grows took = record {
 -- ---- a whole turn
 
 -- it ended early, before anything was sent
-pub turn_stopped : (v begun : ViewerView) (host : ℕ) (point : Option Point) (offered : Bool) (a b : Option (List Traffic)) (fault : TurnFault) (new : ViewerState WorldData)
+pub turn_stopped : (v begun : ViewerView) (host : ℕ) (point : Option Point) (offered : Bool) (a b : Option (List Traffic)) (fault : TurnFault) (new : ViewerState Scripted)
     → begun ≡ with_state v begun.state → IsOffered v.state point offered begun.state → Takes (machine_of begun) begun.mark begun.who false a b begun.state new
     → IsViewerTurn (machine_of v) v.mark v.who host point a b v.state (Err fault) new
 turn_stopped v begun host point offered a b fault new same offers takes =
@@ -106,6 +106,6 @@ turn_sent v begun taken host point offered a b c result same offers then takes s
       told = grows_then a b c (received t.came ++ t.rest) (sent_to host s.sent) t.told s.told;
     }
 
-pub while_running : (view : View WorldData) (P : Type 0) → P → IfRunning view (λ w. P)
+pub while_running : (view : View Scripted) (P : Type 0) → P → IfRunning view (λ w. P)
 while_running (Running w window) P p = p
 while_running (Spoiled count) P p = tt

@@ -2,7 +2,7 @@
 use Rattle.std.proofs.Common.{◌≡◌, ℕ, suc, ◌+◌, ◌<◌, Bool, List, refl, ap, subst, arith}
 use Rattle.std.specs.Prelude.{Option, Result, Ok, Err, slice_get}
 use Rattle.x3d_values.specs.declared.pointing.Point.{Point}
-use Rattle.cascade_core.specs.declared.world.WorldData.{WorldData}
+use Rattle.cascade_core.specs.Course.{Scripted}
 use Rattle.share_law.specs.Viewer.{View, Running, Spoiled}
 use Rattle.share_core.specs.Viewer.{IfRunning, IfSpoiled, ViewerView, machine_of, with_state}
 use Rattle.share_port.specs.declared.traffic.Traffic.{Traffic}
@@ -11,7 +11,7 @@ use Rattle.share_turns.specs.declared.fault.TurnFault.TheVariants as turn_fault
 use Rattle.share_turns.specs.ViewerTurn.{IsViewerTurn}
 use Rattle.share_turns.specs.Views.{IsTurnOf, ViewerTurns, applied_by, one_more_if}
 
-if_spoiled : (view : View WorldData) (P Q : Type 0) → (P → Q) → IfSpoiled view P → IfSpoiled view Q
+if_spoiled : (view : View Scripted) (P Q : Type 0) → (P → Q) → IfSpoiled view P → IfSpoiled view Q
 if_spoiled (Running w window) P Q f p = tt
 if_spoiled (Spoiled count) P Q f p = f p
 

@@ -7,7 +7,7 @@ use Rattle.x3d_values.specs.declared.pointing.Point.{Point}
 use Rattle.x3d_values.specs.declared.stamped.Event.{Event}
 use Rattle.x3d_values.specs.declared.stamped.Event.TheVariants.{Clock, Pointer}
 use Rattle.x3d_values.specs.Stamp.{Stamp}
-use Rattle.cascade_core.specs.declared.world.WorldData.{WorldData}
+use Rattle.cascade_core.specs.Course.{Scripted}
 use Rattle.share_law.specs.Host.{HostState}
 use Rattle.share_law.specs.Viewer.{ViewerState, point_of}
 use Rattle.share_core.specs.Viewer.{ViewerView, with_state}
@@ -58,7 +58,7 @@ pub record IsSeatTurn {P : Type 0} (ways : Ways P) (step : Option Stamp) (host w
   pub port : P
   pub is_viewer : slice_get old.viewers who ≡ Some viewer
   pub is_port : slice_get old.ports who ≡ Some port
-  pub left : ViewerState WorldData
+  pub left : ViewerState Scripted
   pub left_port : P
   pub turn : IsTurnOf viewer host (offer_of step who) (ways.told port) (ways.told left_port)
       result left

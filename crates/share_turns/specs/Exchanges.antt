@@ -21,8 +21,8 @@ traffic_of e = Received e.came ∷ sent_to e.came.peer e.sent
 abbrev pub all_traffic : List Exchange → List Traffic
 all_traffic es = flat_map traffic_of es
 
--- what a port tells at the end of what came: where all was taken, that nothing more came, or nothing
--- where 64 datagrams came; where a turn ended before that, nothing
+-- what a port tells at the end of what came: where all was taken, that nothing more came, or
+-- nothing where 64 datagrams came; where a turn ended before that, nothing
 abbrev pub IsEnd : (all : Bool) → (came : ℕ) → List Traffic → Type 0
 IsEnd true came rest = (rest ≡ Nothing ∷ []) ⊎ ((rest ≡ []) × (came ≡ 64))
 IsEnd false came rest = rest ≡ []

@@ -5,7 +5,7 @@ use Rattle.x3d_values.specs.declared.pointing.Point.{Point}
 use Rattle.x3d_values.specs.Stamp.{Stamp}
 use Rattle.cascade_core.specs.declared.fault.TextFault.{TextFault}
 use Rattle.cascade_core.specs.declared.fault.TextFault.TheVariants as text_fault
-use Rattle.cascade_core.specs.declared.world.WorldData.{WorldData}
+use Rattle.cascade_core.specs.Course.{Scripted}
 use Rattle.cascade_core.specs.Texts.{scene_text, trace_text}
 use Rattle.share_law.specs.Viewer.{View, Running, ViewerState, applied_in}
 use Rattle.share_core.specs.Viewer.{IfRunning, IfSpoiled, ViewerView, machine_of, with_state}
@@ -22,13 +22,13 @@ use Rattle.share_turns.specs.ViewerTurn.{IsViewerTurn}
 -- a turn of a viewer that leaves it with this state; a spoiled one does nothing
 pub record IsTurnOf (v : ViewerView) (host : ℕ) (point : Option Point)
     (told_before told_after : Option (List Traffic)) (result : Result Bool TurnFault)
-    (new : ViewerState WorldData) : Type 0 where
+    (new : ViewerState Scripted) : Type 0 where
   pub spoiled : IfSpoiled v.state.view ((result ≡ Err Spoiled) × (new ≡ v.state)
       × (told_after ≡ told_before))
   pub turn : IfRunning v.state.view (λ w. IsViewerTurn (machine_of v) v.mark v.who host point
       told_before told_after v.state result new)
 
-abbrev pub applied_by : ViewerView → ViewerState WorldData → ℕ
+abbrev pub applied_by : ViewerView → ViewerState Scripted → ℕ
 applied_by v x = applied_in (machine_of v) x.view
 
 -- ---- turns, one after another
@@ -41,11 +41,11 @@ one_more_if false n = n
 -- so many turns, each while too few inputs are applied; each offers the first point that was not
 -- offered yet, and so many were offered in all
 abbrev pub ViewerTurns : ViewerView → (host : ℕ) → List Point → (until turns : ℕ)
-    → (told_before told_after : Option (List Traffic)) → (offered : ℕ) → ViewerState WorldData
+    → (told_before told_after : Option (List Traffic)) → (offered : ℕ) → ViewerState Scripted
     → Type 0
 ViewerTurns v host points until zero a b offered new = (b ≡ a) × (offered ≡ 0) × (new ≡ v.state)
 ViewerTurns v host points until (suc n) a b offered new =
-    (between : Option (List Traffic)) × (before : ℕ) × (mid : ViewerState WorldData)
+    (between : Option (List Traffic)) × (before : ℕ) × (mid : ViewerState Scripted)
     × (did : Bool) × ViewerTurns v host points until n a between before mid
     × (applied_by v mid < until)
     × IsTurnOf (with_state v mid) host (slice_get points before) between b (Ok did) new
@@ -53,7 +53,7 @@ ViewerTurns v host points until (suc n) a b offered new =
 
 -- turns, until enough inputs are applied
 pub record AreViewed (v : ViewerView) (host : ℕ) (points : List Point) (until turns : ℕ)
-    (told_before told_after : Option (List Traffic)) (new : ViewerState WorldData) : Type 0 where
+    (told_before told_after : Option (List Traffic)) (new : ViewerState Scripted) : Type 0 where
   pub done : ℕ
   pub most : done ≤ turns
   pub offered : ℕ
@@ -62,7 +62,7 @@ pub record AreViewed (v : ViewerView) (host : ℕ) (points : List Point) (until 
 
 -- all the turns, and too few inputs are applied
 pub record AreUsedUp (v : ViewerView) (host : ℕ) (points : List Point) (until turns : ℕ)
-    (told_before told_after : Option (List Traffic)) (new : ViewerState WorldData) : Type 0 where
+    (told_before told_after : Option (List Traffic)) (new : ViewerState Scripted) : Type 0 where
   pub offered : ℕ
   pub turned : ViewerTurns v host points until turns told_before told_after offered new
   pub too_few : applied_by v new < until
@@ -70,19 +70,19 @@ pub record AreUsedUp (v : ViewerView) (host : ℕ) (points : List Point) (until 
 -- turns, up to one that ended early
 pub record AreStopped (v : ViewerView) (host : ℕ) (points : List Point) (until turns : ℕ)
     (told_before told_after : Option (List Traffic)) (fault : TurnFault)
-    (new : ViewerState WorldData) : Type 0 where
+    (new : ViewerState Scripted) : Type 0 where
   pub done : ℕ
   pub fewer : done < turns
   pub between : Option (List Traffic)
   pub offered : ℕ
-  pub mid : ViewerState WorldData
+  pub mid : ViewerState Scripted
   pub before : ViewerTurns v host points until done told_before between offered mid
   pub too_few : applied_by v mid < until
   pub last : IsTurnOf (with_state v mid) host (slice_get points offered) between told_after
       (Err fault) new
 
 abbrev pub IsViewEnd : ViewerView → (host : ℕ) → List Point → (until turns : ℕ)
-    → (told_before told_after : Option (List Traffic)) → SeriesFault → ViewerState WorldData
+    → (told_before told_after : Option (List Traffic)) → SeriesFault → ViewerState Scripted
     → Type 0
 IsViewEnd v host points until turns a b TurnsUsedUp new =
     AreUsedUp v host points until turns a b new
@@ -98,7 +98,7 @@ failures_in result n = n
 
 -- the viewer runs, and its trace and then its scene are appended
 pub record AreAppended (v : ViewerView) (old new : List ℕ) : Type 0 where
-  pub held : WorldData
+  pub held : Scripted
   pub window : List (Option Stamp)
   pub runs : v.state.view ≡ Running held window
   pub texts : new ≡ old ++ (trace_text v.scene held ++ scene_text v.scene v.routes held)
@@ -108,14 +108,14 @@ turn_fault_of text_fault.Spoiled = Spoiled
 turn_fault_of text_fault.Memory = Memory
 
 -- the viewer is spoiled, or memory was refused to a text
-abbrev pub IsTextFault : View WorldData → TurnFault → Type 0
+abbrev pub IsTextFault : View Scripted → TurnFault → Type 0
 IsTextFault view Spoiled = IfRunning view (λ w. ⊥)
 IsTextFault view Memory = IfSpoiled view ⊥
 IsTextFault view fault = ⊥
 
 -- the turns ended so, or enough inputs were applied and a text ended so
 abbrev pub IsRunEnd : ViewerView → (host : ℕ) → List Point → (until turns : ℕ)
-    → (told_before told_after : Option (List Traffic)) → SeriesFault → ViewerState WorldData
+    → (told_before told_after : Option (List Traffic)) → SeriesFault → ViewerState Scripted
     → Type 0
 IsRunEnd v host points until turns a b TurnsUsedUp new =
     AreUsedUp v host points until turns a b new

@@ -4,7 +4,6 @@
 ghost use Rattle.std.specs.Prelude.{◌≡◌, ◌⊎◌, ◌≤◌, ◌<◌, ◌+◌, ◌++◌, ◌^◌, ◌==◌, ◌&&◌, ◌||◌, IfOk};
 ghost use Rattle.std.specs.Prelude.{if◌then◌else◌, IfErr, OnOk, OnErr, length, slice_get, None};
 ghost use Rattle.x3d_lists.specs.Extends.{Extends};
-ghost use Rattle.share_law.specs.Viewer.{point_of};
 ghost use Rattle.share_turns.specs.Agreeing.{AreAgreed, IsAgreeEnd, IsAgreedText};
 ghost use Rattle.share_turns.specs.Agreeing.{IsAgreedTextFault};
 ghost use Rattle.share_turns.specs.Agreeing.{IsAgreeRunEnd, IsRoundOf, IsRoundEnd, IsSeatTurn};
@@ -17,10 +16,12 @@ use crate::host::host_turn;
 use crate::view::{one_more_if, push_texts};
 use crate::viewer::viewer_turn;
 use itoa::Buffer;
+use script_host::Behaviour;
 use share_core::{Host, Viewer};
+use share_law::point_of;
 use share_port::Port;
 use std::alloc::AllocError;
-use x3d_values::{Event, Point, Pointer, Stamped};
+use x3d_values::{Event, Point, Stamped};
 
 fn clock_at(time: i64, event: Event) -> Option<i64>
     ensures { result ≡ clock_at time event }
@@ -38,16 +39,6 @@ fn clock_of(step: &Option<Stamped>) -> Option<i64>
     match step {
         Some(step) => clock_at(step.time(), step.event()),
         None => None,
-    }
-}
-
-fn point_of(pointer: Pointer) -> Point
-    ensures { result ≡ point_of pointer }
-{
-    Point {
-        down: pointer.is_down(),
-        origin: pointer.ray().origin(),
-        dir: pointer.ray().dir(),
     }
 }
 
@@ -75,7 +66,7 @@ fn offer_of(step: &Option<Stamped>, who: usize) -> Option<Point>
 }
 
 /// A turn of the viewer with this number.
-fn seat_turn<B, P: Port>(
+fn seat_turn<B: Behaviour, P: Port>(
     viewers: &mut [Viewer<B>],
     who: usize,
     step: &Option<Stamped>,
@@ -103,7 +94,7 @@ fn either(one: bool, other: bool) -> bool
 }
 
 /// A turn of each viewer, and whether one of them offered its point.
-fn seat_turns<B, P: Port>(
+fn seat_turns<B: Behaviour, P: Port>(
     viewers: &mut [Viewer<B>],
     step: &Option<Stamped>,
     host: u16,
@@ -129,7 +120,7 @@ fn seat_turns<B, P: Port>(
 }
 
 /// Whether every viewer has applied so many inputs.
-fn are_at<B>(count: u32, viewers: &[Viewer<B>]) -> bool
+fn are_at<B: Behaviour>(count: u32, viewers: &[Viewer<B>]) -> bool
     ensures { result ≡ are_at count viewers.now }
 {
     match viewers {
@@ -139,7 +130,7 @@ fn are_at<B>(count: u32, viewers: &[Viewer<B>]) -> bool
 }
 
 /// Whether the host has numbered all that was issued, and every viewer has applied it.
-fn is_settled<B>(host: &Host, viewers: &[Viewer<B>], issued: u32) -> bool
+fn is_settled<B: Behaviour>(host: &Host, viewers: &[Viewer<B>], issued: u32) -> bool
     ensures { result ≡ (length host.now.host.list == issued) && are_at issued viewers.now }
 {
     host.len() == issued && are_at(issued, viewers)
@@ -171,7 +162,7 @@ fn is_issued(step: &Option<Stamped>, offered: bool) -> bool
 }
 
 /// A turn of the host and one of each viewer, and whether the step was issued.
-fn round<B, P: Port>(
+fn round<B: Behaviour, P: Port>(
     host: &mut Host,
     viewers: &mut [Viewer<B>],
     step: &Option<Stamped>,
@@ -221,7 +212,7 @@ fn round<B, P: Port>(
 /// by its viewer.
 ///
 /// `TurnsUsedUp` where it isn't so after the last round. A turn that ends early ends the series.
-pub fn agree_until<B, P: Port>(
+pub fn agree_until<B: Behaviour, P: Port>(
     host: &mut Host,
     viewers: &mut [Viewer<B>],
     steps: &[Stamped],
@@ -287,7 +278,11 @@ fn push_line(count: usize, out: &mut Vec<u8>) -> Result<(), AllocError>
     Ok(())
 }
 
-fn push_all<B>(count: usize, viewers: &[Viewer<B>], out: &mut Vec<u8>) -> Result<(), TurnFault>
+fn push_all<B: Behaviour>(
+    count: usize,
+    viewers: &[Viewer<B>],
+    out: &mut Vec<u8>,
+) -> Result<(), TurnFault>
     requires { 1 ≤ length viewers.now }
     ensures ok { OnOk result (IsAgreedText count viewers.now out.old.items out.new.items) }
     ensures kept { Extends out.old.items out.new.items }
@@ -298,7 +293,11 @@ fn push_all<B>(count: usize, viewers: &[Viewer<B>], out: &mut Vec<u8>) -> Result
 }
 
 /// Appends the line, and the texts of viewer 0; on a refusal the buffer is as it was.
-fn push_agreed<B>(count: usize, viewers: &[Viewer<B>], out: &mut Vec<u8>) -> Result<(), TurnFault>
+fn push_agreed<B: Behaviour>(
+    count: usize,
+    viewers: &[Viewer<B>],
+    out: &mut Vec<u8>,
+) -> Result<(), TurnFault>
     requires { 1 ≤ length viewers.now }
     ensures ok { OnOk result (IsAgreedText count viewers.now out.old.items out.new.items) }
     ensures err { OnErr result (out.new.items ≡ out.old.items) }
@@ -314,7 +313,7 @@ fn push_agreed<B>(count: usize, viewers: &[Viewer<B>], out: &mut Vec<u8>) -> Res
 
 /// Rounds as by `agree_until`, and then `agreed`, how many inputs there are, and the trace and the
 /// scene of viewer 0, which are appended. On a fault the buffer is as it was.
-pub fn agree<B, P: Port>(
+pub fn agree<B: Behaviour, P: Port>(
     host: &mut Host,
     viewers: &mut [Viewer<B>],
     steps: &[Stamped],

@@ -8,6 +8,7 @@ ghost use Rattle.share_turns.specs.Views.{IsViewEnd, failures_in, one_more_if};
 
 use crate::fault::{SeriesFault, TurnFault};
 use crate::viewer::viewer_turn;
+use script_host::Behaviour;
 use share_core::Viewer;
 use share_port::Port;
 use x3d_values::Point;
@@ -33,7 +34,7 @@ fn point_at(points: &[Point], number: u32) -> Option<Point>
 ///
 /// `TurnsUsedUp` where fewer are applied after the last turn. A turn that ends early ends the
 /// series.
-pub fn view_until<B, P: Port>(
+pub fn view_until<B: Behaviour, P: Port>(
     viewer: &mut Viewer<B>,
     points: &[Point],
     until: u32,
@@ -63,7 +64,7 @@ pub fn view_until<B, P: Port>(
     Ok(())
 }
 
-fn push_both<B>(viewer: &Viewer<B>, out: &mut Vec<u8>) -> Result<(), TurnFault>
+fn push_both<B: Behaviour>(viewer: &Viewer<B>, out: &mut Vec<u8>) -> Result<(), TurnFault>
     ensures ok { OnOk result (AreAppended viewer.now out.old.items out.new.items) }
     ensures kept { Extends out.old.items out.new.items }
     ensures fault { IfErr result (IsTextFault viewer.now.state.view) }
@@ -74,7 +75,10 @@ fn push_both<B>(viewer: &Viewer<B>, out: &mut Vec<u8>) -> Result<(), TurnFault>
 }
 
 /// Appends the trace and then the scene of a viewer; on a refusal the buffer is as it was.
-pub(crate) fn push_texts<B>(viewer: &Viewer<B>, out: &mut Vec<u8>) -> Result<(), TurnFault>
+pub(crate) fn push_texts<B: Behaviour>(
+    viewer: &Viewer<B>,
+    out: &mut Vec<u8>,
+) -> Result<(), TurnFault>
     ensures ok { OnOk result (AreAppended viewer.now out.old.items out.new.items) }
     ensures err { OnErr result (out.new.items ≡ out.old.items) }
     ensures fault { IfErr result (IsTextFault viewer.now.state.view) }
@@ -89,7 +93,7 @@ pub(crate) fn push_texts<B>(viewer: &Viewer<B>, out: &mut Vec<u8>) -> Result<(),
 
 /// Turns of a viewer as by `view_until`, and then its trace and its scene, which are appended. On a
 /// fault the buffer is as it was.
-pub fn view_run<B, P: Port>(
+pub fn view_run<B: Behaviour, P: Port>(
     viewer: &mut Viewer<B>,
     points: &[Point],
     until: u32,

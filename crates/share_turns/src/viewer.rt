@@ -11,13 +11,14 @@ ghost use Rattle.share_turns.specs.declared.fault.TurnFault.TheVariants.{Memory,
 
 use crate::fault::TurnFault;
 use crate::most::MOST;
+use script_host::Behaviour;
 use share_core::Viewer;
 use share_law::TakeFault;
 use share_port::{Port, PortFault};
 use x3d_values::Point;
 
 /// Offers the point of a turn, and says whether it was offered.
-fn offer<B>(viewer: &mut Viewer<B>, point: Option<Point>) -> bool
+fn offer<B: Behaviour>(viewer: &mut Viewer<B>, point: Option<Point>) -> bool
     ensures others { viewer.new ≡ with_state viewer.old viewer.new.state }
     ensures offered { IsOffered viewer.old.state point result viewer.new.state }
 {
@@ -28,7 +29,7 @@ fn offer<B>(viewer: &mut Viewer<B>, point: Option<Point>) -> bool
 }
 
 /// Takes a datagram. One that is refused for another cause than memory is dropped.
-fn take_one<B>(viewer: &mut Viewer<B>, bytes: &[u8]) -> Result<(), TurnFault>
+fn take_one<B: Behaviour>(viewer: &mut Viewer<B>, bytes: &[u8]) -> Result<(), TurnFault>
     ensures others { viewer.new ≡ with_state viewer.old viewer.new.state }
     ensures taken { IsTaking (machine_of viewer.old) viewer.old.mark viewer.old.who
         viewer.old.state bytes.now viewer.new.state }
@@ -41,7 +42,7 @@ fn take_one<B>(viewer: &mut Viewer<B>, bytes: &[u8]) -> Result<(), TurnFault>
 }
 
 /// Takes the datagrams of a turn.
-fn take_all<B, P: Port>(viewer: &mut Viewer<B>, port: &mut P) -> Result<(), TurnFault>
+fn take_all<B: Behaviour, P: Port>(viewer: &mut Viewer<B>, port: &mut P) -> Result<(), TurnFault>
     ensures others { viewer.new ≡ with_state viewer.old viewer.new.state }
     ensures takes { Takes (machine_of viewer.old) viewer.old.mark viewer.old.who (is_ok result)
         (P.told port.old) (P.told port.new) viewer.old.state viewer.new.state }
@@ -59,7 +60,11 @@ fn take_all<B, P: Port>(viewer: &mut Viewer<B>, port: &mut P) -> Result<(), Turn
 }
 
 /// Sends the offer that has waited longest, if one waits.
-fn send_offer<B, P: Port>(viewer: &Viewer<B>, host: u16, port: &mut P) -> Result<(), PortFault>
+fn send_offer<B: Behaviour, P: Port>(
+    viewer: &Viewer<B>,
+    host: u16,
+    port: &mut P,
+) -> Result<(), PortFault>
     ensures sent { AreSent (is_ok result) host (P.told port.old) (P.told port.new)
         (datagrams_of viewer.now.mark (listed (viewer_resend viewer.now.who viewer.now.state 0))) }
     ensures count_ok { OnOk result (P.failure_count port.new ≡ P.failure_count port.old) }
@@ -73,7 +78,11 @@ fn send_offer<B, P: Port>(viewer: &Viewer<B>, host: u16, port: &mut P) -> Result
 }
 
 /// Sends the offer that has waited longest, if one waits, and asks for what the viewer lacks.
-fn send_requests<B, P: Port>(viewer: &Viewer<B>, host: u16, port: &mut P) -> Result<(), PortFault>
+fn send_requests<B: Behaviour, P: Port>(
+    viewer: &Viewer<B>,
+    host: u16,
+    port: &mut P,
+) -> Result<(), PortFault>
     ensures sent { AreSent (is_ok result) host (P.told port.old) (P.told port.new)
         (requests (machine_of viewer.now) viewer.now.mark viewer.now.who viewer.now.state) }
     ensures count_ok { OnOk result (P.failure_count port.new ≡ P.failure_count port.old) }
@@ -93,7 +102,7 @@ fn send_requests<B, P: Port>(viewer: &Viewer<B>, host: u16, port: &mut P) -> Res
 /// `Spoiled` where memory was refused to the viewer before: then nothing is done. `Port` where a
 /// send or a receive failed, `Memory` where memory was refused to an input: either ends the turn at
 /// once.
-pub fn viewer_turn<B, P: Port>(
+pub fn viewer_turn<B: Behaviour, P: Port>(
     viewer: &mut Viewer<B>,
     point: Option<Point>,
     host: u16,

@@ -1,4 +1,5 @@
--- The options of the commands, as `clap` has them: each has a name, a range, and a default or is required.
+-- The options of the commands, as `clap` has them: each has a name, a range, and a default or is
+-- required.
 use Rattle.std.specs.Prelude.{[], ◌∷◌, Some, codes, pos, true}
 use Rattle.clap.specs.Words.{Rule, Text, new_rule}
 use Rattle.clap.specs.declared.builder.value_parser.ValueParser.TheVariants.{Signed}

@@ -3,7 +3,8 @@ use Rattle.std.proofs.Common.{◌≡◌, ℕ, true, List, ◌++◌, Option, Some
 use Rattle.std.specs.List.{flat_map}
 use Rattle.byte_codec.specs.Codec.{◌>>?◌, only_if, rows}
 use Rattle.byte_codec.specs.Exact.{IsBytes, IsExact, Took}
-use Rattle.byte_codec.proofs.Laws.{bind_some, some_is, both, and_true, rows_exact, rows_text-flat_map}
+use Rattle.byte_codec.proofs.Laws.{bind_some, some_is, both, and_true}
+use Rattle.byte_codec.proofs.LawsOfLists.{rows_exact, rows_text-flat_map}
 use Rattle.x3d_values.specs.declared.field_type.FieldType.TheVariants as types
 use Rattle.x3d_values.specs.declared.value.Value.{Value}
 use Rattle.snapshot_codec.specs.declared.kept.KeptField.{KeptField}

@@ -5,7 +5,8 @@ use Rattle.std.specs.Int.{w16, w32, w64}
 use Rattle.std.proofs.lemmas.Bool.{eqb-true, eqb-false, le-ltb, lt-ltb, ltb-true, ne_eqb, cond-false, cond-true}
 use Rattle.byte_codec.specs.Codec.{refined, byte, number, signed, truth, fits_signed, pair}
 use Rattle.byte_codec.specs.Exact.{IsExact}
-use Rattle.byte_codec.proofs.Laws.{some_is, both, refined_exact, named_exact, pair_exact, times_exact, byte_exact, number_exact, wide16, wide32, wide64, truth_exact, signed64_exact}
+use Rattle.byte_codec.proofs.Laws.{some_is, both, refined_exact, named_exact, pair_exact, byte_exact, number_exact, wide16, wide32, wide64, truth_exact, signed64_exact}
+use Rattle.byte_codec.proofs.LawsOfLists.{times_exact}
 use Rattle.x3d_values.specs.declared.fields.Position.{Position}
 use Rattle.snapshot_codec.specs.declared.viewers.Viewers.{Viewers}
 use Rattle.snapshot_codec.specs.declared.viewers.Viewers.TheVariants.{Sixteen, SixtyFour}

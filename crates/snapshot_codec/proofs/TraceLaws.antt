@@ -5,7 +5,8 @@ use Rattle.std.specs.Int.{w16, w32, w64}
 use Rattle.std.proofs.lemmas.Bool.{lt-ltb, leb-true}
 use Rattle.byte_codec.specs.Codec.{fits_signed}
 use Rattle.byte_codec.specs.Exact.{IsExact}
-use Rattle.byte_codec.proofs.Laws.{both, named_exact, pair_exact, depends_exact, counted_exact, number_exact, wide16, wide32, wide64, signed64_exact}
+use Rattle.byte_codec.proofs.Laws.{both, named_exact, pair_exact, depends_exact, number_exact, wide16, wide32, wide64, signed64_exact}
+use Rattle.byte_codec.proofs.LawsOfLists.{counted_exact}
 use Rattle.x3d_values.specs.declared.field_type.FieldType.{FieldType}
 use Rattle.x3d_values.specs.declared.value.Value.{Value}
 use Rattle.snapshot_codec.specs.declared.trace.SentAt.{SentAt}

@@ -6,7 +6,8 @@ use Rattle.std.specs.Str.{is_utf8}
 use Rattle.std.proofs.lemmas.Bool.{lt-ltb, leb-true}
 use Rattle.byte_codec.specs.Codec.{Codec, at_front, only_if, fits_signed, signed, string, truth}
 use Rattle.byte_codec.specs.Exact.{IsBytes, IsExact, Took}
-use Rattle.byte_codec.proofs.Laws.{bind_some, some_is, refined_exact, named_exact, checked_exact, pair_exact, counted_exact, wide32, string_exact, truth_exact, signed32_exact, signed64_exact}
+use Rattle.byte_codec.proofs.Laws.{bind_some, some_is, refined_exact, named_exact, checked_exact, pair_exact, wide32, string_exact, truth_exact, signed32_exact, signed64_exact}
+use Rattle.byte_codec.proofs.LawsOfLists.{counted_exact}
 use Rattle.x3d_values.specs.declared.vector.Vec2.{Vec2}
 use Rattle.x3d_values.specs.declared.vector.Vec3.{Vec3}
 use Rattle.x3d_values.specs.declared.vector.Color.{Color}

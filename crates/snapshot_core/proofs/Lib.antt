@@ -5,4 +5,6 @@ mod NodeLoops
 mod PartSizes
 mod SetLaws
 pub mod ShotLaws
+pub mod StateLaws
+pub mod StateSizes
 pub mod WorldLaws

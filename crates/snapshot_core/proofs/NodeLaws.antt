@@ -7,7 +7,8 @@ use Rattle.std.proofs.lemmas.Bool.{eqb-true, lt-ltb, ltb-true}
 use Rattle.std.proofs.lemmas.List.{length-map}
 use Rattle.byte_codec.specs.Codec.{rows}
 use Rattle.byte_codec.specs.Exact.{IsExact, Took}
-use Rattle.byte_codec.proofs.Laws.{some_is, both, and_true, refined_exact, named_exact, pair_exact, rows_exact}
+use Rattle.byte_codec.proofs.Laws.{some_is, both, and_true, refined_exact, named_exact, pair_exact}
+use Rattle.byte_codec.proofs.LawsOfLists.{rows_exact}
 use Rattle.x3d_values.specs.declared.fields.Fields.{Fields}
 use Rattle.x3d_values.specs.declared.fields.Position.{Position}
 use Rattle.x3d_values.specs.declared.node_type.NodeType.{NodeType}

@@ -6,17 +6,20 @@ use Rattle.std.proofs.lemmas.List.{length-append}
 use Rattle.byte_codec.specs.Codec.{number, number_text, whole}
 use Rattle.byte_codec.specs.Exact.{IsBytes}
 use Rattle.byte_codec.proofs.Laws.{IsBytes-rest, both, and_true, whole_again, whole_takes, wide32, wide64}
-use Rattle.scene_core.specs.Scene.{SceneView, shapes_of}
+use Rattle.scene_core.specs.Scene.{SceneView}
 use Rattle.snapshot_codec.specs.declared.head.HeadFault.{HeadFault}
 use Rattle.snapshot_codec.specs.Head.{applied_codec, front, opened, snapshot}
 use Rattle.snapshot_codec.specs.Trace.{moment_codec}
 use Rattle.snapshot_codec.proofs.HeadLaws.{opened-found, snapshot-opened}
-use Rattle.cascade_core.specs.declared.world.WorldData.{WorldData}
+use Rattle.cascade_core.specs.Course.{Scripted}
+use Rattle.cascade_core.specs.Installing.{StatesFit}
+use Rattle.cascade_core.specs.Scripts.{kinds_in}
 use Rattle.snapshot_core.specs.declared.fault.SnapFault.{SnapFault}
-use Rattle.snapshot_core.specs.declared.fault.SnapFault.TheVariants.{BootNotNew}
-use Rattle.snapshot_core.specs.Loading.{behind_head, loaded, newer}
+use Rattle.snapshot_core.specs.declared.fault.SnapFault.TheVariants.{BootNotNew, ScriptState}
+use Rattle.snapshot_core.specs.Loading.{HasSnapshot, behind_head, loaded, newer, states_fit, with_states}
 use Rattle.snapshot_core.specs.Shot.{body_codec, shot}
 use Rattle.snapshot_core.specs.WorldCodec.{parts_codec, parts_in, world_codec}
+use Rattle.snapshot_core.proofs.StateLaws.{all_fit, fitting_all, stated}
 use Rattle.snapshot_core.proofs.WorldLaws.{body_exact}
 
 -- ---- from a world
@@ -32,23 +35,29 @@ length8 n = wide64.len n
 long : (boot : ℕ) (applied moment rest : List ℕ) → length applied ≡ 4 → length moment ≡ 8 → 16 ≤ length (number_text w32 boot ++ (applied ++ (moment ++ rest)))
 long boot applied moment rest a m = omega (arith, a, m, length4 boot, length-append (number_text w32 boot) (applied ++ (moment ++ rest)), length-append applied (moment ++ rest), length-append moment rest)
 
-some_body : (scene : SceneView) (boot : ℕ) (w : WorldData) → 16 ≤ length ((body_codec scene).write (boot, w))
+some_body : (scene : SceneView) (boot : ℕ) (w : Scripted) → 16 ≤ length ((body_codec scene).write (boot, w))
 unfolding world_codec
-some_body scene boot w = long boot (applied_codec.write w.applied) (moment_codec.write w.last_time) ((parts_codec (shapes_of scene)).write (parts_in w)) (length4 w.applied) (length8 _)
+some_body scene boot w = long boot (applied_codec.write w.world.applied) (moment_codec.write w.world.last_time) ((parts_codec scene).write (parts_in w)) (length4 w.world.applied) (length8 _)
 
-read_again : (scene : SceneView) (boot : ℕ) (w : WorldData) → boot < 2 ^ 32 → (world_codec scene).fits w ≡ true → whole ((body_codec scene).read ((body_codec scene).write (boot, w))) ≡ Some (boot, w)
+read_again : (scene : SceneView) (boot : ℕ) (w : Scripted) → boot < 2 ^ 32 → (world_codec scene).fits w ≡ true → whole ((body_codec scene).read ((body_codec scene).write (boot, w))) ≡ Some (boot, w)
 read_again scene boot w small fits = whole_again (body_codec scene) (body_exact scene) (boot, w) (and_true _ _ (lt-ltb boot (2 ^ 32) small) fits)
 
-shot_loaded : (mark : List ℕ) (scene : SceneView) (boot new : ℕ) (w : WorldData) → length mark ≡ 32 → boot < 2 ^ 32 → (world_codec scene).fits w ≡ true → loaded mark scene new (shot mark boot scene w) ≡ newer new (Some (boot, w))
-shot_loaded mark scene boot new w len small fits =
+shot_read : (mark : List ℕ) (scene : SceneView) (boot new : ℕ) (w : Scripted) → length mark ≡ 32 → boot < 2 ^ 32 → (world_codec scene).fits w ≡ true → behind_head scene new (opened 1 mark (shot mark boot scene w)) ≡ newer new (Some (boot, w))
+shot_read mark scene boot new w len small fits =
     ap (behind_head scene new) (snapshot-opened 1 mark ((body_codec scene).write (boot, w)) len (some_body scene boot w))
     ∙ ap (newer new) (read_again scene boot w small fits)
 
-pub loads : (mark : List ℕ) (scene : SceneView) (boot new : ℕ) (w : WorldData) → length mark ≡ 32 → boot < 2 ^ 32 → (world_codec scene).fits w ≡ true → boot < new → loaded mark scene new (shot mark boot scene w) ≡ Ok (boot, w)
-loads mark scene boot new w len small fits above = shot_loaded mark scene boot new w len small fits ∙ (let k : ltb boot new ≡ true = lt-ltb boot new above in rw k refl)
+pub loads : (mark : List ℕ) (scene : SceneView) (boot new : ℕ) (w : Scripted) → length mark ≡ 32 → boot < 2 ^ 32 → HasSnapshot scene w → boot < new → loaded mark scene new (shot mark boot scene w) ≡ Ok (boot, w)
+unfolding loaded
+loads mark scene boot new w len small has above =
+    let is_new : newer new (Some (boot, w)) ≡ Ok (boot, w) = (let k : ltb boot new ≡ true = lt-ltb boot new above in rw k refl) in
+    ap (with_states scene) (shot_read mark scene boot new w len small has.fits ∙ is_new) ∙ stated scene (boot, w) (all_fit scene w.states has.states)
 
-pub refuses : (mark : List ℕ) (scene : SceneView) (boot new : ℕ) (w : WorldData) → length mark ≡ 32 → boot < 2 ^ 32 → (world_codec scene).fits w ≡ true → new ≤ boot → loaded mark scene new (shot mark boot scene w) ≡ Err BootNotNew
-refuses mark scene boot new w len small fits above = shot_loaded mark scene boot new w len small fits ∙ (let k : ltb boot new ≡ false = le-ltb boot new above in rw k refl)
+pub refuses : (mark : List ℕ) (scene : SceneView) (boot new : ℕ) (w : Scripted) → length mark ≡ 32 → boot < 2 ^ 32 → HasSnapshot scene w → new ≤ boot → loaded mark scene new (shot mark boot scene w) ≡ Err BootNotNew
+unfolding loaded
+refuses mark scene boot new w len small has above =
+    let not_new : newer new (Some (boot, w)) ≡ Err BootNotNew = (let k : ltb boot new ≡ false = le-ltb boot new above in rw k refl) in
+    ap (with_states scene) (shot_read mark scene boot new w len small has.fits ∙ not_new)
 
 -- ---- from bytes
 
@@ -62,33 +71,49 @@ body_bytes mark bytes body h e =
     let all : IsBytes (snapshot 1 mark body) = subst IsBytes e h in
     IsBytes-rest (front 1 mark) body (IsBytes-front (front 1 mark ++ body) _ all)
 
--- what it comes to that these bytes load to this
-abbrev Loads : List ℕ → SceneView → ℕ → List ℕ → ℕ × WorldData → Type 0
-Loads mark scene new bytes x = (bytes ≡ shot mark x.0 scene x.1) × ((world_codec scene).fits x.1 ≡ true) × (x.0 < new)
+-- what it comes to that this is read of these bytes
+abbrev Found : List ℕ → SceneView → ℕ → List ℕ → ℕ × Scripted → Type 0
+Found mark scene new bytes x = (bytes ≡ shot mark x.0 scene x.1) × ((world_codec scene).fits x.1 ≡ true) × (x.0 < new)
 
-abbrev fault : SnapFault → Result (ℕ × WorldData) SnapFault
+abbrev fault : SnapFault → Result (ℕ × Scripted) SnapFault
 fault f = Err f
 
-by_boot : (new : ℕ) (y x : ℕ × WorldData) (t : Bool) → ltb y.0 new ≡ t → cond t (Ok y) (fault BootNotNew) ≡ Ok x → (y ≡ x) × (y.0 < new)
+ok_is : (a b : ℕ × Scripted) → cond true (Ok a) (fault BootNotNew) ≡ Ok b → a ≡ b
+ok_is a b same = cc
+
+by_boot : (new : ℕ) (y x : ℕ × Scripted) (t : Bool) → ltb y.0 new ≡ t → cond t (Ok y) (fault BootNotNew) ≡ Ok x → (y ≡ x) × (y.0 < new)
 by_boot new y x true lt e = (ok_is y x e, ltb-true y.0 new lt)
-  where
-    ok_is : (a b : ℕ × WorldData) → cond true (Ok a) (fault BootNotNew) ≡ Ok b → a ≡ b
-    ok_is a b same = cc
 by_boot new y x false lt e = absurd cc
 
-by_body : (mark : List ℕ) (scene : SceneView) (new : ℕ) (bytes body : List ℕ) (x : ℕ × WorldData) (r : Option (ℕ × WorldData)) → IsBytes body → bytes ≡ snapshot 1 mark body → whole ((body_codec scene).read body) ≡ r → newer new r ≡ Ok x → Loads mark scene new bytes x
+by_body : (mark : List ℕ) (scene : SceneView) (new : ℕ) (bytes body : List ℕ) (x : ℕ × Scripted) (r : Option (ℕ × Scripted)) → IsBytes body → bytes ≡ snapshot 1 mark body → whole ((body_codec scene).read body) ≡ r → newer new r ≡ Ok x → Found mark scene new bytes x
 by_body mark scene new bytes body x None h is read e = absurd cc
 by_body mark scene new bytes body x (Some y) h is read e =
     let b = by_boot new y x (ltb y.0 new) refl e in
     let t = whole_takes (body_codec scene) (body_exact scene) body y h read in
     let f = both ((number w32).fits y.0) ((world_codec scene).fits y.1) t.1 in
-    subst (Loads mark scene new bytes) b.0 (is ∙ ap (snapshot 1 mark) t.0, f.1, b.1)
+    subst (Found mark scene new bytes) b.0 (is ∙ ap (snapshot 1 mark) t.0, f.1, b.1)
 
-by_head : (mark : List ℕ) (scene : SceneView) (new : ℕ) (bytes : List ℕ) (x : ℕ × WorldData) (r : Result (List ℕ) HeadFault) → IsBytes bytes → opened 1 mark bytes ≡ r → behind_head scene new r ≡ Ok x → Loads mark scene new bytes x
+by_head : (mark : List ℕ) (scene : SceneView) (new : ℕ) (bytes : List ℕ) (x : ℕ × Scripted) (r : Result (List ℕ) HeadFault) → IsBytes bytes → opened 1 mark bytes ≡ r → behind_head scene new r ≡ Ok x → Found mark scene new bytes x
 by_head mark scene new bytes x (Ok body) h is e =
     let found : bytes ≡ snapshot 1 mark body = opened-found (λ b. b) (Ok body) 1 mark bytes (sym is) in
     by_body mark scene new bytes body x (whole ((body_codec scene).read body)) (body_bytes mark bytes body h found) found refl e
 by_head mark scene new bytes x (Err f) h is e = absurd cc
 
-pub found : (mark : List ℕ) (scene : SceneView) (new : ℕ) (bytes : List ℕ) (x : ℕ × WorldData) → IsBytes bytes → loaded mark scene new bytes ≡ Ok x → Loads mark scene new bytes x
-found mark scene new bytes x h e = by_head mark scene new bytes x (opened 1 mark bytes) h refl e
+by_states : (scene : SceneView) (y x : ℕ × Scripted) (t : Bool) → states_fit (kinds_in scene) y.1.states ≡ t → cond t (Ok y) (fault ScriptState) ≡ Ok x → (y ≡ x) × (states_fit (kinds_in scene) y.1.states ≡ true)
+by_states scene y x true fit e = (ok_is y x e, fit)
+by_states scene y x false fit e = absurd cc
+
+by_loaded : (scene : SceneView) (x : ℕ × Scripted) (r : Result (ℕ × Scripted) SnapFault) → with_states scene r ≡ Ok x → (r ≡ Ok x) × StatesFit scene x.1.states
+by_loaded scene x (Ok y) e =
+    let b = by_states scene y x (states_fit (kinds_in scene) y.1.states) refl e in
+    let same : y ≡ x = b.0 in
+    (ap (λ (z : ℕ × Scripted). let r : Result (ℕ × Scripted) SnapFault = Ok z in r) same, subst (λ (z : ℕ × Scripted). StatesFit scene z.1.states) same (fitting_all scene y.1.states b.1))
+by_loaded scene x (Err f) e = absurd cc
+
+pub found : (mark : List ℕ) (scene : SceneView) (new : ℕ) (bytes : List ℕ) (x : ℕ × Scripted) → IsBytes bytes → loaded mark scene new bytes ≡ Ok x
+    → (bytes ≡ shot mark x.0 scene x.1) × HasSnapshot scene x.1 × (x.0 < new)
+unfolding loaded
+found mark scene new bytes x h e =
+    let s = by_loaded scene x (behind_head scene new (opened 1 mark bytes)) e in
+    let f = by_head mark scene new bytes x (opened 1 mark bytes) h refl s.0 in
+    (f.0, record { fits = f.1; states = s.1 }, f.2)

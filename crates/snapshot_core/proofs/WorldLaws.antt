@@ -6,19 +6,20 @@ use Rattle.std.proofs.lemmas.Bool.{eqb-true, lt-ltb, ltb-true}
 use Rattle.byte_codec.specs.Codec.{◌>>?◌, number, number_text}
 use Rattle.byte_codec.specs.Exact.{IsExact}
 use Rattle.byte_codec.proofs.Laws.{some_is, refined_exact, named_exact, pair_exact, number_exact, wide16, wide32}
-use Rattle.scene_core.specs.Shape.{Shape}
 use Rattle.scene_core.specs.Scene.{SceneView, shapes_of}
 use Rattle.snapshot_codec.specs.declared.fault.PartFault.{PartFault}
 use Rattle.snapshot_codec.specs.declared.fault.PartFault.TheVariants as faults
 use Rattle.snapshot_codec.specs.declared.head.Progress.{Progress}
 use Rattle.snapshot_codec.specs.Head.{applied_codec, progress_codec}
 use Rattle.snapshot_codec.specs.Reads.{Fails}
-use Rattle.snapshot_codec.specs.Parts.{viewer_set_codec}
+use Rattle.snapshot_codec.specs.Parts.{states_codec, viewer_set_codec}
 use Rattle.snapshot_codec.specs.Trace.{moment_codec}
 use Rattle.snapshot_codec.proofs.HeadLaws.{applied_exact}
+use Rattle.snapshot_codec.proofs.PartLaws.{states_exact}
 use Rattle.snapshot_codec.proofs.TraceLaws.{moment_exact}
 use Rattle.sensor_core.specs.Parts.{number_of, over_of}
-use Rattle.cascade_core.specs.declared.world.WorldData.{WorldData}
+use Rattle.cascade_core.specs.Course.{Scripted}
+use Rattle.cascade_core.specs.Scripts.{kinds_in}
 use Rattle.snapshot_core.specs.declared.world.WorldParts.{WorldParts}
 use Rattle.snapshot_core.specs.Nodes.{nodes_codec}
 use Rattle.snapshot_core.specs.Shot.{body_codec}
@@ -36,13 +37,13 @@ progress_of t = record { boot = t.0; applied = t.1.0; last_time = t.1.1 }
 abbrev paired : {A B : Type 0} → A → B × List ℕ → Option ((A × B) × List ℕ)
 paired x y = Some ((x, y.0), y.1)
 
-abbrev made : (ℕ × (ℤ × WorldParts)) × List ℕ → Option (WorldData × List ℕ)
+abbrev made : (ℕ × (ℤ × WorldParts)) × List ℕ → Option (Scripted × List ℕ)
 made x = Some (world_of x.0, x.1)
 
 abbrev come : (ℕ × (ℕ × ℤ)) × List ℕ → Option (Progress × List ℕ)
 come x = Some (progress_of x.0, x.1)
 
-abbrev found_with : Progress → WorldParts × List ℕ → Option ((ℕ × WorldData) × List ℕ)
+abbrev found_with : Progress → WorldParts × List ℕ → Option ((ℕ × Scripted) × List ℕ)
 found_with progress parts = Some ((progress.boot, world_with progress parts.0), parts.1)
 
 module _ (f : List ℕ → Option (ℕ × List ℕ)) (g : List ℕ → Option (ℤ × List ℕ)) (h : List ℕ → Option (WorldParts × List ℕ)) where
@@ -52,7 +53,7 @@ module _ (f : List ℕ → Option (ℕ × List ℕ)) (g : List ℕ → Option (�
   abbrev behind_applied : ℕ × List ℕ → Option ((ℕ × (ℤ × WorldParts)) × List ℕ)
   behind_applied a = (g a.1 >>? behind_time) >>? paired a.0
 
-  abbrev behind_boot : ℕ × List ℕ → Option ((ℕ × WorldData) × List ℕ)
+  abbrev behind_boot : ℕ × List ℕ → Option ((ℕ × Scripted) × List ℕ)
   behind_boot b = ((f b.1 >>? behind_applied) >>? made) >>? paired b.0
 
   abbrev times : ℕ × List ℕ → Option ((ℕ × ℤ) × List ℕ)
@@ -61,7 +62,7 @@ module _ (f : List ℕ → Option (ℕ × List ℕ)) (g : List ℕ → Option (�
   abbrev numbers : ℕ × List ℕ → Option ((ℕ × (ℕ × ℤ)) × List ℕ)
   numbers b = (f b.1 >>? times) >>? paired b.0
 
-  abbrev parts_behind : Progress × List ℕ → Option ((ℕ × WorldData) × List ℕ)
+  abbrev parts_behind : Progress × List ℕ → Option ((ℕ × Scripted) × List ℕ)
   parts_behind p = h p.1 >>? found_with p.0
 
   at_parts : (b a : ℕ) (t : ℤ) (r : Option (WorldParts × List ℕ)) → ((((r >>? paired t) >>? paired a) >>? made) >>? paired b) ≡ (r >>? found_with (progress_of (b, (a, t))))
@@ -80,32 +81,33 @@ module _ (f : List ℕ → Option (ℕ × List ℕ)) (g : List ℕ → Option (�
   at_boot None = refl
   at_boot (Some b) = at_applied b.0 (f b.1)
 
-body_read : (scene : SceneView) (bytes : List ℕ) → (body_codec scene).read bytes ≡ (progress_codec.read bytes >>? λ p. (parts_codec (shapes_of scene)).read p.1 >>? found_with p.0)
+body_read : (scene : SceneView) (bytes : List ℕ) → (body_codec scene).read bytes ≡ (progress_codec.read bytes >>? λ p. (parts_codec scene).read p.1 >>? found_with p.0)
 unfolding world_codec progress_codec
-body_read scene bytes = at_boot applied_codec.read moment_codec.read (parts_codec (shapes_of scene)).read ((number w32).read bytes)
+body_read scene bytes = at_boot applied_codec.read moment_codec.read (parts_codec scene).read ((number w32).read bytes)
 
 pub no_progress : (scene : SceneView) (bytes : List ℕ) → None ≡ progress_codec.read bytes → (body_codec scene).read bytes ≡ None
 no_progress scene bytes e = body_read scene bytes ∙ rw (sym e) refl
 
-pub no_parts : (scene : SceneView) (bytes : List ℕ) (p : Progress) (rest : List ℕ) (e : PartFault) → Some (p, rest) ≡ progress_codec.read bytes → Fails e ((parts_codec (shapes_of scene)).read rest) → Fails e ((body_codec scene).read bytes)
+pub no_parts : (scene : SceneView) (bytes : List ℕ) (p : Progress) (rest : List ℕ) (e : PartFault) → Some (p, rest) ≡ progress_codec.read bytes → Fails e ((parts_codec scene).read rest) → Fails e ((body_codec scene).read bytes)
 no_parts scene bytes p rest faults.Memory front h = tt
 no_parts scene bytes p rest faults.NotCanonical front h = body_read scene bytes ∙ rw (sym front, h) refl
 
-pub whole_body : (scene : SceneView) (bytes : List ℕ) (p : Progress) (rest : List ℕ) (parts : WorldParts) (after : List ℕ) → Some (p, rest) ≡ progress_codec.read bytes → (parts_codec (shapes_of scene)).read rest ≡ Some (parts, after) → (body_codec scene).read bytes ≡ Some ((p.boot, world_with p parts), after)
+pub whole_body : (scene : SceneView) (bytes : List ℕ) (p : Progress) (rest : List ℕ) (parts : WorldParts) (after : List ℕ) → Some (p, rest) ≡ progress_codec.read bytes → (parts_codec scene).read rest ≡ Some (parts, after) → (body_codec scene).read bytes ≡ Some ((p.boot, world_with p parts), after)
 whole_body scene bytes p rest parts after front h = body_read scene bytes ∙ rw (sym front, h) refl
 
 -- ---- writing
 
-regroup : (old b a t n u l : List ℕ) → (((old ++ (b ++ (a ++ t))) ++ n) ++ u) ++ l ≡ old ++ (b ++ (a ++ (t ++ (n ++ (u ++ l)))))
-regroup old b a t n u l = simp append_assoc refl
+regroup : (old b a t n u s l : List ℕ) → ((((old ++ (b ++ (a ++ t))) ++ n) ++ u) ++ s) ++ l ≡ old ++ (b ++ (a ++ (t ++ (n ++ (u ++ (s ++ l))))))
+regroup old b a t n u s l = simp append_assoc refl
 
-pub body_written : (scene : SceneView) (boot : ℕ) (w : WorldData) (old o1 o2 o3 new : List ℕ) → o1 ≡ old ++ progress_codec.write (record { boot = boot; applied = w.applied; last_time = w.last_time })
-    → o2 ≡ o1 ++ (nodes_codec (shapes_of scene)).write (lists_in w) → o3 ≡ o2 ++ buttons_codec.write w.buttons → new ≡ o3 ++ (lines_codec (shapes_of scene)).write w.trace
+pub body_written : (scene : SceneView) (boot : ℕ) (w : Scripted) (old o1 o2 o3 o4 new : List ℕ) → o1 ≡ old ++ progress_codec.write (record { boot = boot; applied = w.world.applied; last_time = w.world.last_time })
+    → o2 ≡ o1 ++ (nodes_codec (shapes_of scene)).write (lists_in w.world) → o3 ≡ o2 ++ buttons_codec.write w.world.buttons
+    → o4 ≡ o3 ++ (states_codec (length (kinds_in scene))).write w.states → new ≡ o4 ++ (lines_codec (shapes_of scene)).write w.world.trace
     → new ≡ old ++ (body_codec scene).write (boot, w)
 unfolding world_codec parts_codec progress_codec
-body_written scene boot w old o1 o2 o3 new p n u l =
+body_written scene boot w old o1 o2 o3 o4 new p n u s l =
     let shapes = shapes_of scene in
-    rw (l, u, n, p) (regroup old (number_text w32 boot) (applied_codec.write w.applied) (moment_codec.write w.last_time) ((nodes_codec shapes).write (lists_in w)) (buttons_codec.write w.buttons) ((lines_codec shapes).write w.trace))
+    rw (l, s, u, n, p) (regroup old (number_text w32 boot) (applied_codec.write w.world.applied) (moment_codec.write w.world.last_time) ((nodes_codec shapes).write (lists_in w.world)) (buttons_codec.write w.world.buttons) ((states_codec (length (kinds_in scene))).write w.states) ((lines_codec shapes).write w.world.trace))
 
 -- ---- exactness
 
@@ -120,13 +122,13 @@ buttons_exact = refined_exact (λ n. Some (over_of n)) number_of (λ set. eqb (l
       (lt-ltb _ _ (number_small b len), ap (λ (set : List Bool). Some set) (over_back b len));
 }) (number_exact w16 wide16)
 
-parts_exact : (shapes : List Shape) → IsExact (parts_codec shapes)
+parts_exact : (scene : SceneView) → IsExact (parts_codec scene)
 unfolding parts_codec
-parts_exact shapes = named_exact _ _ _ (λ a. refl) (λ b. refl) (pair_exact _ _ (nodes_exact shapes) (pair_exact _ _ buttons_exact (lines_exact shapes)))
+parts_exact scene = named_exact _ _ _ (λ a. refl) (λ b. refl) (pair_exact _ _ (nodes_exact (shapes_of scene)) (pair_exact _ _ buttons_exact (pair_exact _ _ (states_exact (length (kinds_in scene))) (lines_exact (shapes_of scene)))))
 
 pub world_exact : (scene : SceneView) → IsExact (world_codec scene)
 unfolding world_codec
-world_exact scene = named_exact world_of (λ w. (w.applied, (w.last_time, parts_in w))) _ (λ a. refl) (λ b. refl) (pair_exact _ _ applied_exact (pair_exact _ _ moment_exact (parts_exact (shapes_of scene))))
+world_exact scene = named_exact world_of (λ w. (w.world.applied, (w.world.last_time, parts_in w))) _ (λ a. refl) (λ b. refl) (pair_exact _ _ applied_exact (pair_exact _ _ moment_exact (parts_exact scene)))
 
 pub body_exact : (scene : SceneView) → IsExact (body_codec scene)
 body_exact scene = pair_exact _ _ (number_exact w32 wide32) (world_exact scene)

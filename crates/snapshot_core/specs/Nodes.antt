@@ -1,4 +1,5 @@
--- What a snapshot has of the nodes of a scene, by their types and what Scripts declare (our choice).
+-- What a snapshot has of the nodes of a scene, by their types and what Scripts declare (our
+-- choice).
 use Rattle.std.specs.Prelude.{ℕ, ◌+◌, ◌==◌, ◌&&◌, Bool, true, not, is_none, List, [], ◌∷◌, length, map, Option, Some, None, slice_index_or}
 use Rattle.std.specs.Option.{option_map_or}
 use Rattle.byte_codec.specs.Codec.{Codec, refined, named, pair, rows}

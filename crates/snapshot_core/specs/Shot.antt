@@ -3,14 +3,14 @@ use Rattle.std.specs.Prelude.{ℕ, List}
 use Rattle.std.specs.Int.{w32}
 use Rattle.byte_codec.specs.Codec.{Codec, pair, number}
 use Rattle.scene_core.specs.Scene.{SceneView}
-use Rattle.cascade_core.specs.declared.world.WorldData.{WorldData}
+use Rattle.cascade_core.specs.Course.{Scripted}
 use Rattle.snapshot_codec.specs.Head.{snapshot}
 use Rattle.snapshot_core.specs.WorldCodec.{world_codec}
 
 -- all between the mark and the digest: the boot, and the world
-abbrev pub body_codec : SceneView → Codec (ℕ × WorldData)
+abbrev pub body_codec : SceneView → Codec (ℕ × Scripted)
 body_codec scene = pair (number w32) (world_codec scene)
 
 -- the snapshot of a scene's world by the scene's mark, as a boot
-abbrev pub shot : (mark : List ℕ) → (boot : ℕ) → SceneView → WorldData → List ℕ
+abbrev pub shot : (mark : List ℕ) → (boot : ℕ) → SceneView → Scripted → List ℕ
 shot mark boot scene w = snapshot 1 mark ((body_codec scene).write (boot, w))

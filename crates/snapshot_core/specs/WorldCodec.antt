@@ -10,14 +10,17 @@ use Rattle.snapshot_codec.specs.declared.head.Progress.{Progress}
 use Rattle.snapshot_codec.specs.declared.trace.TraceEntry.{TraceEntry}
 use Rattle.snapshot_codec.specs.declared.viewers.Viewers.TheVariants.{Sixteen}
 use Rattle.snapshot_codec.specs.Head.{applied_codec}
-use Rattle.snapshot_codec.specs.Parts.{viewer_set_codec}
+use Rattle.snapshot_codec.specs.Parts.{states_codec, viewer_set_codec}
 use Rattle.snapshot_codec.specs.Trace.{moment_codec, trace_codec, entry_text}
 use Rattle.sensor_core.specs.Parts.{number_of, over_of}
 use Rattle.scene_core.specs.Scene.{SceneView, shapes_of}
 use Rattle.scene_core.specs.Shape.{Shape, rows_of}
+use Rattle.cascade_core.specs.Course.{Scripted}
+use Rattle.cascade_core.specs.Scripts.{kinds_in}
 use Rattle.cascade_core.specs.declared.world.TraceLine.{TraceLine}
 use Rattle.cascade_core.specs.declared.world.WorldData.{WorldData}
 use Rattle.snapshot_core.specs.declared.nodes.NodeLists.{NodeLists}
+use Rattle.snapshot_core.specs.declared.world.Found.{Found}
 use Rattle.snapshot_core.specs.declared.world.WorldParts.{WorldParts}
 use Rattle.snapshot_core.specs.Nodes.{nodes_codec}
 
@@ -68,37 +71,52 @@ lines_codec shapes = named (map line_of) (map entry_of) (trace_codec (output_typ
 
 -- ---- a world
 
--- nodes, buttons, trace
-unfoldable pub parts_codec : List Shape → Codec WorldParts
-parts_codec shapes =
-    named (λ t. record { nodes = t.0; buttons = t.1.0; trace = t.1.1 })
-    (λ p. (p.nodes, (p.buttons, p.trace)))
-    (pair (nodes_codec shapes) (pair buttons_codec (lines_codec shapes)))
+-- nodes, buttons, the states of the scripts by their numbers, trace
+unfoldable pub parts_codec : SceneView → Codec WorldParts
+parts_codec scene =
+    named (λ t. record { nodes = t.0; buttons = t.1.0; states = t.1.1.0; trace = t.1.1.1 })
+    (λ p. (p.nodes, (p.buttons, (p.states, p.trace))))
+    (pair (nodes_codec (shapes_of scene))
+    (pair buttons_codec
+    (pair (states_codec (length (kinds_in scene))) (lines_codec (shapes_of scene)))))
 
 -- inputs applied, time of the last, and the parts
-abbrev pub world_of : ℕ × (ℤ × WorldParts) → WorldData
+abbrev pub world_of : ℕ × (ℤ × WorldParts) → Scripted
 world_of x = record {
-  applied = x.0;
-  last_time = x.1.0;
-  fields = x.1.1.nodes.fields;
-  sensors = x.1.1.nodes.sensors;
-  touches = x.1.1.nodes.touches;
-  buttons = x.1.1.buttons;
-  trace = x.1.1.trace;
+  world = record {
+    applied = x.0;
+    last_time = x.1.0;
+    fields = x.1.1.nodes.fields;
+    sensors = x.1.1.nodes.sensors;
+    touches = x.1.1.nodes.touches;
+    buttons = x.1.1.buttons;
+    trace = x.1.1.trace;
+  };
+  states = x.1.1.states;
 }
 
 abbrev pub lists_in : WorldData → NodeLists
 lists_in w = record { fields = w.fields; sensors = w.sensors; touches = w.touches }
 
-abbrev pub parts_in : WorldData → WorldParts
-parts_in w = record { nodes = lists_in w; buttons = w.buttons; trace = w.trace }
+abbrev pub parts_in : Scripted → WorldParts
+parts_in w = record {
+  nodes = lists_in w.world;
+  buttons = w.world.buttons;
+  states = w.states;
+  trace = w.world.trace;
+}
 
--- the worlds of a scene, by the shapes of its nodes: those that fit have a snapshot
-unfoldable pub world_codec : SceneView → Codec WorldData
+-- the worlds of a scene, by the shapes of its nodes and the number of its scripts: those that fit
+-- have bytes. Whether the numbers of a script are a state of it doesn't show in them.
+unfoldable pub world_codec : SceneView → Codec Scripted
 world_codec scene =
-    named world_of (λ w. (w.applied, (w.last_time, parts_in w)))
-    (pair applied_codec (pair moment_codec (parts_codec (shapes_of scene))))
+    named world_of (λ w. (w.world.applied, (w.world.last_time, parts_in w)))
+    (pair applied_codec (pair moment_codec (parts_codec scene)))
 
 -- a world that had come so far, of these parts
-abbrev pub world_with : Progress → WorldParts → WorldData
+abbrev pub world_with : Progress → WorldParts → Scripted
 world_with progress parts = world_of (progress.applied, (progress.last_time, parts))
+
+-- a boot, and a world that was read with it
+abbrev pub booted : Found → ℕ × Scripted
+booted found = (found.boot, record { world = found.world; states = found.states })

@@ -11,7 +11,7 @@
 //! | `fault` | what may be refused |
 //! | `world` | a whole world, with its boot |
 //! | `nodes`, `kept`, `beside` | nodes in turn: their fields, and what stands behind them |
-//! | `buttons`, `lines` | what a world has beside its nodes |
+//! | `buttons`, `states`, `lines` | what a world has beside its nodes |
 //! | `exactness` | the law |
 #![tactic(auto)]
 
@@ -24,6 +24,7 @@ mod lines;
 mod loading;
 mod nodes;
 mod saving;
+mod states;
 mod world;
 
 pub use exactness::snapshots_are_exact;

@@ -1,15 +1,19 @@
 //! The world of a snapshot.
 
-ghost use Rattle.std.specs.Prelude.{◌≡◌, ◌⊎◌, Err, None, Result};
-ghost use Rattle.snapshot_codec.specs.Head.{head_fault};
+ghost use Rattle.std.specs.Prelude.{◌≡◌, ◌⊎◌, Err, None, Ok, Result, length};
+ghost use Rattle.std.specs.Result.{result_map_both};
 ghost use Rattle.cascade_core.specs.Held.{spoiled};
-ghost use Rattle.snapshot_core.specs.Loading.{loaded_body, loaded, load_outcome};
+ghost use Rattle.cascade_core.specs.Scripts.{kinds_in};
+ghost use Rattle.snapshot_codec.specs.Head.{head_fault, opened};
+ghost use Rattle.snapshot_core.specs.Loading.{behind_head, load_outcome, loaded, loaded_body, with_states};
+ghost use Rattle.snapshot_core.specs.WorldCodec.{booted};
 
 use crate::fault::{SnapFault, fault_of};
 use crate::saving::VERSION;
-use crate::world::body_of;
-use cascade_core::{Stage, WorldData};
+use crate::world::{Found, body_of};
+use cascade_core::Stage;
 use scene_core::Scene;
+use script_host::{Behaviour, StateFault};
 use snapshot_codec::{PartFault, open};
 use std::alloc::Global;
 
@@ -21,18 +25,23 @@ pub struct Saved {
     pub applied: u32,
 }
 
-/// The boot and the world of a body, for one that starts again as `boot`.
+/// The boot and the world of a body, for one that starts again as `boot`, of a scene that runs so
+/// many scripts.
 fn loaded_body(
     alloc: Global,
     scene: &Scene,
+    scripts: usize,
     boot: u32,
     body: &[u8],
-) -> Result<(u32, WorldData), SnapFault>
-    ensures { (loaded_body scene.now boot body.now ≡ result) ⊎ (result ≡ Err SnapFault.Memory) }
+) -> Result<Found, SnapFault>
+    requires { scripts ≡ length (kinds_in scene.now) }
+    ensures { (loaded_body scene.now boot body.now
+        ≡ result_map_both booted (λ fault. fault) result)
+        ⊎ (result ≡ Err SnapFault.Memory) }
 {
-    match body_of(alloc, scene, body) {
+    match body_of(alloc, scene, scripts, body) {
         Ok(found) => {
-            if found.0 < boot {
+            if found.boot < boot {
                 Ok(found)
             } else {
                 Err(SnapFault::BootNotNew)
@@ -43,29 +52,55 @@ fn loaded_body(
     }
 }
 
-/// The boot and the world of a snapshot, for one that starts again as `boot`.
-fn loaded(
+/// The boot and the world of a snapshot, for one that starts again as `boot`, of a scene that runs
+/// so many scripts. The states of the scripts aren't looked at.
+fn behind_head(
     alloc: Global,
     scene: &Scene,
+    scripts: usize,
     mark: &[u8; 32],
     boot: u32,
     bytes: &[u8],
-) -> Result<(u32, WorldData), SnapFault>
-    ensures { (loaded mark.now scene.now boot bytes.now ≡ result)
+) -> Result<Found, SnapFault>
+    requires { scripts ≡ length (kinds_in scene.now) }
+    ensures { (behind_head scene.now boot (opened 1 mark.now bytes.now)
+        ≡ result_map_both booted (λ fault. fault) result)
         ⊎ ((result ≡ Err SnapFault.Memory) × (head_fault 1 mark.now bytes.now ≡ None)) }
 {
     match open(VERSION, mark, bytes) {
-        Ok(body) => loaded_body(alloc, scene, boot, body),
+        Ok(body) => loaded_body(alloc, scene, scripts, boot, body),
         Err(fault) => Err(fault_of(fault)),
+    }
+}
+
+/// Puts a world that was read into a stage, where there is a state for each script.
+fn put<B: Behaviour>(stage: &mut Stage<B>, found: Found) -> Result<Saved, SnapFault>
+    ensures { (load_outcome stage.old (with_states stage.old.scene (Ok (booted found)))
+        ≡ (result, stage.new))
+        ⊎ ((result ≡ Err SnapFault.Memory) × (stage.new ≡ spoiled stage.old)) }
+{
+    let Found {
+        boot,
+        world,
+        states,
+    } = found;
+    let applied = world.applied;
+    match stage.install(world, states.as_slice()) {
+        Ok(()) => Ok(Saved { boot, applied }),
+        Err(StateFault::StateLength) => Err(SnapFault::ScriptState),
+        Err(StateFault::StateRange) => Err(SnapFault::ScriptState),
+        Err(StateFault::Memory) => Err(SnapFault::Memory),
     }
 }
 
 /// Puts the world of a snapshot into a stage, also a spoiled one: a snapshot of the scene with this
 /// mark, of a boot below `boot`. The answer is the first of these that holds: `Short`, `BadMagic`,
 /// `BadVersion`, `WrongScene`, `BadDigest`, `NotCanonical` (also where bytes are left over),
-/// `BootNotNew`; each leaves the stage as it was. `Memory`, where a growth was refused, comes only
-/// behind a good head and digest, and spoils the stage.
-pub fn load_into<B>(
+/// `BootNotNew`, `ScriptState` (there is no state for each script); each leaves the stage as it
+/// was. `Memory`, where a growth was refused, comes only behind a good head and digest, and spoils
+/// the stage.
+#[tactic(auto, unfolding(crate::specs::Loading::loaded))]
+pub fn load_into<B: Behaviour>(
     stage: &mut Stage<B>,
     mark: &[u8; 32],
     boot: u32,
@@ -76,14 +111,10 @@ pub fn load_into<B>(
         ⊎ ((result ≡ Err SnapFault.Memory) × (stage.new ≡ spoiled stage.old)
         × (head_fault 1 mark.now bytes.now ≡ None)) }
 {
-    match loaded(stage.allocator(), stage.scene(), mark, boot, bytes) {
-        Ok((boot, world)) => {
-            let applied = world.applied;
-            if stage.install(world).is_err() {
-                return Err(SnapFault::Memory);
-            }
-            Ok(Saved { boot, applied })
-        }
+    let alloc = stage.allocator();
+    let scripts = stage.script_count();
+    match behind_head(alloc, stage.scene(), scripts, mark, boot, bytes) {
+        Ok(found) => put(stage, found),
         Err(SnapFault::Memory) => {
             stage.spoil();
             Err(SnapFault::Memory)

@@ -111,16 +111,6 @@ fn node_of<'a>(
     state_of(alloc, kept, scene.node_type(node), bytes)
 }
 
-/// How many nodes the scene has. No memory holds a scene of 2^32 nodes.
-fn count_of(scene: &Scene) -> Result<u32, AllocError>
-    ensures { IfOk result (λ count. count ≡ length scene.now.nodes) }
-{
-    let Ok(count) = u32::try_from(scene.node_count()) else {
-        return Err(AllocError);
-    };
-    Ok(count)
-}
-
 /// What the nodes of the scene keep, at the front of the bytes, and the bytes behind it.
 #[tactic(auto, unfolding(crate::specs::Nodes::nodes_codec))]
 pub(crate) fn nodes_of<'a>(
@@ -131,7 +121,7 @@ pub(crate) fn nodes_of<'a>(
     ensures { Reads (λ x. (x.0, x.1.now)) result
         ((nodes_codec (shapes_of scene.now)).read bytes.now) }
 {
-    let count = count_of(scene)?;
+    let count = scene.count()?;
     let mut lists = NodeLists::new(alloc);
     let mut kept = Vec::new(alloc);
     let mut rest = bytes;
@@ -175,7 +165,7 @@ fn shared_count(scene: &Scene, world: &WorldData) -> Result<u32, AllocError>
         (min (length world.now.fields)
         (min (length world.now.sensors) (length world.now.touches)))) }
 {
-    let count = count_of(scene)? as usize;
+    let count = scene.count()? as usize;
     let sensors = world.sensors.len().min(world.touches.len());
     let lists = world.fields.as_slice().len().min(sensors);
     Ok(count.min(lists) as u32)

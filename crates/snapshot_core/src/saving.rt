@@ -9,34 +9,39 @@ use crate::fault::SaveFault;
 use crate::world::push_body;
 use cascade_core::{Stage, WorldData};
 use scene_core::Scene;
+use script_host::Behaviour;
 use snapshot_codec::{push_digest, push_front};
 use std::alloc::AllocError;
+use x3d_values::Items;
 
 /// The version of the snapshots that are written and read.
 pub(crate) const VERSION: u8 = 1;
 
-/// Appends the snapshot of a world; on a refusal perhaps a part of it.
+/// Appends the snapshot of a world, with the states of its scripts; on a refusal perhaps a part of
+/// it.
 fn push_shot(
     scene: &Scene,
     world: &WorldData,
+    states: &[Items<i64>],
     mark: &[u8; 32],
     boot: u32,
     out: &mut Vec<u8>,
 ) -> Result<(), AllocError>
     ensures ok { OnOk result (out.new.items
-        ≡ out.old.items ++ shot mark.now boot scene.now world.now) }
+        ≡ out.old.items
+        ++ shot mark.now boot scene.now (record { world = world.now; states = states.now })) }
     ensures kept { Extends out.old.items out.new.items }
 {
     let from = out.len();
     push_front(VERSION, mark, out)?;
-    push_body(scene, world, boot, out)?;
+    push_body(scene, world, states, boot, out)?;
     push_digest(from, out)
 }
 
 /// Appends the snapshot of a stage's world, by the mark of its scene and as a boot. The answer is
 /// `Spoiled` where the stage is, else `Memory` where a growth was refused; the buffer is then as it
 /// was.
-pub fn save<B>(
+pub fn save<B: Behaviour>(
     stage: &Stage<B>,
     mark: &[u8; 32],
     boot: u32,
@@ -52,8 +57,12 @@ pub fn save<B>(
     let Some(world) = stage.world() else {
         return Err(SaveFault::Spoiled);
     };
+    let mut states = Vec::new(stage.allocator());
+    if stage.script_states(&mut states).is_err() {
+        return Err(SaveFault::Memory);
+    }
     let len = out.len();
-    if push_shot(stage.scene(), world, mark, boot, out).is_err() {
+    if push_shot(stage.scene(), world, &states, mark, boot, out).is_err() {
         out.truncate(len);
         return Err(SaveFault::Memory);
     }

@@ -1,64 +1,80 @@
 //! A whole world, with its boot.
 
-ghost use Rattle.std.specs.Prelude.{◌≡◌, ◌++◌, OnOk};
+ghost use Rattle.std.specs.Prelude.{◌≡◌, ◌++◌, OnOk, length};
 ghost use Rattle.x3d_lists.specs.Extends.{Extends};
 ghost use Rattle.byte_codec.specs.Codec.{whole};
-ghost use Rattle.scene_core.specs.Scene.{shapes_of};
+ghost use Rattle.cascade_core.specs.Scripts.{kinds_in};
 ghost use Rattle.snapshot_codec.specs.Reads.{Reads};
 ghost use Rattle.snapshot_core.specs.Shot.{body_codec};
-ghost use Rattle.snapshot_core.specs.WorldCodec.{parts_codec, world_with};
+ghost use Rattle.snapshot_core.specs.WorldCodec.{booted, parts_codec, world_with};
 
 use crate::buttons::{buttons_of, push_buttons};
 use crate::lines::{lines_of, push_lines};
 use crate::nodes::{NodeLists, nodes_of, push_nodes};
+use crate::states::{push_states, states_of};
 use cascade_core::{State, Trace, WorldData};
 use scene_core::Scene;
 use sensor_core::VIEWERS;
 use snapshot_codec::{PartFault, Progress, all_read, progress_of, push_progress};
 use std::alloc::{AllocError, Global};
+use x3d_values::Items;
 
 /// What a world has beside how far it had come.
 #[derive(Drop)]
 pub(crate) struct WorldParts {
     pub nodes: NodeLists,
     pub buttons: [bool; VIEWERS],
+    pub states: Items<Items<i64>>,
     pub trace: Trace,
 }
 
-/// The parts of a world of the scene at the front of the bytes, and the bytes behind them.
+/// A boot, and the world that was read with it: its data, and the states of its scripts.
+#[derive(Drop)]
+pub(crate) struct Found {
+    pub boot: u32,
+    pub world: WorldData,
+    pub states: Items<Items<i64>>,
+}
+
+/// The parts of a world of the scene, which runs so many scripts, at the front of the bytes, and
+/// the bytes behind them.
 #[tactic(auto, unfolding(crate::specs::WorldCodec::parts_codec))]
 fn parts_of<'a>(
     alloc: Global,
     scene: &Scene,
+    scripts: usize,
     bytes: &'a [u8],
 ) -> Result<(WorldParts, &'a [u8]), PartFault>
-    ensures { Reads (λ x. (x.0, x.1.now)) result
-        ((parts_codec (shapes_of scene.now)).read bytes.now) }
+    requires { scripts ≡ length (kinds_in scene.now) }
+    ensures { Reads (λ x. (x.0, x.1.now)) result ((parts_codec scene.now).read bytes.now) }
 {
     let (nodes, rest) = nodes_of(alloc, scene, bytes)?;
     let Some(read) = buttons_of(rest) else {
         return Err(PartFault::NotCanonical);
     };
     let (buttons, rest) = read;
+    let (states, rest) = states_of(alloc, scripts, rest)?;
     let (trace, rest) = lines_of(alloc, scene, rest)?;
     let parts = WorldParts {
         nodes,
         buttons,
+        states,
         trace,
     };
     Ok((parts, rest))
 }
 
 /// A world that had come so far, of these parts.
-fn world_with(progress: Progress, parts: WorldParts) -> WorldData
-    ensures { result ≡ world_with progress parts }
+fn found_with(progress: Progress, parts: WorldParts) -> Found
+    ensures { booted result ≡ (progress.boot, world_with progress parts) }
 {
     let WorldParts {
         nodes,
         buttons,
+        states,
         trace,
     } = parts;
-    WorldData {
+    let world = WorldData {
         applied: progress.applied,
         last_time: progress.last_time,
         fields: State::from_vec(nodes.fields.into_vec()),
@@ -66,6 +82,11 @@ fn world_with(progress: Progress, parts: WorldParts) -> WorldData
         touches: nodes.touches,
         buttons,
         trace,
+    };
+    Found {
+        boot: progress.boot,
+        world,
+        states,
     }
 }
 
@@ -73,39 +94,48 @@ fn world_with(progress: Progress, parts: WorldParts) -> WorldData
 fn world_of<'a>(
     alloc: Global,
     scene: &Scene,
+    scripts: usize,
     bytes: &'a [u8],
-) -> Result<((u32, WorldData), &'a [u8]), PartFault>
-    ensures { Reads (λ x. (x.0, x.1.now)) result ((body_codec scene.now).read bytes.now) }
+) -> Result<(Found, &'a [u8]), PartFault>
+    requires { scripts ≡ length (kinds_in scene.now) }
+    ensures { Reads (λ x. (booted x.0, x.1.now)) result ((body_codec scene.now).read bytes.now) }
 {
     let Some((progress, rest)) = progress_of(bytes) else {
         return Err(PartFault::NotCanonical);
     };
-    let (parts, rest) = parts_of(alloc, scene, rest)?;
-    Ok(((progress.boot, world_with(progress, parts)), rest))
+    let (parts, rest) = parts_of(alloc, scene, scripts, rest)?;
+    Ok((found_with(progress, parts), rest))
 }
 
-/// The boot and the world of the scene that all these bytes are those of.
+/// The boot and the world of the scene, which runs so many scripts, that all these bytes are those
+/// of.
 pub(crate) fn body_of(
     alloc: Global,
     scene: &Scene,
+    scripts: usize,
     bytes: &[u8],
-) -> Result<(u32, WorldData), PartFault>
-    ensures { Reads (λ x. x) result (whole ((body_codec scene.now).read bytes.now)) }
+) -> Result<Found, PartFault>
+    requires { scripts ≡ length (kinds_in scene.now) }
+    ensures { Reads booted result (whole ((body_codec scene.now).read bytes.now)) }
 {
-    let (found, rest) = world_of(alloc, scene, bytes)?;
+    let (found, rest) = world_of(alloc, scene, scripts, bytes)?;
     all_read(rest)?;
     Ok(found)
 }
 
-/// Appends a boot and a world of the scene; on a refusal perhaps a part of it.
+/// Appends a boot and a world of the scene, with the states of its scripts; on a refusal perhaps a
+/// part of it.
 pub(crate) fn push_body(
     scene: &Scene,
     world: &WorldData,
+    states: &[Items<i64>],
     boot: u32,
     out: &mut Vec<u8>,
 ) -> Result<(), AllocError>
     ensures ok { OnOk result (out.new.items
-        ≡ out.old.items ++ (body_codec scene.now).write (boot, world.now)) }
+        ≡ out.old.items
+        ++ (body_codec scene.now).write
+        (boot, record { world = world.now; states = states.now })) }
     ensures kept { Extends out.old.items out.new.items }
 {
     let progress = Progress {
@@ -116,6 +146,7 @@ pub(crate) fn push_body(
     push_progress(progress, out)?;
     push_nodes(scene, world, out)?;
     push_buttons(&world.buttons, out)?;
+    push_states(states, out)?;
     push_lines(&world.trace, out)?;
     Ok(())
 }

@@ -1,8 +1,7 @@
 -- The scene of a text can be counted.
-use Rattle.std.proofs.Common.{◌≡◌, ℕ, ◌^◌, ◌≤◌, ◌<◌, Bool, true, ◌&&◌, nat_lt, List, [], ◌∷◌, length, Option, Some, None, Ok, refl, arith, lt-ltb}
+use Rattle.std.proofs.Common.{◌≡◌, ℕ, ◌^◌, ◌≤◌, true, List, [], ◌∷◌, length, Option, Some, None, refl, arith, lt-ltb}
 use Rattle.std.specs.List.{AllByRecursion, list_all}
 use Rattle.std.specs.Option.{option_map_or}
-use Rattle.std.specs.Str.{is_utf8}
 use Rattle.std.proofs.lemmas.Str.{is_utf8-from_IsUtf8}
 use Rattle.byte_codec.proofs.Laws.{and_true}
 use Rattle.x3d_values.specs.declared.value.Value.{Value}
@@ -12,10 +11,10 @@ use Rattle.flat_document.specs.declared.flat.Flat.{Flat}
 use Rattle.scene_core.specs.declared.scene.Route.{Route}
 use Rattle.scene_core.specs.declared.scene.SceneNode.{SceneNode}
 use Rattle.scene_core.specs.Scene.{SceneView}
-use Rattle.document_laws.specs.Openings.{IsCountable, is_countable, is_countable_node, is_counted, is_text}
+use Rattle.document_laws.specs.Openings.{is_countable, is_countable_node, is_counted, is_text}
 use Rattle.document_laws.specs.Worlds.{IsDocument}
 use Rattle.document_limits.specs.Lengths.{IsShortText}
-use Rattle.document_limits.specs.Scenes.{IsShortIfAny, IsShortScene, IsShortSceneNode, IsShortValue}
+use Rattle.document_limits.specs.Scenes.{IsShortIfAny, IsShortSceneNode, IsShortValue}
 use Rattle.document_limits.proofs.Documents.{nodes_few}
 use Rattle.document_limits.proofs.Scenes.{scenes_short}
 use Rattle.text_laws.specs.Opened.{IsOpened}

@@ -1,5 +1,5 @@
 -- The worlds of the scene of a text.
-use Rattle.std.proofs.Common.{◌≡◌, ℕ, suc, ◌+◌, ◌^◌, ◌≤◌, ◌<◌, ℤ, pos, true, ◌&&◌, nat_le, List, [], ◌∷◌, ◌++◌, length, Option, Some, refl, sym, ap, subst, arith, length-append}
+use Rattle.std.proofs.Common.{◌≡◌, ℕ, suc, ◌+◌, ◌^◌, ◌≤◌, ◌<◌, ℤ, pos, true, ◌&&◌, nat_le, List, [], ◌∷◌, length, Some, refl, sym, ap, subst, arith, length-append}
 use Rattle.std.specs.Prelude.{slice_get}
 use Rattle.std.specs.List.{list_all}
 use Rattle.std.proofs.lemmas.Bool.{leb-true}
@@ -8,28 +8,28 @@ use Rattle.x3d_values.specs.Ranges.{is_input_number, is_input_time, max_inputs}
 use Rattle.x3d_values.specs.Stamp.{Stamp}
 use Rattle.flat_document.specs.declared.flat.Flat.{Flat}
 use Rattle.scene_core.specs.declared.scene.Route.{Route}
-use Rattle.scene_core.specs.Scene.{SceneView, shapes_of}
-use Rattle.cascade_core.specs.Apply.{world}
-use Rattle.cascade_core.specs.declared.world.WorldData.{WorldData}
+use Rattle.scene_core.specs.Scene.{SceneView}
+use Rattle.script_laws.specs.Nodes.{RunsAll}
+use Rattle.cascade_core.specs.Course.{Scripted}
 use Rattle.cascade_core.specs.InTurn.{Follow}
-use Rattle.snapshot_core.specs.WorldCodec.{world_codec}
 use Rattle.share_wire.specs.Datagram.{event_fits, stamp_fits}
 use Rattle.share_law.specs.Cascade.{cascade}
 use Rattle.share_law.specs.Network.{Network}
-use Rattle.share_law.specs.Reached.{IsRunning, Reached}
-use Rattle.share_law.specs.Viewer.{Shot, View}
+use Rattle.share_law.specs.Reached.{Reached}
+use Rattle.share_law.specs.Viewer.{View}
 use Rattle.share_law.proofs.Agreement.{Sound-reached}
 use Rattle.share_law.proofs.Machines.{cascade-is}
 use Rattle.share_law.proofs.Ranges.{InRange, both-reached}
 use Rattle.share_law.proofs.Sound.{InStep, IsAt, Sound, ViewSound}
-use Rattle.world_laws.specs.Fits.{WorldFits, is_event}
-use Rattle.document_laws.specs.Worlds.{AreInputs, is_input}
+use Rattle.world_laws.specs.Fits.{is_event}
+use Rattle.document_laws.specs.Worlds.{is_input}
 use Rattle.document_laws.proofs.Counted.{scene_few}
 use Rattle.document_laws.proofs.Worlds.{all_have_snapshots, all_worlds_fit}
 use Rattle.network_laws.proofs.Saved.{saved_have as all_saved, running_have as all_running}
 use Rattle.document_limits.proofs.Documents.{nodes_few}
 use Rattle.trace_limits.proofs.Counted.{counted}
 use Rattle.text_laws.specs.Opened.{IsOpened}
+use Rattle.text_laws.specs.Worlds.{RunningOfTextsHaveSnapshots, SavedOfTextsHaveSnapshots, WorldsOfTextsFit, WorldsOfTextsHaveSnapshots}
 use Rattle.text_laws.proofs.Countable.{is_document}
 
 last : (s : Stamp) → is_input_number s.number ≡ true → s.number ≤ max_inputs
@@ -63,35 +63,33 @@ module _ (text : List ℕ) (f : Flat) (scene : SceneView) (routes : List Route) 
   pub few_nodes : length scene.nodes ≤ 2 ^ 16
   few_nodes = omega (arith, scene_few f scene o.is_scene, nodes_few o.document f o.put_in)
 
-  module _ (net : Network WorldData) (reached : Reached (cascade scene routes) net) where
+  module _ (run : RunsAll scene) (net : Network Scripted) (reached : Reached (cascade scene routes) net) where
     few_inputs : length net.host.list ≤ max_inputs
     few_inputs =
         let sound : Sound (cascade scene routes) net = Sound-reached (cascade-is scene routes) reached in
         let ranges : InRange net = (both-reached (cascade scene routes) net reached).0 in
         omega (arith, numbered 0 net.host.list (omega arith) (λ k x at. from_none k x (sound.numbers k x at)) ranges.list)
 
-    pub few_lines : (w : WorldData) → IsAt (cascade scene routes) net.host.list w → length w.trace < 2 ^ 64
+    pub few_lines : (w : Scripted) → IsAt (cascade scene routes) net.host.list w → length w.world.trace < 2 ^ 64
     few_lines w a =
         let front : length a.done ≤ max_inputs = omega (arith, length-append a.done a.todo, ap length a.whole, few_inputs) in
-        subst (λ (v : WorldData). length v.trace < 2 ^ 64) (sym a.is) (counted scene routes a.done few_nodes front)
+        subst (λ (v : Scripted). length v.world.trace < 2 ^ 64) (sym a.is) (counted scene routes a.done run few_nodes front)
 
-pub worlds_fit : (text : List ℕ) (f : Flat) (scene : SceneView) (routes : List Route) (inputs : List Stamp) → IsOpened text f scene routes → AreInputs inputs → WorldFits (shapes_of scene) (world scene routes inputs)
-worlds_fit text f scene routes inputs o i = all_worlds_fit f scene routes inputs (is_document text f scene routes o) i
+pub worlds_fit : WorldsOfTextsFit
+worlds_fit text f scene routes inputs o run i = all_worlds_fit f scene routes inputs (is_document text f scene routes o) run i
 
-pub worlds_have : (text : List ℕ) (f : Flat) (scene : SceneView) (routes : List Route) (inputs : List Stamp) → IsOpened text f scene routes → AreInputs inputs → (world_codec scene).fits (world scene routes inputs) ≡ true
-worlds_have text f scene routes inputs o i =
+pub worlds_have : WorldsOfTextsHaveSnapshots
+worlds_have text f scene routes inputs o run i =
     let few : length inputs ≤ max_inputs = omega (arith, in_turn 0 (pos 0) inputs (omega arith) i.in_turn i.in_range) in
-    all_have_snapshots f scene routes inputs (is_document text f scene routes o) i (counted scene routes inputs (few_nodes text f scene routes o) few)
+    all_have_snapshots f scene routes inputs (is_document text f scene routes o) run i (counted scene routes inputs run (few_nodes text f scene routes o) few)
 
-pub saved_have : (text : List ℕ) (f : Flat) (scene : SceneView) (routes : List Route) (net : Network WorldData) → IsOpened text f scene routes → Reached (cascade scene routes) net
-    → (s : ℕ) (shot : Shot WorldData) → slice_get net.shots s ≡ Some shot → (world_codec scene).fits shot.state ≡ true
-saved_have text f scene routes net o reached s shot at =
+pub saved_have : SavedOfTextsHaveSnapshots
+saved_have text f scene routes net o run reached s shot at =
     let sound : Sound (cascade scene routes) net = Sound-reached (cascade-is scene routes) reached in
-    all_saved f scene routes net (is_document text f scene routes o) reached s shot at (few_lines text f scene routes o net reached shot.state (sound.shots s shot at))
+    all_saved f scene routes net (is_document text f scene routes o) run reached s shot at (few_lines text f scene routes o run net reached shot.state (sound.shots s shot at))
 
-pub running_have : (text : List ℕ) (f : Flat) (scene : SceneView) (routes : List Route) (net : Network WorldData) → IsOpened text f scene routes → Reached (cascade scene routes) net
-    → (viewer : ℕ) (held : WorldData) (window : List (Option Stamp)) → IsRunning net viewer held window → (world_codec scene).fits held ≡ true
-running_have text f scene routes net o reached viewer held window r =
+pub running_have : RunningOfTextsHaveSnapshots
+running_have text f scene routes net o run reached viewer held window r =
     let sound : Sound (cascade scene routes) net = Sound-reached (cascade-is scene routes) reached in
-    let step : InStep (cascade scene routes) net.host.list held window = subst (λ (v : View WorldData). ViewSound (cascade scene routes) net.host.list v) r.view (sound.viewers viewer r.seat r.is) in
-    all_running f scene routes net (is_document text f scene routes o) reached viewer held window r (few_lines text f scene routes o net reached held step.at)
+    let step : InStep (cascade scene routes) net.host.list held window = subst (λ (v : View Scripted). ViewSound (cascade scene routes) net.host.list v) r.view (sound.viewers viewer r.seat r.is) in
+    all_running f scene routes net (is_document text f scene routes o) run reached viewer held window r (few_lines text f scene routes o run net reached held step.at)

@@ -1,11 +1,10 @@
 -- All lines that a world may have are fewer than 2^64.
-use Rattle.std.proofs.Common.{◌≡◌, ◌+◌, ◌*◌, ◌^◌, ◌≤◌, ◌<◌, true, nat_le, List, [], ◌∷◌, length, map, refl, arith, length-append}
+use Rattle.std.proofs.Common.{◌≡◌, ◌+◌, ◌*◌, ◌≤◌, true, nat_le, List, [], ◌∷◌, length, map, refl, arith, length-append}
 use Rattle.std.specs.List.{range_with_len}
 use Rattle.std.proofs.lemmas.Bool.{leb-true}
 use Rattle.std.proofs.lemmas.List.{length-map, length-take}
 use Rattle.std.proofs.lemmas.List.FromFn.{length-range_with_len}
 use Rattle.std.proofs.lemmas.List.Sums.{count_by-le-length, length-filter, sum_by-cons}
-use Rattle.x3d_values.specs.Ranges.{max_inputs}
 use Rattle.x3d_values.specs.Stamp.{Stamp}
 use Rattle.x3d_values.specs.Tables.{rows}
 use Rattle.x3d_values.specs.declared.node_type.NodeType.{NodeType}
@@ -16,10 +15,12 @@ use Rattle.scene_core.specs.declared.row.DeclaredField.{DeclaredField}
 use Rattle.scene_core.specs.declared.scene.Route.{Route}
 use Rattle.scene_core.specs.declared.scene.SceneNode.{SceneNode}
 use Rattle.cascade_core.specs.Access.{is_output}
-use Rattle.cascade_core.specs.Apply.{apply, opening, world, world_after}
+use Rattle.script_laws.specs.Nodes.{RunsAll}
+use Rattle.cascade_core.specs.Apply.{apply, opening, world_after}
+use Rattle.cascade_core.specs.Course.{Scripted}
 use Rattle.cascade_core.specs.Outputs.{output_fields, outputs_of, outputs_of_shape}
-use Rattle.cascade_core.specs.declared.world.WorldData.{WorldData}
-use Rattle.trace_limits.proofs.Sent.{sends_few}
+use Rattle.trace_limits.specs.Traces.{TracesAreCounted}
+use Rattle.trace_limits.proofs.Sent.{opening_few, sends_few}
 
 -- ---- outputs
 
@@ -48,14 +49,14 @@ few_all (n ∷ nodes) =
 
 -- ---- the trace
 
-grows : (scene : SceneView) (routes : List Route) → outputs_of (shapes_of scene) ≤ 4294967296 → (inputs : List Stamp) (w : WorldData)
-    → length (world_after scene routes w inputs).trace ≤ length w.trace + length inputs * 4294967296
-grows scene routes few [] w = omega arith
-grows scene routes few (s ∷ inputs) w =
-    omega (arith, grows scene routes few inputs (apply scene routes w s), sends_few scene routes w s, few)
+grows : (scene : SceneView) (routes : List Route) → RunsAll scene → outputs_of (shapes_of scene) ≤ 4294967296 → (inputs : List Stamp) (w : Scripted)
+    → length (world_after scene routes w inputs).world.trace ≤ length w.world.trace + length inputs * 4294967296
+grows scene routes all few [] w = omega arith
+grows scene routes all few (s ∷ inputs) w =
+    omega (arith, grows scene routes all few inputs (apply scene routes w s), sends_few scene routes w s all, few)
 
-pub counted : (scene : SceneView) (routes : List Route) (inputs : List Stamp) → length scene.nodes ≤ 2 ^ 16 → length inputs ≤ max_inputs
-    → length (world scene routes inputs).trace < 2 ^ 64
-counted scene routes inputs few some =
+-- as many lines for input 0 as for any other
+pub counted : TracesAreCounted
+counted scene routes inputs all few some =
     let outputs : outputs_of (shapes_of scene) ≤ 4294967296 = omega (arith, few_all scene.nodes, few) in
-    omega (arith, grows scene routes outputs inputs (opening scene), some)
+    omega (arith, grows scene routes all outputs inputs (opening scene routes), opening_few scene routes all, outputs, some)

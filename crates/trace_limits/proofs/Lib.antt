@@ -1,2 +1,3 @@
-pub mod Sent
 pub mod Counted
+mod Outputs
+pub mod Sent

@@ -1,135 +1,91 @@
--- An input sends by outputs of the scene alone, by each once.
-use Rattle.std.proofs.Common.{◌≡◌, ℕ, ℤ, zero, suc, ◌+◌, ◌≤◌, Bool, true, false, List, [], ◌∷◌, length, if◌then◌else◌, refl, ap, arith, length-append}
-use Rattle.std.specs.List.{AllByRecursion, filter, fold, range_with_len}
+-- An input sends by outputs of the scene alone, by each once, and so does input 0.
+use Rattle.std.proofs.Common.{◌≡◌, ◌+◌, ◌≤◌, true, false, List, [], ◌∷◌, length, refl, sym, ap, subst, arith, length-append}
 use Rattle.std.proofs.lemmas.List.{length-map}
-use Rattle.x3d_values.specs.Pointing.{Pointing}
 use Rattle.x3d_values.specs.Stamp.{Stamp}
 use Rattle.x3d_values.specs.declared.stamped.Event.{Event}
 use Rattle.x3d_values.specs.declared.stamped.Event.TheVariants.{Clock, Pointer}
 use Rattle.x3d_values.specs.declared.value.Value.{Value}
-use Rattle.react_core.specs.declared.outbox.Reply.{Reply}
-use Rattle.scene_core.specs.Scene.{SceneView, shapes_of, types_of}
+use Rattle.scene_core.specs.Scene.{SceneView, shapes_of}
 use Rattle.scene_core.specs.Shape.{Shape}
 use Rattle.scene_core.specs.declared.scene.End.{End}
 use Rattle.scene_core.specs.declared.scene.Route.{Route}
-use Rattle.cascade_core.specs.Answers.{answer, met, ticked, with_answer}
-use Rattle.cascade_core.specs.Apply.{apply, begin, clock, happen, point, point_node, tick_node, with_button}
-use Rattle.cascade_core.specs.Cascade.{deliver, send, send_all}
+use Rattle.script_laws.specs.Nodes.{RunsAll}
+use Rattle.cascade_core.specs.Answers.{answer, met, ticked}
+use Rattle.cascade_core.specs.Apply.{after_input, apply, begin, begun, untold}
+use Rattle.cascade_core.specs.Course.{Course, Scripted, plan_of}
 use Rattle.cascade_core.specs.Ends.{has_sent, targets_of}
-use Rattle.cascade_core.specs.Nodes.{clocks_of, is_clock, numbers_of}
 use Rattle.cascade_core.specs.Outputs.{ends_from, is_scene_output, outputs_of}
-use Rattle.cascade_core.specs.Pointer.{concerned, insides, is_down, place_in}
+use Rattle.cascade_core.specs.Pointer.{insides, place_in}
+use Rattle.cascade_core.specs.Stack.{unsent_among}
 use Rattle.cascade_core.specs.World.{record_event}
-use Rattle.cascade_core.specs.declared.pointer.Inside.{Inside}
 use Rattle.cascade_core.specs.declared.world.TraceLine.{TraceLine}
 use Rattle.cascade_core.specs.declared.world.Turn.{Turn}
-use Rattle.cascade_core.specs.declared.world.WorldData.{WorldData}
-use Rattle.cascade_core.proofs.Folds.{all_free, fold-keeps}
-use Rattle.cascade_core.specs.Stack.{unsent_among}
+use Rattle.cascade_core.proofs.Folds.{all_free}
 use Rattle.cascade_core.proofs.Fuel.{unsent-bound, unsent-less}
-use Rattle.cascade_core.proofs.Gains.{IsGain, gain-begin, gain-happen}
-use Rattle.cascade_core.proofs.SceneOutputs.{AllOutputs, answer-sends, met-sends, ticked-sends}
+use Rattle.cascade_core.proofs.Gains.{IsGain, gain-begin, gain-button, gain-record, gain-state}
+use Rattle.cascade_core.proofs.SceneOutputs.{answer-sends, met-sends, ticked-sends}
+use Rattle.world_laws.proofs.Walks.{EventKeeps, Rules, first_course, input_keeps, opening_is, opening_keeps}
+use Rattle.trace_limits.specs.Traces.{InputsSendFew, OpeningsSendFew}
+use Rattle.trace_limits.proofs.Outputs.{AreAmong, IsOutput, all_among, calls_send, running_among}
 
-passing : (p : ℕ → Bool) (xs : List ℕ) → AllByRecursion (λ n. p n ≡ true) (filter p xs)
-passing p [] = tt
-passing p (x ∷ xs) = by (p x) refl (passing p xs)
-  where
-    by : (b : Bool) → p x ≡ b → AllByRecursion (λ n. p n ≡ true) (filter p xs) → AllByRecursion (λ n. p n ≡ true) (if b then x ∷ filter p xs else filter p xs)
-    by true e h = (e, h)
-    by false e h = h
+-- what was sent stands in the trace; those that have sent, and those of the scene that have not,
+-- are no more than it has
+pub record IsFew (shapes : List Shape) (start : List TraceLine) (turn : Turn) : Type 0 where
+  pub gain : IsGain start turn
+  pub bound : length turn.sent + unsent_among (ends_from 0 shapes) turn.sent ≤ outputs_of shapes
 
-module _ (shapes : List Shape) where
-  -- those that have sent, and those of the scene that have not
-  abbrev pub IsBound : Turn → Type 0
-  IsBound turn = length turn.sent + unsent_among (ends_from 0 shapes) turn.sent ≤ outputs_of shapes
+begins : (shapes : List Shape) (turn : Turn) → turn.sent ≡ [] → IsFew shapes turn.world.trace turn
+begins shapes turn none = record {
+  gain = gain-begin turn.world.trace turn refl none;
+  bound = omega (arith, unsent-bound shapes turn, ap length none);
+}
 
-  one_more : (turn : Turn) (source : End) (v : Value) → is_scene_output shapes source ≡ true → has_sent turn.sent source ≡ false → IsBound turn → IsBound (record_event turn source v)
-  one_more turn source v o new h =
-      omega (arith, h, unsent-less (ends_from 0 shapes) turn.sent source o new, length-append turn.sent (source ∷ []))
+one_more : (shapes : List Shape) (start : List TraceLine) (turn : Turn) (source : End) (v : Value) → has_sent turn.sent source ≡ false → is_scene_output shapes source ≡ true
+    → IsFew shapes start turn → IsFew shapes start (record_event turn source v)
+one_more shapes start turn source v new o f = record {
+  gain = gain-record start turn source v new f.gain;
+  bound = omega (arith, f.bound, unsent-less (ends_from 0 shapes) turn.sent source o new, length-append turn.sent (source ∷ []));
+}
 
-module _ (shapes : List Shape) (routes : List Route) where
-  -- what sends by an output of the scene
-  abbrev Sends : (Turn → End → Value → Turn) → Type 0
-  Sends go = (turn : Turn) (source : End) (v : Value) → is_scene_output shapes source ≡ true → IsBound shapes turn → IsBound shapes (go turn source v)
+-- the lines that a turn adds are as many as have sent
+few_lines : (shapes : List Shape) (start : List TraceLine) (turn : Turn) → IsFew shapes start turn → length turn.world.trace ≤ length start + outputs_of shapes
+few_lines shapes start turn f =
+    let g = f.gain in
+    omega (arith, ap length g.gained, length-append start g.lines, length-map g.lines (λ (l : TraceLine). l.source), ap length g.sources, f.bound)
 
-  all_sent : (go : Turn → End → Value → Turn) → Sends go → (node : ℕ) (turn : Turn) (replies : List Reply) → AllOutputs shapes node replies → IsBound shapes turn → IsBound shapes (send_all go node turn replies)
-  all_sent go keeps node turn replies o h =
-      fold-keeps (IsBound shapes) (λ (r : Reply). is_scene_output shapes (record { node = node; field = r.field }) ≡ true)
-      (λ (t : Turn) (r : Reply). go t (record { node = node; field = r.field }) r.value)
-      (λ t r q p. keeps t (record { node = node; field = r.field }) r.value q p) turn replies o h
+module _ (scene : SceneView) (routes : List Route) (all : RunsAll scene) (start : List TraceLine) where
+  sending : Rules scene routes (IsFew (shapes_of scene) start) (AreAmong scene) (λ source v. IsOutput scene source) (λ target v. Unit {0})
+  sending = record {
+    comes = λ source v o. all_free (targets_of routes source);
+    records = λ turn source v new o f. one_more (shapes_of scene) start turn source v new o f;
+    answers = λ turn target v come f.
+        (record { gain = gain-state start turn (answer (shapes_of scene) turn.world target v) f.gain; bound = f.bound }, answer-sends (shapes_of scene) turn.world target v);
+    calls = λ scripts k call takes among. calls_send scene routes all scripts k call among;
+  }
 
-  delivered : (go : Turn → End → Value → Turn) → Sends go → (v : Value) (turn : Turn) (target : End) → IsBound shapes turn → IsBound shapes (deliver go shapes v turn target)
-  unfolding deliver
-  delivered go keeps v turn target h =
-      all_sent go keeps target.node (with_answer turn (answer shapes turn.world target v)) (answer shapes turn.world target v).replies (answer-sends shapes turn.world target v) h
+  event_keeps : (input : Stamp) (event : Event) → EventKeeps scene (IsFew (shapes_of scene) start) (λ source v. IsOutput scene source) input.time event
+  event_keeps input Clock = λ turn node is f.
+      (record { gain = gain-state start turn (ticked turn.world node input.time) f.gain; bound = f.bound }, ticked-sends scene turn.world node input.time is)
+  event_keeps input (Pointer p) = (
+    λ turn f. record { gain = gain-button start turn p f.gain; bound = f.bound },
+    λ fields before turn node is f.
+        let place = place_in (insides scene fields p.ray) node in
+        (record { gain = gain-state start turn (met scene turn.world node p before place) f.gain; bound = f.bound }, met-sends scene turn.world node p before place),
+  )
 
-  followed : (go : Turn → End → Value → Turn) → Sends go → (turn : Turn) (source : End) (v : Value) → is_scene_output shapes source ≡ true → has_sent turn.sent source ≡ false → IsBound shapes turn
-      → IsBound shapes (fold (deliver go shapes v) (record_event turn source v) (targets_of routes source))
-  followed go keeps turn source v o new h =
-      fold-keeps (IsBound shapes) (λ (e : End). Unit {0}) (deliver go shapes v) (λ t e q p. delivered go keeps v t e p)
-      (record_event turn source v) (targets_of routes source) (all_free (targets_of routes source)) (one_more shapes turn source v o new h)
+pub sends_few : InputsSendFew
+unfolding apply
+sends_few scene routes w input all =
+    let start : List TraceLine = w.world.trace in
+    let c : Course = after_input scene (plan_of scene routes) (begun scene w input) input in
+    let h = input_keeps scene routes (IsFew (shapes_of scene) start) (AreAmong scene) (λ source v. IsOutput scene source) (λ target v. Unit {0}) (sending scene routes all start) w input
+    (event_keeps scene routes all start input input.event) (begins (shapes_of scene) (begin w.world input) refl) (running_among scene w.states) in
+    few_lines (shapes_of scene) start c.turn h.turn
 
-  deeper : (depth : ℕ) → Sends (send shapes routes depth) → (turn : Turn) (source : End) (v : Value) → is_scene_output shapes source ≡ true → IsBound shapes turn → (b : Bool) → has_sent turn.sent source ≡ b
-      → IsBound shapes (send shapes routes (suc depth) turn source v)
-  unfolding send
-  deeper depth keeps turn source v o h true e = rw e h
-  deeper depth keeps turn source v o h false e = rw e (followed (send shapes routes depth) keeps turn source v o e h)
-
-  none_deep : Sends (send shapes routes zero)
-  unfolding send
-  none_deep turn source v o h = h
-
-  sends : (depth : ℕ) → Sends (send shapes routes depth)
-  sends zero = none_deep
-  sends (suc depth) = λ turn source v o h. deeper depth (sends depth) turn source v o h (has_sent turn.sent source) refl
-
-module _ (scene : SceneView) (routes : List Route) where
-  ticks : (now : ℤ) (turn : Turn) (node : ℕ) → is_clock (types_of scene) node ≡ true → IsBound (shapes_of scene) turn → IsBound (shapes_of scene) (tick_node (shapes_of scene) routes now turn node)
-  unfolding tick_node
-  ticks now turn node c h =
-      all_sent (shapes_of scene) routes (send (shapes_of scene) routes (outputs_of (shapes_of scene) + 1)) (sends (shapes_of scene) routes (outputs_of (shapes_of scene) + 1))
-      node (with_answer turn (ticked turn.world node now)) (ticked turn.world node now).replies (ticked-sends scene turn.world node now c) h
-
-  are_clocks : AllByRecursion (λ node. is_clock (types_of scene) node ≡ true) (clocks_of (types_of scene))
-  unfolding numbers_of
-  are_clocks = passing (is_clock (types_of scene)) (range_with_len 0 (length (types_of scene)))
-
-  clocks : (now : ℤ) (turn : Turn) → IsBound (shapes_of scene) turn → IsBound (shapes_of scene) (clock scene routes now turn)
-  clocks now turn h =
-      fold-keeps (IsBound (shapes_of scene)) (λ (node : ℕ). is_clock (types_of scene) node ≡ true) (tick_node (shapes_of scene) routes now) (λ t n q p. ticks now t n q p)
-      turn (clocks_of (types_of scene)) are_clocks h
-
-  touches : (p : Pointing) (before : Bool) (is : List Inside) (turn : Turn) (node : ℕ) → IsBound (shapes_of scene) turn → IsBound (shapes_of scene) (point_node scene routes p before is turn node)
-  unfolding point_node
-  touches p before is turn node h =
-      let a = met scene turn.world node p before (place_in is node) in
-      all_sent (shapes_of scene) routes (send (shapes_of scene) routes (outputs_of (shapes_of scene) + 1)) (sends (shapes_of scene) routes (outputs_of (shapes_of scene) + 1))
-      node (with_answer turn a) a.replies (met-sends scene turn.world node p before (place_in is node)) h
-
-  points : (turn : Turn) (p : Pointing) → IsBound (shapes_of scene) turn → IsBound (shapes_of scene) (point scene routes turn p)
-  unfolding point
-  points turn p h =
-      let is : List Inside = insides scene turn.world.fields p.ray in
-      let before : Bool = is_down turn.world p.who in
-      let nodes : List ℕ = concerned (types_of scene) turn.world p.who in
-      fold-keeps (IsBound (shapes_of scene)) (λ (n : ℕ). Unit {0}) (point_node scene routes p before is) (λ u n q k. touches p before is u n k)
-      (with_button turn p) nodes (all_free nodes) h
-
-  happens : (now : ℤ) (turn : Turn) (event : Event) → IsBound (shapes_of scene) turn → IsBound (shapes_of scene) (happen scene routes now turn event)
-  happens now turn Clock h = clocks now turn h
-  happens now turn (Pointer p) h = points turn p h
-
-  -- the lines that a turn adds are as many as have sent
-  gained : (start : List TraceLine) (turn : Turn) → IsGain start turn → length turn.world.trace ≡ length start + length turn.sent
-  gained start turn g =
-      omega (arith, ap length g.gained, length-append start g.lines, length-map g.lines (λ (l : TraceLine). l.source), ap length g.sources)
-
-  begun : (w : WorldData) (input : Stamp) → IsBound (shapes_of scene) (begin w input)
-  begun w input = omega (arith, unsent-bound (shapes_of scene) (begin w input))
-
-  pub sends_few : (w : WorldData) (input : Stamp) → length (apply scene routes w input).trace ≤ length w.trace + outputs_of (shapes_of scene)
-  unfolding apply
-  sends_few w input =
-      let turn : Turn = happen scene routes input.time (begin w input) input.event in
-      let g = gain-happen scene routes w.trace input.time (begin w input) input.event (gain-begin (shapes_of scene) routes w.trace (begin w input) refl refl) in
-      omega (arith, gained w.trace turn g, happens input.time (begin w input) input.event (begun w input))
+pub opening_few : OpeningsSendFew
+opening_few scene routes all =
+    let c : Course = first_course scene routes in
+    let h = opening_keeps scene routes (IsFew (shapes_of scene) []) (AreAmong scene) (λ source v. IsOutput scene source) (λ target v. Unit {0}) (sending scene routes all [])
+    (begins (shapes_of scene) (record { world = untold scene; sent = [] }) refl) (all_among scene) in
+    let few : length c.turn.world.trace ≤ outputs_of (shapes_of scene) = omega (arith, few_lines (shapes_of scene) [] c.turn h.turn) in
+    subst (λ (w : Scripted). length w.world.trace ≤ outputs_of (shapes_of scene)) (sym (opening_is scene routes)) few

@@ -17,11 +17,14 @@ use Rattle.snapshot_codec.specs.Trace.{typed_fits, is_moment, sent_at_codec, ent
 use Rattle.scene_core.specs.Scene.{SceneView, shapes_of}
 use Rattle.scene_core.specs.Shape.{Shape, rows_of}
 use Rattle.cascade_core.specs.declared.world.TraceLine.{TraceLine}
-use Rattle.cascade_core.specs.declared.world.WorldData.{WorldData}
+use Rattle.cascade_core.specs.Course.{Scripted}
+use Rattle.cascade_core.specs.Installing.{StatesFit}
+use Rattle.snapshot_core.proofs.StateSizes.{states_have}
 use Rattle.snapshot_core.specs.Nodes.{kept_from, kept_fields, time_part, touch_part, pointers_codec, position_part, beside_codec, state_codec, node_codec, nodes_from, lists_fit, nodes_codec}
 use Rattle.snapshot_core.specs.WorldCodec.{output_type, entry_of, lines_codec, buttons_codec, parts_codec, lists_in, world_codec}
 use Rattle.answer_laws.specs.Ranges.{values_fit, position_fits, fields_fit}
 use Rattle.world_laws.specs.Fits.{time_fits, pointers_fit, node_fits, nodes_fit, line_fits, WorldFits}
+use Rattle.world_laws.specs.Snapshots.{FittingHaveSnapshots}
 
 -- ---- a node
 
@@ -93,13 +96,18 @@ lines_have shapes (line ∷ lines) f =
 
 -- ---- a world
 
-pub fitting_have : (scene : SceneView) (w : WorldData) → length w.trace < 2 ^ 64 → WorldFits (shapes_of scene) w → (world_codec scene).fits w ≡ true
+world_has : (scene : SceneView) (w : Scripted) → length w.world.trace < 2 ^ 64 → WorldFits (shapes_of scene) w.world → StatesFit scene w.states → (world_codec scene).fits w ≡ true
 unfolding world_codec parts_codec nodes_codec buttons_codec lines_codec
-fitting_have scene w few f =
-    let n = nodes_have (shapes_of scene) w.fields w.sensors w.touches f.nodes in
-    let short : length (map entry_of w.trace) < 2 ^ 64 = subst (λ (k : ℕ). k < 2 ^ 64) (sym (length-map w.trace entry_of)) few in
-    let nodes : lists_fit (shapes_of scene) (lists_in w) ≡ true = and_true _ _ (and_true _ _ (eq-eqb _ _ n.0) (eq-eqb _ _ n.1)) n.2 in
-    and_true _ _ (le-leb w.applied (2 ^ 20) f.count)
+world_has scene w few f states =
+    let n = nodes_have (shapes_of scene) w.world.fields w.world.sensors w.world.touches f.nodes in
+    let short : length (map entry_of w.world.trace) < 2 ^ 64 = subst (λ (k : ℕ). k < 2 ^ 64) (sym (length-map w.world.trace entry_of)) few in
+    let nodes : lists_fit (shapes_of scene) (lists_in w.world) ≡ true = and_true _ _ (and_true _ _ (eq-eqb _ _ n.0) (eq-eqb _ _ n.1)) n.2 in
+    and_true _ _ (le-leb w.world.applied (2 ^ 20) f.count)
     (and_true _ _ f.last
     (and_true _ _ nodes
-    (and_true _ _ (eq-eqb _ _ f.buttons) (and_true _ _ (lt-ltb (length (map entry_of w.trace)) (2 ^ 64) short) (lines_have (shapes_of scene) w.trace f.lines)))))
+    (and_true _ _ (eq-eqb _ _ f.buttons)
+    (and_true _ _ (states_have scene w.states states)
+    (and_true _ _ (lt-ltb (length (map entry_of w.world.trace)) (2 ^ 64) short) (lines_have (shapes_of scene) w.world.trace f.lines))))))
+
+pub fitting_have : FittingHaveSnapshots
+fitting_have scene w few f = record { fits = world_has scene w few f.world f.states; states = f.states }

@@ -19,7 +19,11 @@ use Rattle.sensor_core.specs.Touches.{Touch}
 use Rattle.scene_core.specs.declared.scene.Route.{Route}
 use Rattle.scene_core.specs.Scene.{SceneView, shapes_of}
 use Rattle.scene_core.specs.Shape.{Shape, rows_of}
-use Rattle.cascade_core.specs.Apply.{apply}
+use Rattle.script_laws.specs.Nodes.{RunsAll}
+use Rattle.cascade_core.specs.Apply.{apply, opening, untold}
+use Rattle.cascade_core.specs.Course.{Scripted}
+use Rattle.cascade_core.specs.Installing.{StatesFit}
+use Rattle.cascade_core.specs.Scripts.{scripts_in, states_of}
 use Rattle.cascade_core.specs.declared.world.TraceLine.{TraceLine}
 use Rattle.cascade_core.specs.declared.world.WorldData.{WorldData}
 use Rattle.snapshot_core.specs.Nodes.{touch_fits, is_untouched}
@@ -78,6 +82,15 @@ pub record WorldFits (shapes : List Shape) (w : WorldData) : Type 0 where
   pub buttons : length w.buttons ≡ MAX_VIEWERS
   pub lines : list_all (line_fits shapes) w.trace ≡ true
 
+-- with its scripts: there is a state for each of them, and it is one of the script's kind
+pub record ScriptedFits (scene : SceneView) (w : Scripted) : Type 0 where
+  pub world : WorldFits (shapes_of scene) w.world
+  pub states : StatesFit scene w.states
+
+-- the states in which the scene's scripts start are states of their kinds
+abbrev pub StartsFit : SceneView → Type 0
+StartsFit scene = StatesFit scene (states_of (scripts_in scene))
+
 -- ---- an input
 
 -- each route leads from an output to a field of the same type
@@ -88,6 +101,12 @@ Joins shapes r = (t : FieldType) × (output_type shapes r.source.node r.source.f
 abbrev pub AllJoin : List Shape → List Route → Type 0
 AllJoin shapes [] = Unit {0}
 AllJoin shapes (r ∷ routes) = (Joins shapes r) × (AllJoin shapes routes)
+
+-- what events go by: a scene of at most 2^32 nodes, routes that join, and scripts all of which run
+pub record IsStaged (scene : SceneView) (routes : List Route) : Type 0 where
+  pub few : length (shapes_of scene) ≤ 2 ^ 32
+  pub joined : AllJoin (shapes_of scene) routes
+  pub run : RunsAll scene
 
 -- nobody but a viewer points
 abbrev pub is_event : Event → Bool
@@ -101,9 +120,19 @@ pub record IsNext (w : WorldData) (input : Stamp) : Type 0 where
   pub time : is_input_time input.time ≡ true
   pub event : is_event input.event ≡ true
 
--- a world that fits, after such an input, fits; a scene has at most 2^32 nodes
+-- a world that fits, after such an input, fits
 abbrev pub StepsFit : Type 0
 StepsFit =
-    (scene : SceneView) (routes : List Route) (w : WorldData) (input : Stamp)
-    → length (shapes_of scene) ≤ 2 ^ 32 → AllJoin (shapes_of scene) routes → IsNext w input
-    → WorldFits (shapes_of scene) w → WorldFits (shapes_of scene) (apply scene routes w input)
+    (scene : SceneView) (routes : List Route) (w : Scripted) (input : Stamp)
+    → IsStaged scene routes → IsNext w.world input
+    → ScriptedFits scene w → ScriptedFits scene (apply scene routes w input)
+
+-- ---- input 0
+
+-- where the world in which nothing has happened fits, and so do the states in which scripts start,
+-- the opening world fits
+abbrev pub OpeningsFit : Type 0
+OpeningsFit =
+    (scene : SceneView) (routes : List Route)
+    → IsStaged scene routes → WorldFits (shapes_of scene) (untold scene) → StartsFit scene
+    → ScriptedFits scene (opening scene routes)

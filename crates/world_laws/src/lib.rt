@@ -3,4 +3,4 @@
 
 mod worlds;
 
-pub use worlds::{fitting_worlds_have_snapshots, steps_fit};
+pub use worlds::{fitting_worlds_have_snapshots, openings_fit, steps_fit};

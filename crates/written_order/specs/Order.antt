@@ -10,8 +10,8 @@ use Rattle.scene_text.specs.Tree.{PlanView, node_tree}
 use Rattle.numbered_scenes.specs.Again.{HaveChildren}
 use Rattle.scene_round_trip.specs.Writable.{AreKeepable, IsShallow}
 
--- a document's scene is written, with what its nodes keep; in these nodes stand the nodes that stand
--- in the scene's
+-- a document's scene is written, with what its nodes keep; in these nodes stand the nodes that
+-- stand in the scene's
 pub record IsWritten (flat : Flat) (p : PlanView) (nodes : List FlatNode) : Type 0 where
   pub is_scene : scene_of flat ≡ Ok p.scene
   pub kept : AreKeepable p.state

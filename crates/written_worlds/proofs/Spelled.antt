@@ -1,6 +1,5 @@
 -- The text of the scene of a world that was reached spells the document that it is written as.
-use Rattle.std.proofs.Common.{◌≡◌, ℕ, ◌^◌, ◌≤◌, true, List, length, Option, sym, subst, arith}
-use Rattle.x3d_values.specs.Stamp.{Stamp}
+use Rattle.std.proofs.Common.{◌≡◌, ℕ, ◌^◌, ◌≤◌, true, List, length, sym, subst, arith}
 use Rattle.classic_text.proofs.Documents.{is_spelled}
 use Rattle.classic_round_trip.proofs.Spelled.{spellable}
 use Rattle.flat_document.specs.declared.flat.Flat.{Flat}
@@ -8,15 +7,16 @@ use Rattle.scene_core.specs.declared.scene.Route.{Route}
 use Rattle.scene_core.specs.Scene.{SceneView, shapes_of}
 use Rattle.cascade_core.specs.Apply.{world}
 use Rattle.cascade_core.specs.Texts.{scene_text}
-use Rattle.cascade_core.specs.declared.world.WorldData.{WorldData}
+use Rattle.script_laws.specs.Nodes.{RunsAll}
+use Rattle.cascade_core.specs.Course.{Scripted}
 use Rattle.share_law.specs.Cascade.{cascade}
 use Rattle.share_law.specs.Network.{Network}
-use Rattle.share_law.specs.Reached.{IsRunning, Reached}
+use Rattle.share_law.specs.Reached.{Reached}
 use Rattle.share_law.specs.Viewer.{View}
 use Rattle.share_law.proofs.Agreement.{Sound-reached}
 use Rattle.share_law.proofs.Machines.{cascade-is}
 use Rattle.share_law.proofs.Sound.{InStep, IsAt, Sound, ViewSound}
-use Rattle.world_laws.specs.Fits.{WorldFits}
+use Rattle.world_laws.specs.Fits.{ScriptedFits}
 use Rattle.document_laws.proofs.Worlds.{all_worlds_fit}
 use Rattle.network_laws.proofs.Saved.{front_inputs}
 use Rattle.text_laws.specs.Opened.{IsOpened}
@@ -27,32 +27,32 @@ use Rattle.scene_round_trip.proofs.Documents.{spellable_scenes_spell}
 use Rattle.written_worlds.specs.Written.{IsReadAgain, RunningWorldsSpell, WrittenWorldsSpell}
 use Rattle.written_worlds.proofs.Keepable.{fitting_are_keepable}
 
-module _ (text : List ℕ) (f : Flat) (scene : SceneView) (routes : List Route) (o : IsOpened text f scene routes) (room : has_room scene ≡ true) where
+module _ (text : List ℕ) (f : Flat) (scene : SceneView) (routes : List Route) (o : IsOpened text f scene routes) (run : RunsAll scene) (room : has_room scene ≡ true) where
   few : length scene.nodes ≤ 2 ^ 64
   few = omega (arith, few_nodes text f scene routes o)
 
-  fitting_spell : (w : WorldData) → WorldFits (shapes_of scene) w → IsReadAgain scene routes w
+  fitting_spell : (w : Scripted) → ScriptedFits scene w → IsReadAgain scene routes w
   unfolding scene_text
   fitting_spell w fits =
-      spellable_scenes_spell o.document f scene routes w.fields
+      spellable_scenes_spell o.document f scene routes w.world.fields
       (spellable ◌≡◌ text o.document (is_spelled text o.document o.read)) o.put_in o.is_scene few o.are_routes
-      (fitting_are_keepable (shapes_of scene) w fits) room
+      (fitting_are_keepable (shapes_of scene) w.world fits.world) room
 
-  at_spells : (net : Network WorldData) → Reached (cascade scene routes) net → (w : WorldData)
+  at_spells : (net : Network Scripted) → Reached (cascade scene routes) net → (w : Scripted)
       → IsAt (cascade scene routes) net.host.list w → IsReadAgain scene routes w
   at_spells net reached w a =
       let d = is_document text f scene routes o in
-      let fits : WorldFits (shapes_of scene) (world scene routes a.done) =
-      all_worlds_fit f scene routes a.done d (front_inputs f scene routes net d reached a.done a.todo a.whole) in
-      subst (λ (v : WorldData). IsReadAgain scene routes v) (sym a.is) (fitting_spell (world scene routes a.done) fits)
+      let fits : ScriptedFits scene (world scene routes a.done) =
+      all_worlds_fit f scene routes a.done d run (front_inputs f scene routes net d run reached a.done a.todo a.whole) in
+      subst (λ (v : Scripted). IsReadAgain scene routes v) (sym a.is) (fitting_spell (world scene routes a.done) fits)
 
 pub written_worlds_spell : WrittenWorldsSpell
-written_worlds_spell text f scene routes inputs o room i =
-    fitting_spell text f scene routes o room (world scene routes inputs) (worlds_fit text f scene routes inputs o i)
+written_worlds_spell text f scene routes inputs o run room i =
+    fitting_spell text f scene routes o run room (world scene routes inputs) (worlds_fit text f scene routes inputs o run i)
 
 pub running_worlds_spell : RunningWorldsSpell
-running_worlds_spell text f scene routes net o room reached viewer held window r =
+running_worlds_spell text f scene routes net o run room reached viewer held window r =
     let sound : Sound (cascade scene routes) net = Sound-reached (cascade-is scene routes) reached in
     let step : InStep (cascade scene routes) net.host.list held window =
-    subst (λ (v : View WorldData). ViewSound (cascade scene routes) net.host.list v) r.view (sound.viewers viewer r.seat r.is) in
-    at_spells text f scene routes o room net reached held step.at
+    subst (λ (v : View Scripted). ViewSound (cascade scene routes) net.host.list v) r.view (sound.viewers viewer r.seat r.is) in
+    at_spells text f scene routes o run room net reached held step.at

@@ -8,7 +8,8 @@ use Rattle.scene_core.specs.Scene.{SceneView}
 use Rattle.scene_text.specs.Statements.{scene_document}
 use Rattle.cascade_core.specs.Apply.{world}
 use Rattle.cascade_core.specs.Texts.{scene_text}
-use Rattle.cascade_core.specs.declared.world.WorldData.{WorldData}
+use Rattle.script_laws.specs.Nodes.{RunsAll}
+use Rattle.cascade_core.specs.Course.{Scripted}
 use Rattle.share_law.specs.Cascade.{cascade}
 use Rattle.share_law.specs.Network.{Network}
 use Rattle.share_law.specs.Reached.{IsRunning, Reached}
@@ -18,24 +19,24 @@ use Rattle.scene_round_trip.specs.Written.{has_room}
 
 -- the text of a scene as it stands in a world spells the document that it is written as, but for
 -- lines and the limit of 16 MiB
-abbrev pub IsReadAgain : SceneView → List Route → WorldData → Type 0
+abbrev pub IsReadAgain : SceneView → List Route → Scripted → Type 0
 IsReadAgain scene routes w =
-    SpellsAtAnyLength (scene_text scene routes w) (scene_document scene routes w.fields)
+    SpellsAtAnyLength (scene_text scene routes w) (scene_document scene routes w.world.fields)
 
 -- so in each world that the scene of a text comes to by inputs in turn, if a Switch has room above
 -- the helpers
 abbrev pub WrittenWorldsSpell : Type 0
 WrittenWorldsSpell =
     (text : List ℕ) (f : Flat) (scene : SceneView) (routes : List Route) (inputs : List Stamp)
-    → IsOpened text f scene routes → has_room scene ≡ true → AreInputs inputs
+    → IsOpened text f scene routes → RunsAll scene → has_room scene ≡ true → AreInputs inputs
     → IsReadAgain scene routes (world scene routes inputs)
 
 -- and in that of each viewer that runs, whatever 1 to 16 viewers, their host and their network came
 -- to
 abbrev pub RunningWorldsSpell : Type 0
 RunningWorldsSpell =
-    (text : List ℕ) (f : Flat) (scene : SceneView) (routes : List Route) (net : Network WorldData)
-    → IsOpened text f scene routes → has_room scene ≡ true
+    (text : List ℕ) (f : Flat) (scene : SceneView) (routes : List Route) (net : Network Scripted)
+    → IsOpened text f scene routes → RunsAll scene → has_room scene ≡ true
     → Reached (cascade scene routes) net
-    → (viewer : ℕ) (held : WorldData) (window : List (Option Stamp))
+    → (viewer : ℕ) (held : Scripted) (window : List (Option Stamp))
     → IsRunning net viewer held window → IsReadAgain scene routes held

@@ -6,7 +6,6 @@ mod nodes;
 mod tests;
 
 use crate::nodes::{agree, host, rehearse, view};
-use cascade_core::Scripts;
 use share_program::{
     Failure, RunFault, StreamFault, check_text, format_text, refusal_line, run_job, status_of,
     write_whole,
@@ -34,10 +33,9 @@ fn output_failure(fault: StreamFault) -> Failure {
     Failure::Run(RunFault::from(fault))
 }
 
-/// Reads a job, runs it and prints what came of it.
+/// Reads a job, runs it with boxes of the stock and prints what came of it.
 fn run_own<R: AllocGlobal + Input + Print>(rt: &R) -> Result<(), Failure> {
-    let scripts: Scripts<()> = Scripts::none();
-    run_job(rt.alloc(), &mut rt.reader(), scripts, &mut io::writer(rt))
+    run_job(rt.alloc(), &mut rt.reader(), &mut io::writer(rt))
 }
 
 /// Reads a scene and prints its text.

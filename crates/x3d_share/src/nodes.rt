@@ -4,8 +4,8 @@
 ghost use Rattle.std.specs.Prelude.{◌≡◌, ◌≤◌, IfOk, length};
 
 use share_commands::{
-    JointJob, PatientPort, SharedJob, agree_job, bound, bound_free, host_job, joint_job, number_of,
-    rehearse_job, shared_job, view_job,
+    JointJob, PatientPort, Seat, SharedJob, agree_job, bound, bound_free, host_job, joint_job,
+    number_of, rehearse_job, seated_job, shared_job, view_job,
 };
 use share_program::{Failure, JobFault, RunFault, ShareFault, read_whole, write_whole};
 use share_words::Order;
@@ -117,6 +117,49 @@ pub fn host<R: AllocGlobal + Input + Net + Clock>(
     Ok(hosted(rt, &job, port, viewers, turns)?)
 }
 
+/// Reads a job of points, and makes its viewer.
+fn read_seated<R: AllocGlobal + Input>(
+    rt: &R,
+    order: &Order,
+    who: u8,
+    boot: u32,
+) -> Result<Seat, JobFault>
+    requires who { who ≤ 15 }
+    requires boot { 1 ≤ boot }
+{
+    let bytes = read_whole(rt.alloc(), &mut rt.reader())?;
+    seated_job(rt.alloc(), bytes.as_slice(), order, who, boot)
+}
+
+/// Offers the points of a viewer to a host: what came of the inputs.
+fn viewed<R: AllocGlobal + Net + Clock>(
+    rt: &R,
+    mut seat: Seat,
+    host: u16,
+    until: u32,
+    turns: u32,
+) -> Result<Vec<u8>, ShareFault> {
+    let mut port = PatientPort::new(bound(rt, 0)?, rt);
+    view_job(rt.alloc(), &mut seat, host, until, turns, &mut port)
+}
+
+/// Reads a job of points, and offers them to a host: what came of the inputs.
+fn read_viewed<R: AllocGlobal + Input + Net + Clock>(
+    rt: &R,
+    order: &Order,
+    host: u16,
+    who: u8,
+    boot: u32,
+    until: u32,
+    turns: u32,
+) -> Result<Vec<u8>, Failure>
+    requires who { who ≤ 15 }
+    requires boot { 1 ≤ boot }
+{
+    let seat = read_seated(rt, order, who, boot)?;
+    Ok(viewed(rt, seat, host, until, turns)?)
+}
+
 /// Reads a job of points, offers them to a host, and prints what came of the inputs.
 pub fn view<R: AllocGlobal + Input + Print + Net + Clock>(
     rt: &R,
@@ -130,9 +173,7 @@ pub fn view<R: AllocGlobal + Input + Print + Net + Clock>(
     requires who { who ≤ 15 }
     requires boot { 1 ≤ boot }
 {
-    let job = read_shared(rt, order)?;
-    let mut port = PatientPort::new(bound(rt, 0)?, rt);
-    let text = view_job(rt.alloc(), job, who, boot, host, until, turns, &mut port)?;
+    let text = read_viewed(rt, order, host, who, boot, until, turns)?;
     print(rt, text.as_slice())?;
     Ok(())
 }

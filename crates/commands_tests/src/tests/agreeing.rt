@@ -2,7 +2,7 @@
 
 ghost use Rattle.std.specs.Prelude.{◌≡◌, ◌≤◌, length};
 
-use super::given::{CLOCKS, joined, push_run};
+use super::given::{CLOCKS, COUNTERS, joined, push_run};
 use share_commands::{JointJob, agree_job, bound, bound_free, joint_job, number_of};
 use share_program::ShareFault;
 use share_words::Order;
@@ -39,16 +39,22 @@ fn agreed<R: Net>(
     agree_job(alloc, job, turns, own, &mut port, &mut ports)
 }
 
-#[test]
-fn viewers_agree_on_what_a_run_prints(rt: HostRuntime) -> Result<(), Fail> {
-    let bytes = joined(rt.alloc(), STEPS, CLOCKS)?;
-    let mut job = joint_job(rt.alloc(), bytes.as_slice(), &ORDER, 2)?;
-    let text = agreed(&rt, rt.alloc(), &mut job, 100)?;
-    let mut wanted = Vec::new(rt.alloc());
+/// Viewers of this scene agree on what a run prints.
+fn agree_as_run<R: Net + Abort>(rt: &R, alloc: Global, scene: &str) -> Result<(), Fail> {
+    let bytes = joined(alloc, STEPS, scene)?;
+    let mut job = joint_job(alloc, bytes.as_slice(), &ORDER, 2)?;
+    let text = agreed(rt, alloc, &mut job, 100)?;
+    let mut wanted = Vec::new(alloc);
     wanted.extend_from_slice(b"agreed 5\n")?;
-    push_run(rt.alloc(), bytes.as_slice(), &mut wanted)?;
+    push_run(alloc, bytes.as_slice(), &mut wanted)?;
     assert!(rt; text == wanted);
     Ok(())
+}
+
+#[test]
+fn viewers_agree_on_what_a_run_prints(rt: HostRuntime) -> Result<(), Fail> {
+    agree_as_run(&rt, rt.alloc(), CLOCKS)?;
+    agree_as_run(&rt, rt.alloc(), COUNTERS)
 }
 
 #[test]

@@ -3,6 +3,7 @@
 use super::cable::{End, HOST, laid};
 use super::given::{CLOCKS, joined};
 use super::worked::{ORDER, TWO_CLOCKS};
+use script_boxes::StockScript;
 use share_commands::joint_job;
 use share_core::{Host, Viewer};
 use share_port::Traffic;
@@ -45,14 +46,14 @@ fn an_idle_turn_of_the_host(rt: HostRuntime) {
 }
 
 /// The trace and the scene of a viewer.
-fn push_texts(viewer: &Viewer<()>, out: &mut Vec<u8>) -> Result<(), Fail> {
+fn push_texts(viewer: &Viewer<StockScript>, out: &mut Vec<u8>) -> Result<(), Fail> {
     viewer.trace_text(out)?;
     viewer.scene_text(out)?;
     Ok(())
 }
 
 /// A turn of a viewer without a point sends an ask, and the viewer is as before.
-fn stay(rt: &impl Abort, alloc: Global, viewer: &mut Viewer<()>) {
+fn stay(rt: &impl Abort, alloc: Global, viewer: &mut Viewer<StockScript>) {
     let cable = laid(alloc, false, 0);
     let mut end = End::new(alloc, &cable, 1);
     let ask = viewer.ask();
@@ -62,7 +63,11 @@ fn stay(rt: &impl Abort, alloc: Global, viewer: &mut Viewer<()>) {
     assert!(rt; viewer.applied() == 0 && viewer.waiting() == 0);
 }
 
-fn stay_and_print(rt: &impl Abort, alloc: Global, viewers: &mut [Viewer<()>]) -> Result<(), Fail> {
+fn stay_and_print(
+    rt: &impl Abort,
+    alloc: Global,
+    viewers: &mut [Viewer<StockScript>],
+) -> Result<(), Fail> {
     let [viewer, _other] = viewers else {
         panic!(rt; "there are two viewers");
     };

@@ -1,6 +1,6 @@
 //! Schedules by hand, and their logs.
 
-use super::given::{CLOCKS, joined, push_run};
+use super::given::{CLOCKS, COUNTERS, joined, push_run};
 use share_commands::rehearse_job;
 use share_program::JobFault;
 use std::alloc::Global;
@@ -107,22 +107,28 @@ give 4 1
 const FIVE: &str = "clock 1\nclock 2\nclock 3\nclock 4\nclock 5\n";
 
 /// What each of them is left with, by `run`.
-fn push_endings(alloc: Global, out: &mut Vec<u8>) -> Result<(), Fail> {
-    let job = joined(alloc, FIVE, CLOCKS)?;
+fn push_endings(alloc: Global, scene: &str, out: &mut Vec<u8>) -> Result<(), Fail> {
+    let job = joined(alloc, FIVE, scene)?;
     out.extend_from_slice(b"viewer 0 at 5 boot 2\n")?;
     push_run(alloc, job.as_slice(), out)?;
     out.extend_from_slice(b"viewer 1 at 5 boot 1\n")?;
     push_run(alloc, job.as_slice(), out)
 }
 
-#[test]
-fn rewound_viewer_has_the_texts_of_a_run(rt: HostRuntime) -> Result<(), Fail> {
-    let schedule = joined(rt.alloc(), REWOUND, CLOCKS)?;
-    let log = rehearse_job(rt.alloc(), schedule.as_slice(), 2)?;
-    let mut endings = Vec::new(rt.alloc());
-    push_endings(rt.alloc(), &mut endings)?;
+fn is_left_as_run(rt: &impl Abort, alloc: Global, scene: &str) -> Result<(), Fail> {
+    let schedule = joined(alloc, REWOUND, scene)?;
+    let log = rehearse_job(alloc, schedule.as_slice(), 2)?;
+    let mut endings = Vec::new(alloc);
+    push_endings(alloc, scene, &mut endings)?;
     assert!(rt; log.ends_with(endings.as_slice()));
     Ok(())
+}
+
+/// rewound, also with scripts
+#[test]
+fn rewound_viewer_has_the_texts_of_a_run(rt: HostRuntime) -> Result<(), Fail> {
+    is_left_as_run(&rt, rt.alloc(), CLOCKS)?;
+    is_left_as_run(&rt, rt.alloc(), COUNTERS)
 }
 
 /// Schedules that are refused: the line of each.

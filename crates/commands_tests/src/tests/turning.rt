@@ -4,6 +4,7 @@
 use super::cable::{End, HOST, laid};
 use super::given::{CLOCKS, joined, push_run};
 use super::worked::{ORDER, POINTERS, SCENE_X, TWO_CLOCKS};
+use script_boxes::StockScript;
 use share_commands::{JointJob, joint_job};
 use share_core::{Host, Viewer};
 use share_port::Port;
@@ -126,7 +127,7 @@ pub(super) fn after<T>(items: &[T], turns: usize) -> &[T] {
 
 /// The next turn of a viewer's run, unless it came to its end.
 fn view_on<P: Port>(
-    viewer: &mut Viewer<()>,
+    viewer: &mut Viewer<StockScript>,
     points: &[Point],
     until: u32,
     port: &mut P,
@@ -143,7 +144,7 @@ fn view_on<P: Port>(
 
 /// The next turn of the runs of both viewers.
 pub(super) fn views_on<P: Port>(
-    viewers: &mut [Viewer<()>],
+    viewers: &mut [Viewer<StockScript>],
     steps: &Steps,
     turn: usize,
     first_port: &mut P,

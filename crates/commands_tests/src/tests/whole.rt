@@ -6,7 +6,7 @@ use super::cable::{Cable, End, HOST, laid};
 use super::given::{CLOCKS, joined, push_run};
 use super::turning::{ALONE, CLOCKED, POINTED_ALONE, Steps, Texts, after, views_on};
 use super::worked::{ORDER, SCENE_X, TWO_CLOCKS};
-use share_commands::{JointJob, host_job, joint_job, shared_job, view_job};
+use share_commands::{JointJob, host_job, joint_job, seated_job, shared_job, view_job};
 use share_core::Host;
 use share_port::{Port, PortFault};
 use share_turns::{SeriesFault, host_run};
@@ -132,12 +132,12 @@ fn viewed(
         until,
         turns: 100,
     };
-    let job = shared_job(alloc, bytes, &order)?;
+    let mut seat = seated_job(alloc, bytes, &order, who, 1)?;
     let mut port = Between {
         end: End::new(alloc, cable, u16::from(who) + 1),
         others: host,
     };
-    Ok(view_job(alloc, job, who, 1, HOST, until, 100, &mut port)?)
+    Ok(view_job(alloc, &mut seat, HOST, until, 100, &mut port)?)
 }
 
 /// The steps of a job, those of its host and of its viewer 0, and what these make; viewer 1 has

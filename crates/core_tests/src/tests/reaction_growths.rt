@@ -63,7 +63,8 @@ const LEFT: [(u16, usize, bool); 5] = [
 ];
 
 /// A set of a list copies it twice, and a CoordinateInterpolator makes one list: each growth is
-/// refused once. Lists are above 1032 bytes, since malloc keeps smaller blocks that were given back.
+/// refused once. Lists are above 1032 bytes, since malloc keeps smaller blocks that were given
+/// back.
 #[test]
 fn each_refused_growth_is_answered(rt: HostRuntime) -> Result<(), Fail> {
     assert!(rt; copies_with(rt.alloc(), 2048)?, "one copy has room");

@@ -16,8 +16,8 @@ const MARK: [u8; 32] = *b"abcdefghijklmnopqrstuvwxyzABCDEF";
 
 /// The body of the snapshot of an empty world: boot 1, nothing applied, time 0, no buttons, no
 /// events.
-const EMPTY: &[u8] =
-    b"\x00\x00\x00\x01\x00\x00\x00\x00\x00\x00\x00\x00\x00\x00\x00\x00\x00\x00\x00\x00\x00\x00\x00\x00\x00\x00";
+const EMPTY: &[u8] = b"\x00\x00\x00\x01\x00\x00\x00\x00\x00\x00\x00\x00\x00\x00\x00\x00\
+    \x00\x00\x00\x00\x00\x00\x00\x00\x00\x00";
 
 /// Each node sends truth values by its field 3.
 struct Switches;

@@ -5,6 +5,7 @@
 use super::given::{BOX_AND_CLOCK, DIRECTION, MARK, ORIGIN, fresh, is_twice};
 use super::way::Way;
 use cascade_core::Stage;
+use script_boxes::StockScript;
 use share_core::{Host, Viewer};
 use share_port::{FakePort, Port, UdpPort};
 use share_turns::{SeriesFault, TurnFault, agree};
@@ -38,7 +39,7 @@ fn try_on_two<R: Net + Abort>(rt: &R, alloc: Global, trial: Trial) -> Result<(),
 fn attempt<R: Net + Abort>(
     rt: &R,
     alloc: Global,
-    viewers: &mut [Viewer<()>; 2],
+    viewers: &mut [Viewer<StockScript>; 2],
     trial: Trial,
 ) -> Result<(), Fail> {
     match trial {
@@ -64,7 +65,7 @@ fn steps() -> [Stamped; 4] {
 
 fn agreed<P: Port>(
     alloc: Global,
-    viewers: &mut [Viewer<()>; 2],
+    viewers: &mut [Viewer<StockScript>; 2],
     rounds: u32,
     own: u16,
     port: &mut P,
@@ -75,7 +76,7 @@ fn agreed<P: Port>(
     agree(&mut host, viewers, &steps(), rounds, own, port, ports, out)
 }
 
-fn apply_all(stage: &mut Stage<()>, out: &mut Vec<u8>) -> Result<(), Fail> {
+fn apply_all(stage: &mut Stage<StockScript>, out: &mut Vec<u8>) -> Result<(), Fail> {
     out.extend_from_slice(b"agreed 4\n")?;
     for step in steps() {
         stage.apply(&step)?;
@@ -105,7 +106,7 @@ fn ways<R: Net>(rt: &R, lossy: bool) -> io::Result<[Way; 2]> {
 fn come_to<P: Port>(
     rt: &impl Abort,
     alloc: Global,
-    viewers: &mut [Viewer<()>; 2],
+    viewers: &mut [Viewer<StockScript>; 2],
     own: u16,
     port: &mut P,
     ports: &mut [P; 2],
@@ -120,7 +121,7 @@ fn come_to<P: Port>(
 fn share<R: Net + Abort>(
     rt: &R,
     alloc: Global,
-    viewers: &mut [Viewer<()>; 2],
+    viewers: &mut [Viewer<StockScript>; 2],
     lossy: bool,
 ) -> Result<(), Fail> {
     let mut ports = ways(rt, lossy)?;
@@ -145,7 +146,7 @@ fn two_viewers_agree_over_a_bad_way(rt: HostRuntime) -> Result<(), Fail> {
 fn alone(
     rt: &impl Abort,
     alloc: Global,
-    viewers: &mut [Viewer<()>; 2],
+    viewers: &mut [Viewer<StockScript>; 2],
     fails: (u64, u64),
     wanted: SeriesFault,
 ) {
@@ -162,7 +163,7 @@ fn alone(
 }
 
 /// The host's port fails at each of its first four calls, that of viewer 1 too, and then none.
-fn fail(rt: &impl Abort, alloc: Global, viewers: &mut [Viewer<()>; 2]) {
+fn fail(rt: &impl Abort, alloc: Global, viewers: &mut [Viewer<StockScript>; 2]) {
     let port = SeriesFault::Turn(TurnFault::Port);
     for call in 1..=4 {
         alone(rt, alloc, viewers, (call, 0), port);

@@ -1,8 +1,9 @@
-//! Damaged snapshots of scene A: each is refused, and changes nothing.
+//! Damaged snapshots, under the mark of scene A: each is refused, and changes nothing.
 
 use super::given::CLOCKED;
 use super::snapshots::{apply_to, shot_of};
 use cascade_core::Stage;
+use script_boxes::StockScript;
 use snapshot_core::{SnapFault, load_into, scene_mark};
 use std::alloc::Global;
 use std::process::Abort;
@@ -11,9 +12,9 @@ use std::test::Fail;
 /// How many bytes the digest has.
 const DIGEST: usize = 32;
 
-/// Loads into the stage of scene A before any clock, as boot 2, and gives the fault. The stage is
+/// Loads into a stage before any clock, as boot 2, and gives the fault. The stage is
 /// as it was.
-fn fault_of(rt: &impl Abort, stage: &mut Stage<()>, bytes: &[u8]) -> Option<SnapFault> {
+fn fault_of(rt: &impl Abort, stage: &mut Stage<StockScript>, bytes: &[u8]) -> Option<SnapFault> {
     let fault = load_into(stage, &scene_mark(CLOCKED.as_bytes()), 2, bytes).err();
     assert!(rt; !stage.spoiled() && stage.applied() == 0);
     fault
@@ -36,7 +37,7 @@ fn flip(bytes: &mut [u8], at: usize, bits: u8) {
 }
 
 /// Flips the bits of one byte in turn.
-fn flip_each(rt: &impl Abort, stage: &mut Stage<()>, shot: &mut [u8], at: usize) {
+fn flip_each(rt: &impl Abort, stage: &mut Stage<StockScript>, shot: &mut [u8], at: usize) {
     for bit in [1, 2, 4, 8, 16, 32, 64, 128] {
         flip(shot, at, bit);
         let fault = fault_of(rt, stage, shot);
@@ -45,7 +46,11 @@ fn flip_each(rt: &impl Abort, stage: &mut Stage<()>, shot: &mut [u8], at: usize)
     }
 }
 
-pub(super) fn flip_all(rt: &impl Abort, alloc: Global, stage: &mut Stage<()>) -> Result<(), Fail> {
+pub(super) fn flip_all(
+    rt: &impl Abort,
+    alloc: Global,
+    stage: &mut Stage<StockScript>,
+) -> Result<(), Fail> {
     let mut shot = shot_of(alloc, stage, CLOCKED)?;
     for at in 0..shot.len() {
         flip_each(rt, stage, shot.as_mut_slice(), at);
@@ -57,7 +62,7 @@ pub(super) fn flip_all(rt: &impl Abort, alloc: Global, stage: &mut Stage<()>) ->
 }
 
 /// Cuts bytes off one by one: those that are left are too few, or have another digest.
-fn cut_each(rt: &impl Abort, stage: &mut Stage<()>, shot: &[u8]) {
+fn cut_each(rt: &impl Abort, stage: &mut Stage<StockScript>, shot: &[u8]) {
     for len in 0..shot.len() {
         let wanted = if len < 85 {
             SnapFault::Short
@@ -68,7 +73,11 @@ fn cut_each(rt: &impl Abort, stage: &mut Stage<()>, shot: &[u8]) {
     }
 }
 
-pub(super) fn cut_all(rt: &impl Abort, alloc: Global, stage: &mut Stage<()>) -> Result<(), Fail> {
+pub(super) fn cut_all(
+    rt: &impl Abort,
+    alloc: Global,
+    stage: &mut Stage<StockScript>,
+) -> Result<(), Fail> {
     let shot = shot_of(alloc, stage, CLOCKED)?;
     cut_each(rt, stage, &shot);
     Ok(())
@@ -95,7 +104,7 @@ fn alter(shot: &[u8], at: usize, new: u8, out: &mut Vec<u8>) -> Result<(), Fail>
 /// Each alteration of a snapshot of scene A is loaded before any clock.
 fn alter_each(
     rt: &impl Abort,
-    stage: &mut Stage<()>,
+    stage: &mut Stage<StockScript>,
     shot: &[u8],
     alterations: &[Alteration],
     out: &mut Vec<u8>,
@@ -138,10 +147,41 @@ const ALTERATIONS: [Alteration; 13] = [
     (40, 2, Some(SnapFault::BootNotNew)),
 ];
 
-pub(super) fn alter_all(rt: &impl Abort, alloc: Global, stage: &mut Stage<()>) -> Result<(), Fail> {
+pub(super) fn alter_all(
+    rt: &impl Abort,
+    alloc: Global,
+    stage: &mut Stage<StockScript>,
+) -> Result<(), Fail> {
     let shot = shot_of(alloc, stage, CLOCKED)?;
     let mut out = Vec::new(alloc);
     alter_each(rt, stage, &shot, &ALTERATIONS, &mut out)
+}
+
+const NO_STATE: Option<SnapFault> = Some(SnapFault::ScriptState);
+
+/// Of the snapshot of a counter's world before any clock.
+const STATES: [Alteration; 7] = [
+    // the count is above those of an SFInt32, or below
+    (134, 1, NO_STATE),
+    (134, 255, NO_STATE),
+    // the step is above
+    (145, 1, NO_STATE),
+    // it has one number, or three
+    (133, 1, NOT_CANONICAL),
+    (133, 3, NOT_CANONICAL),
+    // the count and the step are others
+    (141, 9, None),
+    (149, 3, None),
+];
+
+pub(super) fn alter_states(
+    rt: &impl Abort,
+    alloc: Global,
+    stage: &mut Stage<StockScript>,
+) -> Result<(), Fail> {
+    let shot = shot_of(alloc, stage, CLOCKED)?;
+    let mut out = Vec::new(alloc);
+    alter_each(rt, stage, &shot, &STATES, &mut out)
 }
 
 /// Of the snapshot after a clock: another node, field and value of its first event.
@@ -152,7 +192,7 @@ const EVENTS: [Alteration; 3] = [
 ];
 
 /// Goes back to the world before any clock.
-fn go_to_start(rt: &impl Abort, stage: &mut Stage<()>, first: &[u8]) {
+fn go_to_start(rt: &impl Abort, stage: &mut Stage<StockScript>, first: &[u8]) {
     let saved = load_into(stage, &scene_mark(CLOCKED.as_bytes()), 2, first);
     assert!(rt; saved.is_ok());
 }
@@ -160,7 +200,7 @@ fn go_to_start(rt: &impl Abort, stage: &mut Stage<()>, first: &[u8]) {
 pub(super) fn alter_events(
     rt: &impl Abort,
     alloc: Global,
-    stage: &mut Stage<()>,
+    stage: &mut Stage<StockScript>,
 ) -> Result<(), Fail> {
     let first = shot_of(alloc, stage, CLOCKED)?;
     alter_later(rt, alloc, stage, &first)
@@ -169,7 +209,7 @@ pub(super) fn alter_events(
 fn alter_later(
     rt: &impl Abort,
     alloc: Global,
-    stage: &mut Stage<()>,
+    stage: &mut Stage<StockScript>,
     first: &[u8],
 ) -> Result<(), Fail> {
     apply_to(rt, stage, 1);

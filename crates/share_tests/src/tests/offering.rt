@@ -2,6 +2,7 @@
 
 use super::given::{DIRECTION, MARK, ORIGIN};
 use super::trials::{Trial, take, try_on};
+use script_boxes::StockScript;
 use share_core::{Host, Viewer};
 use share_law::{HostReply, OfferFault, Taken};
 use share_wire::{Ack, Body, Message, Offer, Packet, decode};
@@ -31,7 +32,11 @@ const POINTS: [(Vec3, Vec3, Result<u32, OfferFault>); 5] = [
     (ORIGIN, DIRECTION, Ok(2)),
 ];
 
-pub(super) fn offer(viewer: &mut Viewer<()>, origin: Vec3, dir: Vec3) -> Result<u32, OfferFault> {
+pub(super) fn offer(
+    viewer: &mut Viewer<StockScript>,
+    origin: Vec3,
+    dir: Vec3,
+) -> Result<u32, OfferFault> {
     viewer.offer(Point {
         down: false,
         origin,
@@ -40,14 +45,14 @@ pub(super) fn offer(viewer: &mut Viewer<()>, origin: Vec3, dir: Vec3) -> Result<
 }
 
 /// Offers two points, and no others.
-fn offer_two(rt: &impl Abort, viewer: &mut Viewer<()>) {
+fn offer_two(rt: &impl Abort, viewer: &mut Viewer<StockScript>) {
     for (origin, dir, wanted) in POINTS {
         assert!(rt; offer(viewer, origin, dir) == wanted);
     }
     assert!(rt; viewer.waiting() == 2);
 }
 
-fn resent(rt: &impl Abort, viewer: &Viewer<()>, place: u32) -> Packet {
+fn resent(rt: &impl Abort, viewer: &Viewer<StockScript>, place: u32) -> Packet {
     let Some(packet) = viewer.resend(place) else {
         panic!(rt; "this offer waits");
     };
@@ -55,7 +60,7 @@ fn resent(rt: &impl Abort, viewer: &Viewer<()>, place: u32) -> Packet {
 }
 
 /// The packet of a waiting offer is that of its number.
-fn offers_again(rt: &impl Abort, viewer: &Viewer<()>) {
+fn offers_again(rt: &impl Abort, viewer: &Viewer<StockScript>) {
     assert!(rt; ORIGIN.fits() && DIRECTION.fits() && !DIRECTION.is_zero());
     let pointer = Pointer::new(0, false, Ray::new(ORIGIN, DIRECTION));
     let wanted = Message {
@@ -67,7 +72,7 @@ fn offers_again(rt: &impl Abort, viewer: &Viewer<()>) {
 }
 
 /// The host numbers both offers, and tells so.
-fn settle(rt: &impl Abort, host: &mut Host, viewer: &mut Viewer<()>) {
+fn settle(rt: &impl Abort, host: &mut Host, viewer: &mut Viewer<StockScript>) {
     for place in 0..2 {
         let numbered = host.take(resent(rt, viewer, place).as_slice());
         assert!(rt; numbered == Ok(HostReply::Numbered(place + 1)));
@@ -83,14 +88,14 @@ fn settle(rt: &impl Abort, host: &mut Host, viewer: &mut Viewer<()>) {
 const TOLD: &str = "1 0.000001 S.isOver TRUE\n1 0.000001 S.hitPoint_changed 0 0 1\n";
 
 /// The host's input is the viewer's offer.
-fn apply_offer(rt: &impl Abort, host: &Host, viewer: &mut Viewer<()>) {
+fn apply_offer(rt: &impl Abort, host: &Host, viewer: &mut Viewer<StockScript>) {
     let Some(packet) = host.packet(1) else {
         panic!(rt; "input 1 was numbered");
     };
     assert!(rt; viewer.take(packet.as_slice()) == Ok(Taken::Applied(1)));
 }
 
-fn tells(rt: &impl Abort, alloc: Global, viewer: &Viewer<()>) -> Result<(), Fail> {
+fn tells(rt: &impl Abort, alloc: Global, viewer: &Viewer<StockScript>) -> Result<(), Fail> {
     let mut text = Vec::new(alloc);
     viewer.trace_text(&mut text)?;
     let told = text.as_slice() == TOLD.as_bytes();
@@ -99,7 +104,7 @@ fn tells(rt: &impl Abort, alloc: Global, viewer: &Viewer<()>) -> Result<(), Fail
     Ok(())
 }
 
-fn number_offers(rt: &impl Abort, alloc: Global, viewer: &mut Viewer<()>) {
+fn number_offers(rt: &impl Abort, alloc: Global, viewer: &mut Viewer<StockScript>) {
     let mut host = Host::new(alloc, MARK, 1);
     settle(rt, &mut host, viewer);
     apply_offer(rt, &host, viewer);
@@ -108,7 +113,7 @@ fn number_offers(rt: &impl Abort, alloc: Global, viewer: &mut Viewer<()>) {
 pub(super) fn make_offers(
     rt: &impl Abort,
     alloc: Global,
-    viewer: &mut Viewer<()>,
+    viewer: &mut Viewer<StockScript>,
 ) -> Result<(), Fail> {
     offer_two(rt, viewer);
     offers_again(rt, viewer);
@@ -117,7 +122,7 @@ pub(super) fn make_offers(
 }
 
 /// 64 offers may wait.
-pub(super) fn fill(rt: &impl Abort, viewer: &mut Viewer<()>) {
+pub(super) fn fill(rt: &impl Abort, viewer: &mut Viewer<StockScript>) {
     for number in 1..=64 {
         assert!(rt; offer(viewer, ORIGIN, DIRECTION) == Ok(number));
     }

@@ -1,8 +1,9 @@
 //! Snapshots of stages: their sizes, damaged ones, a world that goes back, and refused growths.
 
-use super::damages::{alter_all, alter_events, cut_all, flip_all};
-use super::given::{CLOCKED, fresh, is_twice};
+use super::damages::{alter_all, alter_events, alter_states, cut_all, flip_all};
+use super::given::{CLOCKED, COUNTED, fresh, is_twice};
 use cascade_core::Stage;
+use script_boxes::StockScript;
 use snapshot_core::{SaveFault, Saved, SnapFault, load_into, save, scene_mark};
 use std::alloc::Global;
 use std::process::Abort;
@@ -34,6 +35,8 @@ enum Trial {
     Alterations,
     /// An event of its snapshot is altered, and the digest is right.
     Events,
+    /// The state of a script is altered, and the digest is right.
+    States,
     /// Memory is refused.
     Refusals,
 }
@@ -49,7 +52,7 @@ fn try_on(rt: &impl Abort, alloc: Global, text: &str, trial: Trial) -> Result<()
 fn attempt(
     rt: &impl Abort,
     alloc: Global,
-    stage: &mut Stage<()>,
+    stage: &mut Stage<StockScript>,
     text: &str,
     trial: Trial,
 ) -> Result<(), Fail> {
@@ -60,6 +63,7 @@ fn attempt(
         Trial::Cuts => cut_all(rt, alloc, stage),
         Trial::Alterations => alter_all(rt, alloc, stage),
         Trial::Events => alter_events(rt, alloc, stage),
+        Trial::States => alter_states(rt, alloc, stage),
         Trial::Refusals => refuse_both(rt, alloc, stage),
     }
 }
@@ -77,7 +81,7 @@ fn clock_at(number: u32) -> Option<Stamped> {
 }
 
 /// Applies clocks, from the next one on up to that of this number.
-pub(super) fn apply_to(rt: &impl Abort, stage: &mut Stage<()>, last: u32) {
+pub(super) fn apply_to(rt: &impl Abort, stage: &mut Stage<StockScript>, last: u32) {
     let applied = stage.applied();
     for number in 1..=last {
         if number <= applied {
@@ -91,7 +95,11 @@ pub(super) fn apply_to(rt: &impl Abort, stage: &mut Stage<()>, last: u32) {
 }
 
 /// The snapshot of a stage's world, as boot 1.
-pub(super) fn shot_of(alloc: Global, stage: &Stage<()>, text: &str) -> Result<Vec<u8>, SaveFault> {
+pub(super) fn shot_of(
+    alloc: Global,
+    stage: &Stage<StockScript>,
+    text: &str,
+) -> Result<Vec<u8>, SaveFault> {
     let mut out = Vec::new(alloc);
     save(stage, &scene_mark(text.as_bytes()), 1, &mut out)?;
     Ok(out)
@@ -100,7 +108,7 @@ pub(super) fn shot_of(alloc: Global, stage: &Stage<()>, text: &str) -> Result<Ve
 fn is_sized(
     rt: &impl Abort,
     alloc: Global,
-    stage: &mut Stage<()>,
+    stage: &mut Stage<StockScript>,
     text: &str,
     clocks: u32,
     size: usize,
@@ -113,7 +121,13 @@ fn is_sized(
 
 #[test]
 fn snapshot_sizes(rt: HostRuntime) -> Result<(), Fail> {
-    for (text, clocks, size) in [(EMPTY, 0, 95), (CLOCKED, 0, 147), (CLOCKED, 1, 308)] {
+    let sizes = [
+        (EMPTY, 0, 95),
+        (CLOCKED, 0, 147),
+        (CLOCKED, 1, 308),
+        (COUNTED, 0, 190),
+    ];
+    for (text, clocks, size) in sizes {
         try_on(&rt, rt.alloc(), text, Trial::Size(clocks, size))?;
     }
     Ok(())
@@ -122,7 +136,7 @@ fn snapshot_sizes(rt: HostRuntime) -> Result<(), Fail> {
 // ---- a world that goes back
 
 /// Appends both texts of a stage, and its snapshot.
-fn push_all(stage: &Stage<()>, text: &str, out: &mut Vec<u8>) -> Result<(), Fail> {
+fn push_all(stage: &Stage<StockScript>, text: &str, out: &mut Vec<u8>) -> Result<(), Fail> {
     stage.trace_text(out)?;
     stage.scene_text(out)?;
     save(stage, &scene_mark(text.as_bytes()), 1, out)?;
@@ -133,7 +147,7 @@ fn push_all(stage: &Stage<()>, text: &str, out: &mut Vec<u8>) -> Result<(), Fail
 fn load_again(
     rt: &impl Abort,
     alloc: Global,
-    stage: &mut Stage<()>,
+    stage: &mut Stage<StockScript>,
     text: &str,
     shot: &[u8],
 ) -> Result<(), Fail> {
@@ -155,7 +169,7 @@ fn load_again(
 fn apply_again(
     rt: &impl Abort,
     alloc: Global,
-    stage: &mut Stage<()>,
+    stage: &mut Stage<StockScript>,
     text: &str,
     shot: &[u8],
     out: &mut Vec<u8>,
@@ -169,7 +183,12 @@ fn apply_again(
     Ok(())
 }
 
-fn go_back(rt: &impl Abort, alloc: Global, stage: &mut Stage<()>, text: &str) -> Result<(), Fail> {
+fn go_back(
+    rt: &impl Abort,
+    alloc: Global,
+    stage: &mut Stage<StockScript>,
+    text: &str,
+) -> Result<(), Fail> {
     apply_to(rt, stage, 2);
     let shot = shot_of(alloc, stage, text)?;
     let mut out = Vec::new(alloc);
@@ -178,7 +197,7 @@ fn go_back(rt: &impl Abort, alloc: Global, stage: &mut Stage<()>, text: &str) ->
 
 #[test]
 fn rewound(rt: HostRuntime) -> Result<(), Fail> {
-    for text in [EMPTY, CLOCKED, MIXED] {
+    for text in [EMPTY, CLOCKED, MIXED, COUNTED] {
         try_on(&rt, rt.alloc(), text, Trial::Rewind)?;
     }
     Ok(())
@@ -206,6 +225,11 @@ fn an_event_that_no_node_sends_is_refused(rt: HostRuntime) -> Result<(), Fail> {
     try_on(&rt, rt.alloc(), CLOCKED, Trial::Events)
 }
 
+#[test]
+fn a_state_that_no_script_has_is_refused(rt: HostRuntime) -> Result<(), Fail> {
+    try_on(&rt, rt.alloc(), COUNTED, Trial::States)
+}
+
 // ---- refused growths
 
 /// More than a snapshot has.
@@ -215,7 +239,7 @@ const FULL: usize = 4096;
 fn refuse_to_save(
     rt: &impl Abort,
     alloc: Global,
-    stage: &Stage<()>,
+    stage: &Stage<StockScript>,
     full: &mut Vec<u8>,
 ) -> Result<(), Fail> {
     let used_up = UsedUp::new(alloc)?;
@@ -230,7 +254,7 @@ fn refuse_to_save(
 fn refuse_to_load(
     rt: &impl Abort,
     alloc: Global,
-    stage: &mut Stage<()>,
+    stage: &mut Stage<StockScript>,
     shot: &[u8],
     full: &mut Vec<u8>,
 ) -> Result<(), Fail> {
@@ -250,7 +274,7 @@ fn refuse_to_load(
 fn refuse(
     rt: &impl Abort,
     alloc: Global,
-    stage: &mut Stage<()>,
+    stage: &mut Stage<StockScript>,
     shot: &[u8],
     full: &mut Vec<u8>,
 ) -> Result<(), Fail> {
@@ -262,7 +286,7 @@ fn refuse(
     Ok(())
 }
 
-fn refuse_both(rt: &impl Abort, alloc: Global, stage: &mut Stage<()>) -> Result<(), Fail> {
+fn refuse_both(rt: &impl Abort, alloc: Global, stage: &mut Stage<StockScript>) -> Result<(), Fail> {
     apply_to(rt, stage, 60);
     let mut full = vec![in alloc; b'x'; FULL]?;
     let shot = shot_of(alloc, stage, CLOCKED)?;

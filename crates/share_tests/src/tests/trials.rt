@@ -5,6 +5,7 @@ use super::offering::{fill, make_offers};
 use super::restarts::{spoil, write_again};
 use super::turns::{catch_up, fail, wait};
 use super::viewing::{drop_late, meet_host, refuse, take_inputs};
+use script_boxes::StockScript;
 use share_core::Viewer;
 use share_law::{TakeFault, Taken};
 use share_wire::{Body, Message, encode};
@@ -50,7 +51,7 @@ pub(super) fn try_on(rt: &impl Abort, alloc: Global, text: &str, trial: Trial) -
 fn attempt(
     rt: &impl Abort,
     alloc: Global,
-    viewer: &mut Viewer<()>,
+    viewer: &mut Viewer<StockScript>,
     trial: Trial,
 ) -> Result<(), Fail> {
     match trial {
@@ -69,7 +70,7 @@ fn attempt(
     Ok(())
 }
 
-pub(super) fn take(viewer: &mut Viewer<()>, body: Body) -> Result<Taken, TakeFault> {
+pub(super) fn take(viewer: &mut Viewer<StockScript>, body: Body) -> Result<Taken, TakeFault> {
     viewer.take(encode(&Message { mark: MARK, body }).as_slice())
 }
 

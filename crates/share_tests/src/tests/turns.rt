@@ -3,6 +3,7 @@
 
 use super::given::{BOX_AND_CLOCK, MARK, POINT};
 use super::trials::{Trial, try_on};
+use script_boxes::StockScript;
 use share_core::{Host, Viewer};
 use share_port::{Bytes, Datagram, FakePort, Port, Traffic};
 use share_turns::{SeriesFault, TurnFault, view_run, view_until};
@@ -48,7 +49,7 @@ fn sent_count(port: &FakePort) -> usize {
 /// One turn is enough for three inputs, and sends an offer and an ask; no further turn is made.
 fn catch_up_at(
     rt: &impl Abort,
-    viewer: &mut Viewer<()>,
+    viewer: &mut Viewer<StockScript>,
     port: &mut FakePort,
     out: &mut Vec<u8>,
 ) -> Result<(), Fail> {
@@ -63,7 +64,7 @@ fn catch_up_at(
 pub(super) fn catch_up(
     rt: &impl Abort,
     alloc: Global,
-    viewer: &mut Viewer<()>,
+    viewer: &mut Viewer<StockScript>,
 ) -> Result<(), Fail> {
     let mut port = FakePort::failing_at(alloc, 0);
     hand_inputs(alloc, &mut port)?;
@@ -77,7 +78,7 @@ fn turns_end_when_enough_is_applied(rt: HostRuntime) -> Result<(), Fail> {
 }
 
 /// Nothing comes: three turns offer three points, and send an offer and an ask each.
-pub(super) fn wait(rt: &impl Abort, alloc: Global, viewer: &mut Viewer<()>) {
+pub(super) fn wait(rt: &impl Abort, alloc: Global, viewer: &mut Viewer<StockScript>) {
     let mut port = FakePort::failing_at(alloc, 0);
     let mut out = Vec::new(alloc);
     let answer = view_run(viewer, &POINTS, 1, 3, HOST, &mut port, &mut out);
@@ -95,7 +96,7 @@ fn turns_are_used_up(rt: HostRuntime) -> Result<(), Fail> {
 fn fail_at(
     rt: &impl Abort,
     alloc: Global,
-    viewer: &mut Viewer<()>,
+    viewer: &mut Viewer<StockScript>,
     call: u64,
     wanted: SeriesFault,
     failures: u64,
@@ -106,7 +107,7 @@ fn fail_at(
 }
 
 /// A turn is a receive, an offer and an ask: the port fails at each of them in turn.
-pub(super) fn fail(rt: &impl Abort, alloc: Global, viewer: &mut Viewer<()>) {
+pub(super) fn fail(rt: &impl Abort, alloc: Global, viewer: &mut Viewer<StockScript>) {
     for call in 1..=9 {
         fail_at(
             rt,

@@ -2,6 +2,7 @@
 
 use super::given::{CLOCKED, MARK};
 use super::trials::{Trial, clock, take, try_on};
+use script_boxes::StockScript;
 use share_core::{Host, Viewer};
 use share_law::{HostReply, TakeFault, Taken};
 use share_wire::{Ack, Ask, Body, Message, WireFault, encode};
@@ -22,7 +23,7 @@ const INPUTS: [(u32, Taken); 8] = [
     (67, Taken::Kept),
 ];
 
-pub(super) fn take_inputs(rt: &impl Abort, viewer: &mut Viewer<()>) {
+pub(super) fn take_inputs(rt: &impl Abort, viewer: &mut Viewer<StockScript>) {
     for (number, wanted) in INPUTS {
         assert!(rt; take(viewer, clock(rt, number)) == Ok(wanted));
     }
@@ -35,7 +36,7 @@ fn inputs_wait_for_their_turn(rt: HostRuntime) -> Result<(), Fail> {
 }
 
 /// An input that isn't later than the one before: it is dropped, and can come again.
-pub(super) fn drop_late(rt: &impl Abort, viewer: &mut Viewer<()>) {
+pub(super) fn drop_late(rt: &impl Abort, viewer: &mut Viewer<StockScript>) {
     let late = Body::Input(Stamped::new(3, 2_000_000, Event::Clock));
     assert!(rt; take(viewer, late) == Ok(Taken::Kept));
     assert!(rt; take(viewer, clock(rt, 2)) == Ok(Taken::Kept));
@@ -50,7 +51,7 @@ fn what_is_not_later_is_dropped(rt: HostRuntime) -> Result<(), Fail> {
 }
 
 /// What is for another node, of another scene, or no datagram.
-pub(super) fn refuse(rt: &impl Abort, viewer: &mut Viewer<()>) {
+pub(super) fn refuse(rt: &impl Abort, viewer: &mut Viewer<StockScript>) {
     let ask = Body::Ask(Ask::new(0, 1));
     assert!(rt; take(viewer, ask) == Err(TakeFault::NotForMe));
     let ack = Body::Ack(Ack::new(1, 1, 1));
@@ -78,7 +79,7 @@ const CLOCKS: u32 = 130;
 const ROUNDS: [u32; 3] = [64, 128, CLOCKS];
 
 /// What the host sends of an ask: the inputs that it names.
-fn give(rt: &impl Abort, host: &Host, viewer: &mut Viewer<()>, reply: HostReply) {
+fn give(rt: &impl Abort, host: &Host, viewer: &mut Viewer<StockScript>, reply: HostReply) {
     let HostReply::Asked { first, count } = reply else {
         panic!(rt; "the host has no further input");
     };
@@ -90,7 +91,7 @@ fn give(rt: &impl Abort, host: &Host, viewer: &mut Viewer<()>, reply: HostReply)
     }
 }
 
-fn catch_up(rt: &impl Abort, host: &mut Host, viewer: &mut Viewer<()>) {
+fn catch_up(rt: &impl Abort, host: &mut Host, viewer: &mut Viewer<StockScript>) {
     for number in 1..=CLOCKS {
         assert!(rt; host.clock(i64::from(number) * 1_000_000) == Ok(number));
     }
@@ -104,7 +105,7 @@ fn catch_up(rt: &impl Abort, host: &mut Host, viewer: &mut Viewer<()>) {
     assert!(rt; host.take(viewer.ask().as_slice()) == Ok(HostReply::NothingToDo));
 }
 
-pub(super) fn meet_host(rt: &impl Abort, alloc: Global, viewer: &mut Viewer<()>) {
+pub(super) fn meet_host(rt: &impl Abort, alloc: Global, viewer: &mut Viewer<StockScript>) {
     let mut host = Host::new(alloc, MARK, 1);
     catch_up(rt, &mut host, viewer);
 }

@@ -1,30 +1,25 @@
 //! Each call of a world on scene A with ever more memory left: it is refused as Memory and changes
 //! nothing, until there is enough.
 
-use super::examples::{is_said, printed};
-use cascade_core::{ApplyFault, Scripts, Stage, TextFault};
+use super::stage_growths::{loads, points, prints, works_on};
+use cascade_core::Stage;
 use classic_text::{ReadFaultKind, read};
 use classic_tree::write;
 use flat_document::{ExpandFaultKind, Flat};
 use proto_walk::expand;
 use route_core::{RouteFaultKind, Routes};
 use scene_core::{Scene, SceneFaultKind};
-use share_program::{JobFault, check_text, format_text, open_scene};
+use script_boxes::StockScript;
+use share_program::{JobFault, attach, check_text, format_text, open_scene};
 use std::alloc::Global;
 use std::process::Abort;
 use std::test::Fail;
 use test_memory::UsedUp;
-use x3d_values::{Event, Stamped};
 
-const SCENE: &str = "#X3D V3.0 utf8
+pub(super) const SCENE: &str = "#X3D V3.0 utf8
 DEF T TimeSensor { cycleInterval 2 loop TRUE startTime 1 } DEF B BooleanTrigger {}
 DEF G BooleanToggle {} ROUTE T.cycleTime TO B.set_triggerTime
 ROUTE B.triggerTrue TO G.set_boolean";
-
-const POINTS: &str = "point 0 0 10 0 20 0 0 -1\npoint 0 1 10 0 20 0 0 -1
-point 0 0 10 0 20 0 0 -1\nscene\n#X3D V3.0 utf8
-Transform { translation 10 0 0 scale 2 2 2
-children [ DEF S TouchSensor {} Shape { geometry Box {} } ] }";
 
 /// How often each call is tried.
 const TURNS: usize = 24;
@@ -41,10 +36,10 @@ pub(super) fn full(alloc: Global) -> Result<Vec<u8>, Fail> {
     Ok(out)
 }
 
-/// The stage of a scene after no input.
-pub(super) fn loaded(alloc: Global, text: &[u8]) -> Result<Stage<()>, Fail> {
+/// The stage of a scene without scripts, after no input.
+pub(super) fn loaded(alloc: Global, text: &[u8]) -> Result<Stage<StockScript>, Fail> {
     let opened = open_scene(alloc, text)?;
-    let scripts: Scripts<()> = Scripts::none();
+    let scripts = attach(alloc, &opened.scene, Vec::new(alloc))?;
     Ok(Stage::load(alloc, opened.scene, opened.routes, scripts)?)
 }
 
@@ -193,130 +188,9 @@ fn label_of(rt: &impl Abort, alloc: Global, scene: &Scene, spare: usize) -> Resu
     Ok(answer.is_ok())
 }
 
-/// The same of loading a stage.
-fn loads(alloc: Global, spare: usize) -> Result<bool, Fail> {
-    let opened = open_scene(alloc, SCENE.as_bytes())?;
-    let scripts: Scripts<()> = Scripts::none();
-    let used_up = UsedUp::but_for(alloc, &[spare]);
-    let fault = Stage::load(alloc, opened.scene, opened.routes, scripts).err();
-    drop(used_up);
-    Ok(fault.is_none())
-}
-
-/// Whatever a spoiled stage is asked for is refused.
-fn is_spoiled(rt: &impl Abort, alloc: Global, stage: &mut Stage<()>) {
-    let next = Stamped::new(1, 1_000_000, Event::Clock);
-    let mut out = Vec::new(alloc);
-    let texts = (stage.trace_text(&mut out), stage.scene_text(&mut out));
-    assert!(rt; texts == (Err(TextFault::Spoiled), Err(TextFault::Spoiled)));
-    let fault = stage.apply(&next).err();
-    assert!(rt; fault == Some(ApplyFault::Spoiled) && out.is_empty());
-    assert!(rt; stage.spoiled() && stage.applied() == 0);
-}
-
-/// The same of a stage's first clock and of its texts.
-fn works_on(rt: &impl Abort, alloc: Global, call: Call, spare: usize) -> Result<bool, Fail> {
-    let mut stage = loaded(alloc, SCENE.as_bytes())?;
-    let answer = works_in(rt, alloc, &mut stage, call, spare);
-    stage.close();
-    answer
-}
-
-fn works_in(
-    rt: &impl Abort,
-    alloc: Global,
-    stage: &mut Stage<()>,
-    call: Call,
-    spare: usize,
-) -> Result<bool, Fail> {
-    match call {
-        Call::Apply => clock_of(rt, alloc, stage, spare),
-        _ => texts_of(rt, alloc, stage, spare),
-    }
-}
-
-/// A stage that was refused memory at its first clock stays spoiled, with no input applied.
-fn clock_of(
-    rt: &impl Abort,
-    alloc: Global,
-    stage: &mut Stage<()>,
-    spare: usize,
-) -> Result<bool, Fail> {
-    let first = Stamped::new(1, 1_000_000, Event::Clock);
-    let used_up = UsedUp::but_for(alloc, &[spare])?;
-    let answer = stage.apply(&first);
-    drop(used_up);
-    match answer {
-        Ok(_work) => Ok(true),
-        Err(fault) => {
-            assert!(rt; fault == ApplyFault::Memory);
-            is_spoiled(rt, alloc, stage);
-            Ok(false)
-        }
-    }
-}
-
-/// The two texts after the first clock, behind a full buffer.
-fn texts_of(
-    rt: &impl Abort,
-    alloc: Global,
-    stage: &mut Stage<()>,
-    spare: usize,
-) -> Result<bool, Fail> {
-    let first = Stamped::new(1, 1_000_000, Event::Clock);
-    assert!(rt; stage.apply(&first).is_ok());
-    let is_traced = trace_of(rt, alloc, stage, spare)?;
-    let is_shown = scene_of(rt, alloc, stage, spare)?;
-    Ok(is_traced && is_shown)
-}
-
-fn trace_of(rt: &impl Abort, alloc: Global, stage: &Stage<()>, spare: usize) -> Result<bool, Fail> {
-    let mut out = full(alloc)?;
-    let len = out.len();
-    let used_up = UsedUp::but_for(alloc, &[spare])?;
-    let answer = stage.trace_text(&mut out);
-    drop(used_up);
-    assert!(rt; answer.is_ok() || (out.len() == len && !stage.spoiled()));
-    Ok(answer.is_ok())
-}
-
-fn scene_of(rt: &impl Abort, alloc: Global, stage: &Stage<()>, spare: usize) -> Result<bool, Fail> {
-    let mut out = full(alloc)?;
-    let len = out.len();
-    let used_up = UsedUp::but_for(alloc, &[spare])?;
-    let answer = stage.scene_text(&mut out);
-    drop(used_up);
-    assert!(rt; answer.is_ok() || (out.len() == len && !stage.spoiled()));
-    Ok(answer.is_ok())
-}
-
-fn prints_job(rt: &impl Abort, alloc: Global, job: &[u8], spare: usize) -> bool {
-    let used_up = UsedUp::but_for(alloc, &[spare]);
-    let failure = printed(alloc, job).err();
-    drop(used_up);
-    let Some(failure) = failure else {
-        return true;
-    };
-    is_said(rt, "the job", &failure, "refused Memory", 5);
-    false
-}
-
-/// The same of a whole job of pointers.
-fn points(rt: &impl Abort, alloc: Global, spare: usize) -> bool {
-    prints_job(rt, alloc, POINTS.as_bytes(), spare)
-}
-
-/// The same of a whole job of two clocks.
-fn prints(rt: &impl Abort, alloc: Global, spare: usize) -> Result<bool, Fail> {
-    let mut job = Vec::new(alloc);
-    job.extend_from_slice(b"clock 1\nclock 2\nscene\n")?;
-    job.extend_from_slice(SCENE.as_bytes())?;
-    Ok(prints_job(rt, alloc, job.as_slice(), spare))
-}
-
 /// What may be refused memory.
 #[derive(Clone, Copy)]
-enum Call {
+pub(super) enum Call {
     Read,
     Rewrite,
     Format,
@@ -353,7 +227,12 @@ fn works(rt: &impl Abort, alloc: Global, call: Call, spare: usize) -> Result<boo
 
 /// How many of these turns refuse the call, each with so many bytes more than the one before: the
 /// first, with none, does, and with a mebibyte the call works.
-fn refusals(rt: &impl Abort, alloc: Global, call: Call, step: usize) -> Result<usize, Fail> {
+pub(super) fn refusals(
+    rt: &impl Abort,
+    alloc: Global,
+    call: Call,
+    step: usize,
+) -> Result<usize, Fail> {
     let mut refused: usize = 0;
     let mut spare: usize = 0;
     for _turn in 0..TURNS {
@@ -412,35 +291,5 @@ fn each_growth_of_a_state_and_a_label_is_refused(rt: HostRuntime) -> Result<(), 
     assert!(rt; refused > 3, "{refused}");
     let refused = refusals(&rt, rt.alloc(), Call::Label, 512)?;
     assert!(rt; refused > 3, "{refused}");
-    Ok(())
-}
-
-#[test]
-fn each_growth_of_a_stage_is_refused(rt: HostRuntime) -> Result<(), Fail> {
-    let refused = refusals(&rt, rt.alloc(), Call::Load, 48)?;
-    assert!(rt; refused > 3, "{refused}");
-    let refused = refusals(&rt, rt.alloc(), Call::Apply, 96)?;
-    assert!(rt; refused > 3, "{refused}");
-    Ok(())
-}
-
-#[test]
-fn each_growth_of_the_texts_is_refused(rt: HostRuntime) -> Result<(), Fail> {
-    let refused = refusals(&rt, rt.alloc(), Call::Write, 512)?;
-    assert!(rt; refused > 3, "{refused}");
-    Ok(())
-}
-
-#[test]
-fn each_growth_of_a_job_is_refused(rt: HostRuntime) -> Result<(), Fail> {
-    let refused = refusals(&rt, rt.alloc(), Call::Print, 512)?;
-    assert!(rt; refused > 5, "{refused}");
-    Ok(())
-}
-
-#[test]
-fn each_growth_of_a_job_of_pointers_is_refused(rt: HostRuntime) -> Result<(), Fail> {
-    let refused = refusals(&rt, rt.alloc(), Call::Point, 512)?;
-    assert!(rt; refused > 5, "{refused}");
     Ok(())
 }

@@ -2,7 +2,7 @@
 
 use super::texts::is_refused;
 use classic_text::{ReadFault, ReadFaultKind, read};
-use std::alloc::{AllocError, Global};
+use std::alloc::Global;
 use std::process::Abort;
 use std::test::Fail;
 
@@ -249,105 +249,6 @@ fn texts_that_are_read(rt: HostRuntime) {
     for text in READ {
         assert!(rt; read(rt.alloc(), text).is_ok(), "at {text:?}");
     }
-}
-
-/// So many Groups in one another, each on a line of its own behind the header, with a last one
-/// inside.
-fn nested(alloc: Global, levels: usize, last: &[u8]) -> Result<Vec<u8>, AllocError> {
-    let mut text = Vec::new(alloc);
-    text.extend_from_slice(b"#X3D V3.0 utf8")?;
-    for _level in 0..levels {
-        text.extend_from_slice(b"\nGroup { children [")?;
-    }
-    text.push(b'\n')?;
-    text.extend_from_slice(last)?;
-    for _level in 0..levels {
-        text.extend_from_slice(b"] }")?;
-    }
-    Ok(text)
-}
-
-/// So many Groups around these bytes are a scene, or that is said of them.
-fn nest(
-    rt: &impl Abort,
-    alloc: Global,
-    levels: usize,
-    last: &[u8],
-    wanted: &str,
-) -> Result<(), AllocError> {
-    let text = nested(alloc, levels, last)?;
-    is_refused(rt, alloc, text.as_slice(), wanted);
-    Ok(())
-}
-
-/// 64 nested Groups are a scene, and 65 are refused.
-#[test]
-fn limits(rt: HostRuntime) -> Result<(), Fail> {
-    nest(&rt, rt.alloc(), 63, b"Group {}", "")?;
-    nest(&rt, rt.alloc(), 64, b"", "")?;
-    nest(&rt, rt.alloc(), 64, b"Group", "refused TooDeep line 66")?;
-    Ok(())
-}
-
-#[test]
-fn limits_of_use(rt: HostRuntime) -> Result<(), Fail> {
-    let deepest = nested(rt.alloc(), 63, b"USE A")?;
-    assert!(rt; read(rt.alloc(), deepest.as_slice()).is_ok());
-    let too_deep = nested(rt.alloc(), 64, b"USE A")?;
-    is_refused(
-        &rt,
-        rt.alloc(),
-        too_deep.as_slice(),
-        "refused TooDeep line 66",
-    );
-    Ok(())
-}
-
-/// So many Groups around these bytes are read, whatever their nodes and fields.
-fn is_read_in(
-    rt: &impl Abort,
-    alloc: Global,
-    levels: usize,
-    last: &[u8],
-) -> Result<(), AllocError> {
-    let text = nested(alloc, levels, last)?;
-    assert!(rt; read(alloc, text.as_slice()).is_ok(), "{last:?}");
-    Ok(())
-}
-
-/// The body of a PROTO counts as a level, its interface does not.
-#[test]
-fn limits_of_prototypes(rt: HostRuntime) -> Result<(), Fail> {
-    is_read_in(&rt, rt.alloc(), 62, b"A { PROTO P [ ] { } }")?;
-    is_read_in(&rt, rt.alloc(), 61, b"A { PROTO P [ ] { B {} } }")?;
-    is_read_in(
-        &rt,
-        rt.alloc(),
-        62,
-        b"A { PROTO P [ field SFNode a B {} ] { } }",
-    )?;
-    nest(
-        &rt,
-        rt.alloc(),
-        63,
-        b"A {\nPROTO P [\n] { } }",
-        "refused TooDeep line 66",
-    )?;
-    nest(
-        &rt,
-        rt.alloc(),
-        62,
-        b"A { PROTO P [ ] {\nB {} } }",
-        "refused TooDeep line 65",
-    )?;
-    nest(
-        &rt,
-        rt.alloc(),
-        63,
-        b"A { PROTO P [ field SFNode a\nUSE b ] { } }",
-        "refused TooDeep line 66",
-    )?;
-    Ok(())
 }
 
 #[test]

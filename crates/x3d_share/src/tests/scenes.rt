@@ -203,7 +203,9 @@ ROUTE Timer.isActive TO Filter.set_boolean
 ROUTE Filter.inputNegate TO Done.on
 ",
     "#X3D V3.0 utf8
-DEF T TimeSensor { cycleInterval 2 loop TRUE startTime 1 } DEF B BooleanTrigger {} DEF G BooleanToggle {} ROUTE T.cycleTime TO B.set_triggerTime ROUTE B.triggerTrue TO G.set_boolean
+DEF T TimeSensor { cycleInterval 2 loop TRUE startTime 1 } DEF B BooleanTrigger {} \
+DEF G BooleanToggle {} ROUTE T.cycleTime TO B.set_triggerTime \
+ROUTE B.triggerTrue TO G.set_boolean
 ",
     "#X3D V3.0 utf8
 # A lamp as a prototype: its button is pressed from outside. The words of access are the older ones.

@@ -91,7 +91,7 @@ fn scripts_that_are_not_run(rt: HostRuntime) {
     print(&rt, rt.alloc(), &NOT_RUN);
 }
 
-const REFUSED: [(&str, &str, u8); 11] = [
+const REFUSED: [(&str, &str, u8); 10] = [
     (
         "scene\n#X3D V3.0 utf8\nScript { inputOnly SFBool a\ninputOnly SFBool a }",
         "refused FieldTwice line 3",
@@ -144,13 +144,6 @@ ROUTE S.a TO S.b",
         "scene\n#X3D V3.0 utf8\nDEF S Script { field SFBool a TRUE }
 ROUTE S.a TO S.url",
         "refused NotOutput line 3",
-        1,
-    ),
-    // what asks to be run is not run yet
-    (
-        "scene\n#X3D V3.0 utf8\nGroup {}
-Script { url [ \"http://a\" \"x3dshare:lamp\" ] inputOnly SFBool a }",
-        "refused NotYet line 3",
         1,
     ),
 ];

@@ -2,6 +2,7 @@
 
 use super::growths::loaded;
 use cascade_core::{ApplyFault, Stage, Work};
+use script_boxes::StockScript;
 use std::alloc::Global;
 use std::process::Abort;
 use std::test::Fail;
@@ -24,13 +25,13 @@ fn first_work(rt: &impl Abort, alloc: Global, text: &[u8], wanted: Work) -> Resu
     Ok(())
 }
 
-fn costs(rt: &impl Abort, stage: &mut Stage<()>, wanted: Work) {
+fn costs(rt: &impl Abort, stage: &mut Stage<StockScript>, wanted: Work) {
     let first = Stamped::new(1, 1_000_000, Event::Clock);
     assert!(rt; stage.apply(&first) == Ok(wanted));
 }
 
 /// Each leaves the stage as it was.
-fn are_refused(rt: &impl Abort, stage: &mut Stage<()>) {
+fn are_refused(rt: &impl Abort, stage: &mut Stage<StockScript>) {
     let early = Stamped::new(2, 1_000_000, Event::Clock);
     let skipped = Stamped::new(3, 2_000_000, Event::Clock);
     assert!(rt; stage.apply(&early).err() == Some(ApplyFault::TimeNotLater));

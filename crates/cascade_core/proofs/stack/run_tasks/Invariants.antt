@@ -2,17 +2,21 @@ use Rattle.std.proofs.Common.{◌≡◌, []}
 use Rattle.std.specs.List.{AllByRecursion}
 use Rattle.scene_core.specs.Scene.{shapes_of}
 use Rattle.pick_core.specs.Sites.{rows_of}
+use Rattle.script_turn.specs.Acting.{kinds_of}
+use Rattle.cascade_core.specs.Course.{plan_at, seen}
 use Rattle.cascade_core.specs.Stack.{finish, IsReady, work_left}
 use Rattle.cascade_core.proofs.stack.run_tasks.Given as goal
 
--- the turn now, with the tasks that are left done by the definition, is what the definition gives for all
+-- the course now, with the tasks that are left done by the definition, is what the definition gives for all
 abbrev pub invariant-loop-task : goal.invariant-loop-task
-invariant-loop-task l = record {
+invariant-loop-task g l = record {
   none : l.replies.items ≡ [];
-  ready : AllByRecursion (IsReady (shapes_of l.scene)) l.tasks.items;
-  boxes : l.boxes ≡ rows_of l.scene l.turn.world.fields;
-  done : finish (shapes_of l.scene) l.routes l.turn l.tasks.items ≡ finish (shapes_of l.scene) l.routes l.fn.turn l.fn.tasks.items;
+  ready : AllByRecursion (IsReady (shapes_of l.fixed.scene)) l.tasks.items;
+  boxes : l.boxes ≡ rows_of l.fixed.scene l.course.turn.world.fields;
+  kinds : kinds_of l.course.scripts ≡ kinds_of l.fn.course.scripts;
+  count : l.course.settling.count ≡ l.fn.course.settling.count;
+  done : finish (plan_at l.fixed) (seen l.course) l.tasks.items ≡ finish (plan_at l.fixed) (seen l.fn.course) l.fn.tasks.items;
 }
 
 abbrev pub decreases-loop-task : goal.decreases-loop-task
-decreases-loop-task l = work_left (shapes_of l.scene) l.routes l.turn l.tasks.items
+decreases-loop-task g l = work_left (plan_at l.fixed) (seen l.course) l.tasks.items

@@ -1,6 +1,7 @@
 use Rattle.std.proofs.Common.{ap}
 use Rattle.proto_walk.specs.Frames.{shown, task_does}
-use Rattle.proto_walk.proofs.Moves.{stays, routed-body}
+use Rattle.proto_walk.proofs.InstanceMoves.{routed-body}
+use Rattle.proto_walk.proofs.Moves.{stays}
 use Rattle.proto_walk.proofs.bodies.next_route.Goals as goal
 
 pub returns : goal.returns

@@ -1,7 +1,8 @@
 use Rattle.std.proofs.Common.{rules, arith, ◌≡◌, ◌∙◌, ap, refl, ◌∷◌}
 use Rattle.proto_walk.specs.Frames.{frame_does, shown, task_does}
 use Rattle.proto_steps.specs.Held.{in_sight}
-use Rattle.proto_walk.proofs.Moves.{pushes, declares, keeps-as, body-node, body-proto, body-route}
+use Rattle.proto_walk.proofs.InstanceMoves.{body-node, body-proto, body-route}
+use Rattle.proto_walk.proofs.Moves.{pushes, declares, keeps-as}
 use Rattle.proto_walk.proofs.bodies.next_statement.Goals as goal
 
 pub returns-in_ok-push-in-Node : goal.returns-in_ok-push-in-Node

@@ -9,7 +9,7 @@ use Rattle.proto_walk.specs.Frames as does
 use Rattle.proto_walk.specs.Frames.{Keeps, shown}
 use Rattle.proto_walk.specs.declared.frames.Filling.{Filling}
 use Rattle.proto_walk.specs.declared.frames.Open.{Open}
-use Rattle.proto_walk.proofs.Moves.{fill-next}
+use Rattle.proto_walk.proofs.InstanceMoves.{fill-next}
 use Rattle.proto_walk.proofs.filling.next_filling.Goals as goal
 
 pub returns : goal.returns

@@ -1,5 +1,6 @@
 use Rattle.std.proofs.Common.{◌∙◌, refl}
-use Rattle.proto_walk.proofs.Moves.{stays, opens}
+use Rattle.proto_walk.proofs.InstanceMoves.{opens}
+use Rattle.proto_walk.proofs.Moves.{stays}
 use Rattle.proto_walk.proofs.filling.open_defaults.Goals as goal
 
 pub returns : goal.returns

@@ -1,6 +1,7 @@
 use Rattle.std.proofs.Common.{◌≤◌, length, refl, None, subst, sym}
 use Rattle.proto_steps.specs.declared.held.Scope.{Scope}
-use Rattle.proto_walk.proofs.Moves.{stays, fill-last}
+use Rattle.proto_walk.proofs.InstanceMoves.{fill-last}
+use Rattle.proto_walk.proofs.Moves.{stays}
 use Rattle.proto_walk.proofs.filling.start_body.Goals as goal
 
 pub returns : goal.returns

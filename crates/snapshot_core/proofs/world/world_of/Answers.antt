@@ -11,4 +11,4 @@ returns-in_err-parts c =
     rw (p.1, p.2) (no_parts c.args.scene.now c.args.bytes.now c.in-Some.progress c.in-Some.rest.now _ c.in-Some.ensures c.in_err-parts.ensures)
 
 pub returns : goal.returns
-returns c = rw c.world_with.ensures (whole_body c.args.scene.now c.args.bytes.now c.in-Some.progress c.in-Some.rest.now c.in_ok-parts.parts c.in_ok-parts.rest.now c.in-Some.ensures c.in_ok-parts.ensures)
+returns c = rw c.found_with.ensures (whole_body c.args.scene.now c.args.bytes.now c.in-Some.progress c.in-Some.rest.now c.in_ok-parts.parts c.in_ok-parts.rest.now c.in-Some.ensures c.in_ok-parts.ensures)

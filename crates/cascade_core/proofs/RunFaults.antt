@@ -1,0 +1,40 @@
+-- Why a run stops.
+use Rattle.std.proofs.Common.{◌≡◌, ◌⊎◌, inl, inr, List, Some, None, Result, Err, ◌∙◌, subst, sym}
+use Rattle.std.specs.Prelude.{IfErr}
+use Rattle.x3d_values.specs.Stamp.{Stamp}
+use Rattle.scene_core.specs.declared.scene.Route.{Route}
+use Rattle.scene_core.specs.Scene.{SceneView}
+use Rattle.cascade_core.specs.Apply.{opening}
+use Rattle.cascade_core.specs.Held.{Running, StageView, refusal_in}
+use Rattle.cascade_core.specs.InTurn.{AreInTurn, Follow}
+use Rattle.cascade_core.specs.declared.fault.ApplyFault.{ApplyFault}
+use Rattle.cascade_core.specs.declared.fault.ApplyFault.TheVariants.{Memory}
+use Rattle.cascade_core.proofs.Turns.{follows_taken, opening-at}
+
+-- a stage behind input 0
+abbrev pub loaded : SceneView → List Route → StageView
+loaded scene routes = record { scene = scene; routes = routes; held = Running (opening scene routes) }
+
+abbrev pub Stops : StageView → List Stamp → ApplyFault → Type 0
+Stops stage inputs fault = (fault ≡ Memory) ⊎ (refusal_in stage inputs ≡ Some fault)
+
+none-refused : (scene : SceneView) (routes : List Route) (inputs : List Stamp) → AreInTurn inputs → refusal_in (loaded scene routes) inputs ≡ None
+none-refused scene routes inputs follow =
+    let at = opening-at scene routes in
+    follows_taken scene routes (opening scene routes) inputs
+    (subst (λ n. Follow n (opening scene routes).world.last_time inputs) (sym at.0) (subst (λ t. Follow 0 t inputs) (sym at.1) follow))
+
+module _ {X : Type 0} (result : Result X ApplyFault) (fault : ApplyFault) (stage : StageView) (scene : SceneView) (routes : List Route) (inputs : List Stamp)
+    (failed : result ≡ Err fault) (same : stage ≡ loaded scene routes) (stops : Stops stage inputs fault) where
+  from-start : Stops (loaded scene routes) inputs fault
+  from-start = subst (λ (s : StageView). Stops s inputs fault) same stops
+
+  pub stopped : IfErr result (λ f. Stops (loaded scene routes) inputs f)
+  stopped = subst (λ (r : Result X ApplyFault). IfErr r (λ f. Stops (loaded scene routes) inputs f)) (sym failed) from-start
+
+  memory-alone : AreInTurn inputs → Stops (loaded scene routes) inputs fault → fault ≡ Memory
+  memory-alone follow (inl memory) = memory
+  memory-alone follow (inr refused) = let none : None ≡ Some fault = sym (none-refused scene routes inputs follow) ∙ refused in cc
+
+  pub stopped_in_turn : AreInTurn inputs → IfErr result (λ f. f ≡ Memory)
+  stopped_in_turn follow = subst (λ (r : Result X ApplyFault). IfErr r (λ f. f ≡ Memory)) (sym failed) (memory-alone follow from-start)

@@ -1,0 +1,10 @@
+use Rattle.std.proofs.Common.{rules, ◌≡◌, map}
+use Rattle.scene_scripts.specs.Runs.{run_of}
+use Rattle.scene_scripts.specs.Scripts.{script_list}
+use Rattle.cascade_core.proofs.SoundPlans.{sound_scene}
+use Rattle.cascade_core.proofs.parts.fixed_of.Goals as goal
+
+pub returns-clause-sound : goal.returns-clause-sound
+returns-clause-sound c =
+    let are : c.in_ok-runs.runs ≡ map (run_of c.args.scene) (script_list c.args.scene) = search rules in
+    λ scripts fits. sound_scene c.args.scene c.args.routes c.in_ok-runs.runs are scripts fits

@@ -1,0 +1,22 @@
+use Rattle.std.proofs.Common.{rules, ◌≡◌, ◌∙◌, ap, sym}
+use Rattle.pick_core.specs.Sites.{rows_of}
+use Rattle.scene_core.specs.Scene.{types_of}
+use Rattle.cascade_core.specs.Course.{plan_at, seen}
+use Rattle.cascade_core.specs.Nodes.{clocks_of, touch_sensors_of}
+use Rattle.cascade_core.specs.Scripts.{scripts_in}
+use Rattle.cascade_core.specs.Sound.{IsCast}
+use Rattle.cascade_core.proofs.Openings.{cast_opened}
+use Rattle.cascade_core.proofs.stage.Stage.load.Goals as goal
+
+pub open-requires-clause-sound : goal.open-requires-clause-sound
+open-requires-clause-sound g c = c.in_ok-fixed.ensures.sound c.args.scripts c.requires.fits
+
+pub invariant_of-result : goal.invariant_of-result
+invariant_of-result g c =
+    let clocks : c.in_ok-sensors.field-0.sensors.clocks.items ≡ clocks_of (types_of c.in_ok-fixed.fixed.scene) = search rules in
+    let touches : c.in_ok-sensors.field-0.sensors.touches.items ≡ touch_sensors_of (types_of c.in_ok-fixed.fixed.scene) = search rules in
+    let boxes : c.open.new.bench.boxes ≡ rows_of c.in_ok-fixed.fixed.scene c.in_ok-course.course.turn.world.fields = search rules in
+    let cast : IsCast (plan_at c.in_ok-fixed.fixed) (seen c.in_ok-course.course) =
+    cast_opened (plan_at c.in_ok-fixed.fixed) c.in_ok-fixed.fixed.scene c.args.scripts (seen c.in_ok-course.course) (c.in_ok-fixed.ensures.sound c.args.scripts c.requires.fits)
+    (c.requires.fresh ∙ ap scripts_in (sym c.in_ok-fixed.ensures.scene)) c.in_ok-course.ensures.kinds c.in_ok-course.ensures.count in
+    (clocks, touches, boxes, c.in_ok-fixed.ensures.runs, cast, c.in_ok-course.ensures.kinds)

@@ -1,0 +1,75 @@
+-- A world whose scene runs scripts, and the course of one of its inputs (ISO/IEC 19775-1, event
+-- model, Script).
+use Rattle.std.specs.Prelude.{ℕ, ℤ, List, [], Option, length, slice_get}
+use Rattle.std.specs.Option.{option_map_or}
+use Rattle.scene_core.specs.declared.scene.Route.{Route}
+use Rattle.scene_core.specs.Scene.{SceneView, shapes_of}
+use Rattle.scene_core.specs.Shape.{Shape}
+use Rattle.script_host.specs.Hosting.{ScriptRecord}
+use Rattle.script_turn.specs.Ports.{Wiring}
+use Rattle.script_due.specs.Settling.{Settling, unsettled}
+use Rattle.scene_scripts.specs.Runs.{runs_of}
+use Rattle.scene_scripts.specs.declared.runs.Run.{Run}
+use Rattle.cascade_core.specs.Scripts.{script_from, states_of}
+use Rattle.cascade_core.specs.declared.course.Course as lent
+use Rattle.cascade_core.specs.declared.fixed.Fixed.{Fixed}
+use Rattle.cascade_core.specs.declared.world.Turn.{Turn}
+use Rattle.cascade_core.specs.declared.world.WorldData.{WorldData}
+
+-- what events go by: the fields of the nodes, the routes, and the scripts that are run
+pub record Plan : Type 0 where
+  pub shapes : List Shape
+  pub routes : List Route
+  pub runs : List Run
+
+abbrev pub plan_of : SceneView → List Route → Plan
+plan_of scene routes =
+    record { shapes = shapes_of scene; routes = routes; runs = runs_of scene }
+
+-- ---- worlds
+
+-- a world, and the states of its scripts by their numbers
+pub record Scripted : Type 0 where
+  pub world : WorldData
+  pub states : List (List ℤ)
+
+-- what events go by where a stage holds this
+abbrev pub plan_at : Fixed → Plan
+plan_at g = record { shapes = shapes_of g.scene; routes = g.routes; runs = g.runs }
+
+-- a world in the course of one input, and which of its scripts received and were settled
+pub record Course : Type 0 where
+  pub turn : Turn
+  pub scripts : List ScriptRecord
+  pub settling : Settling
+
+-- the same of the course that the code has, whatever its boxes are
+abbrev pub seen : {X : Type 0} → lent.Course X → Course
+seen c = record { turn = c.turn; scripts = c.scripts; settling = c.settling }
+
+abbrev pub with_turn : Course → Turn → Course
+with_turn c turn = record c { turn = turn }
+
+-- an input begins: no script has received, and none is settled
+abbrev pub course : Turn → List ScriptRecord → Course
+course turn scripts =
+    record { turn = turn; scripts = scripts; settling = unsettled (length scripts) }
+
+abbrev pub ended : Course → Scripted
+ended c = record { world = c.turn.world; states = states_of c.scripts }
+
+-- ---- the scripts of nodes
+
+-- the number of the script of a node, where its script is run
+abbrev pub script_of : Plan → ℕ → Option ℕ
+script_of plan node = script_from 0 plan.runs node
+
+-- the node of a script
+abbrev pub node_of : Plan → ℕ → ℕ
+node_of plan k = option_map_or (λ (run : Run). run.node) (slice_get plan.runs k) 0
+
+abbrev pub no_ports : Wiring
+no_ports = record { inputs = []; outputs = [] }
+
+abbrev pub ports_of : Plan → ℕ → Wiring
+ports_of plan k = option_map_or (λ (run : Run). run.ports) (slice_get plan.runs k) no_ports

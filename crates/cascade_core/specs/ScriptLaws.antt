@@ -1,0 +1,26 @@
+-- What holds of worlds with scripts.
+use Rattle.std.specs.Prelude.{◌≡◌, List, [], None, true, length}
+use Rattle.x3d_values.specs.Stamp.{Stamp}
+use Rattle.scene_core.specs.declared.scene.Route.{Route}
+use Rattle.scene_core.specs.Scene.{SceneView}
+use Rattle.script_due.specs.Settling.{all_differ}
+use Rattle.script_turn.specs.Acting.{kinds_of}
+use Rattle.cascade_core.specs.Apply.{after_input, world}
+use Rattle.cascade_core.specs.Course.{Course, Plan}
+use Rattle.cascade_core.specs.Scripts.{kinds_in}
+use Rattle.cascade_core.specs.Settles.{next_due, settle}
+
+-- no input changes the kind of a script, or how many there are
+abbrev pub KindsStand : Type 0
+KindsStand = (scene : SceneView) (plan : Plan) (c : Course) (input : Stamp)
+    → kinds_of (after_input scene plan c input).scripts ≡ kinds_of c.scripts
+
+-- a world has a state for each script of its scene
+abbrev pub StatesStand : Type 0
+StatesStand = (scene : SceneView) (routes : List Route) (inputs : List Stamp)
+    → length (world scene routes inputs).states ≡ length (kinds_in scene)
+
+-- settling leaves no script due, and settles each once at most
+abbrev pub SettlesAll : Type 0
+SettlesAll = (plan : Plan) (c : Course) → c.settling.settled ≡ []
+    → (next_due (settle plan c) ≡ None) × (all_differ (settle plan c).settling.settled ≡ true)

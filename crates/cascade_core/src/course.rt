@@ -1,0 +1,94 @@
+//! The world of a scene with its scripts, in the course of one input.
+
+ghost use Rattle.std.specs.Prelude.{◌≡◌, [], IfOk, OnOk, is_some};
+ghost use Rattle.pick_core.specs.Sites.{rows_of};
+ghost use Rattle.script_turn.specs.Acting.{kinds_of};
+ghost use Rattle.cascade_core.specs.Course.{plan_at, seen};
+ghost use Rattle.cascade_core.specs.Cascade.{arrival, reached, received_by};
+ghost use Rattle.cascade_core.specs.Sound.{IsCast};
+
+use crate::begun::BegunScripts;
+use crate::fixed::Fixed;
+use crate::world::Turn;
+use pick_core::BoxCache;
+use react_core::Outbox;
+use scene_core::End;
+use script_due::DueScripts;
+use script_host::Behaviour;
+use std::alloc::{AllocError, Global};
+use x3d_values::Value;
+
+/// A world in the course of one input, its scripts, and which of them received in it and were
+/// settled.
+#[derive(Drop)]
+pub struct Course<B: Behaviour> {
+    pub turn: Turn,
+    pub scripts: BegunScripts<B>,
+    pub settling: DueScripts,
+}
+
+impl<B: Behaviour> Course<B> {
+    /// An event comes to the script of its target: whether there is one that receives it.
+    fn receive(
+        &mut self,
+        fixed: &Fixed,
+        target: End,
+        value: &Value,
+        out: &mut Outbox,
+    ) -> Result<bool, AllocError>
+        requires empty { out.old.items ≡ [] }
+        requires cast { IsCast (plan_at fixed.now) (seen self.old) }
+        ensures received { IfOk result (λ received. received
+            ≡ is_some (arrival (plan_at fixed.now) (seen self.old) target value.now)) }
+        ensures course { OnOk result (seen self.new
+            ≡ (received_by (plan_at fixed.now) (seen self.old)
+            (arrival (plan_at fixed.now) (seen self.old) target value.now)).course) }
+        ensures replies { OnOk result (out.new.items
+            ≡ (received_by (plan_at fixed.now) (seen self.old)
+            (arrival (plan_at fixed.now) (seen self.old) target value.now)).replies) }
+        ensures turn { self.new.turn ≡ self.old.turn }
+        ensures kinds { kinds_of self.new.scripts ≡ kinds_of self.old.scripts }
+        ensures count { self.new.settling.count ≡ self.old.settling.count }
+    {
+        let Some(k) = fixed.runs.script_of(target.node) else {
+            return Ok(false);
+        };
+        let ports = fixed.runs.ports(k);
+        if !self.scripts.receive(k, ports, target.field, value, out) {
+            return Ok(false);
+        }
+        self.settling.receive(k)?;
+        Ok(true)
+    }
+
+    /// An event comes to its target, whatever has sent before: to its script, or else to the node,
+    /// if there is such a node.
+    #[tactic(auto, unfolding(crate::specs::Cascade::reached))]
+    pub(crate) fn deliver(
+        &mut self,
+        alloc: Global,
+        fixed: &Fixed,
+        boxes: &mut BoxCache,
+        target: End,
+        value: &Value,
+        out: &mut Outbox,
+    ) -> Result<(), AllocError>
+        requires empty { out.old.items ≡ [] }
+        requires boxes { boxes.old ≡ rows_of fixed.now.scene self.old.turn.world.fields }
+        requires cast { IsCast (plan_at fixed.now) (seen self.old) }
+        ensures course { OnOk result (seen self.new
+            ≡ (reached (plan_at fixed.now) (seen self.old) target value.now).course) }
+        ensures replies { OnOk result (out.new.items
+            ≡ (reached (plan_at fixed.now) (seen self.old) target value.now).replies) }
+        ensures boxes { OnOk result
+            (boxes.new ≡ rows_of fixed.now.scene self.new.turn.world.fields) }
+        ensures kinds { kinds_of self.new.scripts ≡ kinds_of self.old.scripts }
+        ensures count { self.new.settling.count ≡ self.old.settling.count }
+    {
+        if self.receive(fixed, target, value, out)? {
+            return Ok(());
+        }
+        self.turn
+            .deliver(alloc, &fixed.scene, boxes, target, value, out)
+    }
+}

@@ -1,0 +1,177 @@
+//! Input 0: all scripts are initialized, then what they sent is sent, and then they settle.
+
+ghost use Rattle.std.specs.Prelude.{◌≡◌, ◌<◌, [], IfOk, OnOk, true, length};
+ghost use Rattle.std.specs.List.{list_all};
+ghost use Rattle.pick_core.specs.Sites.{rows_of};
+ghost use Rattle.scene_core.specs.Scene.{shapes_of};
+ghost use Rattle.script_host.specs.Behaviour.{Initialize};
+ghost use Rattle.script_turn.specs.Acting.{act, kinds_of};
+ghost use Rattle.cascade_core.specs.Apply.{opening as opening_of, sent_by_all, started, untold};
+ghost use Rattle.cascade_core.specs.Cascade.{send_replies};
+ghost use Rattle.cascade_core.specs.Course.{ended, node_of, plan_at, ports_of, seen};
+ghost use Rattle.cascade_core.specs.Scripts.{kinds_in, scripts_in};
+ghost use Rattle.cascade_core.specs.Sound.{IsCast, IsSound, IsFixed, are_sent};
+
+use crate::begun::BegunScripts;
+use crate::bench::Bench;
+use crate::course::Course;
+use crate::fixed::Fixed;
+use crate::settle::settle;
+use crate::stack::{Task, push_replies, run_tasks};
+use crate::world::Turn;
+use pick_core::BoxCache;
+use react_core::Outbox;
+use script_due::DueScripts;
+use script_host::{Behaviour, Scripts};
+use std::alloc::{AllocError, Global};
+use std::marker::Model;
+
+/// What the node of a script is to send.
+#[derive(Drop)]
+struct Sending {
+    node: u32,
+    replies: Outbox,
+}
+
+impl Model for Sending {
+    ghost use Rattle.cascade_core.specs.Apply.{Sending as Sent};
+
+    ghost Value = { Sent };
+
+    ghost view = { λ s. record { node = s.node; replies = s.replies.items } };
+}
+
+/// Initializes the k-th script: what its node is to send.
+#[tactic(auto, using(crate::proofs::Openings::script_run))]
+fn initialize_one<B: Behaviour>(fixed: &Fixed, scripts: &mut Scripts<B>, k: usize) -> Sending
+    requires there { k < length scripts.old }
+    requires sound { IsSound (plan_at fixed.now) (kinds_of scripts.old) }
+    ensures scripts { scripts.new
+        ≡ (act (ports_of (plan_at fixed.now) k) Initialize k scripts.old).scripts }
+    ensures sending { result
+        ≡ record {
+          node = node_of (plan_at fixed.now) k;
+          replies = (act (ports_of (plan_at fixed.now) k) Initialize k scripts.old).replies;
+        } }
+    ensures kinds { kinds_of scripts.new ≡ kinds_of scripts.old }
+{
+    let mut replies = Outbox::new();
+    script_turn::initialize(scripts, k, fixed.runs.ports(k), &mut replies);
+    Sending {
+        node: fixed.runs.node(k),
+        replies,
+    }
+}
+
+/// Initializes all scripts in the order of their numbers: what their nodes are to send.
+fn initialize_all<B: Behaviour>(
+    alloc: Global,
+    fixed: &Fixed,
+    scripts: &mut Scripts<B>,
+) -> Result<Vec<Sending>, AllocError>
+    requires sound { IsSound (plan_at fixed.now) (kinds_of scripts.old) }
+    ensures scripts { OnOk result
+        (scripts.new ≡ (started (plan_at fixed.now) scripts.old).scripts) }
+    ensures sendings { IfOk result (λ sendings.
+        sendings.items ≡ (started (plan_at fixed.now) scripts.old).sendings) }
+    ensures kinds { kinds_of scripts.new ≡ kinds_of scripts.old }
+{
+    let count = scripts.len();
+    let mut sendings = Vec::with_capacity(alloc, count)?;
+    for k in 0..count {
+        sendings.push(initialize_one(fixed, scripts, k))?;
+    }
+    Ok(sendings)
+}
+
+/// What the node of one script is to send is sent.
+fn send_one<B: Behaviour>(
+    fixed: &Fixed,
+    tasks: &mut Vec<Task>,
+    course: &mut Course<B>,
+    boxes: &mut BoxCache,
+    sending: Sending,
+) -> Result<(), AllocError>
+    requires empty { tasks.old.items ≡ [] }
+    requires boxes { boxes.old ≡ rows_of fixed.now.scene course.old.turn.world.fields }
+    requires cast { IsCast (plan_at fixed.now) (seen course.old) }
+    requires outputs { are_sent (shapes_of fixed.now.scene) sending ≡ true }
+    ensures course { OnOk result (seen course.new
+        ≡ send_replies (plan_at fixed.now) sending.node (seen course.old) sending.replies) }
+    ensures empty { OnOk result (tasks.new.items ≡ []) }
+    ensures boxes { OnOk result
+        (boxes.new ≡ rows_of fixed.now.scene course.new.turn.world.fields) }
+    ensures kinds { kinds_of course.new.scripts ≡ kinds_of course.old.scripts }
+    ensures count { course.new.settling.count ≡ course.old.settling.count }
+{
+    let Sending { node, mut replies } = sending;
+    push_replies(tasks, node, &mut replies)?;
+    run_tasks(fixed, tasks, course, &mut replies, boxes)?;
+    Ok(())
+}
+
+/// What the nodes of scripts are to send is sent, in order.
+fn send_all<B: Behaviour>(
+    fixed: &Fixed,
+    tasks: &mut Vec<Task>,
+    course: &mut Course<B>,
+    boxes: &mut BoxCache,
+    sendings: Vec<Sending>,
+) -> Result<(), AllocError>
+    requires empty { tasks.old.items ≡ [] }
+    requires boxes { boxes.old ≡ rows_of fixed.now.scene course.old.turn.world.fields }
+    requires cast { IsCast (plan_at fixed.now) (seen course.old) }
+    requires outputs { list_all (are_sent (shapes_of fixed.now.scene)) sendings.items ≡ true }
+    ensures course { OnOk result (seen course.new
+        ≡ sent_by_all (plan_at fixed.now) (seen course.old) sendings.items) }
+    ensures empty { OnOk result (tasks.new.items ≡ []) }
+    ensures boxes { OnOk result
+        (boxes.new ≡ rows_of fixed.now.scene course.new.turn.world.fields) }
+    ensures kinds { kinds_of course.new.scripts ≡ kinds_of course.old.scripts }
+    ensures count { course.new.settling.count ≡ course.old.settling.count }
+{
+    for sending in sendings {
+        send_one(fixed, tasks, course, boxes, sending)?;
+    }
+    Ok(())
+}
+
+/// The course of input 0 of these scripts, over a world in which nothing has happened.
+pub fn open<B: Behaviour>(
+    alloc: Global,
+    fixed: &Fixed,
+    bench: &mut Bench,
+    turn: Turn,
+    mut scripts: Scripts<B>,
+) -> Result<Course<B>, AllocError>
+    requires fixed { IsFixed fixed.now }
+    requires sound { IsSound (plan_at fixed.now) (kinds_of scripts) }
+    requires scripts { scripts ≡ scripts_in fixed.now.scene }
+    requires empty { bench.old.tasks.items ≡ [] }
+    requires world { turn.world ≡ untold fixed.now.scene }
+    requires unsent { turn.sent ≡ [] }
+    requires boxes { bench.old.boxes ≡ rows_of fixed.now.scene turn.world.fields }
+    ensures world { IfOk result (λ course.
+        ended (seen course) ≡ opening_of fixed.now.scene fixed.now.routes) }
+    ensures boxes { IfOk result (λ course.
+        bench.new.boxes ≡ rows_of fixed.now.scene course.turn.world.fields) }
+    ensures kinds { IfOk result (λ course. kinds_of course.scripts ≡ kinds_in fixed.now.scene) }
+    ensures count { IfOk result (λ course. course.settling.count ≡ length course.scripts) }
+{
+    let settling = DueScripts::new(alloc, scripts.len())?;
+    let sendings = initialize_all(alloc, fixed, &mut scripts)?;
+    let mut course = Course {
+        turn,
+        scripts: BegunScripts::new(scripts),
+        settling,
+    };
+    send_all(
+        fixed,
+        &mut bench.tasks,
+        &mut course,
+        &mut bench.boxes,
+        sendings,
+    )?;
+    settle(fixed, &mut bench.tasks, &mut course, &mut bench.boxes)?;
+    Ok(course)
+}

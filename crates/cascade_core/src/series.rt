@@ -1,0 +1,53 @@
+//! A list of inputs, applied to a scene.
+
+ghost use Rattle.std.specs.Prelude.{◌≡◌, ◌⊎◌, IfOk, IfErr, None, OnOk, Some};
+ghost use Rattle.cascade_core.specs.Apply.{opening, world};
+ghost use Rattle.cascade_core.specs.Scripts.{scripts_in};
+ghost use Rattle.cascade_core.specs.Held.{Running, refusal_in};
+ghost use Rattle.cascade_core.specs.InTurn.{AreInTurn};
+ghost use Rattle.scene_scripts.specs.Scripts.{script_list};
+ghost use Rattle.script_host.specs.Attaching.{Fits};
+
+use crate::fault::ApplyFault;
+use crate::stage::Stage;
+use route_core::Routes;
+use scene_core::Scene;
+use script_host::{Behaviour, Scripts};
+use std::alloc::Global;
+use x3d_values::Stamped;
+
+/// The stage of a scene after these inputs, up to the first that is refused.
+#[tactic(auto, using(crate::proofs::Runs::after_all_running))]
+pub fn run<B: Behaviour>(
+    alloc: Global,
+    scene: Scene,
+    routes: Routes,
+    scripts: Scripts<B>,
+    inputs: &[Stamped],
+) -> Result<Stage<B>, ApplyFault>
+    requires fits { Fits (script_list scene) scripts }
+    requires fresh { scripts ≡ scripts_in scene }
+    ensures ok { IfOk result (λ stage. stage
+        ≡ record {
+          scene = scene;
+          routes = routes;
+          held = Running (world scene routes inputs.now);
+        }) }
+    // It answers no input's fault but that of the first that is refused.
+    ensures taken { OnOk result
+        (refusal_in
+        (record { scene = scene; routes = routes; held = Running (opening scene routes) })
+        inputs.now ≡ None) }
+    ensures err { IfErr result (λ fault. (fault ≡ ApplyFault.Memory)
+        ⊎ (refusal_in
+        (record { scene = scene; routes = routes; held = Running (opening scene routes) })
+        inputs.now ≡ Some fault)) }
+    // Of inputs in turn none is refused.
+    ensures in_turn { AreInTurn inputs.now → IfErr result (λ fault. fault ≡ ApplyFault.Memory) }
+{
+    let Ok(mut stage) = Stage::load(alloc, scene, routes, scripts) else {
+        return Err(ApplyFault::Memory);
+    };
+    stage.apply_all(inputs)?;
+    Ok(stage)
+}

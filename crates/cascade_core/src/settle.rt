@@ -1,0 +1,73 @@
+//! Scripts settle behind the events of a timestamp, the lowest first.
+
+ghost use Rattle.std.specs.Prelude.{◌≡◌, ◌<◌, [], OnOk, true, length};
+ghost use Rattle.pick_core.specs.Sites.{rows_of};
+ghost use Rattle.script_due.specs.Settling.{is_due};
+ghost use Rattle.script_turn.specs.Acting.{kinds_of};
+ghost use Rattle.cascade_core.specs.Course.{plan_at, seen};
+ghost use Rattle.cascade_core.specs.Sound.{IsCast};
+ghost use Rattle.cascade_core.specs.Settles.{settle as settle_of, settle_one as settle_one_of};
+
+use crate::course::Course;
+use crate::fixed::Fixed;
+use crate::stack::{Task, push_replies, run_tasks};
+use pick_core::BoxCache;
+use react_core::Outbox;
+use script_host::Behaviour;
+use std::alloc::AllocError;
+
+/// A script that is due settles, and what its node sends is followed.
+fn settle_one<B: Behaviour>(
+    fixed: &Fixed,
+    tasks: &mut Vec<Task>,
+    course: &mut Course<B>,
+    replies: &mut Outbox,
+    boxes: &mut BoxCache,
+    k: usize,
+) -> Result<(), AllocError>
+    requires empty { tasks.old.items ≡ [] }
+    requires none { replies.old.items ≡ [] }
+    requires boxes { boxes.old ≡ rows_of fixed.now.scene course.old.turn.world.fields }
+    requires cast { IsCast (plan_at fixed.now) (seen course.old) }
+    requires there { k < length course.old.scripts }
+    requires due { is_due course.old.settling k ≡ true }
+    ensures course { OnOk result
+        (seen course.new ≡ settle_one_of (plan_at fixed.now) (seen course.old) k) }
+    ensures empty { OnOk result (tasks.new.items ≡ []) }
+    ensures none { OnOk result (replies.new.items ≡ []) }
+    ensures boxes { OnOk result
+        (boxes.new ≡ rows_of fixed.now.scene course.new.turn.world.fields) }
+    ensures kinds { kinds_of course.new.scripts ≡ kinds_of course.old.scripts }
+    ensures count { course.new.settling.count ≡ course.old.settling.count }
+{
+    course.scripts.settle(k, fixed.runs.ports(k), replies);
+    course.settling.settle(k)?;
+    push_replies(tasks, fixed.runs.node(k), replies)?;
+    run_tasks(fixed, tasks, course, replies, boxes)?;
+    Ok(())
+}
+
+/// Scripts settle until none is due.
+pub fn settle<B: Behaviour>(
+    fixed: &Fixed,
+    tasks: &mut Vec<Task>,
+    course: &mut Course<B>,
+    boxes: &mut BoxCache,
+) -> Result<(), AllocError>
+    requires empty { tasks.old.items ≡ [] }
+    requires boxes { boxes.old ≡ rows_of fixed.now.scene course.old.turn.world.fields }
+    requires cast { IsCast (plan_at fixed.now) (seen course.old) }
+    requires fresh { course.old.settling.settled ≡ [] }
+    ensures course { OnOk result
+        (seen course.new ≡ settle_of (plan_at fixed.now) (seen course.old)) }
+    ensures boxes { OnOk result
+        (boxes.new ≡ rows_of fixed.now.scene course.new.turn.world.fields) }
+    ensures kinds { kinds_of course.new.scripts ≡ kinds_of course.old.scripts }
+    ensures count { course.new.settling.count ≡ course.old.settling.count }
+{
+    let mut replies = Outbox::new();
+    while let Some(k) = course.settling.next() {
+        settle_one(fixed, tasks, course, &mut replies, boxes, k)?;
+    }
+    Ok(())
+}

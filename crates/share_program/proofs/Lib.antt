@@ -1,0 +1,2 @@
+pub mod Attached
+mod Refusals

@@ -1,0 +1,24 @@
+use Rattle.std.proofs.Common.{◌≡◌, ◌≤◌, ◌++◌, List, ◌∷◌, [], length, ℕ, ◌+◌, subst, ap, ◌∙◌}
+use Rattle.std.specs.Vec.Iter.{into_iter_items}
+use Rattle.cascade_core.specs.Held.{StageView}
+use Rattle.share_core.specs.Viewer.{ViewerView}
+use Rattle.share_rehearsal.specs.Calls.{viewers_from}
+use Rattle.share_rehearsal.specs.Rehearsed.{AreFresh}
+use Rattle.share_rehearsal.proofs.Seating.{few, seat_of, seated}
+use Rattle.share_rehearsal.proofs.rehearsal.viewers_of.Goals as goal
+
+pub loop-stage-preserved : goal.loop-stage-preserved
+loop-stage-preserved g c =
+    let stage : StageView = c.in-Some.stage in
+    let before : List ViewerView = c.loop-stage.viewers.items in
+    let rest : List StageView = into_iter_items c.next.new.self in
+    let step : into_iter_items c.loop-stage.stage-iterator ≡ stage ∷ rest = c.in-Some.ensures.steps.0 in
+    let small : length before + length (stage ∷ rest) ≤ 16 = subst (λ (xs : List StageView). length before + length xs ≤ 16) step c.loop-stage.invariant.2 in
+    let fresh : AreFresh (stage ∷ rest) = subst AreFresh step c.loop-stage.invariant.1 in
+    let all : before ++ viewers_from c.args.mark (length before) (stage ∷ rest) ≡ viewers_from c.args.mark 0 c.args.stages.items =
+        subst (λ (xs : List StageView). before ++ viewers_from c.args.mark (length before) xs ≡ viewers_from c.args.mark 0 c.args.stages.items) step c.loop-stage.invariant.0 in
+    let number : c.len-number.result ≡ length before = c.len-number.ensures ∙ c.loop-stage.viewers.ok.0 in
+    let made : c.push.new.self.items ≡ before ++ seat_of c.args.mark (length before) stage ∷ [] = c.in_ok-push.ensures.items ∙ ap (λ (x : ViewerView). before ++ x ∷ [])
+        (c.start.ensures ∙ ap (λ (n : ℕ). seat_of c.args.mark n stage) number) in
+    (seated c.args.mark before stage rest c.args.stages.items c.push.new.self.items made all, fresh.1,
+        few before (seat_of c.args.mark (length before) stage) stage rest c.push.new.self.items made small)

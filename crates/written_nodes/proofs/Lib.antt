@@ -1,0 +1,10 @@
+pub mod Braces
+pub mod Closing
+pub mod Counts
+pub mod Names
+pub mod Parts
+pub mod Plans
+pub mod Staying
+pub mod Together
+pub mod Trees
+pub mod Whole

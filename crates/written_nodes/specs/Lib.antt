@@ -1,0 +1,3 @@
+pub mod Braces
+pub mod Flats
+pub mod Nodes
