@@ -16,9 +16,11 @@ loop-stage-preserved g c =
     let small : length before + length (stage ∷ rest) ≤ 16 = subst (λ (xs : List StageView). length before + length xs ≤ 16) step c.loop-stage.invariant.2 in
     let fresh : AreFresh (stage ∷ rest) = subst AreFresh step c.loop-stage.invariant.1 in
     let all : before ++ viewers_from c.args.mark (length before) (stage ∷ rest) ≡ viewers_from c.args.mark 0 c.args.stages.items =
-        subst (λ (xs : List StageView). before ++ viewers_from c.args.mark (length before) xs ≡ viewers_from c.args.mark 0 c.args.stages.items) step c.loop-stage.invariant.0 in
+    subst (λ (xs : List StageView). before ++ viewers_from c.args.mark (length before) xs ≡ viewers_from c.args.mark 0 c.args.stages.items) step c.loop-stage.invariant.0 in
     let number : c.len-number.result ≡ length before = c.len-number.ensures ∙ c.loop-stage.viewers.ok.0 in
     let made : c.push.new.self.items ≡ before ++ seat_of c.args.mark (length before) stage ∷ [] = c.in_ok-push.ensures.items ∙ ap (λ (x : ViewerView). before ++ x ∷ [])
-        (c.start.ensures ∙ ap (λ (n : ℕ). seat_of c.args.mark n stage) number) in
-    (seated c.args.mark before stage rest c.args.stages.items c.push.new.self.items made all, fresh.1,
-        few before (seat_of c.args.mark (length before) stage) stage rest c.push.new.self.items made small)
+    (c.start.ensures ∙ ap (λ (n : ℕ). seat_of c.args.mark n stage) number) in (
+      seated c.args.mark before stage rest c.args.stages.items c.push.new.self.items made all,
+      fresh.1,
+      few before (seat_of c.args.mark (length before) stage) stage rest c.push.new.self.items made small,
+    )
