@@ -162,10 +162,7 @@ fn check_given<'a>(
     match given {
         Given::Nothing => Ok(()),
         Given::Value(value) => check_value(alloc, declarations, value),
-        Given::Is(name) => {
-            declarations.takes.take(name)?;
-            Ok(())
-        }
+        Given::Is(name) => Ok(declarations.takes.take(name)?),
     }
 }
 

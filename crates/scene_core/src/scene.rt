@@ -1,6 +1,6 @@
 //! A scene and what is asked of it.
 
-ghost use Rattle.std.specs.Prelude.{◌≡◌, ◌+◌, ◌<◌, ◌≤◌, Some, IfOk, length, slice_get, ◌++◌, OnOk, OnErr};
+ghost use Rattle.std.specs.Prelude.{◌≡◌, ◌+◌, ◌<◌, ◌≤◌, Some, IfErr, IfOk, length, slice_get, ◌++◌, OnOk, OnErr};
 ghost use Rattle.std.specs.Option.{option_copied, option_map};
 ghost use Rattle.x3d_lists.specs.Answers.{Gives};
 ghost use Rattle.scene_core.specs.Building.{scene_of};
@@ -82,7 +82,7 @@ impl Model for Scene {
 }
 
 impl Scene {
-    ghost use Rattle.std.specs.Prelude.{◌≡◌, ◌+◌, ◌<◌, ◌≤◌, Some, IfOk, length, slice_get, ◌++◌, OnOk, OnErr};
+    ghost use Rattle.std.specs.Prelude.{◌≡◌, ◌+◌, ◌<◌, ◌≤◌, Some, IfErr, IfOk, length, slice_get, ◌++◌, OnOk, OnErr};
     ghost use Rattle.std.specs.Option.{option_copied, option_map};
     ghost use Rattle.x3d_lists.specs.Answers.{Gives};
     ghost use Rattle.scene_core.specs.Building.{scene_of};
@@ -119,7 +119,8 @@ impl Scene {
 
     /// How many nodes there are, as node numbers count them. No memory holds a scene of 2^32 nodes.
     pub fn count(&self) -> Result<u32, AllocError>
-        ensures { IfOk result (λ count. count ≡ length self.now.nodes) }
+        ensures ok { IfOk result (λ count. count ≡ length self.now.nodes) }
+        ensures many { IfErr result (λ _. 4294967296 ≤ length self.now.nodes) }
     {
         let Ok(count) = u32::try_from(self.node_count()) else {
             return Err(AllocError);
