@@ -1,4 +1,4 @@
-//! Bytes in, bytes out.
+//! Bytes in, bytes out; and the words of the command line.
 
 mod agreeing;
 mod cable;
@@ -9,4 +9,5 @@ mod refusing;
 mod rehearsing;
 mod turning;
 mod whole;
+mod words;
 mod worked;
