@@ -1,0 +1,4 @@
+pub mod Items
+pub mod Naming
+pub mod Shown
+pub mod Trees
