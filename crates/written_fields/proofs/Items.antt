@@ -26,15 +26,15 @@ use Rattle.written_fields.proofs.Shown.{all_shown, all_signed, shape_by, shown_s
 
 -- ---- values, up to which nodes stand in them
 
-same_truths : (truths : List Bool) → blank {NodeText} (truth_list truths) ≡ blank {ℕ} (truth_list truths)
+same_truths : (truths : List Bool) → blank {N = NodeText} (truth_list truths) ≡ blank {N = ℕ} (truth_list truths)
 same_truths [] = refl
 same_truths (t ∷ ts) = refl
 
-same_numbers : (numbers : List ℤ) → blank {NodeText} (number_list numbers) ≡ blank {ℕ} (number_list numbers)
+same_numbers : (numbers : List ℤ) → blank {N = NodeText} (number_list numbers) ≡ blank {N = ℕ} (number_list numbers)
 same_numbers [] = refl
 same_numbers (n ∷ ns) = refl
 
-same_texts : (texts : List (List ℕ)) → blank {NodeText} (string_list texts) ≡ blank {ℕ} (string_list texts)
+same_texts : (texts : List (List ℕ)) → blank {N = NodeText} (string_list texts) ≡ blank {N = ℕ} (string_list texts)
 same_texts [] = refl
 same_texts (t ∷ ts) = refl
 

@@ -1,3 +1,4 @@
+pub mod Documents
 pub mod Items
 pub mod Naming
 pub mod Shown

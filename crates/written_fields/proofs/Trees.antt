@@ -60,6 +60,11 @@ abbrev pub shape_of_shown : NodeType → List Field → NodeShape
 shape_of_shown t fields =
     record { fields = all_shown (numbering (Some t) (all_signed fields)) fields; interface = own_interface t (all_signed fields) }
 
+-- that is so of each node of a scene
+abbrev pub TellsAll : PlanView → (ℕ → NodeShape) → Type 0
+TellsAll p as_written =
+    (n : ℕ) (node : SceneNode) → slice_get p.scene.nodes n ≡ Some node → shape_of_shown node.node_type (shown_fields p n node.node_type) ≡ as_written n
+
 module _ (p : PlanView) (nodes : List FlatNode) (as_written : ℕ → NodeShape) where
   abbrev pub F : Numbering → ℕ → Numbering
   F = full nodes
@@ -171,8 +176,7 @@ module _ (p : PlanView) (nodes : List FlatNode) (as_written : ℕ → NodeShape)
 
   -- ---- nodes
 
-  module _ (stand : Stand p nodes)
-      (tells : (n : ℕ) (node : SceneNode) → slice_get p.scene.nodes n ≡ Some node → shape_of_shown node.node_type (shown_fields p n node.node_type) ≡ as_written n) where
+  module _ (stand : Stand p nodes) (tells : TellsAll p as_written) where
     abbrev NodesClose : ℕ → Type 0
     NodesClose depth = Making (IsShallow p.scene depth) one in_node (node_tree depth p)
 

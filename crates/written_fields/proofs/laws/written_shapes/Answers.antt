@@ -1,4 +1,5 @@
-use Rattle.written_fields.proofs.Naming.{owned}
-use Rattle.written_fields.proofs.Shown.{shape_shown}
-use Rattle.written_fields.proofs.Items.{node_shown}
-use Rattle.written_fields.proofs.Trees.{nodes_close}
+use Rattle.written_fields.proofs.Documents.{all_written}
+use Rattle.written_fields.proofs.laws.written_shapes.Goals as goal
+
+pub returns : goal.returns
+returns c = all_written
