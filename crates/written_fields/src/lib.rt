@@ -3,4 +3,4 @@
 
 mod laws;
 
-pub use laws::written_shapes;
+pub use laws::{written_fields_stay, written_shapes};
