@@ -1,5 +1,5 @@
 -- What stands between the braces of a written scene is what stands between those of its nodes.
-use Rattle.std.proofs.Common.{◌≡◌, ℕ, ◌+◌, ◌<◌, Bool, false, List, [], ◌∷◌, ◌++◌, codes, length, map, Option, Some, None, Ok, refl, sym, ap, ◌∙◌, arith, append_assoc, append-nil}
+use Rattle.std.proofs.Common.{◌≡◌, ℕ, ◌<◌, Bool, false, List, [], ◌∷◌, ◌++◌, codes, length, map, Option, Some, None, Ok, refl, sym, ap, ◌∙◌, arith, append_assoc, append-nil}
 use Rattle.std.specs.List.{AllByRecursion, flat_map, range_with_len}
 use Rattle.std.proofs.lemmas.Grind.{flat_map-append}
 use Rattle.std.proofs.lemmas.List.{length-replicate}
@@ -18,7 +18,7 @@ use Rattle.flat_document.specs.declared.flat.Flat.{Flat}
 use Rattle.flat_document.specs.declared.flat.FlatNode.{FlatNode}
 use Rattle.proto_fields.specs.Fields.{Signature}
 use Rattle.flat_fields.specs.Fields.{interface_of, numbering}
-use Rattle.flat_fields.specs.Shapes.{FieldShape, NodeShape, Shapes, in_node, in_statement, item_shape, no_node, node_of, shapes}
+use Rattle.flat_fields.specs.Shapes.{FieldShape, NodeShape, Shapes, in_node, in_statement, no_node, node_of, shapes}
 use Rattle.flat_fields.proofs.ShapeParts.{all_fields, declared_shapes, in_full, in_node_statement, in_route, shape-field}
 use Rattle.scene_core.specs.declared.scene.Route.{Route}
 use Rattle.scene_core.specs.Building.{scene_of}
@@ -37,7 +37,7 @@ use Rattle.written_fields.specs.Distinct.{HaveDistinctFields}
 use Rattle.written_fields.specs.Written.{WrittenShapes, switch_shape, written_shape, written_shapes}
 use Rattle.written_fields.proofs.Items.{as_many_blanks}
 use Rattle.written_fields.proofs.Shown.{shape_shown}
-use Rattle.written_fields.proofs.Trees.{Closes, F, Making, TellsAll, ended, nodes_close, nodes_in_turn, within}
+use Rattle.written_fields.proofs.Trees.{Closes, Making, TellsAll, ended, nodes_close, nodes_in_turn, within}
 
 -- ---- the node in which the helpers stand
 

@@ -22,7 +22,7 @@ use Rattle.scene_text.specs.Raw.{color_run, integer_run, number_list, number_run
 use Rattle.scene_text.specs.Tree.{PlanView, declared_from, held_value, present_value, shown_field, shown_fields, shown_from, shown_if}
 use Rattle.written_order.proofs.Shown.{links}
 use Rattle.written_nodes.proofs.Plans.{plan, type_is}
-use Rattle.written_fields.specs.Fields.{HeldField, declared_held, fields_by_type, fields_held, held_by, rows_held, unless_default, written_field, written_fields, written_value}
+use Rattle.written_fields.specs.Fields.{HeldField, declared_held, fields_by_type, held_by, rows_held, unless_default, written_field, written_fields, written_value}
 
 -- ---- values
 

@@ -1,5 +1,5 @@
 -- What is written of the fields of a node, by their names.
-use Rattle.std.proofs.Common.{◌≡◌, ℕ, suc, Bool, ℤ, List, [], ◌∷◌, ◌++◌, length, map, Option, Some, None, refl, sym, ap, ◌∙◌, arith, append_assoc, append-nil}
+use Rattle.std.proofs.Common.{◌≡◌, ℕ, Bool, ℤ, List, [], ◌∷◌, ◌++◌, length, map, Option, Some, None, refl, sym, ap, ◌∙◌, arith, append_assoc, append-nil}
 use Rattle.std.specs.List.{flat_map, fold}
 use Rattle.std.proofs.lemmas.Grind.{flat_map-append}
 use Rattle.x3d_values.specs.declared.node_type.NodeType.{NodeType}
@@ -7,22 +7,20 @@ use Rattle.x3d_values.specs.declared.value.Value.{Value}
 use Rattle.x3d_values.specs.declared.value.Value.TheVariants as value
 use Rattle.x3d_values.specs.Names.{node_type_name}
 use Rattle.classic_tree.specs.declared.tree.BodyItem.{BodyItem}
-use Rattle.classic_tree.specs.declared.tree.Declaration.{Declaration}
 use Rattle.classic_tree.specs.declared.tree.Given.TheVariants as given
 use Rattle.classic_tree.specs.declared.tree.NodeText.{NodeText}
 use Rattle.classic_tree.specs.declared.tree.RawValue.{RawValue}
 use Rattle.classic_tree.specs.declared.tree.RawValue.TheVariants as raw
 use Rattle.proto_fields.specs.Fields.{Signature, own_interface}
 use Rattle.flat_fields.specs.Fields.{Numbering, interface_of, numbering}
-use Rattle.flat_fields.specs.Shapes.{FieldShape, NodeShape, blank, item_shape, no_node, node_of}
+use Rattle.flat_fields.specs.Shapes.{FieldShape, blank, item_shape, no_node, node_of}
 use Rattle.flat_fields.proofs.ShapeParts.{all_fields, declared_shapes, shape-declaration, shape-field}
-use Rattle.scene_core.specs.declared.row.DeclaredField.{DeclaredField}
 use Rattle.scene_text.specs.Raw.{color_run, integer_run, number_list, number_run, pair_run, string_list, truth_list, vector_run}
 use Rattle.scene_text.specs.Tree.{Declared, Makes, Plain, Shown, Step, each, field_tree, one_more, value_tree}
 use Rattle.written_nodes.proofs.Braces.{type_named}
 use Rattle.written_nodes.proofs.Whole.{made_many}
 use Rattle.written_fields.specs.Fields.{written_value}
-use Rattle.written_fields.proofs.Shown.{all_shown, all_signed, shape_by, shown_shape, shown_signature}
+use Rattle.written_fields.proofs.Shown.{all_shown, all_signed, shown_shape, shown_signature}
 
 -- ---- values, up to which nodes stand in them
 

@@ -1,7 +1,7 @@
 -- Where names are distinct, each field is found by its name at its own number.
 use Rattle.std.proofs.Common.{◌≡◌, ℕ, zero, suc, ◌+◌, Bool, true, false, ◌&&◌, if◌then◌else◌, ◌⊎◌, inl, inr, List, [], ◌∷◌, ◌++◌, length, map, take, Option, Some, None, nat_eq, refl, sym, ap, subst, ◌∙◌, arith, append_assoc}
-use Rattle.std.specs.Prelude.{is_none, option_map, slice_get}
-use Rattle.std.specs.Option.{option_map_or, option_or}
+use Rattle.std.specs.Prelude.{is_none, option_map}
+use Rattle.std.specs.Option.{option_or}
 use Rattle.std.specs.Str.{bytes_eq}
 use Rattle.std.specs.Cmp.Lexicographic.{pointwise}
 use Rattle.std.proofs.lemmas.List.{length-append}
@@ -13,7 +13,7 @@ use Rattle.x3d_values.specs.declared.node_type.NodeType.TheVariants.{Script}
 use Rattle.x3d_values.specs.declared.table.FieldRow.{FieldRow}
 use Rattle.x3d_values.specs.Tables.{Entry, are_distinct, numbered, row_named, rows}
 use Rattle.proto_fields.specs.declared.given.KnownField.{KnownField}
-use Rattle.proto_fields.specs.Fields.{Signature, numbered_from, of_declared, of_row, of_signature, of_type, own_interface}
+use Rattle.proto_fields.specs.Fields.{Signature, numbered_from, of_row, of_signature, of_type, own_interface}
 use Rattle.flat_fields.specs.Fields.{Numbering, number_of, numbering}
 use Rattle.scene_core.specs.declared.row.DeclaredField.{DeclaredField}
 use Rattle.scene_core.specs.Shape.{declared_entry, most_declared, numbered_fields}
@@ -88,10 +88,11 @@ all_numbered before [] h = tt
 all_numbered before (e ∷ after) h =
     let apart : (before ++ e ∷ []) ++ after ≡ before ++ e ∷ after = append_assoc before (e ∷ []) after in
     let here : 0 + length before ≡ length before = omega arith in
-    let others = all_numbered (before ++ e ∷ []) after (subst (λ (all : List Entry). are_distinct all ≡ true) (sym apart) h) in
-    (ap (λ (o : Option FieldRow). option_map row_number o) (row_is 0 before after e h) ∙ ap (λ (i : ℕ). Some i) here,
-    subst (λ (all : List Entry). AreNumbered (by_row all) (length before + 1) after) apart
-    (subst (λ (i : ℕ). AreNumbered (by_row ((before ++ e ∷ []) ++ after)) i after) (length-append before (e ∷ [])) others))
+    let others = all_numbered (before ++ e ∷ []) after (subst (λ (all : List Entry). are_distinct all ≡ true) (sym apart) h) in (
+      ap (λ (o : Option FieldRow). option_map row_number o) (row_is 0 before after e h) ∙ ap (λ (i : ℕ). Some i) here,
+      subst (λ (all : List Entry). AreNumbered (by_row all) (length before + 1) after) apart
+          (subst (λ (i : ℕ). AreNumbered (by_row ((before ++ e ∷ []) ++ after)) i after) (length-append before (e ∷ [])) others),
+    )
 
 -- by another numbering
 renumbered : (f g : Numbering) → ((name : List ℕ) → f name ≡ g name) → (number : ℕ) (es : List Entry) → AreNumbered f number es → AreNumbered g number es

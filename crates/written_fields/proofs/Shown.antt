@@ -1,5 +1,5 @@
 -- The fields that a node's tree shows, by their names, are those that it holds, by their numbers.
-use Rattle.std.proofs.Common.{◌≡◌, ℕ, ◌+◌, Bool, true, false, not, if◌then◌else◌, List, [], ◌∷◌, ◌++◌, length, map, Option, Some, None, slice_get, refl, sym, ap, subst, ◌∙◌}
+use Rattle.std.proofs.Common.{◌≡◌, ℕ, ◌+◌, Bool, true, false, not, if◌then◌else◌, List, [], ◌∷◌, ◌++◌, length, map, Option, Some, None, slice_get, refl, sym, ap, ◌∙◌}
 use Rattle.std.specs.List.{flat_map}
 use Rattle.std.specs.Option.{option_map_or}
 use Rattle.std.proofs.lemmas.Grind.{flat_map-append}
@@ -15,13 +15,13 @@ use Rattle.flat_fields.specs.Shapes.{FieldShape, NodeShape, blank, field_shape}
 use Rattle.scene_core.specs.declared.row.DeclaredField.{DeclaredField}
 use Rattle.scene_core.specs.declared.scene.Route.{Route}
 use Rattle.scene_core.specs.declared.scene.SceneNode.{SceneNode}
-use Rattle.scene_core.specs.Scene.{SceneView, declared_at, type_at}
+use Rattle.scene_core.specs.Scene.{SceneView, declared_at}
 use Rattle.scene_core.specs.Shape.{declared_entry, numbered_fields}
 use Rattle.scene_text.specs.Defaulted.{is_default}
 use Rattle.scene_text.specs.Tree.{Declared, Plain, PlanView, Shown, declared_from, shown_field, held_value, present_value, shown_fields, shown_from, shown_if}
 use Rattle.written_nodes.proofs.Plans.{plan, type_is}
 use Rattle.written_fields.specs.Distinct.{HasDistinctFields}
-use Rattle.written_fields.specs.Fields.{HeldField, declared_held, declared_signature, fields_by_type, fields_held, held_by, rows_held, unless_default, written_field, written_fields, written_interface, written_value}
+use Rattle.written_fields.specs.Fields.{HeldField, declared_held, declared_signature, fields_by_type, held_by, rows_held, unless_default, written_field, written_interface, written_value}
 use Rattle.written_fields.specs.Written.{written_shape}
 use Rattle.written_fields.proofs.Naming.{AreNumbered, fields_numbered, owned, signed}
 

@@ -1,5 +1,5 @@
 -- That the fields of a node are told apart by their names (ISO/IEC 19775-1, Script).
-use Rattle.std.specs.Prelude.{◌≡◌, ◌⊎◌, ℕ, true, List, [], Some, slice_get}
+use Rattle.std.specs.Prelude.{◌≡◌, ◌⊎◌, ℕ, true, [], Some, slice_get}
 use Rattle.x3d_values.specs.declared.node_type.NodeType.TheVariants.{Script}
 use Rattle.x3d_values.specs.Tables.{are_distinct}
 use Rattle.scene_core.specs.declared.scene.SceneNode.{SceneNode}

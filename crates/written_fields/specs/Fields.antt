@@ -1,5 +1,6 @@
 -- The fields of a scene's nodes that are written (ISO/IEC 19775-1, object model, fields), by their
--- numbers: those that hold another value than their default, and all that a Script declares.
+-- numbers: those that hold another value than their default, and those that a Script declares and
+-- that hold a value.
 use Rattle.std.specs.Prelude.{ℕ, ◌+◌, if◌then◌else◌, List, [], ◌∷◌, ◌++◌, length, map, Option, Some, None}
 use Rattle.x3d_values.specs.declared.default.FieldDefault.{FieldDefault}
 use Rattle.x3d_values.specs.declared.field_type.Access.{Access}
@@ -21,7 +22,7 @@ use Rattle.scene_text.specs.Tree.{PlanView, held_value, present_value}
 
 -- ---- which fields
 
--- what a field holds depends on no route and on no name
+-- what a field holds, as it is written (scene_text): it depends on no route and on no name
 abbrev pub without_routes : SceneView → List Fields → PlanView
 without_routes s state = record { scene = s; routes = []; state = state; named = [] }
 
@@ -46,7 +47,7 @@ abbrev pub unless_default : Option FieldDefault → Option Value → Option Valu
 unless_default (Some default) (Some value) = if is_default default value then None else Some value
 unless_default _ _ = None
 
--- of these rows, the first of which has that number
+-- of the node n, those of these rows, the first of which has that number
 abbrev pub rows_held : SceneView → List Fields → ℕ → ℕ → List Entry → List HeldField
 rows_held s state n number [] = []
 rows_held s state n number (e ∷ others) =

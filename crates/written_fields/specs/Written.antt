@@ -30,8 +30,8 @@ abbrev pub written_shapes : SceneView → List Fields → List NodeShape
 written_shapes s state =
     map (written_shape s state) (range_with_len 0 (length s.nodes)) ++ switch_shape s.helpers
 
--- between the n-th braces that close stand the fields of the scene's node n: no name has to be
--- looked up to say which, and with which values
+-- between the n-th braces that close stand the fields of the scene's node n, each by a name that
+-- has its number there, and with its value
 abbrev pub WrittenShapes : Type 0
 WrittenShapes =
     (from : Flat) (scene : SceneView) (routes : List Route) (state : List Fields)
