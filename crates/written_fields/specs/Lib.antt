@@ -1,0 +1,4 @@
+pub mod Distinct
+pub mod Fields
+pub mod Flats
+pub mod Written
