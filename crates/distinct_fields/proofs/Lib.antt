@@ -1,0 +1,6 @@
+pub mod Documents
+pub mod Items
+pub mod Rows
+pub mod Scenes
+pub mod Trees
+pub mod Walks
