@@ -20,3 +20,4 @@ mod settling;
 mod stage_growths;
 mod texts;
 mod works;
+mod written;

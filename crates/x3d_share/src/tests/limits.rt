@@ -143,7 +143,7 @@ fn scripts_of_many_fields(rt: HostRuntime) -> Result<(), Fail> {
 }
 
 /// Groups that each hold the next twice, by DEF and by USE; so many around the innermost.
-fn nested(alloc: Global, around: u32) -> Result<Vec<u8>, AllocError> {
+pub(super) fn nested(alloc: Global, around: u32) -> Result<Vec<u8>, AllocError> {
     let mut text = Vec::new(alloc);
     text.extend_from_slice(b"#X3D V3.0 utf8\n")?;
     for number in 0..around {

@@ -154,7 +154,7 @@ fn worked_scenes_are_formatted(rt: HostRuntime) -> Result<(), Fail> {
 }
 
 /// The scenes of examples/.
-const EXAMPLES: [&str; 5] = [
+pub(super) const EXAMPLES: [&str; 5] = [
     "#X3D V3.0 utf8
 # A door that slides open in two seconds.
 DEF Motor TimeSensor { cycleInterval 2 startTime 1 }
