@@ -2,3 +2,5 @@ pub mod Parts
 pub mod Walks
 pub mod Fields
 pub mod Nodes
+pub mod Checked
+pub mod Whole
