@@ -4,3 +4,5 @@ pub mod Fields
 pub mod Nodes
 pub mod Checked
 pub mod Whole
+pub mod Shown
+pub mod Scenes
