@@ -1,7 +1,6 @@
 -- What stands between the braces of a node is given to it, or is too large, where the nodes inside go on.
-use Rattle.std.proofs.Common.{◌≡◌, ℕ, Bool, true, false, if◌then◌else◌, nat_lt, List, [], ◌∷◌, ◌++◌, length, map, Option, Some, None, refl, sym, subst, ◌∙◌, ap}
+use Rattle.std.proofs.Common.{◌≡◌, ℕ, Bool, true, false, if◌then◌else◌, nat_lt, List, [], ◌∷◌, ◌++◌, map, Option, Some, None, refl, sym, subst, ◌∙◌, ap}
 use Rattle.std.specs.Prelude.{option_map, ◌==◌, ◌||◌}
-use Rattle.std.specs.List.{AllByRecursion, flat_map}
 use Rattle.std.specs.Option.{option_or}
 use Rattle.std.proofs.lemmas.List.{map-append}
 use Rattle.x3d_values.specs.declared.node_type.NodeType.{NodeType}
@@ -12,7 +11,7 @@ use Rattle.classic_tree.specs.declared.tree.RawValue.{RawValue}
 use Rattle.classic_tree.specs.declared.tree.RawValue.TheVariants as value
 use Rattle.flat_document.specs.declared.fault.ExpandFaultKind.TheVariants.{FieldTwice, TooLarge}
 use Rattle.proto_fields.specs.Fields.{Signature, of_declared, of_type}
-use Rattle.proto_fields.specs.Owners.{Owner, has_field, if_given, known, with_field}
+use Rattle.proto_fields.specs.Owners.{Owner, has_field, if_given, with_field}
 use Rattle.proto_fields.specs.Values.{item_count, max_fields}
 use Rattle.proto_fields.specs.declared.given.GivenField.{GivenField}
 use Rattle.proto_fields.specs.declared.given.KnownField.{KnownField}

@@ -4,5 +4,6 @@ pub mod Fields
 pub mod Nodes
 pub mod Checked
 pub mod Whole
+pub mod Bare
 pub mod Shown
 pub mod Scenes

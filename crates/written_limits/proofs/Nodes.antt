@@ -60,7 +60,7 @@ module _ (values : List (RawValue ℕ)) where
       let more : List FlatField = done ++ record { line = field.line; number = field.number; value = v } ∷ [] in
       next_fits (nat_lt field.number max_fields) given more (rest more)
 
-  flat_fits : (given : Fields) (done : List FlatField) → IsFlatOrTooLarge (each_result (add_flat values) given done)
+  pub flat_fits : (given : Fields) (done : List FlatField) → IsFlatOrTooLarge (each_result (add_flat values) given done)
   flat_fits [] done = tt
   flat_fits (field ∷ given) done = value_fits field given done (value_at values field.value) (flat_fits given)
 

@@ -1,6 +1,6 @@
 -- What is written of a scene has known nodes, whose fields are known and given once, and in which each USE names a
 -- node: so it has a flat form, or is too large.
-use Rattle.std.proofs.Common.{◌≡◌, ◌≤◌, ◌^◌, ℕ, zero, suc, Bool, true, false, if◌then◌else◌, ℤ, List, [], ◌∷◌, ◌++◌, codes, get_or, length, map, Option, Some, None, Ok, slice_get, slice_set, replicate, refl, sym, ap, subst, ◌∙◌, append_assoc, append-nil}
+use Rattle.std.proofs.Common.{◌≡◌, ℕ, zero, suc, Bool, true, false, if◌then◌else◌, ℤ, List, [], ◌∷◌, ◌++◌, codes, get_or, length, map, Option, Some, None, slice_get, slice_set, replicate, refl, sym, ap, subst, ◌∙◌, append_assoc, append-nil}
 use Rattle.std.specs.Prelude.{option_map}
 use Rattle.std.specs.List.{AllByRecursion, flat_map, fold}
 use Rattle.std.proofs.lemmas.Grind.{flat_map-append}
@@ -19,30 +19,25 @@ use Rattle.classic_tree.specs.declared.tree.Given.{Given}
 use Rattle.classic_tree.specs.declared.tree.Given.TheVariants as given
 use Rattle.classic_tree.specs.declared.tree.NodeText.{NodeText}
 use Rattle.classic_tree.specs.declared.tree.NodeText.TheVariants as node
-use Rattle.classic_tree.specs.declared.tree.RawValue.{RawValue}
 use Rattle.classic_tree.specs.declared.tree.RawValue.TheVariants as raw
 use Rattle.classic_tree.specs.declared.tree.Statement.{Statement}
-use Rattle.classic_tree.specs.declared.tree.Statement.TheVariants as statement
-use Rattle.flat_document.specs.declared.flat.Flat.{Flat}
 use Rattle.flat_laws.specs.Uses.{Reading, read, some}
 use Rattle.flat_laws.proofs.Lists.{all_append, all_flat, all_push}
 use Rattle.scene_core.specs.declared.row.DeclaredField.{DeclaredField}
 use Rattle.scene_core.specs.declared.scene.Route.{Route}
 use Rattle.scene_core.specs.declared.scene.SceneNode.{SceneNode}
-use Rattle.scene_core.specs.Building.{scene_of}
 use Rattle.scene_core.specs.Scene.{SceneView, label_of, type_at}
 use Rattle.scene_text.specs.Raw.{color_run, integer_run, number_list, number_run, pair_run, string_list, truth_list, vector_run}
 use Rattle.scene_text.specs.Statements.{helper_root, helpers_of, root_tree, roots_of, route_of, routes_of, scene_document, statements_of, switch_of}
-use Rattle.scene_text.specs.Tree.{Declared, Makes, Plain, PlanView, Step, def_name, each, field_tree, given_tree, new_type, node_tree, one_more, opened, shown_fields, use_tree, value_tree}
+use Rattle.scene_text.specs.Tree.{Declared, Makes, Plain, PlanView, Step, def_name, each, field_tree, new_type, node_tree, one_more, opened, shown_fields, value_tree}
 use Rattle.scene_text.specs.Tree.{Shown as Field}
 use Rattle.numbered_scenes.proofs.Lists.{some_is}
-use Rattle.scene_round_trip.specs.Writable.{AreKeepable}
 use Rattle.written_nodes.specs.Nodes.{IsRead, WrittenNodesAreRead, written_nodes, written_roots}
 use Rattle.written_nodes.proofs.Braces.{type_named}
 use Rattle.written_nodes.proofs.Plans.{plan}
 use Rattle.written_fields.specs.Distinct.{HaveDistinctFields}
-use Rattle.written_limits.specs.Parts.{Braces, Entry, Inside, Item, Part, entries, in_item, in_node, in_statement, in_value, parts}
-use Rattle.written_limits.specs.Sound.{AllNamed, AreNamed, IsNamed, IsOfType, IsSound, SoundDocumentsAreFlat}
+use Rattle.written_limits.specs.Parts.{Braces, Entry, Item, entries, in_item, in_node, in_statement, in_value, parts}
+use Rattle.written_limits.specs.Sound.{AllNamed, AreNamed, IsOfType, IsSound, SoundDocumentsAreFlat}
 use Rattle.written_limits.specs.Written.{WrittenScenesAreFlat}
 use Rattle.written_limits.proofs.Parts.{in_full, in_node_statement, in_route, in_use, part_declaration, part_field}
 use Rattle.written_limits.proofs.Shown.{shown_entries, shown_entry, shown_once}

@@ -24,7 +24,7 @@ use Rattle.scene_core.specs.Scene.{declared_at}
 use Rattle.scene_core.specs.Shape.{declared_entry, numbered_fields}
 use Rattle.scene_core.proofs.RowLemmas.{named-append}
 use Rattle.scene_text.specs.Defaulted.{is_default}
-use Rattle.scene_text.specs.Tree.{Declared, Plain, PlanView, Shown, declared_from, held_value, present_value, shown_field, shown_fields, shown_from, shown_if}
+use Rattle.scene_text.specs.Tree.{Declared, Plain, PlanView, Shown, declared_from, present_value, shown_field, shown_fields, shown_from, shown_if}
 use Rattle.numbered_scenes.proofs.Lists.{some_is}
 use Rattle.written_fields.specs.Distinct.{HasDistinctFields}
 use Rattle.written_fields.specs.Fields.{declared_signature}

@@ -1,15 +1,14 @@
 -- A document of known nodes, whose fields are known and given once, and in which each USE names a node, has a
 -- flat form, or is too large.
-use Rattle.std.proofs.Common.{◌≡◌, ℕ, ◌*◌, ◌-◌, Bool, true, false, if◌then◌else◌, nat_lt, List, [], ◌∷◌, ◌++◌, length, map, option_map, Option, Some, None, Result, Ok, Err, is_some, refl, sym, subst, ap, ◌∙◌}
+use Rattle.std.proofs.Common.{◌≡◌, ℕ, ◌*◌, ◌-◌, Bool, true, false, if◌then◌else◌, nat_lt, List, [], ◌∷◌, ◌++◌, length, option_map, Option, Some, None, Result, Ok, Err, is_some, refl, sym, subst, ap, ◌∙◌}
 use Rattle.std.specs.List.{AllByRecursion, flat_map}
-use Rattle.std.proofs.lemmas.List.{append-nil, append_assoc}
+use Rattle.std.proofs.lemmas.List.{append_assoc}
 use Rattle.std.proofs.lemmas.Grind.{flat_map-append}
 use Rattle.x3d_values.specs.Names.{node_type_named}
 use Rattle.x3d_values.specs.declared.node_type.NodeType.{NodeType}
 use Rattle.classic_tree.specs.declared.tree.BodyItem.{BodyItem}
 use Rattle.classic_tree.specs.declared.tree.BodyItem.TheVariants as item
 use Rattle.classic_tree.specs.declared.tree.Declaration.{Declaration}
-use Rattle.classic_tree.specs.declared.tree.Document.{Document}
 use Rattle.classic_tree.specs.declared.tree.Given.{Given}
 use Rattle.classic_tree.specs.declared.tree.Given.TheVariants as given
 use Rattle.classic_tree.specs.declared.tree.NodeText.{NodeText}
@@ -21,7 +20,6 @@ use Rattle.classic_tree.specs.declared.tree.Statement.TheVariants as statement
 use Rattle.flat_document.specs.Fault.{fault}
 use Rattle.flat_document.specs.declared.fault.ExpandFault.{ExpandFault}
 use Rattle.flat_document.specs.declared.fault.ExpandFaultKind.TheVariants.{TooLarge}
-use Rattle.flat_document.specs.declared.flat.Flat.{Flat}
 use Rattle.flat_document.specs.declared.flat.FlatEnd.{FlatEnd}
 use Rattle.flat_document.specs.declared.flat.FlatRoute.{FlatRoute}
 use Rattle.flat_document.specs.declared.flat.Header.{Header}
@@ -33,19 +31,21 @@ use Rattle.proto_ends.specs.declared.ends.Wire.{Wire}
 use Rattle.proto_fields.specs.Fields.{Signature, signature}
 use Rattle.proto_steps.proofs.Equations.{declares-declaration, declares-field, declares-proto, declares-route, item_does-declaration, item_does-field, item_does-route, node_does-full, node_does-use, statement_does-node, statement_does-route}
 use Rattle.proto_steps.specs.Limits.{begin_node}
-use Rattle.proto_steps.specs.Machine.{Begun, Machine, Outcome, Walk, ◌>>=◌, meet, pure, through, use_node, used}
+use Rattle.proto_steps.specs.Machine.{Begun, Outcome, Walk, ◌>>=◌, meet, pure, through, use_node, used}
 use Rattle.proto_steps.specs.Meaning.{OnFields, close_node, declared_in, full_node, item_declares, item_does, items_do, node_does, node_owner, of_word, statement_does, typed_node}
 use Rattle.proto_steps.specs.Routes.{wire}
 use Rattle.proto_steps.specs.declared.held.Named.{Named}
 use Rattle.proto_walk.specs.Whole.{at_top, check, flat, flat_of, grown, header_of, nothing, put_statement, with_declared, with_routes}
 use Rattle.flat_laws.specs.Uses.{Reading, Step, closes, each, named, nothing_read, opens, read, read_given, read_item, read_node, read_statement, stands}
+use Rattle.flat_laws.proofs.Lists.{all_weaker}
 use Rattle.flat_laws.proofs.Trees.{Layers, OfGiven, every}
-use Rattle.flat_laws.proofs.UsesNames.{found, found_named, node_of, open_braces}
+use Rattle.flat_laws.proofs.UsesNames.{found_named, node_of, open_braces}
 use Rattle.flat_laws.proofs.UsesParts.{read-declaration, read-field, read-full, read-item-proto, read-item-route, read-node-statement, read-proto, read-route, read-use}
-use Rattle.written_limits.specs.Parts.{Braces, Entry, Inside, Item, Part, entries, gives, in_item, in_node, in_statement, parts}
-use Rattle.written_limits.specs.Sound.{AllNamed, AreNamed, AreOnce, IsFlatOrTooLarge, IsNamed, IsOfType, IsSound, SoundDocumentsAreFlat, signed}
-use Rattle.written_limits.proofs.Parts.{in_full, in_node_statement, in_proto, in_use, part_declaration, part_field, part_proto, part_route}
-use Rattle.written_limits.proofs.Walks.{After, AreSound, Fields, Fits, GoesBack, Quiet, Reads, Same, after_quiet, after_same, after_then, each_back, fits_then, fits_through, fits_weaker, meet_quiet, reads_same, same_walk, sound_both, wire_quiet}
+use Rattle.written_limits.specs.Parts.{Braces, Entry, Item, Joins, Part, Prototype, entries, gives, in_item, in_statement}
+use Rattle.written_limits.specs.Plain.{IsPlain}
+use Rattle.written_limits.specs.Sound.{AllNamed, AreNamed, AreOnce, IsFlatOrTooLarge, IsOfType, IsSound, SoundDocumentsAreFlat, signed}
+use Rattle.written_limits.proofs.Parts.{in_full, in_node_statement, in_proto, part_declaration, part_field, part_proto, part_route}
+use Rattle.written_limits.proofs.Walks.{After, AreSound, Fields, Fits, GoesBack, Quiet, Reads, Same, after_quiet, after_same, each_back, fits_then, fits_through, fits_weaker, meet_quiet, reads_same, sound_both, wire_quiet}
 use Rattle.written_limits.proofs.Fields.{NodeFits, add_declaration_fits, add_given_fits, given_back, numbers}
 use Rattle.written_limits.proofs.Nodes.{Begins, begin_fits, close_fits}
 use Rattle.written_limits.proofs.Checked.{declared_on}
@@ -293,10 +293,15 @@ declared_quiet : (d : Result Declared ExpandFault) (known : Declared) → d ≡ 
 declared_quiet (Ok d) known e w = record { places = refl; nodes = refl; names = λ n. refl }
 declared_quiet (Err d) known e w = absurd cc
 
+plainly : (part : Part) → IsSound part → IsPlain part
+plainly (Braces word entries) h = tt
+plainly Prototype h = h
+plainly Joins h = h
+
 check_quiet : (s : Statement) → AreSound (in_statement s) → Quiet (check s)
 unfolding check
 check_quiet s sound w =
-    let known = declared_on s sound w.declared in
+    let known = declared_on s (all_weaker IsSound IsPlain plainly (in_statement s) sound) w.declared in
     declared_quiet ((checked s).does w.declared) known.0 known.1 w
 
 abbrev Whatever : List ℕ → List Statement → Type 0
@@ -326,7 +331,7 @@ module _ (places : List (Option Stand)) (names : List (List ℕ)) where
   wire_fits line sources targets routes wires rest =
       pairs_fit (nat_lt (max_routes - length routes) (length sources * length targets)) (routes ++ pairs line sources targets) wires (rest (routes ++ pairs line sources targets))
 
-  routes_fit : (wires : List Wire) (routes : List FlatRoute) → IsFlatOrTooLarge (routes_from places names wires routes)
+  pub routes_fit : (wires : List Wire) (routes : List FlatRoute) → IsFlatOrTooLarge (routes_from places names wires routes)
   routes_fit [] routes = tt
   routes_fit (one ∷ wires) routes = wire_fits one.line (ends_of places names one.source) (ends_of places names one.target) routes wires (routes_fit wires)
 

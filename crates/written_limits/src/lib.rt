@@ -3,4 +3,4 @@
 
 mod laws;
 
-pub use laws::{sound_documents_are_flat, written_scenes_are_flat};
+pub use laws::{plain_documents_fail, sound_documents_are_flat, written_scenes_are_flat};
