@@ -1,12 +1,11 @@
 -- A document without prototypes has only such faults as a node can have.
-use Rattle.std.proofs.Common.{◌≡◌, ℕ, ◌*◌, ◌-◌, Bool, true, false, if◌then◌else◌, nat_lt, List, [], ◌∷◌, ◌++◌, length, Option, Some, None, Result, Ok, Err, refl, sym, subst}
+use Rattle.std.proofs.Common.{◌≡◌, ℕ, Bool, true, false, if◌then◌else◌, nat_lt, List, [], ◌∷◌, ◌++◌, length, Option, Some, None, Result, Ok, Err, refl, sym, subst}
 use Rattle.std.specs.List.{AllByRecursion, flat_map}
 use Rattle.x3d_values.specs.Names.{node_type_named}
 use Rattle.x3d_values.specs.declared.node_type.NodeType.{NodeType}
 use Rattle.classic_tree.specs.declared.tree.BodyItem.{BodyItem}
 use Rattle.classic_tree.specs.declared.tree.BodyItem.TheVariants as item
 use Rattle.classic_tree.specs.declared.tree.Declaration.{Declaration}
-use Rattle.classic_tree.specs.declared.tree.Document.{Document}
 use Rattle.classic_tree.specs.declared.tree.Given.{Given}
 use Rattle.classic_tree.specs.declared.tree.Given.TheVariants as given
 use Rattle.classic_tree.specs.declared.tree.NodeText.{NodeText}
@@ -31,7 +30,6 @@ use Rattle.proto_ends.specs.declared.ends.Stand.TheVariants.{Node}
 use Rattle.proto_fields.specs.Fields.{Signature, own_interface, signature}
 use Rattle.proto_fields.specs.Owners.{Owner, admits, has_field, is_taken, known, with_field}
 use Rattle.proto_fields.specs.Values.{flat_fields, item_count, max_fields}
-use Rattle.proto_fields.specs.declared.given.GivenField.{GivenField}
 use Rattle.proto_fields.specs.declared.given.KnownField.{KnownField}
 use Rattle.proto_steps.proofs.Equations.{item_does-declaration, item_does-field, item_does-route, node_does-full, node_does-use, statement_does-node, statement_does-route}
 use Rattle.proto_steps.specs.Closing.{put, put_flat, with_fields}

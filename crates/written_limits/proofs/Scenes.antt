@@ -181,9 +181,9 @@ module _ (p : PlanView) (known : AreKnown p) where
       (subst (λ (u : Option NodeType). IsOfType u (flat_map entries (content ∷ []))) (sym (type_named Switch))
       (subst (λ (i : Item). IsOfType (Some Switch) (i.entries ++ [])) (sym is) switch_known))
 
-  helpers_sound : (trees : List NodeText) → AllByRecursion NodeSound trees → AllByRecursion StatementSound (helper_root trees)
-  helpers_sound [] h = tt
-  helpers_sound (tree ∷ trees) h = (subst AreSound (sym (in_node_statement (switch_of (tree ∷ trees)))) (switch_sound (tree ∷ trees) h), tt)
+  last_sound : (trees : List NodeText) → AllByRecursion NodeSound trees → AllByRecursion StatementSound (helper_root trees)
+  last_sound [] h = tt
+  last_sound (tree ∷ trees) h = (subst AreSound (sym (in_node_statement (switch_of (tree ∷ trees)))) (switch_sound (tree ∷ trees) h), tt)
 
   routes_sound : (s : SceneView) (routes : List Route) → AllByRecursion StatementSound (routes_of s routes)
   routes_sound s [] = tt
@@ -193,13 +193,13 @@ module _ (p : PlanView) (known : AreKnown p) where
   unfolding statements_of
   all_sound =
       let roots : List Statement = (roots_of p).made in
-      let helpers : List Statement = helper_root (helpers_of p (roots_of p).seen).made in
+      let last : List Statement = helper_root (helpers_of p (roots_of p).seen).made in
       let routes : List Statement = routes_of p.scene p.routes in
-      all_flat in_statement StatementSound IsSound (λ s k. k) (roots ++ helpers ++ routes)
-      (all_append StatementSound (roots ++ helpers) routes
-      (all_append StatementSound roots helpers
+      all_flat in_statement StatementSound IsSound (λ s k. k) (roots ++ last ++ routes)
+      (all_append StatementSound (roots ++ last) routes
+      (all_append StatementSound roots last
       (each_made StatementSound (root_tree (node_tree max_depth p)) root_sound (replicate (length p.scene.nodes) false) p.scene.roots)
-      (helpers_sound (helpers_of p (roots_of p).seen).made (each_made NodeSound (node_tree max_depth p) (tree_sound max_depth) (roots_of p).seen p.scene.helpers)))
+      (last_sound (helpers_of p (roots_of p).seen).made (each_made NodeSound (node_tree max_depth p) (tree_sound max_depth) (roots_of p).seen p.scene.helpers)))
       (routes_sound p.scene p.routes))
 
 -- ---- names

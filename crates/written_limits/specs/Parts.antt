@@ -1,5 +1,5 @@
--- What stands in each part of a tree, as far as it decides whether the flat form exists: the braces of its
--- nodes, with the names of the fields between them, and prototypes and ISs.
+-- What stands in each part of a tree, as far as it decides whether the flat form exists: braces,
+-- with the names of the fields between them, prototypes, and ISs (ISO/IEC 19776-2, grammar).
 use Rattle.std.specs.Prelude.{ℕ, List, [], ◌∷◌, ◌++◌}
 use Rattle.std.specs.List.{flat_map}
 use Rattle.classic_tree.specs.declared.tree.BodyItem.{BodyItem, fold-BodyItem}

@@ -13,8 +13,8 @@ abbrev pub IsPlain : Part → Type 0
 IsPlain (Braces word entries) = Unit {0}
 IsPlain _ = ⊥
 
--- a word that names no type, a field that its node lacks or that is given twice, a USE that names no node, or too
--- much of something
+-- a word that names no type, a field that its node lacks or that is given twice, a USE that names
+-- no node, or too much of something
 abbrev pub IsPlainFault : ExpandFaultKind → Type 0
 IsPlainFault UnknownNode = Unit {0}
 IsPlainFault UnknownField = Unit {0}

@@ -1,5 +1,5 @@
--- Which documents have a flat form, but for their size (ISO/IEC 19775-1, object model): those of known nodes,
--- whose fields are known and given once, and in which each USE names a node.
+-- Which documents have a flat form, but for their size (ISO/IEC 19775-1, object model): those of
+-- known nodes, whose fields are known and given once, and in which each USE names a node.
 use Rattle.std.specs.Prelude.{◌≡◌, ℕ, ◌==◌, true, false, Bool, List, [], ◌∷◌, ◌++◌, Option, Some, None, option_map, is_some, Result, Ok, Err}
 use Rattle.std.specs.List.{AllByRecursion, flat_map, list_any}
 use Rattle.x3d_values.specs.declared.node_type.NodeType.{NodeType}
@@ -21,7 +21,7 @@ abbrev pub unless_own : Option KnownField → Option ℕ → Option ℕ
 unless_own None number = number
 unless_own (Some field) number = None
 
--- the number of a field that is given is that of its row; behind these come those that are declared
+-- the number of a field that is given is that of its row; behind these come the declared fields
 abbrev pub entry_number : NodeType → List Signature → Entry → Option ℕ
 entry_number t declared (Gives name) = option_map number_of (of_type t name)
 entry_number t declared (Declares s) =
@@ -31,11 +31,11 @@ abbrev pub signed : Entry → List Signature
 signed (Gives name) = []
 signed (Declares s) = s ∷ []
 
--- the number is none of these
+-- whether the number is one of these
 abbrev pub is_among : ℕ → List ℕ → Bool
 is_among number before = list_any (λ k. k == number) before
 
--- it is a number, and none before it
+-- it is a number, and none of those before it
 abbrev pub IsNext : List ℕ → Option ℕ → Type 0
 IsNext before None = ⊥
 IsNext before (Some number) = is_among number before ≡ false
@@ -44,7 +44,7 @@ abbrev pub with_next : List ℕ → Option ℕ → List ℕ
 with_next before None = before
 with_next before (Some number) = before ++ number ∷ []
 
--- each field has a number, and none that one before it has
+-- each field has a number that none before it has
 abbrev pub AreOnce : NodeType → List Signature → List ℕ → List Entry → Type 0
 AreOnce t declared before [] = Unit {0}
 AreOnce t declared before (e ∷ others) =
@@ -57,8 +57,8 @@ abbrev pub IsOfType : Option NodeType → List Entry → Type 0
 IsOfType None entries = ⊥
 IsOfType (Some t) entries = AreOnce t (flat_map signed entries) [] entries
 
--- the word is that of a node type, and the fields are those of a node of this type, each once; nothing is a
--- prototype or joined to one
+-- the word is that of a node type, and the fields are those of a node of this type, each once;
+-- nothing is a prototype, or joined to one
 abbrev pub IsSound : Part → Type 0
 IsSound (Braces word entries) = IsOfType (node_type_named word) entries
 IsSound Prototype = ⊥

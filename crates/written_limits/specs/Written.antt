@@ -11,7 +11,8 @@ use Rattle.scene_round_trip.specs.Writable.{AreKeepable}
 use Rattle.written_fields.specs.Distinct.{HaveDistinctFields}
 use Rattle.written_limits.specs.Sound.{IsFlatOrTooLarge}
 
--- the document that a document's scene is written as, with any routes, has a flat form, or is too large
+-- the document that a document's scene is written as, with any routes, has a flat form, or is too
+-- large
 abbrev pub WrittenScenesAreFlat : Type 0
 WrittenScenesAreFlat =
     (from : Flat) (scene : SceneView) (routes : List Route) (state : List Fields)
