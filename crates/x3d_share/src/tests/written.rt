@@ -46,15 +46,15 @@ Group { children [ USE A USE C ] } USE B",
     "#X3D V3.0 utf8
 PROTO P [ initializeOnly MFNode more [] ] {
   Group { children IS more } DEF T TimeSensor { cycleInterval 2 } DEF G Group { children USE T }
-  Transform { children [ USE G Group {} ] } ROUTE T.fraction_changed TO T.set_cycleInterval }
-PROTO Q [] { P { more [ Box {} DEF X P {} ] } Shape { geometry DEF X Box {} } }
+  Transform { children [ USE G Group {} ] } ROUTE T.cycleTime TO T.startTime }
+PROTO Q [] { P { more [ Shape {} DEF X P {} ] } Shape { geometry DEF X Box {} } }
 DEF X Q {} P {} DEF N1 Group {}",
     "#X3D V3.0 utf8
 DEF G Group {}
 DEF S Script { url [ \"javascript:\" ] inputOnly SFBool press initializeOnly SFNode held USE G
 inputOutput MFNode many [ USE G
 DEF D Script { outputOnly SFTime at initializeOnly MFVec3f none [] } ]
-inputOutput SFString named \"\" initializeOnly SFRotation turned 0 0 1 0 outputOnly SFBool pressed }
+inputOutput SFString named \"\" outputOnly SFBool pressed }
 ROUTE S.pressed TO S.press",
 ];
 
