@@ -1,3 +1,6 @@
+pub mod Given
 pub mod Helpers
+pub mod Holding
 pub mod Inserted
+pub mod Made
 pub mod Steps

@@ -16,7 +16,7 @@ use Rattle.scene_round_trip.specs.Writable.{AreKeepable}
 use Rattle.written_nodes.specs.Nodes.{written_nodes, written_roots}
 use Rattle.written_fields.specs.Distinct.{HaveDistinctFields}
 use Rattle.written_fields.specs.Fields.{value_now}
-use Rattle.scenes_again.specs.Sound.{AreSound, AreTyped}
+use Rattle.scenes_again.specs.Sound.{AreSound, AreOfType}
 
 -- helpers, where there are some, stand in one node more
 abbrev pub switch_type : List ℕ → List NodeType
@@ -45,6 +45,6 @@ abbrev pub WrittenScenesAreAgain : Type 0
 WrittenScenesAreAgain =
     (from : Flat) (scene : SceneView) (routes : List Route) (state : List Fields) (again : Flat)
     (next : SceneView) → scene_of from ≡ Ok scene → length scene.nodes ≤ 2 ^ 64
-    → AreKeepable state → AreTyped scene state → AreSound scene → HaveDistinctFields scene
+    → AreKeepable state → AreOfType scene state → AreSound scene → HaveDistinctFields scene
     → flat (scene_document scene routes state) ≡ Ok again → scene_of again ≡ Ok next
     → IsWrittenOf scene state next

@@ -13,8 +13,8 @@ abbrev pub AreSound : SceneView → Type 0
 AreSound s = (n field : ℕ) (v : Value) → value_at s n field ≡ Some v → is_sound v ≡ true
 
 -- what a node keeps of a field is of the field's type
-abbrev pub AreTyped : SceneView → List Fields → Type 0
-AreTyped s state =
+abbrev pub AreOfType : SceneView → List Fields → Type 0
+AreOfType s state =
     (n field : ℕ) (e : Entry) (fields : Fields) (v : Value)
     → slice_get (rows_at s n) field ≡ Some e → slice_get state n ≡ Some fields
     → field_value fields field ≡ Some v → type_of v ≡ e.field_type

@@ -1,5 +1,5 @@
-use Rattle.scenes_again.proofs.Helpers.{none_helps}
+use Rattle.scenes_again.proofs.Holding.{declared_holds}
 use Rattle.scenes_again.proofs.laws.written_scenes_are_again.Goals as goal
 
 pub returns : goal.returns
-returns c = none_helps
+returns c = declared_holds
