@@ -3,4 +3,5 @@ pub mod Helpers
 pub mod Holding
 pub mod Inserted
 pub mod Made
+pub mod Reading
 pub mod Steps
