@@ -3,6 +3,8 @@ pub mod Helpers
 pub mod Holding
 pub mod Inserted
 pub mod Made
+pub mod Parts
+pub mod Places
 pub mod Present
 pub mod Reading
 pub mod Steps
