@@ -52,3 +52,27 @@ pub take_twice : {A : Type 0} (n : ℕ) (xs : List A) → take n (take n xs) ≡
 take_twice zero xs = refl
 take_twice (suc n) [] = refl
 take_twice {A = A} (suc n) (x ∷ xs) = ap (λ (l : List A). x ∷ l) (take_twice n xs)
+
+-- ---- lists that are the same in each place
+
+pub mapped_is : {A B : Type 0} (f : A → B) (xs : List A) (ys : List B) → length xs ≡ length ys
+    → ((i : ℕ) (x : A) (y : B) → slice_get xs i ≡ Some x → slice_get ys i ≡ Some y → f x ≡ y) → map f xs ≡ ys
+mapped_is f [] [] l k = refl
+mapped_is f [] (y ∷ ys) l k = absurd (omega (arith, l))
+mapped_is f (x ∷ xs) [] l k = absurd (omega (arith, l))
+mapped_is {B = B} f (x ∷ xs) (y ∷ ys) l k =
+    ap (λ (z : B). z ∷ map f xs) (k 0 x y refl refl)
+    ∙ ap (λ (zs : List B). y ∷ zs) (mapped_is f xs ys (omega (arith, l)) (λ i z w a b. k (suc i) z w a b))
+
+pub joined_is : {A B : Type 0} (f : A → B) (xs : List A) (ys zs : List B) → length xs ≡ length ys + length zs
+    → ((i : ℕ) (x : A) (y : B) → slice_get xs i ≡ Some x → slice_get ys i ≡ Some y → f x ≡ y)
+    → ((i : ℕ) (x : A) (z : B) → slice_get xs (length ys + i) ≡ Some x → slice_get zs i ≡ Some z → f x ≡ z) → map f xs ≡ ys ++ zs
+joined_is {A = A} f xs [] zs l k m =
+    mapped_is f xs zs (omega (arith, l)) (λ i x z at there.
+    (let e : i ≡ 0 + i = omega arith in m i x z (ap (λ (j : ℕ). slice_get xs j) (sym e) ∙ at) there))
+joined_is f [] (y ∷ ys) zs l k m = absurd (omega (arith, l))
+joined_is {A = A} {B = B} f (x ∷ xs) (y ∷ ys) zs l k m =
+    ap (λ (w : B). w ∷ map f xs) (k 0 x y refl refl)
+    ∙ ap (λ (ws : List B). y ∷ ws) (joined_is f xs ys zs (omega (arith, l)) (λ i v w a b. k (suc i) v w a b)
+    (λ i v w a b. (let e : suc (length ys) + i ≡ suc (length ys + i) = omega arith in
+    m i v w (ap (λ (j : ℕ). slice_get (x ∷ xs) j) e ∙ a) b)))
