@@ -3,6 +3,7 @@ pub mod Helpers
 pub mod Holding
 pub mod Inserted
 pub mod Made
+pub mod Next
 pub mod Numbered
 pub mod Parts
 pub mod Places
