@@ -2,6 +2,7 @@ pub mod Given
 pub mod Helpers
 pub mod Holding
 pub mod Inserted
+pub mod Labels
 pub mod Made
 pub mod Next
 pub mod Numbered
@@ -10,3 +11,4 @@ pub mod Places
 pub mod Present
 pub mod Reading
 pub mod Steps
+pub mod Whole

@@ -119,7 +119,7 @@ module _ (from : Flat) (s : SceneView) (state : List Fields) (is_scene : scene_o
   scene = scene_is from s is_scene
 
   -- of which node of the document it was made
-  made_of : (n : ℕ) (node : SceneNode) → slice_get s.nodes n ≡ Some node → (flat : FlatNode) × IsNode from.nodes (numbers_of from).numbers (alone_in from) flat node
+  pub made_of : (n : ℕ) (node : SceneNode) → slice_get s.nodes n ≡ Some node → (flat : FlatNode) × IsNode from.nodes (numbers_of from).numbers (alone_in from) flat node
   made_of n node is =
       let l = within s.nodes n node is in
       let f = found (numbers_of from).order n (omega (arith, l, scene.many)) in

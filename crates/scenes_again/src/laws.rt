@@ -3,14 +3,23 @@
 
 ghost use Rattle.scenes_again.specs.Again.{WrittenScenesAreAgain};
 
+use scene_round_trip::{
+    fields_are_left_out, headers_are_kept, labels_are_distinct, values_are_typed,
+};
 use written_fields::written_fields_stay;
 use written_nodes::{written_nodes_close, written_nodes_stay};
+use x3d_values::table_law;
 
 /// The scene of the flat form of a written scene, where there is one, is the scene.
 pub fn written_scenes_are_again()
     ensures { WrittenScenesAreAgain }
 {
-    written_fields_stay();
+    table_law();
+    headers_are_kept();
+    labels_are_distinct();
+    values_are_typed();
+    fields_are_left_out();
     written_nodes_close();
     written_nodes_stay();
+    written_fields_stay();
 }
