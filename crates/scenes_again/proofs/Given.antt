@@ -1,22 +1,16 @@
 -- What is given to a field is found by the field's number.
-use Rattle.std.proofs.Common.{◌≡◌, ℕ, zero, suc, ◌+◌, ◌<◌, ◌==◌, Bool, true, false, ℤ, if◌then◌else◌, List, [], ◌∷◌, ◌++◌, length, map, Option, Some, None, slice_get, refl, sym, ap, ◌∙◌, arith, append-nil, eq-eqb, ne_eqb}
-use Rattle.std.specs.List.{find, flat_map}
+use Rattle.std.proofs.Common.{◌≡◌, ℕ, zero, suc, ◌+◌, ◌<◌, ◌==◌, Bool, true, false, if◌then◌else◌, List, [], ◌∷◌, ◌++◌, length, map, Option, Some, None, slice_get, refl, sym, ap, ◌∙◌, arith, eq-eqb, ne_eqb}
 use Rattle.std.specs.Option.{option_and_then}
-use Rattle.std.proofs.lemmas.List.{map-append}
 use Rattle.x3d_values.specs.declared.fields.Fields.{Fields}
 use Rattle.x3d_values.specs.declared.value.Value.{Value}
-use Rattle.x3d_values.specs.declared.value.Value.TheVariants as value
 use Rattle.x3d_values.specs.Tables.{Entry}
-use Rattle.x3d_values.specs.Values.{nodes_of}
 use Rattle.flat_document.specs.declared.flat.FlatField.{FlatField}
-use Rattle.flat_laws.specs.Order.{nodes_in}
 use Rattle.scene_core.specs.declared.row.DeclaredField.{DeclaredField}
-use Rattle.scene_core.specs.Deep.{linked}
-use Rattle.scene_core.specs.Parts.{given, inner_nodes}
+use Rattle.scene_core.specs.Parts.{given}
 use Rattle.scene_core.specs.Scene.{SceneView}
 use Rattle.numbered_scenes.proofs.Lists.{some_is}
 use Rattle.scenes_again.proofs.Made.{behind, front}
-use Rattle.written_fields.specs.Fields.{HeldField, declared_held, declared_value, held_by, rows_held, unless_default, value_now, written_field, written_value}
+use Rattle.written_fields.specs.Fields.{HeldField, declared_held, declared_value, held_by, rows_held, unless_default, value_now, written_field}
 
 -- ---- fields one after the other, those that hold something
 

@@ -1,5 +1,5 @@
 -- The flat form of a document without instances has no helpers.
-use Rattle.std.proofs.Common.{◌≡◌, ℕ, true, List, [], ◌∷◌, ◌++◌, length, map, Option, Some, None, Result, Ok, Err, is_some, refl, sym, subst, ◌∙◌, ap}
+use Rattle.std.proofs.Common.{◌≡◌, ℕ, true, List, [], ◌∷◌, ◌++◌, length, map, Option, Some, None, Result, Ok, Err, is_some, refl, sym, subst}
 use Rattle.std.specs.List.{AllByRecursion, flat_map}
 use Rattle.x3d_values.specs.Names.{node_type_named}
 use Rattle.x3d_values.specs.declared.node_type.NodeType.{NodeType}
@@ -33,7 +33,7 @@ use Rattle.proto_steps.specs.Meaning.{OnFields, add_defaults, close_node, declar
 use Rattle.proto_steps.specs.Routes.{wire}
 use Rattle.proto_steps.specs.declared.held.Store.{Store}
 use Rattle.proto_walk.specs.Whole.{at_top, check, flat, flat_of, grown, header_of, nothing, put_statement, with_declared, with_routes}
-use Rattle.flat_laws.specs.Closings.{Braces, IsOfNode, closings, in_given, in_item, in_node, in_statement}
+use Rattle.flat_laws.specs.Closings.{Braces, IsOfNode, closings, in_item, in_statement}
 use Rattle.flat_laws.proofs.ClosingParts.{in_declaration, in_field, in_full, in_node_statement}
 use Rattle.flat_laws.proofs.Trees.{Layers, every}
 use Rattle.scenes_again.proofs.Inserted.{GivenKeeps, NodeKeeps, OfNodes, add_declaration_keeps, add_given_keeps, all_of}

@@ -1,6 +1,6 @@
 -- What a field of a scene's node holds: a value of the field's type, where it may hold one and the
 -- table has a default, and else nothing.
-use Rattle.std.proofs.Common.{◌≡◌, ℕ, pos, Bool, true, false, not, ◌&&◌, ◌||◌, if◌then◌else◌, List, [], ◌∷◌, codes, nat_eq, map, Option, Some, None, Result, Ok, Err, refl, sym, ap, subst, ◌∙◌}
+use Rattle.std.proofs.Common.{◌≡◌, ℕ, pos, Bool, true, false, not, ◌&&◌, ◌||◌, if◌then◌else◌, List, [], codes, nat_eq, map, Option, Some, None, Result, Ok, Err, refl, sym, ap, subst, ◌∙◌}
 use Rattle.std.specs.Prelude.{is_some, MatchOption, option_map, ⊤}
 use Rattle.std.specs.Cmp.Lexicographic.{pointwise}
 use Rattle.std.specs.Option.{option_and_then, option_or}
@@ -263,8 +263,7 @@ module _ (all : List FlatNode) (numbers : List ℕ) where
     by_rotation false q h =
         let b = bind_is (typed_value numbers d.field_type f) (accepted all d.access None f) v h in
         let a = accepted_is d.access None f b.0 v b.2 in
-        let x = typed_type d.field_type f.value numbers b.0 (line_is f.line (typed d.field_type f.value numbers) b.0 b.1) in
-        (
+        let x = typed_type d.field_type f.value numbers b.0 (line_is f.line (typed d.field_type f.value numbers) b.0 b.1) in (
           q,
           subst (Holds (declaration_entry d)) a.1
               (value_holds (declaration_entry d) b.0 (declared_right d.access d.field_type (is_initial d.access) (is_rotation d.field_type) refl refl) a.0 x),

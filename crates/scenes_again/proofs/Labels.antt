@@ -1,5 +1,5 @@
 -- The labels of the scene that is read again.
-use Rattle.std.proofs.Common.{◌≡◌, ℕ, zero, suc, ◌+◌, ◌-◌, ◌*◌, ◌<◌, ◌≤◌, ◌^◌, ◌==◌, nat_le, Bool, true, false, cond, not, ◌&&◌, ◌||◌, if◌then◌else◌, List, [], ◌∷◌, ◌++◌, codes, length, Option, Some, None, Ok, slice_get, refl, sym, ap, subst, ◌∙◌, ◌⊎◌, inl, inr, arith, eq-eqb, ne_eqb, le-leb}
+use Rattle.std.proofs.Common.{◌≡◌, ℕ, zero, suc, ◌+◌, ◌<◌, ◌≤◌, ◌^◌, ◌==◌, nat_le, Bool, true, false, cond, not, ◌&&◌, ◌||◌, if◌then◌else◌, List, [], ◌∷◌, ◌++◌, codes, length, Option, Some, None, Ok, slice_get, refl, sym, ap, subst, ◌∙◌, ◌⊎◌, inl, inr, arith, eq-eqb, ne_eqb, le-leb}
 use Rattle.std.specs.Prelude.{decimal, is_some}
 use Rattle.std.specs.List.{cons_option, count_by, filter_map, list_all, range_with_len}
 use Rattle.std.specs.Option.{option_and_then}
@@ -19,13 +19,12 @@ use Rattle.scene_core.specs.declared.numbering.Numbering.{Numbering}
 use Rattle.scene_core.specs.declared.scene.Route.{Route}
 use Rattle.scene_core.specs.declared.scene.SceneNode.{SceneNode}
 use Rattle.scene_core.specs.Building.{scene_of}
-use Rattle.scene_core.specs.Labels.{is_alone, is_numbered, label_by, name_at, names_of}
+use Rattle.scene_core.specs.Labels.{is_alone, is_numbered, label_by, name_at}
 use Rattle.scene_core.specs.Scene.{SceneView, label_of, label_or}
 use Rattle.scene_text.specs.Places.{is_named}
-use Rattle.numbered_scenes.specs.Again.{in_place}
 use Rattle.numbered_scenes.proofs.Lists.{some_is, within}
 use Rattle.numbered_scenes.proofs.NumbersInOrder.{equal}
-use Rattle.numbered_scenes.proofs.Scenes.{alone_in, found, numbers_of}
+use Rattle.numbered_scenes.proofs.Scenes.{alone_in, found}
 use Rattle.scene_round_trip.specs.Defaults.{LeftOutAreDefaults}
 use Rattle.scene_round_trip.specs.Labels.{LabelsAreDistinct}
 use Rattle.scene_round_trip.specs.Values.{WrittenNodesAreTyped}
@@ -35,8 +34,8 @@ use Rattle.written_nodes.specs.Flats.{IsFlatOf}
 use Rattle.written_nodes.specs.Nodes.{switch_root}
 use Rattle.written_fields.specs.Flats.{HasFieldsOf}
 use Rattle.scenes_again.specs.Sound.{AreOfType, AreSound}
-use Rattle.scenes_again.proofs.Next.{AreThree, three}
-use Rattle.scenes_again.proofs.Numbered.{IsAgain, IsLast, again_is, last_is, many, numbered_in_place}
+use Rattle.scenes_again.proofs.Next.{three}
+use Rattle.scenes_again.proofs.Numbered.{again_is, last_is, many, numbered_in_place}
 use Rattle.scenes_again.proofs.Present.{made_of}
 
 -- ---- `N` and a number

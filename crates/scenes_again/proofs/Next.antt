@@ -1,9 +1,9 @@
 -- The scene that is read again, node by node.
-use Rattle.std.proofs.Common.{◌≡◌, ℕ, zero, suc, ◌+◌, ◌<◌, Bool, if◌then◌else◌, List, [], ◌∷◌, ◌++◌, length, map, take, Option, Some, None, Ok, slice_get, refl, sym, ap, subst, ◌∙◌, ◌⊎◌, inl, inr, arith}
-use Rattle.std.specs.Prelude.{option_map, slice_index_or}
+use Rattle.std.proofs.Common.{◌≡◌, ℕ, zero, suc, ◌+◌, ◌<◌, if◌then◌else◌, List, [], ◌∷◌, ◌++◌, length, map, Option, Some, None, Ok, slice_get, refl, sym, ap, subst, ◌∙◌, ◌⊎◌, inl, inr, arith}
+use Rattle.std.specs.Prelude.{option_map}
 use Rattle.std.specs.List.{range_with_len}
 use Rattle.std.specs.Option.{option_map_or}
-use Rattle.std.proofs.lemmas.List.{length-append, length-map, take-map}
+use Rattle.std.proofs.lemmas.List.{length-map, take-map}
 use Rattle.std.proofs.lemmas.Option.{slice_get-map}
 use Rattle.x3d_values.specs.declared.fields.Fields.{Fields}
 use Rattle.x3d_values.specs.declared.node_type.NodeType.{NodeType}
@@ -27,10 +27,9 @@ use Rattle.scene_core.specs.Shape.{Shape, declaration_entry, declared_by, declar
 use Rattle.scene_core.specs.Typed.{declared_value, field_value}
 use Rattle.numbered_scenes.specs.Again.{in_place}
 use Rattle.numbered_scenes.specs.Children.{children}
-use Rattle.numbered_scenes.proofs.Inner.{IsInner}
 use Rattle.numbered_scenes.proofs.Lists.{In, at_map, index_is, some_is, within}
 use Rattle.numbered_scenes.proofs.Lower.{inner}
-use Rattle.numbered_scenes.proofs.Scenes.{IsMade, IsSceneOf, alone_in, found, numbers_of, scene_is}
+use Rattle.numbered_scenes.proofs.Scenes.{IsSceneOf, alone_in, found, numbers_of, scene_is}
 use Rattle.scene_round_trip.specs.Defaults.{LeftOutAreDefaults}
 use Rattle.scene_round_trip.specs.Values.{WrittenNodesAreTyped}
 use Rattle.scene_round_trip.specs.Writable.{AreKeepable}
@@ -40,10 +39,10 @@ use Rattle.written_fields.specs.Fields.{unless_default, value_now}
 use Rattle.written_fields.specs.Flats.{HasFieldsOf}
 use Rattle.scenes_again.specs.Again.{switch_type}
 use Rattle.scenes_again.specs.Sound.{AreOfType, AreSound}
-use Rattle.scenes_again.proofs.Given.{declared_given, fields, given_by, row_given}
+use Rattle.scenes_again.proofs.Given.{declared_given, given_by, row_given}
 use Rattle.scenes_again.proofs.Holding.{Holds}
 use Rattle.scenes_again.proofs.Made.{IsDeclaredMade, IsNode, IsRowMade, node_is, value_in}
-use Rattle.scenes_again.proofs.Numbered.{IsAgain, IsLast, again_is, last_is, many, numbered_in_place}
+use Rattle.scenes_again.proofs.Numbered.{IsAgain, again_is, last_is, many, numbered_in_place}
 use Rattle.scenes_again.proofs.Places.{joined_is, mapped_at, range_at}
 use Rattle.scenes_again.proofs.Present.{declared_by_node, now_fits, now_holds, parted, rows_by_node, value_by_node}
 use Rattle.scenes_again.proofs.Reading.{IsFit, declared_again, row_again}
@@ -59,8 +58,7 @@ declared_there : (t : NodeType) (ds : List (Declaration ℕ)) (es : List Declare
 declared_there t ds es h i e at =
     let m : length es ≡ length (numbered_fields t ds) = ap (λ (l : List DeclaredField). length l) (sym h) ∙ length-map (numbered_fields t ds) declared_by in
     let l = within es i e at in
-    let f = found (numbered_fields t ds) i (omega (arith, m, l)) in
-    (
+    let f = found (numbered_fields t ds) i (omega (arith, m, l)) in (
       f.0,
       f.1,
       some_is (declared_by f.0) e

@@ -1,5 +1,5 @@
 -- The nodes of the flat form of a written scene, which are numbered by their places.
-use Rattle.std.proofs.Common.{◌≡◌, ℕ, zero, suc, ◌+◌, ◌<◌, List, [], ◌∷◌, ◌++◌, length, map, take, Option, Some, None, Ok, slice_get, refl, sym, ap, subst, ◌∙◌, arith, append-nil}
+use Rattle.std.proofs.Common.{◌≡◌, ℕ, zero, suc, ◌+◌, List, [], ◌∷◌, ◌++◌, length, map, take, Option, Some, None, Ok, slice_get, refl, sym, ap, ◌∙◌, arith, append-nil}
 use Rattle.std.specs.List.{range_with_len}
 use Rattle.std.specs.Option.{option_map_or}
 use Rattle.std.proofs.lemmas.List.{length-append, length-map, take-map}
@@ -14,15 +14,14 @@ use Rattle.flat_document.specs.declared.flat.FlatNode.{FlatNode}
 use Rattle.proto_fields.specs.Fields.{Signature, signature, signatures}
 use Rattle.flat_laws.specs.Closings.{Shown, shown}
 use Rattle.flat_laws.specs.Uses.{held, some}
-use Rattle.scene_core.specs.declared.numbering.Numbering.{Numbering}
 use Rattle.scene_core.specs.declared.row.DeclaredField.{DeclaredField}
 use Rattle.scene_core.specs.declared.scene.Route.{Route}
 use Rattle.scene_core.specs.declared.scene.SceneNode.{SceneNode}
 use Rattle.scene_core.specs.Building.{scene_of}
 use Rattle.scene_core.specs.Numbers.{numbering}
 use Rattle.scene_core.specs.Parts.{parts, parts_from, parts_of}
-use Rattle.scene_core.specs.Scene.{SceneView, declared_at, rows_at, shape_of, type_at}
-use Rattle.scene_core.specs.Shape.{declaration_entry, declared_by, declared_entry, most_declared, numbered_fields, rows_of}
+use Rattle.scene_core.specs.Scene.{SceneView, declared_at}
+use Rattle.scene_core.specs.Shape.{declaration_entry, declared_by, declared_entry, most_declared, numbered_fields}
 use Rattle.numbered_scenes.specs.Again.{HaveChildren, in_place}
 use Rattle.numbered_scenes.specs.Children.{children}
 use Rattle.numbered_scenes.proofs.Again.{all_numbered_again, all_numbered_under_root}
@@ -31,7 +30,7 @@ use Rattle.numbered_scenes.proofs.Scenes.{found, numbers_of}
 use Rattle.scene_round_trip.specs.Writable.{AreKeepable}
 use Rattle.written_nodes.specs.Braces.{as_switch, written_as, written_name}
 use Rattle.written_nodes.specs.Flats.{IsFlatOf}
-use Rattle.written_nodes.specs.Nodes.{in_switch, switch_root, written_roots}
+use Rattle.written_nodes.specs.Nodes.{in_switch, switch_root}
 use Rattle.written_nodes.proofs.Plans.{type_is}
 use Rattle.written_fields.specs.Fields.{children_field, declared_signature, fields_by_type, value_now, written_fields, written_interface}
 use Rattle.written_fields.specs.Flats.{HasFieldsOf, node_fields, node_interface, switch_fields, switch_interface}

@@ -1,9 +1,8 @@
 -- In the nodes of the flat form of a written scene stand the nodes that stand in the scene's.
-use Rattle.std.proofs.Common.{◌≡◌, ℕ, zero, suc, ◌+◌, ◌<◌, Bool, true, false, ℤ, if◌then◌else◌, List, [], ◌∷◌, ◌++◌, length, map, take, Option, Some, None, Ok, slice_get, refl, sym, ap, subst, ◌∙◌, arith, append-nil}
+use Rattle.std.proofs.Common.{◌≡◌, ℕ, suc, ◌+◌, Bool, true, false, ℤ, if◌then◌else◌, List, [], ◌∷◌, ◌++◌, length, map, Option, Some, None, slice_get, refl, sym, ap, subst, ◌∙◌, arith, append-nil}
 use Rattle.std.specs.List.{flat_map}
-use Rattle.std.specs.Option.{option_map_or}
 use Rattle.std.proofs.lemmas.Grind.{flat_map-append}
-use Rattle.std.proofs.lemmas.List.{map-append, take-map}
+use Rattle.std.proofs.lemmas.List.{map-append}
 use Rattle.x3d_values.specs.declared.default.FieldDefault.{FieldDefault}
 use Rattle.x3d_values.specs.declared.field_type.FieldType.{FieldType}
 use Rattle.x3d_values.specs.declared.fields.Fields.{Fields}
@@ -25,7 +24,6 @@ use Rattle.scene_core.specs.Shape.{declaration_entry, declared_by, declared_entr
 use Rattle.scene_text.specs.Defaulted.{is_default}
 use Rattle.scene_text.specs.Raw.{color_run, integer_run, number_list, number_run, pair_run, string_list, truth_list, vector_run}
 use Rattle.numbered_scenes.proofs.Inner.{inner_if}
-use Rattle.numbered_scenes.proofs.Lists.{at_map}
 use Rattle.written_fields.specs.Fields.{HeldField, declared_value, held_by, unless_default, value_now, written_field, written_value}
 use Rattle.scenes_again.proofs.Given.{all_written, declared_given, declared_slots, fields, fields_are, given_by, held_from, row_given, row_slots, slots}
 use Rattle.scenes_again.proofs.Holding.{Holds}

@@ -1,5 +1,5 @@
 -- What the fields of a scene's nodes hold when it is written.
-use Rattle.std.proofs.Common.{◌≡◌, ℕ, zero, suc, ◌+◌, ◌<◌, Bool, true, false, not, ◌&&◌, if◌then◌else◌, List, [], ◌∷◌, ◌++◌, length, map, take, Option, Some, None, Ok, slice_get, refl, sym, ap, subst, ◌∙◌, ◌⊎◌, inl, inr, arith}
+use Rattle.std.proofs.Common.{◌≡◌, ℕ, zero, suc, ◌+◌, ◌<◌, Bool, true, false, not, ◌&&◌, if◌then◌else◌, List, [], ◌∷◌, ◌++◌, length, map, Option, Some, None, Ok, slice_get, refl, sym, ap, subst, ◌∙◌, ◌⊎◌, inl, inr, arith}
 use Rattle.std.specs.Prelude.{option_map}
 use Rattle.std.specs.List.{AllByRecursion, list_all}
 use Rattle.std.specs.Option.{option_and_then, option_map_or, option_or}
@@ -15,7 +15,7 @@ use Rattle.x3d_values.specs.declared.value.Value.{Value}
 use Rattle.x3d_values.specs.Access.{holds_nodes, is_exposed, is_initial, is_kept}
 use Rattle.x3d_values.specs.Kept.{field_value}
 use Rattle.x3d_values.specs.Tables.{AreTyped, Entry, IsTyped, rows}
-use Rattle.x3d_values.specs.Values.{nodes_of, type_of}
+use Rattle.x3d_values.specs.Values.{nodes_of}
 use Rattle.classic_tree.specs.declared.tree.Declaration.{Declaration}
 use Rattle.flat_document.specs.declared.flat.Flat.{Flat}
 use Rattle.flat_document.specs.declared.flat.FlatNode.{FlatNode}
@@ -124,9 +124,11 @@ module _ (from : Flat) (s : SceneView) (state : List Fields) (is_scene : scene_o
       let l = within s.nodes n node is in
       let f = found (numbers_of from).order n (omega (arith, l, scene.many)) in
       let m = scene.each n f.0 f.1 in
-      let same : m.node ≡ node = some_is m.node node (sym m.node_is ∙ is) in
-      (m.flat, subst (λ (o : SceneNode). IsNode from.nodes (numbers_of from).numbers (alone_in from) m.flat o) same
-          (node_is from.nodes (numbers_of from).numbers (alone_in from) m.flat m.node m.made))
+      let same : m.node ≡ node = some_is m.node node (sym m.node_is ∙ is) in (
+        m.flat,
+        subst (λ (o : SceneNode). IsNode from.nodes (numbers_of from).numbers (alone_in from) m.flat o) same
+            (node_is from.nodes (numbers_of from).numbers (alone_in from) m.flat m.node m.made),
+      )
 
   -- ---- what the scene gives
 

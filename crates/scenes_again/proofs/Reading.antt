@@ -1,6 +1,5 @@
 -- What is written of a field is read as what the field holds.
-use Rattle.std.proofs.Common.{◌≡◌, ℕ, Bool, true, false, not, ◌&&◌, if◌then◌else◌, List, [], ◌∷◌, codes, map, nat_eq, Option, Some, None, Result, Ok, Err, refl, sym, ap, subst, ◌∙◌}
-use Rattle.std.specs.Cmp.Lexicographic.{pointwise}
+use Rattle.std.proofs.Common.{◌≡◌, ℕ, Bool, true, false, not, ◌&&◌, if◌then◌else◌, List, [], ◌∷◌, map, Option, Some, None, Result, Ok, refl, sym, ap, ◌∙◌}
 use Rattle.std.specs.List.{AllByRecursion}
 use Rattle.std.specs.Option.{option_and_then}
 use Rattle.x3d_values.specs.declared.default.FieldDefault.{FieldDefault}
@@ -17,13 +16,11 @@ use Rattle.classic_tree.specs.declared.tree.RawValue.{RawValue}
 use Rattle.classic_tree.specs.declared.tree.RawValue.TheVariants as raw
 use Rattle.flat_document.specs.declared.flat.FlatField.{FlatField}
 use Rattle.flat_document.specs.declared.flat.FlatNode.{FlatNode}
-use Rattle.scene_values.specs.Rotations.{checked_rotation}
 use Rattle.scene_values.specs.Typing.{called, typed}
-use Rattle.scene_core.specs.declared.fault.SceneFault.{SceneFault}
-use Rattle.scene_core.specs.declared.fault.SceneFaultKind.TheVariants.{RotationUnsupported, ValueRange}
+use Rattle.scene_core.specs.declared.fault.SceneFaultKind.TheVariants.{ValueRange}
 use Rattle.scene_core.specs.Faults.{fault, ◌>>=◌}
 use Rattle.scene_core.specs.Shape.{declaration_entry, is_rotation}
-use Rattle.scene_core.specs.Typed.{accepted, accepted_in_range, at_line, declared_value, default_of, dropped_rotation, field_value, in_range, no_rotation, typed_value}
+use Rattle.scene_core.specs.Typed.{accepted, accepted_in_range, declared_value, default_of, dropped_rotation, field_value, in_range, no_rotation, typed_value}
 use Rattle.scene_text.specs.Defaulted.{is_default}
 use Rattle.numbered_scenes.proofs.Inner.{bind_is, line_is, range_is, scene_ok_is}
 use Rattle.scene_values.specs.declared.fault.ValueFault.{ValueFault}
