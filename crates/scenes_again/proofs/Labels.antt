@@ -198,7 +198,7 @@ module _ (from : Flat) (s : SceneView) (routes : List Route) (state : List Field
       let written : name_at again.nodes n ≡ Some l =
       own_name n low ∙ (ap (λ (b : Bool). if b then Some (label_of s n) else None) named ∙ ap (λ (x : List ℕ). Some x) labelled) in
       let g_name : g.name ≡ Some l = sym (ap (λ (o : Option FlatNode). option_and_then (λ (x : FlatNode). x.name) o) at) ∙ written in
-      let m = made_of from s state is_scene kept of_type sound table n node is in
+      let m = made_of from s is_scene table n node is in
       ap (label_by (alone_in again)) g_name
       ∙ keeps_name (alone_in again) l (one_alone n low l written labelled) (unnumbered (alone_in from) m.0.name l (sym m.1.label ∙ e)) where
         first_true : (a b : Bool) → a ≡ true → (a || b) ≡ true

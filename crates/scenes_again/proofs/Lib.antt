@@ -6,6 +6,7 @@ pub mod Labels
 pub mod Made
 pub mod Next
 pub mod Numbered
+pub mod Opening
 pub mod Parts
 pub mod Places
 pub mod Present

@@ -113,8 +113,7 @@ kept_at state n field a t v false k o at h = absurd cc
 kept_at state n field a t v true k None at h = absurd cc
 kept_at state n field a t v true k (Some fields) at h = record { fields = fields; at = at; held = h; initial = exposed_initial a (not (holds_nodes t)) k }
 
-module _ (from : Flat) (s : SceneView) (state : List Fields) (is_scene : scene_of from ≡ Ok s) (kept : AreKeepable state) (of_type : AreOfType s state) (sound : AreSound s)
-    (table : (t : NodeType) → AreTyped (rows t)) where
+module _ (from : Flat) (s : SceneView) (is_scene : scene_of from ≡ Ok s) (table : (t : NodeType) → AreTyped (rows t)) where
   scene : IsSceneOf from s
   scene = scene_is from s is_scene
 
@@ -132,7 +131,7 @@ module _ (from : Flat) (s : SceneView) (state : List Fields) (is_scene : scene_o
 
   -- ---- what the scene gives
 
-  record IsGiven (e : Entry) (o : Option Value) : Type 0 where
+  pub record IsGiven (e : Entry) (o : Option Value) : Type 0 where
     pub holds : Holds e o
     pub right_row : right e ≡ true
 
@@ -169,7 +168,7 @@ module _ (from : Flat) (s : SceneView) (state : List Fields) (is_scene : scene_o
     by_part (inl h) = row_given flat node m k e h
     by_part (inr h) = subst (λ (j : ℕ). IsGiven e (value_in node.values j)) (sym h.1) (field_given flat node m h.0 e h.2)
 
-  given_at : (n : ℕ) (node : SceneNode) → slice_get s.nodes n ≡ Some node → (k : ℕ) (e : Entry) → slice_get (rows_at s n) k ≡ Some e → IsGiven e (value_at s n k)
+  pub given_at : (n : ℕ) (node : SceneNode) → slice_get s.nodes n ≡ Some node → (k : ℕ) (e : Entry) → slice_get (rows_at s n) k ≡ Some e → IsGiven e (value_at s n k)
   given_at n node is k e at =
       let m = made_of n node is in
       let all : rows_of (shape_of node) ≡ rows_by m.0.node_type (map declared_by m.0.interface) =
@@ -177,15 +176,17 @@ module _ (from : Flat) (s : SceneView) (state : List Fields) (is_scene : scene_o
       subst (IsGiven e) (sym (value_by_node s n node k is))
       (given_of m.0 node m.1 k e (ap (λ (l : List Entry). slice_get l k) (sym (rows_by_node s n node is ∙ all)) ∙ at))
 
-  -- ---- what is written
+-- ---- what is written
 
+module _ (from : Flat) (s : SceneView) (state : List Fields) (is_scene : scene_of from ≡ Ok s) (kept : AreKeepable state) (of_type : AreOfType s state) (sound : AreSound s)
+    (table : (t : NodeType) → AreTyped (rows t)) where
   kept_is : (n k : ℕ) (a : Access) (t : FieldType) (v : Value) → kept_value (without_routes s state) n k a t ≡ Some v → IsKept state n k a v
   kept_is n k a t v h = kept_at state n k a t v (is_kept a t) refl (slice_get state n) refl h
 
   pub now_holds : (n : ℕ) (node : SceneNode) → slice_get s.nodes n ≡ Some node → (k : ℕ) (e : Entry) → slice_get (rows_at s n) k ≡ Some e
       → Holds e (value_now s state n k e.access e.field_type)
   now_holds n node is k e at =
-      let g = given_at n node is k e at in
+      let g = given_at from s is_scene table n node is k e at in
       kept_holds e (kept_value (without_routes s state) n k e.access e.field_type) (value_at s n k) g.right_row
       (λ v h. let x = kept_is n k e.access e.field_type v h in (x.initial, of_type n k e x.fields v at x.at x.held)) g.holds
 

@@ -73,7 +73,7 @@ module _ (typed_again : WrittenNodesAreTyped) (left_out : LeftOutAreDefaults) (a
 
   -- ---- a field of a type
 
-  given_again : (e : Entry) (k : ℕ) (x : Value) (v : Option Value) → type_of x ≡ e.field_type → IsFit numbers (Some x)
+  pub given_again : (e : Entry) (k : ℕ) (x : Value) (v : Option Value) → type_of x ≡ e.field_type → IsFit numbers (Some x)
       → field_value all numbers e (Some (as_given k x)) ≡ Ok v → v ≡ Some x
   unfolding field_value
   given_again e k x v t fit h = by_rotation (is_rotation e.field_type) refl h where
@@ -87,7 +87,7 @@ module _ (typed_again : WrittenNodesAreTyped) (left_out : LeftOutAreDefaults) (a
         let y = read_is e.field_type x b.0 fit t (line_is f.line (typed e.field_type f.value numbers) b.0 b.1) in
         sym a.1 ∙ ap (λ (z : Value). Some z) (sym y)
 
-  nothing_again : (e : Entry) (v : Option Value) → field_value all numbers e None ≡ Ok v → default_of e ≡ v
+  pub nothing_again : (e : Entry) (v : Option Value) → field_value all numbers e None ≡ Ok v → default_of e ≡ v
   unfolding field_value
   nothing_again e v h = scene_ok_is (default_of e) v h
 

@@ -2,6 +2,7 @@
 //! nothing.
 
 ghost use Rattle.scenes_again.specs.Again.{WrittenScenesAreAgain};
+ghost use Rattle.scenes_again.specs.Sound.{OpeningsAreOfType, WritableScenesAreSound};
 
 use scene_round_trip::{
     fields_are_left_out, headers_are_kept, labels_are_distinct, values_are_typed,
@@ -22,4 +23,16 @@ pub fn written_scenes_are_again()
     written_nodes_close();
     written_nodes_stay();
     written_fields_stay();
+}
+
+/// What a writable scene gives its fields is sound.
+pub fn writable_scenes_are_sound()
+    ensures { WritableScenesAreSound }
+{}
+
+/// What the nodes of a document's scene keep before any event is of their fields' types.
+pub fn openings_are_of_type()
+    ensures { OpeningsAreOfType }
+{
+    table_law();
 }
