@@ -12,4 +12,5 @@ pub mod Places
 pub mod Present
 pub mod Reading
 pub mod Steps
+pub mod Switches
 pub mod Whole

@@ -88,7 +88,7 @@ module _ (from : Flat) (s : SceneView) (routes : List Route) (state : List Field
       let here : 0 + i ≡ i = omega arith in
       ap (λ (x : Numbering). slice_get x.order i) placed ∙ (range_at 0 (length again.nodes) i l ∙ ap (λ (k : ℕ). Some k) here)
 
-  called_in_place : (i : ℕ) → i < length again.nodes → called numbers i ≡ i
+  pub called_in_place : (i : ℕ) → i < length again.nodes → called numbers i ≡ i
   called_in_place i l =
       let here : 0 + i ≡ i = omega arith in
       ap (λ (x : Numbering). called x.numbers i) placed

@@ -1,27 +1,41 @@
 -- A scene that was written and read again (ISO/IEC 19775-1, scene graph): its nodes by their
 -- numbers, with what they held when it was written.
-use Rattle.std.specs.Prelude.{◌≡◌, ◌<◌, ◌≤◌, ◌^◌, ◌++◌, ℕ, List, [], ◌∷◌, length, map, Some, Ok, slice_get}
+use Rattle.std.specs.Prelude.{◌≡◌, ◌<◌, ◌≤◌, ◌^◌, ◌==◌, ◌++◌, ℕ, List, [], ◌∷◌, length, map, Option, Some, None, Ok, slice_get, if◌then◌else◌}
 use Rattle.x3d_values.specs.declared.fields.Fields.{Fields}
 use Rattle.x3d_values.specs.declared.node_type.NodeType.{NodeType}
 use Rattle.x3d_values.specs.declared.node_type.NodeType.TheVariants.{Switch}
-use Rattle.x3d_values.specs.Tables.{Entry}
+use Rattle.x3d_values.specs.declared.value.Value.{Value}
+use Rattle.x3d_values.specs.declared.value.Value.TheVariants.{MFNode}
+use Rattle.x3d_values.specs.Tables.{Entry, rows}
 use Rattle.flat_document.specs.declared.flat.Flat.{Flat}
 use Rattle.proto_walk.specs.Whole.{flat}
 use Rattle.scene_core.specs.declared.scene.Route.{Route}
 use Rattle.scene_core.specs.Building.{scene_of}
-use Rattle.scene_core.specs.Scene.{SceneView, declared_at, label_of, rows_at, types_of, value_at}
+use Rattle.scene_core.specs.Scene.{SceneView, declared_at, label_of, name_at, rows_at, types_of, value_at}
+use Rattle.scene_core.specs.Typed.{default_of}
 use Rattle.scene_text.specs.Statements.{scene_document}
 use Rattle.numbered_scenes.specs.Children.{children}
 use Rattle.scene_round_trip.specs.Writable.{AreKeepable}
 use Rattle.written_nodes.specs.Nodes.{written_nodes, written_roots}
 use Rattle.written_fields.specs.Distinct.{HaveDistinctFields}
-use Rattle.written_fields.specs.Fields.{value_now}
+use Rattle.written_fields.specs.Fields.{switch_children, value_now}
 use Rattle.scenes_again.specs.Sound.{AreSound, AreOfType}
 
 -- helpers, where there are some, stand in one node more
 abbrev pub switch_type : List ℕ → List NodeType
 switch_type [] = []
 switch_type (n ∷ ns) = Switch ∷ []
+
+-- its children are the helpers, and its other fields hold what they hold where nothing is given
+abbrev pub switch_value : List ℕ → ℕ → Entry → Option Value
+switch_value helpers field e =
+    if switch_children == field then Some (MFNode helpers) else default_of e
+
+pub record IsSwitchOf (helpers : List ℕ) (next : SceneView) (n : ℕ) : Type 0 where
+  pub label : name_at next n ≡ None
+  pub declared : declared_at next n ≡ []
+  pub values : (field : ℕ) (e : Entry) → slice_get (rows Switch) field ≡ Some e
+      → value_at next n field ≡ switch_value helpers field e
 
 -- the second scene is the first, with what its nodes keep
 pub record IsWrittenOf (s : SceneView) (state : List Fields) (next : SceneView) : Type 0 where
@@ -38,6 +52,9 @@ pub record IsWrittenOf (s : SceneView) (state : List Fields) (next : SceneView) 
       → value_at next n field ≡ value_now s state n field e.access e.field_type
   -- a node has the same label
   pub labels : (n : ℕ) → n < length s.nodes → label_of next n ≡ label_of s n
+  -- the helpers, where there are some, stand in the last node
+  pub switch : (h : ℕ) (hs : List ℕ) → s.helpers ≡ h ∷ hs
+      → IsSwitchOf (h ∷ hs) next (length s.nodes)
 
 -- where a document's scene is written, and what is written has a flat form of which there is a
 -- scene, this is the scene that was written
