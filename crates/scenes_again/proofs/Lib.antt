@@ -1,6 +1,7 @@
 pub mod Given
 pub mod Helpers
 pub mod Holding
+pub mod InPlace
 pub mod Inserted
 pub mod Labels
 pub mod Made

@@ -23,7 +23,9 @@ use Rattle.scenes_again.specs.Again.{WrittenScenesAreAgain}
 use Rattle.scenes_again.proofs.Helpers.{none_helps}
 use Rattle.scenes_again.proofs.Labels.{next_labels}
 use Rattle.scenes_again.proofs.Switches.{next_switch}
-use Rattle.scenes_again.proofs.Next.{next_children, next_declared, next_helpers, next_roots, next_types, next_values}
+use Rattle.scenes_again.proofs.InPlace.{numbers_are}
+use Rattle.scenes_again.proofs.Numbered.{numbered_in_place}
+use Rattle.scenes_again.proofs.Next.{next_children, next_declared, next_helpers, next_many, next_roots, next_types, next_values}
 
 -- ---- each pair of braces is of a node
 
@@ -72,5 +74,7 @@ all_again table headers labels values defaults close stay fill from scene routes
       children = next_children from scene routes state again is kept of_type sound table same filled none next h values defaults;
       values = next_values from scene routes state again is kept of_type sound table same filled none next h values defaults;
       labels = next_labels from scene routes state again is kept of_type sound table same filled none next h values defaults few labels;
+      numbers = numbers_are again next h (numbered_in_place from scene routes state again is kept of_type sound table same filled none)
+          (next_many from scene routes state again is kept of_type sound table same filled none next h values defaults);
       switch = next_switch from scene routes state again is kept of_type sound table same filled none next h values defaults;
     }

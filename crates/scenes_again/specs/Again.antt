@@ -11,7 +11,7 @@ use Rattle.flat_document.specs.declared.flat.Flat.{Flat}
 use Rattle.proto_walk.specs.Whole.{flat}
 use Rattle.scene_core.specs.declared.scene.Route.{Route}
 use Rattle.scene_core.specs.Building.{scene_of}
-use Rattle.scene_core.specs.Scene.{SceneView, declared_at, label_of, name_at, rows_at, types_of, value_at}
+use Rattle.scene_core.specs.Scene.{SceneView, declared_at, label_of, name_at, number_of, rows_at, types_of, value_at}
 use Rattle.scene_core.specs.Typed.{default_of}
 use Rattle.scene_text.specs.Statements.{scene_document}
 use Rattle.numbered_scenes.specs.Children.{children}
@@ -55,6 +55,8 @@ pub record IsWrittenOf (s : SceneView) (state : List Fields) (next : SceneView) 
   -- the helpers, where there are some, stand in the last node
   pub switch : (h : ℕ) (hs : List ℕ) → s.helpers ≡ h ∷ hs
       → IsSwitchOf (h ∷ hs) next (length s.nodes)
+  -- the n-th node of what was read is the n-th of the scene
+  pub numbers : (n : ℕ) → n < length next.nodes → number_of next n ≡ Some n
 
 -- where a document's scene is written, and what is written has a flat form of which there is a
 -- scene, this is the scene that was written
