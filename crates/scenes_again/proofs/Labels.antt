@@ -151,9 +151,6 @@ module _ (from : Flat) (s : SceneView) (routes : List Route) (state : List Field
   as_many : length again.nodes ≡ count + length (switch_root count s.helpers)
   as_many = many from s routes state again is_scene kept of_type sound table same filled none
 
-  names : ℕ → Option (List ℕ)
-  names = name_at again.nodes
-
   own_name : (j : ℕ) → j < count → name_at again.nodes j ≡ written_name s routes j
   own_name j l =
       let node = found s.nodes j l in

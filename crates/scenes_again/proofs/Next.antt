@@ -233,6 +233,19 @@ module _ (from : Flat) (s : SceneView) (routes : List Route) (state : List Field
       ∙ (ap (λ (ds : List DeclaredField). numbered_fields t ds) x.read.is.declared
       ∙ (take-map declared_by (most_declared t) x.g.interface ∙ x.flat_is.numbered)))
 
+  pub next_rows : (n : ℕ) → n < count → rows_at next n ≡ rows_at s n
+  next_rows n l =
+      let node = found s.nodes n l in
+      let x = three n node.0 node.1 in
+      let t : NodeType = node.0.node_type in
+      let same_type : x.m.node_type ≡ t = x.read.is.node_type ∙ x.flat_is.node_type in
+      let own : numbered_fields x.m.node_type x.m.declared ≡ numbered_fields t node.0.declared =
+      sym (declared_by_node next n x.m x.next_at) ∙ (next_declared n l ∙ declared_by_node s n node.0 node.1) in
+      rows_by_node next n x.m x.next_at
+      ∙ (ap (λ (ds : List DeclaredField). rows x.m.node_type ++ map declared_entry ds) own
+      ∙ (ap (λ (u : NodeType). rows u ++ map declared_entry (numbered_fields t node.0.declared)) same_type
+      ∙ sym (rows_by_node s n node.0 node.1)))
+
   -- ---- values
 
   fits_now : (n : ℕ) → n < count → (k : ℕ) (e : Entry) → IsFit numbers (value_now s state n k e.access e.field_type)

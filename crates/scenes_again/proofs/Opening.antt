@@ -1,25 +1,23 @@
 -- What a scene holds before any event is of its fields' types, and sound where the scene is writable.
-use Rattle.std.proofs.Common.{◌≡◌, ℕ, zero, suc, Bool, true, false, ◌&&◌, if◌then◌else◌, List, [], ◌∷◌, map, Option, Some, None, Ok, slice_get, refl, sym, ap, subst, ◌∙◌}
-use Rattle.std.specs.Prelude.{option_map, zip}
+use Rattle.std.proofs.Common.{◌≡◌, ℕ, zero, suc, Bool, true, false, ◌&&◌, if◌then◌else◌, List, [], ◌∷◌, map, Option, Some, None, slice_get, refl, sym, ap, subst, ◌∙◌}
+use Rattle.std.specs.Prelude.{zip}
 use Rattle.std.specs.List.{list_all}
 use Rattle.std.specs.Option.{option_and_then}
-use Rattle.std.proofs.lemmas.Option.{slice_get-map}
 use Rattle.x3d_values.specs.declared.fields.Fields.{Fields}
 use Rattle.x3d_values.specs.declared.node_type.NodeType.{NodeType}
 use Rattle.x3d_values.specs.declared.value.Value.{Value}
 use Rattle.x3d_values.specs.Access.{is_kept}
 use Rattle.x3d_values.specs.Kept.{field_value}
 use Rattle.x3d_values.specs.Tables.{AreTyped, Entry, rows}
-use Rattle.flat_document.specs.declared.flat.Flat.{Flat}
 use Rattle.scene_core.specs.declared.scene.SceneNode.{SceneNode}
-use Rattle.scene_core.specs.Scene.{SceneView, fields_of, kept, rows_at, shape_of, state_of, value_at}
+use Rattle.scene_core.specs.Scene.{SceneView, fields_of, kept, shape_of, state_of, value_at}
 use Rattle.scene_core.specs.Shape.{rows_of}
 use Rattle.scene_round_trip.specs.Values.{is_sound}
 use Rattle.scene_round_trip.specs.Writable.{is_sound_or_none}
-use Rattle.numbered_scenes.proofs.Lists.{at_map, some_is}
+use Rattle.numbered_scenes.proofs.Lists.{at_map}
 use Rattle.scenes_again.specs.Sound.{OpeningsAreOfType, WritableScenesAreSound}
 use Rattle.scenes_again.proofs.Made.{value_in}
-use Rattle.scenes_again.proofs.Present.{given_at, rows_by_node, value_by_node}
+use Rattle.scenes_again.proofs.Present.{given_at, value_by_node}
 
 -- ---- sound
 

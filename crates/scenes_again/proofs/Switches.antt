@@ -2,7 +2,6 @@
 use Rattle.std.proofs.Common.{◌≡◌, ℕ, zero, suc, ◌+◌, ◌<◌, ◌==◌, Bool, true, false, if◌then◌else◌, List, [], ◌∷◌, length, map, take, Option, Some, None, Ok, slice_get, refl, sym, ap, subst, ◌∙◌, arith, eqb-true}
 use Rattle.std.specs.List.{AllByRecursion}
 use Rattle.std.specs.Option.{option_and_then}
-use Rattle.x3d_values.specs.declared.field_type.FieldType.{FieldType}
 use Rattle.x3d_values.specs.declared.field_type.FieldType.TheVariants as types
 use Rattle.x3d_values.specs.declared.fields.Fields.{Fields}
 use Rattle.x3d_values.specs.declared.node_type.NodeType.{NodeType}
@@ -11,19 +10,17 @@ use Rattle.x3d_values.specs.declared.value.Value.{Value}
 use Rattle.x3d_values.specs.declared.value.Value.TheVariants.{MFNode}
 use Rattle.x3d_values.specs.Tables.{AreTyped, Entry, rows}
 use Rattle.x3d_values.specs.Values.{nodes_of}
-use Rattle.classic_tree.specs.declared.tree.Declaration.{Declaration}
 use Rattle.flat_document.specs.declared.flat.Flat.{Flat}
 use Rattle.flat_document.specs.declared.flat.FlatField.{FlatField}
 use Rattle.flat_document.specs.declared.flat.FlatNode.{FlatNode}
 use Rattle.scene_values.specs.Typing.{called}
-use Rattle.scene_core.specs.declared.row.DeclaredField.{DeclaredField}
 use Rattle.scene_core.specs.declared.scene.Route.{Route}
 use Rattle.scene_core.specs.declared.scene.SceneNode.{SceneNode}
 use Rattle.scene_core.specs.Building.{scene_of}
 use Rattle.scene_core.specs.Labels.{label_by}
 use Rattle.scene_core.specs.Parts.{given}
 use Rattle.scene_core.specs.Scene.{SceneView}
-use Rattle.scene_core.specs.Shape.{declared_by, most_declared, numbered_fields}
+use Rattle.scene_core.specs.Shape.{declared_by, most_declared}
 use Rattle.scene_core.specs.Typed.{default_of, field_value}
 use Rattle.numbered_scenes.proofs.Lists.{some_is}
 use Rattle.numbered_scenes.proofs.Scenes.{alone_in, found}

@@ -25,7 +25,7 @@ use Rattle.scenes_again.proofs.Labels.{next_labels}
 use Rattle.scenes_again.proofs.Switches.{next_switch}
 use Rattle.scenes_again.proofs.InPlace.{numbers_are}
 use Rattle.scenes_again.proofs.Numbered.{numbered_in_place}
-use Rattle.scenes_again.proofs.Next.{next_children, next_declared, next_helpers, next_many, next_roots, next_types, next_values}
+use Rattle.scenes_again.proofs.Next.{next_children, next_declared, next_helpers, next_many, next_roots, next_rows, next_types, next_values}
 
 -- ---- each pair of braces is of a node
 
@@ -71,6 +71,7 @@ all_again table headers labels values defaults close stay fill from scene routes
       helpers = next_helpers from scene routes state again is kept of_type sound table same filled none next h values defaults;
       types = next_types from scene routes state again is kept of_type sound table same filled none next h values defaults;
       declared = next_declared from scene routes state again is kept of_type sound table same filled none next h values defaults;
+      rows = next_rows from scene routes state again is kept of_type sound table same filled none next h values defaults;
       children = next_children from scene routes state again is kept of_type sound table same filled none next h values defaults;
       values = next_values from scene routes state again is kept of_type sound table same filled none next h values defaults;
       labels = next_labels from scene routes state again is kept of_type sound table same filled none next h values defaults few labels;

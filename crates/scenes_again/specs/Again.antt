@@ -43,9 +43,10 @@ pub record IsWrittenOf (s : SceneView) (state : List Fields) (next : SceneView) 
   -- where there are helpers, one root more, and no helpers
   pub roots : next.roots ≡ written_roots s
   pub helpers : next.helpers ≡ []
-  -- node by node: types, declared fields, and the nodes that stand in it
+  -- node by node: types, declared fields, all fields, and the nodes that stand in it
   pub types : types_of next ≡ types_of s ++ switch_type s.helpers
   pub declared : (n : ℕ) → n < length s.nodes → declared_at next n ≡ declared_at s n
+  pub rows : (n : ℕ) → n < length s.nodes → rows_at next n ≡ rows_at s n
   pub children : map children next.nodes ≡ written_nodes s
   -- each field holds what it held: what its node keeps of it, and else what the scene gives
   pub values : (n field : ℕ) (e : Entry) → slice_get (rows_at s n) field ≡ Some e
