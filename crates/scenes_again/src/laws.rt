@@ -2,6 +2,7 @@
 //! nothing.
 
 ghost use Rattle.scenes_again.specs.Again.{WrittenScenesAreAgain};
+ghost use Rattle.scenes_again.specs.Begins.{KeptAgain};
 ghost use Rattle.scenes_again.specs.Sound.{OpeningsAreOfType, WritableScenesAreSound};
 
 use scene_round_trip::{
@@ -36,3 +37,8 @@ pub fn openings_are_of_type()
 {
     table_law();
 }
+
+/// Each value that nodes kept when a scene was written they keep again, before any event.
+pub fn values_are_kept_again()
+    ensures { KeptAgain }
+{}

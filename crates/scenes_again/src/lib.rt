@@ -3,4 +3,7 @@
 
 mod laws;
 
-pub use laws::{openings_are_of_type, writable_scenes_are_sound, written_scenes_are_again};
+pub use laws::{
+    openings_are_of_type, values_are_kept_again, writable_scenes_are_sound,
+    written_scenes_are_again,
+};
