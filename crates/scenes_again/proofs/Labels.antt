@@ -1,0 +1,222 @@
+-- The labels of the scene that is read again.
+use Rattle.std.proofs.Common.{◌≡◌, ℕ, zero, suc, ◌+◌, ◌<◌, ◌≤◌, ◌^◌, ◌==◌, nat_le, Bool, true, false, cond, not, ◌&&◌, ◌||◌, if◌then◌else◌, List, [], ◌∷◌, ◌++◌, codes, length, Option, Some, None, Ok, slice_get, refl, sym, ap, subst, ◌∙◌, ◌⊎◌, inl, inr, arith, eq-eqb, ne_eqb, le-leb}
+use Rattle.std.specs.Prelude.{decimal, is_some}
+use Rattle.std.specs.List.{cons_option, count_by, filter_map, list_all, range_with_len}
+use Rattle.std.specs.Option.{option_and_then}
+use Rattle.std.specs.Str.{bytes_eq}
+use Rattle.std.specs.Str.Parse.{AllDigits}
+use Rattle.std.proofs.lemmas.Bool.{cases_lt}
+use Rattle.std.proofs.lemmas.Fmt.{decimal_is_IsNumeral}
+use Rattle.std.proofs.lemmas.List.Recursion.{is_count_by}
+use Rattle.std.proofs.lemmas.Slice.Eq.{bytes_eq-Decides}
+use Rattle.std.proofs.lemmas.Str.Parse.{digit_from_value}
+use Rattle.x3d_values.specs.declared.fields.Fields.{Fields}
+use Rattle.x3d_values.specs.declared.node_type.NodeType.{NodeType}
+use Rattle.x3d_values.specs.Tables.{AreTyped, rows}
+use Rattle.flat_document.specs.declared.flat.Flat.{Flat}
+use Rattle.flat_document.specs.declared.flat.FlatNode.{FlatNode}
+use Rattle.scene_core.specs.declared.numbering.Numbering.{Numbering}
+use Rattle.scene_core.specs.declared.scene.Route.{Route}
+use Rattle.scene_core.specs.declared.scene.SceneNode.{SceneNode}
+use Rattle.scene_core.specs.Building.{scene_of}
+use Rattle.scene_core.specs.Labels.{is_alone, is_numbered, label_by, name_at}
+use Rattle.scene_core.specs.Scene.{SceneView, label_of, label_or}
+use Rattle.scene_text.specs.Places.{is_named}
+use Rattle.numbered_scenes.proofs.Lists.{some_is, within}
+use Rattle.numbered_scenes.proofs.NumbersInOrder.{equal}
+use Rattle.numbered_scenes.proofs.Scenes.{alone_in, found}
+use Rattle.scene_round_trip.specs.Defaults.{LeftOutAreDefaults}
+use Rattle.scene_round_trip.specs.Labels.{LabelsAreDistinct}
+use Rattle.scene_round_trip.specs.Values.{WrittenNodesAreTyped}
+use Rattle.scene_round_trip.specs.Writable.{AreKeepable}
+use Rattle.written_nodes.specs.Braces.{written_name}
+use Rattle.written_nodes.specs.Flats.{IsFlatOf}
+use Rattle.written_nodes.specs.Nodes.{switch_root}
+use Rattle.written_fields.specs.Flats.{HasFieldsOf}
+use Rattle.scenes_again.specs.Sound.{AreOfType, AreSound}
+use Rattle.scenes_again.proofs.Next.{three}
+use Rattle.scenes_again.proofs.Numbered.{again_is, last_is, many, numbered_in_place}
+use Rattle.scenes_again.proofs.Present.{made_of}
+
+-- ---- `N` and a number
+
+both : (a b : Bool) → a ≡ true → b ≡ true → (a && b) ≡ true
+both true b e f = f
+both false b e f = absurd cc
+
+digit_is : (c : ℕ) → 48 ≤ c → c ≤ 57 → (nat_le 48 c && nat_le c 57) ≡ true
+digit_is c l m = both (nat_le 48 c) (nat_le c 57) (le-leb 48 c l) (le-leb c 57 m)
+
+all_digits : (ds : List ℕ) → AllDigits 10 ds → list_all (λ c. nat_le 48 c && nat_le c 57) ds ≡ true
+all_digits [] h = refl
+all_digits (c ∷ cs) h =
+    let r = digit_from_value c h.0 in
+    both (nat_le 48 c && nat_le c 57) (list_all (λ c. nat_le 48 c && nat_le c 57) cs) (digit_is c (omega (arith, r.0, r.1)) (omega (arith, r.0, r.1))) (all_digits cs h.1)
+
+number_numbered : (n : ℕ) → n < 2 ^ 64 → is_numbered (codes "N" ++ decimal n) ≡ true
+number_numbered n h = both (not (length (decimal n) == 0)) _ some_length (all_digits (decimal n) (decimal_is_IsNumeral n h).0.1) where
+  some_length : not (length (decimal n) == 0) ≡ true
+  some_length = let k = (decimal_is_IsNumeral n h).0.0 in ap not (ne_eqb (length (decimal n)) 0 (λ e. omega (arith, k, e)))
+
+-- ---- a name that one node alone has
+
+beyond : (a b : ℕ) → a ≤ b → (a ≡ b → ⊥) → a + 1 ≤ b
+beyond a b l n = by_lt (cases_lt a b) where
+  by_lt : (a < b) ⊎ (b ≤ a) → a + 1 ≤ b
+  by_lt (inl m) = omega (arith, m)
+  by_lt (inr m) = absurd (n (omega (arith, l, m)))
+
+module _ (l : List ℕ) where
+  abbrev hits : List (List ℕ) → ℕ
+  hits [] = 0
+  hits (x ∷ xs) = cond (bytes_eq x l) (1 + hits xs) (hits xs)
+
+  hits_are : (xs : List (List ℕ)) → hits xs ≡ count_by (λ other. bytes_eq other l) xs
+  hits_are xs = is_count_by hits (λ other. bytes_eq other l) refl (λ x ys. refl) xs
+
+  add_other : (o : Option (List ℕ)) (xs : List (List ℕ)) → ((x : List ℕ) → o ≡ Some x → x ≡ l → ⊥) → hits (cons_option o xs) ≡ hits xs
+  add_other None xs k = refl
+  add_other (Some x) xs k = by_test (bytes_eq x l) refl where
+    by_test : (b : Bool) → bytes_eq x l ≡ b → cond (bytes_eq x l) (1 + hits xs) (hits xs) ≡ hits xs
+    by_test false e = ap (λ (c : Bool). cond c (1 + hits xs) (hits xs)) e
+    by_test true e = absurd (k x refl ((bytes_eq-Decides x l).0 e))
+
+  add_own : (o : Option (List ℕ)) (xs : List (List ℕ)) → o ≡ Some l → hits (cons_option o xs) ≡ 1 + hits xs
+  add_own o xs e =
+      ap (λ (p : Option (List ℕ)). hits (cons_option p xs)) e
+      ∙ ap (λ (c : Bool). cond c (1 + hits xs) (hits xs)) ((bytes_eq-Decides l l).1 refl)
+
+  module _ (f : ℕ → Option (List ℕ)) where
+    no_hit : (from many : ℕ) → ((j : ℕ) → from ≤ j → j < from + many → (x : List ℕ) → f j ≡ Some x → x ≡ l → ⊥) → hits (filter_map f (range_with_len from many)) ≡ 0
+    no_hit from zero k = refl
+    no_hit from (suc many) k =
+        add_other (f from) (filter_map f (range_with_len (from + 1) many)) (λ x e h. k from (omega arith) (omega arith) x e h)
+        ∙ no_hit (from + 1) many (λ j a b x e h. k j (omega (arith, a)) (omega (arith, b)) x e h)
+
+    one_hit : (from many i : ℕ) → from ≤ i → i < from + many → f i ≡ Some l → ((j : ℕ) → from ≤ j → j < from + many → (x : List ℕ) → f j ≡ Some x → x ≡ l → j ≡ i)
+        → hits (filter_map f (range_with_len from many)) ≡ 1
+    one_hit from zero i low high is k = absurd (omega (arith, low, high))
+    one_hit from (suc many) i low high is k = by_place (one_hit (from + 1) many i) (equal from i) where
+      by_place : (from + 1 ≤ i → i < from + 1 + many → f i ≡ Some l
+          → ((j : ℕ) → from + 1 ≤ j → j < from + 1 + many → (x : List ℕ) → f j ≡ Some x → x ≡ l → j ≡ i) → hits (filter_map f (range_with_len (from + 1) many)) ≡ 1)
+          → (from ≡ i) ⊎ (from ≡ i → ⊥) → hits (cons_option (f from) (filter_map f (range_with_len (from + 1) many))) ≡ 1
+      by_place more (inl e) =
+          let rest = no_hit (from + 1) many (λ j a b x at h. (let same = k j (omega (arith, a)) (omega (arith, b)) x at h in omega (arith, a, e, same))) in
+          let first = add_own (f from) (filter_map f (range_with_len (from + 1) many)) (ap f e ∙ is) in
+          omega (arith, rest, first)
+      by_place more (inr n) =
+          add_other (f from) (filter_map f (range_with_len (from + 1) many)) (λ x at h. n (k from (omega arith) (omega arith) x at h))
+          ∙ more (beyond from i low n) (omega (arith, high)) is (λ j a b x at h. k j (omega (arith, a)) (omega (arith, b)) x at h)
+
+    pub alone : (many i : ℕ) → i < many → f i ≡ Some l → ((j : ℕ) → j < many → (x : List ℕ) → f j ≡ Some x → x ≡ l → j ≡ i)
+        → is_alone (filter_map f (range_with_len 0 many)) l ≡ true
+    alone many i low is k =
+        let one = one_hit 0 many i (omega arith) (omega (arith, low)) is (λ j a b x at h. k j (omega (arith, b)) x at h) in
+        eq-eqb (count_by (λ other. bytes_eq other l) (filter_map f (range_with_len 0 many))) 1 (sym (hits_are (filter_map f (range_with_len 0 many))) ∙ one)
+
+-- ---- the name that a node keeps
+
+unnumbered_if : (a : Bool) (b : Bool) (name l : List ℕ) → is_numbered name ≡ b → (if a && not b then Some name else None) ≡ Some l → is_numbered l ≡ false
+unnumbered_if true false name l e h = subst (λ (x : List ℕ). is_numbered x ≡ false) (some_is name l h) e
+unnumbered_if true true name l e h = absurd cc
+unnumbered_if false b name l e h = absurd cc
+
+unnumbered : (lone : List ℕ → Bool) (o : Option (List ℕ)) (l : List ℕ) → label_by lone o ≡ Some l → is_numbered l ≡ false
+unnumbered lone None l h = absurd cc
+unnumbered lone (Some name) l h = unnumbered_if (lone name) (is_numbered name) name l refl h
+
+keeps_name : (lone : List ℕ → Bool) (l : List ℕ) → lone l ≡ true → is_numbered l ≡ false → label_by lone (Some l) ≡ Some l
+keeps_name lone l a n =
+    ap (λ (b : Bool). if b && not (is_numbered l) then Some l else None) a ∙ ap (λ (b : Bool). if true && not b then Some l else None) n
+
+drops_number : (lone : List ℕ → Bool) (l : List ℕ) → is_numbered l ≡ true → label_by lone (Some l) ≡ None
+drops_number lone l n = ap (λ (b : Bool). if lone l && not b then Some l else None) n ∙ by_alone (lone l) where
+  by_alone : (a : Bool) → (if a && false then Some l else None) ≡ None
+  by_alone true = refl
+  by_alone false = refl
+
+named_is : (b : Bool) (l x : List ℕ) → (if b then Some l else None) ≡ Some x → x ≡ l
+named_is true l x h = sym (some_is l x h)
+named_is false l x h = absurd cc
+
+-- ---- the labels of the nodes
+
+module _ (from : Flat) (s : SceneView) (routes : List Route) (state : List Fields) (again : Flat) (is_scene : scene_of from ≡ Ok s) (kept : AreKeepable state)
+    (of_type : AreOfType s state) (sound : AreSound s) (table : (t : NodeType) → AreTyped (rows t)) (same : IsFlatOf s routes again) (filled : HasFieldsOf s state again)
+    (none : again.helpers ≡ []) (next : SceneView) (is_next : scene_of again ≡ Ok next) (typed_again : WrittenNodesAreTyped) (left_out : LeftOutAreDefaults)
+    (few : length s.nodes ≤ 2 ^ 64) (distinct : LabelsAreDistinct) where
+  abbrev count : ℕ
+  count = length s.nodes
+
+  as_many : length again.nodes ≡ count + length (switch_root count s.helpers)
+  as_many = many from s routes state again is_scene kept of_type sound table same filled none
+
+  own_name : (j : ℕ) → j < count → name_at again.nodes j ≡ written_name s routes j
+  own_name j l =
+      let node = found s.nodes j l in
+      let g = found again.nodes j (omega (arith, as_many, l)) in
+      let a = again_is from s routes state again is_scene kept of_type sound table same filled none j node.0 g.0 node.1 g.1 in
+      ap (λ (o : Option FlatNode). option_and_then (λ (x : FlatNode). x.name) o) g.1 ∙ a.name
+
+  last_name : (hs : List ℕ) → s.helpers ≡ hs → (j : ℕ) → count ≤ j → j < length again.nodes → name_at again.nodes j ≡ None
+  last_name [] e j l m =
+      let k : length again.nodes ≡ count = as_many ∙ (ap (λ (hs : List ℕ). count + length (switch_root count hs)) e ∙ omega arith) in
+      absurd (omega (arith, l, m, k))
+  last_name (h ∷ hs) e j l m =
+      let k : length again.nodes ≡ count + 1 = as_many ∙ ap (λ (hs : List ℕ). count + length (switch_root count hs)) e in
+      let here : j ≡ count = omega (arith, l, m, k) in
+      let g = found again.nodes count (omega (arith, k)) in
+      let a = last_is from s routes state again is_scene kept of_type sound table same filled none h hs g.0 e g.1 in
+      ap (λ (i : ℕ). name_at again.nodes i) here ∙ (ap (λ (o : Option FlatNode). option_and_then (λ (x : FlatNode). x.name) o) g.1 ∙ a.name)
+
+  none_some : (x : List ℕ) (o : Option (List ℕ)) → o ≡ None → o ≡ Some x → ⊥
+  none_some x o h k = absurd cc
+
+  one_alone : (n : ℕ) → n < count → (l : List ℕ) → name_at again.nodes n ≡ Some l → label_of s n ≡ l → alone_in again l ≡ true
+  one_alone n low l is labelled =
+      ap (λ (x : Numbering). is_alone (filter_map (name_at again.nodes) x.order) l) (numbered_in_place from s routes state again is_scene kept of_type sound table same filled none)
+      ∙ alone l (name_at again.nodes) (length again.nodes) n (omega (arith, as_many, low)) is (λ j m x at h. by_place j m x at h (cases_lt j count)) where
+        by_place : (j : ℕ) → j < length again.nodes → (x : List ℕ) → name_at again.nodes j ≡ Some x → x ≡ l → (j < count) ⊎ (count ≤ j) → j ≡ n
+        by_place j m x at h (inl below) =
+            let x_is : x ≡ label_of s j = named_is (is_named s routes j) (label_of s j) x (sym (own_name j below) ∙ at) in
+            distinct from s is_scene few j n below low (sym x_is ∙ (h ∙ sym labelled))
+        by_place j m x at h (inr above) = absurd (none_some x (name_at again.nodes j) (last_name s.helpers refl j above m) at)
+
+  -- a label of its own
+  own_label : (n : ℕ) (node : SceneNode) → slice_get s.nodes n ≡ Some node → (o : Option (List ℕ)) → node.label ≡ o → (g : FlatNode) → slice_get again.nodes n ≡ Some g
+      → label_by (alone_in again) g.name ≡ o
+  unfolding label_of
+  own_label n node is (Some l) e g at =
+      let low = within s.nodes n node is in
+      let labelled : label_of s n ≡ l =
+      ap (λ (x : Option SceneNode). label_or n (option_and_then (λ (m : SceneNode). m.label) x)) is ∙ ap (λ (x : Option (List ℕ)). label_or n x) e in
+      let there : option_and_then (λ (m : SceneNode). m.label) (slice_get s.nodes n) ≡ Some l = ap (λ (x : Option SceneNode). option_and_then (λ (m : SceneNode). m.label) x) is ∙ e in
+      let named : is_named s routes n ≡ true = first_true (is_some (option_and_then (λ (m : SceneNode). m.label) (slice_get s.nodes n))) _ (ap (λ (x : Option (List ℕ)). is_some x) there) in
+      let written : name_at again.nodes n ≡ Some l =
+      own_name n low ∙ (ap (λ (b : Bool). if b then Some (label_of s n) else None) named ∙ ap (λ (x : List ℕ). Some x) labelled) in
+      let g_name : g.name ≡ Some l = sym (ap (λ (o : Option FlatNode). option_and_then (λ (x : FlatNode). x.name) o) at) ∙ written in
+      let m = made_of from s is_scene table n node is in
+      ap (label_by (alone_in again)) g_name
+      ∙ keeps_name (alone_in again) l (one_alone n low l written labelled) (unnumbered (alone_in from) m.0.name l (sym m.1.label ∙ e)) where
+        first_true : (a b : Bool) → a ≡ true → (a || b) ≡ true
+        first_true true b h = refl
+        first_true false b h = absurd cc
+  own_label n node is None e g at =
+      let low = within s.nodes n node is in
+      let labelled : label_of s n ≡ codes "N" ++ decimal n =
+      ap (λ (x : Option SceneNode). label_or n (option_and_then (λ (m : SceneNode). m.label) x)) is ∙ ap (λ (x : Option (List ℕ)). label_or n x) e in
+      let g_name : g.name ≡ written_name s routes n = sym (ap (λ (o : Option FlatNode). option_and_then (λ (x : FlatNode). x.name) o) at) ∙ own_name n low in
+      ap (label_by (alone_in again)) g_name ∙ by_named (is_named s routes n) (label_of s n) (ap is_numbered labelled ∙ number_numbered n (omega (arith, few, low))) where
+        by_named : (b : Bool) (l : List ℕ) → is_numbered l ≡ true → label_by (alone_in again) (if b then Some l else None) ≡ None
+        by_named true l h = drops_number (alone_in again) l h
+        by_named false l h = refl
+
+  pub next_labels : (n : ℕ) → n < count → label_of next n ≡ label_of s n
+  unfolding label_of
+  next_labels n low =
+      let node = found s.nodes n low in
+      let x = three from s routes state again is_scene kept of_type sound table same filled none next is_next typed_again left_out n node.0 node.1 in
+      let same_label = x.read.is.label ∙ own_label n node.0 node.1 node.0.label refl x.g x.flat_at in
+      ap (λ (o : Option SceneNode). label_or n (option_and_then (λ (m : SceneNode). m.label) o)) x.next_at
+      ∙ (ap (λ (o : Option (List ℕ)). label_or n o) same_label
+      ∙ sym (ap (λ (o : Option SceneNode). label_or n (option_and_then (λ (m : SceneNode). m.label) o)) node.1))
