@@ -1,7 +1,6 @@
 -- What stands between braces gives each declared field a number of its own, and forgets none.
-use Rattle.std.proofs.Common.{◌≡◌, ℕ, ◌-◌, ◌==◌, ◌||◌, Bool, true, false, if◌then◌else◌, nat_lt, is_none, List, [], ◌∷◌, ◌++◌, length, map, Option, Some, None, Ok, refl, sym, ap, subst, ◌∙◌, append-nil, append_assoc, eq-eqb, true≢false}
+use Rattle.std.proofs.Common.{◌≡◌, ℕ, ◌-◌, ◌==◌, ◌||◌, Bool, true, false, if◌then◌else◌, nat_lt, is_none, List, [], ◌∷◌, ◌++◌, length, map, Option, Some, None, Ok, refl, sym, ap, subst, ◌∙◌, eq-eqb, true≢false}
 use Rattle.std.specs.List.{AllByRecursion}
-use Rattle.std.proofs.lemmas.List.{map-append}
 use Rattle.x3d_values.specs.Tables.{Entry, are_distinct}
 use Rattle.classic_tree.specs.declared.tree.BodyItem.{BodyItem}
 use Rattle.classic_tree.specs.declared.tree.BodyItem.TheVariants as item
@@ -24,13 +23,11 @@ use Rattle.proto_steps.proofs.Equations.{declares-declaration, declares-field, d
 use Rattle.proto_steps.specs.Closing.{declared}
 use Rattle.proto_steps.specs.Limits.{count_again, count_items}
 use Rattle.proto_steps.specs.Machine.{Machine, Outcome, Walk, ◌>>=◌, and_then, keep, keep_name, pure, refuse, through, tie}
-use Rattle.proto_steps.specs.Meaning.{add_declaration, add_default, add_default_value, add_defaults, add_given, add_known, add_new, add_number, add_taken, add_value, declared_in, item_declares, item_does, items_do, node_does, numbered, proto_does}
+use Rattle.proto_steps.specs.Meaning.{add_declaration, add_default, add_default_value, add_defaults, add_given, add_known, add_new, add_number, add_taken, add_value, item_declares, item_does, node_does, numbered, proto_does}
 use Rattle.proto_steps.specs.Meaning.{add_declared_is, add_is, add_joined, add_known_is, add_tied, hand_on, hand_over, joined_by, tie_declared, tie_field, unless_own, with_number, with_place}
 use Rattle.proto_steps.specs.Routes.{wire}
 use Rattle.scene_core.specs.Shape.{declaration_entry}
-use Rattle.flat_laws.proofs.Lists.{all_append, all_map, all_weaker}
 use Rattle.flat_laws.proofs.Trees.{OfDeclaration, OfGiven, OfValue}
-use Rattle.distinct_fields.proofs.Rows.{AreApart, IsApart, distinct_append}
 use Rattle.distinct_fields.proofs.Walks.{Any, Does, Ends, Keeps, count_again_does, count_items_does, does_if, does_pure, does_refuse, does_then, does_through, does_weaker, ends_if, ends_then, ends_weaker, keep_does, keep_name_does, keeps_pure, keeps_then, tie_does, wire_does}
 
 abbrev pub Fields : Type 0
@@ -119,7 +116,7 @@ abbrev pub IsAt : Option KnownField → Fields → Type 0
 IsAt None fields = ⊥
 IsAt (Some field) fields = has_field field.number fields ≡ true
 
-at_more : (place : Option KnownField) (fields made : Fields) → AreMore fields made → IsAt place fields → IsAt place made
+pub at_more : (place : Option KnownField) (fields made : Fields) → AreMore fields made → IsAt place fields → IsAt place made
 at_more None fields made k h = h
 at_more (Some field) fields made k h = k field.number h
 
@@ -324,55 +321,3 @@ item_proto_layer p h = λ o fields w g.
     item_by (item.Proto p) o fields w [] (and_then (proto_does p w) (λ _. pure fields)) (declares-proto p) (item_does-proto p o fields w)
     (ends_then Any (Adds o [] fields) (proto_does p w) (λ _. pure fields) (h w g)
     (λ _ v i q. does_pure (Adds o [] fields) fields (adds_none o fields fields (all_still fields)) v i))
-
--- ---- items in turn
-
--- of these declarations so far
-pub record HasDeclared (o : Owner) (done : List Signature) (fields : Fields) : Type 0 where
-  pub apart : are_distinct (map entry_of done) ≡ true
-  pub held : AllByRecursion (λ (s : Signature). IsAt (o.declares s.name) fields) done
-  pub none_own : AllByRecursion (λ (s : Signature). o.fields s.name ≡ None) done
-
-module _ (o : Owner) (done ss : List Signature) (fields made : Fields) where
-  abbrev Held : Fields → Signature → Type 0
-  Held fs s = IsAt (o.declares s.name) fs
-
-  abbrev NoneOwn : Signature → Type 0
-  NoneOwn s = o.fields s.name ≡ None
-
-  abbrev Placed : Signature → Type 0
-  Placed s = PlacesName o s.name fields made
-
-  -- a name that is new is apart from all that have numbers
-  new_apart : AllByRecursion (Held fields) done → (s : Signature) → Placed s → AreApart s.name (map entry_of done)
-  new_apart held s p =
-      all_map entry_of (Held fields) (IsApart s.name) (λ t q same. p.free (subst (λ (name : List ℕ). IsAt (o.declares name) fields) (sym same) q)) done held
-
-  more_declared : HasDeclared o done fields → Adds o ss fields made → HasDeclared o (done ++ ss) made
-  more_declared h a = record {
-    apart = subst (λ (es : List Entry). are_distinct es ≡ true) (sym (map-append entry_of done ss))
-        (distinct_append (map entry_of done) (map entry_of ss) h.apart a.apart
-        (all_map entry_of Placed (λ (e : Entry). AreApart e.name (map entry_of done)) (λ s p. new_apart h.held s p) ss a.placed));
-    held = all_append (Held made) done ss
-        (all_weaker (Held fields) (Held made) (λ s q. at_more (o.declares s.name) fields made a.more q) done h.held)
-        (all_weaker Placed (Held made) (λ s p. p.held) ss a.placed);
-    none_own = all_append NoneOwn done ss h.none_own (all_weaker Placed NoneOwn (λ s p. p.none_own) ss a.placed);
-  }
-
-module _ (o : Owner) where
-  abbrev item_in : BodyItem → Fields → Machine Fields
-  item_in i = item_does i o
-
-  items_from : (items : List BodyItem) (done : List Signature) (fields : Fields) → AllByRecursion ItemDoes items → HasDeclared o done fields
-      → Does (HasDeclared o (done ++ declared_in items)) (through item_in items fields)
-  items_from [] done fields h d w g =
-      does_pure (HasDeclared o (done ++ [])) fields (subst (λ (ss : List Signature). HasDeclared o ss fields) (sym (append-nil done)) d) w g
-  items_from (i ∷ items) done fields h d w g =
-      ends_then (Adds o (item_declares i) fields) (HasDeclared o (done ++ declared_in (i ∷ items))) (item_does i o fields w) (λ made. through item_in items made)
-      (h.0 o fields w g)
-      (λ made v k a. subst (λ (ss : List Signature). Ends (HasDeclared o ss) (through item_in items made v)) (append_assoc done (item_declares i) (declared_in items))
-      (items_from items (done ++ item_declares i) made h.1 (more_declared o done (item_declares i) fields made d a) v k))
-
-  pub items_declare : (items : List BodyItem) → AllByRecursion ItemDoes items → Does (HasDeclared o (declared_in items)) (items_do items o [])
-  unfolding items_do
-  items_declare items h = items_from items [] [] h (record { apart = refl; held = tt; none_own = tt })

@@ -3,4 +3,5 @@ pub mod Items
 pub mod Rows
 pub mod Scenes
 pub mod Trees
+pub mod Turns
 pub mod Walks

@@ -34,7 +34,8 @@ use Rattle.scene_core.specs.Shape.{declaration_entry}
 use Rattle.flat_laws.proofs.Lists.{IfSome, all_map}
 use Rattle.flat_laws.proofs.Trees.{Layers}
 use Rattle.distinct_fields.specs.Interfaces.{IsDistinctInterface, IsNoneOf}
-use Rattle.distinct_fields.proofs.Items.{DeclarationDoes, Fields, HasDeclared, ItemDoes, NodeDoes, ProtoDoes, add_defaults_does, declaration_layer, entry_of, field_layer, item_proto_layer, item_route_layer, items_declare}
+use Rattle.distinct_fields.proofs.Items.{DeclarationDoes, Fields, ItemDoes, NodeDoes, ProtoDoes, add_defaults_does, declaration_layer, entry_of, field_layer, item_proto_layer, item_route_layer}
+use Rattle.distinct_fields.proofs.Turns.{HasDeclared, items_declare}
 use Rattle.distinct_fields.proofs.Walks.{Any, Comes, Does, Ends, IsGoodBound, IsGoodMeaning, IsGoodWalk, Keeps, begin_instance_does, begin_node_does, count_interface_does, count_joined_does, does_through, ends_then, found, help_does, keeps_pure, keeps_then, know_does, label_does, meet_does, put_does, stand_does, use_does, wire_does}
 
 abbrev pub StatementDoes : Statement → Type 0

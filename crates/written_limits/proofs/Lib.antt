@@ -3,6 +3,7 @@ pub mod Walks
 pub mod Fields
 pub mod Nodes
 pub mod Checked
+pub mod Splits
 pub mod Whole
 pub mod Bare
 pub mod Shown

@@ -43,12 +43,13 @@ use Rattle.flat_laws.proofs.UsesNames.{found_named, node_of, open_braces}
 use Rattle.flat_laws.proofs.UsesParts.{read-declaration, read-field, read-full, read-item-proto, read-item-route, read-node-statement, read-proto, read-route, read-use}
 use Rattle.written_limits.specs.Parts.{Braces, Entry, Item, Joins, Part, Prototype, entries, gives, in_item, in_statement}
 use Rattle.written_limits.specs.Plain.{IsPlain}
-use Rattle.written_limits.specs.Sound.{AllNamed, AreNamed, AreOnce, IsFlatOrTooLarge, IsOfType, IsSound, SoundDocumentsAreFlat, signed}
+use Rattle.written_limits.specs.Sound.{AllNamed, AreOnce, IsFlatOrTooLarge, IsOfType, IsSound, SoundDocumentsAreFlat, signed}
 use Rattle.written_limits.proofs.Parts.{in_full, in_node_statement, in_proto, part_declaration, part_field, part_proto, part_route}
 use Rattle.written_limits.proofs.Walks.{After, AreSound, Fields, Fits, GoesBack, Quiet, Reads, Same, after_quiet, after_same, each_back, fits_then, fits_through, fits_weaker, meet_quiet, reads_same, sound_both, wire_quiet}
 use Rattle.written_limits.proofs.Fields.{NodeFits, add_declaration_fits, add_given_fits, given_back, numbers}
 use Rattle.written_limits.proofs.Nodes.{Begins, begin_fits, close_fits}
 use Rattle.written_limits.proofs.Checked.{declared_on}
+use Rattle.written_limits.proofs.Splits.{closed_split, named_split}
 
 abbrev FieldsAre : NodeType → List Signature → List Entry → Reading → Reading → Fields → Walk → Type 0
 FieldsAre t ss rest r s fs v = After r v s × AreOnce t ss (numbers fs) rest
@@ -134,14 +135,6 @@ item_proto_layer p h =
     }
 
 -- ---- USE
-
-named_split : (xs ys : List (Option ℕ)) → AreNamed (xs ++ ys) → AreNamed xs × AreNamed ys
-named_split [] ys h = (tt, h)
-named_split (x ∷ xs) ys h = let r = named_split xs ys h.1 in ((h.0, r.0), r.1)
-
-closed_split : (xs ys : List (List (Option ℕ))) → AllByRecursion AreNamed (xs ++ ys) → AllByRecursion AreNamed xs × AllByRecursion AreNamed ys
-closed_split [] ys h = (tt, h)
-closed_split (x ∷ xs) ys h = let r = closed_split xs ys h.1 in ((h.0, r.0), r.1)
 
 stands_back : (name : List ℕ) → GoesBack (λ r. stands (named name r.opened) r)
 stands_back name r n = record { closed = n.closed; here = (named_split r.here (named name r.opened ∷ []) n.here).0 }
