@@ -1,0 +1,4 @@
+pub mod Links
+pub mod Silent
+pub mod Named
+pub mod Whole
