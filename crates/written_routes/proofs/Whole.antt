@@ -77,7 +77,7 @@ all_met s (x ∷ rs) r =
 
 -- ---- a document's scene
 
-abbrev both_ends : FlatEnd → FlatEnd → Shown
+abbrev pub both_ends : FlatEnd → FlatEnd → Shown
 both_ends source target = (source, target)
 
 module _ (scene : SceneView) (rs : List Route) (state : List Fields) where

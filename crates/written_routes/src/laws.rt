@@ -1,5 +1,6 @@
 //! Laws of the routes of a written scene, each the contract of a function that does nothing.
 
+ghost use Rattle.written_routes.specs.Resolved.{WrittenRoutesResolve};
 ghost use Rattle.written_routes.specs.Routes.{WrittenRoutesStay};
 
 use flat_routes::routes_are_read;
@@ -10,6 +11,16 @@ use written_nodes::written_nodes_close;
 /// by the numbers of the scene's nodes and the names of their fields.
 pub fn written_routes_stay()
     ensures { WrittenRoutesStay }
+{
+    labels_are_distinct();
+    written_nodes_close();
+    routes_are_read();
+}
+
+/// These resolve to the scene's routes in each scene that has the nodes of this under the same
+/// numbers, with the same fields.
+pub fn written_routes_resolve()
+    ensures { WrittenRoutesResolve }
 {
     labels_are_distinct();
     written_nodes_close();
