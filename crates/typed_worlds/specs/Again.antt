@@ -1,0 +1,46 @@
+-- That the scene of what is written of a world's scene is that scene again (ISO/IEC 19775-1, scene
+-- graph).
+use Rattle.std.specs.Prelude.{◌≡◌, ℕ, true, List, Ok, Option}
+use Rattle.x3d_values.specs.Stamp.{Stamp}
+use Rattle.flat_document.specs.declared.flat.Flat.{Flat}
+use Rattle.proto_walk.specs.Whole.{flat}
+use Rattle.scene_core.specs.declared.scene.Route.{Route}
+use Rattle.scene_core.specs.Building.{scene_of}
+use Rattle.scene_core.specs.Scene.{SceneView}
+use Rattle.scene_text.specs.Statements.{scene_document}
+use Rattle.script_laws.specs.Nodes.{RunsAll}
+use Rattle.cascade_core.specs.Apply.{world}
+use Rattle.cascade_core.specs.Course.{Scripted}
+use Rattle.share_law.specs.Cascade.{cascade}
+use Rattle.share_law.specs.Network.{Network}
+use Rattle.share_law.specs.Reached.{IsRunning, Reached}
+use Rattle.document_laws.specs.Worlds.{AreInputs}
+use Rattle.text_laws.specs.Opened.{IsOpened}
+use Rattle.scene_round_trip.specs.Written.{has_room}
+use Rattle.scenes_again.specs.Again.{IsWrittenOf}
+
+-- where the scene is written as it stands in a world, and what is written has a flat form of which
+-- there is a scene, this is the scene with what its nodes kept in that world
+abbrev pub IsAgain : SceneView → List Route → Scripted → Type 0
+IsAgain scene routes w =
+    (again : Flat) (next : SceneView)
+    → flat (scene_document scene routes w.world.fields) ≡ Ok again → scene_of again ≡ Ok next
+    → IsWrittenOf scene w.world.fields next
+
+-- so in each world that the scene of a text comes to by inputs in turn, if no chain of nodes gets too
+-- long by the Switch that is written above some of them
+abbrev pub WrittenWorldsAreAgain : Type 0
+WrittenWorldsAreAgain =
+    (text : List ℕ) (f : Flat) (scene : SceneView) (routes : List Route) (inputs : List Stamp)
+    → IsOpened text f scene routes → RunsAll scene → has_room scene ≡ true → AreInputs inputs
+    → IsAgain scene routes (world scene routes inputs)
+
+-- and in that of each viewer that runs, whatever 1 to 16 viewers, their host and their network came
+-- to
+abbrev pub RunningWorldsAreAgain : Type 0
+RunningWorldsAreAgain =
+    (text : List ℕ) (f : Flat) (scene : SceneView) (routes : List Route) (net : Network Scripted)
+    → IsOpened text f scene routes → RunsAll scene → has_room scene ≡ true
+    → Reached (cascade scene routes) net
+    → (viewer : ℕ) (held : Scripted) (window : List (Option Stamp))
+    → IsRunning net viewer held window → IsAgain scene routes held

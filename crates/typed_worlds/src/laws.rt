@@ -1,0 +1,37 @@
+//! Laws of what nodes keep in worlds, each the contract of a function that does nothing.
+
+ghost use Rattle.typed_worlds.specs.Again.{RunningWorldsAreAgain, WrittenWorldsAreAgain};
+ghost use Rattle.typed_worlds.specs.Typed.{FittingAreOfType};
+ghost use Rattle.typed_worlds.specs.Typed.{RunningWorldsAreOfType, WorldsAreOfType};
+
+use distinct_fields::fields_are_distinct;
+use scene_round_trip::{expanded_are_named, scenes_are_writable};
+use scenes_again::{writable_scenes_are_sound, written_scenes_are_again};
+use written_worlds::fitting_worlds_are_kept;
+
+/// In a world where each value is in the range of its field, what a node keeps of a field is of the
+/// field's type.
+pub fn fitting_worlds_are_typed()
+    ensures { FittingAreOfType }
+{}
+
+/// So it is in each world that the scene of a text comes to by inputs in turn, and in that of each
+/// running viewer.
+pub fn worlds_are_typed()
+    ensures reached { WorldsAreOfType }
+    ensures running { RunningWorldsAreOfType }
+{}
+
+/// The scene of what is written of the scene of such a world, where there is one, is that scene,
+/// with what its nodes kept.
+pub fn written_worlds_are_again()
+    ensures reached { WrittenWorldsAreAgain }
+    ensures running { RunningWorldsAreAgain }
+{
+    expanded_are_named();
+    scenes_are_writable();
+    fitting_worlds_are_kept();
+    fields_are_distinct();
+    writable_scenes_are_sound();
+    written_scenes_are_again();
+}
