@@ -1,7 +1,7 @@
+pub mod Nodes
 pub mod Okay
 pub mod Opening
-pub mod Standing
 pub mod Present
 pub mod Reading
-pub mod Nodes
+pub mod Standing
 pub mod Whole

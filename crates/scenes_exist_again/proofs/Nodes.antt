@@ -1,8 +1,6 @@
 -- The nodes of the flat form of a written scene are read without a fault.
 use Rattle.std.proofs.Common.{◌≡◌, ℕ, zero, suc, ◌+◌, ◌<◌, ◌≤◌, ◌==◌, Bool, true, false, if◌then◌else◌, List, [], ◌∷◌, ◌++◌, length, map, take, Option, Some, None, Ok, slice_get, refl, sym, ap, subst, ◌∙◌, arith, eqb-true}
 use Rattle.std.specs.List.{AllByRecursion, range_with_len}
-use Rattle.x3d_values.specs.declared.default.FieldDefault.{FieldDefault}
-use Rattle.x3d_values.specs.declared.field_type.FieldType.{FieldType}
 use Rattle.x3d_values.specs.declared.field_type.FieldType.TheVariants as types
 use Rattle.x3d_values.specs.declared.fields.Fields.{Fields}
 use Rattle.x3d_values.specs.declared.node_type.NodeKind.{NodeKind}
@@ -13,7 +11,7 @@ use Rattle.x3d_values.specs.declared.value.Value.{Value}
 use Rattle.x3d_values.specs.declared.value.Value.TheVariants.{MFNode}
 use Rattle.x3d_values.specs.Access.{is_initial}
 use Rattle.x3d_values.specs.Tables.{AreTyped, Entry, rows}
-use Rattle.x3d_values.specs.Values.{nodes_of, type_of}
+use Rattle.x3d_values.specs.Values.{nodes_of}
 use Rattle.classic_tree.specs.declared.tree.Declaration.{Declaration}
 use Rattle.flat_document.specs.declared.flat.Flat.{Flat}
 use Rattle.flat_document.specs.declared.flat.FlatField.{FlatField}
@@ -29,7 +27,6 @@ use Rattle.scene_core.specs.Parts.{given}
 use Rattle.scene_core.specs.Scene.{SceneView, declared_at, rows_at}
 use Rattle.scene_core.specs.Shape.{declaration_entry, declared_by, declared_entry, is_rotation, most_declared, numbered_fields}
 use Rattle.scene_core.specs.Typed.{declared_from, declared_value, field_value, takes, values_from, values_of}
-use Rattle.scene_text.specs.Defaulted.{is_default}
 use Rattle.numbered_scenes.specs.Again.{in_place}
 use Rattle.numbered_scenes.proofs.Lists.{index_is, some_is, within}
 use Rattle.numbered_scenes.proofs.Scenes.{found, numbers_of}
@@ -46,7 +43,7 @@ use Rattle.scenes_again.specs.Sound.{AreOfType, AreSound}
 use Rattle.scenes_again.proofs.Given.{declared_given, given_by, row_given}
 use Rattle.scenes_again.proofs.Holding.{Holds, declared_holds}
 use Rattle.scenes_again.proofs.Made.{behind, front, value_in}
-use Rattle.scenes_again.proofs.Numbered.{IsAgain, IsLast, again_is, last_is, many, numbered_in_place}
+use Rattle.scenes_again.proofs.Numbered.{IsAgain, again_is, last_is, many, numbered_in_place}
 use Rattle.scenes_again.proofs.Places.{mapped_at, range_at}
 use Rattle.scenes_again.proofs.Present.{declaration_at, declared_by_node, made_of, now_fits, now_holds, rows_by_node}
 use Rattle.scenes_again.proofs.Reading.{IsFit}

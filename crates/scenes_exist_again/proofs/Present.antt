@@ -1,5 +1,5 @@
 -- What is written of the fields of a scene may stand in them.
-use Rattle.std.proofs.Common.{◌≡◌, ℕ, ◌+◌, ◌<◌, Bool, true, false, not, ◌&&◌, if◌then◌else◌, List, [], map, Option, Some, None, Ok, length, slice_get, refl, sym, ap, subst, ◌∙◌, ◌⊎◌, inl, inr, arith}
+use Rattle.std.proofs.Common.{◌≡◌, ℕ, ◌<◌, Bool, true, false, not, ◌&&◌, if◌then◌else◌, List, Option, Some, None, Ok, length, slice_get, refl, sym, ap, subst, ◌∙◌, ◌⊎◌, inl, inr, arith}
 use Rattle.std.specs.Prelude.{option_map}
 use Rattle.std.specs.List.{AllByRecursion}
 use Rattle.std.specs.Option.{option_and_then, option_or}
@@ -9,7 +9,6 @@ use Rattle.x3d_values.specs.declared.field_type.Access.{Access}
 use Rattle.x3d_values.specs.declared.field_type.Access.TheVariants as access
 use Rattle.x3d_values.specs.declared.field_type.FieldType.{FieldType}
 use Rattle.x3d_values.specs.declared.fields.Fields.{Fields}
-use Rattle.x3d_values.specs.declared.node_type.NodeType.{NodeType}
 use Rattle.x3d_values.specs.declared.value.Value.{Value}
 use Rattle.x3d_values.specs.Access.{holds_nodes, is_exposed, is_initial, is_kept}
 use Rattle.x3d_values.specs.Defaults.{default_value}
@@ -24,7 +23,6 @@ use Rattle.scene_core.specs.Scene.{SceneView, type_at, value_at}
 use Rattle.scene_core.specs.Typed.{default_of}
 use Rattle.scene_text.specs.Defaulted.{is_default}
 use Rattle.scene_text.specs.Tree.{kept_value}
-use Rattle.numbered_scenes.proofs.Lists.{some_is}
 use Rattle.numbered_scenes.proofs.Lower.{children_lower}
 use Rattle.numbered_scenes.proofs.Scenes.{found}
 use Rattle.scene_round_trip.specs.Defaults.{DefaultsAreLeftOut}

@@ -1,12 +1,11 @@
 -- What the fields of a document's scene were given: values in their ranges, and nodes of their
 -- kinds.
-use Rattle.std.proofs.Common.{◌≡◌, ℕ, zero, suc, ◌+◌, ◌<◌, Bool, true, false, not, ◌&&◌, if◌then◌else◌, List, [], ◌∷◌, ◌++◌, codes, nat_eq, length, map, Option, Some, None, Result, Ok, Err, slice_get, refl, sym, ap, subst, ◌∙◌, ◌⊎◌, inl, inr, arith}
+use Rattle.std.proofs.Common.{◌≡◌, ℕ, zero, suc, ◌+◌, Bool, true, false, not, ◌&&◌, if◌then◌else◌, List, [], ◌∷◌, ◌++◌, codes, nat_eq, length, map, Option, Some, None, Result, Ok, Err, slice_get, refl, sym, ap, subst, ◌∙◌, ◌⊎◌, inl, inr, arith}
 use Rattle.std.specs.Cmp.Lexicographic.{pointwise}
 use Rattle.std.specs.List.{AllByRecursion, list_all}
 use Rattle.std.specs.Option.{option_map_or}
 use denote.Enum.Bare.{sameb}
 use Rattle.x3d_values.specs.contracts.node_type.NodeKind as kinds
-use Rattle.x3d_values.specs.declared.field_type.Access.{Access}
 use Rattle.x3d_values.specs.declared.node_type.NodeKind.{NodeKind}
 use Rattle.x3d_values.specs.declared.node_type.NodeKind.TheVariants.{Child}
 use Rattle.x3d_values.specs.declared.node_type.NodeType.{NodeType}
@@ -22,20 +21,19 @@ use Rattle.scene_values.specs.Typing.{called, typed}
 use Rattle.scene_values.specs.Rotations.{checked_rotation}
 use Rattle.scene_core.specs.declared.fault.SceneFault.{SceneFault}
 use Rattle.scene_core.specs.declared.fault.SceneFaultKind.TheVariants.{BadChild, NotInitial, ValueRange}
-use Rattle.scene_core.specs.declared.numbering.Numbering.{Numbering}
 use Rattle.scene_core.specs.declared.scene.SceneNode.{SceneNode}
 use Rattle.scene_core.specs.Building.{limits, nodes_of as nodes_made, scene_of}
 use Rattle.scene_core.specs.Faults.{fault, ◌>>=◌}
 use Rattle.scene_core.specs.Parts.{given, inner_nodes, parts, parts_from, parts_in, parts_of}
 use Rattle.scene_core.specs.Scene.{SceneView, value_at}
 use Rattle.scene_core.specs.Shape.{declaration_entry, is_rotation, numbered_fields}
-use Rattle.scene_core.specs.Typed.{accepted, accepted_in_range, all_children, all_taken, at_line, child, default_of, dropped_rotation, field_value, in_range, takes, typed_value}
+use Rattle.scene_core.specs.Typed.{accepted_in_range, all_children, all_taken, at_line, child, default_of, dropped_rotation, field_value, in_range, takes, typed_value}
 use Rattle.numbered_scenes.proofs.Inner.{bind_is, inner_if, line_is, scene_ok_is, typed_nodes}
-use Rattle.numbered_scenes.proofs.Lists.{In, all_in, in_append, in_back, in_front, in_map, some_is, within}
+use Rattle.numbered_scenes.proofs.Lists.{In, all_in, in_back, in_front, in_map, some_is, within}
 use Rattle.numbered_scenes.proofs.Lower.{called_is, inside_has, root_has}
-use Rattle.numbered_scenes.proofs.Scenes.{IsMade, IsSceneOf, alone_in, found, numbers_of, scene_is}
+use Rattle.numbered_scenes.proofs.Scenes.{IsSceneOf, alone_in, found, numbers_of, scene_is}
 use Rattle.numbered_scenes.proofs.Visits.{Edge, Has}
-use Rattle.scenes_again.proofs.Made.{IsNode, IsRowMade, node_is, value_in}
+use Rattle.scenes_again.proofs.Made.{IsNode, node_is, value_in}
 use Rattle.scenes_again.proofs.Present.{value_by_node}
 
 -- a node of that type goes into a field of that kind
