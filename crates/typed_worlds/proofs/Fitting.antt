@@ -1,5 +1,5 @@
 -- What the nodes of a world that fits keep is of their fields' types.
-use Rattle.std.proofs.Common.{◌≡◌, ℕ, zero, suc, ◌+◌, Bool, true, false, ◌&&◌, if◌then◌else◌, List, [], ◌∷◌, ◌++◌, Option, Some, slice_get, refl, sym, ap, subst, ◌∙◌, arith, eqb-true}
+use Rattle.std.proofs.Common.{◌≡◌, ℕ, zero, suc, ◌+◌, Bool, true, false, ◌&&◌, if◌then◌else◌, List, [], ◌∷◌, ◌++◌, length, ◌==◌, Option, Some, slice_get, refl, sym, ap, subst, ◌∙◌, arith, eqb-true}
 use Rattle.std.specs.Option.{option_and_then, option_map, option_map_or}
 use Rattle.byte_codec.proofs.Laws.{both}
 use Rattle.x3d_values.specs.declared.field_type.Access.{Access}
@@ -11,6 +11,7 @@ use Rattle.x3d_values.specs.declared.node_type.NodeType.{NodeType}
 use Rattle.x3d_values.specs.declared.node_type.NodeType.TheVariants.{TimeSensor}
 use Rattle.x3d_values.specs.declared.value.Value.{Value}
 use Rattle.x3d_values.specs.declared.value.Value.TheVariants as value
+use Rattle.x3d_values.specs.Access.{is_kept}
 use Rattle.x3d_values.specs.Kept.{field_value}
 use Rattle.x3d_values.specs.Tables.{Entry, rows}
 use Rattle.x3d_values.specs.Values.{type_of}
@@ -18,10 +19,11 @@ use Rattle.snapshot_codec.specs.declared.kept.KeptField.TheVariants.{Absent, Int
 use Rattle.snapshot_codec.specs.Fields.{has_bytes, is_interval, is_positive, kept_field, kept_fits}
 use Rattle.snapshot_codec.specs.Values.{value_fits}
 use Rattle.sensor_core.specs.Touches.{Touch}
-use Rattle.scene_core.specs.Scene.{shapes_of}
+use Rattle.scene_core.specs.Scene.{SceneView, rows_at, shapes_of}
 use Rattle.scene_core.specs.Shape.{Shape, rows_of}
+use Rattle.cascade_core.specs.declared.world.WorldData.{WorldData}
 use Rattle.answer_laws.specs.Ranges.{fields_fit, position_fits, values_fit}
-use Rattle.world_laws.specs.Fits.{node_fits, nodes_fit, pointers_fit, time_fits}
+use Rattle.world_laws.specs.Fits.{WorldFits, node_fits, nodes_fit, pointers_fit, time_fits}
 use Rattle.typed_worlds.specs.Typed.{FittingAreOfType}
 
 -- ---- values
@@ -80,23 +82,38 @@ interval_is TimeSensor declared number e at h =
     sym (some_is types.SFTime e.field_type (ap (λ (o : Option Entry). option_map (λ (row : Entry). row.field_type) o) here))
 interval_is _ declared number e at h = absurd cc
 
-field_typed : (t : NodeType) (n : ℕ) (a : Access) (field_type : FieldType) (v : Value) → (is_interval t n ≡ true → field_type ≡ types.SFTime)
-    → kept_fits (kept_field t n a field_type) (Some v) ≡ true → type_of v ≡ field_type
+-- what has bytes is kept, where it is an inputOutput field
+bytes_kept : (t : FieldType) → has_bytes t ≡ true → is_kept InputOutput t ≡ true
+bytes_kept types.SFNode h = absurd cc
+bytes_kept types.MFNode h = absurd cc
+bytes_kept types.SFRotation h = absurd cc
+bytes_kept _ h = refl
+
+field_held : (t : NodeType) (n : ℕ) (a : Access) (field_type : FieldType) (v : Value) → (is_interval t n ≡ true → field_type ≡ types.SFTime)
+    → kept_fits (kept_field t n a field_type) (Some v) ≡ true → (type_of v ≡ field_type) × (is_kept a field_type ≡ true)
 unfolding kept_fits
-field_typed t n InputOutput field_type v k h = by_interval (is_interval t n) (has_bytes field_type) refl h where
-  by_interval : (b c : Bool) → is_interval t n ≡ b → kept_fits (if b then Interval else (if c then Typed field_type else Absent)) (Some v) ≡ true → type_of v ≡ field_type
-  by_interval true c e f = value_typed types.SFTime v (both (value_fits types.SFTime v) (is_positive v) f).0 ∙ sym (k e)
-  by_interval false true e f = value_typed field_type v f
-  by_interval false false e f = absurd cc
-field_typed t n InputOnly field_type v k h = absurd cc
-field_typed t n OutputOnly field_type v k h = absurd cc
-field_typed t n InitializeOnly field_type v k h = absurd cc
+field_held t n InputOutput field_type v k h = by_interval (is_interval t n) (has_bytes field_type) refl refl h where
+  by_interval : (b c : Bool) → is_interval t n ≡ b → has_bytes field_type ≡ c
+      → kept_fits (if b then Interval else (if c then Typed field_type else Absent)) (Some v) ≡ true → (type_of v ≡ field_type) × (is_kept InputOutput field_type ≡ true)
+  by_interval true c e g f = (
+    value_typed types.SFTime v (both (value_fits types.SFTime v) (is_positive v) f).0 ∙ sym (k e),
+    subst (λ (x : FieldType). is_kept InputOutput x ≡ true) (sym (k e)) refl,
+  )
+  by_interval false true e g f = (value_typed field_type v f, bytes_kept field_type g)
+  by_interval false false e g f = absurd cc
+field_held t n InputOnly field_type v k h = absurd cc
+field_held t n OutputOnly field_type v k h = absurd cc
+field_held t n InitializeOnly field_type v k h = absurd cc
 
 -- ---- the fields of a node
 
--- what its row says of the field of that number, the first of them being the n-th
+-- what its row says of the field of that number
 abbrev Keeps : NodeType → ℕ → Entry → Value → Type 0
 Keeps t n e v = kept_fits (kept_field t n e.access e.field_type) (Some v) ≡ true
+
+-- there is a row for a value that is kept, the first of the rows having number n
+abbrev HasRow : NodeType → ℕ → List Entry → ℕ → Value → Type 0
+HasRow t n es number v = (e : Entry) × (slice_get es number ≡ Some e) × Keeps t (n + number) e v
 
 same_place : (n : ℕ) → n ≡ n + zero
 same_place n = omega arith
@@ -107,42 +124,56 @@ next_place n k = omega arith
 from_zero : (n : ℕ) → zero + n ≡ n
 from_zero n = omega arith
 
-keeps_at : (t : NodeType) (n : ℕ) (es : List Entry) (vs : List (Option Value)) (number : ℕ) (e : Entry) (v : Value)
-    → values_fit t n es vs ≡ true → slice_get es number ≡ Some e → option_and_then (λ o. o) (slice_get vs number) ≡ Some v → Keeps t (n + number) e v
-keeps_at t n [] vs number e v f at held = absurd cc
-keeps_at t n (row ∷ es) [] number e v f at held = absurd cc
-keeps_at t n (row ∷ es) (o ∷ vs) zero e v f at held =
+has_row : (t : NodeType) (n : ℕ) (es : List Entry) (vs : List (Option Value)) (number : ℕ) (v : Value)
+    → values_fit t n es vs ≡ true → option_and_then (λ o. o) (slice_get vs number) ≡ Some v → HasRow t n es number v
+has_row t n es [] number v f held = absurd cc
+has_row t n [] (o ∷ vs) number v f held = absurd cc
+has_row t n (row ∷ es) (o ∷ vs) zero v f held =
     let b = both (kept_fits (kept_field t n row.access row.field_type) o) (values_fit t (n + 1) es vs) f in
     let here : Keeps t n row v = subst (λ (x : Option Value). kept_fits (kept_field t n row.access row.field_type) x ≡ true) held b.0 in
-    subst (λ (m : ℕ). Keeps t m e v) (same_place n) (subst (λ (x : Entry). Keeps t n x v) (some_is row e at) here)
-keeps_at t n (row ∷ es) (o ∷ vs) (suc number) e v f at held =
+    (row, refl, subst (λ (m : ℕ). Keeps t m row v) (same_place n) here)
+has_row t n (row ∷ es) (o ∷ vs) (suc number) v f held =
     let b = both (kept_fits (kept_field t n row.access row.field_type) o) (values_fit t (n + 1) es vs) f in
-    subst (λ (m : ℕ). Keeps t m e v) (next_place n number) (keeps_at t (n + 1) es vs number e v b.1 at held)
+    let r = has_row t (n + 1) es vs number v b.1 held in
+    (r.0, r.1, subst (λ (m : ℕ). Keeps t m r.0 v) (next_place n number) r.2)
 
-node_typed : (s : Shape) (fields : Fields) (cycle : Option ℕ) (touch : Touch) (number : ℕ) (e : Entry) (v : Value)
-    → node_fits s fields cycle touch ≡ true → slice_get (rows_of s) number ≡ Some e → field_value fields number ≡ Some v → type_of v ≡ e.field_type
-node_typed s fields cycle touch number e v f at held =
+-- the value is one of a field of these that is kept
+abbrev pub IsHeld : List Entry → ℕ → Value → Type 0
+IsHeld es number v = (e : Entry) × (slice_get es number ≡ Some e) × (type_of v ≡ e.field_type) × (is_kept e.access e.field_type ≡ true)
+
+node_held : (s : Shape) (fields : Fields) (cycle : Option ℕ) (touch : Touch) (number : ℕ) (v : Value)
+    → node_fits s fields cycle touch ≡ true → field_value fields number ≡ Some v → IsHeld (rows_of s) number v
+node_held s fields cycle touch number v f held =
     let b = both (fields_fit s.node_type s.declared fields) (time_fits s.node_type cycle && pointers_fit s.node_type touch) f in
     let c = both (values_fit s.node_type 0 (rows s.node_type ++ s.declared) fields.values) (position_fits s.node_type fields.position) b.0 in
-    let keeps : Keeps s.node_type (0 + number) e v = keeps_at s.node_type 0 (rows s.node_type ++ s.declared) fields.values number e v c.0 at held in
-    field_typed s.node_type number e.access e.field_type v (interval_is s.node_type s.declared number e at)
-    (subst (λ (m : ℕ). Keeps s.node_type m e v) (from_zero number) keeps)
+    let r : HasRow s.node_type 0 (rows s.node_type ++ s.declared) number v = has_row s.node_type 0 (rows s.node_type ++ s.declared) fields.values number v c.0 held in
+    let h = field_held s.node_type number r.0.access r.0.field_type v (interval_is s.node_type s.declared number r.0 r.1)
+    (subst (λ (m : ℕ). Keeps s.node_type m r.0 v) (from_zero number) r.2) in
+    (r.0, r.1, h.0, h.1)
 
 -- ---- nodes
 
-nodes_typed : (shapes : List Shape) (fs : List Fields) (cs : List (Option ℕ)) (us : List Touch) → nodes_fit shapes fs cs us ≡ true
-    → (n number : ℕ) (e : Entry) (fields : Fields) (v : Value) → slice_get (option_map_or rows_of (slice_get shapes n) []) number ≡ Some e
-    → slice_get fs n ≡ Some fields → field_value fields number ≡ Some v → type_of v ≡ e.field_type
-nodes_typed shapes [] cs us f n number e fields v row at held = absurd cc
-nodes_typed [] (x ∷ fs) cs us f n number e fields v row at held = absurd cc
-nodes_typed (s ∷ shapes) (x ∷ fs) [] us f n number e fields v row at held = absurd cc
-nodes_typed (s ∷ shapes) (x ∷ fs) (c ∷ cs) [] f n number e fields v row at held = absurd cc
-nodes_typed (s ∷ shapes) (x ∷ fs) (c ∷ cs) (u ∷ us) f zero number e fields v row at held =
+nodes_held : (shapes : List Shape) (fs : List Fields) (cs : List (Option ℕ)) (us : List Touch) → nodes_fit shapes fs cs us ≡ true
+    → (n number : ℕ) (fields : Fields) (v : Value) → slice_get fs n ≡ Some fields → field_value fields number ≡ Some v
+    → IsHeld (option_map_or rows_of (slice_get shapes n) []) number v
+nodes_held shapes [] cs us f n number fields v at held = absurd cc
+nodes_held [] (x ∷ fs) cs us f n number fields v at held =
+    let none = eqb-true (length (x ∷ fs)) 0 (both (length (x ∷ fs) == 0) ((length cs == 0) && (length us == 0)) f).0 in
+    absurd (omega (arith, none))
+nodes_held (s ∷ shapes) (x ∷ fs) [] us f n number fields v at held = absurd cc
+nodes_held (s ∷ shapes) (x ∷ fs) (c ∷ cs) [] f n number fields v at held = absurd cc
+nodes_held (s ∷ shapes) (x ∷ fs) (c ∷ cs) (u ∷ us) f zero number fields v at held =
     let b = both (node_fits s x c u) (nodes_fit shapes fs cs us) f in
-    node_typed s fields c u number e v (subst (λ (y : Fields). node_fits s y c u ≡ true) (some_is x fields at) b.0) row held
-nodes_typed (s ∷ shapes) (x ∷ fs) (c ∷ cs) (u ∷ us) f (suc n) number e fields v row at held =
+    node_held s fields c u number v (subst (λ (y : Fields). node_fits s y c u ≡ true) (some_is x fields at) b.0) held
+nodes_held (s ∷ shapes) (x ∷ fs) (c ∷ cs) (u ∷ us) f (suc n) number fields v at held =
     let b = both (node_fits s x c u) (nodes_fit shapes fs cs us) f in
-    nodes_typed shapes fs cs us b.1 n number e fields v row at held
+    nodes_held shapes fs cs us b.1 n number fields v at held
+
+pub fitting_held : (scene : SceneView) (w : WorldData) → WorldFits (shapes_of scene) w → (n number : ℕ) (fields : Fields) (v : Value)
+    → slice_get w.fields n ≡ Some fields → field_value fields number ≡ Some v → IsHeld (rows_at scene n) number v
+fitting_held scene w fits = nodes_held (shapes_of scene) w.fields w.sensors w.touches fits.nodes
 
 pub fitting_typed : FittingAreOfType
-fitting_typed scene w fits = nodes_typed (shapes_of scene) w.fields w.sensors w.touches fits.nodes
+fitting_typed scene w fits n number e fields v at here held =
+    let r : IsHeld (rows_at scene n) number v = fitting_held scene w fits n number fields v here held in
+    r.2 ∙ ap (λ (x : Entry). x.field_type) (some_is r.0 e (sym r.1 ∙ at))

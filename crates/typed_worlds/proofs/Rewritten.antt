@@ -1,9 +1,13 @@
 -- The scene of what is written of a world that was reached is the scene, with what its nodes keep.
-use Rattle.std.proofs.Common.{◌≡◌, ℕ, ◌^◌, ◌≤◌, true, List, length, arith}
+use Rattle.std.proofs.Common.{◌≡◌, ℕ, ◌^◌, ◌≤◌, true, List, length, Option, Some, None, slice_get, refl, arith}
+use Rattle.std.specs.Option.{option_and_then}
+use Rattle.x3d_values.specs.declared.fields.Fields.{Fields}
+use Rattle.x3d_values.specs.declared.value.Value.{Value}
+use Rattle.x3d_values.specs.Kept.{field_value}
 use Rattle.classic_text.proofs.Documents.{is_spelled}
 use Rattle.flat_document.specs.declared.flat.Flat.{Flat}
 use Rattle.scene_core.specs.declared.scene.Route.{Route}
-use Rattle.scene_core.specs.Scene.{SceneView, shapes_of}
+use Rattle.scene_core.specs.Scene.{SceneView, rows_at, shapes_of}
 use Rattle.cascade_core.specs.Apply.{world}
 use Rattle.cascade_core.specs.Course.{Scripted}
 use Rattle.world_laws.specs.Fits.{ScriptedFits}
@@ -15,9 +19,10 @@ use Rattle.scene_round_trip.specs.Written.{ScenesAreWritable, has_room}
 use Rattle.written_worlds.specs.Kept.{FittingAreKeepable}
 use Rattle.distinct_fields.specs.Scenes.{FieldsAreDistinct}
 use Rattle.scenes_again.specs.Again.{WrittenScenesAreAgain}
+use Rattle.scenes_again.specs.Begins.{KeptAgain, kept_of}
 use Rattle.scenes_again.specs.Sound.{AreSound, WritableScenesAreSound}
-use Rattle.typed_worlds.specs.Again.{IsAgain, RunningWorldsAreAgain, WrittenWorldsAreAgain}
-use Rattle.typed_worlds.proofs.Fitting.{fitting_typed}
+use Rattle.typed_worlds.specs.Again.{IsAgain, IsKeptAgain, RunningWorldsAreAgain, RunningWorldsAreKeptAgain, WorldsAreKeptAgain, WrittenWorldsAreAgain}
+use Rattle.typed_worlds.proofs.Fitting.{IsHeld, fitting_held, fitting_typed}
 use Rattle.typed_worlds.proofs.Held.{running_fits}
 use Rattle.typed_worlds.proofs.Lines.{but_lines}
 
@@ -42,3 +47,24 @@ module _ (named : ExpandedAreNamed) (writable : ScenesAreWritable) (keepable : F
   pub running_again : RunningWorldsAreAgain
   running_again text f scene routes net o run room reached viewer held window r =
       fitting_again text f scene routes o room held (running_fits text f scene routes net o run reached viewer held window r)
+
+-- ---- what was kept is kept again
+
+held_in : (scene : SceneView) (w : Scripted) → ScriptedFits scene w → (n field : ℕ) (v : Value) → kept_of w.world.fields n field ≡ Some v → IsHeld (rows_at scene n) field v
+held_in scene w fits n field v held = by_node (slice_get w.world.fields n) refl held where
+  by_node : (o : Option Fields) → slice_get w.world.fields n ≡ o → option_and_then (λ (fields : Fields). field_value fields field) o ≡ Some v → IsHeld (rows_at scene n) field v
+  by_node None at h = absurd cc
+  by_node (Some fields) at h = fitting_held scene w.world fits.world n field fields v at h
+
+kept_by : KeptAgain → (scene : SceneView) (routes : List Route) (w : Scripted) → ScriptedFits scene w → IsAgain scene routes w → IsKeptAgain scene routes w
+kept_by law scene routes w fits again flat_again next is_flat is_next n field v held =
+    let r : IsHeld (rows_at scene n) field v = held_in scene w fits n field v held in
+    law scene w.world.fields next (again flat_again next is_flat is_next) n field r.0 v r.1 r.3 held
+
+pub worlds_kept : KeptAgain → WrittenWorldsAreAgain → WorldsAreKeptAgain
+worlds_kept law again text f scene routes inputs o run room i =
+    kept_by law scene routes (world scene routes inputs) (worlds_fit text f scene routes inputs o run i) (again text f scene routes inputs o run room i)
+
+pub running_kept : KeptAgain → RunningWorldsAreAgain → RunningWorldsAreKeptAgain
+running_kept law again text f scene routes net o run room reached viewer held window r =
+    kept_by law scene routes held (running_fits text f scene routes net o run reached viewer held window r) (again text f scene routes net o run room reached viewer held window r)

@@ -1,12 +1,13 @@
 //! Laws of what nodes keep in worlds, each the contract of a function that does nothing.
 
-ghost use Rattle.typed_worlds.specs.Again.{RunningWorldsAreAgain, WrittenWorldsAreAgain};
+ghost use Rattle.typed_worlds.specs.Again.{RunningWorldsAreAgain, RunningWorldsAreKeptAgain};
+ghost use Rattle.typed_worlds.specs.Again.{WorldsAreKeptAgain, WrittenWorldsAreAgain};
 ghost use Rattle.typed_worlds.specs.Typed.{FittingAreOfType};
 ghost use Rattle.typed_worlds.specs.Typed.{RunningWorldsAreOfType, WorldsAreOfType};
 
 use distinct_fields::fields_are_distinct;
 use scene_round_trip::{expanded_are_named, scenes_are_writable};
-use scenes_again::{writable_scenes_are_sound, written_scenes_are_again};
+use scenes_again::{values_are_kept_again, writable_scenes_are_sound, written_scenes_are_again};
 use written_worlds::fitting_worlds_are_kept;
 
 /// In a world where each value is in the range of its field, what a node keeps of a field is of the
@@ -34,4 +35,13 @@ pub fn written_worlds_are_again()
     fields_are_distinct();
     writable_scenes_are_sound();
     written_scenes_are_again();
+}
+
+/// What the nodes of such a world kept they keep in the scene that is read again, before any event.
+pub fn worlds_are_kept_again()
+    ensures reached { WorldsAreKeptAgain }
+    ensures running { RunningWorldsAreKeptAgain }
+{
+    values_are_kept_again();
+    written_worlds_are_again();
 }

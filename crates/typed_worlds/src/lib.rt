@@ -4,4 +4,6 @@
 
 mod laws;
 
-pub use laws::{fitting_worlds_are_typed, worlds_are_typed, written_worlds_are_again};
+pub use laws::{
+    fitting_worlds_are_typed, worlds_are_kept_again, worlds_are_typed, written_worlds_are_again,
+};
