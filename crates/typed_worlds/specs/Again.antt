@@ -29,8 +29,8 @@ IsAgain scene routes w =
     → flat (scene_document scene routes w.world.fields) ≡ Ok again → scene_of again ≡ Ok next
     → IsWrittenOf scene w.world.fields next
 
--- so in each world that the scene of a text comes to by inputs in turn, if no chain of nodes gets too
--- long by the Switch that is written above some of them
+-- so in each world that the scene of a text comes to by inputs in turn, if no chain of nodes gets
+-- too long by the Switch that is written above some of them
 abbrev pub WrittenWorldsAreAgain : Type 0
 WrittenWorldsAreAgain =
     (text : List ℕ) (f : Flat) (scene : SceneView) (routes : List Route) (inputs : List Stamp)
