@@ -53,8 +53,8 @@ Stays scene routes state = IsTooLarge scene routes state ⊎ IsReadAgain scene r
 
 -- ---- the law
 
--- so in each world that the scene of a text comes to by inputs in turn, if no chain of nodes gets too
--- long by the Switch that is written above some of them
+-- so in each world that the scene of a text comes to by inputs in turn, if no chain of nodes gets
+-- too long by the Switch that is written above some of them
 abbrev pub WorldsStay : Type 0
 WorldsStay =
     (text : List ℕ) (f : Flat) (scene : SceneView) (routes : List Route) (inputs : List Stamp)
