@@ -14,7 +14,8 @@ use Rattle.proto_steps.specs.Routes.{add_wire, wire}
 use Rattle.proto_steps.specs.declared.held.PlacedNode.{PlacedNode}
 use Rattle.flat_laws.specs.Closings.{Braces, IsOfNode}
 use Rattle.flat_laws.specs.Order.{nodes_in}
-use Rattle.flat_laws.specs.Uses.{Opened, Reading, Step, each, some}
+use Rattle.flat_laws.specs.Readings.{Step, each}
+use Rattle.flat_laws.specs.Uses.{Opened, Reading, some}
 use Rattle.flat_laws.proofs.UsesNames.{found}
 
 -- ---- what was put in
@@ -135,7 +136,7 @@ all_first [] ys h = (tt, h)
 all_first (x ∷ xs) ys h = let r = all_first xs ys h.1 in ((h.0, r.0), r.1)
 
 -- parts in turn, over what changes on the way
-module _ {A X : Type 0} (OfPart : A → Type 0) (braces : A → List Braces) (read : A → Step) (f : A → X → Machine X) (P : X → Walk → Reading → Type 0)
+module _ {A X : Type 0} (OfPart : A → Type 0) (braces : A → List Braces) (read : A → Step Reading) (f : A → X → Machine X) (P : X → Walk → Reading → Type 0)
     (k : (a : A) (x : X) (w : Walk) (r : Reading) → OfPart a → AllByRecursion IsOfNode (braces a) → Reads w r → P x w r → Ends (λ y v. After w r v (read a r) × P y v (read a r)) (f a x w)) where
   pub ends_through : (parts : List A) (x : X) (w : Walk) (r : Reading) → AllByRecursion OfPart parts → AllByRecursion IsOfNode (flat_map braces parts) → Reads w r → P x w r →
       Ends (λ y v. After w r v (each read parts r) × P y v (each read parts r)) (through f parts x w)

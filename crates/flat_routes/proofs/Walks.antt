@@ -16,7 +16,8 @@ use Rattle.proto_steps.specs.Routes.{add_wire, source_tip, target_tip, wire}
 use Rattle.flat_laws.specs.Closings.{Braces, IsOfNode}
 use Rattle.flat_laws.specs.Uses.{Opened}
 use Rattle.flat_laws.proofs.UsesWalks.{Ends, ends_if, ends_then, ends_weaker}
-use Rattle.flat_routes.specs.Routes.{ReadEnd, ReadRoute, Reading, Step, each, last_from, read_end, routes}
+use Rattle.flat_laws.specs.Readings.{Step, each}
+use Rattle.flat_routes.specs.Routes.{ReadEnd, ReadRoute, Reading, last_from, read_end, routes}
 use Rattle.flat_routes.proofs.Places.{IsWithin, get_last, last_within}
 
 -- ---- what was put in
@@ -113,7 +114,7 @@ all_first [] ys h = (tt, h)
 all_first (x ∷ xs) ys h = let r = all_first xs ys h.1 in ((h.0, r.0), r.1)
 
 -- parts in turn, over what changes on the way
-module _ {A X : Type 0} (OfPart : A → Type 0) (braces : A → List Braces) (read : A → Step) (f : A → X → Machine X)
+module _ {A X : Type 0} (OfPart : A → Type 0) (braces : A → List Braces) (read : A → Step Reading) (f : A → X → Machine X)
     (k : (a : A) (x : X) (w : Walk) (r : Reading) → OfPart a → AllByRecursion IsOfNode (braces a) → Reads w r → Ends (λ _ v. After r v (read a r)) (f a x w)) where
   pub ends_through : (parts : List A) (x : X) (w : Walk) (r : Reading) → AllByRecursion OfPart parts → AllByRecursion IsOfNode (flat_map braces parts) → Reads w r →
       Ends (λ _ v. After r v (each read parts r)) (through f parts x w)
