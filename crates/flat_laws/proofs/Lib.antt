@@ -19,6 +19,8 @@ pub mod LinesNodes
 pub mod LinesTrees
 pub mod LinesFlat
 pub mod UsesNames
+pub mod UsesQuiet
+pub mod UsesGiven
 pub mod UsesWalks
 pub mod UsesFields
 pub mod UsesNodes

@@ -11,7 +11,7 @@ use Rattle.classic_tree.specs.declared.tree.Document.{Document}
 use Rattle.classic_tree.specs.declared.tree.Given.{Given}
 use Rattle.classic_tree.specs.declared.tree.NodeText.{NodeText}
 use Rattle.classic_tree.specs.declared.tree.NodeText.TheVariants as node
-use Rattle.classic_tree.specs.declared.tree.ProtoText.{ProtoText, out-ProtoText}
+use Rattle.classic_tree.specs.declared.tree.ProtoText.{ProtoText}
 use Rattle.classic_tree.specs.declared.tree.RouteText.{RouteText}
 use Rattle.classic_tree.specs.declared.tree.Statement.{Statement}
 use Rattle.classic_tree.specs.declared.tree.Statement.TheVariants as statement
@@ -20,19 +20,17 @@ use Rattle.flat_document.specs.declared.flat.Flat.{Flat}
 use Rattle.flat_document.specs.declared.flat.FlatNode.{FlatNode}
 use Rattle.flat_document.specs.declared.flat.FlatRoute.{FlatRoute}
 use Rattle.flat_document.specs.declared.flat.Header.{Header}
-use Rattle.proto_declarations.specs.Meaning.{statement as checked}
-use Rattle.proto_declarations.specs.Sight.{Sight as Declared}
 use Rattle.proto_ends.specs.Pairs.{routes_of}
-use Rattle.proto_fields.specs.Fields.{Signature, signature, signatures}
-use Rattle.proto_fields.specs.Owners.{Owner, Place}
-use Rattle.proto_steps.proofs.Equations.{item_does-declaration, item_does-field, item_does-proto, item_does-route, node_does-full, node_does-use, proto_does_is, statement_does-node, statement_does-proto, statement_does-route}
+use Rattle.proto_fields.specs.Fields.{Signature, signature}
+use Rattle.proto_fields.specs.Owners.{Owner}
+use Rattle.proto_steps.proofs.Equations.{item_does-declaration, item_does-field, item_does-proto, item_does-route, node_does-full, node_does-use, statement_does-node, statement_does-proto, statement_does-route}
 use Rattle.proto_steps.specs.Limits.{begin_node}
 use Rattle.proto_steps.specs.Machine.{Begun, Machine, Outcome, Walk, ◌>>=◌, meet, pure, through, use_node, used}
-use Rattle.proto_steps.specs.Meaning.{OnFields, add_defaults, close_node, declare, declared_in, full_node, item_does, items_do, node_does, node_owner, of_word, proto_does, statement_does, typed_node}
+use Rattle.proto_steps.specs.Meaning.{OnFields, close_node, declared_in, full_node, item_does, items_do, node_does, node_owner, of_word, proto_does, statement_does, typed_node}
 use Rattle.proto_steps.specs.Routes.{wire}
 use Rattle.proto_steps.specs.declared.held.Named.{Named}
 use Rattle.proto_steps.specs.declared.held.PlacedNode.{PlacedNode}
-use Rattle.proto_walk.specs.Whole.{add_node, at_top, check, flat, flat_node, flat_of, grown, header_of, label_at, nothing, put_statement, with_declared, with_routes}
+use Rattle.proto_walk.specs.Whole.{add_node, at_top, check, flat, flat_node, flat_of, grown, header_of, label_at, nothing, put_statement, with_routes}
 use Rattle.flat_laws.specs.Closings.{Braces, IsOfNode, closings, in_item, in_statement}
 use Rattle.flat_laws.specs.Readings.{Step, each, read_given, read_item, read_node, read_statement}
 use Rattle.flat_laws.specs.Uses.{Reading, closes, held, named, nothing_read, opens, read, some, stands, steps}
@@ -41,8 +39,10 @@ use Rattle.flat_laws.proofs.Trees.{Layers, every}
 use Rattle.flat_laws.proofs.UsesFields.{FieldsAfter, GivenReads, NodeAfter, NodeReads, add_declaration_reads, add_given_reads}
 use Rattle.flat_laws.proofs.UsesNames.{found, found_named, node_of, open_braces}
 use Rattle.flat_laws.proofs.Readings.{read-declaration, read-field, read-full, read-item-proto, read-item-route, read-node-statement, read-proto, read-route, read-use}
-use Rattle.flat_laws.proofs.UsesWalks.{After, Ends, Fields, Holds, Quiet, Reads, Same, Values, after_quiet, after_same, after_then, contents, ends_then, ends_through, ends_weaker, holds_still, meet_quiet, reads_same, stay_same, wire_quiet}
-use Rattle.flat_laws.proofs.UsesNodes.{Begins, begin_reads, close_reads, stay_on}
+use Rattle.flat_laws.proofs.UsesWalks.{After, Holds, Reads, after_quiet, after_same, after_then, contents, ends_through, holds_still, reads_same}
+use Rattle.flat_laws.proofs.UsesNodes.{Begins, begin_reads, close_reads}
+use Rattle.flat_laws.proofs.Lists.{all_split}
+use Rattle.flat_laws.proofs.UsesQuiet.{Ends, Fields, Quiet, Same, Values, check_quiet, ends_then, ends_weaker, meet_quiet, prototype_quiet, stay_same, stay_then, wire_quiet}
 
 abbrev OfNodes : List Braces → Type 0
 OfNodes braces = AllByRecursion IsOfNode braces
@@ -143,7 +143,7 @@ typed_reads line name t ss items step h w r g =
     (λ _ x q. ends_then (FieldsAfter x (opens name r) s) (NodeAfter w r (closes name r s)) (items (node_owner at t ss) [] x) (λ fields. close_node line name at t ss fields)
     (h (node_owner at t ss) [] x (opens name r) refl (reads_same v x (opens name r) q b.reads) (nothing_held x.store.values))
     (λ fields y p. close_reads line name at t ss fields w y r s p.0.more b.place (p.0.opened ∙ append_assoc r.opened (open_braces name ∷ []) p.0.more) p.0.reads
-    (stay_on w.store.values x.store.values y.store.values (stay_on w.store.values v.store.values x.store.values b.values q.values) p.0.values) p.1)))
+    (stay_then w.store.values x.store.values y.store.values (stay_then w.store.values v.store.values x.store.values b.values q.values) p.0.values) p.1)))
 
 of_word_reads : (line : ℕ) (name : Option (List ℕ)) (word : List ℕ) (ss : List Signature) (items : OnFields) (step : Step Reading) → OnFieldsRead items step → (t : Option NodeType) → is_some t ≡ true →
     (w : Walk) (r : Reading) → Reads w r → Ends (NodeAfter w r (closes name r (step (opens name r)))) (of_word line name word ss items t w)
@@ -159,15 +159,11 @@ unfolding items_do
 items_read items h t o fields w r e g p =
     ends_through ItemReads in_item (read_item steps) (λ i. item_does i o) (λ fs v s. Holds v.store.values fs s.here) (item_reads o e) items fields w r h t g p
 
-all_last : (xs ys : List Braces) → OfNodes (xs ++ ys) → OfNodes xs × OfNodes ys
-all_last [] ys h = (tt, h)
-all_last (x ∷ xs) ys h = let r = all_last xs ys h.1 in ((h.0, r.0), r.1)
-
 full_layer : (line : ℕ) (name : Option (List ℕ)) (word : List ℕ) (items : List BodyItem) → AllByRecursion ItemReads items → NodeReads (node.Full line name word items)
 unfolding full_node
 full_layer line name word items h t w r g =
     let last : Braces = record { word = word; name = name } in
-    let split = all_last (flat_map in_item items) (last ∷ []) (subst OfNodes (in_full line name word items) t) in
+    let split = all_split IsOfNode (flat_map in_item items) (last ∷ []) (subst OfNodes (in_full line name word items) t) in
     by_equation (NodeAfter w r) (read_node steps (node.Full line name word items) r) (closes name r (each (read_item steps) items (opens name r))) (node_does (node.Full line name word items) w) _
     (read-full steps line name word items r) (node_does-full line name word items w)
     (of_word_reads line name word (declared_in items) (items_do items) (each (read_item steps) items) (items_read items h split.0) (node_type_named word) split.1.0 w r g)
@@ -193,16 +189,6 @@ proto_layer p h t w r g =
     by_equation (RootAfter w r) (read_statement steps (statement.Proto p) r) r (statement_does (statement.Proto p) w) _ (read-proto steps p r) (statement_does-proto p w)
     (no_root (proto_does p) w r h g)
 
-declare_quiet : (line : ℕ) (name : List ℕ) (interface : List Signature) (defaults : Place → Fields → Machine Fields) (ms : List (Machine (Option ℕ))) → Quiet (declare line name interface defaults ms)
-unfolding declare
-declare_quiet line name interface defaults ms w = record { places = refl; nodes = refl; names = λ n. refl; interface = refl; values = stay_same w.store.values }
-
-prototype_layer : (p : ProtoText) → ProtoReads p
-prototype_layer p w =
-    subst (λ (q : Outcome (Unit {0})). Ends (λ _ v. Same w v) q) (sym (proto_does_is p w))
-    (declare_quiet (out-ProtoText p).line (out-ProtoText p).name (signatures (out-ProtoText p).interface)
-    (λ place. add_defaults node_does place (length (out-ProtoText p).interface) (out-ProtoText p).interface) (map statement_does (out-ProtoText p).body) w)
-
 layers : Layers ItemReads NodeReads StatementReads ProtoReads
 layers = record {
   field = field_layer;
@@ -214,18 +200,10 @@ layers = record {
   node = node_layer;
   route = route_layer;
   proto = proto_layer;
-  prototype = λ p h k. prototype_layer p;
+  prototype = λ p h k. prototype_quiet p;
 }
 
 -- ---- the whole
-
-with_declared_quiet : (d : Result Declared ExpandFault) → Quiet (with_declared d)
-with_declared_quiet (Ok d) w = record { places = refl; nodes = refl; names = λ n. refl; interface = refl; values = stay_same w.store.values }
-with_declared_quiet (Err e) w = tt
-
-check_quiet : (s : Statement) → Quiet (check s)
-unfolding check
-check_quiet s w = with_declared_quiet ((checked s).does w.declared) w
 
 -- the roots are those that were read
 abbrev Rooted : List ℕ → Walk → Reading → Type 0

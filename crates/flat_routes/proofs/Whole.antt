@@ -1,5 +1,5 @@
 -- The flat form of a document without instances has the routes that are read.
-use Rattle.std.proofs.Common.{◌≡◌, ℕ, true, List, [], ◌∷◌, ◌++◌, length, map, Option, Some, None, Result, Ok, Err, is_some, refl, sym, subst, ◌∙◌}
+use Rattle.std.proofs.Common.{◌≡◌, ℕ, true, List, [], ◌∷◌, length, map, Option, Some, None, Result, Ok, Err, is_some, refl, sym, subst, ◌∙◌}
 use Rattle.std.specs.List.{AllByRecursion, flat_map}
 use Rattle.std.proofs.lemmas.List.{append_assoc}
 use Rattle.x3d_values.specs.Names.{node_type_named}
@@ -37,13 +37,14 @@ use Rattle.flat_laws.specs.Uses.{Opened}
 use Rattle.flat_laws.proofs.ClosingParts.{in_declaration, in_field, in_full, in_node_statement}
 use Rattle.flat_laws.proofs.Trees.{Layers, every}
 use Rattle.flat_laws.proofs.UsesNames.{open_braces}
-use Rattle.flat_laws.proofs.UsesWalks.{Ends, Fields, ends_then}
 use Rattle.flat_laws.specs.Readings.{Step, each, read_given, read_item, read_node, read_statement}
 use Rattle.flat_routes.specs.Routes.{Reading, Shown, closes, nothing_read, opens, read, read_shown, route_shown, routes, routes_read, steps}
 use Rattle.flat_routes.proofs.Ends.{IfShown, routes_shown}
 use Rattle.flat_routes.proofs.Fields.{GivenReads, NodeReads, add_declaration_reads, add_given_reads}
 use Rattle.flat_routes.proofs.Nodes.{Begins, begin_reads, close_reads, meet_reads}
 use Rattle.flat_laws.proofs.Readings.{read-declaration, read-field, read-full, read-item-proto, read-item-route, read-node-statement, read-proto, read-route, read-use}
+use Rattle.flat_laws.proofs.Lists.{all_split}
+use Rattle.flat_laws.proofs.UsesQuiet.{Ends, Fields, ends_then}
 use Rattle.flat_routes.proofs.Walks.{After, IsShut, Quiet, Reads, Same, after_quiet, ends_through, reads_same, same_walk, wire_reads}
 
 abbrev OfNodes : List Braces → Type 0
@@ -134,15 +135,11 @@ items_read : (items : List BodyItem) → AllByRecursion ItemReads items → OfNo
 unfolding items_do
 items_read items h t o fields w r e g = ends_through ItemReads in_item (read_item steps) (λ i. item_does i o) (item_reads o e) items fields w r h t g
 
-all_last : (xs ys : List Braces) → OfNodes (xs ++ ys) → OfNodes xs × OfNodes ys
-all_last [] ys h = (tt, h)
-all_last (x ∷ xs) ys h = let r = all_last xs ys h.1 in ((h.0, r.0), r.1)
-
 full_layer : (line : ℕ) (name : Option (List ℕ)) (word : List ℕ) (items : List BodyItem) → AllByRecursion ItemReads items → NodeReads (node.Full line name word items)
 unfolding full_node
 full_layer line name word items h t w r g =
     let last : Braces = record { word = word; name = name } in
-    let split = all_last (flat_map in_item items) (last ∷ []) (subst OfNodes (in_full line name word items) t) in
+    let split = all_split IsOfNode (flat_map in_item items) (last ∷ []) (subst OfNodes (in_full line name word items) t) in
     by_equation r (read_node steps (node.Full line name word items) r) (closes name r (each (read_item steps) items (opens name r))) (node_does (node.Full line name word items) w) _
     (read-full steps line name word items r) (node_does-full line name word items w)
     (of_word_reads line name word (declared_in items) (items_do items) (each (read_item steps) items) (items_read items h split.0) (node_type_named word) split.1.0 w r g)

@@ -19,11 +19,11 @@ use Rattle.flat_laws.specs.Closings.{Braces, closings, in_given, in_item, in_nod
 use Rattle.flat_laws.specs.Uses.{Opened, has_name}
 use Rattle.flat_laws.proofs.ClosingParts.{in_declaration, in_field, in_full, in_item_proto, in_item_route, in_node_statement, in_proto, in_route, in_use}
 use Rattle.flat_laws.proofs.Trees.{Layers, OfGiven, OfValue, every}
+use Rattle.flat_laws.proofs.Lists.{all_append, get_middle, set_middle}
 use Rattle.flat_laws.proofs.UsesNames.{closed_braces, open_braces}
 use Rattle.flat_laws.specs.Readings.{Step, each, read_given, read_item, read_node, read_statement, read_value}
 use Rattle.flat_routes.specs.Routes.{Reading, closes, last_from, node_at, node_of, nothing_read, opens, read, routes, steps}
 use Rattle.flat_laws.proofs.Readings.{read-declaration, read-field, read-full, read-item-proto, read-item-route, read-node-statement, read-proto, read-route, read-use}
-use Rattle.flat_routes.proofs.Places.{get_last, set_middle}
 
 abbrev pub if_one : Bool → ℕ
 if_one true = 1
@@ -70,10 +70,6 @@ module _ (name : List ℕ) (n : ℕ) where
       let e : at + 1 + length xs ≡ at + length (x ∷ xs) = omega arith in
       ((h.0, s.0), subst (λ (k : ℕ). AreOnly k ys) e s.1)
 
-  all_both : (xs ys : List Opened) → AllByRecursion Holds xs → AllByRecursion Holds ys → AllByRecursion Holds (xs ++ ys)
-  all_both [] ys h k = k
-  all_both (x ∷ xs) ys h k = (h.0, all_both xs ys h.1 k)
-
   linked_none : (r s : Reading) → s.opened ≡ r.opened → s.closed ≡ r.closed → Linked r [] s
   linked_none r s e f = record { more = []; opened = e ∙ sym (append-nil r.opened); closed = omega (arith, f); holds = tt; count = refl }
 
@@ -87,7 +83,7 @@ module _ (name : List ℕ) (n : ℕ) where
         more = h.more ++ k.more;
         opened = k.opened ∙ ap (λ (os : List Opened). os ++ k.more) h.opened ∙ append_assoc r.opened h.more k.more;
         closed = omega (arith, before, after, length-append xs ys);
-        holds = all_both h.more k.more h.holds k.holds;
+        holds = all_append Holds h.more k.more h.holds k.holds;
         count = omega (arith, first, second, names_in-append xs ys, names_of-append h.more k.more);
       }
 
@@ -204,7 +200,7 @@ module _ (name : List ℕ) (n : ℕ) where
     by_here false e z l = absurd (omega (arith, z, l))
     by_here true e z l =
         ap (λ (p : Option ℕ). node_at (before ++ o ∷ os) (option_or p (Some (length before)))) (none_last (length before + 1) os z)
-        ∙ ap node_of (get_last before os o) ∙ h.0 e
+        ∙ ap node_of (get_middle before os o) ∙ h.0 e
 
     by_rest : (k : ℕ) → names_of os ≡ k → (1 ≤ names_of os → node_at ((before ++ o ∷ []) ++ os) (last_from (length (before ++ o ∷ [])) name os) ≡ Some n) → node_at (before ++ o ∷ os) (last_from (length before) name (o ∷ os)) ≡ Some n
     by_rest zero z rest = by_here (has_name name o.name) refl z some
