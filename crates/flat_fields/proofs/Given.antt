@@ -1,5 +1,5 @@
 -- What stands between the braces of a node is read, where the nodes inside are.
-use Rattle.std.proofs.Common.{◌≡◌, ℕ, if◌then◌else◌, nat_lt, Bool, true, false, List, [], ◌∷◌, ◌++◌, map, Option, Some, None, option_map, Ok, refl, sym, subst, ◌∙◌, ap}
+use Rattle.std.proofs.Common.{◌≡◌, ℕ, if◌then◌else◌, Bool, true, false, List, [], ◌∷◌, ◌++◌, map, Option, Some, None, option_map, refl, sym, subst, ◌∙◌, ap}
 use Rattle.std.specs.List.{AllByRecursion}
 use Rattle.std.specs.Option.{option_or}
 use Rattle.std.proofs.lemmas.List.{map-append}
@@ -9,20 +9,20 @@ use Rattle.classic_tree.specs.declared.tree.Given.TheVariants as given
 use Rattle.classic_tree.specs.declared.tree.NodeText.{NodeText}
 use Rattle.classic_tree.specs.declared.tree.RawValue.{RawValue}
 use Rattle.classic_tree.specs.declared.tree.RawValue.TheVariants as value
-use Rattle.flat_document.specs.declared.fault.ExpandFaultKind.TheVariants.{FieldTwice, TooLarge, UnknownField}
-use Rattle.proto_declarations.specs.Sight.{Sight as Declared}
-use Rattle.proto_fields.specs.Fields.{Signature, of_interface}
-use Rattle.proto_fields.specs.Owners.{Owner, Place, admits, has_field, if_given, is_taken, known, with_field}
-use Rattle.proto_fields.specs.Values.{item_count, max_fields}
+use Rattle.proto_fields.specs.Fields.{Signature}
+use Rattle.proto_fields.specs.Owners.{Owner, has_field, if_given, known, with_field}
+use Rattle.proto_fields.specs.Values.{item_count}
 use Rattle.proto_fields.specs.declared.given.KnownField.{KnownField}
 use Rattle.proto_steps.specs.Limits.{count_items}
-use Rattle.proto_steps.specs.Machine.{Machine, Outcome, Walk, ◌>>=◌, keep, pure, refuse, through}
-use Rattle.proto_steps.specs.Meaning.{add_declaration, add_declared_is, add_given, add_is, add_known, add_known_is, add_new, add_number, add_taken, add_tied, add_value, node_does, numbered, tie_declared, unless_own, with_number, with_place}
+use Rattle.proto_steps.specs.Machine.{Walk, ◌>>=◌, keep, pure, through}
+use Rattle.proto_steps.specs.Meaning.{add_declaration, add_given, add_new, add_number, add_value, node_does, numbered}
 use Rattle.flat_laws.specs.Closings.{Braces, IsOfNode, in_given, in_node, in_value}
 use Rattle.flat_laws.specs.Uses.{some}
 use Rattle.flat_laws.proofs.Trees.{OfGiven, OfValue}
-use Rattle.flat_fields.specs.Fields.{FieldRead, Got, Numbering, Reading, as_read, each, gives, got_map, number_of, read_given, read_node, read_one, read_value}
-use Rattle.flat_fields.proofs.Walks.{Comes, Ends, Fields, Holds, Reads, Same, after_quiet, after_then, count_items_quiet, ends_choice, ends_then, ends_through, ends_weaker, holds_none, holds_still, holds_value, reads_same, same_walk, stay_more}
+use Rattle.flat_laws.proofs.UsesGiven.{add_declared_is_reads, add_is_reads, add_known_reads, owned, with_place_reads}
+use Rattle.flat_laws.proofs.UsesQuiet.{Ends, Fields, Same, count_items_quiet, ends_then, ends_weaker, same_walk, stay_more}
+use Rattle.flat_fields.specs.Fields.{FieldRead, Got, Reading, as_read, each, gives, got_map, number_of, read_given, read_node, read_one, read_value}
+use Rattle.flat_fields.proofs.Walks.{Comes, Holds, Reads, after_quiet, after_then, ends_through, holds_none, holds_still, holds_value, reads_same}
 
 abbrev OfNodes : List Braces → Type 0
 OfNodes braces = AllByRecursion IsOfNode braces
@@ -49,10 +49,6 @@ NodesRead v = OfValue NodeReads v
 
 abbrev pub GivenReads : Given NodeText → Type 0
 GivenReads g = OfGiven NodeReads g
-
--- the numbers of an owner's fields
-abbrev pub owned : Owner → Numbering
-owned owner name = option_map number_of (option_or (owner.fields name) (owner.declares name))
 
 -- ---- values
 
@@ -135,57 +131,7 @@ add_new_reads line number n v fields before e h t w r g p =
     ))
     (kept_reads line number fields k y s.after before a.0.reads (holds_still x.store.values y.store.values fields before a.0.values (holds_still w.store.values x.store.values fields before q.values p)))))
 
--- ---- an IS has no interface here
-
-no_is : (line : ℕ) (field name : List ℕ) (owner : Owner) (fields : Fields) (o : Option KnownField) (w : Walk) (Q : Fields → Walk → Type 0) → w.sight.interface ≡ [] →
-    Ends Q (add_known_is line field name owner fields o w)
-no_is line field name owner fields None w Q e = tt
-no_is line field name owner fields (Some inner) w Q e = subst (λ i. Ends Q (add_tied line field owner fields inner (of_interface i name) w)) (sym e) tt
-
-add_is_reads : (line : ℕ) (field name : List ℕ) (owner : Owner) (fields : Fields) (w : Walk) (Q : Fields → Walk → Type 0) → w.sight.interface ≡ [] → Ends Q (add_is line field name owner fields w)
-unfolding add_is
-add_is_reads line field name owner fields w Q e = no_is line field name owner fields (known owner fields field) w Q e
-
-add_declared_is_reads : (s : Signature) (name : List ℕ) (owner : Owner) (fields : Fields) (w : Walk) (Q : Fields → Walk → Type 0) → w.sight.interface ≡ [] → Ends Q (add_declared_is s name owner fields w)
-unfolding add_declared_is
-add_declared_is_reads s name owner fields w Q e = subst (λ i. Ends Q (tie_declared s owner fields (of_interface i name) w)) (sym e) tt
-
--- ---- declarations of a Script
-
-module _ (line : ℕ) (fields : Fields) (f : ℕ → Machine Fields) (w : Walk) (Q : Fields → Walk → Type 0) (owner : Owner) (name : List ℕ) (h : (n : ℕ) → owned owner name ≡ Some n → Ends Q (f n w)) where
-  with_number_reads : (o : Option KnownField) → owned owner name ≡ option_map number_of o → Ends Q (with_number line fields f o w)
-  with_number_reads None e = tt
-  with_number_reads (Some field) e =
-      ends_choice Q (has_field field.number fields) (refuse FieldTwice line) (if nat_lt field.number max_fields then f field.number else refuse TooLarge 0) w tt
-      (ends_choice Q (nat_lt field.number max_fields) (f field.number) (refuse TooLarge 0) w (h field.number e) tt)
-
-  unless_own_reads : (o : Option KnownField) → owner.fields name ≡ o → Ends Q (unless_own line owner fields name f o w)
-  unless_own_reads None e = with_number_reads (owner.declares name) (ap (λ o. option_map number_of (option_or o (owner.declares name))) e)
-  unless_own_reads (Some field) e = tt
-
-  with_place_reads : Ends Q (with_place line owner fields name f w)
-  unfolding with_place
-  with_place_reads = unless_own_reads (owner.fields name) refl
-
--- ---- a node keeps what it is given
-
-all_taken : (proto : Option Place) (name : List ℕ) (declared : Declared) (o q : Outcome Fields) (Q : Fields → Walk → Type 0) → proto ≡ None → Ends Q o → Ends Q (if is_taken proto name declared then o else q)
-all_taken None name declared o q Q e h = h
-all_taken (Some place) name declared o q Q e h = absurd cc
-
-add_taken_reads : (line : ℕ) (name : List ℕ) (owner : Owner) (number : ℕ) (v : RawValue NodeText) (fields : Fields) (w : Walk) (Q : Fields → Walk → Type 0) → owner.proto ≡ None →
-    Ends Q (add_new node_does line number v fields w) → Ends Q (add_taken node_does line name owner number v fields w)
-add_taken_reads line name owner number v fields w Q e h =
-    all_taken owner.proto name w.declared (add_new node_does line number v fields w) (Ok (with_field line number fields None, w)) Q e h
-
-add_known_reads : (line : ℕ) (name : List ℕ) (v : RawValue NodeText) (owner : Owner) (fields : Fields) (o : Option KnownField) (w : Walk) (Q : Fields → Walk → Type 0) → owner.proto ≡ None →
-    ((field : KnownField) → o ≡ Some field → Ends Q (add_new node_does line field.number v fields w)) → Ends Q (add_known node_does line name v owner fields o w)
-add_known_reads line name v owner fields None w Q e h = tt
-add_known_reads line name v owner fields (Some field) w Q e h =
-    ends_choice Q (admits owner.proto field) (if has_field field.number fields then refuse FieldTwice line else add_taken node_does line name owner field.number v fields) (refuse UnknownField line) w
-    (ends_choice Q (has_field field.number fields) (refuse FieldTwice line) (add_taken node_does line name owner field.number v fields) w tt
-    (add_taken_reads line name owner field.number v fields w Q e (h field refl)))
-    tt
+-- ---- what is given
 
 -- a field that is known has its number
 known_number : (fields : Fields) (a b : Option KnownField) (field : KnownField) → option_or a (if_given fields b) ≡ Some field → option_map number_of (option_or a b) ≡ Some field.number

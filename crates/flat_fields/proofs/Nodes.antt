@@ -1,8 +1,8 @@
 -- A node begins and closes: what is read so far stays, and with the node closed its fields are
 -- those that were read in it.
-use Rattle.std.proofs.Common.{◌≡◌, ℕ, Bool, true, false, if◌then◌else◌, nat_lt, List, [], ◌∷◌, ◌++◌, length, map, Option, Some, None, Result, Ok, Err, slice_set, refl, sym, subst, ap, ◌∙◌, arith, length-append}
+use Rattle.std.proofs.Common.{◌≡◌, ℕ, Bool, true, false, if◌then◌else◌, nat_lt, List, [], ◌∷◌, ◌++◌, length, map, Option, Some, None, Result, Ok, Err, slice_set, refl, sym, subst, ap, ◌∙◌}
 use Rattle.std.specs.List.{flat_map}
-use Rattle.std.proofs.lemmas.List.{append-nil, append_assoc, length-map, length-set, map-append}
+use Rattle.std.proofs.lemmas.List.{append-nil, append_assoc, length-map, map-append}
 use Rattle.x3d_values.specs.declared.node_type.NodeType.{NodeType}
 use Rattle.classic_tree.specs.declared.tree.RawValue.{RawValue}
 use Rattle.flat_document.specs.Fault.{fault}
@@ -22,9 +22,11 @@ use Rattle.proto_steps.specs.declared.held.PlacedNode.{PlacedNode}
 use Rattle.proto_steps.specs.declared.held.Store.{Store}
 use Rattle.flat_laws.specs.Uses.{Opened}
 use Rattle.flat_laws.proofs.UsesNames.{closed_braces, found, found_open, known_found, numbered, open_braces, unnamed_found}
+use Rattle.flat_laws.proofs.Lists.{one_longer, same_length, set_middle}
+use Rattle.flat_laws.proofs.UsesQuiet.{Ends, Fields, Same, Stay, Values, ends_if, ends_then, stand_quiet, stay_same, stay_then}
 use Rattle.flat_fields.specs.Fields.{FieldRead, Got, NodeRead, Reading, closes, field_read, opens}
 use Rattle.flat_fields.proofs.Given.{NodeAfter}
-use Rattle.flat_fields.proofs.Walks.{Ends, Fields, Holds, Quiet, Reads, Same, Stay, Values, contents, ends_if, ends_then, field_with, in_field, stay_same, stay_then}
+use Rattle.flat_fields.proofs.Walks.{Holds, Reads, contents, field_with, in_field}
 
 -- ---- a node begins
 
@@ -32,9 +34,6 @@ pub record Begins (name : Option (List ℕ)) (w : Walk) (r : Reading) (at : ℕ)
   pub place : at ≡ length r.opened
   pub reads : Reads v (opens name r)
   pub values : Stay w.store.values v.store.values
-
-one_longer : {A B : Type 0} (xs : List A) (ys : List B) (x : A) (y : B) → length xs ≡ length ys → length (xs ++ x ∷ []) ≡ length (ys ++ y ∷ [])
-one_longer xs ys x y e = omega (arith, e, length-append xs (x ∷ []), length-append ys (y ∷ []))
 
 pub begin_reads : (name : Option (List ℕ)) (w : Walk) (r : Reading) → Reads w r → Ends (Begins name w r) (begin_node w)
 unfolding begin_node
@@ -124,10 +123,6 @@ module _ (line : ℕ) (name : Option (List ℕ)) (t : NodeType) (interface : Lis
   unfolding put
   put_reads given h = with_fields_reads (flat_fields y.store.values given) (flat_held y.store.values here given [] h.held)
 
-stand_quiet : (at n : ℕ) → Quiet (stand at (Node n))
-unfolding stand
-stand_quiet at n w = record { places = length-set w.store.places at (Some (Node n)); nodes = refl; names = λ name. refl; interface = refl; values = stay_same w.store.values }
-
 -- the node is put in, and its name isn't known yet
 pub record Closing (w : Walk) (s : Reading) (node : NodeRead) (n : ℕ) (x : Walk) : Type 0 where
   pub count : n ≡ length s.closed
@@ -156,13 +151,6 @@ closing_still w s node n x z q c = record {
   interface = q.interface ∙ c.interface;
   values = stay_then w.store.values x.store.values z.store.values c.values q.values;
 }
-
-set_middle : {A : Type 0} (xs ys : List A) (x y : A) → slice_set (xs ++ x ∷ ys) (length xs) y ≡ xs ++ y ∷ ys
-set_middle [] ys x y = refl
-set_middle (z ∷ xs) ys x y = ap (λ (rest : List _). z ∷ rest) (set_middle xs ys x y)
-
-same_length : {A : Type 0} (xs ys : List A) (x y : A) → length (xs ++ x ∷ ys) ≡ length (xs ++ y ∷ ys)
-same_length xs ys x y = omega (arith, length-append xs (x ∷ ys), length-append xs (y ∷ ys))
 
 abbrev node_of : List Signature → Got (List FieldRead) → NodeRead
 node_of interface g = node_with g.what interface

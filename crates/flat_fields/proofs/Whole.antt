@@ -11,7 +11,7 @@ use Rattle.classic_tree.specs.declared.tree.Document.{Document}
 use Rattle.classic_tree.specs.declared.tree.Given.{Given}
 use Rattle.classic_tree.specs.declared.tree.NodeText.{NodeText}
 use Rattle.classic_tree.specs.declared.tree.NodeText.TheVariants as node
-use Rattle.classic_tree.specs.declared.tree.ProtoText.{ProtoText, out-ProtoText}
+use Rattle.classic_tree.specs.declared.tree.ProtoText.{ProtoText}
 use Rattle.classic_tree.specs.declared.tree.RouteText.{RouteText}
 use Rattle.classic_tree.specs.declared.tree.Statement.{Statement}
 use Rattle.classic_tree.specs.declared.tree.Statement.TheVariants as statement
@@ -20,30 +20,30 @@ use Rattle.flat_document.specs.declared.flat.Flat.{Flat}
 use Rattle.flat_document.specs.declared.flat.FlatNode.{FlatNode}
 use Rattle.flat_document.specs.declared.flat.FlatRoute.{FlatRoute}
 use Rattle.flat_document.specs.declared.flat.Header.{Header}
-use Rattle.proto_declarations.specs.Meaning.{statement as checked}
-use Rattle.proto_declarations.specs.Sight.{Sight as Declared}
 use Rattle.proto_ends.specs.Pairs.{routes_of}
-use Rattle.proto_fields.specs.Fields.{Signature, signature, signatures}
-use Rattle.proto_fields.specs.Owners.{Owner, Place}
-use Rattle.proto_steps.proofs.Equations.{declares-declaration, declares-field, declares-proto, declares-route, item_does-declaration, item_does-field, item_does-proto, item_does-route, node_does-full, node_does-use, proto_does_is, statement_does-node, statement_does-proto, statement_does-route}
+use Rattle.proto_fields.specs.Fields.{Signature, signature}
+use Rattle.proto_fields.specs.Owners.{Owner}
+use Rattle.proto_steps.proofs.Equations.{declares-declaration, declares-field, declares-proto, declares-route, item_does-declaration, item_does-field, item_does-proto, item_does-route, node_does-full, node_does-use, statement_does-node, statement_does-proto, statement_does-route}
 use Rattle.proto_steps.specs.Limits.{begin_node}
 use Rattle.proto_steps.specs.Machine.{Begun, Machine, Outcome, Walk, ◌>>=◌, meet, pure, through, use_node, used}
-use Rattle.proto_steps.specs.Meaning.{OnFields, add_defaults, close_node, declare, declared_in, full_node, item_declares, item_does, items_do, node_does, node_owner, of_word, proto_does, statement_does, typed_node}
+use Rattle.proto_steps.specs.Meaning.{OnFields, close_node, declared_in, full_node, item_declares, item_does, items_do, node_does, node_owner, of_word, proto_does, statement_does, typed_node}
 use Rattle.proto_steps.specs.Routes.{wire}
 use Rattle.proto_steps.specs.declared.held.Named.{Named}
 use Rattle.proto_steps.specs.declared.held.PlacedNode.{PlacedNode}
-use Rattle.proto_walk.specs.Whole.{add_node, at_top, check, flat, flat_node, flat_of, grown, header_of, label_at, nothing, put_statement, with_declared, with_routes}
+use Rattle.proto_walk.specs.Whole.{add_node, at_top, check, flat, flat_node, flat_of, grown, header_of, label_at, nothing, put_statement, with_routes}
 use Rattle.flat_laws.specs.Closings.{Braces, IsOfNode, closings, in_item, in_statement}
 use Rattle.flat_laws.specs.Uses.{named}
 use Rattle.flat_laws.proofs.ClosingParts.{in_declaration, in_field, in_full, in_node_statement}
 use Rattle.flat_laws.proofs.Trees.{Layers, every}
 use Rattle.flat_laws.proofs.UsesNames.{found, found_named, node_of, open_braces}
+use Rattle.flat_laws.proofs.Lists.{all_split}
+use Rattle.flat_laws.proofs.UsesGiven.{owned}
+use Rattle.flat_laws.proofs.UsesQuiet.{Ends, Fields, Quiet, Same, Values, check_quiet, ends_then, ends_weaker, meet_quiet, prototype_quiet, same_walk, stay_then, wire_quiet}
 use Rattle.flat_fields.specs.Fields.{FieldRead, Got, Numbering, Reading, declares, each, gives, node_read, nothing_read, numbering, opens, read, read_full, read_given, read_item, read_node, read_on, read_statement}
-use Rattle.flat_fields.proofs.Given.{FieldsAfter, FieldsAre, GivenReads, NodeAfter, NodeReads, add_declaration_reads, add_given_reads, owned}
+use Rattle.flat_fields.proofs.Given.{FieldsAfter, FieldsAre, GivenReads, NodeAfter, NodeReads, add_declaration_reads, add_given_reads}
 use Rattle.flat_fields.proofs.Nodes.{Begins, begin_reads, close_reads}
-use Rattle.flat_fields.proofs.Parts.{all_declared, read-declaration, read-field, read-full, read-item-proto, read-item-route, read-node-statement, read-proto, read-route, read-use}
-use Rattle.flat_fields.proofs.Parts.{declares-declaration as declares_declaration, declares-field as declares_field, declares-proto as declares_proto, declares-route as declares_route}
-use Rattle.flat_fields.proofs.Walks.{After, Comes, Ends, Fields, Holds, Quiet, Reads, Same, Values, after_quiet, after_then, contents, ends_then, ends_through, ends_weaker, holds_still, meet_quiet, reads_same, same_walk, stay_same, stay_then, wire_quiet}
+use Rattle.flat_fields.proofs.Parts.{all_declared, read-declaration, read-field, read-full, read-item-proto, read-item-route, read-node-statement, read-proto, read-route, read-use, declares-declaration as declares_declaration, declares-field as declares_field, declares-proto as declares_proto, declares-route as declares_route}
+use Rattle.flat_fields.proofs.Walks.{After, Comes, Holds, Reads, after_quiet, after_then, contents, ends_through, holds_still, reads_same}
 
 abbrev OfNodes : List Braces → Type 0
 OfNodes braces = AllByRecursion IsOfNode braces
@@ -175,10 +175,6 @@ unfolding items_do
 items_read items h t o fields before w r e g p =
     ends_through ItemReads in_item (read_item (owned o)) (λ i. item_does i o) FieldsAre (item_reads o e) items fields before w r h t g p
 
-all_last : (xs ys : List Braces) → OfNodes (xs ++ ys) → OfNodes xs × OfNodes ys
-all_last [] ys h = (tt, h)
-all_last (x ∷ xs) ys h = let r = all_last xs ys h.1 in ((h.0, r.0), r.1)
-
 same_declared : (items : List BodyItem) → AllByRecursion ItemReads items → all_declared items ≡ declared_in items
 same_declared [] h = refl
 same_declared (i ∷ items) h = ap (λ ss. ss ++ all_declared items) h.0.0 ∙ ap (λ ss. item_declares i ++ ss) (same_declared items h.1)
@@ -187,7 +183,7 @@ full_layer : (line : ℕ) (name : Option (List ℕ)) (word : List ℕ) (items : 
 unfolding full_node
 full_layer line name word items h t w r g =
     let last : Braces = record { word = word; name = name } in
-    let split = all_last (flat_map in_item items) (last ∷ []) (subst OfNodes (in_full line name word items) t) in
+    let split = all_split IsOfNode (flat_map in_item items) (last ∷ []) (subst OfNodes (in_full line name word items) t) in
     by_equation (NodeAfter w r) (read_node (node.Full line name word items) r) (read_full name (node_type_named word) (declared_in items) (items_reader items) r) (node_does (node.Full line name word items) w) _
     (read-full line name word items r ∙ ap (λ ss. read_full name (node_type_named word) ss (items_reader items) r) (same_declared items h)) (node_does-full line name word items w)
     (of_word_reads line name word (declared_in items) (items_do items) (items_reader items) (items_read items h split.0) (node_type_named word) split.1.0 w r g)
@@ -212,16 +208,6 @@ proto_layer p h t w r g =
     by_equation (StatementAfter w r) (read_statement (statement.Proto p) r) r (statement_does (statement.Proto p) w) _ (read-proto p r) (statement_does-proto p w)
     (no_node (proto_does p) w r h g)
 
-declare_quiet : (line : ℕ) (name : List ℕ) (interface : List Signature) (defaults : Place → Fields → Machine Fields) (ms : List (Machine (Option ℕ))) → Quiet (declare line name interface defaults ms)
-unfolding declare
-declare_quiet line name interface defaults ms w = record { places = refl; nodes = refl; names = λ n. refl; interface = refl; values = stay_same w.store.values }
-
-prototype_layer : (p : ProtoText) → ProtoReads p
-prototype_layer p w =
-    subst (λ (q : Outcome (Unit {0})). Ends (λ _ v. Same w v) q) (sym (proto_does_is p w))
-    (declare_quiet (out-ProtoText p).line (out-ProtoText p).name (signatures (out-ProtoText p).interface)
-    (λ place. add_defaults node_does place (length (out-ProtoText p).interface) (out-ProtoText p).interface) (map statement_does (out-ProtoText p).body) w)
-
 layers : Layers ItemReads NodeReads StatementReads ProtoReads
 layers = record {
   field = field_layer;
@@ -233,18 +219,10 @@ layers = record {
   node = node_layer;
   route = route_layer;
   proto = proto_layer;
-  prototype = λ p h k. prototype_layer p;
+  prototype = λ p h k. prototype_quiet p;
 }
 
 -- ---- the whole
-
-with_declared_quiet : (d : Result Declared ExpandFault) → Quiet (with_declared d)
-with_declared_quiet (Ok d) w = record { places = refl; nodes = refl; names = λ n. refl; interface = refl; values = stay_same w.store.values }
-with_declared_quiet (Err e) w = tt
-
-check_quiet : (s : Statement) → Quiet (check s)
-unfolding check
-check_quiet s w = with_declared_quiet ((checked s).does w.declared) w
 
 -- a statement is read, whatever the roots are
 abbrev read_next : Statement → Unit {0} → Reading → Got (Unit {0})

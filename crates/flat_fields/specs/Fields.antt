@@ -21,6 +21,7 @@ use Rattle.proto_fields.specs.Fields.{Signature, signature, signatures, of_type,
 use Rattle.proto_fields.specs.declared.given.KnownField.{KnownField}
 use Rattle.proto_walk.specs.Whole.{flat}
 use Rattle.flat_laws.specs.Closings.{IsOfNode, closings}
+use Rattle.flat_laws.specs.Readings.{Step, same}
 use Rattle.flat_laws.specs.Uses.{Opened, named, some}
 
 -- a field between braces: the line of its name, its number among the fields of the node, None
@@ -142,13 +143,10 @@ abbrev pub no_field : Item
 no_field = record { reads = λ numbers before r. gives before r; declares = [] }
 
 -- what a statement, or the declaration of a prototype, adds: the latter has none of the nodes
-abbrev pub Step : Type 0
-Step = Reading → Reading
+abbrev pub StatementStep : Type 0
+StatementStep = Step Reading
 
-abbrev pub same : Step
-same r = r
-
-unfoldable pub item_step : BodyItem-F Item NodeStep Step Step → Item
+unfoldable pub item_step : BodyItem-F Item NodeStep StatementStep StatementStep → Item
 item_step (BodyItem-F.Field line name g) =
     record {
       reads = λ numbers. read_given (λ step. step) line (numbers name) g;
@@ -168,22 +166,25 @@ abbrev pub read_full : Option (List ℕ) → Option NodeType → List Signature
 read_full name t declared items r =
     closes name r (interface_of t declared) (items (numbering t declared) [] (opens name r))
 
-unfoldable pub node_step : NodeText-F Item NodeStep Step Step → NodeStep
+unfoldable pub node_step : NodeText-F Item NodeStep StatementStep StatementStep → NodeStep
 node_step (NodeText-F.Use line name) = λ r. gives (named name r.opened) r
 node_step (NodeText-F.Full line name word items) =
     read_full name (node_type_named word) (flat_map (λ (item : Item). item.declares) items)
     (λ numbers. each (λ (item : Item). item.reads numbers) items)
 
-unfoldable pub statement_step : Statement-F Item NodeStep Step Step → Step
+unfoldable pub statement_step : Statement-F Item NodeStep StatementStep StatementStep
+    → StatementStep
 statement_step (Statement-F.Node node) = λ r. (node r).after
 statement_step (Statement-F.Statement::Route route) = same
 statement_step (Statement-F.Statement::Proto proto) = same
 
-unfoldable pub proto_step : ProtoText-F Item NodeStep Step Step → Step
+unfoldable pub proto_step : ProtoText-F Item NodeStep StatementStep StatementStep → StatementStep
 proto_step p = same
 
 abbrev pub item : BodyItem → Item
-item = fold-BodyItem Item NodeStep Step Step item_step node_step statement_step proto_step
+item =
+    fold-BodyItem Item NodeStep StatementStep StatementStep item_step node_step statement_step
+    proto_step
 
 abbrev pub read_item : Numbering → BodyItem → List FieldRead → Reading → Got (List FieldRead)
 read_item numbers i = (item i).reads numbers
@@ -192,11 +193,14 @@ abbrev pub declares : BodyItem → List Signature
 declares i = (item i).declares
 
 abbrev pub read_node : NodeText → NodeStep
-read_node = fold-NodeText Item NodeStep Step Step item_step node_step statement_step proto_step
+read_node =
+    fold-NodeText Item NodeStep StatementStep StatementStep item_step node_step statement_step
+    proto_step
 
-abbrev pub read_statement : Statement → Step
+abbrev pub read_statement : Statement → StatementStep
 read_statement =
-    fold-Statement Item NodeStep Step Step item_step node_step statement_step proto_step
+    fold-Statement Item NodeStep StatementStep StatementStep item_step node_step statement_step
+    proto_step
 
 abbrev pub read_on : Reading → Statement → Reading
 read_on r s = read_statement s r

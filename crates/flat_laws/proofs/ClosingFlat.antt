@@ -37,6 +37,7 @@ use Rattle.proto_steps.specs.declared.held.PlacedNode.{PlacedNode}
 use Rattle.proto_steps.specs.declared.held.Store.{Store}
 use Rattle.proto_walk.specs.Whole.{add_node, at_top, check, flat, flat_node, flat_of, grown, header_of, label_at, nothing, put_statement, with_declared, with_routes}
 use Rattle.flat_laws.specs.Closings.{Braces, IsOfNode, Shown, closings, expected, in_given, in_item, in_node, in_statement, shown}
+use Rattle.flat_laws.proofs.Lists.{all_split}
 use Rattle.flat_laws.proofs.ClosingFields.{GivenPuts, NodePuts, add_declaration_does, add_given_does}
 use Rattle.flat_laws.proofs.ClosingParts.{in_declaration, in_field, in_full, in_item_proto, in_item_route, in_node_statement, in_proto, in_route, in_use}
 use Rattle.flat_laws.proofs.ClosingWalks.{Does, Ends, Keeps, a_type, begin_node_keeps, does_through, ends_then, expected_name, expected_type, keeps_pure, keeps_then, know_keeps, meet_keeps, nothing_put, put_does, stand_keeps, then_keeps, types, use_keeps, wire_keeps}
@@ -112,10 +113,6 @@ of_word_does : (line : ℕ) (name : Option (List ℕ)) (word : List ℕ) (ss : L
 of_word_does line name word ss braces items h None e k = absurd cc
 of_word_does line name word ss braces items h (Some t) e k = typed_node_does line name word t e ss braces items h
 
-all_last : (xs ys : List Braces) → OfNodes (xs ++ ys) → OfNodes xs × OfNodes ys
-all_last [] ys h = (tt, h)
-all_last (x ∷ xs) ys h = let r = all_last xs ys h.1 in ((h.0, r.0), r.1)
-
 item_put : (o : Owner) → o.proto ≡ None → (i : BodyItem) (fields : Fields) → ItemPuts i → OfNodes (in_item i) → Does (in_item i) (item_does i o fields)
 item_put o e i fields h t = h t o fields e
 
@@ -128,7 +125,7 @@ full_layer : (line : ℕ) (name : Option (List ℕ)) (word : List ℕ) (items : 
 unfolding full_node
 full_layer line name word items h t w =
     let last : Braces = record { word = word; name = name } in
-    let r = all_last (flat_map in_item items) (last ∷ []) (subst OfNodes (in_full line name word items) t) in
+    let r = all_split IsOfNode (flat_map in_item items) (last ∷ []) (subst OfNodes (in_full line name word items) t) in
     by_equation (in_node (node.Full line name word items)) (flat_map in_item items ++ last ∷ []) w (node_does (node.Full line name word items) w) _
     (in_full line name word items) (node_does-full line name word items w)
     (of_word_does line name word (declared_in items) (flat_map in_item items) (items_do items) (items_put items h r.0) (node_type_named word) refl r.1.0 w)

@@ -19,6 +19,7 @@ use Rattle.proto_steps.specs.Routes.{add_wire, wire}
 use Rattle.proto_steps.specs.declared.held.Named.{Named}
 use Rattle.proto_steps.specs.declared.held.PlacedNode.{PlacedNode}
 use Rattle.flat_laws.specs.Closings.{Braces, IsOfNode}
+use Rattle.flat_laws.proofs.Lists.{all_split}
 
 -- ---- what was put in
 
@@ -93,14 +94,10 @@ pub keeps_pure : {A : Type 0} (a : A) → Keeps (pure a)
 keeps_pure a w = nothing_put w
 
 module _ {A X : Type 0} (OfItem : A → Type 0) (braces : A → List Braces) (f : A → X → Machine X) (k : (a : A) (x : X) → OfItem a → AllByRecursion IsOfNode (braces a) → Does (braces a) (f a x)) where
-  all_first : (xs ys : List Braces) → AllByRecursion IsOfNode (xs ++ ys) → AllByRecursion IsOfNode xs × AllByRecursion IsOfNode ys
-  all_first [] ys h = (tt, h)
-  all_first (x ∷ xs) ys h = let r = all_first xs ys h.1 in ((h.0, r.0), r.1)
-
   pub does_through : (xs : List A) (x : X) → AllByRecursion OfItem xs → AllByRecursion IsOfNode (flat_map braces xs) → Does (flat_map braces xs) (through f xs x)
   does_through [] x h t w = nothing_put w
   does_through (a ∷ xs) x h t w =
-      let r = all_first (braces a) (flat_map braces xs) t in
+      let r = all_split IsOfNode (braces a) (flat_map braces xs) t in
       ends_then (braces a) (flat_map braces xs) w (f a x w) (λ y. through f xs y) (k a x h.0 r.0 w) (λ y. does_through xs y h.1 r.1)
 
 -- ---- steps that put nothing in

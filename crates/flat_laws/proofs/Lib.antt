@@ -1,5 +1,6 @@
 pub mod Lists
 pub mod Trees
+pub mod Readings
 pub mod OrderOutcomes
 pub mod OrderWalks
 pub mod OrderFields
@@ -18,7 +19,8 @@ pub mod LinesNodes
 pub mod LinesTrees
 pub mod LinesFlat
 pub mod UsesNames
-pub mod UsesParts
+pub mod UsesQuiet
+pub mod UsesGiven
 pub mod UsesWalks
 pub mod UsesFields
 pub mod UsesNodes

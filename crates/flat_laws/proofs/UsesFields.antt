@@ -1,5 +1,5 @@
 -- What stands between the braces of a node is read, where the nodes inside are.
-use Rattle.std.proofs.Common.{◌≡◌, ℕ, if◌then◌else◌, nat_lt, List, [], ◌∷◌, ◌++◌, length, map, Option, Some, None, Ok, refl, sym, subst, ◌∙◌, ap}
+use Rattle.std.proofs.Common.{◌≡◌, ℕ, List, [], ◌∷◌, ◌++◌, length, map, Option, Some, None, refl, sym, subst, ◌∙◌, ap}
 use Rattle.std.specs.List.{AllByRecursion}
 use Rattle.std.proofs.lemmas.List.{append-nil, append_assoc, map-append}
 use Rattle.classic_tree.specs.declared.tree.Given.{Given}
@@ -7,20 +7,20 @@ use Rattle.classic_tree.specs.declared.tree.Given.TheVariants as given
 use Rattle.classic_tree.specs.declared.tree.NodeText.{NodeText}
 use Rattle.classic_tree.specs.declared.tree.RawValue.{RawValue}
 use Rattle.classic_tree.specs.declared.tree.RawValue.TheVariants as value
-use Rattle.flat_document.specs.declared.fault.ExpandFaultKind.TheVariants.{FieldTwice, TooLarge, UnknownField}
-use Rattle.proto_declarations.specs.Sight.{Sight as Declared}
-use Rattle.proto_fields.specs.Fields.{Signature, of_interface}
-use Rattle.proto_fields.specs.Owners.{Owner, Place, admits, has_field, is_taken, known, with_field}
-use Rattle.proto_fields.specs.Values.{item_count, max_fields}
-use Rattle.proto_fields.specs.declared.given.KnownField.{KnownField}
+use Rattle.proto_fields.specs.Fields.{Signature}
+use Rattle.proto_fields.specs.Owners.{Owner, known, with_field}
+use Rattle.proto_fields.specs.Values.{item_count}
 use Rattle.proto_steps.specs.Limits.{count_items}
-use Rattle.proto_steps.specs.Machine.{Machine, Outcome, Walk, ◌>>=◌, keep, pure, refuse, through}
-use Rattle.proto_steps.specs.Meaning.{add_declaration, add_declared_is, add_given, add_is, add_known, add_known_is, add_new, add_number, add_taken, add_tied, add_value, node_does, numbered, tie_declared, unless_own, with_number, with_place}
+use Rattle.proto_steps.specs.Machine.{Walk, ◌>>=◌, keep, pure, through}
+use Rattle.proto_steps.specs.Meaning.{add_declaration, add_given, add_new, add_number, add_value, node_does, numbered}
 use Rattle.flat_laws.specs.Closings.{Braces, IsOfNode, in_given, in_node, in_value}
 use Rattle.flat_laws.specs.Order.{nodes_in}
-use Rattle.flat_laws.specs.Uses.{Reading, read_given, read_node, read_value, some}
+use Rattle.flat_laws.specs.Readings.{read_given, read_node, read_value}
+use Rattle.flat_laws.specs.Uses.{Reading, some, steps}
 use Rattle.flat_laws.proofs.Trees.{OfGiven, OfValue}
-use Rattle.flat_laws.proofs.UsesWalks.{After, Ends, Fields, Holds, Reads, Same, after_quiet, after_same, after_then, count_items_quiet, ends_choice, ends_then, ends_through, ends_weaker, holds_none, holds_still, holds_value, reads_same, same_walk, stay_more}
+use Rattle.flat_laws.proofs.UsesWalks.{After, Holds, Reads, after_quiet, after_same, after_then, ends_through, holds_none, holds_still, holds_value, reads_same}
+use Rattle.flat_laws.proofs.UsesQuiet.{Ends, Fields, Same, count_items_quiet, ends_then, ends_weaker, same_walk, stay_more}
+use Rattle.flat_laws.proofs.UsesGiven.{add_declared_is_reads, add_is_reads, add_known_reads, with_place_reads}
 
 abbrev OfNodes : List Braces → Type 0
 OfNodes braces = AllByRecursion IsOfNode braces
@@ -34,7 +34,7 @@ abbrev pub NodeAfter : Walk → Reading → Reading → ℕ → Walk → Type 0
 NodeAfter w r s k v = After w r v s × (s.here ≡ r.here ++ Some k ∷ [])
 
 abbrev pub NodeReads : NodeText → Type 0
-NodeReads n = OfNodes (in_node n) → (w : Walk) (r : Reading) → Reads w r → Ends (NodeAfter w r (read_node n r)) (node_does n w)
+NodeReads n = OfNodes (in_node n) → (w : Walk) (r : Reading) → Reads w r → Ends (NodeAfter w r (read_node steps n r)) (node_does n w)
 
 abbrev pub NodesRead : RawValue NodeText → Type 0
 NodesRead v = OfValue NodeReads v
@@ -56,30 +56,30 @@ abbrev Listed : List (Option ℕ) → List ℕ → Walk → Reading → Type 0
 Listed start ks v s = s.here ≡ start ++ map some ks
 
 add_number_reads : (start : List (Option ℕ)) (n : NodeText) (ks : List ℕ) (w : Walk) (r : Reading) → NodeReads n → OfNodes (in_node n) → Reads w r → Listed start ks w r →
-    Ends (λ y v. After w r v (read_node n r) × Listed start y v (read_node n r)) (add_number node_does n ks w)
+    Ends (λ y v. After w r v (read_node steps n r) × Listed start y v (read_node steps n r)) (add_number node_does n ks w)
 add_number_reads start n ks w r h t g e =
-    ends_then (NodeAfter w r (read_node n r)) (λ y v. After w r v (read_node n r) × Listed start y v (read_node n r)) (node_does n w) (λ k. pure (ks ++ k ∷ [])) (h t w r g)
+    ends_then (NodeAfter w r (read_node steps n r)) (λ y v. After w r v (read_node steps n r) × Listed start y v (read_node steps n r)) (node_does n w) (λ k. pure (ks ++ k ∷ [])) (h t w r g)
     (λ k v p. (
       p.0,
       p.1 ∙ ap (λ ns. ns ++ Some k ∷ []) e ∙ append_assoc start (map some ks) (Some k ∷ []) ∙ ap (λ ns. start ++ ns) (sym (map-append some ks (k ∷ []))),
     ))
 
 numbered_reads : (v : RawValue NodeText) → NodesRead v → OfNodes (in_value in_node v) → (w : Walk) (r : Reading) → Reads w r →
-    Ends (ValueAfter w r (read_value read_node v r)) (numbered node_does v w)
+    Ends (ValueAfter w r (read_value (read_node steps) v r)) (numbered node_does v w)
 numbered_reads value.Null h t w r g = no_nodes value.Null w r refl g
 numbered_reads (value.Truth truth) h t w r g = no_nodes (value.Truth truth) w r refl g
 numbered_reads (value.String text) h t w r g = no_nodes (value.String text) w r refl g
 numbered_reads (value.Numbers numbers) h t w r g = no_nodes (value.Numbers numbers) w r refl g
 numbered_reads (value.Node n) h t w r g =
-    ends_then (NodeAfter w r (read_node n r)) (ValueAfter w r (read_node n r)) (node_does n w) (λ k. pure (value.Node k)) (h t w r g) (λ k v p. p)
+    ends_then (NodeAfter w r (read_node steps n r)) (ValueAfter w r (read_node steps n r)) (node_does n w) (λ k. pure (value.Node k)) (h t w r g) (λ k v p. p)
 numbered_reads value.EmptyList h t w r g = no_nodes value.EmptyList w r refl g
 numbered_reads (value.TruthList truths) h t w r g = no_nodes (value.TruthList truths) w r refl g
 numbered_reads (value.StringList texts) h t w r g = no_nodes (value.StringList texts) w r refl g
 numbered_reads (value.NumberList numbers) h t w r g = no_nodes (value.NumberList numbers) w r refl g
 numbered_reads (value.NodeList nodes) h t w r g =
-    let s = read_value read_node (value.NodeList nodes) r in
+    let s = read_value (read_node steps) (value.NodeList nodes) r in
     ends_then (λ ks v. After w r v s × Listed r.here ks v s) (ValueAfter w r s) (through (add_number node_does) nodes [] w) (λ ks. pure (value.NodeList ks))
-    (ends_through NodeReads in_node read_node (add_number node_does) (Listed r.here) (add_number_reads r.here) nodes [] w r h t g (sym (append-nil r.here)))
+    (ends_through NodeReads in_node (read_node steps) (add_number node_does) (Listed r.here) (add_number_reads r.here) nodes [] w r h t g (sym (append-nil r.here)))
     (λ ks v p. p)
 
 -- the value is kept, and the field has it
@@ -96,9 +96,9 @@ then_fields : (w v x : Walk) (r s : Reading) (fields : Fields) → After w r v s
 then_fields w v x r s fields h k = (after_then w v x r s s h k.0, k.1)
 
 add_new_reads : (line number : ℕ) (v : RawValue NodeText) (fields : Fields) → NodesRead v → OfNodes (in_value in_node v) → (w : Walk) (r : Reading) → Reads w r → Holds w.store.values fields r.here →
-    Ends (FieldsAfter w r (read_value read_node v r)) (add_new node_does line number v fields w)
+    Ends (FieldsAfter w r (read_value (read_node steps) v r)) (add_new node_does line number v fields w)
 add_new_reads line number v fields h t w r g p =
-    let s = read_value read_node v r in
+    let s = read_value (read_node steps) v r in
     ends_then (λ _ x. Same w x) (FieldsAfter w r s) (count_items (item_count v) w) (λ _. numbered node_does v >>= λ k. keep k >>= λ n. pure (with_field line number fields (Some n)))
     (count_items_quiet (item_count v) w)
     (λ _ x q. ends_then (ValueAfter x r s) (FieldsAfter w r s) (numbered node_does v x) (λ k. keep k >>= λ n. pure (with_field line number fields (Some n)))
@@ -107,71 +107,22 @@ add_new_reads line number v fields h t w r g p =
     (λ fs z b. then_fields w y z r s fs (after_then w x y r r s (after_quiet w x r q g) a.0) b)
     (kept_reads line number fields k y s r.here a.0.reads (holds_still x.store.values y.store.values fields r.here a.0.values (holds_still w.store.values x.store.values fields r.here q.values p)) a.1)))
 
--- ---- an IS has no interface here
-
-no_is : (line : ℕ) (field name : List ℕ) (owner : Owner) (fields : Fields) (o : Option KnownField) (w : Walk) (Q : Fields → Walk → Type 0) → w.sight.interface ≡ [] →
-    Ends Q (add_known_is line field name owner fields o w)
-no_is line field name owner fields None w Q e = tt
-no_is line field name owner fields (Some inner) w Q e = subst (λ i. Ends Q (add_tied line field owner fields inner (of_interface i name) w)) (sym e) tt
-
-add_is_reads : (line : ℕ) (field name : List ℕ) (owner : Owner) (fields : Fields) (w : Walk) (Q : Fields → Walk → Type 0) → w.sight.interface ≡ [] → Ends Q (add_is line field name owner fields w)
-unfolding add_is
-add_is_reads line field name owner fields w Q e = no_is line field name owner fields (known owner fields field) w Q e
-
-add_declared_is_reads : (s : Signature) (name : List ℕ) (owner : Owner) (fields : Fields) (w : Walk) (Q : Fields → Walk → Type 0) → w.sight.interface ≡ [] → Ends Q (add_declared_is s name owner fields w)
-unfolding add_declared_is
-add_declared_is_reads s name owner fields w Q e = subst (λ i. Ends Q (tie_declared s owner fields (of_interface i name) w)) (sym e) tt
-
--- ---- declarations of a Script
-
-module _ (line : ℕ) (fields : Fields) (f : ℕ → Machine Fields) (w : Walk) (Q : Fields → Walk → Type 0) (h : (n : ℕ) → Ends Q (f n w)) where
-  with_number_reads : (o : Option KnownField) → Ends Q (with_number line fields f o w)
-  with_number_reads None = tt
-  with_number_reads (Some field) =
-      ends_choice Q (has_field field.number fields) (refuse FieldTwice line) (if nat_lt field.number max_fields then f field.number else refuse TooLarge 0) w tt
-      (ends_choice Q (nat_lt field.number max_fields) (f field.number) (refuse TooLarge 0) w (h field.number) tt)
-
-  unless_own_reads : (owner : Owner) (name : List ℕ) (o : Option KnownField) → Ends Q (unless_own line owner fields name f o w)
-  unless_own_reads owner name None = with_number_reads (owner.declares name)
-  unless_own_reads owner name (Some field) = tt
-
-  with_place_reads : (owner : Owner) (name : List ℕ) → Ends Q (with_place line owner fields name f w)
-  unfolding with_place
-  with_place_reads owner name = unless_own_reads owner name (owner.fields name)
-
--- ---- a node keeps what it is given
-
-all_taken : (proto : Option Place) (name : List ℕ) (declared : Declared) (o q : Outcome Fields) (Q : Fields → Walk → Type 0) → proto ≡ None → Ends Q o → Ends Q (if is_taken proto name declared then o else q)
-all_taken None name declared o q Q e h = h
-all_taken (Some place) name declared o q Q e h = absurd cc
-
-add_taken_reads : (line : ℕ) (name : List ℕ) (owner : Owner) (number : ℕ) (v : RawValue NodeText) (fields : Fields) (w : Walk) (Q : Fields → Walk → Type 0) → owner.proto ≡ None →
-    Ends Q (add_new node_does line number v fields w) → Ends Q (add_taken node_does line name owner number v fields w)
-add_taken_reads line name owner number v fields w Q e h =
-    all_taken owner.proto name w.declared (add_new node_does line number v fields w) (Ok (with_field line number fields None, w)) Q e h
-
-add_known_reads : (line : ℕ) (name : List ℕ) (v : RawValue NodeText) (owner : Owner) (fields : Fields) (o : Option KnownField) (w : Walk) (Q : Fields → Walk → Type 0) → owner.proto ≡ None →
-    ((number : ℕ) → Ends Q (add_new node_does line number v fields w)) → Ends Q (add_known node_does line name v owner fields o w)
-add_known_reads line name v owner fields None w Q e h = tt
-add_known_reads line name v owner fields (Some field) w Q e h =
-    ends_choice Q (admits owner.proto field) (if has_field field.number fields then refuse FieldTwice line else add_taken node_does line name owner field.number v fields) (refuse UnknownField line) w
-    (ends_choice Q (has_field field.number fields) (refuse FieldTwice line) (add_taken node_does line name owner field.number v fields) w tt
-    (add_taken_reads line name owner field.number v fields w Q e (h field.number)))
-    tt
+-- ---- what is given
 
 pub add_given_reads : (line : ℕ) (name : List ℕ) (x : Given NodeText) (owner : Owner) (fields : Fields) → owner.proto ≡ None → GivenReads x → OfNodes (in_given in_node x) → (w : Walk) (r : Reading) → Reads w r →
-    Holds w.store.values fields r.here → Ends (FieldsAfter w r (read_given read_node x r)) (add_given node_does line name x owner fields w)
+    Holds w.store.values fields r.here → Ends (FieldsAfter w r (read_given (read_node steps) x r)) (add_given node_does line name x owner fields w)
 unfolding add_value
 add_given_reads line name given.Nothing owner fields e h t w r g p = (after_quiet w w r (same_walk w) g, p)
 add_given_reads line name (given.Value v) owner fields e h t w r g p =
-    add_known_reads line name v owner fields (known owner fields name) w (FieldsAfter w r (read_value read_node v r)) e (λ number. add_new_reads line number v fields h t w r g p)
+    add_known_reads line name v owner fields (known owner fields name) w (FieldsAfter w r (read_value (read_node steps) v r)) e (λ field k. add_new_reads line field.number v fields h t w r g p)
 add_given_reads line name (given.Is other) owner fields e h t w r g p = add_is_reads line name other owner fields w (FieldsAfter w r r) g.interface
 
 pub add_declaration_reads : (s : Signature) (x : Given NodeText) (owner : Owner) (fields : Fields) → GivenReads x → OfNodes (in_given in_node x) → (w : Walk) (r : Reading) → Reads w r →
-    Holds w.store.values fields r.here → Ends (FieldsAfter w r (read_given read_node x r)) (add_declaration node_does s x owner fields w)
+    Holds w.store.values fields r.here → Ends (FieldsAfter w r (read_given (read_node steps) x r)) (add_declaration node_does s x owner fields w)
 add_declaration_reads s given.Nothing owner fields h t w r g p =
-    with_place_reads s.line fields (λ n. pure (with_field s.line n fields None)) w (FieldsAfter w r r)
-    (λ n. (after_quiet w w r (same_walk w) g, holds_none w.store.values s.line n fields r.here p)) owner s.name
+    with_place_reads s.line fields (λ n. pure (with_field s.line n fields None)) w (FieldsAfter w r r) owner s.name
+    (λ n k. (after_quiet w w r (same_walk w) g, holds_none w.store.values s.line n fields r.here p))
 add_declaration_reads s (given.Value v) owner fields h t w r g p =
-    with_place_reads s.line fields (λ n. add_new node_does s.line n v fields) w (FieldsAfter w r (read_value read_node v r)) (λ n. add_new_reads s.line n v fields h t w r g p) owner s.name
+    with_place_reads s.line fields (λ n. add_new node_does s.line n v fields) w (FieldsAfter w r (read_value (read_node steps) v r)) owner s.name
+    (λ n k. add_new_reads s.line n v fields h t w r g p)
 add_declaration_reads s (given.Is name) owner fields h t w r g p = add_declared_is_reads s name owner fields w (FieldsAfter w r r) g.interface

@@ -11,7 +11,7 @@ use Rattle.classic_tree.specs.declared.tree.Document.{Document}
 use Rattle.classic_tree.specs.declared.tree.Given.{Given}
 use Rattle.classic_tree.specs.declared.tree.NodeText.{NodeText}
 use Rattle.classic_tree.specs.declared.tree.NodeText.TheVariants as node
-use Rattle.classic_tree.specs.declared.tree.ProtoText.{ProtoText, out-ProtoText}
+use Rattle.classic_tree.specs.declared.tree.ProtoText.{ProtoText}
 use Rattle.classic_tree.specs.declared.tree.RouteText.{RouteText}
 use Rattle.classic_tree.specs.declared.tree.Statement.{Statement}
 use Rattle.classic_tree.specs.declared.tree.Statement.TheVariants as statement
@@ -20,28 +20,29 @@ use Rattle.flat_document.specs.declared.flat.Flat.{Flat}
 use Rattle.flat_document.specs.declared.flat.FlatNode.{FlatNode}
 use Rattle.flat_document.specs.declared.flat.FlatRoute.{FlatRoute}
 use Rattle.flat_document.specs.declared.flat.Header.{Header}
-use Rattle.proto_declarations.specs.Meaning.{statement as checked}
-use Rattle.proto_declarations.specs.Sight.{Sight as Declared}
 use Rattle.proto_ends.specs.Pairs.{routes_of}
-use Rattle.proto_fields.specs.Fields.{Signature, signature, signatures}
-use Rattle.proto_fields.specs.Owners.{Owner, Place}
-use Rattle.proto_steps.proofs.Equations.{item_does-declaration, item_does-field, item_does-proto, item_does-route, node_does-full, node_does-use, proto_does_is, statement_does-node, statement_does-proto, statement_does-route}
+use Rattle.proto_fields.specs.Fields.{Signature, signature}
+use Rattle.proto_fields.specs.Owners.{Owner}
+use Rattle.proto_steps.proofs.Equations.{item_does-declaration, item_does-field, item_does-proto, item_does-route, node_does-full, node_does-use, statement_does-node, statement_does-proto, statement_does-route}
 use Rattle.proto_steps.specs.Limits.{begin_node}
 use Rattle.proto_steps.specs.Machine.{Begun, Machine, Outcome, Walk, ◌>>=◌, meet, pure, through, use_node, used}
-use Rattle.proto_steps.specs.Meaning.{OnFields, add_defaults, close_node, declare, declared_in, full_node, item_does, items_do, node_does, node_owner, of_word, proto_does, statement_does, typed_node}
+use Rattle.proto_steps.specs.Meaning.{OnFields, close_node, declared_in, full_node, item_does, items_do, node_does, node_owner, of_word, proto_does, statement_does, typed_node}
 use Rattle.proto_steps.specs.Routes.{wire}
 use Rattle.proto_steps.specs.declared.held.Named.{Named}
 use Rattle.proto_steps.specs.declared.held.PlacedNode.{PlacedNode}
-use Rattle.proto_walk.specs.Whole.{add_node, at_top, check, flat, flat_node, flat_of, grown, header_of, label_at, nothing, put_statement, with_declared, with_routes}
+use Rattle.proto_walk.specs.Whole.{add_node, at_top, check, flat, flat_node, flat_of, grown, header_of, label_at, nothing, put_statement, with_routes}
 use Rattle.flat_laws.specs.Closings.{Braces, IsOfNode, closings, in_item, in_statement}
-use Rattle.flat_laws.specs.Uses.{Reading, Step, closes, each, held, named, nothing_read, opens, read, read_given, read_item, read_node, read_statement, some, stands}
+use Rattle.flat_laws.specs.Readings.{Step, each, read_given, read_item, read_node, read_statement}
+use Rattle.flat_laws.specs.Uses.{Reading, closes, held, named, nothing_read, opens, read, some, stands, steps}
 use Rattle.flat_laws.proofs.ClosingParts.{in_declaration, in_field, in_full, in_node_statement}
 use Rattle.flat_laws.proofs.Trees.{Layers, every}
 use Rattle.flat_laws.proofs.UsesFields.{FieldsAfter, GivenReads, NodeAfter, NodeReads, add_declaration_reads, add_given_reads}
 use Rattle.flat_laws.proofs.UsesNames.{found, found_named, node_of, open_braces}
-use Rattle.flat_laws.proofs.UsesParts.{read-declaration, read-field, read-full, read-item-proto, read-item-route, read-node-statement, read-proto, read-route, read-use}
-use Rattle.flat_laws.proofs.UsesWalks.{After, Ends, Fields, Holds, Quiet, Reads, Same, Values, after_quiet, after_same, after_then, contents, ends_then, ends_through, ends_weaker, holds_still, meet_quiet, reads_same, stay_same, wire_quiet}
-use Rattle.flat_laws.proofs.UsesNodes.{Begins, begin_reads, close_reads, stay_on}
+use Rattle.flat_laws.proofs.Readings.{read-declaration, read-field, read-full, read-item-proto, read-item-route, read-node-statement, read-proto, read-route, read-use}
+use Rattle.flat_laws.proofs.UsesWalks.{After, Holds, Reads, after_quiet, after_same, after_then, contents, ends_through, holds_still, reads_same}
+use Rattle.flat_laws.proofs.UsesNodes.{Begins, begin_reads, close_reads}
+use Rattle.flat_laws.proofs.Lists.{all_split}
+use Rattle.flat_laws.proofs.UsesQuiet.{Ends, Fields, Quiet, Same, Values, check_quiet, ends_then, ends_weaker, meet_quiet, prototype_quiet, stay_same, stay_then, wire_quiet}
 
 abbrev OfNodes : List Braces → Type 0
 OfNodes braces = AllByRecursion IsOfNode braces
@@ -49,7 +50,7 @@ OfNodes braces = AllByRecursion IsOfNode braces
 abbrev ItemReads : BodyItem → Type 0
 ItemReads i =
     OfNodes (in_item i) → (o : Owner) (fields : Fields) → o.proto ≡ None → (w : Walk) (r : Reading) → Reads w r → Holds w.store.values fields r.here →
-    Ends (FieldsAfter w r (read_item i r)) (item_does i o fields w)
+    Ends (FieldsAfter w r (read_item steps i r)) (item_does i o fields w)
 
 -- a statement that is a node is a root
 abbrev rooted : Option ℕ → List (Option ℕ)
@@ -60,7 +61,7 @@ abbrev RootAfter : Walk → Reading → Reading → Option ℕ → Walk → Type
 RootAfter w r s k v = After w r v s × (s.here ≡ r.here ++ rooted k)
 
 abbrev StatementReads : Statement → Type 0
-StatementReads s = OfNodes (in_statement s) → (w : Walk) (r : Reading) → Reads w r → Ends (RootAfter w r (read_statement s r)) (statement_does s w)
+StatementReads s = OfNodes (in_statement s) → (w : Walk) (r : Reading) → Reads w r → Ends (RootAfter w r (read_statement steps s r)) (statement_does s w)
 
 abbrev ProtoReads : ProtoText → Type 0
 ProtoReads p = Quiet (proto_does p)
@@ -73,12 +74,12 @@ by_equation Q s same o p e f h = subst (λ x. Ends (Q x) o) (sym e) (subst (λ x
 
 field_layer : (line : ℕ) (name : List ℕ) (g : Given NodeText) → GivenReads g → ItemReads (item.Field line name g)
 field_layer line name g h t o fields e w r k p =
-    by_equation (FieldsAfter w r) (read_item (item.Field line name g) r) (read_given read_node g r) (item_does (item.Field line name g) o fields w) _ (read-field line name g r) (item_does-field line name g o fields w)
+    by_equation (FieldsAfter w r) (read_item steps (item.Field line name g) r) (read_given (read_node steps) g r) (item_does (item.Field line name g) o fields w) _ (read-field steps line name g r) (item_does-field line name g o fields w)
     (add_given_reads line name g o fields e h (subst OfNodes (in_field line name g) t) w r k p)
 
 declaration_layer : (d : Declaration NodeText) → GivenReads d.given → ItemReads (item.Declaration d)
 declaration_layer d h t o fields e w r k p =
-    by_equation (FieldsAfter w r) (read_item (item.Declaration d) r) (read_given read_node d.given r) (item_does (item.Declaration d) o fields w) _ (read-declaration d r) (item_does-declaration d o fields w)
+    by_equation (FieldsAfter w r) (read_item steps (item.Declaration d) r) (read_given (read_node steps) d.given r) (item_does (item.Declaration d) o fields w) _ (read-declaration steps d r) (item_does-declaration d o fields w)
     (add_declaration_reads (signature d) d.given o fields h (subst OfNodes (in_declaration d) t) w r k p)
 
 -- a step that says nothing of the fields
@@ -92,12 +93,12 @@ quiet_fields m fields w r h g p =
 
 item_route_layer : (route : RouteText) → ItemReads (item.Route route)
 item_route_layer route t o fields e w r g p =
-    by_equation (FieldsAfter w r) (read_item (item.Route route) r) r (item_does (item.Route route) o fields w) _ (read-item-route route r) (item_does-route route o fields w)
+    by_equation (FieldsAfter w r) (read_item steps (item.Route route) r) r (item_does (item.Route route) o fields w) _ (read-item-route steps route r) (item_does-route route o fields w)
     (quiet_fields (wire route) fields w r (wire_quiet route) g p)
 
 item_proto_layer : (q : ProtoText) → ProtoReads q → ItemReads (item.Proto q)
 item_proto_layer q h t o fields e w r g p =
-    by_equation (FieldsAfter w r) (read_item (item.Proto q) r) r (item_does (item.Proto q) o fields w) _ (read-item-proto q r) (item_does-proto q o fields w)
+    by_equation (FieldsAfter w r) (read_item steps (item.Proto q) r) r (item_does (item.Proto q) o fields w) _ (read-item-proto steps q r) (item_does-proto q o fields w)
     (quiet_fields (proto_does q) fields w r h g p)
 
 -- ---- USE
@@ -118,19 +119,19 @@ use_reads line name w r g = used_reads line name w r (w.sight.names name) g (sym
 
 used_layer : (line : ℕ) (name : List ℕ) → NodeReads (node.Use line name)
 used_layer line name t w r g =
-    by_equation (NodeAfter w r) (read_node (node.Use line name) r) (stands (named name r.opened) r) (node_does (node.Use line name) w) _ (read-use line name r) (node_does-use line name w)
+    by_equation (NodeAfter w r) (read_node steps (node.Use line name) r) (stands (named name r.opened) r) (node_does (node.Use line name) w) _ (read-use steps line name r) (node_does-use line name w)
     (use_reads line name w r g)
 
 -- ---- a node
 
-abbrev OnFieldsRead : OnFields → Step → Type 0
+abbrev OnFieldsRead : OnFields → Step Reading → Type 0
 OnFieldsRead items step =
     (o : Owner) (fields : Fields) (w : Walk) (r : Reading) → o.proto ≡ None → Reads w r → Holds w.store.values fields r.here → Ends (FieldsAfter w r (step r)) (items o fields w)
 
 nothing_held : (values : Values) → Holds values [] []
 nothing_held values = record { nodes = refl; there = tt }
 
-typed_reads : (line : ℕ) (name : Option (List ℕ)) (t : NodeType) (ss : List Signature) (items : OnFields) (step : Step) → OnFieldsRead items step → (w : Walk) (r : Reading) → Reads w r →
+typed_reads : (line : ℕ) (name : Option (List ℕ)) (t : NodeType) (ss : List Signature) (items : OnFields) (step : Step Reading) → OnFieldsRead items step → (w : Walk) (r : Reading) → Reads w r →
     Ends (NodeAfter w r (closes name r (step (opens name r)))) (typed_node line name t ss items w)
 unfolding typed_node
 typed_reads line name t ss items step h w r g =
@@ -142,41 +143,37 @@ typed_reads line name t ss items step h w r g =
     (λ _ x q. ends_then (FieldsAfter x (opens name r) s) (NodeAfter w r (closes name r s)) (items (node_owner at t ss) [] x) (λ fields. close_node line name at t ss fields)
     (h (node_owner at t ss) [] x (opens name r) refl (reads_same v x (opens name r) q b.reads) (nothing_held x.store.values))
     (λ fields y p. close_reads line name at t ss fields w y r s p.0.more b.place (p.0.opened ∙ append_assoc r.opened (open_braces name ∷ []) p.0.more) p.0.reads
-    (stay_on w.store.values x.store.values y.store.values (stay_on w.store.values v.store.values x.store.values b.values q.values) p.0.values) p.1)))
+    (stay_then w.store.values x.store.values y.store.values (stay_then w.store.values v.store.values x.store.values b.values q.values) p.0.values) p.1)))
 
-of_word_reads : (line : ℕ) (name : Option (List ℕ)) (word : List ℕ) (ss : List Signature) (items : OnFields) (step : Step) → OnFieldsRead items step → (t : Option NodeType) → is_some t ≡ true →
+of_word_reads : (line : ℕ) (name : Option (List ℕ)) (word : List ℕ) (ss : List Signature) (items : OnFields) (step : Step Reading) → OnFieldsRead items step → (t : Option NodeType) → is_some t ≡ true →
     (w : Walk) (r : Reading) → Reads w r → Ends (NodeAfter w r (closes name r (step (opens name r)))) (of_word line name word ss items t w)
 of_word_reads line name word ss items step h None k w r g = absurd cc
 of_word_reads line name word ss items step h (Some t) k w r g = typed_reads line name t ss items step h w r g
 
 item_reads : (o : Owner) → o.proto ≡ None → (i : BodyItem) (fields : Fields) (w : Walk) (r : Reading) → ItemReads i → OfNodes (in_item i) → Reads w r → Holds w.store.values fields r.here →
-    Ends (FieldsAfter w r (read_item i r)) (item_does i o fields w)
+    Ends (FieldsAfter w r (read_item steps i r)) (item_does i o fields w)
 item_reads o e i fields w r h t g p = h t o fields e w r g p
 
-items_read : (items : List BodyItem) → AllByRecursion ItemReads items → OfNodes (flat_map in_item items) → OnFieldsRead (items_do items) (each read_item items)
+items_read : (items : List BodyItem) → AllByRecursion ItemReads items → OfNodes (flat_map in_item items) → OnFieldsRead (items_do items) (each (read_item steps) items)
 unfolding items_do
 items_read items h t o fields w r e g p =
-    ends_through ItemReads in_item read_item (λ i. item_does i o) (λ fs v s. Holds v.store.values fs s.here) (item_reads o e) items fields w r h t g p
-
-all_last : (xs ys : List Braces) → OfNodes (xs ++ ys) → OfNodes xs × OfNodes ys
-all_last [] ys h = (tt, h)
-all_last (x ∷ xs) ys h = let r = all_last xs ys h.1 in ((h.0, r.0), r.1)
+    ends_through ItemReads in_item (read_item steps) (λ i. item_does i o) (λ fs v s. Holds v.store.values fs s.here) (item_reads o e) items fields w r h t g p
 
 full_layer : (line : ℕ) (name : Option (List ℕ)) (word : List ℕ) (items : List BodyItem) → AllByRecursion ItemReads items → NodeReads (node.Full line name word items)
 unfolding full_node
 full_layer line name word items h t w r g =
     let last : Braces = record { word = word; name = name } in
-    let split = all_last (flat_map in_item items) (last ∷ []) (subst OfNodes (in_full line name word items) t) in
-    by_equation (NodeAfter w r) (read_node (node.Full line name word items) r) (closes name r (each read_item items (opens name r))) (node_does (node.Full line name word items) w) _
-    (read-full line name word items r) (node_does-full line name word items w)
-    (of_word_reads line name word (declared_in items) (items_do items) (each read_item items) (items_read items h split.0) (node_type_named word) split.1.0 w r g)
+    let split = all_split IsOfNode (flat_map in_item items) (last ∷ []) (subst OfNodes (in_full line name word items) t) in
+    by_equation (NodeAfter w r) (read_node steps (node.Full line name word items) r) (closes name r (each (read_item steps) items (opens name r))) (node_does (node.Full line name word items) w) _
+    (read-full steps line name word items r) (node_does-full line name word items w)
+    (of_word_reads line name word (declared_in items) (items_do items) (each (read_item steps) items) (items_read items h split.0) (node_type_named word) split.1.0 w r g)
 
 -- ---- statements
 
 node_layer : (n : NodeText) → NodeReads n → StatementReads (statement.Node n)
 node_layer n h t w r g =
-    by_equation (RootAfter w r) (read_statement (statement.Node n) r) (read_node n r) (statement_does (statement.Node n) w) _ (read-node-statement n r) (statement_does-node n w)
-    (ends_then (NodeAfter w r (read_node n r)) (RootAfter w r (read_node n r)) (node_does n w) (λ k. pure (Some k)) (h (subst OfNodes (in_node_statement n) t) w r g) (λ k v p. p))
+    by_equation (RootAfter w r) (read_statement steps (statement.Node n) r) (read_node steps n r) (statement_does (statement.Node n) w) _ (read-node-statement steps n r) (statement_does-node n w)
+    (ends_then (NodeAfter w r (read_node steps n r)) (RootAfter w r (read_node steps n r)) (node_does n w) (λ k. pure (Some k)) (h (subst OfNodes (in_node_statement n) t) w r g) (λ k v p. p))
 
 no_root : (m : Machine (Unit {0})) (w : Walk) (r : Reading) → Quiet m → Reads w r → Ends (RootAfter w r r) ((m >>= λ _. pure None) w)
 no_root m w r h g =
@@ -184,23 +181,13 @@ no_root m w r h g =
 
 route_layer : (route : RouteText) → StatementReads (statement.Route route)
 route_layer route t w r g =
-    by_equation (RootAfter w r) (read_statement (statement.Route route) r) r (statement_does (statement.Route route) w) _ (read-route route r) (statement_does-route route w)
+    by_equation (RootAfter w r) (read_statement steps (statement.Route route) r) r (statement_does (statement.Route route) w) _ (read-route steps route r) (statement_does-route route w)
     (no_root (wire route) w r (wire_quiet route) g)
 
 proto_layer : (p : ProtoText) → ProtoReads p → StatementReads (statement.Proto p)
 proto_layer p h t w r g =
-    by_equation (RootAfter w r) (read_statement (statement.Proto p) r) r (statement_does (statement.Proto p) w) _ (read-proto p r) (statement_does-proto p w)
+    by_equation (RootAfter w r) (read_statement steps (statement.Proto p) r) r (statement_does (statement.Proto p) w) _ (read-proto steps p r) (statement_does-proto p w)
     (no_root (proto_does p) w r h g)
-
-declare_quiet : (line : ℕ) (name : List ℕ) (interface : List Signature) (defaults : Place → Fields → Machine Fields) (ms : List (Machine (Option ℕ))) → Quiet (declare line name interface defaults ms)
-unfolding declare
-declare_quiet line name interface defaults ms w = record { places = refl; nodes = refl; names = λ n. refl; interface = refl; values = stay_same w.store.values }
-
-prototype_layer : (p : ProtoText) → ProtoReads p
-prototype_layer p w =
-    subst (λ (q : Outcome (Unit {0})). Ends (λ _ v. Same w v) q) (sym (proto_does_is p w))
-    (declare_quiet (out-ProtoText p).line (out-ProtoText p).name (signatures (out-ProtoText p).interface)
-    (λ place. add_defaults node_does place (length (out-ProtoText p).interface) (out-ProtoText p).interface) (map statement_does (out-ProtoText p).body) w)
 
 layers : Layers ItemReads NodeReads StatementReads ProtoReads
 layers = record {
@@ -213,18 +200,10 @@ layers = record {
   node = node_layer;
   route = route_layer;
   proto = proto_layer;
-  prototype = λ p h k. prototype_layer p;
+  prototype = λ p h k. prototype_quiet p;
 }
 
 -- ---- the whole
-
-with_declared_quiet : (d : Result Declared ExpandFault) → Quiet (with_declared d)
-with_declared_quiet (Ok d) w = record { places = refl; nodes = refl; names = λ n. refl; interface = refl; values = stay_same w.store.values }
-with_declared_quiet (Err e) w = tt
-
-check_quiet : (s : Statement) → Quiet (check s)
-unfolding check
-check_quiet s w = with_declared_quiet ((checked s).does w.declared) w
 
 -- the roots are those that were read
 abbrev Rooted : List ℕ → Walk → Reading → Type 0
@@ -235,10 +214,10 @@ grown_is roots None = sym (append-nil (map some roots))
 grown_is roots (Some k) = map-append some roots (k ∷ [])
 
 at_top_reads : (s : Statement) (roots : List ℕ) (w : Walk) (r : Reading) → StatementReads s → OfNodes (in_statement s) → Reads w r → Rooted roots w r →
-    Ends (λ ks v. After w r v (read_statement s r) × Rooted ks v (read_statement s r)) (at_top s roots w)
+    Ends (λ ks v. After w r v (read_statement steps s r) × Rooted ks v (read_statement steps s r)) (at_top s roots w)
 unfolding put_statement
 at_top_reads s roots w r h t g e =
-    let u = read_statement s r in
+    let u = read_statement steps s r in
     ends_then (RootAfter w r u) (λ ks v. After w r v u × Rooted ks v u) (put_statement s w) (λ k. pure (grown roots k))
     (ends_then (λ _ v. Same w v) (RootAfter w r u) (check s w) (λ _. statement_does s) (check_quiet s w)
     (λ _ v q. ends_weaker (RootAfter v r u) (RootAfter w r u) (statement_does s v) (λ k x p. (after_then w v x r r u (after_quiet w v r q g) p.0, p.1)) (h t v r (reads_same w v r q g))))
@@ -272,5 +251,5 @@ pub uses_are_named : (d : Document) (f : Flat) → AllByRecursion IsOfNode (clos
 unfolding flat
 uses_are_named d f t e =
     subst (IfRead (read d)) e (flat_of_read (header_of d) (read d) (through at_top d.statements [] nothing)
-    (ends_through StatementReads in_statement read_statement at_top Rooted at_top_reads d.statements [] nothing nothing_read
+    (ends_through StatementReads in_statement (read_statement steps) at_top Rooted at_top_reads d.statements [] nothing nothing_read
     (every ItemReads NodeReads StatementReads ProtoReads layers d.statements) t reads_nothing refl))

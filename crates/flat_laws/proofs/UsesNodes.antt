@@ -1,8 +1,8 @@
 -- A node begins and closes: what is read so far stays, and with the node closed its fields hold
 -- what stands in it.
-use Rattle.std.proofs.Common.{◌≡◌, ℕ, Bool, true, false, if◌then◌else◌, nat_lt, List, [], ◌∷◌, ◌++◌, length, map, Option, Some, None, Result, Ok, Err, is_some, slice_set, refl, sym, subst, ap, ◌∙◌, arith, length-append}
+use Rattle.std.proofs.Common.{◌≡◌, ℕ, Bool, true, false, if◌then◌else◌, nat_lt, List, [], ◌∷◌, ◌++◌, length, map, Option, Some, None, Result, Ok, Err, slice_set, refl, sym, subst, ap, ◌∙◌}
 use Rattle.std.specs.List.{flat_map}
-use Rattle.std.proofs.lemmas.List.{append-nil, append_assoc, length-map, length-set, map-append}
+use Rattle.std.proofs.lemmas.List.{append-nil, append_assoc, length-map, map-append}
 use Rattle.x3d_values.specs.declared.node_type.NodeType.{NodeType}
 use Rattle.classic_tree.specs.declared.tree.RawValue.{RawValue}
 use Rattle.flat_document.specs.Fault.{fault}
@@ -24,7 +24,9 @@ use Rattle.flat_laws.specs.Order.{nodes_in}
 use Rattle.flat_laws.specs.Uses.{Opened, Reading, closes, opens, some}
 use Rattle.flat_laws.proofs.UsesFields.{NodeAfter}
 use Rattle.flat_laws.proofs.UsesNames.{closed_braces, found, found_open, known_found, numbered, open_braces, unnamed_found}
-use Rattle.flat_laws.proofs.UsesWalks.{Ends, Fields, Holds, Quiet, Reads, Same, Stay, Values, contents, ends_if, ends_then, in_field as field_nodes, numbers_at, stay_same}
+use Rattle.flat_laws.proofs.UsesWalks.{Holds, Reads, contents, in_field as field_nodes, numbers_at}
+use Rattle.flat_laws.proofs.Lists.{one_longer, same_length, set_middle}
+use Rattle.flat_laws.proofs.UsesQuiet.{Ends, Fields, Same, Stay, Values, ends_if, ends_then, stand_quiet, stay_same, stay_then}
 
 -- ---- a node begins
 
@@ -32,9 +34,6 @@ pub record Begins (name : Option (List ℕ)) (w : Walk) (r : Reading) (at : ℕ)
   pub place : at ≡ length r.opened
   pub reads : Reads v (opens name r)
   pub values : Stay w.store.values v.store.values
-
-one_longer : {A B : Type 0} (xs : List A) (ys : List B) (x : A) (y : B) → length xs ≡ length ys → length (xs ++ x ∷ []) ≡ length (ys ++ y ∷ [])
-one_longer xs ys x y e = omega (arith, e, length-append xs (x ∷ []), length-append ys (y ∷ []))
 
 pub begin_reads : (name : Option (List ℕ)) (w : Walk) (r : Reading) → Reads w r → Ends (Begins name w r) (begin_node w)
 unfolding begin_node
@@ -127,10 +126,6 @@ module _ (line : ℕ) (name : Option (List ℕ)) (t : NodeType) (interface : Lis
   unfolding put
   put_reads given h = with_fields_reads (flat_fields y.store.values given) (flat_held y.store.values here given [] h.nodes)
 
-stand_quiet : (at n : ℕ) → Quiet (stand at (Node n))
-unfolding stand
-stand_quiet at n w = record { places = length-set w.store.places at (Some (Node n)); nodes = refl; names = λ name. refl; interface = refl; values = stay_same w.store.values }
-
 -- the node is put in, and its name isn't known yet
 pub record Closing (w : Walk) (s : Reading) (n : ℕ) (x : Walk) : Type 0 where
   pub count : n ≡ length s.closed
@@ -140,9 +135,6 @@ pub record Closing (w : Walk) (s : Reading) (n : ℕ) (x : Walk) : Type 0 where
   pub interface : x.sight.interface ≡ []
   pub values : Stay w.store.values x.store.values
 
-pub stay_on : (us vs ws : Values) → Stay us vs → Stay vs ws → Stay us ws
-stay_on us vs ws h k n there = k n (ap (λ (o : Option (RawValue ℕ)). is_some o) (h n there) ∙ there) ∙ h n there
-
 put_closing : (w y : Walk) (s : Reading) (n : ℕ) (x : Walk) → Reads y s → Stay w.store.values y.store.values → Puts y s.here n x → Closing w s n x
 put_closing w y s n x g stay p = record {
   count = p.count ∙ sym (length-map y.store.nodes contents) ∙ ap (λ (ns : List (List (Option ℕ))). length ns) g.nodes;
@@ -150,7 +142,7 @@ put_closing w y s n x g stay p = record {
   places = p.places ∙ g.places;
   names = λ name. p.names name ∙ g.names name;
   interface = p.interface ∙ g.interface;
-  values = stay_on w.store.values y.store.values x.store.values stay p.values;
+  values = stay_then w.store.values y.store.values x.store.values stay p.values;
 }
 
 closing_still : (w : Walk) (s : Reading) (n : ℕ) (x z : Walk) → Same x z → Closing w s n x → Closing w s n z
@@ -160,15 +152,8 @@ closing_still w s n x z q c = record {
   places = q.places ∙ c.places;
   names = λ name. q.names name ∙ c.names name;
   interface = q.interface ∙ c.interface;
-  values = stay_on w.store.values x.store.values z.store.values c.values q.values;
+  values = stay_then w.store.values x.store.values z.store.values c.values q.values;
 }
-
-set_middle : {A : Type 0} (xs ys : List A) (x y : A) → slice_set (xs ++ x ∷ ys) (length xs) y ≡ xs ++ y ∷ ys
-set_middle [] ys x y = refl
-set_middle (z ∷ xs) ys x y = ap (λ (rest : List _). z ∷ rest) (set_middle xs ys x y)
-
-same_length : {A : Type 0} (xs ys : List A) (x y : A) → length (xs ++ x ∷ ys) ≡ length (xs ++ y ∷ ys)
-same_length xs ys x y = omega (arith, length-append xs (x ∷ ys), length-append xs (y ∷ ys))
 
 module _ (name : Option (List ℕ)) (w : Walk) (r s : Reading) (more : List Opened) (split : s.opened ≡ r.opened ++ open_braces name ∷ more) where
   abbrev now_closed : List Opened

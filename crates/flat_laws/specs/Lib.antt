@@ -1,4 +1,5 @@
 pub mod Closings
 pub mod Lines
 pub mod Order
+pub mod Readings
 pub mod Uses

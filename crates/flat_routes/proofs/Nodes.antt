@@ -18,9 +18,10 @@ use Rattle.proto_steps.specs.Meaning.{close_node}
 use Rattle.proto_steps.specs.declared.held.PlacedNode.{PlacedNode}
 use Rattle.flat_laws.specs.Uses.{Opened}
 use Rattle.flat_laws.proofs.UsesNames.{closed_braces, open_braces}
-use Rattle.flat_laws.proofs.UsesWalks.{Ends, Fields, ends_if, ends_then, ends_weaker}
+use Rattle.flat_laws.proofs.Lists.{set_middle}
+use Rattle.flat_laws.proofs.UsesQuiet.{Ends, Fields, ends_if, ends_then, ends_weaker}
 use Rattle.flat_routes.specs.Routes.{Reading, closes, last_from, opens}
-use Rattle.flat_routes.proofs.Places.{last_more, last_renamed, map_set, set_middle}
+use Rattle.flat_routes.proofs.Places.{last_more, last_renamed, map_set}
 use Rattle.flat_routes.proofs.Walks.{After, AreWires, IsShut, Names, Quiet, Reads, Same, begun_at, same_walk, stand_of, wires_stay}
 
 -- ---- a node begins

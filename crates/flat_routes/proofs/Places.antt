@@ -1,5 +1,5 @@
 -- The last braces of a name, by their place.
-use Rattle.std.proofs.Common.{◌≡◌, ℕ, ◌+◌, ◌<◌, Bool, true, false, if◌then◌else◌, List, [], ◌∷◌, ◌++◌, length, map, Option, Some, None, slice_get, slice_set, zero, suc, refl, sym, subst, ap, ◌∙◌, arith}
+use Rattle.std.proofs.Common.{◌≡◌, ℕ, ◌+◌, ◌<◌, Bool, true, false, if◌then◌else◌, List, [], ◌∷◌, ◌++◌, length, map, Option, Some, None, slice_set, zero, suc, refl, sym, subst, ap, ◌∙◌, arith}
 use Rattle.std.specs.Option.{option_or}
 use Rattle.flat_laws.specs.Uses.{Opened, has_name}
 use Rattle.flat_routes.specs.Routes.{last_from}
@@ -64,11 +64,3 @@ pub map_set : {A B : Type 0} (f : A → B) (xs : List A) (k : ℕ) (x : A) → m
 map_set f [] k x = refl
 map_set f (y ∷ ys) zero x = refl
 map_set f (y ∷ ys) (suc k) x = ap (λ (rest : List _). f y ∷ rest) (map_set f ys k x)
-
-pub set_middle : {A : Type 0} (xs ys : List A) (x y : A) → slice_set (xs ++ x ∷ ys) (length xs) y ≡ xs ++ y ∷ ys
-set_middle [] ys x y = refl
-set_middle (z ∷ xs) ys x y = ap (λ (rest : List _). z ∷ rest) (set_middle xs ys x y)
-
-pub get_last : {A : Type 0} (xs ys : List A) (x : A) → slice_get (xs ++ x ∷ ys) (length xs) ≡ Some x
-get_last [] ys x = refl
-get_last (z ∷ xs) ys x = get_last xs ys x

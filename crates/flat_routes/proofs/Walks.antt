@@ -15,9 +15,11 @@ use Rattle.proto_steps.specs.Machine.{Begun, Machine, Walk, keep, keep_name, thr
 use Rattle.proto_steps.specs.Routes.{add_wire, source_tip, target_tip, wire}
 use Rattle.flat_laws.specs.Closings.{Braces, IsOfNode}
 use Rattle.flat_laws.specs.Uses.{Opened}
-use Rattle.flat_laws.proofs.UsesWalks.{Ends, ends_if, ends_then, ends_weaker}
-use Rattle.flat_routes.specs.Routes.{ReadEnd, ReadRoute, Reading, Step, each, last_from, read_end, routes}
-use Rattle.flat_routes.proofs.Places.{IsWithin, get_last, last_within}
+use Rattle.flat_laws.specs.Readings.{Step, each}
+use Rattle.flat_laws.proofs.Lists.{all_append, all_split, get_middle}
+use Rattle.flat_laws.proofs.UsesQuiet.{Ends, ends_if, ends_then, ends_weaker}
+use Rattle.flat_routes.specs.Routes.{ReadEnd, ReadRoute, Reading, last_from, read_end, routes}
+use Rattle.flat_routes.proofs.Places.{IsWithin, last_within}
 
 -- ---- what was put in
 
@@ -96,30 +98,22 @@ after_nothing v r s e g = record { reads = g; more = []; opened = e ∙ sym (app
 pub after_quiet : (w v : Walk) (r : Reading) → Same w v → Reads w r → After r v r
 after_quiet w v r h g = after_nothing v r r refl (reads_same w v r h g)
 
-all_both : (xs ys : List Opened) → AllByRecursion IsShut xs → AllByRecursion IsShut ys → AllByRecursion IsShut (xs ++ ys)
-all_both [] ys h k = k
-all_both (x ∷ xs) ys h k = (h.0, all_both xs ys h.1 k)
-
 pub after_then : (v x : Walk) (r s u : Reading) → After r v s → After s x u → After r x u
 after_then v x r s u h k = record {
   reads = k.reads;
   more = h.more ++ k.more;
   opened = k.opened ∙ ap (λ (os : List Opened). os ++ k.more) h.opened ∙ append_assoc r.opened h.more k.more;
-  shut = all_both h.more k.more h.shut k.shut;
+  shut = all_append IsShut h.more k.more h.shut k.shut;
 }
 
-all_first : (xs ys : List Braces) → AllByRecursion IsOfNode (xs ++ ys) → AllByRecursion IsOfNode xs × AllByRecursion IsOfNode ys
-all_first [] ys h = (tt, h)
-all_first (x ∷ xs) ys h = let r = all_first xs ys h.1 in ((h.0, r.0), r.1)
-
 -- parts in turn, over what changes on the way
-module _ {A X : Type 0} (OfPart : A → Type 0) (braces : A → List Braces) (read : A → Step) (f : A → X → Machine X)
+module _ {A X : Type 0} (OfPart : A → Type 0) (braces : A → List Braces) (read : A → Step Reading) (f : A → X → Machine X)
     (k : (a : A) (x : X) (w : Walk) (r : Reading) → OfPart a → AllByRecursion IsOfNode (braces a) → Reads w r → Ends (λ _ v. After r v (read a r)) (f a x w)) where
   pub ends_through : (parts : List A) (x : X) (w : Walk) (r : Reading) → AllByRecursion OfPart parts → AllByRecursion IsOfNode (flat_map braces parts) → Reads w r →
       Ends (λ _ v. After r v (each read parts r)) (through f parts x w)
   ends_through [] x w r h t g = after_quiet w w r (same_walk w) g
   ends_through (a ∷ parts) x w r h t g =
-      let split = all_first (braces a) (flat_map braces parts) t in
+      let split = all_split IsOfNode (braces a) (flat_map braces parts) t in
       ends_then (λ _ v. After r v (read a r)) (λ _ v. After r v (each read parts (read a r))) (f a x w) (λ y. through f parts y)
       (k a x w r h.0 split.0 g)
       (λ y v j. ends_weaker (λ _ u. After (read a r) u (each read parts (read a r))) (λ _ u. After r u (each read parts (read a r)))
@@ -184,10 +178,10 @@ wire_reads route w r g =
           wires_push all count w.store.wires r.routes _ _
           (wires_stay w.store.names all count count (λ n x e. stay_append first (route.target.field ∷ []) n x (stay_append w.store.names (route.source.field ∷ []) n x e)) (omega arith) w.store.wires r.routes g.wires)
           (subst (λ (d : Option Begun). IsTip all count (source_tip route.source.field (length w.store.names) d) (read_end r.opened route.source)) (sym (g.defs route.source.node))
-          (source_found all count (length w.store.names) route.source.field (stay_append first (route.target.field ∷ []) (length w.store.names) route.source.field (get_last w.store.names [] route.source.field)) source
+          (source_found all count (length w.store.names) route.source.field (stay_append first (route.target.field ∷ []) (length w.store.names) route.source.field (get_middle w.store.names [] route.source.field)) source
           (subst (λ k. IsWithin k source) none (last_within 0 route.source.node r.opened))))
           (subst (λ (d : Option Begun). IsTip all count (target_tip route.target.field (length first) d) (read_end r.opened route.target)) (sym (g.defs route.target.node))
-          (target_found all count (length first) route.target.field (get_last first [] route.target.field) target
+          (target_found all count (length first) route.target.field (get_middle first [] route.target.field) target
           (subst (λ k. IsWithin k target) none (last_within 0 route.target.node r.opened))));
     })
 

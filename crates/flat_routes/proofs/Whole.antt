@@ -1,5 +1,5 @@
 -- The flat form of a document without instances has the routes that are read.
-use Rattle.std.proofs.Common.{◌≡◌, ℕ, true, List, [], ◌∷◌, ◌++◌, length, map, Option, Some, None, Result, Ok, Err, is_some, refl, sym, subst, ◌∙◌}
+use Rattle.std.proofs.Common.{◌≡◌, ℕ, true, List, [], ◌∷◌, length, map, Option, Some, None, Result, Ok, Err, is_some, refl, sym, subst, ◌∙◌}
 use Rattle.std.specs.List.{AllByRecursion, flat_map}
 use Rattle.std.proofs.lemmas.List.{append_assoc}
 use Rattle.x3d_values.specs.Names.{node_type_named}
@@ -37,12 +37,14 @@ use Rattle.flat_laws.specs.Uses.{Opened}
 use Rattle.flat_laws.proofs.ClosingParts.{in_declaration, in_field, in_full, in_node_statement}
 use Rattle.flat_laws.proofs.Trees.{Layers, every}
 use Rattle.flat_laws.proofs.UsesNames.{open_braces}
-use Rattle.flat_laws.proofs.UsesWalks.{Ends, Fields, ends_then}
-use Rattle.flat_routes.specs.Routes.{Reading, Shown, Step, closes, each, nothing_read, opens, read, read_given, read_item, read_node, read_shown, read_statement, route_shown, routes, routes_read}
+use Rattle.flat_laws.specs.Readings.{Step, each, read_given, read_item, read_node, read_statement}
+use Rattle.flat_routes.specs.Routes.{Reading, Shown, closes, nothing_read, opens, read, read_shown, route_shown, routes, routes_read, steps}
 use Rattle.flat_routes.proofs.Ends.{IfShown, routes_shown}
 use Rattle.flat_routes.proofs.Fields.{GivenReads, NodeReads, add_declaration_reads, add_given_reads}
 use Rattle.flat_routes.proofs.Nodes.{Begins, begin_reads, close_reads, meet_reads}
-use Rattle.flat_routes.proofs.Parts.{read-declaration, read-field, read-full, read-item-proto, read-item-route, read-node-statement, read-proto, read-route, read-use}
+use Rattle.flat_laws.proofs.Readings.{read-declaration, read-field, read-full, read-item-proto, read-item-route, read-node-statement, read-proto, read-route, read-use}
+use Rattle.flat_laws.proofs.Lists.{all_split}
+use Rattle.flat_laws.proofs.UsesQuiet.{Ends, Fields, ends_then}
 use Rattle.flat_routes.proofs.Walks.{After, IsShut, Quiet, Reads, Same, after_quiet, ends_through, reads_same, same_walk, wire_reads}
 
 abbrev OfNodes : List Braces → Type 0
@@ -54,10 +56,10 @@ Leaves r s _ v = After r v s
 
 abbrev ItemReads : BodyItem → Type 0
 ItemReads i =
-    OfNodes (in_item i) → (o : Owner) (fields : Fields) → o.proto ≡ None → (w : Walk) (r : Reading) → Reads w r → Ends (Leaves r (read_item i r)) (item_does i o fields w)
+    OfNodes (in_item i) → (o : Owner) (fields : Fields) → o.proto ≡ None → (w : Walk) (r : Reading) → Reads w r → Ends (Leaves r (read_item steps i r)) (item_does i o fields w)
 
 abbrev StatementReads : Statement → Type 0
-StatementReads s = OfNodes (in_statement s) → (w : Walk) (r : Reading) → Reads w r → Ends (Leaves r (read_statement s r)) (statement_does s w)
+StatementReads s = OfNodes (in_statement s) → (w : Walk) (r : Reading) → Reads w r → Ends (Leaves r (read_statement steps s r)) (statement_does s w)
 
 abbrev ProtoReads : ProtoText → Type 0
 ProtoReads p = Quiet (proto_does p)
@@ -70,22 +72,22 @@ by_equation r s same o p e f h = subst (λ x. Ends (Leaves r x) o) (sym e) (subs
 
 field_layer : (line : ℕ) (name : List ℕ) (g : Given NodeText) → GivenReads g → ItemReads (item.Field line name g)
 field_layer line name g h t o fields e w r k =
-    by_equation r (read_item (item.Field line name g) r) (read_given read_node g r) (item_does (item.Field line name g) o fields w) _ (read-field line name g r) (item_does-field line name g o fields w)
+    by_equation r (read_item steps (item.Field line name g) r) (read_given (read_node steps) g r) (item_does (item.Field line name g) o fields w) _ (read-field steps line name g r) (item_does-field line name g o fields w)
     (add_given_reads line name g o fields e h (subst OfNodes (in_field line name g) t) w r k)
 
 declaration_layer : (d : Declaration NodeText) → GivenReads d.given → ItemReads (item.Declaration d)
 declaration_layer d h t o fields e w r k =
-    by_equation r (read_item (item.Declaration d) r) (read_given read_node d.given r) (item_does (item.Declaration d) o fields w) _ (read-declaration d r) (item_does-declaration d o fields w)
+    by_equation r (read_item steps (item.Declaration d) r) (read_given (read_node steps) d.given r) (item_does (item.Declaration d) o fields w) _ (read-declaration steps d r) (item_does-declaration d o fields w)
     (add_declaration_reads (signature d) d.given o fields h (subst OfNodes (in_declaration d) t) w r k)
 
 item_route_layer : (route : RouteText) → ItemReads (item.Route route)
 item_route_layer route t o fields e w r g =
-    by_equation r (read_item (item.Route route) r) (routes route r) (item_does (item.Route route) o fields w) _ (read-item-route route r) (item_does-route route o fields w)
+    by_equation r (read_item steps (item.Route route) r) (routes route r) (item_does (item.Route route) o fields w) _ (read-item-route steps route r) (item_does-route route o fields w)
     (ends_then (Leaves r (routes route r)) (Leaves r (routes route r)) (wire route w) (λ _. pure fields) (wire_reads route w r g) (λ _ v p. p))
 
 item_proto_layer : (q : ProtoText) → ProtoReads q → ItemReads (item.Proto q)
 item_proto_layer q h t o fields e w r g =
-    by_equation r (read_item (item.Proto q) r) r (item_does (item.Proto q) o fields w) _ (read-item-proto q r) (item_does-proto q o fields w)
+    by_equation r (read_item steps (item.Proto q) r) r (item_does (item.Proto q) o fields w) _ (read-item-proto steps q r) (item_does-proto q o fields w)
     (ends_then (λ _ v. Same w v) (Leaves r r) (proto_does q w) (λ _. pure fields) (h w) (λ _ v p. after_quiet w v r p g))
 
 -- ---- USE
@@ -100,14 +102,14 @@ use_reads line name w r g = used_reads line w r (w.sight.names name) g
 
 used_layer : (line : ℕ) (name : List ℕ) → NodeReads (node.Use line name)
 used_layer line name t w r g =
-    by_equation r (read_node (node.Use line name) r) r (node_does (node.Use line name) w) _ (read-use line name r) (node_does-use line name w) (use_reads line name w r g)
+    by_equation r (read_node steps (node.Use line name) r) r (node_does (node.Use line name) w) _ (read-use steps line name r) (node_does-use line name w) (use_reads line name w r g)
 
 -- ---- a node
 
-abbrev OnFieldsRead : OnFields → Step → Type 0
+abbrev OnFieldsRead : OnFields → Step Reading → Type 0
 OnFieldsRead items step = (o : Owner) (fields : Fields) (w : Walk) (r : Reading) → o.proto ≡ None → Reads w r → Ends (Leaves r (step r)) (items o fields w)
 
-typed_reads : (line : ℕ) (name : Option (List ℕ)) (t : NodeType) (ss : List Signature) (items : OnFields) (step : Step) → OnFieldsRead items step → (w : Walk) (r : Reading) → Reads w r →
+typed_reads : (line : ℕ) (name : Option (List ℕ)) (t : NodeType) (ss : List Signature) (items : OnFields) (step : Step Reading) → OnFieldsRead items step → (w : Walk) (r : Reading) → Reads w r →
     Ends (Leaves r (closes name r (step (opens name r)))) (typed_node line name t ss items w)
 unfolding typed_node
 typed_reads line name t ss items step h w r g =
@@ -121,46 +123,42 @@ typed_reads line name t ss items step h w r g =
     (h (node_owner at t ss) [] x (opens name r) refl q)
     (λ fields y p. close_reads line name at t ss fields y r s p.more b.place (p.opened ∙ append_assoc r.opened (open_braces name ∷ []) p.more) p.shut p.reads)))
 
-of_word_reads : (line : ℕ) (name : Option (List ℕ)) (word : List ℕ) (ss : List Signature) (items : OnFields) (step : Step) → OnFieldsRead items step → (t : Option NodeType) → is_some t ≡ true →
+of_word_reads : (line : ℕ) (name : Option (List ℕ)) (word : List ℕ) (ss : List Signature) (items : OnFields) (step : Step Reading) → OnFieldsRead items step → (t : Option NodeType) → is_some t ≡ true →
     (w : Walk) (r : Reading) → Reads w r → Ends (Leaves r (closes name r (step (opens name r)))) (of_word line name word ss items t w)
 of_word_reads line name word ss items step h None k w r g = absurd cc
 of_word_reads line name word ss items step h (Some t) k w r g = typed_reads line name t ss items step h w r g
 
-item_reads : (o : Owner) → o.proto ≡ None → (i : BodyItem) (fields : Fields) (w : Walk) (r : Reading) → ItemReads i → OfNodes (in_item i) → Reads w r → Ends (Leaves r (read_item i r)) (item_does i o fields w)
+item_reads : (o : Owner) → o.proto ≡ None → (i : BodyItem) (fields : Fields) (w : Walk) (r : Reading) → ItemReads i → OfNodes (in_item i) → Reads w r → Ends (Leaves r (read_item steps i r)) (item_does i o fields w)
 item_reads o e i fields w r h t g = h t o fields e w r g
 
-items_read : (items : List BodyItem) → AllByRecursion ItemReads items → OfNodes (flat_map in_item items) → OnFieldsRead (items_do items) (each read_item items)
+items_read : (items : List BodyItem) → AllByRecursion ItemReads items → OfNodes (flat_map in_item items) → OnFieldsRead (items_do items) (each (read_item steps) items)
 unfolding items_do
-items_read items h t o fields w r e g = ends_through ItemReads in_item read_item (λ i. item_does i o) (item_reads o e) items fields w r h t g
-
-all_last : (xs ys : List Braces) → OfNodes (xs ++ ys) → OfNodes xs × OfNodes ys
-all_last [] ys h = (tt, h)
-all_last (x ∷ xs) ys h = let r = all_last xs ys h.1 in ((h.0, r.0), r.1)
+items_read items h t o fields w r e g = ends_through ItemReads in_item (read_item steps) (λ i. item_does i o) (item_reads o e) items fields w r h t g
 
 full_layer : (line : ℕ) (name : Option (List ℕ)) (word : List ℕ) (items : List BodyItem) → AllByRecursion ItemReads items → NodeReads (node.Full line name word items)
 unfolding full_node
 full_layer line name word items h t w r g =
     let last : Braces = record { word = word; name = name } in
-    let split = all_last (flat_map in_item items) (last ∷ []) (subst OfNodes (in_full line name word items) t) in
-    by_equation r (read_node (node.Full line name word items) r) (closes name r (each read_item items (opens name r))) (node_does (node.Full line name word items) w) _
-    (read-full line name word items r) (node_does-full line name word items w)
-    (of_word_reads line name word (declared_in items) (items_do items) (each read_item items) (items_read items h split.0) (node_type_named word) split.1.0 w r g)
+    let split = all_split IsOfNode (flat_map in_item items) (last ∷ []) (subst OfNodes (in_full line name word items) t) in
+    by_equation r (read_node steps (node.Full line name word items) r) (closes name r (each (read_item steps) items (opens name r))) (node_does (node.Full line name word items) w) _
+    (read-full steps line name word items r) (node_does-full line name word items w)
+    (of_word_reads line name word (declared_in items) (items_do items) (each (read_item steps) items) (items_read items h split.0) (node_type_named word) split.1.0 w r g)
 
 -- ---- statements
 
 node_layer : (n : NodeText) → NodeReads n → StatementReads (statement.Node n)
 node_layer n h t w r g =
-    by_equation r (read_statement (statement.Node n) r) (read_node n r) (statement_does (statement.Node n) w) _ (read-node-statement n r) (statement_does-node n w)
-    (ends_then (Leaves r (read_node n r)) (Leaves r (read_node n r)) (node_does n w) (λ k. pure (Some k)) (h (subst OfNodes (in_node_statement n) t) w r g) (λ k v p. p))
+    by_equation r (read_statement steps (statement.Node n) r) (read_node steps n r) (statement_does (statement.Node n) w) _ (read-node-statement steps n r) (statement_does-node n w)
+    (ends_then (Leaves r (read_node steps n r)) (Leaves r (read_node steps n r)) (node_does n w) (λ k. pure (Some k)) (h (subst OfNodes (in_node_statement n) t) w r g) (λ k v p. p))
 
 route_layer : (route : RouteText) → StatementReads (statement.Route route)
 route_layer route t w r g =
-    by_equation r (read_statement (statement.Route route) r) (routes route r) (statement_does (statement.Route route) w) _ (read-route route r) (statement_does-route route w)
+    by_equation r (read_statement steps (statement.Route route) r) (routes route r) (statement_does (statement.Route route) w) _ (read-route steps route r) (statement_does-route route w)
     (ends_then (Leaves r (routes route r)) (Leaves r (routes route r)) (wire route w) (λ _. pure None) (wire_reads route w r g) (λ _ v p. p))
 
 proto_layer : (p : ProtoText) → ProtoReads p → StatementReads (statement.Proto p)
 proto_layer p h t w r g =
-    by_equation r (read_statement (statement.Proto p) r) r (statement_does (statement.Proto p) w) _ (read-proto p r) (statement_does-proto p w)
+    by_equation r (read_statement steps (statement.Proto p) r) r (statement_does (statement.Proto p) w) _ (read-proto steps p r) (statement_does-proto p w)
     (ends_then (λ _ v. Same w v) (Leaves r r) (proto_does p w) (λ _. pure None) (h w) (λ _ v q. after_quiet w v r q g))
 
 declare_quiet : (line : ℕ) (name : List ℕ) (interface : List Signature) (defaults : Place → Fields → Machine Fields) (ms : List (Machine (Option ℕ))) → Quiet (declare line name interface defaults ms)
@@ -197,10 +195,10 @@ check_quiet : (s : Statement) → Quiet (check s)
 unfolding check
 check_quiet s w = with_declared_quiet ((checked s).does w.declared) w
 
-at_top_reads : (s : Statement) (roots : List ℕ) (w : Walk) (r : Reading) → StatementReads s → OfNodes (in_statement s) → Reads w r → Ends (Leaves r (read_statement s r)) (at_top s roots w)
+at_top_reads : (s : Statement) (roots : List ℕ) (w : Walk) (r : Reading) → StatementReads s → OfNodes (in_statement s) → Reads w r → Ends (Leaves r (read_statement steps s r)) (at_top s roots w)
 unfolding put_statement
 at_top_reads s roots w r h t g =
-    let u = read_statement s r in
+    let u = read_statement steps s r in
     ends_then (Leaves r u) (Leaves r u) (put_statement s w) (λ k. pure (grown roots k))
     (ends_then (λ _ v. Same w v) (Leaves r u) (check s w) (λ _. statement_does s) (check_quiet s w) (λ _ v q. h t v r (reads_same w v r q g)))
     (λ k v p. p)
@@ -230,5 +228,5 @@ pub routes_are_read : (d : Document) (f : Flat) → AllByRecursion IsOfNode (clo
 unfolding flat
 routes_are_read d f t e =
     subst (IfRead (routes_read d)) e (flat_of_read (header_of d) (read d) (through at_top d.statements [] nothing)
-    (ends_through StatementReads in_statement read_statement at_top at_top_reads d.statements [] nothing nothing_read
+    (ends_through StatementReads in_statement (read_statement steps) at_top at_top_reads d.statements [] nothing nothing_read
     (every ItemReads NodeReads StatementReads ProtoReads layers d.statements) t reads_nothing))

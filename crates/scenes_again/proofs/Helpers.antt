@@ -1,5 +1,5 @@
 -- The flat form of a document without instances has no helpers.
-use Rattle.std.proofs.Common.{◌≡◌, ℕ, true, List, [], ◌∷◌, ◌++◌, length, map, Option, Some, None, Result, Ok, Err, is_some, refl, sym, subst}
+use Rattle.std.proofs.Common.{◌≡◌, ℕ, true, List, [], ◌∷◌, length, map, Option, Some, None, Result, Ok, Err, is_some, refl, sym, subst}
 use Rattle.std.specs.List.{AllByRecursion, flat_map}
 use Rattle.x3d_values.specs.Names.{node_type_named}
 use Rattle.x3d_values.specs.declared.node_type.NodeType.{NodeType}
@@ -36,6 +36,7 @@ use Rattle.proto_walk.specs.Whole.{at_top, check, flat, flat_of, grown, header_o
 use Rattle.flat_laws.specs.Closings.{Braces, IsOfNode, closings, in_item, in_statement}
 use Rattle.flat_laws.proofs.ClosingParts.{in_declaration, in_field, in_full, in_node_statement}
 use Rattle.flat_laws.proofs.Trees.{Layers, every}
+use Rattle.flat_laws.proofs.Lists.{all_split}
 use Rattle.scenes_again.proofs.Inserted.{GivenKeeps, NodeKeeps, OfNodes, add_declaration_keeps, add_given_keeps, all_of}
 use Rattle.scenes_again.proofs.Steps.{Ends, Keeps, begin_node_keeps, keeps_pure, keeps_then, keeps_through, know_keeps, meet_keeps, put_keeps, stand_keeps, use_keeps, wire_keeps}
 
@@ -106,10 +107,6 @@ of_word_keeps : (line : ℕ) (name : Option (List ℕ)) (word : List ℕ) (ss : 
 of_word_keeps line name word ss items h None k = absurd cc
 of_word_keeps line name word ss items h (Some t) k = typed_node_keeps line name t ss items h
 
-all_last : (xs ys : List Braces) → OfNodes (xs ++ ys) → OfNodes xs × OfNodes ys
-all_last [] ys h = (tt, h)
-all_last (x ∷ xs) ys h = let r = all_last xs ys h.1 in ((h.0, r.0), r.1)
-
 items_keep : (items : List BodyItem) → AllByRecursion ItemStays items → (o : Owner) (fields : Fields) → o.proto ≡ None → Keeps (items_do items o fields)
 unfolding items_do
 items_keep items h o fields e = keeps_through ItemStays (λ i. item_does i o) (λ i fs k. k o fs e) items fields h
@@ -118,7 +115,7 @@ full_layer : (line : ℕ) (name : Option (List ℕ)) (word : List ℕ) (items : 
 unfolding full_node
 full_layer line name word items h t w =
     let last : Braces = record { word = word; name = name } in
-    let r = all_last (flat_map in_item items) (last ∷ []) (subst OfNodes (in_full line name word items) t) in
+    let r = all_split IsOfNode (flat_map in_item items) (last ∷ []) (subst OfNodes (in_full line name word items) t) in
     by_equation w (node_does (node.Full line name word items) w) _ (node_does-full line name word items w)
     (of_word_keeps line name word (declared_in items) (items_do items) (items_keep items (all_of ItemStays in_item items h r.0)) (node_type_named word) r.1.0 w)
 

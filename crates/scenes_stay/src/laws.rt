@@ -9,7 +9,7 @@ use scenes_again::{writable_scenes_are_sound, written_scenes_are_again};
 use scenes_exist_again::written_scenes_exist;
 use typed_worlds::fitting_worlds_are_typed;
 use written_limits::written_scenes_are_flat;
-use written_routes::written_routes_resolve;
+use written_routes::written_routes_stay;
 use written_worlds::fitting_worlds_are_kept;
 
 /// In a world where each value is in the range of its field's type, what a node keeps of a field is
@@ -34,5 +34,5 @@ pub fn written_scenes_stay()
     written_scenes_are_flat();
     written_scenes_exist();
     written_scenes_are_again();
-    written_routes_resolve();
+    written_routes_stay();
 }

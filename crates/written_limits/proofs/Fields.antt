@@ -19,7 +19,8 @@ use Rattle.proto_steps.specs.Limits.{count_items}
 use Rattle.proto_steps.specs.Machine.{Machine, Outcome, Walk, ◌>>=◌, keep, pure, refuse, through}
 use Rattle.proto_steps.specs.Meaning.{add_declaration, add_given, add_known, add_new, add_number, add_taken, add_value, node_does, node_owner, numbered, unless_own, with_number, with_place}
 use Rattle.flat_fields.specs.Fields.{number_of}
-use Rattle.flat_laws.specs.Uses.{Reading, each, read_given, read_node, read_value}
+use Rattle.flat_laws.specs.Readings.{each, read_given, read_node, read_value}
+use Rattle.flat_laws.specs.Uses.{Reading, steps}
 use Rattle.flat_laws.proofs.Trees.{OfGiven, OfValue}
 use Rattle.written_limits.specs.Parts.{Declares, Entry, gives, in_given, in_node, in_value}
 use Rattle.written_limits.specs.Sound.{AllNamed, AreOnce, IsNext, is_among, with_next}
@@ -28,12 +29,12 @@ use Rattle.written_limits.proofs.Walks.{After, AreSound, Fields, Fits, GoesBack,
 
 -- a node goes on
 pub record NodeFits (n : NodeText) : Type 0 where
-  pub back : GoesBack (read_node n)
-  pub walk : AreSound (in_node n) → (w : Walk) (r : Reading) → Reads w r → AllNamed (read_node n r) → Fits (λ _ v. After r v (read_node n r)) (node_does n w)
+  pub back : GoesBack (read_node steps n)
+  pub walk : AreSound (in_node n) → (w : Walk) (r : Reading) → Reads w r → AllNamed (read_node steps n r) → Fits (λ _ v. After r v (read_node steps n r)) (node_does n w)
 
 -- ---- values
 
-pub value_back : (v : RawValue NodeText) → OfValue NodeFits v → GoesBack (read_value read_node v)
+pub value_back : (v : RawValue NodeText) → OfValue NodeFits v → GoesBack (read_value (read_node steps) v)
 value_back value.Null h r n = n
 value_back (value.Truth truth) h r n = n
 value_back (value.String text) h r n = n
@@ -43,9 +44,9 @@ value_back value.EmptyList h r n = n
 value_back (value.TruthList truths) h r n = n
 value_back (value.StringList texts) h r n = n
 value_back (value.NumberList numbers) h r n = n
-value_back (value.NodeList nodes) h r n = each_back NodeFits read_node (λ _ k. k.back) nodes h r n
+value_back (value.NodeList nodes) h r n = each_back NodeFits (read_node steps) (λ _ k. k.back) nodes h r n
 
-pub given_back : (g : Given NodeText) → OfGiven NodeFits g → GoesBack (read_given read_node g)
+pub given_back : (g : Given NodeText) → OfGiven NodeFits g → GoesBack (read_given (read_node steps) g)
 given_back given.Nothing h r n = n
 given_back (given.Value v) h r n = value_back v h r n
 given_back (given.Is other) h r n = n
@@ -53,31 +54,31 @@ given_back (given.Is other) h r n = n
 abbrev Whatever : List ℕ → List NodeText → Type 0
 Whatever ks nodes = Unit {0}
 
-add_number_fits : (n : NodeText) (others : List NodeText) (ks : List ℕ) (w : Walk) (r : Reading) → NodeFits n → AreSound (in_node n) → Reads w r → AllNamed (read_node n r) → Whatever ks (n ∷ others) →
-    Fits (λ ls v. After r v (read_node n r) × Whatever ls others) (add_number node_does n ks w)
+add_number_fits : (n : NodeText) (others : List NodeText) (ks : List ℕ) (w : Walk) (r : Reading) → NodeFits n → AreSound (in_node n) → Reads w r → AllNamed (read_node steps n r) → Whatever ks (n ∷ others) →
+    Fits (λ ls v. After r v (read_node steps n r) × Whatever ls others) (add_number node_does n ks w)
 add_number_fits n others ks w r h t g named e =
-    fits_then (λ _ v. After r v (read_node n r)) (λ ls v. After r v (read_node n r) × Whatever ls others) (node_does n w) (λ k. pure (ks ++ k ∷ [])) (h.walk t w r g named)
+    fits_then (λ _ v. After r v (read_node steps n r)) (λ ls v. After r v (read_node steps n r) × Whatever ls others) (node_does n w) (λ k. pure (ks ++ k ∷ [])) (h.walk t w r g named)
     (λ k v p. (p, tt))
 
 no_nodes : (w : Walk) (r : Reading) → Reads w r → After r w r
 no_nodes w r g = after_quiet w w r (same_walk w) g
 
-numbered_fits : (v : RawValue NodeText) → OfValue NodeFits v → AreSound (in_value in_node v) → (w : Walk) (r : Reading) → Reads w r → AllNamed (read_value read_node v r) →
-    Fits (λ _ x. After r x (read_value read_node v r)) (numbered node_does v w)
+numbered_fits : (v : RawValue NodeText) → OfValue NodeFits v → AreSound (in_value in_node v) → (w : Walk) (r : Reading) → Reads w r → AllNamed (read_value (read_node steps) v r) →
+    Fits (λ _ x. After r x (read_value (read_node steps) v r)) (numbered node_does v w)
 numbered_fits value.Null h t w r g n = no_nodes w r g
 numbered_fits (value.Truth truth) h t w r g n = no_nodes w r g
 numbered_fits (value.String text) h t w r g n = no_nodes w r g
 numbered_fits (value.Numbers numbers) h t w r g n = no_nodes w r g
 numbered_fits (value.Node inner) h t w r g n =
-    fits_then (λ _ x. After r x (read_node inner r)) (λ _ x. After r x (read_node inner r)) (node_does inner w) (λ k. pure (value.Node k)) (h.walk t w r g n) (λ k x p. p)
+    fits_then (λ _ x. After r x (read_node steps inner r)) (λ _ x. After r x (read_node steps inner r)) (node_does inner w) (λ k. pure (value.Node k)) (h.walk t w r g n) (λ k x p. p)
 numbered_fits value.EmptyList h t w r g n = no_nodes w r g
 numbered_fits (value.TruthList truths) h t w r g n = no_nodes w r g
 numbered_fits (value.StringList texts) h t w r g n = no_nodes w r g
 numbered_fits (value.NumberList numbers) h t w r g n = no_nodes w r g
 numbered_fits (value.NodeList nodes) h t w r g n =
-    let s = each read_node nodes r in
+    let s = each (read_node steps) nodes r in
     fits_then (λ ks x. After r x s × Whatever ks []) (λ _ x. After r x s) (through (add_number node_does) nodes [] w) (λ ks. pure (value.NodeList ks))
-    (fits_through NodeFits read_node (λ _ k. k.back) in_node (add_number node_does) Whatever add_number_fits nodes [] w r h t g n tt)
+    (fits_through NodeFits (read_node steps) (λ _ k. k.back) in_node (add_number node_does) Whatever add_number_fits nodes [] w r h t g n tt)
     (λ ks x p. p.0)
 
 -- ---- the numbers of the fields so far
@@ -100,10 +101,10 @@ keep_quiet v w = record { places = refl; nodes = refl; names = λ name. refl }
 abbrev FieldAfter : Reading → Reading → List ℕ → Fields → Walk → Type 0
 FieldAfter r s before fs v = After r v s × (numbers fs ≡ before)
 
-add_new_fits : (line number : ℕ) (v : RawValue NodeText) (fields : Fields) → OfValue NodeFits v → AreSound (in_value in_node v) → (w : Walk) (r : Reading) → Reads w r → AllNamed (read_value read_node v r) →
-    Fits (FieldAfter r (read_value read_node v r) (numbers fields ++ number ∷ [])) (add_new node_does line number v fields w)
+add_new_fits : (line number : ℕ) (v : RawValue NodeText) (fields : Fields) → OfValue NodeFits v → AreSound (in_value in_node v) → (w : Walk) (r : Reading) → Reads w r → AllNamed (read_value (read_node steps) v r) →
+    Fits (FieldAfter r (read_value (read_node steps) v r) (numbers fields ++ number ∷ [])) (add_new node_does line number v fields w)
 add_new_fits line number v fields h t w r g named =
-    let s = read_value read_node v r in
+    let s = read_value (read_node steps) v r in
     let Q = FieldAfter r s (numbers fields ++ number ∷ []) in
     fits_then (λ _ x. Same w x) Q (count_items (item_count v) w) (λ _. numbered node_does v >>= λ k. keep k >>= λ n. pure (with_field line number fields (Some n)))
     (count_items_quiet (item_count v) w)
@@ -133,18 +134,18 @@ module _ (at : ℕ) (t : NodeType) (ss : List Signature) (rest : List Entry) whe
   once_more r s before o h k = fits_weaker (FieldAfter r s before) (FieldsAfter r s) o (λ fs v p. (p.0, subst (λ ns. AreOnce t ss ns rest) (sym p.1) h)) k
 
   module _ (line : ℕ) (name : List ℕ) (v : RawValue NodeText) (fields : Fields) (h : OfValue NodeFits v) (sound : AreSound (in_value in_node v)) (w : Walk) (r : Reading) (g : Reads w r)
-      (named : AllNamed (read_value read_node v r)) where
+      (named : AllNamed (read_value (read_node steps) v r)) where
     known_fits : (o p : Option KnownField) → IsNext (numbers fields) (option_map number_of o) → AreOnce t ss (with_next (numbers fields) (option_map number_of o)) rest →
-        Fits (FieldsAfter r (read_value read_node v r)) (add_known node_does line name v owner fields (option_or o (if_given fields p)) w)
+        Fits (FieldsAfter r (read_value (read_node steps) v r)) (add_known node_does line name v owner fields (option_or o (if_given fields p)) w)
     known_fits None p next once = absurd next
     known_fits (Some field) p next once =
-        not_so (FieldsAfter r (read_value read_node v r)) (has_field field.number fields) (refuse FieldTwice line) (add_taken node_does line name owner field.number v fields) w
+        not_so (FieldsAfter r (read_value (read_node steps) v r)) (has_field field.number fields) (refuse FieldTwice line) (add_taken node_does line name owner field.number v fields) w
         (has_is field.number fields ∙ next)
-        (once_more r (read_value read_node v r) (numbers fields ++ field.number ∷ []) (add_new node_does line field.number v fields w) once
+        (once_more r (read_value (read_node steps) v r) (numbers fields ++ field.number ∷ []) (add_new node_does line field.number v fields w) once
         (add_new_fits line field.number v fields h sound w r g named))
 
   pub add_given_fits : (line : ℕ) (name : List ℕ) (x : Given NodeText) (fields : Fields) → OfGiven NodeFits x → AreSound (in_given in_node x) → (w : Walk) (r : Reading) → Reads w r →
-      AllNamed (read_given read_node x r) → AreOnce t ss (numbers fields) (gives name x ++ rest) → Fits (FieldsAfter r (read_given read_node x r)) (add_given node_does line name x owner fields w)
+      AllNamed (read_given (read_node steps) x r) → AreOnce t ss (numbers fields) (gives name x ++ rest) → Fits (FieldsAfter r (read_given (read_node steps) x r)) (add_given node_does line name x owner fields w)
   unfolding add_value
   add_given_fits line name given.Nothing fields h sound w r g named once = (after_quiet w w r (same_walk w) g, once)
   add_given_fits line name (given.Value v) fields h sound w r g named once =
@@ -174,7 +175,7 @@ module _ (at : ℕ) (t : NodeType) (ss : List Signature) (rest : List Entry) whe
   once_with before o n e h = subst (λ (p : Option ℕ). AreOnce t ss (with_next before p) rest) e h
 
   pub add_declaration_fits : (s : Signature) (x : Given NodeText) (fields : Fields) → OfGiven NodeFits x → AreSound (in_given in_node x) → (w : Walk) (r : Reading) → Reads w r →
-      AllNamed (read_given read_node x r) → AreOnce t ss (numbers fields) (Declares s ∷ rest) → Fits (FieldsAfter r (read_given read_node x r)) (add_declaration node_does s x owner fields w)
+      AllNamed (read_given (read_node steps) x r) → AreOnce t ss (numbers fields) (Declares s ∷ rest) → Fits (FieldsAfter r (read_given (read_node steps) x r)) (add_declaration node_does s x owner fields w)
   add_declaration_fits s given.Nothing fields h sound w r g named once =
       with_place_fits s.line fields (λ n. pure (with_field s.line n fields None)) w (FieldsAfter r r) s.name once.0
       (λ n e. (
@@ -183,8 +184,8 @@ module _ (at : ℕ) (t : NodeType) (ss : List Signature) (rest : List Entry) whe
             (once_with (numbers fields) (unless (of_type t s.name) (option_map number_of (of_declared t ss s.name))) n e once.1),
       ))
   add_declaration_fits s (given.Value v) fields h sound w r g named once =
-      with_place_fits s.line fields (λ n. add_new node_does s.line n v fields) w (FieldsAfter r (read_value read_node v r)) s.name once.0
-      (λ n e. once_more r (read_value read_node v r) (numbers fields ++ n ∷ []) (add_new node_does s.line n v fields w)
+      with_place_fits s.line fields (λ n. add_new node_does s.line n v fields) w (FieldsAfter r (read_value (read_node steps) v r)) s.name once.0
+      (λ n e. once_more r (read_value (read_node steps) v r) (numbers fields ++ n ∷ []) (add_new node_does s.line n v fields w)
       (once_with (numbers fields) (unless (of_type t s.name) (option_map number_of (of_declared t ss s.name))) n e once.1)
       (add_new_fits s.line n v fields h sound w r g named))
   add_declaration_fits s (given.Is name) fields h sound w r g named once = absurd sound.0

@@ -1,5 +1,5 @@
 -- A node begins and closes, or is too large.
-use Rattle.std.proofs.Common.{◌≡◌, ℕ, ◌+◌, Bool, true, false, if◌then◌else◌, nat_lt, List, [], ◌∷◌, ◌++◌, length, map, Option, Some, None, Result, Ok, Err, slice_set, refl, sym, subst, ap, ◌∙◌, arith, length-append}
+use Rattle.std.proofs.Common.{◌≡◌, ℕ, ◌+◌, Bool, true, false, if◌then◌else◌, nat_lt, List, [], ◌∷◌, ◌++◌, length, map, Option, Some, None, Result, Ok, Err, slice_set, refl, sym, subst, ap, ◌∙◌, length-append}
 use Rattle.std.proofs.lemmas.List.{length-set}
 use Rattle.x3d_values.specs.declared.node_type.NodeType.{NodeType}
 use Rattle.classic_tree.specs.declared.tree.RawValue.{RawValue}
@@ -20,6 +20,7 @@ use Rattle.proto_steps.specs.declared.held.PlacedNode.{PlacedNode}
 use Rattle.proto_steps.specs.declared.held.Store.{Store}
 use Rattle.flat_laws.specs.Uses.{Opened, Reading, closes, opens}
 use Rattle.flat_laws.proofs.UsesNames.{closed_braces, found, found_open, known_found, numbered, open_braces, unnamed_found}
+use Rattle.flat_laws.proofs.Lists.{one_longer, same_length, set_middle}
 use Rattle.written_limits.specs.Sound.{IsFlatOrTooLarge}
 use Rattle.written_limits.proofs.Walks.{After, Fields, Fits, Quiet, Reads, Same, fits_if, fits_then}
 
@@ -28,9 +29,6 @@ use Rattle.written_limits.proofs.Walks.{After, Fields, Fits, Quiet, Reads, Same,
 pub record Begins (name : Option (List ℕ)) (r : Reading) (at : ℕ) (v : Walk) : Type 0 where
   pub place : at ≡ length r.opened
   pub reads : Reads v (opens name r)
-
-one_longer : {A B : Type 0} (xs : List A) (ys : List B) (x : A) (y : B) → length xs ≡ length ys → length (xs ++ x ∷ []) ≡ length (ys ++ y ∷ [])
-one_longer xs ys x y e = omega (arith, e, length-append xs (x ∷ []), length-append ys (y ∷ []))
 
 pub begin_fits : (name : Option (List ℕ)) (w : Walk) (r : Reading) → Reads w r → Fits (Begins name r) (begin_node w)
 unfolding begin_node
@@ -120,13 +118,6 @@ closing_still s n x z q c = record {
   places = q.places ∙ c.places;
   names = λ name. q.names name ∙ c.names name;
 }
-
-set_middle : {A : Type 0} (xs ys : List A) (x y : A) → slice_set (xs ++ x ∷ ys) (length xs) y ≡ xs ++ y ∷ ys
-set_middle [] ys x y = refl
-set_middle (z ∷ xs) ys x y = ap (λ (rest : List _). z ∷ rest) (set_middle xs ys x y)
-
-same_length : {A : Type 0} (xs ys : List A) (x y : A) → length (xs ++ x ∷ ys) ≡ length (xs ++ y ∷ ys)
-same_length xs ys x y = omega (arith, length-append xs (x ∷ ys), length-append xs (y ∷ ys))
 
 module _ (name : Option (List ℕ)) (r s : Reading) (more : List Opened) (split : s.opened ≡ r.opened ++ open_braces name ∷ more) where
   abbrev now_closed : List Opened

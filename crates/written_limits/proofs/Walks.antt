@@ -7,7 +7,8 @@ use Rattle.proto_fields.specs.declared.given.GivenField.{GivenField}
 use Rattle.proto_steps.specs.Limits.{count_items}
 use Rattle.proto_steps.specs.Machine.{Begun, Machine, Outcome, Walk, and_then, ◌>>=◌, keep_name, meet, through}
 use Rattle.proto_steps.specs.Routes.{add_wire, wire}
-use Rattle.flat_laws.specs.Uses.{Opened, Reading, Step, each}
+use Rattle.flat_laws.specs.Readings.{Step, each}
+use Rattle.flat_laws.specs.Uses.{Opened, Reading}
 use Rattle.flat_laws.proofs.UsesNames.{found}
 use Rattle.written_limits.specs.Parts.{Part}
 use Rattle.written_limits.specs.Sound.{AllNamed, IsSound, IsTooLarge}
@@ -107,10 +108,10 @@ sound_both (x ∷ xs) ys h = let r = sound_both xs ys h.1 in ((h.0, r.0), r.1)
 -- ---- parts in turn
 
 -- where all is named behind a part, it was so before
-abbrev pub GoesBack : Step → Type 0
+abbrev pub GoesBack : Step Reading → Type 0
 GoesBack step = (r : Reading) → AllNamed (step r) → AllNamed r
 
-module _ {A : Type 0} (OfPart : A → Type 0) (read : A → Step) (back : (a : A) → OfPart a → GoesBack (read a)) where
+module _ {A : Type 0} (OfPart : A → Type 0) (read : A → Step Reading) (back : (a : A) → OfPart a → GoesBack (read a)) where
   pub each_back : (parts : List A) → AllByRecursion OfPart parts → GoesBack (each read parts)
   each_back [] h r n = n
   each_back (a ∷ parts) h r n = back a h.0 r (each_back parts h.1 (read a r) n)

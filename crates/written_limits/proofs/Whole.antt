@@ -36,11 +36,12 @@ use Rattle.proto_steps.specs.Meaning.{OnFields, close_node, declared_in, full_no
 use Rattle.proto_steps.specs.Routes.{wire}
 use Rattle.proto_steps.specs.declared.held.Named.{Named}
 use Rattle.proto_walk.specs.Whole.{at_top, check, flat, flat_of, grown, header_of, nothing, put_statement, with_declared, with_routes}
-use Rattle.flat_laws.specs.Uses.{Reading, Step, closes, each, named, nothing_read, opens, read, read_given, read_item, read_node, read_statement, stands}
+use Rattle.flat_laws.specs.Readings.{Step, each, read_given, read_item, read_node, read_statement}
+use Rattle.flat_laws.specs.Uses.{Reading, closes, named, nothing_read, opens, read, stands, steps}
 use Rattle.flat_laws.proofs.Lists.{all_weaker}
 use Rattle.flat_laws.proofs.Trees.{Layers, OfGiven, every}
 use Rattle.flat_laws.proofs.UsesNames.{found_named, node_of, open_braces}
-use Rattle.flat_laws.proofs.UsesParts.{read-declaration, read-field, read-full, read-item-proto, read-item-route, read-node-statement, read-proto, read-route, read-use}
+use Rattle.flat_laws.proofs.Readings.{read-declaration, read-field, read-full, read-item-proto, read-item-route, read-node-statement, read-proto, read-route, read-use}
 use Rattle.written_limits.specs.Parts.{Braces, Entry, Item, Joins, Part, Prototype, entries, gives, in_item, in_statement}
 use Rattle.written_limits.specs.Plain.{IsPlain}
 use Rattle.written_limits.specs.Sound.{AllNamed, AreOnce, IsFlatOrTooLarge, IsOfType, IsSound, SoundDocumentsAreFlat, signed}
@@ -56,14 +57,14 @@ FieldsAre t ss rest r s fs v = After r v s × AreOnce t ss (numbers fs) rest
 
 -- an item goes on
 record ItemFits (i : BodyItem) : Type 0 where
-  back : GoesBack (read_item i)
+  back : GoesBack (read_item steps i)
   declares : item_declares i ≡ flat_map signed (entries i)
-  walk : (at : ℕ) (t : NodeType) (ss : List Signature) (rest : List Entry) (fields : Fields) (w : Walk) (r : Reading) → AreSound (in_item i) → Reads w r → AllNamed (read_item i r)
-      → AreOnce t ss (numbers fields) (entries i ++ rest) → Fits (FieldsAre t ss rest r (read_item i r)) (item_does i (node_owner at t ss) fields w)
+  walk : (at : ℕ) (t : NodeType) (ss : List Signature) (rest : List Entry) (fields : Fields) (w : Walk) (r : Reading) → AreSound (in_item i) → Reads w r → AllNamed (read_item steps i r)
+      → AreOnce t ss (numbers fields) (entries i ++ rest) → Fits (FieldsAre t ss rest r (read_item steps i r)) (item_does i (node_owner at t ss) fields w)
 
 record StatementFits (s : Statement) : Type 0 where
-  back : GoesBack (read_statement s)
-  walk : AreSound (in_statement s) → (w : Walk) (r : Reading) → Reads w r → AllNamed (read_statement s r) → Fits (λ _ v. After r v (read_statement s r)) (statement_does s w)
+  back : GoesBack (read_statement steps s)
+  walk : AreSound (in_statement s) → (w : Walk) (r : Reading) → Reads w r → AllNamed (read_statement steps s r) → Fits (λ _ v. After r v (read_statement steps s r)) (statement_does s w)
 
 abbrev ProtoFits : ProtoText → Type 0
 ProtoFits p = Unit {0}
@@ -72,7 +73,7 @@ ProtoFits p = Unit {0}
 by_equation : {A : Type 0} (Q : Reading → A → Walk → Type 0) (s same : Reading) (o p : Outcome A) → s ≡ same → o ≡ p → Fits (Q same) p → Fits (Q s) o
 by_equation Q s same o p e f h = subst (λ x. Fits (Q x) o) (sym e) (subst (λ x. Fits (Q same) x) (sym f) h)
 
-back_by : (step same : Step) → ((r : Reading) → step r ≡ same r) → GoesBack same → GoesBack step
+back_by : (step same : Step Reading) → ((r : Reading) → step r ≡ same r) → GoesBack same → GoesBack step
 back_by step same e h r n = h r (subst AllNamed (e r) n)
 
 stays : GoesBack (λ r. r)
@@ -89,12 +90,12 @@ field_layer : (line : ℕ) (name : List ℕ) (g : Given NodeText) → OfGiven No
 field_layer line name g h =
     let is = part_field line name g in
     record {
-      back = back_by (read_item (item.Field line name g)) (read_given read_node g) (read-field line name g) (given_back g h);
+      back = back_by (read_item steps (item.Field line name g)) (read_given (read_node steps) g) (read-field steps line name g) (given_back g h);
       declares = declares-field line name g ∙ (sym (no_declared name g) ∙ ap (λ (i : Item). flat_map signed i.entries) (sym is));
       walk = λ at t ss rest fields w r sound reads all once.
-          by_equation (FieldsAre t ss rest r) (read_item (item.Field line name g) r) (read_given read_node g r) (item_does (item.Field line name g) (node_owner at t ss) fields w) _
-          (read-field line name g r) (item_does-field line name g (node_owner at t ss) fields w)
-          (add_given_fits at t ss rest line name g fields h (subst (λ (i : Item). AreSound i.inside) is sound) w r reads (subst AllNamed (read-field line name g r) all)
+          by_equation (FieldsAre t ss rest r) (read_item steps (item.Field line name g) r) (read_given (read_node steps) g r) (item_does (item.Field line name g) (node_owner at t ss) fields w) _
+          (read-field steps line name g r) (item_does-field line name g (node_owner at t ss) fields w)
+          (add_given_fits at t ss rest line name g fields h (subst (λ (i : Item). AreSound i.inside) is sound) w r reads (subst AllNamed (read-field steps line name g r) all)
           (subst (λ (i : Item). AreOnce t ss (numbers fields) (i.entries ++ rest)) is once));
     }
 
@@ -102,12 +103,12 @@ declaration_layer : (d : Declaration NodeText) → OfGiven NodeFits d.given → 
 declaration_layer d h =
     let is = part_declaration d in
     record {
-      back = back_by (read_item (item.Declaration d)) (read_given read_node d.given) (read-declaration d) (given_back d.given h);
+      back = back_by (read_item steps (item.Declaration d)) (read_given (read_node steps) d.given) (read-declaration steps d) (given_back d.given h);
       declares = declares-declaration d ∙ ap (λ (i : Item). flat_map signed i.entries) (sym is);
       walk = λ at t ss rest fields w r sound reads all once.
-          by_equation (FieldsAre t ss rest r) (read_item (item.Declaration d) r) (read_given read_node d.given r) (item_does (item.Declaration d) (node_owner at t ss) fields w) _
-          (read-declaration d r) (item_does-declaration d (node_owner at t ss) fields w)
-          (add_declaration_fits at t ss rest (signature d) d.given fields h (subst (λ (i : Item). AreSound i.inside) is sound) w r reads (subst AllNamed (read-declaration d r) all)
+          by_equation (FieldsAre t ss rest r) (read_item steps (item.Declaration d) r) (read_given (read_node steps) d.given r) (item_does (item.Declaration d) (node_owner at t ss) fields w) _
+          (read-declaration steps d r) (item_does-declaration d (node_owner at t ss) fields w)
+          (add_declaration_fits at t ss rest (signature d) d.given fields h (subst (λ (i : Item). AreSound i.inside) is sound) w r reads (subst AllNamed (read-declaration steps d r) all)
           (subst (λ (i : Item). AreOnce t ss (numbers fields) (i.entries ++ rest)) is once));
     }
 
@@ -115,11 +116,11 @@ item_route_layer : (route : RouteText) → ItemFits (item.Route route)
 item_route_layer route =
     let is = part_route route in
     record {
-      back = back_by (read_item (item.Route route)) (λ r. r) (read-item-route route) stays;
+      back = back_by (read_item steps (item.Route route)) (λ r. r) (read-item-route steps route) stays;
       declares = declares-route route ∙ ap (λ (i : Item). flat_map signed i.entries) (sym is);
       walk = λ at t ss rest fields w r sound reads all once.
-          by_equation (FieldsAre t ss rest r) (read_item (item.Route route) r) r (item_does (item.Route route) (node_owner at t ss) fields w) _
-          (read-item-route route r) (item_does-route route (node_owner at t ss) fields w)
+          by_equation (FieldsAre t ss rest r) (read_item steps (item.Route route) r) r (item_does (item.Route route) (node_owner at t ss) fields w) _
+          (read-item-route steps route r) (item_does-route route (node_owner at t ss) fields w)
           (fits_then (λ _ v. Same w v) (FieldsAre t ss rest r r) (wire route w) (λ _. pure fields) (wire_quiet route w)
           (λ _ v q. (after_quiet w v r q reads, subst (λ (i : Item). AreOnce t ss (numbers fields) (i.entries ++ rest)) is once)));
     }
@@ -128,7 +129,7 @@ item_proto_layer : (p : ProtoText) → ProtoFits p → ItemFits (item.Proto p)
 item_proto_layer p h =
     let is = part_proto p in
     record {
-      back = back_by (read_item (item.Proto p)) (λ r. r) (read-item-proto p) stays;
+      back = back_by (read_item steps (item.Proto p)) (λ r. r) (read-item-proto steps p) stays;
       declares = declares-proto p ∙ ap (λ (i : Item). flat_map signed i.entries) (sym is);
       walk = λ at t ss rest fields w r sound reads all once.
           (let none = subst (λ (i : Item). AreSound i.inside) is sound in absurd none.0);
@@ -160,19 +161,19 @@ NodeAfter r s k v = After r v s
 
 used_layer : (line : ℕ) (name : List ℕ) → NodeFits (node.Use line name)
 used_layer line name = record {
-  back = back_by (read_node (node.Use line name)) (λ r. stands (named name r.opened) r) (read-use line name) (stands_back name);
+  back = back_by (read_node steps (node.Use line name)) (λ r. stands (named name r.opened) r) (read-use steps line name) (stands_back name);
   walk = λ sound w r reads all.
-      by_equation (NodeAfter r) (read_node (node.Use line name) r) (stands (named name r.opened) r) (node_does (node.Use line name) w) _ (read-use line name r) (node_does-use line name w)
-      (use_fits line name w r reads (subst AllNamed (read-use line name r) all));
+      by_equation (NodeAfter r) (read_node steps (node.Use line name) r) (stands (named name r.opened) r) (node_does (node.Use line name) w) _ (read-use steps line name r) (node_does-use line name w)
+      (use_fits line name w r reads (subst AllNamed (read-use steps line name r) all));
 }
 
 -- ---- a node
 
-abbrev OnFieldsFits : NodeType → List Signature → List Entry → OnFields → Step → Type 0
+abbrev OnFieldsFits : NodeType → List Signature → List Entry → OnFields → Step Reading → Type 0
 OnFieldsFits t ss es items step =
     (at : ℕ) (w : Walk) (r : Reading) → Reads w r → AllNamed (step r) → AreOnce t ss [] es → Fits (λ _ v. After r v (step r)) (items (node_owner at t ss) [] w)
 
-typed_fits : (line : ℕ) (name : Option (List ℕ)) (t : NodeType) (ss : List Signature) (es : List Entry) (items : OnFields) (step : Step) → OnFieldsFits t ss es items step → AreOnce t ss [] es →
+typed_fits : (line : ℕ) (name : Option (List ℕ)) (t : NodeType) (ss : List Signature) (es : List Entry) (items : OnFields) (step : Step Reading) → OnFieldsFits t ss es items step → AreOnce t ss [] es →
     (w : Walk) (r : Reading) → Reads w r → AllNamed (step (opens name r)) → Fits (NodeAfter r (closes name r (step (opens name r)))) (typed_node line name t ss items w)
 unfolding typed_node
 typed_fits line name t ss es items step h once w r g n =
@@ -186,7 +187,7 @@ typed_fits line name t ss es items step h once w r g n =
     (h at x (opens name r) (reads_same v x (opens name r) q b.reads) n once)
     (λ fields y p. close_fits line name at t ss fields y r s p.more b.place (p.opened ∙ append_assoc r.opened (open_braces name ∷ []) p.more) p.reads)))
 
-of_word_fits : (line : ℕ) (name : Option (List ℕ)) (word : List ℕ) (ss : List Signature) (es : List Entry) (items : OnFields) (step : Step) → ((t : NodeType) → OnFieldsFits t ss es items step)
+of_word_fits : (line : ℕ) (name : Option (List ℕ)) (word : List ℕ) (ss : List Signature) (es : List Entry) (items : OnFields) (step : Step Reading) → ((t : NodeType) → OnFieldsFits t ss es items step)
     → ss ≡ flat_map signed es → (t : Option NodeType) → IsOfType t es → (w : Walk) (r : Reading) → Reads w r → AllNamed (step (opens name r))
     → Fits (NodeAfter r (closes name r (step (opens name r)))) (of_word line name word ss items t w)
 of_word_fits line name word ss es items step h e None k w r g n = absurd k
@@ -197,15 +198,15 @@ abbrev Once : NodeType → List Signature → Fields → List BodyItem → Type 
 Once t ss fields items = AreOnce t ss (numbers fields) (flat_map entries items)
 
 item_fits : (at : ℕ) (t : NodeType) (ss : List Signature) (i : BodyItem) (others : List BodyItem) (fields : Fields) (w : Walk) (r : Reading) → ItemFits i → AreSound (in_item i) → Reads w r
-    → AllNamed (read_item i r) → Once t ss fields (i ∷ others) → Fits (λ fs v. After r v (read_item i r) × Once t ss fs others) (item_does i (node_owner at t ss) fields w)
+    → AllNamed (read_item steps i r) → Once t ss fields (i ∷ others) → Fits (λ fs v. After r v (read_item steps i r) × Once t ss fs others) (item_does i (node_owner at t ss) fields w)
 item_fits at t ss i others fields w r h sound g n once = h.walk at t ss (flat_map entries others) fields w r sound g n once
 
 items_fit : (t : NodeType) (ss : List Signature) (items : List BodyItem) → AllByRecursion ItemFits items → AreSound (flat_map in_item items)
-    → OnFieldsFits t ss (flat_map entries items) (items_do items) (each read_item items)
+    → OnFieldsFits t ss (flat_map entries items) (items_do items) (each (read_item steps) items)
 unfolding items_do
 items_fit t ss items h sound at w r g n once =
-    fits_weaker (λ fs v. After r v (each read_item items r) × Once t ss fs []) (λ _ v. After r v (each read_item items r)) (through (λ i. item_does i (node_owner at t ss)) items [] w) (λ fs v p. p.0)
-    (fits_through ItemFits read_item (λ _ k. k.back) in_item (λ i. item_does i (node_owner at t ss)) (Once t ss) (item_fits at t ss) items [] w r h sound g n once)
+    fits_weaker (λ fs v. After r v (each (read_item steps) items r) × Once t ss fs []) (λ _ v. After r v (each (read_item steps) items r)) (through (λ i. item_does i (node_owner at t ss)) items [] w) (λ fs v p. p.0)
+    (fits_through ItemFits (read_item steps) (λ _ k. k.back) in_item (λ i. item_does i (node_owner at t ss)) (Once t ss) (item_fits at t ss) items [] w r h sound g n once)
 
 same_declared : (items : List BodyItem) → AllByRecursion ItemFits items → declared_in items ≡ flat_map signed (flat_map entries items)
 same_declared [] h = refl
@@ -219,23 +220,23 @@ inside_named name r s n =
     let split = closed_split s.closed (s.here ∷ []) n.closed in
     record { closed = split.0; here = split.1.0 }
 
-full_back : (name : Option (List ℕ)) (items : List BodyItem) → AllByRecursion ItemFits items → GoesBack (λ r. closes name r (each read_item items (opens name r)))
+full_back : (name : Option (List ℕ)) (items : List BodyItem) → AllByRecursion ItemFits items → GoesBack (λ r. closes name r (each (read_item steps) items (opens name r)))
 full_back name items h r n =
-    let s = each read_item items (opens name r) in
-    let before = each_back ItemFits read_item (λ _ k. k.back) items h (opens name r) (inside_named name r s n) in
+    let s = each (read_item steps) items (opens name r) in
+    let before = each_back ItemFits (read_item steps) (λ _ k. k.back) items h (opens name r) (inside_named name r s n) in
     record { closed = before.closed; here = (named_split r.here (Some (length s.closed) ∷ []) n.here).0 }
 
 full_layer : (line : ℕ) (name : Option (List ℕ)) (word : List ℕ) (items : List BodyItem) → AllByRecursion ItemFits items → NodeFits (node.Full line name word items)
 unfolding full_node
 full_layer line name word items h = record {
-  back = back_by (read_node (node.Full line name word items)) (λ r. closes name r (each read_item items (opens name r))) (read-full line name word items) (full_back name items h);
+  back = back_by (read_node steps (node.Full line name word items)) (λ r. closes name r (each (read_item steps) items (opens name r))) (read-full steps line name word items) (full_back name items h);
   walk = λ sound w r reads all.
       (let split = sound_both (flat_map in_item items) (Braces word (flat_map entries items) ∷ []) (subst AreSound (in_full line name word items) sound) in
-      let s = each read_item items (opens name r) in
-      by_equation (NodeAfter r) (read_node (node.Full line name word items) r) (closes name r s) (node_does (node.Full line name word items) w) _
-      (read-full line name word items r) (node_does-full line name word items w)
-      (of_word_fits line name word (declared_in items) (flat_map entries items) (items_do items) (each read_item items) (λ t. items_fit t (declared_in items) items h split.0) (same_declared items h)
-      (node_type_named word) split.1.0 w r reads (inside_named name r s (subst AllNamed (read-full line name word items r) all))));
+      let s = each (read_item steps) items (opens name r) in
+      by_equation (NodeAfter r) (read_node steps (node.Full line name word items) r) (closes name r s) (node_does (node.Full line name word items) w) _
+      (read-full steps line name word items r) (node_does-full line name word items w)
+      (of_word_fits line name word (declared_in items) (flat_map entries items) (items_do items) (each (read_item steps) items) (λ t. items_fit t (declared_in items) items h split.0) (same_declared items h)
+      (node_type_named word) split.1.0 w r reads (inside_named name r s (subst AllNamed (read-full steps line name word items r) all))));
 }
 
 -- ---- statements
@@ -245,24 +246,24 @@ StatementAfter r s k v = After r v s
 
 node_layer : (n : NodeText) → NodeFits n → StatementFits (statement.Node n)
 node_layer n h = record {
-  back = back_by (read_statement (statement.Node n)) (read_node n) (read-node-statement n) h.back;
+  back = back_by (read_statement steps (statement.Node n)) (read_node steps n) (read-node-statement steps n) h.back;
   walk = λ sound w r reads all.
-      by_equation (StatementAfter r) (read_statement (statement.Node n) r) (read_node n r) (statement_does (statement.Node n) w) _ (read-node-statement n r) (statement_does-node n w)
-      (fits_then (NodeAfter r (read_node n r)) (StatementAfter r (read_node n r)) (node_does n w) (λ k. pure (Some k))
-      (h.walk (subst AreSound (in_node_statement n) sound) w r reads (subst AllNamed (read-node-statement n r) all)) (λ k v p. p));
+      by_equation (StatementAfter r) (read_statement steps (statement.Node n) r) (read_node steps n r) (statement_does (statement.Node n) w) _ (read-node-statement steps n r) (statement_does-node n w)
+      (fits_then (NodeAfter r (read_node steps n r)) (StatementAfter r (read_node steps n r)) (node_does n w) (λ k. pure (Some k))
+      (h.walk (subst AreSound (in_node_statement n) sound) w r reads (subst AllNamed (read-node-statement steps n r) all)) (λ k v p. p));
 }
 
 route_layer : (route : RouteText) → StatementFits (statement.Route route)
 route_layer route = record {
-  back = back_by (read_statement (statement.Route route)) (λ r. r) (read-route route) stays;
+  back = back_by (read_statement steps (statement.Route route)) (λ r. r) (read-route steps route) stays;
   walk = λ sound w r reads all.
-      by_equation (StatementAfter r) (read_statement (statement.Route route) r) r (statement_does (statement.Route route) w) _ (read-route route r) (statement_does-route route w)
+      by_equation (StatementAfter r) (read_statement steps (statement.Route route) r) r (statement_does (statement.Route route) w) _ (read-route steps route r) (statement_does-route route w)
       (fits_then (λ _ v. Same w v) (StatementAfter r r) (wire route w) (λ _. pure None) (wire_quiet route w) (λ _ v q. after_quiet w v r q reads));
 }
 
 proto_layer : (p : ProtoText) → ProtoFits p → StatementFits (statement.Proto p)
 proto_layer p h = record {
-  back = back_by (read_statement (statement.Proto p)) (λ r. r) (read-proto p) stays;
+  back = back_by (read_statement steps (statement.Proto p)) (λ r. r) (read-proto steps p) stays;
   walk = λ sound w r reads all. (let none = subst AreSound (in_proto p) sound in absurd none.0);
 }
 
@@ -300,11 +301,11 @@ check_quiet s sound w =
 abbrev Whatever : List ℕ → List Statement → Type 0
 Whatever roots ss = Unit {0}
 
-at_top_fits : (s : Statement) (others : List Statement) (roots : List ℕ) (w : Walk) (r : Reading) → StatementFits s → AreSound (in_statement s) → Reads w r → AllNamed (read_statement s r)
-    → Whatever roots (s ∷ others) → Fits (λ ks v. After r v (read_statement s r) × Whatever ks others) (at_top s roots w)
+at_top_fits : (s : Statement) (others : List Statement) (roots : List ℕ) (w : Walk) (r : Reading) → StatementFits s → AreSound (in_statement s) → Reads w r → AllNamed (read_statement steps s r)
+    → Whatever roots (s ∷ others) → Fits (λ ks v. After r v (read_statement steps s r) × Whatever ks others) (at_top s roots w)
 unfolding put_statement
 at_top_fits s others roots w r h sound g n e =
-    let u = read_statement s r in
+    let u = read_statement steps s r in
     fits_then (StatementAfter r u) (λ ks v. After r v u × Whatever ks others) (put_statement s w) (λ k. pure (grown roots k))
     (fits_then (λ _ v. Same w v) (StatementAfter r u) (check s w) (λ _. statement_does s) (check_quiet s sound w)
     (λ _ v q. h.walk sound v r (reads_same w v r q g) n))
@@ -346,5 +347,5 @@ pub sound_flat : SoundDocumentsAreFlat
 unfolding flat
 sound_flat d sound n =
     flat_of_fits (header_of d) (λ ks v. After nothing_read v (read d) × Whatever ks []) (through at_top d.statements [] nothing)
-    (fits_through StatementFits read_statement (λ _ k. k.back) in_statement at_top Whatever at_top_fits d.statements [] nothing nothing_read
+    (fits_through StatementFits (read_statement steps) (λ _ k. k.back) in_statement at_top Whatever at_top_fits d.statements [] nothing nothing_read
     (every ItemFits NodeFits StatementFits ProtoFits layers d.statements) sound reads_nothing n tt)

@@ -4,7 +4,8 @@ use Rattle.std.specs.List.{AllByRecursion, flat_map, fold}
 use Rattle.std.proofs.lemmas.List.{map-append}
 use Rattle.std.proofs.lemmas.List.Sums.{fold-append}
 use Rattle.flat_document.specs.declared.flat.FlatNode.{FlatNode}
-use Rattle.flat_laws.specs.Uses.{Opened, Reading, each as each_read, some}
+use Rattle.flat_laws.specs.Readings.{each as each_read}
+use Rattle.flat_laws.specs.Uses.{Opened, Reading, some}
 use Rattle.scene_core.specs.declared.numbering.Numbering.{Numbering}
 use Rattle.scene_core.specs.declared.scene.SceneNode.{SceneNode}
 use Rattle.scene_core.specs.Numbers.{appear, close, is_new, visit}

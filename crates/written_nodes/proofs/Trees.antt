@@ -12,8 +12,9 @@ use Rattle.classic_tree.specs.declared.tree.BodyItem.TheVariants as item
 use Rattle.classic_tree.specs.declared.tree.Given.TheVariants as given
 use Rattle.classic_tree.specs.declared.tree.NodeText.{NodeText}
 use Rattle.flat_document.specs.declared.flat.FlatNode.{FlatNode}
-use Rattle.flat_laws.specs.Uses.{Opened, Reading, closes, each as each_read, named, opens, read_item, read_node, read_value, some, stands}
-use Rattle.flat_laws.proofs.UsesParts.{read-declaration, read-field, read-full, read-use}
+use Rattle.flat_laws.specs.Readings.{each as each_read, read_item, read_node, read_value}
+use Rattle.flat_laws.specs.Uses.{Opened, Reading, closes, named, opens, some, stands, steps}
+use Rattle.flat_laws.proofs.Readings.{read-declaration, read-field, read-full, read-use}
 use Rattle.scene_core.specs.declared.numbering.Numbering.{Numbering}
 use Rattle.scene_core.specs.declared.scene.SceneNode.{SceneNode}
 use Rattle.scene_core.specs.Numbers.{appear, close, is_new}
@@ -42,15 +43,15 @@ all_both P Q R k (x ∷ xs) h g = (k x h.0 g.0, all_both P Q R k xs h.1 g.1)
 
 -- ---- values without nodes
 
-truths_read : (truths : List Bool) (r : Reading) → read_value read_node (truth_list truths) r ≡ r
+truths_read : (truths : List Bool) (r : Reading) → read_value (read_node steps) (truth_list truths) r ≡ r
 truths_read [] r = refl
 truths_read (t ∷ ts) r = refl
 
-numbers_read : (numbers : List ℤ) (r : Reading) → read_value read_node (number_list numbers) r ≡ r
+numbers_read : (numbers : List ℤ) (r : Reading) → read_value (read_node steps) (number_list numbers) r ≡ r
 numbers_read [] r = refl
 numbers_read (n ∷ ns) r = refl
 
-texts_read : (texts : List (List ℕ)) (r : Reading) → read_value read_node (string_list texts) r ≡ r
+texts_read : (texts : List (List ℕ)) (r : Reading) → read_value (read_node steps) (string_list texts) r ≡ r
 texts_read [] r = refl
 texts_read (t ∷ ts) r = refl
 
@@ -60,11 +61,11 @@ module _ (p : PlanView) (nodes : List FlatNode) where
 
   -- ---- fields
 
-  module _ (begun : List ℕ) (Q : ℕ → Type 0) (tree : Makes ℕ NodeText) (does : Does p nodes begun Q one read_node tree) where
-    value_does : Does p nodes begun Q nodes_of (read_value read_node) (value_tree tree)
+  module _ (begun : List ℕ) (Q : ℕ → Type 0) (tree : Makes ℕ NodeText) (does : Does p nodes begun Q one (read_node steps) tree) where
+    value_does : Does p nodes begun Q nodes_of (read_value (read_node steps)) (value_tree tree)
     value_does coming r s (value.SFNode (Some n)) q h i = does coming r s n q h i
     value_does coming r s (value.MFNode []) q h i = (refl, after_none p nodes begun coming r r s refl h)
-    value_does coming r s (value.MFNode (n ∷ ns)) q h i = nodes_in_turn p nodes begun Q read_node tree does coming r s (n ∷ ns) q h i
+    value_does coming r s (value.MFNode (n ∷ ns)) q h i = nodes_in_turn p nodes begun Q (read_node steps) tree does coming r s (n ∷ ns) q h i
     value_does coming r s (value.SFNode None) q h i = (refl, after_none p nodes begun coming r r s refl h)
     value_does coming r s (value.SFBool _) q h i = (refl, after_none p nodes begun coming r r s refl h)
     value_does coming r s (value.SFInt32 _) q h i = (refl, after_none p nodes begun coming r r s refl h)
@@ -75,38 +76,38 @@ module _ (p : PlanView) (nodes : List FlatNode) where
     value_does coming r s (value.SFVec3f _) q h i = (refl, after_none p nodes begun coming r r s refl h)
     value_does coming r s (value.SFColor _) q h i = (refl, after_none p nodes begun coming r r s refl h)
     value_does coming r s (value.MFBool truths) q h i =
-        (refl, after_none p nodes begun coming r (read_value read_node (truth_list truths) r) s (truths_read truths r) h)
+        (refl, after_none p nodes begun coming r (read_value (read_node steps) (truth_list truths) r) s (truths_read truths r) h)
     value_does coming r s (value.MFInt32 numbers) q h i =
-        (refl, after_none p nodes begun coming r (read_value read_node (value_tree tree s.opened (value.MFInt32 numbers)).made r) s (numbers_read (flat_map integer_run numbers) r) h)
+        (refl, after_none p nodes begun coming r (read_value (read_node steps) (value_tree tree s.opened (value.MFInt32 numbers)).made r) s (numbers_read (flat_map integer_run numbers) r) h)
     value_does coming r s (value.MFFloat numbers) q h i =
-        (refl, after_none p nodes begun coming r (read_value read_node (value_tree tree s.opened (value.MFFloat numbers)).made r) s (numbers_read (flat_map number_run numbers) r) h)
+        (refl, after_none p nodes begun coming r (read_value (read_node steps) (value_tree tree s.opened (value.MFFloat numbers)).made r) s (numbers_read (flat_map number_run numbers) r) h)
     value_does coming r s (value.MFTime times) q h i =
-        (refl, after_none p nodes begun coming r (read_value read_node (value_tree tree s.opened (value.MFTime times)).made r) s (numbers_read (flat_map number_run times) r) h)
+        (refl, after_none p nodes begun coming r (read_value (read_node steps) (value_tree tree s.opened (value.MFTime times)).made r) s (numbers_read (flat_map number_run times) r) h)
     value_does coming r s (value.MFString texts) q h i =
-        (refl, after_none p nodes begun coming r (read_value read_node (string_list texts) r) s (texts_read texts r) h)
+        (refl, after_none p nodes begun coming r (read_value (read_node steps) (string_list texts) r) s (texts_read texts r) h)
     value_does coming r s (value.MFVec2f vectors) q h i =
-        (refl, after_none p nodes begun coming r (read_value read_node (value_tree tree s.opened (value.MFVec2f vectors)).made r) s (numbers_read (flat_map pair_run vectors) r) h)
+        (refl, after_none p nodes begun coming r (read_value (read_node steps) (value_tree tree s.opened (value.MFVec2f vectors)).made r) s (numbers_read (flat_map pair_run vectors) r) h)
     value_does coming r s (value.MFVec3f vectors) q h i =
-        (refl, after_none p nodes begun coming r (read_value read_node (value_tree tree s.opened (value.MFVec3f vectors)).made r) s (numbers_read (flat_map vector_run vectors) r) h)
+        (refl, after_none p nodes begun coming r (read_value (read_node steps) (value_tree tree s.opened (value.MFVec3f vectors)).made r) s (numbers_read (flat_map vector_run vectors) r) h)
     value_does coming r s (value.MFColor colors) q h i =
-        (refl, after_none p nodes begun coming r (read_value read_node (value_tree tree s.opened (value.MFColor colors)).made r) s (numbers_read (flat_map color_run colors) r) h)
+        (refl, after_none p nodes begun coming r (read_value (read_node steps) (value_tree tree s.opened (value.MFColor colors)).made r) s (numbers_read (flat_map color_run colors) r) h)
 
-    field_does : Does p nodes begun Q links read_item (field_tree tree)
+    field_does : Does p nodes begun Q links (read_item steps) (field_tree tree)
     field_does coming r s (Plain name v) q h i =
         let m = value_tree tree s.opened v in
         let a = value_does coming r s v q h i in
-        let same : read_item (item.Field 0 name (given.Value m.made)) r ≡ read_value read_node m.made r = read-field 0 name (given.Value m.made) r in
+        let same : (read_item steps) (item.Field 0 name (given.Value m.made)) r ≡ read_value (read_node steps) m.made r = read-field steps 0 name (given.Value m.made) r in
         (a.0, subst (λ (t : Reading). After p nodes begun coming r t (fold F s (nodes_of v)) (nodes_of v)) (sym same) a.1)
     field_does coming r s (Declared d None) q h i = (
       refl,
-      after_none p nodes begun coming r (read_item (declaration d given.Nothing) r) s
-          (read-declaration (record { line = 0; access = d.access; field_type = d.field_type; name = d.name; given = given.Nothing }) r) h,
+      after_none p nodes begun coming r (read_item steps (declaration d given.Nothing) r) s
+          (read-declaration steps (record { line = 0; access = d.access; field_type = d.field_type; name = d.name; given = given.Nothing }) r) h,
     )
     field_does coming r s (Declared d (Some v)) q h i =
         let m = value_tree tree s.opened v in
         let a = value_does coming r s v q h i in
-        let same : read_item (declaration d (given.Value m.made)) r ≡ read_value read_node m.made r =
-        read-declaration (record { line = 0; access = d.access; field_type = d.field_type; name = d.name; given = given.Value m.made }) r in
+        let same : (read_item steps) (declaration d (given.Value m.made)) r ≡ read_value (read_node steps) m.made r =
+        read-declaration steps (record { line = 0; access = d.access; field_type = d.field_type; name = d.name; given = given.Value m.made }) r in
         (a.0, subst (λ (t : Reading). After p nodes begun coming r t (fold F s (nodes_of v)) (nodes_of v)) (sym same) a.1)
 
   -- ---- nodes
@@ -147,10 +148,10 @@ module _ (p : PlanView) (nodes : List FlatNode) where
     }
 
     used_does : (begun coming : List ℕ) (r : Reading) (s : Numbering) (n : ℕ) → Ready p nodes begun (n ∷ coming) r s → Seen s n → n < count p
-        → ((x : ℕ) → In x begun → n < x) → After p nodes begun coming r (read_node (use_tree p n) r) s (n ∷ [])
+        → ((x : ℕ) → In x begun → n < x) → After p nodes begun coming r (read_node steps (use_tree p n) r) s (n ∷ [])
     used_does begun coming r s n h seen low above =
         let what : Option ℕ = named (label p n) r.opened in
-        subst (λ (t : Reading). After p nodes begun coming r t s (n ∷ [])) (sym (read-use 0 (label p n) r)) (record {
+        subst (λ (t : Reading). After p nodes begun coming r t s (n ∷ [])) (sym (read-use steps 0 (label p n) r)) (record {
           here = ap (λ (o : Option ℕ). r.here ++ o ∷ []) (used_named begun coming r s n h seen low above);
           kept = λ k o at. at;
           ready = used_ready begun coming r s n what h;
@@ -271,13 +272,13 @@ module _ (p : PlanView) (nodes : List FlatNode) where
     -- ---- a node
 
     abbrev NodesDo : ℕ → Type 0
-    NodesDo depth = (begun : List ℕ) → Does p nodes begun (IsFit depth begun) one read_node (node_tree depth p)
+    NodesDo depth = (begun : List ℕ) → Does p nodes begun (IsFit depth begun) one (read_node steps) (node_tree depth p)
 
     -- how it is written, by its type if it has not appeared
     abbrev IsDoneBy : ℕ → List ℕ → List ℕ → Reading → Numbering → ℕ → Numbering → Option NodeType → Type 0
     IsDoneBy depth begun coming r s n v o =
         ((opened p (node_tree depth p) s.opened n o).seen ≡ v.opened)
-        × After p nodes begun coming r (read_node (opened p (node_tree depth p) s.opened n o).made r) v (n ∷ [])
+        × After p nodes begun coming r (read_node steps (opened p (node_tree depth p) s.opened n o).made r) v (n ∷ [])
 
     inside_fit : (depth n : ℕ) (begun : List ℕ) (node : SceneNode) → slice_get p.scene.nodes n ≡ Some node → IsFit (suc depth) begun n
         → AllByRecursion (IsFit depth (n ∷ begun)) (parts_of nodes n)
@@ -303,22 +304,22 @@ module _ (p : PlanView) (nodes : List FlatNode) where
         let place : InPlace p nodes (close (fold F (appear s n) within_node) n) = subst (InPlace p nodes) visited i in
         let inner_place : InPlace p nodes (fold F (appear s n) within_node) =
         (λ j x at. place j x (push_keeps (fold F (appear s n) within_node).order n j x at)) in
-        let all = in_turn p nodes (n ∷ begun) (IsFit depth (n ∷ begun)) links read_item (field_tree tree)
+        let all = in_turn p nodes (n ∷ begun) (IsFit depth (n ∷ begun)) links (read_item steps) (field_tree tree)
         (field_does (n ∷ begun) (IsFit depth (n ∷ begun)) tree (k (n ∷ begun))) coming (opens name r) [] (appear s n) fields
         (subst (AllByRecursion (IsFit depth (n ∷ begun))) (sym same) (inside_fit depth n begun node is q))
         (subst (λ (l : List ℕ). Ready p nodes (n ∷ begun) (l ++ coming) (opens name r) (appear s n)) (sym same) (appeared begun coming r s n h new))
         (subst (λ (l : List ℕ). InPlace p nodes (fold F (appear s n) l)) (sym same) inner_place) in
         let items : Step (List BodyItem) = each (field_tree tree) (slice_set s.opened n true) fields in
         let told : (items.seen ≡ (fold F (appear s n) within_node).opened)
-        × After p nodes (n ∷ begun) coming (opens name r) (each_read read_item items.made (opens name r)) (fold F (appear s n) within_node) within_node =
+        × After p nodes (n ∷ begun) coming (opens name r) (each_read (read_item steps) items.made (opens name r)) (fold F (appear s n) within_node) within_node =
         subst (λ (l : List ℕ). (items.seen ≡ (fold F (appear s n) l).opened)
-        × After p nodes (n ∷ begun) coming (opens name r) (each_read read_item items.made (opens name r)) (fold F (appear s n) l) l) same all in
-        let done : After p nodes begun coming r (closes name r (each_read read_item items.made (opens name r))) (close (fold F (appear s n) within_node) n) (n ∷ []) =
-        closed begun coming r (each_read read_item items.made (opens name r)) (fold F (appear s n) within_node) n told.1 place low in
+        × After p nodes (n ∷ begun) coming (opens name r) (each_read (read_item steps) items.made (opens name r)) (fold F (appear s n) l) l) same all in
+        let done : After p nodes begun coming r (closes name r (each_read (read_item steps) items.made (opens name r))) (close (fold F (appear s n) within_node) n) (n ∷ []) =
+        closed begun coming r (each_read (read_item steps) items.made (opens name r)) (fold F (appear s n) within_node) n told.1 place low in
         subst (λ (v : Numbering). IsDoneBy depth begun coming r s n v (Some node.node_type)) (sym visited) (
           told.0,
           subst (λ (t : Reading). After p nodes begun coming r t (close (fold F (appear s n) within_node) n) (n ∷ []))
-              (sym (read-full 0 name (node_type_name node.node_type) items.made r)) done,
+              (sym (read-full steps 0 name (node_type_name node.node_type) items.made r)) done,
         )
 
     by_seen : (depth : ℕ) → NodesDo depth → (begun coming : List ℕ) (r : Reading) (s : Numbering) (n : ℕ) (b : Bool) → slice_index_or s.opened n true ≡ b

@@ -15,8 +15,9 @@ use Rattle.classic_tree.specs.declared.tree.RawValue.TheVariants as raw
 use Rattle.classic_tree.specs.declared.tree.Statement.{Statement}
 use Rattle.flat_document.specs.declared.flat.Flat.{Flat}
 use Rattle.flat_document.specs.declared.flat.FlatNode.{FlatNode}
-use Rattle.flat_laws.specs.Uses.{Reading, closes, each as each_read, nothing_read, opens, read, read_node, read_statement, some}
-use Rattle.flat_laws.proofs.UsesParts.{read-field, read-full, read-node-statement, read-route}
+use Rattle.flat_laws.specs.Readings.{each as each_read, read_node, read_statement}
+use Rattle.flat_laws.specs.Uses.{Reading, closes, nothing_read, opens, read, some, steps}
+use Rattle.flat_laws.proofs.Readings.{read-field, read-full, read-node-statement, read-route}
 use Rattle.scene_core.specs.declared.numbering.Numbering.{Numbering}
 use Rattle.scene_core.specs.declared.scene.Route.{Route}
 use Rattle.scene_core.specs.Building.{scene_of}
@@ -77,21 +78,21 @@ made_many make m (x ∷ xs) =
 
 -- ---- the node in which the helpers stand
 
-switch_read : (trees : List NodeText) (r : Reading) → read_node (switch_of trees) r ≡ closes None r (each_read read_node trees (opens None r))
+switch_read : (trees : List NodeText) (r : Reading) → read_node steps (switch_of trees) r ≡ closes None r (each_read (read_node steps) trees (opens None r))
 switch_read trees r =
     let content : BodyItem = item.Field 0 (codes "children") (given.Value (raw.NodeList trees)) in
-    read-full 0 None (codes "Switch") (content ∷ []) r
-    ∙ ap (λ (t : Reading). closes None r t) (read-field 0 (codes "children") (given.Value (raw.NodeList trees)) (opens None r))
+    read-full steps 0 None (codes "Switch") (content ∷ []) r
+    ∙ ap (λ (t : Reading). closes None r t) (read-field steps 0 (codes "children") (given.Value (raw.NodeList trees)) (opens None r))
 
 root_read : (trees : List NodeText) (r : Reading) → 0 < length trees
-    → each_read read_statement (helper_root trees) r ≡ closes None r (each_read read_node trees (opens None r))
+    → each_read (read_statement steps) (helper_root trees) r ≡ closes None r (each_read (read_node steps) trees (opens None r))
 root_read [] r l = absurd (omega (arith, l))
-root_read (tree ∷ trees) r l = read-node-statement (switch_of (tree ∷ trees)) r ∙ switch_read (tree ∷ trees) r
+root_read (tree ∷ trees) r l = read-node-statement steps (switch_of (tree ∷ trees)) r ∙ switch_read (tree ∷ trees) r
 
-routes_read : (s : SceneView) (routes : List Route) (r : Reading) → each_read read_statement (routes_of s routes) r ≡ r
+routes_read : (s : SceneView) (routes : List Route) (r : Reading) → each_read (read_statement steps) (routes_of s routes) r ≡ r
 routes_read s [] r = refl
 routes_read s (route ∷ routes) r =
-    ap (λ (t : Reading). each_read read_statement (routes_of s routes) t) (read-route (route_of s route) r) ∙ routes_read s routes r
+    ap (λ (t : Reading). each_read (read_statement steps) (routes_of s routes) t) (read-route steps (route_of s route) r) ∙ routes_read s routes r
 
 -- ---- a plan
 
@@ -99,13 +100,13 @@ module _ (p : PlanView) (nodes : List FlatNode) (rules : Rules p nodes) where
   abbrev G : Numbering → ℕ → Numbering
   G = F p nodes
 
-  trees_do : Does p nodes [] (IsFit p nodes max_depth []) one read_node (tree p)
+  trees_do : Does p nodes [] (IsFit p nodes max_depth []) one (read_node steps) (tree p)
   trees_do = nodes_do p nodes rules max_depth []
 
-  roots_do : Does p nodes [] (IsFit p nodes max_depth []) one read_statement (root_tree (tree p))
+  roots_do : Does p nodes [] (IsFit p nodes max_depth []) one (read_statement steps) (root_tree (tree p))
   roots_do coming r s n q h i =
       let a = trees_do coming r s n q h i in
-      (a.0, subst (λ (t : Reading). After p nodes [] coming r t (G s n) (n ∷ [])) (sym (read-node-statement (tree p s.opened n).made r)) a.1)
+      (a.0, subst (λ (t : Reading). After p nodes [] coming r t (G s n) (n ∷ [])) (sym (read-node-statement steps (tree p s.opened n).made r)) a.1)
 
   -- helpers and routes behind the roots
   record IsWhole (r t : Reading) (s : Numbering) (helpers : List ℕ) : Type 0 where
@@ -114,7 +115,7 @@ module _ (p : PlanView) (nodes : List FlatNode) (rules : Rules p nodes) where
 
   helpers_read : (helpers : List ℕ) (r : Reading) (s : Numbering) → Ready p nodes [] (helpers ++ []) r s → AllByRecursion (IsFit p nodes max_depth []) helpers
       → InPlace p nodes (fold G s helpers)
-      → IsWhole r (each_read read_statement (helper_root (each (tree p) s.opened helpers).made) r) (fold G s helpers) helpers
+      → IsWhole r (each_read (read_statement steps) (helper_root (each (tree p) s.opened helpers).made) r) (fold G s helpers) helpers
   helpers_read [] r s h q i = record { closed = h.closed ∙ sym (append-nil (map (inside p nodes) s.order)); here = sym (append-nil r.here) }
   helpers_read (n ∷ ns) r s h q i =
       let ready : Ready p nodes [] ((n ∷ ns) ++ []) (opens None r) s = record {
@@ -124,10 +125,10 @@ module _ (p : PlanView) (nodes : List FlatNode) (rules : Rules p nodes) where
         listed = h.listed;
         budget = h.budget;
       } in
-      let a = (nodes_in_turn p nodes [] (IsFit p nodes max_depth []) read_node (tree p) trees_do [] (opens None r) s (n ∷ ns) q ready i).1 in
+      let a = (nodes_in_turn p nodes [] (IsFit p nodes max_depth []) (read_node steps) (tree p) trees_do [] (opens None r) s (n ∷ ns) q ready i).1 in
       let trees : List NodeText = (each (tree p) s.opened (n ∷ ns)).made in
       let many = made_many (tree p) (record { seen = s.opened; made = [] }) (n ∷ ns) in
-      let within : Reading = each_read read_node trees (opens None r) in
+      let within : Reading = each_read (read_node steps) trees (opens None r) in
       let order : List ℕ = (fold G s (n ∷ ns)).order in
       let next : length within.closed ≡ length order = ap (λ (l : List (List (Option ℕ))). length l) a.ready.closed ∙ length-map order (inside p nodes) in
       subst (λ (t : Reading). IsWhole r t (fold G s (n ∷ ns)) (n ∷ ns)) (sym (root_read trees r (omega (arith, many)))) (record {
@@ -148,25 +149,25 @@ module _ (p : PlanView) (nodes : List FlatNode) (rules : Rules p nodes) where
     roots_placed = earlier p nodes (s1 p nodes) p.scene.helpers placed
 
     abbrev r1 : Reading
-    r1 = each_read read_statement (roots_made p nodes).made nothing_read
+    r1 = each_read (read_statement steps) (roots_made p nodes).made nothing_read
 
     roots_read : ((roots_made p nodes).seen ≡ (s1 p nodes).opened) × After p nodes [] (p.scene.helpers ++ []) nothing_read r1 (s1 p nodes) p.scene.roots
     roots_read =
-        nodes_in_turn p nodes [] (IsFit p nodes max_depth []) read_statement (root_tree (tree p)) roots_do (p.scene.helpers ++ []) nothing_read (s0 p nodes)
+        nodes_in_turn p nodes [] (IsFit p nodes max_depth []) (read_statement steps) (root_tree (tree p)) roots_do (p.scene.helpers ++ []) nothing_read (s0 p nodes)
         p.scene.roots (fit p.scene.roots roots_fit) start roots_placed
 
     abbrev behind : List Bool → Reading
-    behind seen = each_read read_statement (helper_root (helpers_of p seen).made) r1
+    behind seen = each_read (read_statement steps) (helper_root (helpers_of p seen).made) r1
 
     whole : IsWhole r1 (behind (s1 p nodes).opened) (s2 p nodes) p.scene.helpers
     whole = helpers_read p.scene.helpers r1 (s1 p nodes) roots_read.1.ready (fit p.scene.helpers helpers_fit) placed
 
     abbrev all : Reading
-    all = each_read read_statement (statements_of p) nothing_read
+    all = each_read (read_statement steps) (statements_of p) nothing_read
 
     abbrev parted : Step (List Statement) → Reading
     parted m =
-        each_read read_statement (m.made ++ helper_root (helpers_of p m.seen).made ++ routes_of p.scene p.routes) nothing_read
+        each_read (read_statement steps) (m.made ++ helper_root (helpers_of p m.seen).made ++ routes_of p.scene p.routes) nothing_read
 
     apart : all ≡ parted (roots_of p)
     unfolding statements_of
@@ -176,7 +177,7 @@ module _ (p : PlanView) (nodes : List FlatNode) (rules : Rules p nodes) where
     in_parts =
         let first : List Statement = (roots_made p nodes).made in
         let second : List Statement = helper_root (helpers_of p (roots_made p nodes).seen).made in
-        let step : Reading → Statement → Reading = λ r part. read_statement part r in
+        let step : Reading → Statement → Reading = λ r part. read_statement steps part r in
         fold-append step nothing_read (first ++ second) (routes_of p.scene p.routes)
         ∙ (routes_read p.scene p.routes (fold step nothing_read (first ++ second))
         ∙ fold-append step nothing_read first second)
@@ -255,7 +256,7 @@ module _ (distinct : LabelsAreDistinct) (flat : Flat) (scene : SceneView) (route
       all_weaker (λ (n : ℕ). n < length scene.nodes) (IsFit p nodes max_depth [])
       (λ n l. (low_shallow flat scene is n l, λ x k. absurd k)) ns h
 
-  document_is : read (scene_document scene routes state) ≡ each_read read_statement (statements_of p) nothing_read
+  document_is : read (scene_document scene routes state) ≡ each_read (read_statement steps) (statements_of p) nothing_read
   unfolding scene_document
   document_is = refl
 

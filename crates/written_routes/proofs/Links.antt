@@ -19,10 +19,11 @@ use Rattle.flat_laws.specs.Closings.{Braces, closings, in_given, in_item, in_nod
 use Rattle.flat_laws.specs.Uses.{Opened, has_name}
 use Rattle.flat_laws.proofs.ClosingParts.{in_declaration, in_field, in_full, in_item_proto, in_item_route, in_node_statement, in_proto, in_route, in_use}
 use Rattle.flat_laws.proofs.Trees.{Layers, OfGiven, OfValue, every}
+use Rattle.flat_laws.proofs.Lists.{all_append, get_middle, set_middle}
 use Rattle.flat_laws.proofs.UsesNames.{closed_braces, open_braces}
-use Rattle.flat_routes.specs.Routes.{Reading, Step, closes, each, last_from, node_at, node_of, nothing_read, opens, read, read_given, read_item, read_node, read_statement, read_value, routes}
-use Rattle.flat_routes.proofs.Parts.{read-declaration, read-field, read-full, read-item-proto, read-item-route, read-node-statement, read-proto, read-route, read-use}
-use Rattle.flat_routes.proofs.Places.{get_last, set_middle}
+use Rattle.flat_laws.specs.Readings.{Step, each, read_given, read_item, read_node, read_statement, read_value}
+use Rattle.flat_routes.specs.Routes.{Reading, closes, last_from, node_at, node_of, nothing_read, opens, read, routes, steps}
+use Rattle.flat_laws.proofs.Readings.{read-declaration, read-field, read-full, read-item-proto, read-item-route, read-node-statement, read-proto, read-route, read-use}
 
 abbrev pub if_one : Bool → ℕ
 if_one true = 1
@@ -69,10 +70,6 @@ module _ (name : List ℕ) (n : ℕ) where
       let e : at + 1 + length xs ≡ at + length (x ∷ xs) = omega arith in
       ((h.0, s.0), subst (λ (k : ℕ). AreOnly k ys) e s.1)
 
-  all_both : (xs ys : List Opened) → AllByRecursion Holds xs → AllByRecursion Holds ys → AllByRecursion Holds (xs ++ ys)
-  all_both [] ys h k = k
-  all_both (x ∷ xs) ys h k = (h.0, all_both xs ys h.1 k)
-
   linked_none : (r s : Reading) → s.opened ≡ r.opened → s.closed ≡ r.closed → Linked r [] s
   linked_none r s e f = record { more = []; opened = e ∙ sym (append-nil r.opened); closed = omega (arith, f); holds = tt; count = refl }
 
@@ -86,20 +83,20 @@ module _ (name : List ℕ) (n : ℕ) where
         more = h.more ++ k.more;
         opened = k.opened ∙ ap (λ (os : List Opened). os ++ k.more) h.opened ∙ append_assoc r.opened h.more k.more;
         closed = omega (arith, before, after, length-append xs ys);
-        holds = all_both h.more k.more h.holds k.holds;
+        holds = all_append Holds h.more k.more h.holds k.holds;
         count = omega (arith, first, second, names_in-append xs ys, names_of-append h.more k.more);
       }
 
-  abbrev Links : List Braces → Step → Type 0
+  abbrev Links : List Braces → Step Reading → Type 0
   Links bs step = (r : Reading) → AreOnly r.closed bs → Linked r bs (step r)
 
   -- the same, with braces and reading in another form
-  linked_by : (bs same : List Braces) (f g : Step) → bs ≡ same → ((r : Reading) → f r ≡ g r) → Links same g → Links bs f
+  linked_by : (bs same : List Braces) (f g : Step Reading) → bs ≡ same → ((r : Reading) → f r ≡ g r) → Links same g → Links bs f
   linked_by bs same f g e k h r only =
       subst (λ (s : Reading). Linked r bs s) (sym (k r))
       (subst (λ (b : List Braces). Linked r b (g r)) (sym e) (h r (subst (λ (b : List Braces). AreOnly r.closed b) e only)))
 
-  module _ {A : Type 0} (braces : A → List Braces) (read : A → Step) where
+  module _ {A : Type 0} (braces : A → List Braces) (read : A → Step Reading) where
     linked_each : (parts : List A) → AllByRecursion (λ (a : A). Links (braces a) (read a)) parts → Links (flat_map braces parts) (each read parts)
     linked_each [] h r only = linked_none r r refl refl
     linked_each (a ∷ parts) h r only =
@@ -111,18 +108,18 @@ module _ (name : List ℕ) (n : ℕ) where
   -- ---- parts of a tree
 
   abbrev ItemLinks : BodyItem → Type 0
-  ItemLinks i = Links (in_item i) (read_item i)
+  ItemLinks i = Links (in_item i) (read_item steps i)
 
   abbrev NodeLinks : NodeText → Type 0
-  NodeLinks t = Links (in_node t) (read_node t)
+  NodeLinks t = Links (in_node t) (read_node steps t)
 
   abbrev StatementLinks : Statement → Type 0
-  StatementLinks s = Links (in_statement s) (read_statement s)
+  StatementLinks s = Links (in_statement s) (read_statement steps s)
 
   abbrev ProtoLinks : ProtoText → Type 0
   ProtoLinks p = Unit {0}
 
-  value_links : (v : RawValue NodeText) → OfValue NodeLinks v → Links (in_value in_node v) (read_value read_node v)
+  value_links : (v : RawValue NodeText) → OfValue NodeLinks v → Links (in_value in_node v) (read_value (read_node steps) v)
   value_links value.Null h r only = linked_none r r refl refl
   value_links (value.Truth truth) h r only = linked_none r r refl refl
   value_links (value.String text) h r only = linked_none r r refl refl
@@ -132,21 +129,21 @@ module _ (name : List ℕ) (n : ℕ) where
   value_links (value.TruthList truths) h r only = linked_none r r refl refl
   value_links (value.StringList texts) h r only = linked_none r r refl refl
   value_links (value.NumberList numbers) h r only = linked_none r r refl refl
-  value_links (value.NodeList nodes) h r only = linked_each in_node read_node nodes h r only
+  value_links (value.NodeList nodes) h r only = linked_each in_node (read_node steps) nodes h r only
 
-  given_links : (g : Given NodeText) → OfGiven NodeLinks g → Links (in_given in_node g) (read_given read_node g)
+  given_links : (g : Given NodeText) → OfGiven NodeLinks g → Links (in_given in_node g) (read_given (read_node steps) g)
   given_links given.Nothing h r only = linked_none r r refl refl
   given_links (given.Value v) h r only = value_links v h r only
   given_links (given.Is other) h r only = linked_none r r refl refl
 
   full_links : (label : Option (List ℕ)) (word : List ℕ) (items : List BodyItem) → AllByRecursion ItemLinks items
-      → Links (flat_map in_item items ++ record { word = word; name = label } ∷ []) (λ r. closes label r (each read_item items (opens label r)))
+      → Links (flat_map in_item items ++ record { word = word; name = label } ∷ []) (λ r. closes label r (each (read_item steps) items (opens label r)))
   full_links label word items h r only =
       let inner = flat_map in_item items in
       let last : Braces = record { word = word; name = label } in
-      let s = each read_item items (opens label r) in
+      let s = each (read_item steps) items (opens label r) in
       let parts = only_split r.closed inner (last ∷ []) only in
-      let l = linked_each in_item read_item items h (opens label r) parts.0 in
+      let l = linked_each in_item (read_item steps) items h (opens label r) parts.0 in
       let now = closed_braces label s.closed in
       let before = l.closed in
       let inside = l.count in
@@ -165,20 +162,20 @@ module _ (name : List ℕ) (n : ℕ) where
 
   layers : Layers ItemLinks NodeLinks StatementLinks ProtoLinks
   layers = record {
-    field = λ line label g h. linked_by (in_item (item.Field line label g)) (in_given in_node g) (read_item (item.Field line label g)) (read_given read_node g) (in_field line label g) (read-field line label g) (given_links g h);
-    declaration = λ d h. linked_by (in_item (item.Declaration d)) (in_given in_node d.given) (read_item (item.Declaration d)) (read_given read_node d.given) (in_declaration d) (read-declaration d) (given_links d.given h);
-    item_route = λ route. linked_by (in_item (item.Route route)) [] (read_item (item.Route route)) (routes route) (in_item_route route) (read-item-route route) (λ r only. linked_none r (routes route r) refl refl);
-    item_proto = λ p h. linked_by (in_item (item.Proto p)) [] (read_item (item.Proto p)) (λ r. r) (in_item_proto p) (read-item-proto p) (λ r only. linked_none r r refl refl);
-    used = λ line label. linked_by (in_node (node.Use line label)) [] (read_node (node.Use line label)) (λ r. r) (in_use line label) (read-use line label) (λ r only. linked_none r r refl refl);
-    full = λ line label word items h. linked_by (in_node (node.Full line label word items)) (flat_map in_item items ++ record { word = word; name = label } ∷ []) (read_node (node.Full line label word items)) (λ r. closes label r (each read_item items (opens label r))) (in_full line label word items) (read-full line label word items) (full_links label word items h);
-    node = λ t h. linked_by (in_statement (statement.Node t)) (in_node t) (read_statement (statement.Node t)) (read_node t) (in_node_statement t) (read-node-statement t) h;
-    route = λ route. linked_by (in_statement (statement.Route route)) [] (read_statement (statement.Route route)) (routes route) (in_route route) (read-route route) (λ r only. linked_none r (routes route r) refl refl);
-    proto = λ p h. linked_by (in_statement (statement.Proto p)) [] (read_statement (statement.Proto p)) (λ r. r) (in_proto p) (read-proto p) (λ r only. linked_none r r refl refl);
+    field = λ line label g h. linked_by (in_item (item.Field line label g)) (in_given in_node g) (read_item steps (item.Field line label g)) (read_given (read_node steps) g) (in_field line label g) (read-field steps line label g) (given_links g h);
+    declaration = λ d h. linked_by (in_item (item.Declaration d)) (in_given in_node d.given) (read_item steps (item.Declaration d)) (read_given (read_node steps) d.given) (in_declaration d) (read-declaration steps d) (given_links d.given h);
+    item_route = λ route. linked_by (in_item (item.Route route)) [] (read_item steps (item.Route route)) (routes route) (in_item_route route) (read-item-route steps route) (λ r only. linked_none r (routes route r) refl refl);
+    item_proto = λ p h. linked_by (in_item (item.Proto p)) [] (read_item steps (item.Proto p)) (λ r. r) (in_item_proto p) (read-item-proto steps p) (λ r only. linked_none r r refl refl);
+    used = λ line label. linked_by (in_node (node.Use line label)) [] (read_node steps (node.Use line label)) (λ r. r) (in_use line label) (read-use steps line label) (λ r only. linked_none r r refl refl);
+    full = λ line label word items h. linked_by (in_node (node.Full line label word items)) (flat_map in_item items ++ record { word = word; name = label } ∷ []) (read_node steps (node.Full line label word items)) (λ r. closes label r (each (read_item steps) items (opens label r))) (in_full line label word items) (read-full steps line label word items) (full_links label word items h);
+    node = λ t h. linked_by (in_statement (statement.Node t)) (in_node t) (read_statement steps (statement.Node t)) (read_node steps t) (in_node_statement t) (read-node-statement steps t) h;
+    route = λ route. linked_by (in_statement (statement.Route route)) [] (read_statement steps (statement.Route route)) (routes route) (in_route route) (read-route steps route) (λ r only. linked_none r (routes route r) refl refl);
+    proto = λ p h. linked_by (in_statement (statement.Proto p)) [] (read_statement steps (statement.Proto p)) (λ r. r) (in_proto p) (read-proto steps p) (λ r only. linked_none r r refl refl);
     prototype = λ p h k. tt;
   }
 
   pub document_links : (d : Document) → AreOnly 0 (closings d) → Linked nothing_read (closings d) (read d)
-  document_links d only = linked_each in_statement read_statement d.statements (every ItemLinks NodeLinks StatementLinks ProtoLinks layers d.statements) nothing_read only
+  document_links d only = linked_each in_statement (read_statement steps) d.statements (every ItemLinks NodeLinks StatementLinks ProtoLinks layers d.statements) nothing_read only
 
   -- ---- the last of the name
 
@@ -203,7 +200,7 @@ module _ (name : List ℕ) (n : ℕ) where
     by_here false e z l = absurd (omega (arith, z, l))
     by_here true e z l =
         ap (λ (p : Option ℕ). node_at (before ++ o ∷ os) (option_or p (Some (length before)))) (none_last (length before + 1) os z)
-        ∙ ap node_of (get_last before os o) ∙ h.0 e
+        ∙ ap node_of (get_middle before os o) ∙ h.0 e
 
     by_rest : (k : ℕ) → names_of os ≡ k → (1 ≤ names_of os → node_at ((before ++ o ∷ []) ++ os) (last_from (length (before ++ o ∷ [])) name os) ≡ Some n) → node_at (before ++ o ∷ os) (last_from (length before) name (o ∷ os)) ≡ Some n
     by_rest zero z rest = by_here (has_name name o.name) refl z some

@@ -15,8 +15,9 @@ use Rattle.classic_tree.specs.declared.tree.RawValue.{RawValue}
 use Rattle.classic_tree.specs.declared.tree.RawValue.TheVariants as raw
 use Rattle.classic_tree.specs.declared.tree.Statement.{Statement}
 use Rattle.classic_tree.specs.declared.tree.Statement.TheVariants as statement
-use Rattle.flat_routes.specs.Routes.{Reading, each, opens, read_item, read_node, read_statement, read_value}
-use Rattle.flat_routes.proofs.Parts.{read-declaration, read-field, read-full, read-node-statement, read-use}
+use Rattle.flat_laws.specs.Readings.{each, read_item, read_node, read_statement, read_value}
+use Rattle.flat_routes.specs.Routes.{Reading, opens, steps}
+use Rattle.flat_laws.proofs.Readings.{read-declaration, read-field, read-full, read-node-statement, read-use}
 use Rattle.scene_core.specs.Scene.{label_of}
 use Rattle.scene_text.specs.Raw.{color_run, integer_run, number_list, number_run, pair_run, string_list, truth_list, vector_run}
 use Rattle.scene_text.specs.Statements.{helper_root, helpers_of, root_tree, roots_of, switch_of}
@@ -32,16 +33,16 @@ abbrev pub IsSilent : Read → Type 0
 IsSilent read = (r : Reading) → (read r).routes ≡ r.routes
 
 abbrev pub NodeSilent : NodeText → Type 0
-NodeSilent t = IsSilent (read_node t)
+NodeSilent t = IsSilent (read_node steps t)
 
 abbrev ItemSilent : BodyItem → Type 0
-ItemSilent i = IsSilent (read_item i)
+ItemSilent i = IsSilent (read_item steps i)
 
 abbrev pub StatementSilent : Statement → Type 0
-StatementSilent s = IsSilent (read_statement s)
+StatementSilent s = IsSilent (read_statement steps s)
 
 abbrev ValueSilent : RawValue NodeText → Type 0
-ValueSilent v = IsSilent (read_value read_node v)
+ValueSilent v = IsSilent (read_value (read_node steps) v)
 
 pub each_silent : {A : Type 0} (read : A → Read) (xs : List A) → AllByRecursion (λ (a : A). IsSilent (read a)) xs → IsSilent (each read xs)
 each_silent read [] h r = refl
@@ -82,7 +83,7 @@ module _ (tree : Makes ℕ NodeText) (k : (seen : List Bool) (n : ℕ) → NodeS
   value_silent : (seen : List Bool) (v : Value) → ValueSilent (value_tree tree seen v).made
   value_silent seen (value.SFNode (Some n)) r = k seen n r
   value_silent seen (value.MFNode []) r = refl
-  value_silent seen (value.MFNode (n ∷ ns)) r = each_silent read_node (each_made tree seen (n ∷ ns)).made (all_made NodeSilent tree k seen (n ∷ ns)) r
+  value_silent seen (value.MFNode (n ∷ ns)) r = each_silent (read_node steps) (each_made tree seen (n ∷ ns)).made (all_made NodeSilent tree k seen (n ∷ ns)) r
   value_silent seen (value.SFNode None) r = refl
   value_silent seen (value.SFBool v) r = refl
   value_silent seen (value.SFInt32 v) r = refl
@@ -103,22 +104,22 @@ module _ (tree : Makes ℕ NodeText) (k : (seen : List Bool) (n : ℕ) → NodeS
 
   field_silent : (seen : List Bool) (f : Field) → ItemSilent (field_tree tree seen f).made
   field_silent seen (Plain name v) r =
-      ap (λ (s : Reading). s.routes) (read-field 0 name (given.Value (value_tree tree seen v).made) r) ∙ value_silent seen v r
+      ap (λ (s : Reading). s.routes) (read-field steps 0 name (given.Value (value_tree tree seen v).made) r) ∙ value_silent seen v r
   field_silent seen (Declared d None) r =
-      ap (λ (s : Reading). s.routes) (read-declaration (record { line = 0; access = d.access; field_type = d.field_type; name = d.name; given = given.Nothing }) r)
+      ap (λ (s : Reading). s.routes) (read-declaration steps (record { line = 0; access = d.access; field_type = d.field_type; name = d.name; given = given.Nothing }) r)
   field_silent seen (Declared d (Some v)) r =
-      ap (λ (s : Reading). s.routes) (read-declaration (record { line = 0; access = d.access; field_type = d.field_type; name = d.name; given = given.Value (value_tree tree seen v).made }) r)
+      ap (λ (s : Reading). s.routes) (read-declaration steps (record { line = 0; access = d.access; field_type = d.field_type; name = d.name; given = given.Value (value_tree tree seen v).made }) r)
       ∙ value_silent seen v r
 
 -- ---- nodes
 
 full_silent : (label : Option (List ℕ)) (word : List ℕ) (items : List BodyItem) → AllByRecursion ItemSilent items → NodeSilent (node.Full 0 label word items)
 full_silent label word items h r =
-    ap (λ (s : Reading). s.routes) (read-full 0 label word items r) ∙ each_silent read_item items h (opens label r)
+    ap (λ (s : Reading). s.routes) (read-full steps 0 label word items r) ∙ each_silent (read_item steps) items h (opens label r)
 
 module _ (p : PlanView) where
   use_silent : (n : ℕ) → NodeSilent (use_tree p n)
-  use_silent n r = ap (λ (s : Reading). s.routes) (read-use 0 (label_of p.scene n) r)
+  use_silent n r = ap (λ (s : Reading). s.routes) (read-use steps 0 (label_of p.scene n) r)
 
   opened_silent : (tree : Makes ℕ NodeText) → ((seen : List Bool) (n : ℕ) → NodeSilent (tree seen n).made) → (seen : List Bool) (n : ℕ) (t : Option NodeType) → NodeSilent (opened p tree seen n t).made
   opened_silent tree k seen n None = use_silent n
@@ -134,7 +135,7 @@ module _ (p : PlanView) where
   -- ---- statements
 
   statement_silent : (t : NodeText) → NodeSilent t → StatementSilent (statement.Node t)
-  statement_silent t h r = ap (λ (s : Reading). s.routes) (read-node-statement t r) ∙ h r
+  statement_silent t h r = ap (λ (s : Reading). s.routes) (read-node-statement steps t r) ∙ h r
 
   root_silent : (seen : List Bool) (n : ℕ) → StatementSilent (root_tree (node_tree max_depth p) seen n).made
   root_silent seen n = statement_silent (node_tree max_depth p seen n).made (node_silent max_depth seen n)
@@ -145,7 +146,7 @@ module _ (p : PlanView) where
   switch_silent : (trees : List NodeText) → AllByRecursion NodeSilent trees → NodeSilent (switch_of trees)
   switch_silent trees h =
       full_silent None (codes "Switch") (item.Field 0 (codes "children") (given.Value (raw.NodeList trees)) ∷ [])
-      ((λ r. ap (λ (s : Reading). s.routes) (read-field 0 (codes "children") (given.Value (raw.NodeList trees)) r) ∙ each_silent read_node trees h r), tt)
+      ((λ r. ap (λ (s : Reading). s.routes) (read-field steps 0 (codes "children") (given.Value (raw.NodeList trees)) r) ∙ each_silent (read_node steps) trees h r), tt)
 
   switched : (trees : List NodeText) → AllByRecursion NodeSilent trees → AllByRecursion StatementSilent (helper_root trees)
   switched [] h = tt

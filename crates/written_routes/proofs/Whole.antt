@@ -12,8 +12,9 @@ use Rattle.flat_document.specs.declared.flat.FlatEnd.{FlatEnd}
 use Rattle.flat_laws.specs.Closings.{Braces, IsOfNode, closings, expected}
 use Rattle.flat_laws.specs.Closings.{Shown as ShownBraces}
 use Rattle.flat_laws.specs.Uses.{Opened}
-use Rattle.flat_routes.specs.Routes.{ReadRoute, Reading, RoutesAreRead, Shown, each, end_at, end_shown, nothing_read, read, read_end, read_shown, read_statement, routes, routes_read}
-use Rattle.flat_routes.proofs.Parts.{read-route}
+use Rattle.flat_laws.specs.Readings.{each, read_statement}
+use Rattle.flat_routes.specs.Routes.{ReadRoute, Reading, RoutesAreRead, Shown, end_at, end_shown, nothing_read, read, read_end, read_shown, routes, routes_read, steps}
+use Rattle.flat_laws.proofs.Readings.{read-route}
 use Rattle.scene_core.specs.declared.scene.End.{End}
 use Rattle.scene_core.specs.declared.scene.Route.{Route}
 use Rattle.scene_core.specs.Scene.{SceneView, label_of}
@@ -64,12 +65,12 @@ record AreMet (s : SceneView) (rs : List Route) (r u : Reading) : Type 0 where
   opened : u.opened ≡ r.opened
   met : u.routes ≡ r.routes ++ map (read_of s r.opened) rs
 
-all_met : (s : SceneView) (rs : List Route) (r : Reading) → AreMet s rs r (each read_statement (routes_of s rs) r)
+all_met : (s : SceneView) (rs : List Route) (r : Reading) → AreMet s rs r (each (read_statement steps) (routes_of s rs) r)
 all_met s [] r = record { opened = refl; met = sym (append-nil r.routes) }
 all_met s (x ∷ rs) r =
     let one = routes (route_of s x) r in
     let rest = all_met s rs one in
-    subst (λ (q : Reading). AreMet s (x ∷ rs) r (each read_statement (routes_of s rs) q)) (sym (read-route (route_of s x) r))
+    subst (λ (q : Reading). AreMet s (x ∷ rs) r (each (read_statement steps) (routes_of s rs) q)) (sym (read-route steps (route_of s x) r))
     (record {
       opened = rest.opened;
       met = rest.met ∙ append_assoc r.routes (read_of s r.opened x ∷ []) (map (read_of s r.opened) rs);
@@ -91,18 +92,18 @@ module _ (scene : SceneView) (rs : List Route) (state : List Fields) where
   front = (roots_of p).made ++ helper_root (helpers_of p (roots_of p).seen).made
 
   abbrev before : Reading
-  before = each read_statement front nothing_read
+  before = each (read_statement steps) front nothing_read
 
-  apart : read d ≡ each read_statement (front ++ routes_of scene rs) nothing_read
+  apart : read d ≡ each (read_statement steps) (front ++ routes_of scene rs) nothing_read
   unfolding scene_document statements_of
   apart = refl
 
-  in_parts : read d ≡ each read_statement (routes_of scene rs) before
-  in_parts = apart ∙ fold-append (λ (r : Reading) (s : Statement). read_statement s r) nothing_read front (routes_of scene rs)
+  in_parts : read d ≡ each (read_statement steps) (routes_of scene rs) before
+  in_parts = apart ∙ fold-append (λ (r : Reading) (s : Statement). read_statement steps s r) nothing_read front (routes_of scene rs)
 
   none_before : before.routes ≡ []
   none_before =
-      each_silent read_statement front
+      each_silent (read_statement steps) front
       (all_join StatementSilent (roots_of p).made (helper_root (helpers_of p (roots_of p).seen).made) (roots_silent p) (helpers_silent p (roots_of p).seen)) nothing_read
 
   routes_met : (read d).routes ≡ map (read_of scene (read d).opened) rs

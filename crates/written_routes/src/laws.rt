@@ -8,19 +8,11 @@ use scene_round_trip::labels_are_distinct;
 use written_nodes::written_nodes_close;
 
 /// The flat form of a written scene, where there is one, has the scene's routes, in their order,
-/// by the numbers of the scene's nodes and the names of their fields.
+/// by the numbers of the scene's nodes and the names of their fields. These resolve to the scene's
+/// routes in each scene that has the nodes of this under the same numbers, with the same fields.
 pub fn written_routes_stay()
-    ensures { WrittenRoutesStay }
-{
-    labels_are_distinct();
-    written_nodes_close();
-    routes_are_read();
-}
-
-/// These resolve to the scene's routes in each scene that has the nodes of this under the same
-/// numbers, with the same fields.
-pub fn written_routes_resolve()
-    ensures { WrittenRoutesResolve }
+    ensures shown { WrittenRoutesStay }
+    ensures resolved { WrittenRoutesResolve }
 {
     labels_are_distinct();
     written_nodes_close();

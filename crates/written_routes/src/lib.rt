@@ -3,4 +3,4 @@
 
 mod laws;
 
-pub use laws::{written_routes_resolve, written_routes_stay};
+pub use laws::written_routes_stay;
