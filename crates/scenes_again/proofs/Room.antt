@@ -1,21 +1,16 @@
 -- A Switch has room above the helpers of a scene that was written and read again: there they stand
 -- in one node more, and no chain is too long.
-use Rattle.std.proofs.Common.{◌≡◌, ℕ, zero, suc, ◌-◌, Bool, true, false, not, ◌&&◌, ◌||◌, List, [], ◌∷◌, ◌++◌, map, Option, Ok, refl, sym, ap, subst, ◌∙◌}
+use Rattle.std.proofs.Common.{◌≡◌, ℕ, zero, suc, ◌-◌, Bool, true, false, not, ◌&&◌, ◌||◌, List, [], ◌∷◌, ◌++◌, map, Option, refl, sym, ap, subst, ◌∙◌}
 use Rattle.std.specs.Prelude.{slice_index_or}
 use Rattle.std.specs.List.{flat_map, list_all, list_any}
-use Rattle.x3d_values.specs.declared.fields.Fields.{Fields}
 use Rattle.x3d_values.specs.declared.value.Value.{Value}
 use Rattle.x3d_values.specs.Ranges.{max_depth}
-use Rattle.flat_document.specs.declared.flat.Flat.{Flat}
 use Rattle.scene_core.specs.declared.scene.SceneNode.{SceneNode}
-use Rattle.scene_core.specs.Building.{scene_of}
 use Rattle.scene_core.specs.Deep.{deeper_than, leads_to, linked}
-use Rattle.scene_core.specs.Scene.{SceneView}
 use Rattle.numbered_scenes.specs.Children.{children}
 use Rattle.numbered_scenes.proofs.Scenes.{scene_is}
 use Rattle.scene_round_trip.specs.Written.{has_room}
 use Rattle.written_nodes.specs.Nodes.{in_switch}
-use Rattle.scenes_again.specs.Again.{IsWrittenOf}
 use Rattle.scenes_again.specs.Room.{ScenesAgainHaveRoom}
 
 -- ---- tests
