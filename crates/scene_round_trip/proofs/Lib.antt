@@ -15,7 +15,7 @@ mod Numbered
 mod Numbers
 mod Opened
 mod Routes
-mod Scenes
+pub mod Scenes
 mod Sound
 mod Steps
 mod Tests

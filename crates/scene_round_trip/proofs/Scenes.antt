@@ -13,7 +13,7 @@ use Rattle.scene_core.specs.declared.fault.SceneFault.{SceneFault}
 use Rattle.scene_core.specs.declared.numbering.Numbering.{Numbering}
 use Rattle.scene_core.specs.declared.scene.Route.{Route}
 use Rattle.scene_core.specs.declared.scene.SceneNode.{SceneNode}
-use Rattle.scene_core.specs.Building.{node_of, with_node, nodes_by, limits, called}
+use Rattle.scene_core.specs.Building.{node_of, with_node, nodes_by, limits, called, scene_of}
 use Rattle.scene_core.specs.Deep.{deeper_than, too_deep}
 use Rattle.scene_core.specs.Labels.{is_alone, names_of}
 use Rattle.scene_core.specs.Scene.{SceneView}
@@ -198,6 +198,14 @@ scene_writable flat named scene i routes state few kept joined room =
       helpers = roomy s closed s.helpers room helpers;
       ends = routes_writable s flat routes joined;
     }
+
+-- each of its nodes is writable, whatever the lengths of chains
+pub nodes_are_writable : (flat : Flat) (scene : SceneView) → IsNamed flat → scene_of flat ≡ Ok scene
+    → (n : ℕ) (node : SceneNode) → slice_get scene.nodes n ≡ Some node → IsWritableNode node
+nodes_are_writable flat scene named h =
+    let i = scene_is flat scene h in
+    subst (λ (v : SceneView). (n : ℕ) (node : SceneNode) → slice_get v.nodes n ≡ Some node → IsWritableNode node) i.is
+    (node_ok flat named i.nodes i.made)
 
 pub scenes_are_writable : ScenesAreWritable
 scenes_are_writable flat scene routes state named h few joined kept room =

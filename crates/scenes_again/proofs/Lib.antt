@@ -13,6 +13,7 @@ pub mod Parts
 pub mod Places
 pub mod Present
 pub mod Reading
+pub mod Room
 pub mod Steps
 pub mod Switches
 pub mod Whole

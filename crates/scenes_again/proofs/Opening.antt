@@ -1,4 +1,4 @@
--- What a scene holds before any event is of its fields' types, and sound where the scene is writable.
+-- What a scene holds before any event is of its fields' types, and sound where its document's names and texts are.
 use Rattle.std.proofs.Common.{◌≡◌, ℕ, zero, suc, Bool, true, false, ◌&&◌, if◌then◌else◌, List, [], ◌∷◌, map, Option, Some, None, slice_get, refl, sym, ap, subst, ◌∙◌}
 use Rattle.std.specs.Prelude.{zip}
 use Rattle.std.specs.List.{list_all}
@@ -14,8 +14,9 @@ use Rattle.scene_core.specs.Scene.{SceneView, fields_of, kept, shape_of, state_o
 use Rattle.scene_core.specs.Shape.{rows_of}
 use Rattle.scene_round_trip.specs.Values.{is_sound}
 use Rattle.scene_round_trip.specs.Writable.{is_sound_or_none}
+use Rattle.scene_round_trip.proofs.Scenes.{nodes_are_writable}
 use Rattle.numbered_scenes.proofs.Lists.{at_map}
-use Rattle.scenes_again.specs.Sound.{OpeningsAreOfType, WritableScenesAreSound}
+use Rattle.scenes_again.specs.Sound.{DocumentScenesAreSound, OpeningsAreOfType}
 use Rattle.scenes_again.proofs.Made.{value_in}
 use Rattle.scenes_again.proofs.Present.{given_at, value_by_node}
 
@@ -39,8 +40,8 @@ sound_at s n field v k e = by_node (slice_get s.nodes n) refl e where
   by_node None is e = absurd cc
   by_node (Some node) is e = sound_in node.values field v (k node is) e
 
-pub writable_sound : WritableScenesAreSound
-writable_sound s routes state w n field v e = sound_at s n field v (λ node is. (w.nodes n node is).sound) e
+pub document_sound : DocumentScenesAreSound
+document_sound flat s named is n field v e = sound_at s n field v (λ node at. (nodes_are_writable flat s named is n node at).sound) e
 
 -- ---- of the field's type
 

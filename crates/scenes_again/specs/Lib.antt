@@ -1,3 +1,4 @@
 pub mod Again
 pub mod Begins
+pub mod Room
 pub mod Sound

@@ -6,11 +6,10 @@ use Rattle.x3d_values.specs.Kept.{field_value}
 use Rattle.x3d_values.specs.Tables.{Entry}
 use Rattle.x3d_values.specs.Values.{type_of}
 use Rattle.flat_document.specs.declared.flat.Flat.{Flat}
-use Rattle.scene_core.specs.declared.scene.Route.{Route}
 use Rattle.scene_core.specs.Building.{scene_of}
 use Rattle.scene_core.specs.Scene.{SceneView, rows_at, state_of, value_at}
+use Rattle.scene_round_trip.specs.Named.{IsNamed}
 use Rattle.scene_round_trip.specs.Values.{is_sound}
-use Rattle.scene_round_trip.specs.Writable.{IsWritable}
 
 -- what the scene gives has numbers in the range of its type, and texts in UTF-8
 abbrev pub AreSound : SceneView → Type 0
@@ -25,11 +24,10 @@ AreOfType s state =
 
 -- ---- where they do
 
--- in a writable scene
-abbrev pub WritableScenesAreSound : Type 0
-WritableScenesAreSound =
-    (s : SceneView) (routes : List Route) (state : List Fields)
-    → IsWritable s routes state → AreSound s
+-- in the scene of a document whose names are names and whose texts are UTF-8
+abbrev pub DocumentScenesAreSound : Type 0
+DocumentScenesAreSound =
+    (flat : Flat) (scene : SceneView) → IsNamed flat → scene_of flat ≡ Ok scene → AreSound scene
 
 -- before any event
 abbrev pub OpeningsAreOfType : Type 0

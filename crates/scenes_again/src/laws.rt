@@ -3,7 +3,8 @@
 
 ghost use Rattle.scenes_again.specs.Again.{WrittenScenesAreAgain};
 ghost use Rattle.scenes_again.specs.Begins.{KeptAgain};
-ghost use Rattle.scenes_again.specs.Sound.{OpeningsAreOfType, WritableScenesAreSound};
+ghost use Rattle.scenes_again.specs.Room.{ScenesAgainHaveRoom};
+ghost use Rattle.scenes_again.specs.Sound.{DocumentScenesAreSound, OpeningsAreOfType};
 
 use scene_round_trip::{
     fields_are_left_out, headers_are_kept, labels_are_distinct, values_are_typed,
@@ -26,9 +27,10 @@ pub fn written_scenes_are_again()
     written_fields_stay();
 }
 
-/// What a writable scene gives its fields is sound.
-pub fn writable_scenes_are_sound()
-    ensures { WritableScenesAreSound }
+/// What the scene of a document gives its fields is sound, where the document's names are names and
+/// its texts UTF-8.
+pub fn document_scenes_are_sound()
+    ensures { DocumentScenesAreSound }
 {}
 
 /// What the nodes of a document's scene keep before any event is of their fields' types.
@@ -41,4 +43,9 @@ pub fn openings_are_of_type()
 /// Each value that nodes kept when a scene was written they keep again, before any event.
 pub fn values_are_kept_again()
     ensures { KeptAgain }
+{}
+
+/// Where the scene of what is written of a scene exists, a Switch has room above the helpers.
+pub fn scenes_again_have_room()
+    ensures { ScenesAgainHaveRoom }
 {}

@@ -4,6 +4,6 @@
 mod laws;
 
 pub use laws::{
-    openings_are_of_type, values_are_kept_again, writable_scenes_are_sound,
+    document_scenes_are_sound, openings_are_of_type, scenes_again_have_room, values_are_kept_again,
     written_scenes_are_again,
 };

@@ -1,5 +1,5 @@
 -- The scene of what is written of a world that was reached is the scene, with what its nodes keep.
-use Rattle.std.proofs.Common.{◌≡◌, ℕ, ◌^◌, ◌≤◌, true, List, length, Option, Some, None, slice_get, refl, arith}
+use Rattle.std.proofs.Common.{◌≡◌, ℕ, ◌^◌, ◌≤◌, List, length, Option, Some, None, slice_get, refl, arith}
 use Rattle.std.specs.Option.{option_and_then}
 use Rattle.x3d_values.specs.declared.fields.Fields.{Fields}
 use Rattle.x3d_values.specs.declared.value.Value.{Value}
@@ -15,19 +15,18 @@ use Rattle.text_laws.specs.Opened.{IsOpened}
 use Rattle.text_laws.proofs.Worlds.{few_nodes, worlds_fit}
 use Rattle.scene_round_trip.specs.Named.{ExpandedAreNamed}
 use Rattle.scene_round_trip.specs.Writable.{AreKeepable}
-use Rattle.scene_round_trip.specs.Written.{ScenesAreWritable, has_room}
 use Rattle.written_worlds.specs.Kept.{FittingAreKeepable}
 use Rattle.distinct_fields.specs.Scenes.{FieldsAreDistinct}
 use Rattle.scenes_again.specs.Again.{WrittenScenesAreAgain}
 use Rattle.scenes_again.specs.Begins.{KeptAgain, kept_of}
-use Rattle.scenes_again.specs.Sound.{AreSound, WritableScenesAreSound}
+use Rattle.scenes_again.specs.Sound.{AreSound, DocumentScenesAreSound}
 use Rattle.typed_worlds.specs.Again.{IsAgain, IsKeptAgain, RunningWorldsAreAgain, RunningWorldsAreKeptAgain, WorldsAreKeptAgain, WrittenWorldsAreAgain}
 use Rattle.typed_worlds.proofs.Fitting.{IsHeld, fitting_held, fitting_typed}
 use Rattle.typed_worlds.proofs.Held.{running_fits}
 use Rattle.typed_worlds.proofs.Lines.{but_lines}
 
-module _ (named : ExpandedAreNamed) (writable : ScenesAreWritable) (keepable : FittingAreKeepable) (distinct : FieldsAreDistinct) (sound : WritableScenesAreSound) (again : WrittenScenesAreAgain) where
-  module _ (text : List ℕ) (f : Flat) (scene : SceneView) (routes : List Route) (o : IsOpened text f scene routes) (room : has_room scene ≡ true) where
+module _ (named : ExpandedAreNamed) (keepable : FittingAreKeepable) (distinct : FieldsAreDistinct) (sound : DocumentScenesAreSound) (again : WrittenScenesAreAgain) where
+  module _ (text : List ℕ) (f : Flat) (scene : SceneView) (routes : List Route) (o : IsOpened text f scene routes) where
     few : length scene.nodes ≤ 2 ^ 64
     few = omega (arith, few_nodes text f scene routes o)
 
@@ -35,18 +34,17 @@ module _ (named : ExpandedAreNamed) (writable : ScenesAreWritable) (keepable : F
     fitting_again w fits flat_again next is_flat is_next =
         let kept : AreKeepable w.world.fields = keepable (shapes_of scene) w.world fits.world in
         let names = named text o.document f (but_lines text o.document (is_spelled text o.document o.read)) o.put_in in
-        let given : AreSound scene =
-        sound scene routes w.world.fields (writable f scene routes w.world.fields names o.is_scene few o.are_routes kept room) in
+        let given : AreSound scene = sound f scene names o.is_scene in
         again f scene routes w.world.fields flat_again next o.is_scene few kept (fitting_typed scene w.world fits.world) given
         (distinct o.document f scene o.put_in o.is_scene) is_flat is_next
 
   pub worlds_again : WrittenWorldsAreAgain
-  worlds_again text f scene routes inputs o run room i =
-      fitting_again text f scene routes o room (world scene routes inputs) (worlds_fit text f scene routes inputs o run i)
+  worlds_again text f scene routes inputs o run i =
+      fitting_again text f scene routes o (world scene routes inputs) (worlds_fit text f scene routes inputs o run i)
 
   pub running_again : RunningWorldsAreAgain
-  running_again text f scene routes net o run room reached viewer held window r =
-      fitting_again text f scene routes o room held (running_fits text f scene routes net o run reached viewer held window r)
+  running_again text f scene routes net o run reached viewer held window r =
+      fitting_again text f scene routes o held (running_fits text f scene routes net o run reached viewer held window r)
 
 -- ---- what was kept is kept again
 
@@ -62,9 +60,9 @@ kept_by law scene routes w fits again flat_again next is_flat is_next n field v 
     law scene w.world.fields next (again flat_again next is_flat is_next) n field r.0 v r.1 r.3 held
 
 pub worlds_kept : KeptAgain → WrittenWorldsAreAgain → WorldsAreKeptAgain
-worlds_kept law again text f scene routes inputs o run room i =
-    kept_by law scene routes (world scene routes inputs) (worlds_fit text f scene routes inputs o run i) (again text f scene routes inputs o run room i)
+worlds_kept law again text f scene routes inputs o run i =
+    kept_by law scene routes (world scene routes inputs) (worlds_fit text f scene routes inputs o run i) (again text f scene routes inputs o run i)
 
 pub running_kept : KeptAgain → RunningWorldsAreAgain → RunningWorldsAreKeptAgain
-running_kept law again text f scene routes net o run room reached viewer held window r =
-    kept_by law scene routes held (running_fits text f scene routes net o run reached viewer held window r) (again text f scene routes net o run room reached viewer held window r)
+running_kept law again text f scene routes net o run reached viewer held window r =
+    kept_by law scene routes held (running_fits text f scene routes net o run reached viewer held window r) (again text f scene routes net o run reached viewer held window r)

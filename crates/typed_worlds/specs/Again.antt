@@ -1,6 +1,6 @@
 -- That the scene of what is written of a world's scene is that scene again (ISO/IEC 19775-1, scene
 -- graph).
-use Rattle.std.specs.Prelude.{◌≡◌, ℕ, true, List, Ok, Option, Some}
+use Rattle.std.specs.Prelude.{◌≡◌, ℕ, List, Ok, Option, Some}
 use Rattle.x3d_values.specs.declared.value.Value.{Value}
 use Rattle.x3d_values.specs.Stamp.{Stamp}
 use Rattle.flat_document.specs.declared.flat.Flat.{Flat}
@@ -17,7 +17,6 @@ use Rattle.share_law.specs.Network.{Network}
 use Rattle.share_law.specs.Reached.{IsRunning, Reached}
 use Rattle.document_laws.specs.Worlds.{AreInputs}
 use Rattle.text_laws.specs.Opened.{IsOpened}
-use Rattle.scene_round_trip.specs.Written.{has_room}
 use Rattle.scenes_again.specs.Again.{IsWrittenOf}
 use Rattle.scenes_again.specs.Begins.{kept_of}
 
@@ -29,12 +28,11 @@ IsAgain scene routes w =
     → flat (scene_document scene routes w.world.fields) ≡ Ok again → scene_of again ≡ Ok next
     → IsWrittenOf scene w.world.fields next
 
--- so in each world that the scene of a text comes to by inputs in turn, if no chain of nodes gets
--- too long by the Switch that is written above some of them
+-- so in each world that the scene of a text comes to by inputs in turn
 abbrev pub WrittenWorldsAreAgain : Type 0
 WrittenWorldsAreAgain =
     (text : List ℕ) (f : Flat) (scene : SceneView) (routes : List Route) (inputs : List Stamp)
-    → IsOpened text f scene routes → RunsAll scene → has_room scene ≡ true → AreInputs inputs
+    → IsOpened text f scene routes → RunsAll scene → AreInputs inputs
     → IsAgain scene routes (world scene routes inputs)
 
 -- and in that of each viewer that runs, whatever 1 to 16 viewers, their host and their network came
@@ -42,8 +40,7 @@ WrittenWorldsAreAgain =
 abbrev pub RunningWorldsAreAgain : Type 0
 RunningWorldsAreAgain =
     (text : List ℕ) (f : Flat) (scene : SceneView) (routes : List Route) (net : Network Scripted)
-    → IsOpened text f scene routes → RunsAll scene → has_room scene ≡ true
-    → Reached (cascade scene routes) net
+    → IsOpened text f scene routes → RunsAll scene → Reached (cascade scene routes) net
     → (viewer : ℕ) (held : Scripted) (window : List (Option Stamp))
     → IsRunning net viewer held window → IsAgain scene routes held
 
@@ -58,13 +55,12 @@ IsKeptAgain scene routes w =
 abbrev pub WorldsAreKeptAgain : Type 0
 WorldsAreKeptAgain =
     (text : List ℕ) (f : Flat) (scene : SceneView) (routes : List Route) (inputs : List Stamp)
-    → IsOpened text f scene routes → RunsAll scene → has_room scene ≡ true → AreInputs inputs
+    → IsOpened text f scene routes → RunsAll scene → AreInputs inputs
     → IsKeptAgain scene routes (world scene routes inputs)
 
 abbrev pub RunningWorldsAreKeptAgain : Type 0
 RunningWorldsAreKeptAgain =
     (text : List ℕ) (f : Flat) (scene : SceneView) (routes : List Route) (net : Network Scripted)
-    → IsOpened text f scene routes → RunsAll scene → has_room scene ≡ true
-    → Reached (cascade scene routes) net
+    → IsOpened text f scene routes → RunsAll scene → Reached (cascade scene routes) net
     → (viewer : ℕ) (held : Scripted) (window : List (Option Stamp))
     → IsRunning net viewer held window → IsKeptAgain scene routes held

@@ -6,8 +6,8 @@ ghost use Rattle.typed_worlds.specs.Typed.{FittingAreOfType};
 ghost use Rattle.typed_worlds.specs.Typed.{RunningWorldsAreOfType, WorldsAreOfType};
 
 use distinct_fields::fields_are_distinct;
-use scene_round_trip::{expanded_are_named, scenes_are_writable};
-use scenes_again::{values_are_kept_again, writable_scenes_are_sound, written_scenes_are_again};
+use scene_round_trip::expanded_are_named;
+use scenes_again::{document_scenes_are_sound, values_are_kept_again, written_scenes_are_again};
 use written_worlds::fitting_worlds_are_kept;
 
 /// In a world where each value is in the range of its field, what a node keeps of a field is of the
@@ -30,10 +30,9 @@ pub fn written_worlds_are_again()
     ensures running { RunningWorldsAreAgain }
 {
     expanded_are_named();
-    scenes_are_writable();
     fitting_worlds_are_kept();
     fields_are_distinct();
-    writable_scenes_are_sound();
+    document_scenes_are_sound();
     written_scenes_are_again();
 }
 
