@@ -54,11 +54,14 @@ until_rule = record (option (codes "until")) {
 
 -- ---- the program's table
 
+abbrev pub ranged_rule : NumberOption → Rule
+ranged_rule o =
+    record (option o.name.now) { parser = Some (Signed (pos o.low) (pos o.high)) }
+
 abbrev pub with_default : Option (Bor (List ℕ)) → Rule → Rule
 with_default (Some text) r = record r { defaults = text.now ∷ [] }
 with_default None r = record r { required = true }
 
 -- an option of the program's table as `clap` has it
 abbrev pub number_rule : NumberOption → Rule
-number_rule o = with_default o.default
-    (record (option o.name.now) { parser = Some (Signed (pos o.low) (pos o.high)) })
+number_rule o = with_default o.default (ranged_rule o)

@@ -1,8 +1,9 @@
 //! The options of the commands, with their ranges and defaults.
 
-ghost use Rattle.std.specs.Prelude.{◌≡◌, false};
+ghost use Rattle.std.specs.Prelude.{◌≡◌, false, pos};
 ghost use Rattle.clap.specs.Words.{rule_of};
-ghost use Rattle.share_words.specs.Options.{number_rule};
+ghost use Rattle.clap.specs.declared.builder.value_parser.ValueParser.TheVariants.{Signed};
+ghost use Rattle.share_words.specs.Options.{number_rule, ranged_rule};
 
 use clap::Arg;
 use clap::builder::ValueParser;
@@ -75,16 +76,31 @@ pub const UNTIL: NumberOption = NumberOption {
     help: "Ends once this many inputs are applied, 0 to 1048576",
 };
 
+/// The numbers that the option takes.
+fn range_of<'a>(option: &NumberOption) -> ValueParser<'a>
+    ensures { result ≡ Signed (pos option.now.low) (pos option.now.high) }
+{
+    ValueParser::signed(option.low as i64, option.high as i64)
+}
+
+/// The option with its name and its range.
+fn ranged_arg<'a>(alloc: Global, option: &NumberOption) -> Arg<'a>
+    ensures rule { rule_of result ≡ ranged_rule option.now }
+    ensures local { result.global ≡ false }
+{
+    Arg::new(alloc, option.name)
+        .long(option.name)
+        .value_parser(range_of(option))
+        .value_name(option.value)
+        .help(option.help)
+}
+
 /// The option as `clap` has it.
 pub fn number_arg<'a>(alloc: Global, option: &NumberOption) -> Arg<'a>
     ensures rule { rule_of result ≡ number_rule option.now }
     ensures local { result.global ≡ false }
 {
-    let arg = Arg::new(alloc, option.name)
-        .long(option.name)
-        .value_parser(ValueParser::signed(option.low as i64, option.high as i64))
-        .value_name(option.value)
-        .help(option.help);
+    let arg = ranged_arg(alloc, option);
     match option.default {
         Some(text) => arg.default_value(text),
         None => arg.required(true),
