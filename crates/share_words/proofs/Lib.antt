@@ -1,3 +1,4 @@
 pub mod AskedLemmas
+pub mod CommandLemmas
 pub mod NumberLemmas
 pub mod WordLemmas

@@ -1,9 +1,12 @@
 -- The program as `clap` has it: its commands, each with its options.
 use Rattle.std.specs.Prelude.{codes, true}
+use Rattle.std.specs.List.{fold}
 use Rattle.clap.specs.Words.{App, new_app, with_rule, with_subcommand}
 use Rattle.clap.specs.Simple.{on_top}
 use Rattle.share_words.specs.Options.{viewers_rule, turns_rule, port_rule}
-use Rattle.share_words.specs.Options.{who_rule, boot_rule, until_rule}
+use Rattle.share_words.specs.Options.{who_rule, boot_rule, until_rule, number_rule}
+use Rattle.share_words.specs.declared.commands.CommandWords.{CommandWords}
+use Rattle.share_words.specs.declared.options.NumberOption.{NumberOption}
 
 -- the program without its commands: one of them has to be named, and all know `--version`
 unfoldable pub bare_program : App
@@ -58,3 +61,15 @@ local_program = with_subcommand (with_subcommand single_program rehearse_app.top
 
 unfoldable pub program : App
 program = with_subcommand (with_subcommand local_program host_app.top) view_app.top
+
+-- ---- the program's table
+
+abbrev pub with_option : App → NumberOption → App
+with_option a o = with_rule a (number_rule o)
+
+-- a command of the program's table as `clap` has it
+abbrev pub app_with : CommandWords → App
+app_with w = fold with_option (new_app w.name.now) w.options.now
+
+abbrev pub with_command : App → App → App
+with_command a command = with_subcommand a command.top

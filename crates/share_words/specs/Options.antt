@@ -1,8 +1,10 @@
 -- The options of the commands, as `clap` has them: each has a name, a range, and a default or is
 -- required.
-use Rattle.std.specs.Prelude.{[], ◌∷◌, Some, codes, pos, true}
+use Rattle.std.specs.Prelude.{ℕ, List, Option, [], ◌∷◌, Some, None, codes, pos, true}
+use Rattle.std.specs.Borrow.{Bor}
 use Rattle.clap.specs.Words.{Rule, Text, new_rule}
 use Rattle.clap.specs.declared.builder.value_parser.ValueParser.TheVariants.{Signed}
+use Rattle.share_words.specs.declared.options.NumberOption.{NumberOption}
 
 -- `--NAME VALUE`
 abbrev pub option : Text → Rule
@@ -49,3 +51,17 @@ until_rule = record (option (codes "until")) {
   parser = Some (Signed (pos 0) (pos 1048576));
   required = true;
 }
+
+-- ---- the program's table
+
+abbrev pub ranged_rule : NumberOption → Rule
+ranged_rule o =
+    record (option o.name.now) { parser = Some (Signed (pos o.low) (pos o.high)) }
+
+abbrev pub with_default : Option (Bor (List ℕ)) → Rule → Rule
+with_default (Some text) r = record r { defaults = text.now ∷ [] }
+with_default None r = record r { required = true }
+
+-- an option of the program's table as `clap` has it
+abbrev pub number_rule : NumberOption → Rule
+number_rule o = with_default o.default (ranged_rule o)

@@ -129,13 +129,12 @@ fn view_in(found: &ArgMatches<'_>) -> Option<Order>
     })
 }
 
-/// The order of the command that the matches have.
-pub fn order_in(matches: &ArgMatches<'_>) -> Option<Order>
-    ensures some { IfSome result (λ o. IsSomeAnd (subcommand_rows_of matches.now) (Asks o)) }
+/// The order of the command of this name.
+fn order_of(name: &str, found: &ArgMatches<'_>) -> Option<Order>
+    ensures some { IfSome result (λ o. Asks o (name.now, rows_of (found_of found.now))) }
     ensures none { IfNone result
-        ((o : OrderOf) → ¬ IsSomeAnd (subcommand_rows_of matches.now) (Asks o)) }
+        ((o : OrderOf) → ¬ Asks o (name.now, rows_of (found_of found.now))) }
 {
-    let (name, found) = matches.subcommand()?;
     match name {
         "run" => Some(Order::Run),
         "format" => Some(Order::Format),
@@ -146,4 +145,14 @@ pub fn order_in(matches: &ArgMatches<'_>) -> Option<Order>
         "view" => view_in(found),
         _ => None,
     }
+}
+
+/// The order of the command that the matches have.
+pub fn order_in(matches: &ArgMatches<'_>) -> Option<Order>
+    ensures some { IfSome result (λ o. IsSomeAnd (subcommand_rows_of matches.now) (Asks o)) }
+    ensures none { IfNone result
+        ((o : OrderOf) → ¬ IsSomeAnd (subcommand_rows_of matches.now) (Asks o)) }
+{
+    let (name, found) = matches.subcommand()?;
+    order_of(name, found)
 }

@@ -1,13 +1,14 @@
 //! The program and its commands, as `clap` has them, with their help.
 
-ghost use Rattle.std.specs.Prelude.{◌≡◌, false, IfOk};
-ghost use Rattle.clap.specs.Words.{app_of};
+ghost use Rattle.std.specs.Prelude.{◌≡◌, [], ◌∷◌, false, map, IfOk};
+ghost use Rattle.std.specs.List.{fold};
+ghost use Rattle.clap.specs.Words.{app_of, with_subcommand};
 ghost use Rattle.clap.specs.declared.builder.command.Command.TheViews.{out-Command as fields_of};
-ghost use Rattle.share_words.specs.Commands.{bare_program, single_program, local_program, program};
+ghost use Rattle.share_words.specs.Commands.{bare_program, program, app_with, with_command};
 ghost use Rattle.share_words.specs.Commands.{run_app, format_app, check_app};
-ghost use Rattle.share_words.specs.Commands.{rehearse_app, agree_app, host_app, seat_app, view_app};
+ghost use Rattle.share_words.specs.Commands.{rehearse_app, agree_app, host_app, view_app};
 
-use crate::options::{boot_arg, port_arg, turns_arg, until_arg, viewers_arg, who_arg};
+use crate::options::{BOOT, NumberOption, PORT, TURNS, UNTIL, VIEWERS, WHO, number_arg};
 use clap::Command;
 use std::alloc::{AllocError, Global};
 
@@ -121,6 +122,82 @@ Status:
   4  a device failed
   5  memory was refused";
 
+/// What help says of a command, and the options that it takes.
+struct CommandWords {
+    name: &'static str,
+    about: &'static str,
+    after_help: &'static str,
+    options: &'static [NumberOption],
+}
+
+static COMMANDS: [CommandWords; 7] = [
+    CommandWords {
+        name: "run",
+        about: "Run a job, and print its trace and then the scene",
+        after_help: RUN_HELP,
+        options: &[],
+    },
+    CommandWords {
+        name: "format",
+        about: "Print a scene as it is written, one item a line",
+        after_help: FORMAT_HELP,
+        options: &[],
+    },
+    CommandWords {
+        name: "check",
+        about: "Say how many nodes and routes a scene has",
+        after_help: CHECK_HELP,
+        options: &[],
+    },
+    CommandWords {
+        name: "rehearse",
+        about: "Take a host and viewers through a schedule, and print each step's answer",
+        after_help: REHEARSE_HELP,
+        options: &[VIEWERS],
+    },
+    CommandWords {
+        name: "agree",
+        about: "Have a host and viewers do a job over UDP, and print trace and scene of viewer 0",
+        after_help: AGREE_HELP,
+        options: &[VIEWERS, TURNS],
+    },
+    CommandWords {
+        name: "host",
+        about: "Number the inputs of viewers, and send them to each, over UDP",
+        after_help: HOST_HELP,
+        options: &[PORT, VIEWERS, TURNS],
+    },
+    CommandWords {
+        name: "view",
+        about: "Offer points to a host over UDP, apply what it numbers, and print trace and scene",
+        after_help: VIEW_HELP,
+        options: &[PORT, WHO, BOOT, UNTIL, TURNS],
+    },
+];
+
+/// The commands in the order of help.
+#[tactic(auto, unfolding(crate::specs::Commands::run_app, crate::specs::Commands::format_app, crate::specs::Commands::check_app, crate::specs::Commands::rehearse_app, crate::specs::Commands::agree_app, crate::specs::Commands::host_app, crate::specs::Commands::seat_app, crate::specs::Commands::view_app))]
+fn commands() -> &'static [CommandWords]
+    ensures { map app_with result.now ≡ run_app ∷ format_app ∷ check_app ∷ rehearse_app ∷ agree_app
+        ∷ host_app ∷ view_app ∷ [] }
+{
+    &COMMANDS
+}
+
+/// A command with its options.
+fn command<'a>(alloc: Global, words: &CommandWords) -> Result<Command<'a>, AllocError>
+    ensures app { IfOk result (λ c. app_of c ≡ app_with words.now) }
+    ensures local { IfOk result (λ c. (fields_of c).has_globals ≡ false) }
+{
+    let mut command = Command::new(alloc, words.name)
+        .about(words.about)
+        .after_help(words.after_help);
+    for option in words.options {
+        command = command.arg(number_arg(alloc, option))?;
+    }
+    Ok(command)
+}
+
 /// The program without its commands.
 #[tactic(auto, unfolding(crate::specs::Commands::bare_program))]
 fn bare_command<'a>(alloc: Global) -> Result<Command<'a>, AllocError>
@@ -137,125 +214,24 @@ fn bare_command<'a>(alloc: Global) -> Result<Command<'a>, AllocError>
         .bin_name("x3d_share")
 }
 
-#[tactic(auto, unfolding(crate::specs::Commands::run_app))]
-fn run_command<'a>(alloc: Global) -> Command<'a>
-    ensures app { app_of result ≡ run_app }
-    ensures local { (fields_of result).has_globals ≡ false }
+/// The program with one command more.
+fn with_command<'a>(
+    program: Command<'a>,
+    alloc: Global,
+    words: &CommandWords,
+) -> Result<Command<'a>, AllocError>
+    ensures app { IfOk result (λ c. app_of c ≡ with_command (app_of program.entry) (app_with words.now)) }
 {
-    Command::new(alloc, "run")
-        .about("Run a job, and print its trace and then the scene")
-        .after_help(RUN_HELP)
-}
-
-#[tactic(auto, unfolding(crate::specs::Commands::format_app))]
-fn format_command<'a>(alloc: Global) -> Command<'a>
-    ensures app { app_of result ≡ format_app }
-    ensures local { (fields_of result).has_globals ≡ false }
-{
-    Command::new(alloc, "format")
-        .about("Print a scene as it is written, one item a line")
-        .after_help(FORMAT_HELP)
-}
-
-#[tactic(auto, unfolding(crate::specs::Commands::check_app))]
-fn check_command<'a>(alloc: Global) -> Command<'a>
-    ensures app { app_of result ≡ check_app }
-    ensures local { (fields_of result).has_globals ≡ false }
-{
-    Command::new(alloc, "check")
-        .about("Say how many nodes and routes a scene has")
-        .after_help(CHECK_HELP)
-}
-
-#[tactic(auto, unfolding(crate::specs::Commands::rehearse_app))]
-fn rehearse_command<'a>(alloc: Global) -> Result<Command<'a>, AllocError>
-    ensures app { IfOk result (λ c. app_of c ≡ rehearse_app) }
-    ensures local { IfOk result (λ c. (fields_of c).has_globals ≡ false) }
-{
-    Command::new(alloc, "rehearse")
-        .about("Take a host and viewers through a schedule, and print each step's answer")
-        .after_help(REHEARSE_HELP)
-        .arg(viewers_arg(alloc))
-}
-
-#[tactic(auto, unfolding(crate::specs::Commands::agree_app))]
-fn agree_command<'a>(alloc: Global) -> Result<Command<'a>, AllocError>
-    ensures app { IfOk result (λ c. app_of c ≡ agree_app) }
-    ensures local { IfOk result (λ c. (fields_of c).has_globals ≡ false) }
-{
-    Command::new(alloc, "agree")
-        .about("Have a host and viewers do a job over UDP, and print trace and scene of viewer 0")
-        .after_help(AGREE_HELP)
-        .arg(viewers_arg(alloc))?
-        .arg(turns_arg(alloc))
-}
-
-#[tactic(auto, unfolding(crate::specs::Commands::host_app))]
-fn host_command<'a>(alloc: Global) -> Result<Command<'a>, AllocError>
-    ensures app { IfOk result (λ c. app_of c ≡ host_app) }
-    ensures local { IfOk result (λ c. (fields_of c).has_globals ≡ false) }
-{
-    Command::new(alloc, "host")
-        .about("Number the inputs of viewers, and send them to each, over UDP")
-        .after_help(HOST_HELP)
-        .arg(port_arg(alloc))?
-        .arg(viewers_arg(alloc))?
-        .arg(turns_arg(alloc))
-}
-
-/// `view` with the options that say which viewer of which host it is.
-#[tactic(auto, unfolding(crate::specs::Commands::seat_app))]
-fn seat_command<'a>(alloc: Global) -> Result<Command<'a>, AllocError>
-    ensures app { IfOk result (λ c. app_of c ≡ seat_app) }
-    ensures local { IfOk result (λ c. (fields_of c).has_globals ≡ false) }
-{
-    Command::new(alloc, "view")
-        .about("Offer points to a host over UDP, apply what it numbers, and print trace and scene")
-        .after_help(VIEW_HELP)
-        .arg(port_arg(alloc))?
-        .arg(who_arg(alloc))?
-        .arg(boot_arg(alloc))
-}
-
-#[tactic(auto, unfolding(crate::specs::Commands::view_app))]
-fn view_command<'a>(alloc: Global) -> Result<Command<'a>, AllocError>
-    ensures app { IfOk result (λ c. app_of c ≡ view_app) }
-    ensures local { IfOk result (λ c. (fields_of c).has_globals ≡ false) }
-{
-    seat_command(alloc)?
-        .arg(until_arg(alloc))?
-        .arg(turns_arg(alloc))
-}
-
-/// The program with the commands that take no options.
-#[tactic(auto, unfolding(crate::specs::Commands::single_program))]
-fn single_command<'a>(alloc: Global) -> Result<Command<'a>, AllocError>
-    ensures app { IfOk result (λ c. app_of c ≡ single_program) }
-    ensures local { IfOk result (λ c. (fields_of c).has_globals ≡ false) }
-{
-    bare_command(alloc)?
-        .subcommand(run_command(alloc))?
-        .subcommand(format_command(alloc))?
-        .subcommand(check_command(alloc))
-}
-
-/// The program with the commands of one process.
-#[tactic(auto, unfolding(crate::specs::Commands::local_program))]
-fn local_command<'a>(alloc: Global) -> Result<Command<'a>, AllocError>
-    ensures app { IfOk result (λ c. app_of c ≡ local_program) }
-    ensures local { IfOk result (λ c. (fields_of c).has_globals ≡ false) }
-{
-    single_command(alloc)?
-        .subcommand(rehearse_command(alloc)?)?
-        .subcommand(agree_command(alloc)?)
+    program.subcommand(command(alloc, words)?)
 }
 
 /// The program with all its commands.
-#[tactic(auto, unfolding(crate::specs::Commands::program))]
 pub fn program_command<'a>(alloc: Global) -> Result<Command<'a>, AllocError>
     ensures { IfOk result (λ c. app_of c ≡ program) }
 {
-    local_command(alloc)?
-        .subcommand(host_command(alloc)?)?
-        .subcommand(view_command(alloc)?)
+    let mut program = bare_command(alloc)?;
+    for words in commands() {
+        program = with_command(program, alloc, words)?;
+    }
+    Ok(program)
 }

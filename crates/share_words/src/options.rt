@@ -1,91 +1,108 @@
 //! The options of the commands, with their ranges and defaults.
 
-ghost use Rattle.std.specs.Prelude.{◌≡◌, false};
+ghost use Rattle.std.specs.Prelude.{◌≡◌, false, pos};
 ghost use Rattle.clap.specs.Words.{rule_of};
-ghost use Rattle.share_words.specs.Options.{viewers_rule, turns_rule, port_rule};
-ghost use Rattle.share_words.specs.Options.{who_rule, boot_rule, until_rule};
+ghost use Rattle.clap.specs.declared.builder.value_parser.ValueParser.TheVariants.{Signed};
+ghost use Rattle.share_words.specs.Options.{number_rule, ranged_rule};
 
 use clap::Arg;
+use clap::builder::ValueParser;
 use std::alloc::Global;
 
-/// The option, with what help says of it and its value.
-fn shown<'a>(option: Arg<'a>, value: &'a str, help: &'a str) -> Arg<'a>
-    ensures rule { rule_of result ≡ record (rule_of option.entry) { value_names = 1 } }
-    ensures local { result.global ≡ option.entry.global }
-{
-    option.value_name(value).help(help)
+/// An option that takes a number from `low` to `high`.
+#[derive(Clone, Copy)]
+pub struct NumberOption {
+    pub name: &'static str,
+    pub low: u32,
+    pub high: u32,
+    /// What it has where it is not given; without one it is required.
+    pub default: Option<&'static str>,
+    /// What help calls its number.
+    pub value: &'static str,
+    pub help: &'static str,
 }
 
-pub fn viewers_arg<'a>(alloc: Global) -> Arg<'a>
-    ensures rule { rule_of result ≡ viewers_rule }
-    ensures local { result.global ≡ false }
+pub const VIEWERS: NumberOption = NumberOption {
+    name: "viewers",
+    low: 1,
+    high: 16,
+    default: Some("2"),
+    value: "K",
+    help: "How many viewers, 1 to 16",
+};
+
+pub const TURNS: NumberOption = NumberOption {
+    name: "turns",
+    low: 1,
+    high: 10_000_000,
+    default: Some("1000000"),
+    value: "T",
+    help: "How many turns at most, 1 to 10000000",
+};
+
+pub const PORT: NumberOption = NumberOption {
+    name: "port",
+    low: 1,
+    high: 65535,
+    default: None,
+    value: "P",
+    help: "The host's UDP port on 127.0.0.1, 1 to 65535",
+};
+
+pub const WHO: NumberOption = NumberOption {
+    name: "who",
+    low: 0,
+    high: 15,
+    default: None,
+    value: "V",
+    help: "Which viewer this is, 0 to 15",
+};
+
+pub const BOOT: NumberOption = NumberOption {
+    name: "boot",
+    low: 1,
+    high: u32::MAX,
+    default: None,
+    value: "B",
+    help: "How often this viewer has been started, this time too, 1 to 4294967295",
+};
+
+pub const UNTIL: NumberOption = NumberOption {
+    name: "until",
+    low: 0,
+    high: 1_048_576,
+    default: None,
+    value: "N",
+    help: "Ends once this many inputs are applied, 0 to 1048576",
+};
+
+/// The numbers that the option takes.
+fn range_of<'a>(option: &NumberOption) -> ValueParser<'a>
+    ensures { result ≡ Signed (pos option.now.low) (pos option.now.high) }
 {
-    let option = Arg::new(alloc, "viewers")
-        .long("viewers")
-        .value_parser(clap::value_parser!(u8).range(1..=16))
-        .default_value("2");
-    shown(option, "K", "How many viewers, 1 to 16")
+    ValueParser::signed(option.low as i64, option.high as i64)
 }
 
-pub fn turns_arg<'a>(alloc: Global) -> Arg<'a>
-    ensures rule { rule_of result ≡ turns_rule }
+/// The option with its name and its range.
+fn ranged_arg<'a>(alloc: Global, option: &NumberOption) -> Arg<'a>
+    ensures rule { rule_of result ≡ ranged_rule option.now }
     ensures local { result.global ≡ false }
 {
-    let option = Arg::new(alloc, "turns")
-        .long("turns")
-        .value_parser(clap::value_parser!(u32).range(1..=10_000_000))
-        .default_value("1000000");
-    shown(option, "T", "How many turns at most, 1 to 10000000")
+    Arg::new(alloc, option.name)
+        .long(option.name)
+        .value_parser(range_of(option))
+        .value_name(option.value)
+        .help(option.help)
 }
 
-pub fn port_arg<'a>(alloc: Global) -> Arg<'a>
-    ensures rule { rule_of result ≡ port_rule }
+/// The option as `clap` has it.
+pub fn number_arg<'a>(alloc: Global, option: &NumberOption) -> Arg<'a>
+    ensures rule { rule_of result ≡ number_rule option.now }
     ensures local { result.global ≡ false }
 {
-    let option = Arg::new(alloc, "port")
-        .long("port")
-        .value_parser(clap::value_parser!(u16).range(1..))
-        .required(true);
-    shown(option, "P", "The host's UDP port on 127.0.0.1, 1 to 65535")
-}
-
-pub fn who_arg<'a>(alloc: Global) -> Arg<'a>
-    ensures rule { rule_of result ≡ who_rule }
-    ensures local { result.global ≡ false }
-{
-    let option = Arg::new(alloc, "who")
-        .long("who")
-        .value_parser(clap::value_parser!(u8).range(0..=15))
-        .required(true);
-    shown(option, "V", "Which viewer this is, 0 to 15")
-}
-
-pub fn boot_arg<'a>(alloc: Global) -> Arg<'a>
-    ensures rule { rule_of result ≡ boot_rule }
-    ensures local { result.global ≡ false }
-{
-    let option = Arg::new(alloc, "boot")
-        .long("boot")
-        .value_parser(clap::value_parser!(u32).range(1..))
-        .required(true);
-    shown(
-        option,
-        "B",
-        "How often this viewer has been started, this time too, 1 to 4294967295",
-    )
-}
-
-pub fn until_arg<'a>(alloc: Global) -> Arg<'a>
-    ensures rule { rule_of result ≡ until_rule }
-    ensures local { result.global ≡ false }
-{
-    let option = Arg::new(alloc, "until")
-        .long("until")
-        .value_parser(clap::value_parser!(u32).range(0..=1_048_576))
-        .required(true);
-    shown(
-        option,
-        "N",
-        "Ends once this many inputs are applied, 0 to 1048576",
-    )
+    let arg = ranged_arg(alloc, option);
+    match option.default {
+        Some(text) => arg.default_value(text),
+        None => arg.required(true),
+    }
 }

@@ -8,7 +8,7 @@ use std::io;
 use thiserror::Error;
 
 /// A command with its numbers.
-#[derive(Clone, Copy, Debug, PartialEq, Eq)]
+#[derive(Clone, Copy, PartialEq, Eq)]
 pub enum Order {
     /// `run`: the input is a job.
     Run,

@@ -1,0 +1,11 @@
+use Rattle.std.proofs.Common.{◌≡◌, take, false}
+use Rattle.std.specs.List.{fold}
+use Rattle.clap.specs.Words.{app_of, new_app}
+use Rattle.clap.specs.declared.builder.command.Command.TheViews.{out-Command as fields_of}
+use Rattle.share_words.specs.Commands.{with_option}
+use Rattle.share_words.proofs.commands.command.Given as goal
+
+abbrev pub invariant-loop-option : goal.invariant-loop-option
+invariant-loop-option l =
+    (app_of l.command ≡ fold with_option (new_app l.words.name.now) (take l.option-index l.words.options.now))
+    × ((fields_of l.command).has_globals ≡ false)
