@@ -328,7 +328,6 @@ module _ (places : List (Option Stand)) (names : List (List ℕ)) where
   pub routes_fit : (wires : List Wire) (routes : List FlatRoute) → IsFlatOrTooLarge (routes_from places names wires routes)
   routes_fit [] routes = tt
   routes_fit (one ∷ wires) routes = wire_fits one.line (ends_of places names one.source) (ends_of places names one.target) routes wires (routes_fit wires)
-
 -- ---- the document
 
 with_routes_fits : (header : Header) (roots : List ℕ) (w : Walk) (routes : Result (List FlatRoute) ExpandFault) → IsFlatOrTooLarge routes → IsFlatOrTooLarge (with_routes header roots w.store routes)
