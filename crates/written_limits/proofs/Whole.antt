@@ -1,5 +1,4 @@
--- A document of known nodes, whose fields are known and given once, and in which each USE names a node, has a
--- flat form, or is too large.
+-- A document of known nodes and known fields, given once, in which each USE names a node, is flat or too large.
 use Rattle.std.proofs.Common.{◌≡◌, ℕ, ◌*◌, ◌-◌, Bool, true, false, if◌then◌else◌, nat_lt, List, [], ◌∷◌, ◌++◌, length, option_map, Option, Some, None, Result, Ok, Err, is_some, refl, sym, subst, ap, ◌∙◌}
 use Rattle.std.specs.List.{AllByRecursion, flat_map}
 use Rattle.std.proofs.lemmas.List.{append_assoc}
@@ -328,6 +327,7 @@ module _ (places : List (Option Stand)) (names : List (List ℕ)) where
   pub routes_fit : (wires : List Wire) (routes : List FlatRoute) → IsFlatOrTooLarge (routes_from places names wires routes)
   routes_fit [] routes = tt
   routes_fit (one ∷ wires) routes = wire_fits one.line (ends_of places names one.source) (ends_of places names one.target) routes wires (routes_fit wires)
+
 -- ---- the document
 
 with_routes_fits : (header : Header) (roots : List ℕ) (w : Walk) (routes : Result (List FlatRoute) ExpandFault) → IsFlatOrTooLarge routes → IsFlatOrTooLarge (with_routes header roots w.store routes)
