@@ -220,7 +220,8 @@ fn with_command<'a>(
     alloc: Global,
     words: &CommandWords,
 ) -> Result<Command<'a>, AllocError>
-    ensures app { IfOk result (λ c. app_of c ≡ with_command (app_of program.entry) (app_with words.now)) }
+    ensures app { IfOk result (λ c. app_of c
+        ≡ with_command (app_of program.entry) (app_with words.now)) }
 {
     program.subcommand(command(alloc, words)?)
 }
