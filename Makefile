@@ -1,7 +1,7 @@
 # `make run` shows the program at work, `make test` is the gate.
 SHELL := bash
 .SHELLFLAGS := -eu -o pipefail -c
-.PHONY: run try share test check definitions bench format install
+.PHONY: run try share test cases check definitions bench format install
 
 JOB ?= examples/two-clocks.job
 PREFIX ?= /usr/local
@@ -20,14 +20,20 @@ share:
 	@cd crates/x3d_share && rt run -- --version > /dev/null
 	@scripts/share
 
-# The gate: every proof from nothing, the must-fail edits, the tests; and then the examples, and a
-# shared world over UDP by the program that was proved.
+# The gate: every proof from nothing, the must-fail edits, the tests; and then the cases and a shared
+# world over UDP by the program that was proved, and the examples.
 test: definitions
 	@log=$$(mktemp); trap 'rm -f "$$log"' EXIT; \
 	rt ci 2>&1 | tee "$$log"; \
+	scripts/cases; \
 	(cd crates/x3d_share && rt try --cases ../../examples); \
 	if [ -x crates/x3d_share/out/x3d_share ]; then scripts/share || scripts/share || scripts/share; fi; \
 	tail -n 1 "$$log"
+
+# Proves and builds the program, and runs it on the cases of cases/.
+cases:
+	@cd crates/x3d_share && rt run -- --version > /dev/null
+	@scripts/cases
 
 # While you edit: every crate, over what earlier checks kept.
 check: definitions

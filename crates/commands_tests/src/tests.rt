@@ -5,8 +5,6 @@ mod cable;
 mod failing;
 mod given;
 mod idle;
-mod refusing;
-mod rehearsing;
 mod turning;
 mod whole;
 mod words;

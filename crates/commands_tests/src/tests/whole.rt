@@ -275,3 +275,25 @@ fn a_host_of_clocks_goes_on_to_its_end(rt: HostRuntime) -> Result<(), Fail> {
 fn a_host_of_points_goes_on_to_its_end(rt: HostRuntime) -> Result<(), Fail> {
     host_to_its_end(&rt, rt.alloc(), &OF_POINTS)
 }
+
+/// Two scripts, the second of which is of no kind.
+const LAMP: &str = "scene\n#X3D V3.0 utf8\nGroup {}
+Script { url \"x3dshare:meter\" } Script { url \"x3dshare:lamp\" }";
+
+/// A script whose interface isn't that of its kind.
+const METER: &str = "scene\n#X3D V3.0 utf8\nScript { url \"x3dshare:meter\" }";
+
+#[test]
+fn a_host_runs_no_scripts(rt: HostRuntime) -> Result<(), Fail> {
+    let order = Order::Host {
+        port: 4000,
+        viewers: 2,
+        turns: 1,
+    };
+    for scene in [LAMP, METER] {
+        let bytes = joined(rt.alloc(), "clock 1\n", scene)?;
+        let job = shared_job(rt.alloc(), bytes.as_slice(), &order);
+        assert!(rt; job.is_ok());
+    }
+    Ok(())
+}

@@ -1,4 +1,4 @@
-//! What command words ask for, which are refused, and what help shows.
+//! What command words ask for, and what help shows, where the program's output can't tell it.
 
 use share_words::{Order, OrderFault, command_of, help_of};
 use std::alloc::{AllocError, Global};
@@ -6,13 +6,8 @@ use std::process::Abort;
 use std::test::Fail;
 
 /// Words with what they ask for.
-const TAKEN: [(&str, Order); 14] = [
-    ("x3d_share run", Order::Run),
+const TAKEN: [(&str, Order); 9] = [
     ("./other run", Order::Run),
-    ("x3d_share format", Order::Format),
-    ("x3d_share check", Order::Check),
-    ("x3d_share rehearse", Order::Rehearse { viewers: 2 }),
-    ("x rehearse --viewers=16", Order::Rehearse { viewers: 16 }),
     (
         "x agree",
         Order::Agree {
@@ -81,55 +76,8 @@ const TAKEN: [(&str, Order); 14] = [
     ),
 ];
 
-/// Words that are no command.
-const REFUSED: [&str; 46] = [
-    "",
-    "x",
-    "x walk",
-    "x view",
-    "x rehears",
-    "x run run",
-    "x run --viewers=2",
-    "x Run",
-    "x --help",
-    "x help",
-    "x run -h",
-    "x host --help",
-    "x --version",
-    "x host",
-    "x host --viewers 2",
-    "x host --port 0",
-    "x host --port 65536",
-    "x host --port",
-    "x host 4000",
-    "x host --port 4000 --who 0",
-    "x host --port 4000 --viewers",
-    "x host --port 4000 --viewers 0",
-    "x host --port 4000 --viewers 17",
-    "x host --port 4000 --viewers two",
-    "x host --port 4000 --viewers -2",
-    "x host --port 4000 --viewers 2.0",
-    "x host --port 4000 --viewers ",
-    "x host --port 4000 --viewers 2 --viewers 2",
-    "x host --port 4000 --turns 0",
-    "x host --port 4000 --turns 10000001",
-    "x host --port 4000 --turns 4294967297",
-    "x host --port 4000 2",
-    "x rehearse --viewers 0",
-    "x rehearse --viewers 17",
-    "x rehearse --turns 5",
-    "x agree --viewers 17",
-    "x agree --turns 0",
-    "x agree --port 4000",
-    "x view --who 1 --boot 1 --until 1",
-    "x view --port 1 --boot 1 --until 1",
-    "x view --port 1 --who 1 --until 1",
-    "x view --port 1 --who 1 --boot 1",
-    "x view --port 1 --who 16 --boot 1 --until 1",
-    "x view --port 1 --who 1 --boot 0 --until 1",
-    "x view --port 1 --who 1 --boot 4294967296 --until 1",
-    "x view --port 1 --who 1 --boot 1 --until 1048577",
-];
+/// Words that ask for help, and the program's name alone, are no command.
+const REFUSED: [&str; 5] = ["", "x --help", "x run -h", "x host --help", "x --version"];
 
 /// What words that single spaces part ask for.
 fn asked(alloc: Global, line: &str) -> Result<Result<Order, OrderFault>, AllocError> {
@@ -147,7 +95,7 @@ fn words_are_commands_with_numbers(rt: HostRuntime) -> Result<(), Fail> {
 }
 
 #[test]
-fn other_words_are_refused(rt: HostRuntime) -> Result<(), Fail> {
+fn words_of_help_are_no_command(rt: HostRuntime) -> Result<(), Fail> {
     for line in &REFUSED {
         let answer = asked(rt.alloc(), line)?;
         assert!(rt; answer == Err(OrderFault::Words), "{line}");

@@ -1,9 +1,10 @@
-//! Worked examples of the commands of several nodes, with what they print, by hand.
+//! Worked examples of the commands of several nodes: what they agree on, by hand, and a rehearsal
+//! whose viewers end as `run` does.
 
 ghost use Rattle.std.specs.Prelude.{◌≡◌, length};
 
 use super::cable::{End, HOST, ends, laid};
-use super::given::{CLOCKS, joined, push_run};
+use super::given::{CLOCKS, COUNTERS, joined, push_run};
 use share_commands::{JointJob, agree_job, joint_job, rehearse_job};
 use share_program::ShareFault;
 use share_words::Order;
@@ -139,79 +140,58 @@ Transform {
     )
 }
 
-const REHEARSAL: &str = "clock 1
+/// Viewer 0 takes five inputs, begins again where it had two, and takes the others again; viewer 1
+/// takes all five once.
+const REWOUND: &str = "clock 1
 clock 2
 clock 3
-packet 3
+clock 4
+clock 5
 packet 1
 packet 2
+packet 3
+packet 4
+packet 5
 give 0 0
 give 1 0
-give 1 0
-give 2 0
 save 0
-rewind 0 0 2
+give 2 0
+give 3 0
+give 4 0
 rewind 0 0 2
 give 2 0
+give 3 0
+give 4 0
+give 0 1
+give 1 1
+give 2 1
+give 3 1
+give 4 1
 ";
 
-#[test]
-fn rehearsal(rt: HostRuntime) -> Result<(), Fail> {
-    let schedule = joined(rt.alloc(), REHEARSAL, CLOCKS)?;
-    let log = rehearse_job(rt.alloc(), schedule.as_slice(), 2)?;
-    let wanted = "1 Numbered 1
-2 Numbered 2
-3 Numbered 3
-4 Packet 0
-5 Packet 1
-6 Packet 2
-7 Kept
-8 Applied 1
-9 Old
-10 Applied 2
-11 Saved 0
-12 Rewound 3
-13 BootNotNew
-14 Old
-viewer 0 at 3 boot 2
-1 1 T.isActive TRUE
-1 1 T.cycleTime 1
-1 1 B.triggerTrue TRUE
-1 1 G.toggle TRUE
-1 1 T.fraction_changed 0
-1 1 T.elapsedTime 0
-1 1 T.time 1
-2 2 T.fraction_changed 0.5
-2 2 T.elapsedTime 1
-2 2 T.time 2
-3 3 T.cycleTime 3
-3 3 B.triggerTrue TRUE
-3 3 G.toggle FALSE
-3 3 T.fraction_changed 1
-3 3 T.elapsedTime 2
-3 3 T.time 3
-#X3D V3.0 utf8
-DEF T TimeSensor {
-  cycleInterval 2
-  loop TRUE
-  startTime 1
+const FIVE: &str = "clock 1\nclock 2\nclock 3\nclock 4\nclock 5\n";
+
+/// What each of them is left with, by `run`.
+fn push_endings(alloc: Global, scene: &str, out: &mut Vec<u8>) -> Result<(), Fail> {
+    let job = joined(alloc, FIVE, scene)?;
+    out.extend_from_slice(b"viewer 0 at 5 boot 2\n")?;
+    push_run(alloc, job.as_slice(), out)?;
+    out.extend_from_slice(b"viewer 1 at 5 boot 1\n")?;
+    push_run(alloc, job.as_slice(), out)
 }
-DEF B BooleanTrigger {}
-DEF G BooleanToggle {}
-ROUTE T.cycleTime TO B.set_triggerTime
-ROUTE B.triggerTrue TO G.set_boolean
-viewer 1 at 0 boot 1
-#X3D V3.0 utf8
-DEF T TimeSensor {
-  cycleInterval 2
-  loop TRUE
-  startTime 1
-}
-DEF B BooleanTrigger {}
-DEF G BooleanToggle {}
-ROUTE T.cycleTime TO B.set_triggerTime
-ROUTE B.triggerTrue TO G.set_boolean
-";
-    assert!(rt; log.as_slice() == wanted.as_bytes());
+
+fn is_left_as_run(rt: &impl Abort, alloc: Global, scene: &str) -> Result<(), Fail> {
+    let schedule = joined(alloc, REWOUND, scene)?;
+    let log = rehearse_job(alloc, schedule.as_slice(), 2)?;
+    let mut endings = Vec::new(alloc);
+    push_endings(alloc, scene, &mut endings)?;
+    assert!(rt; log.ends_with(endings.as_slice()));
     Ok(())
+}
+
+/// Also with scripts.
+#[test]
+fn rewound_viewer_has_the_texts_of_a_run(rt: HostRuntime) -> Result<(), Fail> {
+    is_left_as_run(&rt, rt.alloc(), CLOCKS)?;
+    is_left_as_run(&rt, rt.alloc(), COUNTERS)
 }

@@ -118,7 +118,7 @@ pub(super) fn is_outlined(
 
 /// Scenes, each with its nodes (name, type, numbers of fields with the line of each), roots and
 /// helpers.
-const FLATS: [(&str, &str); 24] = [
+const FLATS: [(&str, &str); 25] = [
     (
         "Shape { geometry Box {} } Group {}",
         "Box, Shape 4@2, Group, roots 1 2 helpers",
@@ -245,6 +245,10 @@ Shape { geometry IS n } Q {} } P {}",
     // a USE makes a body that is not empty; it is looked at where it is put in
     ("PROTO P [] { USE A } Group {}", "Group, roots 0 helpers"),
     // an IS to an input gives no value, and the default value of the field stands
+    (
+        "PROTO P [ inputOnly MFNode a ] { Group {\nchildren IS a } }\nP {}",
+        "Group, roots 0 helpers",
+    ),
     (
         "PROTO P [ inputOnly SFInt32 n ] { Switch { whichChoice IS n } } P {}",
         "Switch, roots 0 helpers",

@@ -2,11 +2,11 @@
 
 use super::steps::{fault_of, initialize, number_at, receive, send, settle, spec};
 use script_host::{AttachFault, Behaviour, ReplaceFault, Reply, Scripts};
-use script_stock::{Adder, Batch, Counter, Gate, Meter, Mover};
+use script_stock::{Batch, Counter, Gate, Meter};
 use std::alloc::Global;
 use std::process::Abort;
 use std::test::Fail;
-use x3d_values::{Kind, ScriptSpec, Vec3};
+use x3d_values::{Kind, ScriptSpec};
 
 /// The first number of the first reply to an event of one number.
 fn answer<B: Behaviour>(rt: &impl Abort, script: &mut B, input: u32, number: i64) -> Option<i64> {
@@ -14,30 +14,6 @@ fn answer<B: Behaviour>(rt: &impl Abort, script: &mut B, input: u32, number: i64
         .as_slice()
         .first()
         .map(|reply| reply.numbers[0])
-}
-
-#[test]
-fn script_kinds_gate(rt: HostRuntime) -> Result<(), Fail> {
-    let mut gate: Box<dyn Behaviour> = Box::new(rt.alloc(), Gate::new(true))?;
-    assert!(rt; gate.initialize().as_slice() == [Reply::number(0, 1)].as_slice());
-    assert!(rt; send(&rt, &mut gate, 1, 7).as_slice() == [Reply::number(1, 7)].as_slice());
-    assert!(rt; send(&rt, &mut gate, 0, 0).as_slice() == [Reply::number(0, 0)].as_slice());
-    assert!(rt; send(&rt, &mut gate, 1, 7).as_slice() == [].as_slice());
-    Ok(())
-}
-
-/// -1, -2 and -4 have the means -1, -1.5 and -2.333334.
-#[test]
-fn script_kinds_meter(rt: HostRuntime) -> Result<(), Fail> {
-    let mut meter: Box<dyn Behaviour> = Box::new(rt.alloc(), Meter::new(rt.alloc())?)?;
-    for (reading, mean) in [
-        (-1_000_000, -1_000_000),
-        (-2_000_000, -1_500_000),
-        (-4_000_000, -2_333_334),
-    ] {
-        assert!(rt; answer(&rt, &mut meter, 0, reading) == Some(mean));
-    }
-    Ok(())
 }
 
 const READINGS: [i64; 9] = [
@@ -56,33 +32,6 @@ fn a_meter_keeps_eight(rt: HostRuntime) -> Result<(), Fail> {
     let mut state = Vec::new(rt.alloc());
     meter.state(&mut state)?;
     assert!(rt; state.first() == Some(&1_000_000));
-    Ok(())
-}
-
-/// From 0 0 0 to 0.5 0 -0.5 at 0.333333.
-#[test]
-fn script_kinds_mover(rt: HostRuntime) -> Result<(), Fail> {
-    let from = Vec3 { x: 0, y: 0, z: 0 };
-    let to = Vec3 {
-        x: 500_000,
-        y: 0,
-        z: -500_000,
-    };
-    let mut mover: Box<dyn Behaviour> = Box::new(rt.alloc(), Mover::new(from, to))?;
-    let reply = Reply {
-        output: 0,
-        numbers: [166_666, 0, -166_667],
-    };
-    assert!(rt; send(&rt, &mut mover, 0, 333_333).as_slice() == [reply].as_slice());
-    Ok(())
-}
-
-/// 0.25, and then -1 beside it.
-#[test]
-fn script_kinds_adder(rt: HostRuntime) -> Result<(), Fail> {
-    let mut adder: Box<dyn Behaviour> = Box::new(rt.alloc(), Adder::new())?;
-    assert!(rt; answer(&rt, &mut adder, 0, 250_000) == Some(250_000));
-    assert!(rt; answer(&rt, &mut adder, 1, -1_000_000) == Some(-750_000));
     Ok(())
 }
 

@@ -1,53 +1,12 @@
-//! Jobs, words and refusals by hand, devices that fail, and memory that is refused.
+//! Jobs by hand: their steps and their scene, as many steps as there may be, and memory that is
+//! refused.
 
-use classic_text::{ReadFault, ReadFaultKind};
-use share_program::{
-    Failure, JobFault, RunFault, ShareFault, StreamFault, job_of, read_whole, refusal_line,
-    status_of, write_whole,
-};
+use share_program::{JobFault, StreamFault, job_of, read_whole};
 use share_words::{Order, OrderFault, command_of};
 use std::alloc::{AllocError, Global};
-use std::io::{self, ErrorKind, Read, Write};
-use std::process::Abort;
 use std::test::Fail;
 use test_memory::UsedUp;
 use x3d_values::Event;
-
-/// Lines that are no step, or that a host would refuse, with their numbers.
-const BAD_JOBS: [(&str, u32); 32] = [
-    ("", 1),
-    ("\n", 1),
-    ("clock 1", 2),
-    ("clock 1\n", 2),
-    ("clock 1\nclock 2", 3),
-    ("x\nclock 1\n", 1),
-    ("clock 1\n\nscene\n", 2),
-    ("clock  1\nscene\n", 1),
-    (" clock 1\nscene\n", 1),
-    ("clock 1 \nscene\n", 1),
-    ("clock 1 2\nscene\n", 1),
-    ("clock\t1\nscene\n", 1),
-    ("clock\nscene\n", 1),
-    ("clock \nscene\n", 1),
-    ("Clock 1\nscene\n", 1),
-    ("clock one\nscene\n", 1),
-    ("clock 1.5.5\nscene\n", 1),
-    ("clock 0\nscene\n", 1),
-    ("clock -1\nscene\n", 1),
-    ("clock 1e-7\nscene\n", 1),
-    ("clock 1\nclock 1\nscene\n", 2),
-    ("clock 2\nclock 3\nclock 1\nscene\n", 3),
-    ("clock 1e13\nscene\n", 1),
-    ("clock 1000000000000.000001\nscene\n", 1),
-    ("clock 1\r\r\nscene\n", 1),
-    ("clock 1\nscene\r", 2),
-    ("clock 1\rscene\n", 1),
-    ("clock 1\nscene \n", 2),
-    ("clock 1\n scene\n", 2),
-    ("clock 1\nScene\n", 2),
-    ("clock 1\npoint 0 1 0 0 5 0 0\nscene\n", 2),
-    ("clock 1\n#\nscene\n", 2),
-];
 
 /// Jobs with the time of their last step and the scene.
 const GOOD_JOBS: [(&str, usize, i64, &str); 9] = [
@@ -76,14 +35,6 @@ const GOOD_JOBS: [(&str, usize, i64, &str); 9] = [
     ("clock 0x10\nscene\n\u{e9}", 1, 16_000_000, "\u{e9}"),
     ("clock 1e12\nscene\n", 1, 1_000_000_000_000_000_000, ""),
 ];
-
-#[test]
-fn bad_jobs_are_refused_at_their_line(rt: HostRuntime) {
-    for (job, line) in BAD_JOBS {
-        let fault = job_of(rt.alloc(), job.as_bytes()).err();
-        assert!(rt; fault == Some(JobFault::BadJob(line)), "{job:?}");
-    }
-}
 
 #[test]
 fn jobs_have_their_steps_and_scene(rt: HostRuntime) -> Result<(), Fail> {
@@ -126,160 +77,6 @@ fn a_world_takes_a_million_inputs(rt: HostRuntime) -> Result<(), Fail> {
     let refused = job_of(rt.alloc(), more.as_slice());
     assert!(rt; matches!(&refused, Err(fault) if *fault == JobFault::BadJob((1 << 20) + 1)));
     Ok(())
-}
-
-/// Gives three bytes a read, and fails at one read.
-#[derive(Drop)]
-pub(super) struct Patchy<'a> {
-    left: &'a [u8],
-    reads: u32,
-    fails_at: u32,
-    kind: ErrorKind,
-}
-
-impl<'a> Read for Patchy<'a> {
-    fn read(&mut self, buf: &mut [u8]) -> io::Result<usize> {
-        self.reads = self.reads.saturating_add(1);
-        if self.reads == self.fails_at {
-            return Err(io::Error::from(self.kind));
-        }
-        let n = self.left.len().min(buf.len()).min(3);
-        buf[..n].copy_from_slice(&self.left[..n]);
-        self.left = &self.left[n..];
-        Ok(n)
-    }
-}
-
-pub(super) fn failing_reader(left: &[u8], fails_at: u32, kind: ErrorKind) -> Patchy<'_> {
-    Patchy {
-        left,
-        reads: 0,
-        fails_at,
-        kind,
-    }
-}
-
-const JOB: &[u8] = b"clock 1\nscene\n";
-
-#[test]
-fn a_failed_read_is_answered(rt: HostRuntime) {
-    for read in 1..7 {
-        let failed = read_whole(
-            rt.alloc(),
-            &mut failing_reader(JOB, read, ErrorKind::BrokenPipe),
-        );
-        assert!(rt;
-            matches!(&failed, Err(fault) if *fault == StreamFault::Device),
-            "{read}"
-        );
-        let tried_again = read_whole(
-            rt.alloc(),
-            &mut failing_reader(JOB, read, ErrorKind::Interrupted),
-        );
-        assert!(rt;
-            matches!(&tried_again, Ok(bytes) if bytes.as_slice() == b"clock 1\nscene\n".as_slice()),
-            "{read}"
-        );
-    }
-    let whole = read_whole(
-        rt.alloc(),
-        &mut failing_reader(JOB, 7, ErrorKind::BrokenPipe),
-    );
-    assert!(rt; matches!(&whole, Ok(bytes) if bytes.len() == 14));
-}
-
-/// Takes three bytes a write, and fails at one write or flush.
-#[derive(Drop)]
-pub(super) struct Choppy {
-    got: Vec<u8>,
-    calls: u32,
-    fails_at: u32,
-}
-
-impl Choppy {
-    fn call(&mut self) -> io::Result<()> {
-        self.calls = self.calls.saturating_add(1);
-        if self.calls == self.fails_at {
-            return Err(io::Error::from(ErrorKind::BrokenPipe));
-        }
-        Ok(())
-    }
-}
-
-impl Write for Choppy {
-    fn write(&mut self, buf: &[u8]) -> io::Result<usize> {
-        self.call()?;
-        let n = buf.len().min(3);
-        self.got.extend_from_slice(&buf[..n])?;
-        Ok(n)
-    }
-
-    fn flush(&mut self) -> io::Result<()> {
-        self.call()
-    }
-}
-
-pub(super) fn failing_writer(alloc: Global, fails_at: u32) -> Choppy {
-    Choppy {
-        got: Vec::new(alloc),
-        calls: 0,
-        fails_at,
-    }
-}
-
-#[test]
-fn a_failed_write_is_answered(rt: HostRuntime) {
-    for call in 1..7 {
-        let failed = write_whole(&mut failing_writer(rt.alloc(), call), b"clock 1\nscene\n");
-        assert!(rt; failed == Err(StreamFault::Device), "{call}");
-    }
-    let mut writer = failing_writer(rt.alloc(), 7);
-    assert!(rt; write_whole(&mut writer, b"clock 1\nscene\n") == Ok(()));
-    assert!(rt; writer.got.as_slice() == b"clock 1\nscene\n".as_slice());
-}
-
-fn read_fault(kind: ReadFaultKind, line: u32) -> Failure {
-    Failure::Job(JobFault::Read(ReadFault { kind, line }))
-}
-
-#[test]
-fn refusals_have_a_line_and_a_status(rt: HostRuntime) {
-    let cases = [
-        (Failure::Order(OrderFault::Words), 2, "refused Words"),
-        (Failure::Order(OrderFault::Memory), 5, "refused Memory"),
-        (Failure::Job(JobFault::Device), 4, "refused Device"),
-        (
-            Failure::Job(JobFault::BadJob(7)),
-            2,
-            "refused BadJob line 7",
-        ),
-        (
-            read_fault(ReadFaultKind::Unexpected, 3),
-            1,
-            "refused Unexpected line 3",
-        ),
-        (
-            read_fault(ReadFaultKind::UnexpectedEnd, 4_294_967_295),
-            1,
-            "refused UnexpectedEnd line 4294967295",
-        ),
-        (read_fault(ReadFaultKind::Memory, 0), 5, "refused Memory"),
-        (Failure::Job(JobFault::Memory), 5, "refused Memory"),
-        (Failure::Run(RunFault::Device), 4, "refused Device"),
-        (Failure::Run(RunFault::Memory), 5, "refused Memory"),
-        (Failure::Share(ShareFault::Port), 4, "refused Port"),
-        (
-            Failure::Share(ShareFault::TurnsUsedUp),
-            3,
-            "refused TurnsUsedUp",
-        ),
-        (Failure::Share(ShareFault::Spoiled), 5, "refused Spoiled"),
-        (Failure::Share(ShareFault::Memory), 5, "refused Memory"),
-    ];
-    for (failure, status, line) in &cases {
-        assert!(rt; refusal_line(failure).as_str() == *line);
-        assert!(rt; status_of(failure) == *status, "{line}");
-    }
 }
 
 /// Blocks that are left, in bytes: growths come through up to the first that needs more.

@@ -1,75 +1,10 @@
-//! The worked examples of prototypes and of limits, by hand.
+//! Scenes with as much of everything as there may be, and with one more, by hand.
 
-use super::checks::is_answered;
-use super::examples::{are_refused, print};
+use super::answers::{is_answered, printed};
+use share_program::refusal_line;
 use std::alloc::{AllocError, Global};
+use std::process::Abort;
 use std::test::Fail;
-
-const PRINTED: [(&str, &str); 2] = [
-    // lamp
-    (
-        "scene
-#X3D V3.0 utf8
-PROTO Lamp [ inputOnly SFBool poke inputOutput SFInt32 which 0 ] {
-Switch { whichChoice IS which children [ Group {} ] }
-DEF G BooleanToggle { set_boolean IS poke } DEF F BooleanFilter { set_boolean IS poke } }
-DEF L Lamp {}",
-        "#X3D V3.0 utf8
-DEF L Switch {
-  children [
-    Group {}
-  ]
-  whichChoice 0
-}
-Switch {
-  children [
-    DEF G BooleanToggle {}
-    DEF F BooleanFilter {}
-  ]
-}
-",
-    ),
-    // field-faults
-    (
-        "scene\n#X3D V3.0 utf8\nTransform { rotation 0 1 0 0 }",
-        "#X3D V3.0 utf8\nTransform {}\n",
-    ),
-];
-
-#[test]
-fn worked_examples_of_prototypes(rt: HostRuntime) {
-    print(&rt, rt.alloc(), &PRINTED);
-}
-
-const REFUSED: [(&str, &str, u8); 4] = [
-    // lamp
-    (
-        "scene\n#X3D V3.0 utf8\nPROTO Lamp [] { Group {}\nLamp {} }",
-        "refused ProtoItself line 3",
-        1,
-    ),
-    // field-faults
-    (
-        "scene\n#X3D V3.0 utf8\nTransform { rotation 0 1 0 1.57 }",
-        "refused RotationUnsupported line 2",
-        1,
-    ),
-    (
-        "scene\n#X3D V3.0 utf8\nDEF A Group { children USE A }",
-        "refused UseWithoutDef line 2",
-        1,
-    ),
-    (
-        "scene\n#X3D V3.0 utf8\nBox { size 1 1 1 size 2 2 2 }",
-        "refused FieldTwice line 2",
-        1,
-    ),
-];
-
-#[test]
-fn worked_refusals_of_prototypes(rt: HostRuntime) {
-    are_refused(&rt, rt.alloc(), &REFUSED);
-}
 
 /// A word and a number.
 fn push_word(out: &mut Vec<u8>, word: &[u8], number: u32) -> Result<(), AllocError> {
@@ -167,5 +102,70 @@ fn groups_that_double(rt: HostRuntime) -> Result<(), Fail> {
         let text = nested(rt.alloc(), around)?;
         is_answered(&rt, rt.alloc(), text.as_slice(), wanted);
     }
+    Ok(())
+}
+
+/// So many TouchSensors in the list of roots.
+fn sensors(alloc: Global, count: usize) -> Result<Vec<u8>, AllocError> {
+    let mut text = Vec::new(alloc);
+    text.extend_from_slice(b"#X3D V3.0 utf8\n")?;
+    for _sensor in 0..count {
+        text.extend_from_slice(b"TouchSensor {}\n")?;
+    }
+    Ok(text)
+}
+
+/// 64 TouchSensors in one list are a scene, and 65 are refused.
+#[test]
+fn sensors_among_the_roots(rt: HostRuntime) -> Result<(), Fail> {
+    let cases: [(usize, &[u8]); 2] = [(64, b"good 64 nodes 0 routes\n"), (65, b"refused TooMany")];
+    for (count, wanted) in cases {
+        let text = sensors(rt.alloc(), count)?;
+        is_answered(&rt, rt.alloc(), text.as_slice(), wanted);
+    }
+    Ok(())
+}
+
+/// A job of one pointer at a Box with so many sensors beside it.
+fn push_sensors(count: u32, out: &mut Vec<u8>) -> Result<(), Fail> {
+    out.extend_from_slice(b"point 0 0 0 0 20 0 0 -1\nscene\n#X3D V3.0 utf8\nGroup { children [")?;
+    for _ in 0..count {
+        out.extend_from_slice(b" TouchSensor {}")?;
+    }
+    out.extend_from_slice(b" Shape { geometry Box {} } ] }")?;
+    Ok(())
+}
+
+/// Sensors are numbered from 0, and the pointer comes to each in turn.
+fn push_events(alloc: Global, count: u32, out: &mut Vec<u8>) -> Result<(), Fail> {
+    for sensor in 0..count {
+        let lines = format!(in alloc;
+            "1 0.000001 N{sensor}.isOver TRUE\n1 0.000001 N{sensor}.hitPoint_changed 0 0 1\n"
+        )?;
+        out.extend_from_slice(lines.as_bytes())?;
+    }
+    Ok(())
+}
+
+fn prints_all(rt: &impl Abort, alloc: Global, job: &[u8], wanted: &[u8]) {
+    match printed(alloc, job) {
+        Ok(text) => assert!(rt; text.starts_with(wanted)),
+        Err(failure) => assert!(rt; job.is_empty(), "{failure}"),
+    }
+}
+
+/// 64 sensors may stand in one list, and each is told of the pointer; 65 are refused.
+#[test]
+fn sensors_in_one_list(rt: HostRuntime) -> Result<(), Fail> {
+    let mut job = Vec::new(rt.alloc());
+    push_sensors(64, &mut job)?;
+    let mut wanted = Vec::new(rt.alloc());
+    push_events(rt.alloc(), 64, &mut wanted)?;
+    prints_all(&rt, rt.alloc(), job.as_slice(), wanted.as_slice());
+    job.clear();
+    push_sensors(65, &mut job)?;
+    let failure = printed(rt.alloc(), job.as_slice()).err();
+    let said = failure.map(|failure| refusal_line(&failure));
+    assert!(rt; said.is_some_and(|line| line.as_str() == "refused TooMany"));
     Ok(())
 }

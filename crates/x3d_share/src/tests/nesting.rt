@@ -1,6 +1,6 @@
 //! Texts whose nodes are nested as deep as they may be, and deeper, by hand.
 
-use super::texts::is_refused;
+use super::answers::is_answered;
 use classic_text::read;
 use std::alloc::{AllocError, Global};
 use std::process::Abort;
@@ -22,25 +22,31 @@ fn nested(alloc: Global, levels: usize, last: &[u8]) -> Result<Vec<u8>, AllocErr
     Ok(text)
 }
 
-/// So many Groups around these bytes are a scene, or that is said of them.
+/// So many Groups around these bytes are answered so by a check.
 fn nest(
     rt: &impl Abort,
     alloc: Global,
     levels: usize,
     last: &[u8],
-    wanted: &str,
+    wanted: &[u8],
 ) -> Result<(), AllocError> {
     let text = nested(alloc, levels, last)?;
-    is_refused(rt, alloc, text.as_slice(), wanted);
+    is_answered(rt, alloc, text.as_slice(), wanted);
     Ok(())
 }
 
 /// 64 nested Groups are a scene, and 65 are refused.
 #[test]
 fn limits(rt: HostRuntime) -> Result<(), Fail> {
-    nest(&rt, rt.alloc(), 63, b"Group {}", "")?;
-    nest(&rt, rt.alloc(), 64, b"", "")?;
-    nest(&rt, rt.alloc(), 64, b"Group", "refused TooDeep line 66")?;
+    nest(
+        &rt,
+        rt.alloc(),
+        63,
+        b"Group {}",
+        b"good 64 nodes 0 routes\n",
+    )?;
+    nest(&rt, rt.alloc(), 64, b"", b"good 64 nodes 0 routes\n")?;
+    nest(&rt, rt.alloc(), 64, b"Group", b"refused TooDeep line 66")?;
     Ok(())
 }
 
@@ -48,13 +54,7 @@ fn limits(rt: HostRuntime) -> Result<(), Fail> {
 fn limits_of_use(rt: HostRuntime) -> Result<(), Fail> {
     let deepest = nested(rt.alloc(), 63, b"USE A")?;
     assert!(rt; read(rt.alloc(), deepest.as_slice()).is_ok());
-    let too_deep = nested(rt.alloc(), 64, b"USE A")?;
-    is_refused(
-        &rt,
-        rt.alloc(),
-        too_deep.as_slice(),
-        "refused TooDeep line 66",
-    );
+    nest(&rt, rt.alloc(), 64, b"USE A", b"refused TooDeep line 66")?;
     Ok(())
 }
 
@@ -86,21 +86,21 @@ fn limits_of_prototypes(rt: HostRuntime) -> Result<(), Fail> {
         rt.alloc(),
         63,
         b"A {\nPROTO P [\n] { } }",
-        "refused TooDeep line 66",
+        b"refused TooDeep line 66",
     )?;
     nest(
         &rt,
         rt.alloc(),
         62,
         b"A { PROTO P [ ] {\nB {} } }",
-        "refused TooDeep line 65",
+        b"refused TooDeep line 65",
     )?;
     nest(
         &rt,
         rt.alloc(),
         63,
         b"A { PROTO P [ field SFNode a\nUSE b ] { } }",
-        "refused TooDeep line 66",
+        b"refused TooDeep line 66",
     )?;
     Ok(())
 }

@@ -1,10 +1,8 @@
-//! Schedules by hand: each step, lines that are none, devices that fail, memory that is refused.
+//! Schedules by hand: each step, and memory that is refused.
 
-use super::jobs::failing_reader;
 use share_law::Step;
-use share_program::{JobFault, read_schedule, schedule_of};
+use share_program::{JobFault, schedule_of};
 use std::alloc::{AllocError, Global};
-use std::io::ErrorKind;
 use std::process::Abort;
 use std::test::Fail;
 use test_memory::UsedUp;
@@ -104,58 +102,6 @@ fn any_numerals_make_an_offer(rt: HostRuntime) {
     );
 }
 
-/// Lines that are no step, with their numbers.
-const BAD_SCHEDULES: [(&str, u32); 40] = [
-    ("", 1),
-    ("\n", 1),
-    ("clock 1", 2),
-    ("clock 1\nclock 2\n", 3),
-    ("clock 1\n\nscene\n", 2),
-    ("clock 1\nx\nscene\n", 2),
-    ("Scene\n", 1),
-    ("scene \n", 1),
-    ("clock\nscene\n", 1),
-    ("clock \nscene\n", 1),
-    ("clock  1\nscene\n", 1),
-    ("clock 1 2\nscene\n", 1),
-    ("clock 1e13\nscene\n", 1),
-    (" ask 1\nscene\n", 1),
-    ("ask\nscene\n", 1),
-    ("ask \nscene\n", 1),
-    ("ask 1 \nscene\n", 1),
-    ("ask -1\nscene\n", 1),
-    ("ask +1\nscene\n", 1),
-    ("ask 1.0\nscene\n", 1),
-    ("ask 0x1\nscene\n", 1),
-    ("ask 4294967296\nscene\n", 1),
-    ("packet 1 2\nscene\n", 1),
-    ("give 1\nscene\n", 1),
-    ("give host 1\nscene\n", 1),
-    ("give 1 hosts\nscene\n", 1),
-    ("give 1 host \nscene\n", 1),
-    ("resend 1\nscene\n", 1),
-    ("resend 1  2\nscene\n", 1),
-    ("resend 1 2 3\nscene\n", 1),
-    ("rewind 1 2\nscene\n", 1),
-    ("rewind 1 2 3 4\nscene\n", 1),
-    ("save\nscene\n", 1),
-    ("point 0 1 0 0 0 0 0 -1\nscene\n", 1),
-    ("offer 0 2 0 0 0 0 0 -1\nscene\n", 1),
-    ("offer 0 1 0 0 0 0 0\nscene\n", 1),
-    ("offer 0 1 0 0 0 0 0 0 0\nscene\n", 1),
-    ("offer 0 1 0 0 x 0 0 0\nscene\n", 1),
-    ("offer 0 1 0 0 0 0 0 1e13\nscene\n", 1),
-    ("ask 1\nask 2\nask 3\ngive 1 ghost\nscene\n", 4),
-];
-
-#[test]
-fn bad_schedules_are_refused_at_their_line(rt: HostRuntime) {
-    for (bytes, line) in BAD_SCHEDULES {
-        let fault = schedule_of(rt.alloc(), bytes.as_bytes()).err();
-        assert!(rt; fault == Some(JobFault::BadJob(line)), "{bytes:?}");
-    }
-}
-
 /// Clocks that stand still, a viewer that goes ahead and starts again; not all of it is taken.
 const REHEARSAL: &str = "clock 1
 clock 2
@@ -209,19 +155,6 @@ fn a_rehearsal_is_read(rt: HostRuntime) {
         give(2),
     ];
     is_schedule(&rt, rt.alloc(), REHEARSAL, &steps, REHEARSAL_SCENE);
-}
-
-#[test]
-fn a_schedule_is_read_to_its_end(rt: HostRuntime) {
-    for read in 1..7 {
-        let mut broken = failing_reader(b"ask 7\nscene\nA", read, ErrorKind::BrokenPipe);
-        let fault = read_schedule(rt.alloc(), &mut broken).err();
-        assert!(rt; fault == Some(JobFault::Device), "{read}");
-        let mut late = failing_reader(b"ask 7\nscene\nA", read, ErrorKind::Interrupted);
-        let whole = matches!(&read_schedule(rt.alloc(), &mut late),
-            Ok(s) if s.steps.len() == 1 && s.scene.as_slice() == b"A".as_slice());
-        assert!(rt; whole, "{read}");
-    }
 }
 
 /// So many steps, and an empty scene.

@@ -1,11 +1,11 @@
 //! A stage, its texts and whole jobs with ever more memory left: each is refused as Memory until
 //! there is enough. A stage that was refused at an input is spoiled, and else nothing is changed.
 
-use super::examples::{is_said, printed};
+use super::answers::printed;
 use super::growths::{Call, SCENE, full, loaded, refusals};
 use cascade_core::{ApplyFault, Stage, TextFault};
 use script_boxes::StockScript;
-use share_program::{attach, open_scene};
+use share_program::{attach, open_scene, refusal_line, status_of};
 use std::alloc::Global;
 use std::process::Abort;
 use std::test::Fail;
@@ -137,7 +137,8 @@ fn prints_job(rt: &impl Abort, alloc: Global, job: &[u8], spare: usize) -> bool 
     let Some(failure) = failure else {
         return true;
     };
-    is_said(rt, "the job", &failure, "refused Memory", 5);
+    assert!(rt; refusal_line(&failure).as_str() == "refused Memory");
+    assert!(rt; status_of(&failure) == 5);
     false
 }
 

@@ -1,8 +1,11 @@
-//! What inputs cost, and which are refused.
+//! What inputs cost, which are refused, and boxes that a job is refused for.
 
 use super::growths::loaded;
 use cascade_core::{ApplyFault, Stage, Work};
 use script_boxes::StockScript;
+use script_host::AttachFault;
+use script_stock::{Counter, Gate};
+use share_program::{RunFault, read_job, run};
 use std::alloc::Global;
 use std::process::Abort;
 use std::test::Fail;
@@ -71,4 +74,47 @@ ROUTE B.triggerTrue TO F0.set_boolean\n",
         settles: 0,
     };
     first_work(&rt, rt.alloc(), text.as_slice(), wanted)
+}
+
+const COUNTER: &[u8] = b"scene\n#X3D V3.0 utf8
+Script { url \"x3dshare:counter\" inputOnly SFBool tick field SFInt32 start 5
+field SFInt32 step 2 outputOnly SFInt32 count }";
+
+/// A job of a counter from 5 by steps of 2, with these boxes: nothing is written.
+fn boxes_are_refused(
+    rt: &impl Abort,
+    alloc: Global,
+    boxes: Vec<StockScript>,
+    wanted: AttachFault,
+) -> Result<(), Fail> {
+    let mut reader = COUNTER;
+    let mut out = Vec::new(alloc);
+    let job = read_job(alloc, &mut reader)?;
+    let answer = run(alloc, job, boxes, &mut out);
+    assert!(rt; answer == Err(RunFault::Attach(wanted)) && out.is_empty());
+    Ok(())
+}
+
+/// attach-faults with boxes that aren't those that the scene asks for
+#[test]
+fn refused_boxes(rt: HostRuntime) -> Result<(), Fail> {
+    let alloc = rt.alloc();
+    boxes_are_refused(&rt, alloc, Vec::new(alloc), AttachFault::WrongCount)?;
+    let counter = StockScript::Counter(Counter::new(0, 2));
+    boxes_are_refused(
+        &rt,
+        alloc,
+        vec![in alloc; counter]?,
+        AttachFault::StartMismatch(0),
+    )?;
+    let gate = StockScript::Gate(Gate::new(false));
+    boxes_are_refused(
+        &rt,
+        alloc,
+        vec![in alloc; gate]?,
+        AttachFault::KindDiffers(0),
+    )?;
+    let mut boxes = vec![in alloc; StockScript::Counter(Counter::new(5, 2))]?;
+    boxes.push(StockScript::Gate(Gate::new(false)))?;
+    boxes_are_refused(&rt, alloc, boxes, AttachFault::WrongCount)
 }

@@ -1,11 +1,10 @@
 //! Scenes whose text, as a job with no steps prints it, is the scene of a job again: it prints the
-//! same bytes, or is refused by a limit that the node around the helpers meets. By hand.
+//! same bytes, or is refused by a limit that the node around the helpers meets. And what a text is
+//! formatted as is formatted as itself. By hand.
 
-use super::checks::is_answered;
-use super::examples::printed;
+use super::answers::{is_answered, printed};
 use super::limits::nested;
-use super::scenes::EXAMPLES;
-use share_program::{Failure, JobFault};
+use share_program::{Failure, JobFault, format_text};
 use std::alloc::{AllocError, Global};
 use std::process::Abort;
 use std::test::Fail;
@@ -38,6 +37,100 @@ fn stays(rt: &impl Abort, alloc: Global, scene: &str) {
     }
 }
 
+/// What a scene is formatted as.
+fn formatted(alloc: Global, scene: &[u8]) -> Result<Vec<u8>, JobFault> {
+    let mut reader = scene;
+    let mut out = Vec::new(alloc);
+    format_text(alloc, &mut reader, &mut out)?;
+    Ok(out)
+}
+
+/// What the scene is formatted as is formatted as itself.
+fn is_kept(rt: &impl Abort, alloc: Global, scene: &str) {
+    let Ok(once) = formatted(alloc, scene.as_bytes()) else {
+        assert!(rt; false, "of {scene}");
+        return;
+    };
+    match formatted(alloc, once.as_slice()) {
+        Ok(twice) => assert!(rt; twice.as_slice() == once.as_slice(), "of {scene}"),
+        Err(fault) => assert!(rt; false, "{fault} of {scene}"),
+    }
+}
+
+/// The scenes of examples/.
+const EXAMPLES: [&str; 5] = [
+    "#X3D V3.0 utf8
+# A door that slides open in two seconds.
+DEF Motor TimeSensor { cycleInterval 2 startTime 1 }
+DEF Slide PositionInterpolator { key [ 0, 1 ] keyValue [ 0 0 0, 1 0 0 ] }
+DEF Door Transform {
+  children [ Shape { geometry Box { size 1 2 0.1 } } ]
+}
+ROUTE Motor.fraction_changed TO Slide.set_fraction
+ROUTE Slide.value_changed TO Door.translation
+",
+    "#X3D V3.0 utf8
+PROFILE Interactive
+META \"title\" \"A panel of two lamps, each with its switch\"
+# Timers press the switches until hands can.
+DEF First TimeSensor { cycleInterval 2 loop TRUE startTime 1 }
+DEF Second TimeSensor { cycleInterval 10 startTime 2 }
+DEF PressFirst BooleanTrigger {}
+DEF PressSecond BooleanTrigger {}
+DEF SwitchFirst BooleanToggle {}
+DEF SwitchSecond BooleanToggle { toggle TRUE }
+DEF Panel Group {
+  children [
+    DEF LampFirst PointLight { on FALSE location -1 0 0 }
+    DEF LampSecond PointLight { location 1 0 0 }
+  ]
+}
+ROUTE First.cycleTime TO PressFirst.set_triggerTime
+ROUTE PressFirst.triggerTrue TO SwitchFirst.set_boolean
+ROUTE SwitchFirst.toggle_changed TO LampFirst.set_on
+ROUTE Second.cycleTime TO PressSecond.set_triggerTime
+ROUTE PressSecond.triggerTrue TO SwitchSecond.set_boolean
+ROUTE SwitchSecond.toggle_changed TO LampSecond.set_on
+",
+    "#X3D V3.0 utf8
+# A machine that works for four seconds in three stages, and then says that it is done.
+DEF Timer TimeSensor { cycleInterval 4 startTime 1 }
+DEF Stages IntegerSequencer { key [ 0 0.25 0.75 ] keyValue [ 0 1 2 ] }
+DEF Stage Switch { children [ Group {} Group {} Group {} ] }
+DEF Works PointLight { on FALSE }
+DEF Filter BooleanFilter {}
+DEF Done PointLight { on FALSE }
+ROUTE Timer.fraction_changed TO Stages.set_fraction
+ROUTE Stages.value_changed TO Stage.whichChoice
+ROUTE Timer.isActive TO Works.on
+ROUTE Timer.isActive TO Filter.set_boolean
+ROUTE Filter.inputNegate TO Done.on
+",
+    "#X3D V3.0 utf8
+DEF T TimeSensor { cycleInterval 2 loop TRUE startTime 1 } DEF B BooleanTrigger {} \
+DEF G BooleanToggle {} ROUTE T.cycleTime TO B.set_triggerTime \
+ROUTE B.triggerTrue TO G.set_boolean
+",
+    "#X3D V3.0 utf8
+# A lamp as a prototype: its button is pressed from outside. The words of access are the older ones.
+META \"title\" \"Two lamps, one timer\"
+PROTO Lamp [ eventIn SFBool press, field SFVec3f at 0 0 0, exposedField SFFloat power 1 ] {
+  Transform {
+    translation IS at
+    children [ DEF Light PointLight { on FALSE intensity IS power } ]
+  }
+  DEF Button BooleanToggle { set_boolean IS press }
+  ROUTE Button.toggle TO Light.on
+}
+DEF Hall Lamp { at 0 2.50 0 }
+DEF Desk Lamp { at +1 .75 -1e-1, power 0.5 }
+DEF Timer TimeSensor { cycleInterval 2 loop TRUE startTime 1 }
+DEF Press BooleanTrigger {}
+ROUTE Timer.cycleTime TO Press.set_triggerTime
+ROUTE Press.triggerTrue TO Hall.press ROUTE Press.triggerTrue TO Desk.press
+",
+];
+
 /// Shared nodes, helpers, and Scripts with nodes in what they declare.
 const SCENES: [&str; 3] = [
     "#X3D V3.0 utf8
@@ -62,6 +155,7 @@ ROUTE S.pressed TO S.press",
 fn written_scenes_are_written_again(rt: HostRuntime) {
     for scene in EXAMPLES {
         stays(&rt, rt.alloc(), scene);
+        is_kept(&rt, rt.alloc(), scene);
     }
     for scene in SCENES {
         stays(&rt, rt.alloc(), scene);
