@@ -20,17 +20,16 @@ share:
 	@cd crates/x3d_share && rt run -- --version > /dev/null
 	@scripts/share
 
-# The gate: every proof from nothing, the must-fail edits, the tests; and then the cases and a shared
-# world over UDP by the program that was proved, and the examples.
+# The gate: every proof from nothing, the must-fail edits, the tests; and then, by the program that
+# was proved, the cases, the examples and a shared world over UDP.
 test: definitions
 	@log=$$(mktemp); trap 'rm -f "$$log"' EXIT; \
 	rt ci 2>&1 | tee "$$log"; \
 	scripts/cases; \
-	(cd crates/x3d_share && rt try --cases ../../examples); \
-	if [ -x crates/x3d_share/out/x3d_share ]; then scripts/share || scripts/share || scripts/share; fi; \
+	scripts/share || scripts/share || scripts/share; \
 	tail -n 1 "$$log"
 
-# Proves and builds the program, and runs it on the cases of cases/.
+# Proves and builds the program, and runs it on the cases of cases/ and the examples.
 cases:
 	@cd crates/x3d_share && rt run -- --version > /dev/null
 	@scripts/cases

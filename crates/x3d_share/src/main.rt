@@ -2,8 +2,6 @@
 #![tactic(auto)]
 
 mod nodes;
-#[cfg(test)]
-mod tests;
 
 use crate::nodes::{agree, host, rehearse, view};
 use share_program::{

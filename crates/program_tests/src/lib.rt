@@ -1,0 +1,5 @@
+//! Tests of the program's calls, from the bytes of a job or a scene to its texts. It has nothing else.
+#![tactic(auto)]
+
+#[cfg(test)]
+mod tests;
