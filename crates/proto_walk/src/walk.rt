@@ -15,7 +15,9 @@ use flat_document::{ExpandFault, ExpandFaultKind};
 use std::alloc::Global;
 use std::mem;
 
-/// What is to be done next with these braces. Here alone an `Open` is dropped.
+/// What is to be done next with these braces. Here alone an `Open` is dropped, and by `drop`, whose
+/// proof for a type is made once, where a value that goes out of scope has all that is in it proved
+/// to be dropped in place.
 fn proceed<'a>(
     opened: Open<'a>,
     next: Result<Next<'a>, ExpandFault>,
@@ -29,9 +31,18 @@ fn proceed<'a>(
             Ok(Task::NodeFor(Frame::One(opened, line, field), node))
         }
         Ok(Next::More(listing, node)) => Ok(Task::NodeFor(Frame::Next(opened, listing), node)),
-        Ok(Next::Number(number)) => Ok(Task::Number(number)),
-        Ok(Next::Statements(body)) => Ok(Task::Statements(body)),
-        Err(fault) => Err(fault),
+        Ok(Next::Number(number)) => {
+            drop(opened);
+            Ok(Task::Number(number))
+        }
+        Ok(Next::Statements(body)) => {
+            drop(opened);
+            Ok(Task::Statements(body))
+        }
+        Err(fault) => {
+            drop(opened);
+            Err(fault)
+        }
     }
 }
 
@@ -161,7 +172,8 @@ fn step_on<'a>(
     ensures { StepsOn (comes_to walker.old task.old) result walker.new task.new }
 {
     let begun = mem::replace(task, Task::Number(0));
-    *task = step(alloc, walker, begun)?;
+    let next = step(alloc, walker, begun)?;
+    drop(mem::replace(task, next));
     Ok(())
 }
 
