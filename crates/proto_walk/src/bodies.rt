@@ -16,6 +16,7 @@ use classic_tree::{ProtoText, RouteText, Statement};
 use flat_document::{ExpandFault, ExpandFaultKind};
 use proto_ends::{Spot, Stand};
 use std::alloc::Global;
+use std::mem;
 use x3d_lists::{Items, Text};
 
 /// A body is done: what was in sight outside is in sight again.
@@ -50,7 +51,8 @@ fn leave<'a>(
         &walker.scope,
         &walker.links,
     )?;
-    walker.scope = Box::into_inner(outer);
+    let inner = mem::replace(&mut walker.scope, Box::into_inner(outer));
+    drop(inner);
     stand_in(alloc, walker, name, at, number, inlets)
 }
 
