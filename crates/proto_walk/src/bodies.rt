@@ -105,7 +105,10 @@ fn go_on<'a>(body: Body<'a>, done: Result<(), ExpandFault>) -> Result<Task<'a>, 
 {
     match done {
         Ok(()) => Ok(Task::Statements(body)),
-        Err(fault) => Err(fault),
+        Err(fault) => {
+            drop(body);
+            Err(fault)
+        }
     }
 }
 

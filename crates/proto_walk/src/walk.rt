@@ -15,9 +15,9 @@ use flat_document::{ExpandFault, ExpandFaultKind};
 use std::alloc::Global;
 use std::mem;
 
-/// What is to be done next with these braces. Here alone an `Open` is dropped, and by `drop`, whose
-/// proof for a type is made once, where a value that goes out of scope has all that is in it proved
-/// to be dropped in place.
+/// What is to be done next with these braces. An `Open` that ends here does so by `drop`, whose
+/// proof for a type is made once; where a value goes out of scope, all that is in it is proved to be
+/// dropped in place.
 fn proceed<'a>(
     opened: Open<'a>,
     next: Result<Next<'a>, ExpandFault>,
@@ -202,5 +202,7 @@ pub fn put_node<'a>(
     ensures { Ends (node_does node.now (shown walker.old)) result walker.new }
 {
     let mut task = Task::Node(node);
-    run(alloc, walker, &mut task)
+    let number = run(alloc, walker, &mut task);
+    drop(task);
+    number
 }
