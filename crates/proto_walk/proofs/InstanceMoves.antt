@@ -1,31 +1,31 @@
 -- What an instance has to show as it goes on: from one default value to the next, and from one
 -- statement of its body to the next.
 use Rattle.std.proofs.Math.Path.{fun_ext}
-use Rattle.std.proofs.Common.{◌-◌, Bor, Option, Some, None, ◌≡◌, ℕ, List, [], ◌∷◌, length, Ok, Err, ap, ◌∙◌, refl}
+use Rattle.std.proofs.Common.{◌-◌, Bor, Option, Some, None, ◌≡◌, ℕ, ◌≤◌, List, [], ◌∷◌, ◌++◌, length, Result, Ok, Err, IfOk, ap, sym, ◌∙◌, refl, inl, inr}
 use Rattle.classic_tree.specs.declared.tree.Declaration.{Declaration}
 use Rattle.classic_tree.specs.declared.tree.NodeText.{NodeText}
-use Rattle.classic_tree.specs.declared.tree.Statement.{Statement}
 use Rattle.classic_tree.specs.declared.tree.Statement.TheVariants as statement
 use Rattle.classic_tree.specs.declared.tree.ProtoText.{ProtoText, out-ProtoText}
 use Rattle.classic_tree.specs.declared.tree.RouteText.{RouteText}
 use Rattle.flat_document.specs.declared.fault.ExpandFault.{ExpandFault}
 use Rattle.proto_fields.specs.declared.given.GivenField.{GivenField}
 use Rattle.proto_links.specs.declared.links.Link.{Link}
+use Rattle.proto_walk.specs.declared.frames.Task.{Task}
 use Rattle.proto_walk.specs.declared.frames.Task.TheVariants as task
 use Rattle.proto_walk.specs.declared.frames.Walker.{Walker}
 use Rattle.proto_walk.specs.declared.frames.Filling.{Filling}
 use Rattle.proto_walk.specs.declared.frames.Open.{Open}
 use Rattle.proto_walk.specs.declared.frames.Body.{Body}
 use Rattle.proto_fields.specs.Fields.{Signature, signatures}
-use Rattle.proto_steps.specs.Machine.{Sight, Bound, Walk, Machine, Outcome, through, and_then, ◌>>=◌, pure, Made, no_names, no_defs}
+use Rattle.proto_steps.specs.Machine.{Sight, Bound, Walk, Machine, Outcome, through, and_then, ◌>>=◌, pure, Does, Made, no_names, no_defs}
 use Rattle.proto_fields.specs.Owners.{definition}
 use Rattle.proto_steps.specs.Routes.{wire}
 use Rattle.proto_steps.specs.Meaning.{within as inside_of, begin_body, add_default, add_defaults, stand_in, back, close_instance, hold, in_body, leave, meaning_of, node_does, proto_does, statement_does}
 use Rattle.proto_fields.specs.Owners.{body_of}
 use Rattle.proto_steps.specs.Held.{place_of, owner_in, seen_in, names_of, defs_of, bound_of, in_sight}
-use Rattle.proto_walk.specs.Frames.{fill, body_does, open_does, task_does, task_comes, shown}
+use Rattle.proto_walk.specs.Frames.{fill, body_does, open_does, task_does, task_comes, shown, statements_or, Holds, Keeps, IfHanded}
 use Rattle.proto_steps.proofs.Equations.{and_then-congr, body_map, statement_does-node, statement_does-proto, statement_does-route}
-use Rattle.proto_walk.proofs.Moves.{and_then-assoc}
+use Rattle.proto_walk.proofs.Moves.{and_then-assoc, stays, declares}
 
 -- ---- the default values of an instance begin
 
@@ -94,11 +94,6 @@ body-node ps b next node first w rest same =
     (λ k v. and_then (hold first (Some k) v) (λ f. through (λ s. in_body (statement_does s)) next.rest.now f))
     ∙ and_then-congr _ _ (λ k v. leave-later (seen_in b.outer.value ps) b.line (stand_in b.name.now b.at) (hold first (Some k) v) (λ f. through (λ s. in_body (statement_does s)) next.rest.now f)) (node_does node w))
 
-pub body-proto : (ps : List Bound) (b next : Body) (proto : ProtoText) (first : Option ℕ) (w v : Walk) → b.rest.now ≡ statement.Proto proto ∷ next.rest.now → AreSame b next → proto_does proto w ≡ Ok (tt, v) →
-    body_does ps b first w ≡ body_does ps next first v
-unfolding body_does
-body-proto ps b next proto first w v rest same is = rw (rest, same.0, same.1, same.2, same.3, statement_does-proto proto w, is) refl
-
 route-later : {A : Type 0} (sight : Sight) (line : ℕ) (k : Made → Machine ℕ) (first : Option ℕ) (o : Outcome A) (f : Option ℕ → Machine (Option ℕ)) →
     and_then (back sight (leave line (and_then (and_then (and_then o (λ _. pure None)) (hold first)) f))) k ≡ and_then o (λ _ v. and_then (back sight (leave line (f first v))) k)
 route-later sight line k first (Ok p) f = refl
@@ -110,11 +105,35 @@ unfolding body_does
 body-route ps b next route first w rest same = rw (rest, same.0, same.1, same.2, same.3, statement_does-route route w)
     (route-later (seen_in b.outer.value ps) b.line (stand_in b.name.now b.at) first (wire route w) (λ f. through (λ s. in_body (statement_does s)) next.rest.now f))
 
-pub routed-body : (links more : List Link) (b : Body) (route : RouteText) (w u : Walk) → more ≡ links → wire route w ≡ Ok (tt, u) →
-    and_then (wire route w) (λ _. body_does (in_sight links b.outer.value.sight) b b.first) ≡ body_does (in_sight more b.outer.value.sight) b b.first u
-routed-body links more b route w u same does = rw (same, does) refl
-
-pub body-refused : (ps : List Bound) (b : Body) (proto : ProtoText) (more : List Statement) (first : Option ℕ) (w : Walk) (e : ExpandFault) → b.rest.now ≡ statement.Proto proto ∷ more → proto_does proto w ≡ Err e →
-    body_does ps b first w ≡ Err e
+pub body-proto : (ps : List Bound) (b next : Body) (proto : ProtoText) (first : Option ℕ) (w : Walk) → b.rest.now ≡ statement.Proto proto ∷ next.rest.now → AreSame b next →
+    body_does ps b first w ≡ and_then (proto_does proto w) (λ _. body_does ps next first)
 unfolding body_does
-body-refused ps b proto more first w e rest is = rw (rest, statement_does-proto proto w, is) refl
+body-proto ps b next proto first w rest same = rw (rest, same.0, same.1, same.2, same.3, statement_does-proto proto w)
+    (route-later (seen_in b.outer.value ps) b.line (stand_in b.name.now b.at) first (proto_does proto w) (λ f. through (λ s. in_body (statement_does s)) next.rest.now f))
+
+-- ---- what is left of a body, behind what was done before it
+
+pub handed-by : (o : Outcome (Unit {0})) (done : Result (Unit {0}) ExpandFault) (w : Walk) → Does o done w → IfHanded o done w
+handed-by o (Ok u) w d = d
+handed-by o (Err e) w d = d
+
+-- frames and links stay
+pub goes-on : (o : Outcome (Unit {0})) (old new : Walker) (b : Body) (done : Result (Unit {0}) ExpandFault) (result : Result Task ExpandFault) → Holds old → b.outer.value.sight ≤ length old.links → new.links ≡ old.links → new.frames ≡ old.frames → new.scope.sight ≡ old.scope.sight →
+    IfHanded o done (shown new) → result ≡ statements_or b done → Keeps (and_then o (λ _. body_does (in_sight old.links b.outer.value.sight) b b.first)) old result new
+unfolding task_does
+goes-on o old new b (Ok u) result h sees links frames sight does is =
+    rw is (stays h links (ap (λ v. v.items) frames) (rw sight h.scope) sees
+    (ap (λ p. and_then p (λ _. body_does (in_sight old.links b.outer.value.sight) b b.first)) does
+    ∙ ap (λ (ls : List Link). body_does (in_sight ls b.outer.value.sight) b b.first (shown new)) (sym links)))
+goes-on o old new b (Err e) result h sees links frames sight (inl m) is = rw is (inl m)
+goes-on o old new b (Err e) result h sees links frames sight (inr does) is = rw is (inr (ap (λ p. and_then p (λ _. body_does (in_sight old.links b.outer.value.sight) b b.first)) does))
+
+-- a link more
+pub goes-declared : (o : Outcome (Unit {0})) (old new : Walker) (b : Body) (l : Link) (done : Result (Unit {0}) ExpandFault) (result : Result Task ExpandFault) → Holds old → b.outer.value.sight ≤ length old.links →
+    IfOk done (λ _. new.links ≡ old.links ++ l ∷ []) → IfOk done (λ _. new.frames ≡ old.frames) → IfOk done (λ _. Holds new) →
+    IfHanded o done (shown new) → result ≡ statements_or b done → Keeps (and_then o (λ _. body_does (in_sight old.links b.outer.value.sight) b b.first)) old result new
+unfolding task_does
+goes-declared o old new b l (Ok u) result h sees links frames k does is =
+    rw is (declares l h k links (ap (λ v. v.items) frames) sees (ap (λ p. and_then p (λ _. body_does (in_sight old.links b.outer.value.sight) b b.first)) does))
+goes-declared o old new b l (Err e) result h sees links frames k (inl m) is = rw is (inl m)
+goes-declared o old new b l (Err e) result h sees links frames k (inr does) is = rw is (inr (ap (λ p. and_then p (λ _. body_does (in_sight old.links b.outer.value.sight) b b.first)) does))

@@ -13,6 +13,8 @@ use Rattle.proto_fields.specs.declared.given.GivenField.{GivenField}
 use Rattle.proto_fields.specs.declared.given.Joined.{Joined}
 use Rattle.proto_links.specs.declared.links.Link.{Link}
 use Rattle.proto_walk.specs.declared.frames.Frame.{Frame}
+use Rattle.proto_walk.specs.declared.frames.Frame.TheVariants as frame
+use Rattle.proto_walk.specs.declared.frames.Next.{Next}
 use Rattle.proto_walk.specs.declared.frames.Task.{Task}
 use Rattle.proto_walk.specs.declared.frames.Task.TheVariants as task
 use Rattle.proto_walk.specs.declared.frames.Walker.{Walker}
@@ -26,7 +28,7 @@ use Rattle.proto_steps.specs.Routes.{wire}
 use Rattle.proto_steps.specs.Meaning.{with_place, add_default_value, add_default, add_new, add_taken, add_joined, hand_over, item_does, numbered, add_number, node_does, proto_does}
 use Rattle.proto_fields.specs.Owners.{Place, is_wanted, is_taken, with_field}
 use Rattle.proto_steps.specs.Held.{owner_in, in_sight}
-use Rattle.proto_walk.specs.Frames.{value_does, close_with, open_does, list_does, sight_of, frame_does, frames_do, task_sight, task_does, task_comes, rest_does, comes_to, shown, AllSee, Holds, Fits, Goes, Keeps, Steps, Ends}
+use Rattle.proto_walk.specs.Frames.{value_does, close_with, open_does, list_does, sight_of, frame_does, frames_do, task_sight, task_does, task_comes, rest_does, comes_to, shown, AllSee, Holds, Fits, Goes, Keeps, Leads, Steps, Ends, IsLonger, task_or}
 use Rattle.proto_steps.proofs.Equations.{item_does-proto, and_then-congr}
 use Rattle.proto_steps.proofs.Sights.{reverse-snoc, in_sight-more}
 use Rattle.proto_walk.proofs.Sights.{frames-more}
@@ -184,6 +186,21 @@ pub kept : (links : List Link) (opened next : Open) (line number n : ℕ) (v : R
 unfolding value_does
 kept links opened next line number n v w u keeps is = ap (λ o. and_then o (λ k. open_does (in_sight links opened.sight) opened (with_field line number opened.fields (Some k)))) keeps ∙ fields-in links opened next (with_field line number opened.fields (Some n)) u is
 
+pub leads-as : (o other : Outcome ℕ) (old : Walker) (result : Result Next ExpandFault) (new : Walker) (opened : Open) → o ≡ other → Leads other old result new opened → Leads o old result new opened
+leads-as o other old result new opened is k = rw is k
+
+-- what is to be done next with braces is a task
+pub leads-keeps : (o : Outcome ℕ) (old : Walker) (opened : Open) (next : Result Next ExpandFault) (result : Result Task ExpandFault) (new : Walker) → result ≡ task_or opened next → Leads o old next new opened → Keeps o old result new
+leads-keeps o old opened (Ok next) result new is k = rw is k
+leads-keeps o old opened (Err e) result new is k = rw is k
+
+-- a list with one number more
+pub longer-leads : (old : Walker) (opened : Open) (listing : Listing) (n : ℕ) (result : Result Next ExpandFault) → Holds old → opened.sight ≤ most old → IsLonger listing n result →
+    Leads (frame_does (in_sight old.links opened.sight) (frame.Next opened listing) n (shown old)) old result old opened
+unfolding frame_does task_does list_does
+longer-leads old opened listing n (Ok next) h sees is = rw is (stays h refl refl h.scope sees refl)
+longer-leads old opened listing n (Err e) h sees is = inl is
+
 pub keeps-as : (o other : Outcome ℕ) (old : Walker) (result : Result Task ExpandFault) (new : Walker) → o ≡ other → Keeps other old result new → Keeps o old result new
 keeps-as o other old result new is k = rw is k
 
@@ -273,6 +290,11 @@ left-out links opened next line number name v w none is =
     ∙ fields-in links opened next (with_field line number opened.fields None) w is
 
 -- what was put in meanwhile is in the outcome
+pub leads-from : (o other : Outcome ℕ) (old since : Walker) (result : Result Next ExpandFault) (new : Walker) (opened : Open) → o ≡ other → old.links ≡ since.links → old.frames.items ≡ since.frames.items →
+    Leads other since result new opened → Leads o old result new opened
+leads-from o other old since (Ok next) new opened is links frames k = record { same = rw (is, links, frames) k.same; fits = k.fits }
+leads-from o other old since (Err e) new opened is links frames k = rw is k
+
 pub keeps-from : (o other : Outcome ℕ) (old since : Walker) (result : Result Task ExpandFault) (new : Walker) → o ≡ other → old.links ≡ since.links → old.frames.items ≡ since.frames.items →
     Keeps other since result new → Keeps o old result new
 keeps-from o other old since (Ok next) new is links frames k = record { same = rw (is, links, frames) k.same; fits = k.fits }

@@ -19,6 +19,8 @@ use Rattle.proto_walk.specs.declared.frames.Listing.{Listing}
 use Rattle.proto_walk.specs.declared.frames.Body.{Body}
 use Rattle.proto_walk.specs.declared.frames.Frame.{Frame}
 use Rattle.proto_walk.specs.declared.frames.Frame.TheVariants as frame
+use Rattle.proto_walk.specs.declared.frames.Next.{Next}
+use Rattle.proto_walk.specs.declared.frames.Next.TheVariants as after
 use Rattle.proto_walk.specs.declared.frames.Task.{Task}
 use Rattle.proto_walk.specs.declared.frames.Task.TheVariants as task
 use Rattle.proto_walk.specs.declared.frames.Walker.{Walker}
@@ -97,6 +99,7 @@ frames_do links (f ∷ below) n =
 
 abbrev pub task_sight : Task → ℕ
 task_sight (task.Node node) = 0
+task_sight (task.NodeFor f node) = sight_of f
 task_sight (task.Items opened) = opened.sight
 task_sight (task.List opened listing) = opened.sight
 task_sight (task.Statements b) = b.outer.value.sight
@@ -104,10 +107,35 @@ task_sight (task.Number n) = 0
 
 unfoldable pub task_does : List Bound → Task → Machine ℕ
 task_does protos (task.Node node) = node_does node.now
+task_does protos (task.NodeFor f node) = node_does node.now >>= λ n. frame_does protos f n
 task_does protos (task.Items opened) = open_does protos opened opened.fields
 task_does protos (task.List opened listing) = list_does protos opened listing listing.numbers
 task_does protos (task.Statements b) = body_does protos b b.first
 task_does protos (task.Number n) = pure n
+
+-- what is to be done next with open braces
+abbrev pub task_by : Open → Next → Task
+task_by opened after.Items = task.Items opened
+task_by opened (after.List listing) = task.List opened listing
+task_by opened (after.One line field node) = task.NodeFor (frame.One opened line field) node
+task_by opened (after.More listing node) = task.NodeFor (frame.Next opened listing) node
+task_by opened (after.Number n) = task.Number n
+task_by opened (after.Statements b) = task.Statements b
+
+abbrev pub task_or : Open → Result Next ExpandFault → Result Task ExpandFault
+task_or opened (Ok next) = Ok (task_by opened next)
+task_or opened (Err e) = Err e
+
+-- what is left of a body, if what was done before it went well
+abbrev pub statements_or : Body → Result (Unit {0}) ExpandFault → Result Task ExpandFault
+statements_or b (Ok u) = Ok (task.Statements b)
+statements_or b (Err e) = Err e
+
+-- the list has one number more
+abbrev pub IsLonger : Listing → ℕ → Result Next ExpandFault → Type 0
+IsLonger listing n (Ok next) =
+    next ≡ after.List (record listing { numbers = listing.numbers ++ n ∷ [] })
+IsLonger listing n (Err e) = e ≡ memory
 
 -- ---- the whole
 
@@ -151,6 +179,11 @@ pub record Goes (outcome : Outcome ℕ) (old new : Walker) (next : Task) : Type 
 abbrev pub Keeps : Outcome ℕ → Walker → Result Task ExpandFault → Walker → Type 0
 Keeps outcome old (Ok next) new = Goes outcome old new next
 Keeps outcome old (Err e) new = (e ≡ memory) ⊎ (outcome ≡ Err e)
+
+-- the same of a step between braces, which leaves them as they are afterwards
+abbrev pub Leads : Outcome ℕ → Walker → Result Next ExpandFault → Walker → Open → Type 0
+Leads outcome old (Ok next) new opened = Goes outcome old new (task_by opened next)
+Leads outcome old (Err e) new opened = (e ≡ memory) ⊎ (outcome ≡ Err e)
 
 -- the same of a step by what all comes to
 abbrev pub Steps : Outcome ℕ → Result Task ExpandFault → Walker → Type 0

@@ -6,10 +6,10 @@ ghost use Rattle.proto_steps.specs.Machine.{and_then};
 ghost use Rattle.proto_steps.specs.Meaning as spec;
 ghost use Rattle.proto_steps.specs.Meaning.{node_does};
 ghost use Rattle.proto_walk.specs.Frames as does;
-ghost use Rattle.proto_walk.specs.Frames.{Holds, IsJoined, Keeps, shown};
+ghost use Rattle.proto_walk.specs.Frames.{Holds, IsJoined, Leads, shown};
 
-use crate::frames::{Frame, Listing, Open, Task, Walker};
-use crate::items::with_field;
+use crate::frames::{Listing, Next, Open, Walker};
+use crate::items::add_field;
 use classic_tree::{Given, NodeText, RawValue};
 use flat_document::{ExpandFault, ExpandFaultKind};
 use proto_fields::{GivenFields, Joined};
@@ -21,16 +21,16 @@ use x3d_lists::{Items, Text};
 #[tactic(auto, unfolding(crate::specs::Frames::value_does))]
 pub fn keep_value<'a>(
     walker: &mut Walker<'a>,
-    opened: Open<'a>,
+    opened: &mut Open<'a>,
     line: u32,
     number: usize,
     value: RawValue<u32>,
-) -> Result<Task<'a>, ExpandFault>
+) -> Result<Next<'a>, ExpandFault>
     requires holds { Holds walker.old }
-    requires sees { opened.sight ≤ length walker.old.links }
-    ensures { Keeps (does.value_does
-        (in_sight walker.old.links opened.entry.sight) opened.entry line number value
-        (shown walker.old)) walker.old result walker.new }
+    requires sees { opened.old.sight ≤ length walker.old.links }
+    ensures { Leads (does.value_does
+        (in_sight walker.old.links opened.old.sight) opened.old line number value
+        (shown walker.old)) walker.old result walker.new opened.new }
 {
     let kept = proto_steps::keep(
         &mut walker.store,
@@ -39,39 +39,34 @@ pub fn keep_value<'a>(
         &walker.links,
         value,
     )?;
-    Ok(Task::Items(with_field(opened, line, number, Some(kept))?))
+    add_field(opened, line, number, Some(kept))?;
+    Ok(Next::Items)
 }
 
 /// A field whose items are counted.
 fn put_counted<'a>(
     alloc: Global,
     walker: &mut Walker<'a>,
-    opened: Open<'a>,
+    opened: &mut Open<'a>,
     line: u32,
     number: usize,
     value: &'a RawValue<NodeText>,
-) -> Result<Task<'a>, ExpandFault>
+) -> Result<Next<'a>, ExpandFault>
     requires holds { Holds walker.old }
-    requires sees { opened.sight ≤ length walker.old.links }
-    ensures { Keeps (and_then (spec.numbered node_does value.now (shown walker.old))
+    requires sees { opened.old.sight ≤ length walker.old.links }
+    ensures { Leads (and_then (spec.numbered node_does value.now (shown walker.old))
         (does.value_does
-        (in_sight walker.old.links opened.entry.sight) opened.entry line number)) walker.old
-        result walker.new }
+        (in_sight walker.old.links opened.old.sight) opened.old line number)) walker.old
+        result walker.new opened.new }
 {
     match value {
-        RawValue::Node(node) => {
-            walker.frames.push(Frame::One(opened, line, number))?;
-            Ok(Task::Node(node))
-        }
-        RawValue::NodeList(nodes) => Ok(Task::List(
-            opened,
-            Listing {
-                line,
-                field: number,
-                rest: nodes.as_slice(),
-                numbers: Items::new(alloc),
-            },
-        )),
+        RawValue::Node(node) => Ok(Next::One(line, number, node)),
+        RawValue::NodeList(nodes) => Ok(Next::List(Listing {
+            line,
+            field: number,
+            rest: nodes.as_slice(),
+            numbers: Items::new(alloc),
+        })),
         _ => {
             let value = proto_fields::plain(alloc, value)?;
             keep_value(walker, opened, line, number, value)
@@ -83,17 +78,17 @@ fn put_counted<'a>(
 pub fn put_taken<'a>(
     alloc: Global,
     walker: &mut Walker<'a>,
-    opened: Open<'a>,
+    opened: &mut Open<'a>,
     line: u32,
     number: usize,
     value: &'a RawValue<NodeText>,
-) -> Result<Task<'a>, ExpandFault>
+) -> Result<Next<'a>, ExpandFault>
     requires holds { Holds walker.old }
-    requires sees { opened.sight ≤ length walker.old.links }
-    ensures { Keeps (and_then (spec.add_new node_does line number value.now opened.entry.fields
+    requires sees { opened.old.sight ≤ length walker.old.links }
+    ensures { Leads (and_then (spec.add_new node_does line number value.now opened.old.fields
         (shown walker.old)) (does.open_does
-        (in_sight walker.old.links opened.entry.sight) opened.entry)) walker.old
-        result walker.new }
+        (in_sight walker.old.links opened.old.sight) opened.old)) walker.old
+        result walker.new opened.new }
 {
     proto_steps::count_items(
         &mut walker.store,
@@ -109,24 +104,25 @@ pub fn put_taken<'a>(
 fn put_once<'a>(
     alloc: Global,
     walker: &mut Walker<'a>,
-    opened: Open<'a>,
+    opened: &mut Open<'a>,
     line: u32,
     name: &Text,
     number: usize,
     value: &'a RawValue<NodeText>,
-) -> Result<Task<'a>, ExpandFault>
+) -> Result<Next<'a>, ExpandFault>
     requires holds { Holds walker.old }
-    requires sees { opened.sight ≤ length walker.old.links }
-    ensures { Keeps (and_then (spec.add_taken node_does line name.now
-        (owner_in opened.entry.owner) number value.now opened.entry.fields (shown walker.old))
+    requires sees { opened.old.sight ≤ length walker.old.links }
+    ensures { Leads (and_then (spec.add_taken node_does line name.now
+        (owner_in opened.old.owner) number value.now opened.old.fields (shown walker.old))
         (does.open_does
-        (in_sight walker.old.links opened.entry.sight) opened.entry)) walker.old
-        result walker.new }
+        (in_sight walker.old.links opened.old.sight) opened.old)) walker.old
+        result walker.new opened.new }
 {
     if proto_steps::is_taken(&walker.declarations, &opened.owner, name) {
         return put_taken(alloc, walker, opened, line, number, value);
     }
-    Ok(Task::Items(with_field(opened, line, number, None)?))
+    add_field(opened, line, number, None)?;
+    Ok(Next::Items)
 }
 
 /// The number of the field, if it may be given a value here.
@@ -153,17 +149,17 @@ fn free_field(
 fn put_value<'a>(
     alloc: Global,
     walker: &mut Walker<'a>,
-    opened: Open<'a>,
+    opened: &mut Open<'a>,
     line: u32,
     name: &Text,
     value: &'a RawValue<NodeText>,
-) -> Result<Task<'a>, ExpandFault>
+) -> Result<Next<'a>, ExpandFault>
     requires holds { Holds walker.old }
-    requires sees { opened.sight ≤ length walker.old.links }
-    ensures { Keeps (and_then (spec.add_value node_does line name.now value.now
-        (owner_in opened.entry.owner) opened.entry.fields (shown walker.old)) (does.open_does
-        (in_sight walker.old.links opened.entry.sight) opened.entry)) walker.old
-        result walker.new }
+    requires sees { opened.old.sight ≤ length walker.old.links }
+    ensures { Leads (and_then (spec.add_value node_does line name.now value.now
+        (owner_in opened.old.owner) opened.old.fields (shown walker.old)) (does.open_does
+        (in_sight walker.old.links opened.old.sight) opened.old)) walker.old
+        result walker.new opened.new }
 {
     let number = free_field(&opened.owner, &opened.fields, line, name)?;
     put_once(alloc, walker, opened, line, name, number, value)
@@ -283,38 +279,39 @@ fn hand_over<'a>(
 pub fn put_joined<'a>(
     alloc: Global,
     walker: &mut Walker<'a>,
-    opened: Open<'a>,
+    opened: &mut Open<'a>,
     line: u32,
     field: &Text,
     joined: Joined,
-) -> Result<Task<'a>, ExpandFault>
+) -> Result<Next<'a>, ExpandFault>
     requires holds { Holds walker.old }
-    requires sees { opened.sight ≤ length walker.old.links }
-    ensures { Keeps (and_then (spec.add_joined line field.now
-        (owner_in opened.entry.owner) opened.entry.fields joined (shown walker.old))
+    requires sees { opened.old.sight ≤ length walker.old.links }
+    ensures { Leads (and_then (spec.add_joined line field.now
+        (owner_in opened.old.owner) opened.old.fields joined (shown walker.old))
         (does.open_does
-        (in_sight walker.old.links opened.entry.sight) opened.entry)) walker.old
-        result walker.new }
+        (in_sight walker.old.links opened.old.sight) opened.old)) walker.old
+        result walker.new opened.new }
 {
     hand_over(alloc, walker, &opened.owner, field, joined)?;
-    Ok(Task::Items(with_field(opened, line, joined.number, joined.value)?))
+    add_field(opened, line, joined.number, joined.value)?;
+    Ok(Next::Items)
 }
 
 /// IS: the field has what the instance gives, if it gives something.
 fn put_is<'a>(
     alloc: Global,
     walker: &mut Walker<'a>,
-    opened: Open<'a>,
+    opened: &mut Open<'a>,
     line: u32,
     field: &Text,
     name: &Text,
-) -> Result<Task<'a>, ExpandFault>
+) -> Result<Next<'a>, ExpandFault>
     requires holds { Holds walker.old }
-    requires sees { opened.sight ≤ length walker.old.links }
-    ensures { Keeps (and_then (spec.add_is line field.now name.now
-        (owner_in opened.entry.owner) opened.entry.fields (shown walker.old)) (does.open_does
-        (in_sight walker.old.links opened.entry.sight) opened.entry)) walker.old
-        result walker.new }
+    requires sees { opened.old.sight ≤ length walker.old.links }
+    ensures { Leads (and_then (spec.add_is line field.now name.now
+        (owner_in opened.old.owner) opened.old.fields (shown walker.old)) (does.open_does
+        (in_sight walker.old.links opened.old.sight) opened.old)) walker.old
+        result walker.new opened.new }
 {
     let joined = joined(walker, &opened.owner, &opened.fields, line, field, name)?;
     put_joined(alloc, walker, opened, line, field, joined)
@@ -323,20 +320,20 @@ fn put_is<'a>(
 pub fn put_given<'a>(
     alloc: Global,
     walker: &mut Walker<'a>,
-    opened: Open<'a>,
+    opened: &mut Open<'a>,
     line: u32,
     name: &Text,
     given: &'a Given<NodeText>,
-) -> Result<Task<'a>, ExpandFault>
+) -> Result<Next<'a>, ExpandFault>
     requires holds { Holds walker.old }
-    requires sees { opened.sight ≤ length walker.old.links }
-    ensures { Keeps (and_then (spec.add_given node_does line name.now given.now
-        (owner_in opened.entry.owner) opened.entry.fields (shown walker.old)) (does.open_does
-        (in_sight walker.old.links opened.entry.sight) opened.entry)) walker.old
-        result walker.new }
+    requires sees { opened.old.sight ≤ length walker.old.links }
+    ensures { Leads (and_then (spec.add_given node_does line name.now given.now
+        (owner_in opened.old.owner) opened.old.fields (shown walker.old)) (does.open_does
+        (in_sight walker.old.links opened.old.sight) opened.old)) walker.old
+        result walker.new opened.new }
 {
     match given {
-        Given::Nothing => Ok(Task::Items(opened)),
+        Given::Nothing => Ok(Next::Items),
         Given::Value(value) => put_value(alloc, walker, opened, line, name, value),
         Given::Is(other) => put_is(alloc, walker, opened, line, name, other),
     }

@@ -2,18 +2,21 @@
 
 ghost use Rattle.std.specs.Prelude.{◌≡◌, ◌≤◌, [], length};
 ghost use Rattle.proto_steps.specs.Held.{in_sight};
+ghost use Rattle.proto_steps.specs.Machine as machine;
 ghost use Rattle.proto_steps.specs.Machine.{and_then};
 ghost use Rattle.proto_steps.specs.Meaning as spec;
+ghost use Rattle.proto_steps.specs.Meaning.{proto_does};
 ghost use Rattle.proto_steps.specs.Routes.{wire};
 ghost use Rattle.proto_walk.specs.Frames as does;
 ghost use Rattle.proto_walk.specs.Frames.{Holds, Keeps, shown};
 
 use crate::frames::{Body, Frame, Task, Walker};
 use crate::met::{declare, meet_route};
-use classic_tree::{RouteText, Statement};
+use classic_tree::{ProtoText, RouteText, Statement};
 use flat_document::{ExpandFault, ExpandFaultKind};
 use proto_ends::{Spot, Stand};
 use std::alloc::Global;
+use std::mem;
 use x3d_lists::{Items, Text};
 
 /// A body is done: what was in sight outside is in sight again.
@@ -48,7 +51,8 @@ fn leave<'a>(
         &walker.scope,
         &walker.links,
     )?;
-    walker.scope = Box::into_inner(outer);
+    let inner = mem::replace(&mut walker.scope, Box::into_inner(outer));
+    drop(inner);
     stand_in(alloc, walker, name, at, number, inlets)
 }
 
@@ -95,8 +99,20 @@ fn stand_in<'a>(
     Ok(Task::Number(number))
 }
 
+/// What is left of the body, if what was done before it went well.
+fn go_on<'a>(body: Body<'a>, done: Result<(), ExpandFault>) -> Result<Task<'a>, ExpandFault>
+    ensures { result ≡ does.statements_or body.entry done }
+{
+    match done {
+        Ok(()) => Ok(Task::Statements(body)),
+        Err(fault) => {
+            drop(body);
+            Err(fault)
+        }
+    }
+}
+
 /// A ROUTE of a body.
-#[tactic(auto, unfolding(crate::specs::Frames::task_does))]
 fn next_route<'a>(
     alloc: Global,
     walker: &mut Walker<'a>,
@@ -109,8 +125,25 @@ fn next_route<'a>(
         (in_sight walker.old.links body.entry.outer.value.sight) body.entry body.entry.first))
         walker.old result walker.new }
 {
-    meet_route(alloc, walker, route)?;
-    Ok(Task::Statements(body))
+    let met = meet_route(alloc, walker, route);
+    go_on(body, met)
+}
+
+/// A PROTO of a body.
+fn next_proto<'a>(
+    alloc: Global,
+    walker: &mut Walker<'a>,
+    body: Body<'a>,
+    proto: &'a ProtoText,
+) -> Result<Task<'a>, ExpandFault>
+    requires holds { Holds walker.old }
+    requires sees { body.outer.value.sight ≤ length walker.old.links }
+    ensures { Keeps (and_then (proto_does proto.now (shown walker.old)) (λ _. does.body_does
+        (in_sight walker.old.links body.entry.outer.value.sight) body.entry body.entry.first))
+        walker.old result walker.new }
+{
+    let declared = declare(alloc, walker, proto);
+    go_on(body, declared)
 }
 
 #[tactic(auto, using(proto_steps::proofs::Equations::tree_does), unfolding(crate::specs::Frames::body_does))]
@@ -131,16 +164,28 @@ pub fn next_statement<'a>(
     let mut body = body;
     body.rest = rest;
     match statement {
-        Statement::Node(node) => {
-            walker.frames.push(Frame::Inside(body))?;
-            Ok(Task::Node(node))
-        }
+        Statement::Node(node) => Ok(Task::NodeFor(Frame::Inside(body), node)),
         Statement::Route(route) => next_route(alloc, walker, body, route),
-        Statement::Proto(proto) => {
-            declare(alloc, walker, proto)?;
-            Ok(Task::Statements(body))
-        }
+        Statement::Proto(proto) => next_proto(alloc, walker, body, proto),
     }
+}
+
+/// A node of a body that isn't its first is a helper.
+fn help<'a>(walker: &mut Walker<'a>, body: Body<'a>, number: u32) -> Result<Task<'a>, ExpandFault>
+    requires holds { Holds walker.old }
+    requires sees { body.outer.value.sight ≤ length walker.old.links }
+    ensures { Keeps (and_then (machine.help number (shown walker.old)) (λ _. does.body_does
+        (in_sight walker.old.links body.entry.outer.value.sight) body.entry body.entry.first))
+        walker.old result walker.new }
+{
+    let helped = proto_steps::help(
+        &mut walker.store,
+        &walker.declarations,
+        &walker.scope,
+        &walker.links,
+        number,
+    );
+    go_on(body, helped)
 }
 
 /// The body has the node: its first stands for the instance, the others are helpers.
@@ -161,15 +206,6 @@ pub fn hold<'a>(
             body.first = Some(number);
             Ok(Task::Statements(body))
         }
-        Some(_first) => {
-            proto_steps::help(
-                &mut walker.store,
-                &walker.declarations,
-                &walker.scope,
-                &walker.links,
-                number,
-            )?;
-            Ok(Task::Statements(body))
-        }
+        Some(_first) => help(walker, body, number),
     }
 }

@@ -6,10 +6,10 @@ ghost use Rattle.proto_steps.specs.Machine.{and_then};
 ghost use Rattle.proto_steps.specs.Meaning as spec;
 ghost use Rattle.proto_steps.specs.Meaning.{node_does};
 ghost use Rattle.proto_walk.specs.Frames as does;
-ghost use Rattle.proto_walk.specs.Frames.{Holds, Keeps, shown};
+ghost use Rattle.proto_walk.specs.Frames.{Holds, Leads, shown};
 
 use crate::between::put_taken;
-use crate::frames::{Body, Filling, Open, Task, Walker};
+use crate::frames::{Body, Filling, Next, Open, Walker};
 use classic_tree::{Declaration, Given, NodeText};
 use flat_document::{ExpandFault, ExpandFaultKind};
 use proto_fields::{GivenFields, Interface};
@@ -22,64 +22,48 @@ use std::mem;
 pub fn open_defaults<'a>(
     alloc: Global,
     walker: &mut Walker<'a>,
-    opened: Open<'a>,
+    opened: &mut Open<'a>,
     instance: Instance<'a>,
-) -> Result<Task<'a>, ExpandFault>
+) -> Result<Next<'a>, ExpandFault>
     requires holds { Holds walker.old }
-    requires sees { opened.sight ≤ length walker.old.links }
-    ensures { Keeps (spec.close_instance opened.entry.name.now (owner_in opened.entry.owner).at
+    requires sees { opened.old.sight ≤ length walker.old.links }
+    ensures { Leads (spec.close_instance opened.old.name.now (owner_in opened.old.owner).at
         (bound_of instance.entry.proto.now instance.entry.within
-        (in_sight walker.old.links opened.entry.sight)) opened.entry.fields
-        (shown walker.old)) walker.old result walker.new }
+        (in_sight walker.old.links opened.old.sight)) opened.old.fields
+        (shown walker.old)) walker.old result walker.new opened.new }
 {
-    let Open {
-        line,
-        name,
-        owner,
-        sight,
-        rest,
-        fields,
-        ..
-    } = opened;
     let Placed { proto, within, .. } = instance.placed();
     let inside = proto_fields::body_of(&walker.declarations, within, &proto.name);
-    let inner = proto_steps::empty_scope(alloc, sight, inside);
+    let inner = proto_steps::empty_scope(alloc, opened.sight, inside);
     let outer = mem::replace(&mut walker.scope, inner);
-    let before = outer.sight;
-    let kept = Box::new(alloc, outer)?;
-    Ok(Task::Items(Open {
-        line,
-        name,
-        owner,
-        sight: before,
-        rest,
-        fields,
-        filling: Some(Filling {
-            instance,
-            rest: proto.interface.as_slice(),
-            outer: kept,
-        }),
-    }))
+    opened.sight = outer.sight;
+    let outer = Box::new(alloc, outer)?;
+    opened.filling = Some(Filling {
+        instance,
+        rest: proto.interface.as_slice(),
+        outer,
+    });
+    Ok(Next::Items)
 }
 
 /// The default value of a declaration.
 fn put_default_value<'a>(
     alloc: Global,
     walker: &mut Walker<'a>,
-    opened: Open<'a>,
+    opened: &mut Open<'a>,
     number: usize,
     declaration: &'a Declaration<NodeText>,
-) -> Result<Task<'a>, ExpandFault>
+) -> Result<Next<'a>, ExpandFault>
     requires holds { Holds walker.old }
-    requires sees { opened.sight ≤ length walker.old.links }
-    ensures { Keeps (and_then
+    requires sees { opened.old.sight ≤ length walker.old.links }
+    ensures { Leads (and_then
         (spec.add_default_value node_does declaration.now.line number declaration.now.given
-        opened.entry.fields (shown walker.old)) (does.open_does
-        (in_sight walker.old.links opened.entry.sight) opened.entry)) walker.old
-        result walker.new }
+        opened.old.fields (shown walker.old)) (does.open_does
+        (in_sight walker.old.links opened.old.sight) opened.old)) walker.old
+        result walker.new opened.new }
 {
     match &declaration.given {
-        Given::Nothing => Ok(Task::Items(opened)),
+        Given::Nothing => Ok(Next::Items),
         Given::Value(value) => { put_taken(alloc, walker, opened, declaration.line, number, value) }
         Given::Is(_name) => Err(ExpandFaultKind::BadIs.on_line(declaration.line)),
     }
@@ -89,18 +73,18 @@ fn put_default_value<'a>(
 fn put_default<'a>(
     alloc: Global,
     walker: &mut Walker<'a>,
-    opened: Open<'a>,
+    opened: &mut Open<'a>,
     placed: Placed<'a>,
     number: usize,
     declaration: &'a Declaration<NodeText>,
-) -> Result<Task<'a>, ExpandFault>
+) -> Result<Next<'a>, ExpandFault>
     requires holds { Holds walker.old }
-    requires sees { opened.sight ≤ length walker.old.links }
-    ensures { Keeps (and_then (spec.add_default node_does
+    requires sees { opened.old.sight ≤ length walker.old.links }
+    ensures { Leads (and_then (spec.add_default node_does
         (place_of placed.entry.proto.now placed.entry.within) number declaration.now
-        opened.entry.fields (shown walker.old)) (does.open_does
-        (in_sight walker.old.links opened.entry.sight) opened.entry)) walker.old
-        result walker.new }
+        opened.old.fields (shown walker.old)) (does.open_does
+        (in_sight walker.old.links opened.old.sight) opened.old)) walker.old
+        result walker.new opened.new }
 {
     if proto_fields::is_wanted(
         &walker.declarations,
@@ -112,7 +96,7 @@ fn put_default<'a>(
     ) {
         return put_default_value(alloc, walker, opened, number, declaration);
     }
-    Ok(Task::Items(opened))
+    Ok(Next::Items)
 }
 
 /// What the body of an instance sees of it.
@@ -134,36 +118,31 @@ fn seeing<'a>(outer: Box<Scope<'a>>, sight: usize) -> Box<Scope<'a>>
 
 /// The default values are done: the body begins.
 fn start_body<'a>(
+    alloc: Global,
     walker: &mut Walker<'a>,
-    opened: Open<'a>,
+    opened: &mut Open<'a>,
     filling: Filling<'a>,
-) -> Result<Task<'a>, ExpandFault>
+) -> Result<Next<'a>, ExpandFault>
     requires holds { Holds walker.old }
-    requires sees { opened.sight ≤ length walker.old.links }
+    requires sees { opened.old.sight ≤ length walker.old.links }
     requires done { filling.rest.now ≡ [] }
-    ensures { Keeps (does.fill
-        (in_sight walker.old.links opened.entry.sight) opened.entry filling.entry
-        opened.entry.fields (shown walker.old)) walker.old result walker.new }
+    ensures { Leads (does.fill
+        (in_sight walker.old.links opened.old.sight) opened.old filling.entry
+        opened.old.fields (shown walker.old)) walker.old result walker.new opened.new }
 {
-    let Open {
-        name,
-        owner,
-        sight,
-        fields: given,
-        ..
-    } = opened;
     let Filling {
         instance,
         outer,
         ..
     } = filling;
     let Placed { proto, .. } = instance.placed();
-    let outer = seeing(outer, sight);
+    let outer = seeing(outer, opened.sight);
+    let given = mem::replace(&mut opened.fields, GivenFields::few(alloc));
     give(&mut walker.scope, given, instance.into_interface());
-    Ok(Task::Statements(Body {
+    Ok(Next::Statements(Body {
         line: proto.line,
-        name,
-        at: proto_steps::place(&owner),
+        name: opened.name,
+        at: proto_steps::place(&opened.owner),
         rest: proto.body.as_slice(),
         first: None,
         outer,
@@ -175,17 +154,17 @@ fn start_body<'a>(
 fn next_filling<'a>(
     alloc: Global,
     walker: &mut Walker<'a>,
-    opened: Open<'a>,
+    opened: &mut Open<'a>,
     filling: Filling<'a>,
-) -> Result<Task<'a>, ExpandFault>
+) -> Result<Next<'a>, ExpandFault>
     requires holds { Holds walker.old }
-    requires sees { opened.sight ≤ length walker.old.links }
-    ensures { Keeps (does.fill
-        (in_sight walker.old.links opened.entry.sight) opened.entry filling.entry
-        opened.entry.fields (shown walker.old)) walker.old result walker.new }
+    requires sees { opened.old.sight ≤ length walker.old.links }
+    ensures { Leads (does.fill
+        (in_sight walker.old.links opened.old.sight) opened.old filling.entry
+        opened.old.fields (shown walker.old)) walker.old result walker.new opened.new }
 {
     let Some((declaration, rest)) = filling.rest.split_first() else {
-        return start_body(walker, opened, filling);
+        return start_body(alloc, walker, opened, filling);
     };
     let Filling {
         instance,
@@ -194,7 +173,6 @@ fn next_filling<'a>(
     } = filling;
     let placed = instance.placed();
     let number = placed.proto.interface.len().saturating_sub(rest.len() + 1);
-    let mut opened = opened;
     opened.filling = Some(Filling {
         instance,
         rest,
@@ -207,17 +185,16 @@ fn next_filling<'a>(
 pub fn next_default<'a>(
     alloc: Global,
     walker: &mut Walker<'a>,
-    opened: Open<'a>,
-) -> Result<Task<'a>, ExpandFault>
+    opened: &mut Open<'a>,
+) -> Result<Next<'a>, ExpandFault>
     requires holds { Holds walker.old }
-    requires sees { opened.sight ≤ length walker.old.links }
-    ensures { Keeps (does.open_does
-        (in_sight walker.old.links opened.entry.sight) opened.entry opened.entry.fields
-        (shown walker.old)) walker.old result walker.new }
+    requires sees { opened.old.sight ≤ length walker.old.links }
+    ensures { Leads (does.open_does
+        (in_sight walker.old.links opened.old.sight) opened.old opened.old.fields
+        (shown walker.old)) walker.old result walker.new opened.new }
 {
-    let mut opened = opened;
     match mem::replace(&mut opened.filling, None) {
-        None => Ok(Task::Items(opened)),
+        None => Ok(Next::Items),
         Some(filling) => next_filling(alloc, walker, opened, filling),
     }
 }

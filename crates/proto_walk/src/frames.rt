@@ -64,10 +64,30 @@ pub enum Frame<'a> {
     Inside(Body<'a>),
 }
 
+/// What is to be done next with open braces. It owns no `Open`, which the steps between braces
+/// borrow: where it is owned beside a `?`, proving that it is dropped there costs seconds each.
+#[derive(Drop)]
+pub enum Next<'a> {
+    /// What is left between the braces.
+    Items,
+    /// This list.
+    List(Listing<'a>),
+    /// The node, which is then the value of the field of that line and number.
+    One(u32, usize, &'a NodeText),
+    /// The node, which is then the next of the list.
+    More(Listing<'a>, &'a NodeText),
+    /// The braces are closed. This is the number of what they came to.
+    Number(u32),
+    /// The braces of an instance are closed. This is its body.
+    Statements(Body<'a>),
+}
+
 /// What is to be done next. It gives the number of a node to the last frame.
 #[derive(Drop)]
 pub enum Task<'a> {
     Node(&'a NodeText),
+    /// A node whose number this frame waits for.
+    NodeFor(Frame<'a>, &'a NodeText),
     Items(Open<'a>),
     List(Open<'a>, Listing<'a>),
     Statements(Body<'a>),

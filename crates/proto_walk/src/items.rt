@@ -7,9 +7,9 @@ ghost use Rattle.proto_steps.specs.Machine.{and_then, pure};
 ghost use Rattle.proto_steps.specs.Meaning as spec;
 ghost use Rattle.proto_steps.specs.Routes.{wire};
 ghost use Rattle.proto_walk.specs.Frames as does;
-ghost use Rattle.proto_walk.specs.Frames.{Holds, Keeps, shown};
+ghost use Rattle.proto_walk.specs.Frames.{Holds, Leads, shown};
 
-use crate::frames::{Frame, Listing, Open, Task, Walker};
+use crate::frames::{Listing, Next, Open, Walker};
 use crate::met::{declare, meet_route};
 use crate::{between, filling, scripts};
 use classic_tree::{BodyItem, RawValue, RouteText};
@@ -21,23 +21,21 @@ use std::alloc::{AllocError, Global};
 use x3d_values::NodeType;
 
 /// One field more.
-pub fn with_field<'a>(
-    opened: Open<'a>,
+pub fn add_field(
+    opened: &mut Open<'_>,
     line: u32,
     number: usize,
     value: Option<usize>,
-) -> Result<Open<'a>, AllocError>
-    ensures { IfOk result (λ o. o ≡ record opened.entry {
-      fields = owners.with_field line number opened.entry.fields value;
+) -> Result<(), AllocError>
+    ensures { IfOk result (λ _. opened.new ≡ record opened.old {
+      fields = owners.with_field line number opened.old.fields value;
     }) }
 {
-    let mut opened = opened;
     opened.fields.push(GivenField {
         line,
         number,
         value,
-    })?;
-    Ok(opened)
+    })
 }
 
 /// A node whose braces close is put in.
@@ -49,12 +47,12 @@ fn put_closed<'a>(
     node_type: NodeType,
     items: &[BodyItem],
     at: usize,
-) -> Result<Task<'a>, ExpandFault>
+) -> Result<Next<'a>, ExpandFault>
     requires holds { Holds walker.old }
-    ensures { Keeps
+    ensures { Leads
         (spec.close_node opened.now.line opened.now.name.now at node_type
         (spec.declared_in items.now) opened.now.fields (shown walker.old)) walker.old result
-        walker.new }
+        walker.new opened.now }
 {
     let number = proto_steps::put(
         alloc,
@@ -85,23 +83,23 @@ fn put_closed<'a>(
         at,
         number,
     )?;
-    Ok(Task::Number(number))
+    Ok(Next::Number(number))
 }
 
 fn close<'a>(
     alloc: Global,
     walker: &mut Walker<'a>,
-    opened: Open<'a>,
-) -> Result<Task<'a>, ExpandFault>
+    opened: &mut Open<'a>,
+) -> Result<Next<'a>, ExpandFault>
     requires holds { Holds walker.old }
-    requires sees { opened.sight ≤ length walker.old.links }
-    ensures { Keeps (does.close_with
-        (in_sight walker.old.links opened.entry.sight) opened.entry opened.entry.fields
-        (shown walker.old)) walker.old result walker.new }
+    requires sees { opened.old.sight ≤ length walker.old.links }
+    ensures { Leads (does.close_with
+        (in_sight walker.old.links opened.old.sight) opened.old opened.old.fields
+        (shown walker.old)) walker.old result walker.new opened.new }
 {
     match &opened.owner {
         Owner::Node(node_type, braces, at) => {
-            put_closed(alloc, walker, &opened, *node_type, braces.as_slice(), *at)
+            put_closed(alloc, walker, opened, *node_type, braces.as_slice(), *at)
         }
         Owner::Instance(instance) => {
             let instance = instance.share()?;
@@ -115,18 +113,18 @@ fn close<'a>(
 fn put_route<'a>(
     alloc: Global,
     walker: &mut Walker<'a>,
-    opened: Open<'a>,
+    opened: &mut Open<'a>,
     route: &RouteText,
-) -> Result<Task<'a>, ExpandFault>
+) -> Result<Next<'a>, ExpandFault>
     requires holds { Holds walker.old }
-    requires sees { opened.sight ≤ length walker.old.links }
-    ensures { Keeps (and_then (and_then (wire route.now (shown walker.old))
-        (λ _. pure opened.entry.fields)) (does.open_does
-        (in_sight walker.old.links opened.entry.sight) opened.entry)) walker.old
-        result walker.new }
+    requires sees { opened.old.sight ≤ length walker.old.links }
+    ensures { Leads (and_then (and_then (wire route.now (shown walker.old))
+        (λ _. pure opened.old.fields)) (does.open_does
+        (in_sight walker.old.links opened.old.sight) opened.old)) walker.old
+        result walker.new opened.new }
 {
     meet_route(alloc, walker, route)?;
-    Ok(Task::Items(opened))
+    Ok(Next::Items)
 }
 
 /// What stands next between braces.
@@ -134,15 +132,15 @@ fn put_route<'a>(
 fn put_item<'a>(
     alloc: Global,
     walker: &mut Walker<'a>,
-    opened: Open<'a>,
+    opened: &mut Open<'a>,
     item: &'a BodyItem,
-) -> Result<Task<'a>, ExpandFault>
+) -> Result<Next<'a>, ExpandFault>
     requires holds { Holds walker.old }
-    requires sees { opened.sight ≤ length walker.old.links }
-    ensures { Keeps (and_then (spec.item_does item.now
-        (owner_in opened.entry.owner) opened.entry.fields (shown walker.old)) (does.open_does
-        (in_sight walker.old.links opened.entry.sight) opened.entry)) walker.old
-        result walker.new }
+    requires sees { opened.old.sight ≤ length walker.old.links }
+    ensures { Leads (and_then (spec.item_does item.now
+        (owner_in opened.old.owner) opened.old.fields (shown walker.old)) (does.open_does
+        (in_sight walker.old.links opened.old.sight) opened.old)) walker.old
+        result walker.new opened.new }
 {
     match item {
         BodyItem::Field(line, name, given) => {
@@ -154,7 +152,7 @@ fn put_item<'a>(
         BodyItem::Route(route) => put_route(alloc, walker, opened, route),
         BodyItem::Proto(proto) => {
             declare(alloc, walker, proto)?;
-            Ok(Task::Items(opened))
+            Ok(Next::Items)
         }
     }
 }
@@ -163,13 +161,13 @@ fn put_item<'a>(
 pub fn next_item<'a>(
     alloc: Global,
     walker: &mut Walker<'a>,
-    opened: Open<'a>,
-) -> Result<Task<'a>, ExpandFault>
+    opened: &mut Open<'a>,
+) -> Result<Next<'a>, ExpandFault>
     requires holds { Holds walker.old }
-    requires sees { opened.sight ≤ length walker.old.links }
-    ensures { Keeps (does.open_does
-        (in_sight walker.old.links opened.entry.sight) opened.entry opened.entry.fields
-        (shown walker.old)) walker.old result walker.new }
+    requires sees { opened.old.sight ≤ length walker.old.links }
+    ensures { Leads (does.open_does
+        (in_sight walker.old.links opened.old.sight) opened.old opened.old.fields
+        (shown walker.old)) walker.old result walker.new opened.new }
 {
     if opened.filling.is_some() {
         return filling::next_default(alloc, walker, opened);
@@ -177,7 +175,6 @@ pub fn next_item<'a>(
     let Some((item, rest)) = opened.rest.split_first() else {
         return close(alloc, walker, opened);
     };
-    let mut opened = opened;
     opened.rest = rest;
     put_item(alloc, walker, opened, item)
 }
@@ -185,14 +182,14 @@ pub fn next_item<'a>(
 #[tactic(auto, unfolding(crate::specs::Frames::list_does))]
 pub fn next_in_list<'a>(
     walker: &mut Walker<'a>,
-    opened: Open<'a>,
+    opened: &mut Open<'a>,
     listing: Listing<'a>,
-) -> Result<Task<'a>, ExpandFault>
+) -> Result<Next<'a>, ExpandFault>
     requires holds { Holds walker.old }
-    requires sees { opened.sight ≤ length walker.old.links }
-    ensures { Keeps (does.list_does
-        (in_sight walker.old.links opened.entry.sight) opened.entry listing.entry
-        listing.entry.numbers (shown walker.old)) walker.old result walker.new }
+    requires sees { opened.old.sight ≤ length walker.old.links }
+    ensures { Leads (does.list_does
+        (in_sight walker.old.links opened.old.sight) opened.old listing.entry
+        listing.entry.numbers (shown walker.old)) walker.old result walker.new opened.new }
 {
     let Some((node, rest)) = listing.rest.split_first() else {
         let Listing {
@@ -206,6 +203,14 @@ pub fn next_in_list<'a>(
     };
     let mut listing = listing;
     listing.rest = rest;
-    walker.frames.push(Frame::Next(opened, listing))?;
-    Ok(Task::Node(node))
+    Ok(Next::More(listing, node))
+}
+
+/// The list has one number more.
+pub fn longer<'a>(listing: Listing<'a>, number: u32) -> Result<Next<'a>, ExpandFault>
+    ensures { does.IsLonger listing.entry number result }
+{
+    let mut listing = listing;
+    listing.numbers.push(number)?;
+    Ok(Next::List(listing))
 }

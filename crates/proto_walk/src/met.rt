@@ -1,6 +1,6 @@
 //! PROTOs and ROUTEs that are met.
 
-ghost use Rattle.std.specs.Prelude.{◌≡◌, ◌++◌, ◌∷◌, [], Ok, IfOk};
+ghost use Rattle.std.specs.Prelude.{◌≡◌, ◌++◌, ◌∷◌, [], IfOk};
 ghost use Rattle.proto_steps.specs.Meaning.{proto_does};
 ghost use Rattle.proto_steps.specs.Routes.{wire};
 ghost use Rattle.proto_walk.specs.Frames.{Holds, IfHanded, shown};
@@ -9,17 +9,16 @@ use crate::frames::Walker;
 use classic_tree::{ProtoText, RouteText};
 use flat_document::ExpandFault;
 use proto_links::Link;
-use std::alloc::{AllocError, Global};
+use std::alloc::Global;
 
 /// A prototype comes in sight.
 pub fn declare<'a>(
     alloc: Global,
     walker: &mut Walker<'a>,
     proto: &'a ProtoText,
-) -> Result<(), AllocError>
+) -> Result<(), ExpandFault>
     requires { Holds walker.old }
-    ensures does { IfOk result (λ u. proto_does proto.now (shown walker.old) ≡ Ok
-        (u, shown walker.new)) }
+    ensures does { IfHanded (proto_does proto.now (shown walker.old)) result (shown walker.new) }
     ensures more { IfOk result (λ _. walker.new.links
         ≡ walker.old.links ++ record {
           proto = proto.entry;

@@ -8,9 +8,9 @@ ghost use Rattle.proto_steps.specs.Machine.{and_then, pure};
 ghost use Rattle.proto_steps.specs.Meaning as spec;
 ghost use Rattle.proto_steps.specs.Meaning.{node_does};
 ghost use Rattle.proto_walk.specs.Frames as does;
-ghost use Rattle.proto_walk.specs.Frames.{Holds, IsJoined, Keeps, shown};
+ghost use Rattle.proto_walk.specs.Frames.{Holds, IsJoined, Leads, shown};
 
-use crate::frames::{Open, Task, Walker};
+use crate::frames::{Next, Open, Walker};
 use crate::{between, items};
 use classic_tree::{Declaration, Given, NodeText, RawValue};
 use flat_document::{ExpandFault, ExpandFaultKind};
@@ -67,39 +67,40 @@ fn declared_joined(
 /// A declared field without a value takes its place.
 fn put_plain<'a>(
     walker: &mut Walker<'a>,
-    opened: Open<'a>,
+    opened: &mut Open<'a>,
     line: u32,
     name: &Text,
-) -> Result<Task<'a>, ExpandFault>
+) -> Result<Next<'a>, ExpandFault>
     requires holds { Holds walker.old }
-    requires sees { opened.sight ≤ length walker.old.links }
-    ensures { Keeps (and_then (spec.with_place line (owner_in opened.entry.owner)
-        opened.entry.fields name.now (λ n. pure (with_field line n opened.entry.fields None))
+    requires sees { opened.old.sight ≤ length walker.old.links }
+    ensures { Leads (and_then (spec.with_place line (owner_in opened.old.owner)
+        opened.old.fields name.now (λ n. pure (with_field line n opened.old.fields None))
         (shown walker.old)) (does.open_does
-        (in_sight walker.old.links opened.entry.sight) opened.entry)) walker.old
-        result walker.new }
+        (in_sight walker.old.links opened.old.sight) opened.old)) walker.old
+        result walker.new opened.new }
 {
     let number = declared_number(&opened.owner, &opened.fields, line, name)?;
-    Ok(Task::Items(items::with_field(opened, line, number, None)?))
+    items::add_field(opened, line, number, None)?;
+    Ok(Next::Items)
 }
 
 /// A declared field has a value.
 fn put_value<'a>(
     alloc: Global,
     walker: &mut Walker<'a>,
-    opened: Open<'a>,
+    opened: &mut Open<'a>,
     line: u32,
     name: &Text,
     value: &'a RawValue<NodeText>,
-) -> Result<Task<'a>, ExpandFault>
+) -> Result<Next<'a>, ExpandFault>
     requires holds { Holds walker.old }
-    requires sees { opened.sight ≤ length walker.old.links }
-    ensures { Keeps (and_then (spec.with_place line (owner_in opened.entry.owner)
-        opened.entry.fields name.now
-        (λ n. spec.add_new node_does line n value.now opened.entry.fields)
+    requires sees { opened.old.sight ≤ length walker.old.links }
+    ensures { Leads (and_then (spec.with_place line (owner_in opened.old.owner)
+        opened.old.fields name.now
+        (λ n. spec.add_new node_does line n value.now opened.old.fields)
         (shown walker.old)) (does.open_does
-        (in_sight walker.old.links opened.entry.sight) opened.entry)) walker.old
-        result walker.new }
+        (in_sight walker.old.links opened.old.sight) opened.old)) walker.old
+        result walker.new opened.new }
 {
     let number = declared_number(&opened.owner, &opened.fields, line, name)?;
     between::put_taken(alloc, walker, opened, line, number, value)
@@ -109,16 +110,16 @@ fn put_value<'a>(
 fn put_is<'a>(
     alloc: Global,
     walker: &mut Walker<'a>,
-    opened: Open<'a>,
+    opened: &mut Open<'a>,
     declaration: &'a Declaration<NodeText>,
     name: &Text,
-) -> Result<Task<'a>, ExpandFault>
+) -> Result<Next<'a>, ExpandFault>
     requires holds { Holds walker.old }
-    requires sees { opened.sight ≤ length walker.old.links }
-    ensures { Keeps (and_then (spec.add_declared_is (signature declaration.now) name.now
-        (owner_in opened.entry.owner) opened.entry.fields (shown walker.old)) (does.open_does
-        (in_sight walker.old.links opened.entry.sight) opened.entry)) walker.old
-        result walker.new }
+    requires sees { opened.old.sight ≤ length walker.old.links }
+    ensures { Leads (and_then (spec.add_declared_is (signature declaration.now) name.now
+        (owner_in opened.old.owner) opened.old.fields (shown walker.old)) (does.open_does
+        (in_sight walker.old.links opened.old.sight) opened.old)) walker.old
+        result walker.new opened.new }
 {
     let joined = declared_joined(walker, &opened.owner, &opened.fields, declaration, name)?;
     between::put_joined(
@@ -135,16 +136,16 @@ fn put_is<'a>(
 pub fn put_declaration<'a>(
     alloc: Global,
     walker: &mut Walker<'a>,
-    opened: Open<'a>,
+    opened: &mut Open<'a>,
     declaration: &'a Declaration<NodeText>,
-) -> Result<Task<'a>, ExpandFault>
+) -> Result<Next<'a>, ExpandFault>
     requires holds { Holds walker.old }
-    requires sees { opened.sight ≤ length walker.old.links }
-    ensures { Keeps (and_then (spec.add_declaration node_does (signature declaration.now)
-        declaration.now.given (owner_in opened.entry.owner) opened.entry.fields
+    requires sees { opened.old.sight ≤ length walker.old.links }
+    ensures { Leads (and_then (spec.add_declaration node_does (signature declaration.now)
+        declaration.now.given (owner_in opened.old.owner) opened.old.fields
         (shown walker.old)) (does.open_does
-        (in_sight walker.old.links opened.entry.sight) opened.entry)) walker.old
-        result walker.new }
+        (in_sight walker.old.links opened.old.sight) opened.old)) walker.old
+        result walker.new opened.new }
 {
     let line = declaration.line;
     match &declaration.given {

@@ -163,7 +163,9 @@ fn content_of(alloc: Global, statements: &[Statement]) -> Result<Content, Expand
         nothing)) }
 {
     let mut walker = empty_walker(alloc);
-    put_all(alloc, &mut walker, statements)
+    let content = put_all(alloc, &mut walker, statements);
+    drop(walker);
+    content
 }
 
 fn header_of(document: Document) -> Header

@@ -7,4 +7,4 @@ use Rattle.proto_walk.proofs.filling.next_default.Goals as goal
 pub returns-in-None : goal.returns-in-None
 unfolding task_does
 returns-in-None c = stays c.requires.holds refl refl c.requires.holds.scope c.requires.sees
-    (unfilled (in_sight c.args.walker.now.links c.args.opened.sight) c.args.opened c.replace.new.dest c.args.opened.fields (shown c.args.walker.now) (sym c.replace.ensures.value ∙ c.in-None.is) c.replace.ensures.after)
+    (unfilled (in_sight c.args.walker.now.links c.args.opened.now.sight) c.args.opened.now c.replace.new.dest c.args.opened.now.fields (shown c.args.walker.now) (sym c.replace.ensures.value ∙ c.in-None.is) c.replace.ensures.after)

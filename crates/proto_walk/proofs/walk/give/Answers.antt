@@ -1,8 +1,6 @@
-use Rattle.std.proofs.Common.{rules, refl}
-use Rattle.proto_walk.specs.Frames.{frame_does, task_does, list_does}
-use Rattle.proto_walk.proofs.Moves.{stays}
+use Rattle.proto_walk.proofs.Moves.{leads-keeps, longer-leads}
 use Rattle.proto_walk.proofs.walk.give.Goals as goal
 
-pub returns-in_ok-push-in-Next : goal.returns-in_ok-push-in-Next
-unfolding frame_does task_does list_does
-returns-in_ok-push-in-Next c = stays c.requires.holds refl refl c.requires.holds.scope (search rules) (search rules)
+pub returns-in-Next : goal.returns-in-Next
+returns-in-Next c = rw c.in-Next.is (leads-keeps _ _ c.in-Next.opened c.longer.result c.proceed.result _ c.proceed.ensures
+    (longer-leads c.args.walker.now c.in-Next.opened c.in-Next.listing c.args.number c.longer.result c.requires.holds (rw c.in-Next.is at c.requires.sees) c.longer.ensures))

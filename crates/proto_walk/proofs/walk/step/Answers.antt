@@ -15,6 +15,10 @@ pub returns-in-Node : goal.returns-in-Node
 unfolding task_does
 returns-in-Node c = rw c.in-Node.is (wholly c.args.walker.now (task.Node c.in-Node.node) c.enter.result c.enter.new.walker c.enter.ensures)
 
+pub returns-in-NodeFor : goal.returns-in-NodeFor
+unfolding task_does
+returns-in-NodeFor c = rw c.in-NodeFor.is (wholly c.args.walker.now (task.NodeFor c.in-NodeFor.frame c.in-NodeFor.node) c.wait.result c.wait.new.walker c.wait.ensures)
+
 pub returns-in-Items : goal.returns-in-Items
 unfolding task_does
 returns-in-Items c = rw c.in-Items.is (wholly c.args.walker.now (task.Items c.in-Items.opened) c.next_item.result c.next_item.new.walker c.next_item.ensures)
