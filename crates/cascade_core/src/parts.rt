@@ -50,8 +50,16 @@ fn untold(alloc: Global, scene: &Scene) -> Result<WorldData, AllocError>
     ensures { IfOk result (λ w. w ≡ untold scene.now) }
 {
     let fields = scene.state(alloc)?;
-    let sensors = idle_sensors(alloc, fields.len())?;
-    let touches = untouched_sensors(alloc, fields.len())?;
+    // Each exit drops by calls: a drop in place is proved anew at each.
+    let Ok(sensors) = idle_sensors(alloc, fields.len()) else {
+        drop(fields);
+        return Err(AllocError);
+    };
+    let Ok(touches) = untouched_sensors(alloc, fields.len()) else {
+        drop(sensors);
+        drop(fields);
+        return Err(AllocError);
+    };
     Ok(WorldData {
         applied: 0,
         last_time: 0,

@@ -155,6 +155,23 @@ impl<B: Behaviour> Stage<B> {
         self.spoiled.is_some()
     }
 
+    /// Why an input is refused as the next one, if it is.
+    fn refusal(&self, input: &Stamped) -> Option<ApplyFault>
+        ensures { result ≡ refusal_of self.now.held input.now }
+    {
+        if self.spoiled.is_some() {
+            return Some(ApplyFault::Spoiled);
+        }
+        let world = &self.course.turn.world;
+        if input.number() - 1 != world.applied {
+            return Some(ApplyFault::NotNext);
+        }
+        if input.time() <= world.last_time {
+            return Some(ApplyFault::TimeNotLater);
+        }
+        None
+    }
+
     /// Applies the next input.
     #[tactic(auto, using(crate::proofs::SoundLemmas::cast_stands))]
     pub fn apply(&mut self, input: &Stamped) -> Result<Work, ApplyFault>
@@ -173,16 +190,10 @@ impl<B: Behaviour> Stage<B> {
         ensures memory { IfNone (refusal_of self.old.held input.now)
             (OnErr result ((result ≡ Err ApplyFault.Memory) × (self.new ≡ spoiled_of self.old))) }
     {
-        if self.spoiled.is_some() {
-            return Err(ApplyFault::Spoiled);
+        if let Some(fault) = self.refusal(input) {
+            return Err(fault);
         }
         let before = self.course.turn.world.applied;
-        if input.number() - 1 != before {
-            return Err(ApplyFault::NotNext);
-        }
-        if input.time() <= self.course.turn.world.last_time {
-            return Err(ApplyFault::TimeNotLater);
-        }
         match advance(
             &self.fixed,
             &self.sensors,
@@ -281,12 +292,13 @@ impl<B: Behaviour> Stage<B> {
         ensures refused { IfErr result (λ fault.
             RefusesInstall fault self.old states.now self.new) }
     {
+        let applied = self.applied();
         // What is let go is dropped by calls: a drop in place is proved anew at each exit.
         match self.course.scripts.restore(states) {
             Ok(()) => {}
             Err(StateFault::Memory) => {
                 drop(world);
-                self.spoil();
+                self.spoiled = Some(applied);
                 return Err(StateFault::Memory);
             }
             Err(StateFault::StateLength) => {
@@ -302,7 +314,7 @@ impl<B: Behaviour> Stage<B> {
         let Ok(bench) = bench_of(alloc, &self.fixed.scene, &world, self.sensors.touches.len())
         else {
             drop(world);
-            self.spoil();
+            self.spoiled = Some(applied);
             return Err(StateFault::Memory);
         };
         drop(mem::replace(&mut self.bench, bench));
