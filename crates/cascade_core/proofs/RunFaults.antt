@@ -1,6 +1,5 @@
 -- Why a run stops.
-use Rattle.std.proofs.Common.{◌≡◌, ◌⊎◌, inl, inr, List, Some, None, Result, Err, ◌∙◌, subst, sym}
-use Rattle.std.specs.Prelude.{IfErr}
+use Rattle.std.proofs.Common.{◌≡◌, ◌⊎◌, inl, inr, List, Some, None, ◌∙◌, subst, sym}
 use Rattle.x3d_values.specs.Stamp.{Stamp}
 use Rattle.scene_core.specs.declared.scene.Route.{Route}
 use Rattle.scene_core.specs.Scene.{SceneView}
@@ -24,17 +23,14 @@ none-refused scene routes inputs follow =
     follows_taken scene routes (opening scene routes) inputs
     (subst (λ n. Follow n (opening scene routes).world.last_time inputs) (sym at.0) (subst (λ t. Follow 0 t inputs) (sym at.1) follow))
 
-module _ {X : Type 0} (result : Result X ApplyFault) (fault : ApplyFault) (stage : StageView) (scene : SceneView) (routes : List Route) (inputs : List Stamp)
-    (failed : result ≡ Err fault) (same : stage ≡ loaded scene routes) (stops : Stops stage inputs fault) where
-  from-start : Stops (loaded scene routes) inputs fault
-  from-start = subst (λ (s : StageView). Stops s inputs fault) same stops
-
-  pub stopped : IfErr result (λ f. Stops (loaded scene routes) inputs f)
-  stopped = subst (λ (r : Result X ApplyFault). IfErr r (λ f. Stops (loaded scene routes) inputs f)) (sym failed) from-start
+module _ (fault : ApplyFault) (stage : StageView) (scene : SceneView) (routes : List Route) (inputs : List Stamp)
+    (same : stage ≡ loaded scene routes) (stops : Stops stage inputs fault) where
+  pub stopped : Stops (loaded scene routes) inputs fault
+  stopped = subst (λ (s : StageView). Stops s inputs fault) same stops
 
   memory-alone : AreInTurn inputs → Stops (loaded scene routes) inputs fault → fault ≡ Memory
   memory-alone follow (inl memory) = memory
   memory-alone follow (inr refused) = let none : None ≡ Some fault = sym (none-refused scene routes inputs follow) ∙ refused in cc
 
-  pub stopped_in_turn : AreInTurn inputs → IfErr result (λ f. f ≡ Memory)
-  stopped_in_turn follow = subst (λ (r : Result X ApplyFault). IfErr r (λ f. f ≡ Memory)) (sym failed) (memory-alone follow from-start)
+  pub stopped_in_turn : AreInTurn inputs → fault ≡ Memory
+  stopped_in_turn follow = memory-alone follow stopped

@@ -20,7 +20,7 @@ const LEAST: i64 = -2_147_483_648;
 const GREATEST: i64 = 2_147_483_647;
 
 /// What a line tells beside the value.
-#[derive(Clone, Copy, Debug, PartialEq, Eq)]
+#[derive(Clone, Copy)]
 pub struct LineHead {
     /// The number of the input.
     pub input: u32,
@@ -31,7 +31,7 @@ pub struct LineHead {
 }
 
 /// The number and the time of an input.
-#[derive(Clone, Copy, Debug, PartialEq, Eq)]
+#[derive(Clone, Copy, PartialEq, Eq)]
 pub(crate) struct Moment {
     pub input: u32,
     pub time: i64,
@@ -119,7 +119,11 @@ fn write_plain<W: WritesLines>(
     ensures kept { Extends out.old.items out.new.items }
 {
     match plain_value(entry.kind, entry.word) {
-        Some(value) => writer.write_line(head, &value, out),
+        Some(value) => {
+            let written = writer.write_line(head, &value, out);
+            drop(value);
+            written
+        }
         None => Ok(()),
     }
 }

@@ -10,6 +10,7 @@ ghost use Rattle.cascade_core.specs.Apply.{opening as opening_of, sent_by_all, s
 ghost use Rattle.cascade_core.specs.Cascade.{send_replies};
 ghost use Rattle.cascade_core.specs.Course.{ended, node_of, plan_at, ports_of, seen};
 ghost use Rattle.cascade_core.specs.Scripts.{kinds_in, scripts_in};
+ghost use Rattle.cascade_core.specs.Settles.{settle as settle_of};
 ghost use Rattle.cascade_core.specs.Sound.{IsCast, IsSound, IsFixed, are_sent};
 
 use crate::begun::BegunScripts;
@@ -136,6 +137,30 @@ fn send_all<B: Behaviour>(
     Ok(())
 }
 
+/// What the nodes of scripts are to send is sent, and then the scripts settle.
+fn send_and_settle<B: Behaviour>(
+    fixed: &Fixed,
+    bench: &mut Bench,
+    course: &mut Course<B>,
+    sendings: Vec<Sending>,
+) -> Result<(), AllocError>
+    requires empty { bench.old.tasks.items ≡ [] }
+    requires boxes { bench.old.boxes ≡ rows_of fixed.now.scene course.old.turn.world.fields }
+    requires cast { IsCast (plan_at fixed.now) (seen course.old) }
+    requires outputs { list_all (are_sent (shapes_of fixed.now.scene)) sendings.items ≡ true }
+    requires fresh { course.old.settling.settled ≡ [] }
+    ensures course { OnOk result (seen course.new ≡ settle_of (plan_at fixed.now)
+        (sent_by_all (plan_at fixed.now) (seen course.old) sendings.items)) }
+    ensures boxes { OnOk result
+        (bench.new.boxes ≡ rows_of fixed.now.scene course.new.turn.world.fields) }
+    ensures kinds { kinds_of course.new.scripts ≡ kinds_of course.old.scripts }
+    ensures count { course.new.settling.count ≡ course.old.settling.count }
+{
+    send_all(fixed, &mut bench.tasks, course, &mut bench.boxes, sendings)?;
+    settle(fixed, &mut bench.tasks, course, &mut bench.boxes)?;
+    Ok(())
+}
+
 /// The course of input 0 of these scripts, over a world in which nothing has happened.
 pub fn open<B: Behaviour>(
     alloc: Global,
@@ -158,20 +183,26 @@ pub fn open<B: Behaviour>(
     ensures kinds { IfOk result (λ course. kinds_of course.scripts ≡ kinds_in fixed.now.scene) }
     ensures count { IfOk result (λ course. course.settling.count ≡ length course.scripts) }
 {
-    let settling = DueScripts::new(alloc, scripts.len())?;
-    let sendings = initialize_all(alloc, fixed, &mut scripts)?;
+    // Each exit drops by calls: a drop in place is proved anew at each.
+    let Ok(settling) = DueScripts::new(alloc, scripts.len()) else {
+        drop(scripts);
+        drop(turn);
+        return Err(AllocError);
+    };
+    let Ok(sendings) = initialize_all(alloc, fixed, &mut scripts) else {
+        drop(settling);
+        drop(scripts);
+        drop(turn);
+        return Err(AllocError);
+    };
     let mut course = Course {
         turn,
         scripts: BegunScripts::new(scripts),
         settling,
     };
-    send_all(
-        fixed,
-        &mut bench.tasks,
-        &mut course,
-        &mut bench.boxes,
-        sendings,
-    )?;
-    settle(fixed, &mut bench.tasks, &mut course, &mut bench.boxes)?;
+    let Ok(()) = send_and_settle(fixed, bench, &mut course, sendings) else {
+        drop(course);
+        return Err(AllocError);
+    };
     Ok(course)
 }

@@ -4,6 +4,7 @@ ghost use Rattle.std.specs.Prelude.{◌≡◌, [], IfOk, List, None, replicate};
 ghost use Rattle.script_turn.specs.Acting.{kinds_of};
 ghost use Rattle.script_host.specs.Attaching.{Fits};
 ghost use Rattle.script_host.specs.Hosting.{ScriptRecord};
+ghost use Rattle.scene_scripts.specs.Runs.{runs_of};
 ghost use Rattle.scene_scripts.specs.Scripts.{script_list};
 ghost use Rattle.cascade_core.specs.Course.{plan_at};
 ghost use Rattle.cascade_core.specs.Sound.{IsFixed, IsSound};
@@ -49,8 +50,16 @@ fn untold(alloc: Global, scene: &Scene) -> Result<WorldData, AllocError>
     ensures { IfOk result (λ w. w ≡ untold scene.now) }
 {
     let fields = scene.state(alloc)?;
-    let sensors = idle_sensors(alloc, fields.len())?;
-    let touches = untouched_sensors(alloc, fields.len())?;
+    // Each exit drops by calls: a drop in place is proved anew at each.
+    let Ok(sensors) = idle_sensors(alloc, fields.len()) else {
+        drop(fields);
+        return Err(AllocError);
+    };
+    let Ok(touches) = untouched_sensors(alloc, fields.len()) else {
+        drop(sensors);
+        drop(fields);
+        return Err(AllocError);
+    };
     Ok(WorldData {
         applied: 0,
         last_time: 0,
@@ -124,14 +133,32 @@ pub(crate) fn parts_of(alloc: Global, scene: &Scene) -> Result<Parts, AllocError
     ensures boxes { IfOk result
         (λ parts. parts.bench.boxes ≡ rows_of scene.now parts.turn.world.fields) }
 {
+    // Each exit drops by calls: a drop in place is proved anew at each.
     let sensors = sensors_of(alloc, scene)?;
-    let turn = turn_of(alloc, scene)?;
-    let bench = bench_of(alloc, scene, &turn.world, sensors.touches.len())?;
+    let Ok(turn) = turn_of(alloc, scene) else {
+        drop(sensors);
+        return Err(AllocError);
+    };
+    let Ok(bench) = bench_of(alloc, scene, &turn.world, sensors.touches.len()) else {
+        drop(turn);
+        drop(sensors);
+        return Err(AllocError);
+    };
     Ok(Parts {
         sensors,
         turn,
         bench,
     })
+}
+
+/// The scripts that a scene runs.
+fn runs_in(alloc: Global, scene: &Scene) -> Result<Runs, AllocError>
+    ensures { IfOk result (λ runs. runs ≡ runs_of scene.now) }
+{
+    let asked = scene_scripts::script_list(alloc, scene)?;
+    let listed = scene_scripts::runs_of(alloc, scene, &asked);
+    drop(asked);
+    Runs::new(alloc, listed?, scene)
 }
 
 /// What events go by in a scene with these routes.
@@ -143,9 +170,12 @@ pub fn fixed_of(alloc: Global, scene: Scene, routes: Routes) -> Result<Fixed, Al
         → Fits (script_list scene) scripts
         → IsSound (plan_at made) (kinds_of scripts)) }
 {
-    let asked = scene_scripts::script_list(alloc, &scene)?;
-    let listed = scene_scripts::runs_of(alloc, &scene, &asked)?;
-    let runs = Runs::new(alloc, listed, &scene)?;
+    // Each exit drops by calls: a drop in place is proved anew at each.
+    let Ok(runs) = runs_in(alloc, &scene) else {
+        drop(routes);
+        drop(scene);
+        return Err(AllocError);
+    };
     Ok(Fixed {
         scene,
         routes,

@@ -29,7 +29,7 @@ use x3d_values::{Fields, Pointer, Ray, Vec3};
 
 /// A sensor that a pointer is inside of, and the place of its hit in the sensor's coordinates, in
 /// millionths.
-#[derive(Clone, Copy, Debug)]
+#[derive(Clone, Copy)]
 pub struct Inside {
     pub sensor: u32,
     pub point: Vec3,

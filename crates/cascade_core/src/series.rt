@@ -48,6 +48,9 @@ pub fn run<B: Behaviour>(
     let Ok(mut stage) = Stage::load(alloc, scene, routes, scripts) else {
         return Err(ApplyFault::Memory);
     };
-    stage.apply_all(inputs)?;
+    if let Err(fault) = stage.apply_all(inputs) {
+        drop(stage);
+        return Err(fault);
+    }
     Ok(stage)
 }

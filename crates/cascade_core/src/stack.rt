@@ -23,7 +23,7 @@ use std::alloc::AllocError;
 use x3d_values::Value;
 
 /// Something that is still to be done.
-#[derive(Debug, Drop, PartialEq, Eq)]
+#[derive(Drop)]
 pub enum Task {
     /// An event is sent by an output.
     Send(End, Value),
@@ -127,11 +127,16 @@ fn begin<B: Behaviour>(
     ensures kinds { kinds_of course.new.scripts ≡ kinds_of course.old.scripts }
     ensures count { course.new.settling.count ≡ course.old.settling.count }
 {
+    // A value is dropped by a call: left to the exits, its drop is proved once for each of them.
     if course.turn.sent.contains(source) {
+        drop(value);
         return Ok(());
     }
     let alloc = *tasks.allocator();
-    course.turn.record_event(alloc, source, &value)?;
+    let Ok(()) = course.turn.record_event(alloc, source, &value) else {
+        drop(value);
+        return Err(AllocError);
+    };
     follow(fixed, tasks, course, replies, boxes, source, value, 0)?;
     Ok(())
 }
@@ -168,16 +173,22 @@ fn follow<B: Behaviour>(
     ensures kinds { kinds_of course.new.scripts ≡ kinds_of course.old.scripts }
     ensures count { course.new.settling.count ≡ course.old.settling.count }
 {
+    // A value is dropped by a call: left to the exits, its drop is proved once for each of them.
     let Some(hop) = hop_at(&fixed.routes, source, next) else {
+        drop(value);
         return Ok(());
     };
     let alloc = *tasks.allocator();
-    course.deliver(alloc, fixed, boxes, hop.target, &value, replies)?;
+    let Ok(()) = course.deliver(alloc, fixed, boxes, hop.target, &value, replies) else {
+        drop(value);
+        return Err(AllocError);
+    };
     if hop.more {
         let rest = Task::Follow(source, value, next + 1);
         push_before(tasks, rest, hop.target.node, replies)?;
         return Ok(());
     }
+    drop(value);
     push_replies(tasks, hop.target.node, replies)?;
     Ok(())
 }

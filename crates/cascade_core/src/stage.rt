@@ -16,6 +16,7 @@ use scene_text::write_scene;
 use script_host::{Behaviour, Scripts, StateFault};
 use std::alloc::Global;
 use std::marker::Model;
+use std::mem;
 use x3d_values::{Items, Stamped};
 
 /// A scene with its world, which moves on by inputs.
@@ -85,13 +86,27 @@ impl<B: Behaviour> Stage<B> {
               held = Running (opening scene routes);
             }) }
     {
-        let fixed = fixed_of(alloc, scene, routes)?;
+        // Each exit drops by calls: a drop in place is proved anew at each.
+        let Ok(fixed) = fixed_of(alloc, scene, routes) else {
+            drop(scripts);
+            return Err(LoadFault::Memory);
+        };
+        let Ok(parts) = parts_of(alloc, &fixed.scene) else {
+            drop(scripts);
+            drop(fixed);
+            return Err(LoadFault::Memory);
+        };
         let Parts {
             sensors,
             turn,
             mut bench,
-        } = parts_of(alloc, &fixed.scene)?;
-        let course = open(alloc, &fixed, &mut bench, turn, scripts)?;
+        } = parts;
+        let Ok(course) = open(alloc, &fixed, &mut bench, turn, scripts) else {
+            drop(bench);
+            drop(sensors);
+            drop(fixed);
+            return Err(LoadFault::Memory);
+        };
         Ok(Stage {
             fixed,
             sensors,
@@ -140,6 +155,23 @@ impl<B: Behaviour> Stage<B> {
         self.spoiled.is_some()
     }
 
+    /// Why an input is refused as the next one, if it is.
+    fn refusal(&self, input: &Stamped) -> Option<ApplyFault>
+        ensures { result ≡ refusal_of self.now.held input.now }
+    {
+        if self.spoiled.is_some() {
+            return Some(ApplyFault::Spoiled);
+        }
+        let world = &self.course.turn.world;
+        if input.number() - 1 != world.applied {
+            return Some(ApplyFault::NotNext);
+        }
+        if input.time() <= world.last_time {
+            return Some(ApplyFault::TimeNotLater);
+        }
+        None
+    }
+
     /// Applies the next input.
     #[tactic(auto, using(crate::proofs::SoundLemmas::cast_stands))]
     pub fn apply(&mut self, input: &Stamped) -> Result<Work, ApplyFault>
@@ -158,16 +190,10 @@ impl<B: Behaviour> Stage<B> {
         ensures memory { IfNone (refusal_of self.old.held input.now)
             (OnErr result ((result ≡ Err ApplyFault.Memory) × (self.new ≡ spoiled_of self.old))) }
     {
-        if self.spoiled.is_some() {
-            return Err(ApplyFault::Spoiled);
+        if let Some(fault) = self.refusal(input) {
+            return Err(fault);
         }
         let before = self.course.turn.world.applied;
-        if input.number() - 1 != before {
-            return Err(ApplyFault::NotNext);
-        }
-        if input.time() <= self.course.turn.world.last_time {
-            return Err(ApplyFault::TimeNotLater);
-        }
         match advance(
             &self.fixed,
             &self.sensors,
@@ -266,23 +292,33 @@ impl<B: Behaviour> Stage<B> {
         ensures refused { IfErr result (λ fault.
             RefusesInstall fault self.old states.now self.new) }
     {
+        let applied = self.applied();
+        // What is let go is dropped by calls: a drop in place is proved anew at each exit.
         match self.course.scripts.restore(states) {
             Ok(()) => {}
             Err(StateFault::Memory) => {
-                self.spoil();
+                drop(world);
+                self.spoiled = Some(applied);
                 return Err(StateFault::Memory);
             }
-            Err(StateFault::StateLength) => return Err(StateFault::StateLength),
-            Err(StateFault::StateRange) => return Err(StateFault::StateRange),
+            Err(StateFault::StateLength) => {
+                drop(world);
+                return Err(StateFault::StateLength);
+            }
+            Err(StateFault::StateRange) => {
+                drop(world);
+                return Err(StateFault::StateRange);
+            }
         }
         let alloc = *self.bench.tasks.allocator();
         let Ok(bench) = bench_of(alloc, &self.fixed.scene, &world, self.sensors.touches.len())
         else {
-            self.spoil();
+            drop(world);
+            self.spoiled = Some(applied);
             return Err(StateFault::Memory);
         };
-        self.bench = bench;
-        self.course.turn.world = world;
+        drop(mem::replace(&mut self.bench, bench));
+        drop(mem::replace(&mut self.course.turn.world, world));
         self.spoiled = None;
         Ok(())
     }
@@ -299,6 +335,7 @@ impl<B: Behaviour> Stage<B> {
             (slice_get (scripts_in self.old.scene) k) (B.kind_of script)) }
     {
         if self.spoiled.is_some() {
+            drop(script);
             return Err(PlaceFault::Spoiled);
         }
         self.course.scripts.replace(k, script)?;
@@ -314,5 +351,7 @@ impl<B: Behaviour> Stage<B> {
     }
 
     /// Ends the stage with its scripts.
-    pub fn close(self) {}
+    pub fn close(self) {
+        drop(self);
+    }
 }

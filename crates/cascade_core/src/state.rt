@@ -105,7 +105,10 @@ impl State {
             return Ok(());
         }
         let kept = copy_of(alloc, value)?;
-        let sent = copy_of(alloc, value)?;
+        let Ok(sent) = copy_of(alloc, value) else {
+            drop(kept);
+            return Err(AllocError);
+        };
         self.items[node].set(target.field, kept);
         out.push(Reply {
             field: target.field,

@@ -11,7 +11,7 @@ use std::marker::Model;
 use x3d_values::{Value, clone_value};
 
 /// What an entry says.
-#[derive(Clone, Copy, Debug, PartialEq, Eq)]
+#[derive(Clone, Copy)]
 pub enum Kind {
     /// The number of an input, in the node's place, and its time: those of the events behind it.
     Input,
@@ -30,7 +30,7 @@ pub enum Kind {
 }
 
 /// An event, or the input of those behind it.
-#[derive(Clone, Copy, Debug, PartialEq, Eq)]
+#[derive(Clone, Copy)]
 pub struct Entry {
     pub node: u32,
     pub field: u16,

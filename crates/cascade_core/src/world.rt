@@ -17,7 +17,7 @@ use x3d_values::{MAX_VIEWERS, Stamped, Value};
 pub const VIEWERS: usize = MAX_VIEWERS as usize;
 
 /// One event that was sent.
-#[derive(Debug, Drop, PartialEq, Eq)]
+#[derive(Drop)]
 pub struct TraceLine {
     /// The number of the input.
     pub input: u32,

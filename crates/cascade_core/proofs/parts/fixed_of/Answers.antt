@@ -6,5 +6,5 @@ use Rattle.cascade_core.proofs.parts.fixed_of.Goals as goal
 
 pub returns-clause-sound : goal.returns-clause-sound
 returns-clause-sound c =
-    let are : c.in_ok-runs.runs ≡ map (run_of c.args.scene) (script_list c.args.scene) = search rules in
-    λ scripts fits. sound_scene c.args.scene c.args.routes c.in_ok-runs.runs are scripts fits
+    let are : c.in-Ok.runs ≡ map (run_of c.args.scene) (script_list c.args.scene) = search rules in
+    λ scripts fits. sound_scene c.args.scene c.args.routes c.in-Ok.runs are scripts fits

@@ -16,7 +16,7 @@ returns-then-contains-clause-done g c =
 pub returns-clause-done : goal.returns-clause-done
 returns-clause-done g c =
     c.in_ok-follow.ensures.done
-    ∙ (rw c.in_ok-record_event.ensures
+    ∙ (rw c.in-Ok.ensures
     (sym (finish-push (plan_at c.args.fixed.now) (recorded (seen c.args.course.now) c.args.source c.args.value) c.args.tasks.now.items (Follow c.args.source c.args.value 0))
     ∙ begin-done (plan_at c.args.fixed.now) (kinds_of c.args.course.now.scripts) c.requires.cast.sound (seen c.args.course.now) c.args.source c.args.value c.args.tasks.now.items c.requires.task refl (sym c.contains.ensures ∙ c.if-contains.false)))
 
@@ -24,7 +24,7 @@ pub returns-clause-fewer : goal.returns-clause-fewer
 returns-clause-fewer g c =
     omega (
       arith,
-      rw c.in_ok-record_event.ensures at c.in_ok-follow.ensures.fewer,
+      rw c.in-Ok.ensures at c.in_ok-follow.ensures.fewer,
       work-push (plan_at c.args.fixed.now) (recorded (seen c.args.course.now) c.args.source c.args.value) c.args.tasks.now.items (Follow c.args.source c.args.value 0),
       begin-fewer (plan_at c.args.fixed.now) (seen c.args.course.now) c.args.source c.args.value c.args.tasks.now.items c.requires.task (sym c.contains.ensures ∙ c.if-contains.false),
     )

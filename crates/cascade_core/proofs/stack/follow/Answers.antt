@@ -12,36 +12,36 @@ returns-in_default-clause-done g c =
 
 pub returns-clause-done : goal.returns-clause-done
 returns-clause-done g c =
-    rw (c.in_ok-push_replies.ensures.tasks, c.in_ok-deliver.ensures.replies, c.in_ok-deliver.ensures.course)
+    rw (c.in_ok-push_replies.ensures.tasks, c.in-Ok.ensures.replies, c.in-Ok.ensures.course)
     (last-done (plan_at c.args.fixed.now) (seen c.args.course.now) c.args.source c.args.value c.args.next c.in-Some.hop.target c.args.tasks.now.items
     c.in-Some.ensures.target (c.in-Some.ensures.last c.if-hop.false))
 
 pub returns-clause-ready : goal.returns-clause-ready
 returns-clause-ready g c =
-    rw (c.in_ok-push_replies.ensures.tasks, c.in_ok-deliver.ensures.replies)
+    rw (c.in_ok-push_replies.ensures.tasks, c.in-Ok.ensures.replies)
     (reached-ready (plan_at c.args.fixed.now) (seen c.args.course.now) c.in-Some.hop.target c.args.value c.args.tasks.now.items c.requires.cast.sound c.requires.tasks)
 
 pub returns-clause-fewer : goal.returns-clause-fewer
 returns-clause-fewer g c =
     let below : c.args.next < length c.args.fixed.now.routes = target-few c.args.fixed.now.routes c.args.source c.args.next c.in-Some.hop.target c.in-Some.ensures.target in
-    rw (c.in_ok-push_replies.ensures.tasks, c.in_ok-deliver.ensures.course)
+    rw (c.in_ok-push_replies.ensures.tasks, c.in-Ok.ensures.course)
     (last-fewer (plan_at c.args.fixed.now) (seen c.args.course.now) c.in-Some.hop.target
     c.args.source c.args.value c.args.next c.in-Some.hop.target.node _ c.args.tasks.now.items c.in_ok-push_replies.ensures.few below)
 
 pub returns-then-hop-clause-done : goal.returns-then-hop-clause-done
 returns-then-hop-clause-done g c =
-    rw (c.in_ok-push_before.ensures.tasks, c.in_ok-deliver.ensures.replies, c.in_ok-deliver.ensures.course)
+    rw (c.in_ok-push_before.ensures.tasks, c.in-Ok.ensures.replies, c.in-Ok.ensures.course)
     (follow-done (plan_at c.args.fixed.now) (seen c.args.course.now) c.args.source c.args.value c.args.next c.in-Some.hop.target c.args.tasks.now.items c.in-Some.ensures.target)
 
 pub returns-then-hop-clause-ready : goal.returns-then-hop-clause-ready
 returns-then-hop-clause-ready g c =
-    rw (c.in_ok-push_before.ensures.tasks, c.in_ok-deliver.ensures.replies)
+    rw (c.in_ok-push_before.ensures.tasks, c.in-Ok.ensures.replies)
     (reached-ready (plan_at c.args.fixed.now) (seen c.args.course.now) c.in-Some.hop.target c.args.value _ c.requires.cast.sound
     (follow-ready (plan_at c.args.fixed.now).shapes c.args.source c.args.value (c.args.next + 1) c.args.tasks.now.items c.requires.tasks))
 
 pub returns-then-hop-clause-fewer : goal.returns-then-hop-clause-fewer
 returns-then-hop-clause-fewer g c =
     let below : c.args.next < length c.args.fixed.now.routes = target-few c.args.fixed.now.routes c.args.source c.args.next c.in-Some.hop.target c.in-Some.ensures.target in
-    rw (c.in_ok-push_before.ensures.tasks, c.in_ok-deliver.ensures.course)
+    rw (c.in_ok-push_before.ensures.tasks, c.in-Ok.ensures.course)
     (follow-fewer (plan_at c.args.fixed.now) (seen c.args.course.now) c.in-Some.hop.target
     c.args.source c.args.value c.args.next c.in-Some.hop.target.node _ c.args.tasks.now.items c.in_ok-push_before.ensures.few below)

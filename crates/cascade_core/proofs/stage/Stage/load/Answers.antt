@@ -9,14 +9,14 @@ use Rattle.cascade_core.proofs.Openings.{cast_opened}
 use Rattle.cascade_core.proofs.stage.Stage.load.Goals as goal
 
 pub open-requires-clause-sound : goal.open-requires-clause-sound
-open-requires-clause-sound g c = c.in_ok-fixed.ensures.sound c.args.scripts c.requires.fits
+open-requires-clause-sound g c = c.in-Ok.ensures.sound c.args.scripts c.requires.fits
 
 pub invariant_of-result : goal.invariant_of-result
 invariant_of-result g c =
-    let clocks : c.in_ok-sensors.field-0.sensors.clocks.items ≡ clocks_of (types_of c.in_ok-fixed.fixed.scene) = search rules in
-    let touches : c.in_ok-sensors.field-0.sensors.touches.items ≡ touch_sensors_of (types_of c.in_ok-fixed.fixed.scene) = search rules in
-    let boxes : c.open.new.bench.boxes ≡ rows_of c.in_ok-fixed.fixed.scene c.in_ok-course.course.turn.world.fields = search rules in
-    let cast : IsCast (plan_at c.in_ok-fixed.fixed) (seen c.in_ok-course.course) =
-    cast_opened (plan_at c.in_ok-fixed.fixed) c.in_ok-fixed.fixed.scene c.args.scripts (seen c.in_ok-course.course) (c.in_ok-fixed.ensures.sound c.args.scripts c.requires.fits)
-    (c.requires.fresh ∙ ap scripts_in (sym c.in_ok-fixed.ensures.scene)) c.in_ok-course.ensures.kinds c.in_ok-course.ensures.count in
-    (clocks, touches, boxes, c.in_ok-fixed.ensures.runs, cast, c.in_ok-course.ensures.kinds)
+    let clocks : c.in-Ok-parts_of.parts.sensors.clocks.items ≡ clocks_of (types_of c.in-Ok.fixed.scene) = search rules in
+    let touches : c.in-Ok-parts_of.parts.sensors.touches.items ≡ touch_sensors_of (types_of c.in-Ok.fixed.scene) = search rules in
+    let boxes : c.open.new.bench.boxes ≡ rows_of c.in-Ok.fixed.scene c.in-Ok-open.course.turn.world.fields = search rules in
+    let cast : IsCast (plan_at c.in-Ok.fixed) (seen c.in-Ok-open.course) =
+    cast_opened (plan_at c.in-Ok.fixed) c.in-Ok.fixed.scene c.args.scripts (seen c.in-Ok-open.course) (c.in-Ok.ensures.sound c.args.scripts c.requires.fits)
+    (c.requires.fresh ∙ ap scripts_in (sym c.in-Ok.ensures.scene)) c.in-Ok-open.ensures.kinds c.in-Ok-open.ensures.count in
+    (clocks, touches, boxes, c.in-Ok.ensures.runs, cast, c.in-Ok-open.ensures.kinds)
