@@ -82,8 +82,10 @@ pub fn agree<R: AllocGlobal + Input + Print + Net>(
     requires most { viewers ≤ 16 }
 {
     let mut job = read_joint(rt, order, viewers)?;
-    let text = agreed(rt, &mut job, turns)?;
-    print(rt, text.as_slice())?;
+    let text = agreed(rt, &mut job, turns);
+    // A job is dropped by a call: left to the exits, its drop is proved once for each of them.
+    drop(job);
+    print(rt, text?.as_slice())?;
     Ok(())
 }
 
@@ -114,7 +116,9 @@ pub fn host<R: AllocGlobal + Input + Net + Clock>(
     requires most { viewers ≤ 16 }
 {
     let job = read_shared(rt, order)?;
-    Ok(hosted(rt, &job, port, viewers, turns)?)
+    let done = hosted(rt, &job, port, viewers, turns);
+    drop(job);
+    Ok(done?)
 }
 
 /// Reads a job of points, and makes its viewer.
@@ -134,13 +138,13 @@ fn read_seated<R: AllocGlobal + Input>(
 /// Offers the points of a viewer to a host: what came of the inputs.
 fn viewed<R: AllocGlobal + Net + Clock>(
     rt: &R,
-    mut seat: Seat,
+    seat: &mut Seat,
     host: u16,
     until: u32,
     turns: u32,
 ) -> Result<Vec<u8>, ShareFault> {
     let mut port = PatientPort::new(bound(rt, 0)?, rt);
-    view_job(rt.alloc(), &mut seat, host, until, turns, &mut port)
+    view_job(rt.alloc(), seat, host, until, turns, &mut port)
 }
 
 /// Reads a job of points, and offers them to a host: what came of the inputs.
@@ -156,8 +160,10 @@ fn read_viewed<R: AllocGlobal + Input + Net + Clock>(
     requires who { who ≤ 15 }
     requires boot { 1 ≤ boot }
 {
-    let seat = read_seated(rt, order, who, boot)?;
-    Ok(viewed(rt, seat, host, until, turns)?)
+    let mut seat = read_seated(rt, order, who, boot)?;
+    let text = viewed(rt, &mut seat, host, until, turns);
+    drop(seat);
+    Ok(text?)
 }
 
 /// Reads a job of points, offers them to a host, and prints what came of the inputs.
