@@ -1,4 +1,4 @@
-//! Tests of the program's calls, from the bytes of a job or a scene to its texts. It has nothing else.
+//! Tests of the program's calls, from the bytes of a job or a scene to its texts, and nothing else.
 #![tactic(auto)]
 
 #[cfg(test)]

@@ -1,4 +1,4 @@
-//! What the cases of cases/ can't show: devices that fail, memory that is refused, limits, and values.
+//! What the cases of cases/ can't show: devices that fail, memory that is refused, limits, values.
 
 mod answers;
 mod devices;

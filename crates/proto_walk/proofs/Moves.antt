@@ -1,5 +1,5 @@
 -- What a step has to show, by what it changes.
-use Rattle.std.proofs.Common.{if◌then◌else◌, true, false, Bor, Option, Some, None, ◌≡◌, ℕ, ◌≤◌, List, [], ◌∷◌, ◌++◌, reverse, length, length-append, Ok, Err, ap, sym, ◌∙◌, arith, refl, inl, inr, Result}
+use Rattle.std.proofs.Common.{if◌then◌else◌, true, false, Bor, Option, Some, None, ◌≡◌, ℕ, ◌≤◌, List, [], ◌∷◌, ◌++◌, reverse, length, length-append, Ok, Err, ap, sym, ◌∙◌, arith, refl, subst, inl, inr, Result}
 use Rattle.classic_tree.specs.declared.tree.RawValue.{RawValue}
 use Rattle.classic_tree.specs.declared.tree.RawValue.TheVariants as value
 use Rattle.classic_tree.specs.declared.tree.Declaration.{Declaration}
@@ -193,6 +193,10 @@ leads-as o other old result new opened is k = rw is k
 pub leads-keeps : (o : Outcome ℕ) (old : Walker) (opened : Open) (next : Result Next ExpandFault) (result : Result Task ExpandFault) (new : Walker) → result ≡ task_or opened next → Leads o old next new opened → Keeps o old result new
 leads-keeps o old opened (Ok next) result new is k = rw is k
 leads-keeps o old opened (Err e) result new is k = rw is k
+
+-- the same of braces that are reached through their box
+pub leads-on : (f : Open → Outcome ℕ) (old : Walker) (before opened : Open) (after : Open) (next : Result Next ExpandFault) (result : Result Task ExpandFault) (new : Walker) → before ≡ opened → result ≡ task_or after next → Leads (f before) old next new after → Keeps (f opened) old result new
+leads-on f old before opened after next result new same is k = subst (λ o. Keeps (f o) old result new) same (leads-keeps (f before) old after next result new is k)
 
 -- a list with one number more
 pub longer-leads : (old : Walker) (opened : Open) (listing : Listing) (n : ℕ) (result : Result Next ExpandFault) → Holds old → opened.sight ≤ most old → IsLonger listing n result →

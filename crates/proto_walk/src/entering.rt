@@ -6,7 +6,7 @@ ghost use Rattle.proto_steps.specs.Meaning as spec;
 ghost use Rattle.proto_steps.specs.Meaning.{node_does};
 ghost use Rattle.proto_walk.specs.Frames.{Holds, Keeps, shown};
 
-use crate::frames::{Open, Task, Walker};
+use crate::frames::{Open, Opened, Task, Walker};
 use classic_tree::{BodyItem, NodeText};
 use flat_document::{ExpandFault, ExpandFaultKind};
 use proto_fields::GivenFields;
@@ -50,7 +50,7 @@ fn enter_typed<'a>(
     )?;
     let braces = Braces::of_node(alloc, node_type, items)?;
     let fields = GivenFields::for_fields(alloc, items.len())?;
-    Ok(Task::Items(Open {
+    let open = Open {
         line,
         name,
         owner: Owner::Node(node_type, braces, at),
@@ -58,7 +58,9 @@ fn enter_typed<'a>(
         rest: items,
         fields,
         filling: None,
-    }))
+    };
+    let opened = Opened::new(alloc, open)?;
+    Ok(Task::Items(opened))
 }
 
 /// An instance begins.
@@ -97,22 +99,22 @@ fn enter_instance<'a>(
         },
     )?;
     let fields = GivenFields::for_fields(alloc, interface.declarations().len())?;
-    Ok(Task::Items(Open {
+    let placed = Placed {
+        proto: link.proto,
+        within: link.within,
+        at,
+    };
+    let open = Open {
         line,
         name,
-        owner: Owner::Instance(Instance::new(
-            Placed {
-                proto: link.proto,
-                within: link.within,
-                at,
-            },
-            interface,
-        )),
+        owner: Owner::Instance(Instance::new(placed, interface)),
         sight: link.before,
         rest: items,
         fields,
         filling: None,
-    }))
+    };
+    let opened = Opened::new(alloc, open)?;
+    Ok(Task::Items(opened))
 }
 
 #[tactic(auto, unfolding(proto_steps::specs::Meaning::full_node))]

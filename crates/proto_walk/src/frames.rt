@@ -1,10 +1,14 @@
 //! What is still to be done, on the heap.
 
+ghost use Rattle.std.specs.Prelude.{◌≡◌, IfOk};
+
 use classic_tree::{BodyItem, Declaration, NodeText, Statement};
 use proto_declarations::Declarations;
 use proto_fields::GivenFields;
 use proto_links::Links;
 use proto_steps::{Instance, Owner, Scope, Store};
+use std::alloc::{AllocError, Global};
+use std::marker::Model;
 use x3d_lists::{Items, Text};
 
 /// The default values of an instance, which are put in before its body: the instance, the
@@ -29,6 +33,35 @@ pub struct Open<'a> {
     pub rest: &'a [BodyItem],
     pub fields: GivenFields,
     pub filling: Option<Filling<'a>>,
+}
+
+/// Open braces on the heap: what waits for a node, and what is to be done next, is then small.
+#[derive(Drop)]
+pub struct Opened<'a> {
+    pub braces: Box<Open<'a>>,
+}
+
+impl<'a> Model for Opened<'a> {
+    ghost use mir.Syntax.{static};
+    ghost use Rattle.std.specs.Prelude.{[]};
+    ghost use Rattle.proto_walk.specs.contracts.frames.Open as open_braces;
+    ghost use Rattle.proto_walk.specs.declared.frames.Open.{Open};
+
+    ghost Value = { Open };
+
+    // Its own type has one, whichever lifetime it has.
+    ghost coded = { (open_braces.the_row (record { mir = static; lft = [] })).coded };
+
+    ghost view = { λ o. o.braces.value };
+}
+
+impl<'a> Opened<'a> {
+    pub fn new(alloc: Global, open: Open<'a>) -> Result<Opened<'a>, AllocError>
+        ensures { IfOk result (λ opened. opened ≡ open.entry) }
+    {
+        let braces = Box::new(alloc, open)?;
+        Ok(Opened { braces })
+    }
 }
 
 /// A list of nodes in a field: the numbers so far, and the nodes that are left.
@@ -57,9 +90,9 @@ pub struct Body<'a> {
 #[derive(Drop)]
 pub enum Frame<'a> {
     /// The field of that line and number, which is this node.
-    One(Open<'a>, u32, usize),
+    One(Opened<'a>, u32, usize),
     /// A field whose list has this node next.
-    Next(Open<'a>, Listing<'a>),
+    Next(Opened<'a>, Listing<'a>),
     /// A body whose statement is this node.
     Inside(Body<'a>),
 }
@@ -88,8 +121,8 @@ pub enum Task<'a> {
     Node(&'a NodeText),
     /// A node whose number this frame waits for.
     NodeFor(Frame<'a>, &'a NodeText),
-    Items(Open<'a>),
-    List(Open<'a>, Listing<'a>),
+    Items(Opened<'a>),
+    List(Opened<'a>, Listing<'a>),
     Statements(Body<'a>),
     Number(u32),
 }

@@ -8,18 +8,18 @@ ghost use Rattle.proto_walk.specs.Frames as does;
 ghost use Rattle.proto_walk.specs.Frames.{Ends, Fits, Holds, Keeps, Steps};
 ghost use Rattle.proto_walk.specs.Frames.{StepsOn, comes_to, shown};
 
-use crate::frames::{Frame, Listing, Next, Open, Task, Walker};
+use crate::frames::{Frame, Listing, Next, Opened, Task, Walker};
 use crate::{between, bodies, entering, items};
 use classic_tree::{NodeText, RawValue};
 use flat_document::{ExpandFault, ExpandFaultKind};
 use std::alloc::Global;
 use std::mem;
 
-/// What is to be done next with these braces. An `Open` that ends here does so by `drop`, whose
-/// proof for a type is made once; where a value goes out of scope, all that is in it is proved to be
-/// dropped in place.
+/// What is to be done next with these braces. What ends here does so by `drop`, whose proof for a
+/// type is made once; where a value goes out of scope, all that is in it is proved to be dropped in
+/// place.
 fn proceed<'a>(
-    opened: Open<'a>,
+    opened: Opened<'a>,
     next: Result<Next<'a>, ExpandFault>,
 ) -> Result<Task<'a>, ExpandFault>
     ensures { result ≡ does.task_or opened.entry next.entry }
@@ -51,7 +51,7 @@ fn proceed<'a>(
 fn next_item<'a>(
     alloc: Global,
     walker: &mut Walker<'a>,
-    opened: Open<'a>,
+    opened: Opened<'a>,
 ) -> Result<Task<'a>, ExpandFault>
     requires holds { Holds walker.old }
     requires sees { opened.sight ≤ length walker.old.links }
@@ -60,14 +60,14 @@ fn next_item<'a>(
         (shown walker.old)) walker.old result walker.new }
 {
     let mut opened = opened;
-    let next = items::next_item(alloc, walker, &mut opened);
+    let next = items::next_item(alloc, walker, &mut opened.braces);
     proceed(opened, next)
 }
 
 /// The next step of a list.
 fn next_in_list<'a>(
     walker: &mut Walker<'a>,
-    opened: Open<'a>,
+    opened: Opened<'a>,
     listing: Listing<'a>,
 ) -> Result<Task<'a>, ExpandFault>
     requires holds { Holds walker.old }
@@ -77,14 +77,14 @@ fn next_in_list<'a>(
         listing.entry.numbers (shown walker.old)) walker.old result walker.new }
 {
     let mut opened = opened;
-    let next = items::next_in_list(walker, &mut opened, listing);
+    let next = items::next_in_list(walker, &mut opened.braces, listing);
     proceed(opened, next)
 }
 
 /// The field is the node of that number.
 fn hold_one<'a>(
     walker: &mut Walker<'a>,
-    opened: Open<'a>,
+    opened: Opened<'a>,
     line: u32,
     field: usize,
     number: u32,
@@ -96,7 +96,13 @@ fn hold_one<'a>(
         (RawValue.Node number) (shown walker.old)) walker.old result walker.new }
 {
     let mut opened = opened;
-    let next = between::keep_value(walker, &mut opened, line, field, RawValue::Node(number));
+    let next = between::keep_value(
+        walker,
+        &mut opened.braces,
+        line,
+        field,
+        RawValue::Node(number),
+    );
     proceed(opened, next)
 }
 

@@ -6,4 +6,4 @@ use Rattle.proto_walk.proofs.entering.enter_instance.Goals as goal
 
 pub returns : goal.returns
 unfolding instance items_do open_does task_does
-returns c = stays c.requires.holds refl refl (rw c.in_ok-meet.ensures.sight c.requires.holds.scope) c.requires.sees (search rules)
+returns c = rw c.in_ok-opened.ensures (stays c.requires.holds refl refl (rw c.in_ok-meet.ensures.sight c.requires.holds.scope) c.requires.sees (search rules))

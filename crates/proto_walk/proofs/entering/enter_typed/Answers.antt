@@ -6,4 +6,4 @@ use Rattle.proto_walk.proofs.entering.enter_typed.Goals as goal
 
 pub returns : goal.returns
 unfolding typed_node items_do open_does task_does
-returns c = stays c.requires refl refl (rw c.in_ok-meet.ensures.sight c.requires.scope) (omega arith) (search rules)
+returns c = rw c.in_ok-opened.ensures (stays c.requires refl refl (rw c.in_ok-meet.ensures.sight c.requires.scope) (omega arith) (search rules))
