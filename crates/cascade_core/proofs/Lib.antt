@@ -3,6 +3,7 @@ pub mod Runs
 pub mod Turns
 pub mod Shapes
 pub mod Senders
+pub mod Sensing
 pub mod SensorReplies
 pub mod TouchReplies
 pub mod SceneOutputs
@@ -17,6 +18,7 @@ pub mod Counting
 mod Traces
 mod Told
 pub mod Keeping
+mod Arrivals
 pub mod Settled
 mod KindLemmas
 pub mod SettleLemmas

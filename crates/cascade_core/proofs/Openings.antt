@@ -252,3 +252,16 @@ module _ (shapes : List Shape) (old new : List Task) (node : ℕ) (replies : Lis
   sending_done plan before after is =
       is ∙ ap (λ (xs : List Task). finish plan before xs) all-pushed ∙ finish-all plan node replies before
       ∙ ap (λ (x : Sending). send_replies plan x.node before x.replies) view
+
+-- scripts that were all initialized are of the kinds that they were of, and as many
+pub opening-cast : (plan : Plan) (given rs : List ScriptRecord) (turn : Turn) (settling : Settling) (many : ℕ) → IsSound plan (kinds_of given) →
+    kinds_of rs ≡ kinds_of given → settling ≡ unsettled many → many ≡ length given → IsCast plan (record { turn = turn; scripts = rs; settling = settling })
+opening-cast plan given rs turn settling many sound kinds is counted = record {
+  sound = subst (λ (ks : List Kind). IsSound plan ks) (sym kinds) sound;
+  counted = ap (λ (s : Settling). s.count) is ∙ counted ∙ sym (length-map given (λ (r : ScriptRecord). r.kind)) ∙ ap length (sym kinds);
+}
+
+pub opening-count : (given after : List ScriptRecord) (settling : Settling) (many count : ℕ) → count ≡ settling.count → settling ≡ unsettled many →
+    many ≡ length given → kinds_of after ≡ kinds_of given → count ≡ length after
+opening-count given after settling many count same is counted kinds =
+    same ∙ ap (λ (s : Settling). s.count) is ∙ counted ∙ lengths given after (sym kinds)

@@ -1,13 +1,14 @@
--- Why a run stops.
-use Rattle.std.proofs.Common.{◌≡◌, ◌⊎◌, inl, inr, List, Some, None, ◌∙◌, subst, sym}
+-- What a run comes to, and why it stops.
+use Rattle.std.proofs.Common.{◌≡◌, ◌⊎◌, inl, inr, List, Some, None, ◌∙◌, ap, subst, sym}
 use Rattle.x3d_values.specs.Stamp.{Stamp}
 use Rattle.scene_core.specs.declared.scene.Route.{Route}
 use Rattle.scene_core.specs.Scene.{SceneView}
-use Rattle.cascade_core.specs.Apply.{opening}
-use Rattle.cascade_core.specs.Held.{Running, StageView, refusal_in}
+use Rattle.cascade_core.specs.Apply.{opening, world}
+use Rattle.cascade_core.specs.Held.{Running, StageView, after_all, refusal_in}
 use Rattle.cascade_core.specs.InTurn.{AreInTurn, Follow}
 use Rattle.cascade_core.specs.declared.fault.ApplyFault.{ApplyFault}
 use Rattle.cascade_core.specs.declared.fault.ApplyFault.TheVariants.{Memory}
+use Rattle.cascade_core.proofs.Runs.{after_all_running}
 use Rattle.cascade_core.proofs.Turns.{follows_taken, opening-at}
 
 -- a stage behind input 0
@@ -34,3 +35,10 @@ module _ (fault : ApplyFault) (stage : StageView) (scene : SceneView) (routes : 
 
   pub stopped_in_turn : AreInTurn inputs → fault ≡ Memory
   stopped_in_turn follow = memory-alone follow stopped
+
+module _ (stage : StageView) (scene : SceneView) (routes : List Route) (inputs : List Stamp) (same : stage ≡ loaded scene routes) where
+  pub ran : (after : StageView) → after ≡ after_all stage inputs → after ≡ record { scene = scene; routes = routes; held = Running (world scene routes inputs) }
+  ran after is = is ∙ ap (λ (s : StageView). after_all s inputs) same ∙ after_all_running scene routes (opening scene routes) inputs
+
+  pub all-taken : refusal_in stage inputs ≡ None → refusal_in (loaded scene routes) inputs ≡ None
+  all-taken none = subst (λ (s : StageView). refusal_in s inputs ≡ None) same none

@@ -3,7 +3,7 @@
 ghost use Rattle.std.specs.Prelude.{◌≡◌, ◌⊎◌, IfOk, IfErr, None, OnOk, Some};
 ghost use Rattle.cascade_core.specs.Apply.{opening, world};
 ghost use Rattle.cascade_core.specs.Scripts.{scripts_in};
-ghost use Rattle.cascade_core.specs.Held.{Running, refusal_in};
+ghost use Rattle.cascade_core.specs.Held.{Running, after_all, refusal_in};
 ghost use Rattle.cascade_core.specs.InTurn.{AreInTurn};
 ghost use Rattle.scene_scripts.specs.Scripts.{script_list};
 ghost use Rattle.script_host.specs.Attaching.{Fits};
@@ -15,6 +15,21 @@ use scene_core::Scene;
 use script_host::{Behaviour, Scripts};
 use std::alloc::Global;
 use x3d_values::Stamped;
+
+impl<B: Behaviour> Stage<B> {
+    /// Applies inputs in order, up to the first that is refused.
+    pub(crate) fn apply_all(&mut self, inputs: &[Stamped]) -> Result<(), ApplyFault>
+        ensures ok { OnOk result (self.new ≡ after_all self.old inputs.now) }
+        ensures taken { OnOk result (refusal_in self.old inputs.now ≡ None) }
+        ensures err { IfErr result (λ fault. (fault ≡ ApplyFault.Memory)
+            ⊎ (refusal_in self.old inputs.now ≡ Some fault)) }
+    {
+        for input in inputs {
+            self.apply(input)?;
+        }
+        Ok(())
+    }
+}
 
 /// The stage of a scene after these inputs, up to the first that is refused.
 #[tactic(auto, using(crate::proofs::Runs::after_all_running))]

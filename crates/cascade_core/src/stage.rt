@@ -61,7 +61,7 @@ impl<B: Behaviour> Stage<B> {
     ghost use Rattle.std.specs.Prelude.{◌≡◌, ◌++◌, ◌⊎◌, ℕ, ℤ, List, IfOk, IfErr, IfNone, IfSome, IsSomeAnd, None, Some, OnOk, OnErr, length, option_copied, slice_get};
     ghost use Rattle.cascade_core.specs.Apply.{opening};
     ghost use Rattle.cascade_core.specs.Scripts.{kinds_in, scripts_in};
-    ghost use Rattle.cascade_core.specs.Held.{Running, after, holding, refusal_of, refusal_in, spoiled as spoiled_of, applied_of, after_all, IfRunning, IfSpoiled, is_spoiled, trace_of, world_in};
+    ghost use Rattle.cascade_core.specs.Held.{Running, after, holding, refusal_of, spoiled as spoiled_of, applied_of, IfRunning, IfSpoiled, is_spoiled, trace_of, world_in};
     ghost use Rattle.cascade_core.specs.Installing.{RefusesBox, RefusesInstall, StatesFit};
     ghost use Rattle.cascade_core.specs.Texts.{trace_text, scene_text};
     ghost use Rattle.cascade_core.specs.Work.{IsWork};
@@ -207,19 +207,6 @@ impl<B: Behaviour> Stage<B> {
                 Err(ApplyFault::Memory)
             }
         }
-    }
-
-    /// Applies inputs in order, up to the first that is refused.
-    pub(crate) fn apply_all(&mut self, inputs: &[Stamped]) -> Result<(), ApplyFault>
-        ensures ok { OnOk result (self.new ≡ after_all self.old inputs.now) }
-        ensures taken { OnOk result (refusal_in self.old inputs.now ≡ None) }
-        ensures err { IfErr result (λ fault. (fault ≡ ApplyFault.Memory)
-            ⊎ (refusal_in self.old inputs.now ≡ Some fault)) }
-    {
-        for input in inputs {
-            self.apply(input)?;
-        }
-        Ok(())
     }
 
     /// Appends the text of the trace; on a refusal the buffer is as it was.

@@ -2,10 +2,11 @@ use Rattle.std.proofs.Common.{◌∙◌, ap, refl}
 use Rattle.std.specs.List.{list_all}
 use Rattle.script_due.specs.Settling.{Settling}
 use Rattle.scene_core.specs.Scene.{shapes_of}
+use Rattle.script_turn.specs.Acting.{kinds_of}
 use Rattle.cascade_core.specs.Course.{plan_at}
 use Rattle.cascade_core.specs.Scripts.{are_begun}
 use Rattle.cascade_core.specs.Sound.{are_sent}
-use Rattle.cascade_core.proofs.Openings.{opened_same, started_begun, started_sent}
+use Rattle.cascade_core.proofs.Openings.{opened_same, opening-cast, opening-count, started_begun, started_sent}
 use Rattle.cascade_core.proofs.opening.open.Goals as goal
 
 pub new-requires-2 : goal.new-requires-2
@@ -24,3 +25,17 @@ returns-clause-world g c =
     opened_same c.args.fixed.now c.requires.fixed c.args.turn c.args.scripts _ c.in-Ok.settling c.len.result c.in-Ok-initialize_all.sendings.items _ _
     c.requires.scripts c.requires.world c.requires.unsent (c.new-2.ensures ∙ c.in-Ok-initialize_all.ensures.scripts) c.in-Ok.ensures c.len.ensures c.in-Ok-initialize_all.ensures.sendings
     refl c.in-Ok-send_and_settle.ensures.course
+
+pub send_and_settle-requires-clause-cast : goal.send_and_settle-requires-clause-cast
+send_and_settle-requires-clause-cast g c =
+    opening-cast (plan_at c.args.fixed.now) c.args.scripts c.new-2.result c.args.turn c.in-Ok.settling c.len.result c.requires.sound
+    (ap kinds_of c.new-2.ensures ∙ c.initialize_all.ensures.kinds) c.in-Ok.ensures c.len.ensures
+
+pub returns-clause-kinds : goal.returns-clause-kinds
+returns-clause-kinds g c =
+    c.send_and_settle.ensures.kinds ∙ (ap kinds_of c.new-2.ensures ∙ c.initialize_all.ensures.kinds) ∙ ap kinds_of c.requires.scripts
+
+pub returns-clause-count : goal.returns-clause-count
+returns-clause-count g c =
+    opening-count c.args.scripts c.send_and_settle.new.course.scripts c.in-Ok.settling c.len.result c.send_and_settle.new.course.settling.count c.send_and_settle.ensures.count
+    c.in-Ok.ensures c.len.ensures (c.send_and_settle.ensures.kinds ∙ (ap kinds_of c.new-2.ensures ∙ c.initialize_all.ensures.kinds))
