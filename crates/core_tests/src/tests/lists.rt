@@ -1,7 +1,8 @@
 //! Lists and texts: each call that takes memory, with memory and with memory used up.
 
+use super::holds;
 use std::alloc::{AllocError, Global};
-use std::test::Fail;
+use std::process::Abort;
 use test_memory::UsedUp;
 use x3d_lists::{Duplicate, Items, Text};
 
@@ -19,12 +20,16 @@ fn is_copied(alloc: Global) -> Result<bool, AllocError> {
     Ok(copy == words && copy.get(1).map(Text::as_str) == Some("lamp"))
 }
 
+/// Whether a list has the items of a slice.
+fn has_its_numbers(alloc: Global) -> Result<bool, AllocError> {
+    let numbers = Items::from_slice(alloc, &[1, 2, 3])?;
+    Ok(numbers.as_slice() == [1, 2, 3].as_slice())
+}
+
 #[test]
-fn lists_grow_and_are_copied(rt: HostRuntime) -> Result<(), Fail> {
-    assert!(rt; is_copied(rt.alloc())?);
-    let numbers = Items::from_slice(rt.alloc(), &[1, 2, 3])?;
-    assert!(rt; numbers.into_vec().as_slice() == [1, 2, 3].as_slice());
-    Ok(())
+fn lists_grow_and_are_copied(rt: HostRuntime) {
+    holds(&rt, is_copied(rt.alloc()));
+    holds(&rt, has_its_numbers(rt.alloc()));
 }
 
 /// Whether a copy is refused where no memory is left.
@@ -55,9 +60,8 @@ fn refuses_what_is_new(alloc: Global) -> Result<bool, AllocError> {
 }
 
 #[test]
-fn a_refused_growth_is_answered(rt: HostRuntime) -> Result<(), Fail> {
-    assert!(rt; refuses_a_copy(rt.alloc())?);
-    assert!(rt; refuses_a_push(rt.alloc())?);
-    assert!(rt; refuses_what_is_new(rt.alloc())?);
-    Ok(())
+fn a_refused_growth_is_answered(rt: HostRuntime) {
+    holds(&rt, refuses_a_copy(rt.alloc()));
+    holds(&rt, refuses_a_push(rt.alloc()));
+    holds(&rt, refuses_what_is_new(rt.alloc()));
 }

@@ -36,13 +36,13 @@ pub fn fields(alloc: Global, count: usize) -> Result<Fields, AllocError> {
     })
 }
 
-/// The field and the value of each reply, in order.
-pub fn outbox_text(alloc: Global, out: &Outbox) -> Result<Vec<u8>, AllocError> {
+/// Whether that is sent: the field and the value of each reply, in order.
+pub fn is_sent(alloc: Global, out: &Outbox, wanted: &str) -> Result<bool, AllocError> {
     let mut text = Vec::new(alloc);
     for reply in out {
         push_reply(reply, &mut text)?;
     }
-    Ok(text)
+    Ok(text.as_slice() == wanted.as_bytes())
 }
 
 fn push_reply(reply: &Reply, text: &mut Vec<u8>) -> Result<(), AllocError> {
@@ -51,13 +51,4 @@ fn push_reply(reply: &Reply, text: &mut Vec<u8>) -> Result<(), AllocError> {
     show_value(&reply.value, text)?;
     text.push(b';')?;
     Ok(())
-}
-
-/// The text of what a node keeps under a field's number, and nothing for none.
-pub fn kept_text(alloc: Global, node: &Fields, field: u16) -> Result<Vec<u8>, AllocError> {
-    let mut text = Vec::new(alloc);
-    if let Some(value) = node.value(field) {
-        show_value(value, &mut text)?;
-    }
-    Ok(text)
 }

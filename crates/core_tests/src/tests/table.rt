@@ -3,12 +3,13 @@
 //! out outputOnly), its default in the Classic encoding, and which nodes it takes.
 
 use super::table_text::TABLE;
+use super::values::shows;
+use super::{Row, all_hold, holds};
 use std::alloc::{AllocError, Global};
 use std::process::Abort;
-use std::test::Fail;
 use x3d_values::{
     Access, FieldDefault, FieldRow, FieldType, NodeKind, NodeType, default_value, field_at,
-    field_of, fields_of, show_value,
+    field_of, fields_of,
 };
 
 /// The letters of the table.
@@ -66,122 +67,120 @@ fn read_line(line: &str) -> Option<Line<'_>> {
     })
 }
 
-/// The default as it is written; a node and a list of nodes have no text.
-fn default_text(alloc: Global, row: FieldRow) -> Result<Vec<u8>, AllocError> {
-    let mut shown = Vec::new(alloc);
-    let given = row.default.unwrap_or(FieldDefault::Empty);
-    if let Some(value) = default_value(alloc, row.field_type, given)? {
-        show_value(&value, &mut shown)?;
-    }
-    Ok(shown)
-}
-
-fn is_found(rt: &impl Abort, line: Line<'_>, number: u16) {
-    let Some(row) = field_of(line.node_type, line.name) else {
-        assert!(rt; false, "{}", line.name);
-        return;
-    };
+/// Whether the line is that field of the table, but for its default.
+fn is_row(line: Line<'_>, number: u16, row: FieldRow) -> bool {
     let uses = (row.number, row.access, row.field_type, row.kind);
-    assert!(rt;
-        uses == (number, line.access, line.field_type, line.kind),
-        "{}",
-        line.name
-    );
-    assert!(rt;
-        field_at(line.node_type, number) == Some(row),
-        "{}",
-        line.name
-    );
-    let holds = line.access == Access::InputOutput || line.access == Access::InitializeOnly;
-    let holds = holds && line.field_type != FieldType::SFRotation;
-    assert!(rt; row.default.is_some() == holds, "{}", line.name);
+    uses == (number, line.access, line.field_type, line.kind)
+        && field_at(line.node_type, number) == Some(row)
 }
 
-fn has_default(rt: &impl Abort, alloc: Global, line: Line<'_>) -> Result<(), Fail> {
-    let row = field_of(line.node_type, line.name).ok_or("no such field")?;
-    if row.default.is_some() {
-        let shown = default_text(alloc, row)?;
-        let wanted = if row.kind.is_some() { "" } else { line.default };
-        assert!(rt; shown.as_slice() == wanted.as_bytes(), "{}", line.name);
+/// Whether a field of that access and type holds a value.
+fn holds_a_value(line: Line<'_>) -> bool {
+    let kept = line.access == Access::InputOutput || line.access == Access::InitializeOnly;
+    kept && line.field_type != FieldType::SFRotation
+}
+
+/// Whether that is the default as it is written; a node and a list of nodes have no text.
+fn is_default(alloc: Global, line: Line<'_>, default: FieldDefault) -> Result<bool, AllocError> {
+    let Some(value) = default_value(alloc, line.field_type, default)? else {
+        return Ok(false);
+    };
+    let wanted = if line.kind.is_some() {
+        ""
+    } else {
+        line.default
+    };
+    let shown = shows(alloc, &value, wanted);
+    drop(value);
+    shown
+}
+
+/// Whether the line is the field of that number in the program's table.
+fn is_found(alloc: Global, line: Line<'_>, number: u16) -> Result<bool, AllocError> {
+    let Some(row) = field_of(line.node_type, line.name) else {
+        return Ok(false);
+    };
+    if !is_row(line, number, row) {
+        return Ok(false);
     }
-    Ok(())
-}
-
-/// How many rows the program's table has.
-fn row_count() -> usize {
-    let mut rows = 0usize;
-    for line in TABLE.lines() {
-        if let Some(line) = read_line(line)
-            && line.name == "metadata"
-        {
-            rows = rows.wrapping_add(fields_of(line.node_type).len());
-        }
+    match row.default {
+        Some(default) => Ok(holds_a_value(line) && is_default(alloc, line, default)?),
+        None => Ok(!holds_a_value(line)),
     }
-    rows
 }
 
-#[test]
-fn every_row_of_the_table_is_found(rt: HostRuntime) -> Result<(), Fail> {
+/// How many lines are found, up to the first that isn't, and how many rows their node types have.
+fn found(alloc: Global) -> Result<(usize, usize), AllocError> {
     let mut earlier = None;
     let mut number = 0u16;
-    let mut lines = 0u32;
+    let mut lines = 0usize;
+    let mut rows = 0usize;
     for text in TABLE.lines() {
-        let line = read_line(text).ok_or("a line of the table")?;
+        let Some(line) = read_line(text) else {
+            return Ok((lines, rows));
+        };
         if earlier != Some(line.node_type) {
             earlier = Some(line.node_type);
             number = 0;
+            rows = rows.wrapping_add(fields_of(line.node_type).len());
         }
-        is_found(&rt, line, number);
-        has_default(&rt, rt.alloc(), line)?;
+        if !is_found(alloc, line, number)? {
+            return Ok((lines, rows));
+        }
         number = number.wrapping_add(1);
         lines = lines.wrapping_add(1);
     }
-    assert!(rt; lines == 233);
-    assert!(rt; row_count() == 233);
-    Ok(())
+    Ok((lines, rows))
+}
+
+/// Whether each line is found, and each row of the program has one.
+fn are_found(alloc: Global) -> Result<bool, AllocError> {
+    Ok(found(alloc)? == (233, 233))
 }
 
 #[test]
-fn other_names_are_not_found(rt: HostRuntime) {
-    assert!(rt; field_of(NodeType::Group, "toggle").is_none());
-    assert!(rt; field_of(NodeType::Group, "").is_none());
-    assert!(rt; field_at(NodeType::Group, 4).is_none());
-    assert!(rt; NodeType::named("Inline").is_none());
-    assert!(rt; FieldType::named("SFImage").is_none());
+fn every_row_of_the_table_is_found(rt: HostRuntime) {
+    holds(&rt, are_found(rt.alloc()));
 }
 
-const KINDS: [(&str, &str); 22] = [
-    ("Appearance", "A"),
-    ("Material", "M"),
-    ("ImageTexture", "T"),
-    ("Box", "G"),
-    ("Sphere", "G"),
-    ("Cone", "G"),
-    ("Cylinder", "G"),
-    ("IndexedFaceSet", "G"),
-    ("Text", "G"),
-    ("Coordinate", "P"),
-    ("Color", "L"),
-    ("Normal", "V"),
-    ("TextureCoordinate", "X"),
-    ("FontStyle", "F"),
-    ("MetadataString", "D"),
-    ("MetadataInteger", "D"),
-    ("MetadataFloat", "D"),
-    ("MetadataSet", "D"),
-    ("Group", "C"),
-    ("Shape", "C"),
-    ("TimeSensor", "C"),
-    ("Script", "C"),
+/// A node type, and the letter of its kind.
+struct Kind(&'static str, &'static str);
+
+impl Row for Kind {
+    fn holds(&self, _alloc: Global) -> Result<bool, AllocError> {
+        match NodeType::named(self.0) {
+            Some(node_type) => Ok(Some(node_type.kind()) == kind_of(self.1)),
+            None => Ok(false),
+        }
+    }
+}
+
+const KINDS: [Kind; 22] = [
+    Kind("Appearance", "A"),
+    Kind("Material", "M"),
+    Kind("ImageTexture", "T"),
+    Kind("Box", "G"),
+    Kind("Sphere", "G"),
+    Kind("Cone", "G"),
+    Kind("Cylinder", "G"),
+    Kind("IndexedFaceSet", "G"),
+    Kind("Text", "G"),
+    Kind("Coordinate", "P"),
+    Kind("Color", "L"),
+    Kind("Normal", "V"),
+    Kind("TextureCoordinate", "X"),
+    Kind("FontStyle", "F"),
+    Kind("MetadataString", "D"),
+    Kind("MetadataInteger", "D"),
+    Kind("MetadataFloat", "D"),
+    Kind("MetadataSet", "D"),
+    Kind("Group", "C"),
+    Kind("Shape", "C"),
+    Kind("TimeSensor", "C"),
+    Kind("Script", "C"),
 ];
-
-fn kind_named(name: &str) -> Option<NodeKind> {
-    Some(NodeType::named(name)?.kind())
-}
 
 #[test]
 fn node_types_have_their_kinds(rt: HostRuntime) {
-    for (name, letter) in KINDS {
-        assert!(rt; kind_named(name) == kind_of(letter), "{name}");
-    }
+    all_hold(&rt, rt.alloc(), &KINDS);
 }
