@@ -71,7 +71,7 @@ impl Row for Tick {
 
 const ONCE: Setting = (1_000_000, false, 1_000_000, 0);
 
-const ONE_CYCLE: [Tick; 4] = [
+static ONE_CYCLE: [Tick; 4] = [
     Tick(
         ONCE,
         None,
@@ -97,7 +97,7 @@ fn one_cycle(rt: HostRuntime) {
 
 const AGAIN: Setting = (2_000_000, true, 1_000_000, 0);
 
-const TWO_CLOCKS: [Tick; 3] = [
+static TWO_CLOCKS: [Tick; 3] = [
     Tick(
         AGAIN,
         None,
@@ -114,7 +114,7 @@ fn two_clocks(rt: HostRuntime) {
     all_hold(&rt, rt.alloc(), &TWO_CLOCKS);
 }
 
-const TICKS: [Tick; 18] = [
+static TICKS: [Tick; 18] = [
     // the start lies ahead
     Tick((4, false, 9, 0), None, 8, None, ""),
     Tick(
@@ -288,7 +288,7 @@ impl Row for Change {
     }
 }
 
-const EVENTS: [Change; 17] = [
+static EVENTS: [Change; 17] = [
     Change(6, Given::Time(3), true, "", true),
     Change(6, Given::Time(3), false, "6 0.000003;", false),
     Change(7, Given::Time(9), true, "", true),

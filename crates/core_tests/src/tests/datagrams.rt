@@ -116,7 +116,7 @@ impl Row for Changed {
     }
 }
 
-const CHANGED: [Changed; 63] = [
+static CHANGED: [Changed; 63] = [
     // the head
     Changed(ASK, 0, b"X3DW", Some(WireFault::BadPacket)),
     Changed(ASK, 3, b"T\x02", Some(WireFault::BadPacket)),
@@ -202,7 +202,7 @@ impl Row for Said {
     }
 }
 
-const SENTENCES: [Said; 5] = [
+static SENTENCES: [Said; 5] = [
     Said(
         WireFault::BadPacket,
         "the bytes are not those of a datagram",

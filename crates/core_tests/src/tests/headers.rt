@@ -15,7 +15,7 @@ impl Row for Headed {
     }
 }
 
-const VERSIONS: [Headed; 12] = [
+static VERSIONS: [Headed; 12] = [
     Headed(b"#X3D V3.0 utf8", Version::V3_0),
     Headed(b"#X3D V3.1 utf8\n", Version::V3_1),
     Headed(b"#X3D V3.2 utf8\r\n", Version::V3_2),
@@ -35,7 +35,7 @@ fn headers_that_are_read(rt: HostRuntime) {
     all_hold(&rt, rt.alloc(), &VERSIONS);
 }
 
-const BAD_HEADERS: [Faulty; 29] = [
+static BAD_HEADERS: [Faulty; 29] = [
     Faulty(b"", LexFaultKind::NoHeader, 1),
     Faulty(b"#X3D V2.0 utf8", LexFaultKind::BadVersion, 1),
     Faulty(b"#X3D V9.9 utf8", LexFaultKind::BadVersion, 1),

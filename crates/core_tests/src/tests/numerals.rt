@@ -19,7 +19,7 @@ const NO_NUMERAL: Result<i64, NumeralFault> = Err(NumeralFault::NotNumeral);
 
 const TOO_LARGE: Result<i64, NumeralFault> = Err(NumeralFault::NumberRange);
 
-const NUMERALS: [Read; 73] = [
+static NUMERALS: [Read; 73] = [
     // decimal numerals
     Read("0", Ok(0)),
     Read("-0", Ok(0)),
@@ -109,25 +109,25 @@ fn numerals_are_read(rt: HostRuntime) {
     all_hold(&rt, rt.alloc(), &NUMERALS);
 }
 
-/// What stands before a million equal digits, the digit, what stands behind them, and the answer.
+/// A million digits: the first ones, and the one that follows to their end; what stands behind
+/// them, and the answer.
 struct Long(&'static [u8], u8, &'static [u8], Result<i64, NumeralFault>);
 
 impl Row for Long {
     fn holds(&self, alloc: Global) -> Result<bool, AllocError> {
-        let mut text = vec![in alloc; self.1; 1_000_000]?;
+        let mut text = Vec::from_slice(alloc, self.0)?;
+        text.resize(1_000_000, self.1)?;
         text.extend_from_slice(self.2)?;
-        let mut whole = Vec::from_slice(alloc, self.0)?;
-        whole.extend_from_slice(text.as_slice())?;
-        Ok(millionths(whole.as_slice()) == self.3)
+        Ok(millionths(text.as_slice()) == self.3)
     }
 }
 
-const LONG: [Long; 5] = [
+static LONG: [Long; 5] = [
     Long(b"", b'9', b"", TOO_LARGE),
     Long(b"", b'0', b"7", Ok(7_000_000)),
     Long(b"", b'0', b"7e-3", Ok(7_000)),
     Long(b"", b'0', b"7e-3.", NO_NUMERAL),
-    Long(b"1", b'0', b"e-1000000", Ok(1_000_000)),
+    Long(b"1", b'0', b"e-999999", Ok(1_000_000)),
 ];
 
 #[test]
@@ -146,7 +146,7 @@ impl Row for Written {
     }
 }
 
-const TEXTS: [Written; 13] = [
+static TEXTS: [Written; 13] = [
     Written(0, "0"),
     Written(1, "0.000001"),
     Written(-1, "-0.000001"),

@@ -59,7 +59,7 @@ impl Row for Left {
     }
 }
 
-const LEFT: [Left; 5] = [
+static LEFT: [Left; 5] = [
     Left(1, 0, false),
     Left(1, 2048, false),
     Left(1, 8192, true),

@@ -52,7 +52,7 @@ impl Row for Plain {
     }
 }
 
-const PLAIN: [Plain; 19] = [
+static PLAIN: [Plain; 19] = [
     Plain(
         NodeType::BooleanFilter,
         1,
@@ -168,7 +168,7 @@ impl Row for Step {
     }
 }
 
-const SEQUENCE: [Step; 8] = [
+static SEQUENCE: [Step; 8] = [
     Step(None, 4, Given::Truth(true), "6 9;", Some(2)),
     Step(Some(2), 3, Given::Truth(true), "6 7;", Some(0)),
     Step(Some(0), 3, Given::Truth(false), "", Some(0)),
@@ -187,7 +187,7 @@ fn sequencer(rt: HostRuntime) {
 
 /// A BooleanSequencer that stands past its end counts as one that has not begun; with fewer keys
 /// than values it sends nothing and stays. An IntegerTrigger sends its number.
-const HELD: [Keyed; 3] = [
+static HELD: [Keyed; 3] = [
     Keyed {
         node_type: NodeType::BooleanSequencer,
         keys: &[0, 1],
@@ -250,7 +250,7 @@ const OTHER: Vec3 = Vec3 {
 
 const NUMBER: NodeType = NodeType::ScalarInterpolator;
 
-const PLACES: [Between; 17] = [
+static PLACES: [Between; 17] = [
     Between(
         NUMBER,
         &[0, 500_000, 500_000, 1_000_000],

@@ -2,7 +2,7 @@
 
 use react_core::{Outbox, Reply};
 use std::alloc::{AllocError, Global};
-use x3d_values::{Fields, Items, Position, Value, show_value};
+use x3d_values::{Fields, Items, Position, Show, Value, show_value};
 
 /// A value of one part.
 #[derive(Clone, Copy)]
@@ -46,9 +46,8 @@ pub fn is_sent(alloc: Global, out: &Outbox, wanted: &str) -> Result<bool, AllocE
 }
 
 fn push_reply(reply: &Reply, text: &mut Vec<u8>) -> Result<(), AllocError> {
-    show_value(&Value::SFInt32(i32::from(reply.field)), text)?;
-    text.push(b' ')?;
+    i32::from(reply.field).show(text)?;
+    text.extend_from_slice(b" ")?;
     show_value(&reply.value, text)?;
-    text.push(b';')?;
-    Ok(())
+    text.extend_from_slice(b";")
 }

@@ -2,8 +2,8 @@
 
 use super::holds;
 use snapshot_codec::{
-    KeptField, Outputs, Progress, SentAt, Touch, TraceEntry, Viewers, entry_of, kept_fields_of,
-    open, push_cycle, push_digest, push_entry, push_entry_count, push_front, push_kept_fields,
+    KeptField, Outputs, Progress, SentAt, Touch, TraceEntry, Viewers, kept_fields_of, open,
+    push_cycle, push_digest, push_entry, push_entry_count, push_front, push_kept_fields,
     push_position, push_progress, push_state, push_touch, push_viewer_set, scene_mark, states_of,
     trace_of,
 };
@@ -49,35 +49,6 @@ fn a_mark_is_the_digest_of_the_text(rt: HostRuntime) {
     let digest = b"\xba\x78\x16\xbf\x8f\x01\xcf\xea\x41\x41\x40\xde\x5d\xae\x22\x23\
         \xb0\x03\x61\xa3\x96\x17\x7a\x9c\xb4\x10\xff\x61\xf2\x00\x15\xad";
     holds(&rt, Ok(mark.as_slice() == digest.as_slice()));
-}
-
-/// A cycle and none, a touch of one of 16 viewers, no position and one.
-const PARTS: &[u8] = b"\x01\x00\x00\x00\x00\x00\x00\x01\x02\
-    \x00\x00\x00\x00\x00\x00\x00\x00\x00\
-    \x80\x01\x0f\xff\xff\xff\xff\x00\x00\x00\x02";
-
-fn push_parts(out: &mut Vec<u8>) -> Result<(), AllocError> {
-    push_cycle(Some(258), out)?;
-    push_cycle(None, out)?;
-    let touch = Touch {
-        over: 0x8001,
-        presser: Some(15),
-    };
-    push_touch(Viewers::Sixteen, touch, out)?;
-    push_position(Position { at: None }, out)?;
-    push_position(Position { at: Some(2) }, out)
-}
-
-/// Whether the parts have these bytes.
-fn are_written(alloc: Global) -> Result<bool, AllocError> {
-    let mut out = Vec::new(alloc);
-    push_parts(&mut out)?;
-    Ok(out.as_slice() == PARTS)
-}
-
-#[test]
-fn parts_have_their_bytes(rt: HostRuntime) {
-    holds(&rt, are_written(rt.alloc()));
 }
 
 /// No value, a time and a truth value.
@@ -126,13 +97,13 @@ impl Outputs for Switches {
     }
 }
 
-/// One event, and how many there are before it.
-const TRACE: &[u8] = b"\x00\x00\x00\x00\x00\x00\x00\x01\x00\x00\x00\x01\
-    \x00\x00\x00\x00\x00\x0f\x42\x40\x00\x00\x00\x02\x00\x03\x01";
-
-/// An event by field 4.
-const OTHER_FIELD: &[u8] = b"\x00\x00\x00\x01\
-    \x00\x00\x00\x00\x00\x0f\x42\x40\x00\x00\x00\x02\x00\x04\x01";
+/// How many events there are, and one; two states, of two numbers and of none; a cycle and none; a
+/// touch of one of 16 viewers; no position and one.
+const PARTS: &[u8] = b"\x00\x00\x00\x00\x00\x00\x00\x01\x00\x00\x00\x01\
+    \x00\x00\x00\x00\x00\x0f\x42\x40\x00\x00\x00\x02\x00\x03\x01\x00\x00\x00\x02\
+    \xff\xff\xff\xff\xff\xff\xff\xff\x00\x00\x00\x00\x00\x00\x00\x02\x00\x00\x00\x00\
+    \x01\x00\x00\x00\x00\x00\x00\x01\x02\x00\x00\x00\x00\x00\x00\x00\x00\x00\
+    \x80\x01\x0f\xff\xff\xff\xff\x00\x00\x00\x02";
 
 const SENT: SentAt = SentAt {
     input: 1,
@@ -141,56 +112,72 @@ const SENT: SentAt = SentAt {
     field: 3,
 };
 
-/// Whether an event has these bytes.
-fn is_traced(alloc: Global) -> Result<bool, AllocError> {
+const TOUCH: Touch = Touch {
+    over: 0x8001,
+    presser: Some(15),
+};
+
+fn push_events(out: &mut Vec<u8>) -> Result<(), AllocError> {
+    push_entry_count(1, out)?;
+    let value = Value::SFBool(true);
+    let pushed = push_entry(SENT, &value, out);
+    drop(value);
+    pushed
+}
+
+fn push_nodes(out: &mut Vec<u8>) -> Result<(), AllocError> {
+    push_cycle(Some(258), out)?;
+    push_cycle(None, out)?;
+    push_touch(Viewers::Sixteen, TOUCH, out)?;
+    push_position(Position { at: None }, out)?;
+    push_position(Position { at: Some(2) }, out)
+}
+
+fn push_parts(out: &mut Vec<u8>) -> Result<(), AllocError> {
+    push_events(out)?;
+    push_state(&[-1, 2], out)?;
+    push_state(&[], out)?;
+    push_nodes(out)
+}
+
+/// Whether the parts have these bytes.
+fn are_written(alloc: Global) -> Result<bool, AllocError> {
     let mut out = Vec::new(alloc);
-    push_entry_count(1, &mut out)?;
-    push_entry(SENT, &Value::SFBool(true), &mut out)?;
-    Ok(out.as_slice() == TRACE)
+    push_parts(&mut out)?;
+    Ok(out.as_slice() == PARTS)
 }
 
-/// Whether the event is read from these bytes, and none by a field that sends nothing.
-fn is_read(alloc: Global) -> bool {
-    let mut entries: Items<TraceEntry> = Items::new(alloc);
-    let rest = trace_of(alloc, &Switches, TRACE, &mut entries).map(<[u8]>::len);
-    let first = entries.get(0).map(|entry| entry.sent);
-    drop(entries);
-    let other = entry_of(alloc, &Switches, OTHER_FIELD).err();
-    rest == Ok(0) && first == Some(SENT) && other.is_some()
-}
-
-#[test]
-fn a_trace_is_read_again(rt: HostRuntime) {
-    holds(&rt, is_traced(rt.alloc()));
-    holds(&rt, Ok(is_read(rt.alloc())));
-}
-
-/// Two states, of two numbers and of none.
-const STATES: &[u8] = b"\x00\x00\x00\x02\
-    \xff\xff\xff\xff\xff\xff\xff\xff\x00\x00\x00\x00\x00\x00\x00\x02\x00\x00\x00\x00";
-
-/// Whether the states have these bytes.
-fn are_states(alloc: Global) -> Result<bool, AllocError> {
-    let mut out = Vec::new(alloc);
-    push_state(&[-1, 2], &mut out)?;
-    push_state(&[], &mut out)?;
-    Ok(out.as_slice() == STATES)
-}
-
-/// Whether two states are read from these bytes.
-fn are_read(alloc: Global) -> bool {
-    match states_of(alloc, 2, STATES) {
+/// Whether two states are read, with the 29 bytes of the other parts behind them.
+fn are_states(alloc: Global, bytes: &[u8]) -> bool {
+    match states_of(alloc, 2, bytes) {
         Ok((states, rest)) => {
             let count = states.len();
             drop(states);
-            count == 2 && rest.is_empty()
+            count == 2 && rest.len() == 29
         }
         Err(_) => false,
     }
 }
 
+/// Whether the events and the states are read.
+fn are_read(alloc: Global, entries: &mut Items<TraceEntry>) -> bool {
+    match trace_of(alloc, &Switches, PARTS, entries) {
+        Ok(rest) => are_states(alloc, rest),
+        Err(_) => false,
+    }
+}
+
+/// Whether the events and the states are read, the first event as it was sent.
+fn are_as_sent(alloc: Global) -> bool {
+    let mut entries = Items::new(alloc);
+    let read = are_read(alloc, &mut entries);
+    let first = entries.get(0).map(|entry| entry.sent);
+    drop(entries);
+    read && first == Some(SENT)
+}
+
 #[test]
-fn states_are_read_again(rt: HostRuntime) {
-    holds(&rt, are_states(rt.alloc()));
-    holds(&rt, Ok(are_read(rt.alloc())));
+fn parts_have_their_bytes(rt: HostRuntime) {
+    holds(&rt, are_written(rt.alloc()));
+    holds(&rt, Ok(are_as_sent(rt.alloc())));
 }

@@ -14,18 +14,21 @@ use x3d_values::{
 
 /// The letters of the table.
 fn kind_of(letter: &str) -> Option<NodeKind> {
+    let [letter] = letter.as_bytes() else {
+        return None;
+    };
     match letter {
-        "C" => Some(NodeKind::Child),
-        "A" => Some(NodeKind::Appearance),
-        "M" => Some(NodeKind::Material),
-        "T" => Some(NodeKind::Texture),
-        "G" => Some(NodeKind::Geometry),
-        "P" => Some(NodeKind::Coordinates),
-        "L" => Some(NodeKind::Colors),
-        "V" => Some(NodeKind::Normals),
-        "X" => Some(NodeKind::TextureCoordinates),
-        "F" => Some(NodeKind::FontStyle),
-        "D" => Some(NodeKind::Metadata),
+        b'C' => Some(NodeKind::Child),
+        b'A' => Some(NodeKind::Appearance),
+        b'M' => Some(NodeKind::Material),
+        b'T' => Some(NodeKind::Texture),
+        b'G' => Some(NodeKind::Geometry),
+        b'P' => Some(NodeKind::Coordinates),
+        b'L' => Some(NodeKind::Colors),
+        b'V' => Some(NodeKind::Normals),
+        b'X' => Some(NodeKind::TextureCoordinates),
+        b'F' => Some(NodeKind::FontStyle),
+        b'D' => Some(NodeKind::Metadata),
         _ => None,
     }
 }
@@ -45,23 +48,29 @@ fn access_of(word: &str) -> Option<Access> {
 struct Line<'a> {
     node_type: NodeType,
     name: &'a str,
-    field_type: FieldType,
-    access: Access,
+    field_type: Option<FieldType>,
+    access: Option<Access>,
     default: &'a str,
     kind: Option<NodeKind>,
 }
 
+/// The first word, and what stands behind it.
+fn cut_word(line: &str) -> (&str, &str) {
+    line.split_once(' ').unwrap_or((line, ""))
+}
+
 fn read_line(line: &str) -> Option<Line<'_>> {
-    let (node_type, rest) = line.split_once(' ')?;
-    let (name, rest) = rest.split_once(' ')?;
-    let (field_type, rest) = rest.split_once(' ')?;
-    let (access, rest) = rest.split_once(' ').unwrap_or((rest, ""));
+    let (node_type, rest) = cut_word(line);
+    let (name, rest) = cut_word(rest);
+    let (field_type, rest) = cut_word(rest);
+    let (access, rest) = cut_word(rest);
     let (default, letter) = rest.split_once(" of ").unwrap_or((rest, ""));
+    let node_type = NodeType::named(node_type)?;
     Some(Line {
-        node_type: NodeType::named(node_type)?,
+        node_type,
         name,
-        field_type: FieldType::named(field_type)?,
-        access: access_of(access)?,
+        field_type: FieldType::named(field_type),
+        access: access_of(access),
         default,
         kind: kind_of(letter),
     })
@@ -69,27 +78,24 @@ fn read_line(line: &str) -> Option<Line<'_>> {
 
 /// Whether the line is that field of the table, but for its default.
 fn is_row(line: Line<'_>, number: u16, row: FieldRow) -> bool {
-    let uses = (row.number, row.access, row.field_type, row.kind);
+    let uses = (row.number, Some(row.access), Some(row.field_type), row.kind);
     uses == (number, line.access, line.field_type, line.kind)
         && field_at(line.node_type, number) == Some(row)
 }
 
 /// Whether a field of that access and type holds a value.
-fn holds_a_value(line: Line<'_>) -> bool {
-    let kept = line.access == Access::InputOutput || line.access == Access::InitializeOnly;
-    kept && line.field_type != FieldType::SFRotation
+fn holds_a_value(row: FieldRow) -> bool {
+    let kept = row.access == Access::InputOutput || row.access == Access::InitializeOnly;
+    kept && row.field_type != FieldType::SFRotation
 }
 
 /// Whether that is the default as it is written; a node and a list of nodes have no text.
-fn is_default(alloc: Global, line: Line<'_>, default: FieldDefault) -> Result<bool, AllocError> {
-    let Some(value) = default_value(alloc, line.field_type, default)? else {
+fn is_default(alloc: Global, row: FieldRow, wanted: &str) -> Result<bool, AllocError> {
+    let default = row.default.unwrap_or(FieldDefault::Empty);
+    let Some(value) = default_value(alloc, row.field_type, default)? else {
         return Ok(false);
     };
-    let wanted = if line.kind.is_some() {
-        ""
-    } else {
-        line.default
-    };
+    let wanted = if row.kind.is_some() { "" } else { wanted };
     let shown = shows(alloc, &value, wanted);
     drop(value);
     shown
@@ -100,42 +106,55 @@ fn is_found(alloc: Global, line: Line<'_>, number: u16) -> Result<bool, AllocErr
     let Some(row) = field_of(line.node_type, line.name) else {
         return Ok(false);
     };
-    if !is_row(line, number, row) {
+    if !is_row(line, number, row) || row.default.is_some() != holds_a_value(row) {
         return Ok(false);
     }
-    match row.default {
-        Some(default) => Ok(holds_a_value(line) && is_default(alloc, line, default)?),
-        None => Ok(!holds_a_value(line)),
+    if row.default.is_none() {
+        return Ok(true);
     }
+    is_default(alloc, row, line.default)
 }
 
-/// How many lines are found, up to the first that isn't, and how many rows their node types have.
-fn found(alloc: Global) -> Result<(usize, usize), AllocError> {
-    let mut earlier = None;
-    let mut number = 0u16;
-    let mut lines = 0usize;
-    let mut rows = 0usize;
-    for text in TABLE.lines() {
-        let Some(line) = read_line(text) else {
-            return Ok((lines, rows));
-        };
-        if earlier != Some(line.node_type) {
-            earlier = Some(line.node_type);
-            number = 0;
-            rows = rows.wrapping_add(fields_of(line.node_type).len());
-        }
-        if !is_found(alloc, line, number)? {
-            return Ok((lines, rows));
-        }
-        number = number.wrapping_add(1);
-        lines = lines.wrapping_add(1);
+/// How many lines were found so far, the node type and the number of the next field of the last,
+/// and how many rows the node types have.
+#[derive(Clone, Copy)]
+struct Found {
+    lines: usize,
+    node_type: Option<NodeType>,
+    number: u16,
+    rows: usize,
+}
+
+/// Whether the line is the next one of the table.
+fn is_next(alloc: Global, text: &str, found: &mut Found) -> Result<bool, AllocError> {
+    let Some(line) = read_line(text) else {
+        return Ok(false);
+    };
+    if found.node_type != Some(line.node_type) {
+        found.node_type = Some(line.node_type);
+        found.number = 0;
+        found.rows = found.rows.wrapping_add(fields_of(line.node_type).len());
     }
-    Ok((lines, rows))
+    let answer = is_found(alloc, line, found.number);
+    found.number = found.number.wrapping_add(1);
+    found.lines = found.lines.wrapping_add(1);
+    answer
 }
 
 /// Whether each line is found, and each row of the program has one.
 fn are_found(alloc: Global) -> Result<bool, AllocError> {
-    Ok(found(alloc)? == (233, 233))
+    let mut found = Found {
+        lines: 0,
+        node_type: None,
+        number: 0,
+        rows: 0,
+    };
+    for text in TABLE.lines() {
+        if !is_next(alloc, text, &mut found)? {
+            return Ok(false);
+        }
+    }
+    Ok(found.lines == 233 && found.rows == 233)
 }
 
 #[test]
@@ -155,7 +174,7 @@ impl Row for Kind {
     }
 }
 
-const KINDS: [Kind; 22] = [
+static KINDS: [Kind; 22] = [
     Kind("Appearance", "A"),
     Kind("Material", "M"),
     Kind("ImageTexture", "T"),

@@ -34,7 +34,7 @@ impl Row for Said {
     }
 }
 
-const SAID: [Said; 2] = [
+static SAID: [Said; 2] = [
     Said(
         LexFaultKind::OpenString,
         7,
@@ -77,7 +77,7 @@ fn fault_of(alloc: Global, text: &[u8], spare: usize) -> Result<Option<LexFault>
 
 /// With 2048 bytes the first growths are given: a short text is cut. Of a long one the first growth
 /// is refused, a later one, and none.
-const LEFT: [Left; 4] = [
+static LEFT: [Left; 4] = [
     Left(1, 2048, false),
     Left(100, 0, true),
     Left(100, 2048, true),

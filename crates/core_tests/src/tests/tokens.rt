@@ -8,17 +8,19 @@ use std::process::Abort;
 /// A token's kind, its bytes and its line.
 type Wanted = (TokenKind, &'static str, u32);
 
+fn is(text: &[u8], token: &Token, wanted: &Wanted) -> bool {
+    let (kind, piece, line) = *wanted;
+    let bytes = text.get(token.start as usize..token.end as usize);
+    bytes == Some(piece.as_bytes()) && token.kind == kind && token.line == line
+}
+
 fn are(text: &[u8], tokens: &[Token], wanted: &[Wanted]) -> bool {
-    if tokens.len() != wanted.len() {
-        return false;
-    }
-    for (token, (kind, piece, line)) in tokens.iter().zip(wanted) {
-        let bytes = text.get(token.start as usize..token.end as usize);
-        if bytes != Some(piece.as_bytes()) || (token.kind, token.line) != (*kind, *line) {
+    for (token, one) in tokens.iter().zip(wanted) {
+        if !is(text, token, one) {
             return false;
         }
     }
-    true
+    tokens.len() == wanted.len()
 }
 
 /// A text, and its tokens.
@@ -33,7 +35,7 @@ impl Row for Cut {
     }
 }
 
-const TOKENS: [Cut; 16] = [
+static TOKENS: [Cut; 16] = [
     // nothing behind the header
     Cut(b"#X3D V3.0 utf8", &[]),
     Cut(b"#X3D V3.0 utf8\n", &[]),
@@ -200,7 +202,7 @@ impl Row for Faulty {
     }
 }
 
-const FAULTS: [Faulty; 24] = [
+static FAULTS: [Faulty; 24] = [
     Faulty(b"#X3D V3.0 utf8\n\"", LexFaultKind::OpenString, 2),
     Faulty(b"#X3D V3.0 utf8\n\na \"b\nc", LexFaultKind::OpenString, 3),
     Faulty(b"#X3D V3.0 utf8\n\"a\\\"", LexFaultKind::OpenString, 2),

@@ -1,5 +1,6 @@
 //! Raw values as values of a type; rotations, the longest list, and growths that are refused.
 
+use super::lists::words;
 use super::values::shows;
 use super::{Row, all_hold, holds};
 use classic_tree::RawValue;
@@ -111,18 +112,6 @@ fn word(alloc: Global) -> Result<RawValue<u32>, AllocError> {
     Ok(RawValue::String(Text::from_str(alloc, "key")?))
 }
 
-fn push_words(alloc: Global, items: &mut Items<Text>) -> Result<(), AllocError> {
-    items.push(Text::from_str(alloc, "door")?)?;
-    items.push(Text::from_str(alloc, "lamp")?)?;
-    Ok(())
-}
-
-fn words(alloc: Global) -> Result<RawValue<u32>, AllocError> {
-    let mut items = Items::new(alloc);
-    push_words(alloc, &mut items)?;
-    Ok(RawValue::StringList(items))
-}
-
 fn long_word(alloc: Global) -> Result<RawValue<u32>, AllocError> {
     let bytes = vec![in alloc; b'x'; 4096]?;
     let text = str::from_utf8(bytes.as_slice()).unwrap_or("");
@@ -141,7 +130,7 @@ impl Row for Typed {
             Given::Truths(items) => RawValue::TruthList(Items::from_slice(alloc, items)?),
             Given::Word => word(alloc)?,
             Given::LongWord => long_word(alloc)?,
-            Given::Words => words(alloc)?,
+            Given::Words => RawValue::StringList(words(alloc)?),
             Given::Null => RawValue::Null,
             Given::Node(node) => RawValue::Node(node),
             Given::Nodes(items) => RawValue::NodeList(Items::from_slice(alloc, items)?),
