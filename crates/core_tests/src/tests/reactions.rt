@@ -1,109 +1,29 @@
-//! The worked examples, and each row of the reactions by hand.
+//! Each row of the reactions by hand.
 
-use super::sending::{Given, fields, kept_text, outbox_text, value_of};
-use react_core::{Outbox, copy_of, interpolate, react, step_index};
+use super::sending::{Given, fields, is_sent, value_of};
+use super::{Row, all_hold, holds};
+use react_core::{Outbox, react};
 use std::alloc::{AllocError, Global};
 use std::process::Abort;
-use std::test::Fail;
-use test_memory::UsedUp;
-use x3d_values::{Fields, Items, NodeType, Position, Text, Value, Vec2, Vec3, show_value};
+use x3d_values::{Fields, Items, NodeType, Position, Text, Value, Vec2, Vec3};
 
-pub(super) fn numbers(alloc: Global, items: &[i64]) -> Result<Value, AllocError> {
-    Ok(Value::MFFloat(Items::from_slice(alloc, items)?))
-}
-
-/// An interpolator or a sequencer with these keys and values.
-pub(super) fn keyed(alloc: Global, key: &[i64], key_value: Value) -> Result<Fields, AllocError> {
-    let mut keyed = fields(alloc, 7)?;
-    keyed.set(2, key_value);
-    keyed.set(1, numbers(alloc, key)?);
-    Ok(keyed)
-}
-
-/// The text of a value, and nothing for none.
-fn text_of(alloc: Global, found: Option<&Value>) -> Result<Vec<u8>, AllocError> {
-    let mut text = Vec::new(alloc);
-    if let Some(value) = found {
-        show_value(value, &mut text)?;
-    }
-    Ok(text)
-}
-
-fn is_there(alloc: Global, found: Option<Value>, wanted: &str) -> Result<bool, AllocError> {
-    let text = text_of(alloc, found.as_ref())?;
-    Ok(text.as_slice() == wanted.as_bytes())
-}
-
-/// Whether that stands between the keys there, as text; nothing for none.
-fn is_between(
+/// Whether that is sent at an event.
+fn sends(
     alloc: Global,
     node_type: NodeType,
-    key: &[i64],
-    key_value: &Value,
-    fraction: i64,
-    wanted: &str,
-) -> Result<bool, AllocError> {
-    let found = interpolate(alloc, node_type, key, key_value, fraction)?;
-    is_there(alloc, found, wanted)
-}
-
-/// The same of a ScalarInterpolator with these numbers.
-fn is_number_at(
-    alloc: Global,
-    key: &[i64],
-    key_value: &[i64],
-    fraction: i64,
-    wanted: &str,
-) -> Result<bool, AllocError> {
-    let values = numbers(alloc, key_value)?;
-    is_between(
-        alloc,
-        NodeType::ScalarInterpolator,
-        key,
-        &values,
-        fraction,
-        wanted,
-    )
-}
-
-/// Keys, their values, a fraction, and the text of what stands there.
-type Place = (&'static [i64], &'static [i64], i64, &'static str);
-
-const PLACES: [Place; 9] = [
-    (
-        &[0, 500_000, 500_000, 1_000_000],
-        &[0, 1_000_000, 5_000_000, 6_000_000],
-        500_000,
-        "5",
-    ),
-    (
-        &[0, 300_000, 1_000_000],
-        &[0, 10_000_000, 0],
-        400_000,
-        "8.571428",
-    ),
-    (&[], &[], 0, ""),
-    (&[1, 0], &[1, 2], 0, ""),
-    (&[0, 1], &[1], 0, ""),
-    (&[0, 0, 2], &[1, 5, 7], 0, "0.000001"),
-    (&[0, 2, 2], &[1, 5, 7], 2, "0.000007"),
-    (&[0, 3], &[0, -1], 1, "-0.000001"),
-    (&[i64::MIN, i64::MAX], &[i64::MAX, i64::MIN], 0, "-0.000001"),
-];
-
-#[test]
-fn interpolation(rt: HostRuntime) -> Result<(), Fail> {
-    for (key, key_value, fraction, wanted) in PLACES {
-        assert!(rt;
-            is_number_at(rt.alloc(), key, key_value, fraction, wanted)?,
-            "{wanted}"
-        );
+    node: &mut Fields,
+    input: u16,
+    value: &Value,
+    out: &mut Outbox,
+) -> Result<(), AllocError> {
+    if out.is_empty() {
+        react(alloc, node_type, node, input, value, 42_000_000, out)?;
     }
     Ok(())
 }
 
-/// Whether a node sends that at one event: the field and the value of each reply, in order.
-fn sends(
+/// Whether a node sends that at one event.
+fn reacts(
     alloc: Global,
     node_type: NodeType,
     node: &mut Fields,
@@ -112,133 +32,211 @@ fn sends(
     wanted: &str,
 ) -> Result<bool, AllocError> {
     let mut out = Outbox::new();
-    react(alloc, node_type, node, input, &value, 42_000_000, &mut out)?;
-    let text = outbox_text(alloc, &out)?;
-    Ok(text.as_slice() == wanted.as_bytes())
+    let answer = sends(alloc, node_type, node, input, &value, &mut out);
+    drop(value);
+    let sent = is_sent(alloc, &out, wanted);
+    drop(out);
+    Ok(answer.is_ok() && sent?)
 }
 
-/// Whether a node of five fields, the third FALSE, sends that at an event.
-fn one_sends(
-    alloc: Global,
-    node_type: NodeType,
-    input: u16,
-    given: Given,
-    wanted: &str,
-) -> Result<bool, AllocError> {
-    let mut node = fields(alloc, 5)?;
-    node.set(2, Value::SFBool(false));
-    sends(alloc, node_type, &mut node, input, value_of(given), wanted)
+/// An event at a node of seven fields, the third FALSE, and what is sent.
+struct Plain(NodeType, u16, Given, &'static str);
+
+impl Row for Plain {
+    fn holds(&self, alloc: Global) -> Result<bool, AllocError> {
+        let mut node = fields(alloc, 7)?;
+        node.set(2, Value::SFBool(false));
+        let answer = reacts(alloc, self.0, &mut node, self.1, value_of(self.2), self.3);
+        drop(node);
+        answer
+    }
 }
 
-const REACTIONS: [(NodeType, u16, Given, &str); 19] = [
-    (
+static PLAIN: [Plain; 19] = [
+    Plain(
         NodeType::BooleanFilter,
         1,
         Given::Truth(true),
         "2 TRUE;4 FALSE;",
     ),
-    (
+    Plain(
         NodeType::BooleanFilter,
         1,
         Given::Truth(false),
         "3 FALSE;4 TRUE;",
     ),
-    (NodeType::BooleanFilter, 2, Given::Truth(true), ""),
-    (NodeType::BooleanFilter, 1, Given::Time(1), ""),
-    (NodeType::BooleanToggle, 1, Given::Truth(true), "2 TRUE;"),
-    (NodeType::BooleanToggle, 1, Given::Truth(false), ""),
-    (NodeType::BooleanToggle, 2, Given::Truth(true), "2 TRUE;"),
-    (NodeType::BooleanTrigger, 1, Given::Time(7), "2 TRUE;"),
-    (NodeType::BooleanTrigger, 1, Given::Truth(true), ""),
-    (NodeType::IntegerTrigger, 1, Given::Truth(true), ""),
-    (NodeType::IntegerTrigger, 2, Given::Int32(5), "2 5;"),
-    (NodeType::TimeTrigger, 1, Given::Truth(true), "2 42;"),
-    (NodeType::TimeTrigger, 1, Given::Truth(false), "2 42;"),
-    (NodeType::TouchSensor, 2, Given::Truth(false), "2 FALSE;"),
-    (NodeType::TimeSensor, 2, Given::Truth(false), ""),
-    (NodeType::Switch, 4, Given::Int32(1), "4 1;"),
-    (NodeType::Switch, 4, Given::Truth(true), ""),
-    (NodeType::Switch, 0, Given::NoNode, ""),
-    (NodeType::Switch, 9, Given::Truth(true), ""),
+    Plain(NodeType::BooleanFilter, 2, Given::Truth(true), ""),
+    Plain(NodeType::BooleanFilter, 1, Given::Time(1), ""),
+    Plain(NodeType::BooleanToggle, 1, Given::Truth(true), "2 TRUE;"),
+    Plain(NodeType::BooleanToggle, 1, Given::Truth(false), ""),
+    Plain(NodeType::BooleanToggle, 2, Given::Truth(true), "2 TRUE;"),
+    Plain(NodeType::BooleanTrigger, 1, Given::Time(7), "2 TRUE;"),
+    Plain(NodeType::BooleanTrigger, 1, Given::Truth(true), ""),
+    Plain(NodeType::IntegerTrigger, 1, Given::Truth(true), ""),
+    Plain(NodeType::IntegerTrigger, 2, Given::Int32(5), "2 5;"),
+    Plain(NodeType::TimeTrigger, 1, Given::Truth(true), "2 42;"),
+    Plain(NodeType::TimeTrigger, 1, Given::Truth(false), "2 42;"),
+    Plain(NodeType::TouchSensor, 2, Given::Truth(false), "2 FALSE;"),
+    Plain(NodeType::TimeSensor, 2, Given::Truth(false), ""),
+    Plain(NodeType::Switch, 4, Given::Int32(1), "4 1;"),
+    Plain(NodeType::Switch, 4, Given::Truth(true), ""),
+    Plain(NodeType::Switch, 0, Given::NoNode, ""),
+    Plain(NodeType::Switch, 9, Given::Truth(true), ""),
 ];
 
 #[test]
-fn passes_on_truth_values_and_times(rt: HostRuntime) -> Result<(), Fail> {
-    for (node_type, input, given, wanted) in REACTIONS {
-        assert!(rt;
-            one_sends(rt.alloc(), node_type, input, given, wanted)?,
-            "{input} {wanted}"
-        );
+fn passes_on_truth_values_and_times(rt: HostRuntime) {
+    all_hold(&rt, rt.alloc(), &PLAIN);
+}
+
+/// What a node holds in its field 2.
+#[derive(Clone, Copy)]
+enum Held {
+    Int32(i32),
+    Truths(&'static [bool]),
+    Int32s(&'static [i32]),
+    Floats(&'static [i64]),
+    Pairs(&'static [Vec2]),
+    Vectors(&'static [Vec3]),
+}
+
+fn hold(alloc: Global, node: &mut Fields, held: Held) -> Result<(), AllocError> {
+    match held {
+        Held::Int32(number) => node.set(2, Value::SFInt32(number)),
+        Held::Truths(items) => node.set(2, Value::MFBool(Items::from_slice(alloc, items)?)),
+        Held::Int32s(items) => node.set(2, Value::MFInt32(Items::from_slice(alloc, items)?)),
+        Held::Floats(items) => node.set(2, Value::MFFloat(Items::from_slice(alloc, items)?)),
+        Held::Pairs(items) => node.set(2, Value::MFVec2f(Items::from_slice(alloc, items)?)),
+        Held::Vectors(items) => node.set(2, Value::MFVec3f(Items::from_slice(alloc, items)?)),
     }
     Ok(())
 }
 
-/// What comes to the sequencer, and what it sends.
-const SEQUENCE: [(u16, Given, &str); 8] = [
-    (4, Given::Truth(true), "6 9;"),
-    (3, Given::Truth(true), "6 7;"),
-    (3, Given::Truth(false), ""),
-    (5, Given::Float(750_000), "6 8;"),
-    (3, Given::Truth(true), "6 9;"),
-    (3, Given::Truth(true), "6 7;"),
-    (5, Given::Float(-1), "6 7;"),
-    (5, Given::Truth(true), ""),
+pub(super) fn set_keys(alloc: Global, node: &mut Fields, keys: &[i64]) -> Result<(), AllocError> {
+    node.set(1, Value::MFFloat(Items::from_slice(alloc, keys)?));
+    Ok(())
+}
+
+/// A node with keys and what it holds, where it stands, an event, what is sent, and where it stands
+/// then.
+#[derive(Clone, Copy)]
+struct Keyed {
+    node_type: NodeType,
+    keys: &'static [i64],
+    held: Held,
+    at: Option<u32>,
+    event: (u16, Given),
+    sent: &'static str,
+    then: Option<u32>,
+}
+
+/// Whether a node without fields so far answers as the row says.
+fn answers(alloc: Global, node: &mut Fields, row: &Keyed) -> Result<bool, AllocError> {
+    hold(alloc, node, row.held)?;
+    set_keys(alloc, node, row.keys)?;
+    node.position = Position { at: row.at };
+    let (input, given) = row.event;
+    let sent = reacts(alloc, row.node_type, node, input, value_of(given), row.sent)?;
+    Ok(sent && node.position.at == row.then)
+}
+
+impl Row for Keyed {
+    fn holds(&self, alloc: Global) -> Result<bool, AllocError> {
+        let mut node = fields(alloc, 7)?;
+        let answer = answers(alloc, &mut node, self);
+        drop(node);
+        answer
+    }
+}
+
+/// An event at an IntegerSequencer of three values: where it stands, what comes, what is sent, and
+/// where it stands then.
+struct Step(Option<u32>, u16, Given, &'static str, Option<u32>);
+
+impl Row for Step {
+    fn holds(&self, alloc: Global) -> Result<bool, AllocError> {
+        let row = Keyed {
+            node_type: NodeType::IntegerSequencer,
+            keys: &[0, 500_000, 1_000_000],
+            held: Held::Int32s(&[7, 8, 9]),
+            at: self.0,
+            event: (self.1, self.2),
+            sent: self.3,
+            then: self.4,
+        };
+        row.holds(alloc)
+    }
+}
+
+static SEQUENCE: [Step; 8] = [
+    Step(None, 4, Given::Truth(true), "6 9;", Some(2)),
+    Step(Some(2), 3, Given::Truth(true), "6 7;", Some(0)),
+    Step(Some(0), 3, Given::Truth(false), "", Some(0)),
+    Step(Some(0), 5, Given::Float(750_000), "6 8;", Some(1)),
+    Step(Some(1), 3, Given::Truth(true), "6 9;", Some(2)),
+    Step(Some(2), 3, Given::Truth(true), "6 7;", Some(0)),
+    Step(Some(0), 5, Given::Float(-1), "6 7;", Some(0)),
+    Step(Some(0), 5, Given::Truth(true), "", Some(0)),
 ];
 
 /// An IntegerSequencer of three keys: what it sends at these events, in turn.
 #[test]
-fn sequencer(rt: HostRuntime) -> Result<(), Fail> {
-    let alloc = rt.alloc();
-    let values = Value::MFInt32(Items::from_slice(alloc, &[7, 8, 9])?);
-    let mut node = keyed(alloc, &[0, 500_000, 1_000_000], values)?;
-    for (input, given, wanted) in SEQUENCE {
-        let node_type = NodeType::IntegerSequencer;
-        let sent = sends(alloc, node_type, &mut node, input, value_of(given), wanted)?;
-        assert!(rt; sent, "{input} {wanted}");
-    }
-    Ok(())
-}
-
-/// A BooleanSequencer with two values that stands past its end.
-fn past_the_end(alloc: Global, keys: &[i64]) -> Result<Fields, AllocError> {
-    let values = Value::MFBool(Items::from_slice(alloc, &[true, false])?);
-    let mut node = keyed(alloc, keys, values)?;
-    node.position = Position { at: Some(2) };
-    Ok(node)
-}
-
-/// Whether it sends that at `next`, and where it stands then.
-fn goes_on(alloc: Global, keys: &[i64], wanted: &str) -> Result<(bool, Option<u32>), AllocError> {
-    let mut node = past_the_end(alloc, keys)?;
-    let node_type = NodeType::BooleanSequencer;
-    let sent = sends(alloc, node_type, &mut node, 3, Value::SFBool(true), wanted)?;
-    Ok((sent, node.position.at))
+fn sequencer(rt: HostRuntime) {
+    all_hold(&rt, rt.alloc(), &SEQUENCE);
 }
 
 /// A BooleanSequencer that stands past its end counts as one that has not begun; with fewer keys
-/// than values it sends nothing and stays.
-#[test]
-fn a_position_past_the_end_counts_as_none(rt: HostRuntime) -> Result<(), Fail> {
-    assert!(rt; goes_on(rt.alloc(), &[0, 1], "6 TRUE;")? == (true, Some(0)));
-    assert!(rt; goes_on(rt.alloc(), &[0], "")? == (true, Some(2)));
-    Ok(())
-}
-
-/// Keys, a fraction, and the last key that it reaches.
-const REACHED: [(&[i64], i64, Option<usize>); 7] = [
-    (&[], 0, None),
-    (&[2, 1], 0, None),
-    (&[0, 5, 5, 9], -1, Some(0)),
-    (&[0, 5, 5, 9], 0, Some(0)),
-    (&[0, 5, 5, 9], 5, Some(2)),
-    (&[0, 5, 5, 9], 8, Some(2)),
-    (&[0, 5, 5, 9], 10, Some(3)),
+/// than values it sends nothing and stays. An IntegerTrigger sends its number.
+static HELD: [Keyed; 3] = [
+    Keyed {
+        node_type: NodeType::BooleanSequencer,
+        keys: &[0, 1],
+        held: Held::Truths(&[true, false]),
+        at: Some(2),
+        event: (3, Given::Truth(true)),
+        sent: "6 TRUE;",
+        then: Some(0),
+    },
+    Keyed {
+        node_type: NodeType::BooleanSequencer,
+        keys: &[0],
+        held: Held::Truths(&[true, false]),
+        at: Some(2),
+        event: (3, Given::Truth(true)),
+        sent: "",
+        then: Some(2),
+    },
+    Keyed {
+        node_type: NodeType::IntegerTrigger,
+        keys: &[],
+        held: Held::Int32(3),
+        at: None,
+        event: (1, Given::Truth(true)),
+        sent: "3 3;",
+        then: None,
+    },
 ];
 
 #[test]
-fn finds_the_last_key_that_was_reached(rt: HostRuntime) {
-    for (keys, fraction, wanted) in REACHED {
-        assert!(rt; step_index(keys, fraction) == wanted);
+fn sends_what_it_holds(rt: HostRuntime) {
+    all_hold(&rt, rt.alloc(), &HELD);
+}
+
+/// An interpolator with keys and values, a fraction, and what is sent.
+struct Between(NodeType, &'static [i64], Held, i64, &'static str);
+
+impl Row for Between {
+    fn holds(&self, alloc: Global) -> Result<bool, AllocError> {
+        let row = Keyed {
+            node_type: self.0,
+            keys: self.1,
+            held: self.2,
+            at: None,
+            event: (3, Given::Float(self.3)),
+            sent: self.4,
+            then: None,
+        };
+        row.holds(alloc)
     }
 }
 
@@ -250,97 +248,113 @@ const OTHER: Vec3 = Vec3 {
     z: 8,
 };
 
-/// Whether that stands of these vectors between the keys 0 and 4.
-fn is_vector_at(
-    alloc: Global,
-    node_type: NodeType,
-    vectors: &[Vec3],
-    fraction: i64,
-    wanted: &str,
-) -> Result<bool, AllocError> {
-    let values = Value::MFVec3f(Items::from_slice(alloc, vectors)?);
-    is_between(alloc, node_type, &[0, 4], &values, fraction, wanted)
-}
+const NUMBER: NodeType = NodeType::ScalarInterpolator;
 
-/// Vectors at the keys, a fraction, and the text of what stands there.
-const VECTORS: [(NodeType, &[Vec3], i64, &str); 6] = [
-    (
-        NodeType::PositionInterpolator,
-        &[ONE, OTHER],
-        1,
-        "1 -1 0.000008",
+static PLACES: [Between; 17] = [
+    Between(
+        NUMBER,
+        &[0, 500_000, 500_000, 1_000_000],
+        Held::Floats(&[0, 1_000_000, 5_000_000, 6_000_000]),
+        500_000,
+        "4 5;",
     ),
-    (
-        NodeType::CoordinateInterpolator,
-        &[ONE, OTHER, OTHER, ONE],
+    Between(
+        NUMBER,
+        &[0, 300_000, 1_000_000],
+        Held::Floats(&[0, 10_000_000, 0]),
+        400_000,
+        "4 8.571428;",
+    ),
+    Between(NUMBER, &[], Held::Floats(&[]), 0, ""),
+    Between(NUMBER, &[1, 0], Held::Floats(&[1, 2]), 0, ""),
+    Between(NUMBER, &[0, 1], Held::Floats(&[1]), 0, ""),
+    Between(
+        NUMBER,
+        &[0, 0, 2],
+        Held::Floats(&[1, 5, 7]),
+        0,
+        "4 0.000001;",
+    ),
+    Between(
+        NUMBER,
+        &[0, 2, 2],
+        Held::Floats(&[1, 5, 7]),
         2,
-        "[2 -2 0.000008 2 -2 0.000008]",
+        "4 0.000007;",
     ),
-    (
+    Between(NUMBER, &[0, 3], Held::Floats(&[0, -1]), 1, "4 -0.000001;"),
+    Between(
+        NUMBER,
+        &[i64::MIN, i64::MAX],
+        Held::Floats(&[i64::MAX, i64::MIN]),
+        0,
+        "4 -0.000001;",
+    ),
+    Between(NUMBER, &[0, 2], Held::Floats(&[0, 8_000_000]), 1, "4 4;"),
+    Between(NUMBER, &[0, 4], Held::Vectors(&[ONE, OTHER]), 2, ""),
+    Between(
+        NodeType::PositionInterpolator2D,
+        &[0, 4],
+        Held::Pairs(&[Vec2 { x: 0, y: 10 }, Vec2 { x: 10, y: 0 }]),
+        1,
+        "4 0.000002 0.000007;",
+    ),
+    Between(
+        NodeType::PositionInterpolator,
+        &[0, 4],
+        Held::Vectors(&[ONE, OTHER]),
+        1,
+        "4 1 -1 0.000008;",
+    ),
+    Between(
         NodeType::CoordinateInterpolator,
-        &[ONE, OTHER, OTHER],
+        &[0, 4],
+        Held::Vectors(&[ONE, OTHER, OTHER, ONE]),
+        2,
+        "4 [2 -2 0.000008 2 -2 0.000008];",
+    ),
+    Between(
+        NodeType::CoordinateInterpolator,
+        &[0, 4],
+        Held::Vectors(&[ONE, OTHER, OTHER]),
         2,
         "",
     ),
-    (NodeType::CoordinateInterpolator, &[], 2, ""),
-    (NodeType::ScalarInterpolator, &[ONE, OTHER], 2, ""),
-    (NodeType::TimeSensor, &[ONE, OTHER], 2, ""),
+    Between(
+        NodeType::CoordinateInterpolator,
+        &[0, 4],
+        Held::Vectors(&[]),
+        2,
+        "",
+    ),
+    Between(
+        NodeType::TimeSensor,
+        &[0, 4],
+        Held::Vectors(&[ONE, OTHER]),
+        2,
+        "",
+    ),
 ];
 
 #[test]
-fn interpolates_each_component(rt: HostRuntime) -> Result<(), Fail> {
-    for (node_type, vectors, fraction, wanted) in VECTORS {
-        let there = is_vector_at(rt.alloc(), node_type, vectors, fraction, wanted)?;
-        assert!(rt; there, "{wanted}");
-    }
-    Ok(())
+fn interpolation(rt: HostRuntime) {
+    all_hold(&rt, rt.alloc(), &PLACES);
 }
 
-#[test]
-fn interpolates_pairs(rt: HostRuntime) -> Result<(), Fail> {
-    let pairs = [Vec2 { x: 0, y: 10 }, Vec2 { x: 10, y: 0 }];
-    let values = Value::MFVec2f(Items::from_slice(rt.alloc(), &pairs)?);
-    let node_type = NodeType::PositionInterpolator2D;
-    let wanted = "0.000002 0.000007";
-    assert!(rt; is_between(rt.alloc(), node_type, &[0, 4], &values, 1, wanted)?);
-    Ok(())
-}
-
-/// Whether a title is sent on and kept.
-fn keeps_a_title(alloc: Global) -> Result<bool, AllocError> {
-    let mut node = fields(alloc, 4)?;
+fn title(alloc: Global, node: &mut Fields) -> Result<bool, AllocError> {
     let title = Value::SFString(Text::from_str(alloc, "here")?);
-    let sent = sends(
-        alloc,
-        NodeType::WorldInfo,
-        &mut node,
-        2,
-        title,
-        "2 \"here\";",
-    )?;
-    let kept = kept_text(alloc, &node, 2)?;
-    Ok(sent && kept.as_slice() == b"\"here\"".as_slice())
+    reacts(alloc, NodeType::WorldInfo, node, 2, title, "2 \"here\";")
 }
 
-/// Whether an IntegerTrigger sends its number.
-fn sends_its_number(alloc: Global) -> Result<bool, AllocError> {
+/// Whether a title is sent on.
+fn sends_a_title(alloc: Global) -> Result<bool, AllocError> {
     let mut node = fields(alloc, 4)?;
-    node.set(2, Value::SFInt32(3));
-    let node_type = NodeType::IntegerTrigger;
-    sends(alloc, node_type, &mut node, 1, Value::SFBool(true), "3 3;")
-}
-
-/// Whether a ScalarInterpolator sends what lies half way.
-fn sends_what_lies_between(alloc: Global) -> Result<bool, AllocError> {
-    let mut node = keyed(alloc, &[0, 2], numbers(alloc, &[0, 8_000_000])?)?;
-    let node_type = NodeType::ScalarInterpolator;
-    sends(alloc, node_type, &mut node, 3, Value::SFFloat(1), "4 4;")
+    let answer = title(alloc, &mut node);
+    drop(node);
+    answer
 }
 
 #[test]
-fn sends_what_it_holds_and_keeps_what_it_sets(rt: HostRuntime) -> Result<(), Fail> {
-    assert!(rt; keeps_a_title(rt.alloc())?);
-    assert!(rt; sends_its_number(rt.alloc())?);
-    assert!(rt; sends_what_lies_between(rt.alloc())?);
-    Ok(())
+fn sends_on_what_it_sets(rt: HostRuntime) {
+    holds(&rt, sends_a_title(rt.alloc()));
 }

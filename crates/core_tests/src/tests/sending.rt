@@ -2,7 +2,7 @@
 
 use react_core::{Outbox, Reply};
 use std::alloc::{AllocError, Global};
-use x3d_values::{Fields, Items, Position, Value, show_value};
+use x3d_values::{Fields, Items, Position, Show, Value, show_value};
 
 /// A value of one part.
 #[derive(Clone, Copy)]
@@ -36,28 +36,18 @@ pub fn fields(alloc: Global, count: usize) -> Result<Fields, AllocError> {
     })
 }
 
-/// The field and the value of each reply, in order.
-pub fn outbox_text(alloc: Global, out: &Outbox) -> Result<Vec<u8>, AllocError> {
+/// Whether that is sent: the field and the value of each reply, in order.
+pub fn is_sent(alloc: Global, out: &Outbox, wanted: &str) -> Result<bool, AllocError> {
     let mut text = Vec::new(alloc);
     for reply in out {
         push_reply(reply, &mut text)?;
     }
-    Ok(text)
+    Ok(text.as_slice() == wanted.as_bytes())
 }
 
 fn push_reply(reply: &Reply, text: &mut Vec<u8>) -> Result<(), AllocError> {
-    show_value(&Value::SFInt32(i32::from(reply.field)), text)?;
-    text.push(b' ')?;
+    i32::from(reply.field).show(text)?;
+    text.extend_from_slice(b" ")?;
     show_value(&reply.value, text)?;
-    text.push(b';')?;
-    Ok(())
-}
-
-/// The text of what a node keeps under a field's number, and nothing for none.
-pub fn kept_text(alloc: Global, node: &Fields, field: u16) -> Result<Vec<u8>, AllocError> {
-    let mut text = Vec::new(alloc);
-    if let Some(value) = node.value(field) {
-        show_value(value, &mut text)?;
-    }
-    Ok(text)
+    text.extend_from_slice(b";")
 }

@@ -3,28 +3,32 @@
 //! out outputOnly), its default in the Classic encoding, and which nodes it takes.
 
 use super::table_text::TABLE;
+use super::values::shows;
+use super::{Row, all_hold, holds};
 use std::alloc::{AllocError, Global};
 use std::process::Abort;
-use std::test::Fail;
 use x3d_values::{
     Access, FieldDefault, FieldRow, FieldType, NodeKind, NodeType, default_value, field_at,
-    field_of, fields_of, show_value,
+    field_of, fields_of,
 };
 
 /// The letters of the table.
 fn kind_of(letter: &str) -> Option<NodeKind> {
+    let [letter] = letter.as_bytes() else {
+        return None;
+    };
     match letter {
-        "C" => Some(NodeKind::Child),
-        "A" => Some(NodeKind::Appearance),
-        "M" => Some(NodeKind::Material),
-        "T" => Some(NodeKind::Texture),
-        "G" => Some(NodeKind::Geometry),
-        "P" => Some(NodeKind::Coordinates),
-        "L" => Some(NodeKind::Colors),
-        "V" => Some(NodeKind::Normals),
-        "X" => Some(NodeKind::TextureCoordinates),
-        "F" => Some(NodeKind::FontStyle),
-        "D" => Some(NodeKind::Metadata),
+        b'C' => Some(NodeKind::Child),
+        b'A' => Some(NodeKind::Appearance),
+        b'M' => Some(NodeKind::Material),
+        b'T' => Some(NodeKind::Texture),
+        b'G' => Some(NodeKind::Geometry),
+        b'P' => Some(NodeKind::Coordinates),
+        b'L' => Some(NodeKind::Colors),
+        b'V' => Some(NodeKind::Normals),
+        b'X' => Some(NodeKind::TextureCoordinates),
+        b'F' => Some(NodeKind::FontStyle),
+        b'D' => Some(NodeKind::Metadata),
         _ => None,
     }
 }
@@ -44,144 +48,158 @@ fn access_of(word: &str) -> Option<Access> {
 struct Line<'a> {
     node_type: NodeType,
     name: &'a str,
-    field_type: FieldType,
-    access: Access,
+    field_type: Option<FieldType>,
+    access: Option<Access>,
     default: &'a str,
     kind: Option<NodeKind>,
 }
 
+/// The first word, and what stands behind it.
+fn cut_word(line: &str) -> (&str, &str) {
+    line.split_once(' ').unwrap_or((line, ""))
+}
+
 fn read_line(line: &str) -> Option<Line<'_>> {
-    let (node_type, rest) = line.split_once(' ')?;
-    let (name, rest) = rest.split_once(' ')?;
-    let (field_type, rest) = rest.split_once(' ')?;
-    let (access, rest) = rest.split_once(' ').unwrap_or((rest, ""));
+    let (node_type, rest) = cut_word(line);
+    let (name, rest) = cut_word(rest);
+    let (field_type, rest) = cut_word(rest);
+    let (access, rest) = cut_word(rest);
     let (default, letter) = rest.split_once(" of ").unwrap_or((rest, ""));
+    let node_type = NodeType::named(node_type)?;
     Some(Line {
-        node_type: NodeType::named(node_type)?,
+        node_type,
         name,
-        field_type: FieldType::named(field_type)?,
-        access: access_of(access)?,
+        field_type: FieldType::named(field_type),
+        access: access_of(access),
         default,
         kind: kind_of(letter),
     })
 }
 
-/// The default as it is written; a node and a list of nodes have no text.
-fn default_text(alloc: Global, row: FieldRow) -> Result<Vec<u8>, AllocError> {
-    let mut shown = Vec::new(alloc);
-    let given = row.default.unwrap_or(FieldDefault::Empty);
-    if let Some(value) = default_value(alloc, row.field_type, given)? {
-        show_value(&value, &mut shown)?;
-    }
-    Ok(shown)
+/// Whether the line is that field of the table, but for its default.
+fn is_row(line: Line<'_>, number: u16, row: FieldRow) -> bool {
+    let uses = (row.number, Some(row.access), Some(row.field_type), row.kind);
+    uses == (number, line.access, line.field_type, line.kind)
+        && field_at(line.node_type, number) == Some(row)
 }
 
-fn is_found(rt: &impl Abort, line: Line<'_>, number: u16) {
-    let Some(row) = field_of(line.node_type, line.name) else {
-        assert!(rt; false, "{}", line.name);
-        return;
+/// Whether a field of that access and type holds a value.
+fn holds_a_value(row: FieldRow) -> bool {
+    let kept = row.access == Access::InputOutput || row.access == Access::InitializeOnly;
+    kept && row.field_type != FieldType::SFRotation
+}
+
+/// Whether that is the default as it is written; a node and a list of nodes have no text.
+fn is_default(alloc: Global, row: FieldRow, wanted: &str) -> Result<bool, AllocError> {
+    let default = row.default.unwrap_or(FieldDefault::Empty);
+    let Some(value) = default_value(alloc, row.field_type, default)? else {
+        return Ok(false);
     };
-    let uses = (row.number, row.access, row.field_type, row.kind);
-    assert!(rt;
-        uses == (number, line.access, line.field_type, line.kind),
-        "{}",
-        line.name
-    );
-    assert!(rt;
-        field_at(line.node_type, number) == Some(row),
-        "{}",
-        line.name
-    );
-    let holds = line.access == Access::InputOutput || line.access == Access::InitializeOnly;
-    let holds = holds && line.field_type != FieldType::SFRotation;
-    assert!(rt; row.default.is_some() == holds, "{}", line.name);
+    let wanted = if row.kind.is_some() { "" } else { wanted };
+    let shown = shows(alloc, &value, wanted);
+    drop(value);
+    shown
 }
 
-fn has_default(rt: &impl Abort, alloc: Global, line: Line<'_>) -> Result<(), Fail> {
-    let row = field_of(line.node_type, line.name).ok_or("no such field")?;
-    if row.default.is_some() {
-        let shown = default_text(alloc, row)?;
-        let wanted = if row.kind.is_some() { "" } else { line.default };
-        assert!(rt; shown.as_slice() == wanted.as_bytes(), "{}", line.name);
+/// Whether the line is the field of that number in the program's table.
+fn is_found(alloc: Global, line: Line<'_>, number: u16) -> Result<bool, AllocError> {
+    let Some(row) = field_of(line.node_type, line.name) else {
+        return Ok(false);
+    };
+    if !is_row(line, number, row) || row.default.is_some() != holds_a_value(row) {
+        return Ok(false);
     }
-    Ok(())
-}
-
-/// How many rows the program's table has.
-fn row_count() -> usize {
-    let mut rows = 0usize;
-    for line in TABLE.lines() {
-        if let Some(line) = read_line(line)
-            && line.name == "metadata"
-        {
-            rows = rows.wrapping_add(fields_of(line.node_type).len());
-        }
+    if row.default.is_none() {
+        return Ok(true);
     }
-    rows
+    is_default(alloc, row, line.default)
 }
 
-#[test]
-fn every_row_of_the_table_is_found(rt: HostRuntime) -> Result<(), Fail> {
-    let mut earlier = None;
-    let mut number = 0u16;
-    let mut lines = 0u32;
+/// How many lines were found so far, the node type and the number of the next field of the last,
+/// and how many rows the node types have.
+#[derive(Clone, Copy)]
+struct Found {
+    lines: usize,
+    node_type: Option<NodeType>,
+    number: u16,
+    rows: usize,
+}
+
+/// Whether the line is the next one of the table.
+fn is_next(alloc: Global, text: &str, found: &mut Found) -> Result<bool, AllocError> {
+    let Some(line) = read_line(text) else {
+        return Ok(false);
+    };
+    if found.node_type != Some(line.node_type) {
+        found.node_type = Some(line.node_type);
+        found.number = 0;
+        found.rows = found.rows.wrapping_add(fields_of(line.node_type).len());
+    }
+    let answer = is_found(alloc, line, found.number);
+    found.number = found.number.wrapping_add(1);
+    found.lines = found.lines.wrapping_add(1);
+    answer
+}
+
+/// Whether each line is found, and each row of the program has one.
+fn are_found(alloc: Global) -> Result<bool, AllocError> {
+    let mut found = Found {
+        lines: 0,
+        node_type: None,
+        number: 0,
+        rows: 0,
+    };
     for text in TABLE.lines() {
-        let line = read_line(text).ok_or("a line of the table")?;
-        if earlier != Some(line.node_type) {
-            earlier = Some(line.node_type);
-            number = 0;
+        if !is_next(alloc, text, &mut found)? {
+            return Ok(false);
         }
-        is_found(&rt, line, number);
-        has_default(&rt, rt.alloc(), line)?;
-        number = number.wrapping_add(1);
-        lines = lines.wrapping_add(1);
     }
-    assert!(rt; lines == 233);
-    assert!(rt; row_count() == 233);
-    Ok(())
+    Ok(found.lines == 233 && found.rows == 233)
 }
 
 #[test]
-fn other_names_are_not_found(rt: HostRuntime) {
-    assert!(rt; field_of(NodeType::Group, "toggle").is_none());
-    assert!(rt; field_of(NodeType::Group, "").is_none());
-    assert!(rt; field_at(NodeType::Group, 4).is_none());
-    assert!(rt; NodeType::named("Inline").is_none());
-    assert!(rt; FieldType::named("SFImage").is_none());
+fn every_row_of_the_table_is_found(rt: HostRuntime) {
+    holds(&rt, are_found(rt.alloc()));
 }
 
-const KINDS: [(&str, &str); 22] = [
-    ("Appearance", "A"),
-    ("Material", "M"),
-    ("ImageTexture", "T"),
-    ("Box", "G"),
-    ("Sphere", "G"),
-    ("Cone", "G"),
-    ("Cylinder", "G"),
-    ("IndexedFaceSet", "G"),
-    ("Text", "G"),
-    ("Coordinate", "P"),
-    ("Color", "L"),
-    ("Normal", "V"),
-    ("TextureCoordinate", "X"),
-    ("FontStyle", "F"),
-    ("MetadataString", "D"),
-    ("MetadataInteger", "D"),
-    ("MetadataFloat", "D"),
-    ("MetadataSet", "D"),
-    ("Group", "C"),
-    ("Shape", "C"),
-    ("TimeSensor", "C"),
-    ("Script", "C"),
+/// A node type, and the letter of its kind.
+struct Kind(&'static str, &'static str);
+
+impl Row for Kind {
+    fn holds(&self, _alloc: Global) -> Result<bool, AllocError> {
+        match NodeType::named(self.0) {
+            Some(node_type) => Ok(Some(node_type.kind()) == kind_of(self.1)),
+            None => Ok(false),
+        }
+    }
+}
+
+static KINDS: [Kind; 22] = [
+    Kind("Appearance", "A"),
+    Kind("Material", "M"),
+    Kind("ImageTexture", "T"),
+    Kind("Box", "G"),
+    Kind("Sphere", "G"),
+    Kind("Cone", "G"),
+    Kind("Cylinder", "G"),
+    Kind("IndexedFaceSet", "G"),
+    Kind("Text", "G"),
+    Kind("Coordinate", "P"),
+    Kind("Color", "L"),
+    Kind("Normal", "V"),
+    Kind("TextureCoordinate", "X"),
+    Kind("FontStyle", "F"),
+    Kind("MetadataString", "D"),
+    Kind("MetadataInteger", "D"),
+    Kind("MetadataFloat", "D"),
+    Kind("MetadataSet", "D"),
+    Kind("Group", "C"),
+    Kind("Shape", "C"),
+    Kind("TimeSensor", "C"),
+    Kind("Script", "C"),
 ];
-
-fn kind_named(name: &str) -> Option<NodeKind> {
-    Some(NodeType::named(name)?.kind())
-}
 
 #[test]
 fn node_types_have_their_kinds(rt: HostRuntime) {
-    for (name, letter) in KINDS {
-        assert!(rt; kind_named(name) == kind_of(letter), "{name}");
-    }
+    all_hold(&rt, rt.alloc(), &KINDS);
 }

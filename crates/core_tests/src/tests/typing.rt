@@ -1,296 +1,270 @@
-//! Each type with a value of the right form, of a wrong form and at the ends of its range, and what
-//! is answered where memory is refused.
+//! Raw values as values of a type; rotations, the longest list, and growths that are refused.
 
+use super::lists::words;
+use super::values::shows;
+use super::{Row, all_hold, holds};
 use classic_tree::RawValue;
 use scene_values::{ValueFault, checked_rotation, typed};
 use std::alloc::{AllocError, Global};
 use std::process::Abort;
-use std::test::Fail;
 use test_memory::UsedUp;
-use x3d_values::{FieldType, Items, Text, Value, show_value};
+use x3d_values::{FieldType, Items, Text, Value};
 
-/// What the nodes of the values below are called.
-pub(super) static NUMBERS: [u32; 3] = [10, 11, 12];
+/// What the nodes of the raw values are called.
+static NUMBERS: [u32; 3] = [10, 11, 12];
 
-/// Bare runs of numerals that are values, with the values' texts.
-static RUNS: [(FieldType, &[i64], &str); 18] = [
-    (FieldType::SFInt32, &[2_147_483_647_000_000], "2147483647"),
-    (FieldType::SFInt32, &[-2_147_483_648_000_000], "-2147483648"),
-    (FieldType::SFFloat, &[1_000_000_000_000_000], "1000000000"),
-    (FieldType::SFFloat, &[-1_000_000_000_000_000], "-1000000000"),
-    (
-        FieldType::SFTime,
-        &[1_000_000_000_000_000_000],
-        "1000000000000",
-    ),
-    (
-        FieldType::SFTime,
-        &[-1_000_000_000_000_000_000],
-        "-1000000000000",
-    ),
-    (
-        FieldType::SFVec2f,
-        &[1_000_000_000_000_000, -500_000],
-        "1000000000 -0.5",
-    ),
-    (FieldType::SFVec3f, &[1_000_000, 0, -2_000_000], "1 0 -2"),
-    (
-        FieldType::SFVec3f,
-        &[1, 2, -1_000_000_000_000_000],
-        "0.000001 0.000002 -1000000000",
-    ),
-    (FieldType::SFColor, &[800_000, 0, 1_000_000], "0.8 0 1"),
-    (FieldType::MFInt32, &[-1_000_000], "[-1]"),
-    (FieldType::MFInt32, &[0], "[0]"),
-    (FieldType::MFFloat, &[1_500_000], "[1.5]"),
-    (
-        FieldType::MFTime,
-        &[1_000_000_000_000_000_000],
-        "[1000000000000]",
-    ),
-    (FieldType::MFVec2f, &[0, 1_000_000], "[0 1]"),
-    (
-        FieldType::MFVec3f,
-        &[1_000_000, 2_000_000, 3_000_000],
-        "[1 2 3]",
-    ),
-    (FieldType::MFColor, &[1_000_000, 0, 500_000], "[1 0 0.5]"),
-    (
-        FieldType::MFFloat,
-        &[-1_000_000_000_000_000],
-        "[-1000000000]",
-    ),
-];
+/// A raw value.
+#[derive(Clone, Copy)]
+pub(super) enum Given {
+    Run(&'static [i64]),
+    List(&'static [i64]),
+    Truth(bool),
+    Truths(&'static [bool]),
+    /// `"key"`
+    Word,
+    /// A string of 4096 bytes.
+    LongWord,
+    /// `["door" "lamp"]`
+    Words,
+    Null,
+    Node(u32),
+    Nodes(&'static [u32]),
+    Empty,
+}
 
-/// Lists of numerals that are values, with the values' texts.
-static LISTS: [(FieldType, &[i64], &str); 8] = [
-    (
-        FieldType::MFInt32,
-        &[2_147_483_647_000_000, -2_147_483_648_000_000],
-        "[2147483647 -2147483648]",
-    ),
-    (
-        FieldType::MFFloat,
-        &[0, 1_000_000_000_000_000],
-        "[0 1000000000]",
-    ),
-    (
-        FieldType::MFTime,
-        &[-1_000_000_000_000_000_000, 1],
-        "[-1000000000000 0.000001]",
-    ),
-    (
-        FieldType::MFVec2f,
-        &[1_000_000, 2_000_000, 3_000_000, 4_000_000],
-        "[1 2 3 4]",
-    ),
-    (FieldType::MFVec2f, &[1_000_000, 2_000_000], "[1 2]"),
-    (
-        FieldType::MFVec3f,
-        &[0, 1_000_000, 2_000_000, 3_000_000, 4_000_000, 5_000_000],
-        "[0 1 2 3 4 5]",
-    ),
-    (
-        FieldType::MFColor,
-        &[0, 0, 0, 1_000_000, 500_000, 0],
-        "[0 0 0 1 0.5 0]",
-    ),
-    (FieldType::MFFloat, &[1_000_000], "[1]"),
-];
+/// What is answered.
+#[derive(Clone, Copy)]
+pub(super) enum Wanted {
+    /// A value with that text.
+    Text(&'static str),
+    /// A value with these nodes.
+    Nodes(&'static [u32]),
+    Fault(ValueFault),
+    /// Whether memory is refused where these blocks are left, in bytes.
+    Refused(&'static [usize], bool),
+    /// What is answered of a rotation, where perhaps any angle will do.
+    Rotation(bool, Result<(), ValueFault>),
+}
 
-fn shows(
+/// Whether that is the value.
+fn is_value(alloc: Global, value: &Value, wanted: Wanted) -> Result<bool, AllocError> {
+    match wanted {
+        Wanted::Text(text) => shows(alloc, value, text),
+        Wanted::Nodes(nodes) => Ok(value.nodes() == nodes),
+        _ => Ok(false),
+    }
+}
+
+/// Whether memory is refused to a value of that type where these blocks are left.
+fn is_refused(
     alloc: Global,
     field_type: FieldType,
     raw: &RawValue<u32>,
-    text: &str,
-) -> Result<bool, Fail> {
-    let value = typed(alloc, field_type, raw, &NUMBERS)?;
-    let mut shown = Vec::new(alloc);
-    show_value(&value, &mut shown)?;
-    Ok(value.field_type() == field_type && shown.as_slice() == text.as_bytes())
+    left: &[usize],
+) -> Result<bool, AllocError> {
+    let used_up = UsedUp::but_for(alloc, left)?;
+    let fault = typed(alloc, field_type, raw, &NUMBERS).err();
+    drop(used_up);
+    Ok(fault == Some(ValueFault::Memory))
 }
 
-/// The raw value is one of that type, which is written so.
+/// Whether that is answered of the value of that type, or the fault.
 fn is_typed(
-    rt: &impl Abort,
     alloc: Global,
     field_type: FieldType,
-    raw: RawValue<u32>,
-    text: &str,
-) -> Result<(), Fail> {
-    let shown = shows(alloc, field_type, &raw, text)?;
-    assert!(rt; shown, "{text}");
-    Ok(())
+    raw: &RawValue<u32>,
+    wanted: Wanted,
+) -> Result<bool, AllocError> {
+    match typed(alloc, field_type, raw, &NUMBERS) {
+        Ok(value) => {
+            let answer = is_value(alloc, &value, wanted);
+            let same = value.field_type() == field_type;
+            drop(value);
+            Ok(same && answer?)
+        }
+        Err(fault) => match wanted {
+            Wanted::Fault(other) => Ok(fault == other),
+            _ => Ok(false),
+        },
+    }
 }
 
-/// The raw value is none of that type, for that cause.
-pub(super) fn is_refused(
-    rt: &impl Abort,
+/// Whether that is answered.
+fn is_answered(
     alloc: Global,
     field_type: FieldType,
     raw: RawValue<u32>,
-    fault: ValueFault,
-) {
-    let answer = typed(alloc, field_type, &raw, &NUMBERS).err();
+    wanted: Wanted,
+) -> Result<bool, AllocError> {
+    let answer = match wanted {
+        Wanted::Refused(left, refused) => match is_refused(alloc, field_type, &raw, left) {
+            Ok(answer) => Ok(answer == refused),
+            Err(_) => Err(AllocError),
+        },
+        Wanted::Rotation(any_angle, answer) => Ok(checked_rotation(&raw, any_angle) == answer),
+        _ => is_typed(alloc, field_type, &raw, wanted),
+    };
     drop(raw);
-    assert!(rt; answer == Some(fault));
+    answer
 }
 
-pub(super) fn run(alloc: Global, numbers: &[i64]) -> Result<RawValue<u32>, AllocError> {
-    Ok(RawValue::Numbers(Items::from_slice(alloc, numbers)?))
-}
-
-pub(super) fn list(alloc: Global, numbers: &[i64]) -> Result<RawValue<u32>, AllocError> {
-    Ok(RawValue::NumberList(Items::from_slice(alloc, numbers)?))
-}
-
-#[test]
-fn numerals_of_the_right_form_are_values(rt: HostRuntime) -> Result<(), Fail> {
-    let alloc = rt.alloc();
-    for (field_type, numbers, text) in &RUNS {
-        is_typed(&rt, alloc, *field_type, run(alloc, *numbers)?, *text)?;
-    }
-    for (field_type, numbers, text) in &LISTS {
-        is_typed(&rt, alloc, *field_type, list(alloc, *numbers)?, *text)?;
-    }
-    Ok(())
-}
-
-pub(super) fn truths(alloc: Global) -> Result<RawValue<u32>, AllocError> {
-    Ok(RawValue::TruthList(Items::from_slice(alloc, &[true, false])?))
-}
-
-#[test]
-fn truth_values(rt: HostRuntime) -> Result<(), Fail> {
-    use FieldType::{MFBool, SFBool, SFInt32};
-    let alloc = rt.alloc();
-    is_typed(&rt, alloc, SFBool, RawValue::Truth(true), "TRUE")?;
-    is_typed(&rt, alloc, MFBool, RawValue::Truth(false), "[FALSE]")?;
-    is_typed(&rt, alloc, MFBool, truths(alloc)?, "[TRUE FALSE]")?;
-    is_typed(&rt, alloc, MFBool, RawValue::EmptyList, "[]")?;
-    is_refused(&rt, alloc, SFBool, truths(alloc)?, ValueFault::WrongType);
-    let truth = RawValue::Truth(true);
-    is_refused(&rt, alloc, SFInt32, truth, ValueFault::WrongType);
-    Ok(())
-}
-
-pub(super) fn push_words(alloc: Global, items: &mut Items<Text>) -> Result<(), AllocError> {
-    items.push(Text::from_str(alloc, "door")?)?;
-    items.push(Text::from_str(alloc, "lamp")?)?;
-    Ok(())
-}
-
-pub(super) fn words(alloc: Global) -> Result<RawValue<u32>, AllocError> {
-    let mut items = Items::new(alloc);
-    push_words(alloc, &mut items)?;
-    Ok(RawValue::StringList(items))
-}
-
-pub(super) fn word(alloc: Global) -> Result<RawValue<u32>, AllocError> {
+fn word(alloc: Global) -> Result<RawValue<u32>, AllocError> {
     Ok(RawValue::String(Text::from_str(alloc, "key")?))
 }
 
-#[test]
-fn strings(rt: HostRuntime) -> Result<(), Fail> {
-    use FieldType::{MFBool, MFString, SFString};
-    let alloc = rt.alloc();
-    is_typed(&rt, alloc, SFString, word(alloc)?, "\"key\"")?;
-    is_typed(&rt, alloc, MFString, word(alloc)?, "[\"key\"]")?;
-    is_typed(&rt, alloc, MFString, words(alloc)?, "[\"door\" \"lamp\"]")?;
-    is_typed(&rt, alloc, MFString, RawValue::EmptyList, "[]")?;
-    is_refused(&rt, alloc, SFString, words(alloc)?, ValueFault::WrongType);
-    is_refused(&rt, alloc, MFBool, word(alloc)?, ValueFault::WrongType);
-    Ok(())
+fn long_word(alloc: Global) -> Result<RawValue<u32>, AllocError> {
+    let bytes = vec![in alloc; b'x'; 4096]?;
+    let text = str::from_utf8(bytes.as_slice()).unwrap_or("");
+    Ok(RawValue::String(Text::from_str(alloc, text)?))
 }
 
-/// The raw value is that value.
-fn is_value(
-    rt: &impl Abort,
-    alloc: Global,
-    field_type: FieldType,
-    raw: RawValue<u32>,
-    wanted: Value,
-) {
-    let value = typed(alloc, field_type, &raw, &NUMBERS).ok();
-    let same = value.as_ref() == Some(&wanted);
-    drop((value, raw, wanted));
-    assert!(rt; same);
-}
+/// A type, a raw value, and what is answered of it.
+pub(super) struct Typed(pub(super) FieldType, pub(super) Given, pub(super) Wanted);
 
-#[test]
-fn nodes_get_their_numbers(rt: HostRuntime) -> Result<(), Fail> {
-    use FieldType::{MFNode, SFNode};
-    let alloc = rt.alloc();
-    let numbers = Value::MFNode(Items::from_slice(alloc, &[11])?);
-    is_value(&rt, alloc, MFNode, RawValue::Node(1), numbers);
-    let single = Value::SFNode(Some(11));
-    is_value(&rt, alloc, SFNode, RawValue::Node(1), single);
-    lists_get_their_numbers(&rt, alloc)
-}
-
-fn lists_get_their_numbers(rt: &impl Abort, alloc: Global) -> Result<(), Fail> {
-    let numbers = Items::from_slice(alloc, &[12, 10, 0])?;
-    let nodes = RawValue::NodeList(Items::from_slice(alloc, &[2, 0, 3])?);
-    is_value(rt, alloc, FieldType::MFNode, nodes, Value::MFNode(numbers));
-    Ok(())
-}
-
-#[test]
-fn null_is_a_node_and_no_item(rt: HostRuntime) -> Result<(), Fail> {
-    use FieldType::{MFNode, SFNode, SFString};
-    let alloc = rt.alloc();
-    is_value(&rt, alloc, SFNode, RawValue::Null, Value::SFNode(None));
-    let empty = Value::MFNode(Items::new(alloc));
-    is_value(&rt, alloc, MFNode, RawValue::EmptyList, empty);
-    is_refused(&rt, alloc, MFNode, RawValue::Null, ValueFault::WrongType);
-    is_refused(&rt, alloc, SFString, RawValue::Null, ValueFault::WrongType);
-    let nodes = RawValue::NodeList(Items::from_slice(alloc, &[2])?);
-    is_refused(&rt, alloc, SFNode, nodes, ValueFault::WrongType);
-    Ok(())
-}
-
-#[test]
-fn the_empty_list_is_of_each_list_type(rt: HostRuntime) -> Result<(), Fail> {
-    let alloc = rt.alloc();
-    let types = [
-        FieldType::MFInt32,
-        FieldType::MFFloat,
-        FieldType::MFTime,
-        FieldType::MFVec2f,
-        FieldType::MFVec3f,
-        FieldType::MFColor,
-    ];
-    for field_type in types {
-        is_typed(&rt, alloc, field_type, RawValue::EmptyList, "[]")?;
+impl Row for Typed {
+    fn holds(&self, alloc: Global) -> Result<bool, AllocError> {
+        let raw = match self.1 {
+            Given::Run(items) => RawValue::Numbers(Items::from_slice(alloc, items)?),
+            Given::List(items) => RawValue::NumberList(Items::from_slice(alloc, items)?),
+            Given::Truth(truth) => RawValue::Truth(truth),
+            Given::Truths(items) => RawValue::TruthList(Items::from_slice(alloc, items)?),
+            Given::Word => word(alloc)?,
+            Given::LongWord => long_word(alloc)?,
+            Given::Words => RawValue::StringList(words(alloc)?),
+            Given::Null => RawValue::Null,
+            Given::Node(node) => RawValue::Node(node),
+            Given::Nodes(items) => RawValue::NodeList(Items::from_slice(alloc, items)?),
+            Given::Empty => RawValue::EmptyList,
+        };
+        is_answered(alloc, self.0, raw, self.2)
     }
-    for field_type in [FieldType::SFVec3f, FieldType::SFRotation] {
-        let empty = RawValue::EmptyList;
-        is_refused(&rt, alloc, field_type, empty, ValueFault::WrongType);
-    }
-    Ok(())
 }
 
-/// Rotations, whether any angle will do, and what is answered.
-static ROTATIONS: [(&[i64], bool, Result<(), ValueFault>); 6] = [
-    (&[0, 1_000_000, 0, 0], false, Ok(())),
-    (
-        &[0, 1_000_000, 0, 1_570_000],
-        false,
-        Err(ValueFault::RotationUnsupported),
+/// Whether the raw value is a list of so many vectors.
+fn has_vectors(alloc: Global, raw: &RawValue<u32>, count: usize) -> bool {
+    match typed(alloc, FieldType::MFVec3f, raw, &NUMBERS) {
+        Ok(value) => {
+            let right = match &value {
+                Value::MFVec3f(vectors) => vectors.len() == count,
+                _ => false,
+            };
+            drop(value);
+            right
+        }
+        Err(_) => false,
+    }
+}
+
+fn is_a_long_list(alloc: Global) -> Result<bool, AllocError> {
+    let numbers = vec![in alloc; 1_000_000; 8_388_606]?;
+    let raw = RawValue::NumberList(Items::from_vec(numbers));
+    let right = has_vectors(alloc, &raw, 2_796_202);
+    drop(raw);
+    Ok(right)
+}
+
+#[test]
+fn a_list_of_eight_million_numerals(rt: HostRuntime) {
+    holds(&rt, is_a_long_list(rt.alloc()));
+}
+
+static ROTATIONS: [Typed; 7] = [
+    Typed(
+        FieldType::SFRotation,
+        Given::Run(&[0, 1_000_000, 0, 0]),
+        Wanted::Rotation(false, Ok(())),
     ),
-    (&[0, 1_000_000, 0, 1_570_000], true, Ok(())),
-    (&[0, 1_000_000, 0], false, Err(ValueFault::WrongType)),
-    (&[0, 1_000_000, 0, 0, 0], true, Err(ValueFault::WrongType)),
-    (&[2_000_000_000_000_000_000, 0, 0, 0], false, Ok(())),
+    Typed(
+        FieldType::SFRotation,
+        Given::Run(&[0, 1_000_000, 0, 1_570_000]),
+        Wanted::Rotation(false, Err(ValueFault::RotationUnsupported)),
+    ),
+    Typed(
+        FieldType::SFRotation,
+        Given::Run(&[0, 1_000_000, 0, 1_570_000]),
+        Wanted::Rotation(true, Ok(())),
+    ),
+    Typed(
+        FieldType::SFRotation,
+        Given::Run(&[0, 1_000_000, 0]),
+        Wanted::Rotation(false, Err(ValueFault::WrongType)),
+    ),
+    Typed(
+        FieldType::SFRotation,
+        Given::Run(&[0, 1_000_000, 0, 0, 0]),
+        Wanted::Rotation(true, Err(ValueFault::WrongType)),
+    ),
+    Typed(
+        FieldType::SFRotation,
+        Given::Run(&[2_000_000_000_000_000_000, 0, 0, 0]),
+        Wanted::Rotation(false, Ok(())),
+    ),
+    Typed(
+        FieldType::SFRotation,
+        Given::List(&[0, 1_000_000, 0, 0]),
+        Wanted::Rotation(true, Err(ValueFault::WrongType)),
+    ),
 ];
 
 #[test]
-fn rotations_are_checked(rt: HostRuntime) -> Result<(), Fail> {
-    let alloc = rt.alloc();
-    for (numbers, any_angle, answer) in &ROTATIONS {
-        assert!(rt; checked_rotation(&run(alloc, *numbers)?, *any_angle) == *answer);
-    }
-    let bracketed = checked_rotation(&list(alloc, &[0, 1_000_000, 0, 0])?, true);
-    assert!(rt; bracketed == Err(ValueFault::WrongType));
-    Ok(())
+fn rotations_are_checked(rt: HostRuntime) {
+    all_hold(&rt, rt.alloc(), &ROTATIONS);
+}
+
+const NONE_LEFT: Wanted = Wanted::Refused(&[], true);
+
+/// Each first growth, and the second one of a list of one string.
+static REFUSED: [Typed; 15] = [
+    Typed(
+        FieldType::MFInt32,
+        Given::List(&[0, 0, 0, 0, 0, 0]),
+        NONE_LEFT,
+    ),
+    Typed(
+        FieldType::MFFloat,
+        Given::List(&[0, 0, 0, 0, 0, 0]),
+        NONE_LEFT,
+    ),
+    Typed(
+        FieldType::MFTime,
+        Given::List(&[0, 0, 0, 0, 0, 0]),
+        NONE_LEFT,
+    ),
+    Typed(
+        FieldType::MFVec2f,
+        Given::List(&[0, 0, 0, 0, 0, 0]),
+        NONE_LEFT,
+    ),
+    Typed(
+        FieldType::MFVec3f,
+        Given::List(&[0, 0, 0, 0, 0, 0]),
+        NONE_LEFT,
+    ),
+    Typed(
+        FieldType::MFColor,
+        Given::List(&[0, 0, 0, 0, 0, 0]),
+        NONE_LEFT,
+    ),
+    Typed(FieldType::MFBool, Given::Truth(true), NONE_LEFT),
+    Typed(FieldType::MFBool, Given::Truths(&[true, false]), NONE_LEFT),
+    Typed(FieldType::MFNode, Given::Node(1), NONE_LEFT),
+    Typed(FieldType::MFNode, Given::Nodes(&[2, 0]), NONE_LEFT),
+    Typed(FieldType::SFString, Given::Word, NONE_LEFT),
+    Typed(FieldType::MFString, Given::Word, NONE_LEFT),
+    Typed(FieldType::MFString, Given::Words, NONE_LEFT),
+    Typed(
+        FieldType::SFString,
+        Given::LongWord,
+        Wanted::Refused(&[4096], false),
+    ),
+    Typed(
+        FieldType::MFString,
+        Given::LongWord,
+        Wanted::Refused(&[4096], true),
+    ),
+];
+
+#[test]
+fn each_refused_growth_is_answered(rt: HostRuntime) {
+    all_hold(&rt, rt.alloc(), &REFUSED);
 }

@@ -1,173 +1,249 @@
-//! Values and their texts by hand, and what stands where memory is refused.
+//! Values with their bytes and their texts by hand, and what stands where memory is refused.
 
+use super::{Row, all_hold, holds};
+use snapshot_codec::{PartFault, push_value, value_of};
 use std::alloc::{AllocError, Global};
 use std::process::Abort;
-use std::test::Fail;
 use test_memory::UsedUp;
 use x3d_values::{
-    Color, FieldDefault, FieldType, Items, Text, Value, Vec2, Vec3, clone_value, default_value,
-    empty_value, show_value,
+    FieldDefault, FieldType, Value, clone_value, default_value, empty_value, show_value,
 };
 
-const VECTOR: Vec3 = Vec3 {
-    x: 1_000_000,
-    y: 0,
-    z: -2_000_000,
-};
-
-const COLOR: Color = Color {
-    red: 800_000,
-    green: 0,
-    blue: 1_000_000,
-};
-
-/// Whether the value's text stands behind what the buffer held.
-fn shows(alloc: Global, value: &Value, text: &str) -> Result<bool, AllocError> {
+/// Whether that is the value's text.
+pub(super) fn shows(alloc: Global, value: &Value, text: &str) -> Result<bool, AllocError> {
     let mut shown = Vec::new(alloc);
-    shown.push(b'x')?;
     show_value(value, &mut shown)?;
-    Ok(shown.as_slice().strip_prefix(b"x") == Some(text.as_bytes()))
+    Ok(shown.as_slice() == text.as_bytes())
+}
+
+/// Whether the value has those bytes.
+fn is_written(alloc: Global, value: &Value, bytes: &[u8]) -> Result<bool, AllocError> {
+    let mut out = Vec::new(alloc);
+    push_value(value, &mut out)?;
+    Ok(out.as_slice() == bytes)
 }
 
 /// Whether a copy of the value is equal to it.
 fn is_copied(alloc: Global, value: &Value) -> Result<bool, AllocError> {
-    Ok(clone_value(alloc, value)? == *value)
+    let copy = clone_value(alloc, value)?;
+    let same = copy == *value;
+    drop(copy);
+    Ok(same)
 }
 
-fn fits(alloc: Global, value: &Value, text: &str) -> Result<bool, AllocError> {
-    Ok(shows(alloc, value, text)? && is_copied(alloc, value)?)
+/// Whether the value has those bytes and that text, and a copy that is equal to it.
+fn is_value(alloc: Global, value: &Value, bytes: &[u8], text: &str) -> Result<bool, AllocError> {
+    let written = is_written(alloc, value, bytes)?;
+    let shown = shows(alloc, value, text)?;
+    Ok(written && shown && is_copied(alloc, value)?)
 }
 
-/// The value's text stands behind what the buffer held, and a copy of the value is equal to it.
-fn is_shown(rt: &impl Abort, alloc: Global, value: Value, text: &str) -> Result<(), Fail> {
-    let fits = fits(alloc, &value, text)?;
-    drop(value);
-    assert!(rt; fits, "{text}");
-    Ok(())
-}
+/// A type, bytes, and the text of the value that has these bytes; none where no value has them.
+struct Coded(FieldType, &'static [u8], Option<&'static str>);
 
-#[test]
-fn numbers_are_shown(rt: HostRuntime) -> Result<(), Fail> {
-    let cases = [
-        (-500_000, "-0.5"),
-        (0, "0"),
-        (1, "0.000001"),
-        (-1, "-0.000001"),
-        (10_050_000, "10.05"),
-        (100_000_000, "100"),
-        (1_000_000_000_000_000, "1000000000"),
-    ];
-    for (number, text) in cases {
-        is_shown(&rt, rt.alloc(), Value::SFFloat(number), text)?;
-        is_shown(&rt, rt.alloc(), Value::SFTime(number), text)?;
+impl Row for Coded {
+    fn holds(&self, alloc: Global) -> Result<bool, AllocError> {
+        match value_of(alloc, self.0, self.1) {
+            Ok((value, rest)) => {
+                let text = self.2.unwrap_or("?");
+                let answer = is_value(alloc, &value, self.1, text);
+                drop(value);
+                Ok(answer? && rest.is_empty())
+            }
+            Err(fault) => Ok(self.2.is_none() && fault == PartFault::NotCanonical),
+        }
     }
-    is_shown(
-        &rt,
-        rt.alloc(),
-        Value::SFInt32(-2_147_483_648),
-        "-2147483648",
-    )?;
-    is_shown(&rt, rt.alloc(), Value::SFBool(true), "TRUE")?;
-    is_shown(&rt, rt.alloc(), Value::SFBool(false), "FALSE")
 }
+
+static VALUES: [Coded; 30] = [
+    // truth values and numbers
+    Coded(FieldType::SFBool, b"\x01", Some("TRUE")),
+    Coded(FieldType::SFBool, b"\x00", Some("FALSE")),
+    Coded(FieldType::SFInt32, b"\x80\x00\x00\x00", Some("-2147483648")),
+    Coded(FieldType::SFInt32, b"\xff\xff\xff\xfe", Some("-2")),
+    Coded(
+        FieldType::SFFloat,
+        b"\x00\x00\x00\x00\x00\x16\xe3\x60",
+        Some("1.5"),
+    ),
+    Coded(
+        FieldType::SFFloat,
+        b"\xff\xff\xff\xff\xff\xf8\x5e\xe0",
+        Some("-0.5"),
+    ),
+    Coded(
+        FieldType::SFFloat,
+        b"\x00\x03\x8d\x7e\xa4\xc6\x80\x00",
+        Some("1000000000"),
+    ),
+    Coded(
+        FieldType::SFTime,
+        b"\xff\xff\xff\xff\xff\xff\xff\xff",
+        Some("-0.000001"),
+    ),
+    Coded(
+        FieldType::SFTime,
+        b"\x00\x00\x00\x00\x00\x99\x59\xd0",
+        Some("10.05"),
+    ),
+    // vectors and colours
+    Coded(
+        FieldType::SFVec2f,
+        b"\x00\x00\x00\x00\x00\x00\x00\x01\xff\xff\xff\xff\xff\xff\xff\xfe",
+        Some("0.000001 -0.000002"),
+    ),
+    Coded(
+        FieldType::SFVec3f,
+        b"\x00\x00\x00\x00\x00\x0f\x42\x40\x00\x00\x00\x00\x00\x00\x00\x00\
+            \xff\xff\xff\xff\xff\xe1\x7b\x80",
+        Some("1 0 -2"),
+    ),
+    Coded(
+        FieldType::SFColor,
+        b"\x00\x00\x00\x00\x00\x0c\x35\x00\x00\x00\x00\x00\x00\x00\x00\x00\
+            \x00\x00\x00\x00\x00\x0f\x42\x40",
+        Some("0.8 0 1"),
+    ),
+    // strings
+    Coded(FieldType::SFString, b"\x00\x00\x00\x00", Some("\"\"")),
+    Coded(FieldType::SFString, b"\x00\x00\x00\x02hi", Some("\"hi\"")),
+    Coded(
+        FieldType::SFString,
+        b"\x00\x00\x00\x09a \"b\" \\ c",
+        Some("\"a \\\"b\\\" \\\\ c\""),
+    ),
+    // lists
+    Coded(
+        FieldType::MFBool,
+        b"\x00\x00\x00\x02\x00\x01",
+        Some("[FALSE TRUE]"),
+    ),
+    Coded(
+        FieldType::MFInt32,
+        b"\x00\x00\x00\x02\xff\xff\xff\xff\x00\x00\x00\x14",
+        Some("[-1 20]"),
+    ),
+    Coded(
+        FieldType::MFFloat,
+        b"\x00\x00\x00\x02\x00\x00\x00\x00\x00\x03\xd0\x90\x00\x00\x00\x00\x00\x18\x6a\x00",
+        Some("[0.25 1.6]"),
+    ),
+    Coded(
+        FieldType::MFTime,
+        b"\x00\x00\x00\x01\x00\x00\x00\x00\x00\x0f\x42\x40",
+        Some("[1]"),
+    ),
+    Coded(FieldType::MFString, b"\x00\x00\x00\x00", Some("[]")),
+    Coded(
+        FieldType::MFString,
+        b"\x00\x00\x00\x02\x00\x00\x00\x02hi\x00\x00\x00\x00",
+        Some("[\"hi\" \"\"]"),
+    ),
+    Coded(
+        FieldType::MFVec2f,
+        b"\x00\x00\x00\x02\x00\x00\x00\x00\x00\x00\x00\x00\x00\x00\x00\x00\
+            \x00\x0f\x42\x40\xff\xff\xff\xff\xff\xff\xff\xff\x00\x00\x00\x00\
+            \x00\x00\x00\x00",
+        Some("[0 1 -0.000001 0]"),
+    ),
+    Coded(
+        FieldType::MFVec3f,
+        b"\x00\x00\x00\x01\x00\x00\x00\x00\x00\x00\x00\x00\x00\x00\x00\x00\
+            \x00\x00\x00\x00\x00\x00\x00\x00\x00\x00\x00\x05",
+        Some("[0 0 0.000005]"),
+    ),
+    Coded(
+        FieldType::MFColor,
+        b"\x00\x00\x00\x01\x00\x00\x00\x00\x00\x0c\x35\x00\x00\x00\x00\x00\
+            \x00\x00\x00\x00\x00\x00\x00\x00\x00\x0f\x42\x40",
+        Some("[0.8 0 1]"),
+    ),
+    // bytes of no value
+    Coded(FieldType::SFBool, b"\x02", None),
+    Coded(
+        FieldType::SFFloat,
+        b"\x00\x03\x8d\x7e\xa4\xc6\x80\x01",
+        None,
+    ),
+    Coded(FieldType::SFString, b"\x00\x00\x00\x01\xff", None),
+    Coded(FieldType::MFBool, b"\xff\xff\xff\xff\x01", None),
+    Coded(FieldType::MFNode, b"\x00\x00\x00\x00", None),
+    // a time may be larger than a number
+    Coded(
+        FieldType::SFTime,
+        b"\x00\x03\x8d\x7e\xa4\xc6\x80\x01",
+        Some("1000000000.000001"),
+    ),
+];
 
 #[test]
-fn vectors_and_strings_are_shown(rt: HostRuntime) -> Result<(), Fail> {
-    let alloc = rt.alloc();
-    is_shown(
-        &rt,
-        alloc,
-        Value::SFVec2f(Vec2 {
-            x: 1_000_000,
-            y: -1,
-        }),
-        "1 -0.000001",
-    )?;
-    is_shown(&rt, alloc, Value::SFVec3f(VECTOR), "1 0 -2")?;
-    is_shown(&rt, alloc, Value::SFColor(COLOR), "0.8 0 1")?;
-    is_shown(&rt, alloc, Value::SFNode(None), "")?;
-    is_shown(&rt, alloc, Value::SFNode(Some(7)), "")?;
-    is_shown(&rt, alloc, Value::SFString(Text::new(alloc)), "\"\"")?;
-    let text = Text::from_str(alloc, "a \"b\" \\ c")?;
-    is_shown(&rt, alloc, Value::SFString(text), "\"a \\\"b\\\" \\\\ c\"")
-}
-
-#[test]
-fn lists_are_shown(rt: HostRuntime) -> Result<(), Fail> {
-    let alloc = rt.alloc();
-    let truths = Items::from_slice(alloc, &[true, false])?;
-    is_shown(&rt, alloc, Value::MFBool(truths), "[TRUE FALSE]")?;
-    let numbers = Items::from_slice(alloc, &[-1, 20])?;
-    is_shown(&rt, alloc, Value::MFInt32(numbers), "[-1 20]")?;
-    let numbers = Items::from_slice(alloc, &[250_000, 1_600_000])?;
-    is_shown(&rt, alloc, Value::MFFloat(numbers), "[0.25 1.6]")?;
-    let times = Items::from_slice(alloc, &[1_000_000])?;
-    is_shown(&rt, alloc, Value::MFTime(times), "[1]")?;
-    is_shown(&rt, alloc, Value::MFString(Items::new(alloc)), "[]")
-}
-
-#[test]
-fn lists_of_vectors_are_shown(rt: HostRuntime) -> Result<(), Fail> {
-    let alloc = rt.alloc();
-    let pairs = Items::from_slice(alloc, &[Vec2 { x: 0, y: 1_000_000 }, Vec2 { x: -1, y: 0 }])?;
-    is_shown(&rt, alloc, Value::MFVec2f(pairs), "[0 1 -0.000001 0]")?;
-    let vectors = Items::from_slice(alloc, &[VECTOR, VECTOR])?;
-    is_shown(&rt, alloc, Value::MFVec3f(vectors), "[1 0 -2 1 0 -2]")?;
-    let colors = Items::from_slice(alloc, &[COLOR])?;
-    is_shown(&rt, alloc, Value::MFColor(colors), "[0.8 0 1]")?;
-    let nodes = Items::from_slice(alloc, &[1, 2])?;
-    is_shown(&rt, alloc, Value::MFNode(nodes), "")
-}
-
-/// Both calls are refused, and the buffer is as it was.
-fn is_refused(alloc: Global, value: &Value, full: &mut Vec<u8>) -> bool {
-    let len = full.len();
-    let shown = show_value(value, full).is_err();
-    let kept = full.len() == len && full.iter().all(|byte| *byte == b'x');
-    shown && kept && clone_value(alloc, value).is_err()
+fn values_have_their_bytes_and_texts(rt: HostRuntime) {
+    all_hold(&rt, rt.alloc(), &VALUES);
 }
 
 /// A buffer so large that it can't grow where it is, and full.
 fn full_buffer(alloc: Global) -> Result<Vec<u8>, AllocError> {
     let mut full = Vec::with_capacity(alloc, 4096)?;
-    for _ in 0..full.capacity() {
-        full.push(b'x')?;
-    }
+    full.resize(full.capacity(), b'x')?;
     Ok(full)
 }
 
-/// Whether both calls are refused to the value where no memory is left.
-fn refuses(alloc: Global, value: &Value) -> Result<bool, AllocError> {
+/// Whether the value is neither shown nor written nor copied where no memory is left.
+fn is_refused(alloc: Global, value: &Value) -> Result<bool, AllocError> {
     let mut full = full_buffer(alloc)?;
     let used_up = UsedUp::new(alloc)?;
-    let refused = is_refused(alloc, value, &mut full);
+    let shown = show_value(value, &mut full).is_ok();
+    let written = push_value(value, &mut full).is_ok();
+    let copied = clone_value(alloc, value).err().is_none();
     drop(used_up);
-    Ok(refused)
+    Ok(!shown && !written && !copied)
 }
 
-fn refuses_a_list(alloc: Global) -> Result<bool, AllocError> {
-    let list = Value::MFFloat(Items::from_slice(alloc, &[1, 2])?);
-    refuses(alloc, &list)
+/// A type, and the bytes of a value that takes memory.
+struct Refused(FieldType, &'static [u8]);
+
+impl Row for Refused {
+    fn holds(&self, alloc: Global) -> Result<bool, AllocError> {
+        let Ok((value, _)) = value_of(alloc, self.0, self.1) else {
+            return Ok(false);
+        };
+        let refused = is_refused(alloc, &value);
+        drop(value);
+        Ok(refused? && is_unread(alloc, self.0, self.1)?)
+    }
 }
 
-fn refuses_a_string(alloc: Global) -> Result<bool, AllocError> {
-    let string = Value::SFString(Text::from_str(alloc, "word")?);
-    refuses(alloc, &string)
+/// Whether memory is refused to the value of the bytes.
+fn is_unread(alloc: Global, field_type: FieldType, bytes: &[u8]) -> Result<bool, AllocError> {
+    let used_up = UsedUp::new(alloc)?;
+    let fault = value_of(alloc, field_type, bytes).err();
+    drop(used_up);
+    Ok(fault == Some(PartFault::Memory))
 }
+
+static REFUSED: [Refused; 2] = [
+    Refused(FieldType::SFString, b"\x00\x00\x00\x04word"),
+    Refused(
+        FieldType::MFFloat,
+        b"\x00\x00\x00\x01\x00\x00\x00\x00\x00\x00\x00\x07",
+    ),
+];
 
 /// A default with words is refused, an empty list takes no memory.
 fn refuses_a_default(alloc: Global) -> Result<bool, AllocError> {
     let used_up = UsedUp::new(alloc)?;
-    let refused = default_value(alloc, FieldType::MFString, FieldDefault::ExamineAny).is_err();
-    let empty = empty_value(alloc, FieldType::MFString).is_some();
+    let refused = default_value(alloc, FieldType::MFString, FieldDefault::ExamineAny)
+        .err()
+        .is_some();
+    let empty = empty_value(alloc, FieldType::MFString);
     drop(used_up);
-    Ok(refused && empty)
+    let given = empty.is_some();
+    drop(empty);
+    Ok(refused && given)
 }
 
 #[test]
-fn a_refused_growth_changes_nothing(rt: HostRuntime) -> Result<(), Fail> {
-    assert!(rt; refuses_a_list(rt.alloc())?);
-    assert!(rt; refuses_a_string(rt.alloc())?);
-    assert!(rt; refuses_a_default(rt.alloc())?);
-    Ok(())
+fn a_refused_growth_is_answered(rt: HostRuntime) {
+    all_hold(&rt, rt.alloc(), &REFUSED);
+    holds(&rt, refuses_a_default(rt.alloc()));
 }
