@@ -1,28 +1,24 @@
-//! Worked examples by hand: the path of the box that is hit, how far off, its sensors, and where it
-//! is hit in their coordinates. A Box without a size reaches from -1 to 1 on each axis.
+//! Worked examples by hand: the path of the box that is hit, how far off it is, its sensors, and
+//! where it is hit in their coordinates. A Box without a size reaches from -1 to 1 on each axis.
 
+use super::{Row, all_hold};
 use classic_text::read;
 use flat_document::Flat;
 use pick_core::{BoxCache, Hit, local_point, pick, sensors_of};
 use proto_walk::expand;
 use scene_core::Scene;
-use std::alloc::Global;
-use std::process::Abort;
-use std::test::Fail;
+use std::alloc::{AllocError, Global};
 use test_memory::UsedUp;
 use x3d_values::{Fields, Ray, Vec3};
 
 /// A box that is hit: its path, how many times the direction it is off, the sensors that this
 /// concerns, and where it is hit for each of them.
-#[derive(Clone, Copy)]
 struct Wanted {
     path: &'static [usize],
     distance: u64,
     sensors: &'static [u32],
     place: Vec3,
 }
-
-const CENTRE: Vec3 = Vec3 { x: 0, y: 0, z: 0 };
 
 /// The ray from `10 0 20` along `0 0 -1`.
 fn ahead() -> Ray {
@@ -39,130 +35,173 @@ fn ahead() -> Ray {
     Ray::new(origin, dir)
 }
 
-fn flat_of(alloc: Global, scene: &str) -> Result<Flat, Fail> {
-    let document = read(alloc, scene.as_bytes())?;
-    Ok(expand(alloc, document)?)
-}
-
-fn is_wanted(scene: &Scene, state: &[Fields], hit: &Hit, wanted: Wanted) -> bool {
-    let ray = ahead();
-    if hit.m == 0 || hit.path.as_slice() != wanted.path {
+/// Whether that is where the box is hit for each of the sensors.
+fn is_place(scene: &Scene, state: &[Fields], hit: &Hit, wanted: &Wanted) -> bool {
+    if hit.m == 0 {
         return false;
     }
-    if u128::from(hit.n) != u128::from(wanted.distance) * u128::from(hit.m) {
-        return false;
-    }
-    let sensors = sensors_of(scene, state, hit);
-    for sensor in sensors.iter() {
-        if local_point(scene, state, hit, ray, *sensor) != wanted.place {
+    for sensor in wanted.sensors {
+        if local_point(scene, state, hit, ahead(), *sensor) != wanted.place {
             return false;
         }
     }
-    sensors.as_slice() == wanted.sensors
+    true
 }
 
-/// By the scene, and by a cache of its boxes.
-fn is_hit(rt: &impl Abort, alloc: Global, flat: &Flat, wanted: Option<Wanted>) -> Result<(), Fail> {
-    let scene = Scene::build(alloc, flat)?;
-    let state = scene.state(alloc)?;
-    let cache = BoxCache::new(alloc, &scene, state.as_slice())?;
-    for hit in [pick(&scene, state.as_slice(), ahead()), cache.pick(ahead())].iter() {
-        let is_right = match (hit, wanted) {
-            (Some(hit), Some(wanted)) => is_wanted(&scene, state.as_slice(), hit, wanted),
-            (None, None) => true,
-            _ => false,
-        };
-        assert!(rt; is_right);
+fn is_hit(scene: &Scene, state: &[Fields], hit: &Hit, wanted: &Wanted) -> bool {
+    hit.path.as_slice() == wanted.path
+        && u128::from(hit.n) == u128::from(wanted.distance) * u128::from(hit.m)
+        && sensors_of(scene, state, hit).as_slice() == wanted.sensors
+        && is_place(scene, state, hit, wanted)
+}
+
+fn is_wanted(scene: &Scene, state: &[Fields], hit: Option<Hit>, wanted: &Option<Wanted>) -> bool {
+    match (&hit, wanted) {
+        (Some(hit), Some(wanted)) => is_hit(scene, state, hit, wanted),
+        (None, None) => true,
+        _ => false,
     }
-    Ok(())
 }
 
-const TWICE_AS_LARGE: &str = "#X3D V3.0 utf8
-Transform { translation 10 0 0 scale 2 2 2
-children [ DEF S TouchSensor {} Shape { geometry Box {} } ] }";
-
-const THROUGH: Wanted = Wanted {
-    path: &[0, 1],
-    distance: 18,
-    sensors: &[0],
-    place: Vec3 {
-        x: 0,
-        y: 0,
-        z: 1_000_000,
-    },
-};
-
-#[test]
-fn pick_through_transform(rt: HostRuntime) -> Result<(), Fail> {
-    let flat = flat_of(rt.alloc(), TWICE_AS_LARGE)?;
-    is_hit(&rt, rt.alloc(), &flat, Some(THROUGH))
-}
-
-/// The box is flat at z = 0, and the hit point is the centre there.
-#[test]
-fn pick_through_a_scale_of_zero(rt: HostRuntime) -> Result<(), Fail> {
-    let scene = "#X3D V3.0 utf8
-Transform { translation 10 0 0 scale 2 2 0
-children [ DEF S TouchSensor {} Shape { geometry Box {} } ] }";
-    let flat = flat_of(rt.alloc(), scene)?;
-    let wanted = Wanted {
-        distance: 20,
-        place: CENTRE,
-        ..THROUGH
-    };
-    is_hit(&rt, rt.alloc(), &flat, Some(wanted))
-}
-
-/// The same Transform stands twice in the list of the roots: of equal distances the first path.
-#[test]
-fn of_equal_distances_the_first_path_counts(rt: HostRuntime) -> Result<(), Fail> {
-    let mut flat = flat_of(rt.alloc(), TWICE_AS_LARGE)?;
-    let root = flat.roots.as_slice().first().copied();
-    flat.roots.push(root.unwrap_or(0))?;
-    is_hit(&rt, rt.alloc(), &flat, Some(THROUGH))
-}
-
-/// The ray begins inside the box: it is hit at once.
-#[test]
-fn a_box_round_the_ray_is_hit_at_once(rt: HostRuntime) -> Result<(), Fail> {
-    let scene = "#X3D V3.0 utf8
-Transform { translation 10 0 20 children [ DEF S TouchSensor {} Shape { geometry Box {} } ] }";
-    let flat = flat_of(rt.alloc(), scene)?;
-    let wanted = Wanted {
-        distance: 0,
-        place: CENTRE,
-        ..THROUGH
-    };
-    is_hit(&rt, rt.alloc(), &flat, Some(wanted))
-}
-
-/// A Switch that shows no child hides the nearer box, and one behind the ray isn't hit.
-#[test]
-fn hidden_boxes_and_boxes_behind_are_none(rt: HostRuntime) -> Result<(), Fail> {
-    let hidden = "#X3D V3.0 utf8
-Switch { children [ Transform { translation 10 0 5 children [ Shape { geometry Box {} } ] } ] }
-Transform { translation 10 0 0 scale 2 2 2 children [ Shape { geometry Box {} } ] }";
-    let flat = flat_of(rt.alloc(), hidden)?;
-    let wanted = Wanted {
-        path: &[1, 0],
-        sensors: &[],
-        ..THROUGH
-    };
-    is_hit(&rt, rt.alloc(), &flat, Some(wanted))?;
-    let behind = "#X3D V3.0 utf8
-Transform { translation 10 0 30 children [ Shape { geometry Box {} } ] }";
-    let flat = flat_of(rt.alloc(), behind)?;
-    is_hit(&rt, rt.alloc(), &flat, None)
-}
-
-#[test]
-fn a_refused_cache_is_answered(rt: HostRuntime) -> Result<(), Fail> {
-    let flat = flat_of(rt.alloc(), TWICE_AS_LARGE)?;
-    let scene = Scene::build(rt.alloc(), &flat)?;
-    let state = scene.state(rt.alloc())?;
-    let used_up = UsedUp::new(rt.alloc())?;
-    let is_refused = BoxCache::new(rt.alloc(), &scene, state.as_slice()).is_err();
+/// Whether a cache is refused while memory is used up.
+fn is_refused(alloc: Global, scene: &Scene, state: &[Fields]) -> Result<bool, AllocError> {
+    let used_up = UsedUp::new(alloc)?;
+    let is_refused = BoxCache::new(alloc, scene, state).is_err();
     drop(used_up);
-    assert!(rt; is_refused);
-    Ok(())
+    Ok(is_refused)
+}
+
+/// Whether the ray hits what is wanted, by the scene and by a cache of its boxes; and a cache is
+/// made, and refused where there is no memory.
+fn holds_in(
+    alloc: Global,
+    scene: &Scene,
+    state: &[Fields],
+    wanted: &Option<Wanted>,
+) -> Result<bool, AllocError> {
+    let cache = BoxCache::new(alloc, scene, state)?;
+    let is_so = is_wanted(scene, state, cache.pick(ahead()), wanted)
+        && is_wanted(scene, state, pick(scene, state, ahead()), wanted);
+    let refused = is_refused(alloc, scene, state);
+    drop(cache);
+    Ok(refused? && is_so)
+}
+
+fn holds_of(alloc: Global, scene: &Scene, wanted: &Option<Wanted>) -> Result<bool, AllocError> {
+    let state = scene.state(alloc)?;
+    let answer = holds_in(alloc, scene, state.as_slice(), wanted);
+    drop(state);
+    answer
+}
+
+fn holds_built(alloc: Global, flat: &Flat, wanted: &Option<Wanted>) -> bool {
+    let Ok(scene) = Scene::build(alloc, flat) else {
+        return false;
+    };
+    let answer = holds_of(alloc, &scene, wanted);
+    drop(scene);
+    answer == Ok(true)
+}
+
+/// A scene, and what is hit of it.
+struct Picked(&'static str, Option<Wanted>);
+
+impl Row for Picked {
+    fn holds(&self, alloc: Global) -> bool {
+        let Ok(document) = read(alloc, self.0.as_bytes()) else {
+            return false;
+        };
+        let Ok(flat) = expand(alloc, document) else {
+            return false;
+        };
+        let is_so = holds_built(alloc, &flat, &self.1);
+        drop(flat);
+        is_so
+    }
+}
+
+static THROUGH: [Picked; 1] = [Picked(
+    "#X3D V3.0 utf8
+Transform { translation 10 0 0 scale 2 2 2
+children [ DEF S TouchSensor {} Shape { geometry Box {} } ] }",
+    Some(Wanted {
+        path: &[0, 1],
+        distance: 18,
+        sensors: &[0],
+        place: Vec3 {
+            x: 0,
+            y: 0,
+            z: 1_000_000,
+        },
+    }),
+)];
+
+static OTHERS: [Picked; 5] = [
+    // the box is flat at z = 0, and the hit point is the centre there
+    Picked(
+        "#X3D V3.0 utf8
+Transform { translation 10 0 0 scale 2 2 0
+children [ DEF S TouchSensor {} Shape { geometry Box {} } ] }",
+        Some(Wanted {
+            path: &[0, 1],
+            distance: 20,
+            sensors: &[0],
+            place: Vec3 { x: 0, y: 0, z: 0 },
+        }),
+    ),
+    // of equal distances the first path counts
+    Picked(
+        "#X3D V3.0 utf8
+DEF T Transform { translation 10 0 0 scale 2 2 2
+children [ DEF S TouchSensor {} Shape { geometry Box {} } ] } USE T",
+        Some(Wanted {
+            path: &[0, 1],
+            distance: 18,
+            sensors: &[0],
+            place: Vec3 {
+                x: 0,
+                y: 0,
+                z: 1_000_000,
+            },
+        }),
+    ),
+    // the ray begins inside the box: it is hit at once
+    Picked(
+        "#X3D V3.0 utf8
+Transform { translation 10 0 20 children [ DEF S TouchSensor {} Shape { geometry Box {} } ] }",
+        Some(Wanted {
+            path: &[0, 1],
+            distance: 0,
+            sensors: &[0],
+            place: Vec3 { x: 0, y: 0, z: 0 },
+        }),
+    ),
+    // a Switch that shows no child hides the nearer box
+    Picked(
+        "#X3D V3.0 utf8
+Switch { children [ Transform { translation 10 0 5 children [ Shape { geometry Box {} } ] } ] }
+Transform { translation 10 0 0 scale 2 2 2 children [ Shape { geometry Box {} } ] }",
+        Some(Wanted {
+            path: &[1, 0],
+            distance: 18,
+            sensors: &[],
+            place: Vec3 { x: 0, y: 0, z: 0 },
+        }),
+    ),
+    // a box behind the ray isn't hit
+    Picked(
+        "#X3D V3.0 utf8
+Transform { translation 10 0 30 children [ Shape { geometry Box {} } ] }",
+        None,
+    ),
+];
+
+#[test]
+fn pick_through_transform(rt: HostRuntime) {
+    all_hold(&rt, rt.alloc(), &THROUGH);
+}
+
+#[test]
+fn rays_hit_boxes(rt: HostRuntime) {
+    all_hold(&rt, rt.alloc(), &OTHERS);
 }
