@@ -6,6 +6,7 @@ mod headers;
 mod lists;
 mod memory;
 mod numerals;
+mod passing;
 mod reaction_growths;
 mod reactions;
 mod sending;
@@ -15,7 +16,8 @@ mod table_text;
 mod token_limits;
 mod tokens;
 mod typing;
-mod typing_rows;
+mod typing_faults;
+mod typing_values;
 mod values;
 
 use std::alloc::{AllocError, Global};

@@ -39,7 +39,7 @@ pub fn fields(alloc: Global, count: usize) -> Result<Fields, AllocError> {
 /// Whether that is sent: the field and the value of each reply, in order.
 pub fn is_sent(alloc: Global, out: &Outbox, wanted: &str) -> Result<bool, AllocError> {
     let mut text = Vec::new(alloc);
-    for reply in out {
+    for reply in out.as_slice() {
         push_reply(reply, &mut text)?;
     }
     Ok(text.as_slice() == wanted.as_bytes())
