@@ -1,13 +1,31 @@
-//! What the cases of cases/ can't show: devices that fail, memory that is refused, limits, values.
+//! What the cases of cases/ can't show: devices that fail, memory that is refused, large scenes.
 
-mod answers;
+mod commands;
 mod devices;
 mod faults;
 mod growths;
-mod jobs;
-mod limits;
-mod nesting;
-mod schedules;
-mod stage_growths;
-mod works;
+mod inputs;
+mod large;
+mod texts;
 mod written;
+
+use std::alloc::{AllocError, Global};
+use std::process::Abort;
+
+/// It is so, and no memory was refused.
+fn holds(rt: &impl Abort, answer: Result<bool, AllocError>) {
+    assert!(rt; answer == Ok(true));
+}
+
+/// A row of a table.
+trait Row {
+    /// Whether it is as the row says.
+    fn holds(&self, alloc: Global) -> Result<bool, AllocError>;
+}
+
+/// Each row of a table holds.
+fn all_hold<R: Row>(rt: &impl Abort, alloc: Global, rows: &[R]) {
+    for (number, row) in rows.iter().enumerate() {
+        assert!(rt; row.holds(alloc) == Ok(true), "row {number}");
+    }
+}

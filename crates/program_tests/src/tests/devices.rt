@@ -1,10 +1,11 @@
 //! Devices that fail: readers and writers of a few bytes a call, by hand.
 
-use share_program::{
-    JobFault, StreamFault, check_text, format_text, read_schedule, read_whole, write_whole,
-};
-use std::alloc::Global;
+use super::commands::{Command, is_refused, obey};
+use super::{Row, all_hold};
+use share_program::{JobFault, read_schedule};
+use std::alloc::{AllocError, Global};
 use std::io::{self, ErrorKind, Read, Write};
+use std::process::Abort;
 
 /// Gives three bytes a read, and fails at one read.
 #[derive(Drop)]
@@ -35,35 +36,6 @@ fn failing_reader(left: &[u8], fails_at: u32, kind: ErrorKind) -> Patchy<'_> {
         fails_at,
         kind,
     }
-}
-
-const JOB: &[u8] = b"clock 1\nscene\n";
-
-#[test]
-fn a_failed_read_is_answered(rt: HostRuntime) {
-    for read in 1..7 {
-        let failed = read_whole(
-            rt.alloc(),
-            &mut failing_reader(JOB, read, ErrorKind::BrokenPipe),
-        );
-        assert!(rt;
-            matches!(&failed, Err(fault) if *fault == StreamFault::Device),
-            "{read}"
-        );
-        let tried_again = read_whole(
-            rt.alloc(),
-            &mut failing_reader(JOB, read, ErrorKind::Interrupted),
-        );
-        assert!(rt;
-            matches!(&tried_again, Ok(bytes) if bytes.as_slice() == b"clock 1\nscene\n".as_slice()),
-            "{read}"
-        );
-    }
-    let whole = read_whole(
-        rt.alloc(),
-        &mut failing_reader(JOB, 7, ErrorKind::BrokenPipe),
-    );
-    assert!(rt; matches!(&whole, Ok(bytes) if bytes.len() == 14));
 }
 
 /// Takes three bytes a write, and fails at one write or flush.
@@ -97,73 +69,70 @@ impl Write for Choppy {
     }
 }
 
-fn failing_writer(alloc: Global, fails_at: u32) -> Choppy {
-    Choppy {
-        got: Vec::new(alloc),
-        calls: 0,
-        fails_at,
+/// A command, what it reads and what it writes, each in six calls of three bytes or more.
+struct Piecewise(Command, &'static str, &'static str);
+
+impl Piecewise {
+    /// Whether it is refused where this read fails, and nothing is written.
+    fn is_refused_at_read(&self, alloc: Global, read: u32) -> bool {
+        let mut reader = failing_reader(self.1.as_bytes(), read, ErrorKind::BrokenPipe);
+        let mut out = Vec::new(alloc);
+        let answer = obey(alloc, self.0, &mut reader, &mut out).err();
+        is_refused(answer, "refused Device", 4) && out.is_empty()
+    }
+
+    /// Whether it goes on where this read is interrupted.
+    fn reads_again(&self, alloc: Global, read: u32) -> bool {
+        let mut reader = failing_reader(self.1.as_bytes(), read, ErrorKind::Interrupted);
+        let mut out = Vec::new(alloc);
+        let answer = obey(alloc, self.0, &mut reader, &mut out).err();
+        answer.is_none() && out.as_slice() == self.2.as_bytes()
+    }
+
+    /// Whether it is refused where this write or flush fails, and else writes all; 0 is none.
+    fn writes(&self, alloc: Global, call: u32) -> bool {
+        let mut reader = self.1.as_bytes();
+        let mut writer = Choppy {
+            got: Vec::new(alloc),
+            calls: 0,
+            fails_at: call,
+        };
+        let answer = obey(alloc, self.0, &mut reader, &mut writer).err();
+        match call {
+            0 => answer.is_none() && writer.got.as_slice() == self.2.as_bytes(),
+            _ => is_refused(answer, "refused Device", 4),
+        }
     }
 }
 
-#[test]
-fn a_failed_write_is_answered(rt: HostRuntime) {
-    for call in 1..7 {
-        let failed = write_whole(&mut failing_writer(rt.alloc(), call), b"clock 1\nscene\n");
-        assert!(rt; failed == Err(StreamFault::Device), "{call}");
-    }
-    let mut writer = failing_writer(rt.alloc(), 7);
-    assert!(rt; write_whole(&mut writer, b"clock 1\nscene\n") == Ok(()));
-    assert!(rt; writer.got.as_slice() == b"clock 1\nscene\n".as_slice());
-}
-
-const SMALL: &[u8] = b"#X3D V3.0 utf8";
-
-#[test]
-fn a_failed_reader_of_a_scene_is_answered(rt: HostRuntime) {
-    for read in 1..7 {
-        let mut reader = failing_reader(SMALL, read, ErrorKind::BrokenPipe);
-        let mut out = Vec::new(rt.alloc());
-        let fault = format_text(rt.alloc(), &mut reader, &mut out).err();
-        assert!(rt; fault == Some(JobFault::Device) && out.is_empty(), "{read}");
+impl Row for Piecewise {
+    fn holds(&self, alloc: Global) -> Result<bool, AllocError> {
+        for call in 1..7 {
+            let fails = self.is_refused_at_read(alloc, call) && self.writes(alloc, call);
+            if !fails || !self.reads_again(alloc, call) {
+                return Ok(false);
+            }
+        }
+        Ok(self.writes(alloc, 0))
     }
 }
 
+static PIECEWISE: [Piecewise; 3] = [
+    Piecewise(Command::Check, "#X3D V3.0 utf8", "good 0 nodes 0 routes\n"),
+    Piecewise(Command::Format, "#X3D V3.0 utf8", "#X3D V3.0 utf8\n"),
+    Piecewise(Command::Run, "scene\n#X3D V3.0 utf8", "#X3D V3.0 utf8\n"),
+];
+
 #[test]
-fn a_failed_writer_of_a_scene_is_answered(rt: HostRuntime) {
-    for call in 1..7 {
-        let mut reader = SMALL;
-        let mut writer = failing_writer(rt.alloc(), call);
-        let fault = format_text(rt.alloc(), &mut reader, &mut writer).err();
-        assert!(rt; fault == Some(JobFault::Device), "{call}");
-    }
-    let mut reader = SMALL;
-    let mut writer = failing_writer(rt.alloc(), 7);
-    assert!(rt; format_text(rt.alloc(), &mut reader, &mut writer).is_ok());
+fn a_failed_device_is_answered(rt: HostRuntime) {
+    all_hold(&rt, rt.alloc(), &PIECEWISE);
 }
 
 #[test]
-fn a_failed_device_of_a_check_is_answered(rt: HostRuntime) {
-    for call in 1..7 {
-        let mut reader = failing_reader(SMALL, call, ErrorKind::BrokenPipe);
-        let mut out = Vec::new(rt.alloc());
-        let fault = check_text(rt.alloc(), &mut reader, &mut out).err();
-        assert!(rt; fault == Some(JobFault::Device) && out.is_empty(), "{call}");
-        let mut reader = SMALL;
-        let mut writer = failing_writer(rt.alloc(), call);
-        let fault = check_text(rt.alloc(), &mut reader, &mut writer).err();
-        assert!(rt; fault == Some(JobFault::Device), "{call}");
-    }
-}
-
-#[test]
-fn a_schedule_is_read_to_its_end(rt: HostRuntime) {
+fn a_failed_reader_of_a_schedule_is_answered(rt: HostRuntime) {
     for read in 1..7 {
         let mut broken = failing_reader(b"ask 7\nscene\nA", read, ErrorKind::BrokenPipe);
         let fault = read_schedule(rt.alloc(), &mut broken).err();
         assert!(rt; fault == Some(JobFault::Device), "{read}");
-        let mut late = failing_reader(b"ask 7\nscene\nA", read, ErrorKind::Interrupted);
-        let whole = matches!(&read_schedule(rt.alloc(), &mut late),
-            Ok(s) if s.steps.len() == 1 && s.scene.as_slice() == b"A".as_slice());
-        assert!(rt; whole, "{read}");
     }
 }

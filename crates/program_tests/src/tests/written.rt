@@ -2,64 +2,48 @@
 //! same bytes, or is refused by a limit that the node around the helpers meets. And what a text is
 //! formatted as is formatted as itself. By hand.
 
-use super::answers::{is_answered, printed};
-use super::limits::nested;
-use share_program::{Failure, JobFault, format_text};
+use super::commands::{Command, answer};
+use super::texts::{Part, made};
+use super::{Row, all_hold};
 use std::alloc::{AllocError, Global};
 use std::process::Abort;
-use std::test::Fail;
 
-/// A job of that scene with no steps.
-fn job_of(alloc: Global, scene: &[u8]) -> Result<Vec<u8>, AllocError> {
-    let mut job = Vec::new(alloc);
-    job.extend_from_slice(b"scene\n")?;
-    job.extend_from_slice(scene)?;
-    Ok(job)
+/// What is written of a scene by a command whose input has this line before it.
+fn written(
+    alloc: Global,
+    command: Command,
+    line: &[u8],
+    scene: &[u8],
+) -> Result<Vec<u8>, AllocError> {
+    let mut input = Vec::from_slice(alloc, line)?;
+    input.extend_from_slice(scene)?;
+    answer(alloc, command, input.as_slice())
 }
 
-/// What is written of the scene.
-fn written(alloc: Global, scene: &[u8]) -> Result<Vec<u8>, Failure> {
-    let job = job_of(alloc, scene).map_err(|refused| Failure::Job(JobFault::from(refused)))?;
-    printed(alloc, job.as_slice())
+/// Whether what is written of the scene is a scene, of which the same is written.
+fn stays(alloc: Global, command: Command, line: &[u8], scene: &[u8]) -> Result<bool, AllocError> {
+    let once = written(alloc, command, line, scene)?;
+    let twice = written(alloc, command, line, once.as_slice())?;
+    Ok(once.starts_with(b"#X3D V3.0 utf8\n") && once.as_slice() == twice.as_slice())
 }
 
-/// What is written of the scene, and what is written of that.
-fn written_twice(alloc: Global, scene: &[u8]) -> Result<(Vec<u8>, Vec<u8>), Failure> {
-    let once = written(alloc, scene)?;
-    let twice = written(alloc, once.as_slice())?;
-    Ok((once, twice))
-}
+/// A scene whose text is run as it was written, and formatted as it was formatted.
+struct Again(&'static str);
 
-fn stays(rt: &impl Abort, alloc: Global, scene: &str) {
-    match written_twice(alloc, scene.as_bytes()) {
-        Ok((once, twice)) => assert!(rt; once.as_slice() == twice.as_slice(), "of {scene}"),
-        Err(failure) => assert!(rt; false, "{failure} of {scene}"),
-    }
-}
-
-/// What a scene is formatted as.
-fn formatted(alloc: Global, scene: &[u8]) -> Result<Vec<u8>, JobFault> {
-    let mut reader = scene;
-    let mut out = Vec::new(alloc);
-    format_text(alloc, &mut reader, &mut out)?;
-    Ok(out)
-}
-
-/// What the scene is formatted as is formatted as itself.
-fn is_kept(rt: &impl Abort, alloc: Global, scene: &str) {
-    let Ok(once) = formatted(alloc, scene.as_bytes()) else {
-        assert!(rt; false, "of {scene}");
-        return;
-    };
-    match formatted(alloc, once.as_slice()) {
-        Ok(twice) => assert!(rt; twice.as_slice() == once.as_slice(), "of {scene}"),
-        Err(fault) => assert!(rt; false, "{fault} of {scene}"),
+impl Row for Again {
+    fn holds(&self, alloc: Global) -> Result<bool, AllocError> {
+        let scene = self.0.as_bytes();
+        Ok(
+            stays(alloc, Command::Run, b"scene\n", scene)?
+                && stays(alloc, Command::Format, b"", scene)?,
+        )
     }
 }
 
 /// The scenes of examples/.
-const EXAMPLES: [&str; 5] = [
-    "#X3D V3.0 utf8
+static EXAMPLES: [Again; 5] = [
+    Again(
+        "#X3D V3.0 utf8
 # A door that slides open in two seconds.
 DEF Motor TimeSensor { cycleInterval 2 startTime 1 }
 DEF Slide PositionInterpolator { key [ 0, 1 ] keyValue [ 0 0 0, 1 0 0 ] }
@@ -69,7 +53,9 @@ DEF Door Transform {
 ROUTE Motor.fraction_changed TO Slide.set_fraction
 ROUTE Slide.value_changed TO Door.translation
 ",
-    "#X3D V3.0 utf8
+    ),
+    Again(
+        "#X3D V3.0 utf8
 PROFILE Interactive
 META \"title\" \"A panel of two lamps, each with its switch\"
 # Timers press the switches until hands can.
@@ -92,7 +78,9 @@ ROUTE Second.cycleTime TO PressSecond.set_triggerTime
 ROUTE PressSecond.triggerTrue TO SwitchSecond.set_boolean
 ROUTE SwitchSecond.toggle_changed TO LampSecond.set_on
 ",
-    "#X3D V3.0 utf8
+    ),
+    Again(
+        "#X3D V3.0 utf8
 # A machine that works for four seconds in three stages, and then says that it is done.
 DEF Timer TimeSensor { cycleInterval 4 startTime 1 }
 DEF Stages IntegerSequencer { key [ 0 0.25 0.75 ] keyValue [ 0 1 2 ] }
@@ -106,12 +94,16 @@ ROUTE Timer.isActive TO Works.on
 ROUTE Timer.isActive TO Filter.set_boolean
 ROUTE Filter.inputNegate TO Done.on
 ",
-    "#X3D V3.0 utf8
+    ),
+    Again(
+        "#X3D V3.0 utf8
 DEF T TimeSensor { cycleInterval 2 loop TRUE startTime 1 } DEF B BooleanTrigger {} \
 DEF G BooleanToggle {} ROUTE T.cycleTime TO B.set_triggerTime \
 ROUTE B.triggerTrue TO G.set_boolean
 ",
-    "#X3D V3.0 utf8
+    ),
+    Again(
+        "#X3D V3.0 utf8
 # A lamp as a prototype: its button is pressed from outside. The words of access are the older ones.
 META \"title\" \"Two lamps, one timer\"
 PROTO Lamp [ eventIn SFBool press, field SFVec3f at 0 0 0, exposedField SFFloat power 1 ] {
@@ -129,108 +121,101 @@ DEF Press BooleanTrigger {}
 ROUTE Timer.cycleTime TO Press.set_triggerTime
 ROUTE Press.triggerTrue TO Hall.press ROUTE Press.triggerTrue TO Desk.press
 ",
+    ),
 ];
 
 /// Shared nodes, helpers, and Scripts with nodes in what they declare.
-const SCENES: [&str; 3] = [
-    "#X3D V3.0 utf8
+static SCENES: [Again; 3] = [
+    Again(
+        "#X3D V3.0 utf8
 DEF A Group { children [ DEF B Group { children DEF C Shape { geometry Box {} } } USE C USE B ] }
 Group { children [ USE A USE C ] } USE B",
-    "#X3D V3.0 utf8
+    ),
+    Again(
+        "#X3D V3.0 utf8
 PROTO P [ initializeOnly MFNode more [] ] {
   Group { children IS more } DEF T TimeSensor { cycleInterval 2 } DEF G Group { children USE T }
   Transform { children [ USE G Group {} ] } ROUTE T.cycleTime TO T.startTime }
 PROTO Q [] { P { more [ Shape {} DEF X P {} ] } Shape { geometry DEF X Box {} } }
 DEF X Q {} P {} DEF N1 Group {}",
-    "#X3D V3.0 utf8
+    ),
+    Again(
+        "#X3D V3.0 utf8
 DEF G Group {}
 DEF S Script { url [ \"javascript:\" ] inputOnly SFBool press initializeOnly SFNode held USE G
 inputOutput MFNode many [ USE G
 DEF D Script { outputOnly SFTime at initializeOnly MFVec3f none [] } ]
 inputOutput SFString named \"\" outputOnly SFBool pressed }
 ROUTE S.pressed TO S.press",
+    ),
 ];
 
 #[test]
 fn written_scenes_are_written_again(rt: HostRuntime) {
-    for scene in EXAMPLES {
-        stays(&rt, rt.alloc(), scene);
-        is_kept(&rt, rt.alloc(), scene);
-    }
-    for scene in SCENES {
-        stays(&rt, rt.alloc(), scene);
+    all_hold(&rt, rt.alloc(), &EXAMPLES);
+    all_hold(&rt, rt.alloc(), &SCENES);
+}
+
+/// A scene of whose text a check says this.
+struct Beyond(&'static [Part], &'static str);
+
+impl Row for Beyond {
+    fn holds(&self, alloc: Global) -> Result<bool, AllocError> {
+        let scene = made(alloc, self.0)?;
+        let text = written(alloc, Command::Run, b"scene\n", scene.as_slice())?;
+        let said = answer(alloc, Command::Check, text.as_slice())?;
+        Ok(said.as_slice() == self.1.as_bytes())
     }
 }
 
 /// Before a scene: an instance whose second node is a helper.
-const WITH_A_HELPER: &[u8] = b"\nPROTO P [] { Group {} Group {} }\nP {}\n";
+const WITH_A_HELPER: Part = Part(
+    1,
+    "#X3D V3.0 utf8\nPROTO P [] { Group {} Group {} }\nP {}\n",
+);
 
-/// Beside a helper and the first node of its instance 65,534 Groups are as many nodes as there may
-/// be; what is written has one more.
-fn many_nodes(alloc: Global) -> Result<Vec<u8>, AllocError> {
-    let mut text = Vec::new(alloc);
-    text.extend_from_slice(b"#X3D V3.0 utf8")?;
-    text.extend_from_slice(WITH_A_HELPER)?;
-    for _group in 0..65_534 {
-        text.extend_from_slice(b"Group {}\n")?;
-    }
-    Ok(text)
-}
+/// The node around the helpers is one more node, place and level.
+static BEYOND: [Beyond; 3] = [
+    // Beside a helper and the first node of its instance 65,534 Groups are as many nodes as there
+    // may be; what is written has one more.
+    Beyond(
+        &[WITH_A_HELPER, Part(65_534, "Group {}\n")],
+        "refused TooLarge",
+    ),
+    // Each of fifteen Groups has the one before it twice: from 1 place to 32,767, in all 65,519.
+    // With sixteen others and the first node of the instance there are as many places as there may
+    // be; the helper and the node around it have two more.
+    Beyond(
+        &[
+            WITH_A_HELPER,
+            Part(1, "DEF A0 Group {}\n"),
+            Part(14, "DEF A% Group { children [ USE A~ USE A~ ] }\n"),
+            Part(16, "Group {}\n"),
+        ],
+        "refused TooMany",
+    ),
+    // A helper with 64 Groups in one another. The 64th is the 65th in what is written, in line 131,
+    // since each but the last opens on a line and its list on the next.
+    Beyond(
+        &[
+            Part(
+                1,
+                "#X3D V3.0 utf8\nPROTO A [ initializeOnly MFNode inside [] ] { ",
+            ),
+            Part(31, "Group { children "),
+            Part(1, "Group { children IS inside"),
+            Part(32, " }"),
+            Part(1, " }\nPROTO P [] { Group {} A { inside "),
+            Part(31, "Group { children "),
+            Part(1, "Group { "),
+            Part(32, " }"),
+            Part(1, " } }\nP {}\n"),
+        ],
+        "refused TooDeep line 131",
+    ),
+];
 
-/// 65,535 places, and one of an instance with a helper; the helper and the node around it have two
-/// more.
-fn many_places(alloc: Global) -> Result<Vec<u8>, AllocError> {
-    let mut text = nested(alloc, 15)?;
-    text.extend_from_slice(WITH_A_HELPER)?;
-    Ok(text)
-}
-
-/// 32 Groups in one another, the innermost with this between its braces.
-fn push_chain(out: &mut Vec<u8>, innermost: &[u8]) -> Result<(), AllocError> {
-    for _group in 0..31 {
-        out.extend_from_slice(b"Group { children ")?;
-    }
-    out.extend_from_slice(b"Group { ")?;
-    out.extend_from_slice(innermost)?;
-    for _group in 0..32 {
-        out.extend_from_slice(b" }")?;
-    }
-    Ok(())
-}
-
-/// A helper with 64 Groups in one another.
-fn deep_helper(alloc: Global) -> Result<Vec<u8>, AllocError> {
-    let mut text = Vec::new(alloc);
-    text.extend_from_slice(b"#X3D V3.0 utf8\nPROTO A [ initializeOnly MFNode inside [] ] { ")?;
-    push_chain(&mut text, b"children IS inside")?;
-    text.extend_from_slice(b" }\nPROTO P [] { Group {} A { inside ")?;
-    push_chain(&mut text, b"")?;
-    text.extend_from_slice(b" } }\nP {}\n")?;
-    Ok(text)
-}
-
-/// What is written of the scene is refused so.
-fn is_refused_again(rt: &impl Abort, alloc: Global, scene: &[u8], wanted: &[u8]) {
-    match written(alloc, scene) {
-        Ok(text) => is_answered(rt, alloc, text.as_slice(), wanted),
-        Err(failure) => assert!(rt; false, "{failure}"),
-    }
-}
-
-/// The node around the helpers is one more node, place and level: the 64th Group of the helper is
-/// the 65th, in line 131, since each but the last opens on a line and its list on the next.
 #[test]
-fn helpers_meet_the_limits(rt: HostRuntime) -> Result<(), Fail> {
-    let large = many_nodes(rt.alloc())?;
-    is_refused_again(&rt, rt.alloc(), large.as_slice(), b"refused TooLarge");
-    let crowded = many_places(rt.alloc())?;
-    is_refused_again(&rt, rt.alloc(), crowded.as_slice(), b"refused TooMany");
-    let deep = deep_helper(rt.alloc())?;
-    is_refused_again(
-        &rt,
-        rt.alloc(),
-        deep.as_slice(),
-        b"refused TooDeep line 131",
-    );
-    Ok(())
+fn helpers_meet_the_limits(rt: HostRuntime) {
+    all_hold(&rt, rt.alloc(), &BEYOND);
 }

@@ -1,0 +1,47 @@
+//! The commands that read one input and write one output, and what they answer.
+
+use share_program::{Failure, check_text, format_text, refusal_line, run_job, status_of};
+use std::alloc::{AllocError, Global};
+use std::io::{Read, Write};
+
+/// A command of the program.
+#[derive(Clone, Copy)]
+pub(super) enum Command {
+    Check,
+    Format,
+    Run,
+}
+
+/// Reads the input and writes the output of a command.
+pub(super) fn obey<R: Read, W: Write>(
+    alloc: Global,
+    command: Command,
+    reader: &mut R,
+    writer: &mut W,
+) -> Result<(), Failure> {
+    match command {
+        Command::Check => Ok(check_text(alloc, reader, writer)?),
+        Command::Format => Ok(format_text(alloc, reader, writer)?),
+        Command::Run => run_job(alloc, reader, writer),
+    }
+}
+
+/// Whether it was refused with this line and this status.
+pub(super) fn is_refused(answer: Option<Failure>, line: &str, status: u8) -> bool {
+    match answer {
+        Some(failure) => {
+            refusal_line(&failure).as_str() == line && status_of(&failure) == status
+        }
+        None => false,
+    }
+}
+
+/// What a command writes, and behind that the line with which it is refused, if it is.
+pub(super) fn answer(alloc: Global, command: Command, input: &[u8]) -> Result<Vec<u8>, AllocError> {
+    let mut reader = input;
+    let mut out = Vec::new(alloc);
+    if let Err(failure) = obey(alloc, command, &mut reader, &mut out) {
+        out.extend_from_slice(refusal_line(&failure).as_bytes())?;
+    }
+    Ok(out)
+}

@@ -1,0 +1,44 @@
+//! Large texts, by parts that stand there many times.
+
+use std::alloc::{AllocError, Global};
+
+/// How often a part of a text stands there, and the part. The first time has number 1; `%` stands
+/// for the number, `~` for the number before it, and `^` for how many times follow.
+pub(super) struct Part(pub u32, pub &'static str);
+
+fn push_number(out: &mut Vec<u8>, number: u32) -> Result<(), AllocError> {
+    out.extend_from_slice(itoa::Buffer::new().format(number).as_bytes())
+}
+
+/// A byte of a part, the time of this number.
+fn push_byte(out: &mut Vec<u8>, times: u32, number: u32, byte: u8) -> Result<(), AllocError> {
+    match byte {
+        b'%' => push_number(out, number),
+        b'~' => push_number(out, number.saturating_sub(1)),
+        b'^' => push_number(out, times.saturating_sub(number)),
+        plain => Ok(out.push(plain)?),
+    }
+}
+
+fn push_part(out: &mut Vec<u8>, part: &Part) -> Result<(), AllocError> {
+    for before in 0..part.0 {
+        for byte in part.1.as_bytes() {
+            push_byte(out, part.0, before + 1, *byte)?;
+        }
+    }
+    Ok(())
+}
+
+fn push_parts(out: &mut Vec<u8>, parts: &[Part]) -> Result<(), AllocError> {
+    for part in parts {
+        push_part(out, part)?;
+    }
+    Ok(())
+}
+
+/// The text of these parts.
+pub(super) fn made(alloc: Global, parts: &[Part]) -> Result<Vec<u8>, AllocError> {
+    let mut out = Vec::new(alloc);
+    push_parts(&mut out, parts)?;
+    Ok(out)
+}
