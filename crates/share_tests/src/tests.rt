@@ -1,13 +1,7 @@
 //! The tests.
 
-mod agreeing;
-mod damages;
 mod given;
 mod hosting;
-mod offering;
-mod restarts;
+mod memory;
+mod ports;
 mod snapshots;
-mod trials;
-mod turns;
-mod viewing;
-mod way;

@@ -1,4 +1,4 @@
-//! What tests begin with.
+//! What tests begin with: a viewer that has applied clocks, with its snapshot.
 
 ghost use Rattle.std.specs.Prelude.{◌≡◌, IfOk};
 ghost use Rattle.cascade_core.specs.Apply.{opening};
@@ -7,17 +7,23 @@ ghost use Rattle.cascade_core.specs.Scripts.{scripts_in};
 ghost use Rattle.scene_scripts.specs.Scripts.{script_list};
 ghost use Rattle.script_host.specs.Attaching.{Fits};
 
-use cascade_core::Stage;
+use cascade_core::{LoadFault, Stage};
 use scene_core::Scene;
 use scene_scripts::script_list;
 use script_boxes::{StockScript, boxes_of};
 use script_host::Scripts;
-use share_program::{attach, open_scene};
+use share_core::Viewer;
+use share_law::{TakeFault, Taken};
+use share_program::{Opened, RunFault, attach, open_scene};
+use share_wire::{Body, Message, encode};
 use std::alloc::Global;
-use std::test::Fail;
-use x3d_values::{Point, Vec3};
+use std::process::Abort;
+use x3d_values::{Event, Stamped, is_input_number, is_input_time};
 
 pub(super) const MARK: [u8; 32] = *b"abcdefghijklmnopqrstuvwxyzABCDEF";
+
+/// empty-scene
+pub(super) const EMPTY: &str = "#X3D V3.0 utf8\n";
 
 /// scene A
 pub(super) const CLOCKED: &str = "#X3D V3.0 utf8
@@ -32,54 +38,94 @@ DEF C Script { url \"x3dshare:counter\" inputOnly SFBool tick field SFInt32 star
 field SFInt32 step 2 outputOnly SFInt32 count }
 ROUTE T.cycleTime TO B.set_triggerTime ROUTE B.triggerTrue TO C.tick";
 
-/// A sensor on a box, and a clock.
-pub(super) const BOX_AND_CLOCK: &str = "#X3D V3.0 utf8
-DEF T TimeSensor { cycleInterval 2 loop TRUE startTime 1 }
-Transform { translation 10 0 0 scale 2 2 2
-children [ DEF S TouchSensor {} Shape { geometry Box {} } ] }";
-
-/// In front of the box.
-pub(super) const ORIGIN: Vec3 = Vec3 {
-    x: 10_000_000,
-    y: 0,
-    z: 20_000_000,
-};
-
-/// Towards the box.
-pub(super) const DIRECTION: Vec3 = Vec3 {
-    x: 0,
-    y: 0,
-    z: -1_000_000,
-};
-
-/// The button at the box.
-pub(super) const POINT: Point = Point {
-    down: true,
-    origin: ORIGIN,
-    dir: DIRECTION,
-};
-
 /// Boxes of the stock for the scripts of a scene.
-fn stock_of(alloc: Global, scene: &Scene) -> Result<Scripts<StockScript>, Fail>
+fn stock_of(alloc: Global, scene: &Scene) -> Result<Scripts<StockScript>, RunFault>
     ensures fits { IfOk result (λ scripts. Fits (script_list scene.now) scripts) }
     ensures fresh { IfOk result (λ scripts. scripts ≡ scripts_in scene.now) }
 {
     let specs = script_list(alloc, scene)?;
     let boxes = boxes_of(alloc, specs.as_slice())?;
-    Ok(attach(alloc, scene, boxes)?)
+    attach(alloc, scene, boxes)
 }
 
 /// The stage of a scene after no input.
-pub(super) fn fresh(alloc: Global, text: &str) -> Result<Stage<StockScript>, Fail>
+fn stage_of(alloc: Global, opened: Opened) -> Result<Stage<StockScript>, LoadFault>
     ensures { IfOk result (λ stage. stage.held ≡ Running (opening stage.scene stage.routes)) }
 {
-    let opened = open_scene(alloc, text.as_bytes())?;
-    let scripts = stock_of(alloc, &opened.scene)?;
-    Ok(Stage::load(alloc, opened.scene, opened.routes, scripts)?)
+    let Ok(scripts) = stock_of(alloc, &opened.scene) else {
+        drop(opened);
+        return Err(LoadFault::Memory);
+    };
+    Stage::load(alloc, opened.scene, opened.routes, scripts)
 }
 
-/// Whether the second half of these bytes, of which there are some, is the first one again.
-pub(super) fn is_twice(bytes: &[u8]) -> bool {
-    let (first, second) = bytes.split_at(bytes.len() / 2);
-    !first.is_empty() && first == second
+/// Viewer 0 of a scene, as its boot 1.
+fn viewer_of(alloc: Global, text: &str) -> Result<Viewer<StockScript>, LoadFault> {
+    let Ok(opened) = open_scene(alloc, text.as_bytes()) else {
+        return Err(LoadFault::Memory);
+    };
+    let stage = stage_of(alloc, opened)?;
+    Ok(Viewer::start(stage, MARK, 0, 1))
+}
+
+/// The clock of that number, at as many seconds.
+fn clock_at(number: u32) -> Option<Stamped> {
+    let time = i64::from(number) * 1_000_000;
+    if !is_input_number(number) {
+        return None;
+    }
+    if !is_input_time(time) {
+        return None;
+    }
+    Some(Stamped::new(number, time, Event::Clock))
+}
+
+/// A viewer takes the clock of that number.
+pub(super) fn take_clock(
+    viewer: &mut Viewer<StockScript>,
+    number: u32,
+) -> Option<Result<Taken, TakeFault>> {
+    let body = Body::Input(clock_at(number)?);
+    Some(viewer.take(encode(&Message { mark: MARK, body }).as_slice()))
+}
+
+/// Whether a viewer applies the clocks of the numbers from 1 on as they come.
+fn applies_clocks(viewer: &mut Viewer<StockScript>, count: u32) -> bool {
+    for number in 1..=count {
+        if take_clock(viewer, number) != Some(Ok(Taken::Applied(1))) {
+            return false;
+        }
+    }
+    true
+}
+
+/// What is tried with a viewer.
+pub(super) trait Trial {
+    /// Whether it comes out as it says.
+    fn holds(&self, alloc: Global, viewer: &mut Viewer<StockScript>, shot: &[u8]) -> bool;
+}
+
+fn is_tried<T: Trial>(
+    alloc: Global,
+    viewer: &mut Viewer<StockScript>,
+    clocks: u32,
+    shot: &mut Vec<u8>,
+    trial: &T,
+) -> bool {
+    applies_clocks(viewer, clocks)
+        && viewer.snapshot(shot).is_ok()
+        && trial.holds(alloc, viewer, shot.as_slice())
+}
+
+/// Tries it with viewer 0 of a scene, which has applied so many clocks as its boot 1, and with its
+/// snapshot.
+pub(super) fn try_on<T: Trial>(rt: &impl Abort, alloc: Global, text: &str, clocks: u32, trial: &T) {
+    let Ok(mut viewer) = viewer_of(alloc, text) else {
+        panic!(rt; "there is no viewer");
+    };
+    let mut shot = Vec::new(alloc);
+    let holds = is_tried(alloc, &mut viewer, clocks, &mut shot, trial);
+    viewer.close();
+    drop(shot);
+    assert!(rt; holds);
 }

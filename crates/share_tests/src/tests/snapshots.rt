@@ -1,299 +1,242 @@
-//! Snapshots of stages: their sizes, damaged ones, a world that goes back, and refused growths.
+//! Snapshots by their bytes: their sizes, and damaged ones, each of which is refused.
 
-use super::damages::{alter_all, alter_events, alter_states, cut_all, flip_all};
-use super::given::{CLOCKED, COUNTED, fresh, is_twice};
-use cascade_core::Stage;
+use super::given::{CLOCKED, COUNTED, EMPTY, Trial, try_on};
 use script_boxes::StockScript;
-use snapshot_core::{SaveFault, Saved, SnapFault, load_into, save, scene_mark};
-use std::alloc::Global;
+use share_core::Viewer;
+use share_law::SnapFault;
+use snapshot_core::scene_mark;
+use std::alloc::{AllocError, Global};
 use std::process::Abort;
-use std::test::Fail;
-use test_memory::UsedUp;
-use x3d_values::{Event, Stamped, is_input_number, is_input_time};
 
-/// empty-scene
-const EMPTY: &str = "#X3D V3.0 utf8\n";
+/// A snapshot has so many bytes.
+struct Size(usize);
 
-/// A scene with a TouchSensor, a sequencer, texts and lists.
-const MIXED: &str = "#X3D V3.0 utf8
-DEF T TimeSensor { cycleInterval 3 loop TRUE startTime 1 } DEF S TouchSensor { description \"a\" }
-DEF Q IntegerSequencer { key [0 0.5] keyValue [7 8] } DEF W WorldInfo { info [\"b\" \"\"] }
-ROUTE T.fraction_changed TO Q.set_fraction";
-
-/// What is tried with the stage of a scene after no input.
-#[derive(Clone, Copy)]
-enum Trial {
-    /// After so many clocks its snapshot has so many bytes.
-    Size(u32, usize),
-    /// It goes back to a snapshot after two clocks.
-    Rewind,
-    /// Each bit of its snapshot is flipped.
-    Flips,
-    /// Its snapshot is cut off behind each byte.
-    Cuts,
-    /// Its snapshot is altered, and its digest is right.
-    Alterations,
-    /// An event of its snapshot is altered, and the digest is right.
-    Events,
-    /// The state of a script is altered, and the digest is right.
-    States,
-    /// Memory is refused.
-    Refusals,
-}
-
-/// Each trial has a stage of its own.
-fn try_on(rt: &impl Abort, alloc: Global, text: &str, trial: Trial) -> Result<(), Fail> {
-    let mut stage = fresh(alloc, text)?;
-    let tried = attempt(rt, alloc, &mut stage, text, trial);
-    stage.close();
-    tried
-}
-
-fn attempt(
-    rt: &impl Abort,
-    alloc: Global,
-    stage: &mut Stage<StockScript>,
-    text: &str,
-    trial: Trial,
-) -> Result<(), Fail> {
-    match trial {
-        Trial::Size(clocks, size) => is_sized(rt, alloc, stage, text, clocks, size),
-        Trial::Rewind => go_back(rt, alloc, stage, text),
-        Trial::Flips => flip_all(rt, alloc, stage),
-        Trial::Cuts => cut_all(rt, alloc, stage),
-        Trial::Alterations => alter_all(rt, alloc, stage),
-        Trial::Events => alter_events(rt, alloc, stage),
-        Trial::States => alter_states(rt, alloc, stage),
-        Trial::Refusals => refuse_both(rt, alloc, stage),
+impl Trial for Size {
+    fn holds(&self, _alloc: Global, _viewer: &mut Viewer<StockScript>, shot: &[u8]) -> bool {
+        shot.len() == self.0
     }
 }
 
-/// The clock of that number, at as many seconds.
-fn clock_at(number: u32) -> Option<Stamped> {
-    let time = i64::from(number) * 1_000_000;
-    if !is_input_number(number) {
-        return None;
+/// Texts, clocks, and the sizes of their snapshots.
+static SIZES: [(&str, u32, Size); 4] = [
+    (EMPTY, 0, Size(95)),
+    (CLOCKED, 0, Size(147)),
+    (CLOCKED, 1, Size(308)),
+    (COUNTED, 0, Size(190)),
+];
+
+#[test]
+fn snapshot_sizes(rt: HostRuntime) {
+    for (text, clocks, size) in &SIZES {
+        try_on(&rt, rt.alloc(), text, *clocks, size);
     }
-    if !is_input_time(time) {
-        return None;
-    }
-    Some(Stamped::new(number, time, Event::Clock))
 }
 
-/// Applies clocks, from the next one on up to that of this number.
-pub(super) fn apply_to(rt: &impl Abort, stage: &mut Stage<StockScript>, last: u32) {
-    let applied = stage.applied();
-    for number in 1..=last {
-        if number <= applied {
-            continue;
+/// Why a viewer doesn't begin again from these bytes, as its next boot.
+fn fault_of(viewer: &mut Viewer<StockScript>, bytes: &[u8]) -> Option<SnapFault> {
+    let boot = viewer.boot().saturating_add(1);
+    viewer.rewind(bytes, boot).err()
+}
+
+/// What the flipping of a bit of that byte is refused as.
+fn flip_fault(at: usize) -> SnapFault {
+    match at {
+        0..=3 => SnapFault::BadMagic,
+        4 => SnapFault::BadVersion,
+        5..=36 => SnapFault::WrongScene,
+        _ => SnapFault::BadDigest,
+    }
+}
+
+fn flip(bytes: &mut [u8], at: usize, bits: u8) {
+    if let Some(byte) = bytes.get_mut(at) {
+        *byte ^= bits;
+    }
+}
+
+/// Whether each bit of one byte can't be flipped.
+fn refuses_byte(viewer: &mut Viewer<StockScript>, shot: &mut [u8], at: usize) -> bool {
+    for bits in [1, 2, 4, 8, 16, 32, 64, 128] {
+        flip(shot, at, bits);
+        let fault = fault_of(viewer, shot);
+        flip(shot, at, bits);
+        if fault != Some(flip_fault(at)) {
+            return false;
         }
-        let Some(clock) = clock_at(number) else {
-            continue;
+    }
+    true
+}
+
+/// Whether no bit can be flipped; it is then as it was, and begun from.
+fn refuses_flips(viewer: &mut Viewer<StockScript>, shot: &mut [u8]) -> bool {
+    for at in 0..shot.len() {
+        if !refuses_byte(viewer, shot, at) {
+            return false;
+        }
+    }
+    fault_of(viewer, shot) == None
+}
+
+/// Each bit of a snapshot is flipped.
+struct Flips;
+
+impl Trial for Flips {
+    fn holds(&self, alloc: Global, viewer: &mut Viewer<StockScript>, shot: &[u8]) -> bool {
+        let Ok(mut copy) = shot.to_vec(alloc) else {
+            return false;
         };
-        assert!(rt; stage.apply(&clock).is_ok());
+        let refused = refuses_flips(viewer, copy.as_mut_slice());
+        drop(copy);
+        refused
     }
-}
-
-/// The snapshot of a stage's world, as boot 1.
-pub(super) fn shot_of(
-    alloc: Global,
-    stage: &Stage<StockScript>,
-    text: &str,
-) -> Result<Vec<u8>, SaveFault> {
-    let mut out = Vec::new(alloc);
-    save(stage, &scene_mark(text.as_bytes()), 1, &mut out)?;
-    Ok(out)
-}
-
-fn is_sized(
-    rt: &impl Abort,
-    alloc: Global,
-    stage: &mut Stage<StockScript>,
-    text: &str,
-    clocks: u32,
-    size: usize,
-) -> Result<(), Fail> {
-    apply_to(rt, stage, clocks);
-    let len = shot_of(alloc, stage, text)?.len();
-    assert!(rt; len == size);
-    Ok(())
 }
 
 #[test]
-fn snapshot_sizes(rt: HostRuntime) -> Result<(), Fail> {
-    let sizes = [
-        (EMPTY, 0, 95),
-        (CLOCKED, 0, 147),
-        (CLOCKED, 1, 308),
-        (COUNTED, 0, 190),
-    ];
-    for (text, clocks, size) in sizes {
-        try_on(&rt, rt.alloc(), text, Trial::Size(clocks, size))?;
+fn flipped_snapshot_bit(rt: HostRuntime) {
+    try_on(&rt, rt.alloc(), CLOCKED, 0, &Flips);
+}
+
+/// A snapshot is cut off behind each byte: what is left is too short, or has another digest.
+struct Cuts;
+
+impl Trial for Cuts {
+    fn holds(&self, _alloc: Global, viewer: &mut Viewer<StockScript>, shot: &[u8]) -> bool {
+        for len in 0..shot.len() {
+            let wanted = if len < 85 {
+                SnapFault::Short
+            } else {
+                SnapFault::BadDigest
+            };
+            if fault_of(viewer, &shot[..len]) != Some(wanted) {
+                return false;
+            }
+        }
+        true
     }
-    Ok(())
 }
 
-// ---- a world that goes back
-
-/// Appends both texts of a stage, and its snapshot.
-fn push_all(stage: &Stage<StockScript>, text: &str, out: &mut Vec<u8>) -> Result<(), Fail> {
-    stage.trace_text(out)?;
-    stage.scene_text(out)?;
-    save(stage, &scene_mark(text.as_bytes()), 1, out)?;
-    Ok(())
+#[test]
+fn each_prefix_is_refused(rt: HostRuntime) {
+    try_on(&rt, rt.alloc(), CLOCKED, 0, &Cuts);
 }
 
-/// Goes back to a snapshot after two clocks: the snapshot is then the same.
-fn load_again(
-    rt: &impl Abort,
-    alloc: Global,
-    stage: &mut Stage<StockScript>,
-    text: &str,
+/// How many bytes the digest has.
+const DIGEST: usize = 32;
+
+/// A byte of a snapshot, what stands there in place of it, and what that is refused as, or loaded.
+type Alteration = (usize, u8, Option<SnapFault>);
+
+/// Writes a snapshot with another byte there, or one more behind all, and the digest of that.
+fn alter(shot: &[u8], at: usize, new: u8, out: &mut Vec<u8>) -> Result<(), AllocError> {
+    out.clear();
+    out.extend_from_slice(shot)?;
+    out.truncate(shot.len().saturating_sub(DIGEST));
+    if at == out.len() {
+        out.push(new)?;
+    } else if let Some(byte) = out.get_mut(at) {
+        *byte = new;
+    }
+    let digest = scene_mark(out.as_slice());
+    out.extend_from_slice(&digest)
+}
+
+/// Whether each is refused as that, or begun from.
+fn answers_each(
+    viewer: &mut Viewer<StockScript>,
     shot: &[u8],
-) -> Result<(), Fail> {
-    let saved = load_into(stage, &scene_mark(text.as_bytes()), 2, shot);
-    let wanted = Saved {
-        boot: 1,
-        applied: 2,
-    };
-    assert!(rt; saved == Ok(wanted) && stage.applied() == 2);
-    let again = shot_of(alloc, stage, text)?;
-    let same = again.as_slice() == shot;
-    drop(again);
-    assert!(rt; same);
-    Ok(())
-}
-
-/// Applies clocks up to five, goes back to a snapshot after two, and applies the rest again: the
-/// texts and the snapshot are the same as before.
-fn apply_again(
-    rt: &impl Abort,
-    alloc: Global,
-    stage: &mut Stage<StockScript>,
-    text: &str,
-    shot: &[u8],
+    alterations: &[Alteration],
     out: &mut Vec<u8>,
-) -> Result<(), Fail> {
-    apply_to(rt, stage, 5);
-    push_all(stage, text, out)?;
-    load_again(rt, alloc, stage, text, shot)?;
-    apply_to(rt, stage, 5);
-    push_all(stage, text, out)?;
-    assert!(rt; is_twice(out));
-    Ok(())
-}
-
-fn go_back(
-    rt: &impl Abort,
-    alloc: Global,
-    stage: &mut Stage<StockScript>,
-    text: &str,
-) -> Result<(), Fail> {
-    apply_to(rt, stage, 2);
-    let shot = shot_of(alloc, stage, text)?;
-    let mut out = Vec::new(alloc);
-    apply_again(rt, alloc, stage, text, &shot, &mut out)
-}
-
-#[test]
-fn rewound(rt: HostRuntime) -> Result<(), Fail> {
-    for text in [EMPTY, CLOCKED, MIXED, COUNTED] {
-        try_on(&rt, rt.alloc(), text, Trial::Rewind)?;
+) -> bool {
+    for (at, new, fault) in alterations {
+        if alter(shot, *at, *new, out).is_err() {
+            return false;
+        }
+        if fault_of(viewer, out.as_slice()) != *fault {
+            return false;
+        }
     }
-    Ok(())
+    true
 }
 
-// ---- damaged ones
+/// A snapshot is altered in these ways, each with a digest that is right.
+struct Alterations(&'static [Alteration]);
+
+impl Trial for Alterations {
+    fn holds(&self, alloc: Global, viewer: &mut Viewer<StockScript>, shot: &[u8]) -> bool {
+        let mut out = Vec::new(alloc);
+        let answered = answers_each(viewer, shot, self.0, &mut out);
+        drop(out);
+        answered
+    }
+}
+
+const NOT_CANONICAL: Option<SnapFault> = Some(SnapFault::NotCanonical);
+
+const NO_STATE: Option<SnapFault> = Some(SnapFault::ScriptState);
+
+/// Of the snapshot before any clock.
+static WORLDS: Alterations = Alterations(&[
+    // 16777216 inputs were applied
+    (41, 1, NOT_CANONICAL),
+    // the last time is below 0
+    (45, 128, NOT_CANONICAL),
+    // the length of a cycle is below 0
+    (53, 128, NOT_CANONICAL),
+    // a truth value is 2
+    (61, 2, NOT_CANONICAL),
+    // the sensor's activity is 2
+    (95, 2, NOT_CANONICAL),
+    // it has a cycle, and isn't active
+    (103, 1, NOT_CANONICAL),
+    // the toggle is 2
+    (104, 2, NOT_CANONICAL),
+    // there is an event
+    (114, 1, NOT_CANONICAL),
+    // there are 2^56 events
+    (107, 1, NOT_CANONICAL),
+    // a byte is left over behind the trace
+    (115, 0, NOT_CANONICAL),
+    // the boot is the one that is to begin
+    (40, 2, Some(SnapFault::BootNotNew)),
+    // the boot is another one
+    (40, 0, None),
+    // a button is down
+    (105, 1, None),
+]);
+
+/// Of the snapshot after a clock: another node, field and value of its first event.
+static EVENTS: Alterations = Alterations(&[
+    (130, 3, NOT_CANONICAL),
+    (132, 0, NOT_CANONICAL),
+    (133, 2, NOT_CANONICAL),
+]);
+
+/// Of the snapshot of a counter's world before any clock.
+static STATES: Alterations = Alterations(&[
+    // the count is above those of an SFInt32, or below
+    (134, 1, NO_STATE),
+    (134, 255, NO_STATE),
+    // the step is above
+    (145, 1, NO_STATE),
+    // it has one number, or three
+    (133, 1, NOT_CANONICAL),
+    (133, 3, NOT_CANONICAL),
+    // the count and the step are others
+    (141, 9, None),
+    (149, 3, None),
+]);
 
 #[test]
-fn flipped_snapshot_bit(rt: HostRuntime) -> Result<(), Fail> {
-    try_on(&rt, rt.alloc(), CLOCKED, Trial::Flips)
-}
-
-#[test]
-fn each_prefix_is_refused(rt: HostRuntime) -> Result<(), Fail> {
-    try_on(&rt, rt.alloc(), CLOCKED, Trial::Cuts)
-}
-
-#[test]
-fn what_no_world_has_is_refused(rt: HostRuntime) -> Result<(), Fail> {
-    try_on(&rt, rt.alloc(), CLOCKED, Trial::Alterations)
-}
-
-#[test]
-fn an_event_that_no_node_sends_is_refused(rt: HostRuntime) -> Result<(), Fail> {
-    try_on(&rt, rt.alloc(), CLOCKED, Trial::Events)
-}
-
-#[test]
-fn a_state_that_no_script_has_is_refused(rt: HostRuntime) -> Result<(), Fail> {
-    try_on(&rt, rt.alloc(), COUNTED, Trial::States)
-}
-
-// ---- refused growths
-
-/// More than a snapshot has.
-const FULL: usize = 4096;
-
-/// A snapshot behind a full buffer, with no memory left: it is refused, and nothing changed.
-fn refuse_to_save(
-    rt: &impl Abort,
-    alloc: Global,
-    stage: &Stage<StockScript>,
-    full: &mut Vec<u8>,
-) -> Result<(), Fail> {
-    let used_up = UsedUp::new(alloc)?;
-    let answer = save(stage, &scene_mark(CLOCKED.as_bytes()), 1, full);
-    drop(used_up);
-    assert!(rt; answer == Err(SaveFault::Memory) && full.len() == FULL);
-    assert!(rt; !stage.spoiled());
-    Ok(())
-}
-
-/// A snapshot that is loaded with no memory left: the stage is spoiled, until it is loaded again.
-fn refuse_to_load(
-    rt: &impl Abort,
-    alloc: Global,
-    stage: &mut Stage<StockScript>,
-    shot: &[u8],
-    full: &mut Vec<u8>,
-) -> Result<(), Fail> {
-    let mark = scene_mark(CLOCKED.as_bytes());
-    let used_up = UsedUp::new(alloc)?;
-    let answer = load_into(stage, &mark, 2, shot);
-    drop(used_up);
-    assert!(rt; answer == Err(SnapFault::Memory) && stage.applied() == 60);
-    assert!(rt; save(stage, &mark, 1, full) == Err(SaveFault::Spoiled));
-    assert!(rt; load_into(stage, &mark, 1, shot) == Err(SnapFault::BootNotNew));
-    assert!(rt; stage.spoiled() && full.len() == FULL);
-    assert!(rt; load_into(stage, &mark, 2, shot).is_ok() && !stage.spoiled());
-    Ok(())
-}
-
-/// Both; then it is the same world still.
-fn refuse(
-    rt: &impl Abort,
-    alloc: Global,
-    stage: &mut Stage<StockScript>,
-    shot: &[u8],
-    full: &mut Vec<u8>,
-) -> Result<(), Fail> {
-    refuse_to_save(rt, alloc, stage, full)?;
-    refuse_to_load(rt, alloc, stage, shot, full)?;
-    full.clear();
-    save(stage, &scene_mark(CLOCKED.as_bytes()), 1, full)?;
-    assert!(rt; full.as_slice() == shot);
-    Ok(())
-}
-
-fn refuse_both(rt: &impl Abort, alloc: Global, stage: &mut Stage<StockScript>) -> Result<(), Fail> {
-    apply_to(rt, stage, 60);
-    let mut full = vec![in alloc; b'x'; FULL]?;
-    let shot = shot_of(alloc, stage, CLOCKED)?;
-    refuse(rt, alloc, stage, &shot, &mut full)
+fn what_no_world_has_is_refused(rt: HostRuntime) {
+    try_on(&rt, rt.alloc(), CLOCKED, 0, &WORLDS);
 }
 
 #[test]
-fn refused_growths(rt: HostRuntime) -> Result<(), Fail> {
-    try_on(&rt, rt.alloc(), CLOCKED, Trial::Refusals)
+fn an_event_that_no_node_sends_is_refused(rt: HostRuntime) {
+    try_on(&rt, rt.alloc(), CLOCKED, 1, &EVENTS);
+}
+
+#[test]
+fn a_state_that_no_script_has_is_refused(rt: HostRuntime) {
+    try_on(&rt, rt.alloc(), COUNTED, 0, &STATES);
 }
