@@ -1,11 +1,32 @@
-//! The examples of scripts by their names, and boxes that tell what is done with them.
+//! Boxes that tell what is done with them, the examples of scripts by their names, and growths that
+//! are refused.
 
-mod events;
+mod attaching;
 mod examples;
 mod growths;
 mod hosting;
+mod meters;
 mod probe;
-mod refusals;
 mod stages;
-mod steps;
 mod worlds;
+
+use std::alloc::{AllocError, Global};
+use std::process::Abort;
+
+/// It is so, and no memory was refused.
+fn holds(rt: &impl Abort, answer: Result<bool, AllocError>) {
+    assert!(rt; answer == Ok(true));
+}
+
+/// A row of a table.
+trait Row {
+    /// Whether it is as the row says.
+    fn holds(&self, alloc: Global) -> Result<bool, AllocError>;
+}
+
+/// Each row of a table holds.
+fn all_hold<R: Row>(rt: &impl Abort, alloc: Global, rows: &[R]) {
+    for (number, row) in rows.iter().enumerate() {
+        assert!(rt; row.holds(alloc) == Ok(true), "row {number}");
+    }
+}

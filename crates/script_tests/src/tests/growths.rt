@@ -1,20 +1,23 @@
 //! Each growth of a stage with scripts refused in turn: with ever more memory left a call is
 //! refused until there is enough, and each box is shut down and dropped once.
 
-use super::probe::{Log, Probe, new_log};
-use super::worlds::{COUNTERS, clock, stage_with, two_boxes};
-use cascade_core::{ApplyFault, LoadFault, PlaceFault, Stage, StatesFault};
-use share_program::{attach, open_scene};
-use snapshot_core::{SnapFault, load_into, save};
-use std::alloc::Global;
+use super::holds;
+use super::probe::{Log, Made, Probe, two_boxes};
+use super::worlds::{COUNTERS, clock, stage_of};
+use cascade_core::Stage;
+use script_host::Behaviour;
+use share_program::{Opened, attach, open_scene};
+use snapshot_core::{load_into, save};
+use std::alloc::{AllocError, Global};
 use std::process::Abort;
-use std::test::Fail;
 use test_memory::UsedUp;
 
 const MARK: [u8; 32] = [7; 32];
 
 /// How often each call is tried.
 const TURNS: usize = 24;
+
+const TWO: [Made; 2] = [Made::Counter(5), Made::Counter(5)];
 
 /// What may be refused memory.
 #[derive(Clone, Copy)]
@@ -26,181 +29,142 @@ enum Call {
     Restore,
 }
 
-/// Loading with one block of so many bytes: whether it worked. The boxes that were initialized are
-/// shut down, and all are dropped, once.
-fn loads(rt: &impl Abort, alloc: Global, spare: usize) -> Result<bool, Fail> {
-    let log = new_log(alloc)?;
-    let opened = open_scene(alloc, COUNTERS.as_bytes())?;
-    let scripts = attach(alloc, &opened.scene, two_boxes(alloc, &log)?)?;
-    let used_up = UsedUp::but_for(alloc, &[spare])?;
-    let fault = Stage::load(alloc, opened.scene, opened.routes, scripts).err();
+/// Loading with one block of so many bytes: whether it worked.
+fn loads(alloc: Global, log: &Log, spare: usize) -> Result<bool, AllocError> {
+    let boxes = two_boxes(alloc, TWO[0], TWO[1], log)?;
+    let Ok(opened) = open_scene(alloc, COUNTERS.as_bytes()) else {
+        drop(boxes);
+        return Err(AllocError);
+    };
+    let Opened { scene, routes } = opened;
+    let Ok(scripts) = attach(alloc, &scene, boxes) else {
+        drop(routes);
+        drop(scene);
+        return Err(AllocError);
+    };
+    let Ok(used_up) = UsedUp::but_for(alloc, &[spare]) else {
+        drop(scripts);
+        drop(routes);
+        drop(scene);
+        return Err(AllocError);
+    };
+    let fault = Stage::load(alloc, scene, routes, scripts).err();
     drop(used_up);
-    assert!(rt; [78, 1_4_78, 12_45_78].contains(&log.get()));
-    match fault {
-        None => Ok(true),
-        Some(LoadFault::Memory) => Ok(false),
+    Ok(fault.is_none())
+}
+
+fn applies<B: Behaviour>(stage: &mut Stage<B>) -> bool {
+    match clock(1, 1) {
+        Some(input) => stage.apply(&input).is_ok(),
+        None => false,
     }
 }
 
-/// A stage that is refused memory at an input is spoiled.
-fn applies(
-    rt: &impl Abort,
-    alloc: Global,
-    stage: &mut Stage<Probe>,
-    spare: usize,
-) -> Result<bool, Fail> {
+fn tells<B: Behaviour>(alloc: Global, stage: &Stage<B>) -> bool {
     let mut states = Vec::new(alloc);
-    let used_up = UsedUp::but_for(alloc, &[spare])?;
-    let answer = stage.apply(&clock(rt, 1, 1));
-    drop(used_up);
-    if answer.is_ok() {
-        return Ok(true);
-    }
-    assert!(rt; answer == Err(ApplyFault::Memory) && stage.spoiled());
-    assert!(rt; stage.script_states(&mut states) == Err(StatesFault::Spoiled));
-    assert!(rt; states.is_empty() && stage.applied() == 0);
-    Ok(false)
+    let told = stage.script_states(&mut states).is_ok();
+    drop(states);
+    told
 }
 
-/// Where the states are refused the buffer and the stage are as they were.
-fn tells_states(
-    rt: &impl Abort,
+/// The same of a call on a stage, which may go back to this snapshot.
+fn works_on<'a>(
     alloc: Global,
-    stage: &Stage<Probe>,
-    spare: usize,
-) -> Result<bool, Fail> {
-    let mut states = Vec::new(alloc);
-    let used_up = UsedUp::but_for(alloc, &[spare])?;
-    let answer = stage.script_states(&mut states);
-    drop(used_up);
-    assert!(rt; !stage.spoiled());
-    if answer.is_ok() {
-        assert!(rt; states.len() == 2);
-        return Ok(true);
-    }
-    assert!(rt; answer == Err(StatesFault::Memory) && states.is_empty());
-    Ok(false)
-}
-
-/// Where a box is refused the stage is as it was.
-fn replaces(
-    rt: &impl Abort,
-    alloc: Global,
-    stage: &mut Stage<Probe>,
-    fresh: Probe,
-    spare: usize,
-) -> Result<bool, Fail> {
-    let used_up = UsedUp::but_for(alloc, &[spare])?;
-    let answer = stage.replace_script(1, fresh);
-    drop(used_up);
-    assert!(rt; !stage.spoiled());
-    assert!(rt; answer == Ok(()) || answer == Err(PlaceFault::Memory));
-    Ok(answer.is_ok())
-}
-
-/// A stage that goes back to a snapshot is spoiled where memory is refused.
-fn restores(
-    rt: &impl Abort,
-    alloc: Global,
-    stage: &mut Stage<Probe>,
-    spare: usize,
-) -> Result<bool, Fail> {
-    let mut shot = Vec::new(alloc);
-    save(stage, &MARK, 1, &mut shot)?;
-    let used_up = UsedUp::but_for(alloc, &[spare])?;
-    let answer = load_into(stage, &MARK, 2, shot.as_slice());
-    drop(used_up);
-    assert!(rt; answer.is_ok() || (answer == Err(SnapFault::Memory) && stage.spoiled()));
-    Ok(answer.is_ok())
-}
-
-fn works_on(
-    rt: &impl Abort,
-    alloc: Global,
-    stage: &mut Stage<Probe>,
-    log: &Log,
+    stage: &mut Stage<Probe<'a>>,
+    log: &'a Log,
+    shot: &[u8],
     call: Call,
     spare: usize,
-) -> Result<bool, Fail> {
-    match call {
-        Call::Load => Ok(true),
-        Call::Apply => applies(rt, alloc, stage, spare),
-        Call::States => tells_states(rt, alloc, stage, spare),
-        Call::Replace => replaces(rt, alloc, stage, Probe::new(2, 0, log)?, spare),
-        Call::Restore => restores(rt, alloc, stage, spare),
-    }
-}
-
-/// The boxes are shut down and dropped with the stage, behind what the call did with them.
-fn works_in(rt: &impl Abort, alloc: Global, call: Call, spare: usize) -> Result<bool, Fail> {
-    let log = new_log(alloc)?;
-    let mut stage = stage_with(alloc, COUNTERS, two_boxes(alloc, &log)?)?;
-    let answer = works_on(rt, alloc, &mut stage, &log, call, spare);
-    drop(stage);
-    let worked = answer?;
-    let replaced = match (call, worked) {
-        (Call::Replace, true) => 12_58_45_78,
-        (Call::Replace, false) => 12_8_45_78,
-        _ => 12_45_78,
+) -> Result<bool, AllocError> {
+    let used_up = UsedUp::but_for(alloc, &[spare])?;
+    let worked = match call {
+        Call::Load => false,
+        Call::Apply => applies(stage),
+        Call::States => tells(alloc, stage),
+        Call::Replace => stage
+            .replace_script(1, Probe::new(2, Made::Counter(0), log))
+            .is_ok(),
+        Call::Restore => load_into(stage, &MARK, 2, shot).is_ok(),
     };
-    assert!(rt; log.get() == replaced);
+    drop(used_up);
     Ok(worked)
 }
 
-fn works(rt: &impl Abort, alloc: Global, call: Call, spare: usize) -> Result<bool, Fail> {
-    match call {
-        Call::Load => loads(rt, alloc, spare),
-        _ => works_in(rt, alloc, call, spare),
+/// The same of a call on a stage of its own, which is dropped then.
+fn works_in(alloc: Global, log: &Log, call: Call, spare: usize) -> Result<bool, AllocError> {
+    let Ok(mut stage) = stage_of(alloc, COUNTERS, TWO, log) else {
+        return Err(AllocError);
+    };
+    let mut shot = Vec::new(alloc);
+    let saved = save(&stage, &MARK, 1, &mut shot).is_ok();
+    let worked = works_on(alloc, &mut stage, log, shot.as_slice(), call, spare);
+    drop(stage);
+    drop(shot);
+    Ok(saved && worked?)
+}
+
+/// Whether that was done with boxes where the call worked, or was refused: those that were
+/// initialized are shut down, and all are dropped, once.
+fn is_told(call: Call, worked: bool, digits: u64) -> bool {
+    match (call, worked) {
+        (Call::Load, false) => [78, 1_4_78, 12_45_78].contains(&digits),
+        (Call::Replace, false) => digits == 12_8_45_78,
+        (Call::Replace, true) => digits == 12_58_45_78,
+        _ => digits == 12_45_78,
     }
 }
 
-/// How many of these turns refuse the call, each with so many bytes more than the one before: the
-/// first, with none, does, and with a mebibyte the call works.
-fn refusals(rt: &impl Abort, alloc: Global, call: Call, step: usize) -> Result<usize, Fail> {
+/// Whether a call worked, and the boxes were treated so.
+fn works(alloc: Global, call: Call, spare: usize) -> Result<(bool, bool), AllocError> {
+    let log = Log::new(0);
+    let worked = match call {
+        Call::Load => loads(alloc, &log, spare)?,
+        _ => works_in(alloc, &log, call, spare)?,
+    };
+    Ok((worked, is_told(call, worked, log.get())))
+}
+
+/// Whether more than so many of these turns refuse the call, each with so many bytes more than the
+/// one before: the first, with none, does, and with a mebibyte the call works.
+fn is_refused(alloc: Global, call: Call, step: usize, least: usize) -> Result<bool, AllocError> {
     let mut refused: usize = 0;
     let mut spare: usize = 0;
     for _turn in 0..TURNS {
-        if !works(rt, alloc, call, spare)? {
+        let (worked, told) = works(alloc, call, spare)?;
+        if !told {
+            return Ok(false);
+        }
+        if !worked {
             refused = refused.saturating_add(1);
         }
         spare = spare.saturating_add(step);
     }
-    assert!(rt; !works(rt, alloc, call, 0)?);
-    assert!(rt; works(rt, alloc, call, 1 << 20)?);
-    Ok(refused)
+    let without = works(alloc, call, 0)?;
+    let with = works(alloc, call, 1 << 20)?;
+    Ok(refused > least && without == (false, true) && with == (true, true))
 }
 
 #[test]
-fn each_growth_of_loading_is_refused(rt: HostRuntime) -> Result<(), Fail> {
-    let refused = refusals(&rt, rt.alloc(), Call::Load, 96)?;
-    assert!(rt; refused > 3, "{refused}");
-    Ok(())
+fn each_growth_of_loading_is_refused(rt: HostRuntime) {
+    holds(&rt, is_refused(rt.alloc(), Call::Load, 96, 3));
 }
 
 #[test]
-fn each_growth_of_an_input_is_refused(rt: HostRuntime) -> Result<(), Fail> {
-    let refused = refusals(&rt, rt.alloc(), Call::Apply, 96)?;
-    assert!(rt; refused > 2, "{refused}");
-    Ok(())
+fn each_growth_of_an_input_is_refused(rt: HostRuntime) {
+    holds(&rt, is_refused(rt.alloc(), Call::Apply, 96, 2));
 }
 
 #[test]
-fn each_growth_of_the_states_is_refused(rt: HostRuntime) -> Result<(), Fail> {
-    let refused = refusals(&rt, rt.alloc(), Call::States, 16)?;
-    assert!(rt; refused > 2, "{refused}");
-    Ok(())
+fn each_growth_of_the_states_is_refused(rt: HostRuntime) {
+    holds(&rt, is_refused(rt.alloc(), Call::States, 16, 2));
 }
 
 #[test]
-fn each_growth_of_a_replacement_is_refused(rt: HostRuntime) -> Result<(), Fail> {
-    let refused = refusals(&rt, rt.alloc(), Call::Replace, 16)?;
-    assert!(rt; refused > 1, "{refused}");
-    Ok(())
+fn each_growth_of_a_replacement_is_refused(rt: HostRuntime) {
+    holds(&rt, is_refused(rt.alloc(), Call::Replace, 16, 1));
 }
 
 #[test]
-fn each_growth_of_going_back_is_refused(rt: HostRuntime) -> Result<(), Fail> {
-    let refused = refusals(&rt, rt.alloc(), Call::Restore, 96)?;
-    assert!(rt; refused > 3, "{refused}");
-    Ok(())
+fn each_growth_of_going_back_is_refused(rt: HostRuntime) {
+    holds(&rt, is_refused(rt.alloc(), Call::Restore, 96, 3));
 }

@@ -1,170 +1,304 @@
-//! What is done with boxes: the digits of their log are 1 to 3 for a box that is initialized, 4 to
-//! 6 for one that is shut down, 7 to 9 for one that is dropped.
+//! What is done with the boxes of two scripts.
 
-use super::probe::{Log, Probe, new_log};
-use super::steps::{counter_specs, fault_of, initialize, number_at, receive, spec};
-use script_host::{AttachFault, ReplaceFault, Reply, Scripts, StateFault};
+use super::attaching::{STATE, counter_specs};
+use super::probe::{Log, Made, Probe, two_boxes};
+use super::{Row, all_hold};
+use script_host::{Behaviour, ReplaceFault, Reply, Scripts, StateFault, takes_event};
 use std::alloc::{AllocError, Global};
-use std::test::Fail;
-use x3d_values::{Items, Kind, ScriptSpec};
+use std::process::Abort;
+use test_memory::UsedUp;
+use x3d_values::Items;
 
-/// Boxes 1 and 2.
-fn two_boxes(alloc: Global, log: &Log) -> Result<Vec<Probe>, AllocError> {
-    let mut boxes = Vec::new(alloc);
-    boxes.push(Probe::new(1, 5, log)?)?;
-    boxes.push(Probe::new(2, 5, log)?)?;
-    Ok(boxes)
-}
-
-fn two_scripts(alloc: Global, log: &Log) -> Result<Scripts<Probe>, AttachFault> {
+/// The scripts of two counters at 5, where the second box is this one.
+fn two_scripts<'a>(
+    alloc: Global,
+    second: Made,
+    log: &'a Log,
+) -> Result<Scripts<Probe<'a>>, AllocError> {
     let specs = counter_specs(alloc, 2)?;
-    let boxes = two_boxes(alloc, log)?;
-    Ok(Scripts::attach(alloc, specs.as_slice(), boxes)?)
+    let Ok(boxes) = two_boxes(alloc, Made::Counter(5), second, log) else {
+        drop(specs);
+        return Err(AllocError);
+    };
+    let attached = Scripts::attach(alloc, specs.as_slice(), boxes);
+    drop(specs);
+    match attached {
+        Ok(scripts) => Ok(scripts),
+        Err(_) => Err(AllocError),
+    }
 }
 
-#[test]
-fn close_shuts_down_in_order_and_then_drops(rt: HostRuntime) -> Result<(), Fail> {
-    let log = new_log(rt.alloc())?;
-    let mut scripts = two_scripts(rt.alloc(), &log)?;
-    let _ = initialize(&rt, &mut scripts, 1);
-    let _ = initialize(&rt, &mut scripts, 0);
-    scripts.close();
-    assert!(rt; log.get() == 21_45_78);
-    Ok(())
+/// What is done with the scripts, and what comes of it.
+#[derive(Clone, Copy)]
+enum Step {
+    /// The k-th one is initialized.
+    Initialize(usize),
+    /// The k-th one gets TRUE, and sends this count.
+    Tick(usize, i64),
+    /// A box 3 is put in the k-th place.
+    Replace(usize, Made, Result<(), ReplaceFault>),
+    /// Both get a count.
+    Restore([i64; 2], Result<(), StateFault>),
+    /// Both have these counts.
+    Counts([i64; 2]),
+    /// That was done with boxes up to now.
+    Told(u64),
 }
 
-#[test]
-fn what_was_not_initialized_is_not_shut_down(rt: HostRuntime) -> Result<(), Fail> {
-    let log = new_log(rt.alloc())?;
-    let mut scripts = two_scripts(rt.alloc(), &log)?;
-    let _ = initialize(&rt, &mut scripts, 1);
-    drop(scripts);
-    assert!(rt; log.get() == 2_5_78);
-    Ok(())
+fn initializes<B: Behaviour>(scripts: &mut Scripts<B>, k: usize) -> bool {
+    k < scripts.len() && scripts.call_initialize(k).is_empty()
 }
 
-/// The fault for which boxes 1 and 2 are refused, and what was done with them then.
-fn refused(alloc: Global, specs: &[ScriptSpec]) -> Result<(Option<AttachFault>, u64), Fail> {
-    let log = new_log(alloc)?;
-    let boxes = two_boxes(alloc, &log)?;
-    let fault = fault_of(Scripts::attach(alloc, specs, boxes));
-    Ok((fault, log.get()))
+/// Whether the k-th script sends this count at TRUE.
+pub(super) fn sends<B: Behaviour>(scripts: &mut Scripts<B>, k: usize, count: i64) -> bool {
+    if k >= scripts.len() {
+        return false;
+    }
+    if !takes_event(scripts.kind(k), 0, [1, 0, 0]) {
+        return false;
+    }
+    let replies = scripts.call_receive(k, 0, [1, 0, 0]);
+    replies.as_slice() == [Reply::number(0, count)].as_slice()
 }
 
-fn unfit(alloc: Global) -> Result<ScriptSpec, AllocError> {
-    Ok(ScriptSpec {
-        node: 4,
-        kind: Some(Kind::Counter),
-        fits: false,
-        start: Items::new(alloc),
-    })
-}
-
-#[test]
-fn refused_boxes_are_dropped(rt: HostRuntime) -> Result<(), Fail> {
-    let alloc = rt.alloc();
-    let mut specs = counter_specs(alloc, 1)?;
-    let answer = refused(alloc, specs.as_slice())?;
-    assert!(rt; answer == (Some(AttachFault::WrongCount), 78));
-    specs.push(unfit(alloc)?)?;
-    let answer = refused(alloc, specs.as_slice())?;
-    assert!(rt; answer == (Some(AttachFault::InterfaceMismatch(1)), 78));
-    specs.push(spec(alloc, None, &[])?)?;
-    let answer = refused(alloc, specs.as_slice())?;
-    assert!(rt; answer == (Some(AttachFault::UnknownScript(2)), 78));
-    Ok(())
-}
-
-#[test]
-fn boxes_of_another_kind_or_state_are_dropped(rt: HostRuntime) -> Result<(), Fail> {
-    let alloc = rt.alloc();
-    let mut specs = counter_specs(alloc, 1)?;
-    specs.push(spec(alloc, Some(Kind::Batch), &[5, 2])?)?;
-    let answer = refused(alloc, specs.as_slice())?;
-    assert!(rt; answer == (Some(AttachFault::KindDiffers(1)), 78));
-    let mut specs = counter_specs(alloc, 1)?;
-    specs.push(spec(alloc, Some(Kind::Counter), &[5, 3])?)?;
-    let answer = refused(alloc, specs.as_slice())?;
-    assert!(rt; answer == (Some(AttachFault::StartMismatch(1)), 78));
-    Ok(())
-}
-
-#[test]
-fn a_replaced_box_is_shut_down_and_dropped(rt: HostRuntime) -> Result<(), Fail> {
-    let log = new_log(rt.alloc())?;
-    let fresh = Probe::new(3, 0, &log)?;
-    let mut scripts = two_scripts(rt.alloc(), &log)?;
-    let _ = initialize(&rt, &mut scripts, 0);
-    assert!(rt; scripts.replace(0, fresh) == Ok(()));
-    assert!(rt; log.get() == 1_47);
-    let replies = receive(&rt, &mut scripts, 0, 0, 1);
-    assert!(rt; replies.as_slice() == [Reply::number(0, 7)].as_slice());
-    scripts.close();
-    assert!(rt; log.get() == 147_6_98);
-    Ok(())
-}
-
-#[test]
-fn a_replaced_box_that_was_not_initialized_is_dropped(rt: HostRuntime) -> Result<(), Fail> {
-    let log = new_log(rt.alloc())?;
-    let fresh = Probe::new(3, 0, &log)?;
-    let mut scripts = two_scripts(rt.alloc(), &log)?;
-    assert!(rt; scripts.replace(0, fresh) == Ok(()));
-    assert!(rt; log.get() == 7);
-    drop(scripts);
-    assert!(rt; log.get() == 798);
-    Ok(())
-}
-
-#[test]
-fn a_box_that_is_refused_as_replacement_is_dropped(rt: HostRuntime) -> Result<(), Fail> {
-    let log = new_log(rt.alloc())?;
-    let fresh = Probe::new(3, 0, &log)?;
-    let refusing = Probe::refusing(3, 0, &log)?;
-    let mut scripts = two_scripts(rt.alloc(), &log)?;
-    let _ = initialize(&rt, &mut scripts, 0);
-    let nobody = scripts.replace(2, fresh);
-    assert!(rt; nobody == Err(ReplaceFault::NoSuchScript));
-    let answer = scripts.replace(0, refusing);
-    assert!(rt; answer == Err(ReplaceFault::Memory));
-    assert!(rt; log.get() == 1_99);
-    drop(scripts);
-    assert!(rt; log.get() == 199_4_78);
-    Ok(())
-}
-
-fn two_states(alloc: Global, first: i64, second: i64) -> Result<Vec<Items<i64>>, AllocError> {
+fn states_of(alloc: Global, counts: [i64; 2]) -> Result<Vec<Items<i64>>, AllocError> {
     let mut states = Vec::new(alloc);
-    states.push(Items::from_slice(alloc, &[first, 1])?)?;
-    states.push(Items::from_slice(alloc, &[second, 1])?)?;
+    for count in counts {
+        states.push(Items::from_slice(alloc, &[count, 2])?)?;
+    }
     Ok(states)
 }
 
-/// The counts of two scripts.
-fn counts(
+fn restores<B: Behaviour>(
     alloc: Global,
-    scripts: &Scripts<Probe>,
-) -> Result<(Option<i64>, Option<i64>), AllocError> {
-    let mut states = Vec::new(alloc);
-    scripts.states(&mut states)?;
-    Ok((
-        number_at(states.as_slice(), 0),
-        number_at(states.as_slice(), 1),
-    ))
+    scripts: &mut Scripts<B>,
+    counts: [i64; 2],
+    wanted: Result<(), StateFault>,
+) -> Result<bool, AllocError> {
+    let states = states_of(alloc, counts)?;
+    let answer = scripts.restore_all(states.as_slice());
+    drop(states);
+    Ok(answer == wanted)
 }
 
+/// Whether there are two states that begin so.
+pub(super) fn begin(states: &[Items<i64>], wanted: [i64; 2]) -> bool {
+    match states {
+        [first, second] => { first.get(0) == Some(&wanted[0]) && second.get(0) == Some(&wanted[1]) }
+        _ => false,
+    }
+}
+
+fn are_counts<B: Behaviour>(
+    alloc: Global,
+    scripts: &Scripts<B>,
+    wanted: [i64; 2],
+) -> Result<bool, AllocError> {
+    let mut states = Vec::new(alloc);
+    let answer = scripts.states(&mut states);
+    let held = begin(states.as_slice(), wanted);
+    drop(states);
+    answer?;
+    Ok(held)
+}
+
+fn does<'a>(
+    alloc: Global,
+    scripts: &mut Scripts<Probe<'a>>,
+    log: &'a Log,
+    step: Step,
+) -> Result<bool, AllocError> {
+    match step {
+        Step::Initialize(k) => Ok(initializes(scripts, k)),
+        Step::Tick(k, count) => Ok(sends(scripts, k, count)),
+        Step::Replace(k, made, wanted) => {
+            Ok(scripts.replace(k, Probe::new(3, made, log)) == wanted)
+        }
+        Step::Restore(counts, wanted) => restores(alloc, scripts, counts, wanted),
+        Step::Counts(wanted) => are_counts(alloc, scripts, wanted),
+        Step::Told(digits) => Ok(log.get() == digits),
+    }
+}
+
+fn does_all<'a>(
+    alloc: Global,
+    scripts: &mut Scripts<Probe<'a>>,
+    log: &'a Log,
+    steps: &[Step],
+) -> Result<bool, AllocError> {
+    for step in steps {
+        if !does(alloc, scripts, log, *step)? {
+            return Ok(false);
+        }
+    }
+    Ok(true)
+}
+
+/// The second box of two scripts, what is done with them, whether they are closed in the end, not
+/// dropped, and what was done with boxes then.
+struct Story(Made, &'static [Step], bool, u64);
+
+impl Row for Story {
+    fn holds(&self, alloc: Global) -> Result<bool, AllocError> {
+        let log = Log::new(0);
+        let mut scripts = two_scripts(alloc, self.0, &log)?;
+        let answer = does_all(alloc, &mut scripts, &log, self.1);
+        if self.2 {
+            scripts.close();
+        } else {
+            drop(scripts);
+        }
+        Ok(answer? && log.get() == self.3)
+    }
+}
+
+const SECOND: Made = Made::Counter(5);
+
+static ENDS: [Story; 2] = [
+    // in the order of the places, not in that of the calls
+    Story(
+        SECOND,
+        &[Step::Initialize(1), Step::Initialize(0)],
+        true,
+        21_45_78,
+    ),
+    Story(SECOND, &[Step::Initialize(1)], false, 2_5_78),
+];
+
 #[test]
-fn scripts_are_restored(rt: HostRuntime) -> Result<(), Fail> {
-    let log = new_log(rt.alloc())?;
-    let states = two_states(rt.alloc(), 20, 30)?;
-    let too_large = two_states(rt.alloc(), 40, 3_000_000_000)?;
-    let mut scripts = two_scripts(rt.alloc(), &log)?;
-    assert!(rt; scripts.restore_all(states.as_slice()) == Ok(()));
-    assert!(rt; counts(rt.alloc(), &scripts).ok() == Some((Some(20), Some(30))));
-    assert!(rt; scripts.restore_all(&[]) == Err(StateFault::StateLength));
-    let range = scripts.restore_all(too_large.as_slice());
-    assert!(rt; range == Err(StateFault::StateRange));
-    assert!(rt; counts(rt.alloc(), &scripts).ok() == Some((Some(20), Some(30))));
-    assert!(rt; log.get() == 0);
-    Ok(())
+fn what_was_initialized_is_shut_down_and_all_are_dropped(rt: HostRuntime) {
+    all_hold(&rt, rt.alloc(), &ENDS);
+}
+
+static REPLACEMENTS: [Story; 4] = [
+    Story(
+        SECOND,
+        &[
+            Step::Initialize(0),
+            Step::Replace(0, Made::Counter(0), Ok(())),
+            Step::Told(1_47),
+            Step::Tick(0, 7),
+        ],
+        true,
+        147_6_98,
+    ),
+    // one that was not initialized is dropped alone
+    Story(
+        SECOND,
+        &[Step::Replace(0, Made::Counter(0), Ok(())), Step::Told(7)],
+        false,
+        7_98,
+    ),
+    // the box that is refused is dropped, and the others stay
+    Story(
+        SECOND,
+        &[
+            Step::Initialize(0),
+            Step::Replace(2, Made::Counter(0), Err(ReplaceFault::NoSuchScript)),
+            Step::Replace(0, Made::Refusing(0), Err(ReplaceFault::Memory)),
+            Step::Told(1_99),
+        ],
+        false,
+        199_4_78,
+    ),
+    Story(
+        SECOND,
+        &[Step::Replace(1, Made::Gate, Err(ReplaceFault::KindDiffers))],
+        false,
+        9_78,
+    ),
+];
+
+#[test]
+fn a_replaced_box_is_shut_down_and_dropped(rt: HostRuntime) {
+    all_hold(&rt, rt.alloc(), &REPLACEMENTS);
+}
+
+/// No box is called otherwise. Where the second one is refused memory the first has its new state.
+static RESTORED: [Story; 2] = [
+    Story(
+        SECOND,
+        &[Step::Restore([20, 30], Ok(())), Step::Counts([20, 30])],
+        false,
+        78,
+    ),
+    Story(
+        Made::Refusing(5),
+        &[
+            Step::Restore([8, 9], Err(StateFault::Memory)),
+            Step::Counts([8, 5]),
+        ],
+        false,
+        78,
+    ),
+];
+
+#[test]
+fn scripts_are_restored(rt: HostRuntime) {
+    all_hold(&rt, rt.alloc(), &RESTORED);
+}
+
+/// What takes memory.
+#[derive(Clone, Copy)]
+enum Call {
+    States,
+    Replace,
+}
+
+fn tells<B: Behaviour>(alloc: Global, scripts: &Scripts<B>) -> bool {
+    let mut states = Vec::new(alloc);
+    let told = scripts.states(&mut states).is_ok();
+    drop(states);
+    told
+}
+
+fn works<'a>(
+    alloc: Global,
+    scripts: &mut Scripts<Probe<'a>>,
+    log: &'a Log,
+    call: Call,
+    left: &[usize],
+) -> Result<bool, AllocError> {
+    let used_up = UsedUp::but_for(alloc, left)?;
+    let worked = match call {
+        Call::States => tells(alloc, scripts),
+        Call::Replace => scripts
+            .replace(0, Probe::new(3, Made::Counter(0), log))
+            .is_ok(),
+    };
+    drop(used_up);
+    Ok(worked)
+}
+
+/// A call, the blocks of memory that are left, whether they are enough, and what was done with
+/// boxes in the end.
+struct Left(Call, &'static [usize], bool, u64);
+
+impl Row for Left {
+    fn holds(&self, alloc: Global) -> Result<bool, AllocError> {
+        let log = Log::new(0);
+        let mut scripts = two_scripts(alloc, SECOND, &log)?;
+        let worked = works(alloc, &mut scripts, &log, self.0, self.1);
+        drop(scripts);
+        Ok(worked? == self.2 && log.get() == self.3)
+    }
+}
+
+/// The block of a list of up to four states.
+const STATES: usize = 96;
+
+/// A replacement takes a block for the old state, the states of two scripts one each and their
+/// list.
+static LEFT: [Left; 6] = [
+    Left(Call::Replace, &[], false, 9_78),
+    Left(Call::Replace, &[STATE], true, 7_98),
+    Left(Call::States, &[], false, 78),
+    Left(Call::States, &[STATE], false, 78),
+    Left(Call::States, &[STATE, STATES], false, 78),
+    Left(Call::States, &[STATE, STATES, STATE], true, 78),
+];
+
+#[test]
+fn each_growth_is_refused(rt: HostRuntime) {
+    all_hold(&rt, rt.alloc(), &LEFT);
 }

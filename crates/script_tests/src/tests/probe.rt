@@ -1,107 +1,124 @@
 //! A box that tells what is done with it.
 
+use script_boxes::StockScript;
 use script_host::{Behaviour, Replies, StateFault};
-use script_stock::Counter;
-use std::alloc::{AllocError, AllocFailed, Global};
+use script_stock::{Batch, Counter, Gate};
+use std::alloc::{AllocError, Global};
 use std::cell::Cell;
-use std::rc::Rc;
 use x3d_values::Kind;
 
-/// What was done with boxes, as decimal digits, the newest last.
-pub type Log = Rc<Cell<u64>>;
+/// What was done with boxes, as decimal digits, the newest last: 1 to 3 for a box that is
+/// initialized, 4 to 6 for one that is shut down, 7 to 9 for one that is dropped.
+pub(super) type Log = Cell<u64>;
 
-pub fn new_log(alloc: Global) -> Result<Log, AllocFailed<Cell<u64>>> {
-    Rc::new(alloc, Cell::new(0))
-}
-
-/// A counter that tells its name where it is initialized, 3 more where it is shut down, and 6 more
-/// where it is dropped.
-pub struct Probe {
-    counter: Counter,
+/// A script of the stock that tells its name where it is initialized, 3 more where it is shut down,
+/// and 6 more where it is dropped.
+pub(super) struct Probe<'a> {
+    script: StockScript,
     /// 1, 2 or 3.
     name: u64,
     /// Whether it answers that memory was refused where it is restored.
     refuses: bool,
-    log: Log,
+    log: &'a Log,
 }
 
 fn tell(log: &Log, digit: u64) {
     log.set(log.get().saturating_mul(10).saturating_add(digit));
 }
 
-impl Probe {
-    /// A counter at `count` that steps by 2.
-    pub fn new(name: u64, count: i32, log: &Log) -> Result<Probe, AllocError> {
-        Ok(Probe {
-            counter: Counter::new(count, 2),
-            name,
-            refuses: false,
-            log: log.clone()?,
-        })
-    }
+/// What a box is.
+#[derive(Clone, Copy)]
+pub(super) enum Made {
+    /// A counter at this count that steps by 2.
+    Counter(i32),
+    /// The same, which can't be restored.
+    Refusing(i32),
+    Gate,
+    Batch,
+}
 
-    /// One that can't be restored.
-    pub fn refusing(name: u64, count: i32, log: &Log) -> Result<Probe, AllocError> {
-        Ok(Probe {
-            counter: Counter::new(count, 2),
-            name,
-            refuses: true,
-            log: log.clone()?,
-        })
+fn script_of(made: Made) -> StockScript {
+    match made {
+        Made::Counter(count) => StockScript::Counter(Counter::new(count, 2)),
+        Made::Refusing(count) => StockScript::Counter(Counter::new(count, 2)),
+        Made::Gate => StockScript::Gate(Gate::new(true)),
+        Made::Batch => StockScript::Batch(Batch::new()),
     }
 }
 
-impl Drop for Probe {
+impl<'a> Probe<'a> {
+    pub(super) fn new(name: u64, made: Made, log: &'a Log) -> Probe<'a> {
+        Probe {
+            script: script_of(made),
+            name,
+            refuses: matches!(made, Made::Refusing(_)),
+            log,
+        }
+    }
+}
+
+/// Boxes 1 and 2.
+pub(super) fn two_boxes<'a>(
+    alloc: Global,
+    first: Made,
+    second: Made,
+    log: &'a Log,
+) -> Result<Vec<Probe<'a>>, AllocError> {
+    Ok(vec![in alloc; Probe::new(1, first, log), Probe::new(2, second, log)]?)
+}
+
+impl<'a> Drop for Probe<'a> {
     fn drop(self) {
         let Probe {
-            counter: _,
+            script,
             name,
             refuses: _,
             log,
         } = self;
-        tell(&log, name.saturating_add(6));
+        tell(log, name.saturating_add(6));
+        drop(script);
     }
 }
 
-impl Behaviour for Probe {
-    ghost kind_of = { λ p. ⟦<Counter as Behaviour>⟧.kind_of p.counter };
+impl<'a> Behaviour for Probe<'a> {
+    ghost kind_of = { λ p. ⟦<StockScript as Behaviour>⟧.kind_of p.script };
 
-    ghost numbers = { λ p. ⟦<Counter as Behaviour>⟧.numbers p.counter };
+    ghost numbers = { λ p. ⟦<StockScript as Behaviour>⟧.numbers p.script };
 
     fn kind(&self) -> Kind {
-        self.counter.kind()
+        self.script.kind()
     }
 
     fn initialize(&mut self) -> Replies {
-        tell(&self.log, self.name);
-        self.counter.initialize()
+        tell(self.log, self.name);
+        self.script.initialize()
     }
 
     fn receive(&mut self, input: u32, event: [i64; 3]) -> Replies {
-        self.counter.receive(input, event)
+        self.script.receive(input, event)
     }
 
     fn events_processed(&mut self) -> Replies {
-        self.counter.events_processed()
+        self.script.events_processed()
     }
 
     fn shutdown(&mut self) {
-        tell(&self.log, self.name.saturating_add(3));
-        self.counter.shutdown();
+        tell(self.log, self.name.saturating_add(3));
+        self.script.shutdown();
     }
 
     fn state(&self, out: &mut Vec<i64>) -> Result<(), AllocError> {
-        self.counter.state(out)
+        self.script.state(out)
     }
 
     fn fits(&self, state: &[i64]) -> Result<(), StateFault> {
-        self.counter.fits(state)
+        self.script.fits(state)
     }
 
     fn restore(&mut self, state: &[i64]) -> Result<(), StateFault> {
         if self.refuses {
             return Err(StateFault::Memory);
         }
-        self.counter.restore(state)
+        self.script.restore(state)
     }
 }
