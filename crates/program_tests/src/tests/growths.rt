@@ -12,15 +12,13 @@ use test_memory::UsedUp;
 /// Room for what a command writes, so that its writer needs no memory.
 const ROOM: usize = 65_536;
 
-/// More memory than any of these commands takes.
-const ENOUGH: usize = 1 << 20;
-
-/// A command and its input. The first so many turns are refused, where each has so many bytes more
-/// than the one before, and the first has none.
+/// A command and its input. Each turn has so many bytes more than the one before, and the first has
+/// none: at least so many turns are refused, and one of at most so many has enough.
 struct Spared {
     command: Command,
     input: &'static [Part],
-    turns: usize,
+    least: usize,
+    most: usize,
     step: usize,
 }
 
@@ -42,14 +40,16 @@ impl Spared {
 
     /// Whether it is refused so, and then has enough.
     fn goes_on(&self, alloc: Global, input: &[u8], out: &mut Vec<u8>) -> Result<bool, AllocError> {
-        for turn in 0..self.turns {
+        for turn in 0..self.most {
             let failure = self.failure(alloc, input, out, turn.saturating_mul(self.step))?;
+            if failure.is_none() {
+                return Ok(turn >= self.least && !out.is_empty());
+            }
             if !is_refused(failure, "refused Memory", 5) || !out.is_empty() {
                 return Ok(false);
             }
         }
-        let failure = self.failure(alloc, input, out, ENOUGH)?;
-        Ok(failure.is_none() && !out.is_empty())
+        Ok(false)
     }
 }
 
@@ -61,16 +61,18 @@ impl Row for Spared {
     }
 }
 
-/// The tree takes 26 KB, and its text, which is longer than what is read, 24 KB more.
+/// A tree, and then its text, which is longer than what is read. Few levels: where memory is used
+/// up, the stack can't grow either.
 static FORMATTED: [Spared; 1] = [Spared {
     command: Command::Format,
     input: &[
         Part(1, "#X3D V3.0 utf8"),
-        Part(60, "\nGroup { children ["),
-        Part(60, " ] }"),
+        Part(8, "\nGroup { children ["),
+        Part(8, " ] }"),
     ],
-    turns: 24,
-    step: 2048,
+    least: 6,
+    most: 48,
+    step: 256,
 }];
 
 #[test]
@@ -91,8 +93,9 @@ static CHECKED: [Spared; 1] = [Spared {
             "ROUTE T.isActive TO T.enabled ROUTE T.time TO T.startTime\n",
         ),
     ],
-    turns: 43,
-    step: 1024,
+    least: 13,
+    most: 50,
+    step: 3072,
 }];
 
 #[test]
@@ -112,8 +115,9 @@ static LOADED: [Spared; 1] = [Spared {
             "ROUTE T.isActive TO T.enabled ROUTE T.time TO T.startTime\n",
         ),
     ],
-    turns: 42,
-    step: 2400,
+    least: 23,
+    most: 50,
+    step: 4096,
 }];
 
 #[test]
@@ -133,8 +137,9 @@ static CLOCKS: [Spared; 1] = [Spared {
             "DEF T% TimeSensor { cycleInterval 2 loop TRUE startTime 1 }\n",
         ),
     ],
-    turns: 36,
-    step: 1024,
+    least: 16,
+    most: 48,
+    step: 1536,
 }];
 
 #[test]
@@ -154,7 +159,8 @@ Transform { translation 10 0 0 scale 2 2 2
 children [ DEF S TouchSensor {} Shape { geometry Box {} } ] }
 ",
     )],
-    turns: 15,
+    least: 8,
+    most: 48,
     step: 512,
 }];
 
