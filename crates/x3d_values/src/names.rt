@@ -136,16 +136,12 @@ impl NodeType {
 fn first_node_type(types: &[NodeType], name: &str) -> Option<NodeType>
     ensures { result ≡ first_node_type name.now types.now }
 {
-    match types {
-        [] => None,
-        [first, others @ ..] => {
-            if name == first.name() {
-                Some(*first)
-            } else {
-                first_node_type(others, name)
-            }
+    for node_type in types {
+        if name == node_type.name() {
+            return Some(*node_type);
         }
     }
+    None
 }
 
 impl FieldType {
