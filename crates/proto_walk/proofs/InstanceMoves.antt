@@ -49,6 +49,15 @@ opens walker new p around opened o f store declarations links names defs ties si
     (begin_body (signatures (out-ProtoText p.now).interface) m)))) (stand_in opened.name.now (owner_in opened.owner).at))
     (fun_ext (λ w. body_map (out-ProtoText p.now).body None w)))
 
+pub opens-filled : (walker new : Walker) (p : Bor ProtoText) (around : Option ℕ) (opened o : Open) (f : Filling) → new.store ≡ walker.store → new.declarations ≡ walker.declarations → new.links ≡ walker.links →
+    names_of new.scope ≡ no_names → defs_of new.scope ≡ no_defs → new.scope.ties ≡ [] → new.scope.sight ≡ opened.sight → new.scope.given ≡ [] → new.scope.interface ≡ [] → new.scope.inside ≡ body_of (definition (shown walker).declared around (out-ProtoText p.now).name) →
+    f.instance.proto ≡ p → f.instance.within ≡ around → f.rest.now ≡ (out-ProtoText p.now).interface → f.outer.value ≡ walker.scope →
+    o.name.now ≡ opened.name.now → o.owner ≡ opened.owner → o.fields ≡ opened.fields → o.sight ≡ walker.scope.sight →
+    close_instance opened.name.now (owner_in opened.owner).at (bound_of p.now around (in_sight walker.links opened.sight)) opened.fields (shown walker) ≡ fill (in_sight new.links o.sight) o f o.fields (shown new)
+unfolding task_does open_does
+opens-filled walker new p around opened o f store declarations links names defs ties sight given interface inside proto within rest outer name owner fields seen =
+    opens walker new p around opened (record o { filling = Some f }) f store declarations links names defs ties sight given interface inside proto within rest outer name owner fields seen refl
+
 -- ---- the next statement of a body
 
 leave-later : {A : Type 0} (sight : Sight) (line : ℕ) (k : Made → Machine ℕ) (o : Outcome A) (f : A → Machine (Option ℕ)) →

@@ -80,6 +80,44 @@ pushes {o} {old} {new} {next} f h links frames scope waits sees is = record {
   };
 }
 
+-- a frame more, behind which a step is made
+pub holds-pushed : {old pushed : Walker} (f : Frame) → Holds old → pushed.links ≡ old.links → pushed.frames.items ≡ old.frames.items ++ f ∷ [] →
+    pushed.scope.sight ≤ most old → sight_of f ≤ most old → Holds pushed
+holds-pushed {old} {pushed} f h links frames scope waits = record {
+  linked = rw links h.linked;
+  scope = rw links scope;
+  frames = rw (links, frames) (see-push (most old) old.frames.items f waits h.frames);
+}
+
+pub pushed-then : (o : Outcome ℕ) (old pushed new : Walker) (result : Result Task ExpandFault) (f : Frame) → pushed.links ≡ old.links → pushed.frames.items ≡ old.frames.items ++ f ∷ [] →
+    Keeps o pushed result new → Keeps (and_then o (frame_does (in_sight old.links (sight_of f)) f)) old result new
+unfolding comes_to
+pushed-then o old pushed new (Ok next) f links frames k = record {
+  same =
+      and_then-assoc o (frame_does (in_sight old.links (sight_of f)) f) (rest_does old)
+      ∙ and_then-congr
+      (λ n w. and_then (frame_does (in_sight old.links (sight_of f)) f n w) (rest_does old))
+      (rest_does pushed)
+      (λ n w. sym (ap (λ (ls : List Link). frames_do ls (reverse pushed.frames.items) n w) links ∙ ap (λ (fs : List Frame). frames_do old.links (reverse fs) n w) frames ∙ frames-snoc old.links old.frames.items f n w))
+      o
+      ∙ k.same;
+  fits = k.fits;
+}
+pushed-then o old pushed new (Err e) f links frames (inl m) = inl m
+pushed-then o old pushed new (Err e) f links frames (inr is) = inr (ap (λ out. and_then out (frame_does (in_sight old.links (sight_of f)) f)) is)
+
+-- a step that is made once something else has changed than frames and links
+pub carried : (o q : Outcome ℕ) (old mid new : Walker) (result : Result Next ExpandFault) (opened : Open) → mid.links ≡ old.links → mid.frames.items ≡ old.frames.items → o ≡ q →
+    Leads q mid result new opened → Leads o old result new opened
+carried o q old mid new (Ok next) opened links frames is k =
+    let rest : rest_does mid ≡ rest_does old = rw (links, frames) refl in
+    record {
+      same = ap (λ out. and_then out (rest_does old)) is ∙ ap (λ (f : ℕ → Machine ℕ). and_then q f) (sym rest) ∙ k.same;
+      fits = k.fits;
+    }
+carried o q old mid new (Err e) opened links frames is (inl m) = inl m
+carried o q old mid new (Err e) opened links frames is (inr refused) = inr (is ∙ refused)
+
 -- a link more
 pub declares : {o : Outcome ℕ} {old new : Walker} {next : Task} (l : Link) → Holds old → Holds new → new.links ≡ old.links ++ l ∷ [] → new.frames.items ≡ old.frames.items →
     task_sight next ≤ most old → o ≡ task_does (in_sight old.links (task_sight next)) next (shown new) → Goes o old new next

@@ -17,8 +17,8 @@ use proto_steps::{Instance, Placed, Scope};
 use std::alloc::Global;
 use std::mem;
 
-/// The braces of an instance close: its default values begin, in a name scope of its own.
-#[tactic(auto, unfolding(crate::specs::Frames::task_does, crate::specs::Frames::open_does))]
+/// The braces of an instance close: its default values begin, in a name scope of its own, and with
+/// none its body.
 pub fn open_defaults<'a>(
     alloc: Global,
     walker: &mut Walker<'a>,
@@ -38,12 +38,12 @@ pub fn open_defaults<'a>(
     let outer = mem::replace(&mut walker.scope, inner);
     opened.sight = outer.sight;
     let outer = Box::new(alloc, outer)?;
-    opened.filling = Some(Filling {
+    let filling = Filling {
         instance,
         rest: proto.interface.as_slice(),
         outer,
-    });
-    Ok(Next::Items)
+    };
+    next_filling(alloc, walker, opened, filling)
 }
 
 /// The default value of a declaration.

@@ -122,9 +122,9 @@ fn give<'a>(walker: &mut Walker<'a>, frame: Frame<'a>, number: u32) -> Result<Ta
     }
 }
 
-/// The node is put in, and then the frame has its number.
-#[tactic(auto, unfolding(crate::specs::Frames::task_does))]
+/// The node begins, and the frame waits for its number.
 fn wait<'a>(
+    alloc: Global,
     walker: &mut Walker<'a>,
     frame: Frame<'a>,
     node: &'a NodeText,
@@ -136,7 +136,7 @@ fn wait<'a>(
         result walker.new }
 {
     walker.frames.push(frame)?;
-    Ok(Task::Node(node))
+    entering::enter(alloc, walker, node)
 }
 
 /// The next step of what is to be done.
@@ -147,7 +147,7 @@ fn step<'a>(alloc: Global, walker: &mut Walker<'a>, task: Task<'a>) -> Result<Ta
 {
     match task {
         Task::Node(node) => entering::enter(alloc, walker, node),
-        Task::NodeFor(frame, node) => wait(walker, frame, node),
+        Task::NodeFor(frame, node) => wait(alloc, walker, frame, node),
         Task::Items(opened) => next_item(alloc, walker, opened),
         Task::List(opened, listing) => next_in_list(walker, opened, listing),
         Task::Statements(body) => bodies::next_statement(alloc, walker, body),

@@ -1,8 +1,9 @@
-use Rattle.std.proofs.Common.{arith, refl}
-use Rattle.proto_walk.specs.Frames.{task_does}
-use Rattle.proto_walk.proofs.Moves.{pushes}
+use Rattle.std.proofs.Common.{refl}
+use Rattle.proto_walk.proofs.Moves.{holds-pushed, pushed-then}
 use Rattle.proto_walk.proofs.walk.wait.Goals as goal
 
+pub enter-requires : goal.enter-requires
+enter-requires c = holds-pushed _ c.requires.holds refl c.in_ok-push.ensures.items c.requires.holds.scope c.requires.sees
+
 pub returns : goal.returns
-unfolding task_does
-returns c = pushes _ c.requires.holds refl c.in_ok-push.ensures.items c.requires.holds.scope c.requires.sees (omega arith) refl
+returns c = pushed-then _ _ _ _ c.enter.result _ refl c.in_ok-push.ensures.items c.enter.ensures
