@@ -49,17 +49,17 @@ impl<'a> Model for Opened<'a> {
 
     ghost Value = { Open };
 
-    // Its own type has one, whichever lifetime it has.
+    // The code is that of `Open`, whichever lifetime it has.
     ghost coded = { (open_braces.the_row (record { mir = static; lft = [] })).coded };
 
     ghost view = { λ o. o.braces.value };
 }
 
 impl<'a> Opened<'a> {
-    pub fn new(alloc: Global, open: Open<'a>) -> Result<Opened<'a>, AllocError>
-        ensures { IfOk result (λ opened. opened ≡ open.entry) }
+    pub fn new(alloc: Global, begun: Open<'a>) -> Result<Opened<'a>, AllocError>
+        ensures { IfOk result (λ opened. opened ≡ begun.entry) }
     {
-        let braces = Box::new(alloc, open)?;
+        let braces = Box::new(alloc, begun)?;
         Ok(Opened { braces })
     }
 }
