@@ -12,12 +12,11 @@ pub(super) const ORDER: Order = Order::Agree {
 };
 
 /// A job of a scene: its steps in the order in which they come to be numbered, and how they are
-/// parted among a host and two viewers.
+/// parted among a host and two viewers, by their addresses.
 pub(super) struct Job {
     pub(super) scene: &'static str,
     pub(super) steps: &'static str,
-    pub(super) host_steps: &'static str,
-    pub(super) viewer_steps: [&'static str; 2],
+    pub(super) parts: [&'static str; 3],
     /// The host's clocks, in microseconds.
     pub(super) clocks: &'static [i64],
     pub(super) points: [&'static [Point]; 2],
@@ -41,8 +40,7 @@ children [ DEF S TouchSensor {} Shape { geometry Box {} } ] }";
 pub(super) const TWO_CLOCKS: Job = Job {
     scene: CLOCKS,
     steps: "clock 1\nclock 2\n",
-    host_steps: "clock 1\nclock 2\n",
-    viewer_steps: ["", ""],
+    parts: ["clock 1\nclock 2\n", "", ""],
     clocks: &[1_000_000, 2_000_000],
     points: [&[], &[]],
     inputs: 2,
@@ -63,8 +61,7 @@ clock 10
 pub(super) const TEN_CLOCKS: Job = Job {
     scene: CLOCKS,
     steps: TEN,
-    host_steps: TEN,
-    viewer_steps: ["", ""],
+    parts: [TEN, "", ""],
     clocks: &[
         1_000_000, 2_000_000, 3_000_000, 4_000_000, 5_000_000, 6_000_000, 7_000_000, 8_000_000,
         9_000_000, 10_000_000,
@@ -119,8 +116,7 @@ point 0 0 10 0 20 0 0 1
 pub(super) const ONE_POINTER: Job = Job {
     scene: BOX,
     steps: POINTED,
-    host_steps: "",
-    viewer_steps: [POINTED, ""],
+    parts: ["", POINTED, ""],
     clocks: &[],
     points: [&POINTS, &[]],
     inputs: 3,
@@ -136,8 +132,8 @@ point 1 1 10 0 20 0 0 -1
 point 0 0 10 0 20 0 0 1
 point 1 0 10 0 20 0 0 1
 ",
-    host_steps: "",
-    viewer_steps: [
+    parts: [
+        "",
         POINTED,
         "point 1 0 10 0 20 0 0 -1
 point 1 1 10 0 20 0 0 -1
@@ -157,7 +153,7 @@ pub(super) fn joined(alloc: Global, steps: &str, scene: &str) -> Result<Vec<u8>,
     Ok(bytes)
 }
 
-/// A line, and what `run` prints of a job; `None` where it is refused.
+/// A line, and what `run` prints of a job's bytes, unless it refuses them.
 pub(super) fn run_of(alloc: Global, line: &str, job: &[u8]) -> Result<Vec<u8>, AllocError> {
     let mut reader = job;
     let mut out = Vec::new(alloc);

@@ -104,29 +104,26 @@ impl<'a> Port for Between<'a> {
     }
 }
 
-/// Whether the host comes to its end by its command.
-fn hosts(alloc: Global, port: &mut Between<'_>) -> Result<bool, AllocError> {
+/// Whether the host comes to its end by its command, with a job's bytes.
+fn hosts(alloc: Global, bytes: &[u8], port: &mut Between<'_>) -> bool {
     let order = Order::Host {
         port: HOST,
         viewers: 2,
         turns: TURNS,
     };
-    let given = port.others.job;
-    let bytes = joined(alloc, given.host_steps, given.scene)?;
-    let Ok(job) = shared_job(alloc, bytes.as_slice(), &order) else {
-        return Ok(false);
+    let Ok(job) = shared_job(alloc, bytes, &order) else {
+        return false;
     };
     let answer = host_job(alloc, &job, 2, TURNS, port);
     drop(job);
-    Ok(answer == Ok(()))
+    answer == Ok(())
 }
 
-/// Whether a viewer comes to its end by its command.
-fn views(alloc: Global, port: &mut Between<'_>, who: u8) -> Result<bool, AllocError>
+/// Whether a viewer comes to its end by its command, with a job's bytes.
+fn views(alloc: Global, bytes: &[u8], who: u8, port: &mut Between<'_>) -> bool
     requires { who ≤ 15 }
 {
-    let given = port.others.job;
-    let until = given.inputs;
+    let until = port.others.job.inputs;
     let order = Order::View {
         port: HOST,
         who,
@@ -134,21 +131,18 @@ fn views(alloc: Global, port: &mut Between<'_>, who: u8) -> Result<bool, AllocEr
         until,
         turns: TURNS,
     };
-    let Some(steps) = given.viewer_steps.get(usize::from(who)) else {
-        return Ok(false);
-    };
-    let bytes = joined(alloc, steps, given.scene)?;
-    let Ok(mut seat) = seated_job(alloc, bytes.as_slice(), &order, who, 1) else {
-        return Ok(false);
+    let Ok(mut seat) = seated_job(alloc, bytes, &order, who, 1) else {
+        return false;
     };
     let answer = view_job(alloc, &mut seat, HOST, until, TURNS, port);
     drop(seat);
     match answer {
-        Ok(text) => {
-            port.others.printed.extend_from_slice(text.as_slice())?;
-            Ok(true)
-        }
-        Err(_) => Ok(false),
+        Ok(text) => port
+            .others
+            .printed
+            .extend_from_slice(text.as_slice())
+            .is_ok(),
+        Err(_) => false,
     }
 }
 
@@ -157,33 +151,37 @@ fn views(alloc: Global, port: &mut Between<'_>, who: u8) -> Result<bool, AllocEr
 struct Turns(&'static Job, bool, u16, u32);
 
 impl Turns {
-    /// Whether the command comes to its end. The others go on behind it.
-    fn work(&self, alloc: Global, port: &mut Between<'_>) -> Result<bool, AllocError> {
+    /// Whether that node comes to its end, if there is one.
+    fn ends(&self, alloc: Global, port: &mut Between<'_>) -> bool {
+        let Some(steps) = self.0.parts.get(usize::from(self.2)) else {
+            return true;
+        };
+        let Ok(bytes) = joined(alloc, steps, self.0.scene) else {
+            return false;
+        };
+        match self.2 {
+            HOST => hosts(alloc, bytes.as_slice(), port),
+            FIRST => views(alloc, bytes.as_slice(), 0, port),
+            _ => views(alloc, bytes.as_slice(), 1, port),
+        }
+    }
+
+    /// The same, while the others begin before it and go on behind it.
+    fn ends_between(&self, alloc: Global, port: &mut Between<'_>) -> bool {
         for _turn in 0..self.3 {
             port.others.take_turns(self.2);
         }
-        let ended = match self.2 {
-            HOST => hosts(alloc, port)?,
-            FIRST => views(alloc, port, 0)?,
-            SECOND => views(alloc, port, 1)?,
-            _ => true,
-        };
+        let ended = self.ends(alloc, port);
         for _turn in 0..TURNS {
             port.others.take_turns(self.2);
         }
-        Ok(ended)
+        ended
     }
 
     /// Whether both viewers print that.
-    fn print(
-        &self,
-        alloc: Global,
-        cable: &RefCell<Cable>,
-        bytes: &[u8],
-        wanted: &[u8],
-    ) -> Result<bool, AllocError> {
+    fn print(&self, alloc: Global, cable: &RefCell<Cable>, bytes: &[u8], wanted: &[u8]) -> bool {
         let Ok(joint) = joint_job(alloc, bytes, &ORDER, 2) else {
-            return Ok(false);
+            return false;
         };
         let mut port = Between {
             address: self.2,
@@ -197,10 +195,10 @@ impl Turns {
                 printed: Vec::new(alloc),
             },
         };
-        let ended = self.work(alloc, &mut port);
+        let ended = self.ends_between(alloc, &mut port);
         let printed = port.others.printed.strip_prefix(wanted) == Some(wanted);
         drop(port);
-        Ok(ended? && printed)
+        ended && printed
     }
 }
 
@@ -211,7 +209,7 @@ impl Row for Turns {
         let cable = laid(alloc, self.1, 0);
         let held = self.print(alloc, &cable, bytes.as_slice(), wanted.as_slice());
         drop(cable);
-        held
+        Ok(held)
     }
 }
 
