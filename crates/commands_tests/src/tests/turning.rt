@@ -42,13 +42,14 @@ struct Nodes<'a> {
 }
 
 impl<'a> Nodes<'a> {
+    /// The next turn of the host.
     fn host_on(&mut self) {
         let clocks = after(self.job.clocks, self.turn);
         let mut port = End::new(self.cable, HOST);
         let _ended = host_run(&mut self.host, clocks, 1, &mut port);
     }
 
-    /// Unless the viewer came to its end.
+    /// The next turn of a viewer, unless it came to its end.
     fn view_on(&mut self, who: u8) {
         let Some(points) = self.job.points.get(usize::from(who)) else {
             return;
