@@ -1,4 +1,4 @@
-//! Tests of the commands of several nodes and of command words. It has nothing else.
+//! Tests of the commands of several nodes. It has nothing else.
 #![tactic(auto)]
 
 #[cfg(test)]

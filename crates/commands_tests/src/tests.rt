@@ -1,11 +1,23 @@
-//! Bytes in, bytes out; and the words of the command line.
+//! What the cases of cases/ can't show: a host and its viewers over a bad cable, over one that fails,
+//! and one of them by its command.
 
 mod agreeing;
 mod cable;
-mod failing;
 mod given;
-mod idle;
 mod turning;
-mod whole;
-mod words;
-mod worked;
+
+use std::alloc::{AllocError, Global};
+use std::process::Abort;
+
+/// A row of a table.
+trait Row {
+    /// Whether it is as the row says.
+    fn holds(&self, alloc: Global) -> Result<bool, AllocError>;
+}
+
+/// Each row of a table holds.
+fn all_hold<R: Row>(rt: &impl Abort, alloc: Global, rows: &[R]) {
+    for (number, row) in rows.iter().enumerate() {
+        assert!(rt; row.holds(alloc) == Ok(true), "row {number}");
+    }
+}

@@ -1,67 +1,91 @@
-//! A host and its viewers over sockets: what they agree on is what `run` prints.
+//! The rounds of a host and two viewers over a cable: what they agree on is what `run` prints, and
+//! where a port fails they end at that call.
 
-ghost use Rattle.std.specs.Prelude.{◌≡◌, ◌≤◌, length};
+ghost use Rattle.std.specs.Prelude.{◌≡◌, length};
 
-use super::given::{CLOCKS, COUNTERS, joined, push_run};
-use share_commands::{JointJob, agree_job, bound, bound_free, joint_job, number_of};
+use super::cable::{End, HOST, laid};
+use super::given::{Job, ORDER, TWO_CLOCKS, TWO_POINTERS, joined, run_of};
+use super::{Row, all_hold};
+use share_commands::{JointJob, agree_job, joint_job};
+use share_port::Port;
 use share_program::ShareFault;
-use share_words::Order;
-use std::alloc::Global;
-use std::net::Net;
+use std::alloc::{AllocError, Global};
 use std::process::Abort;
-use std::test::Fail;
 
-const STEPS: &str = "clock 1
-clock 2
-point 1 0 0 0 9 0 0 -1
-clock 3
-point 0 1 0 0 9 0 0 -1
-";
+/// Whether rounds printed what was wanted, or why they ended; after how many sends and receives,
+/// and how many of these failed.
+type Ending = (Result<bool, ShareFault>, u64, u64);
 
-const ORDER: Order = Order::Agree {
-    viewers: 2,
-    turns: 100,
-};
-
-/// What the viewers of a job agree on, each at a socket, in so many rounds.
-fn agreed<R: Net>(
-    rt: &R,
-    alloc: Global,
-    job: &mut JointJob,
-    turns: u32,
-) -> Result<Vec<u8>, ShareFault>
-    requires some { 1 ≤ length job.old.viewers.items }
-    requires most { length job.old.viewers.items ≤ 16 }
+/// Rounds over a cable where the call of that number fails; none for 0.
+fn rounds(alloc: Global, job: &mut JointJob, lossy: bool, fails_at: u64, wanted: &[u8]) -> Ending
+    requires { length job.old.viewers.items ≡ 2 }
 {
-    let mut port = bound(rt, 0)?;
-    let own = number_of(&port)?;
-    let mut ports = bound_free(rt, alloc, job.viewers.len())?;
-    agree_job(alloc, job, turns, own, &mut port, &mut ports)
+    let cable = laid(alloc, lossy, fails_at);
+    let mut port = End::new(&cable, HOST);
+    let mut ports = [End::new(&cable, 1), End::new(&cable, 2)];
+    let printed = match agree_job(alloc, job, 10_000, HOST, &mut port, &mut ports) {
+        Ok(text) => Ok(text.as_slice() == wanted),
+        Err(fault) => Err(fault),
+    };
+    let failed = port.failures().saturating_add(ports[0].failures());
+    let failed = failed.saturating_add(ports[1].failures());
+    let cable = cable.into_inner();
+    let calls = cable.calls;
+    drop(cable);
+    (printed, calls, failed)
 }
 
-/// Viewers of this scene agree on what a run prints.
-fn agree_as_run<R: Net + Abort>(rt: &R, alloc: Global, scene: &str) -> Result<(), Fail> {
-    let bytes = joined(alloc, STEPS, scene)?;
-    let mut job = joint_job(alloc, bytes.as_slice(), &ORDER, 2)?;
-    let text = agreed(rt, alloc, &mut job, 100)?;
-    let mut wanted = Vec::new(alloc);
-    wanted.extend_from_slice(b"agreed 5\n")?;
-    push_run(alloc, bytes.as_slice(), &mut wanted)?;
-    assert!(rt; text == wanted);
-    Ok(())
+/// How the rounds of a job's bytes end; `None` where there is no job.
+fn ending_of(
+    alloc: Global,
+    bytes: &[u8],
+    lossy: bool,
+    fails_at: u64,
+    wanted: &[u8],
+) -> Option<Ending> {
+    let Ok(mut job) = joint_job(alloc, bytes, &ORDER, 2) else {
+        return None;
+    };
+    let ending = rounds(alloc, &mut job, lossy, fails_at, wanted);
+    drop(job);
+    Some(ending)
 }
+
+/// Whether they print that; where each of the calls that it takes fails in turn, end there; and
+/// print it again where a later one would fail, and over a lossy cable.
+fn agree(alloc: Global, bytes: &[u8], wanted: &[u8]) -> bool {
+    let whole = ending_of(alloc, bytes, false, 0, wanted);
+    let Some((Ok(true), calls, 0)) = whole else {
+        return false;
+    };
+    for call in 1..=calls {
+        let failed = Some((Err(ShareFault::Port), call, 1));
+        if ending_of(alloc, bytes, false, call, wanted) != failed {
+            return false;
+        }
+    }
+    let later = ending_of(alloc, bytes, false, calls.saturating_add(1), wanted);
+    let lossy = ending_of(alloc, bytes, true, 0, wanted);
+    later == whole && matches!(lossy, Some((Ok(true), _, 0)))
+}
+
+/// A job, and the line that stands before what `run` prints of it.
+struct Agreed(&'static Job, &'static str);
+
+impl Row for Agreed {
+    fn holds(&self, alloc: Global) -> Result<bool, AllocError> {
+        let bytes = joined(alloc, self.0.steps, self.0.scene)?;
+        let wanted = run_of(alloc, self.1, bytes.as_slice())?;
+        Ok(agree(alloc, bytes.as_slice(), wanted.as_slice()))
+    }
+}
+
+static AGREED: [Agreed; 2] = [
+    Agreed(&TWO_CLOCKS, "agreed 2\n"),
+    Agreed(&TWO_POINTERS, "agreed 6\n"),
+];
 
 #[test]
-fn viewers_agree_on_what_a_run_prints(rt: HostRuntime) -> Result<(), Fail> {
-    agree_as_run(&rt, rt.alloc(), CLOCKS)?;
-    agree_as_run(&rt, rt.alloc(), COUNTERS)
-}
-
-#[test]
-fn turns_are_used_up(rt: HostRuntime) -> Result<(), Fail> {
-    let bytes = joined(rt.alloc(), STEPS, CLOCKS)?;
-    let mut job = joint_job(rt.alloc(), bytes.as_slice(), &ORDER, 2)?;
-    let answer = agreed(&rt, rt.alloc(), &mut job, 2);
-    assert!(rt; answer.err() == Some(ShareFault::TurnsUsedUp));
-    Ok(())
+fn viewers_agree_on_what_a_run_prints(rt: HostRuntime) {
+    all_hold(&rt, rt.alloc(), &AGREED);
 }

@@ -1,9 +1,9 @@
 //! A cable in memory, between a host and two viewers.
 
-ghost use Rattle.std.specs.Prelude.{◌≡◌, ◌≤◌, Some, length};
+ghost use Rattle.std.specs.Prelude.{◌≡◌, ◌≤◌, length};
 ghost use Rattle.share_port.specs.Told.{one_more};
 
-use share_port::{Bytes, Datagram, FakePort, Port, PortFault, Traffic};
+use share_port::{Bytes, Datagram, Port, PortFault};
 use std::alloc::{AllocError, Global};
 use std::cell::RefCell;
 use std::collections::VecDeque;
@@ -17,7 +17,8 @@ pub(super) const HOST: u16 = 0;
 pub(super) struct Cable {
     lossy: bool,
     fails_at: u64,
-    calls: u64,
+    /// How many sends and receives there were at all ends.
+    pub(super) calls: u64,
     sent: u64,
     waiting: [VecDeque<Datagram>; 3],
 }
@@ -38,14 +39,6 @@ pub(super) fn laid(alloc: Global, lossy: bool, fails_at: u64) -> RefCell<Cable> 
     })
 }
 
-/// How many sends and receives there were at all ends of a cable.
-pub(super) fn calls(cable: &RefCell<Cable>) -> u64 {
-    match cable.try_borrow() {
-        Ok(cable) => cable.calls,
-        Err(_) => 0,
-    }
-}
-
 impl Cable {
     /// Counts a call, and says whether it fails.
     fn fails(&mut self) -> bool {
@@ -53,52 +46,30 @@ impl Cable {
         self.calls == self.fails_at
     }
 
-    fn next(&mut self, to: u16) -> Option<Datagram> {
+    /// What comes first to an address.
+    fn next(&mut self, to: u16) -> Result<Option<Datagram>, PortFault> {
+        if self.fails() {
+            return Err(PortFault);
+        }
         match self.waiting.get_mut(usize::from(to)) {
-            Some(waiting) => waiting.pop_front(),
-            None => None,
+            Some(waiting) => Ok(waiting.pop_front()),
+            None => Ok(None),
         }
     }
 
-    /// Brings a datagram to an address, if it is one of the three.
-    fn bring(&mut self, to: u16, datagram: Datagram) -> Result<(), AllocError> {
-        match self.waiting.get_mut(usize::from(to)) {
-            Some(waiting) => Ok(waiting.push_back(datagram)?),
-            None => Ok(()),
-        }
-    }
-
-    /// The same, but before the datagram that came last, if that still waits.
-    fn bring_before(&mut self, to: u16, datagram: Datagram) -> Result<(), AllocError> {
-        match self.waiting.get_mut(usize::from(to)) {
-            Some(waiting) => push_before(waiting, datagram),
-            None => Ok(()),
-        }
-    }
-
-    fn bring_on(&mut self, to: u16, from: u16, bytes: &[u8]) -> Result<(), AllocError>
+    /// Sends to an address. A datagram for which there is no room is lost.
+    fn post(&mut self, to: u16, from: u16, bytes: &[u8]) -> Result<(), PortFault>
         requires { length bytes.now ≤ 257 }
     {
-        if self.sent % 7 == 0 {
-            self.bring(to, datagram(from, bytes))?;
-        }
-        if self.sent % 3 == 0 {
-            return self.bring_before(to, datagram(from, bytes));
-        }
-        self.bring(to, datagram(from, bytes))
-    }
-
-    fn post(&mut self, to: u16, from: u16, bytes: &[u8]) -> Result<(), AllocError>
-        requires { length bytes.now ≤ 257 }
-    {
-        if !self.lossy {
-            return self.bring(to, datagram(from, bytes));
+        if self.fails() {
+            return Err(PortFault);
         }
         self.sent = self.sent.saturating_add(1);
-        if self.sent % 5 == 0 {
-            return Ok(());
+        let number = if self.lossy { self.sent } else { 1 };
+        if let Some(waiting) = self.waiting.get_mut(usize::from(to)) {
+            let _room = bring(waiting, number, from, bytes);
         }
-        self.bring_on(to, from, bytes)
+        Ok(())
     }
 }
 
@@ -111,43 +82,43 @@ fn datagram(from: u16, bytes: &[u8]) -> Datagram
     }
 }
 
-fn push_before(waiting: &mut VecDeque<Datagram>, datagram: Datagram) -> Result<(), AllocError> {
-    let Some(last) = waiting.pop_back() else {
-        return Ok(waiting.push_back(datagram)?);
-    };
-    waiting.push_back(datagram)?;
-    Ok(waiting.push_back(last)?)
-}
-
-fn fails(cable: &RefCell<Cable>) -> bool {
-    match cable.try_borrow_mut() {
-        Ok(mut cable) => cable.fails(),
-        Err(_) => true,
-    }
-}
-
-fn next(cable: &RefCell<Cable>, to: u16) -> Option<Datagram> {
-    match cable.try_borrow_mut() {
-        Ok(mut cable) => cable.next(to),
-        Err(_) => None,
-    }
-}
-
-/// A datagram for which there is no room is lost.
-fn post(cable: &RefCell<Cable>, to: u16, from: u16, bytes: &[u8])
+/// Brings the datagram of that number, as a lossy cable does.
+fn bring(
+    waiting: &mut VecDeque<Datagram>,
+    number: u64,
+    from: u16,
+    bytes: &[u8],
+) -> Result<(), AllocError>
     requires { length bytes.now ≤ 257 }
 {
-    if let Ok(mut cable) = cable.try_borrow_mut() {
-        let _room = cable.post(to, from, bytes);
+    if number % 5 == 0 {
+        return Ok(());
     }
+    if number % 7 == 0 {
+        waiting.push_back(datagram(from, bytes))?;
+    }
+    waiting.push_back(datagram(from, bytes))?;
+    let count = waiting.len();
+    if number % 3 == 0 && count >= 2 {
+        waiting.swap(count - 2, count - 1);
+    }
+    Ok(())
 }
 
-/// An end of a cable, which tells what it sent and received.
+/// Copies a datagram's bytes to the front, and says who sent it and how many they are.
+fn unpacked(datagram: &Datagram, into: &mut [u8; 257]) -> (u16, usize)
+    ensures { result.1 ≤ 257 }
+{
+    let bytes = datagram.bytes.as_slice();
+    into[..bytes.len()].copy_from_slice(bytes);
+    (datagram.peer, bytes.len())
+}
+
+/// An end of a cable. It tells none of its datagrams.
 #[derive(Drop)]
 pub(super) struct End<'a> {
     cable: &'a RefCell<Cable>,
     address: u16,
-    port: FakePort,
     failed: u64,
 }
 
@@ -155,33 +126,16 @@ impl<'a> End<'a> {
     ghost use Rattle.std.specs.Prelude.{◌≡◌};
     ghost use Rattle.share_port.specs.Told.{one_more};
 
-    pub(super) fn new(alloc: Global, cable: &'a RefCell<Cable>, address: u16) -> End<'a> {
+    pub(super) fn new(cable: &'a RefCell<Cable>, address: u16) -> End<'a> {
         End {
             cable,
             address,
-            port: FakePort::failing_at(alloc, 0),
             failed: 0,
         }
     }
 
-    /// What it sent and received, and each receive for which nothing came, in order.
-    pub(super) fn traffic(&self) -> &[Traffic] {
-        self.port.traffic()
-    }
-
-    /// The next datagram for it, if one came, is at its port.
-    fn fetch(&mut self)
-        ensures told { self.new.port.passed ≡ self.old.port.passed }
-        ensures failed { self.new.failed ≡ self.old.failed }
-    {
-        if let Some(datagram) = next(self.cable, self.address) {
-            let _room = self.port.deliver(datagram);
-        }
-    }
-
     fn fail(&mut self) -> PortFault
-        ensures told { self.new.port ≡ self.old.port }
-        ensures failed { self.new.failed ≡ one_more self.old.failed }
+        ensures { self.new.failed ≡ one_more self.old.failed }
     {
         self.failed = self.failed.saturating_add(1);
         PortFault
@@ -189,30 +143,31 @@ impl<'a> End<'a> {
 }
 
 impl<'a> Port for End<'a> {
-    ghost told = { λ p. Some p.port.passed.items };
-
     ghost failure_count = { λ p. p.failed };
 
     fn send(&mut self, to: u16, bytes: &[u8]) -> Result<(), PortFault> {
-        if fails(self.cable) {
-            return Err(self.fail());
-        }
-        match self.port.send(to, bytes) {
-            Ok(()) => {
-                post(self.cable, to, self.address, bytes);
-                Ok(())
-            }
+        let posted = match self.cable.try_borrow_mut() {
+            Ok(mut cable) => cable.post(to, self.address, bytes),
+            Err(_) => Err(PortFault),
+        };
+        match posted {
+            Ok(()) => Ok(()),
             Err(_) => Err(self.fail()),
         }
     }
 
     fn receive(&mut self, into: &mut [u8; 257]) -> Result<Option<(u16, usize)>, PortFault> {
-        if fails(self.cable) {
-            return Err(self.fail());
-        }
-        self.fetch();
-        match self.port.receive(into) {
-            Ok(came) => Ok(came),
+        let came = match self.cable.try_borrow_mut() {
+            Ok(mut cable) => cable.next(self.address),
+            Err(_) => Err(PortFault),
+        };
+        match came {
+            Ok(Some(datagram)) => {
+                let came = unpacked(&datagram, into);
+                drop(datagram);
+                Ok(Some(came))
+            }
+            Ok(None) => Ok(None),
             Err(_) => Err(self.fail()),
         }
     }
@@ -220,9 +175,4 @@ impl<'a> Port for End<'a> {
     fn failures(&self) -> u64 {
         self.failed
     }
-}
-
-/// The ends of viewers 0 and 1.
-pub(super) fn ends<'a>(alloc: Global, cable: &'a RefCell<Cable>) -> [End<'a>; 2] {
-    [End::new(alloc, cable, 1), End::new(alloc, cable, 2)]
 }

@@ -1,254 +1,251 @@
-//! A host and two viewers whose runs take turns over a cable, where datagrams may be lost, come
-//! twice or late: each viewer comes to what `run` prints.
+//! A host and two viewers that take turns, one of them perhaps by its command: each viewer comes to
+//! what `run` prints.
 
-use super::cable::{End, HOST, laid};
-use super::given::{CLOCKS, joined, push_run};
-use super::worked::{ORDER, POINTERS, SCENE_X, TWO_CLOCKS};
-use script_boxes::StockScript;
-use share_commands::{JointJob, joint_job};
-use share_core::{Host, Viewer};
-use share_port::Port;
-use share_turns::{SeriesFault, host_run, view_run};
-use std::alloc::Global;
+ghost use Rattle.std.specs.Prelude.{◌≤◌};
+
+use super::cable::{Cable, End, HOST, laid};
+use super::given::{Job, ONE_POINTER, ORDER, TEN_CLOCKS, TWO_CLOCKS, TWO_POINTERS, joined, run_of};
+use super::{Row, all_hold};
+use share_commands::{JointJob, host_job, joint_job, seated_job, shared_job, view_job};
+use share_core::Host;
+use share_port::{Port, PortFault};
+use share_turns::{host_run, view_run};
+use share_words::Order;
+use std::alloc::{AllocError, Global};
+use std::cell::RefCell;
 use std::process::Abort;
-use std::test::Fail;
-use x3d_values::{Point, Vec3};
 
 /// More turns than it takes.
-const TURNS: usize = 100;
+const TURNS: u32 = 100;
 
-/// What the nodes of a job do: the host's clocks, in microseconds, what the viewers point, and how
-/// many inputs that makes.
-pub(super) struct Steps {
-    pub(super) clocks: &'static [i64],
-    pub(super) first: &'static [Point],
-    pub(super) second: &'static [Point],
-    pub(super) inputs: u32,
-}
+/// The addresses of the viewers, and one of no node.
+const FIRST: u16 = HOST + 1;
 
-const ORIGIN: Vec3 = Vec3 {
-    x: 10_000_000,
-    y: 0,
-    z: 20_000_000,
-};
+const SECOND: u16 = HOST + 2;
 
-const TOWARDS: Vec3 = Vec3 {
-    x: 0,
-    y: 0,
-    z: -1_000_000,
-};
-
-const AWAY: Vec3 = Vec3 {
-    x: 0,
-    y: 0,
-    z: 1_000_000,
-};
-
-/// At the box, pressed there, and away from it.
-const POINTS: [Point; 3] = [
-    Point {
-        down: false,
-        origin: ORIGIN,
-        dir: TOWARDS,
-    },
-    Point {
-        down: true,
-        origin: ORIGIN,
-        dir: TOWARDS,
-    },
-    Point {
-        down: false,
-        origin: ORIGIN,
-        dir: AWAY,
-    },
-];
-
-pub(super) const CLOCKED: Steps = Steps {
-    clocks: &[1_000_000, 2_000_000],
-    first: &[],
-    second: &[],
-    inputs: 2,
-};
-
-const CLOCKED_LONG: Steps = Steps {
-    clocks: &[
-        1_000_000, 2_000_000, 3_000_000, 4_000_000, 5_000_000, 6_000_000, 7_000_000, 8_000_000,
-        9_000_000, 10_000_000,
-    ],
-    first: &[],
-    second: &[],
-    inputs: 10,
-};
-
-/// The steps of `CLOCKED_LONG`.
-const LONG: &str = "clock 1
-clock 2
-clock 3
-clock 4
-clock 5
-clock 6
-clock 7
-clock 8
-clock 9
-clock 10
-";
-
-const POINTED: Steps = Steps {
-    clocks: &[],
-    first: &POINTS,
-    second: &POINTS,
-    inputs: 6,
-};
-
-pub(super) const POINTED_ALONE: Steps = Steps {
-    clocks: &[],
-    first: &POINTS,
-    second: &[],
-    inputs: 3,
-};
-
-/// The steps of `POINTED_ALONE`.
-pub(super) const ALONE: &str = "point 0 0 10 0 20 0 0 -1
-point 0 1 10 0 20 0 0 -1
-point 0 0 10 0 20 0 0 1
-";
-
-/// What viewers 0 and 1 print.
-#[derive(Drop)]
-pub(super) struct Texts {
-    pub(super) first: Vec<u8>,
-    pub(super) second: Vec<u8>,
-}
+const NOBODY: u16 = HOST + 3;
 
 /// What is left of these after so many turns.
-pub(super) fn after<T>(items: &[T], turns: usize) -> &[T] {
+fn after<T>(items: &[T], turns: usize) -> &[T] {
     items.split_at(turns.min(items.len())).1
 }
 
-/// The next turn of a viewer's run, unless it came to its end.
-fn view_on<P: Port>(
-    viewer: &mut Viewer<StockScript>,
-    points: &[Point],
-    until: u32,
-    port: &mut P,
-    out: &mut Vec<u8>,
-) -> Result<(), SeriesFault> {
-    if !out.is_empty() {
-        return Ok(());
-    }
-    match view_run(viewer, points, until, 1, HOST, port, out) {
-        Err(SeriesFault::TurnsUsedUp) => Ok(()),
-        answer => answer,
-    }
-}
-
-/// The next turn of the runs of both viewers.
-pub(super) fn views_on<P: Port>(
-    viewers: &mut [Viewer<StockScript>],
-    steps: &Steps,
+/// A host and the viewers of a job, at the ends of a cable, and what viewers print.
+#[derive(Drop)]
+struct Nodes<'a> {
+    cable: &'a RefCell<Cable>,
+    job: &'static Job,
+    host: Host,
+    joint: JointJob,
     turn: usize,
-    first_port: &mut P,
-    second_port: &mut P,
-    texts: &mut Texts,
-) -> Result<(), SeriesFault> {
-    let [first, second] = viewers else {
-        return Ok(());
-    };
-    view_on(
-        first,
-        after(steps.first, turn),
-        steps.inputs,
-        first_port,
-        &mut texts.first,
-    )?;
-    view_on(
-        second,
-        after(steps.second, turn),
-        steps.inputs,
-        second_port,
-        &mut texts.second,
-    )
+    printed: Vec<u8>,
 }
 
-/// The runs of a host and two viewers, turn for turn.
-fn share(
-    alloc: Global,
-    job: &mut JointJob,
-    steps: &Steps,
-    lossy: bool,
-    texts: &mut Texts,
-) -> Result<(), SeriesFault> {
-    let mut host = Host::new(alloc, job.mark, 2);
-    let cable = laid(alloc, lossy, 0);
-    let mut port = End::new(alloc, &cable, HOST);
-    let mut first = End::new(alloc, &cable, 1);
-    let mut second = End::new(alloc, &cable, 2);
-    for turn in 0..TURNS {
-        host_run(&mut host, after(steps.clocks, turn), 1, &mut port)?;
-        views_on(
-            &mut job.viewers,
-            steps,
-            turn,
-            &mut first,
-            &mut second,
-            texts,
-        )?;
+impl<'a> Nodes<'a> {
+    /// The next turn of the host.
+    fn host_on(&mut self) {
+        let clocks = after(self.job.clocks, self.turn);
+        let mut port = End::new(self.cable, HOST);
+        let _ended = host_run(&mut self.host, clocks, 1, &mut port);
     }
-    Ok(())
+
+    /// The next turn of a viewer, unless it came to its end.
+    fn view_on(&mut self, who: u8) {
+        let Some(points) = self.job.points.get(usize::from(who)) else {
+            return;
+        };
+        let Some(viewer) = self.joint.viewers.get_mut(usize::from(who)) else {
+            return;
+        };
+        let until = self.job.inputs;
+        if viewer.applied() < until {
+            let points = after(points, self.turn);
+            let mut port = End::new(self.cable, FIRST + u16::from(who));
+            let _ended = view_run(viewer, points, until, 1, HOST, &mut port, &mut self.printed);
+        }
+    }
+
+    /// The next turn of each that isn't at this address. What ends a turn early shows in what is
+    /// printed.
+    fn take_turns(&mut self, away: u16) {
+        if away != HOST {
+            self.host_on();
+        }
+        for who in 0..2 {
+            if away != FIRST + u16::from(who) {
+                self.view_on(who);
+            }
+        }
+        self.turn = self.turn.saturating_add(1);
+    }
 }
 
-fn push_shared(
-    alloc: Global,
-    bytes: &[u8],
-    steps: &Steps,
-    lossy: bool,
-    texts: &mut Texts,
-) -> Result<(), Fail> {
-    let mut job = joint_job(alloc, bytes, &ORDER, 2)?;
-    share(alloc, &mut job, steps, lossy, texts)?;
-    Ok(())
+/// The end of one node, before whose receives the others take a turn.
+#[derive(Drop)]
+struct Between<'a> {
+    address: u16,
+    end: End<'a>,
+    others: Nodes<'a>,
 }
 
-/// Each viewer comes to what `run` prints.
-fn come_to_run(
-    rt: &impl Abort,
-    alloc: Global,
-    bytes: &[u8],
-    steps: &Steps,
-    lossy: bool,
-) -> Result<(), Fail> {
-    let mut texts = Texts {
-        first: Vec::new(alloc),
-        second: Vec::new(alloc),
+impl<'a> Port for Between<'a> {
+    ghost failure_count = { λ p. p.end.failed };
+
+    fn send(&mut self, to: u16, bytes: &[u8]) -> Result<(), PortFault> {
+        self.end.send(to, bytes)
+    }
+
+    fn receive(&mut self, into: &mut [u8; 257]) -> Result<Option<(u16, usize)>, PortFault> {
+        self.others.take_turns(self.address);
+        self.end.receive(into)
+    }
+
+    fn failures(&self) -> u64 {
+        self.end.failures()
+    }
+}
+
+/// Whether the host comes to its end by its command, with a job's bytes.
+fn hosts(alloc: Global, bytes: &[u8], port: &mut Between<'_>) -> bool {
+    let order = Order::Host {
+        port: HOST,
+        viewers: 2,
+        turns: TURNS,
     };
-    push_shared(alloc, bytes, steps, lossy, &mut texts)?;
-    let mut run = Vec::new(alloc);
-    push_run(alloc, bytes, &mut run)?;
-    assert!(rt; !run.is_empty());
-    assert!(rt; texts.first == run && texts.second == run);
-    Ok(())
+    let Ok(job) = shared_job(alloc, bytes, &order) else {
+        return false;
+    };
+    let answer = host_job(alloc, &job, 2, TURNS, port);
+    drop(job);
+    answer == Ok(())
 }
 
-#[test]
-fn clocks_come_to_a_run(rt: HostRuntime) -> Result<(), Fail> {
-    let bytes = joined(rt.alloc(), TWO_CLOCKS, CLOCKS)?;
-    come_to_run(&rt, rt.alloc(), bytes.as_slice(), &CLOCKED, false)
+/// Whether a viewer comes to its end by its command, with a job's bytes.
+fn views(alloc: Global, bytes: &[u8], who: u8, port: &mut Between<'_>) -> bool
+    requires { who ≤ 15 }
+{
+    let until = port.others.job.inputs;
+    let order = Order::View {
+        port: HOST,
+        who,
+        boot: 1,
+        until,
+        turns: TURNS,
+    };
+    let Ok(mut seat) = seated_job(alloc, bytes, &order, who, 1) else {
+        return false;
+    };
+    let answer = view_job(alloc, &mut seat, HOST, until, TURNS, port);
+    drop(seat);
+    match answer {
+        Ok(text) => port
+            .others
+            .printed
+            .extend_from_slice(text.as_slice())
+            .is_ok(),
+        Err(_) => false,
+    }
 }
 
-#[test]
-fn clocks_come_to_a_run_over_a_bad_cable(rt: HostRuntime) -> Result<(), Fail> {
-    let bytes = joined(rt.alloc(), LONG, CLOCKS)?;
-    come_to_run(&rt, rt.alloc(), bytes.as_slice(), &CLOCKED_LONG, true)
+/// The nodes of a job over a cable that is lossy or not, and the address of the one that does its
+/// work by its command, which begins when the others have taken so many turns.
+struct Turns(&'static Job, bool, u16, u32);
+
+impl Turns {
+    /// Whether that node comes to its end, if there is one.
+    fn ends(&self, alloc: Global, port: &mut Between<'_>) -> bool {
+        let Some(steps) = self.0.parts.get(usize::from(self.2)) else {
+            return true;
+        };
+        let Ok(bytes) = joined(alloc, steps, self.0.scene) else {
+            return false;
+        };
+        match self.2 {
+            HOST => hosts(alloc, bytes.as_slice(), port),
+            FIRST => views(alloc, bytes.as_slice(), 0, port),
+            _ => views(alloc, bytes.as_slice(), 1, port),
+        }
+    }
+
+    /// The same, while the others begin before it and go on behind it.
+    fn ends_between(&self, alloc: Global, port: &mut Between<'_>) -> bool {
+        for _turn in 0..self.3 {
+            port.others.take_turns(self.2);
+        }
+        let ended = self.ends(alloc, port);
+        for _turn in 0..TURNS {
+            port.others.take_turns(self.2);
+        }
+        ended
+    }
+
+    /// Whether both viewers print that.
+    fn print(&self, alloc: Global, cable: &RefCell<Cable>, bytes: &[u8], wanted: &[u8]) -> bool {
+        let Ok(joint) = joint_job(alloc, bytes, &ORDER, 2) else {
+            return false;
+        };
+        let mut port = Between {
+            address: self.2,
+            end: End::new(cable, self.2),
+            others: Nodes {
+                cable,
+                job: self.0,
+                host: Host::new(alloc, joint.mark, 2),
+                joint,
+                turn: 0,
+                printed: Vec::new(alloc),
+            },
+        };
+        let ended = self.ends_between(alloc, &mut port);
+        let printed = port.others.printed.strip_prefix(wanted) == Some(wanted);
+        drop(port);
+        ended && printed
+    }
 }
 
-#[test]
-fn points_come_to_a_run(rt: HostRuntime) -> Result<(), Fail> {
-    let bytes = joined(rt.alloc(), POINTERS, SCENE_X)?;
-    come_to_run(&rt, rt.alloc(), bytes.as_slice(), &POINTED, false)
+impl Row for Turns {
+    fn holds(&self, alloc: Global) -> Result<bool, AllocError> {
+        let bytes = joined(alloc, self.0.steps, self.0.scene)?;
+        let wanted = run_of(alloc, "", bytes.as_slice())?;
+        let cable = laid(alloc, self.1, 0);
+        let held = self.print(alloc, &cable, bytes.as_slice(), wanted.as_slice());
+        drop(cable);
+        Ok(held)
+    }
 }
 
+const CLEAN: bool = false;
+
+const LOSSY: bool = true;
+
+static TURN_FOR_TURN: [Turns; 4] = [
+    Turns(&TWO_CLOCKS, CLEAN, NOBODY, 0),
+    Turns(&TWO_POINTERS, CLEAN, NOBODY, 0),
+    Turns(&TEN_CLOCKS, LOSSY, NOBODY, 0),
+    Turns(&ONE_POINTER, LOSSY, NOBODY, 0),
+];
+
 #[test]
-fn points_come_to_a_run_over_a_bad_cable(rt: HostRuntime) -> Result<(), Fail> {
-    let bytes = joined(rt.alloc(), ALONE, SCENE_X)?;
-    come_to_run(&rt, rt.alloc(), bytes.as_slice(), &POINTED_ALONE, true)
+fn nodes_come_to_a_run(rt: HostRuntime) {
+    all_hold(&rt, rt.alloc(), &TURN_FOR_TURN);
+}
+
+static BY_COMMAND: [Turns; 12] = [
+    Turns(&TWO_CLOCKS, CLEAN, HOST, 0),
+    Turns(&TWO_CLOCKS, CLEAN, FIRST, 0),
+    Turns(&TWO_CLOCKS, CLEAN, SECOND, TURNS),
+    Turns(&ONE_POINTER, CLEAN, HOST, 0),
+    Turns(&ONE_POINTER, CLEAN, FIRST, 0),
+    Turns(&ONE_POINTER, CLEAN, SECOND, TURNS),
+    Turns(&TEN_CLOCKS, LOSSY, HOST, 0),
+    Turns(&TEN_CLOCKS, LOSSY, FIRST, 0),
+    Turns(&TEN_CLOCKS, LOSSY, SECOND, TURNS),
+    Turns(&ONE_POINTER, LOSSY, HOST, 0),
+    Turns(&ONE_POINTER, LOSSY, FIRST, 0),
+    Turns(&ONE_POINTER, LOSSY, SECOND, TURNS),
+];
+
+#[test]
+fn commands_come_to_their_ends(rt: HostRuntime) {
+    all_hold(&rt, rt.alloc(), &BY_COMMAND);
 }
