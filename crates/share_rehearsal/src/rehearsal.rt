@@ -37,7 +37,11 @@ pub fn viewers_of<B: Behaviour>(
     let mut viewers = Vec::new(alloc);
     for stage in stages {
         let number = viewers.len() as u8;
-        viewers.push(Viewer::start(stage, mark, number, 1))?;
+        // What the exit lets go is dropped by a call, and not in place.
+        let Ok(()) = viewers.push(Viewer::start(stage, mark, number, 1)) else {
+            drop(viewers);
+            return Err(AllocError);
+        };
     }
     Ok(viewers)
 }
@@ -71,9 +75,11 @@ fn ended<B: Behaviour>(nodes: Nodes<B>) -> Rehearsal<B>
     let Nodes {
         host,
         viewers,
-        packets: _,
-        shots: _,
+        packets,
+        shots,
     } = nodes;
+    drop(packets);
+    drop(shots);
     Rehearsal { host, viewers }
 }
 
@@ -126,14 +132,20 @@ pub fn rehearse<B: Behaviour>(
     ensures rehearsed { IfOk result (λ r. IsRehearsed mark stages.items steps.now out.old.items
         out.new.items r.host r.viewers.items) }
 {
+    // Each exit drops by calls: a drop in place is proved anew at each.
     let count = stages.len();
     if count == 0 {
+        drop(stages);
         return Err(RehearseFault::NoViewers);
     }
     if count > MOST {
+        drop(stages);
         return Err(RehearseFault::TooManyViewers);
     }
     let mut nodes = begun(alloc, stages, mark)?;
-    log_all(alloc, &mut nodes, steps, out)?;
+    let Ok(()) = log_all(alloc, &mut nodes, steps, out) else {
+        drop(nodes);
+        return Err(RehearseFault::Memory);
+    };
     Ok(ended(nodes))
 }

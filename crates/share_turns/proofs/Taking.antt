@@ -1,18 +1,21 @@
 -- What a viewer takes in a turn, datagram by datagram.
-use Rattle.std.proofs.Common.{◌≡◌, ℕ, ◌+◌, ◌≤◌, List, [], ◌∷◌, ◌++◌, length, length-append, refl, ap, ◌∙◌, arith, append-nil, subst, inl, inr}
+use Rattle.std.proofs.Common.{◌≡◌, ℕ, ◌+◌, ◌≤◌, List, [], ◌∷◌, ◌++◌, length, length-append, refl, ap, sym, ◌∙◌, arith, append-nil, subst, inl, inr}
 use Rattle.std.specs.Prelude.{Bool, true, false, Option, Result, Err, IfOk, is_ok}
 use Rattle.x3d_values.specs.declared.pointing.Point.{Point}
+use Rattle.std.proofs.lemmas.Bool.{false≢true}
 use Rattle.std.proofs.lemmas.List.{map-append}
 use Rattle.cascade_core.specs.Course.{Scripted}
 use Rattle.share_law.specs.Machine.{Machine}
 use Rattle.share_law.specs.Viewer.{View, Running, Spoiled, ViewerState}
-use Rattle.share_core.specs.Viewer.{IfRunning, ViewerView, machine_of, with_state}
+use Rattle.share_core.specs.Viewer.{IfRunning, IfSpoiled, ViewerView, is_spoiled, machine_of, with_state}
 use Rattle.share_port.specs.declared.traffic.Datagram.{Datagram}
 use Rattle.share_port.specs.declared.traffic.Traffic.{Traffic}
 use Rattle.share_port.specs.declared.traffic.Traffic.TheVariants.{Received}
 use Rattle.share_port.specs.Told.{Grows}
 use Rattle.share_turns.specs.declared.fault.TurnFault.{TurnFault}
+use Rattle.share_turns.specs.declared.fault.TurnFault.TheVariants as turn_fault
 use Rattle.share_turns.specs.Exchanges.{AreSent, IsEnd, sent_to}
+use Rattle.share_turns.specs.HostTurn.{failures_after}
 use Rattle.share_turns.specs.ViewerTurn.{AreTaken, IsOffered, IsTaking, IsViewerTurn, Takes, received, requests}
 use Rattle.share_turns.proofs.Sending.{grows_none, grows_then}
 
@@ -109,3 +112,21 @@ turn_sent v begun taken host point offered a b c result same offers then takes s
 pub while_running : (view : View Scripted) (P : Type 0) → P → IfRunning view (λ w. P)
 while_running (Running w window) P p = p
 while_running (Spoiled count) P p = tt
+
+pub while_spoiled : (view : View Scripted) (P : Type 0) → P → IfSpoiled view P
+while_spoiled (Running w window) P p = tt
+while_spoiled (Spoiled count) P p = p
+
+pub unless_spoiled : (view : View Scripted) (P : Type 0) → is_spoiled view ≡ false → IfSpoiled view P
+unless_spoiled (Running w window) P e = tt
+unless_spoiled (Spoiled count) P e = absurd (false≢true (sym e))
+
+pub unless_running : (view : View Scripted) (P : Scripted → Type 0) → is_spoiled view ≡ true → IfRunning view P
+unless_running (Running w window) P e = absurd (false≢true e)
+unless_running (Spoiled count) P e = tt
+
+-- whatever a turn that ended early was to answer
+pub failures_kept : (fault : TurnFault) (n m : ℕ) → m ≡ failures_after {A = Unit {0}} (Err fault) n → m ≡ failures_after {A = Bool} (Err fault) n
+failures_kept turn_fault.Port n m e = e
+failures_kept turn_fault.Spoiled n m e = e
+failures_kept turn_fault.Memory n m e = e

@@ -13,4 +13,4 @@ returns-clause-rehearsed g c =
     let most : length stages ≤ 16 = grind (arith, c.len-count.ensures, c.if-count-gt-MOST.false) in
     is-rehearsed c.args.mark stages c.args.steps.now c.args.out.now.items c.log_all.new.out.items
     (seen_of begun.host begun.viewers.items begun.packets.items begun.shots.items) (seen_of left.host left.viewers.items left.packets.items left.shots.items)
-    c.ended.result.host c.ended.result.viewers.items some most c.in_ok-nodes.ensures c.in_ok-log_all.ensures.ok c.ended.ensures.host c.ended.ensures.viewers
+    c.ended.result.host c.ended.result.viewers.items some most c.in_ok-nodes.ensures c.in-Ok.ensures.ok c.ended.ensures.host c.ended.ensures.viewers

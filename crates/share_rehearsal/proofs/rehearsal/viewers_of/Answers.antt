@@ -18,7 +18,7 @@ loop-stage-preserved g c =
     let all : before ++ viewers_from c.args.mark (length before) (stage ∷ rest) ≡ viewers_from c.args.mark 0 c.args.stages.items =
     subst (λ (xs : List StageView). before ++ viewers_from c.args.mark (length before) xs ≡ viewers_from c.args.mark 0 c.args.stages.items) step c.loop-stage.invariant.0 in
     let number : c.len-number.result ≡ length before = c.len-number.ensures ∙ c.loop-stage.viewers.ok.0 in
-    let made : c.push.new.self.items ≡ before ++ seat_of c.args.mark (length before) stage ∷ [] = c.in_ok-push.ensures.items ∙ ap (λ (x : ViewerView). before ++ x ∷ [])
+    let made : c.push.new.self.items ≡ before ++ seat_of c.args.mark (length before) stage ∷ [] = c.in-Ok.ensures.items ∙ ap (λ (x : ViewerView). before ++ x ∷ [])
     (c.start.ensures ∙ ap (λ (n : ℕ). seat_of c.args.mark n stage) number) in (
       seated c.args.mark before stage rest c.args.stages.items c.push.new.self.items made all,
       fresh.1,

@@ -1,4 +1,4 @@
-use Rattle.std.proofs.Common.{rules, ◌≡◌, [], ◌∷◌, take, refl, inl, inr, ◌∙◌, arith}
+use Rattle.std.proofs.Common.{rules, ◌≡◌, [], ◌∷◌, take, refl, inl, ◌∙◌, arith}
 use Rattle.std.specs.Prelude.{Ok, Err}
 use Rattle.share_port.specs.declared.traffic.Datagram.{Datagram}
 use Rattle.share_port.specs.declared.traffic.Traffic.TheVariants.{Nothing}

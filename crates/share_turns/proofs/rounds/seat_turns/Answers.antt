@@ -1,4 +1,4 @@
-use Rattle.std.proofs.Common.{rules, ◌≡◌, ◌≤◌, length, arith}
+use Rattle.std.proofs.Common.{rules}
 use Rattle.share_turns.specs.Agreeing.{Seats, Ways}
 use Rattle.share_turns.proofs.Meeting.{one_more_seat}
 use Rattle.share_turns.proofs.rounds.seat_turns.Goals as goal
