@@ -55,7 +55,14 @@ pub fn host_job<P: Port>(
     };
     let mut host = Host::new(alloc, job.mark, viewers);
     match host_run(&mut host, times.as_slice(), turns, port) {
-        Ok(()) => Ok(()),
-        Err(fault) => Err(share_fault(fault)),
+        // A host is dropped by a call: left to the exits, its drop is proved once for each of them.
+        Ok(()) => {
+            drop(host);
+            Ok(())
+        }
+        Err(fault) => {
+            drop(host);
+            Err(share_fault(fault))
+        }
     }
 }

@@ -44,6 +44,12 @@ pub fn shared_job(alloc: Global, bytes: &[u8], order: &Order) -> Result<SharedJo
     ensures { Gives Memory (λ j. j) result (fitting order.now bytes.now) }
 {
     let job = shared(alloc, bytes)?;
-    job_fits(&job.inputs, order)?;
-    Ok(job)
+    match job_fits(&job.inputs, order) {
+        Ok(()) => Ok(job),
+        // A job is dropped by a call: left to an exit, its drop is proved in place.
+        Err(fault) => {
+            drop(job);
+            Err(fault)
+        }
+    }
 }

@@ -58,7 +58,11 @@ fn staged_job(
 {
     let steps = job_of(alloc, bytes)?;
     let opened = open_scene(alloc, steps.scene)?;
-    job_fits(&steps.inputs, order)?;
+    if let Err(fault) = job_fits(&steps.inputs, order) {
+        // A scene is dropped by a call: left to an exit, its drop is proved in place.
+        drop(opened);
+        return Err(fault);
+    }
     let first = fresh_stage(alloc, opened)?;
     let stages = with_others(alloc, steps.scene, first, viewers)?;
     Ok(StagedJob {
@@ -163,7 +167,14 @@ pub fn agree_job<P: Port>(
         ports,
         &mut text,
     ) {
-        Ok(()) => Ok(text),
-        Err(fault) => Err(series_fault(fault)),
+        // A host is dropped by a call: left to the exits, its drop is proved once for each of them.
+        Ok(()) => {
+            drop(host);
+            Ok(text)
+        }
+        Err(fault) => {
+            drop(host);
+            Err(series_fault(fault))
+        }
     }
 }

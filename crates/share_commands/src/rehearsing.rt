@@ -30,7 +30,11 @@ fn log_of(
 {
     let mut log = Vec::new(alloc);
     match rehearse(alloc, stages, mark, steps, &mut log) {
-        Ok(_left) => Ok(log),
+        // What is left is dropped by a call: left to the exit, its drop is proved in place.
+        Ok(left) => {
+            drop(left);
+            Ok(log)
+        }
         Err(_refused) => Err(AllocError),
     }
 }

@@ -50,8 +50,14 @@ pub(crate) fn fresh_stage(alloc: Global, opened: Opened) -> Result<Stage<StockSc
     ensures taken { OnOk result (scripts_refusal opened.scene ≡ None) }
     ensures err { IfErr result (λ f. (f ≡ Memory) ⊎ (scripts_refusal opened.scene ≡ Some f)) }
 {
-    let scripts = scripts_of(alloc, &opened.scene)?;
-    Ok(loaded(alloc, opened, scripts)?)
+    match scripts_of(alloc, &opened.scene) {
+        Ok(scripts) => Ok(loaded(alloc, opened, scripts)?),
+        // A scene is dropped by a call: left to an exit, its drop is proved in place.
+        Err(fault) => {
+            drop(opened);
+            Err(fault)
+        }
+    }
 }
 
 /// A stage of a text's scene before any input.

@@ -91,7 +91,11 @@ fn seat_of(alloc: Global, job: SharedJob, who: u8, boot: u32) -> Result<Seat, Jo
     ensures taken { OnOk result (scripts_refusal job.scene ≡ None) }
     ensures err { IfErr result (λ f. (f ≡ Memory) ⊎ (scripts_refusal job.scene ≡ Some f)) }
 {
-    let points = points_of(alloc, job.inputs.as_slice())?;
+    let Ok(points) = points_of(alloc, job.inputs.as_slice()) else {
+        // A job is dropped by a call: left to an exit, its drop is proved in place.
+        drop(job);
+        return Err(JobFault::Memory);
+    };
     let viewer = viewer_of(alloc, job, who, boot)?;
     Ok(Seat { viewer, points })
 }

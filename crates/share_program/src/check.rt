@@ -1,8 +1,9 @@
 //! Whether a text is a scene that can be run.
 
-ghost use Rattle.std.specs.Prelude.{◌≡◌, ◌⊎◌, IfOk, IfErr, OnOk};
+ghost use Rattle.std.specs.Prelude.{◌≡◌, ◌⊎◌, [], IfOk, IfErr, OnOk};
 ghost use Rattle.share_program.specs.Checking.{IsOpened, IsNoScene, IsChecked, IsUnchecked, counts_text};
 ghost use Rattle.share_program.specs.Opening.{IsDeviceOrMemory};
+ghost use Rattle.share_program.specs.declared.open.Opened.{Opened as OpenedOf};
 
 use crate::open::{Opened, open_scene};
 use crate::stream::{read_whole, write_whole};
@@ -25,10 +26,24 @@ pub fn check_text<R: Read, W: Write>(
     ensures nothing { IfErr result (IsUnchecked (R.remaining reader.old) (R.remaining reader.new)
         (W.contents writer.old) (W.contents writer.new)) }
 {
-    let opened = read_scene(alloc, reader)?;
-    let line = counts_line(alloc, &opened)?;
+    let line = read_counts(alloc, reader)?;
     write_whole(writer, line.as_slice())?;
     Ok(())
+}
+
+/// The line that tells of the scene that a reader has left.
+fn read_counts<R: Read>(alloc: Global, reader: &mut R) -> Result<Vec<u8>, JobFault>
+    ensures line { IfOk result (λ v. (o : OpenedOf)
+        × IsOpened (R.remaining reader.old) (R.remaining reader.new) o
+        × (v.items ≡ counts_text o)) }
+    ensures refused { IfErr result (λ f. IsDeviceOrMemory f
+        ⊎ IsNoScene (R.remaining reader.old) (R.remaining reader.new) f) }
+{
+    let opened = read_scene(alloc, reader)?;
+    let line = counts_line(alloc, &opened);
+    // A scene is dropped by a call: left to the exits, its drop is proved once for each of them.
+    drop(opened);
+    Ok(line?)
 }
 
 /// The scene that a reader has left, with its routes.
@@ -42,16 +57,26 @@ fn read_scene<R: Read>(alloc: Global, reader: &mut R) -> Result<Opened, JobFault
 }
 
 /// The line that tells of a scene.
-#[tactic(auto, unfolding(crate::specs::Checking::counts_text))]
 fn counts_line(alloc: Global, opened: &Opened) -> Result<Vec<u8>, AllocError>
     ensures { IfOk result (λ v. v.items ≡ counts_text opened.now) }
 {
-    let mut digits = Buffer::new();
     let mut line = Vec::new(alloc);
+    write_counts(opened, &mut line)?;
+    Ok(line)
+}
+
+/// Writes that line into an empty buffer, which is lent: each exit of a function that owns it would
+/// have its drop proved.
+#[tactic(auto, unfolding(crate::specs::Checking::counts_text))]
+fn write_counts(opened: &Opened, line: &mut Vec<u8>) -> Result<(), AllocError>
+    requires { line.old.items ≡ [] }
+    ensures { OnOk result (line.new.items ≡ counts_text opened.now) }
+{
+    let mut digits = Buffer::new();
     line.extend_from_slice(b"good ")?;
     line.extend_from_slice(digits.format(opened.scene.node_count()).as_bytes())?;
     line.extend_from_slice(b" nodes ")?;
     line.extend_from_slice(digits.format(opened.routes.len()).as_bytes())?;
     line.extend_from_slice(b" routes\n")?;
-    Ok(line)
+    Ok(())
 }

@@ -2,6 +2,7 @@
 
 ghost use Rattle.std.specs.Prelude.{◌≡◌, ◌⊎◌, IfOk, IfErr, OnOk, List, ℕ};
 ghost use Rattle.classic_tree.specs.Writing.{document_text};
+ghost use Rattle.classic_tree.specs.declared.tree.Document.{Document as DocumentOf};
 ghost use Rattle.classic_text.specs.Spells.{Spells};
 ghost use Rattle.classic_round_trip.specs.AnyLength.{SpellsAtAnyLength};
 ghost use Rattle.share_program.specs.Formatting.{IsRead, IsNoText, IsFormatted, IsUnwritten};
@@ -29,10 +30,25 @@ pub fn format_text<R: Read, W: Write>(
     ensures nothing { IfErr result (IsUnwritten (R.remaining reader.old) (R.remaining reader.new)
         (W.contents writer.old) (W.contents writer.new)) }
 {
-    let document = read_document(alloc, reader)?;
-    let text = text_of(alloc, &document)?;
+    let text = read_text(alloc, reader)?;
     write_whole(writer, text.as_slice())?;
     Ok(())
+}
+
+/// The text of the document that a reader has left.
+fn read_text<R: Read>(alloc: Global, reader: &mut R) -> Result<Vec<u8>, JobFault>
+    ensures text { IfOk result (λ v. (d : DocumentOf)
+        × IsRead (R.remaining reader.old) (R.remaining reader.new) d
+        × (v.items ≡ document_text d)
+        × SpellsAtAnyLength (document_text d) d) }
+    ensures refused { IfErr result (λ f. IsDeviceOrMemory f
+        ⊎ IsNoText (R.remaining reader.old) (R.remaining reader.new) f) }
+{
+    let document = read_document(alloc, reader)?;
+    let text = text_of(alloc, &document);
+    // A document is dropped by a call: left to the exits, its drop is proved once for each of them.
+    drop(document);
+    Ok(text?)
 }
 
 /// The document that a reader has left.

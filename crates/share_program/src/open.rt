@@ -38,8 +38,14 @@ pub struct Job {
 fn routed(alloc: Global, flat: &Flat, scene: Scene) -> Result<Opened, JobFault>
     ensures { Gives Memory (λ o. o) result (routed flat.now scene) }
 {
-    let routes = Routes::resolve(alloc, flat, &scene)?;
-    Ok(Opened { scene, routes })
+    match Routes::resolve(alloc, flat, &scene) {
+        Ok(routes) => Ok(Opened { scene, routes }),
+        // A scene is dropped by a call: left to an exit, its drop is proved in place.
+        Err(fault) => {
+            drop(scene);
+            Err(JobFault::from(fault))
+        }
+    }
 }
 
 /// The scene of a document, and its routes.
@@ -65,7 +71,10 @@ pub fn open_scene(alloc: Global, text: &[u8]) -> Result<Opened, JobFault>
     ensures { Gives Memory (λ o. o) result (opened text.now) }
 {
     let flat = flattened(alloc, text)?;
-    built(alloc, &flat)
+    let opened = built(alloc, &flat);
+    // Left to the end of its scope, the drop of a flat document is proved in place.
+    drop(flat);
+    opened
 }
 
 /// The job of these bytes: first its lines, then its scene.

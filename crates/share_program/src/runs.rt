@@ -146,7 +146,10 @@ fn text_of<B: Behaviour>(alloc: Global, job: Job, scripts: Scripts<B>) -> Result
         routes,
     } = job;
     let stage = stage_of(alloc, scene, routes, scripts, &inputs)?;
-    texts_of(alloc, &stage)
+    let text = texts_of(alloc, &stage);
+    // Left to the end of its scope, the drop of a stage is proved in place.
+    drop(stage);
+    text
 }
 
 /// Applies the inputs of a job to its scene, with these boxes for its scripts in the order of their
@@ -168,7 +171,14 @@ pub fn run<B: Behaviour, W: Write>(
     ensures refused { IfErr result (IsUnrun job (map (fresh_record B.kind_of B.numbers) boxes.items)
         (W.contents writer.old) (W.contents writer.new)) }
 {
-    let scripts = attach(alloc, &job.scene, boxes)?;
+    let scripts = match attach(alloc, &job.scene, boxes) {
+        Ok(scripts) => scripts,
+        // A job is dropped by a call: left to an exit, its drop is proved in place.
+        Err(fault) => {
+            drop(job);
+            return Err(fault);
+        }
+    };
     let text = text_of(alloc, job, scripts)?;
     write_whole(writer, text.as_slice())?;
     Ok(())
@@ -191,7 +201,11 @@ pub fn run_stock<W: Write>(alloc: Global, job: Job, writer: &mut W) -> Result<()
     ensures refused { IfErr result
         (IsUnrunStock job (W.contents writer.old) (W.contents writer.new)) }
 {
-    let boxes = stock_of(alloc, &job.scene)?;
+    let Ok(boxes) = stock_of(alloc, &job.scene) else {
+        // A job is dropped by a call: left to an exit, its drop is proved in place.
+        drop(job);
+        return Err(RunFault::Memory);
+    };
     run(alloc, job, boxes, writer)
 }
 

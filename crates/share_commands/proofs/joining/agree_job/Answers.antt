@@ -19,8 +19,8 @@ returns-in-Ok-clause-done g c =
     c.as_slice.result.now c.deref_mut.result.now (ap (λ h. h.mark) c.new-host.ensures) (ap (λ h. h.host) c.new-host.ensures ∙ ap new_host counted)
     c.as_slice.ensures.value c.deref_mut.ensures.value c.new-text.result.items c.agree.new.out.items c.new-text.ensures.items c.in-Ok.ensures.done c.in-Ok.ensures.texts)
 
-pub returns-clause-ended : goal.returns-clause-ended
-returns-clause-ended g c =
+pub returns-in-Err-clause-ended : goal.returns-in-Err-clause-ended
+returns-in-Err-clause-ended g c =
     let ways : Ways g.row.P.Denot = record { told = g.P.Port.told; failures = g.P.Port.failure_count } in
     let before = c.args.job.now in
     let job : Joint = record { inputs = before.inputs; mark = before.mark; viewers = before.viewers.items } in
