@@ -1,4 +1,6 @@
 pub mod AskedLemmas
 pub mod CommandLemmas
 pub mod NumberLemmas
+pub mod OneOrder
+pub mod OwnWords
 pub mod WordLemmas

@@ -3,10 +3,12 @@
 
 mod asked;
 mod commands;
+mod laws;
 mod numbers;
 mod options;
 mod order;
 mod words;
 
+pub use laws::{help_and_version_are_asked_for, words_mean_one_order};
 pub use order::{Order, OrderFault};
 pub use words::{command_of, help_of};
