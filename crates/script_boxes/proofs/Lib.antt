@@ -1,2 +1,3 @@
 pub mod Faults
 mod Making
+pub mod OneFit
