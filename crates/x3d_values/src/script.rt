@@ -3,7 +3,7 @@
 use x3d_lists::Items;
 
 /// The kinds of scripts that this core runs.
-#[derive(Clone, Copy, Debug, PartialEq, Eq)]
+#[derive(Clone, Copy, PartialEq, Eq)]
 pub enum Kind {
     Counter,
     Gate,
@@ -14,7 +14,7 @@ pub enum Kind {
 }
 
 /// A script of a scene that asks to be run.
-#[derive(Debug, Drop, PartialEq, Eq)]
+#[derive(Drop, PartialEq, Eq)]
 pub struct ScriptSpec {
     /// The number of its node.
     pub node: u32,

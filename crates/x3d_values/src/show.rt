@@ -4,7 +4,7 @@ ghost use Rattle.std.specs.Prelude.{◌≡◌, ◌++◌, ◌∷◌, ℕ, List, O
 ghost use Rattle.std.specs.Fmt.{signed_decimal};
 ghost use Rattle.x3d_lists.specs.Extends.{Extends};
 ghost use Rattle.x3d_numerals.specs.NumberText.{number_text};
-ghost use Rattle.x3d_values.specs.ValueText.{truth_text, string_text, pair_text, vector_text, color_text, joined_text, list_text, value_text};
+ghost use Rattle.x3d_values.specs.ValueText.{truth_text, escaped, string_text, pair_text, vector_text, color_text, joined_text, list_text, value_text};
 
 use crate::value::Value;
 use crate::vector::{Color, Vec2, Vec3};
@@ -81,8 +81,7 @@ impl Show for Vec2 {
     #[tactic(auto, unfolding(crate::specs::ValueText::pair_text))]
     fn show(&self, out: &mut Vec<u8>) -> Result<(), AllocError> {
         self.x.show(out)?;
-        out.push(b' ')?;
-        self.y.show(out)
+        push_next(&self.y, out)
     }
 }
 
@@ -92,10 +91,8 @@ impl Show for Vec3 {
     #[tactic(auto, unfolding(crate::specs::ValueText::vector_text))]
     fn show(&self, out: &mut Vec<u8>) -> Result<(), AllocError> {
         self.x.show(out)?;
-        out.push(b' ')?;
-        self.y.show(out)?;
-        out.push(b' ')?;
-        self.z.show(out)
+        push_next(&self.y, out)?;
+        push_next(&self.z, out)
     }
 }
 
@@ -105,10 +102,8 @@ impl Show for Color {
     #[tactic(auto, unfolding(crate::specs::ValueText::color_text))]
     fn show(&self, out: &mut Vec<u8>) -> Result<(), AllocError> {
         self.red.show(out)?;
-        out.push(b' ')?;
-        self.green.show(out)?;
-        out.push(b' ')?;
-        self.blue.show(out)
+        push_next(&self.green, out)?;
+        push_next(&self.blue, out)
     }
 }
 
@@ -120,12 +115,21 @@ fn push_string(text: &[u8], out: &mut Vec<u8>) -> Result<(), AllocError>
 {
     out.push(b'"')?;
     for byte in text {
-        if *byte == b'"' || *byte == b'\\' {
-            out.push(b'\\')?;
-        }
-        out.push(*byte)?;
+        push_escaped(*byte, out)?;
     }
     out.push(b'"')?;
+    Ok(())
+}
+
+/// A byte of a string, behind a backslash where it is a quote or a backslash.
+fn push_escaped(byte: u8, out: &mut Vec<u8>) -> Result<(), AllocError>
+    ensures ok { OnOk result (out.new.items ≡ out.old.items ++ escaped byte) }
+    ensures kept { Extends out.old.items out.new.items }
+{
+    if byte == b'"' || byte == b'\\' {
+        out.push(b'\\')?;
+    }
+    out.push(byte)?;
     Ok(())
 }
 
@@ -139,10 +143,18 @@ pub fn push_joined<T: Show>(items: &[T], out: &mut Vec<u8>) -> Result<(), AllocE
     };
     first.show(out)?;
     for item in others {
-        out.push(b' ')?;
-        item.show(out)?;
+        push_next(item, out)?;
     }
     Ok(())
+}
+
+/// The same of an item that isn't the first: a space stands before it.
+fn push_next<T: Show>(item: &T, out: &mut Vec<u8>) -> Result<(), AllocError>
+    ensures ok { OnOk result (out.new.items ≡ out.old.items ++ 32 ∷ T.text item.now) }
+    ensures kept { Extends out.old.items out.new.items }
+{
+    out.push(b' ')?;
+    item.show(out)
 }
 
 /// The same in brackets.
