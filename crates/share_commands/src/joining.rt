@@ -32,6 +32,13 @@ pub struct JointJob {
     pub viewers: Vec<Viewer<StockScript>>,
 }
 
+impl JointJob {
+    /// Ends the job with its viewers.
+    pub fn close(self) {
+        drop(self);
+    }
+}
+
 /// The steps of a job, and a stage of its scene for each viewer.
 #[derive(Drop)]
 struct StagedJob {

@@ -83,6 +83,13 @@ pub struct Seat {
     pub points: Vec<Point>,
 }
 
+impl Seat {
+    /// Ends the viewer.
+    pub fn close(self) {
+        drop(self);
+    }
+}
+
 fn seat_of(alloc: Global, job: SharedJob, who: u8, boot: u32) -> Result<Seat, JobFault>
     requires who { who ≤ 15 }
     requires boot { 1 ≤ boot }

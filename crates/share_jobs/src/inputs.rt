@@ -8,7 +8,7 @@ use x3d_lists::Items;
 use x3d_values::Stamped;
 
 /// Inputs that a world takes from its start: numbered from 1, each later than the one before it.
-#[derive(Debug, Drop)]
+#[derive(Drop)]
 pub struct Inputs {
     inputs: Items<Stamped>,
 }

@@ -18,7 +18,7 @@ use x3d_numerals::millionths;
 use x3d_values::{Event, MAX_INPUTS, Stamped, is_input_time};
 
 /// What the lines of a job ask for.
-#[derive(Debug, Drop)]
+#[derive(Drop)]
 pub struct Steps<'a> {
     pub inputs: Inputs,
     /// The bytes behind the line `scene`.

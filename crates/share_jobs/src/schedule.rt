@@ -14,7 +14,7 @@ use std::alloc::Global;
 use x3d_lists::Items;
 
 /// What the lines of a schedule ask for.
-#[derive(Debug, Drop)]
+#[derive(Drop)]
 pub struct Schedule {
     /// One step a line, in their order.
     pub steps: Items<Step>,

@@ -148,7 +148,7 @@ fn text_of<B: Behaviour>(alloc: Global, job: Job, scripts: Scripts<B>) -> Result
     let stage = stage_of(alloc, scene, routes, scripts, &inputs)?;
     let text = texts_of(alloc, &stage);
     // Left to the end of its scope, the drop of a stage is proved in place.
-    drop(stage);
+    stage.close();
     text
 }
 

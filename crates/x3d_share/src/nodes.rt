@@ -83,8 +83,8 @@ pub fn agree<R: AllocGlobal + Input + Print + Net>(
 {
     let mut job = read_joint(rt, order, viewers)?;
     let text = agreed(rt, &mut job, turns);
-    // A job is dropped by a call: left to the exits, its drop is proved once for each of them.
-    drop(job);
+    // Left to the exits, the drop of a job is proved once for each of them.
+    job.close();
     print(rt, text?.as_slice())?;
     Ok(())
 }
@@ -162,7 +162,7 @@ fn read_viewed<R: AllocGlobal + Input + Net + Clock>(
 {
     let mut seat = read_seated(rt, order, who, boot)?;
     let text = viewed(rt, &mut seat, host, until, turns);
-    drop(seat);
+    seat.close();
     Ok(text?)
 }
 
