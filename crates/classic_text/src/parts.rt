@@ -1,6 +1,7 @@
 //! The parts of the grammar in which no node stands, each a function that reads from the tokens.
 
 ghost use Rattle.std.specs.Prelude.{◌≡◌};
+ghost use Rattle.classic_bounds.specs.Bounds.{takes_is};
 ghost use Rattle.classic_text.specs.Grammar as spec;
 ghost use Rattle.classic_text.specs.Grammar.{until};
 ghost use Rattle.classic_text.specs.Input.{Reads, number, string, truth};
@@ -9,6 +10,7 @@ ghost use Rattle.classic_text.specs.declared.terminal.Terminal.TheVariants.{Clos
 use crate::refusal::Refusal;
 use crate::terminal::Terminal;
 use crate::tokens::Tokens;
+use classic_bounds::{Owner, takes_is};
 use classic_tree::{Given, NodeText, Place, RouteText};
 use std::alloc::Global;
 use x3d_values::{Items, Text};
@@ -123,16 +125,16 @@ pub(crate) fn what_is(alloc: Global, tokens: &mut Tokens<'_>) -> Result<Given<No
     Ok(Given::Is(tokens.name(alloc)?))
 }
 
-/// `IS name` in the declaration of a field, in a Script alone.
+/// `IS name` in the declaration of a field of that owner.
 #[tactic(auto, unfolding(crate::specs::Grammar::joined))]
 pub(crate) fn joined(
     alloc: Global,
     tokens: &mut Tokens<'_>,
-    script: bool,
+    owner: Owner,
 ) -> Result<Given<NodeText>, Refusal>
-    ensures { Reads (spec.joined script tokens.old) result tokens.new }
+    ensures { Reads (spec.joined (takes_is owner) tokens.old) result tokens.new }
 {
-    if !script {
+    if !takes_is(owner) {
         return Err(tokens.refuse());
     }
     what_is(alloc, tokens)
