@@ -8,6 +8,7 @@ ghost use Rattle.classic_text.specs.Input.{Reads};
 ghost use Rattle.classic_text.specs.declared.terminal.Terminal.TheVariants.{CloseBrace, CloseBracket};
 
 use crate::ahead::{begins_unread_statement, refuse_deep};
+use crate::gathered::grown;
 use crate::parts::{
     def_name, joined, number_list, numbers, route, string_list, truth_list, use_node, what_is,
 };
@@ -79,7 +80,7 @@ fn items(
             tokens.advance();
             return Ok(found);
         }
-        found.push(one_item(alloc, tokens, depth, script)?)?;
+        found = grown(found, one_item(alloc, tokens, depth, script))?;
     }
     Err(tokens.refuse())
 }
@@ -187,7 +188,7 @@ fn declarations(
             tokens.advance();
             return Ok(found);
         }
-        found.push(declaration(alloc, tokens, depth, Owner::Interface)?)?;
+        found = grown(found, declaration(alloc, tokens, depth, Owner::Interface))?;
     }
     Err(tokens.refuse())
 }
@@ -245,7 +246,7 @@ fn inner_statements(
             tokens.advance();
             return Ok(found);
         }
-        found.push(one_statement(alloc, tokens, depth)?)?;
+        found = grown(found, one_statement(alloc, tokens, depth))?;
     }
     Err(tokens.refuse())
 }
@@ -329,7 +330,7 @@ fn node_list(alloc: Global, tokens: &mut Tokens<'_>, depth: u32) -> Result<Items
             tokens.advance();
             return Ok(found);
         }
-        found.push(one_node(alloc, tokens, depth)?)?;
+        found = grown(found, one_node(alloc, tokens, depth))?;
     }
     Err(tokens.refuse())
 }
@@ -371,7 +372,7 @@ pub(crate) fn statements(
         if tokens.at_end() {
             return Ok(found);
         }
-        found.push(one_statement(alloc, tokens, top_depth())?)?;
+        found = grown(found, one_statement(alloc, tokens, top_depth()))?;
     }
     Ok(found)
 }

@@ -7,6 +7,7 @@ ghost use Rattle.classic_text.specs.Grammar.{until};
 ghost use Rattle.classic_text.specs.Input.{Reads, number, string, truth};
 ghost use Rattle.classic_text.specs.declared.terminal.Terminal.TheVariants.{CloseBracket};
 
+use crate::gathered::grown;
 use crate::refusal::Refusal;
 use crate::terminal::Terminal;
 use crate::tokens::Tokens;
@@ -50,7 +51,7 @@ pub(crate) fn numbers(alloc: Global, tokens: &mut Tokens<'_>) -> Result<Items<i6
         if !tokens.sees(Terminal::Numeral) {
             return Ok(found);
         }
-        found.push(tokens.number()?)?;
+        found = grown(found, tokens.number())?;
     }
     Ok(found)
 }
@@ -64,7 +65,7 @@ pub(crate) fn number_list(alloc: Global, tokens: &mut Tokens<'_>) -> Result<Item
             tokens.advance();
             return Ok(found);
         }
-        found.push(tokens.number()?)?;
+        found = grown(found, tokens.number())?;
     }
     Err(tokens.refuse())
 }
@@ -78,7 +79,7 @@ pub(crate) fn truth_list(alloc: Global, tokens: &mut Tokens<'_>) -> Result<Items
             tokens.advance();
             return Ok(found);
         }
-        found.push(tokens.truth()?)?;
+        found = grown(found, tokens.truth())?;
     }
     Err(tokens.refuse())
 }
@@ -92,7 +93,7 @@ pub(crate) fn string_list(alloc: Global, tokens: &mut Tokens<'_>) -> Result<Item
             tokens.advance();
             return Ok(found);
         }
-        found.push(tokens.string(alloc)?)?;
+        found = grown(found, tokens.string(alloc))?;
     }
     Err(tokens.refuse())
 }
