@@ -274,7 +274,7 @@ fn one_given(alloc: Global, tokens: &mut Tokens<'_>, depth: u32) -> Result<Given
 }
 
 #[cycle(nodes)]
-#[tactic(auto, unfolding(crate::specs::Grammar::value))]
+#[tactic(auto, unfolding(crate::specs::Grammar::value, crate::specs::Input::expect, crate::specs::Input::sees, crate::specs::Terminal::same))]
 fn value_of(
     alloc: Global,
     tokens: &mut Tokens<'_>,
@@ -284,14 +284,14 @@ fn value_of(
 {
     match tokens.peek() {
         Terminal::Null => {
-            tokens.expect(Terminal::Null)?;
+            tokens.advance();
             Ok(RawValue::Null)
         }
         Terminal::True | Terminal::False => Ok(RawValue::Truth(tokens.truth()?)),
         Terminal::String => Ok(RawValue::String(tokens.string(alloc)?)),
         Terminal::Numeral => Ok(RawValue::Numbers(numbers(alloc, tokens)?)),
         Terminal::OpenBracket => {
-            tokens.expect(Terminal::OpenBracket)?;
+            tokens.advance();
             list_of(alloc, tokens, depth)
         }
         _ => Ok(RawValue::Node(one_node(alloc, tokens, depth)?)),
@@ -300,7 +300,7 @@ fn value_of(
 
 /// A list behind its bracket.
 #[cycle(nodes)]
-#[tactic(auto, unfolding(crate::specs::Grammar::list))]
+#[tactic(auto, unfolding(crate::specs::Grammar::list, crate::specs::Input::expect, crate::specs::Input::sees, crate::specs::Terminal::same))]
 fn list_of(
     alloc: Global,
     tokens: &mut Tokens<'_>,
@@ -310,7 +310,7 @@ fn list_of(
 {
     match tokens.peek() {
         Terminal::CloseBracket => {
-            tokens.expect(Terminal::CloseBracket)?;
+            tokens.advance();
             Ok(RawValue::EmptyList)
         }
         Terminal::True | Terminal::False => Ok(RawValue::TruthList(truth_list(alloc, tokens)?)),

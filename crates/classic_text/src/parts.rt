@@ -98,14 +98,14 @@ pub(crate) fn string_list(alloc: Global, tokens: &mut Tokens<'_>) -> Result<Item
     Err(tokens.refuse())
 }
 
-#[tactic(auto, unfolding(crate::specs::Grammar::def_name))]
+#[tactic(auto, unfolding(crate::specs::Grammar::def_name, crate::specs::Input::expect))]
 pub(crate) fn def_name(alloc: Global, tokens: &mut Tokens<'_>) -> Result<Option<Text>, Refusal>
     ensures { Reads (spec.def_name tokens.old) result tokens.new }
 {
     if !tokens.sees(Terminal::Def) {
         return Ok(None);
     }
-    tokens.expect(Terminal::Def)?;
+    tokens.advance();
     Ok(Some(tokens.name(alloc)?))
 }
 
