@@ -13,7 +13,8 @@ use Rattle.classic_tree.specs.declared.tree.Statement.{Statement}
 use Rattle.classic_text.specs.declared.terminal.Terminal.TheVariants as t
 use Rattle.classic_text.specs.Terminal.{line}
 use Rattle.classic_text.specs.Input.{Parser, and_then, kind, sees, expect, name, access, field_type}
-use Rattle.classic_text.specs.Grammar.{until, value, what_is, joined, declared, declaration, proto_with, holds_value}
+use Rattle.classic_bounds.specs.Bounds.{holds_value}
+use Rattle.classic_text.specs.Grammar.{until, value, what_is, joined, declared, declaration, proto_with}
 use Rattle.classic_text.specs.Spells.{IsName, AreUntil, IsEvent, IsStored, IsDeclared, IsDeclaration, IsProtoBy}
 use Rattle.classic_text.proofs.Seen.{see, unseen, not_see, not_ahead, ahead_not}
 use Rattle.classic_text.proofs.Steps.{ok_is, both, chosen, Is-kind, Is-shorter, IsName-shorter, found_expect, only_expect, found_name, only_name, found_access, only_access, found_type, only_type, IsAccess-kind, IsAccess-shorter, IsFieldType-shorter}

@@ -5,6 +5,7 @@ use Rattle.std.proofs.lemmas.Bool.{and_parts, and_right, or_parts, or_from}
 use Rattle.x3d_values.specs.declared.field_type.Access.{Access}
 use Rattle.x3d_values.specs.Names.{access_named}
 use Rattle.classic_lex.specs.Lexed.{Tok}
+use Rattle.classic_bounds.specs.Bounds.{is_script}
 use Rattle.classic_tree.specs.declared.tree.BodyItem.{BodyItem}
 use Rattle.classic_tree.specs.declared.tree.BodyItem.TheVariants as held
 use Rattle.classic_tree.specs.declared.tree.NodeText.{NodeText}
@@ -16,7 +17,7 @@ use Rattle.classic_text.specs.declared.refusal.Refusal.TheVariants.{Unsupported}
 use Rattle.classic_text.specs.declared.terminal.Terminal.TheVariants as t
 use Rattle.classic_text.specs.Terminal.{line}
 use Rattle.classic_text.specs.Input.{Outcome, Parser, and_then, kind, sees, sees_word, expect, name}
-use Rattle.classic_text.specs.Grammar.{route, is_script, one_given, field, declaration, begins_unread_statement, other_item, one_item, body, node_statement, one_statement, proto_body}
+use Rattle.classic_text.specs.Grammar.{route, one_given, field, declaration, begins_unread_statement, other_item, one_item, body, node_statement, one_statement, proto_body}
 use Rattle.classic_text.specs.Spells.{NotWordAhead, IsAccess, IsItem, IsBody, IsStatement, IsProtoBody}
 use Rattle.classic_text.proofs.Seen.{see, not_see, same_word, word_same, not_word_ahead, word_not_ahead, other_name, name_other}
 use Rattle.classic_text.proofs.Steps.{ok_is, both, chosen, Is-shorter, IsName-kind, IsName-shorter, found_expect, only_expect, found_name, only_name, found_route, only_route, IsRoute-kind, IsRoute-shorter}

@@ -1,9 +1,8 @@
 -- The grammar, as it is read from left to right (ISO/IEC 19776-2, grammar).
 use Rattle.std.specs.Prelude.{ℕ, ℤ, zero, suc, Bool, true, false, ◌||◌, ◌&&◌, if◌then◌else◌, List, [], ◌∷◌, ◌++◌, length, Option, Some, None, Ok, Err, codes}
-use Rattle.std.specs.Str.{bytes_eq}
 use Rattle.x3d_values.specs.declared.field_type.Access.{Access}
-use Rattle.x3d_values.specs.declared.field_type.Access.TheVariants as access_is
 use Rattle.classic_lex.specs.Lexed.{Tok}
+use Rattle.classic_bounds.specs.Bounds.{max_depth, holds_value, is_script}
 use Rattle.classic_tree.specs.declared.tree.Place.{Place}
 use Rattle.classic_tree.specs.declared.tree.RouteText.{RouteText}
 use Rattle.classic_tree.specs.declared.tree.RawValue.{RawValue}
@@ -24,7 +23,6 @@ use Rattle.classic_text.specs.declared.terminal.Terminal.{Terminal}
 use Rattle.classic_text.specs.declared.terminal.Terminal.TheVariants as t
 use Rattle.classic_text.specs.Input.{Parser, ◌>>=◌, and_then, pure, refuse, refusal, peek, here, expect, name, access, field_type, string, truth, number, sees, sees_word, at_end, next}
 use Rattle.classic_text.specs.Terminal.{line}
-use Rattle.classic_text.specs.Spells.{max_depth}
 
 unfoldable pub place : Parser Place
 place = do
@@ -77,16 +75,6 @@ abbrev pub unsupported : {A : Type 0} → Parser A
 unsupported = λ ts. Err (Unsupported (line ts))
 
 -- ---- values, by how a node in them is read
-
--- a field of that access holds a value
-unfoldable pub holds_value : Access → Bool
-holds_value access_is.InputOnly = false
-holds_value access_is.OutputOnly = false
-holds_value access_is.InputOutput = true
-holds_value access_is.InitializeOnly = true
-
-unfoldable pub is_script : List ℕ → Bool
-is_script word = bytes_eq word (codes "Script")
 
 unfoldable pub what_is : Parser (Given NodeText)
 what_is = do

@@ -8,6 +8,7 @@ use Rattle.x3d_values.specs.declared.field_type.FieldType.{FieldType}
 use Rattle.x3d_values.specs.Names.{access_named, field_type_named}
 use Rattle.classic_lex.specs.Lexed.{Tok}
 use Rattle.classic_lex.specs.Tokens.{HasTokens, HasVersion}
+pub use Rattle.classic_bounds.specs.Bounds.{max_depth}
 use Rattle.classic_tree.specs.declared.tree.Place.{Place}
 use Rattle.classic_tree.specs.declared.tree.RouteText.{RouteText}
 use Rattle.classic_tree.specs.declared.tree.RawValue.{RawValue}
@@ -29,10 +30,6 @@ use Rattle.classic_text.specs.declared.terminal.Terminal.TheVariants as t
 use Rattle.classic_text.specs.Terminal.{terminal_of, line}
 use Rattle.classic_text.specs.Levels.{HasLevel}
 use Rattle.classic_text.specs.Strings.{Holds}
-
--- nodes and the bodies of PROTOs nest at most 64 deep (our choice)
-abbrev pub max_depth : ℕ
-max_depth = 64
 
 -- ---- tokens
 

@@ -1,4 +1,4 @@
-//! What the next token, or a word, says of what follows.
+//! What the next token says of what follows.
 
 ghost use Rattle.std.specs.Prelude.{◌≡◌};
 ghost use Rattle.classic_text.specs.Grammar as spec;
@@ -6,7 +6,6 @@ ghost use Rattle.classic_text.specs.Grammar as spec;
 use crate::refusal::Refusal;
 use crate::terminal::Terminal;
 use crate::tokens::Tokens;
-use x3d_values::{Access, Text};
 
 #[tactic(auto, unfolding(crate::specs::Grammar::begins_node))]
 fn begins_node(tokens: &Tokens<'_>) -> bool
@@ -35,22 +34,4 @@ pub(crate) fn begins_unread_statement(tokens: &Tokens<'_>) -> bool
         || tokens.sees_word(b"IMPORT")
         || tokens.sees_word(b"EXPORT")
         || tokens.sees_word(b"UNIT")
-}
-
-/// Whether a field of that access holds a value.
-#[tactic(auto, unfolding(crate::specs::Grammar::holds_value))]
-pub(crate) fn holds_value(access: Access) -> bool
-    ensures { result ≡ spec.holds_value access }
-{
-    match access {
-        Access::InputOnly | Access::OutputOnly => false,
-        Access::InputOutput | Access::InitializeOnly => true,
-    }
-}
-
-#[tactic(auto, unfolding(crate::specs::Grammar::is_script))]
-pub(crate) fn is_script(node_type: &Text) -> bool
-    ensures { result ≡ spec.is_script node_type.now }
-{
-    node_type.as_bytes() == b"Script".as_slice()
 }

@@ -1,24 +1,24 @@
 //! The rules of the grammar in which nodes stand, each a function that reads from the tokens.
 
 ghost use Rattle.std.specs.Prelude.{◌≡◌, false};
+ghost use Rattle.classic_bounds.specs.Bounds.{takes_is};
 ghost use Rattle.classic_text.specs.Grammar as spec;
 ghost use Rattle.classic_text.specs.Grammar.{until};
 ghost use Rattle.classic_text.specs.Input.{Reads};
 ghost use Rattle.classic_text.specs.declared.terminal.Terminal.TheVariants.{CloseBrace, CloseBracket};
 
-use crate::ahead::{begins_unread_statement, holds_value, is_script, refuse_deep};
+use crate::ahead::{begins_unread_statement, refuse_deep};
+use crate::gathered::grown;
 use crate::parts::{
     def_name, joined, number_list, numbers, route, string_list, truth_list, use_node, what_is,
 };
 use crate::refusal::Refusal;
 use crate::terminal::Terminal;
 use crate::tokens::Tokens;
+use classic_bounds::{Owner, holds_value, is_script, top_depth};
 use classic_tree::{BodyItem, Declaration, Given, NodeText, ProtoText, RawValue, Statement};
 use std::alloc::Global;
 use x3d_values::{Access, Items};
-
-/// How deep nodes may nest.
-const MAX_DEPTH: u32 = 64;
 
 /// A node in which nodes nest no deeper than `depth`, itself counted.
 #[cycle(nodes)]
@@ -80,7 +80,7 @@ fn items(
             tokens.advance();
             return Ok(found);
         }
-        found.push(one_item(alloc, tokens, depth, script)?)?;
+        found = grown(found, one_item(alloc, tokens, depth, script))?;
     }
     Err(tokens.refuse())
 }
@@ -119,27 +119,28 @@ fn other_item(
         return Err(Refusal::Unsupported(tokens.line()));
     }
     if script && tokens.sees(Terminal::Access) {
-        return Ok(BodyItem::Declaration(declaration(alloc, tokens, depth, true)?));
+        return Ok(BodyItem::Declaration(declaration(alloc, tokens, depth, Owner::Script)?));
     }
     field(alloc, tokens, depth)
 }
 
-/// A declared field of a Script, or of the interface of a PROTO.
+/// A declared field.
 #[cycle(nodes)]
 #[tactic(auto, unfolding(crate::specs::Grammar::declaration))]
 fn declaration(
     alloc: Global,
     tokens: &mut Tokens<'_>,
     depth: u32,
-    script: bool,
+    owner: Owner,
 ) -> Result<Declaration<NodeText>, Refusal>
-    ensures { Reads (spec.declaration (spec.node_at depth) script tokens.old) result tokens.new }
+    ensures { Reads (spec.declaration (spec.node_at depth) (takes_is owner) tokens.old)
+        result tokens.new }
 {
     let line = tokens.line();
     let access = tokens.access()?;
     let field_type = tokens.field_type()?;
     let name = tokens.name(alloc)?;
-    let given = declared(alloc, tokens, depth, script, access)?;
+    let given = declared(alloc, tokens, depth, owner, access)?;
     Ok(Declaration {
         line,
         access,
@@ -149,22 +150,22 @@ fn declaration(
     })
 }
 
-/// What stands behind the name of a declared field: `IS name` in a Script alone, and a value
-/// where it holds one.
+/// What stands behind the name of a declared field: `IS name` where it may stand, and a value
+/// where the field holds one.
 #[cycle(nodes)]
 #[tactic(auto, unfolding(crate::specs::Grammar::declared))]
 fn declared(
     alloc: Global,
     tokens: &mut Tokens<'_>,
     depth: u32,
-    script: bool,
+    owner: Owner,
     access: Access,
 ) -> Result<Given<NodeText>, Refusal>
-    ensures { Reads (spec.declared (spec.node_at depth) script access tokens.old)
+    ensures { Reads (spec.declared (spec.node_at depth) (takes_is owner) access tokens.old)
         result tokens.new }
 {
     if tokens.sees(Terminal::Is) {
-        return joined(alloc, tokens, script);
+        return joined(alloc, tokens, owner);
     }
     if holds_value(access) {
         return Ok(Given::Value(value_of(alloc, tokens, depth)?));
@@ -187,7 +188,7 @@ fn declarations(
             tokens.advance();
             return Ok(found);
         }
-        found.push(declaration(alloc, tokens, depth, false)?)?;
+        found = grown(found, declaration(alloc, tokens, depth, Owner::Interface))?;
     }
     Err(tokens.refuse())
 }
@@ -245,7 +246,7 @@ fn inner_statements(
             tokens.advance();
             return Ok(found);
         }
-        found.push(one_statement(alloc, tokens, depth)?)?;
+        found = grown(found, one_statement(alloc, tokens, depth))?;
     }
     Err(tokens.refuse())
 }
@@ -273,7 +274,7 @@ fn one_given(alloc: Global, tokens: &mut Tokens<'_>, depth: u32) -> Result<Given
 }
 
 #[cycle(nodes)]
-#[tactic(auto, unfolding(crate::specs::Grammar::value))]
+#[tactic(auto, unfolding(crate::specs::Grammar::value, crate::specs::Input::expect, crate::specs::Input::sees, crate::specs::Terminal::same))]
 fn value_of(
     alloc: Global,
     tokens: &mut Tokens<'_>,
@@ -283,14 +284,14 @@ fn value_of(
 {
     match tokens.peek() {
         Terminal::Null => {
-            tokens.expect(Terminal::Null)?;
+            tokens.advance();
             Ok(RawValue::Null)
         }
         Terminal::True | Terminal::False => Ok(RawValue::Truth(tokens.truth()?)),
         Terminal::String => Ok(RawValue::String(tokens.string(alloc)?)),
         Terminal::Numeral => Ok(RawValue::Numbers(numbers(alloc, tokens)?)),
         Terminal::OpenBracket => {
-            tokens.expect(Terminal::OpenBracket)?;
+            tokens.advance();
             list_of(alloc, tokens, depth)
         }
         _ => Ok(RawValue::Node(one_node(alloc, tokens, depth)?)),
@@ -299,7 +300,7 @@ fn value_of(
 
 /// A list behind its bracket.
 #[cycle(nodes)]
-#[tactic(auto, unfolding(crate::specs::Grammar::list))]
+#[tactic(auto, unfolding(crate::specs::Grammar::list, crate::specs::Input::expect, crate::specs::Input::sees, crate::specs::Terminal::same))]
 fn list_of(
     alloc: Global,
     tokens: &mut Tokens<'_>,
@@ -309,7 +310,7 @@ fn list_of(
 {
     match tokens.peek() {
         Terminal::CloseBracket => {
-            tokens.expect(Terminal::CloseBracket)?;
+            tokens.advance();
             Ok(RawValue::EmptyList)
         }
         Terminal::True | Terminal::False => Ok(RawValue::TruthList(truth_list(alloc, tokens)?)),
@@ -329,7 +330,7 @@ fn node_list(alloc: Global, tokens: &mut Tokens<'_>, depth: u32) -> Result<Items
             tokens.advance();
             return Ok(found);
         }
-        found.push(one_node(alloc, tokens, depth)?)?;
+        found = grown(found, one_node(alloc, tokens, depth))?;
     }
     Err(tokens.refuse())
 }
@@ -371,7 +372,7 @@ pub(crate) fn statements(
         if tokens.at_end() {
             return Ok(found);
         }
-        found.push(one_statement(alloc, tokens, MAX_DEPTH)?)?;
+        found = grown(found, one_statement(alloc, tokens, top_depth()))?;
     }
     Ok(found)
 }

@@ -3,6 +3,7 @@
 
 mod ahead;
 mod fault;
+mod gathered;
 mod grammar;
 mod head;
 mod laws;

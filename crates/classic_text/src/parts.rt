@@ -1,14 +1,17 @@
 //! The parts of the grammar in which no node stands, each a function that reads from the tokens.
 
 ghost use Rattle.std.specs.Prelude.{◌≡◌};
+ghost use Rattle.classic_bounds.specs.Bounds.{takes_is};
 ghost use Rattle.classic_text.specs.Grammar as spec;
 ghost use Rattle.classic_text.specs.Grammar.{until};
 ghost use Rattle.classic_text.specs.Input.{Reads, number, string, truth};
 ghost use Rattle.classic_text.specs.declared.terminal.Terminal.TheVariants.{CloseBracket};
 
+use crate::gathered::grown;
 use crate::refusal::Refusal;
 use crate::terminal::Terminal;
 use crate::tokens::Tokens;
+use classic_bounds::{Owner, takes_is};
 use classic_tree::{Given, NodeText, Place, RouteText};
 use std::alloc::Global;
 use x3d_values::{Items, Text};
@@ -48,7 +51,7 @@ pub(crate) fn numbers(alloc: Global, tokens: &mut Tokens<'_>) -> Result<Items<i6
         if !tokens.sees(Terminal::Numeral) {
             return Ok(found);
         }
-        found.push(tokens.number()?)?;
+        found = grown(found, tokens.number())?;
     }
     Ok(found)
 }
@@ -62,7 +65,7 @@ pub(crate) fn number_list(alloc: Global, tokens: &mut Tokens<'_>) -> Result<Item
             tokens.advance();
             return Ok(found);
         }
-        found.push(tokens.number()?)?;
+        found = grown(found, tokens.number())?;
     }
     Err(tokens.refuse())
 }
@@ -76,7 +79,7 @@ pub(crate) fn truth_list(alloc: Global, tokens: &mut Tokens<'_>) -> Result<Items
             tokens.advance();
             return Ok(found);
         }
-        found.push(tokens.truth()?)?;
+        found = grown(found, tokens.truth())?;
     }
     Err(tokens.refuse())
 }
@@ -90,19 +93,19 @@ pub(crate) fn string_list(alloc: Global, tokens: &mut Tokens<'_>) -> Result<Item
             tokens.advance();
             return Ok(found);
         }
-        found.push(tokens.string(alloc)?)?;
+        found = grown(found, tokens.string(alloc))?;
     }
     Err(tokens.refuse())
 }
 
-#[tactic(auto, unfolding(crate::specs::Grammar::def_name))]
+#[tactic(auto, unfolding(crate::specs::Grammar::def_name, crate::specs::Input::expect))]
 pub(crate) fn def_name(alloc: Global, tokens: &mut Tokens<'_>) -> Result<Option<Text>, Refusal>
     ensures { Reads (spec.def_name tokens.old) result tokens.new }
 {
     if !tokens.sees(Terminal::Def) {
         return Ok(None);
     }
-    tokens.expect(Terminal::Def)?;
+    tokens.advance();
     Ok(Some(tokens.name(alloc)?))
 }
 
@@ -123,16 +126,16 @@ pub(crate) fn what_is(alloc: Global, tokens: &mut Tokens<'_>) -> Result<Given<No
     Ok(Given::Is(tokens.name(alloc)?))
 }
 
-/// `IS name` in the declaration of a field, in a Script alone.
+/// `IS name` in the declaration of a field of that owner.
 #[tactic(auto, unfolding(crate::specs::Grammar::joined))]
 pub(crate) fn joined(
     alloc: Global,
     tokens: &mut Tokens<'_>,
-    script: bool,
+    owner: Owner,
 ) -> Result<Given<NodeText>, Refusal>
-    ensures { Reads (spec.joined script tokens.old) result tokens.new }
+    ensures { Reads (spec.joined (takes_is owner) tokens.old) result tokens.new }
 {
-    if !script {
+    if !takes_is(owner) {
         return Err(tokens.refuse());
     }
     what_is(alloc, tokens)

@@ -1,0 +1,9 @@
+//! The bounds of the Classic grammar (ISO/IEC 19776-2): how deep nodes may nest, and where
+//! declarations, their values and `IS` may stand.
+#![tactic(auto)]
+
+mod declared;
+mod depth;
+
+pub use declared::{Owner, holds_value, is_script, takes_is};
+pub use depth::top_depth;
