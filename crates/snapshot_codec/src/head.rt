@@ -182,8 +182,7 @@ fn push_progress_part(progress: Progress, out: &mut Vec<u8>) -> Result<(), Alloc
 {
     push_u32(progress.boot, out)?;
     push_u32(progress.applied, out)?;
-    push_i64(progress.last_time, out)?;
-    Ok(())
+    push_i64(progress.last_time, out)
 }
 
 /// Appends how far a world had come. On a refusal the buffer is as it was.

@@ -173,8 +173,7 @@ fn push_sent_at(sent: SentAt, out: &mut Vec<u8>) -> Result<(), AllocError>
     push_u32(sent.input, out)?;
     push_i64(sent.time, out)?;
     push_u32(sent.node, out)?;
-    push_u16(sent.field, out)?;
-    Ok(())
+    push_u16(sent.field, out)
 }
 
 fn push_entry_part(sent: SentAt, value: &Value, out: &mut Vec<u8>) -> Result<(), AllocError>
