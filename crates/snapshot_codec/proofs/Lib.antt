@@ -1,3 +1,4 @@
+pub mod Appends
 pub mod HeadLaws
 pub mod KeptLaws
 pub mod Loops

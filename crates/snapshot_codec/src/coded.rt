@@ -40,8 +40,17 @@ pub(crate) fn many_of<T: Coded>(
     let mut items = Items::new(alloc);
     let mut rest = bytes;
     for _ in 0..count {
-        let (item, after) = T::read(alloc, rest)?;
-        items.push(item)?;
+        let (item, after) = match T::read(alloc, rest) {
+            Ok(read) => read,
+            Err(fault) => {
+                drop(items);
+                return Err(fault);
+            }
+        };
+        let Ok(()) = items.push(item) else {
+            drop(items);
+            return Err(PartFault::Memory);
+        };
         rest = after;
     }
     Ok((items, rest))
@@ -108,8 +117,7 @@ pub(crate) fn push_list<T: Coded>(items: &[T], out: &mut Vec<u8>) -> Result<(), 
     ensures kept { Extends out.old.items out.new.items }
 {
     push_count(items.len(), out)?;
-    push_many(items, out)?;
-    Ok(())
+    push_many(items, out)
 }
 
 impl Coded for bool {

@@ -6,10 +6,11 @@ ghost use Rattle.x3d_lists.specs.Extends.{Extends};
 ghost use Rattle.byte_codec.specs.Codec.{rows_at};
 ghost use Rattle.snapshot_codec.specs.declared.kept.KeptField.TheVariants.{Interval};
 ghost use Rattle.snapshot_codec.specs.Reads.{Reads};
-ghost use Rattle.snapshot_codec.specs.Fields.{has_bytes, is_interval, kept_field, kept_text, kept_codec, is_positive, fields_codec};
+ghost use Rattle.snapshot_codec.specs.Fields.{has_bytes, is_interval, kept_field, kept_text, kept_codec, fields_codec};
 
 use crate::fault::PartFault;
-use crate::value::{push_value_part, value_of};
+use crate::numbers::within_of;
+use crate::value::{MAX_TIME, push_value_part, value_of};
 use std::alloc::{AllocError, Global};
 use x3d_values::{Access, FieldType, Items, NodeType, Value};
 
@@ -70,23 +71,16 @@ pub fn kept_field(
     }
 }
 
-fn is_positive(value: &Value) -> bool
-    ensures { result ≡ is_positive value.now }
-{
-    match value {
-        Value::SFTime(time) => *time > 0,
-        _ => false,
-    }
-}
-
 /// A time above 0.
-#[tactic(auto, unfolding(crate::specs::Fields::kept_at))]
-fn interval_of(alloc: Global, bytes: &[u8]) -> Result<(Option<Value>, &[u8]), PartFault>
+#[tactic(auto, unfolding(crate::specs::Fields::kept_at, crate::specs::Values::value_at))]
+fn interval_of(bytes: &[u8]) -> Result<(Option<Value>, &[u8]), PartFault>
     ensures { Reads (λ x. (x.0, x.1.now)) result ((kept_codec Interval).read bytes.now) }
 {
-    let (value, rest) = value_of(alloc, FieldType::SFTime, bytes)?;
-    if is_positive(&value) {
-        Ok((Some(value), rest))
+    let Some((time, rest)) = within_of(MAX_TIME, bytes) else {
+        return Err(PartFault::NotCanonical);
+    };
+    if time > 0 {
+        Ok((Some(Value::SFTime(time)), rest))
     } else {
         Err(PartFault::NotCanonical)
     }
@@ -103,11 +97,11 @@ fn kept_value_of(
 {
     match field {
         KeptField::Absent => Ok((None, bytes)),
-        KeptField::Interval => interval_of(alloc, bytes),
-        KeptField::Typed(field_type) => {
-            let (value, rest) = value_of(alloc, field_type, bytes)?;
-            Ok((Some(value), rest))
-        }
+        KeptField::Interval => interval_of(bytes),
+        KeptField::Typed(field_type) => match value_of(alloc, field_type, bytes) {
+            Ok((value, rest)) => Ok((Some(value), rest)),
+            Err(fault) => Err(fault),
+        },
     }
 }
 
@@ -123,8 +117,17 @@ pub fn kept_fields_of<'a>(
     let mut values = Items::new(alloc);
     let mut rest = bytes;
     for field in fields {
-        let (value, after) = kept_value_of(alloc, *field, rest)?;
-        values.push(value)?;
+        let (value, after) = match kept_value_of(alloc, *field, rest) {
+            Ok(read) => read,
+            Err(fault) => {
+                drop(values);
+                return Err(fault);
+            }
+        };
+        let Ok(()) = values.push(value) else {
+            drop(values);
+            return Err(PartFault::Memory);
+        };
         rest = after;
     }
     Ok((values, rest))

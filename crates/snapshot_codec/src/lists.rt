@@ -17,62 +17,78 @@ pub(crate) fn truths_of(alloc: Global, bytes: &[u8]) -> Result<(Value, &[u8]), P
     ensures { Reads (λ x. (x.0, x.1.now)) result
         (read_as (list_of truth) (λ x. values.MFBool x) bytes.now) }
 {
-    let (truths, rest) = list_of(alloc, bytes)?;
-    Ok((Value::MFBool(truths), rest))
+    match list_of(alloc, bytes) {
+        Ok((truths, rest)) => Ok((Value::MFBool(truths), rest)),
+        Err(fault) => Err(fault),
+    }
 }
 
 pub(crate) fn whole_numbers_of(alloc: Global, bytes: &[u8]) -> Result<(Value, &[u8]), PartFault>
     ensures { Reads (λ x. (x.0, x.1.now)) result
         (read_as (list_of (signed w32)) (λ x. values.MFInt32 x) bytes.now) }
 {
-    let (numbers, rest) = list_of(alloc, bytes)?;
-    Ok((Value::MFInt32(numbers), rest))
+    match list_of(alloc, bytes) {
+        Ok((numbers, rest)) => Ok((Value::MFInt32(numbers), rest)),
+        Err(fault) => Err(fault),
+    }
 }
 
 pub(crate) fn numbers_of(alloc: Global, bytes: &[u8]) -> Result<(Value, &[u8]), PartFault>
     ensures { Reads (λ x. (x.0, x.1.now)) result
         (read_as (list_of number) (λ x. values.MFFloat x) bytes.now) }
 {
-    let (numbers, rest) = list_within(alloc, MAX_COORDINATE, bytes)?;
-    Ok((Value::MFFloat(numbers), rest))
+    match list_within(alloc, MAX_COORDINATE, bytes) {
+        Ok((numbers, rest)) => Ok((Value::MFFloat(numbers), rest)),
+        Err(fault) => Err(fault),
+    }
 }
 
 pub(crate) fn times_of(alloc: Global, bytes: &[u8]) -> Result<(Value, &[u8]), PartFault>
     ensures { Reads (λ x. (x.0, x.1.now)) result
         (read_as (list_of time) (λ x. values.MFTime x) bytes.now) }
 {
-    let (times, rest) = list_within(alloc, MAX_TIME, bytes)?;
-    Ok((Value::MFTime(times), rest))
+    match list_within(alloc, MAX_TIME, bytes) {
+        Ok((times, rest)) => Ok((Value::MFTime(times), rest)),
+        Err(fault) => Err(fault),
+    }
 }
 
 pub(crate) fn texts_of(alloc: Global, bytes: &[u8]) -> Result<(Value, &[u8]), PartFault>
     ensures { Reads (λ x. (x.0, x.1.now)) result
         (read_as (list_of text) (λ x. values.MFString x) bytes.now) }
 {
-    let (texts, rest) = list_of(alloc, bytes)?;
-    Ok((Value::MFString(texts), rest))
+    match list_of(alloc, bytes) {
+        Ok((texts, rest)) => Ok((Value::MFString(texts), rest)),
+        Err(fault) => Err(fault),
+    }
 }
 
 pub(crate) fn plane_points_of(alloc: Global, bytes: &[u8]) -> Result<(Value, &[u8]), PartFault>
     ensures { Reads (λ x. (x.0, x.1.now)) result
         (read_as (list_of vector2) (λ x. values.MFVec2f x) bytes.now) }
 {
-    let (points, rest) = list_of(alloc, bytes)?;
-    Ok((Value::MFVec2f(points), rest))
+    match list_of(alloc, bytes) {
+        Ok((points, rest)) => Ok((Value::MFVec2f(points), rest)),
+        Err(fault) => Err(fault),
+    }
 }
 
 pub(crate) fn points_of(alloc: Global, bytes: &[u8]) -> Result<(Value, &[u8]), PartFault>
     ensures { Reads (λ x. (x.0, x.1.now)) result
         (read_as (list_of vector3) (λ x. values.MFVec3f x) bytes.now) }
 {
-    let (points, rest) = list_of(alloc, bytes)?;
-    Ok((Value::MFVec3f(points), rest))
+    match list_of(alloc, bytes) {
+        Ok((points, rest)) => Ok((Value::MFVec3f(points), rest)),
+        Err(fault) => Err(fault),
+    }
 }
 
 pub(crate) fn colors_of(alloc: Global, bytes: &[u8]) -> Result<(Value, &[u8]), PartFault>
     ensures { Reads (λ x. (x.0, x.1.now)) result
         (read_as (list_of color) (λ x. values.MFColor x) bytes.now) }
 {
-    let (colors, rest) = list_of(alloc, bytes)?;
-    Ok((Value::MFColor(colors), rest))
+    match list_of(alloc, bytes) {
+        Ok((colors, rest)) => Ok((Value::MFColor(colors), rest)),
+        Err(fault) => Err(fault),
+    }
 }
