@@ -3,7 +3,7 @@ use Rattle.std.proofs.Common.{◌≡◌, ℕ, ◌+◌, ◌-◌, ◌<◌, Bool, t
 use Rattle.std.specs.List.{filter, range_with_len}
 use Rattle.std.proofs.lemmas.List.Elements.{filter_passes}
 use Rattle.x3d_values.specs.declared.node_type.NodeType.{NodeType}
-use Rattle.cascade_core.specs.Nodes.{is_clock, clocks_of, numbers_of}
+use Rattle.world_core.specs.Nodes.{is_clock, clocks_of, numbers_of}
 
 -- each of them is a time sensor's
 pub clocks-are : (kinds : List NodeType) (i d : ℕ) → i < length (clocks_of kinds) → is_clock kinds (get_or (clocks_of kinds) i d) ≡ true

@@ -1,16 +1,16 @@
 -- How many outputs have not sent.
-use Rattle.std.proofs.Common.{◌≡◌, ℕ, ◌+◌, ◌<◌, ◌≤◌, Bool, true, false, ◌&&◌, ◌||◌, List, [], ◌∷◌, ◌++◌, ◌∙◌, ap, refl, arith, eq-eqb, eqb-true, length}
-use Rattle.std.specs.Prelude.{◌==◌}
+use Rattle.std.proofs.Common.{◌≡◌, ℕ, ◌+◌, ◌<◌, ◌≤◌, Bool, true, false, ◌||◌, List, [], ◌∷◌, ◌++◌, refl, arith, length}
 use Rattle.std.proofs.lemmas.List.Folds.{list_any-append}
 use Rattle.std.proofs.Common.{length-append}
 use Rattle.std.proofs.lemmas.List.{length-map}
 use Rattle.std.proofs.lemmas.List.Sums.{sum_by-cons}
-use Rattle.cascade_core.specs.Ends.{has_sent, same_end}
+use Rattle.trace_core.proofs.SameEnds.{same_end-is, same_end-self}
+use Rattle.trace_core.specs.Ends.{has_sent, same_end}
 use Rattle.cascade_core.specs.Outputs.{ends_from, outputs_of}
 use Rattle.cascade_core.specs.Stack.{one_unless, unsent_among, unsent}
 use Rattle.scene_core.specs.declared.scene.End.{End}
 use Rattle.scene_core.specs.Shape.{Shape}
-use Rattle.cascade_core.specs.declared.world.Turn.{Turn}
+use Rattle.world_core.specs.declared.world.Turn.{Turn}
 
 has_sent-push : (sent : List End) (e o : End) → has_sent (sent ++ e ∷ []) o ≡ (has_sent sent o || (same_end e o || false))
 has_sent-push sent e o = list_any-append (λ x. same_end x o) sent (e ∷ [])
@@ -26,24 +26,6 @@ unfolding unsent_among
 unsent-push [] sent e = omega arith
 unsent-push (o ∷ os) sent e =
     rw (has_sent-push sent e o) (omega (arith, unsent-push os sent e, fewer (has_sent sent o) (same_end e o || false)))
-
-both : (x y : Bool) → (x && y) ≡ true → (x ≡ true) × (y ≡ true)
-both true true h = (refl, refl)
-both true false h = (refl, h)
-both false y h = cc
-
-abbrev made : ℕ → ℕ → End
-made node field = record { node = node; field = field }
-
-pub same_end-is : (a b : End) → same_end a b ≡ true → a ≡ b
-same_end-is a b h =
-    let (p, q) = both (a.node == b.node) (a.field == b.field) h in
-    let node : a.node ≡ b.node = eqb-true a.node b.node p in
-    let field : a.field ≡ b.field = eqb-true a.field b.field q in
-    ap (λ (n : ℕ). made n a.field) node ∙ ap (λ (f : ℕ). made b.node f) field
-
-pub same_end-self : (a : End) → same_end a a ≡ true
-same_end-self a = rw (eq-eqb a.node a.node refl, eq-eqb a.field a.field refl) refl
 
 -- one of them, that had not
 pub unsent-less : (os sent : List End) (e : End) → has_sent os e ≡ true → has_sent sent e ≡ false → unsent_among os (sent ++ e ∷ []) < unsent_among os sent

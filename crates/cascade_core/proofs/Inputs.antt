@@ -14,8 +14,8 @@ use Rattle.cascade_core.specs.Scripts.{kinds_in, running, states_of}
 use Rattle.cascade_core.specs.Settles.{settle}
 use Rattle.cascade_core.specs.Sound.{IsCast, IsFixed}
 use Rattle.cascade_core.specs.declared.fixed.Fixed.{Fixed}
-use Rattle.cascade_core.specs.declared.world.TraceLine.{TraceLine}
-use Rattle.cascade_core.specs.declared.world.Turn.{Turn}
+use Rattle.trace_core.specs.declared.trace.TraceLine.{TraceLine}
+use Rattle.world_core.specs.declared.world.Turn.{Turn}
 use Rattle.cascade_core.proofs.Gained.{gain-input}
 use Rattle.cascade_core.proofs.Gains.{IsGain}
 use Rattle.cascade_core.proofs.Keeping.{happen-of}

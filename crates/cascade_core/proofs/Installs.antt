@@ -15,9 +15,9 @@ use Rattle.script_host.specs.declared.fault.StateFault.TheVariants.{StateLength,
 use Rattle.script_turn.specs.Acting.{kinds_of}
 use Rattle.cascade_core.specs.Held.{Held, StageView, spoiled}
 use Rattle.cascade_core.specs.Installing.{RefusesBox, RefusesInstall}
-use Rattle.cascade_core.specs.Placing.{place_fault_of}
+use Rattle.stage_answers.specs.Placing.{place_fault_of}
 use Rattle.cascade_core.specs.Scripts.{kinds_in, running, scripts_in, states_of}
-use Rattle.cascade_core.proofs.Initialized.{running_states}
+use Rattle.running_scripts.proofs.Initialized.{running_states}
 use Rattle.cascade_core.proofs.SoundLemmas.{cast_stands}
 
 lengths : (xs ys : List ScriptRecord) → kinds_of xs ≡ kinds_of ys → length xs ≡ length ys

@@ -24,7 +24,7 @@ use Rattle.cascade_core.specs.Sound.{IsCast, IsFixed, IsSound, are_outputs, are_
 use Rattle.cascade_core.specs.Stack.{IsReady, finish, send_by}
 use Rattle.cascade_core.specs.declared.fixed.Fixed.{Fixed}
 use Rattle.cascade_core.specs.declared.stack.Task.{Task}
-use Rattle.cascade_core.specs.declared.world.Turn.{Turn}
+use Rattle.world_core.specs.declared.world.Turn.{Turn}
 use Rattle.cascade_core.proofs.Keeping.{replies-of}
 use Rattle.cascade_core.proofs.SceneOutputs.{AllOutputs}
 use Rattle.cascade_core.proofs.SoundLemmas.{act-sends}

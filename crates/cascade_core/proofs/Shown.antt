@@ -17,10 +17,10 @@ use Rattle.scene_core.specs.declared.scene.End.{End}
 use Rattle.pick_core.specs.Sensors.{is_enabled}
 use Rattle.pick_core.specs.Sites.{IsSameBut, rows_of}
 use Rattle.pick_core.proofs.Alike.{alike_but, alike_rows}
-use Rattle.cascade_core.specs.Access.{is_set}
-use Rattle.cascade_core.specs.Answers.{Answer, answer, answer_as, answer_by, forgetting, is_script, is_touch_sensor, keeping, meeting, met, not_run, nothing, reacting, setting, setting_at, ticked, ticking, ticking_at, touching, turns_off}
-use Rattle.cascade_core.specs.Nodes.{moves_boxes}
-use Rattle.cascade_core.specs.declared.world.WorldData.{WorldData}
+use Rattle.world_core.specs.Access.{is_set}
+use Rattle.world_core.specs.Answers.{Answer, answer, answer_as, answer_by, forgetting, is_script, is_touch_sensor, keeping, meeting, met, not_run, nothing, reacting, setting, setting_at, ticked, ticking, ticking_at, touching, turns_off}
+use Rattle.world_core.specs.Nodes.{moves_boxes}
+use Rattle.world_core.specs.declared.world.WorldData.{WorldData}
 
 -- ---- an answer changes the fields of its node alone
 

@@ -1,7 +1,7 @@
 -- What an input does, and the world of a scene and its inputs (ISO/IEC 19775-1, event model:
 -- execution model; that the clock goes to the time sensors, and a pointer to the touch sensors, in
 -- number order, and the order of scripts, is our choice).
-use Rattle.std.specs.Prelude.{ℕ, ℤ, pos, Bool, false, ◌+◌, ◌++◌, List, [], ◌∷◌, None, length, replicate, slice_set}
+use Rattle.std.specs.Prelude.{ℕ, ℤ, pos, Bool, false, ◌++◌, List, [], ◌∷◌, None, length, replicate}
 use Rattle.std.specs.List.{fold, range_with_len}
 use Rattle.x3d_values.specs.declared.ranges.TheConstants.{MAX_VIEWERS}
 use Rattle.x3d_values.specs.declared.stamped.Event.{Event}
@@ -15,16 +15,16 @@ use Rattle.scene_core.specs.Scene.{SceneView, state_of, types_of}
 use Rattle.script_host.specs.Behaviour.{Initialize}
 use Rattle.script_host.specs.Hosting.{ScriptRecord}
 use Rattle.script_turn.specs.Acting.{act}
-use Rattle.cascade_core.specs.Answers.{met, ticked, with_answer}
+use Rattle.world_core.specs.Answers.{met, ticked, with_answer}
 use Rattle.cascade_core.specs.Cascade.{send_replies}
 use Rattle.cascade_core.specs.Course.{Course, Plan, Scripted, course, ended, node_of, plan_of, ports_of, with_turn}
-use Rattle.cascade_core.specs.Nodes.{clocks_of}
-use Rattle.cascade_core.specs.Pointer.{concerned, insides, is_down, place_in}
+use Rattle.world_core.specs.Nodes.{clocks_of}
+use Rattle.world_core.specs.Pointer.{concerned, insides, is_down, place_in}
 use Rattle.cascade_core.specs.Scripts.{kinds_in, running, scripts_in}
 use Rattle.cascade_core.specs.Settles.{settle}
-use Rattle.cascade_core.specs.declared.pointer.Inside.{Inside}
-use Rattle.cascade_core.specs.declared.world.Turn.{Turn}
-use Rattle.cascade_core.specs.declared.world.WorldData.{WorldData}
+use Rattle.world_core.specs.declared.aim.Inside.{Inside}
+use Rattle.world_core.specs.declared.world.WorldData.{WorldData}
+pub use Rattle.world_core.specs.World.{begin, with_button}
 
 -- ---- an input
 
@@ -40,11 +40,6 @@ point_node scene plan p before is c sensor =
     let a = met scene c.turn.world sensor p before (place_in is sensor) in
     send_replies plan sensor (with_turn c (with_answer c.turn a)) a.replies
 
-abbrev pub with_button : Turn → Pointing → Turn
-with_button turn p =
-    let buttons = slice_set turn.world.buttons p.who p.down in
-    record turn { world = record turn.world { buttons = buttons } }
-
 -- a viewer points: where its ray hits, which sensors that is inside of, which of them it presses
 -- and whether its button was down are fixed first; then each sensor that is concerned meets the
 -- pointer at its turn
@@ -59,11 +54,6 @@ point scene plan c p =
 abbrev pub happen : SceneView → Plan → ℤ → Course → Event → Course
 happen scene plan now c Clock = fold (tick_node plan now) c (clocks_of (types_of scene))
 happen scene plan now c (Pointer p) = point scene plan c p
-
--- one input more, at its time; no output has sent yet
-abbrev pub begin : WorldData → Stamp → Turn
-begin w input =
-    record { world = record w { applied = w.applied + 1; last_time = input.time }; sent = [] }
 
 -- an input comes to a world: no script has received yet
 abbrev pub begun : SceneView → Scripted → Stamp → Course

@@ -11,10 +11,11 @@ use Rattle.script_due.specs.Settling.{Settling, unsettled}
 use Rattle.scene_scripts.specs.Runs.{runs_of}
 use Rattle.scene_scripts.specs.declared.runs.Run.{Run}
 use Rattle.cascade_core.specs.Scripts.{script_from, states_of}
+pub use Rattle.running_scripts.specs.Running.{no_ports}
 use Rattle.cascade_core.specs.declared.course.Course as lent
 use Rattle.cascade_core.specs.declared.fixed.Fixed.{Fixed}
-use Rattle.cascade_core.specs.declared.world.Turn.{Turn}
-use Rattle.cascade_core.specs.declared.world.WorldData.{WorldData}
+use Rattle.world_core.specs.declared.world.Turn.{Turn}
+use Rattle.world_core.specs.declared.world.WorldData.{WorldData}
 
 -- what events go by: the fields of the nodes, the routes, and the scripts that are run
 pub record Plan : Type 0 where
@@ -67,9 +68,6 @@ script_of plan node = script_from 0 plan.runs node
 -- the node of a script
 abbrev pub node_of : Plan → ℕ → ℕ
 node_of plan k = option_map_or (λ (run : Run). run.node) (slice_get plan.runs k) 0
-
-abbrev pub no_ports : Wiring
-no_ports = record { inputs = []; outputs = [] }
 
 abbrev pub ports_of : Plan → ℕ → Wiring
 ports_of plan k = option_map_or (λ (run : Run). run.ports) (slice_get plan.runs k) no_ports

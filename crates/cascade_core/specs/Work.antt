@@ -1,15 +1,10 @@
 -- What an input gave rise to, by the lines that the trace gained.
-use Rattle.std.specs.Prelude.{ℕ, Bool, ◌≡◌, true, not, ◌&&◌, ◌++◌, List, [], ◌∷◌, length, map, count_by}
+use Rattle.std.specs.Prelude.{ℕ, ◌≡◌, true, ◌++◌, List, length, map, count_by}
 use Rattle.scene_core.specs.declared.scene.End.{End}
 use Rattle.scene_core.specs.declared.scene.Route.{Route}
-use Rattle.cascade_core.specs.Ends.{has_sent}
-use Rattle.cascade_core.specs.declared.work.Work.{Work}
-use Rattle.cascade_core.specs.declared.world.TraceLine.{TraceLine}
-
--- the ends are different from each other
-abbrev pub all_differ : List End → Bool
-all_differ [] = true
-all_differ (e ∷ es) = not (has_sent es e) && all_differ es
+use Rattle.trace_core.specs.Ends.{all_differ, has_sent}
+use Rattle.stage_answers.specs.declared.work.Work.{Work}
+use Rattle.trace_core.specs.declared.trace.TraceLine.{TraceLine}
 
 -- the outputs that sent
 abbrev pub sources_of : List TraceLine → List End

@@ -3,14 +3,14 @@
 ghost use Rattle.std.specs.Prelude.{◌≡◌, [], OnOk, slice_get};
 ghost use Rattle.pick_core.specs.Sites.{rows_of};
 ghost use Rattle.scene_core.specs.Scene.{shapes_of, types_of};
-ghost use Rattle.cascade_core.specs.Answers.{answer, answered, with_answer};
-ghost use Rattle.cascade_core.specs.Nodes.{moves_boxes};
+ghost use Rattle.world_core.specs.Answers.{answer, answered, with_answer};
+ghost use Rattle.world_core.specs.Nodes.{moves_boxes};
 
-use crate::world::{Turn, WorldData};
 use pick_core::BoxCache;
 use react_core::Outbox;
 use scene_core::{End, Scene};
 use std::alloc::{AllocError, Global};
+use world_core::{Turn, WorldData};
 use x3d_values::{NodeType, Value};
 
 /// Whether an event at a node may move boxes, or show or hide them: where it is a Transform or a
@@ -25,54 +25,50 @@ fn moves_boxes(scene: &Scene, node: u32) -> bool
     }
 }
 
-impl Turn {
-    /// An event comes to the target, if there is such a node, whatever has sent before.
-    pub(crate) fn deliver(
-        &mut self,
-        alloc: Global,
-        scene: &Scene,
-        boxes: &mut BoxCache,
-        target: End,
-        value: &Value,
-        out: &mut Outbox,
-    ) -> Result<(), AllocError>
-        requires empty { out.old.items ≡ [] }
-        requires boxes { boxes.old ≡ rows_of scene.now self.old.world.fields }
-        ensures turn { OnOk result (self.new
-            ≡ with_answer self.old (answer (shapes_of scene.now) self.old.world target value.now)) }
-        ensures replies { OnOk result (out.new.items
-            ≡ (answer (shapes_of scene.now) self.old.world target value.now).replies) }
-        ensures boxes { OnOk result (boxes.new ≡ rows_of scene.now self.new.world.fields) }
-    {
-        self.world.answer(alloc, scene, boxes, target, value, out)
-    }
+/// An event comes to the target, if there is such a node, whatever has sent before.
+pub fn deliver(
+    turn: &mut Turn,
+    alloc: Global,
+    scene: &Scene,
+    boxes: &mut BoxCache,
+    target: End,
+    value: &Value,
+    out: &mut Outbox,
+) -> Result<(), AllocError>
+    requires empty { out.old.items ≡ [] }
+    requires boxes { boxes.old ≡ rows_of scene.now turn.old.world.fields }
+    ensures turn { OnOk result (turn.new
+        ≡ with_answer turn.old (answer (shapes_of scene.now) turn.old.world target value.now)) }
+    ensures replies { OnOk result (out.new.items
+        ≡ (answer (shapes_of scene.now) turn.old.world target value.now).replies) }
+    ensures boxes { OnOk result (boxes.new ≡ rows_of scene.now turn.new.world.fields) }
+{
+    answer(&mut turn.world, alloc, scene, boxes, target, value, out)
 }
 
-impl WorldData {
-    /// An event comes to the target, if there is such a node.
-    fn answer(
-        &mut self,
-        alloc: Global,
-        scene: &Scene,
-        boxes: &mut BoxCache,
-        target: End,
-        value: &Value,
-        out: &mut Outbox,
-    ) -> Result<(), AllocError>
-        requires empty { out.old.items ≡ [] }
-        requires boxes { boxes.old ≡ rows_of scene.now self.old.fields }
-        ensures world { OnOk result
-            (self.new ≡ answered self.old
-            (answer (shapes_of scene.now) self.old target value.now)) }
-        ensures replies { OnOk result
-            (out.new.items ≡ (answer (shapes_of scene.now) self.old target value.now).replies) }
-        ensures boxes { OnOk result (boxes.new ≡ rows_of scene.now self.new.fields) }
-    {
-        self.reply_to(alloc, scene, target, value, out)?;
-        if !moves_boxes(scene, target.node) {
-            return Ok(());
-        }
-        boxes.renew(scene, self.fields.as_slice(), target.node);
-        Ok(())
+/// An event comes to the target, if there is such a node.
+fn answer(
+    world: &mut WorldData,
+    alloc: Global,
+    scene: &Scene,
+    boxes: &mut BoxCache,
+    target: End,
+    value: &Value,
+    out: &mut Outbox,
+) -> Result<(), AllocError>
+    requires empty { out.old.items ≡ [] }
+    requires boxes { boxes.old ≡ rows_of scene.now world.old.fields }
+    ensures world { OnOk result
+        (world.new ≡ answered world.old
+        (answer (shapes_of scene.now) world.old target value.now)) }
+    ensures replies { OnOk result
+        (out.new.items ≡ (answer (shapes_of scene.now) world.old target value.now).replies) }
+    ensures boxes { OnOk result (boxes.new ≡ rows_of scene.now world.new.fields) }
+{
+    world.reply_to(alloc, scene, target, value, out)?;
+    if !moves_boxes(scene, target.node) {
+        return Ok(());
     }
+    boxes.renew(scene, world.fields.as_slice(), target.node);
+    Ok(())
 }

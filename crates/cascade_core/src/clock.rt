@@ -7,7 +7,7 @@ ghost use Rattle.pick_core.specs.Sites.{rows_of};
 ghost use Rattle.script_turn.specs.Acting.{kinds_of};
 ghost use Rattle.cascade_core.specs.Course.{plan_at, seen};
 ghost use Rattle.cascade_core.specs.Sound.{IsCast};
-ghost use Rattle.cascade_core.specs.Nodes.{clocks_of, is_clock};
+ghost use Rattle.world_core.specs.Nodes.{clocks_of, is_clock};
 ghost use Rattle.cascade_core.specs.Apply.{tick_node as tick_node_of};
 
 use crate::course::Course;

@@ -7,15 +7,16 @@ ghost use Rattle.cascade_core.specs.Course.{plan_at, seen};
 ghost use Rattle.cascade_core.specs.Cascade.{arrival, reached, received_by};
 ghost use Rattle.cascade_core.specs.Sound.{IsCast};
 
-use crate::begun::BegunScripts;
+use crate::boxes::deliver;
 use crate::fixed::Fixed;
-use crate::world::Turn;
 use pick_core::BoxCache;
 use react_core::Outbox;
+use running_scripts::BegunScripts;
 use scene_core::End;
 use script_due::DueScripts;
 use script_host::Behaviour;
 use std::alloc::{AllocError, Global};
+use world_core::Turn;
 use x3d_values::Value;
 
 /// A world in the course of one input, its scripts, and which of them received in it and were
@@ -88,7 +89,14 @@ impl<B: Behaviour> Course<B> {
         if self.receive(fixed, target, value, out)? {
             return Ok(());
         }
-        self.turn
-            .deliver(alloc, &fixed.scene, boxes, target, value, out)
+        deliver(
+            &mut self.turn,
+            alloc,
+            &fixed.scene,
+            boxes,
+            target,
+            value,
+            out,
+        )
     }
 }

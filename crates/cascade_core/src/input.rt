@@ -9,20 +9,20 @@ ghost use Rattle.cascade_core.specs.Sound.{IsCast, IsFixed};
 ghost use Rattle.cascade_core.specs.Course.{course as course_of, ended, plan_of};
 ghost use Rattle.cascade_core.specs.Scripts.{kinds_in, running, states_of};
 ghost use Rattle.cascade_core.specs.Apply.{begin as begin_of};
-ghost use Rattle.cascade_core.specs.Nodes.{clocks_of, touch_sensors_of};
+ghost use Rattle.world_core.specs.Nodes.{clocks_of, touch_sensors_of};
 ghost use Rattle.cascade_core.specs.Work.{IsWork};
 ghost use Rattle.cascade_core.specs.Apply.{after_input, apply, begun, happen};
 
 use crate::bench::{Bench, Sensors};
 use crate::clock::clock;
 use crate::course::Course;
-use crate::deliveries::deliveries;
 use crate::fixed::Fixed;
 use crate::pointer::point;
 use crate::settle::settle;
-use crate::work::Work;
 use script_host::Behaviour;
+use stage_answers::Work;
 use std::alloc::AllocError;
+use trace_core::deliveries;
 use x3d_values::{Event, Stamped};
 
 impl<B: Behaviour> Course<B> {

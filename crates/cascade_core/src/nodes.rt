@@ -2,7 +2,7 @@
 
 ghost use Rattle.std.specs.Prelude.{◌≡◌, ◌<◌, ◌^◌, ◌≤◌, IfOk, length, slice_get, Some};
 ghost use Rattle.scene_core.specs.Scene.{types_of};
-ghost use Rattle.cascade_core.specs.Nodes.{is_of, numbers_of};
+ghost use Rattle.world_core.specs.Nodes.{is_of, numbers_of};
 
 use scene_core::Scene;
 use std::alloc::{AllocError, Global};
@@ -19,7 +19,7 @@ fn is_of(scene: &Scene, node: u32, wanted: NodeType) -> bool
 }
 
 /// The numbers of the nodes of a type, in order.
-#[tactic(auto, unfolding(crate::specs::Nodes::numbers_of))]
+#[tactic(auto, unfolding(world_core::specs::Nodes::numbers_of))]
 pub fn numbers_of(alloc: Global, scene: &Scene, wanted: NodeType) -> Result<Vec<u32>, AllocError>
     ensures { IfOk result (λ numbers. numbers.items ≡ numbers_of wanted (types_of scene.now)) }
 {

@@ -13,19 +13,19 @@ ghost use Rattle.cascade_core.specs.Scripts.{kinds_in, scripts_in};
 ghost use Rattle.cascade_core.specs.Settles.{settle as settle_of};
 ghost use Rattle.cascade_core.specs.Sound.{IsCast, IsSound, IsFixed, are_sent};
 
-use crate::begun::BegunScripts;
 use crate::bench::Bench;
 use crate::course::Course;
 use crate::fixed::Fixed;
 use crate::settle::settle;
 use crate::stack::{Task, push_replies, run_tasks};
-use crate::world::Turn;
 use pick_core::BoxCache;
 use react_core::Outbox;
+use running_scripts::BegunScripts;
 use script_due::DueScripts;
 use script_host::{Behaviour, Scripts};
 use std::alloc::{AllocError, Global};
 use std::marker::Model;
+use world_core::Turn;
 
 /// What the node of a script is to send.
 #[derive(Drop)]

@@ -9,23 +9,22 @@ ghost use Rattle.scene_scripts.specs.Scripts.{script_list};
 ghost use Rattle.cascade_core.specs.Course.{plan_at};
 ghost use Rattle.cascade_core.specs.Sound.{IsFixed, IsSound};
 ghost use Rattle.cascade_core.specs.Apply.{untold};
-ghost use Rattle.cascade_core.specs.Nodes.{clocks_of, touch_sensors_of};
+ghost use Rattle.world_core.specs.Nodes.{clocks_of, touch_sensors_of};
 ghost use Rattle.pick_core.specs.Sites.{rows_of};
 ghost use Rattle.scene_core.specs.Scene.{types_of};
 ghost use Rattle.sensor_core.specs.Touches.{untouched};
 
 use crate::bench::{Bench, Sensors};
-use crate::fixed::{Fixed, Runs};
+use crate::fixed::Fixed;
 use crate::nodes::numbers_of;
-use crate::sent::SentBits;
-use crate::state::State;
-use crate::trace::Trace;
-use crate::world::{Turn, VIEWERS, WorldData};
 use pick_core::BoxCache;
 use route_core::Routes;
+use running_scripts::Runs;
 use scene_core::Scene;
 use sensor_core::{TimeState, TouchState};
 use std::alloc::{AllocError, Global};
+use trace_core::{SentBits, Trace};
+use world_core::{State, Turn, VIEWERS, WorldData};
 use x3d_lists::Items;
 use x3d_values::NodeType;
 

@@ -8,11 +8,11 @@ ghost use Rattle.cascade_core.specs.InTurn.{AreInTurn};
 ghost use Rattle.scene_scripts.specs.Scripts.{script_list};
 ghost use Rattle.script_host.specs.Attaching.{Fits};
 
-use crate::fault::ApplyFault;
 use crate::stage::Stage;
 use route_core::Routes;
 use scene_core::Scene;
 use script_host::{Behaviour, Scripts};
+use stage_answers::ApplyFault;
 use std::alloc::Global;
 use x3d_values::Stamped;
 

@@ -4,7 +4,7 @@ ghost use Rattle.std.specs.Prelude.{◌≡◌, ◌+◌, ◌≤◌, ◌<◌, ◌^
 ghost use Rattle.std.specs.List.{AllByRecursion};
 ghost use Rattle.scene_core.specs.Scene.{shapes_of};
 ghost use Rattle.pick_core.specs.Sites.{rows_of};
-ghost use Rattle.cascade_core.specs.Ends.{targets_of};
+ghost use Rattle.trace_core.specs.Ends.{targets_of};
 ghost use Rattle.cascade_core.specs.Outputs.{is_scene_output};
 ghost use Rattle.cascade_core.specs.Course.{plan_at, seen};
 ghost use Rattle.cascade_core.specs.Cascade.{send_full};

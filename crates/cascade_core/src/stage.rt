@@ -2,21 +2,20 @@
 
 use crate::bench::{Bench, Sensors};
 use crate::course::Course;
-use crate::fault::{ApplyFault, LoadFault, PlaceFault, StatesFault, TextFault};
 use crate::fixed::Fixed;
 use crate::input::advance;
 use crate::opening::open;
 use crate::parts::{Parts, bench_of, fixed_of, parts_of};
-use crate::texts::push_trace;
-use crate::work::Work;
-use crate::world::WorldData;
 use route_core::Routes;
 use scene_core::Scene;
 use scene_text::write_scene;
 use script_host::{Behaviour, Scripts, StateFault};
+use stage_answers::{ApplyFault, LoadFault, PlaceFault, StatesFault, TextFault, Work};
 use std::alloc::Global;
 use std::marker::Model;
 use std::mem;
+use trace_core::push_trace;
+use world_core::WorldData;
 use x3d_values::{Items, Stamped};
 
 /// A scene with its world, which moves on by inputs.
@@ -33,7 +32,7 @@ impl<B: Behaviour> Model for Stage<B> {
     ghost use Rattle.std.specs.Prelude.{◌≡◌, IfNone};
     ghost use Rattle.pick_core.specs.Sites.{rows_of};
     ghost use Rattle.scene_core.specs.Scene.{types_of};
-    ghost use Rattle.cascade_core.specs.Nodes.{clocks_of, touch_sensors_of};
+    ghost use Rattle.world_core.specs.Nodes.{clocks_of, touch_sensors_of};
     ghost use Rattle.cascade_core.specs.Held.{StageView, held_of};
     ghost use Rattle.cascade_core.specs.Course.{ended, plan_at, seen};
     ghost use Rattle.cascade_core.specs.Scripts.{kinds_in};

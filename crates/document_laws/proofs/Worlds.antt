@@ -10,7 +10,7 @@ use Rattle.scene_core.specs.declared.scene.Route.{Route}
 use Rattle.scene_core.specs.Scene.{SceneView, shape_of}
 use Rattle.script_laws.specs.Nodes.{RunsAll}
 use Rattle.cascade_core.specs.Course.{Scripted}
-use Rattle.cascade_core.specs.declared.world.WorldData.{WorldData}
+use Rattle.world_core.specs.declared.world.WorldData.{WorldData}
 use Rattle.cascade_core.specs.Apply.{apply, opening, world, world_after}
 use Rattle.cascade_core.specs.InTurn.{Follow}
 use Rattle.cascade_core.proofs.Turns.{apply-at, opening-at}

@@ -9,7 +9,7 @@ use Rattle.x3d_values.specs.declared.node_type.NodeType.TheVariants.{TimeSensor,
 use Rattle.x3d_values.specs.declared.ranges.TheConstants.{MAX_VIEWERS}
 use Rattle.sensor_core.specs.Touches.{Touch, untouched}
 use Rattle.scene_core.specs.Shape.{Shape}
-use Rattle.cascade_core.specs.declared.world.WorldData.{WorldData}
+use Rattle.world_core.specs.declared.world.WorldData.{WorldData}
 use Rattle.answer_laws.specs.Ranges.{fields_fit}
 use Rattle.world_laws.specs.Fits.{WorldFits, node_fits, nodes_fit, pointers_fit, time_fits}
 use Rattle.scenes_stay.specs.Fitting.{state_fits}

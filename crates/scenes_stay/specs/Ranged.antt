@@ -1,6 +1,6 @@
 -- What the nodes of a world keep is in the range of its field (ISO/IEC 19775-1, field semantics).
 use Rattle.scene_core.specs.Scene.{SceneView, shapes_of}
-use Rattle.cascade_core.specs.declared.world.WorldData.{WorldData}
+use Rattle.world_core.specs.declared.world.WorldData.{WorldData}
 use Rattle.world_laws.specs.Fits.{WorldFits}
 use Rattle.scenes_exist_again.specs.Exist.{AreInRange}
 

@@ -17,8 +17,8 @@ use Rattle.scene_core.specs.Scene.{SceneView, shapes_of}
 use Rattle.scene_core.specs.Shape.{Shape, rows_of}
 use Rattle.cascade_core.specs.Course.{Scripted}
 use Rattle.cascade_core.specs.Scripts.{kinds_in}
-use Rattle.cascade_core.specs.declared.world.TraceLine.{TraceLine}
-use Rattle.cascade_core.specs.declared.world.WorldData.{WorldData}
+use Rattle.trace_core.specs.declared.trace.TraceLine.{TraceLine}
+use Rattle.world_core.specs.declared.world.WorldData.{WorldData}
 use Rattle.snapshot_core.specs.declared.nodes.NodeLists.{NodeLists}
 use Rattle.snapshot_core.specs.declared.world.Found.{Found}
 use Rattle.snapshot_core.specs.declared.world.WorldParts.{WorldParts}

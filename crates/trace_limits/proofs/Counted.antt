@@ -14,7 +14,7 @@ use Rattle.scene_core.specs.Shape.{Shape, declared_entry, most_declared, numbere
 use Rattle.scene_core.specs.declared.row.DeclaredField.{DeclaredField}
 use Rattle.scene_core.specs.declared.scene.Route.{Route}
 use Rattle.scene_core.specs.declared.scene.SceneNode.{SceneNode}
-use Rattle.cascade_core.specs.Access.{is_output}
+use Rattle.world_core.specs.Access.{is_output}
 use Rattle.script_laws.specs.Nodes.{RunsAll}
 use Rattle.cascade_core.specs.Apply.{apply, opening, world_after}
 use Rattle.cascade_core.specs.Course.{Scripted}

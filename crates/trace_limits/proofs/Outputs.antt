@@ -26,7 +26,7 @@ use Rattle.scene_scripts.specs.Scripts.{script_list}
 use Rattle.scene_scripts.specs.declared.runs.Run.{Run}
 use Rattle.script_laws.specs.Nodes.{RunsAll, Sends}
 use Rattle.script_laws.proofs.Outputs.{all_outputs_typed}
-use Rattle.cascade_core.specs.Access.{is_output}
+use Rattle.world_core.specs.Access.{is_output}
 use Rattle.cascade_core.specs.Course.{no_ports, node_of, plan_of, ports_of}
 use Rattle.cascade_core.specs.Outputs.{is_scene_output}
 use Rattle.cascade_core.specs.Scripts.{kinds_in, running, scripts_in}

@@ -10,16 +10,16 @@ use Rattle.scene_core.specs.Shape.{Shape}
 use Rattle.scene_core.specs.declared.scene.End.{End}
 use Rattle.scene_core.specs.declared.scene.Route.{Route}
 use Rattle.script_laws.specs.Nodes.{RunsAll}
-use Rattle.cascade_core.specs.Answers.{answer, met, ticked}
+use Rattle.world_core.specs.Answers.{answer, met, ticked}
 use Rattle.cascade_core.specs.Apply.{after_input, apply, begin, begun, untold}
 use Rattle.cascade_core.specs.Course.{Course, Scripted, plan_of}
-use Rattle.cascade_core.specs.Ends.{has_sent, targets_of}
+use Rattle.trace_core.specs.Ends.{has_sent, targets_of}
 use Rattle.cascade_core.specs.Outputs.{ends_from, is_scene_output, outputs_of}
-use Rattle.cascade_core.specs.Pointer.{insides, place_in}
+use Rattle.world_core.specs.Pointer.{insides, place_in}
 use Rattle.cascade_core.specs.Stack.{unsent_among}
-use Rattle.cascade_core.specs.World.{record_event}
-use Rattle.cascade_core.specs.declared.world.TraceLine.{TraceLine}
-use Rattle.cascade_core.specs.declared.world.Turn.{Turn}
+use Rattle.world_core.specs.World.{record_event}
+use Rattle.trace_core.specs.declared.trace.TraceLine.{TraceLine}
+use Rattle.world_core.specs.declared.world.Turn.{Turn}
 use Rattle.cascade_core.proofs.Folds.{all_free}
 use Rattle.cascade_core.proofs.Fuel.{unsent-bound, unsent-less}
 use Rattle.cascade_core.proofs.Gains.{IsGain, gain-begin, gain-button, gain-record, gain-state}

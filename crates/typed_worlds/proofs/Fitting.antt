@@ -21,7 +21,7 @@ use Rattle.snapshot_codec.specs.Values.{value_fits}
 use Rattle.sensor_core.specs.Touches.{Touch}
 use Rattle.scene_core.specs.Scene.{SceneView, rows_at, shapes_of}
 use Rattle.scene_core.specs.Shape.{Shape, rows_of}
-use Rattle.cascade_core.specs.declared.world.WorldData.{WorldData}
+use Rattle.world_core.specs.declared.world.WorldData.{WorldData}
 use Rattle.answer_laws.specs.Ranges.{fields_fit, position_fits, values_fit}
 use Rattle.world_laws.specs.Fits.{WorldFits, node_fits, nodes_fit, pointers_fit, time_fits}
 use Rattle.typed_worlds.specs.Typed.{FittingAreOfType}

@@ -7,7 +7,7 @@ use Rattle.scene_core.specs.Scene.{SceneView, shapes_of}
 use Rattle.script_laws.specs.Nodes.{RunsAll}
 use Rattle.cascade_core.specs.Apply.{world}
 use Rattle.cascade_core.specs.Course.{Scripted}
-use Rattle.cascade_core.specs.declared.world.WorldData.{WorldData}
+use Rattle.world_core.specs.declared.world.WorldData.{WorldData}
 use Rattle.share_law.specs.Cascade.{cascade}
 use Rattle.share_law.specs.Network.{Network}
 use Rattle.share_law.specs.Reached.{IsRunning, Reached}

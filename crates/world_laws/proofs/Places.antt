@@ -19,8 +19,8 @@ use Rattle.pick_core.specs.Motion.{clamped}
 use Rattle.pick_core.specs.Picked.{picked}
 use Rattle.pick_core.specs.Sensors.{list_of, siblings_in, sensors_of}
 use Rattle.pick_core.specs.declared.hit.Hit.{Hit}
-use Rattle.cascade_core.specs.Pointer.{inside_of, insides, place_in}
-use Rattle.cascade_core.specs.declared.pointer.Inside.{Inside}
+use Rattle.world_core.specs.Pointer.{inside_of, insides, place_in}
+use Rattle.world_core.specs.declared.aim.Inside.{Inside}
 
 low_fits : (z : ℤ) → (b : Bool) → int_lt z (neg_ℤ (pos 1000000000000000)) ≡ b → int_lt (pos 1000000000000000) z ≡ false → is_within (10 ^ 15) (if b then neg_ℤ (pos 1000000000000000) else z) ≡ true
 low_fits z true e h = refl

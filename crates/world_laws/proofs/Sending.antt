@@ -12,11 +12,11 @@ use Rattle.snapshot_codec.specs.Trace.{typed_fits}
 use Rattle.scene_core.specs.declared.scene.End.{End}
 use Rattle.scene_core.specs.declared.scene.Route.{Route}
 use Rattle.scene_core.specs.Shape.{Shape, rows_of}
-use Rattle.cascade_core.specs.Answers.{Answer}
-use Rattle.cascade_core.specs.Ends.{same_end, targets_of}
-use Rattle.cascade_core.specs.World.{record_event}
-use Rattle.cascade_core.specs.declared.world.TraceLine.{TraceLine}
-use Rattle.cascade_core.specs.declared.world.Turn.{Turn}
+use Rattle.world_core.specs.Answers.{Answer}
+use Rattle.trace_core.specs.Ends.{same_end, targets_of}
+use Rattle.world_core.specs.World.{record_event}
+use Rattle.trace_core.specs.declared.trace.TraceLine.{TraceLine}
+use Rattle.world_core.specs.declared.world.Turn.{Turn}
 use Rattle.snapshot_core.specs.WorldCodec.{sent_type, output_type}
 use Rattle.answer_laws.proofs.Pointers.{all_append}
 use Rattle.answer_laws.proofs.Rows.{then_some}

@@ -16,7 +16,7 @@ use Rattle.snapshot_codec.specs.Parts.{cycle_codec, position_codec}
 use Rattle.snapshot_codec.specs.Trace.{typed_fits, is_moment, sent_at_codec, entry_codec}
 use Rattle.scene_core.specs.Scene.{SceneView, shapes_of}
 use Rattle.scene_core.specs.Shape.{Shape, rows_of}
-use Rattle.cascade_core.specs.declared.world.TraceLine.{TraceLine}
+use Rattle.trace_core.specs.declared.trace.TraceLine.{TraceLine}
 use Rattle.cascade_core.specs.Course.{Scripted}
 use Rattle.cascade_core.specs.Installing.{StatesFit}
 use Rattle.snapshot_core.proofs.StateSizes.{states_have}

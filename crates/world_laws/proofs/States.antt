@@ -24,9 +24,9 @@ use Rattle.scene_core.specs.declared.scene.End.{End}
 use Rattle.scene_core.specs.Scene.{SceneView}
 use Rattle.scene_core.specs.Shape.{Shape, rows_of}
 use Rattle.pick_core.specs.Sensors.{is_enabled}
-use Rattle.cascade_core.specs.Access.{is_set}
-use Rattle.cascade_core.specs.Answers.{Answer, nothing, reacting, setting, setting_at, is_touch_sensor, is_script, turns_off, forgetting, touching, keeping, not_run, answer_as, answer, ticking, ticking_at, ticked, meeting, met}
-use Rattle.cascade_core.specs.declared.world.WorldData.{WorldData}
+use Rattle.world_core.specs.Access.{is_set}
+use Rattle.world_core.specs.Answers.{Answer, nothing, reacting, setting, setting_at, is_touch_sensor, is_script, turns_off, forgetting, touching, keeping, not_run, answer_as, answer, ticking, ticking_at, ticked, meeting, met}
+use Rattle.world_core.specs.declared.world.WorldData.{WorldData}
 use Rattle.snapshot_core.specs.Nodes.{touch_fits}
 use Rattle.snapshot_core.specs.WorldCodec.{sent_type, output_type}
 use Rattle.answer_laws.specs.Ranges.{fields_fit, event_fits, sent_fits, replies_fit}

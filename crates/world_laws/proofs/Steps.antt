@@ -19,14 +19,14 @@ use Rattle.scene_core.specs.declared.scene.Route.{Route}
 use Rattle.scene_core.specs.declared.scene.SceneNode.{SceneNode}
 use Rattle.scene_core.specs.Scene.{SceneView, shape_of, shapes_of, types_of}
 use Rattle.scene_core.specs.Shape.{Shape, rows_of, declared_entry, most_declared, numbered_fields, shape_by}
-use Rattle.cascade_core.specs.Answers.{answer, met, ticked}
+use Rattle.world_core.specs.Answers.{answer, met, ticked}
 use Rattle.cascade_core.specs.Apply.{after_input, apply, begun, with_button}
 use Rattle.cascade_core.specs.Course.{Course, Scripted, ended, plan_of}
-use Rattle.cascade_core.specs.Nodes.{is_of}
-use Rattle.cascade_core.specs.Pointer.{insides, place_in}
+use Rattle.world_core.specs.Nodes.{is_of}
+use Rattle.world_core.specs.Pointer.{insides, place_in}
 use Rattle.cascade_core.specs.Scripts.{scripts_in}
-use Rattle.cascade_core.specs.declared.world.Turn.{Turn}
-use Rattle.cascade_core.proofs.Shapes.{shape_at}
+use Rattle.world_core.specs.declared.world.Turn.{Turn}
+use Rattle.world_core.proofs.Shapes.{shape_at}
 use Rattle.answer_laws.proofs.Rows.{some_is}
 use Rattle.world_laws.specs.Fits.{IsStaged, OpeningsFit, ScriptedFits, StepsFit, WorldFits, is_event}
 use Rattle.world_laws.proofs.Calls.{InStates, calls_fit, running_in, starts_in, states_are}

@@ -18,19 +18,19 @@ use Rattle.script_host.specs.Hosting.{ScriptRecord}
 use Rattle.script_turn.specs.Acting.{Acted, act}
 use Rattle.script_due.specs.Settling.{with_settled}
 use Rattle.script_laws.specs.Calls.{call_fits}
-use Rattle.cascade_core.specs.Answers.{Answer, answer, met, ticked, with_answer}
+use Rattle.world_core.specs.Answers.{Answer, answer, met, ticked, with_answer}
 use Rattle.cascade_core.specs.Apply.{Sending, Started, after_input, begin, begun, happen, opening, opening_course, point, point_node, sent_by_all, start_one, started, tick_node, untold, with_button}
 use Rattle.cascade_core.specs.Cascade.{Arrival, arrival, deliver, reached, reached_by, recorded, send, send_all, send_replies}
 use Rattle.cascade_core.specs.Course.{Course, Plan, Scripted, ended, node_of, plan_of, ports_of, with_turn}
-use Rattle.cascade_core.specs.Ends.{has_sent, targets_of}
-use Rattle.cascade_core.specs.Nodes.{clocks_of, is_of, numbers_of, touch_sensors_of}
+use Rattle.trace_core.specs.Ends.{has_sent, targets_of}
+use Rattle.world_core.specs.Nodes.{clocks_of, is_of, numbers_of, touch_sensors_of}
 use Rattle.cascade_core.specs.Outputs.{outputs_of}
-use Rattle.cascade_core.specs.Pointer.{concerned, insides, is_down, is_pressed, or_all, place_in}
+use Rattle.world_core.specs.Pointer.{concerned, insides, is_down, is_pressed, or_all, place_in}
 use Rattle.cascade_core.specs.Scripts.{kinds_in, running, scripts_in}
 use Rattle.cascade_core.specs.Settles.{next_due, settle, settle_one, settle_up_to}
-use Rattle.cascade_core.specs.World.{record_event}
-use Rattle.cascade_core.specs.declared.world.Turn.{Turn}
-use Rattle.cascade_core.specs.declared.world.WorldData.{WorldData}
+use Rattle.world_core.specs.World.{record_event}
+use Rattle.world_core.specs.declared.world.Turn.{Turn}
+use Rattle.world_core.specs.declared.world.WorldData.{WorldData}
 use Rattle.cascade_core.proofs.Folds.{all_free, fold-keeps}
 use Rattle.world_laws.proofs.Casts.{Arrives, arrives}
 

@@ -24,8 +24,8 @@ use Rattle.cascade_core.specs.Apply.{apply, opening, untold}
 use Rattle.cascade_core.specs.Course.{Scripted}
 use Rattle.cascade_core.specs.Installing.{StatesFit}
 use Rattle.cascade_core.specs.Scripts.{scripts_in, states_of}
-use Rattle.cascade_core.specs.declared.world.TraceLine.{TraceLine}
-use Rattle.cascade_core.specs.declared.world.WorldData.{WorldData}
+use Rattle.trace_core.specs.declared.trace.TraceLine.{TraceLine}
+use Rattle.world_core.specs.declared.world.WorldData.{WorldData}
 use Rattle.snapshot_core.specs.Nodes.{touch_fits, is_untouched}
 use Rattle.snapshot_core.specs.WorldCodec.{output_type}
 use Rattle.answer_laws.specs.Ranges.{fields_fit}

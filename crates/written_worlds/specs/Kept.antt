@@ -1,7 +1,7 @@
 -- What the nodes of a world keep can be written (the ranges are our choice).
 use Rattle.std.specs.Prelude.{List}
 use Rattle.scene_core.specs.Shape.{Shape}
-use Rattle.cascade_core.specs.declared.world.WorldData.{WorldData}
+use Rattle.world_core.specs.declared.world.WorldData.{WorldData}
 use Rattle.world_laws.specs.Fits.{WorldFits}
 use Rattle.scene_round_trip.specs.Writable.{AreKeepable}
 

@@ -1,5 +1,5 @@
 use Rattle.std.proofs.Common.{◌∙◌}
-use Rattle.cascade_core.specs.Answers.{ticked, with_answer}
+use Rattle.world_core.specs.Answers.{ticked, with_answer}
 use Rattle.cascade_core.specs.Course.{plan_at, seen, with_turn}
 use Rattle.cascade_core.specs.Apply.{tick_node}
 use Rattle.cascade_core.proofs.Shown.{ticked-fields}

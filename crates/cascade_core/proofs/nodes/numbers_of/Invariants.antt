@@ -1,7 +1,7 @@
 use Rattle.std.proofs.Common.{◌≡◌, ◌++◌, ◌-◌}
 use Rattle.std.specs.List.{filter, range_with_len}
 use Rattle.scene_core.specs.Scene.{types_of}
-use Rattle.cascade_core.specs.Nodes.{is_of, numbers_of}
+use Rattle.world_core.specs.Nodes.{is_of, numbers_of}
 use Rattle.cascade_core.proofs.nodes.numbers_of.Given as goal
 
 -- the nodes of the type so far, and those that are left

@@ -1,7 +1,7 @@
 use Rattle.std.proofs.Common.{◌∙◌}
-use Rattle.cascade_core.specs.Answers.{met, with_answer}
+use Rattle.world_core.specs.Answers.{met, with_answer}
 use Rattle.cascade_core.specs.Course.{plan_at, seen, with_turn}
-use Rattle.cascade_core.specs.Pointer.{place_in}
+use Rattle.world_core.specs.Pointer.{place_in}
 use Rattle.cascade_core.specs.Apply.{point_node}
 use Rattle.cascade_core.proofs.Shown.{met-fields}
 use Rattle.cascade_core.proofs.Tasks.{finish-all, met-ready}

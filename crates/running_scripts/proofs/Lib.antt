@@ -1,0 +1,3 @@
+pub mod Initialized
+pub mod Runnings
+mod Numbers

@@ -1,0 +1,6 @@
+pub mod SameEnds
+pub mod RoutePlaces
+mod Counting
+mod Marks
+mod Traces
+mod Told

@@ -1,0 +1,4 @@
+pub mod Bits
+pub mod Ends
+pub mod LineText
+pub mod Trace

@@ -1,0 +1,5 @@
+pub mod Shapes
+pub mod Senders
+pub mod Sensing
+pub mod SensorReplies
+pub mod TouchReplies

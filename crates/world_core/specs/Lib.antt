@@ -1,0 +1,5 @@
+pub mod Access
+pub mod Answers
+pub mod Nodes
+pub mod Pointer
+pub mod World

@@ -1,0 +1,15 @@
+//! The `state` of a scene after some inputs, its `world`, and what one node does in it: the `answer`
+//! to an event or to the clock, what a TouchSensor does at a `touch`, an `aim` or where it is turned
+//! off, and what a Script does that is `unrun` (ISO/IEC 19775-1, event model).
+#![tactic(auto)]
+
+mod aim;
+mod answer;
+mod state;
+mod touch;
+mod unrun;
+mod world;
+
+pub use aim::{Aim, Inside, insides, or_all, place_in};
+pub use state::State;
+pub use world::{Turn, VIEWERS, WorldData};
