@@ -3,33 +3,17 @@
 ghost use Rattle.snapshot_codec.specs.declared.fault.PartFault.TheVariants.{Memory};
 
 use std::alloc::{AllocError, AllocFailed};
-use std::{error, fmt};
+use thiserror::Error;
 
 /// Why a part of a snapshot wasn't read: the bytes aren't those of a value in its range
 /// (`NotCanonical`), or memory was refused.
-#[derive(Clone, Copy, Debug, PartialEq, Eq)]
+#[derive(Clone, Copy, Debug, PartialEq, Eq, Error)]
 pub enum PartFault {
+    #[error("the bytes are not those of a value in its range")]
     NotCanonical,
+    #[error("memory was refused")]
     Memory,
 }
-
-impl PartFault {
-    /// What is told of it.
-    fn text(self) -> &'static str {
-        match self {
-            PartFault::NotCanonical => "the bytes are not those of a value in its range",
-            PartFault::Memory => "memory was refused",
-        }
-    }
-}
-
-impl fmt::Display for PartFault {
-    fn fmt<W: fmt::Write>(&self, f: &mut fmt::Formatter<W>) -> fmt::Result {
-        f.write_str(self.text())
-    }
-}
-
-impl error::Error for PartFault {}
 
 impl From<AllocError> for PartFault {
     ghost use Rattle.std.specs.Prelude.{◌≡◌};

@@ -13,7 +13,7 @@ use crate::trace::moment_of;
 use byte_codec::u32_of;
 use sha2::{Digest, Sha256};
 use std::alloc::AllocError;
-use std::{error, fmt};
+use thiserror::Error;
 
 /// The first bytes of each snapshot.
 const MAGIC: &[u8; 4] = b"X3DW";
@@ -24,35 +24,19 @@ const LEAST: usize = 85;
 /// Why bytes are no snapshot of a scene, before their body is looked at. Of these the first that
 /// holds is told: fewer than 85 bytes; another magic; another version; another scene's mark; a
 /// digest at the end that isn't that of the bytes before it.
-#[derive(Clone, Copy, Debug, PartialEq, Eq)]
+#[derive(Clone, Copy, Debug, PartialEq, Eq, Error)]
 pub enum HeadFault {
+    #[error("the bytes are too few for a snapshot")]
     Short,
+    #[error("the bytes do not begin as a snapshot does")]
     BadMagic,
+    #[error("the version of the snapshot is another one")]
     BadVersion,
+    #[error("the snapshot is of another scene")]
     WrongScene,
+    #[error("the digest of the snapshot is not that of its bytes")]
     BadDigest,
 }
-
-impl HeadFault {
-    /// What is told of it.
-    fn text(self) -> &'static str {
-        match self {
-            HeadFault::Short => "the bytes are too few for a snapshot",
-            HeadFault::BadMagic => "the bytes do not begin as a snapshot does",
-            HeadFault::BadVersion => "the version of the snapshot is another one",
-            HeadFault::WrongScene => "the snapshot is of another scene",
-            HeadFault::BadDigest => "the digest of the snapshot is not that of its bytes",
-        }
-    }
-}
-
-impl fmt::Display for HeadFault {
-    fn fmt<W: fmt::Write>(&self, f: &mut fmt::Formatter<W>) -> fmt::Result {
-        f.write_str(self.text())
-    }
-}
-
-impl error::Error for HeadFault {}
 
 /// Whose snapshot it is, and how far its world had come.
 #[derive(Clone, Copy, PartialEq, Eq)]
@@ -166,9 +150,7 @@ pub fn push_digest(from: usize, out: &mut Vec<u8>) -> Result<(), AllocError>
 fn applied_of(bytes: &[u8]) -> Option<(u32, &[u8])>
     ensures { option_map (λ x. (x.0, x.1.now)) result ≡ applied_codec.read bytes.now }
 {
-    let Some((number, rest)) = u32_of(bytes) else {
-        return None;
-    };
+    let (number, rest) = u32_of(bytes)?;
     if number <= 1 << 20 {
         Some((number, rest))
     } else {
@@ -182,15 +164,9 @@ fn applied_of(bytes: &[u8]) -> Option<(u32, &[u8])>
 pub fn progress_of(bytes: &[u8]) -> Option<(Progress, &[u8])>
     ensures { option_map (λ x. (x.0, x.1.now)) result ≡ progress_codec.read bytes.now }
 {
-    let Some((boot, rest)) = u32_of(bytes) else {
-        return None;
-    };
-    let Some((applied, rest)) = applied_of(rest) else {
-        return None;
-    };
-    let Some((last_time, rest)) = moment_of(rest) else {
-        return None;
-    };
+    let (boot, rest) = u32_of(bytes)?;
+    let (applied, rest) = applied_of(rest)?;
+    let (last_time, rest) = moment_of(rest)?;
     let progress = Progress {
         boot,
         applied,

@@ -70,9 +70,7 @@ impl TakesEntries for Items<TraceEntry> {
 pub(crate) fn moment_of(bytes: &[u8]) -> Option<(i64, &[u8])>
     ensures { option_map (λ x. (x.0, x.1.now)) result ≡ moment_codec.read bytes.now }
 {
-    let Some((time, rest)) = i64_of(bytes) else {
-        return None;
-    };
+    let (time, rest) = i64_of(bytes)?;
     if time >= 0 && time <= LATEST {
         Some((time, rest))
     } else {
@@ -84,18 +82,10 @@ pub(crate) fn moment_of(bytes: &[u8]) -> Option<(i64, &[u8])>
 fn sent_at_of(bytes: &[u8]) -> Option<(SentAt, &[u8])>
     ensures { option_map (λ x. (x.0, x.1.now)) result ≡ sent_at_codec.read bytes.now }
 {
-    let Some((input, rest)) = u32_of(bytes) else {
-        return None;
-    };
-    let Some((time, rest)) = moment_of(rest) else {
-        return None;
-    };
-    let Some((node, rest)) = u32_of(rest) else {
-        return None;
-    };
-    let Some((field, rest)) = u16_of(rest) else {
-        return None;
-    };
+    let (input, rest) = u32_of(bytes)?;
+    let (time, rest) = moment_of(rest)?;
+    let (node, rest) = u32_of(rest)?;
+    let (field, rest) = u16_of(rest)?;
     let sent = SentAt {
         input,
         time,

@@ -21,12 +21,8 @@ pub(crate) fn number_of(bytes: &[u8]) -> Option<(i64, &[u8])>
 pub(crate) fn vector2_of(bytes: &[u8]) -> Option<(Vec2, &[u8])>
     ensures { option_map (λ x. (x.0, x.1.now)) result ≡ vector2.read bytes.now }
 {
-    let Some((x, rest)) = number_of(bytes) else {
-        return None;
-    };
-    let Some((y, rest)) = number_of(rest) else {
-        return None;
-    };
+    let (x, rest) = number_of(bytes)?;
+    let (y, rest) = number_of(rest)?;
     Some((Vec2 { x, y }, rest))
 }
 
@@ -34,15 +30,9 @@ pub(crate) fn vector2_of(bytes: &[u8]) -> Option<(Vec2, &[u8])>
 pub(crate) fn vector3_of(bytes: &[u8]) -> Option<(Vec3, &[u8])>
     ensures { option_map (λ x. (x.0, x.1.now)) result ≡ vector3.read bytes.now }
 {
-    let Some((x, rest)) = number_of(bytes) else {
-        return None;
-    };
-    let Some((y, rest)) = number_of(rest) else {
-        return None;
-    };
-    let Some((z, rest)) = number_of(rest) else {
-        return None;
-    };
+    let (x, rest) = number_of(bytes)?;
+    let (y, rest) = number_of(rest)?;
+    let (z, rest) = number_of(rest)?;
     Some((Vec3 { x, y, z }, rest))
 }
 
@@ -50,15 +40,9 @@ pub(crate) fn vector3_of(bytes: &[u8]) -> Option<(Vec3, &[u8])>
 pub(crate) fn color_of(bytes: &[u8]) -> Option<(Color, &[u8])>
     ensures { option_map (λ x. (x.0, x.1.now)) result ≡ color.read bytes.now }
 {
-    let Some((red, rest)) = number_of(bytes) else {
-        return None;
-    };
-    let Some((green, rest)) = number_of(rest) else {
-        return None;
-    };
-    let Some((blue, rest)) = number_of(rest) else {
-        return None;
-    };
+    let (red, rest) = number_of(bytes)?;
+    let (green, rest) = number_of(rest)?;
+    let (blue, rest) = number_of(rest)?;
     Some((Color { red, green, blue }, rest))
 }
 

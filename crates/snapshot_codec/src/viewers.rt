@@ -42,9 +42,7 @@ pub fn viewer_set_of(viewers: Viewers, bytes: &[u8]) -> Option<(u64, &[u8])>
 {
     match viewers {
         Viewers::Sixteen => {
-            let Some((set, rest)) = u16_of(bytes) else {
-                return None;
-            };
+            let (set, rest) = u16_of(bytes)?;
             Some((u64::from(set), rest))
         }
         Viewers::SixtyFour => u64_of(bytes),
@@ -69,9 +67,7 @@ pub fn push_viewer_set(viewers: Viewers, set: u64, out: &mut Vec<u8>) -> Result<
 fn presser_of(viewers: Viewers, bytes: &[u8]) -> Option<(Option<u8>, &[u8])>
     ensures { option_map (λ x. (x.0, x.1.now)) result ≡ (presser_codec viewers).read bytes.now }
 {
-    let Some((number, rest)) = byte_of(bytes) else {
-        return None;
-    };
+    let (number, rest) = byte_of(bytes)?;
     if number == 255 {
         return Some((None, rest));
     }
@@ -98,12 +94,8 @@ fn presser_byte(presser: Option<u8>) -> u8
 pub fn touch_of(viewers: Viewers, bytes: &[u8]) -> Option<(Touch, &[u8])>
     ensures { option_map (λ x. (x.0, x.1.now)) result ≡ (touch_codec viewers).read bytes.now }
 {
-    let Some((over, rest)) = viewer_set_of(viewers, bytes) else {
-        return None;
-    };
-    let Some((presser, rest)) = presser_of(viewers, rest) else {
-        return None;
-    };
+    let (over, rest) = viewer_set_of(viewers, bytes)?;
+    let (presser, rest) = presser_of(viewers, rest)?;
     Some((Touch { over, presser }, rest))
 }
 
