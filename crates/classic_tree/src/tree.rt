@@ -6,14 +6,14 @@ use std::alloc::{AllocError, Global};
 use x3d_values::{Access, Duplicate, FieldType, Items, Text};
 
 /// `node.field`, an end of a ROUTE.
-#[derive(Debug, Drop)]
+#[derive(Drop)]
 pub struct Place {
     pub node: Text,
     pub field: Text,
 }
 
 /// `ROUTE source TO target`.
-#[derive(Debug, Drop)]
+#[derive(Drop)]
 pub struct RouteText {
     pub line: u32,
     pub source: Place,

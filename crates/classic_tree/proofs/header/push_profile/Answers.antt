@@ -1,0 +1,11 @@
+use Rattle.x3d_values.proofs.Joined.{appended, grows, perhaps}
+use Rattle.classic_tree.proofs.header.push_profile.Goals as goal
+
+pub returns-in_err-extend_from_slice-2-clause-kept : goal.returns-in_err-extend_from_slice-2-clause-kept
+returns-in_err-extend_from_slice-2-clause-kept c = grows _ c.in_ok-extend_from_slice.ensures.items (perhaps _ _ c.extend_from_slice-in-Some.ensures.items)
+
+pub returns-in_err-push-clause-kept : goal.returns-in_err-push-clause-kept
+returns-in_err-push-clause-kept c = grows _ c.in_ok-extend_from_slice.ensures.items (grows _ c.in_ok-extend_from_slice-2.ensures.items (perhaps _ _ c.push.ensures.items))
+
+pub returns-in_ok-push-clause-kept : goal.returns-in_ok-push-clause-kept
+returns-in_ok-push-clause-kept c = grows _ c.in_ok-extend_from_slice.ensures.items (grows _ c.in_ok-extend_from_slice-2.ensures.items (appended _ c.in_ok-push.ensures.items))
