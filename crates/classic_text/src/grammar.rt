@@ -97,10 +97,10 @@ fn one_item(
         result tokens.new }
 {
     if tokens.sees(Terminal::Route) {
-        return Ok(BodyItem::Route(route(alloc, tokens)?));
+        return route(alloc, tokens).map(BodyItem::Route);
     }
     if tokens.sees(Terminal::Proto) {
-        return Ok(BodyItem::Proto(one_proto(alloc, tokens, depth)?));
+        return one_proto(alloc, tokens, depth).map(BodyItem::Proto);
     }
     other_item(alloc, tokens, depth, script)
 }
@@ -119,7 +119,7 @@ fn other_item(
         return Err(Refusal::Unsupported(tokens.line()));
     }
     if script && tokens.sees(Terminal::Access) {
-        return Ok(BodyItem::Declaration(declaration(alloc, tokens, depth, Owner::Script)?));
+        return declaration(alloc, tokens, depth, Owner::Script).map(BodyItem::Declaration);
     }
     field(alloc, tokens, depth)
 }
@@ -168,7 +168,7 @@ fn declared(
         return joined(alloc, tokens, owner);
     }
     if holds_value(access) {
-        return Ok(Given::Value(value_of(alloc, tokens, depth)?));
+        return value_of(alloc, tokens, depth).map(Given::Value);
     }
     Ok(Given::Nothing)
 }
@@ -270,7 +270,7 @@ fn one_given(alloc: Global, tokens: &mut Tokens<'_>, depth: u32) -> Result<Given
     if tokens.sees(Terminal::Is) {
         return what_is(alloc, tokens);
     }
-    Ok(Given::Value(value_of(alloc, tokens, depth)?))
+    value_of(alloc, tokens, depth).map(Given::Value)
 }
 
 #[cycle(nodes)]
@@ -287,14 +287,14 @@ fn value_of(
             tokens.advance();
             Ok(RawValue::Null)
         }
-        Terminal::True | Terminal::False => Ok(RawValue::Truth(tokens.truth()?)),
-        Terminal::String => Ok(RawValue::String(tokens.string(alloc)?)),
-        Terminal::Numeral => Ok(RawValue::Numbers(numbers(alloc, tokens)?)),
+        Terminal::True | Terminal::False => tokens.truth().map(RawValue::Truth),
+        Terminal::String => tokens.string(alloc).map(RawValue::String),
+        Terminal::Numeral => numbers(alloc, tokens).map(RawValue::Numbers),
         Terminal::OpenBracket => {
             tokens.advance();
             list_of(alloc, tokens, depth)
         }
-        _ => Ok(RawValue::Node(one_node(alloc, tokens, depth)?)),
+        _ => one_node(alloc, tokens, depth).map(RawValue::Node),
     }
 }
 
@@ -313,10 +313,10 @@ fn list_of(
             tokens.advance();
             Ok(RawValue::EmptyList)
         }
-        Terminal::True | Terminal::False => Ok(RawValue::TruthList(truth_list(alloc, tokens)?)),
-        Terminal::String => Ok(RawValue::StringList(string_list(alloc, tokens)?)),
-        Terminal::Numeral => Ok(RawValue::NumberList(number_list(alloc, tokens)?)),
-        _ => Ok(RawValue::NodeList(node_list(alloc, tokens, depth)?)),
+        Terminal::True | Terminal::False => truth_list(alloc, tokens).map(RawValue::TruthList),
+        Terminal::String => string_list(alloc, tokens).map(RawValue::StringList),
+        Terminal::Numeral => number_list(alloc, tokens).map(RawValue::NumberList),
+        _ => node_list(alloc, tokens, depth).map(RawValue::NodeList),
     }
 }
 
@@ -342,10 +342,10 @@ fn one_statement(alloc: Global, tokens: &mut Tokens<'_>, depth: u32) -> Result<S
         result tokens.new }
 {
     if tokens.sees(Terminal::Route) {
-        return Ok(Statement::Route(route(alloc, tokens)?));
+        return route(alloc, tokens).map(Statement::Route);
     }
     if tokens.sees(Terminal::Proto) {
-        return Ok(Statement::Proto(one_proto(alloc, tokens, depth)?));
+        return one_proto(alloc, tokens, depth).map(Statement::Proto);
     }
     node_statement(alloc, tokens, depth)
 }
@@ -358,7 +358,7 @@ fn node_statement(alloc: Global, tokens: &mut Tokens<'_>, depth: u32) -> Result<
     if begins_unread_statement(tokens) {
         return Err(Refusal::Unsupported(tokens.line()));
     }
-    Ok(Statement::Node(one_node(alloc, tokens, depth)?))
+    one_node(alloc, tokens, depth).map(Statement::Node)
 }
 
 pub(crate) fn statements(

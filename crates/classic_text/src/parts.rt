@@ -106,7 +106,7 @@ pub(crate) fn def_name(alloc: Global, tokens: &mut Tokens<'_>) -> Result<Option<
         return Ok(None);
     }
     tokens.advance();
-    Ok(Some(tokens.name(alloc)?))
+    tokens.name(alloc).map(Some)
 }
 
 #[tactic(auto, unfolding(crate::specs::Grammar::use_node))]
@@ -123,7 +123,7 @@ pub(crate) fn what_is(alloc: Global, tokens: &mut Tokens<'_>) -> Result<Given<No
     ensures { Reads (spec.what_is tokens.old) result tokens.new }
 {
     tokens.expect(Terminal::Is)?;
-    Ok(Given::Is(tokens.name(alloc)?))
+    tokens.name(alloc).map(Given::Is)
 }
 
 /// `IS name` in the declaration of a field of that owner.
