@@ -1,3 +1,5 @@
+pub mod BehindLemmas
+pub mod BuildLemmas
 pub mod Counts
 pub mod Crowds
 pub mod Fuel

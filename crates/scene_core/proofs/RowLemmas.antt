@@ -1,5 +1,5 @@
 -- The fields that a node declares stand behind those of its type.
-use Rattle.std.proofs.Common.{◌≡◌, Bool, true, false, ℕ, zero, suc, ◌+◌, ◌-◌, ◌<◌, ◌≤◌, List, [], ◌∷◌, ◌++◌, Option, Some, length, map, take, drop, get_or, nat_eq, ap, sym, refl, ◌∙◌, arith, length-append, drop-cons}
+use Rattle.std.proofs.Common.{◌≡◌, Bool, true, false, ℕ, zero, suc, ◌+◌, ◌-◌, ◌<◌, ◌≤◌, List, [], ◌∷◌, ◌++◌, Option, Some, None, length, map, take, drop, get_or, nat_eq, ap, sym, refl, ◌∙◌, arith, length-append, drop-cons}
 use Rattle.std.specs.Prelude.{slice_get, if◌then◌else◌}
 use Rattle.std.specs.Option.{option_map, option_or}
 use Rattle.std.specs.Cmp.Lexicographic.{pointwise}
@@ -8,6 +8,7 @@ use Rattle.std.proofs.lemmas.List.{length-map, length-take}
 use Rattle.std.proofs.lemmas.Option.{slice_get-get_or, slice_get-map}
 use Rattle.x3d_values.specs.declared.node_type.NodeType.{NodeType}
 use Rattle.x3d_values.specs.declared.rows.Field.{Field}
+use Rattle.x3d_values.specs.declared.table.FieldRow.{FieldRow}
 use Rattle.x3d_values.specs.Tables.{Entry, entry, numbered, row_named, rows}
 use Rattle.scene_core.specs.declared.row.DeclaredField.{DeclaredField}
 use Rattle.scene_core.specs.Shape.{declared_entry, numbered_fields, most_declared, rows_of, shape_by}
@@ -99,6 +100,25 @@ named-step first name ds i d h =
     ap (λ xs. row_named (first + i) name (map declared_entry xs)) (drop-step ds i d h)
     ∙ named-cons (first + i) (first + (i + 1)) name (get_or ds i d) (drop (i + 1) ds) (omega arith)
 
+-- the row of the type, where one has the name
+pub named-own : (t : NodeType) (declared : List DeclaredField) (name : List ℕ) (row : FieldRow) → Some row ≡ row_named 0 name (rows t)
+    → Some row ≡ row_named 0 name (rows_of (shape_by t declared))
+named-own t declared name row e =
+    ap (λ o. option_or o (row_named (0 + length (rows t)) name (map declared_entry (numbered_fields t declared)))) e
+    ∙ sym (named-append 0 name (rows t) (map declared_entry (numbered_fields t declared)))
+
+-- or else that of a declared field
+pub named-declared : (t : NodeType) (declared some : List DeclaredField) (own : List Field) (name : List ℕ) (row : Option FieldRow) → None ≡ row_named 0 name (rows t)
+    → map entry own ≡ rows t → some ≡ numbered_fields t declared → row ≡ row_named (length own) name (map declared_entry some)
+    → row ≡ row_named 0 name (rows_of (shape_by t declared))
+named-declared t declared some own name row none e same is =
+    let first : length own ≡ 0 + length (rows t) = omega (arith, own-length t own e) in
+    is
+    ∙ ap (λ n. row_named n name (map declared_entry some)) first
+    ∙ ap (λ ds. row_named (0 + length (rows t)) name (map declared_entry ds)) same
+    ∙ ap (λ o. option_or o (row_named (0 + length (rows t)) name (map declared_entry (numbered_fields t declared)))) none
+    ∙ sym (named-append 0 name (rows t) (map declared_entry (numbered_fields t declared)))
+
 pub ruleset by_number = (common_steps, own-row-at, declared-row, rows-count, rows-few)
 
-pub ruleset by_name = (common_steps, named-append, named-step, own-length)
+pub ruleset by_name = (common_steps, named-step, own-length)

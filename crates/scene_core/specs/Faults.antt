@@ -1,5 +1,5 @@
 -- Why a document is no scene, and steps that may fail.
-use Rattle.std.specs.Prelude.{ℕ, List, [], ◌∷◌, codes, Result, Ok, Err}
+use Rattle.std.specs.Prelude.{ℕ, List, [], ◌∷◌, ◌++◌, codes, Result, Ok, Err}
 use Rattle.scene_core.specs.declared.fault.SceneFault.{SceneFault}
 use Rattle.scene_core.specs.declared.fault.SceneFaultKind.{SceneFaultKind}
 use Rattle.scene_core.specs.declared.fault.SceneFaultKind.TheVariants.{WrongType, ValueRange, RotationUnsupported, NotInitial, BadChild, TooDeep, TooMany, Memory}
@@ -33,3 +33,7 @@ abbrev pub through : {A X : Type 0} → (A → X → Result X SceneFault) → Li
     → Result X SceneFault
 through step [] made = Ok made
 through step (item ∷ items) made = step item made >>= λ more. through step items more
+
+-- the item behind those made so far, or its fault
+abbrev pub with_item : {A : Type 0} → List A → Result A SceneFault → Result (List A) SceneFault
+with_item made item = item >>= λ x. Ok (made ++ x ∷ [])

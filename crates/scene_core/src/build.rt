@@ -6,6 +6,8 @@ ghost use Rattle.scene_core.specs.Building as spec;
 ghost use Rattle.scene_core.specs.Faults.{memory};
 ghost use Rattle.scene_core.specs.Labels.{known_of, known_alone};
 
+use crate::at::number_at;
+use crate::behind::with_item;
 use crate::deep::is_too_deep;
 use crate::fault::{SceneFault, SceneFaultKind, fault};
 use crate::labels::{Marks, label_of, marked};
@@ -13,13 +15,74 @@ use crate::numbering::Numbering;
 use crate::places::{has_too_many_places, is_any_crowded};
 use crate::row::declared_fields;
 use crate::scene::SceneNode;
-use crate::values::{Known, values_of};
-use flat_document::{FlatNode, Header};
+use crate::values::{Known, check_children, values_of};
+use flat_document::{Flat, FlatNode, Header};
 use std::alloc::{AllocError, Global};
 use x3d_lists::{Duplicate, Items};
 
+/// What a scene has beside its nodes and their numbers.
+#[derive(Drop)]
+pub struct Frame {
+    pub header: Header,
+    pub roots: Items<u32>,
+    pub helpers: Items<u32>,
+}
+
+/// The header of a document, and what its roots and helpers are called in the scene.
+pub(crate) fn frame_of(alloc: Global, flat: &Flat, numbers: &[u32]) -> Result<Frame, AllocError>
+    ensures { IfOk result (λ frame. frame ≡ record {
+      header = flat.now.header;
+      roots = spec.called numbers.now flat.now.roots;
+      helpers = spec.called numbers.now flat.now.helpers;
+    }) }
+{
+    let roots = called(alloc, numbers, flat.roots.as_slice())?;
+    let Ok(helpers) = called(alloc, numbers, flat.helpers.as_slice()) else {
+        drop(roots);
+        return Err(AllocError);
+    };
+    let Ok(header) = header_copy(alloc, &flat.header) else {
+        drop(roots);
+        drop(helpers);
+        return Err(AllocError);
+    };
+    Ok(Frame {
+        header,
+        roots,
+        helpers,
+    })
+}
+
+/// The nodes, where roots and helpers are child nodes and nothing is beyond a limit.
+pub(crate) fn checked_nodes(
+    alloc: Global,
+    flat: &Flat,
+    numbering: &Numbering,
+    roots: &[u32],
+) -> Result<Items<SceneNode>, SceneFault>
+    ensures { Gives memory (λ all. all) result (spec.checked_nodes flat.now numbering.now roots.now) }
+{
+    let made = nodes_of(alloc, flat.nodes.as_slice(), numbering)?;
+    match check(alloc, flat, made.as_slice(), roots) {
+        Ok(()) => Ok(made),
+        Err(refused) => {
+            drop(made);
+            Err(refused)
+        }
+    }
+}
+
+/// Roots and helpers are child nodes, and nothing is beyond a limit.
+fn check(alloc: Global, flat: &Flat, nodes: &[SceneNode], roots: &[u32]) -> Result<(), SceneFault>
+    ensures { Gives memory (λ u. u) result (spec.check flat.now nodes.now roots.now) }
+{
+    check_children(flat.nodes.as_slice(), flat.roots.as_slice())?;
+    check_children(flat.nodes.as_slice(), flat.helpers.as_slice())?;
+    check_limits(alloc, nodes, roots)
+}
+
 /// The nodes in the order of their numbers.
-pub(crate) fn nodes_of(
+fn nodes_of(
     alloc: Global,
     nodes: &[FlatNode],
     numbering: &Numbering,
@@ -27,16 +90,14 @@ pub(crate) fn nodes_of(
     ensures { Gives memory (λ all. all) result (spec.nodes_of nodes.now numbering.now) }
 {
     let marks = marked(alloc, nodes, numbering.order.as_slice())?;
-    nodes_by(alloc, nodes, numbering, &marks)
+    let made = nodes_by(alloc, nodes, numbering, &marks);
+    drop(marks);
+    made
 }
 
 /// No chain is too long, and there are not too many places and sensors.
 #[tactic(auto, unfolding(crate::specs::Building::limits))]
-pub(crate) fn check_limits(
-    alloc: Global,
-    nodes: &[SceneNode],
-    roots: &[u32],
-) -> Result<(), SceneFault>
+fn check_limits(alloc: Global, nodes: &[SceneNode], roots: &[u32]) -> Result<(), SceneFault>
     ensures { Gives memory (λ u. u) result (spec.limits nodes.now roots.now) }
 {
     if is_too_deep(alloc, nodes)? {
@@ -52,28 +113,31 @@ pub(crate) fn check_limits(
 }
 
 /// What nodes are called in the scene.
-pub(crate) fn called(
-    alloc: Global,
-    numbers: &[u32],
-    nodes: &[u32],
-) -> Result<Items<u32>, AllocError>
+fn called(alloc: Global, numbers: &[u32], nodes: &[u32]) -> Result<Items<u32>, AllocError>
     ensures { IfOk result (λ all. all ≡ spec.called numbers.now nodes.now) }
 {
-    let mut all = Vec::with_capacity(alloc, nodes.len())?;
-    for n in nodes {
-        all.push(numbers.get(*n as usize).copied().unwrap_or(0))?;
-    }
+    let all = nodes.iter().map(|n| number_at(numbers, *n)).collect(alloc)?;
     Ok(Items::from_vec(all))
 }
 
-pub(crate) fn header_copy(alloc: Global, header: &Header) -> Result<Header, AllocError>
+fn header_copy(alloc: Global, header: &Header) -> Result<Header, AllocError>
     ensures { IfOk result (λ copy. copy ≡ header.now) }
 {
+    let profile = header.profile.duplicate(alloc)?;
+    let Ok(components) = header.components.duplicate(alloc) else {
+        drop(profile);
+        return Err(AllocError);
+    };
+    let Ok(metas) = header.metas.duplicate(alloc) else {
+        drop(profile);
+        drop(components);
+        return Err(AllocError);
+    };
     Ok(Header {
         version: header.version,
-        profile: header.profile.duplicate(alloc)?,
-        components: header.components.duplicate(alloc)?,
-        metas: header.metas.duplicate(alloc)?,
+        profile,
+        components,
+        metas,
     })
 }
 
@@ -88,8 +152,15 @@ fn node_of(
         (λ name. known_alone (known_of marks.now name)) node.now) }
 {
     let values = values_of(alloc, known, node)?;
-    let label = label_of(alloc, marks, &node.name)?;
-    let declared = declared_fields(alloc, node.interface.as_slice())?;
+    let Ok(label) = label_of(alloc, marks, &node.name) else {
+        drop(values);
+        return Err(fault(SceneFaultKind::Memory, 0));
+    };
+    let Ok(declared) = declared_fields(alloc, node.interface.as_slice()) else {
+        drop(values);
+        drop(label);
+        return Err(fault(SceneFaultKind::Memory, 0));
+    };
     Ok(SceneNode {
         node_type: node.node_type,
         label,
@@ -104,7 +175,7 @@ fn with_node(
     known: Known<'_>,
     marks: &Marks<'_>,
     n: u32,
-    mut made: Items<SceneNode>,
+    made: Items<SceneNode>,
 ) -> Result<Items<SceneNode>, SceneFault>
     ensures { Gives memory (λ all. all) result
         (spec.with_node known.entry.nodes.now known.entry.numbers.now
@@ -113,8 +184,7 @@ fn with_node(
     let Some(node) = known.nodes.get(n as usize) else {
         return Ok(made);
     };
-    made.push(node_of(alloc, known, marks, node)?)?;
-    Ok(made)
+    with_item(made, node_of(alloc, known, marks, node))
 }
 
 #[tactic(auto, unfolding(crate::specs::Building::nodes_by))]

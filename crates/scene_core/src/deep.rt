@@ -63,11 +63,10 @@ fn height(heights: &[u32], node: &SceneNode) -> u32
 fn one_higher(alloc: Global, nodes: &[SceneNode], heights: &[u32]) -> Result<Vec<u32>, AllocError>
     ensures { IfOk result (λ higher. higher.items ≡ map (spec.height heights.now) nodes.now) }
 {
-    let mut higher = Vec::with_capacity(alloc, nodes.len())?;
-    for node in nodes {
-        higher.push(height(heights, node))?;
-    }
-    Ok(higher)
+    nodes
+        .iter()
+        .map(|node| height(heights, node))
+        .collect(alloc)
 }
 
 /// Heights in the order of the nodes: right where nodes stand behind those in their fields.

@@ -32,7 +32,6 @@ fn put_field<'a>(table: &mut Vec<Option<&'a FlatField>>, number: usize, field: &
 }
 
 /// What a node gives to each of `count` fields, the first of which has that number.
-#[tactic(auto, using(crate::proofs::GivenFields::giving))]
 pub(crate) fn all_given<'a>(
     alloc: Global,
     fields: &'a [FlatField],

@@ -34,7 +34,10 @@ pub(crate) fn marked<'a>(
 {
     let mut marks = no_marks(alloc);
     for n in order {
-        mark_at(&mut marks, nodes, *n)?;
+        if mark_at(&mut marks, nodes, *n).is_err() {
+            drop(marks);
+            return Err(AllocError);
+        }
     }
     Ok(marks)
 }
@@ -51,7 +54,7 @@ pub(crate) fn label_of(
     let Some(name) = name else {
         return Ok(None);
     };
-    if known(marks, name) != Some(true) || is_numbered(name.as_bytes()) {
+    if !known(marks, name).unwrap_or(false) || is_numbered(name.as_bytes()) {
         return Ok(None);
     }
     Ok(Some(name.duplicate(alloc)?))

@@ -3,10 +3,12 @@
 //! `scene` has the scene and what is asked of it. It is made by `numbering` (which number a node
 //! has) of the `parts` of nodes, by `values` (the values of fields), `labels` (the names that nodes
 //! keep) and `build`, which puts these together; `deep` and `places` have its limits, `state` what
-//! nodes keep before any event, `fault` why there is no scene, and `at` what lists hold by number.
+//! nodes keep before any event, `fault` why there is no scene, `at` what lists hold by number, and
+//! `behind` puts what may be a fault behind what was made so far.
 #![tactic(auto)]
 
 mod at;
+mod behind;
 mod build;
 mod deep;
 mod fault;

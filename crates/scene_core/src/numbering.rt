@@ -20,7 +20,7 @@ pub struct Numbering {
 }
 
 /// Something that is still to be done.
-#[derive(Clone, Copy, Debug)]
+#[derive(Clone, Copy)]
 pub enum Task {
     /// A node appears.
     Visit(u32),
@@ -78,11 +78,30 @@ pub(crate) fn numbered(
         order: Items::new(alloc),
         numbers: Items::from_vec(vec![in alloc; 0; nodes.len()]?),
     };
+    let Ok(()) = visit_all(alloc, nodes, roots, helpers, &mut state) else {
+        drop(state);
+        return Err(AllocError);
+    };
+    Ok(state)
+}
+
+/// Visits the roots, and then the helpers.
+fn visit_all(
+    alloc: Global,
+    nodes: &[FlatNode],
+    roots: &[u32],
+    helpers: &[u32],
+    state: &mut Numbering,
+) -> Result<(), AllocError>
+    requires { unopened state.old.opened ≤ length nodes.now }
+    ensures { OnOk result
+        (state.new ≡ finish nodes.now state.old
+        (([] ++ map Task.Visit (reverse helpers.now)) ++ map Task.Visit (reverse roots.now))) }
+{
     let mut tasks = Vec::new(alloc);
     push_visits(&mut tasks, helpers)?;
     push_visits(&mut tasks, roots)?;
-    run(alloc, nodes, &mut tasks, &mut state)?;
-    Ok(state)
+    run(alloc, nodes, &mut tasks, state)
 }
 
 fn push_visits(tasks: &mut Vec<Task>, nodes: &[u32]) -> Result<(), AllocError>

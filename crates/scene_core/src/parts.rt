@@ -78,7 +78,6 @@ fn push_parts_from(
 }
 
 /// Appends the nodes in the declared fields, which are numbered from `number` on.
-#[tactic(auto, using(crate::proofs::DeclaredSteps::nodes))]
 fn push_declared_parts(
     alloc: Global,
     fields: &[FlatField],

@@ -96,11 +96,10 @@ fn counted(counts: &[u32], node: &SceneNode) -> u32
 fn one_deeper(alloc: Global, nodes: &[SceneNode], counts: &[u32]) -> Result<Vec<u32>, AllocError>
     ensures { IfOk result (λ more. more.items ≡ map (spec.counted counts.now) nodes.now) }
 {
-    let mut more = Vec::with_capacity(alloc, nodes.len())?;
-    for node in nodes {
-        more.push(counted(counts, node))?;
-    }
-    Ok(more)
+    nodes
+        .iter()
+        .map(|node| counted(counts, node))
+        .collect(alloc)
 }
 
 /// Places in the order of the nodes: right where nodes stand behind their children.

@@ -1,6 +1,6 @@
 //! The fields of nodes: those of a type, and behind them those that a Script declares.
 
-ghost use Rattle.std.specs.Prelude.{◌≡◌, ◌+◌, ◌≤◌, IfOk, length, map, slice_get};
+ghost use Rattle.std.specs.Prelude.{◌≡◌, ◌+◌, ◌≤◌, ◌++◌, ◌∷◌, [], IfOk, OnOk, length, map, slice_get};
 ghost use Rattle.std.specs.Option.{option_map};
 ghost use Rattle.x3d_values.specs.Tables.{entry, numbered, row_named};
 ghost use Rattle.scene_core.specs.Shape as spec;
@@ -17,7 +17,7 @@ use x3d_values::{
 const MOST_FIELDS: usize = 65_536;
 
 /// A field that a Script declares (ISO/IEC 19775-1, Script).
-#[derive(Debug, Drop)]
+#[derive(Drop)]
 pub struct DeclaredField {
     pub name: Text,
     pub access: Access,
@@ -148,6 +148,22 @@ pub(crate) fn named_by(
     declared_named(own, numbered_fields(node_type, declared), name)
 }
 
+/// Appends a declaration of a Script as a field.
+fn push_declared(
+    alloc: Global,
+    declaration: &Declaration<u32>,
+    fields: &mut Items<DeclaredField>,
+) -> Result<(), AllocError>
+    ensures { OnOk result (fields.new ≡ fields.old ++ spec.declared_by declaration.now ∷ []) }
+{
+    let name = declaration.name.duplicate(alloc)?;
+    fields.push(DeclaredField {
+        name,
+        access: declaration.access,
+        field_type: declaration.field_type,
+    })
+}
+
 /// The declarations of a Script as fields.
 pub(crate) fn declared_fields(
     alloc: Global,
@@ -157,11 +173,10 @@ pub(crate) fn declared_fields(
 {
     let mut fields = Items::new(alloc);
     for declaration in interface {
-        fields.push(DeclaredField {
-            name: declaration.name.duplicate(alloc)?,
-            access: declaration.access,
-            field_type: declaration.field_type,
-        })?;
+        if push_declared(alloc, declaration, &mut fields).is_err() {
+            drop(fields);
+            return Err(AllocError);
+        }
     }
     Ok(fields)
 }

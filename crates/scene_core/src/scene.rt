@@ -11,14 +11,13 @@ ghost use Rattle.x3d_values.specs.declared.node_type.NodeType.{NodeType};
 ghost use Rattle.x3d_values.specs.Tables.{row_named, rows};
 
 use crate::at::flag_at;
-use crate::build::{called, check_limits, header_copy, nodes_of};
-use crate::fault::SceneFault;
+use crate::build::{checked_nodes, frame_of};
+use crate::fault::{SceneFault, SceneFaultKind, fault};
 use crate::labels::push_label;
 use crate::numbering::numbered;
 use crate::places::own_children;
 use crate::row::{DeclaredField, Row, count_by, named_by, numbered_fields, row_by};
 use crate::state::state_of;
-use crate::values::check_children;
 use flat_document::{Flat, Header};
 use std::alloc::{AllocError, Global};
 use std::marker::Model;
@@ -26,7 +25,7 @@ use x3d_lists::{Items, Text};
 use x3d_values::{FieldRow, Fields, NodeType, Value};
 
 /// A field of a node of a scene.
-#[derive(Clone, Copy, Debug, PartialEq, Eq, Hash)]
+#[derive(Clone, Copy, PartialEq, Eq, Hash)]
 pub struct End {
     pub node: u32,
     /// The field's number among the fields of the node.
@@ -34,14 +33,14 @@ pub struct End {
 }
 
 /// A route from an output to an input.
-#[derive(Clone, Copy, Debug, PartialEq, Eq, Hash)]
+#[derive(Clone, Copy, PartialEq, Eq, Hash)]
 pub struct Route {
     pub source: End,
     pub target: End,
 }
 
 /// A node as it stands before any event.
-#[derive(Debug, Drop)]
+#[derive(Drop)]
 pub struct SceneNode {
     pub node_type: NodeType,
     /// Its DEF name, where no other node has it and it isn't an `N` before digits.
@@ -257,22 +256,26 @@ impl Scene {
     pub fn build(alloc: Global, flat: &Flat) -> Result<Scene, SceneFault>
         ensures { Gives memory (λ s. s) result (scene_of flat.now) }
     {
-        let nodes = flat.nodes.as_slice();
-        let numbering = numbered(alloc, nodes, flat.roots.as_slice(), flat.helpers.as_slice())?;
-        let made = nodes_of(alloc, nodes, &numbering)?;
-        check_children(nodes, flat.roots.as_slice())?;
-        check_children(nodes, flat.helpers.as_slice())?;
-        let roots = called(alloc, numbering.numbers.as_slice(), flat.roots.as_slice())?;
-        check_limits(alloc, made.as_slice(), roots.as_slice())?;
-        let helpers = called(alloc, numbering.numbers.as_slice(), flat.helpers.as_slice())?;
-        let header = header_copy(alloc, &flat.header)?;
-        Ok(Scene {
-            header,
-            nodes: made,
-            roots,
-            helpers,
-            opened: numbering.opened,
-            numbers: numbering.numbers,
-        })
+        let (roots, helpers) = (flat.roots.as_slice(), flat.helpers.as_slice());
+        let numbering = numbered(alloc, flat.nodes.as_slice(), roots, helpers)?;
+        let Ok(frame) = frame_of(alloc, flat, numbering.numbers.as_slice()) else {
+            drop(numbering);
+            return Err(fault(SceneFaultKind::Memory, 0));
+        };
+        match checked_nodes(alloc, flat, &numbering, frame.roots.as_slice()) {
+            Ok(nodes) => Ok(Scene {
+                header: frame.header,
+                nodes,
+                roots: frame.roots,
+                helpers: frame.helpers,
+                opened: numbering.opened,
+                numbers: numbering.numbers,
+            }),
+            Err(refused) => {
+                drop(numbering);
+                drop(frame);
+                Err(refused)
+            }
+        }
     }
 }

@@ -54,7 +54,14 @@ fn values_kept(alloc: Global, node: &SceneNode) -> Result<Items<Option<Value>>, 
     let mut made = Items::new(alloc);
     for number in 0..count.min(values.len()) {
         let row = row_by(node.node_type, declared, number as u16);
-        made.push(kept(alloc, row, &values[number])?)?;
+        let Ok(copy) = kept(alloc, row, &values[number]) else {
+            drop(made);
+            return Err(AllocError);
+        };
+        let Ok(()) = made.push(copy) else {
+            drop(made);
+            return Err(AllocError);
+        };
     }
     Ok(made)
 }

@@ -8,6 +8,7 @@ ghost use Rattle.x3d_values.specs.Tables.{entry};
 ghost use Rattle.scene_core.specs.Faults.{memory};
 ghost use Rattle.scene_core.specs.Typed as spec;
 
+use crate::behind::with_item;
 use crate::fault::{SceneFault, SceneFaultKind, fault};
 use crate::given::{all_given, given};
 use crate::parts::inner_nodes;
@@ -124,9 +125,11 @@ fn accepted(
     ensures { result ≡ spec.accepted nodes.now access kind field.now value }
 {
     if !access.is_initial() {
+        drop(value);
         return Err(fault(SceneFaultKind::NotInitial, field.line));
     }
     if !all_taken(kind, nodes, inner_nodes(&field.value)) {
+        drop(value);
         return Err(fault(SceneFaultKind::BadChild, field.line));
     }
     Ok(Some(value))
@@ -141,6 +144,7 @@ fn accepted_in_range(
     ensures { result ≡ spec.accepted_in_range nodes.now (entry row.now) field.now value }
 {
     if !in_range(row.name, &value) {
+        drop(value);
         return Err(fault(SceneFaultKind::ValueRange, field.line));
     }
     accepted(nodes, row.access, row.kind, field, value)
@@ -210,7 +214,7 @@ fn push_values(
     fields: &[FlatField],
     number: usize,
     rows: &[Field],
-    mut made: Items<Option<Value>>,
+    made: Items<Option<Value>>,
 ) -> Result<Items<Option<Value>>, SceneFault>
     requires { number + length rows.now < 2 ^ 16 }
     ensures { Gives memory (λ v. v) result
@@ -220,7 +224,8 @@ fn push_values(
     match rows {
         [] => Ok(made),
         [row, others @ ..] => {
-            made.push(field_value(alloc, known, row, given(fields, number))?)?;
+            let value = field_value(alloc, known, row, given(fields, number));
+            let made = with_item(made, value)?;
             push_values(alloc, known, fields, number + 1, others, made)
         }
     }
@@ -290,7 +295,6 @@ fn declared_value(
 
 /// The values of the declared fields, which are numbered from `number` on, behind those made so
 /// far.
-#[tactic(auto, using(crate::proofs::DeclaredSteps::values))]
 fn push_declared(
     alloc: Global,
     known: Known<'_>,
@@ -305,7 +309,7 @@ fn push_declared(
 {
     let given = all_given(alloc, fields, number, interface.len())?;
     for i in 0..interface.len() {
-        made.push(declared_value(alloc, known, &interface[i], given[i])?)?;
+        made = with_item(made, declared_value(alloc, known, &interface[i], given[i]))?;
     }
     Ok(made)
 }

@@ -2,8 +2,8 @@ use Rattle.std.proofs.Common.{rules, ◌≡◌, false, length, replicate}
 use Rattle.scene_core.proofs.TaskLemmas.{unnumbered-few, numbering-done}
 use Rattle.scene_core.proofs.numbering.numbered.Goals as goal
 
-pub run-requires : goal.run-requires
-run-requires c =
+pub visit_all-requires : goal.visit_all-requires
+visit_all-requires c =
     let e : c.from_vec.result ≡ replicate (length c.args.nodes.now) false = search rules in
     rw e (unnumbered-few c.args.nodes.now)
 
@@ -11,5 +11,4 @@ pub returns : goal.returns
 returns c =
     let e : c.from_vec.result ≡ replicate (length c.args.nodes.now) false = search rules in
     let z : c.from_vec-2.result ≡ replicate (length c.args.nodes.now) 0 = search rules in
-    rw (c.in_ok-run.ensures, c.in_ok-push_visits-2.ensures, c.in_ok-push_visits.ensures, c.new-tasks.ensures.items, e, z, c.new.ensures)
-    (numbering-done c.args.nodes.now c.args.roots.now c.args.helpers.now)
+    rw (c.in-Ok.ensures, e, z, c.new.ensures) (numbering-done c.args.nodes.now c.args.roots.now c.args.helpers.now)

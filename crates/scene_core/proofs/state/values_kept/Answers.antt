@@ -18,9 +18,9 @@ loop-number-preserved c =
     let long : length values ≡ length node.values = ap (λ l. length l) same_values in
     let n = c.loop-number.number in
     let v = c.index-values-number.result in
-    subst (λ made. made ++ all_kept (drop (n + 1) es) (drop (n + 1) node.values) ≡ all_kept es node.values) (sym c.in_ok-push.ensures.ok)
-    (kept-more es rows node.values values c.loop-number.made n _ (option_map row_entry c.row_by-row.result) v v c.in_ok-kept.field-0 (all_kept es node.values)
-    (omega (arith, counted, c.count_by-count.ensures.is)) (omega (arith, long)) c.in_ok-kept.ensures same_rows c.row_by-row.ensures
+    subst (λ made. made ++ all_kept (drop (n + 1) es) (drop (n + 1) node.values) ≡ all_kept es node.values) (sym c.in-Ok-push.ensures.ok)
+    (kept-more es rows node.values values c.loop-number.made n _ (option_map row_entry c.row_by-row.result) v v c.in-Ok.copy (all_kept es node.values)
+    (omega (arith, counted, c.count_by-count.ensures.is)) (omega (arith, long)) c.in-Ok.ensures same_rows c.row_by-row.ensures
     (omega (arith, c.count_by-count.ensures.few)) same_values c.index-values-number.is c.loop-number.invariant)
 
 pub returns : goal.returns

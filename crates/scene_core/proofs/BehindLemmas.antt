@@ -1,0 +1,42 @@
+-- What comes behind what was made so far, where the item may be a fault.
+use Rattle.std.proofs.Common.{◌≡◌, ◌⊎◌, inl, inr, ℕ, ◌+◌, ◌<◌, ◌≤◌, List, drop, get_or, length, ap, ◌∙◌}
+use Rattle.std.proofs.Math.ListN.{drop_of_length-le}
+use Rattle.std.specs.Prelude.{Result, Ok, Err}
+use Rattle.x3d_lists.specs.Answers.{Gives}
+use Rattle.scene_core.specs.declared.fault.SceneFault.{SceneFault}
+use Rattle.scene_core.specs.Faults.{memory, ◌>>=◌, through}
+use Rattle.scene_core.proofs.RowLemmas.{drop-step}
+
+module _ {A B : Type 0} (k : A → Result B SceneFault) where
+  by_fault : (f e : SceneFault) (answer : Result A SceneFault) → (f ≡ memory) ⊎ (◌≡◌ {A = Result B SceneFault} (Err e) (Err f)) → (e ≡ memory) ⊎ (answer ≡ Err e)
+      → (f ≡ memory) ⊎ ((answer >>= k) ≡ Err f)
+  by_fault f e answer (inl m) g = inl m
+  by_fault f e answer (inr p) (inl m) = inl (cc (p, m))
+  by_fault f e answer (inr p) (inr a) = inr (ap (λ r. r >>= k) a ∙ p)
+
+  -- a result that was made of what an item's call returned is one of what the item is by its definition
+  pub gives-then : (result : Result B SceneFault) (item answer : Result A SceneFault) → Gives memory (λ b. b) result (item >>= k) → Gives memory (λ a. a) item answer
+      → Gives memory (λ b. b) result (answer >>= k)
+  gives-then (Ok b) (Ok a) answer h g = ap (λ r. r >>= k) g ∙ h
+  gives-then (Err f) (Ok a) answer (inl m) g = inl m
+  gives-then (Err f) (Ok a) answer (inr p) g = inr (ap (λ r. r >>= k) g ∙ p)
+  gives-then (Ok b) (Err e) answer h g = cc h
+  gives-then (Err f) (Err e) answer h g = by_fault f e answer h g
+
+-- ---- steps through a list, each of which gives what was made so far or a fault
+
+module _ {A X : Type 0} (step : A → X → Result X SceneFault) where
+  through-step : (xs : List A) (i : ℕ) (d : A) (made : X) → i < length xs → through step (drop i xs) made ≡ (step (get_or xs i d) made >>= through step (drop (i + 1) xs))
+  through-step xs i d made h = ap (λ ys. through step ys made) (drop-step xs i d h)
+
+  pub through-more : (xs : List A) (i : ℕ) (d : A) (made more : X) (all : Result X SceneFault) → i < length xs → all ≡ through step (drop i xs) made
+      → step (get_or xs i d) made ≡ Ok more → all ≡ through step (drop (i + 1) xs) more
+  through-more xs i d made more all h e s = e ∙ through-step xs i d made h ∙ ap (λ r. r >>= through step (drop (i + 1) xs)) s
+
+  pub through-refused : (xs : List A) (i : ℕ) (d : A) (made : X) (f : SceneFault) (all : Result X SceneFault) → i < length xs → all ≡ through step (drop i xs) made
+      → (f ≡ memory) ⊎ (step (get_or xs i d) made ≡ Err f) → (f ≡ memory) ⊎ (all ≡ Err f)
+  through-refused xs i d made f all h e (inl m) = inl m
+  through-refused xs i d made f all h e (inr s) = inr (e ∙ through-step xs i d made h ∙ ap (λ r. r >>= through step (drop (i + 1) xs)) s)
+
+  pub through-all : (xs : List A) (i : ℕ) (made : X) (all : Result X SceneFault) → length xs ≤ i → all ≡ through step (drop i xs) made → all ≡ Ok made
+  through-all xs i made all h e = e ∙ ap (λ ys. through step ys made) (drop_of_length-le xs h)

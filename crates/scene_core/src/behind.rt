@@ -1,0 +1,18 @@
+//! Lists that grow by items that may be faults.
+
+ghost use Rattle.x3d_lists.specs.Answers.{Gives};
+ghost use Rattle.scene_core.specs.Faults.{memory, with_item};
+
+use crate::fault::SceneFault;
+use x3d_lists::Items;
+
+/// The item behind those made so far, or its fault.
+pub(crate) fn with_item<T: Drop>(
+    mut made: Items<T>,
+    item: Result<T, SceneFault>,
+) -> Result<Items<T>, SceneFault>
+    ensures { Gives memory (λ all. all) result (with_item made item) }
+{
+    made.push(item?)?;
+    Ok(made)
+}
