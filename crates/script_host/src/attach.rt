@@ -1,16 +1,42 @@
 //! Whether boxes are those that a world's scripts ask for.
 
-ghost use Rattle.std.specs.Prelude.{◌≡◌, ◌↔◌, length, map, slice_get, IsSomeAnd, IsTrue, IfOk, MatchOption, Some, None};
+ghost use Rattle.std.specs.Prelude.{◌≡◌, ◌↔◌, length, map, slice_get, IsSomeAnd, IsTrue, IfErr, IfOk, IsOkUnless, OnOk, MatchOption, Some, None};
 ghost use Rattle.script_host.specs.Attaching.{KnownBelow, Meets, IsMismatch, Fits, Refuses};
 ghost use Rattle.script_host.specs.Hosting.{fresh_record};
+ghost use Rattle.script_host.specs.declared.fault.AttachFault.TheVariants.{Memory};
 
 use crate::behaviour::Behaviour;
 use crate::fault::AttachFault;
 use std::alloc::{AllocError, Global};
 use x3d_values::{Kind, ScriptSpec};
 
+/// Whether the boxes are those that a world's scripts ask for.
+pub fn check<B: Behaviour>(
+    alloc: Global,
+    specs: &[ScriptSpec],
+    boxes: &[B],
+) -> Result<(), AttachFault>
+    ensures fits { OnOk result
+        (Fits specs.now (map (fresh_record B.kind_of B.numbers) boxes.now)) }
+    ensures takes { Fits specs.now (map (fresh_record B.kind_of B.numbers) boxes.now)
+        → IsOkUnless result Memory }
+    ensures refused { IfErr result (λ fault.
+        Refuses fault specs.now (map (fresh_record B.kind_of B.numbers) boxes.now)) }
+{
+    if let Some(k) = first_unknown(specs) {
+        return Err(AttachFault::UnknownScript(k));
+    }
+    if specs.len() != boxes.len() {
+        return Err(AttachFault::WrongCount);
+    }
+    if let Some(fault) = first_mismatch(alloc, specs, boxes)? {
+        return Err(fault);
+    }
+    Ok(())
+}
+
 /// The first script whose kind is not known.
-pub fn first_unknown(specs: &[ScriptSpec]) -> Option<usize>
+fn first_unknown(specs: &[ScriptSpec]) -> Option<usize>
     ensures { MatchOption result
         (KnownBelow specs.now (length specs.now))
         (λ k. KnownBelow specs.now k × IsSomeAnd (slice_get specs.now k) (λ s. s.kind ≡ None)) }
@@ -62,7 +88,7 @@ fn mismatch<B: Behaviour>(
 }
 
 /// The fault of the first box that isn't what its script asks for.
-pub fn first_mismatch<B: Behaviour>(
+fn first_mismatch<B: Behaviour>(
     alloc: Global,
     specs: &[ScriptSpec],
     scripts: &[B],

@@ -10,7 +10,7 @@ pub const MAX_REPLIES: usize = 2;
 
 /// A value that a script sends from one of its outputs, as three whole numbers; those that its type
 /// doesn't use are 0. A truth value is 0 or 1, a time its microseconds, other numbers millionths.
-#[derive(Clone, Copy, Debug, PartialEq, Eq)]
+#[derive(Clone, Copy, PartialEq, Eq)]
 pub struct Reply {
     /// The number of the output among those of the kind, from 0.
     pub output: u32,

@@ -41,10 +41,10 @@ impl<B: Behaviour> Scripts<B> {
         ensures { IfOk result (λ scripts.
             scripts ≡ map (fresh_record B.kind_of B.numbers) boxes.items) }
     {
-        let mut slots = Vec::new(alloc);
-        for script in boxes {
-            slots.push(Slot::new(script))?;
-        }
+        let slots = boxes
+            .into_iter()
+            .map(|script| Slot::new(script))
+            .collect(alloc)?;
         Ok(Scripts { slots })
     }
 
@@ -67,13 +67,8 @@ impl<B: Behaviour> Scripts<B> {
         ensures refused { IfErr result (λ fault.
             Refuses fault specs.now (map (fresh_record B.kind_of B.numbers) boxes.items)) }
     {
-        if let Some(k) = attach::first_unknown(specs) {
-            return Err(AttachFault::UnknownScript(k));
-        }
-        if specs.len() != boxes.len() {
-            return Err(AttachFault::WrongCount);
-        }
-        if let Some(fault) = attach::first_mismatch(alloc, specs, boxes.as_slice())? {
+        if let Err(fault) = attach::check(alloc, specs, boxes.as_slice()) {
+            drop(boxes);
             return Err(fault);
         }
         Ok(Scripts::from_boxes(alloc, boxes)?)
