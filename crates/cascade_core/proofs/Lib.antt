@@ -1,4 +1,5 @@
 pub mod Folds
+mod Steps
 pub mod Runs
 pub mod Turns
 pub mod SceneOutputs

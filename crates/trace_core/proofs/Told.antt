@@ -1,9 +1,9 @@
 -- The lines of a trace, one after the other.
-use Rattle.std.proofs.Common.{arith, ◌≤◌, ◌+◌, length, drop, ◌≡◌, ◌≢◌, true, cond, ℕ, ℤ, List, [], ◌∷◌, ◌++◌, ◌∙◌, ap, sym, subst, refl, Result, Ok, Err}
+use Rattle.std.proofs.Common.{arith, ◌≤◌, ◌<◌, ◌+◌, get_or, length, drop, ◌≡◌, ◌≢◌, true, cond, ℕ, ℤ, List, [], ◌∷◌, ◌++◌, ◌∙◌, ap, sym, subst, refl, Result, Ok, Err}
 use Rattle.std.specs.Prelude.{count_by, pos, replicate, slice_get, OnOk, IfOk}
 use Rattle.std.specs.List.{flat_map}
 use Rattle.std.specs.Option.{option_map_or}
-use Rattle.std.proofs.lemmas.List.{append-nil, append_assoc, length-append, length-replicate}
+use Rattle.std.proofs.lemmas.List.{at_drop_all, at_drop_more, append-nil, append_assoc, length-append, length-replicate}
 use Rattle.std.proofs.lemmas.List.Sums.{sum_by-cons}
 use Rattle.x3d_values.specs.declared.value.Value.{Value}
 use Rattle.x3d_values.specs.declared.value.Value.TheVariants.{SFBool}
@@ -66,6 +66,26 @@ pub answer-told : {A E : Type 0} (r : Result A E) (f : A → List Value) (d : Li
     OnOk r P → IfOk r (λ x. f x ≡ d) → (P → Q d) → IfOk r (λ x. Q (f x))
 answer-told (Ok x) f d P Q p e h = subst Q (sym e) (h p)
 answer-told (Err x) f d P Q p e h = tt
+
+-- what is written so far, with the lines that are left, where one entry more was gone through
+pub told-next : (text now : TraceLine → List ℕ) (entries : List Entry) (n : ℕ) (d : Entry) (i j : ℕ) (t s : ℤ) (vs us : List Value) (out new all : List ℕ) → n < length entries → now ≡ text →
+    ((es : List Entry) → new ++ flat_map text (lines_of es j s us) ≡ out ++ flat_map text (lines_of (get_or entries n d ∷ es) i t vs)) →
+    out ++ flat_map text (lines_of (drop n entries) i t vs) ≡ all →
+    new ++ flat_map now (lines_of (drop (n + 1) entries) j s us) ≡ all
+told-next text now entries n d i j t s vs us out new all below same one before =
+    ap (λ (f : TraceLine → List ℕ). new ++ flat_map f (lines_of (drop (n + 1) entries) j s us)) same
+    ∙ one (drop (n + 1) entries)
+    ∙ sym (at_drop_more (λ (es : List Entry). out ++ flat_map text (lines_of es i t vs)) entries n d below)
+    ∙ before
+
+-- and where all were
+pub told-all : (text : TraceLine → List ℕ) (entries : List Entry) (n i : ℕ) (t : ℤ) (vs : List Value) (out all : List ℕ) → length entries ≤ n →
+    out ++ flat_map text (lines_of (drop n entries) i t vs) ≡ all → out ≡ all
+unfolding lines_of
+told-all text entries n i t vs out all past before =
+    sym (append-nil out)
+    ∙ sym (at_drop_all (λ (es : List Entry). out ++ flat_map text (lines_of es i t vs)) entries n past)
+    ∙ before
 
 -- ---- how many lines there are
 
