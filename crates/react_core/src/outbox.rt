@@ -10,7 +10,7 @@ use x3d_values::Value;
 pub const MAX_REPLIES: usize = 5;
 
 /// An event that a node sends by one of its outputs.
-#[derive(Debug, Drop, PartialEq, Eq)]
+#[derive(Drop, PartialEq, Eq)]
 pub struct Reply {
     /// The number of the output among the node's fields.
     pub field: u16,

@@ -8,7 +8,7 @@ use crate::part::part_way;
 use x3d_values::{Vec2, Vec3};
 
 /// `part` of `whole` of the way from one item to another.
-#[derive(Clone, Copy, Debug, PartialEq, Eq)]
+#[derive(Clone, Copy)]
 pub struct Place {
     pub from: usize,
     pub to: usize,

@@ -70,7 +70,10 @@ fn keep(
     ensures no_memory { IsTrue (is_plain value.now) → IsOk result }
 {
     let kept = copy_of(alloc, value)?;
-    let sent = copy_of(alloc, value)?;
+    let Ok(sent) = copy_of(alloc, value) else {
+        drop(kept);
+        return Err(AllocError);
+    };
     fields.set(input, kept);
     out.push(Reply {
         field: input,

@@ -14,7 +14,7 @@ use crate::stored::{integers_of, number_of, numbers_of, truth_of, truths_of};
 use x3d_values::{Fields, Items, Position, Value};
 
 /// A place of a sequencer, from 0, with the value there.
-#[derive(Debug, Drop, PartialEq, Eq)]
+#[derive(Drop)]
 pub struct Step {
     pub at: u32,
     pub value: Value,
