@@ -1,5 +1,5 @@
 -- A part of a way isn't longer than the way.
-use Rattle.std.proofs.Common.{◌≡◌, ◌≢◌, ap, subst, ℕ, zero, suc, ◌-◌, ◌*◌, ◌/◌, ◌<◌, ◌≤◌, ℤ, pos, negsuc, ◌+ℤ◌, ◌-ℤ◌, ◌*ℤ◌, ◌≤ℤ◌, ◌<ℤ◌, neg_ℤ, unsigned_abs, arith}
+use Rattle.std.proofs.Common.{◌≡◌, ◌≢◌, ◌∙◌, ap, sym, subst, ℕ, zero, suc, ◌+◌, ◌-◌, ◌*◌, ◌/◌, ◌<◌, ◌≤◌, ℤ, pos, negsuc, ◌+ℤ◌, ◌-ℤ◌, ◌*ℤ◌, ◌≤ℤ◌, ◌<ℤ◌, neg_ℤ, unsigned_abs, arith}
 use Rattle.std.proofs.lemmas.Int.{ints}
 use Rattle.std.specs.Int.{int_div_euclid}
 
@@ -24,3 +24,21 @@ down_part (pos n) d part whole h e q = absurd (omega (arith, ints))
 down_part (negsuc n) d zero whole h e q = absurd (omega arith)
 down_part (negsuc n) d (suc part) whole h e q =
     subst (λ k. int_div_euclid (neg_ℤ (pos (k * suc part))) (pos whole) ≡ negsuc ((d * suc part - 1) / whole)) e (neg_div (d * suc part) whole q)
+
+quotient_below : (d part whole : ℕ) → part ≤ whole → 0 < whole → d * part ≢ 0 → (d * part - 1) / whole < d
+quotient_below d part whole h p q = grind arith
+
+pub is_down_within : (from to : ℤ) (part whole d : ℕ) → (to -ℤ from) <ℤ pos 0 → d ≡ unsigned_abs (to -ℤ from) → part ≤ whole → 0 < whole → d * part ≢ 0
+    → to ≤ℤ (from +ℤ negsuc ((d * part - 1) / whole))
+is_down_within from to part whole d h e q p n =
+    let small = quotient_below d part whole q p n in
+    omega (arith, ints)
+
+-- a way up of d
+pub up_part : (from to : ℤ) (d part whole : ℕ) → from ≤ℤ to → d ≡ unsigned_abs (to -ℤ from) → int_div_euclid ((to -ℤ from) *ℤ pos part) (pos whole) ≡ pos (d * part / whole)
+up_part from to d part whole h e =
+    ap (λ z. int_div_euclid (z *ℤ pos part) (pos whole)) (is_up from to h) ∙ ap (λ k. pos (k * part / whole)) (sym e)
+
+-- the vectors of an item are among those of all keys
+pub group_within : (item keys many len : ℕ) → many ≡ len / keys → item < keys → item * many + many ≤ len
+group_within item keys many len e h = grind arith

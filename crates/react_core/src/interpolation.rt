@@ -3,8 +3,8 @@
 ghost use Rattle.std.specs.Prelude.{◌≡◌, ◌≢◌, ◌<◌, ◌≤◌, ◌+◌, ◌*◌, length, map, slice_get, IfOk, IsOk};
 ghost use Rattle.std.specs.List.{zip};
 ghost use Rattle.react_core.specs.declared.place.Place.{Place};
-ghost use Rattle.react_core.specs.Interpolation.{number_way, point_way, vector_way, between, vectors_way, vectors_between, interpolated};
-ghost use Rattle.x3d_values.specs.declared.node_type.NodeType.TheVariants.{CoordinateInterpolator};
+ghost use Rattle.react_core.specs.Interpolation.{number_way, point_way, vector_way, between, group, vectors_way, vectors_between, interpolated};
+ghost use Rattle.x3d_values.specs.declared.node_type.NodeType.TheVariants.{ScalarInterpolator, PositionInterpolator, PositionInterpolator2D, CoordinateInterpolator};
 
 use crate::part::part_way;
 use crate::place::{Place, place_of, point_way, vector_way};
@@ -110,6 +110,14 @@ fn vectors_way(
         .collect(alloc)
 }
 
+/// The vectors of an item, of which each has that many.
+fn group(values: &[Vec3], many: usize, item: usize) -> &[Vec3]
+    requires { item * many + many ≤ length values.now }
+    ensures { result.now ≡ group values.now many item }
+{
+    &values[item * many..item * many + many]
+}
+
 /// The vectors at a fraction, where there are equally many for each key, and at least one.
 #[tactic(auto, unfolding(crate::specs::Interpolation::vectors_between))]
 fn vectors_between(
@@ -127,8 +135,8 @@ fn vectors_between(
         return Ok(None);
     }
     let many = values.len() / keys.len();
-    let from = &values[place.from * many..place.from * many + many];
-    let to = &values[place.to * many..place.to * many + many];
+    let from = group(values, many, place.from);
+    let to = group(values, many, place.to);
     let vectors = vectors_way(alloc, place, from, to)?;
     Ok(Some(Items::from_vec(vectors)))
 }
@@ -144,18 +152,33 @@ fn interpolate_one(
     ensures { result ≡ interpolated node_type keys.now values.now fraction }
 {
     match node_type {
-        NodeType::ScalarInterpolator => {
-            let numbers = numbers_of(values)?;
-            Some(Value::SFFloat(between(keys, numbers.as_slice(), fraction)?))
-        }
-        NodeType::PositionInterpolator => {
-            let vectors = vectors_of(values)?;
-            Some(Value::SFVec3f(between(keys, vectors.as_slice(), fraction)?))
-        }
-        NodeType::PositionInterpolator2D => {
-            let points = points_of(values)?;
-            Some(Value::SFVec2f(between(keys, points.as_slice(), fraction)?))
-        }
+        NodeType::ScalarInterpolator => number_at(keys, values, fraction),
+        NodeType::PositionInterpolator => vector_at(keys, values, fraction),
+        NodeType::PositionInterpolator2D => point_at(keys, values, fraction),
         _ => None,
     }
+}
+
+fn number_at(keys: &[i64], values: &Value, fraction: i64) -> Option<Value>
+    ensures { result ≡ interpolated ScalarInterpolator keys.now values.now fraction }
+{
+    let numbers = numbers_of(values)?;
+    let number = between(keys, numbers.as_slice(), fraction)?;
+    Some(Value::SFFloat(number))
+}
+
+fn vector_at(keys: &[i64], values: &Value, fraction: i64) -> Option<Value>
+    ensures { result ≡ interpolated PositionInterpolator keys.now values.now fraction }
+{
+    let vectors = vectors_of(values)?;
+    let vector = between(keys, vectors.as_slice(), fraction)?;
+    Some(Value::SFVec3f(vector))
+}
+
+fn point_at(keys: &[i64], values: &Value, fraction: i64) -> Option<Value>
+    ensures { result ≡ interpolated PositionInterpolator2D keys.now values.now fraction }
+{
+    let points = points_of(values)?;
+    let point = between(keys, points.as_slice(), fraction)?;
+    Some(Value::SFVec2f(point))
 }

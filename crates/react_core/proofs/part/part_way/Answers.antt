@@ -3,7 +3,7 @@ use Rattle.std.proofs.lemmas.Int.{ints, to_z-of_z}
 use mir.Syntax.{w64}
 use mir.Val.{SFits}
 use Rattle.react_core.specs.Interpolation.{part_way}
-use Rattle.react_core.proofs.PartLemmas.{is_up_within, down_part}
+use Rattle.react_core.proofs.PartLemmas.{is_up_within, is_down_within, up_part, down_part}
 use Rattle.react_core.proofs.part.part_way.Goals as goal
 
 pub moved_up-requires : goal.moved_up-requires
@@ -25,3 +25,22 @@ returns-else-product-eq0 c =
     let moved = simp to_z-of_z at c.moved_down.ensures in
     let r : SFits w64 c.moved_down.result = record { sfits = c.moved_down.type_inv } in
     simp to_z-of_z (moved ∙ ap (λ z. c.args.from +ℤ z) (sym down))
+
+pub moved_down-requires : goal.moved_down-requires
+moved_down-requires c =
+    let f = c.ranges.from in
+    let t = c.ranges.to in
+    let e = simp to_z-of_z at c.abs_diff.ensures in
+    let h : (c.args.to -ℤ c.args.from) <ℤ pos 0 = omega (arith, ints) in
+    simp to_z-of_z (is_down_within c.args.from c.args.to c.args.part c.args.whole c.abs_diff.result h e c.requires.is_part c.requires.is_whole c.if-product-eq0.false)
+
+pub returns-then-from-to : goal.returns-then-from-to
+unfolding part_way
+returns-then-from-to c =
+    let f = c.ranges.from in
+    let t = c.ranges.to in
+    let e = simp to_z-of_z at c.abs_diff.ensures in
+    let h : c.args.from ≤ℤ c.args.to = omega (arith, ints) in
+    let moved = simp to_z-of_z at c.moved_up.ensures in
+    let r : SFits w64 c.moved_up.result = record { sfits = c.moved_up.type_inv } in
+    simp to_z-of_z (moved ∙ ap (λ z. c.args.from +ℤ z) (sym (up_part c.args.from c.args.to c.abs_diff.result c.args.part c.args.whole h e)))
