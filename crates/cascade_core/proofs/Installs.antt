@@ -1,6 +1,6 @@
 -- States that a stage is given, and boxes that take the place of others: what scripts refuse goes by
 -- their kinds alone.
-use Rattle.std.proofs.Common.{◌≡◌, ◌≢◌, ◌⊎◌, ℕ, ℤ, List, [], ◌∷◌, Some, None, inl, inr, zero, suc, refl, ap, subst, sym, ◌∙◌, arith, length}
+use Rattle.std.proofs.Common.{◌≡◌, ◌≢◌, ◌⊎◌, ℕ, ℤ, List, [], ◌∷◌, Option, Some, None, inl, inr, zero, suc, refl, ap, subst, sym, ◌∙◌, arith, length}
 use Rattle.std.specs.Prelude.{IsSomeAnd, slice_get}
 use Rattle.std.proofs.lemmas.List.{length-map}
 use Rattle.x3d_values.specs.declared.script.Kind.{Kind}
@@ -13,7 +13,10 @@ use Rattle.script_host.specs.declared.fault.ReplaceFault.TheVariants as place
 use Rattle.script_host.specs.declared.fault.StateFault.{StateFault}
 use Rattle.script_host.specs.declared.fault.StateFault.TheVariants.{StateLength, StateRange, Memory}
 use Rattle.script_turn.specs.Acting.{kinds_of}
-use Rattle.cascade_core.specs.Held.{Held, StageView, spoiled}
+use Rattle.scene_core.specs.declared.scene.Route.{Route}
+use Rattle.scene_core.specs.Scene.{SceneView}
+use Rattle.world_core.specs.declared.world.WorldData.{WorldData}
+use Rattle.cascade_core.specs.Held.{Held, Running, Spoiled, StageView, applied_of, held_of, holding, spoiled}
 use Rattle.cascade_core.specs.Installing.{RefusesBox, RefusesInstall}
 use Rattle.stage_answers.specs.Placing.{place_fault_of}
 use Rattle.cascade_core.specs.Scripts.{kinds_in, running, scripts_in, states_of}
@@ -84,6 +87,39 @@ install_memory old new rs after states e h is = (states_alike rs (scripts_in old
 pub given_states : (rs after : List ScriptRecord) (states : List (List ℤ)) → AreStates rs states → after ≡ running (kinds_of rs) states → states_of after ≡ states
 given_states rs after states are is =
     ap states_of is ∙ running_states (kinds_of rs) states (length-map rs (λ (r : ScriptRecord). r.kind) ∙ are.count)
+
+-- ---- a stage of these parts
+
+abbrev seen_as : SceneView → List Route → Option ℕ → WorldData → List ScriptRecord → StageView
+seen_as scene routes mark w scripts = record { scene = scene; routes = routes; held = held_of mark (record { world = w; states = states_of scripts }) }
+
+module _ (old : StageView) (scene : SceneView) (routes : List Route) (mark : Option ℕ) (w : WorldData) (rs after : List ScriptRecord) (states : List (List ℤ))
+    (is : seen_as scene routes mark w rs ≡ old) (e : kinds_of rs ≡ kinds_in scene) where
+  pub length_refused : RefusesStates StateLength rs states after → RefusesInstall StateLength old states (seen_as scene routes mark w after)
+  length_refused h =
+      subst (λ (v : StageView). RefusesInstall StateLength v states (seen_as scene routes mark w after)) is
+      (install_length (seen_as scene routes mark w rs) (seen_as scene routes mark w after) rs after states e h (ap (λ (xs : List ScriptRecord). seen_as scene routes mark w xs) h.0))
+
+  pub range_refused : RefusesStates StateRange rs states after → RefusesInstall StateRange old states (seen_as scene routes mark w after)
+  range_refused h =
+      subst (λ (v : StageView). RefusesInstall StateRange v states (seen_as scene routes mark w after)) is
+      (install_range (seen_as scene routes mark w rs) (seen_as scene routes mark w after) rs after states e h (ap (λ (xs : List ScriptRecord). seen_as scene routes mark w xs) h.0))
+
+  spoiled_now : (n : ℕ) → n ≡ applied_of old.held → holding (seen_as scene routes mark w rs) (Spoiled n) ≡ spoiled old
+  spoiled_now n m = ap (λ (v : StageView). holding v (Spoiled n)) is ∙ ap (λ (k : ℕ). holding old (Spoiled k)) m
+
+  pub states_fit : AreStates rs states → AreStates (scripts_in old.scene) states
+  states_fit h = subst (λ (v : StageView). AreStates (scripts_in v.scene) states) is (states_alike rs (scripts_in scene) e states h)
+
+  pub memory_refused : (n : ℕ) → n ≡ applied_of old.held → AreStates rs states → RefusesInstall Memory old states (holding (seen_as scene routes mark w rs) (Spoiled n))
+  memory_refused n m h = (states_fit h, spoiled_now n m)
+
+  pub world_given : (now given : WorldData) → now ≡ given → AreStates rs states → after ≡ running (kinds_of rs) states →
+      seen_as scene routes None now after ≡ holding old (Running (record { world = given; states = states }))
+  world_given now given stands are all =
+      ap (λ (u : WorldData). seen_as scene routes None u after) stands
+      ∙ ap (λ (xs : List (List ℤ)). holding (seen_as scene routes mark w rs) (Running (record { world = given; states = xs }))) (given_states rs after states are all)
+      ∙ ap (λ (v : StageView). holding v (Running (record { world = given; states = states }))) is
 
 -- ---- boxes
 

@@ -212,18 +212,3 @@ unset-marked starts bits rising unset = record { places = rising; marked = λ e 
   where
     found : (e : End) (p : ℕ) → p < length bits → slice_get bits p ≡ Some false
     found e p h = slice_get-get_or bits p false h ∙ ap Some (unset p false h)
-
--- ---- the place of an end
-
-pub no_start : (starts : List ℕ) (e : End) → slice_get starts e.node ≡ None → place_of starts e ≡ None
-unfolding place_of
-no_start starts e h = ap (λ (s : Option ℕ). place_in e.field s (slice_get starts (e.node + 1))) h
-
-pub no_next : (starts : List ℕ) (e : End) (start : ℕ) → slice_get starts e.node ≡ Some start → slice_get starts (e.node + 1) ≡ None → place_of starts e ≡ None
-unfolding place_of
-no_next starts e start h none = ap (λ (s : Option ℕ). place_in e.field s (slice_get starts (e.node + 1))) h ∙ ap (λ (n : Option ℕ). place_in e.field (Some start) n) none
-
-pub between : (starts : List ℕ) (e : End) (start next : ℕ) → slice_get starts e.node ≡ Some start → slice_get starts (e.node + 1) ≡ Some next →
-    place_of starts e ≡ (if nat_lt e.field (next - start) then Some (start + e.field) else None)
-unfolding place_of
-between starts e start next h k = ap (λ (s : Option ℕ). place_in e.field s (slice_get starts (e.node + 1))) h ∙ ap (λ (n : Option ℕ). place_in e.field (Some start) n) k

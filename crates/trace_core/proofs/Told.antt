@@ -5,6 +5,7 @@ use Rattle.std.specs.List.{flat_map}
 use Rattle.std.specs.Option.{option_map_or}
 use Rattle.std.proofs.lemmas.List.{at_drop_all, at_drop_more, append-nil, append_assoc, length-append, length-replicate}
 use Rattle.std.proofs.lemmas.List.Sums.{sum_by-cons}
+use Rattle.x3d_lists.specs.Extends.{Extends}
 use Rattle.x3d_values.specs.declared.value.Value.{Value}
 use Rattle.x3d_values.specs.declared.value.Value.TheVariants.{SFBool}
 use Rattle.trace_core.specs.declared.trace.Entry.{Entry}
@@ -86,6 +87,10 @@ told-all text entries n i t vs out all past before =
     sym (append-nil out)
     ∙ sym (at_drop_all (λ (es : List Entry). out ++ flat_map text (lines_of es i t vs)) entries n past)
     ∙ before
+
+-- what has grown twice has grown
+pub kept-on : (a b c : List ℕ) → Extends a b → Extends b c → Extends a c
+kept-on a b c h k = record { more = h.more ++ k.more; is = k.is ∙ ap (λ (xs : List ℕ). xs ++ k.more) h.is ∙ append_assoc a h.more k.more }
 
 -- ---- how many lines there are
 
