@@ -9,7 +9,7 @@ use x3d_values::MAX_VIEWERS;
 pub const VIEWERS: usize = MAX_VIEWERS as usize;
 
 /// Of a TimeSensor: whether it is active, and its cycle, which is 0 where it isn't.
-#[derive(Clone, Copy, Debug, PartialEq, Eq)]
+#[derive(Clone, Copy, PartialEq, Eq)]
 pub struct TimeParts {
     pub active: bool,
     /// From 0.
@@ -17,7 +17,7 @@ pub struct TimeParts {
 }
 
 /// Of a TouchSensor: which viewers' pointers are over it, and which viewer presses it.
-#[derive(Clone, Copy, Debug, PartialEq, Eq)]
+#[derive(Clone, Copy, PartialEq, Eq)]
 pub struct TouchParts {
     /// Bit v is 1 where viewer v's pointer is over it.
     pub over: u16,

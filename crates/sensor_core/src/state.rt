@@ -5,7 +5,7 @@ use std::marker::Model;
 
 /// Whether a TimeSensor runs, and in which cycle, from 0. Contracts see the number of the cycle
 /// that runs, if one does.
-#[derive(Clone, Copy, Debug, PartialEq, Eq)]
+#[derive(Clone, Copy, PartialEq, Eq)]
 pub struct TimeState {
     cycle: Option<u64>,
 }

@@ -13,7 +13,7 @@ use x3d_values::{Fields, Value};
 pub const MAX_TIME: i64 = 1_000_000_000_000_000_000;
 
 /// The values of a TimeSensor's inputOutput fields, times in microseconds.
-#[derive(Clone, Copy, Debug, PartialEq, Eq)]
+#[derive(Clone, Copy, PartialEq, Eq)]
 pub struct Times {
     pub cycle_interval: i64,
     pub enabled: bool,
@@ -25,7 +25,7 @@ pub struct Times {
 }
 
 /// The same in their ranges: times up to `MAX_TIME` from 0, and a cycle takes time.
-#[derive(Clone, Copy, Debug, PartialEq, Eq)]
+#[derive(Clone, Copy, PartialEq, Eq)]
 pub struct TimeFields {
     pub(crate) times: Times,
 }
@@ -112,13 +112,27 @@ impl TimeFields {
     pub fn from_fields(fields: &Fields) -> Option<TimeFields>
         ensures { result ≡ timing_of fields.now }
     {
-        let cycle_interval = time_at(fields, CYCLE_INTERVAL)?;
-        let enabled = truth_at(fields, ENABLED)?;
-        let looping = truth_at(fields, LOOP)?;
-        let pause_time = time_at(fields, PAUSE_TIME)?;
-        let resume_time = time_at(fields, RESUME_TIME)?;
-        let start_time = time_at(fields, START_TIME)?;
-        let stop_time = time_at(fields, STOP_TIME)?;
+        let Some(cycle_interval) = time_at(fields, CYCLE_INTERVAL) else {
+            return None;
+        };
+        let Some(enabled) = truth_at(fields, ENABLED) else {
+            return None;
+        };
+        let Some(looping) = truth_at(fields, LOOP) else {
+            return None;
+        };
+        let Some(pause_time) = time_at(fields, PAUSE_TIME) else {
+            return None;
+        };
+        let Some(resume_time) = time_at(fields, RESUME_TIME) else {
+            return None;
+        };
+        let Some(start_time) = time_at(fields, START_TIME) else {
+            return None;
+        };
+        let Some(stop_time) = time_at(fields, STOP_TIME) else {
+            return None;
+        };
         checked(Times {
             cycle_interval,
             enabled,

@@ -12,7 +12,7 @@ use std::marker::Model;
 use x3d_values::{MAX_VIEWERS, Value, Vec3};
 
 /// Which viewers' pointers are over a TouchSensor, and which viewer presses it, if one does.
-#[derive(Clone, Copy, Debug, PartialEq, Eq)]
+#[derive(Clone, Copy, PartialEq, Eq)]
 pub struct TouchState {
     over: [bool; VIEWERS],
     presser: Option<u8>,

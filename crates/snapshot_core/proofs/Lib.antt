@@ -1,3 +1,4 @@
+pub mod Heads
 mod KeptRows
 mod LineLaws
 mod NodeLaws

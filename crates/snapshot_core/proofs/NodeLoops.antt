@@ -111,6 +111,15 @@ split_at {A} xs i x lt is =
 pub extends_on : (old now new : List ℕ) → Extends old now → Extends now new → Extends old new
 extends_on old now new p q = record { more = p.more ++ q.more; is = q.is ∙ ap (λ (z : List ℕ). z ++ q.more) p.is ∙ append_assoc old p.more q.more }
 
+pub grown : (old part now : List ℕ) → now ≡ old ++ part → Extends old now
+grown old part now is = record { more = part; is = is }
+
+pub same_on : (old now new : List ℕ) → Extends old now → new ≡ now → Extends old new
+same_on old now new p is = record { more = p.more; is = is ∙ p.is }
+
+pub stays : (old : List ℕ) → Extends old old
+stays old = record { more = []; is = sym (append-nil old) }
+
 -- a node more, of those that all lists have
 pub text_goes_on : (shapes : List Shape) (fields : List Fields) (sensors : List (Option ℕ)) (touches : List Touch) (i count : ℕ) (t : Shape) (f : Fields) (s : Option ℕ) (u : Touch) (out new total : List ℕ) → i < count → count ≡ min (length shapes) (min (length fields) (min (length sensors) (length touches)))
     → slice_get shapes i ≡ Some t → f ≡ get_or fields i f → s ≡ get_or sensors i s → u ≡ get_or touches i u → new ≡ out ++ (node_codec t).write (record { fields = f; time = s; touch = u })

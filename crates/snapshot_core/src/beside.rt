@@ -37,7 +37,9 @@ fn state_of(cycle: Option<u64>) -> TimeState
 fn time_state_of(bytes: &[u8]) -> Option<(TimeState, &[u8])>
     ensures { option_map (λ x. (x.0, x.1.now)) result ≡ cycle_codec.read bytes.now }
 {
-    let (cycle, rest) = cycle_of(bytes)?;
+    let Some((cycle, rest)) = cycle_of(bytes) else {
+        return None;
+    };
     Some((state_of(cycle), rest))
 }
 
@@ -67,7 +69,9 @@ fn push_time(node_type: NodeType, time: TimeState, out: &mut Vec<u8>) -> Result<
 fn pointers_of(bytes: &[u8]) -> Option<(TouchState, &[u8])>
     ensures { option_map (λ x. (x.0, x.1.now)) result ≡ pointers_codec.read bytes.now }
 {
-    let (touch, rest) = touch_of(Viewers::Sixteen, bytes)?;
+    let Some((touch, rest)) = touch_of(Viewers::Sixteen, bytes) else {
+        return None;
+    };
     let state = TouchState::from_parts(TouchParts {
         over: touch.over as u16,
         presser: touch.presser,
@@ -156,7 +160,9 @@ pub(crate) fn beside_of(node_type: NodeType, bytes: &[u8]) -> Option<(Beside, &[
     let Some((touch, rest)) = touch_state_of(node_type, rest) else {
         return None;
     };
-    let (position, rest) = place_of(node_type, rest)?;
+    let Some((position, rest)) = place_of(node_type, rest) else {
+        return None;
+    };
     let beside = Beside {
         time,
         touch,

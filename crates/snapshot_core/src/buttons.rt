@@ -24,7 +24,9 @@ fn set_of(bytes: &[u8]) -> Option<(u16, &[u8])>
 pub(crate) fn buttons_of(bytes: &[u8]) -> Option<([bool; VIEWERS], &[u8])>
     ensures { option_map (λ x. (x.0, x.1.now)) result ≡ buttons_codec.read bytes.now }
 {
-    let (number, rest) = set_of(bytes)?;
+    let Some((number, rest)) = set_of(bytes) else {
+        return None;
+    };
     Some((over_of(number), rest))
 }
 

@@ -64,8 +64,11 @@ impl TakesEntries for ReadTrace {
             node: sent.node,
             field: sent.field,
         };
-        self.trace
-            .push(self.alloc, sent.input, sent.time, source, &entry.value)
+        let pushed = self
+            .trace
+            .push(self.alloc, sent.input, sent.time, source, &entry.value);
+        drop(entry);
+        pushed
     }
 }
 
@@ -83,8 +86,13 @@ pub(crate) fn lines_of<'a>(
         alloc,
         trace: Trace::new(alloc),
     };
-    let rest = trace_of(alloc, &outputs, bytes, &mut read)?;
-    Ok((read.trace, rest))
+    match trace_of(alloc, &outputs, bytes, &mut read) {
+        Ok(rest) => Ok((read.trace, rest)),
+        Err(fault) => {
+            drop(read);
+            Err(fault)
+        }
+    }
 }
 
 /// Writes lines as bytes.

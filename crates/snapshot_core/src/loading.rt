@@ -44,6 +44,7 @@ fn loaded_body(
             if found.boot < boot {
                 Ok(found)
             } else {
+                drop(found);
                 Err(SnapFault::BootNotNew)
             }
         }
@@ -54,6 +55,7 @@ fn loaded_body(
 
 /// The boot and the world of a snapshot, for one that starts again as `boot`, of a scene that runs
 /// so many scripts. The states of the scripts aren't looked at.
+#[tactic(auto, using(crate::proofs::Heads::behind))]
 fn behind_head(
     alloc: Global,
     scene: &Scene,
@@ -86,10 +88,22 @@ fn put<B: Behaviour>(stage: &mut Stage<B>, found: Found) -> Result<Saved, SnapFa
     } = found;
     let applied = world.applied;
     match stage.install(world, states.as_slice()) {
-        Ok(()) => Ok(Saved { boot, applied }),
-        Err(StateFault::StateLength) => Err(SnapFault::ScriptState),
-        Err(StateFault::StateRange) => Err(SnapFault::ScriptState),
-        Err(StateFault::Memory) => Err(SnapFault::Memory),
+        Ok(()) => {
+            drop(states);
+            Ok(Saved { boot, applied })
+        }
+        Err(StateFault::StateLength) => {
+            drop(states);
+            Err(SnapFault::ScriptState)
+        }
+        Err(StateFault::StateRange) => {
+            drop(states);
+            Err(SnapFault::ScriptState)
+        }
+        Err(StateFault::Memory) => {
+            drop(states);
+            Err(SnapFault::Memory)
+        }
     }
 }
 

@@ -55,10 +55,20 @@ impl NodeLists {
           touches = self.old.touches ++ node.touch ∷ [];
         }) }
     {
-        self.sensors.push(node.time)?;
-        self.touches.push(node.touch)?;
-        self.fields.push(node.fields)?;
-        Ok(())
+        let NodeState {
+            fields,
+            time,
+            touch,
+        } = node;
+        if let Err(refused) = self.sensors.push(time) {
+            drop(fields);
+            return Err(refused);
+        }
+        if let Err(refused) = self.touches.push(touch) {
+            drop(fields);
+            return Err(refused);
+        }
+        self.fields.push(fields)
     }
 }
 
@@ -90,6 +100,7 @@ fn state_of<'a>(
 {
     let (values, rest) = kept_fields_of(alloc, kept, bytes)?;
     let Some((beside, rest)) = beside_of(node_type, rest) else {
+        drop(values);
         return Err(PartFault::NotCanonical);
     };
     Ok((node_with(values, beside), rest))
@@ -126,8 +137,17 @@ pub(crate) fn nodes_of<'a>(
     let mut kept = Vec::new(alloc);
     let mut rest = bytes;
     for node in 0..count {
-        let (state, after) = node_of(alloc, &mut kept, scene, node, rest)?;
-        lists.push(state)?;
+        let (state, after) = match node_of(alloc, &mut kept, scene, node, rest) {
+            Ok(read) => read,
+            Err(fault) => {
+                drop(lists);
+                return Err(fault);
+            }
+        };
+        let Ok(()) = lists.push(state) else {
+            drop(lists);
+            return Err(PartFault::Memory);
+        };
         rest = after;
     }
     Ok((lists, rest))

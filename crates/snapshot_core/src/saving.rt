@@ -59,10 +59,13 @@ pub fn save<B: Behaviour>(
     };
     let mut states = Vec::new(stage.allocator());
     if stage.script_states(&mut states).is_err() {
+        drop(states);
         return Err(SaveFault::Memory);
     }
     let len = out.len();
-    if push_shot(stage.scene(), world, &states, mark, boot, out).is_err() {
+    let pushed = push_shot(stage.scene(), world, &states, mark, boot, out);
+    drop(states);
+    if pushed.is_err() {
         out.truncate(len);
         return Err(SaveFault::Memory);
     }

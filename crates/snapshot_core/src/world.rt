@@ -50,11 +50,25 @@ fn parts_of<'a>(
 {
     let (nodes, rest) = nodes_of(alloc, scene, bytes)?;
     let Some(read) = buttons_of(rest) else {
+        drop(nodes);
         return Err(PartFault::NotCanonical);
     };
     let (buttons, rest) = read;
-    let (states, rest) = states_of(alloc, scripts, rest)?;
-    let (trace, rest) = lines_of(alloc, scene, rest)?;
+    let (states, rest) = match states_of(alloc, scripts, rest) {
+        Ok(read) => read,
+        Err(fault) => {
+            drop(nodes);
+            return Err(fault);
+        }
+    };
+    let (trace, rest) = match lines_of(alloc, scene, rest) {
+        Ok(read) => read,
+        Err(fault) => {
+            drop(nodes);
+            drop(states);
+            return Err(fault);
+        }
+    };
     let parts = WorldParts {
         nodes,
         buttons,
@@ -119,7 +133,10 @@ pub(crate) fn body_of(
     ensures { Reads booted result (whole ((body_codec scene.now).read bytes.now)) }
 {
     let (found, rest) = world_of(alloc, scene, scripts, bytes)?;
-    all_read(rest)?;
+    if let Err(fault) = all_read(rest) {
+        drop(found);
+        return Err(fault);
+    }
     Ok(found)
 }
 

@@ -3,4 +3,4 @@ use Rattle.snapshot_core.proofs.PartSizes.{over_small}
 use Rattle.snapshot_core.proofs.beside.pointers_of.Goals as goal
 
 pub overflow_cast-touch : goal.overflow_cast-touch
-overflow_cast-touch c = record { fits = over_small c.args.bytes.now c.in_ok-touch.touch c.in_ok-touch.rest.now (λ i. omega (arith, c.type_inv.bytes i)) (sym c.in_ok-touch.ensures) }
+overflow_cast-touch c = record { fits = over_small c.args.bytes.now c.in-Some.touch c.in-Some.rest.now (λ i. omega (arith, c.type_inv.bytes i)) (sym c.in-Some.ensures) }

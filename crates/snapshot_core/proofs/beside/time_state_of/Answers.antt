@@ -3,4 +3,4 @@ use Rattle.snapshot_core.proofs.PartSizes.{cycle_read}
 use Rattle.snapshot_core.proofs.beside.time_state_of.Goals as goal
 
 pub state_of-requires : goal.state_of-requires
-state_of-requires c = cycle_read c.args.bytes.now c.in_ok-cycle.cycle c.in_ok-cycle.rest.now (λ i. omega (arith, c.type_inv.bytes i)) (sym c.in_ok-cycle.ensures)
+state_of-requires c = cycle_read c.args.bytes.now c.in-Some.cycle c.in-Some.rest.now (λ i. omega (arith, c.type_inv.bytes i)) (sym c.in-Some.ensures)

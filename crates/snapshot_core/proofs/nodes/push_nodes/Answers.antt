@@ -1,9 +1,23 @@
-use Rattle.std.proofs.Common.{◌<◌, arith, length, rules}
+use Rattle.std.proofs.Common.{◌<◌, arith, length, refl, rules}
 use Rattle.scene_core.specs.Scene.{shapes_of}
 use Rattle.snapshot_core.specs.Nodes.{kept_fields, shape_in}
 use Rattle.snapshot_core.proofs.KeptRows.{shape_in-is, text_in}
-use Rattle.snapshot_core.proofs.NodeLoops.{extends_on, text_goes_on, text_done, counted}
+use Rattle.snapshot_core.specs.Nodes.{nodes_codec}
+use Rattle.snapshot_core.proofs.NodeLoops.{extends_on, stays, text_goes_on, text_done, counted}
 use Rattle.snapshot_core.proofs.nodes.push_nodes.Goals as goal
+
+pub returns-in_err-count-clause-kept : goal.returns-in_err-count-clause-kept
+returns-in_err-count-clause-kept c = stays c.args.out.now.items
+
+pub loop-node-init : goal.loop-node-init
+unfolding nodes_codec
+loop-node-init c = record { told = refl; kept = stays c.args.out.now.items }
+
+pub node_type-requires : goal.node_type-requires
+node_type-requires c = omega (arith, c.loop-node-test.true, c.in_ok-count.ensures)
+
+pub returns-in_err-push_node-clause-kept : goal.returns-in_err-push_node-clause-kept
+returns-in_err-push_node-clause-kept c = extends_on c.args.out.now.items c.loop-node.out.items _ c.loop-node.invariant.kept c.in_err-push_node.ensures.kept
 
 pub loop-node-preserved : goal.loop-node-preserved
 loop-node-preserved c = record {
@@ -23,3 +37,6 @@ returns-clause-ok c =
     let w = c.args.world.now in
     let all = counted c.args.scene.now c.in_ok-count.count (length w.fields) (length w.sensors) (length w.touches) c.in_ok-count.ensures in
     text_done (shapes_of c.args.scene.now) w.fields w.sensors w.touches c.loop-node.node c.in_ok-count.count c.loop-node.out.items _ c.loop-node-test.false all c.loop-node.invariant.told
+
+pub returns-clause-kept : goal.returns-clause-kept
+returns-clause-kept c = c.loop-node.invariant.kept
