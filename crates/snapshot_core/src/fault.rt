@@ -4,71 +4,40 @@ ghost use Rattle.std.specs.Prelude.{◌≡◌};
 ghost use Rattle.snapshot_core.specs.Loading.{fault_of};
 
 use snapshot_codec::HeadFault;
-use std::{error, fmt};
+use std::fmt;
+use thiserror::Error;
 
 /// Why no snapshot was taken.
-#[derive(Clone, Copy, Debug, PartialEq, Eq)]
+#[derive(Clone, Copy, Debug, PartialEq, Eq, Error)]
 pub enum SaveFault {
+    #[error("memory was refused before")]
     Spoiled,
+    #[error("memory was refused")]
     Memory,
 }
-
-impl SaveFault {
-    /// What is told of it.
-    fn text(self) -> &'static str {
-        match self {
-            SaveFault::Spoiled => "memory was refused before",
-            SaveFault::Memory => "memory was refused",
-        }
-    }
-}
-
-impl fmt::Display for SaveFault {
-    fn fmt<W: fmt::Write>(&self, f: &mut fmt::Formatter<W>) -> fmt::Result {
-        f.write_str(self.text())
-    }
-}
-
-impl error::Error for SaveFault {}
 
 /// Why no world was made of a snapshot.
-#[derive(Clone, Copy, Debug, PartialEq, Eq)]
+#[derive(Clone, Copy, Debug, PartialEq, Eq, Error)]
 pub enum SnapFault {
+    #[error("the snapshot is not whole")]
     Short,
+    #[error("this is no snapshot")]
     BadMagic,
+    #[error("the version of the snapshot is not 1")]
     BadVersion,
+    #[error("the snapshot is of another scene")]
     WrongScene,
+    #[error("the snapshot was altered")]
     BadDigest,
+    #[error("the snapshot is none that could be written")]
     NotCanonical,
+    #[error("the boot is not above the earlier ones")]
     BootNotNew,
+    #[error("the state of a script does not fit")]
     ScriptState,
+    #[error("memory was refused")]
     Memory,
 }
-
-impl SnapFault {
-    /// What is told of it.
-    fn text(self) -> &'static str {
-        match self {
-            SnapFault::Short => "the snapshot is not whole",
-            SnapFault::BadMagic => "this is no snapshot",
-            SnapFault::BadVersion => "the version of the snapshot is not 1",
-            SnapFault::WrongScene => "the snapshot is of another scene",
-            SnapFault::BadDigest => "the snapshot was altered",
-            SnapFault::NotCanonical => "the snapshot is none that could be written",
-            SnapFault::BootNotNew => "the boot is not above the earlier ones",
-            SnapFault::ScriptState => "the state of a script does not fit",
-            SnapFault::Memory => "memory was refused",
-        }
-    }
-}
-
-impl fmt::Display for SnapFault {
-    fn fmt<W: fmt::Write>(&self, f: &mut fmt::Formatter<W>) -> fmt::Result {
-        f.write_str(self.text())
-    }
-}
-
-impl error::Error for SnapFault {}
 
 /// What is wrong before the body of a snapshot.
 pub(crate) fn fault_of(fault: HeadFault) -> SnapFault
