@@ -7,7 +7,8 @@ use Rattle.scene_core.specs.declared.build.Frame.{Frame}
 use Rattle.scene_core.specs.declared.fault.SceneFault.{SceneFault}
 use Rattle.scene_core.specs.declared.numbering.Numbering.{Numbering}
 use Rattle.scene_core.specs.declared.scene.SceneNode.{SceneNode}
-use Rattle.scene_core.specs.Building.{called, checked_nodes, limits, nodes_of, scene_by, scene_of}
+use Rattle.scene_core.specs.Building.{called, limits, nodes_of, scene_by, scene_of}
+use Rattle.scene_core.specs.Checked.{checked_nodes}
 use Rattle.scene_core.specs.Faults.{memory, ◌>>=◌}
 use Rattle.scene_core.specs.Numbers.{numbering}
 use Rattle.scene_core.specs.Scene.{SceneView}

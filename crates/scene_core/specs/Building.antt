@@ -75,19 +75,3 @@ scene_by flat s =
 -- the scene of a document, or its first fault
 unfoldable pub scene_of : Flat → Result SceneView SceneFault
 scene_of flat = scene_by flat (numbering flat.nodes flat.roots flat.helpers)
-
--- ---- the same in parts
-
--- roots and helpers are child nodes, and nothing is beyond a limit
-abbrev pub check : Flat → List SceneNode → List ℕ → Result (Unit {0}) SceneFault
-check flat nodes roots =
-    all_children flat.nodes flat.roots >>= λ _.
-    all_children flat.nodes flat.helpers >>= λ _.
-    limits nodes roots
-
--- the nodes of a scene whose roots are called so, where that is so
-abbrev pub checked_nodes : Flat → Numbering → List ℕ → Result (List SceneNode) SceneFault
-checked_nodes flat s roots =
-    nodes_of flat.nodes s >>= λ nodes.
-    check flat nodes roots >>= λ _.
-    Ok nodes

@@ -1,4 +1,5 @@
 pub mod Building
+pub mod Checked
 pub mod Deep
 pub mod Faults
 pub mod Labels

@@ -3,6 +3,7 @@
 ghost use Rattle.std.specs.Prelude.{◌≡◌, IfOk, Ok, slice_get};
 ghost use Rattle.x3d_lists.specs.Answers.{Gives};
 ghost use Rattle.scene_core.specs.Building as spec;
+ghost use Rattle.scene_core.specs.Checked.{check, checked_nodes};
 ghost use Rattle.scene_core.specs.Faults.{memory};
 ghost use Rattle.scene_core.specs.Labels.{known_of, known_alone};
 
@@ -60,7 +61,7 @@ pub(crate) fn checked_nodes(
     numbering: &Numbering,
     roots: &[u32],
 ) -> Result<Items<SceneNode>, SceneFault>
-    ensures { Gives memory (λ all. all) result (spec.checked_nodes flat.now numbering.now roots.now) }
+    ensures { Gives memory (λ all. all) result (checked_nodes flat.now numbering.now roots.now) }
 {
     let made = nodes_of(alloc, flat.nodes.as_slice(), numbering)?;
     match check(alloc, flat, made.as_slice(), roots) {
@@ -74,7 +75,7 @@ pub(crate) fn checked_nodes(
 
 /// Roots and helpers are child nodes, and nothing is beyond a limit.
 fn check(alloc: Global, flat: &Flat, nodes: &[SceneNode], roots: &[u32]) -> Result<(), SceneFault>
-    ensures { Gives memory (λ u. u) result (spec.check flat.now nodes.now roots.now) }
+    ensures { Gives memory (λ u. u) result (check flat.now nodes.now roots.now) }
 {
     check_children(flat.nodes.as_slice(), flat.roots.as_slice())?;
     check_children(flat.nodes.as_slice(), flat.helpers.as_slice())?;
