@@ -1,5 +1,5 @@
 -- Steps of the trees of nodes.
-use Rattle.std.proofs.Common.{◌≡◌, ◌≢◌, ℕ, zero, suc, ◌+◌, ◌-◌, ◌<◌, Bool, true, List, [], ◌∷◌, ◌++◌, Some, None, length, get_or, take, refl, ap, sym, ◌∙◌, arith}
+use Rattle.std.proofs.Common.{◌≡◌, ◌≢◌, ℕ, zero, suc, ◌+◌, ◌-◌, ◌<◌, Bool, true, List, [], ◌∷◌, ◌++◌, Some, None, length, get_or, take, refl, ap, sym, subst, ◌∙◌, arith}
 use Rattle.std.specs.Prelude.{slice_set}
 use Rattle.std.proofs.lemmas.Grind.{common_steps}
 use Rattle.std.proofs.lemmas.List.Sums.{fold_more}
@@ -8,8 +8,9 @@ use Rattle.x3d_values.specs.Names.{node_type_name}
 use Rattle.classic_tree.specs.declared.tree.BodyItem.{BodyItem}
 use Rattle.classic_tree.specs.declared.tree.NodeText.{NodeText}
 use Rattle.classic_tree.specs.declared.tree.NodeText.TheVariants as node
+use Rattle.classic_tree.specs.declared.tree.Statement.{Statement}
 use Rattle.classic_tree.specs.declared.tree.Statement.TheVariants as statement
-use Rattle.scene_text.specs.Statements.{switch_of, helper_root}
+use Rattle.scene_text.specs.Statements.{switch_of, helper_root, root_tree}
 use Rattle.scene_text.specs.Tree.{PlanView, Shown, def_name, Step, Makes, one_more, each, as_nodes, node_list, field_tree, new_type, use_tree, full_tree, shown_fields, node_tree}
 
 -- ---- one more of a list
@@ -60,3 +61,13 @@ node_tree_made depth p seen n t m start fields made h e f s k q =
     ∙ sym (node_tree_first depth p seen n t h e)
 
 pub ruleset node_steps = (common_steps, node_tree_spent, node_tree_again)
+
+-- one more root
+pub root_more : (tree : Makes ℕ NodeText) (start : List Bool) (roots shown : List ℕ) (i : ℕ) (s : Step (List Statement)) (m : Step NodeText) (made : List Statement) →
+    shown ≡ roots → i < length shown → s ≡ each (root_tree tree) start (take i roots) → m ≡ tree s.seen (get_or shown i 0) → made ≡ s.made ++ statement.Node m.made ∷ [] →
+    step_of m.seen made ≡ each (root_tree tree) start (take (i + 1) roots)
+root_more tree start roots shown i s m made same here so_far is last =
+    ap (λ (ws : List Statement). step_of m.seen ws) last
+    ∙ each_more (root_tree tree) start roots i 0 s (step_of m.seen (statement.Node m.made))
+    (subst (λ ns. i < length ns) same here) so_far
+    (ap (λ (w : Step NodeText). step_of w.seen (statement.Node w.made)) (is ∙ ap (λ ns. tree s.seen (get_or ns i 0)) same))

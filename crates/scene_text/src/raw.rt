@@ -39,9 +39,7 @@ impl Numerals for Vec2 {
     ghost run = { pair_run };
 
     fn push_to(&self, out: &mut Vec<i64>) -> Result<(), AllocError> {
-        out.push(self.x)?;
-        out.push(self.y)?;
-        Ok(())
+        out.extend_from_slice(&[self.x, self.y])
     }
 }
 
@@ -49,10 +47,7 @@ impl Numerals for Vec3 {
     ghost run = { vector_run };
 
     fn push_to(&self, out: &mut Vec<i64>) -> Result<(), AllocError> {
-        out.push(self.x)?;
-        out.push(self.y)?;
-        out.push(self.z)?;
-        Ok(())
+        out.extend_from_slice(&[self.x, self.y, self.z])
     }
 }
 
@@ -60,10 +55,7 @@ impl Numerals for Color {
     ghost run = { color_run };
 
     fn push_to(&self, out: &mut Vec<i64>) -> Result<(), AllocError> {
-        out.push(self.red)?;
-        out.push(self.green)?;
-        out.push(self.blue)?;
-        Ok(())
+        out.extend_from_slice(&[self.red, self.green, self.blue])
     }
 }
 

@@ -1,6 +1,6 @@
 //! The statements of a scene: its roots, its helpers and its routes.
 
-ghost use Rattle.std.specs.Prelude.{◌≡◌, ◌++◌, IfOk, OnOk};
+ghost use Rattle.std.specs.Prelude.{◌≡◌, [], ◌∷◌, ◌++◌, IfOk, OnOk};
 ghost use Rattle.scene_text.specs.Statements.{field_name, place_of, route_of, root_tree, helper_root, helpers_of, roots_of, routes_of, statements_of, switch_of};
 ghost use Rattle.x3d_values.specs.Ranges.{max_depth};
 ghost use Rattle.scene_text.specs.Tree.{each, node_tree};
@@ -20,8 +20,14 @@ pub(crate) fn statements_of(alloc: Global, plan: &Plan<'_>) -> Result<Vec<Statem
 {
     let mut seen = vec![in alloc; false; plan.scene.node_count()]?;
     let mut statements = roots_of(alloc, plan, &mut seen)?;
-    push_helpers(alloc, plan, &mut seen, &mut statements)?;
-    push_routes(alloc, plan.scene, plan.routes, &mut statements)?;
+    if let Err(fault) = push_helpers(alloc, plan, &mut seen, &mut statements) {
+        drop(statements);
+        return Err(fault);
+    }
+    if let Err(fault) = push_routes(alloc, plan.scene, plan.routes, &mut statements) {
+        drop(statements);
+        return Err(fault);
+    }
     Ok(statements)
 }
 
@@ -91,12 +97,26 @@ fn roots_of(
 fn switch_of(alloc: Global, children: Vec<NodeText>) -> Result<NodeText, AllocError>
     ensures { IfOk result (λ made. made ≡ switch_of children.items) }
 {
-    let mut items = Vec::new(alloc);
-    let name = Text::from_str(alloc, "children")?;
+    let Ok(word) = Text::from_str(alloc, "Switch") else {
+        drop(children);
+        return Err(AllocError);
+    };
+    let Ok(name) = Text::from_str(alloc, "children") else {
+        drop(children);
+        return Err(AllocError);
+    };
     let value = RawValue::NodeList(Items::from_vec(children));
-    items.push(BodyItem::Field(0, name, Given::Value(value)))?;
-    let word = Text::from_str(alloc, "Switch")?;
-    Ok(NodeText::Full(0, None, word, Items::from_vec(items)))
+    let items = only_item(alloc, BodyItem::Field(0, name, Given::Value(value)))?;
+    Ok(NodeText::Full(0, None, word, items))
+}
+
+/// A list of that one item.
+fn only_item(alloc: Global, item: BodyItem) -> Result<Items<BodyItem>, AllocError>
+    ensures { IfOk result (λ items. items ≡ item ∷ []) }
+{
+    let mut items = Items::new(alloc);
+    items.push(item)?;
+    Ok(items)
 }
 
 /// The helpers, where there are some, as one root more.
@@ -113,6 +133,7 @@ fn push_helpers(
 {
     let trees = node_trees(alloc, plan, seen, MAX_DEPTH, plan.scene.helpers())?;
     if trees.is_empty() {
+        drop(trees);
         return Ok(());
     }
     out.push(Statement::Node(switch_of(alloc, trees)?))?;

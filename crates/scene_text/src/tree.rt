@@ -90,8 +90,14 @@ fn full_tree(
         (λ made. made
         ≡ text.Full 0 (def_name (plan_of plan.now) node) (node_type_name node_type) items.items) }
 {
-    let name = def_name(alloc, plan, node)?;
-    let word = Text::from_str(alloc, node_type.name())?;
+    let Ok(word) = Text::from_str(alloc, node_type.name()) else {
+        drop(items);
+        return Err(AllocError);
+    };
+    let Ok(name) = def_name(alloc, plan, node) else {
+        drop(items);
+        return Err(AllocError);
+    };
     Ok(NodeText::Full(0, name, word, Items::from_vec(items)))
 }
 
@@ -144,8 +150,8 @@ fn plain_tree(
         ≡ plain_tree name.now
         (value_tree (node_tree depth (plan_of plan.now)) seen.old.items value.now)) }
 {
-    let value = value_tree(alloc, plan, seen, depth, value)?;
     let name = Text::from_str(alloc, name)?;
+    let value = value_tree(alloc, plan, seen, depth, value)?;
     Ok(BodyItem::Field(0, name, Given::Value(value)))
 }
 
@@ -192,7 +198,10 @@ fn declaration(
 ) -> Result<BodyItem, AllocError>
     ensures { IfOk result (λ made. made ≡ declaration field.now given) }
 {
-    let name = field.name.duplicate(alloc)?;
+    let Ok(name) = field.name.duplicate(alloc) else {
+        drop(given);
+        return Err(AllocError);
+    };
     Ok(BodyItem::Declaration(Declaration {
         line: 0,
         access: field.access,

@@ -2,12 +2,13 @@
 
 ghost use Rattle.std.specs.Prelude.{◌≡◌, ◌++◌, IfOk, OnOk, OnErr};
 ghost use Rattle.scene_text.specs.SceneText.{scene_text};
-ghost use Rattle.scene_text.specs.Statements.{scene_document};
+ghost use Rattle.scene_text.specs.Places.{named};
+ghost use Rattle.scene_text.specs.Statements.{scene_document, statements_of};
 
 use crate::places::named;
 use crate::plan::Plan;
 use crate::statements::statements_of;
-use classic_tree::{Document, write};
+use classic_tree::{Document, Statement, write};
 use scene_core::{Route, Scene};
 use std::alloc::{AllocError, Global};
 use x3d_values::{Duplicate, Fields, Items};
@@ -40,6 +41,41 @@ fn scene_document(
 ) -> Result<Document, AllocError>
     ensures { IfOk result (λ made. made ≡ scene_document scene.now routes.now state.now) }
 {
+    let header = scene.header();
+    let profile = header.profile.duplicate(alloc)?;
+    let components = header.components.duplicate(alloc)?;
+    let Ok(metas) = header.metas.duplicate(alloc) else {
+        drop(components);
+        return Err(AllocError);
+    };
+    let Ok(statements) = planned_statements(alloc, scene, routes, state) else {
+        drop(components);
+        drop(metas);
+        return Err(AllocError);
+    };
+    Ok(Document {
+        version: header.version,
+        profile,
+        components,
+        metas,
+        statements: Items::from_vec(statements),
+    })
+}
+
+/// The statements of a scene, each node with a DEF where one is needed.
+fn planned_statements(
+    alloc: Global,
+    scene: &Scene,
+    routes: &[Route],
+    state: &[Fields],
+) -> Result<Vec<Statement>, AllocError>
+    ensures { IfOk result (λ made. made.items ≡ statements_of (record {
+      scene = scene.now;
+      routes = routes.now;
+      state = state.now;
+      named = named scene.now routes.now;
+    })) }
+{
     let named = named(alloc, scene, routes)?;
     let plan = Plan {
         scene,
@@ -47,12 +83,5 @@ fn scene_document(
         state,
         named: named.as_slice(),
     };
-    let header = scene.header();
-    Ok(Document {
-        version: header.version,
-        profile: header.profile.duplicate(alloc)?,
-        components: header.components.duplicate(alloc)?,
-        metas: header.metas.duplicate(alloc)?,
-        statements: Items::from_vec(statements_of(alloc, &plan)?),
-    })
+    statements_of(alloc, &plan)
 }
