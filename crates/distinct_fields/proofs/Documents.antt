@@ -13,8 +13,8 @@ use Rattle.proto_declarations.specs.Sight.{Sight as Declared}
 use Rattle.proto_ends.specs.Pairs.{routes_of}
 use Rattle.proto_steps.specs.Machine.{Outcome, pure, through}
 use Rattle.proto_steps.specs.Meaning.{statement_does}
-use Rattle.proto_steps.specs.declared.held.PlacedNode.{PlacedNode}
-use Rattle.proto_steps.specs.declared.held.Store.{Store}
+use Rattle.proto_store.specs.declared.store.PlacedNode.{PlacedNode}
+use Rattle.proto_store.specs.declared.store.Store.{Store}
 use Rattle.proto_walk.specs.Whole.{add_node, at_top, check, flat, flat_node, flat_of, grown, header_of, label_at, nothing, put_statement, with_declared, with_routes}
 use Rattle.flat_laws.proofs.Lists.{IfSome, all_push, at_all}
 use Rattle.flat_laws.proofs.Trees.{every}

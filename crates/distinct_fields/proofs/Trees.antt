@@ -29,7 +29,7 @@ use Rattle.proto_steps.specs.Limits.{begin_instance, begin_node, count_interface
 use Rattle.proto_steps.specs.Machine.{Bound, Made, Machine, Outcome, Walk, and_then, ◌>>=◌, help, know, label, lookup, meet, pure, stand, through}
 use Rattle.proto_steps.specs.Meaning.{OnFields, add_defaults, add_spots, back, begin, begin_body, body, close_body, close_instance, close_node, declare, declared_in, full_node, hold, in_body, instance, items_do, join, join_tie, leave, meaning_of, no_spots, node_does, node_owner, of_bound, of_word, out_of, owner_of, proto_does, stand_in, statement_does, typed_node, unless_twice, within}
 use Rattle.proto_steps.specs.Routes.{wire}
-use Rattle.proto_steps.specs.declared.held.Store.{Store}
+use Rattle.proto_store.specs.declared.store.Store.{Store}
 use Rattle.scene_core.specs.Shape.{declaration_entry}
 use Rattle.flat_laws.proofs.Lists.{IfSome, all_map}
 use Rattle.flat_laws.proofs.Trees.{Layers}

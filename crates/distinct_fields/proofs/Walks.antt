@@ -17,9 +17,9 @@ use Rattle.proto_steps.specs.Closing.{declared, put, put_flat, with_fields}
 use Rattle.proto_steps.specs.Limits.{begin_instance, begin_node, count_again, count_interface, count_items, count_joined, max_instances, max_nodes}
 use Rattle.proto_steps.specs.Machine.{Begun, Bound, Made, Machine, Meaning, Outcome, Walk, and_then, ◌>>=◌, help, is_later, keep, keep_name, know, label, lookup, meet, pure, refuse, stand, through, tie, use_node, used}
 use Rattle.proto_steps.specs.Routes.{add_wire, wire}
-use Rattle.proto_steps.specs.declared.held.Named.{Named}
-use Rattle.proto_steps.specs.declared.held.PlacedNode.{PlacedNode}
-use Rattle.proto_steps.specs.declared.held.Store.{Store}
+use Rattle.proto_store.specs.declared.names.Named.{Named}
+use Rattle.proto_store.specs.declared.store.PlacedNode.{PlacedNode}
+use Rattle.proto_store.specs.declared.store.Store.{Store}
 use Rattle.flat_laws.proofs.Lists.{IfSome, all_push}
 use Rattle.distinct_fields.specs.Interfaces.{IsDistinctInterface}
 

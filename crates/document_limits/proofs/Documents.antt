@@ -11,8 +11,8 @@ use Rattle.flat_document.specs.declared.flat.Header.{Header}
 use Rattle.proto_declarations.specs.Meaning.{statement as checked}
 use Rattle.proto_declarations.specs.Sight.{Sight as Declared}
 use Rattle.proto_ends.specs.Pairs.{max_routes, routes_of}
-use Rattle.proto_steps.specs.declared.held.PlacedNode.{PlacedNode}
-use Rattle.proto_steps.specs.declared.held.Store.{Store}
+use Rattle.proto_store.specs.declared.store.PlacedNode.{PlacedNode}
+use Rattle.proto_store.specs.declared.store.Store.{Store}
 use Rattle.proto_steps.specs.Limits.{max_nodes}
 use Rattle.proto_steps.specs.Machine.{Outcome, pure, through}
 use Rattle.proto_steps.specs.Meaning.{statement_does}

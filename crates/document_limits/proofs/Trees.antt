@@ -21,7 +21,7 @@ use Rattle.proto_ends.specs.declared.ends.Spot.{Spot}
 use Rattle.proto_ends.specs.declared.ends.Stand.TheVariants.{Node, Instance}
 use Rattle.proto_ends.specs.declared.ends.Tie.{Tie}
 use Rattle.proto_fields.specs.declared.given.GivenField.{GivenField}
-use Rattle.proto_steps.specs.declared.held.Store.{Store}
+use Rattle.proto_store.specs.declared.store.Store.{Store}
 use Rattle.proto_steps.specs.Closing.{put}
 use Rattle.proto_fields.specs.Fields.{Signature, first_twice, own_interface, signature, signatures}
 use Rattle.proto_steps.specs.Limits.{begin_instance, begin_node, count_interface, count_joined}

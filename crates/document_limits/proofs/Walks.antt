@@ -13,10 +13,10 @@ use Rattle.flat_document.specs.declared.flat.FlatField.{FlatField}
 use Rattle.proto_declarations.specs.Sight.{Sight as Declared}
 use Rattle.proto_declarations.specs.Sight.{and_then as next, through as each}
 use Rattle.proto_ends.specs.declared.ends.Stand.{Stand}
-use Rattle.proto_steps.specs.declared.held.Named.{Named}
+use Rattle.proto_store.specs.declared.names.Named.{Named}
 use Rattle.proto_fields.specs.declared.given.GivenField.{GivenField}
-use Rattle.proto_steps.specs.declared.held.PlacedNode.{PlacedNode}
-use Rattle.proto_steps.specs.declared.held.Store.{Store}
+use Rattle.proto_store.specs.declared.store.PlacedNode.{PlacedNode}
+use Rattle.proto_store.specs.declared.store.Store.{Store}
 use Rattle.proto_steps.specs.Closing.{declared, put, put_flat, with_fields}
 use Rattle.proto_fields.specs.Values.{flat_fields, add_flat, value_at, with_value}
 use Rattle.proto_fields.specs.Fields.{Signature}

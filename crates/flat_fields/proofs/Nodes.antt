@@ -18,8 +18,8 @@ use Rattle.proto_steps.specs.Closing.{declared, put, put_flat, with_fields}
 use Rattle.proto_steps.specs.Limits.{begin_node, max_nodes}
 use Rattle.proto_steps.specs.Machine.{Walk, ◌>>=◌, is_later, know, stand, with_name}
 use Rattle.proto_steps.specs.Meaning.{close_node}
-use Rattle.proto_steps.specs.declared.held.PlacedNode.{PlacedNode}
-use Rattle.proto_steps.specs.declared.held.Store.{Store}
+use Rattle.proto_store.specs.declared.store.PlacedNode.{PlacedNode}
+use Rattle.proto_store.specs.declared.store.Store.{Store}
 use Rattle.flat_laws.specs.Uses.{Opened}
 use Rattle.flat_laws.proofs.UsesNames.{closed_braces, found, found_open, known_found, numbered, open_braces, unnamed_found}
 use Rattle.flat_laws.proofs.Lists.{one_longer, same_length, set_middle}

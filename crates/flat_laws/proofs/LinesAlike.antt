@@ -8,8 +8,8 @@ use Rattle.proto_ends.specs.declared.ends.Wire.{Wire}
 use Rattle.proto_fields.specs.Fields.{Signature}
 use Rattle.proto_fields.specs.declared.given.GivenField.{GivenField}
 use Rattle.proto_steps.specs.Machine.{Begun, Bound, Defs, Made, Machine, Meaning, Outcome, Sight, Walk, and_then, ◌>>=◌, pure, refuse, through}
-use Rattle.proto_steps.specs.declared.held.PlacedNode.{PlacedNode}
-use Rattle.proto_steps.specs.declared.held.Store.{Store}
+use Rattle.proto_store.specs.declared.store.PlacedNode.{PlacedNode}
+use Rattle.proto_store.specs.declared.store.Store.{Store}
 use Rattle.flat_laws.specs.Lines.{unlined_declaration, unlined_field}
 
 -- ---- without lines

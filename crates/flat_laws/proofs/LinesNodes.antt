@@ -19,7 +19,7 @@ use Rattle.proto_steps.specs.Closing.{put}
 use Rattle.proto_steps.specs.Limits.{begin_instance, begin_node, count_interface}
 use Rattle.proto_steps.specs.Machine.{Bound, Made, Machine, Meaning, Sight, Walk, ◌>>=◌, know, label, lookup, meet, pure, stand}
 use Rattle.proto_steps.specs.Meaning.{OnFields, back, begin, body, close_instance, close_node, instance, node_owner, of_bound, of_word, owner_of, stand_in, typed_node, unless_twice}
-use Rattle.proto_steps.specs.declared.held.Store.{Store}
+use Rattle.proto_store.specs.declared.store.Store.{Store}
 use Rattle.flat_laws.proofs.LinesAlike.{AreAlike, AreMeaningsAlike, Comes, Does, Ends, Keeps, as_is, bare_bound, bare_fields, bare_signature, bare_sight, bare_signatures, bare_store, does_pure, does_then, pair}
 use Rattle.flat_laws.proofs.LinesWalks.{IfAlike, begin_instance_does, begin_node_does, count_interface_does, found, interface_same, know_does, label_does, meet_does, numbered_same, put_does, stand_does}
 

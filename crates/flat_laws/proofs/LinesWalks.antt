@@ -28,8 +28,8 @@ use Rattle.proto_steps.specs.Closing.{declared, put, put_flat, with_fields}
 use Rattle.proto_steps.specs.Limits.{begin_instance, begin_node, count_again, count_interface, count_items, count_joined, max_instances, max_nodes}
 use Rattle.proto_steps.specs.Machine.{Begun, Bound, Defs, Walk, ◌>>=◌, help, is_later, keep, keep_name, know, label, lookup, meet, stand, tie, use_node, used, with_def, with_name}
 use Rattle.proto_steps.specs.Routes.{add_wire, source_at, source_tip, target_at, target_tip, tip_by, wire}
-use Rattle.proto_steps.specs.declared.held.Named.{Named}
-use Rattle.proto_steps.specs.declared.held.PlacedNode.{PlacedNode}
+use Rattle.proto_store.specs.declared.names.Named.{Named}
+use Rattle.proto_store.specs.declared.store.PlacedNode.{PlacedNode}
 use Rattle.flat_laws.specs.Lines.{unlined_declaration, unlined_field, unlined_route}
 use Rattle.flat_laws.proofs.LinesAlike.{AreAlike, AreBoundAlike, Ends, Keeps, as_is, bare, bare_begun, bare_defs, bare_field, bare_fields, bare_node, bare_signature, bare_signatures, bare_wire, does_then, ended, ends_if, ends_ok, pair}
 

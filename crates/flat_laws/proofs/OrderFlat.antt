@@ -22,8 +22,8 @@ use Rattle.proto_ends.specs.declared.ends.Tip.TheVariants as tip
 use Rattle.proto_ends.specs.declared.ends.Wire.{Wire}
 use Rattle.proto_steps.specs.Machine.{Outcome, Walk, pure, through}
 use Rattle.proto_steps.specs.Meaning.{statement_does}
-use Rattle.proto_steps.specs.declared.held.PlacedNode.{PlacedNode}
-use Rattle.proto_steps.specs.declared.held.Store.{Store}
+use Rattle.proto_store.specs.declared.store.PlacedNode.{PlacedNode}
+use Rattle.proto_store.specs.declared.store.Store.{Store}
 use Rattle.proto_walk.specs.Whole.{add_node, at_top, check, flat, flat_node, flat_nodes, flat_of, grown, header_of, label_at, nothing, put_statement, with_declared, with_routes}
 use Rattle.flat_laws.specs.Order.{AreBelow, AreFieldsBelow, IsEndBelow, IsOrdered, IsRouteBelow}
 use Rattle.flat_laws.proofs.Lists.{IfSome, all_append, all_flat, all_map, all_push}

@@ -10,9 +10,9 @@ use Rattle.proto_ends.specs.declared.ends.Stand.{Stand}
 use Rattle.proto_ends.specs.declared.ends.Stand.TheVariants as stands
 use Rattle.proto_fields.specs.declared.given.GivenField.{GivenField}
 use Rattle.proto_steps.specs.Machine.{Bound, Made, Machine, Meaning, Names, Outcome, Walk, and_then, through}
-use Rattle.proto_steps.specs.declared.held.Named.{Named}
-use Rattle.proto_steps.specs.declared.held.PlacedNode.{PlacedNode}
-use Rattle.proto_steps.specs.declared.held.Store.{Store}
+use Rattle.proto_store.specs.declared.names.Named.{Named}
+use Rattle.proto_store.specs.declared.store.PlacedNode.{PlacedNode}
+use Rattle.proto_store.specs.declared.store.Store.{Store}
 use Rattle.flat_laws.specs.Order.{AreBelow, AreFieldsBelow, IsValueBelow, nodes_in}
 use Rattle.flat_laws.proofs.Lists.{IfSome, all_weaker}
 

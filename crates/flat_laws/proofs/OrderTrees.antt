@@ -31,7 +31,7 @@ use Rattle.proto_steps.specs.Limits.{begin_instance, begin_node, count_interface
 use Rattle.proto_steps.specs.Machine.{Bound, Made, Machine, Outcome, Walk, and_then, ◌>>=◌, help, know, label, lookup, meet, pure, stand, through}
 use Rattle.proto_steps.specs.Meaning.{OnFields, add_defaults, add_spots, back, begin, begin_body, body, close_body, close_instance, close_node, declare, declared_in, full_node, hold, in_body, instance, item_does, items_do, join, join_tie, leave, meaning_of, no_spots, node_does, node_owner, of_bound, of_word, out_of, owner_of, proto_does, stand_in, statement_does, typed_node, unless_twice, within}
 use Rattle.proto_steps.specs.Routes.{wire}
-use Rattle.proto_steps.specs.declared.held.Store.{Store}
+use Rattle.proto_store.specs.declared.store.Store.{Store}
 use Rattle.flat_laws.proofs.Lists.{IfSome, all_append, all_map, all_set, at_all}
 use Rattle.flat_laws.proofs.OrderFields.{DeclarationDoes, GivenDoes, NodeDoes, add_declaration_does, add_defaults_does, add_given_does, keeps_pure, keeps_then}
 use Rattle.flat_laws.proofs.OrderOutcomes.{Any, AreInletsBelow, AreSpotsBelow, Comes, Does, Ends, IsBelow, IsGoodBound, IsGoodMeaning, IsGoodWalk, IsMadeBelow, IsPlaceBelow, IsSpotBelow, Keeps, count, ends_ok, ends_then, ends_through, raise, raise_if, raise_inlets, raise_names, same}

@@ -18,8 +18,8 @@ use Rattle.proto_steps.specs.Closing.{declared, put, put_flat, with_fields}
 use Rattle.proto_steps.specs.Limits.{begin_instance, begin_node, count_again, count_interface, count_items, count_joined, max_instances, max_nodes}
 use Rattle.proto_steps.specs.Machine.{Begun, Bound, Names, Walk, and_then, help, is_later, keep, keep_name, know, label, lookup, meet, stand, tie, use_node, used, with_name}
 use Rattle.proto_steps.specs.Routes.{add_wire, wire}
-use Rattle.proto_steps.specs.declared.held.Named.{Named}
-use Rattle.proto_steps.specs.declared.held.PlacedNode.{PlacedNode}
+use Rattle.proto_store.specs.declared.names.Named.{Named}
+use Rattle.proto_store.specs.declared.store.PlacedNode.{PlacedNode}
 use Rattle.flat_laws.specs.Order.{AreFieldsBelow, IsValueBelow}
 use Rattle.flat_laws.proofs.Lists.{IfSome, all_push, all_set, at_all}
 use Rattle.flat_laws.proofs.OrderOutcomes.{Any, AreNamesBelow, Does, Ends, IsBelow, IsGoodBound, IsGoodWalk, IsNamedBelow, IsPlaceBelow, IsStandBelow, Keeps, count, ends_if, ends_ok, ends_then, fields_of, ordered_push, raise_all, raise_names, raise_places, raise_values, same}

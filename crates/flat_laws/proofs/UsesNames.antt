@@ -5,7 +5,7 @@ use Rattle.std.specs.Option.{option_or}
 use Rattle.std.proofs.lemmas.Option.{none-some, same_Some}
 use Rattle.std.proofs.lemmas.Slice.Eq.{bytes_eq-Decides}
 use Rattle.proto_steps.specs.Machine.{Names, is_later, with_name}
-use Rattle.proto_steps.specs.declared.held.Named.{Named}
+use Rattle.proto_store.specs.declared.names.Named.{Named}
 use Rattle.flat_laws.specs.Uses.{Opened, has_name, named, named_next}
 
 abbrev Found : Type 0

@@ -8,7 +8,7 @@ use Rattle.proto_fields.specs.Owners.{with_field}
 use Rattle.proto_fields.specs.Values.{value_at}
 use Rattle.proto_fields.specs.declared.given.GivenField.{GivenField}
 use Rattle.proto_steps.specs.Machine.{Machine, Walk, through}
-use Rattle.proto_steps.specs.declared.held.PlacedNode.{PlacedNode}
+use Rattle.proto_store.specs.declared.store.PlacedNode.{PlacedNode}
 use Rattle.flat_laws.specs.Closings.{Braces, IsOfNode}
 use Rattle.flat_laws.specs.Order.{nodes_in}
 use Rattle.flat_laws.specs.Readings.{Step, each}

@@ -15,7 +15,7 @@ use Rattle.proto_steps.specs.Closing.{declared, put, put_flat, with_fields}
 use Rattle.proto_steps.specs.Limits.{begin_node, max_nodes}
 use Rattle.proto_steps.specs.Machine.{Begun, Walk, ◌>>=◌, is_later, know, meet, stand}
 use Rattle.proto_steps.specs.Meaning.{close_node}
-use Rattle.proto_steps.specs.declared.held.PlacedNode.{PlacedNode}
+use Rattle.proto_store.specs.declared.store.PlacedNode.{PlacedNode}
 use Rattle.flat_laws.specs.Uses.{Opened}
 use Rattle.flat_laws.proofs.UsesNames.{closed_braces, open_braces}
 use Rattle.flat_laws.proofs.Lists.{set_middle}

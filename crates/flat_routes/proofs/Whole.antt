@@ -30,7 +30,7 @@ use Rattle.proto_steps.specs.Limits.{begin_node}
 use Rattle.proto_steps.specs.Machine.{Begun, Machine, Outcome, Walk, ◌>>=◌, meet, pure, through, use_node, used}
 use Rattle.proto_steps.specs.Meaning.{OnFields, add_defaults, close_node, declare, declared_in, full_node, item_does, items_do, node_does, node_owner, of_word, proto_does, statement_does, typed_node}
 use Rattle.proto_steps.specs.Routes.{wire}
-use Rattle.proto_steps.specs.declared.held.Named.{Named}
+use Rattle.proto_store.specs.declared.names.Named.{Named}
 use Rattle.proto_walk.specs.Whole.{at_top, check, flat, flat_of, grown, header_of, nothing, put_statement, with_declared, with_routes}
 use Rattle.flat_laws.specs.Closings.{Braces, IsOfNode, closings, in_item, in_statement}
 use Rattle.flat_laws.specs.Uses.{Opened}

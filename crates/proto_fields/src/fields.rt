@@ -1,10 +1,11 @@
 //! Fields by name, and what joins them.
 
-ghost use Rattle.std.specs.Prelude.{◌≡◌};
+ghost use Rattle.std.specs.Prelude.{◌≡◌, ◌∷◌, []};
 ghost use Rattle.std.specs.Str.{bytes_eq};
 ghost use Rattle.proto_fields.specs.Fields as spec;
 
 use crate::given::KnownField;
+use classic_tree::{Declaration, NodeText};
 use x3d_lists::Text;
 use x3d_values::{Access, NodeType, field_of};
 
@@ -26,6 +27,24 @@ pub fn field_of_type(node_type: NodeType, name: &Text) -> Option<KnownField>
         number: row.number as usize,
         access: row.access,
         field_type: row.field_type,
+    })
+}
+
+/// The field of that number, if the declaration has the name.
+pub fn field_declared(
+    declaration: &Declaration<NodeText>,
+    name: &Text,
+    number: usize,
+) -> Option<KnownField>
+    ensures { result ≡ spec.numbered_from number name.now (spec.signature declaration.now ∷ []) }
+{
+    if !same(&declaration.name, name) {
+        return None;
+    }
+    Some(KnownField {
+        number,
+        access: declaration.access,
+        field_type: declaration.field_type,
     })
 }
 

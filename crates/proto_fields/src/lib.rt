@@ -11,7 +11,7 @@ mod taken;
 mod values;
 
 pub use aliases::{source_field, target_field};
-pub use fields::{field_of_type, fits, same};
+pub use fields::{field_declared, field_of_type, fits, same};
 pub use given::{GivenField, GivenFields, Joined, KnownField};
 pub use interface::Interface;
 pub use named::Named;

@@ -1,5 +1,5 @@
 -- What each part of a tree does, by what it holds.
-use Rattle.std.proofs.Common.{◌≡◌, ℕ, List, [], ◌∷◌, ◌++◌, Option, Some, None, Result, Ok, Err, map, length, ◌-◌, if◌then◌else◌, refl, ap, sym, ◌∙◌}
+use Rattle.std.proofs.Common.{◌≡◌, ℕ, List, [], ◌∷◌, ◌++◌, Option, Some, None, Result, Ok, Err, map, length, ◌-◌, if◌then◌else◌, inr, refl, ap, sym, ◌∙◌}
 use Rattle.std.specs.List.{flat_map}
 use Rattle.std.proofs.Math.Path.{fun_ext}
 use Rattle.std.proofs.lemmas.List.{length-map}
@@ -24,7 +24,9 @@ use Rattle.flat_document.specs.declared.fault.ExpandFaultKind.TheVariants.{Unkno
 use Rattle.proto_fields.specs.declared.given.GivenField.{GivenField}
 use Rattle.proto_fields.specs.declared.given.KnownField.{KnownField}
 use Rattle.proto_fields.specs.Fields.{Signature, signature, signatures}
-use Rattle.proto_steps.specs.Machine.{Walk, Machine, Outcome, Does, and_then, ◌>>=◌, pure, refuse, through, keep, use_node}
+use Rattle.proto_store.specs.Store.{used as finished}
+use Rattle.proto_store.specs.declared.names.Named.{Named}
+use Rattle.proto_steps.specs.Machine.{Walk, Machine, Outcome, Does, and_then, ◌>>=◌, pure, refuse, through, keep, used, use_node}
 use Rattle.proto_steps.specs.Limits.{count_items}
 use Rattle.proto_steps.specs.Routes.{wire}
 use Rattle.proto_steps.specs.Meaning.{item as part}
@@ -230,5 +232,10 @@ body_map statements first w = through_map in_body statement_does statements firs
 
 pub does-as : {A : Type 0} (o other : Outcome A) (result : Result A ExpandFault) (new : Walk) → o ≡ other → Does other result new → Does o result new
 does-as o other result new is k = rw is k
+
+-- what USE finds is what the name stands for
+pub used-does : (line : ℕ) (named : Option Named) (result : Result ℕ ExpandFault) (w : Walk) → result ≡ finished line named → Does (used line named w) result w
+used-does line None result w is = rw is (inr refl)
+used-does line (Some named) result w is = rw is refl
 
 pub ruleset tree_does = (common_steps, item_does-field, item_does-declaration, item_does-route, item_does-proto, declares-field, declares-declaration, declares-route, declares-proto, node_does-use, node_does-full, statement_does-node, statement_does-route, statement_does-proto)

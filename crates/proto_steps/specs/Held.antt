@@ -10,7 +10,7 @@ use Rattle.flat_document.specs.declared.fault.ExpandFault.{ExpandFault}
 use Rattle.proto_declarations.specs.declared.sight.Declarations.{Declarations}
 use Rattle.proto_declarations.specs.Held.{shown as all_declared}
 use Rattle.proto_fields.specs.declared.given.GivenField.{GivenField}
-use Rattle.proto_steps.specs.declared.held.Store.{Store}
+use Rattle.proto_store.specs.declared.store.Store.{Store}
 use Rattle.proto_steps.specs.declared.held.BegunNode.{BegunNode}
 use Rattle.proto_links.specs.declared.links.Link.{Link}
 use Rattle.proto_steps.specs.declared.held.Scope.{Scope}

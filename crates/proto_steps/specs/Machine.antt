@@ -14,8 +14,8 @@ use Rattle.proto_ends.specs.declared.ends.Stand.{Stand}
 use Rattle.proto_ends.specs.declared.ends.Tie.{Tie}
 use Rattle.proto_fields.specs.Fields.{Signature}
 use Rattle.proto_fields.specs.declared.given.GivenField.{GivenField}
-use Rattle.proto_steps.specs.declared.held.Store.{Store}
-use Rattle.proto_steps.specs.declared.held.Named.{Named}
+use Rattle.proto_store.specs.declared.store.Store.{Store}
+use Rattle.proto_store.specs.declared.names.Named.{Named}
 
 -- ---- machines
 

@@ -22,7 +22,7 @@ use Rattle.proto_declarations.specs.Sight.{no_names as no_names_yet}
 use Rattle.proto_fields.specs.declared.given.KnownField.{KnownField}
 use Rattle.proto_fields.specs.declared.given.GivenField.{GivenField}
 use Rattle.proto_fields.specs.declared.given.Joined.{Joined}
-use Rattle.proto_steps.specs.declared.held.Store.{Store}
+use Rattle.proto_store.specs.declared.store.Store.{Store}
 use Rattle.proto_ends.specs.declared.ends.Spot.{Spot}
 use Rattle.proto_ends.specs.declared.ends.Stand.TheVariants.{Node, Instance}
 use Rattle.proto_ends.specs.declared.ends.Tie.{Tie}

@@ -1,15 +1,14 @@
 //! What stands between the braces of a node, and the fields that it declares there.
 
-ghost use Rattle.std.specs.Prelude.{◌≡◌, ◌≤◌, ◌∷◌, [], IfOk, length};
+ghost use Rattle.std.specs.Prelude.{◌≡◌, ◌≤◌, IfOk, length};
 ghost use Rattle.proto_fields.specs.Fields as fields_spec;
-ghost use Rattle.proto_fields.specs.Fields.{signature};
 ghost use Rattle.proto_fields.specs.Tables.{fields_of};
 ghost use Rattle.proto_steps.specs.Braces as spec;
 ghost use Rattle.proto_steps.specs.Meaning as meaning;
 ghost use Rattle.proto_steps.specs.Meaning.{declared_in};
 
-use classic_tree::{BodyItem, Declaration, NodeText};
-use proto_fields::{KnownField, Named, same};
+use classic_tree::BodyItem;
+use proto_fields::{KnownField, Named, field_declared};
 use std::alloc::{AllocError, Global};
 use std::marker::Model;
 use x3d_lists::Text;
@@ -59,27 +58,13 @@ fn declared_count(item: &BodyItem) -> usize
     }
 }
 
-/// The field of that number, if the declaration has the name.
-fn named(declaration: &Declaration<NodeText>, name: &Text, number: usize) -> Option<KnownField>
-    ensures { result ≡ fields_spec.numbered_from number name.now (signature declaration.now ∷ []) }
-{
-    if !same(&declaration.name, name) {
-        return None;
-    }
-    Some(KnownField {
-        number,
-        access: declaration.access,
-        field_type: declaration.field_type,
-    })
-}
-
 /// The field of that number, if the item declares the name.
 #[tactic(auto, using(crate::proofs::Equations::tree_does))]
 fn declared_here(item: &BodyItem, name: &Text, number: usize) -> Option<KnownField>
     ensures { result ≡ fields_spec.numbered_from number name.now (meaning.item_declares item.now) }
 {
     match item {
-        BodyItem::Declaration(declaration) => named(declaration, name, number),
+        BodyItem::Declaration(declaration) => field_declared(declaration, name, number),
         BodyItem::Field(_line, _name, _given) => None,
         BodyItem::Route(_route) => None,
         BodyItem::Proto(_proto) => None,

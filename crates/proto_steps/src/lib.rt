@@ -1,5 +1,5 @@
-//! The single steps by which prototypes are put in: what was put in, what is in sight, and what
-//! each part of a tree does to them (ISO/IEC 19775-1, PROTO statement and run-time name scope).
+//! The single steps by which prototypes are put in: what is in sight, and what each part of a tree
+//! does to that and to what was put in (ISO/IEC 19775-1, PROTO statement and run-time name scope).
 #![tactic(auto)]
 
 mod braces;
@@ -13,7 +13,7 @@ mod stands;
 mod steps;
 
 pub use braces::Braces;
-pub use held::{BegunNode, Named, Owner, PlacedNode, Scope, Store};
+pub use held::{BegunNode, Owner, Scope};
 pub use instance::{Instance, Placed};
 pub use names::{know, label, lookup, meet, use_node};
 pub use owners::{admits, is_taken, known_field, place};

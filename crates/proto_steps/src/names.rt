@@ -6,10 +6,11 @@ ghost use Rattle.proto_steps.specs.Held.{names_of, view};
 ghost use Rattle.proto_steps.specs.Machine as spec;
 ghost use Rattle.proto_steps.specs.Machine.{Does, with_def, with_name};
 
-use crate::held::{BegunNode, Named, Scope, Store};
-use flat_document::{ExpandFault, ExpandFaultKind};
+use crate::held::{BegunNode, Scope};
+use flat_document::ExpandFault;
 use proto_declarations::Declarations;
 use proto_links::{Link, Links};
+use proto_store::{Named, Store};
 use std::alloc::{AllocFailed, Global};
 use x3d_lists::{Duplicate, Text};
 
@@ -31,9 +32,7 @@ pub fn label(
         return Ok(node);
     };
     let name = name.duplicate(alloc)?;
-    if (node as usize) < store.labels.len() {
-        store.labels.set(node as usize, Some(name));
-    }
+    store.set_label(node, name);
     Ok(node)
 }
 
@@ -116,10 +115,7 @@ pub fn use_node(
         (view store.now declarations.now scope.now links.now)) result
         (view store.now declarations.now scope.now links.now) }
 {
-    match named(scope, name) {
-        None => Err(ExpandFaultKind::UseWithoutDef.on_line(line)),
-        Some(named) => Ok(named.node),
-    }
+    proto_store::used(line, named(scope, name))
 }
 
 /// The last prototype of this name among so many links, with what its body sees.

@@ -11,7 +11,7 @@ ghost use Rattle.proto_steps.specs.Machine.{Does, no_defs, no_names};
 ghost use Rattle.proto_steps.specs.Meaning as meaning;
 ghost use Rattle.proto_steps.specs.Meaning.{declared_in};
 
-use crate::held::{PlacedNode, Scope, Store};
+use crate::held::Scope;
 use crate::scripts;
 use classic_tree::{BodyItem, Declaration, NodeText, RawValue};
 use flat_document::{ExpandFault, ExpandFaultKind, FlatField};
@@ -19,6 +19,7 @@ use indexmap::IndexMap;
 use proto_declarations::Declarations;
 use proto_fields::{GivenFields, Interface, flat_fields, item_count};
 use proto_links::Links;
+use proto_store::{PlacedNode, Store};
 use std::alloc::{AllocError, Global};
 use x3d_lists::{Duplicate, Items, Text};
 use x3d_values::NodeType;
@@ -98,12 +99,11 @@ fn begin_instance(
     ensures { Does (limit.begin_instance (view store.old declarations.now scope.now links.now))
         result (view store.new declarations.now scope.now links.now) }
 {
-    if store.begun_instances >= MAX_INSTANCES {
+    if !store.count_instance(MAX_INSTANCES) {
         return Err(ExpandFaultKind::TooLarge.on_line(0));
     }
     let at = store.places.len();
     store.places.push(None)?;
-    store.begun_instances += 1;
     Ok(at)
 }
 
@@ -213,13 +213,13 @@ fn put_flat(
     }
     let interface = scripts::interface_of(alloc, node_type, items)?;
     let name = copied_name(alloc, name)?;
-    store.labels.push(name)?;
-    store.nodes.push(PlacedNode {
+    let node = PlacedNode {
         line,
         node_type,
         fields,
         interface,
-    })?;
+    };
+    store.add_node(name, node)?;
     Ok(number as u32)
 }
 
@@ -269,7 +269,7 @@ pub fn help(
     ensures { Does (spec.help node (view store.old declarations.now scope.now links.now)) result
         (view store.new declarations.now scope.now links.now) }
 {
-    store.helpers.push(node)?;
+    store.add_helper(node)?;
     Ok(())
 }
 

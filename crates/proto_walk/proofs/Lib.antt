@@ -1,3 +1,4 @@
+pub mod Chains
 pub mod Moves
 pub mod InstanceMoves
 pub mod Refusals

@@ -6,7 +6,7 @@ use Rattle.flat_document.specs.declared.flat.FlatRoute.{FlatRoute}
 use Rattle.flat_document.specs.declared.flat.Header.{Header}
 use Rattle.proto_ends.specs.Pairs.{routes_of}
 use Rattle.proto_steps.specs.Machine.{Outcome}
-use Rattle.proto_steps.specs.declared.held.Store.{Store}
+use Rattle.proto_store.specs.declared.store.Store.{Store}
 use Rattle.proto_walk.specs.Whole.{flat_nodes}
 use Rattle.proto_walk.specs.declared.content.Content.{Content}
 

@@ -1,3 +1,4 @@
 pub mod Content
 pub mod Frames
 pub mod Whole
+pub mod Rows

@@ -12,8 +12,8 @@ use Rattle.proto_declarations.specs.Sight.{Sight as Declared}
 use Rattle.proto_declarations.specs.Sight.{nothing as nothing_declared}
 use Rattle.proto_declarations.specs.Meaning.{statement as checked}
 use Rattle.proto_ends.specs.Pairs.{routes_of}
-use Rattle.proto_steps.specs.declared.held.Store.{Store}
-use Rattle.proto_steps.specs.declared.held.PlacedNode.{PlacedNode}
+use Rattle.proto_store.specs.declared.store.Store.{Store}
+use Rattle.proto_store.specs.declared.store.PlacedNode.{PlacedNode}
 use Rattle.proto_steps.specs.Machine.{Walk, Machine, Outcome, ◌>>=◌, pure, through}
 use Rattle.proto_steps.specs.Limits.{max_interface_fields, max_items, max_joined}
 use Rattle.proto_steps.specs.Meaning.{statement_does, within}

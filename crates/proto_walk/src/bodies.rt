@@ -12,9 +12,10 @@ ghost use Rattle.proto_walk.specs.Frames.{Holds, Keeps, shown};
 
 use crate::frames::{Body, Frame, Task, Walker};
 use crate::met::{declare, meet_route};
+use crate::standing;
 use classic_tree::{ProtoText, RouteText, Statement};
 use flat_document::{ExpandFault, ExpandFaultKind};
-use proto_ends::{Spot, Stand};
+use proto_ends::Spot;
 use std::alloc::Global;
 use std::mem;
 use x3d_lists::{Items, Text};
@@ -33,24 +34,30 @@ fn leave<'a>(
         (in_sight walker.old.links body.entry.outer.value.sight) body.entry body.entry.first
         (shown walker.old)) walker.old result walker.new }
 {
-    let Body {
-        line,
-        name,
-        at,
-        first,
-        outer,
-        ..
-    } = body;
-    let Some(number) = first else {
+    let Some(number) = body.first else {
+        let line = body.line;
+        drop(body);
         return Err(ExpandFaultKind::EmptyBody.on_line(line));
     };
-    let inlets = proto_steps::join(
+    let inlets = match proto_steps::join(
         alloc,
         &mut walker.store,
         &walker.declarations,
         &walker.scope,
         &walker.links,
-    )?;
+    ) {
+        Ok(inlets) => inlets,
+        Err(fault) => {
+            drop(body);
+            return Err(fault);
+        }
+    };
+    let Body {
+        name,
+        at,
+        outer,
+        ..
+    } = body;
     let inner = mem::replace(&mut walker.scope, Box::into_inner(outer));
     drop(inner);
     stand_in(alloc, walker, name, at, number, inlets)
@@ -70,31 +77,16 @@ fn stand_in<'a>(
     ensures { Keeps (spec.stand_in name.now at (record { node = number; inlets = inlets })
         (shown walker.old)) walker.old result walker.new }
 {
-    proto_steps::stand(
-        &mut walker.store,
-        &walker.declarations,
-        &walker.scope,
-        &walker.links,
-        at,
-        Stand::Instance(inlets),
-    )?;
-    let number = proto_steps::label(
+    let number = standing::stand_for(
         alloc,
         &mut walker.store,
-        &walker.declarations,
-        &walker.scope,
-        &walker.links,
-        name,
-        number,
-    )?;
-    let number = proto_steps::know(
-        &walker.store,
         &walker.declarations,
         &mut walker.scope,
         &walker.links,
         name,
         at,
         number,
+        inlets,
     )?;
     Ok(Task::Number(number))
 }

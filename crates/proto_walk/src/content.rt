@@ -9,7 +9,7 @@ ghost use Rattle.proto_walk.specs.Whole as spec;
 
 use flat_document::{ExpandFault, Flat, FlatNode, FlatRoute, Header};
 use proto_ends::routes_of;
-use proto_steps::{PlacedNode, Store};
+use proto_store::{PlacedNode, Store};
 use std::alloc::{AllocError, Global};
 use std::mem;
 use x3d_lists::{Duplicate, Items, Text};

@@ -1,20 +1,59 @@
 //! A node or an instance begins.
 
-ghost use Rattle.std.specs.Prelude.{◌≡◌, ◌≤◌, length};
+ghost use Rattle.std.specs.Prelude.{◌≡◌, ◌≤◌, [], IfOk, None, length};
+ghost use Rattle.classic_tree.specs.declared.tree.ProtoText.{out-ProtoText};
+ghost use Rattle.proto_fields.specs.Fields.{signatures};
 ghost use Rattle.proto_steps.specs.Held.{bound_by, in_sight};
 ghost use Rattle.proto_steps.specs.Meaning as spec;
 ghost use Rattle.proto_steps.specs.Meaning.{node_does};
 ghost use Rattle.proto_walk.specs.Frames.{Holds, Keeps, shown};
 
 use crate::frames::{Open, Opened, Task, Walker};
+use crate::standing;
 use classic_tree::{BodyItem, NodeText};
 use flat_document::{ExpandFault, ExpandFaultKind};
-use proto_fields::GivenFields;
+use proto_fields::{GivenFields, Interface};
 use proto_links::Link;
-use proto_steps::{BegunNode, Braces, Instance, Owner, Placed};
-use std::alloc::Global;
+use proto_steps::{Braces, Instance, Owner, Placed};
+use std::alloc::{AllocError, Global};
 use x3d_lists::Text;
 use x3d_values::NodeType;
+
+/// The open braces of a node.
+fn node_braces<'a>(
+    alloc: Global,
+    line: u32,
+    name: &'a Option<Text>,
+    node_type: NodeType,
+    items: &'a [BodyItem],
+    at: usize,
+) -> Result<Opened<'a>, AllocError>
+    ensures { IfOk result (λ opened. opened ≡ record {
+      line = line;
+      name = name.entry;
+      owner = Owner.Node node_type items.now at;
+      sight = 0;
+      rest = items.entry;
+      fields = [];
+      filling = None;
+    }) }
+{
+    let braces = Braces::of_node(alloc, node_type, items)?;
+    let Ok(fields) = GivenFields::for_fields(alloc, items.len()) else {
+        drop(braces);
+        return Err(AllocError);
+    };
+    let open = Open {
+        line,
+        name,
+        owner: Owner::Node(node_type, braces, at),
+        sight: 0,
+        rest: items,
+        fields,
+        filling: None,
+    };
+    Opened::new(alloc, open)
+}
 
 /// A node begins.
 #[tactic(auto, unfolding(proto_steps::specs::Meaning::typed_node))]
@@ -31,36 +70,52 @@ fn enter_typed<'a>(
         (spec.declared_in items.now) (spec.items_do items.now)
         (shown walker.old)) walker.old result walker.new }
 {
-    let at = proto_steps::begin_node(
+    let at = standing::begin_typed(
         &mut walker.store,
-        &walker.declarations,
-        &walker.scope,
-        &walker.links,
-    )?;
-    proto_steps::meet(
-        &walker.store,
         &walker.declarations,
         &mut walker.scope,
         &walker.links,
         name,
-        BegunNode {
-            at,
-            interface: None,
-        },
     )?;
-    let braces = Braces::of_node(alloc, node_type, items)?;
-    let fields = GivenFields::for_fields(alloc, items.len())?;
+    let opened = node_braces(alloc, line, name, node_type, items, at)?;
+    Ok(Task::Items(opened))
+}
+
+/// The open braces of an instance with that interface.
+fn instance_braces<'a>(
+    alloc: Global,
+    line: u32,
+    name: &'a Option<Text>,
+    placed: Placed<'a>,
+    sight: usize,
+    interface: Interface<'a>,
+    items: &'a [BodyItem],
+) -> Result<Opened<'a>, AllocError>
+    requires { interface ≡ signatures (out-ProtoText placed.proto.now).interface }
+    ensures { IfOk result (λ opened. opened ≡ record {
+      line = line;
+      name = name.entry;
+      owner = Owner.Instance placed.entry;
+      sight = sight;
+      rest = items.entry;
+      fields = [];
+      filling = None;
+    }) }
+{
+    let Ok(fields) = GivenFields::for_fields(alloc, interface.declarations().len()) else {
+        drop(interface);
+        return Err(AllocError);
+    };
     let open = Open {
         line,
         name,
-        owner: Owner::Node(node_type, braces, at),
-        sight: 0,
+        owner: Owner::Instance(Instance::new(placed, interface)),
+        sight,
         rest: items,
         fields,
         filling: None,
     };
-    let opened = Opened::new(alloc, open)?;
-    Ok(Task::Items(opened))
+    Opened::new(alloc, open)
 }
 
 /// An instance begins.
@@ -79,41 +134,21 @@ fn enter_instance<'a>(
         (in_sight walker.old.links link.entry.before)) (spec.items_do items.now)
         (shown walker.old)) walker.old result walker.new }
 {
-    let (at, interface) = proto_steps::begin(
+    let (at, interface) = standing::begin_instance(
         alloc,
         &mut walker.store,
-        &walker.declarations,
-        &walker.scope,
-        &walker.links,
-        link.proto.interface.as_slice(),
-    )?;
-    proto_steps::meet(
-        &walker.store,
         &walker.declarations,
         &mut walker.scope,
         &walker.links,
         name,
-        BegunNode {
-            at,
-            interface: Some(interface.share()?),
-        },
+        link.proto.interface.as_slice(),
     )?;
-    let fields = GivenFields::for_fields(alloc, interface.declarations().len())?;
     let placed = Placed {
         proto: link.proto,
         within: link.within,
         at,
     };
-    let open = Open {
-        line,
-        name,
-        owner: Owner::Instance(Instance::new(placed, interface)),
-        sight: link.before,
-        rest: items,
-        fields,
-        filling: None,
-    };
-    let opened = Opened::new(alloc, open)?;
+    let opened = instance_braces(alloc, line, name, placed, link.before, interface, items)?;
     Ok(Task::Items(opened))
 }
 

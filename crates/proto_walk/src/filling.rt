@@ -103,8 +103,8 @@ fn put_default<'a>(
 fn give<'a>(scope: &mut Scope<'a>, given: GivenFields, interface: Interface<'a>)
     ensures { scope.new ≡ record scope.old { given = given; interface = interface.entry } }
 {
-    scope.given = given;
-    let _before = mem::replace(&mut scope.interface, interface);
+    drop(mem::replace(&mut scope.given, given));
+    drop(mem::replace(&mut scope.interface, interface));
 }
 
 /// So much is in sight outside.

@@ -11,10 +11,9 @@ ghost use Rattle.proto_walk.specs.Frames.{Holds, Leads, shown};
 
 use crate::frames::{Listing, Next, Open, Walker};
 use crate::met::{declare, meet_route};
-use crate::{between, filling, scripts};
+use crate::{between, filling, scripts, standing};
 use classic_tree::{BodyItem, RawValue, RouteText};
 use flat_document::ExpandFault;
-use proto_ends::Stand;
 use proto_fields::GivenField;
 use proto_steps::Owner;
 use std::alloc::{AllocError, Global};
@@ -39,7 +38,7 @@ pub fn add_field(
 }
 
 /// A node whose braces close is put in.
-#[tactic(auto, unfolding(proto_steps::specs::Meaning::close_node, crate::specs::Frames::task_does))]
+#[tactic(auto, unfolding(crate::specs::Frames::task_does))]
 fn put_closed<'a>(
     alloc: Global,
     walker: &mut Walker<'a>,
@@ -54,34 +53,18 @@ fn put_closed<'a>(
         (spec.declared_in items.now) opened.now.fields (shown walker.old)) walker.old result
         walker.new opened.now }
 {
-    let number = proto_steps::put(
+    let number = standing::close_node(
         alloc,
         &mut walker.store,
         &walker.declarations,
-        &walker.scope,
+        &mut walker.scope,
         &walker.links,
         opened.line,
         opened.name,
+        at,
         node_type,
         items,
         &opened.fields,
-    )?;
-    proto_steps::stand(
-        &mut walker.store,
-        &walker.declarations,
-        &walker.scope,
-        &walker.links,
-        at,
-        Stand::Node(number),
-    )?;
-    let number = proto_steps::know(
-        &walker.store,
-        &walker.declarations,
-        &mut walker.scope,
-        &walker.links,
-        opened.name,
-        at,
-        number,
     )?;
     Ok(Next::Number(number))
 }

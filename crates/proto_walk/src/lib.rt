@@ -11,6 +11,7 @@ mod frames;
 mod items;
 mod met;
 mod scripts;
+mod standing;
 mod walk;
 mod whole;
 

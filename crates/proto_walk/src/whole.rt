@@ -18,7 +18,7 @@ use classic_tree::{Document, RouteText, Statement};
 use flat_document::{ExpandFault, ExpandFaultKind, Flat, Header};
 use proto_declarations::Declarations;
 use proto_links::Links;
-use proto_steps::Store;
+use proto_store::Store;
 use std::alloc::{AllocError, Global};
 use x3d_lists::Items;
 

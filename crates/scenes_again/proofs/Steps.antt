@@ -14,7 +14,7 @@ use Rattle.proto_steps.specs.Closing.{put, put_flat, with_fields}
 use Rattle.proto_steps.specs.Limits.{begin_node, count_again, count_items, max_nodes}
 use Rattle.proto_steps.specs.Machine.{Begun, Machine, Outcome, Walk, and_then, ◌>>=◌, is_later, keep, keep_name, know, meet, pure, stand, through, tie, use_node, used}
 use Rattle.proto_steps.specs.Routes.{add_wire, wire}
-use Rattle.proto_steps.specs.declared.held.Named.{Named}
+use Rattle.proto_store.specs.declared.names.Named.{Named}
 
 -- ---- the helpers stay as they were
 

@@ -37,7 +37,7 @@ use Rattle.proto_steps.specs.Limits.{begin_node, count_items, max_nodes}
 use Rattle.proto_steps.specs.Machine.{Begun, Bound, Machine, Outcome, Walk, and_then, ◌>>=◌, is_later, keep, keep_name, know, lookup, meet, pure, refuse, stand, through, use_node, used}
 use Rattle.proto_steps.specs.Meaning.{OnFields, add_declaration, add_given, add_known, add_new, add_number, add_taken, add_value, close_node, declared_in, full_node, item_does, items_do, node_does, node_owner, numbered, of_bound, of_word, statement_does, typed_node, unless_own, with_number, with_place}
 use Rattle.proto_steps.specs.Routes.{add_wire, wire}
-use Rattle.proto_steps.specs.declared.held.Named.{Named}
+use Rattle.proto_store.specs.declared.names.Named.{Named}
 use Rattle.proto_walk.specs.Whole.{at_top, check, flat, flat_of, grown, header_of, nothing, put_statement, with_declared, with_routes}
 use Rattle.flat_laws.proofs.Trees.{Layers, OfGiven, OfValue, every}
 use Rattle.written_nodes.proofs.Plans.{all_split}

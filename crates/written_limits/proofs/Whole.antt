@@ -33,7 +33,7 @@ use Rattle.proto_steps.specs.Limits.{begin_node}
 use Rattle.proto_steps.specs.Machine.{Begun, Outcome, Walk, ◌>>=◌, meet, pure, through, use_node, used}
 use Rattle.proto_steps.specs.Meaning.{OnFields, close_node, declared_in, full_node, item_declares, item_does, items_do, node_does, node_owner, of_word, statement_does, typed_node}
 use Rattle.proto_steps.specs.Routes.{wire}
-use Rattle.proto_steps.specs.declared.held.Named.{Named}
+use Rattle.proto_store.specs.declared.names.Named.{Named}
 use Rattle.proto_walk.specs.Whole.{at_top, check, flat, flat_of, grown, header_of, nothing, put_statement, with_declared, with_routes}
 use Rattle.flat_laws.specs.Readings.{Step, each, read_given, read_item, read_node, read_statement}
 use Rattle.flat_laws.specs.Uses.{Reading, closes, named, nothing_read, opens, read, stands, steps}

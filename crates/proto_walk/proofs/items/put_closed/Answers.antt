@@ -1,9 +1,8 @@
-use Rattle.std.proofs.Common.{rules, arith, refl}
-use Rattle.proto_steps.specs.Meaning.{close_node}
+use Rattle.std.proofs.Common.{arith, refl}
 use Rattle.proto_walk.specs.Frames.{task_does}
 use Rattle.proto_walk.proofs.Moves.{stays}
 use Rattle.proto_walk.proofs.items.put_closed.Goals as goal
 
 pub returns : goal.returns
-unfolding close_node task_does
-returns c = stays c.requires.holds refl refl (rw c.in_ok-number-2.ensures.sight c.requires.holds.scope) (omega arith) (search rules)
+unfolding task_does
+returns c = stays c.requires.holds refl refl (rw c.in_ok-number.ensures.sight c.requires.holds.scope) (omega arith) c.in_ok-number.ensures.does
