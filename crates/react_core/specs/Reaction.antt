@@ -1,6 +1,6 @@
 -- What a node does when an event comes in (ISO/IEC 19775-1, the node types of each component;
 -- depth, order and what is marked are our choice).
-use Rattle.std.specs.Prelude.{ℕ, ℤ, Bool, true, not, ◌==◌, List, [], ◌∷◌, Option, Some, None, map, if◌then◌else◌}
+use Rattle.std.specs.Prelude.{ℕ, ℤ, Bool, true, false, not, ◌==◌, List, [], ◌∷◌, Option, Some, None, map, if◌then◌else◌}
 use Rattle.std.specs.Option.{option_map, option_and_then}
 use denote.Enum.Bare.{sameb}
 use Rattle.x3d_values.specs.contracts.node_type.NodeType.{the_type}
@@ -124,6 +124,13 @@ time_trigger fields input value time =
     (λ truth. sends fields (reply TRIGGER_TIME (SFTime time) ∷ [])))
 
 -- ---- all nodes
+
+abbrev pub is_interpolator : NodeType → Bool
+is_interpolator ScalarInterpolator = true
+is_interpolator PositionInterpolator = true
+is_interpolator PositionInterpolator2D = true
+is_interpolator CoordinateInterpolator = true
+is_interpolator _ = false
 
 -- what a node does at an event that sets no field
 abbrev pub answer : NodeType → Fields → ℕ → Value → ℤ → Reaction

@@ -1,9 +1,9 @@
 //! What a node does when an event comes in.
 
-ghost use Rattle.std.specs.Prelude.{◌≡◌, ◌≢◌, [], IsTrue, IsOk, OnOk, OnErr};
+ghost use Rattle.std.specs.Prelude.{◌≡◌, ◌≢◌, [], false, IsTrue, IsOk, OnOk, OnErr};
 ghost use Rattle.x3d_values.specs.declared.node_type.NodeType.TheVariants.{CoordinateInterpolator};
 ghost use Rattle.react_core.specs.Access.{leave_by_outputs};
-ghost use Rattle.react_core.specs.Reaction.{reaction, answer, keeps};
+ghost use Rattle.react_core.specs.Reaction.{reaction, answer, is_interpolator, keeps};
 ghost use Rattle.react_core.specs.Stored.{is_plain};
 
 use crate::access::is_kept;
@@ -101,17 +101,40 @@ fn answer(
     ensures refused_replies { OnErr result (out.new.items ≡ []) }
     ensures no_memory { node_type ≢ CoordinateInterpolator → IsOk result }
 {
+    if is_interpolator(node_type) {
+        return interpolator(alloc, node_type, fields, input, value, out);
+    }
+    act(node_type, fields, input, value, time, out);
+    Ok(())
+}
+
+fn is_interpolator(node_type: NodeType) -> bool
+    ensures { result ≡ is_interpolator node_type }
+{
+    matches!(
+        node_type,
+        NodeType::ScalarInterpolator
+            | NodeType::PositionInterpolator
+            | NodeType::PositionInterpolator2D
+            | NodeType::CoordinateInterpolator
+    )
+}
+
+/// What a node does at an event that sets no field and needs no memory.
+fn act(
+    node_type: NodeType,
+    fields: &mut Fields,
+    input: u16,
+    value: &Value,
+    time: i64,
+    out: &mut Outbox,
+)
+    requires empty { out.old.items ≡ [] }
+    requires no_interpolator { is_interpolator node_type ≡ false }
+    ensures fields { fields.new ≡ (answer node_type fields.old input value.now time).fields }
+    ensures replies { out.new.items ≡ (answer node_type fields.old input value.now time).replies }
+{
     match node_type {
-        NodeType::ScalarInterpolator => interpolator(alloc, node_type, fields, input, value, out)?,
-        NodeType::PositionInterpolator => interpolator(
-            alloc, node_type, fields, input, value, out,
-        )?,
-        NodeType::PositionInterpolator2D => interpolator(
-            alloc, node_type, fields, input, value, out,
-        )?,
-        NodeType::CoordinateInterpolator => interpolator(
-            alloc, node_type, fields, input, value, out,
-        )?,
         NodeType::BooleanSequencer => step_to(boolean_step(fields, input, value), fields, out),
         NodeType::IntegerSequencer => step_to(integer_step(fields, input, value), fields, out),
         NodeType::BooleanFilter => filter(fields, input, value, out),
@@ -121,5 +144,4 @@ fn answer(
         NodeType::TimeTrigger => time_trigger(fields, input, value, time, out),
         _ => {}
     }
-    Ok(())
 }

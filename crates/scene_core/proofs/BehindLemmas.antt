@@ -1,9 +1,12 @@
 -- What comes behind what was made so far, where the item may be a fault.
-use Rattle.std.proofs.Common.{◌≡◌, ◌⊎◌, inl, inr, ℕ, ◌+◌, ◌<◌, ◌≤◌, List, drop, get_or, length, ap, ◌∙◌}
-use Rattle.std.proofs.Math.ListN.{drop_of_length-le}
-use Rattle.std.specs.Prelude.{Result, Ok, Err}
+use Rattle.std.proofs.Common.{◌≡◌, ◌⊎◌, inl, inr, ℕ, ◌+◌, ◌<◌, Bool, List, drop, get_or, length, ap, sym, subst, ◌∙◌}
+use Rattle.std.specs.Prelude.{Result, Ok, Err, slice_get}
 use Rattle.x3d_lists.specs.Answers.{Gives}
+use Rattle.flat_document.specs.declared.flat.FlatNode.{FlatNode}
 use Rattle.scene_core.specs.declared.fault.SceneFault.{SceneFault}
+use Rattle.scene_core.specs.declared.numbering.Numbering.{Numbering}
+use Rattle.scene_core.specs.declared.scene.SceneNode.{SceneNode}
+use Rattle.scene_core.specs.Building.{with_node}
 use Rattle.scene_core.specs.Faults.{memory, ◌>>=◌, through}
 use Rattle.scene_core.proofs.RowLemmas.{drop-step}
 
@@ -29,14 +32,32 @@ module _ {A X : Type 0} (step : A → X → Result X SceneFault) where
   through-step : (xs : List A) (i : ℕ) (d : A) (made : X) → i < length xs → through step (drop i xs) made ≡ (step (get_or xs i d) made >>= through step (drop (i + 1) xs))
   through-step xs i d made h = ap (λ ys. through step ys made) (drop-step xs i d h)
 
-  pub through-more : (xs : List A) (i : ℕ) (d : A) (made more : X) (all : Result X SceneFault) → i < length xs → all ≡ through step (drop i xs) made
+  through-more : (xs : List A) (i : ℕ) (d : A) (made more : X) (all : Result X SceneFault) → i < length xs → all ≡ through step (drop i xs) made
       → step (get_or xs i d) made ≡ Ok more → all ≡ through step (drop (i + 1) xs) more
   through-more xs i d made more all h e s = e ∙ through-step xs i d made h ∙ ap (λ r. r >>= through step (drop (i + 1) xs)) s
 
-  pub through-refused : (xs : List A) (i : ℕ) (d : A) (made : X) (f : SceneFault) (all : Result X SceneFault) → i < length xs → all ≡ through step (drop i xs) made
+  through-refused : (xs : List A) (i : ℕ) (d : A) (made : X) (f : SceneFault) (all : Result X SceneFault) → i < length xs → all ≡ through step (drop i xs) made
       → (f ≡ memory) ⊎ (step (get_or xs i d) made ≡ Err f) → (f ≡ memory) ⊎ (all ≡ Err f)
   through-refused xs i d made f all h e (inl m) = inl m
   through-refused xs i d made f all h e (inr s) = inr (e ∙ through-step xs i d made h ∙ ap (λ r. r >>= through step (drop (i + 1) xs)) s)
 
-  pub through-all : (xs : List A) (i : ℕ) (made : X) (all : Result X SceneFault) → length xs ≤ i → all ≡ through step (drop i xs) made → all ≡ Ok made
-  through-all xs i made all h e = e ∙ ap (λ ys. through step ys made) (drop_of_length-le xs h)
+module _ (nodes : List FlatNode) (s : Numbering) (alone : List ℕ → Bool) (numbers order : List ℕ) (are_numbers : numbers ≡ s.numbers) (is_order : order ≡ s.order) (i : ℕ) (made : List SceneNode)
+    (all : Result (List SceneNode) SceneFault) where
+  abbrev Left : ℕ → List ℕ → List SceneNode → Type 0
+  Left k ns so_far = all ≡ through (λ n m. with_node nodes s.numbers alone (slice_get nodes n) m) (drop k ns) so_far
+
+  pub nodes-next : i < length order → Left i s.order made → (more : List SceneNode) → with_node nodes numbers alone (slice_get nodes (get_or order i 0)) made ≡ Ok more → Left (i + 1) s.order more
+  nodes-next h so_far more e =
+      subst (λ ns. Left (i + 1) ns more) is_order
+      (through-more (λ n m. with_node nodes s.numbers alone (slice_get nodes n) m) order i 0 made more all h (subst (λ ns. Left i ns made) (sym is_order) so_far)
+      (ap (λ ns. with_node nodes ns alone (slice_get nodes (get_or order i 0)) made) (sym are_numbers) ∙ e))
+
+  by_numbers : (f : SceneFault) → (f ≡ memory) ⊎ (with_node nodes numbers alone (slice_get nodes (get_or order i 0)) made ≡ Err f)
+      → (f ≡ memory) ⊎ (with_node nodes s.numbers alone (slice_get nodes (get_or order i 0)) made ≡ Err f)
+  by_numbers f (inl m) = inl m
+  by_numbers f (inr e) = inr (ap (λ ns. with_node nodes ns alone (slice_get nodes (get_or order i 0)) made) (sym are_numbers) ∙ e)
+
+  pub nodes-stop : i < length order → Left i s.order made → (f : SceneFault) → (f ≡ memory) ⊎ (with_node nodes numbers alone (slice_get nodes (get_or order i 0)) made ≡ Err f)
+      → (f ≡ memory) ⊎ (all ≡ Err f)
+  nodes-stop h so_far f e =
+      through-refused (λ n m. with_node nodes s.numbers alone (slice_get nodes n) m) order i 0 made f all h (subst (λ ns. Left i ns made) (sym is_order) so_far) (by_numbers f e)
