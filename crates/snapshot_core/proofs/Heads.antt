@@ -25,5 +25,3 @@ behind_body scene boot mark bytes body r e (inr h) = inr (h, none_is bytes body 
 -- it isn't
 pub behind_fault : (scene : SceneView) (boot : ℕ) (mark bytes : List ℕ) (fault : HeadFault) (told : SnapFault) → Err fault ≡ opened 1 mark bytes → told ≡ fault_of fault → behind_head scene boot (opened 1 mark bytes) ≡ Err told
 behind_fault scene boot mark bytes fault told e is = ap (behind_head scene boot) (sym e) ∙ ap (λ (f : SnapFault). Err f) (sym is)
-
-pub ruleset behind = (behind_body, behind_fault)
