@@ -3,12 +3,15 @@ use Rattle.std.proofs.Common.{◌≡◌, ℕ, List, Option, Some, None, Result, 
 use Rattle.std.specs.Prelude.{◌⊎◌}
 use Rattle.std.specs.Result.{result_map_both}
 use Rattle.scene_core.specs.Scene.{SceneView}
+use Rattle.cascade_core.specs.Course.{Scripted}
 use Rattle.snapshot_codec.specs.declared.head.HeadFault.{HeadFault}
 use Rattle.snapshot_codec.specs.Head.{body_or, head_fault, opened}
 use Rattle.snapshot_core.specs.declared.fault.SnapFault.{SnapFault}
 use Rattle.snapshot_core.specs.declared.fault.SnapFault.TheVariants.{Memory}
 use Rattle.snapshot_core.specs.declared.world.Found.{Found}
-use Rattle.snapshot_core.specs.Loading.{behind_head, fault_of, loaded_body}
+use Rattle.cascade_core.specs.Held.{StageView, spoiled}
+use Rattle.snapshot_core.specs.declared.loading.Saved.{Saved}
+use Rattle.snapshot_core.specs.Loading.{behind_head, fault_of, load_outcome, loaded, loaded_body, with_states}
 use Rattle.snapshot_core.specs.WorldCodec.{booted}
 
 none_is : (bytes body : List ℕ) (f : Option HeadFault) → body_or bytes f ≡ Ok body → f ≡ None
@@ -26,4 +29,16 @@ behind_body scene boot mark bytes body r e (inr h) = inr (h, none_is bytes body 
 pub behind_fault : (scene : SceneView) (boot : ℕ) (mark bytes : List ℕ) (fault : HeadFault) (told : SnapFault) → Err fault ≡ opened 1 mark bytes → told ≡ fault_of fault → behind_head scene boot (opened 1 mark bytes) ≡ Err told
 behind_fault scene boot mark bytes fault told e is = ap (behind_head scene boot) (sym e) ∙ ap (λ (f : SnapFault). Err f) (sym is)
 
-pub ruleset behind = (behind_body, behind_fault)
+good_head : (scene : SceneView) (boot : ℕ) (bytes : List ℕ) (x : ℕ × Scripted) (f : Option HeadFault) → behind_head scene boot (body_or bytes f) ≡ Ok x → f ≡ None
+good_head scene boot bytes x None e = refl
+good_head scene boot bytes x (Some f) e = absurd cc
+
+-- what was read is put into a stage
+pub put_in : (stage : StageView) (mark bytes : List ℕ) (boot : ℕ) (found : Found) (r : Result Saved SnapFault) (new : StageView)
+    → (behind_head stage.scene boot (opened 1 mark bytes) ≡ Ok (booted found)) ⊎ ((Ok found ≡ Err Memory) × (head_fault 1 mark bytes ≡ None))
+    → (load_outcome stage (with_states stage.scene (Ok (booted found))) ≡ (r, new)) ⊎ ((r ≡ Err Memory) × (new ≡ spoiled stage))
+    → (load_outcome stage (loaded mark stage.scene boot bytes) ≡ (r, new)) ⊎ ((r ≡ Err Memory) × (new ≡ spoiled stage) × (head_fault 1 mark bytes ≡ None))
+unfolding loaded
+put_in stage mark bytes boot found r new (inl e) (inl h) = inl (ap (λ (x : Result (ℕ × Scripted) SnapFault). load_outcome stage (with_states stage.scene x)) e ∙ h)
+put_in stage mark bytes boot found r new (inl e) (inr h) = inr (h.0, h.1, good_head stage.scene boot bytes (booted found) (head_fault 1 mark bytes) e)
+put_in stage mark bytes boot found r new (inr e) h = let no_found = e.0 in absurd cc

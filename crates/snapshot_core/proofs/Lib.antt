@@ -1,9 +1,10 @@
-pub mod Heads
+mod Heads
 mod KeptRows
 mod LineLaws
 mod NodeLaws
 mod NodeLoops
 mod PartSizes
+mod Saves
 mod SetLaws
 pub mod ShotLaws
 pub mod StateLaws

@@ -18,7 +18,7 @@ use snapshot_codec::{PartFault, open};
 use std::alloc::Global;
 
 /// Of which boot a snapshot was, and how many inputs its world had applied.
-#[derive(Clone, Copy, Debug, PartialEq, Eq)]
+#[derive(Clone, Copy, PartialEq, Eq)]
 pub struct Saved {
     pub boot: u32,
     /// Up to 2^20.
@@ -55,7 +55,6 @@ fn loaded_body(
 
 /// The boot and the world of a snapshot, for one that starts again as `boot`, of a scene that runs
 /// so many scripts. The states of the scripts aren't looked at.
-#[tactic(auto, using(crate::proofs::Heads::behind))]
 fn behind_head(
     alloc: Global,
     scene: &Scene,
