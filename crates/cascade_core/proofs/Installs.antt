@@ -141,6 +141,9 @@ box_refused place.NoSuchScript held xs ys k kind e h = none-at xs ys k e h
 box_refused place.KindDiffers held xs ys k kind e h = at-kind (λ other. kind ≢ other) xs ys k e h
 box_refused place.Memory held xs ys k kind e h = at-kind (λ other. kind ≡ other) xs ys k e h
 
+pub same_kinds : (old new : List ScriptRecord) → new ≡ old → kinds_of new ≡ kinds_of old
+same_kinds old new is = ap kinds_of is
+
 pub ruleset installs = (cast_stands, install_length, install_range, install_memory, first_alike, given_states, states_alike)
 
 pub ruleset places_box = (cast_stands, box_there, box_refused)

@@ -1,5 +1,5 @@
-use Rattle.std.proofs.Common.{◌≡◌, ◌∙◌, ap, refl, sym}
-use Rattle.cascade_core.specs.Apply.{Started, started}
+use Rattle.std.proofs.Common.{◌∙◌, ap, refl, sym}
+use Rattle.cascade_core.specs.Apply.{Started}
 use Rattle.cascade_core.specs.Course.{plan_at}
 use Rattle.cascade_core.proofs.Openings.{started_first, started_more}
 use Rattle.cascade_core.proofs.Steps.{below_still, range_ended, sound_still}

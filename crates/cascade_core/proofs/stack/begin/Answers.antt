@@ -5,6 +5,7 @@ use Rattle.cascade_core.specs.Stack.{finish}
 use Rattle.cascade_core.specs.declared.stack.Task.TheVariants.{Follow}
 use Rattle.script_turn.specs.Acting.{kinds_of}
 use Rattle.cascade_core.proofs.Depths.{send_full-sent}
+use Rattle.cascade_core.proofs.SoundLemmas.{cast_stands}
 use Rattle.cascade_core.proofs.Tasks.{begin-done, begin-fewer, finish-push, work-push}
 use Rattle.cascade_core.proofs.stack.begin.Goals as goal
 
@@ -28,3 +29,6 @@ returns-clause-fewer g c =
       work-push (plan_at c.args.fixed.now) (recorded (seen c.args.course.now) c.args.source c.args.value) c.args.tasks.now.items (Follow c.args.source c.args.value 0),
       begin-fewer (plan_at c.args.fixed.now) (seen c.args.course.now) c.args.source c.args.value c.args.tasks.now.items c.requires.task (sym c.contains.ensures ∙ c.if-contains.false),
     )
+
+pub follow-requires-clause-cast : goal.follow-requires-clause-cast
+follow-requires-clause-cast g c = cast_stands (plan_at c.args.fixed.now) (seen c.args.course.now) _ refl refl c.requires.cast
