@@ -1,4 +1,4 @@
-use Rattle.std.proofs.Common.{◌∙◌, refl}
+use Rattle.std.proofs.Common.{rules, ◌∙◌, refl}
 use Rattle.cascade_core.proofs.Installs.{length_refused, memory_refused, range_refused, states_fit, world_given}
 use Rattle.cascade_core.proofs.SoundLemmas.{cast_stands}
 use Rattle.cascade_core.proofs.stage.Stage.install.Goals as goal
@@ -51,4 +51,4 @@ returns-clause-fit g c =
 pub returns-clause-ok : goal.returns-clause-ok
 returns-clause-ok g c =
     world_given c.args.self.now c.self.inside.fixed.scene c.self.inside.fixed.routes c.self.inside.spoiled c.self.inside.course.turn.world c.self.inside.course.scripts c.restore.new.self c.args.states.now c.self.view_is c.self.invariant.5
-    c.replace-2.new.dest c.args.world c.replace-2.ensures.after c.in-Ok.ensures.fit c.in-Ok.ensures.ok
+    _ c.args.world (search rules) c.in-Ok.ensures.fit c.in-Ok.ensures.ok
