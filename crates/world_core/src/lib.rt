@@ -1,5 +1,5 @@
-//! The `state` of a scene after some inputs, its `world`, and what one node does in it: the `answer`
-//! to an event or to the clock, what a TouchSensor does at a `touch`, an `aim` or where it is turned
+//! The `state` of a scene after some inputs, its `world`, and what a node does in it: the `answer`
+//! to an event or a clock, what a TouchSensor does at a `touch`, at an `aim` or where it is turned
 //! off, and what a Script does that is `unrun` (ISO/IEC 19775-1, event model).
 #![tactic(auto)]
 
