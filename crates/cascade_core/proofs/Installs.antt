@@ -10,8 +10,8 @@ use Rattle.script_host.specs.Restoring.{AreStates, IsFirstFault, RefusesStates}
 use Rattle.script_host.specs.States.{state_fault}
 use Rattle.script_host.specs.declared.fault.ReplaceFault.{ReplaceFault}
 use Rattle.script_host.specs.declared.fault.ReplaceFault.TheVariants as place
-use Rattle.script_host.specs.declared.fault.StateFault.{StateFault}
-use Rattle.script_host.specs.declared.fault.StateFault.TheVariants.{StateLength, StateRange, Memory}
+use Rattle.script_slots.specs.declared.fault.StateFault.{StateFault}
+use Rattle.script_slots.specs.declared.fault.StateFault.TheVariants.{StateLength, StateRange, Memory}
 use Rattle.script_turn.specs.Acting.{kinds_of}
 use Rattle.scene_core.specs.declared.scene.Route.{Route}
 use Rattle.scene_core.specs.Scene.{SceneView}

@@ -5,9 +5,7 @@ pub mod Turns
 pub mod SceneOutputs
 pub mod Fuel
 pub mod Tasks
-pub mod Shown
 pub mod Gains
-pub mod ClockNumbers
 pub mod Keeping
 mod Arrivals
 pub mod Settled
@@ -20,4 +18,5 @@ pub mod Openings
 pub mod Gained
 mod Inputs
 pub mod Installs
+mod Places
 pub mod RunFaults

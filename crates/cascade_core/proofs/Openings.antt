@@ -21,9 +21,10 @@ use Rattle.cascade_core.specs.Outputs.{is_scene_output}
 use Rattle.cascade_core.specs.Scripts.{are_begun, kinds_in, scripts_in}
 use Rattle.cascade_core.specs.Settles.{settle}
 use Rattle.cascade_core.specs.Sound.{IsCast, IsFixed, IsSound, are_outputs, are_sent}
-use Rattle.cascade_core.specs.Stack.{IsReady, finish, send_by}
+use Rattle.cascade_core.specs.Stack.{IsReady, finish}
+use Rattle.stage_steps.specs.Replies.{send_by}
 use Rattle.cascade_core.specs.declared.fixed.Fixed.{Fixed}
-use Rattle.cascade_core.specs.declared.stack.Task.{Task}
+use Rattle.stage_steps.specs.declared.tasks.Task.{Task}
 use Rattle.world_core.specs.declared.world.Turn.{Turn}
 use Rattle.cascade_core.proofs.Keeping.{replies-of}
 use Rattle.cascade_core.proofs.SceneOutputs.{AllOutputs}

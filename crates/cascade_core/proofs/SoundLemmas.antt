@@ -13,7 +13,7 @@ use Rattle.script_host.specs.Behaviour.{Call}
 use Rattle.script_host.specs.Hosting.{ScriptRecord, answer_of}
 use Rattle.script_host.specs.Interface.{outputs}
 use Rattle.script_host.specs.Outputs.{leave_by_outputs}
-use Rattle.script_host.specs.declared.reply.Reply as host
+use Rattle.script_slots.specs.declared.reply.Reply as host
 use Rattle.script_host.proofs.OutputLemmas.{sends_by_outputs}
 use Rattle.script_turn.specs.Acting.{act, acting, call_of, kinds_of}
 use Rattle.script_turn.specs.Ports.{Wiring, reply_of}

@@ -14,7 +14,8 @@ use Rattle.cascade_core.specs.Cascade.{deliver, reached, recorded, send_all, sen
 use Rattle.cascade_core.specs.Sound.{IsSound}
 use Rattle.world_core.specs.Answers.{met, ticked}
 use Rattle.cascade_core.specs.Outputs.{is_scene_output, ends_from}
-use Rattle.cascade_core.specs.Stack.{do_task, finish, IsReady, weight, weights, unsent, work_left, send_by}
+use Rattle.cascade_core.specs.Stack.{do_task, finish, IsReady, weight, weights, unsent, work_left}
+use Rattle.stage_steps.specs.Replies.{send_by}
 use Rattle.cascade_core.proofs.SceneOutputs.{met-sends, ticked-sends}
 use Rattle.cascade_core.proofs.Fuel.{unsent-less}
 use Rattle.cascade_core.proofs.Depths.{send_full-new}
@@ -23,8 +24,8 @@ use Rattle.x3d_values.specs.declared.value.Value.{Value}
 use Rattle.react_core.specs.declared.outbox.Reply.{Reply}
 use Rattle.scene_core.specs.declared.scene.End.{End}
 use Rattle.scene_core.specs.Shape.{Shape}
-use Rattle.cascade_core.specs.declared.stack.Task.{Task}
-use Rattle.cascade_core.specs.declared.stack.Task.TheVariants.{Send, Follow}
+use Rattle.stage_steps.specs.declared.tasks.Task.{Task}
+use Rattle.stage_steps.specs.declared.tasks.Task.TheVariants.{Send, Follow}
 use Rattle.world_core.specs.declared.world.WorldData.{WorldData}
 use Rattle.world_core.specs.Nodes.{is_clock}
 use Rattle.scene_core.specs.Scene.{SceneView, shapes_of, types_of}

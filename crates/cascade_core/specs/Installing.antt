@@ -6,8 +6,8 @@ use Rattle.script_host.specs.Attaching.{RefusesPlace}
 use Rattle.script_host.specs.Hosting.{ScriptRecord}
 use Rattle.script_host.specs.Restoring.{AreStates, IsFirstFault}
 use Rattle.script_host.specs.declared.fault.ReplaceFault.TheVariants as place
-use Rattle.script_host.specs.declared.fault.StateFault.{StateFault}
-use Rattle.script_host.specs.declared.fault.StateFault.TheVariants.{StateLength, StateRange, Memory}
+use Rattle.script_slots.specs.declared.fault.StateFault.{StateFault}
+use Rattle.script_slots.specs.declared.fault.StateFault.TheVariants.{StateLength, StateRange, Memory}
 use Rattle.cascade_core.specs.Scripts.{scripts_in}
 use Rattle.cascade_core.specs.Held.{Held, StageView, is_spoiled, spoiled}
 use Rattle.stage_answers.specs.declared.fault.PlaceFault.{PlaceFault}

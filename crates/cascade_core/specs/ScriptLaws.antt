@@ -1,14 +1,20 @@
 -- What holds of worlds with scripts.
-use Rattle.std.specs.Prelude.{◌≡◌, List, [], None, true, length}
+use Rattle.std.specs.Prelude.{◌≡◌, ◌⊎◌, List, [], Option, None, true, false, length, IsSomeAnd}
+use Rattle.x3d_values.specs.declared.script.Kind.{Kind}
 use Rattle.x3d_values.specs.Stamp.{Stamp}
 use Rattle.scene_core.specs.declared.scene.Route.{Route}
 use Rattle.scene_core.specs.Scene.{SceneView}
 use Rattle.script_due.specs.Settling.{all_differ}
+use Rattle.script_host.specs.Hosting.{ScriptRecord}
 use Rattle.script_turn.specs.Acting.{kinds_of}
 use Rattle.cascade_core.specs.Apply.{after_input, world}
 use Rattle.cascade_core.specs.Course.{Course, Plan}
+use Rattle.cascade_core.specs.Held.{Held, is_spoiled}
+use Rattle.cascade_core.specs.Installing.{RefusesBox}
 use Rattle.cascade_core.specs.Scripts.{kinds_in}
 use Rattle.cascade_core.specs.Settles.{next_due, settle}
+use Rattle.stage_answers.specs.declared.fault.PlaceFault.{PlaceFault}
+use Rattle.stage_answers.specs.declared.fault.PlaceFault.TheVariants.{Memory}
 
 -- no input changes the kind of a script, or how many there are
 abbrev pub KindsStand : Type 0
@@ -24,3 +30,12 @@ StatesStand = (scene : SceneView) (routes : List Route) (inputs : List Stamp)
 abbrev pub SettlesAll : Type 0
 SettlesAll = (plan : Plan) (c : Course) → c.settling.settled ≡ []
     → (next_due (settle plan c) ≡ None) × (all_differ (settle plan c).settling.settled ≡ true)
+
+-- a stage that isn't spoiled has one answer to a box, memory aside: where a fault is why the box
+-- doesn't take the place of a script, no other is, and the box is not of the script's kind
+abbrev pub PlacesOne : Type 0
+PlacesOne = (held : Held) (old : Option ScriptRecord) (kind : Kind) (one other : PlaceFault)
+    → is_spoiled held ≡ false → RefusesBox one held old kind
+    → (one ≡ Memory)
+    ⊎ ((RefusesBox other held old kind → one ≡ other)
+    × (IsSomeAnd old (λ r. kind ≡ r.kind) → ⊥))

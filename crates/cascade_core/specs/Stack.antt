@@ -1,7 +1,6 @@
 -- What the tasks of a work stack mean: the last is done first.
 use Rattle.std.specs.Prelude.{ℕ, Bool, ◌≡◌, true, false, ◌+◌, ◌-◌, ◌*◌, List, [], ◌∷◌, length, drop, reverse}
 use Rattle.std.specs.List.{fold}
-use Rattle.react_core.specs.declared.outbox.Reply.{Reply}
 use Rattle.scene_core.specs.declared.scene.End.{End}
 use Rattle.scene_core.specs.declared.scene.Route.{Route}
 use Rattle.scene_core.specs.Shape.{Shape}
@@ -9,8 +8,8 @@ use Rattle.cascade_core.specs.Course.{Course, Plan}
 use Rattle.trace_core.specs.Ends.{has_sent, targets_of}
 use Rattle.cascade_core.specs.Outputs.{is_scene_output, ends_from}
 use Rattle.cascade_core.specs.Cascade.{deliver, send_full}
-use Rattle.cascade_core.specs.declared.stack.Task.{Task}
-use Rattle.cascade_core.specs.declared.stack.Task.TheVariants.{Send, Follow}
+use Rattle.stage_steps.specs.declared.tasks.Task.{Task}
+use Rattle.stage_steps.specs.declared.tasks.Task.TheVariants.{Send, Follow}
 use Rattle.world_core.specs.declared.world.Turn.{Turn}
 
 -- a task by the definition of the cascade
@@ -55,7 +54,3 @@ unsent shapes turn = unsent_among (ends_from 0 shapes) turn.sent
 unfoldable pub work_left : Plan → Course → List Task → ℕ
 work_left plan c tasks =
     unsent plan.shapes c.turn * (6 * length plan.routes + 2) + weights plan.routes tasks
-
--- a reply of a node is to be sent
-abbrev pub send_by : ℕ → Reply → Task
-send_by node r = Send (record { node = node; field = r.field }) r.value

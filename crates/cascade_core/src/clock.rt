@@ -12,10 +12,11 @@ ghost use Rattle.cascade_core.specs.Apply.{tick_node as tick_node_of};
 
 use crate::course::Course;
 use crate::fixed::Fixed;
-use crate::stack::{Task, push_replies, run_tasks};
+use crate::stack::run_tasks;
 use pick_core::BoxCache;
 use react_core::Outbox;
 use script_host::Behaviour;
+use stage_steps::{Task, push_replies};
 use std::alloc::AllocError;
 use x3d_values::Stamped;
 

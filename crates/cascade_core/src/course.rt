@@ -7,7 +7,6 @@ ghost use Rattle.cascade_core.specs.Course.{plan_at, seen};
 ghost use Rattle.cascade_core.specs.Cascade.{arrival, reached, received_by};
 ghost use Rattle.cascade_core.specs.Sound.{IsCast};
 
-use crate::boxes::deliver;
 use crate::fixed::Fixed;
 use pick_core::BoxCache;
 use react_core::Outbox;
@@ -15,6 +14,7 @@ use running_scripts::BegunScripts;
 use scene_core::End;
 use script_due::DueScripts;
 use script_host::Behaviour;
+use stage_steps::deliver;
 use std::alloc::{AllocError, Global};
 use world_core::Turn;
 use x3d_values::Value;

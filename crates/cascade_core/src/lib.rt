@@ -3,13 +3,11 @@
 #![tactic(auto)]
 
 mod bench;
-mod boxes;
 mod clock;
 mod course;
 mod fixed;
 mod input;
 mod laws;
-mod nodes;
 mod opening;
 mod parts;
 mod pointer;
@@ -18,7 +16,7 @@ mod settle;
 mod stack;
 mod stage;
 
-pub use laws::{kinds_law, settling_law, states_law};
+pub use laws::{kinds_law, places_law, settling_law, states_law};
 pub use series::run;
 pub use stage::Stage;
 pub use stage_answers::{ApplyFault, LoadFault, PlaceFault, StatesFault, TextFault, Work};

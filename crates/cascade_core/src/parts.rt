@@ -16,12 +16,12 @@ ghost use Rattle.sensor_core.specs.Touches.{untouched};
 
 use crate::bench::{Bench, Sensors};
 use crate::fixed::Fixed;
-use crate::nodes::numbers_of;
 use pick_core::BoxCache;
 use route_core::Routes;
 use running_scripts::Runs;
 use scene_core::Scene;
 use sensor_core::{TimeState, TouchState};
+use stage_steps::numbers_of;
 use std::alloc::{AllocError, Global};
 use trace_core::{SentBits, Trace};
 use world_core::{State, Turn, VIEWERS, WorldData};
@@ -84,7 +84,7 @@ fn sensors_of(alloc: Global, scene: &Scene) -> Result<Sensors, AllocError>
 
 /// What a stage works with: no task is left, and the boxes are those of the world. There is room
 /// for as many pressed sensors as there are.
-pub(crate) fn bench_of(
+fn bench_of(
     alloc: Global,
     scene: &Scene,
     world: &WorldData,

@@ -1,6 +1,6 @@
 //! A cascade by a stack of tasks, whose depth is bounded by memory alone.
 
-ghost use Rattle.std.specs.Prelude.{◌≡◌, ◌+◌, ◌≤◌, ◌<◌, ◌^◌, ◌++◌, [], ◌∷◌, true, false, None, Some, IfNone, IfSome, OnOk, length, map, reverse, slice_get};
+ghost use Rattle.std.specs.Prelude.{◌≡◌, ◌+◌, ◌≤◌, ◌<◌, ◌^◌, [], true, false, None, Some, IfNone, IfSome, OnOk, slice_get};
 ghost use Rattle.std.specs.List.{AllByRecursion};
 ghost use Rattle.scene_core.specs.Scene.{shapes_of};
 ghost use Rattle.pick_core.specs.Sites.{rows_of};
@@ -9,7 +9,7 @@ ghost use Rattle.cascade_core.specs.Outputs.{is_scene_output};
 ghost use Rattle.cascade_core.specs.Course.{plan_at, seen};
 ghost use Rattle.cascade_core.specs.Cascade.{send_full};
 ghost use Rattle.cascade_core.specs.Sound.{IsCast};
-ghost use Rattle.cascade_core.specs.Stack.{do_task, finish, IsReady, weight, work_left, send_by};
+ghost use Rattle.cascade_core.specs.Stack.{do_task, finish, IsReady, weight, work_left};
 ghost use Rattle.script_turn.specs.Acting.{kinds_of};
 
 use crate::course::Course;
@@ -19,17 +19,9 @@ use react_core::Outbox;
 use route_core::Routes;
 use scene_core::End;
 use script_host::Behaviour;
+use stage_steps::{Task, push_before, push_replies, send};
 use std::alloc::AllocError;
 use x3d_values::Value;
-
-/// Something that is still to be done.
-#[derive(Drop)]
-pub enum Task {
-    /// An event is sent by an output.
-    Send(End, Value),
-    /// The routes of an output are followed, from this place among them on.
-    Follow(End, Value, usize),
-}
 
 /// Does all tasks, the last first.
 pub fn run_tasks<B: Behaviour>(
@@ -128,16 +120,16 @@ fn begin<B: Behaviour>(
     ensures count { course.new.settling.count ≡ course.old.settling.count }
 {
     // A value is dropped by a call: left to the exits, its drop is proved once for each of them.
-    if course.turn.sent.contains(source) {
-        drop(value);
-        return Ok(());
-    }
     let alloc = *tasks.allocator();
-    let Ok(()) = course.turn.record_event(alloc, source, &value) else {
+    let Ok(sends) = send(&mut course.turn, alloc, source, &value) else {
         drop(value);
         return Err(AllocError);
     };
-    follow(fixed, tasks, course, replies, boxes, source, value, 0)?;
+    if sends {
+        follow(fixed, tasks, course, replies, boxes, source, value, 0)?;
+        return Ok(());
+    }
+    drop(value);
     Ok(())
 }
 
@@ -217,46 +209,4 @@ fn hop_at(routes: &Routes, source: End, next: usize) -> Option<Hop>
         target: routes.route(places[next]).target,
         more: places.len() - next > 1,
     })
-}
-
-/// Each reply is to be sent, the first of them next, and the rest is left until all of them and
-/// what follows from them are done.
-fn push_before(
-    tasks: &mut Vec<Task>,
-    rest: Task,
-    node: u32,
-    replies: &mut Outbox,
-) -> Result<(), AllocError>
-    ensures tasks { OnOk result (tasks.new.items
-        ≡ (tasks.old.items ++ rest ∷ []) ++ map (send_by node) (reverse replies.old.items)) }
-    ensures none { OnOk result (replies.new.items ≡ []) }
-    ensures few { OnOk result (length replies.old.items ≤ 5) }
-{
-    tasks.push(rest)?;
-    push_replies(tasks, node, replies)
-}
-
-/// Each reply is to be sent, the first of them next.
-pub fn push_replies(
-    tasks: &mut Vec<Task>,
-    node: u32,
-    replies: &mut Outbox,
-) -> Result<(), AllocError>
-    ensures tasks { OnOk result (tasks.new.items
-        ≡ tasks.old.items ++ map (send_by node) (reverse replies.old.items)) }
-    ensures none { OnOk result (replies.new.items ≡ []) }
-    ensures few { length replies.old.items ≤ 5 }
-{
-    // The slice says how few they are.
-    let _few = replies.as_slice().len();
-    while let Some(reply) = replies.pop() {
-        tasks.push(Task::Send(
-            End {
-                node,
-                field: reply.field,
-            },
-            reply.value,
-        ))?;
-    }
-    Ok(())
 }

@@ -5,12 +5,13 @@ use crate::course::Course;
 use crate::fixed::Fixed;
 use crate::input::advance;
 use crate::opening::open;
-use crate::parts::{Parts, bench_of, fixed_of, parts_of};
+use crate::parts::{Parts, fixed_of, parts_of};
 use route_core::Routes;
 use scene_core::Scene;
 use scene_text::write_scene;
 use script_host::{Behaviour, Scripts, StateFault};
 use stage_answers::{ApplyFault, LoadFault, PlaceFault, StatesFault, TextFault, Work};
+use stage_steps::put_boxes;
 use std::alloc::Global;
 use std::marker::Model;
 use std::mem;
@@ -297,13 +298,12 @@ impl<B: Behaviour> Stage<B> {
             }
         }
         let alloc = *self.bench.tasks.allocator();
-        let Ok(bench) = bench_of(alloc, &self.fixed.scene, &world, self.sensors.touches.len())
-        else {
+        let state = world.fields.as_slice();
+        let Ok(()) = put_boxes(&mut self.bench.boxes, alloc, &self.fixed.scene, state) else {
             drop(world);
             self.spoiled = Some(applied);
             return Err(StateFault::Memory);
         };
-        drop(mem::replace(&mut self.bench, bench));
         drop(mem::replace(&mut self.course.turn.world, world));
         self.spoiled = None;
         Ok(())

@@ -1,8 +1,6 @@
--- How deep nodes may nest, and where declarations, their values and `IS` may stand (ISO/IEC 19776-2, grammar).
+-- How deep nodes may nest, and where declarations and `IS` may stand (ISO/IEC 19776-2, grammar).
 use Rattle.std.specs.Prelude.{ℕ, Bool, true, false, List, codes}
 use Rattle.std.specs.Str.{bytes_eq}
-use Rattle.x3d_values.specs.declared.field_type.Access.{Access}
-use Rattle.x3d_values.specs.declared.field_type.Access.TheVariants.{InputOnly, OutputOnly, InputOutput, InitializeOnly}
 use Rattle.classic_bounds.specs.declared.declared.Owner.{Owner}
 use Rattle.classic_bounds.specs.declared.declared.Owner.TheVariants.{Script, Interface}
 
@@ -14,13 +12,6 @@ max_depth = 64
 abbrev pub takes_is : Owner → Bool
 takes_is Script = true
 takes_is Interface = false
-
--- a field of that access holds a value
-unfoldable pub holds_value : Access → Bool
-holds_value InputOnly = false
-holds_value OutputOnly = false
-holds_value InputOutput = true
-holds_value InitializeOnly = true
 
 -- fields are declared in the body of a Script alone
 unfoldable pub is_script : List ℕ → Bool

@@ -1,6 +1,7 @@
 //! Where a field may be declared, and what its declaration may give it.
 
 ghost use Rattle.std.specs.Prelude.{◌≡◌};
+ghost use Rattle.x3d_values.specs.Access.{is_initial};
 ghost use Rattle.classic_bounds.specs.Bounds as spec;
 
 use x3d_values::{Access, Text};
@@ -24,9 +25,8 @@ pub fn takes_is(owner: Owner) -> bool
 }
 
 /// Whether a field of that access holds a value.
-#[tactic(auto, unfolding(crate::specs::Bounds::holds_value))]
 pub fn holds_value(access: Access) -> bool
-    ensures { result ≡ spec.holds_value access }
+    ensures { result ≡ is_initial access }
 {
     match access {
         Access::InputOnly | Access::OutputOnly => false,

@@ -10,7 +10,7 @@ use Rattle.classic_lex.specs.declared.token.TokenKind.{TokenKind}
 use Rattle.classic_lex.specs.declared.token.TokenKind.TheVariants.{Identifier, Numeral, Text, OpenBracket, CloseBracket, OpenBrace, CloseBrace, Point}
 use Rattle.classic_lex.specs.declared.front.Start.{Start}
 use Rattle.classic_lex.specs.declared.front.Start.TheVariants as start
-use Rattle.classic_lex.specs.Bytes.{is_space, is_line_end, is_digit, ends_numeral, continues_name, begins_name}
+use Rattle.classic_bytes.specs.Bytes.{is_space, is_line_end, is_digit, ends_numeral, continues_name, begins_name}
 use Rattle.classic_lex.specs.Front.{begins_digit, begins_numeral, numeral_len, numeral_front, mark, front_at, front}
 use Rattle.classic_lex.specs.Tokens.{NotAhead, IsWhiteSpace, IsComment, IsIdentifier, BeginsWithDigit, BeginsNumeral, IsNumeral, IsString, IsToken, IsPiece, Piece, blank, token, bytes_of}
 use Rattle.classic_lex.proofs.Runs.{prefix_len-IsRun}

@@ -12,8 +12,9 @@ use Rattle.x3d_numerals.specs.declared.fault.NumeralFault.TheVariants as numeral
 use Rattle.classic_lex.specs.declared.token.TokenKind.TheVariants.{Identifier}
 use Rattle.classic_lex.specs.declared.front.Start.{Start}
 use Rattle.classic_lex.specs.declared.front.Start.TheVariants as start
-use Rattle.classic_lex.specs.Bytes.{is_space, is_line_end, is_digit, ends_numeral, continues_name, begins_name}
-use Rattle.classic_lex.specs.Front.{closing, string_front, begins_digit, begins_numeral, numeral_len, numeral_piece, mark, front_at, front}
+use Rattle.classic_bytes.specs.Bytes.{is_space, is_line_end, is_digit, ends_numeral, continues_name, begins_name}
+use Rattle.classic_bytes.specs.Strings.{closing}
+use Rattle.classic_lex.specs.Front.{string_front, begins_digit, begins_numeral, numeral_len, numeral_piece, mark, front_at, front}
 use Rattle.classic_lex.specs.Tokens.{NotAhead, BeginsWithDigit, BeginsNumeral, IsPiece, blank, token}
 use Rattle.classic_lex.proofs.Runs.{IsRun-prefix}
 use Rattle.classic_lex.proofs.StringLemmas.{IsClosed-take, closing-within}

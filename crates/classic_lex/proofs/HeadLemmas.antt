@@ -11,7 +11,7 @@ use Rattle.classic_lex.specs.declared.fault.LexFault.{LexFault}
 use Rattle.classic_lex.specs.declared.fault.LexFaultKind.{LexFaultKind}
 use Rattle.classic_lex.specs.declared.versions.Version.{Version}
 use Rattle.classic_lex.specs.declared.versions.Version.TheVariants.{V3_0, V3_1, V3_2, V3_3, V4_0}
-use Rattle.classic_lex.specs.Bytes.{is_space, is_digit}
+use Rattle.classic_bytes.specs.Bytes.{is_space, is_digit}
 use Rattle.classic_lex.specs.Header.{max_len, byte_order_mark, mark_len, without_mark, version_text, version_named, number_len, is_space_or_end, ends_header, version_of_len, version_at, header, in_head, version_of}
 use Rattle.classic_lex.specs.Tokens.{NotAhead, IsHeader, IsHeaded, HasVersion}
 

@@ -6,6 +6,5 @@ pub mod HeadLemmas
 pub mod Runs
 pub mod SpanLemmas
 pub mod StringLemmas
-pub mod Strings
 pub mod TokenLemmas
 pub mod Utf8Lemmas

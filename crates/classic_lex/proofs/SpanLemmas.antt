@@ -9,7 +9,7 @@ use Rattle.classic_lex.specs.declared.token.TokenKind.{TokenKind}
 use Rattle.classic_lex.specs.declared.token.Token.{Token}
 use Rattle.classic_lex.specs.declared.front.Start.{Start}
 use Rattle.classic_lex.specs.declared.front.Start.TheVariants as start
-use Rattle.classic_lex.specs.Bytes.{is_space, is_line_end}
+use Rattle.classic_bytes.specs.Bytes.{is_space, is_line_end}
 use Rattle.classic_lex.specs.Front.{front, front_at}
 use Rattle.classic_lex.specs.Spans.{is_gap, AreSpans}
 use Rattle.classic_lex.specs.Tokens.{NotAhead, IsPiece, blank}

@@ -2,7 +2,7 @@
 use Rattle.std.proofs.Common.{◌≡◌, ℕ, suc, ◌≤◌, List, [], ◌∷◌, ◌++◌, length, take, Bool, true, false, Option, Some, None, refl, sym, subst, arith, inl, inr, ◌==◌}
 use Rattle.std.specs.Option.{option_map}
 use Rattle.std.proofs.lemmas.Bool.{cases_Bool, eqb-true, eqb-false, ne_eqb}
-use Rattle.classic_lex.specs.Front.{closing}
+use Rattle.classic_bytes.specs.Strings.{closing}
 use Rattle.classic_lex.specs.Tokens.{IsClosed, quote, plain, pair}
 
 -- ---- from the place of the quote

@@ -7,7 +7,7 @@ use Rattle.std.proofs.lemmas.List.Elements.{All-nil, All-cons}
 use Rattle.std.proofs.lemmas.Str.{IsUtf8-append, IsUtf8-from_ascii, IsUtf8-take, IsUtf8-drop, IsCharBoundary-before_ascii, IsCharBoundary-after_ascii}
 use Rattle.classic_lex.specs.declared.token.TokenKind.{TokenKind}
 use Rattle.classic_lex.specs.declared.token.TokenKind.TheVariants.{Identifier, Numeral, Text, OpenBracket, CloseBracket, OpenBrace, CloseBrace, Point}
-use Rattle.classic_lex.specs.Bytes.{is_space, is_line_end, ends_numeral, continues_name}
+use Rattle.classic_bytes.specs.Bytes.{is_space, is_line_end, ends_numeral, continues_name}
 use Rattle.classic_lex.specs.Lexed.{Tok, line_after}
 use Rattle.classic_lex.specs.declared.versions.Version.{Version}
 use Rattle.classic_lex.specs.Header.{version_text}

@@ -1,5 +1,5 @@
 -- What stands at the front of a text: white space, a comment, a token, or what is none of these.
-use Rattle.std.specs.Prelude.{ℕ, ℤ, suc, ◌<◌, ◌≤◌, ◌+◌, List, [], ◌∷◌, take, Bool, true, false, not, ◌||◌, ◌&&◌, ◌==◌, Option, Some, None, option_map, Result, Ok, Err, if◌then◌else◌}
+use Rattle.std.specs.Prelude.{ℕ, ℤ, ◌<◌, ◌≤◌, ◌+◌, List, [], ◌∷◌, take, Bool, false, not, ◌||◌, ◌&&◌, ◌==◌, Option, Some, None, Result, Ok, Err, if◌then◌else◌}
 use Rattle.std.specs.List.{prefix_len}
 use Rattle.x3d_numerals.specs.Reading.{numeral}
 use Rattle.x3d_numerals.specs.declared.fault.NumeralFault.{NumeralFault}
@@ -8,16 +8,10 @@ use Rattle.classic_lex.specs.declared.fault.LexFaultKind.TheVariants.{OpenString
 use Rattle.classic_lex.specs.declared.token.TokenKind.TheVariants.{Identifier, Numeral, Text, OpenBracket, CloseBracket, OpenBrace, CloseBrace, Point}
 use Rattle.classic_lex.specs.declared.front.Start.{Start}
 use Rattle.classic_lex.specs.declared.front.Start.TheVariants.{Blank, Piece, Bad}
-use Rattle.classic_lex.specs.Bytes.{is_space, is_line_end, is_digit, ends_numeral, continues_name, begins_name}
+use Rattle.classic_bytes.specs.Bytes.{is_space, is_line_end, is_digit, ends_numeral, continues_name, begins_name}
+use Rattle.classic_bytes.specs.Strings.{closing}
 
 -- ---- strings
-
--- how many bytes there are up to the quote that closes a string, with it; the flag says that a
--- backslash stands before
-unfoldable pub closing : Bool → List ℕ → Option ℕ
-closing escaped [] = None
-closing true (b ∷ bs) = option_map suc (closing false bs)
-closing false (b ∷ bs) = if b == 34 then Some 1 else option_map suc (closing (b == 92) bs)
 
 abbrev pub string_front : Option ℕ → Start
 string_front None = Bad OpenString

@@ -9,7 +9,7 @@ use Rattle.classic_lex.specs.declared.fault.LexFaultKind.{LexFaultKind}
 use Rattle.classic_lex.specs.declared.fault.LexFaultKind.TheVariants.{TooLong, NotUtf8, NoHeader, BadVersion}
 use Rattle.classic_lex.specs.declared.versions.Version.{Version}
 use Rattle.classic_lex.specs.declared.versions.Version.TheVariants.{V3_0, V3_1, V3_2, V3_3, V4_0}
-use Rattle.classic_lex.specs.Bytes.{is_digit, is_space}
+use Rattle.classic_bytes.specs.Bytes.{is_digit, is_space}
 
 -- a text has at most 16 MiB (our choice)
 abbrev pub max_len : ℕ

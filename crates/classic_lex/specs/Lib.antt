@@ -1,4 +1,3 @@
-pub mod Bytes
 pub mod FaultName
 pub mod Front
 pub mod Header

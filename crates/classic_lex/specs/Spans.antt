@@ -1,7 +1,7 @@
 -- Where the tokens of a text stand.
 use Rattle.std.specs.Prelude.{ℕ, ◌≤◌, ◌<◌, List, [], ◌∷◌, length, Bool, true, false, not, ◌&&◌, ◌==◌, IsTrue, slice_range, if◌then◌else◌}
 use Rattle.classic_lex.specs.declared.token.Token.{Token}
-use Rattle.classic_lex.specs.Bytes.{is_space, is_line_end}
+use Rattle.classic_bytes.specs.Bytes.{is_space, is_line_end}
 
 -- nothing but white space and comments, the last of which is over; the flag says that a comment is
 -- under way

@@ -6,7 +6,7 @@ use Rattle.x3d_numerals.specs.Numeral as stands
 use Rattle.classic_lex.specs.declared.token.TokenKind.{TokenKind}
 use Rattle.classic_lex.specs.declared.token.TokenKind.TheVariants.{Identifier, Numeral, Text, OpenBracket, CloseBracket, OpenBrace, CloseBrace, Point}
 use Rattle.classic_lex.specs.declared.versions.Version.{Version}
-use Rattle.classic_lex.specs.Bytes.{is_space, is_line_end, is_digit, ends_numeral, continues_name, begins_name}
+use Rattle.classic_bytes.specs.Bytes.{is_space, is_line_end, is_digit, ends_numeral, continues_name, begins_name}
 use Rattle.classic_lex.specs.Header.{max_len, byte_order_mark, version_text}
 use Rattle.classic_lex.specs.Lexed.{Tok, line_after}
 

@@ -1,76 +1,32 @@
 //! What stands at the front of a text.
 
-ghost use Rattle.std.specs.Prelude.{◌≡◌, ◌≤◌, ◌<◌, length, false, not, IfSome};
-ghost use Rattle.std.specs.List.{prefix_len};
+ghost use Rattle.std.specs.Prelude.{◌≡◌, ◌≤◌, ◌<◌, length};
 ghost use Rattle.classic_lex.specs.Front as spec;
-ghost use Rattle.classic_lex.specs.Bytes as Bytes;
 
-use crate::bytes;
+use crate::classes::{CommentBytes, NameBytes, NumeralBytes, run_len};
 use crate::fault::LexFaultKind;
 use crate::token::TokenKind;
+use classic_bytes::{begins_name, closing, is_digit, is_space};
 use x3d_numerals::{NumeralFault, millionths};
 
 /// White space or a comment of so many bytes, a token of so many bytes, or what is neither.
-#[derive(Clone, Copy, Debug, PartialEq, Eq)]
+#[derive(Clone, Copy)]
 pub(crate) enum Start {
     Blank(usize),
     Piece(TokenKind, usize),
     Bad(LexFaultKind),
 }
 
-/// How many bytes there are up to the quote that closes a string, with it.
-fn closing(text: &[u8]) -> Option<usize>
-    ensures value { result ≡ spec.closing false text.now }
-    ensures within { IfSome result (λ n. n ≤ length text.now) }
-{
-    let mut escaped = false;
-    for (i, b) in text.iter().enumerate() {
-        if escaped {
-            escaped = false;
-        } else if *b == b'"' {
-            return Some(i + 1);
-        } else {
-            escaped = *b == b'\\';
-        }
-    }
-    None
-}
-
-fn name_len(text: &[u8]) -> usize
-    ensures value { result ≡ prefix_len Bytes.continues_name text.now }
-    ensures within { result ≤ length text.now }
-{
-    text.iter()
-        .take_while(|b| bytes::continues_name(**b))
-        .count()
-}
-
-fn numeral_len(text: &[u8]) -> usize
-    ensures value { result ≡ spec.numeral_len text.now }
-    ensures within { result ≤ length text.now }
-{
-    text.iter()
-        .take_while(|b| !bytes::ends_numeral(**b))
-        .count()
-}
-
-fn comment_len(text: &[u8]) -> usize
-    ensures value { result ≡ prefix_len (λ c. not (Bytes.is_line_end c)) text.now }
-    ensures within { result ≤ length text.now }
-{
-    text.iter().take_while(|b| !bytes::is_line_end(**b)).count()
-}
-
 #[tactic(auto, unfolding(crate::specs::Front::begins_numeral))]
 fn begins_numeral(first: u8, rest: &[u8]) -> bool
     ensures { result ≡ spec.begins_numeral first rest.now }
 {
-    if bytes::is_digit(first) || first == b'+' || first == b'-' {
+    if is_digit(first) || first == b'+' || first == b'-' {
         return true;
     }
     match rest {
         [] => false,
-        [b, ..] => first == b'.' && bytes::is_digit(*b),
+        [b, ..] => first == b'.' && is_digit(*b),
     }
 }
 
@@ -112,19 +68,19 @@ pub(crate) fn front(text: &[u8]) -> Start
 {
     let first = text[0];
     let rest = &text[1..];
-    if bytes::is_space(first) {
+    if is_space(first) {
         Start::Blank(1)
     } else if first == b'#' {
-        Start::Blank(comment_len(rest) + 1)
+        Start::Blank(run_len::<CommentBytes>(rest) + 1)
     } else if first == b'"' {
         match closing(rest) {
             None => Start::Bad(LexFaultKind::OpenString),
             Some(n) => Start::Piece(TokenKind::Text, n + 1),
         }
     } else if begins_numeral(first, rest) {
-        numeral_front(text, numeral_len(rest) + 1)
-    } else if bytes::begins_name(first) {
-        Start::Piece(TokenKind::Identifier, name_len(rest) + 1)
+        numeral_front(text, run_len::<NumeralBytes>(rest) + 1)
+    } else if begins_name(first) {
+        Start::Piece(TokenKind::Identifier, run_len::<NameBytes>(rest) + 1)
     } else {
         mark(first)
     }

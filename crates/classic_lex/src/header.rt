@@ -6,9 +6,10 @@ ghost use Rattle.classic_lex.specs.Header as spec;
 ghost use Rattle.classic_lex.specs.Tokens.{HasVersion};
 ghost use Rattle.classic_lex.specs.declared.versions.Version.{Version};
 
-use crate::bytes;
+use crate::classes::{Digits, run_len};
 use crate::fault::{LexFault, LexFaultKind};
 use crate::versions::Version;
+use classic_bytes::is_space;
 
 /// How many bytes a text may have: 16 MiB.
 pub const MAX_LEN: usize = 16_777_216;
@@ -37,24 +38,17 @@ fn is_text(bytes: &[u8]) -> bool
     }
 }
 
-fn digits_len(text: &[u8]) -> usize
-    ensures value { result ≡ spec.digits_len text.now }
-    ensures within { result ≤ length text.now }
-{
-    text.iter().take_while(|b| bytes::is_digit(**b)).count()
-}
-
 /// How many bytes digits, a point and digits take at the front, if they stand there.
 #[tactic(auto, unfolding(crate::specs::Header::number_len))]
 fn number_len(text: &[u8]) -> Option<usize>
     ensures value { result ≡ spec.number_len text.now }
     ensures within { IfSome result (λ n. n ≤ length text.now) }
 {
-    let whole = digits_len(text);
+    let whole = run_len::<Digits>(text);
     match &text[whole..] {
         [] => None,
         [b, behind @ ..] => {
-            let fraction = digits_len(behind);
+            let fraction = run_len::<Digits>(behind);
             if *b == b'.' && whole > 0 && fraction > 0 {
                 Some(whole + 1 + fraction)
             } else {
@@ -74,7 +68,7 @@ fn ends_header(text: &[u8]) -> bool
     }
     match &text[5..] {
         [] => true,
-        [b, ..] => bytes::is_space(*b),
+        [b, ..] => is_space(*b),
     }
 }
 

@@ -11,13 +11,14 @@ use crate::fault::LexFault;
 use crate::front::{Start, front};
 use crate::header::{mark_len, version};
 use crate::token::Token;
+use classic_bytes::{end_of, is_line_feed};
 use std::alloc::Global;
 
 fn line_feeds(text: &[u8]) -> usize
     ensures value { result ≡ count_by (λ b. b == 10) text.now }
     ensures within { result ≤ length text.now }
 {
-    text.iter().filter(|b| **b == b'\n').count()
+    text.iter().filter(|b| is_line_feed(**b)).count()
 }
 
 /// The line on which a text ends.
@@ -71,7 +72,7 @@ fn cut(alloc: Global, text: &[u8], start: usize) -> Result<Vec<Token>, LexFault>
                 tokens.push(Token {
                     kind,
                     start: at as u32,
-                    end: (at + n) as u32,
+                    end: end_of(at, n),
                     line: line as u32,
                 })?;
                 n

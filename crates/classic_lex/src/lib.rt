@@ -4,7 +4,7 @@
 //! and comments part the tokens. The only memory taken is the list of tokens.
 #![tactic(auto)]
 
-mod bytes;
+mod classes;
 mod fault;
 mod front;
 mod header;

@@ -1,7 +1,7 @@
 //! Tokens.
 
 /// What a token is.
-#[derive(Clone, Copy, Debug, PartialEq, Eq)]
+#[derive(Clone, Copy, PartialEq, Eq)]
 pub enum TokenKind {
     /// A name, a keyword or a truth value, as `DEF`, `children`, `Name:1`.
     Identifier,
@@ -20,7 +20,7 @@ pub enum TokenKind {
 /// A token of a text: its kind, its bytes from `start` up to `end`, and the line of its first byte.
 ///
 /// Bytes are counted from 0 at the beginning of the text, a byte order mark included; lines from 1.
-#[derive(Clone, Copy, Debug, PartialEq, Eq)]
+#[derive(Clone, Copy, PartialEq, Eq)]
 pub struct Token {
     pub kind: TokenKind,
     pub start: u32,

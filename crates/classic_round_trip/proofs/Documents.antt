@@ -6,7 +6,7 @@ use Rattle.std.specs.List.{flat_map}
 use Rattle.std.proofs.lemmas.Str.{IsUtf8-append}
 use Rattle.classic_lex.specs.declared.versions.Version.{Version}
 use Rattle.classic_lex.specs.declared.versions.Version.TheVariants.{V3_0, V3_1, V3_2, V3_3, V4_0}
-use Rattle.classic_lex.specs.Bytes.{is_space, is_line_end}
+use Rattle.classic_bytes.specs.Bytes.{is_space, is_line_end}
 use Rattle.classic_lex.specs.Header.{max_len, version_text}
 use Rattle.classic_lex.specs.Lexed.{Tok, line_after}
 use Rattle.classic_lex.specs.Tokens.{Piece, blank, text_of, IsPiece, IsComment, ArePieces, tokens_among, IsHeader, IsHeaded}

@@ -13,7 +13,7 @@ use Rattle.x3d_numerals.specs.Numeral.{Exponent, Parts, decimal, hexadecimal, Is
 use Rattle.x3d_numerals.specs.NumberText.{IsLimited, number_text}
 use Rattle.x3d_numerals.proofs.Written.{numeral_of}
 use Rattle.classic_lex.specs.declared.token.TokenKind.TheVariants.{Numeral}
-use Rattle.classic_lex.specs.Bytes.{is_space, is_digit, ends_numeral}
+use Rattle.classic_bytes.specs.Bytes.{is_space, is_digit, ends_numeral}
 use Rattle.classic_lex.specs.Tokens.{NotAhead, BeginsNumeral, IsToken}
 use Rattle.classic_text.specs.Spells.{IsNumber}
 use Rattle.classic_round_trip.proofs.Pieces.{one_byte, Found, Always, one}

@@ -4,7 +4,7 @@ use Rattle.std.specs.Prelude.{IsTrue}
 use Rattle.std.specs.Str.{IsUtf8}
 use Rattle.std.proofs.lemmas.Str.{IsUtf8-append, IsUtf8-from_ascii}
 use Rattle.classic_lex.specs.declared.token.TokenKind.{TokenKind}
-use Rattle.classic_lex.specs.Bytes.{is_space}
+use Rattle.classic_bytes.specs.Bytes.{is_space}
 use Rattle.classic_lex.specs.Lexed.{Tok, line_after}
 use Rattle.classic_lex.specs.Tokens.{Piece, blank, token, bytes_of, text_of, IsPiece, IsToken, tokens_among}
 

@@ -11,7 +11,7 @@ use Rattle.x3d_values.specs.declared.field_type.Access.TheVariants.{InputOnly, O
 use Rattle.x3d_values.specs.declared.field_type.FieldType.{FieldType}
 use Rattle.x3d_values.specs.declared.field_type.FieldType.TheVariants.{SFBool, SFInt32, SFFloat, SFTime, SFString, SFVec2f, SFVec3f, SFColor, SFNode, MFBool, MFInt32, MFFloat, MFTime, MFString, MFVec2f, MFVec3f, MFColor, MFNode, SFRotation}
 use Rattle.classic_lex.specs.declared.token.TokenKind.TheVariants as kind
-use Rattle.classic_lex.specs.Bytes.{is_space, is_digit, ends_numeral, continues_name, begins_name}
+use Rattle.classic_bytes.specs.Bytes.{is_space, is_digit, ends_numeral, continues_name, begins_name}
 use Rattle.classic_lex.specs.Lexed.{Tok}
 use Rattle.classic_lex.specs.Tokens.{NotAhead, IsIdentifier, IsToken}
 use Rattle.classic_text.specs.Input.{spelling}

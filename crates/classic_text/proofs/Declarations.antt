@@ -13,7 +13,7 @@ use Rattle.classic_tree.specs.declared.tree.Statement.{Statement}
 use Rattle.classic_text.specs.declared.terminal.Terminal.TheVariants as t
 use Rattle.classic_text.specs.Terminal.{line}
 use Rattle.classic_text.specs.Input.{Parser, and_then, kind, sees, expect, name, access, field_type}
-use Rattle.classic_bounds.specs.Bounds.{holds_value}
+use Rattle.x3d_values.specs.Access.{is_initial}
 use Rattle.classic_text.specs.Grammar.{until, value, what_is, joined, declared, declaration, proto_with}
 use Rattle.classic_text.specs.Spells.{IsName, AreUntil, IsEvent, IsStored, IsDeclared, IsDeclaration, IsProtoBy}
 use Rattle.classic_text.proofs.Seen.{see, unseen, not_see, not_ahead, ahead_not}
@@ -22,27 +22,23 @@ use Rattle.classic_text.proofs.Values.{Knows, BeginsNode, found_until, only_unti
 
 -- ---- access
 
-stored : (a : Access) → holds_value a ≡ true → IsStored a
-unfolding holds_value
+stored : (a : Access) → is_initial a ≡ true → IsStored a
 stored access_is.InputOnly h = cc
 stored access_is.OutputOnly h = cc
 stored access_is.InputOutput h = inl refl
 stored access_is.InitializeOnly h = inr refl
 
-event : (a : Access) → holds_value a ≡ false → IsEvent a
-unfolding holds_value
+event : (a : Access) → is_initial a ≡ false → IsEvent a
 event access_is.InputOnly h = inl refl
 event access_is.OutputOnly h = inr refl
 event access_is.InputOutput h = cc
 event access_is.InitializeOnly h = cc
 
-stored_holds : (a : Access) → IsStored a → holds_value a ≡ true
-unfolding holds_value
+stored_holds : (a : Access) → IsStored a → is_initial a ≡ true
 stored_holds a (inl h) = rw h refl
 stored_holds a (inr h) = rw h refl
 
-event_holds : (a : Access) → IsEvent a → holds_value a ≡ false
-unfolding holds_value
+event_holds : (a : Access) → IsEvent a → is_initial a ≡ false
 event_holds a (inl h) = rw h refl
 event_holds a (inr h) = rw h refl
 
@@ -56,18 +52,18 @@ module _ (inner : Parser NodeText) (Inner : NodeText → List Tok → List Tok �
       subst (λ (y : Given NodeText × List Tok). IsDeclared Inner true a y.0 ts y.1) (ok_is (given.Is n, c) (x, rest) h) (b, refl, found_expect t.Is ts b (λ e. cc) e, found_name n b c f)))
   found_joined false a x ts rest h = cc
 
-  found_held : (script : Bool) (a : Access) (x : Given NodeText) (ts rest : List Tok) → sees t.Is ts ≡ false → cond (holds_value a) (and_then (value inner ts) (λ y b. Ok (given.Value y, b))) (Ok (given.Nothing, ts)) ≡ Ok (x, rest) → IsDeclared Inner script a x ts rest
+  found_held : (script : Bool) (a : Access) (x : Given NodeText) (ts rest : List Tok) → sees t.Is ts ≡ false → cond (is_initial a) (and_then (value inner ts) (λ y b. Ok (given.Value y, b))) (Ok (given.Nothing, ts)) ≡ Ok (x, rest) → IsDeclared Inner script a x ts rest
   found_held script a x ts rest free h =
       ⊎_elim (λ c. both (value inner ts) _ (x, rest) c.1 (λ y b e h.
       subst (λ (z : Given NodeText × List Tok). IsDeclared Inner script a z.0 ts z.1) (ok_is (given.Value y, b) (x, rest) h) (stored a c.0, found_value inner Inner known begins y ts b e)))
       (λ c. subst (λ (z : Given NodeText × List Tok). IsDeclared Inner script a z.0 ts z.1) (ok_is (given.Nothing, ts) (x, rest) c.1) (event a c.0, not_ahead t.Is ts (unseen t.Is ts free), refl))
-      (chosen (holds_value a) (and_then (value inner ts) (λ y b. Ok (given.Value y, b))) (Ok (given.Nothing, ts)) (Ok (x, rest)) h)
+      (chosen (is_initial a) (and_then (value inner ts) (λ y b. Ok (given.Value y, b))) (Ok (given.Nothing, ts)) (Ok (x, rest)) h)
 
   found_declared : (script : Bool) (a : Access) (x : Given NodeText) (ts rest : List Tok) → declared inner script a ts ≡ Ok (x, rest) → IsDeclared Inner script a x ts rest
   unfolding declared
   found_declared script a x ts rest h =
       ⊎_elim (λ c. found_joined script a x ts rest c.1) (λ c. found_held script a x ts rest c.0 c.1)
-      (chosen (sees t.Is ts) (joined script ts) (cond (holds_value a) (and_then (value inner ts) (λ y b. Ok (given.Value y, b))) (Ok (given.Nothing, ts))) (Ok (x, rest)) h)
+      (chosen (sees t.Is ts) (joined script ts) (cond (is_initial a) (and_then (value inner ts) (λ y b. Ok (given.Value y, b))) (Ok (given.Nothing, ts))) (Ok (x, rest)) h)
 
   only_declared : (script : Bool) (a : Access) (x : Given NodeText) (ts rest : List Tok) → IsDeclared Inner script a x ts rest → declared inner script a ts ≡ Ok (x, rest)
   unfolding declared joined what_is

@@ -2,7 +2,7 @@
 use Rattle.std.proofs.Common.{◌≡◌, ℕ, List, [], ◌∷◌, ◌++◌, length, take, Bool, true, false, Option, Some, None, refl, sym, ap, ◌∙◌, subst, ◌⊎◌, inl, inr, ◌==◌, ◌&&◌, append-nil}
 use Rattle.std.proofs.Math.Seq.{take-length}
 use Rattle.std.proofs.lemmas.Bool.{cases_Bool, and_parts, and_from, eqb-true, eqb-false, eq-eqb, ne_eqb}
-use Rattle.classic_lex.specs.Front.{closing}
+use Rattle.classic_bytes.specs.Strings.{closing}
 use Rattle.classic_lex.specs.Tokens.{IsString, IsClosed, quote, plain as plain_byte, pair}
 use Rattle.classic_lex.proofs.StringLemmas.{IsClosed-take, closing-IsClosed}
 use Rattle.classic_text.specs.Strings.{Holds, HoldsBehind, closed, plain, escaped, lone}

@@ -2,7 +2,8 @@
 use Rattle.std.specs.Prelude.{ℕ, ℤ, zero, suc, Bool, true, false, ◌||◌, ◌&&◌, if◌then◌else◌, List, [], ◌∷◌, ◌++◌, length, Option, Some, None, Ok, Err, codes}
 use Rattle.x3d_values.specs.declared.field_type.Access.{Access}
 use Rattle.classic_lex.specs.Lexed.{Tok}
-use Rattle.classic_bounds.specs.Bounds.{max_depth, holds_value, is_script}
+use Rattle.x3d_values.specs.Access.{is_initial}
+use Rattle.classic_bounds.specs.Bounds.{max_depth, is_script}
 use Rattle.classic_tree.specs.declared.tree.Place.{Place}
 use Rattle.classic_tree.specs.declared.tree.RouteText.{RouteText}
 use Rattle.classic_tree.specs.declared.tree.RawValue.{RawValue}
@@ -153,7 +154,7 @@ module _ (inner : Parser NodeText) where
   unfoldable pub declared : Bool → Access → Parser (Given NodeText)
   declared script a =
       λ ts. if sees t.Is ts then joined script ts
-      else (if holds_value a then (value >>= λ x. pure (given.Value x)) ts
+      else (if is_initial a then (value >>= λ x. pure (given.Value x)) ts
       else Ok (given.Nothing, ts))
 
   unfoldable pub declaration : Bool → Parser (Declaration NodeText)

@@ -1,6 +1,6 @@
 -- What a string token holds, read from left to right (ISO/IEC 19776-2, SFString).
 use Rattle.std.specs.Prelude.{ℕ, Bool, true, false, ◌==◌, ◌||◌, ◌&&◌, List, [], ◌∷◌, ◌++◌, length, Option, Some, None, if◌then◌else◌}
-use Rattle.classic_lex.specs.Front.{closing}
+use Rattle.classic_bytes.specs.Strings.{closing}
 
 -- what a backslash and the byte behind it stand for: the backslash is dropped before a quote or
 -- another backslash, and stands for itself before all else (our choice)

@@ -23,7 +23,7 @@ pub struct RouteText {
 /// The value of a field as it is written; `N` is a node in it. Numerals are whole millionths,
 /// strings without their escapes. `Numbers` is a run of one numeral or more without brackets, and
 /// the lists but `EmptyList` have an item or more.
-#[derive(Debug, Drop)]
+#[derive(Drop)]
 pub enum RawValue<N> {
     Null,
     Truth(bool),
@@ -38,7 +38,7 @@ pub enum RawValue<N> {
 }
 
 /// What a field or a declaration is given.
-#[derive(Debug, Drop)]
+#[derive(Drop)]
 pub enum Given<N> {
     /// A declaration without a value.
     Nothing,
@@ -48,7 +48,7 @@ pub enum Given<N> {
 }
 
 /// A field of the interface of a PROTO or a Script.
-#[derive(Debug, Drop)]
+#[derive(Drop)]
 pub struct Declaration<N> {
     pub line: u32,
     pub access: Access,
@@ -98,7 +98,7 @@ pub struct ProtoText {
 }
 
 /// `META "key" "content"`.
-#[derive(Debug, Drop)]
+#[derive(Drop)]
 pub struct Meta {
     pub key: Text,
     pub content: Text,

@@ -6,7 +6,7 @@ use x3d_lists::{Items, Text};
 use x3d_values::NodeType;
 
 /// The version and the header statements of a text, which are kept for the text of the scene.
-#[derive(Debug, Drop)]
+#[derive(Drop)]
 pub struct Header {
     pub version: Version,
     pub profile: Option<Text>,
@@ -16,7 +16,7 @@ pub struct Header {
 }
 
 /// A field that a node gives a value. The nodes in it are numbers of nodes of the same `Flat`.
-#[derive(Debug, Drop)]
+#[derive(Drop)]
 pub struct FlatField {
     /// The line of the field's name.
     pub line: u32,
@@ -27,7 +27,7 @@ pub struct FlatField {
 }
 
 /// A node that was put in.
-#[derive(Debug, Drop)]
+#[derive(Drop)]
 pub struct FlatNode {
     /// The line of its first word.
     pub line: u32,
@@ -41,7 +41,7 @@ pub struct FlatNode {
 }
 
 /// An end of a route.
-#[derive(Debug, Drop)]
+#[derive(Drop)]
 pub enum FlatEnd {
     /// A node, and the name of a field that it may have.
     At(u32, Text),
@@ -54,7 +54,7 @@ pub enum FlatEnd {
 }
 
 /// A route from an output to an input.
-#[derive(Debug, Drop)]
+#[derive(Drop)]
 pub struct FlatRoute {
     /// The line of the word ROUTE.
     pub line: u32,
@@ -63,7 +63,7 @@ pub struct FlatRoute {
 }
 
 /// A whole document, expanded. Nodes are numbered in the order in which they close.
-#[derive(Debug, Drop)]
+#[derive(Drop)]
 pub struct Flat {
     pub header: Header,
     pub nodes: Items<FlatNode>,

@@ -25,3 +25,17 @@ pub mod UsesWalks
 pub mod UsesFields
 pub mod UsesNodes
 pub mod UsesFlat
+pub mod RoutesPlaces
+pub mod RoutesWalks
+pub mod RoutesFields
+pub mod RoutesNodes
+pub mod RoutesEnds
+pub mod RoutesWhole
+pub mod FieldsParts
+pub mod FieldsWalks
+pub mod FieldsGiven
+pub mod FieldsNodes
+pub mod FieldsWhole
+pub mod ShapeParts
+pub mod ShapeTrees
+pub mod FieldsFilled

@@ -1,2 +1,19 @@
+pub mod Walks
+pub mod Fields
+pub mod Trees
+pub mod Every
+pub mod Documents
+pub mod Routes
+pub mod Tokens
+pub mod Counts
+pub mod Spelled
+pub mod Values
+pub mod Scenes
+pub mod Counted
+mod Outputs
+pub mod Sent
 pub mod Rewound
 pub mod Saved
+pub mod Countable
+pub mod TextRewound
+pub mod Worlds

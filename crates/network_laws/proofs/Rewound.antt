@@ -4,7 +4,7 @@ use Rattle.std.specs.Prelude.{Result, slice_get}
 use Rattle.flat_document.specs.declared.flat.Flat.{Flat}
 use Rattle.scene_core.specs.declared.scene.Route.{Route}
 use Rattle.scene_core.specs.Scene.{SceneView}
-use Rattle.script_laws.specs.Nodes.{RunsAll}
+use Rattle.world_laws.specs.Nodes.{RunsAll}
 use Rattle.cascade_core.specs.Course.{Scripted}
 use Rattle.snapshot_core.specs.declared.fault.SnapFault.{SnapFault}
 use Rattle.snapshot_core.specs.Shot.{shot}
@@ -17,7 +17,7 @@ use Rattle.share_law.specs.Viewer.{Shot, ViewerState}
 use Rattle.share_core.specs.Rewinds.{IsRewound}
 use Rattle.share_core.specs.Viewer.{ViewerView, machine_of}
 use Rattle.share_core.proofs.Rewinds.{rewind-step}
-use Rattle.document_laws.specs.Worlds.{IsDocument}
+use Rattle.world_laws.specs.Worlds.{IsDocument}
 use Rattle.network_laws.proofs.Saved.{saved_have}
 
 pub own_rewind : (flat : Flat) (scene : SceneView) (routes : List Route) (net : Network Scripted)

@@ -11,7 +11,7 @@ use Rattle.x3d_values.specs.Stamp.{Stamp}
 use Rattle.flat_document.specs.declared.flat.Flat.{Flat}
 use Rattle.scene_core.specs.declared.scene.Route.{Route}
 use Rattle.scene_core.specs.Scene.{SceneView}
-use Rattle.script_laws.specs.Nodes.{RunsAll}
+use Rattle.world_laws.specs.Nodes.{RunsAll}
 use Rattle.cascade_core.specs.Course.{Scripted}
 use Rattle.cascade_core.specs.InTurn.{Follow}
 use Rattle.snapshot_core.specs.Loading.{HasSnapshot}
@@ -27,8 +27,8 @@ use Rattle.share_law.proofs.Machines.{cascade-is}
 use Rattle.share_law.proofs.Ranges.{InRange, both-reached}
 use Rattle.share_law.proofs.Sound.{IsAt, InStep, Sound, ViewSound}
 use Rattle.world_laws.specs.Fits.{is_event}
-use Rattle.document_laws.specs.Worlds.{IsDocument, AreInputs, is_input}
-use Rattle.document_laws.proofs.Worlds.{all_have_snapshots}
+use Rattle.world_laws.specs.Worlds.{IsDocument, AreInputs, is_input}
+use Rattle.world_laws.proofs.DocumentWorlds.{all_have_snapshots}
 
 -- ---- inputs
 

@@ -1,2 +1,9 @@
+pub mod Flats
+pub mod Lengths
+pub mod Scenes
+pub mod Traces
 pub mod Networks
 pub mod Rewinding
+pub mod Opened
+pub mod TextRewinding
+pub mod Worlds

@@ -4,14 +4,14 @@ use Rattle.x3d_values.specs.Stamp.{Stamp}
 use Rattle.flat_document.specs.declared.flat.Flat.{Flat}
 use Rattle.scene_core.specs.declared.scene.Route.{Route}
 use Rattle.scene_core.specs.Scene.{SceneView}
-use Rattle.script_laws.specs.Nodes.{RunsAll}
+use Rattle.world_laws.specs.Nodes.{RunsAll}
 use Rattle.cascade_core.specs.Course.{Scripted}
 use Rattle.snapshot_core.specs.Loading.{HasSnapshot}
 use Rattle.share_law.specs.Cascade.{cascade}
 use Rattle.share_law.specs.Network.{Network}
 use Rattle.share_law.specs.Reached.{Reached, IsRunning}
 use Rattle.share_law.specs.Viewer.{Shot}
-use Rattle.document_laws.specs.Worlds.{IsDocument}
+use Rattle.world_laws.specs.Worlds.{IsDocument}
 
 -- whatever 1 to 16 viewers, their host and their network came to in the scene of a document, all of
 -- whose scripts run: each world that a viewer saved has a snapshot, which counts the events that

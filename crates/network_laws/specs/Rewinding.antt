@@ -3,7 +3,7 @@ use Rattle.std.specs.Prelude.{◌≡◌, ℕ, ◌<◌, ◌^◌, List, length, So
 use Rattle.flat_document.specs.declared.flat.Flat.{Flat}
 use Rattle.scene_core.specs.declared.scene.Route.{Route}
 use Rattle.scene_core.specs.Scene.{SceneView}
-use Rattle.script_laws.specs.Nodes.{RunsAll}
+use Rattle.world_laws.specs.Nodes.{RunsAll}
 use Rattle.cascade_core.specs.Course.{Scripted}
 use Rattle.snapshot_core.specs.declared.fault.SnapFault.{SnapFault}
 use Rattle.snapshot_core.specs.Shot.{shot}
@@ -14,7 +14,7 @@ use Rattle.share_law.specs.Reached.{Reached}
 use Rattle.share_law.specs.Viewer.{Shot, ViewerState}
 use Rattle.share_core.specs.Rewinds.{IsRewound}
 use Rattle.share_core.specs.Viewer.{ViewerView, machine_of}
-use Rattle.document_laws.specs.Worlds.{IsDocument}
+use Rattle.world_laws.specs.Worlds.{IsDocument}
 
 -- whatever 1 to 16 viewers, their host and their network came to in the scene of a document, all of
 -- whose scripts run: what a viewer of that scene makes of the bytes of a snapshot that was taken

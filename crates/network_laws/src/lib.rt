@@ -1,8 +1,19 @@
-//! That the worlds of a network have snapshots, so that a viewer's own snapshot loads again.
+//! How large documents and traces are, and that the worlds of a network have snapshots, so that a
+//! viewer's own snapshot loads again: where a scene was read from a text, with no premise on
+//! lengths.
 #![tactic(auto)]
 
 mod networks;
 mod rewinding;
+mod sizes;
+mod texts;
+mod traces;
 
 pub use networks::saved_worlds_load_again;
 pub use rewinding::own_snapshots_rewind;
+pub use sizes::{flats_are_limited, flats_are_short, scenes_are_short};
+pub use texts::{
+    own_snapshots_of_texts_rewind, saved_worlds_of_texts_load_again, texts_have_documents,
+    worlds_of_texts_fit,
+};
+pub use traces::traces_are_limited;

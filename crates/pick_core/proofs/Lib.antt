@@ -1,7 +1,5 @@
 pub mod Alike
 pub mod Choosing
-pub mod Entering
-pub mod Fractions
 pub mod Moves
 pub mod Order
 pub mod Passed
@@ -9,6 +7,5 @@ pub mod Picking
 pub mod Rows
 pub mod SameLocal
 pub mod Seen
-pub mod Spans
 pub mod Trails
 pub mod Unique

@@ -1,22 +1,11 @@
 -- What fits in the arithmetic of transforms.
-use Rattle.std.proofs.Common.{◌≡◌, ℕ, ◌-◌, ◌^◌, ◌<◌, ◌≤◌, ℤ, pos, negsuc, neg_ℤ, ◌+ℤ◌, ◌-ℤ◌, ◌*ℤ◌, ◌≤ℤ◌, ap, sym, subst, unsigned_abs, arith}
+use Rattle.std.proofs.Common.{◌≡◌, ◌-◌, ◌^◌, ◌<◌, ◌≤◌, ℤ, pos, negsuc, neg_ℤ, ◌+ℤ◌, ◌-ℤ◌, ◌*ℤ◌, ap, sym, subst, unsigned_abs, arith}
 use Rattle.std.proofs.lemmas.Int.{ints, clamps, fits_signed_mul, fits_signed_from_abs}
 use Rattle.std.specs.Int.{int_div_euclid}
 use mir.Syntax.{w64, w128}
 use mir.Val.{SFits}
 use Rattle.pick_core.specs.Motion.{clamped, half}
-
-pub abs_within : (z : ℤ) (n : ℕ) → z ≤ℤ pos n → neg_ℤ (pos n) ≤ℤ z → unsigned_abs z ≤ n
-abs_within (pos k) n h l = omega (arith, ints)
-abs_within (negsuc k) n h l = omega (arith, ints)
-
-pub wide : (z : ℤ) → SFits w64 z → SFits w128 z
-wide (pos k) h = record { sfits = omega arith }
-wide (negsuc k) h = record { sfits = omega arith }
-
-pub difference_fits : (a b : ℤ) → SFits w64 a → SFits w64 b → SFits w128 (a -ℤ b)
-difference_fits a b f g =
-    fits_signed_from_abs w128 (a -ℤ b) (let k : unsigned_abs (a -ℤ b) ≤ 2 ^ 64 - 1 = abs_within (a -ℤ b) (2 ^ 64 - 1) (omega (arith, ints)) (omega (arith, ints)) in omega arith)
+pub use Rattle.box_entry.proofs.Wide.{abs_within, wide, difference_fits}
 
 pub product_fits : (s a b : ℤ) → SFits w64 s → SFits w64 a → SFits w64 b → SFits w128 (s *ℤ (a -ℤ b))
 product_fits s a b e f g =

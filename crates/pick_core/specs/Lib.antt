@@ -1,6 +1,4 @@
 pub mod Boxes
-pub mod Entry
-pub mod Hits
 pub mod Local
 pub mod Looks
 pub mod Motion

@@ -2,9 +2,7 @@
 //! lies for them.
 #![tactic(auto)]
 
-mod bounds;
 mod cache;
-mod crossing;
 mod gather;
 mod hit;
 mod laws;
@@ -18,7 +16,7 @@ mod sensors;
 mod trail;
 mod walk;
 
-pub use bounds::{Bounds, Fraction};
+pub use box_entry::{Bounds, Fraction};
 pub use cache::BoxCache;
 pub use hit::{Hit, Path};
 pub use laws::{alike_rows_law, numbers_law, one_local_law, one_nearest_law, picks_nearest_law};

@@ -4,8 +4,8 @@ ghost use Rattle.std.specs.Prelude.{◌≡◌};
 ghost use Rattle.std.specs.Option.{option_copied};
 ghost use Rattle.pick_core.specs.Motion.{along_of, clamped, moved_at, moved, moved_box, box_of, sides_along};
 
-use crate::bounds::Bounds;
 use crate::look::{Kind, Motion, kind_of, motion_of};
+use box_entry::Bounds;
 use scene_core::Scene;
 use x3d_values::{Fields, Vec3};
 

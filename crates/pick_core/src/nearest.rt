@@ -1,13 +1,12 @@
 //! The nearest of the boxes so far.
 
-ghost use Rattle.std.specs.Prelude.{◌≡◌, ◌*◌, ◌≤◌, length};
+ghost use Rattle.std.specs.Prelude.{◌≡◌, ◌≤◌, length};
 ghost use Rattle.pick_core.specs.Picked as spec;
 ghost use Rattle.pick_core.specs.Trail.{positions};
 
-use crate::bounds::{Bounds, Fraction};
-use crate::crossing::entry;
 use crate::hit::{Hit, Path};
 use crate::trail::Place;
+use box_entry::{Bounds, Fraction, entry, is_less};
 use x3d_values::Ray;
 
 /// Keeps the hit of a box at the end of a trail where it is nearer than the best.
@@ -29,18 +28,12 @@ pub(crate) fn keep_nearer(trail: &[Place], bounds: Bounds, ray: Ray, best: &mut 
     }
 }
 
-fn times(a: u64, b: u64) -> u128
-    ensures { result ≡ a * b }
-{
-    a as u128 * b as u128
-}
-
 /// Whether a fraction is less than that of the best hit.
 fn is_nearer(at: Fraction, best: &Option<Hit>) -> bool
     ensures { result ≡ spec.is_nearer at best.now }
 {
     match best {
-        Some(hit) => times(at.n, hit.m) < times(hit.n, at.m),
+        Some(hit) => is_less(at, Fraction { n: hit.n, m: hit.m }),
         None => true,
     }
 }

@@ -3,10 +3,10 @@
 ghost use Rattle.std.specs.Prelude.{◌≡◌, ◌≤◌, length, map, slice_get, IfOk};
 ghost use Rattle.pick_core.specs.Sites as spec;
 
-use crate::bounds::Bounds;
 use crate::look::{Kind, choice_of, kind_of};
 use crate::motion::box_round;
 use crate::trail::{Place, Trail, carry};
+use box_entry::Bounds;
 use scene_core::Scene;
 use std::alloc::{AllocError, Global};
 use x3d_values::{Fields, Vec3};

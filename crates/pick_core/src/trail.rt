@@ -3,8 +3,8 @@
 ghost use Rattle.std.specs.Prelude.{◌≡◌};
 ghost use Rattle.pick_core.specs.Trail.{carried};
 
-use crate::bounds::Bounds;
 use crate::motion::move_box;
+use box_entry::Bounds;
 use scene_core::Scene;
 use std::alloc::{AllocError, Global};
 use std::marker::Model;

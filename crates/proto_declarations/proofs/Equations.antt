@@ -158,6 +158,12 @@ unfolding finds_in_proto
 proto-finds p own hidden = ap (λ (q : Part). q.finds own hidden) (proto-whole p)
     ∙ ap (λ o. and_then o (λ _. Ok (bytes_eq (out-ProtoText p).name own || hidden))) (inside-finds (out-ProtoText p).interface (out-ProtoText p).body own hidden)
 
+-- the same without the word for it
+pub proto-searched : (p : ProtoText) (own : List ℕ) (hidden : Bool) →
+    (proto p).finds own hidden ≡ and_then (finds_inside node statement (out-ProtoText p).interface (out-ProtoText p).body own hidden) (λ _. Ok (bytes_eq (out-ProtoText p).name own || hidden))
+unfolding finds_in_proto
+proto-searched p own hidden = proto-finds p own hidden
+
 -- ---- what they do
 
 pub item-field-does : (line : ℕ) (name : List ℕ) (g : Given NodeText) (s : Sight) → (item (tree_item.Field line name g)).does s ≡ given_does node g s
@@ -249,7 +255,7 @@ statement-route-is route = ap (λ (p : Part). p.is_node) (statement-route route)
 pub statement-proto-is : (p : ProtoText) → (statement (tree_statement.Proto p)).is_node ≡ false
 statement-proto-is p = ap (λ (q : Part). q.is_node) (statement-proto p ∙ proto-whole p)
 
-pub ruleset finds = (common_steps, item-field-finds, item-declaration-finds, item-route-finds, item-proto-finds, node-use-finds, node-full-finds, statement-node-finds, statement-route-finds, statement-proto-finds, proto-finds)
+pub ruleset finds = (common_steps, item-field-finds, item-declaration-finds, item-route-finds, item-proto-finds, node-use-finds, node-full-finds, statement-node-finds, statement-route-finds, statement-proto-finds, proto-searched)
 
 pub ruleset does = (common_steps, item-field-does, item-declaration-does, item-route-does, item-proto-does, node-use-does, node-full-does, statement-node-does, statement-route-does, statement-proto-does, proto-does)
 

@@ -93,7 +93,9 @@ fn check_full<'a>(
         declarations.old declarations.new }
 {
     let taker = taker_of(declarations, word)?;
-    check_items(alloc, declarations, &taker, items)
+    let checked = check_items(alloc, declarations, &taker, items);
+    drop(taker);
+    checked
 }
 
 #[cycle(check)]
@@ -314,7 +316,7 @@ fn check_inside<'a>(
         declarations.new }
 {
     check_interface(alloc, declarations, proto.interface.as_slice())?;
-    declarations.takes = Taken::new(alloc);
+    drop(mem::replace(&mut declarations.takes, Taken::new(alloc)));
     check_body(alloc, declarations, proto.body.as_slice())
 }
 

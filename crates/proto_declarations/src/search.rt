@@ -69,7 +69,7 @@ fn find_in_statement(own: &Text, statement: &Statement, hidden: bool) -> Result<
 }
 
 #[cycle(find)]
-#[tactic(auto, using(crate::proofs::Equations::finds), unfolding(crate::specs::Meaning::finds_in_proto))]
+#[tactic(auto, using(crate::proofs::Equations::finds))]
 fn find_in_proto(own: &Text, proto: &ProtoText, hidden: bool) -> Result<bool, u32>
     ensures { result ≡ (spec.proto proto.now).finds own.now hidden }
 {

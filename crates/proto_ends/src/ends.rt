@@ -3,7 +3,7 @@
 use x3d_lists::Items;
 
 /// A field of a node that was put in.
-#[derive(Clone, Copy, Debug)]
+#[derive(Clone, Copy)]
 pub struct Spot {
     /// The number of the node.
     pub node: u32,
@@ -12,7 +12,7 @@ pub struct Spot {
 }
 
 /// What a node or an instance came to when its braces closed.
-#[derive(Debug, Drop)]
+#[derive(Drop)]
 pub enum Stand {
     /// The number of the node.
     Node(u32),
@@ -22,7 +22,7 @@ pub enum Stand {
 }
 
 /// A field of what was begun at a place. A place counts the nodes and instances begun before.
-#[derive(Clone, Copy, Debug)]
+#[derive(Clone, Copy)]
 pub struct Joint {
     pub at: usize,
     /// At an instance, the number of the field in the interface.
@@ -32,14 +32,14 @@ pub struct Joint {
 }
 
 /// `field IS name`: the field, and the number of the interface field that it is joined to.
-#[derive(Clone, Copy, Debug)]
+#[derive(Clone, Copy)]
 pub struct Tie {
     pub joint: Joint,
     pub outer: usize,
 }
 
 /// What an end of a ROUTE names.
-#[derive(Clone, Copy, Debug)]
+#[derive(Clone, Copy)]
 pub enum Tip {
     /// No DEF of that name stands before the ROUTE.
     NoNode,
@@ -51,7 +51,7 @@ pub enum Tip {
 }
 
 /// A ROUTE where it was met.
-#[derive(Clone, Copy, Debug)]
+#[derive(Clone, Copy)]
 pub struct Wire {
     /// The line of the word ROUTE.
     pub line: u32,

@@ -23,7 +23,7 @@ pub struct KnownField {
 }
 
 /// A field that a node or an instance was given something at.
-#[derive(Clone, Copy, Debug)]
+#[derive(Clone, Copy)]
 pub struct GivenField {
     /// The line of the field's name.
     pub line: u32,
@@ -35,7 +35,7 @@ pub struct GivenField {
 }
 
 /// What an IS joins.
-#[derive(Clone, Copy, Debug)]
+#[derive(Clone, Copy)]
 pub struct Joined {
     /// The number of the field, as in `KnownField`.
     pub number: usize,

@@ -221,3 +221,5 @@ module _ (entries : List Entry) (chains : List Chain) (l : Link) (c : ℕ) (h : 
     ];
     lasts = p.chained.lasts;
   }
+
+pub ruleset grows = (links_count, links_more, more_chained)

@@ -137,7 +137,7 @@ impl<'a> Links<'a> {
         Ok(())
     }
 
-    #[tactic(auto, using(crate::proofs::Grown::links_count, crate::proofs::Grown::links_more, crate::proofs::Grown::more_chained))]
+    #[tactic(auto, using(crate::proofs::Grown::grows))]
     fn with(self, alloc: Global, link: Link<'a>) -> Result<Links<'a>, AllocError>
         requires { link.before ≤ length self }
         ensures { IfOk result (λ links. links ≡ self.entry ++ link.entry ∷ []) }

@@ -8,7 +8,8 @@ ghost use Rattle.proto_steps.specs.Meaning as meaning;
 ghost use Rattle.proto_steps.specs.Meaning.{declared_in};
 
 use classic_tree::BodyItem;
-use proto_fields::{KnownField, Named, field_declared};
+use proto_fields::{KnownField, Named};
+use proto_store::field_declared;
 use std::alloc::{AllocError, Global};
 use std::marker::Model;
 use x3d_lists::Text;

@@ -37,7 +37,6 @@ pub fn stand(
 }
 
 /// The field of that number and name is joined to the interface field.
-#[tactic(auto, unfolding(crate::specs::Machine::tie, crate::specs::Held::names_of, crate::specs::Held::defs_of))]
 pub fn tie(
     store: &Store,
     declarations: &Declarations<'_>,

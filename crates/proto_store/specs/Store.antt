@@ -1,4 +1,5 @@
--- What each step adds to what was put in. None of this is part of the definition of a flat document.
+-- What each step adds to what was put in. None of this is part of the definition of a flat
+-- document.
 use Rattle.std.specs.Prelude.{ℕ, ◌+◌, if◌then◌else◌, List, [], ◌∷◌, ◌++◌, nat_lt, Option, Some, None, Result, Ok, Err, slice_set}
 use Rattle.flat_document.specs.Fault.{fault}
 use Rattle.flat_document.specs.declared.fault.ExpandFault.{ExpandFault}

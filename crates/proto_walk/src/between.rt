@@ -184,7 +184,7 @@ fn joined(
     let Some(outer) = walker.scope.interface.field(name.as_str()) else {
         return Err(ExpandFaultKind::BadIs.on_line(line));
     };
-    if !proto_fields::fits(outer, inner) {
+    if !proto_store::fits(outer, inner) {
         return Err(ExpandFaultKind::BadIs.on_line(line));
     }
     if fields.has(inner.number) {

@@ -35,7 +35,7 @@ fn outer_field(
         access: declaration.access,
         field_type: declaration.field_type,
     };
-    if !proto_fields::fits(outer, inner) {
+    if !proto_store::fits(outer, inner) {
         return Err(ExpandFaultKind::BadIs.on_line(declaration.line));
     }
     Ok(outer)

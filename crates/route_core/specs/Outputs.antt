@@ -1,10 +1,8 @@
 -- Routes by their outputs.
-use Rattle.std.specs.Prelude.{◌≡◌, ℕ, ◌+◌, ◌-◌, ◌<◌, ◌≤◌, ◌==◌, ◌&&◌, Bool, List, [], ◌∷◌, Option, Some, None, if◌then◌else◌, nat_lt, length, sum, take, slice_index, slice_range}
+use Rattle.std.specs.Prelude.{◌≡◌, ℕ, ◌+◌, ◌-◌, ◌<◌, ◌≤◌, List, [], ◌∷◌, Option, Some, None, if◌then◌else◌, nat_lt, length, sum, take, slice_index, slice_range}
 use Rattle.scene_core.specs.declared.scene.End.{End}
 use Rattle.scene_core.specs.declared.scene.Route.{Route}
-
-abbrev pub same_end : End → End → Bool
-same_end a b = (a.node == b.node) && (a.field == b.field)
+pub use Rattle.first_routes.specs.Firsts.{same_end}
 
 -- the places of the routes with that source, where the first of these routes has place n
 abbrev pub places_from : ℕ → End → List Route → List ℕ

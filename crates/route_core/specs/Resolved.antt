@@ -1,11 +1,11 @@
 -- The routes of a document in its scene (ISO/IEC 19775-1, ROUTE).
-use Rattle.std.specs.Prelude.{ℕ, ◌&&◌, Bool, List, [], ◌∷◌, ◌++◌, Result, Ok, Err, take, if◌then◌else◌}
-use Rattle.std.specs.List.{fold, list_any}
+use Rattle.std.specs.Prelude.{ℕ, List, [], ◌∷◌, Result, Ok, Err}
 use Rattle.flat_document.specs.declared.flat.Flat.{Flat}
 use Rattle.flat_document.specs.declared.flat.FlatRoute.{FlatRoute}
 use Rattle.scene_core.specs.Scene.{SceneView}
 use Rattle.scene_core.specs.declared.scene.Route.{Route}
-use Rattle.route_core.specs.Outputs.{same_end}
+pub use Rattle.first_routes.specs.Firsts.{same_route, added}
+use Rattle.first_routes.specs.Firsts.{firsts_up_to}
 use Rattle.route_core.specs.Ends.{route_of}
 use Rattle.route_core.specs.declared.resolving.TheConstants.{MOST_ROUTES}
 use Rattle.route_core.specs.declared.fault.RouteFault.{RouteFault}
@@ -33,16 +33,9 @@ abbrev pub each_of : SceneView → List FlatRoute → Result (List Route) RouteF
 each_of scene [] = Ok []
 each_of scene (r ∷ rs) = before_others (at_line r.line (route_of scene r)) (each_of scene rs)
 
-abbrev pub same_route : Route → Route → Bool
-same_route a b = same_end a.source b.source && same_end a.target b.target
-
--- the route behind the others, unless it is among them
-abbrev pub added : List Route → Route → List Route
-added routes r = if list_any (same_route r) routes then routes else routes ++ r ∷ []
-
 -- each route where it stands first; an expanded document has no more than are kept
 abbrev pub without_repeats : List Route → List Route
-without_repeats routes = take MOST_ROUTES (fold added [] routes)
+without_repeats routes = firsts_up_to MOST_ROUTES routes
 
 abbrev pub firsts_of : Result (List Route) RouteFault → Result (List Route) RouteFault
 firsts_of (Err fault) = Err fault

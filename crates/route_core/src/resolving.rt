@@ -4,12 +4,11 @@ ghost use Rattle.std.specs.Prelude.{◌≡◌, ◌^◌, ◌≤◌, IfOk, All, ta
 ghost use Rattle.x3d_lists.specs.Answers.{Gives};
 ghost use Rattle.route_core.specs.Ends as ends;
 ghost use Rattle.route_core.specs.Ends.{IsKnown, field_counts};
-ghost use Rattle.route_core.specs.Resolved.{at_line, each_of, memory, without_repeats};
+ghost use Rattle.route_core.specs.Resolved.{at_line, each_of, memory};
 
 use crate::ends::route_of;
 use crate::fault::RouteFault;
 use flat_document::FlatRoute;
-use indexmap::IndexSet;
 use scene_core::{Route, Scene};
 use std::alloc::{AllocError, Global};
 use x3d_lists::Items;
@@ -34,18 +33,6 @@ pub(crate) fn each_of(
         all.push(one_of(scene, route)?)?;
     }
     Ok(all)
-}
-
-/// Each route where it stands first.
-pub(crate) fn without_repeats(alloc: Global, routes: &[Route]) -> Result<Items<Route>, AllocError>
-    ensures { IfOk result (λ firsts. firsts ≡ without_repeats routes.now) }
-{
-    let mut firsts = IndexSet::new(alloc);
-    for route in routes {
-        firsts.insert(*route)?;
-    }
-    let count = MOST_ROUTES.min(firsts.len());
-    Items::from_slice(alloc, &firsts.as_slice()[..count])
 }
 
 /// How many fields each node of the scene has: of the first 2^32 nodes, which is of all nodes of a

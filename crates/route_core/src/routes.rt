@@ -6,7 +6,8 @@ ghost use Rattle.route_core.specs.Outputs.{part_at};
 use crate::fault::RouteFault;
 use crate::grouped::{Groups, group};
 use crate::outputs::{firsts_of, number_of, sources_of};
-use crate::resolving::{each_of, field_counts, without_repeats};
+use crate::resolving::{MOST_ROUTES, each_of, field_counts};
+use first_routes::without_repeats;
 use flat_document::Flat;
 use scene_core::{End, Route, Scene};
 use std::alloc::{AllocError, Global};
@@ -49,7 +50,7 @@ impl Routes {
         ensures { Gives memory (λ routes. routes) result (resolved flat.now scene.now) }
     {
         let each = each_of(alloc, scene, flat.routes.as_slice())?;
-        let routes = without_repeats(alloc, each.as_slice())?;
+        let routes = without_repeats(alloc, each.as_slice(), MOST_ROUTES)?;
         let counts = field_counts(alloc, scene)?;
         Ok(Routes::new(alloc, routes, counts.as_slice())?)
     }

@@ -6,8 +6,8 @@ use Rattle.x3d_values.specs.declared.script.Kind.{Kind}
 use Rattle.script_host.specs.Behaviour.{Call, Initialize, Receive, Settle}
 use Rattle.script_host.specs.Hosting.{ScriptRecord, after_call, counts_after}
 use Rattle.script_host.specs.Restoring.{AreStates, RefusesStates, with_states}
-use Rattle.script_host.specs.declared.fault.StateFault.{StateFault}
-use Rattle.script_host.specs.declared.fault.StateFault.TheVariants.{StateLength, StateRange, Memory}
+use Rattle.script_slots.specs.declared.fault.StateFault.{StateFault}
+use Rattle.script_slots.specs.declared.fault.StateFault.TheVariants.{StateLength, StateRange, Memory}
 use Rattle.script_turn.specs.Acting.{act, acting, call_of, kinds_of, receive, receiving}
 use Rattle.script_turn.specs.Ports.{Wiring}
 use Rattle.running_scripts.specs.Running.{are_begun, running, states_of}

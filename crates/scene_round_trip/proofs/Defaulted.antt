@@ -14,7 +14,7 @@ use Rattle.x3d_values.specs.declared.value.Value.TheVariants as value
 use Rattle.x3d_values.specs.Defaults.{default_value}
 use Rattle.x3d_values.specs.Tables.{Entry, rows}
 use Rattle.x3d_values.specs.Values.{empty_value}
-use Rattle.classic_lex.specs.Bytes.{begins_name, continues_name, is_digit}
+use Rattle.classic_bytes.specs.Bytes.{begins_name, continues_name, is_digit}
 use Rattle.scene_round_trip.specs.Values.{is_int32, is_number, is_time, is_sound}
 use Rattle.scene_round_trip.proofs.Names.{is_free, free_name}
 use Rattle.scene_round_trip.proofs.Tests.{and_true}

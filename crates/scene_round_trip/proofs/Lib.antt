@@ -21,3 +21,10 @@ mod Steps
 mod Tests
 mod Values
 mod Written
+pub mod NumbersInOrder
+pub mod Again
+pub mod Inner
+pub mod NumberedLists
+pub mod Lower
+pub mod NumberedScenes
+pub mod Visits

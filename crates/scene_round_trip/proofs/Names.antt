@@ -12,7 +12,7 @@ use Rattle.x3d_values.specs.declared.node_type.NodeType.{NodeType}
 use Rattle.x3d_values.specs.declared.node_type.NodeType.TheVariants.{Group}
 use Rattle.x3d_values.specs.Names.{node_type_name}
 use Rattle.x3d_values.specs.Tables.{Entry, rows}
-use Rattle.classic_lex.specs.Bytes.{begins_name, continues_name, is_digit}
+use Rattle.classic_bytes.specs.Bytes.{begins_name, continues_name, is_digit}
 use Rattle.classic_round_trip.specs.Spellable.{IsNoneOf, IsFreeName, grammar_words, access_words}
 use Rattle.scene_core.specs.Labels.{is_numbered}
 use Rattle.scene_round_trip.proofs.Tests.{both, and_true, each_told}

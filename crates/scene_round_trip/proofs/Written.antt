@@ -10,7 +10,7 @@ use Rattle.x3d_values.specs.declared.node_type.NodeType.TheVariants.{Switch}
 use Rattle.x3d_values.specs.Names.{node_type_name}
 use Rattle.x3d_values.specs.Ranges.{max_depth}
 use Rattle.x3d_values.specs.Tables.{Entry, rows}
-use Rattle.classic_lex.specs.Bytes.{begins_name, continues_name, is_digit}
+use Rattle.classic_bytes.specs.Bytes.{begins_name, continues_name, is_digit}
 use Rattle.classic_tree.specs.declared.tree.BodyItem.TheVariants as held
 use Rattle.classic_tree.specs.declared.tree.Meta.{Meta}
 use Rattle.classic_tree.specs.declared.tree.NodeText.{NodeText}

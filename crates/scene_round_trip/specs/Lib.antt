@@ -5,3 +5,5 @@ pub mod Named
 pub mod Values
 pub mod Writable
 pub mod Written
+pub mod Again
+pub mod Children

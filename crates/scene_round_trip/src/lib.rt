@@ -1,9 +1,11 @@
-//! That the text of a scene is read again as the scene.
+//! That the text of a scene is read again as the scene, whose nodes are numbered the same again.
 #![tactic(auto)]
 
 mod laws;
+mod numbering;
 
 pub use laws::{
     expanded_are_named, fields_are_left_out, headers_are_kept, labels_are_distinct,
     scenes_are_writable, values_are_typed, written_scenes_spell,
 };
+pub use numbering::{children_are_lower, scenes_are_numbered_again};

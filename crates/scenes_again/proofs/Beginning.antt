@@ -11,8 +11,8 @@ use Rattle.x3d_values.specs.Tables.{Entry}
 use Rattle.scene_core.specs.declared.scene.SceneNode.{SceneNode}
 use Rattle.scene_core.specs.Scene.{SceneView, fields_of, kept, rows_at, shape_of, state_of, value_at}
 use Rattle.scene_core.specs.Shape.{Shape, rows_of}
-use Rattle.numbered_scenes.proofs.Lists.{some_is, within}
-use Rattle.written_fields.specs.Fields.{value_now}
+use Rattle.scene_round_trip.proofs.NumberedLists.{some_is, within}
+use Rattle.written_scenes.specs.Fields.{value_now}
 use Rattle.scenes_again.specs.Begins.{KeptAgain, kept_of}
 use Rattle.scenes_again.proofs.Made.{value_in}
 use Rattle.scenes_again.proofs.Places.{mapped_at}

@@ -8,9 +8,9 @@ use Rattle.flat_document.specs.declared.flat.FlatField.{FlatField}
 use Rattle.scene_core.specs.declared.row.DeclaredField.{DeclaredField}
 use Rattle.scene_core.specs.Parts.{given}
 use Rattle.scene_core.specs.Scene.{SceneView}
-use Rattle.numbered_scenes.proofs.Lists.{some_is}
+use Rattle.scene_round_trip.proofs.NumberedLists.{some_is}
 use Rattle.scenes_again.proofs.Made.{behind, front}
-use Rattle.written_fields.specs.Fields.{HeldField, declared_held, declared_value, held_by, rows_held, unless_default, value_now, written_field}
+use Rattle.written_scenes.specs.Fields.{HeldField, declared_held, declared_value, held_by, rows_held, unless_default, value_now, written_field}
 
 -- ---- fields one after the other, those that hold something
 

@@ -31,8 +31,8 @@ use Rattle.scene_core.specs.Faults.{fault, ◌>>=◌}
 use Rattle.scene_core.specs.Parts.{inner_nodes}
 use Rattle.scene_core.specs.Shape.{declaration_entry, declared_default, is_rotation}
 use Rattle.scene_core.specs.Typed.{accepted, accepted_in_range, all_taken, at_line, declared_value, default_of, dropped_rotation, field_value, in_range, no_rotation, typed_value}
-use Rattle.numbered_scenes.proofs.Inner.{bind_is, line_is, range_is, scene_ok_is}
-use Rattle.numbered_scenes.proofs.Lists.{some_is}
+use Rattle.scene_round_trip.proofs.Inner.{bind_is, line_is, range_is, scene_ok_is}
+use Rattle.scene_round_trip.proofs.NumberedLists.{some_is}
 
 -- ---- the type of a value
 

@@ -10,9 +10,9 @@ use Rattle.scene_core.specs.Building.{called, limits, nodes_of, scene_of}
 use Rattle.scene_core.specs.Faults.{◌>>=◌}
 use Rattle.scene_core.specs.Scene.{SceneView, number_of}
 use Rattle.scene_core.specs.Typed.{all_children}
-use Rattle.numbered_scenes.specs.Again.{in_place}
-use Rattle.numbered_scenes.proofs.Inner.{bind_is, scene_ok_is}
-use Rattle.numbered_scenes.proofs.Scenes.{numbers_of}
+use Rattle.scene_round_trip.specs.Again.{in_place}
+use Rattle.scene_round_trip.proofs.Inner.{bind_is, scene_ok_is}
+use Rattle.scene_round_trip.proofs.NumberedScenes.{numbers_of}
 use Rattle.scenes_again.proofs.Places.{range_at}
 
 module _ (flat : Flat) where

@@ -22,17 +22,17 @@ use Rattle.scene_core.specs.Building.{scene_of}
 use Rattle.scene_core.specs.Labels.{is_alone, is_numbered, label_by, name_at}
 use Rattle.scene_core.specs.Scene.{SceneView, label_of, label_or}
 use Rattle.scene_text.specs.Places.{is_named}
-use Rattle.numbered_scenes.proofs.Lists.{some_is, within}
-use Rattle.numbered_scenes.proofs.NumbersInOrder.{equal}
-use Rattle.numbered_scenes.proofs.Scenes.{alone_in, found}
+use Rattle.scene_round_trip.proofs.NumberedLists.{some_is, within}
+use Rattle.scene_round_trip.proofs.NumbersInOrder.{equal}
+use Rattle.scene_round_trip.proofs.NumberedScenes.{alone_in, found}
 use Rattle.scene_round_trip.specs.Defaults.{LeftOutAreDefaults}
 use Rattle.scene_round_trip.specs.Labels.{LabelsAreDistinct}
 use Rattle.scene_round_trip.specs.Values.{WrittenNodesAreTyped}
 use Rattle.scene_round_trip.specs.Writable.{AreKeepable}
-use Rattle.written_nodes.specs.Braces.{written_name}
-use Rattle.written_nodes.specs.Flats.{IsFlatOf}
-use Rattle.written_nodes.specs.Nodes.{switch_root}
-use Rattle.written_fields.specs.Flats.{HasFieldsOf}
+use Rattle.written_scenes.specs.Braces.{written_name}
+use Rattle.written_scenes.specs.NodesFlats.{IsFlatOf}
+use Rattle.written_scenes.specs.Nodes.{switch_root}
+use Rattle.written_scenes.specs.FieldsFlats.{HasFieldsOf}
 use Rattle.scenes_again.specs.Sound.{AreOfType, AreSound}
 use Rattle.scenes_again.proofs.Next.{three}
 use Rattle.scenes_again.proofs.Numbered.{again_is, last_is, many, numbered_in_place}

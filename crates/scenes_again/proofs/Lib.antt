@@ -17,3 +17,10 @@ pub mod Room
 pub mod Steps
 pub mod Switches
 pub mod Whole
+pub mod Nodes
+pub mod Okay
+pub mod ExistOpening
+pub mod ExistPresent
+pub mod ExistReading
+pub mod Standing
+pub mod ExistWhole

@@ -13,8 +13,8 @@ use Rattle.scene_core.specs.Labels.{label_by}
 use Rattle.scene_core.specs.Parts.{given}
 use Rattle.scene_core.specs.Shape.{declared_by, numbered_fields}
 use Rattle.scene_core.specs.Typed.{declared_from, declared_value, field_value, values_from, values_of}
-use Rattle.numbered_scenes.proofs.Inner.{bind_is, scene_ok_is}
-use Rattle.numbered_scenes.proofs.Lists.{some_is}
+use Rattle.scene_round_trip.proofs.Inner.{bind_is, scene_ok_is}
+use Rattle.scene_round_trip.proofs.NumberedLists.{some_is}
 
 -- ---- one value for each item
 

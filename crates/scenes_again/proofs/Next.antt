@@ -25,18 +25,18 @@ use Rattle.scene_core.specs.Parts.{given, parts, parts_of}
 use Rattle.scene_core.specs.Scene.{SceneView, declared_at, rows_at, shape_of, types_of, value_at}
 use Rattle.scene_core.specs.Shape.{Shape, declaration_entry, declared_by, declared_entry, most_declared, numbered_fields, rows_of}
 use Rattle.scene_core.specs.Typed.{declared_value, field_value}
-use Rattle.numbered_scenes.specs.Again.{in_place}
-use Rattle.numbered_scenes.specs.Children.{children}
-use Rattle.numbered_scenes.proofs.Lists.{In, at_map, index_is, some_is, within}
-use Rattle.numbered_scenes.proofs.Lower.{inner}
-use Rattle.numbered_scenes.proofs.Scenes.{IsSceneOf, alone_in, found, numbers_of, scene_is}
+use Rattle.scene_round_trip.specs.Again.{in_place}
+use Rattle.scene_round_trip.specs.Children.{children}
+use Rattle.scene_round_trip.proofs.NumberedLists.{In, at_map, index_is, some_is, within}
+use Rattle.scene_round_trip.proofs.Lower.{inner}
+use Rattle.scene_round_trip.proofs.NumberedScenes.{IsSceneOf, alone_in, found, numbers_of, scene_is}
 use Rattle.scene_round_trip.specs.Defaults.{LeftOutAreDefaults}
 use Rattle.scene_round_trip.specs.Values.{WrittenNodesAreTyped}
 use Rattle.scene_round_trip.specs.Writable.{AreKeepable}
-use Rattle.written_nodes.specs.Flats.{IsFlatOf}
-use Rattle.written_nodes.specs.Nodes.{in_switch, switch_root, written_nodes, written_roots}
-use Rattle.written_fields.specs.Fields.{unless_default, value_now}
-use Rattle.written_fields.specs.Flats.{HasFieldsOf}
+use Rattle.written_scenes.specs.NodesFlats.{IsFlatOf}
+use Rattle.written_scenes.specs.Nodes.{in_switch, switch_root, written_nodes, written_roots}
+use Rattle.written_scenes.specs.Fields.{unless_default, value_now}
+use Rattle.written_scenes.specs.FieldsFlats.{HasFieldsOf}
 use Rattle.scenes_again.specs.Again.{switch_type}
 use Rattle.scenes_again.specs.Sound.{AreOfType, AreSound}
 use Rattle.scenes_again.proofs.Given.{declared_given, given_by, row_given}

@@ -22,18 +22,18 @@ use Rattle.scene_core.specs.Numbers.{numbering}
 use Rattle.scene_core.specs.Parts.{parts, parts_from, parts_of}
 use Rattle.scene_core.specs.Scene.{SceneView, declared_at}
 use Rattle.scene_core.specs.Shape.{declaration_entry, declared_by, declared_entry, most_declared, numbered_fields}
-use Rattle.numbered_scenes.specs.Again.{HaveChildren, in_place}
-use Rattle.numbered_scenes.specs.Children.{children}
-use Rattle.numbered_scenes.proofs.Again.{all_numbered_again, all_numbered_under_root}
-use Rattle.numbered_scenes.proofs.Lists.{some_is, within}
-use Rattle.numbered_scenes.proofs.Scenes.{found, numbers_of}
+use Rattle.scene_round_trip.specs.Again.{HaveChildren, in_place}
+use Rattle.scene_round_trip.specs.Children.{children}
+use Rattle.scene_round_trip.proofs.Again.{all_numbered_again, all_numbered_under_root}
+use Rattle.scene_round_trip.proofs.NumberedLists.{some_is, within}
+use Rattle.scene_round_trip.proofs.NumberedScenes.{found, numbers_of}
 use Rattle.scene_round_trip.specs.Writable.{AreKeepable}
-use Rattle.written_nodes.specs.Braces.{as_switch, written_as, written_name}
-use Rattle.written_nodes.specs.Flats.{IsFlatOf}
-use Rattle.written_nodes.specs.Nodes.{in_switch, switch_root}
-use Rattle.written_nodes.proofs.Plans.{type_is}
-use Rattle.written_fields.specs.Fields.{children_field, declared_signature, fields_by_type, value_now, written_fields, written_interface}
-use Rattle.written_fields.specs.Flats.{HasFieldsOf, node_fields, node_interface, switch_fields, switch_interface}
+use Rattle.written_scenes.specs.Braces.{as_switch, written_as, written_name}
+use Rattle.written_scenes.specs.NodesFlats.{IsFlatOf}
+use Rattle.written_scenes.specs.Nodes.{in_switch, switch_root}
+use Rattle.written_scenes.proofs.Plans.{type_is}
+use Rattle.written_scenes.specs.Fields.{children_field, declared_signature, fields_by_type, value_now, written_fields, written_interface}
+use Rattle.written_scenes.specs.FieldsFlats.{HasFieldsOf, node_fields, node_interface, switch_fields, switch_interface}
 use Rattle.scenes_again.specs.Sound.{AreOfType, AreSound}
 use Rattle.scenes_again.proofs.Given.{fields}
 use Rattle.scenes_again.proofs.Holding.{Holds}

@@ -15,7 +15,7 @@ use Rattle.scene_core.specs.Shape.{rows_of}
 use Rattle.scene_round_trip.specs.Values.{is_sound}
 use Rattle.scene_round_trip.specs.Writable.{is_sound_or_none}
 use Rattle.scene_round_trip.proofs.Scenes.{nodes_are_writable}
-use Rattle.numbered_scenes.proofs.Lists.{at_map}
+use Rattle.scene_round_trip.proofs.NumberedLists.{at_map}
 use Rattle.scenes_again.specs.Sound.{DocumentScenesAreSound, OpeningsAreOfType}
 use Rattle.scenes_again.proofs.Made.{value_in}
 use Rattle.scenes_again.proofs.Present.{given_at, value_by_node}

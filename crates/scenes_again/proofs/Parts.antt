@@ -23,8 +23,8 @@ use Rattle.scene_core.specs.Scene.{SceneView}
 use Rattle.scene_core.specs.Shape.{declaration_entry, declared_by, declared_entry, numbered_fields}
 use Rattle.scene_text.specs.Defaulted.{is_default}
 use Rattle.scene_text.specs.Raw.{color_run, integer_run, number_list, number_run, pair_run, string_list, truth_list, vector_run}
-use Rattle.numbered_scenes.proofs.Inner.{inner_if}
-use Rattle.written_fields.specs.Fields.{HeldField, declared_value, held_by, unless_default, value_now, written_field, written_value}
+use Rattle.scene_round_trip.proofs.Inner.{inner_if}
+use Rattle.written_scenes.specs.Fields.{HeldField, declared_value, held_by, unless_default, value_now, written_field, written_value}
 use Rattle.scenes_again.proofs.Given.{all_written, declared_given, declared_slots, fields, fields_are, given_by, held_from, row_given, row_slots, slots}
 use Rattle.scenes_again.proofs.Holding.{Holds}
 use Rattle.scenes_again.proofs.Places.{mapped_at}

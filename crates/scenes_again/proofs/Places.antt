@@ -4,7 +4,7 @@ use Rattle.std.specs.Prelude.{option_map}
 use Rattle.std.specs.List.{range_with_len}
 use Rattle.std.proofs.lemmas.Option.{slice_get-map}
 use Rattle.flat_laws.specs.Uses.{some}
-use Rattle.numbered_scenes.proofs.Lists.{some_is}
+use Rattle.scene_round_trip.proofs.NumberedLists.{some_is}
 use Rattle.scenes_again.proofs.Made.{front}
 
 abbrev some_of : {A : Type 0} → A → Option A

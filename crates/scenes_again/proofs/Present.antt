@@ -28,13 +28,13 @@ use Rattle.scene_core.specs.Parts.{given}
 use Rattle.scene_core.specs.Scene.{SceneView, declared_at, rows_at, shape_of, value_at}
 use Rattle.scene_core.specs.Shape.{Shape, declaration_entry, declared_by, declared_entry, is_rotation, most_declared, numbered_fields, rows_of}
 use Rattle.scene_text.specs.Tree.{kept_value}
-use Rattle.numbered_scenes.proofs.Lists.{at_map, some_is, within}
-use Rattle.numbered_scenes.proofs.Lower.{children_lower}
-use Rattle.numbered_scenes.proofs.Scenes.{IsSceneOf, alone_in, found, numbers_of, scene_is}
+use Rattle.scene_round_trip.proofs.NumberedLists.{at_map, some_is, within}
+use Rattle.scene_round_trip.proofs.Lower.{children_lower}
+use Rattle.scene_round_trip.proofs.NumberedScenes.{IsSceneOf, alone_in, found, numbers_of, scene_is}
 use Rattle.scene_round_trip.specs.Values.{is_sound}
 use Rattle.scene_round_trip.specs.Writable.{AreKeepable}
 use Rattle.scene_round_trip.proofs.Lists.{all_at, all_weaker}
-use Rattle.written_fields.specs.Fields.{value_now, without_routes}
+use Rattle.written_scenes.specs.Fields.{value_now, without_routes}
 use Rattle.scenes_again.specs.Sound.{AreOfType, AreSound}
 use Rattle.scenes_again.proofs.Holding.{Holds, declared_holds, declared_right, kept_holds, right, row_holds}
 use Rattle.scenes_again.proofs.Made.{IsNode, node_is, value_in}

@@ -22,11 +22,11 @@ use Rattle.scene_core.specs.Faults.{fault, ◌>>=◌}
 use Rattle.scene_core.specs.Shape.{declaration_entry, is_rotation}
 use Rattle.scene_core.specs.Typed.{accepted, accepted_in_range, declared_value, default_of, dropped_rotation, field_value, in_range, no_rotation, typed_value}
 use Rattle.scene_text.specs.Defaulted.{is_default}
-use Rattle.numbered_scenes.proofs.Inner.{bind_is, line_is, range_is, scene_ok_is}
+use Rattle.scene_round_trip.proofs.Inner.{bind_is, line_is, range_is, scene_ok_is}
 use Rattle.scene_values.specs.declared.fault.ValueFault.{ValueFault}
 use Rattle.scene_round_trip.specs.Defaults.{LeftOutAreDefaults}
 use Rattle.scene_round_trip.specs.Values.{WrittenNodesAreTyped, is_sound, placed}
-use Rattle.written_fields.specs.Fields.{unless_default, written_field, written_value}
+use Rattle.written_scenes.specs.Fields.{unless_default, written_field, written_value}
 use Rattle.scenes_again.proofs.Given.{given_by}
 use Rattle.scenes_again.proofs.Holding.{Holds, accepted_is, declared_holds, no_turn}
 

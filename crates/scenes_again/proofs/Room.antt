@@ -7,10 +7,10 @@ use Rattle.x3d_values.specs.declared.value.Value.{Value}
 use Rattle.x3d_values.specs.Ranges.{max_depth}
 use Rattle.scene_core.specs.declared.scene.SceneNode.{SceneNode}
 use Rattle.scene_core.specs.Deep.{deeper_than, leads_to, linked}
-use Rattle.numbered_scenes.specs.Children.{children}
-use Rattle.numbered_scenes.proofs.Scenes.{scene_is}
+use Rattle.scene_round_trip.specs.Children.{children}
+use Rattle.scene_round_trip.proofs.NumberedScenes.{scene_is}
 use Rattle.scene_round_trip.specs.Written.{has_room}
-use Rattle.written_nodes.specs.Nodes.{in_switch}
+use Rattle.written_scenes.specs.Nodes.{in_switch}
 use Rattle.scenes_again.specs.Room.{ScenesAgainHaveRoom}
 
 -- ---- tests

@@ -22,17 +22,17 @@ use Rattle.scene_core.specs.Parts.{given}
 use Rattle.scene_core.specs.Scene.{SceneView}
 use Rattle.scene_core.specs.Shape.{declared_by, most_declared}
 use Rattle.scene_core.specs.Typed.{default_of, field_value}
-use Rattle.numbered_scenes.proofs.Lists.{some_is}
-use Rattle.numbered_scenes.proofs.Scenes.{alone_in, found}
+use Rattle.scene_round_trip.proofs.NumberedLists.{some_is}
+use Rattle.scene_round_trip.proofs.NumberedScenes.{alone_in, found}
 use Rattle.scene_round_trip.specs.Defaults.{LeftOutAreDefaults}
 use Rattle.scene_round_trip.specs.Values.{WrittenNodesAreTyped, is_sound}
 use Rattle.scene_round_trip.specs.Writable.{AreKeepable}
 use Rattle.scene_round_trip.proofs.Lists.{all_weaker}
-use Rattle.written_nodes.specs.Flats.{IsFlatOf}
-use Rattle.written_nodes.specs.Nodes.{switch_root}
-use Rattle.written_nodes.proofs.Plans.{helpers_there}
-use Rattle.written_fields.specs.Fields.{children_field, switch_children}
-use Rattle.written_fields.specs.Flats.{HasFieldsOf}
+use Rattle.written_scenes.specs.NodesFlats.{IsFlatOf}
+use Rattle.written_scenes.specs.Nodes.{switch_root}
+use Rattle.written_scenes.proofs.Plans.{helpers_there}
+use Rattle.written_scenes.specs.Fields.{children_field, switch_children}
+use Rattle.written_scenes.specs.FieldsFlats.{HasFieldsOf}
 use Rattle.scenes_again.specs.Again.{IsSwitchOf, switch_value}
 use Rattle.scenes_again.specs.Sound.{AreOfType, AreSound}
 use Rattle.scenes_again.proofs.Made.{IsRowMade, value_in}

@@ -9,16 +9,16 @@ use Rattle.flat_laws.specs.Closings.{Braces, IsOfNode, Shown, closings, expected
 use Rattle.scene_core.specs.declared.scene.Route.{Route}
 use Rattle.scene_core.specs.Scene.{SceneView}
 use Rattle.scene_text.specs.Statements.{scene_document}
-use Rattle.numbered_scenes.proofs.Scenes.{found}
+use Rattle.scene_round_trip.proofs.NumberedScenes.{found}
 use Rattle.scene_round_trip.specs.Defaults.{LeftOutAreDefaults}
 use Rattle.scene_round_trip.specs.Headers.{HeadersAreKept}
 use Rattle.scene_round_trip.specs.Labels.{LabelsAreDistinct}
 use Rattle.scene_round_trip.specs.Values.{WrittenNodesAreTyped}
-use Rattle.written_nodes.specs.Braces.{WrittenNodesClose, as_switch, written_as, written_braces}
-use Rattle.written_nodes.specs.Flats.{WrittenNodesStay}
-use Rattle.written_nodes.proofs.Parts.{all_join}
-use Rattle.written_nodes.proofs.Plans.{type_is}
-use Rattle.written_fields.specs.Flats.{WrittenFieldsStay}
+use Rattle.written_scenes.specs.Braces.{WrittenNodesClose, as_switch, written_as, written_braces}
+use Rattle.written_scenes.specs.NodesFlats.{WrittenNodesStay}
+use Rattle.written_scenes.proofs.NodesParts.{all_join}
+use Rattle.written_scenes.proofs.Plans.{type_is}
+use Rattle.written_scenes.specs.FieldsFlats.{WrittenFieldsStay}
 use Rattle.scenes_again.specs.Again.{WrittenScenesAreAgain}
 use Rattle.scenes_again.proofs.Helpers.{none_helps}
 use Rattle.scenes_again.proofs.Labels.{next_labels}

@@ -14,11 +14,11 @@ use Rattle.scene_core.specs.Building.{scene_of}
 use Rattle.scene_core.specs.Scene.{SceneView, declared_at, label_of, name_at, number_of, rows_at, types_of, value_at}
 use Rattle.scene_core.specs.Typed.{default_of}
 use Rattle.scene_text.specs.Statements.{scene_document}
-use Rattle.numbered_scenes.specs.Children.{children}
+use Rattle.scene_round_trip.specs.Children.{children}
 use Rattle.scene_round_trip.specs.Writable.{AreKeepable}
-use Rattle.written_nodes.specs.Nodes.{written_nodes, written_roots}
-use Rattle.written_fields.specs.Distinct.{HaveDistinctFields}
-use Rattle.written_fields.specs.Fields.{switch_children, value_now}
+use Rattle.written_scenes.specs.Nodes.{written_nodes, written_roots}
+use Rattle.written_scenes.specs.Distinct.{HaveDistinctFields}
+use Rattle.written_scenes.specs.Fields.{switch_children, value_now}
 use Rattle.scenes_again.specs.Sound.{AreSound, AreOfType}
 
 -- helpers, where there are some, stand in one node more

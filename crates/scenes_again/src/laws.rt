@@ -9,8 +9,7 @@ ghost use Rattle.scenes_again.specs.Sound.{DocumentScenesAreSound, OpeningsAreOf
 use scene_round_trip::{
     fields_are_left_out, headers_are_kept, labels_are_distinct, values_are_typed,
 };
-use written_fields::written_fields_stay;
-use written_nodes::{written_nodes_close, written_nodes_stay};
+use written_scenes::{written_fields_stay, written_nodes_close, written_nodes_stay};
 use x3d_values::table_law;
 
 /// The scene of the flat form of a written scene, where there is one, is the scene.

@@ -10,7 +10,7 @@ use Rattle.script_host.specs.Pairs.{PairAt, PairsBelow}
 use Rattle.script_host.specs.States.{state_fault}
 use Rattle.script_host.specs.declared.fault.AttachFault.{AttachFault}
 use Rattle.script_host.specs.declared.fault.AttachFault.TheVariants.{UnknownScript, WrongCount, KindDiffers, InterfaceMismatch, StartMismatch, Memory}
-use Rattle.script_host.specs.declared.fault.StateFault.{StateFault}
+use Rattle.script_slots.specs.declared.fault.StateFault.{StateFault}
 use Rattle.script_boxes.specs.Boxes.{made, start_or_zeros, stock_for, zeros}
 use Rattle.script_boxes.specs.Refused.{no_start, scripts_fault, unfit_at, unfit_from, unknown_from}
 

@@ -7,7 +7,7 @@ use Rattle.x3d_values.specs.declared.script.Kind.TheVariants as kinds
 use Rattle.x3d_values.specs.declared.script.ScriptSpec.{ScriptSpec}
 use Rattle.script_host.specs.Hosting.{ScriptRecord, fresh_record}
 use Rattle.script_host.specs.States.{state_fault}
-use Rattle.script_host.specs.declared.fault.StateFault.{StateFault}
+use Rattle.script_slots.specs.declared.fault.StateFault.{StateFault}
 use Rattle.script_boxes.specs.declared.stock.StockScript.{StockScript}
 use Rattle.script_boxes.specs.declared.stock.StockScript.TheVariants as stock
 

@@ -6,7 +6,7 @@ use Rattle.x3d_values.specs.declared.script.ScriptSpec.{ScriptSpec}
 use Rattle.script_host.specs.States.{state_fault}
 use Rattle.script_host.specs.declared.fault.AttachFault.{AttachFault}
 use Rattle.script_host.specs.declared.fault.AttachFault.TheVariants.{UnknownScript, InterfaceMismatch, StartMismatch}
-use Rattle.script_host.specs.declared.fault.StateFault.{StateFault}
+use Rattle.script_slots.specs.declared.fault.StateFault.{StateFault}
 
 -- the script of number k is of no kind that is known
 abbrev pub unknown_at : ℕ → Option Kind → Option AttachFault

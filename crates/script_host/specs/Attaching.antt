@@ -1,5 +1,5 @@
 -- Which boxes a world takes for its scripts, and why it refuses others.
-use Rattle.std.specs.Prelude.{◌≡◌, ◌≢◌, ℕ, ◌<◌, List, length, slice_get, IsSomeAnd, Option, Some, None, true, false, ⊤}
+use Rattle.std.specs.Prelude.{◌≡◌, ◌≢◌, ℕ, List, length, slice_get, IsSomeAnd, Option, Some, None, true, false, ⊤}
 use Rattle.x3d_values.specs.declared.script.Kind.{Kind}
 use Rattle.x3d_values.specs.declared.script.ScriptSpec.{ScriptSpec}
 use Rattle.script_host.specs.declared.fault.AttachFault.{AttachFault}
@@ -7,11 +7,8 @@ use Rattle.script_host.specs.declared.fault.AttachFault.TheVariants.{UnknownScri
 use Rattle.script_host.specs.declared.fault.ReplaceFault.{ReplaceFault}
 use Rattle.script_host.specs.declared.fault.ReplaceFault.TheVariants as replace
 use Rattle.script_host.specs.Hosting.{ScriptRecord}
+pub use Rattle.script_slots.specs.Asked.{KnownBelow}
 use Rattle.script_host.specs.Pairs.{PairAt, PairsBelow}
-
--- the kinds of the first n scripts are known
-abbrev pub KnownBelow : List ScriptSpec → ℕ → Type 0
-KnownBelow specs n = (j : ℕ) → j < n → IsSomeAnd (slice_get specs j) (λ s. s.kind ≢ None)
 
 -- a box is what its script asks for: of its kind, for an interface that fits, in the state in which
 -- it starts

@@ -4,8 +4,7 @@ use Rattle.script_host.specs.declared.fault.AttachFault.{AttachFault}
 use Rattle.script_host.specs.declared.fault.AttachFault.TheVariants as attach
 use Rattle.script_host.specs.declared.fault.ReplaceFault.{ReplaceFault}
 use Rattle.script_host.specs.declared.fault.ReplaceFault.TheVariants as replace
-use Rattle.script_host.specs.declared.fault.StateFault.{StateFault}
-use Rattle.script_host.specs.declared.fault.StateFault.TheVariants as state
+pub use Rattle.script_slots.specs.Faults.{state_fault_name}
 
 abbrev pub attach_fault_name : AttachFault → List ℕ
 attach_fault_name (attach.UnknownScript k) = codes "UnknownScript"
@@ -19,8 +18,3 @@ abbrev pub replace_fault_name : ReplaceFault → List ℕ
 replace_fault_name replace.NoSuchScript = codes "NoSuchScript"
 replace_fault_name replace.KindDiffers = codes "KindDiffers"
 replace_fault_name replace.Memory = codes "Memory"
-
-abbrev pub state_fault_name : StateFault → List ℕ
-state_fault_name state.StateLength = codes "StateLength"
-state_fault_name state.StateRange = codes "StateRange"
-state_fault_name state.Memory = codes "Memory"

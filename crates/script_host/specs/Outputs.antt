@@ -4,7 +4,7 @@ use Rattle.std.specs.List.{list_all}
 use Rattle.x3d_values.specs.declared.script.Kind.{Kind}
 use Rattle.script_host.specs.Behaviour.{behave, Call}
 use Rattle.script_host.specs.Interface.{outputs}
-use Rattle.script_host.specs.declared.reply.Reply.{Reply}
+use Rattle.script_slots.specs.declared.reply.Reply.{Reply}
 
 -- all replies leave from outputs of the kind
 abbrev pub leave_by_outputs : Kind → List Reply → Bool

@@ -1,12 +1,12 @@
 //! Whether boxes are those that a world's scripts ask for.
 
-ghost use Rattle.std.specs.Prelude.{◌≡◌, ◌↔◌, length, map, slice_get, IsSomeAnd, IsTrue, IfErr, IfOk, IsOkUnless, OnOk, MatchOption, Some, None};
+ghost use Rattle.std.specs.Prelude.{◌≡◌, ◌↔◌, length, map, IsTrue, IfErr, IfOk, IsOkUnless, OnOk, MatchOption, Some, None};
 ghost use Rattle.script_host.specs.Attaching.{KnownBelow, Meets, IsMismatch, Fits, Refuses};
 ghost use Rattle.script_host.specs.Hosting.{fresh_record};
 ghost use Rattle.script_host.specs.declared.fault.AttachFault.TheVariants.{Memory};
 
-use crate::behaviour::Behaviour;
 use crate::fault::AttachFault;
+use script_slots::{Behaviour, are_as_many, first_unknown, starts_in};
 use std::alloc::{AllocError, Global};
 use x3d_values::{Kind, ScriptSpec};
 
@@ -26,7 +26,7 @@ pub fn check<B: Behaviour>(
     if let Some(k) = first_unknown(specs) {
         return Err(AttachFault::UnknownScript(k));
     }
-    if specs.len() != boxes.len() {
+    if !are_as_many(specs, boxes.len()) {
         return Err(AttachFault::WrongCount);
     }
     if let Some(fault) = first_mismatch(alloc, specs, boxes)? {
@@ -35,30 +35,10 @@ pub fn check<B: Behaviour>(
     Ok(())
 }
 
-/// The first script whose kind is not known.
-fn first_unknown(specs: &[ScriptSpec]) -> Option<usize>
-    ensures { MatchOption result
-        (KnownBelow specs.now (length specs.now))
-        (λ k. KnownBelow specs.now k × IsSomeAnd (slice_get specs.now k) (λ s. s.kind ≡ None)) }
-{
-    for (k, spec) in specs.iter().enumerate() {
-        if spec.kind.is_none() {
-            return Some(k);
-        }
-    }
-    None
-}
-
 fn is_of_kind(spec: &ScriptSpec, kind: Kind) -> bool
     ensures { IsTrue result ↔ (spec.now.kind ≡ Some kind) }
 {
     spec.kind == Some(kind)
-}
-
-fn starts_in(spec: &ScriptSpec, state: &[i64]) -> bool
-    ensures { IsTrue result ↔ (state.now ≡ spec.now.start) }
-{
-    state == spec.start.as_slice()
 }
 
 /// Why the box at place `k` isn't what its script asks for. `state` is room to work in.

@@ -1,45 +1,13 @@
 //! What is refused, and why.
 
 ghost use Rattle.std.specs.Prelude.{◌≡◌};
-ghost use Rattle.script_host.specs.Faults.{attach_fault_name, replace_fault_name, state_fault_name};
-ghost use Rattle.script_host.specs.declared.fault.StateFault.TheVariants as state;
+ghost use Rattle.script_host.specs.Faults.{attach_fault_name, replace_fault_name};
 ghost use Rattle.script_host.specs.declared.fault.AttachFault.TheVariants as attach;
 ghost use Rattle.script_host.specs.declared.fault.ReplaceFault.TheVariants as replace;
 
 use std::alloc::{AllocError, AllocFailed};
 use std::fmt;
 use thiserror::Error;
-
-/// Why a list of numbers is no state of a script. The first that holds is told.
-#[derive(Clone, Copy, Debug, PartialEq, Eq, Error)]
-pub enum StateFault {
-    #[error("the state has another length")]
-    StateLength,
-    #[error("a number of the state is out of range")]
-    StateRange,
-    #[error("memory was refused")]
-    Memory,
-}
-
-impl StateFault {
-    pub fn name(self) -> &'static str
-        ensures { result.now ≡ state_fault_name self }
-    {
-        match self {
-            StateFault::StateLength => "StateLength",
-            StateFault::StateRange => "StateRange",
-            StateFault::Memory => "Memory",
-        }
-    }
-}
-
-impl From<AllocError> for StateFault {
-    ghost from_gives = { λ _ fault. fault ≡ state.Memory };
-
-    fn from(_refused: AllocError) -> StateFault {
-        StateFault::Memory
-    }
-}
 
 /// Why boxes are not those of a world's scripts. Scripts of unknown kinds come first, then the
 /// number of boxes, then the first box that isn't what its script asks for, with its place from 0.

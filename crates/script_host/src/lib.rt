@@ -4,21 +4,16 @@
 #![tactic(auto)]
 
 mod attach;
-mod behaviour;
-mod boxed;
 mod event;
 mod fault;
 mod kinds;
 mod laws;
-mod reply;
 mod restore;
 mod scripts;
-mod slot;
 
-pub use behaviour::Behaviour;
 pub use event::takes_event;
-pub use fault::{AttachFault, ReplaceFault, StateFault};
+pub use fault::{AttachFault, ReplaceFault};
 pub use kinds::{inputs, interface, kind_named, outputs};
 pub use laws::outputs_law;
-pub use reply::{MAX_REPLIES, Replies, Reply};
+pub use script_slots::{Behaviour, MAX_REPLIES, Replies, Reply, StateFault};
 pub use scripts::Scripts;

@@ -3,9 +3,7 @@
 ghost use Rattle.std.specs.Prelude.{◌≡◌, ℕ, length, take, OnOk, OnErr, IfErr};
 ghost use Rattle.script_host.specs.Restoring.{AreStates, IsFirstFault, with_states};
 
-use crate::behaviour::Behaviour;
-use crate::fault::StateFault;
-use crate::slot::Slot;
+use script_slots::{Behaviour, Slot, StateFault};
 use std::alloc::AllocError;
 use x3d_values::Items;
 

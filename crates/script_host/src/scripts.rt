@@ -9,11 +9,9 @@ ghost use Rattle.script_host.specs.Pairs.{PairsBelow};
 ghost use Rattle.script_host.specs.Restoring.{AreStates, IsStateOf, RefusesStates, with_states};
 ghost use Rattle.script_host.specs.declared.fault.AttachFault.TheVariants.{Memory};
 
-use crate::behaviour::Behaviour;
-use crate::fault::{AttachFault, ReplaceFault, StateFault};
-use crate::reply::Replies;
-use crate::slot::Slot;
+use crate::fault::{AttachFault, ReplaceFault};
 use crate::{attach, restore};
+use script_slots::{Behaviour, Replies, Slot, StateFault, receive_at};
 use std::alloc::{AllocError, Global};
 use std::marker::Model;
 use x3d_values::{Items, Kind, ScriptSpec};
@@ -34,6 +32,20 @@ impl<B: Behaviour> Model for Scripts<B> {
     ghost Value = { List ScriptRecord };
 
     ghost view = { λ s. s.slots.items };
+}
+
+/// Puts a box of the same kind in the place of this one, in its state.
+fn put_in<B: Behaviour>(slot: &mut Slot<B>, alloc: Global, script: B) -> Result<(), ReplaceFault>
+    ensures same { slot.new ≡ slot.old }
+    ensures ok { OnOk result (B.kind_of script ≡ slot.old.kind) }
+    ensures refused { IfErr result (λ fault.
+        RefusesPlace fault (Some slot.old) (B.kind_of script)) }
+{
+    if script.kind() != slot.kind() {
+        return Err(ReplaceFault::KindDiffers);
+    }
+    slot.take(alloc, script)?;
+    Ok(())
 }
 
 impl<B: Behaviour> Scripts<B> {
@@ -106,7 +118,7 @@ impl<B: Behaviour> Scripts<B> {
         requires fits { TakesAt k input event self.old }
         ensures { CalledAt (Receive input event) k self.old self.new result.items }
     {
-        self.slots[k].receive(input, event)
+        receive_at(self.slots.as_mut_slice(), k, input, event)
     }
 
     /// The events of a timestamp were received.
@@ -172,7 +184,7 @@ impl<B: Behaviour> Scripts<B> {
         if k >= self.slots.len() {
             return Err(ReplaceFault::NoSuchScript);
         }
-        self.slots[k].replace(alloc, script)
+        put_in(&mut self.slots[k], alloc, script)
     }
 
     /// Shuts down what counts as initialized, in order, and then drops the boxes.

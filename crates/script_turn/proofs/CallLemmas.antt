@@ -4,7 +4,7 @@ use Rattle.std.proofs.lemmas.Bool.{ltb-true, le-ltb}
 use Rattle.x3d_values.specs.declared.value.Value.TheVariants.{SFBool, SFInt32, SFFloat, SFTime, SFVec3f}
 use Rattle.script_host.specs.Behaviour.{Call}
 use Rattle.script_host.specs.Hosting.{CalledAt, ScriptRecord, after_call, answer_of}
-use Rattle.script_host.specs.declared.reply.Reply.{Reply}
+use Rattle.script_slots.specs.declared.reply.Reply.{Reply}
 use Rattle.script_host.specs.States.{integer_fits}
 use Rattle.script_turn.specs.Acting.{act, acting, kinds_of}
 use Rattle.script_turn.specs.Laws.{KindsStand, ValuesReturn}

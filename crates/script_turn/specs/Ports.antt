@@ -10,7 +10,7 @@ use Rattle.x3d_values.specs.declared.value.Value.TheVariants.{SFBool}
 use Rattle.x3d_values.specs.Tables.{Entry}
 use Rattle.x3d_values.specs.Values.{type_of}
 use Rattle.react_core.specs.declared.outbox.Reply as node
-use Rattle.script_host.specs.declared.reply.Reply.{Reply}
+use Rattle.script_slots.specs.declared.reply.Reply.{Reply}
 use Rattle.script_host.specs.Behaviour.{Call, Receive}
 use Rattle.script_host.specs.Events.{takes_event}
 use Rattle.script_host.specs.Interface.{inputs, outputs}

@@ -1,6 +1,6 @@
 -- What a TimeSensor does when the clock ticks (ISO/IEC 19775-1, time component; the last fraction
 -- and the clamped elapsed time are our choice).
-use Rattle.std.specs.Prelude.{ℕ, ℤ, pos, ◌+ℤ◌, int_lt, int_le, unsigned_abs, Bool, true, false, not, ◌&&◌, ◌||◌, List, [], ◌∷◌, ◌++◌, Option, Some, None, if◌then◌else◌}
+use Rattle.std.specs.Prelude.{◌≡◌, IsTrue, ℕ, ℤ, pos, ◌+ℤ◌, int_lt, int_le, unsigned_abs, Bool, true, false, not, ◌&&◌, ◌||◌, List, [], ◌∷◌, ◌++◌, Option, Some, None, if◌then◌else◌}
 use Rattle.x3d_values.specs.declared.value.Value.TheVariants.{SFBool, SFFloat, SFTime}
 use Rattle.react_core.specs.declared.outbox.Reply.{Reply}
 use Rattle.react_core.specs.Reaction.{reply}
@@ -99,3 +99,8 @@ tick_active timing cycle t (Some x) = ends timing x t
 unfoldable pub tick : Option ℕ → Timing → ℤ → Tick
 tick None timing t = tick_inactive timing t
 tick (Some cycle) timing t = tick_active timing cycle t (last_place timing cycle t)
+
+-- a stop doesn't count before the end of the only cycle: the sensor then stands at that end
+abbrev pub EndWinsOverStop : Type 0
+EndWinsOverStop = (timing : Timing) (cycle : ℕ) (t : ℤ) → IsTrue (is_over timing cycle t)
+    → last_place timing cycle t ≡ Some (end_of timing cycle)

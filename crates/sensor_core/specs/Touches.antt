@@ -1,6 +1,6 @@
 -- What a TouchSensor does with the pointers of several viewers (ISO/IEC 19775-1, pointing device
 -- sensor component; what concerns more than one viewer is our choice).
-use Rattle.std.specs.Prelude.{ℕ, ◌==◌, ℤ, Bool, true, false, not, is_some, is_none, ◌&&◌, ◌||◌, List, [], ◌∷◌, ◌++◌, slice_set, replicate, Option, Some, None, if◌then◌else◌}
+use Rattle.std.specs.Prelude.{◌≡◌, ℕ, ◌==◌, IsFalse, ℤ, Bool, true, false, not, is_some, is_none, ◌&&◌, ◌||◌, List, [], ◌∷◌, ◌++◌, slice_set, replicate, Option, Some, None, if◌then◌else◌}
 use Rattle.std.specs.List.{list_any}
 use Rattle.std.specs.Option.{option_map_or}
 use Rattle.x3d_values.specs.declared.ranges.TheConstants.{MAX_VIEWERS}
@@ -113,3 +113,10 @@ disable touch = record {
       (if is_over touch then reply IS_OVER (SFBool false) ∷ [] else [])
       ++ (if is_some touch.presser then reply IS_PRESSED (SFBool false) ∷ [] else []);
 }
+
+-- ---- who lets go
+
+-- a viewer that presses does so still after the pointer of any other
+abbrev pub OneReleases : Type 0
+OneReleases = (touch : Touch) (pointed : Pointed) (who : ℕ) → touch.presser ≡ Some who
+    → IsFalse (who == pointed.who) → presser_after touch pointed ≡ Some who

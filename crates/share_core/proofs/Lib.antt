@@ -1,4 +1,5 @@
 pub mod Rings
+pub mod Turns
 pub mod Windows
 pub mod Numbering
 pub mod Offers

@@ -14,10 +14,8 @@ use crate::window::Window;
 use cascade_core::{ApplyFault, Stage};
 use script_host::Behaviour;
 use share_law::{TakeFault, Taken};
+use share_rules::place_of;
 use x3d_values::Stamped;
-
-/// How many inputs ahead are kept.
-const AHEAD: u32 = 64;
 
 /// Applies the next input, if it came.
 fn apply_next<B: Behaviour>(stage: &mut Stage<B>, window: &mut Window) -> Result<bool, TakeFault>
@@ -98,10 +96,9 @@ pub(crate) fn take_input<B: Behaviour>(
     if number <= applied {
         return Ok(Taken::Old);
     }
-    let place = number - applied - 1;
-    if place >= AHEAD {
+    let Some(place) = place_of(applied, number) else {
         return Ok(Taken::Beyond);
-    }
+    };
     window.keep(place as usize, input);
     apply_ready(stage, window)
 }

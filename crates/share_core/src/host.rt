@@ -7,6 +7,7 @@ ghost use Rattle.share_core.specs.Steps.{reply_before};
 use crate::inputs::Inputs;
 use arrayvec::ArrayVec;
 use share_law::{HostFault, HostReply, Kept, NumberFault};
+use share_rules::{Turn, span_of, turn_of};
 use share_wire::{Ack, Ask, Body, Message, Offer, Packet, decode, encode};
 use std::alloc::Global;
 use std::marker::Model;
@@ -47,14 +48,11 @@ fn reply_before(kept: Kept, offer: Offer) -> Option<HostReply>
     ensures { result ≡ reply_before kept offer }
 {
     let count = count_for(kept, offer.boot());
-    if offer.boot() < kept.boot {
-        Some(HostReply::OldBoot)
-    } else if offer.number() <= count {
-        Some(HostReply::Repeat)
-    } else if offer.number() - 1 > count {
-        Some(HostReply::Ahead)
-    } else {
-        None
+    match turn_of(kept.boot, count, offer.boot(), offer.number()) {
+        Turn::OldBoot => Some(HostReply::OldBoot),
+        Turn::Repeat => Some(HostReply::Repeat),
+        Turn::Ahead => Some(HostReply::Ahead),
+        Turn::Next => None,
     }
 }
 
@@ -216,9 +214,10 @@ impl Host {
         if ask.next() > count {
             return Ok(HostReply::NothingToDo);
         }
+        let span = span_of(ask.next(), count);
         Ok(HostReply::Asked {
-            first: ask.next(),
-            count: (count + 1 - ask.next()).min(64),
+            first: span.first,
+            count: span.count,
         })
     }
 

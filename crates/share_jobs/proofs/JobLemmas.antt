@@ -14,7 +14,7 @@ use Rattle.x3d_values.specs.declared.stamped.Event.TheVariants.{Clock, Pointer}
 use Rattle.share_jobs.specs.Points.{pointed}
 use Rattle.share_jobs.specs.declared.fault.JobFault.{JobFault}
 use Rattle.share_jobs.specs.declared.fault.JobFault.TheVariants.{BadJob}
-use Rattle.share_jobs.specs.Lines.{first_line, behind_line}
+use Rattle.share_rules.specs.Lines.{first_line, behind_line}
 use Rattle.cascade_core.specs.InTurn.{Follow, AreInTurn}
 use Rattle.share_jobs.specs.Job.{Lined, asked, input_at, last_time, is_taken, clock_time, next_input, with_line, with_scene}
 use Rattle.share_jobs.specs.Job.{is_scene, behind_lines, job_lines}

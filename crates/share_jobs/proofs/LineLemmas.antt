@@ -8,7 +8,7 @@ use Rattle.std.proofs.lemmas.List.{drop_all}
 use Rattle.std.proofs.Math.Seq.{drop-nil}
 use Rattle.std.proofs.lemmas.List.Splits.{slice_split_first, join_with_byte-slice_split}
 use Rattle.std.proofs.lemmas.List.Sums.{prefix_len-le-length}
-use Rattle.share_jobs.specs.Lines.{is_lf, first_line, behind_line}
+use Rattle.share_rules.specs.Lines.{is_lf, first_line, behind_line}
 
 -- a list is cut into one part at least
 record HasParts {A : Type 0} (parts : List (List A)) : Type 0 where

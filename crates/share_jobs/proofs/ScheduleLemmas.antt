@@ -9,7 +9,7 @@ use Rattle.share_law.specs.declared.step.Step.{Step}
 use Rattle.share_jobs.specs.declared.fault.JobFault.{JobFault}
 use Rattle.share_jobs.specs.declared.fault.JobFault.TheVariants.{BadJob}
 use Rattle.share_jobs.specs.declared.schedule.Schedule.{Schedule}
-use Rattle.share_jobs.specs.Lines.{first_line, behind_line}
+use Rattle.share_rules.specs.Lines.{first_line, behind_line}
 use Rattle.share_jobs.specs.Job.{is_scene, behind_lines}
 use Rattle.share_jobs.specs.Schedule.{step_of, steps_of, with_step, with_bytes, line_behind, schedule_lines, EachIsStep, IsSchedule}
 use Rattle.share_jobs.proofs.LineLemmas.{cut}

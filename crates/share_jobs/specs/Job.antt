@@ -15,7 +15,7 @@ use Rattle.x3d_values.specs.declared.stamped.Event.{Event}
 use Rattle.x3d_values.specs.declared.stamped.Event.TheVariants.{Clock, Pointer}
 use Rattle.share_jobs.specs.declared.fault.JobFault.{JobFault}
 use Rattle.share_jobs.specs.declared.fault.JobFault.TheVariants.{BadJob}
-use Rattle.share_jobs.specs.Lines.{is_lf}
+use Rattle.share_rules.specs.Lines.{is_lf}
 use Rattle.share_jobs.specs.Points.{IsPoint, pointed}
 
 -- ---- a step

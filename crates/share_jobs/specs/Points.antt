@@ -1,7 +1,6 @@
 -- A line `point V D ox oy oz dx dy dz` of a job: a viewer, whether its button is down, and the
 -- origin and the direction of its ray (our choice).
-use Rattle.std.specs.Prelude.{◌≡◌, ℕ, ◌/◌, ◌==◌, nat_lt, ℤ, pos, negsuc, Bool, true, List, ◌∷◌, ◌++◌, drop, take, codes, Option, Some, None, if◌then◌else◌}
-use Rattle.std.specs.List.{after_first, before_first}
+use Rattle.std.specs.Prelude.{◌≡◌, ℕ, ◌/◌, ◌==◌, nat_lt, ℤ, pos, negsuc, true, List, ◌∷◌, ◌++◌, drop, take, codes, Option, Some, None, if◌then◌else◌}
 use Rattle.std.specs.Result.{result_ok}
 use Rattle.std.specs.Str.{bytes_eq}
 use Rattle.x3d_numerals.specs.Numeral.{IsNumeral}
@@ -9,19 +8,8 @@ use Rattle.x3d_numerals.specs.Reading.{is_digits, numeral}
 use Rattle.x3d_values.specs.Pointing.{Pointing, Sight, is_ray}
 use Rattle.x3d_values.specs.Ranges.{is_viewer, max_viewers}
 use Rattle.x3d_values.specs.declared.vector.Vec3.{Vec3}
-
--- ---- words
-
-abbrev pub is_space : ℕ → Bool
-is_space b = b == 32
-
--- what stands before the first space, or the whole text
-unfoldable pub word : List ℕ → List ℕ
-word text = before_first is_space text
-
--- what stands behind the first space, or nothing
-unfoldable pub behind : List ℕ → List ℕ
-behind text = after_first is_space text
+pub use Rattle.share_rules.specs.Words.{is_space}
+unfoldable pub use Rattle.share_rules.specs.Words.{word, behind}
 
 -- ---- numbers
 

@@ -10,8 +10,8 @@ ghost use Rattle.share_jobs.specs.declared.fault.JobFault.TheVariants.{Memory};
 
 use crate::fault::JobFault;
 use crate::inputs::Inputs;
-use crate::line::cut_line;
 use crate::point::pointed;
+use share_rules::cut_line;
 use std::alloc::Global;
 use x3d_lists::Items;
 use x3d_numerals::millionths;

@@ -5,7 +5,6 @@ mod fault;
 mod inputs;
 mod job;
 mod laws;
-mod line;
 mod point;
 mod schedule;
 mod step;

@@ -3,7 +3,8 @@
 ghost use Rattle.std.specs.Prelude.{◌≡◌, IsTrue};
 ghost use Rattle.share_jobs.specs.Points as spec;
 
-use crate::word::{cut_word, number_below};
+use crate::word::number_below;
+use share_rules::cut_word;
 use x3d_numerals::millionths;
 use x3d_values::{MAX_VIEWERS, Pointer, Ray, Vec3};
 

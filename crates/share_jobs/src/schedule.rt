@@ -7,9 +7,9 @@ ghost use Rattle.share_jobs.specs.declared.fault.JobFault.TheVariants.{Memory};
 
 use crate::fault::JobFault;
 use crate::job::is_scene;
-use crate::line::cut_line;
 use crate::step::step_of;
 use share_law::Step;
+use share_rules::cut_line;
 use std::alloc::Global;
 use x3d_lists::Items;
 

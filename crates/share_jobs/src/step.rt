@@ -5,8 +5,9 @@ ghost use Rattle.std.specs.Str.{bytes_eq};
 ghost use Rattle.share_jobs.specs.Schedule as spec;
 
 use crate::point::{last_vector, vector_of};
-use crate::word::{cut_word, number, number_below};
+use crate::word::{number, number_below};
 use share_law::Step;
+use share_rules::cut_word;
 use x3d_numerals::millionths;
 use x3d_values::Point;
 

@@ -1,39 +1,14 @@
-//! The words of a line, and the numbers that they write.
+//! The numbers that words write.
 
-ghost use Rattle.std.specs.Prelude.{◌≡◌, ◌≤◌, ◌<◌, length, IfSome};
-ghost use Rattle.std.specs.List.{position_or_len};
+ghost use Rattle.std.specs.Prelude.{◌≡◌, ◌<◌, IfSome};
 ghost use Rattle.x3d_numerals.specs.Reading.{is_digits as are_digits, run};
 ghost use Rattle.share_jobs.specs.Points as spec;
 ghost use Rattle.share_jobs.specs.Schedule.{number};
 
 use x3d_numerals::millionths;
 
-const SPACE: u8 = b' ';
-
 /// The numbers of a schedule are below this.
 const ALL_NUMBERS: u64 = 1 << 32;
-
-/// How many bytes stand before the first space, or in the whole text.
-fn word_len(text: &[u8]) -> usize
-    ensures value { result ≡ position_or_len spec.is_space text.now }
-    ensures within { result ≤ length text.now }
-{
-    text.iter().take_while(|byte| **byte != SPACE).count()
-}
-
-/// The first word of a text, and what stands behind the space that ends it, if one does.
-#[tactic(auto, unfolding(crate::specs::Points::word, crate::specs::Points::behind))]
-pub fn cut_word(text: &[u8]) -> (&[u8], &[u8])
-    ensures word { result.0.now ≡ spec.word text.now }
-    ensures behind { result.1.now ≡ spec.behind text.now }
-{
-    let len = word_len(text);
-    if len < text.len() {
-        (&text[..len], &text[len + 1..])
-    } else {
-        (text, &text[text.len()..])
-    }
-}
 
 /// How many digits the text begins with.
 fn digits_len(text: &[u8]) -> usize

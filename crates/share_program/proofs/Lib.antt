@@ -1,2 +1,1 @@
-pub mod Attached
 mod Refusals

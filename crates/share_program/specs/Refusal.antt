@@ -15,32 +15,15 @@ use Rattle.route_core.specs.FaultName.{fault_name as route_fault_name}
 use Rattle.script_host.specs.declared.fault.AttachFault.{AttachFault}
 use Rattle.script_host.specs.declared.fault.AttachFault.TheVariants as attach
 use Rattle.script_host.specs.Faults.{attach_fault_name}
-use Rattle.share_program.specs.declared.stream.StreamFault.{StreamFault}
-use Rattle.share_program.specs.declared.stream.StreamFault.TheVariants as stream
 use Rattle.share_words.specs.declared.order.OrderFault.TheVariants as order
 use Rattle.share_jobs.specs.declared.fault.JobFault.{JobFault}
 use Rattle.share_jobs.specs.declared.fault.JobFault.TheVariants as job
-use Rattle.share_program.specs.declared.fault.RunFault.{RunFault}
-use Rattle.share_program.specs.declared.fault.RunFault.TheVariants as run
+use Rattle.share_ends.specs.declared.fault.RunFault.{RunFault}
+use Rattle.share_ends.specs.declared.fault.RunFault.TheVariants as run
 use Rattle.share_program.specs.declared.fault.ShareFault.{ShareFault}
 use Rattle.share_program.specs.declared.fault.ShareFault.TheVariants as share
 use Rattle.share_program.specs.declared.refusal.Failure.{Failure}
 use Rattle.share_program.specs.declared.refusal.Failure.TheVariants.{Order, Job, Run, Share}
-
--- ---- what a fault of reading or writing is to a job and to its run
-
-abbrev pub job_fault_of : StreamFault → JobFault
-job_fault_of stream.Device = job.Device
-job_fault_of stream.Memory = job.Memory
-
-abbrev pub run_fault_of : StreamFault → RunFault
-run_fault_of stream.Device = run.Device
-run_fault_of stream.Memory = run.Memory
-
--- the fault of boxes as one of a run: want of memory is the run's own
-abbrev pub run_fault_of_boxes : AttachFault → RunFault
-run_fault_of_boxes attach.Memory = run.Memory
-run_fault_of_boxes fault = run.Attach fault
 
 -- ---- statuses: 1 for scenes and scripts, 2 for words and jobs, 3 for turns that are used up, 4
 -- for devices, 5 for memory

@@ -1,27 +1,21 @@
 -- What a job's run writes.
-use Rattle.std.specs.Prelude.{◌≡◌, ◌⊎◌, ⊤, ℕ, ◌++◌, List, Option, Some, None, Result, Ok, Err}
+use Rattle.std.specs.Prelude.{◌≡◌, ◌⊎◌, ℕ, List, Option, Some, None, Result, Ok, Err}
 use Rattle.std.specs.Io.KnownBytes.{Appends, Consumes, IsAtEnd, Keeps}
 use Rattle.cascade_core.specs.Apply.{world}
-use Rattle.cascade_core.specs.Texts.{trace_text, scene_text}
-use Rattle.cascade_core.specs.Course.{Scripted}
-use Rattle.scene_core.specs.declared.scene.Route.{Route}
-use Rattle.scene_core.specs.Scene.{SceneView}
 use Rattle.scene_scripts.specs.Scripts.{script_list}
 use Rattle.script_boxes.specs.Refused.{scripts_fault}
-use Rattle.script_host.specs.Attaching.{Fits, Refuses}
+use Rattle.script_host.specs.Attaching.{Fits}
 use Rattle.script_host.specs.Hosting.{ScriptRecord}
 use Rattle.script_host.specs.declared.fault.AttachFault.{AttachFault}
-use Rattle.script_host.specs.declared.fault.AttachFault.TheVariants as attach
 use Rattle.share_jobs.specs.declared.fault.JobFault.{JobFault}
-use Rattle.share_program.specs.declared.fault.RunFault.{RunFault}
-use Rattle.share_program.specs.declared.fault.RunFault.TheVariants as run_fault
+use Rattle.share_ends.specs.declared.fault.RunFault.{RunFault}
+use Rattle.share_ends.specs.declared.fault.RunFault.TheVariants as run_fault
+use Rattle.share_ends.specs.Boxes.{RefusesBoxes}
+use Rattle.share_ends.specs.Texts.{texts}
 use Rattle.share_program.specs.declared.open.Job.{Job}
 use Rattle.share_program.specs.declared.refusal.Failure.{Failure}
 use Rattle.share_program.specs.declared.refusal.Failure.TheVariants as failure
 use Rattle.share_program.specs.Opening.{opened_job, IsDeviceOrMemory, IsNoJob}
-
-abbrev pub texts : SceneView → List Route → Scripted → List ℕ
-texts scene routes w = trace_text scene w ++ scene_text scene routes w
 
 -- the trace and then the scene of the world of the job's scene after its inputs
 unfoldable pub run_text : Job → List ℕ
@@ -32,17 +26,6 @@ run_text job = texts job.scene job.routes (world job.scene job.routes job.inputs
 -- the boxes are those that the scripts of the job's scene ask for
 abbrev pub FitsJob : Job → List ScriptRecord → Type 0
 FitsJob job boxes = Fits (script_list job.scene) boxes
-
--- they aren't, for this reason; want of memory is none
-abbrev pub RefusesBoxes : AttachFault → SceneView → List ScriptRecord → Type 0
-RefusesBoxes attach.Memory scene boxes = ⊥
-RefusesBoxes fault scene boxes = Refuses fault (script_list scene) boxes
-
--- why boxes are not attached
-abbrev pub IsRefused : SceneView → List ScriptRecord → RunFault → Type 0
-IsRefused scene boxes (run_fault.Attach fault) = RefusesBoxes fault scene boxes
-IsRefused scene boxes run_fault.Memory = ⊤
-IsRefused scene boxes run_fault.Device = ⊥
 
 -- why a run with these boxes ended early: they aren't those that the scene's scripts ask for, or
 -- memory was refused, and nothing was written; or they are, and the writer's device failed

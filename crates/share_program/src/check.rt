@@ -6,8 +6,8 @@ ghost use Rattle.share_program.specs.Opening.{IsDeviceOrMemory};
 ghost use Rattle.share_program.specs.declared.open.Opened.{Opened as OpenedOf};
 
 use crate::open::{Opened, open_scene};
-use crate::stream::{read_whole, write_whole};
 use itoa::Buffer;
+use share_ends::{read_whole, write_made};
 use share_jobs::JobFault;
 use std::alloc::{AllocError, Global};
 use std::io::{Read, Write};
@@ -26,9 +26,7 @@ pub fn check_text<R: Read, W: Write>(
     ensures nothing { IfErr result (IsUnchecked (R.remaining reader.old) (R.remaining reader.new)
         (W.contents writer.old) (W.contents writer.new)) }
 {
-    let line = read_counts(alloc, reader)?;
-    write_whole(writer, line.as_slice())?;
-    Ok(())
+    write_made(writer, read_counts(alloc, reader))
 }
 
 /// The line that tells of the scene that a reader has left.

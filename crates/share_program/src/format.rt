@@ -8,10 +8,10 @@ ghost use Rattle.classic_round_trip.specs.AnyLength.{SpellsAtAnyLength};
 ghost use Rattle.share_program.specs.Formatting.{IsRead, IsNoText, IsFormatted, IsUnwritten};
 ghost use Rattle.share_program.specs.Opening.{IsDeviceOrMemory};
 
-use crate::stream::{read_whole, write_whole};
 use classic_round_trip::{spellable_documents_are_written, spelled_documents_are_spellable, write};
 use classic_text::read;
 use classic_tree::Document;
+use share_ends::{read_whole, write_made};
 use share_jobs::JobFault;
 use std::alloc::{AllocError, Global};
 use std::io::{Read, Write};
@@ -30,9 +30,7 @@ pub fn format_text<R: Read, W: Write>(
     ensures nothing { IfErr result (IsUnwritten (R.remaining reader.old) (R.remaining reader.new)
         (W.contents writer.old) (W.contents writer.new)) }
 {
-    let text = read_text(alloc, reader)?;
-    write_whole(writer, text.as_slice())?;
-    Ok(())
+    write_made(writer, read_text(alloc, reader))
 }
 
 /// The text of the document that a reader has left.

@@ -1,5 +1,4 @@
-//! The program's calls: its input and output, a job's scene and its run, and what a refusal
-//! prints.
+//! The program's calls: a job's scene and its run, and what a refusal prints.
 #![tactic(auto)]
 
 mod check;
@@ -8,13 +7,12 @@ mod format;
 mod open;
 mod refusal;
 mod runs;
-mod stream;
 
 pub use check::check_text;
-pub use fault::{RunFault, ShareFault};
+pub use fault::ShareFault;
 pub use format::format_text;
 pub use open::{Job, Opened, open_job, open_scene, read_job, read_schedule};
 pub use refusal::{Failure, refusal_line, status_of};
-pub use runs::{attach, run, run_job, run_stock};
+pub use runs::{run, run_job, run_stock};
+pub use share_ends::{MAX_READS, RunFault, StreamFault, attach, read_whole, write_whole};
 pub use share_jobs::{Inputs, JobFault, Schedule, Steps, job_of, schedule_of};
-pub use stream::{MAX_READS, StreamFault, read_whole, write_whole};

@@ -9,12 +9,12 @@ ghost use Rattle.share_program.specs.Opening.{routed, built, flattened, opened, 
 ghost use Rattle.share_program.specs.Opening.{IsNoJob, IsNoSchedule};
 ghost use Rattle.share_jobs.specs.declared.fault.JobFault.TheVariants.{Memory};
 
-use crate::stream::read_whole;
 use classic_text::read;
 use flat_document::Flat;
 use proto_walk::expand;
 use route_core::Routes;
 use scene_core::Scene;
+use share_ends::read_whole;
 use share_jobs::{Inputs, JobFault, Schedule, job_of, schedule_of};
 use std::alloc::Global;
 use std::io::Read;

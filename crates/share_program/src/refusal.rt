@@ -5,13 +5,14 @@ ghost use Rattle.share_program.specs.Refusal.{status, attach_status, job_status,
 ghost use Rattle.share_program.specs.Refusal.{failure_name, job_fault_name, run_fault_name, share_fault_name};
 ghost use Rattle.share_program.specs.Refusal.{failure_line};
 
-use crate::fault::{RunFault, ShareFault};
+use crate::fault::ShareFault;
 use arrayvec::ArrayString;
 use classic_text::ReadFaultKind;
 use flat_document::ExpandFaultKind;
 use route_core::RouteFaultKind;
 use scene_core::SceneFaultKind;
 use script_host::AttachFault;
+use share_ends::RunFault;
 use share_jobs::JobFault;
 use share_words::OrderFault;
 use thiserror::Error;

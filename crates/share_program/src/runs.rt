@@ -1,30 +1,29 @@
 //! Runs a job: bytes in, bytes out.
 
-ghost use Rattle.std.specs.Prelude.{◌≡◌, ◌++◌, ◌⊎◌, OnOk, IfOk, IfErr, None, map};
+ghost use Rattle.std.specs.Prelude.{◌≡◌, ◌⊎◌, OnOk, IfOk, IfErr, None, map};
 ghost use Rattle.std.specs.Io.KnownBytes.{Appends};
 ghost use Rattle.cascade_core.specs.Apply.{world};
 ghost use Rattle.cascade_core.specs.Held.{Running, IfRunning, IfSpoiled};
 ghost use Rattle.cascade_core.specs.Scripts.{scripts_in};
 ghost use Rattle.stage_answers.specs.declared.fault.ApplyFault.TheVariants as ApplyFault;
-ghost use Rattle.stage_answers.specs.declared.fault.TextFault.TheVariants as TextFault;
 ghost use Rattle.scene_scripts.specs.Scripts.{script_list};
 ghost use Rattle.script_boxes.specs.Boxes.{made_of, stock_for};
 ghost use Rattle.script_host.specs.Attaching.{Fits};
 ghost use Rattle.script_host.specs.Hosting.{fresh_record};
-ghost use Rattle.share_program.specs.Running.{texts, run_text, FitsJob, IsRefused, IsUnrun};
+ghost use Rattle.share_ends.specs.Texts.{texts};
+ghost use Rattle.share_program.specs.Running.{run_text, FitsJob, IsUnrun};
 ghost use Rattle.share_program.specs.Running.{IsUnrunStock, IsFailed, IsRun, IsNoRun, job_scripts_fault};
-ghost use Rattle.share_program.specs.declared.fault.RunFault.TheVariants.{Device, Memory};
+ghost use Rattle.share_ends.specs.declared.fault.RunFault.TheVariants.{Device, Memory};
 
-use crate::fault::RunFault;
 use crate::open::{Job, read_job};
 use crate::refusal::Failure;
-use crate::stream::write_whole;
 use cascade_core::{ApplyFault, Stage, TextFault};
 use route_core::Routes;
 use scene_core::Scene;
 use scene_scripts::script_list;
 use script_boxes::{StockScript, boxes_of};
 use script_host::{Behaviour, Scripts};
+use share_ends::{RunFault, attach, push_texts, write_whole};
 use share_jobs::Inputs;
 use std::alloc::{AllocError, Global};
 use std::io::{Read, Write};
@@ -48,26 +47,6 @@ pub fn run_job<R: Read, W: Write>(
         Ok(job) => run_read(alloc, job, writer),
         Err(fault) => Err(Failure::Job(fault)),
     }
-}
-
-/// The scripts of a scene with these boxes, none of which is initialized, as a stage of the scene
-/// takes them. Where they are refused the boxes are dropped.
-pub fn attach<B: Behaviour>(
-    alloc: Global,
-    scene: &Scene,
-    boxes: Vec<B>,
-) -> Result<Scripts<B>, RunFault>
-    ensures fits { IfOk result (λ scripts. Fits (script_list scene.now) scripts) }
-    ensures fresh { IfOk result (λ scripts. scripts ≡ scripts_in scene.now) }
-    ensures boxes { OnOk result
-        (Fits (script_list scene.now) (map (fresh_record B.kind_of B.numbers) boxes.items)) }
-    ensures takes { Fits (script_list scene.now)
-        (map (fresh_record B.kind_of B.numbers) boxes.items) → IfErr result (λ f. f ≡ Memory) }
-    ensures refused { IfErr result
-        (IsRefused scene.now (map (fresh_record B.kind_of B.numbers) boxes.items)) }
-{
-    let specs = script_list(alloc, scene)?;
-    Ok(Scripts::attach(alloc, specs.as_slice(), boxes)?)
 }
 
 /// Why inputs in turn were not applied.
@@ -103,18 +82,6 @@ fn stage_of<B: Behaviour>(
         Ok(stage) => Ok(stage),
         Err(fault) => Err(memory_alone(fault)),
     }
-}
-
-/// Appends the trace and then the scene of a stage.
-fn push_texts<B: Behaviour>(stage: &Stage<B>, out: &mut Vec<u8>) -> Result<(), TextFault>
-    ensures ok { IfRunning stage.now.held (λ w.
-        OnOk result (out.new.items ≡ out.old.items ++ texts stage.now.scene stage.now.routes w)) }
-    ensures memory { IfRunning stage.now.held (λ w.
-        IfErr result (λ fault. fault ≡ TextFault.Memory)) }
-{
-    stage.trace_text(out)?;
-    stage.scene_text(out)?;
-    Ok(())
 }
 
 /// The trace and then the scene of a stage that isn't spoiled.

@@ -1,10 +1,7 @@
 //! The message of a datagram, or the first fault.
 
-ghost use Rattle.std.specs.Prelude.{◌≡◌, true, false, IsTrue, IfOk, Ok};
-ghost use Rattle.std.specs.Option.{option_map, ok_or};
-ghost use Rattle.byte_codec.specs.Codec.{whole};
+ghost use Rattle.std.specs.Prelude.{◌≡◌, ◌&&◌, true, false, IsTrue, IfOk, Ok};
 ghost use Rattle.x3d_values.specs.Ranges.{is_zero};
-ghost use Rattle.share_wire.specs.declared.fault.WireFault.TheVariants.{BadPacket};
 ghost use Rattle.share_wire.specs.declared.message.Message.{Message as AMessage};
 ghost use Rattle.share_wire.specs.Datagram.{datagram, message_fits};
 ghost use Rattle.share_wire.specs.Decoding.{is_stamp, is_point, is_offer, pointing_of, clock_of, pointer_of, offer_of, input_of, input_in, offer_in, ask_in, ack_in, body_in, decoded};
@@ -16,17 +13,8 @@ use crate::fields::{AckFields, AskFields, OfferFields, PointFields, StampFields,
 use crate::message::{Body, Message};
 use crate::offer::Offer;
 use crate::ranges::{is_next_number, is_ordinal, is_viewer};
+use share_rules::all_of;
 use x3d_values::{Event, Pointer, Ray, Stamped, is_input_number, is_input_time};
-
-/// The fields that were read, if nothing stands behind them.
-fn all_of<T: Copy>(read: Option<(T, &[u8])>) -> Result<T, WireFault>
-    ensures { result ≡ ok_or (whole (option_map (λ r. (r.0, r.1.now)) read.entry)) BadPacket }
-{
-    match read {
-        Some((fields, [])) => Ok(fields),
-        _ => Err(WireFault::BadPacket),
-    }
-}
 
 fn is_stamp(stamp: StampFields) -> bool
     ensures { result ≡ is_stamp stamp }
@@ -38,6 +26,12 @@ fn is_point(point: PointFields) -> bool
     ensures { result ≡ is_point point }
 {
     is_viewer(point.who) && point.down <= 1 && point.origin.fits() && point.dir.fits()
+}
+
+fn is_pointed(stamp: StampFields, point: PointFields) -> bool
+    ensures { result ≡ (is_stamp stamp && is_point point) }
+{
+    is_stamp(stamp) && is_point(point)
 }
 
 fn is_offer(offer: OfferFields) -> bool
@@ -68,10 +62,7 @@ fn clock_of(stamp: StampFields) -> Result<Body, WireFault>
 fn pointer_of(stamp: StampFields, point: PointFields) -> Result<Body, WireFault>
     ensures { result ≡ pointer_of stamp point }
 {
-    if !is_stamp(stamp) {
-        return Err(WireFault::BadRange);
-    }
-    if !is_point(point) {
+    if !is_pointed(stamp, point) {
         return Err(WireFault::BadRange);
     }
     if point.dir.is_zero() {
@@ -106,7 +97,9 @@ fn input_of(stamp: StampFields, bytes: &[u8]) -> Result<Body, WireFault>
             }
         }
         1 => {
-            let point = all_of(PointFields::read(bytes))?;
+            let Some(point) = all_of(PointFields::read(bytes)) else {
+                return Err(WireFault::BadPacket);
+            };
             pointer_of(stamp, point)
         }
         _ => Err(WireFault::BadRange),
@@ -127,7 +120,9 @@ fn input_in(bytes: &[u8]) -> Result<Body, WireFault>
 fn offer_in(bytes: &[u8]) -> Result<Body, WireFault>
     ensures { result ≡ offer_in bytes.now }
 {
-    let offer = all_of(OfferFields::read(bytes))?;
+    let Some(offer) = all_of(OfferFields::read(bytes)) else {
+        return Err(WireFault::BadPacket);
+    };
     offer_of(offer)
 }
 
@@ -135,7 +130,9 @@ fn offer_in(bytes: &[u8]) -> Result<Body, WireFault>
 fn ask_in(bytes: &[u8]) -> Result<Body, WireFault>
     ensures { result ≡ ask_in bytes.now }
 {
-    let ask = all_of(AskFields::read(bytes))?;
+    let Some(ask) = all_of(AskFields::read(bytes)) else {
+        return Err(WireFault::BadPacket);
+    };
     if !(is_viewer(ask.who) && is_next_number(ask.next)) {
         return Err(WireFault::BadRange);
     }
@@ -146,7 +143,9 @@ fn ask_in(bytes: &[u8]) -> Result<Body, WireFault>
 fn ack_in(bytes: &[u8]) -> Result<Body, WireFault>
     ensures { result ≡ ack_in bytes.now }
 {
-    let ack = all_of(AckFields::read(bytes))?;
+    let Some(ack) = all_of(AckFields::read(bytes)) else {
+        return Err(WireFault::BadPacket);
+    };
     if !is_viewer(ack.who) {
         return Err(WireFault::BadRange);
     }

@@ -3,12 +3,16 @@
 ghost use Rattle.std.specs.Prelude.{◌≡◌, ◌≤◌, ◌++◌, length, IsTrue, Ok};
 ghost use Rattle.share_wire.specs.Datagram.{datagram, kind_of, tag_of, point_of, body_text, event_text, pointer_fits, event_fits, body_fits, message_fits};
 ghost use Rattle.share_wire.specs.Decoding.{decoded};
+ghost use Rattle.share_wire.specs.declared.message.Body.TheVariants as body;
 
+use crate::ack::Ack;
+use crate::ask::Ask;
 use crate::fields::{AckFields, AskFields, OfferFields, PointFields, StampFields};
 use crate::message::{Body, Message};
+use crate::offer::Offer;
 use crate::packet::{Packet, push_bytes};
 use arrayvec::ArrayVec;
-use x3d_values::{Event, Pointer};
+use x3d_values::{Event, Pointer, Stamped};
 
 fn tag_of(body: Body) -> u8
     ensures { result ≡ tag_of body }
@@ -53,44 +57,68 @@ fn push_event(out: &mut Packet, event: Event)
     }
 }
 
+fn push_input(out: &mut Packet, input: Stamped)
+    requires { length out.old.items ≤ 38 }
+    ensures text { out.new.items ≡ out.old.items ++ body_text (body.Input input) }
+    ensures fits { IsTrue (body_fits (body.Input input)) }
+{
+    let fields = StampFields {
+        number: input.number(),
+        time: input.time(),
+        kind: kind_of(input.event()),
+    };
+    fields.push_to(out);
+    push_event(out, input.event());
+}
+
+fn push_offer(out: &mut Packet, offer: Offer)
+    requires { length out.old.items ≤ 38 }
+    ensures text { out.new.items ≡ out.old.items ++ body_text (body.Offer offer) }
+    ensures fits { IsTrue (body_fits (body.Offer offer)) }
+{
+    let fields = OfferFields {
+        boot: offer.boot(),
+        number: offer.number(),
+        point: point_of(offer.pointer()),
+    };
+    fields.push_to(out);
+}
+
+fn push_ask(out: &mut Packet, ask: Ask)
+    requires { length out.old.items ≤ 38 }
+    ensures text { out.new.items ≡ out.old.items ++ body_text (body.Ask ask) }
+    ensures fits { IsTrue (body_fits (body.Ask ask)) }
+{
+    let fields = AskFields {
+        who: ask.who(),
+        next: ask.next(),
+    };
+    fields.push_to(out);
+}
+
+fn push_ack(out: &mut Packet, ack: Ack)
+    requires { length out.old.items ≤ 38 }
+    ensures text { out.new.items ≡ out.old.items ++ body_text (body.Ack ack) }
+    ensures fits { IsTrue (body_fits (body.Ack ack)) }
+{
+    let fields = AckFields {
+        who: ack.who(),
+        boot: ack.boot(),
+        count: ack.count(),
+    };
+    fields.push_to(out);
+}
+
 fn push_body(out: &mut Packet, body: Body)
     requires { length out.old.items ≤ 38 }
     ensures text { out.new.items ≡ out.old.items ++ body_text body }
     ensures fits { IsTrue (body_fits body) }
 {
     match body {
-        Body::Input(input) => {
-            let stamp = StampFields {
-                number: input.number(),
-                time: input.time(),
-                kind: kind_of(input.event()),
-            };
-            stamp.push_to(out);
-            push_event(out, input.event());
-        }
-        Body::Offer(offer) => {
-            let fields = OfferFields {
-                boot: offer.boot(),
-                number: offer.number(),
-                point: point_of(offer.pointer()),
-            };
-            fields.push_to(out);
-        }
-        Body::Ask(ask) => {
-            let fields = AskFields {
-                who: ask.who(),
-                next: ask.next(),
-            };
-            fields.push_to(out);
-        }
-        Body::Ack(ack) => {
-            let fields = AckFields {
-                who: ack.who(),
-                boot: ack.boot(),
-                count: ack.count(),
-            };
-            fields.push_to(out);
-        }
+        Body::Input(input) => push_input(out, input),
+        Body::Offer(offer) => push_offer(out, offer),
+        Body::Ask(ask) => push_ask(out, ask),
+        Body::Ack(ack) => push_ack(out, ack),
     }
 }
 

@@ -3,6 +3,7 @@
 
 ghost use Rattle.std.specs.Prelude.{◌≡◌, ◌+◌, ◌≤◌, ◌++◌, length, IfSome};
 ghost use Rattle.std.specs.Option.{option_map};
+ghost use Rattle.byte_codec.specs.Codec.{pair};
 ghost use Rattle.share_wire.specs.Fields.{vector, head_fields, stamp_fields, point_fields, offer_fields, ask_fields, ack_fields};
 
 use crate::packet::{Packet, push_bytes, push_i64, push_u32, push_vector};
@@ -33,9 +34,15 @@ impl StampFields {
     pub(crate) fn read(bytes: &[u8]) -> Option<(StampFields, &[u8])>
         ensures { option_map (λ r. (r.0, r.1.now)) result ≡ stamp_fields.read bytes.now }
     {
-        let (number, rest) = u32_of(bytes)?;
-        let (time, rest) = i64_of(rest)?;
-        let (kind, rest) = byte_of(rest)?;
+        let Some((number, rest)) = u32_of(bytes) else {
+            return None;
+        };
+        let Some((time, rest)) = i64_of(rest) else {
+            return None;
+        };
+        let Some((kind, rest)) = byte_of(rest) else {
+            return None;
+        };
         Some((StampFields { number, time, kind }, rest))
     }
 }
@@ -64,10 +71,15 @@ impl PointFields {
     pub(crate) fn read(bytes: &[u8]) -> Option<(PointFields, &[u8])>
         ensures { option_map (λ r. (r.0, r.1.now)) result ≡ point_fields.read bytes.now }
     {
-        let (who, rest) = byte_of(bytes)?;
-        let (down, rest) = byte_of(rest)?;
-        let (origin, rest) = vector_of(rest)?;
-        let (dir, rest) = vector_of(rest)?;
+        let Some((who, rest)) = byte_of(bytes) else {
+            return None;
+        };
+        let Some((down, rest)) = byte_of(rest) else {
+            return None;
+        };
+        let Some(((origin, dir), rest)) = sight_of(rest) else {
+            return None;
+        };
         let fields = PointFields {
             who,
             down,
@@ -104,12 +116,21 @@ impl OfferFields {
     pub(crate) fn read(bytes: &[u8]) -> Option<(OfferFields, &[u8])>
         ensures { option_map (λ r. (r.0, r.1.now)) result ≡ offer_fields.read bytes.now }
     {
-        let (who, rest) = byte_of(bytes)?;
-        let (boot, rest) = u32_of(rest)?;
-        let (number, rest) = u32_of(rest)?;
-        let (down, rest) = byte_of(rest)?;
-        let (origin, rest) = vector_of(rest)?;
-        let (dir, rest) = vector_of(rest)?;
+        let Some((who, rest)) = byte_of(bytes) else {
+            return None;
+        };
+        let Some((boot, rest)) = u32_of(rest) else {
+            return None;
+        };
+        let Some((number, rest)) = u32_of(rest) else {
+            return None;
+        };
+        let Some((down, rest)) = byte_of(rest) else {
+            return None;
+        };
+        let Some(((origin, dir), rest)) = sight_of(rest) else {
+            return None;
+        };
         let point = PointFields {
             who,
             down,
@@ -145,8 +166,12 @@ impl AskFields {
     pub(crate) fn read(bytes: &[u8]) -> Option<(AskFields, &[u8])>
         ensures { option_map (λ r. (r.0, r.1.now)) result ≡ ask_fields.read bytes.now }
     {
-        let (who, rest) = byte_of(bytes)?;
-        let (next, rest) = u32_of(rest)?;
+        let Some((who, rest)) = byte_of(bytes) else {
+            return None;
+        };
+        let Some((next, rest)) = u32_of(rest) else {
+            return None;
+        };
         Some((AskFields { who, next }, rest))
     }
 }
@@ -173,9 +198,15 @@ impl AckFields {
     pub(crate) fn read(bytes: &[u8]) -> Option<(AckFields, &[u8])>
         ensures { option_map (λ r. (r.0, r.1.now)) result ≡ ack_fields.read bytes.now }
     {
-        let (who, rest) = byte_of(bytes)?;
-        let (boot, rest) = u32_of(rest)?;
-        let (count, rest) = u32_of(rest)?;
+        let Some((who, rest)) = byte_of(bytes) else {
+            return None;
+        };
+        let Some((boot, rest)) = u32_of(rest) else {
+            return None;
+        };
+        let Some((count, rest)) = u32_of(rest) else {
+            return None;
+        };
         Some((AckFields { who, boot, count }, rest))
     }
 }
@@ -183,10 +214,29 @@ impl AckFields {
 fn vector_of(bytes: &[u8]) -> Option<(Vec3, &[u8])>
     ensures { option_map (λ r. (r.0, r.1.now)) result ≡ vector.read bytes.now }
 {
-    let (x, rest) = i64_of(bytes)?;
-    let (y, rest) = i64_of(rest)?;
-    let (z, rest) = i64_of(rest)?;
+    let Some((x, rest)) = i64_of(bytes) else {
+        return None;
+    };
+    let Some((y, rest)) = i64_of(rest) else {
+        return None;
+    };
+    let Some((z, rest)) = i64_of(rest) else {
+        return None;
+    };
     Some((Vec3 { x, y, z }, rest))
+}
+
+/// An origin and a direction.
+fn sight_of(bytes: &[u8]) -> Option<((Vec3, Vec3), &[u8])>
+    ensures { option_map (λ r. (r.0, r.1.now)) result ≡ (pair vector vector).read bytes.now }
+{
+    let Some((origin, rest)) = vector_of(bytes) else {
+        return None;
+    };
+    let Some((dir, rest)) = vector_of(rest) else {
+        return None;
+    };
+    Some(((origin, dir), rest))
 }
 
 /// The magic bytes, the version, the tag and the mark.
@@ -201,9 +251,17 @@ pub(crate) fn head_of(bytes: &[u8]) -> Option<(HeadFields<'_>, &[u8])>
         ≡ head_fields.read bytes.now }
     ensures mark { IfSome result (λ r. length r.0.1.1.1.now ≡ 32) }
 {
-    let (magic, rest) = chunk_of(bytes, 4)?;
-    let (version, rest) = byte_of(rest)?;
-    let (tag, rest) = byte_of(rest)?;
-    let (mark, rest) = chunk_of(rest, 32)?;
+    let Some((magic, rest)) = chunk_of(bytes, 4) else {
+        return None;
+    };
+    let Some((version, rest)) = byte_of(rest) else {
+        return None;
+    };
+    let Some((tag, rest)) = byte_of(rest) else {
+        return None;
+    };
+    let Some((mark, rest)) = chunk_of(rest, 32) else {
+        return None;
+    };
     Some(((magic, (version, (tag, mark))), rest))
 }

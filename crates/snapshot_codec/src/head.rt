@@ -150,7 +150,9 @@ pub fn push_digest(from: usize, out: &mut Vec<u8>) -> Result<(), AllocError>
 fn applied_of(bytes: &[u8]) -> Option<(u32, &[u8])>
     ensures { option_map (λ x. (x.0, x.1.now)) result ≡ applied_codec.read bytes.now }
 {
-    let (number, rest) = u32_of(bytes)?;
+    let Some((number, rest)) = u32_of(bytes) else {
+        return None;
+    };
     if number <= 1 << 20 {
         Some((number, rest))
     } else {
@@ -164,9 +166,15 @@ fn applied_of(bytes: &[u8]) -> Option<(u32, &[u8])>
 pub fn progress_of(bytes: &[u8]) -> Option<(Progress, &[u8])>
     ensures { option_map (λ x. (x.0, x.1.now)) result ≡ progress_codec.read bytes.now }
 {
-    let (boot, rest) = u32_of(bytes)?;
-    let (applied, rest) = applied_of(rest)?;
-    let (last_time, rest) = moment_of(rest)?;
+    let Some((boot, rest)) = u32_of(bytes) else {
+        return None;
+    };
+    let Some((applied, rest)) = applied_of(rest) else {
+        return None;
+    };
+    let Some((last_time, rest)) = moment_of(rest) else {
+        return None;
+    };
     let progress = Progress {
         boot,
         applied,

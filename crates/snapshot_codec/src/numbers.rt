@@ -75,7 +75,9 @@ pub(crate) fn push_low_16(number: u64, out: &mut Vec<u8>) -> Result<(), AllocErr
 pub(crate) fn within_of(limit: u64, bytes: &[u8]) -> Option<(i64, &[u8])>
     ensures { option_map (λ x. (x.0, x.1.now)) result ≡ (within limit).read bytes.now }
 {
-    let (number, rest) = i64_of(bytes)?;
+    let Some((number, rest)) = i64_of(bytes) else {
+        return None;
+    };
     if number.unsigned_abs() > limit {
         return None;
     }

@@ -37,8 +37,12 @@ fn cycle_in(active: bool, number: i64) -> Option<Option<u64>>
 pub fn cycle_of(bytes: &[u8]) -> Option<(Option<u64>, &[u8])>
     ensures { option_map (λ x. (x.0, x.1.now)) result ≡ cycle_codec.read bytes.now }
 {
-    let (active, rest) = flag_of(bytes)?;
-    let (number, rest) = i64_of(rest)?;
+    let Some((active, rest)) = flag_of(bytes) else {
+        return None;
+    };
+    let Some((number, rest)) = i64_of(rest) else {
+        return None;
+    };
     let cycle = cycle_in(active, number)?;
     Some((cycle, rest))
 }
@@ -79,7 +83,9 @@ pub fn push_cycle(cycle: Option<u64>, out: &mut Vec<u8>) -> Result<(), AllocErro
 pub fn position_of(bytes: &[u8]) -> Option<(Position, &[u8])>
     ensures { option_map (λ x. (x.0, x.1.now)) result ≡ position_codec.read bytes.now }
 {
-    let (number, rest) = u32_of(bytes)?;
+    let Some((number, rest)) = u32_of(bytes) else {
+        return None;
+    };
     if number == u32::MAX {
         Some((Position { at: None }, rest))
     } else {

@@ -70,7 +70,9 @@ impl TakesEntries for Items<TraceEntry> {
 pub(crate) fn moment_of(bytes: &[u8]) -> Option<(i64, &[u8])>
     ensures { option_map (λ x. (x.0, x.1.now)) result ≡ moment_codec.read bytes.now }
 {
-    let (time, rest) = i64_of(bytes)?;
+    let Some((time, rest)) = i64_of(bytes) else {
+        return None;
+    };
     if time >= 0 && time <= LATEST {
         Some((time, rest))
     } else {
@@ -82,10 +84,18 @@ pub(crate) fn moment_of(bytes: &[u8]) -> Option<(i64, &[u8])>
 fn sent_at_of(bytes: &[u8]) -> Option<(SentAt, &[u8])>
     ensures { option_map (λ x. (x.0, x.1.now)) result ≡ sent_at_codec.read bytes.now }
 {
-    let (input, rest) = u32_of(bytes)?;
-    let (time, rest) = moment_of(rest)?;
-    let (node, rest) = u32_of(rest)?;
-    let (field, rest) = u16_of(rest)?;
+    let Some((input, rest)) = u32_of(bytes) else {
+        return None;
+    };
+    let Some((time, rest)) = moment_of(rest) else {
+        return None;
+    };
+    let Some((node, rest)) = u32_of(rest) else {
+        return None;
+    };
+    let Some((field, rest)) = u16_of(rest) else {
+        return None;
+    };
     let sent = SentAt {
         input,
         time,

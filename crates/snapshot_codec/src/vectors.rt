@@ -2,6 +2,7 @@
 
 ghost use Rattle.std.specs.Prelude.{◌≡◌};
 ghost use Rattle.std.specs.Option.{option_map};
+ghost use Rattle.byte_codec.specs.Codec.{pair};
 ghost use Rattle.snapshot_codec.specs.Values.{number, vector2, vector3, color};
 
 use crate::coded::Coded;
@@ -17,12 +18,33 @@ pub(crate) fn number_of(bytes: &[u8]) -> Option<(i64, &[u8])>
     within_of(MAX_COORDINATE, bytes)
 }
 
+/// Three numbers in a row.
+fn three_of(bytes: &[u8]) -> Option<((i64, i64, i64), &[u8])>
+    ensures { option_map (λ x. ((x.0.0, (x.0.1, x.0.2)), x.1.now)) result
+        ≡ (pair number (pair number number)).read bytes.now }
+{
+    let Some((x, rest)) = number_of(bytes) else {
+        return None;
+    };
+    let Some((y, rest)) = number_of(rest) else {
+        return None;
+    };
+    let Some((z, rest)) = number_of(rest) else {
+        return None;
+    };
+    Some(((x, y, z), rest))
+}
+
 #[tactic(auto, unfolding(crate::specs::Values::vector2))]
 pub(crate) fn vector2_of(bytes: &[u8]) -> Option<(Vec2, &[u8])>
     ensures { option_map (λ x. (x.0, x.1.now)) result ≡ vector2.read bytes.now }
 {
-    let (x, rest) = number_of(bytes)?;
-    let (y, rest) = number_of(rest)?;
+    let Some((x, rest)) = number_of(bytes) else {
+        return None;
+    };
+    let Some((y, rest)) = number_of(rest) else {
+        return None;
+    };
     Some((Vec2 { x, y }, rest))
 }
 
@@ -30,9 +52,9 @@ pub(crate) fn vector2_of(bytes: &[u8]) -> Option<(Vec2, &[u8])>
 pub(crate) fn vector3_of(bytes: &[u8]) -> Option<(Vec3, &[u8])>
     ensures { option_map (λ x. (x.0, x.1.now)) result ≡ vector3.read bytes.now }
 {
-    let (x, rest) = number_of(bytes)?;
-    let (y, rest) = number_of(rest)?;
-    let (z, rest) = number_of(rest)?;
+    let Some(((x, y, z), rest)) = three_of(bytes) else {
+        return None;
+    };
     Some((Vec3 { x, y, z }, rest))
 }
 
@@ -40,9 +62,9 @@ pub(crate) fn vector3_of(bytes: &[u8]) -> Option<(Vec3, &[u8])>
 pub(crate) fn color_of(bytes: &[u8]) -> Option<(Color, &[u8])>
     ensures { option_map (λ x. (x.0, x.1.now)) result ≡ color.read bytes.now }
 {
-    let (red, rest) = number_of(bytes)?;
-    let (green, rest) = number_of(rest)?;
-    let (blue, rest) = number_of(rest)?;
+    let Some(((red, green, blue), rest)) = three_of(bytes) else {
+        return None;
+    };
     Some((Color { red, green, blue }, rest))
 }
 

@@ -42,7 +42,9 @@ pub fn viewer_set_of(viewers: Viewers, bytes: &[u8]) -> Option<(u64, &[u8])>
 {
     match viewers {
         Viewers::Sixteen => {
-            let (set, rest) = u16_of(bytes)?;
+            let Some((set, rest)) = u16_of(bytes) else {
+                return None;
+            };
             Some((u64::from(set), rest))
         }
         Viewers::SixtyFour => u64_of(bytes),
@@ -67,7 +69,9 @@ pub fn push_viewer_set(viewers: Viewers, set: u64, out: &mut Vec<u8>) -> Result<
 fn presser_of(viewers: Viewers, bytes: &[u8]) -> Option<(Option<u8>, &[u8])>
     ensures { option_map (λ x. (x.0, x.1.now)) result ≡ (presser_codec viewers).read bytes.now }
 {
-    let (number, rest) = byte_of(bytes)?;
+    let Some((number, rest)) = byte_of(bytes) else {
+        return None;
+    };
     if number == 255 {
         return Some((None, rest));
     }
@@ -94,8 +98,12 @@ fn presser_byte(presser: Option<u8>) -> u8
 pub fn touch_of(viewers: Viewers, bytes: &[u8]) -> Option<(Touch, &[u8])>
     ensures { option_map (λ x. (x.0, x.1.now)) result ≡ (touch_codec viewers).read bytes.now }
 {
-    let (over, rest) = viewer_set_of(viewers, bytes)?;
-    let (presser, rest) = presser_of(viewers, rest)?;
+    let Some((over, rest)) = viewer_set_of(viewers, bytes) else {
+        return None;
+    };
+    let Some((presser, rest)) = presser_of(viewers, rest) else {
+        return None;
+    };
     Some((Touch { over, presser }, rest))
 }
 

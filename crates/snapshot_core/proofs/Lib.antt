@@ -3,7 +3,6 @@ mod KeptRows
 mod LineLaws
 mod NodeLaws
 mod NodeLoops
-mod PartSizes
 mod Saves
 mod SetLaws
 pub mod ShotLaws

@@ -4,7 +4,6 @@ use Rattle.std.specs.Prelude.{slice_get}
 use Rattle.std.proofs.lemmas.List.{append-nil, nil_from_length, length-map}
 use Rattle.std.proofs.lemmas.Option.{slice_get_within, get_or_from_slice_get}
 use Rattle.byte_codec.specs.Codec.{◌>>?◌, at_front, rows_at, rows_text}
-use Rattle.x3d_lists.specs.Extends.{Extends}
 use Rattle.x3d_values.specs.declared.fields.Fields.{Fields}
 use Rattle.scene_core.specs.Shape.{Shape}
 use Rattle.scene_core.specs.Scene.{SceneView, shape_of, shapes_of}
@@ -107,18 +106,6 @@ split_at : {A : Type 0} (xs : List A) (i : ℕ) (x : A) → i < length xs → x 
 split_at {A} xs i x lt is =
     let e : drop i xs ≡ get_or xs i x ∷ drop (i + 1) xs = rw (add-one, drop-cons xs i x lt) refl in
     e ∙ ap (λ (y : A). y ∷ drop (i + 1) xs) (sym is)
-
-pub extends_on : (old now new : List ℕ) → Extends old now → Extends now new → Extends old new
-extends_on old now new p q = record { more = p.more ++ q.more; is = q.is ∙ ap (λ (z : List ℕ). z ++ q.more) p.is ∙ append_assoc old p.more q.more }
-
-pub grown : (old part now : List ℕ) → now ≡ old ++ part → Extends old now
-grown old part now is = record { more = part; is = is }
-
-pub same_on : (old now new : List ℕ) → Extends old now → new ≡ now → Extends old new
-same_on old now new p is = record { more = p.more; is = is ∙ p.is }
-
-pub stays : (old : List ℕ) → Extends old old
-stays old = record { more = []; is = sym (append-nil old) }
 
 -- a node more, of those that all lists have
 pub text_goes_on : (shapes : List Shape) (fields : List Fields) (sensors : List (Option ℕ)) (touches : List Touch) (i count : ℕ) (t : Shape) (f : Fields) (s : Option ℕ) (u : Touch) (out new total : List ℕ) → i < count → count ≡ min (length shapes) (min (length fields) (min (length sensors) (length touches)))

@@ -9,8 +9,8 @@ use Rattle.script_host.specs.Hosting.{ScriptRecord}
 use Rattle.script_host.specs.Pairs.{PairAt, PairsBelow}
 use Rattle.script_host.specs.Restoring.{IsFirstFault, IsStateOf}
 use Rattle.script_host.specs.States.{state_fault}
-use Rattle.script_host.specs.declared.fault.StateFault.{StateFault}
-use Rattle.script_host.specs.declared.fault.StateFault.TheVariants.{StateLength, StateRange}
+use Rattle.script_slots.specs.declared.fault.StateFault.{StateFault}
+use Rattle.script_slots.specs.declared.fault.StateFault.TheVariants.{StateLength, StateRange}
 use Rattle.cascade_core.specs.Course.{Scripted}
 use Rattle.cascade_core.specs.Held.{StageView, Running, holding}
 use Rattle.cascade_core.specs.Installing.{RefusesInstall, StatesFit}

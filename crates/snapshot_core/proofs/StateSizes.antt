@@ -13,7 +13,7 @@ use Rattle.x3d_values.specs.declared.script.Kind.TheVariants.{Counter, Gate, Add
 use Rattle.scene_core.specs.Scene.{SceneView}
 use Rattle.script_host.specs.Events.{truth_fits}
 use Rattle.script_host.specs.States.{state_fault, range_fault, integer_fits, pending_fits, place_fits, counter_fault, gate_fault, adder_fault, batch_fault, mover_fault}
-use Rattle.script_host.specs.declared.fault.StateFault.TheVariants.{StateLength}
+use Rattle.script_slots.specs.declared.fault.StateFault.TheVariants.{StateLength}
 use Rattle.cascade_core.specs.Installing.{StatesFit}
 use Rattle.cascade_core.specs.Scripts.{kinds_in}
 use Rattle.snapshot_core.specs.Loading.{states_fit}

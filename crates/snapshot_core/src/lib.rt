@@ -10,12 +10,11 @@
 //! | `saving`, `loading` | the two calls |
 //! | `fault` | what may be refused |
 //! | `world` | a whole world, with its boot |
-//! | `nodes`, `kept`, `beside` | nodes in turn: their fields, and what stands behind them |
-//! | `buttons`, `states`, `lines` | what a world has beside its nodes |
+//! | `nodes`, `kept` | nodes in turn: their fields, and what stands behind them |
+//! | `buttons`, `lines` | what a world has beside its nodes, and the states of its scripts |
 //! | `exactness` | the law |
 #![tactic(auto)]
 
-mod beside;
 mod buttons;
 mod exactness;
 mod fault;
@@ -24,7 +23,6 @@ mod lines;
 mod loading;
 mod nodes;
 mod saving;
-mod states;
 mod world;
 
 pub use exactness::snapshots_are_exact;

@@ -9,12 +9,12 @@ ghost use Rattle.snapshot_core.specs.Loading.{behind_head, load_outcome, loaded,
 ghost use Rattle.snapshot_core.specs.WorldCodec.{booted};
 
 use crate::fault::{SnapFault, fault_of};
-use crate::saving::VERSION;
 use crate::world::{Found, body_of};
 use cascade_core::Stage;
 use scene_core::Scene;
 use script_host::{Behaviour, StateFault};
-use snapshot_codec::{PartFault, open};
+use snapshot_codec::PartFault;
+use snapshot_parts::{body_in, is_older};
 use std::alloc::Global;
 
 /// Of which boot a snapshot was, and how many inputs its world had applied.
@@ -41,7 +41,7 @@ fn loaded_body(
 {
     match body_of(alloc, scene, scripts, body) {
         Ok(found) => {
-            if found.boot < boot {
+            if is_older(found.boot, boot) {
                 Ok(found)
             } else {
                 drop(found);
@@ -68,7 +68,7 @@ fn behind_head(
         ≡ result_map_both booted (λ fault. fault) result)
         ⊎ ((result ≡ Err SnapFault.Memory) × (head_fault 1 mark.now bytes.now ≡ None)) }
 {
-    match open(VERSION, mark, bytes) {
+    match body_in(mark, bytes) {
         Ok(body) => loaded_body(alloc, scene, scripts, boot, body),
         Err(fault) => Err(fault_of(fault)),
     }

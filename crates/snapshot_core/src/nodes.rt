@@ -9,12 +9,12 @@ ghost use Rattle.snapshot_codec.specs.declared.kept.KeptField.{KeptField as Kept
 ghost use Rattle.snapshot_core.specs.Nodes.{node_of, node_codec, nodes_codec, shape_in, state_codec};
 ghost use Rattle.snapshot_core.specs.WorldCodec.{lists_in};
 
-use crate::beside::{Beside, beside_of, push_beside};
 use crate::kept::list_kept;
 use cascade_core::WorldData;
 use scene_core::Scene;
 use sensor_core::{TimeState, TouchState};
 use snapshot_codec::{KeptField, PartFault, kept_fields_of, push_kept_fields};
+use snapshot_parts::{Beside, beside_of, push_beside};
 use std::alloc::{AllocError, Global};
 use x3d_values::{Fields, Items, NodeType, Value};
 

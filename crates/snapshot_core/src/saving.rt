@@ -11,11 +11,9 @@ use cascade_core::{Stage, WorldData};
 use scene_core::Scene;
 use script_host::Behaviour;
 use snapshot_codec::{push_digest, push_front};
+use snapshot_parts::VERSION;
 use std::alloc::AllocError;
 use x3d_values::Items;
-
-/// The version of the snapshots that are written and read.
-pub(crate) const VERSION: u8 = 1;
 
 /// Appends the snapshot of a world, with the states of its scripts; on a refusal perhaps a part of
 /// it.

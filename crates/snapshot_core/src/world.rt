@@ -11,11 +11,11 @@ ghost use Rattle.snapshot_core.specs.WorldCodec.{booted, parts_codec, world_with
 use crate::buttons::{buttons_of, push_buttons};
 use crate::lines::{lines_of, push_lines};
 use crate::nodes::{NodeLists, nodes_of, push_nodes};
-use crate::states::{push_states, states_of};
 use cascade_core::{State, Trace, WorldData};
 use scene_core::Scene;
 use sensor_core::VIEWERS;
-use snapshot_codec::{PartFault, Progress, all_read, progress_of, push_progress};
+use snapshot_codec::{PartFault, Progress, progress_of, push_progress};
+use snapshot_parts::{none_left, push_states, states_of};
 use std::alloc::{AllocError, Global};
 use x3d_values::Items;
 
@@ -133,7 +133,7 @@ pub(crate) fn body_of(
     ensures { Reads booted result (whole ((body_codec scene.now).read bytes.now)) }
 {
     let (found, rest) = world_of(alloc, scene, scripts, bytes)?;
-    if let Err(fault) = all_read(rest) {
+    if let Err(fault) = none_left(rest) {
         drop(found);
         return Err(fault);
     }

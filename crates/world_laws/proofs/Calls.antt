@@ -18,8 +18,8 @@ use Rattle.script_host.specs.Interface.{outputs}
 use Rattle.script_host.specs.Pairs.{PairAt}
 use Rattle.script_host.specs.Restoring.{AreStates, IsStateOf}
 use Rattle.script_host.specs.States.{state_fault}
-use Rattle.script_host.specs.declared.fault.StateFault.{StateFault}
-use Rattle.script_host.specs.declared.reply.Reply as host
+use Rattle.script_slots.specs.declared.fault.StateFault.{StateFault}
+use Rattle.script_slots.specs.declared.reply.Reply as host
 use Rattle.script_turn.specs.Acting.{act, acting, kinds_of}
 use Rattle.script_turn.specs.Ports.{Wiring, reply_of, value_from}
 use Rattle.script_turn.specs.Values.{value_of}
@@ -27,11 +27,11 @@ use Rattle.script_turn.proofs.CallLemmas.{kinds_stand}
 use Rattle.scene_scripts.specs.Runs.{run_of}
 use Rattle.scene_scripts.specs.Scripts.{script_list}
 use Rattle.scene_scripts.specs.declared.runs.Run.{Run}
-use Rattle.script_laws.specs.Calls.{AnswerFits, reply_fits}
-use Rattle.script_laws.specs.Nodes.{RunsAll}
-use Rattle.script_laws.proofs.Behaviours.{all_calls_fit}
-use Rattle.script_laws.proofs.Outputs.{all_outputs_typed}
-use Rattle.script_laws.proofs.Running.{one_of}
+use Rattle.world_laws.specs.Calls.{AnswerFits, reply_fits}
+use Rattle.world_laws.specs.Nodes.{RunsAll}
+use Rattle.world_laws.proofs.Behaviours.{all_calls_fit}
+use Rattle.world_laws.proofs.Outputs.{all_outputs_typed}
+use Rattle.world_laws.proofs.Running.{one_of}
 use Rattle.cascade_core.specs.Course.{no_ports, node_of, plan_of, ports_of}
 use Rattle.cascade_core.specs.Installing.{StatesFit}
 use Rattle.cascade_core.specs.Scripts.{kinds_in, running, scripts_in, states_of}

@@ -16,9 +16,9 @@ use Rattle.scene_core.specs.declared.scene.End.{End}
 use Rattle.scene_core.specs.Scene.{SceneView}
 use Rattle.scene_scripts.specs.Runs.{run_of, runs_of}
 use Rattle.scene_scripts.specs.Scripts.{script_list}
-use Rattle.script_laws.specs.Calls.{call_fits}
-use Rattle.script_laws.specs.Nodes.{RunsAll, runs}
-use Rattle.script_laws.proofs.Running.{runs_by}
+use Rattle.world_laws.specs.Calls.{call_fits}
+use Rattle.world_laws.specs.Nodes.{RunsAll, runs}
+use Rattle.world_laws.proofs.Running.{runs_by}
 use Rattle.cascade_core.specs.Cascade.{Arrival, arrival}
 use Rattle.cascade_core.specs.Course.{Course, Plan, node_of, ports_of, script_of}
 use Rattle.cascade_core.specs.Scripts.{kinds_in, script_for}

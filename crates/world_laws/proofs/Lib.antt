@@ -1,3 +1,13 @@
+mod Between
+pub mod Times
+pub mod Clocks
+pub mod Pointers
+pub mod Reactions
+pub mod Rows
+mod Ways
+pub mod Behaviours
+pub mod Outputs
+pub mod Running
 pub mod Calls
 pub mod Casts
 mod Places
@@ -6,3 +16,11 @@ pub mod Snapshots
 mod States
 pub mod Steps
 pub mod Walks
+pub mod Counted
+mod Kept
+mod Openings
+mod Ranged
+mod Routes
+mod Starts
+mod Typed
+pub mod DocumentWorlds

@@ -18,8 +18,8 @@ use Rattle.world_core.specs.World.{record_event}
 use Rattle.trace_core.specs.declared.trace.TraceLine.{TraceLine}
 use Rattle.world_core.specs.declared.world.Turn.{Turn}
 use Rattle.snapshot_core.specs.WorldCodec.{sent_type, output_type}
-use Rattle.answer_laws.proofs.Pointers.{all_append}
-use Rattle.answer_laws.proofs.Rows.{then_some}
+use Rattle.world_laws.proofs.Pointers.{all_append}
+use Rattle.world_laws.proofs.Rows.{then_some}
 use Rattle.world_laws.specs.Fits.{input_type, line_fits, WorldFits, Joins, AllJoin}
 use Rattle.world_laws.proofs.States.{leave, Answered}
 use Rattle.world_laws.proofs.Walks.{AllSent, AnswerKeeps}

@@ -22,7 +22,7 @@ use Rattle.cascade_core.specs.Installing.{StatesFit}
 use Rattle.snapshot_core.proofs.StateSizes.{states_have}
 use Rattle.snapshot_core.specs.Nodes.{kept_from, kept_fields, time_part, touch_part, pointers_codec, position_part, beside_codec, state_codec, node_codec, nodes_from, lists_fit, nodes_codec}
 use Rattle.snapshot_core.specs.WorldCodec.{output_type, entry_of, lines_codec, buttons_codec, parts_codec, lists_in, world_codec}
-use Rattle.answer_laws.specs.Ranges.{values_fit, position_fits, fields_fit}
+use Rattle.world_laws.specs.Ranges.{values_fit, position_fits, fields_fit}
 use Rattle.world_laws.specs.Fits.{time_fits, pointers_fit, node_fits, nodes_fit, line_fits, WorldFits}
 use Rattle.world_laws.specs.Snapshots.{FittingHaveSnapshots}
 

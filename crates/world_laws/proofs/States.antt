@@ -29,11 +29,11 @@ use Rattle.world_core.specs.Answers.{Answer, nothing, reacting, setting, setting
 use Rattle.world_core.specs.declared.world.WorldData.{WorldData}
 use Rattle.snapshot_core.specs.Nodes.{touch_fits}
 use Rattle.snapshot_core.specs.WorldCodec.{sent_type, output_type}
-use Rattle.answer_laws.specs.Ranges.{fields_fit, event_fits, sent_fits, replies_fit}
-use Rattle.answer_laws.proofs.Clocks.{all_sets_fit, all_ticks_fit, timing_is}
-use Rattle.answer_laws.proofs.Pointers.{all_append, all_points_fit, all_disables_fit}
-use Rattle.answer_laws.proofs.Reactions.{all_reactions_fit, set_field_fits}
-use Rattle.answer_laws.proofs.Rows.{some_is}
+use Rattle.world_laws.specs.Ranges.{fields_fit, event_fits, sent_fits, replies_fit}
+use Rattle.world_laws.proofs.Clocks.{all_sets_fit, all_ticks_fit, timing_is}
+use Rattle.world_laws.proofs.Pointers.{all_append, all_points_fit, all_disables_fit}
+use Rattle.world_laws.proofs.Reactions.{all_reactions_fit, set_field_fits}
+use Rattle.world_laws.proofs.Rows.{some_is}
 use Rattle.world_laws.specs.Fits.{input_type, time_fits, pointers_fit, node_fits, nodes_fit}
 
 -- ---- a node among all

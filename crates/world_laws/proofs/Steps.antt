@@ -27,7 +27,7 @@ use Rattle.world_core.specs.Pointer.{insides, place_in}
 use Rattle.cascade_core.specs.Scripts.{scripts_in}
 use Rattle.world_core.specs.declared.world.Turn.{Turn}
 use Rattle.world_core.proofs.Shapes.{shape_at}
-use Rattle.answer_laws.proofs.Rows.{some_is}
+use Rattle.world_laws.proofs.Rows.{some_is}
 use Rattle.world_laws.specs.Fits.{IsStaged, OpeningsFit, ScriptedFits, StepsFit, WorldFits, is_event}
 use Rattle.world_laws.proofs.Calls.{InStates, calls_fit, running_in, starts_in, states_are}
 use Rattle.world_laws.proofs.Places.{place_fits, insides_fit}

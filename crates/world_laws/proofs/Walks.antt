@@ -17,7 +17,7 @@ use Rattle.script_host.specs.Behaviour.{Call, Initialize, Settle}
 use Rattle.script_host.specs.Hosting.{ScriptRecord}
 use Rattle.script_turn.specs.Acting.{Acted, act}
 use Rattle.script_due.specs.Settling.{with_settled}
-use Rattle.script_laws.specs.Calls.{call_fits}
+use Rattle.world_laws.specs.Calls.{call_fits}
 use Rattle.world_core.specs.Answers.{Answer, answer, met, ticked, with_answer}
 use Rattle.cascade_core.specs.Apply.{Sending, Started, after_input, begin, begun, happen, opening, opening_course, point, point_node, sent_by_all, start_one, started, tick_node, untold, with_button}
 use Rattle.cascade_core.specs.Cascade.{Arrival, arrival, deliver, reached, reached_by, recorded, send, send_all, send_replies}

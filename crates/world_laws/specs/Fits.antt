@@ -19,7 +19,7 @@ use Rattle.sensor_core.specs.Touches.{Touch}
 use Rattle.scene_core.specs.declared.scene.Route.{Route}
 use Rattle.scene_core.specs.Scene.{SceneView, shapes_of}
 use Rattle.scene_core.specs.Shape.{Shape, rows_of}
-use Rattle.script_laws.specs.Nodes.{RunsAll}
+use Rattle.world_laws.specs.Nodes.{RunsAll}
 use Rattle.cascade_core.specs.Apply.{apply, opening, untold}
 use Rattle.cascade_core.specs.Course.{Scripted}
 use Rattle.cascade_core.specs.Installing.{StatesFit}
@@ -28,7 +28,7 @@ use Rattle.trace_core.specs.declared.trace.TraceLine.{TraceLine}
 use Rattle.world_core.specs.declared.world.WorldData.{WorldData}
 use Rattle.snapshot_core.specs.Nodes.{touch_fits, is_untouched}
 use Rattle.snapshot_core.specs.WorldCodec.{output_type}
-use Rattle.answer_laws.specs.Ranges.{fields_fit}
+use Rattle.world_laws.specs.Ranges.{fields_fit}
 
 -- ---- what may come to a field; what leaves by one is snapshot_core's `output_type`
 

@@ -1,2 +1,9 @@
+pub mod Answers
+pub mod Ranges
+pub mod Calls
+pub mod Nodes
 pub mod Fits
 pub mod Snapshots
+pub mod Openings
+pub mod Routes
+pub mod Worlds

@@ -1,6 +1,14 @@
-//! That worlds fit their snapshots: after each input every value is in the range of its field.
+//! That worlds keep the ranges of their fields, and scripts their states: what nodes and scripts do
+//! keeps them, so does each input, and so each world that a document's scene comes to fits its
+//! snapshot.
 #![tactic(auto)]
 
+mod answers;
+mod documents;
+mod scripts;
 mod worlds;
 
+pub use answers::{reactions_fit, time_sensors_fit, touch_sensors_fit};
+pub use documents::{document_openings_fit, routes_join, worlds_fit};
+pub use scripts::{attached_run, calls_fit, outputs_typed};
 pub use worlds::{fitting_worlds_have_snapshots, openings_fit, steps_fit};

@@ -25,7 +25,7 @@ use Rattle.snapshot_codec.specs.Values.{color, list_of, number, text, time, valu
 use Rattle.sensor_core.specs.Touches.{Touch}
 use Rattle.scene_core.specs.Shape.{Shape}
 use Rattle.scene_text.specs.Raw.{color_run, pair_run, vector_run}
-use Rattle.answer_laws.specs.Ranges.{fields_fit, position_fits, values_fit}
+use Rattle.world_laws.specs.Ranges.{fields_fit, position_fits, values_fit}
 use Rattle.world_laws.specs.Fits.{node_fits, nodes_fit, pointers_fit, time_fits}
 use Rattle.scene_round_trip.specs.Values.{is_int32, is_number, is_time}
 use Rattle.scene_round_trip.specs.Writable.{AreKeepable, IsKeepable}

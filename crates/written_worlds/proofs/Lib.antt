@@ -1,2 +1,10 @@
 pub mod Keepable
 pub mod Spelled
+pub mod TypedFitting
+pub mod Held
+pub mod Lines
+pub mod Rewritten
+pub mod StayFitting
+pub mod Kept
+pub mod Ranged
+pub mod Whole

@@ -7,7 +7,7 @@ use Rattle.scene_core.specs.declared.scene.Route.{Route}
 use Rattle.scene_core.specs.Scene.{SceneView, shapes_of}
 use Rattle.cascade_core.specs.Apply.{world}
 use Rattle.cascade_core.specs.Texts.{scene_text}
-use Rattle.script_laws.specs.Nodes.{RunsAll}
+use Rattle.world_laws.specs.Nodes.{RunsAll}
 use Rattle.cascade_core.specs.Course.{Scripted}
 use Rattle.share_law.specs.Cascade.{cascade}
 use Rattle.share_law.specs.Network.{Network}
@@ -17,11 +17,11 @@ use Rattle.share_law.proofs.Agreement.{Sound-reached}
 use Rattle.share_law.proofs.Machines.{cascade-is}
 use Rattle.share_law.proofs.Sound.{InStep, IsAt, Sound, ViewSound}
 use Rattle.world_laws.specs.Fits.{ScriptedFits}
-use Rattle.document_laws.proofs.Worlds.{all_worlds_fit}
+use Rattle.world_laws.proofs.DocumentWorlds.{all_worlds_fit}
 use Rattle.network_laws.proofs.Saved.{front_inputs}
-use Rattle.text_laws.specs.Opened.{IsOpened}
-use Rattle.text_laws.proofs.Countable.{is_document}
-use Rattle.text_laws.proofs.Worlds.{few_nodes, worlds_fit}
+use Rattle.network_laws.specs.Opened.{IsOpened}
+use Rattle.network_laws.proofs.Countable.{is_document}
+use Rattle.network_laws.proofs.Worlds.{few_nodes, worlds_fit}
 use Rattle.scene_round_trip.specs.Written.{has_room}
 use Rattle.scene_round_trip.proofs.Documents.{spellable_scenes_spell}
 use Rattle.written_worlds.specs.Written.{IsReadAgain, RunningWorldsSpell, WrittenWorldsSpell}

@@ -8,13 +8,13 @@ use Rattle.scene_core.specs.Scene.{SceneView}
 use Rattle.scene_text.specs.Statements.{scene_document}
 use Rattle.cascade_core.specs.Apply.{world}
 use Rattle.cascade_core.specs.Texts.{scene_text}
-use Rattle.script_laws.specs.Nodes.{RunsAll}
+use Rattle.world_laws.specs.Nodes.{RunsAll}
 use Rattle.cascade_core.specs.Course.{Scripted}
 use Rattle.share_law.specs.Cascade.{cascade}
 use Rattle.share_law.specs.Network.{Network}
 use Rattle.share_law.specs.Reached.{IsRunning, Reached}
-use Rattle.document_laws.specs.Worlds.{AreInputs}
-use Rattle.text_laws.specs.Opened.{IsOpened}
+use Rattle.world_laws.specs.Worlds.{AreInputs}
+use Rattle.network_laws.specs.Opened.{IsOpened}
 use Rattle.scene_round_trip.specs.Written.{has_room}
 
 -- the text of a scene as it stands in a world spells the document that it is written as, but for

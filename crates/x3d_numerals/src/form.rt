@@ -8,9 +8,7 @@ ghost use Rattle.x3d_numerals.specs.Reading.{run, is_digits, sign_of, behind_sig
 use crate::digits::digits_len;
 use crate::fault::NumeralFault;
 use crate::scale::size;
-
-/// The most digits that 32 bits write.
-const MOST_HEXADECIMAL_DIGITS: usize = 8;
+use classic_bytes::{fits_32_bits, is_exponent_letter};
 
 /// Whether a minus stands first, and the text behind a sign.
 #[tactic(auto, unfolding(crate::specs::Reading::sign_of, crate::specs::Reading::behind_sign))]
@@ -62,17 +60,17 @@ fn cut_exponent(text: &[u8]) -> Option<(bool, &[u8])>
         × (exponent_of text.now ≡ Some e) × (cut.0 ≡ has_minus e)
         × (cut.1.now ≡ exponent_digits e)) }
 {
-    match text {
-        [] => Some((false, text)),
-        [b'e' | b'E', rest @ ..] => {
-            let (negative, digits) = cut_sign(rest);
-            if is_digits(10, digits) {
-                Some((negative, digits))
-            } else {
-                None
-            }
-        }
-        _ => None,
+    let [letter, rest @ ..] = text else {
+        return Some((false, text));
+    };
+    if !is_exponent_letter(*letter) {
+        return None;
+    }
+    let (negative, digits) = cut_sign(rest);
+    if is_digits(10, digits) {
+        Some((negative, digits))
+    } else {
+        None
     }
 }
 
@@ -97,7 +95,7 @@ fn hexadecimal(digits: &[u8]) -> Result<i64, NumeralFault>
     if !is_digits(16, digits) {
         return Err(NumeralFault::NotNumeral);
     }
-    if digits.len() > MOST_HEXADECIMAL_DIGITS {
+    if !fits_32_bits(digits.len()) {
         return Err(NumeralFault::NumberRange);
     }
     Ok(i64::from(bits(digits).cast_signed()) * 1_000_000)

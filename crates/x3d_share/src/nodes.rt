@@ -7,7 +7,8 @@ use share_commands::{
     JointJob, PatientPort, Seat, SharedJob, agree_job, bound, bound_free, host_job, joint_job,
     number_of, rehearse_job, seated_job, shared_job, view_job,
 };
-use share_program::{Failure, JobFault, RunFault, ShareFault, read_whole, write_whole};
+use share_ends::{RunFault, read_whole, write_whole};
+use share_program::{Failure, JobFault, ShareFault};
 use share_words::Order;
 use std::io;
 use std::net::Net;

@@ -2,7 +2,7 @@ use Rattle.std.proofs.Common.{◌∙◌}
 use Rattle.world_core.specs.Answers.{ticked, with_answer}
 use Rattle.cascade_core.specs.Course.{plan_at, seen, with_turn}
 use Rattle.cascade_core.specs.Apply.{tick_node}
-use Rattle.cascade_core.proofs.Shown.{ticked-fields}
+use Rattle.stage_steps.proofs.Shown.{ticked-fields}
 use Rattle.cascade_core.proofs.Tasks.{finish-all, ticked-ready}
 use Rattle.cascade_core.proofs.clock.tick_node.Goals as goal
 

@@ -3,7 +3,7 @@ use Rattle.world_core.specs.Answers.{met, with_answer}
 use Rattle.cascade_core.specs.Course.{plan_at, seen, with_turn}
 use Rattle.world_core.specs.Pointer.{place_in}
 use Rattle.cascade_core.specs.Apply.{point_node}
-use Rattle.cascade_core.proofs.Shown.{met-fields}
+use Rattle.stage_steps.proofs.Shown.{met-fields}
 use Rattle.cascade_core.proofs.Tasks.{finish-all, met-ready}
 use Rattle.cascade_core.proofs.pointer.point_node.Goals as goal
 

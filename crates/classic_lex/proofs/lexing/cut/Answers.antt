@@ -42,21 +42,21 @@ loop-rest-preserved c =
       lines = omega (arith, count_by-le-length (λ b. b == 10) c.split_at.result.0.now);
       spans = elim c.match-front.branch [
         | in-Blank w ↦ rw w.tokens-is c.loop-rest.invariant.spans
-        | in-Piece+in_ok-push-in-Piece w ↦ rw (w.tokens-is, w.in_ok-push-in-Piece.ensures.items)
+        | in-Piece+in_ok-push-in-Piece w ↦ rw (w.tokens-is, w.in_ok-push-in-Piece.ensures.items, w.end_of.ensures)
             (AreSpans-push text items begin _ c.loop-rest.invariant.spans c.loop-rest.invariant.before (omega (arith, w.in-Piece.ensures.within.0)) (omega (arith, w.in-Piece.ensures.within.1))
             (is_gap-token (slice_range text (last_end begin items) at) rest w.in-Piece.kind w.in-Piece.n w.in-Piece.ensures.value some c.loop-rest.invariant.gap))
       ];
       before = elim c.match-front.branch [
         | in-Blank w ↦ rw w.tokens-is (omega (arith, c.loop-rest.invariant.before))
-        | in-Piece+in_ok-push-in-Piece w ↦ rw (w.tokens-is, w.len-is, w.in_ok-push-in-Piece.ensures.items) (omega (arith, last_end-push items begin (record { kind = w.in-Piece.kind; start = at; end = at + w.in-Piece.n; line = c.loop-rest.line })))
+        | in-Piece+in_ok-push-in-Piece w ↦ rw (w.tokens-is, w.len-is, w.in_ok-push-in-Piece.ensures.items, w.end_of.ensures) (omega (arith, last_end-push items begin (record { kind = w.in-Piece.kind; start = at; end = at + w.in-Piece.n; line = c.loop-rest.line })))
       ];
       gap = rw c.split_at.ensures.back (elim c.match-front.branch [
         | in-Blank w ↦ rw (w.tokens-is, w.len-is) (IsOpenGap-blank text rest (last_end begin items) at w.in-Blank.n c.loop-rest.invariant.before c.loop-rest.invariant.here w.in-Blank.ensures.value some c.loop-rest.invariant.gap)
-        | in-Piece+in_ok-push-in-Piece w ↦ rw (w.tokens-is, w.len-is, w.in_ok-push-in-Piece.ensures.items, last_end-push items begin) (IsOpenGap-here text (drop w.in-Piece.n rest) (at + w.in-Piece.n))
+        | in-Piece+in_ok-push-in-Piece w ↦ rw (w.tokens-is, w.len-is, w.in_ok-push-in-Piece.ensures.items, w.end_of.ensures, last_end-push items begin) (IsOpenGap-here text (drop w.in-Piece.n rest) (at + w.in-Piece.n))
       ]);
       told = rw (c.line_feeds-line.ensures.value, c.split_at.ensures.front, c.split_at.ensures.back) (elim c.match-front.branch [
         | in-Blank w ↦ rw (w.tokens-is, w.len-is) (on_blank items text _ rest at c.loop-rest.line some c.loop-rest.invariant.here c.loop-rest.invariant.told w.in-Blank.n w.in-Blank.ensures.value w.in-Blank.ensures.within)
-        | in-Piece+in_ok-push-in-Piece w ↦ rw (w.tokens-is, w.len-is, w.in_ok-push-in-Piece.ensures.items) (on_piece items text _ rest at c.loop-rest.line some c.loop-rest.invariant.here c.loop-rest.invariant.told w.in-Piece.kind w.in-Piece.n w.in-Piece.ensures.value w.in-Piece.ensures.within)
+        | in-Piece+in_ok-push-in-Piece w ↦ rw (w.tokens-is, w.len-is, w.in_ok-push-in-Piece.ensures.items, w.end_of.ensures) (on_piece items text _ rest at c.loop-rest.line some c.loop-rest.invariant.here c.loop-rest.invariant.told w.in-Piece.kind w.in-Piece.n w.in-Piece.ensures.value w.in-Piece.ensures.within)
       ]);
     }
 

@@ -1,6 +1,6 @@
 use Rattle.scene_scripts.specs.Scripts.{script_list}
 use Rattle.script_boxes.specs.Boxes.{stock_kind, stock_state}
-use Rattle.share_program.proofs.Attached.{attached}
+use Rattle.share_ends.proofs.Attached.{attached}
 use Rattle.share_commands.proofs.stages.scripts_of.Goals as goal
 
 pub returns-clause-fresh : goal.returns-clause-fresh

@@ -1,4 +1,4 @@
-use Rattle.std.proofs.Common.{◌≡◌, ◌+◌, ◌-◌, ◌≤◌, ◌^◌, List, sym, subst, arith}
+use Rattle.std.proofs.Common.{◌≡◌, ◌+◌, ◌≤◌, ◌^◌, List, sym, subst, arith}
 use Rattle.std.specs.Prelude.{Option}
 use Rattle.std.proofs.lemmas.Bool.Decides.{nat_tests}
 use Rattle.x3d_values.specs.Stamp.{Stamp}
@@ -10,7 +10,7 @@ use Rattle.share_core.proofs.ahead.take_input.Goals as goal
 pub apply_ready-requires-clause-place : goal.apply_ready-requires-clause-place
 apply_ready-requires-clause-place g c =
     let next = applied_of c.args.stage.now.held + 1 in
-    let place = c.number-number.result - c.applied-applied.result - 1 in
+    let place = c.in-Some.place in
     let most : c.args.input.number ≤ 2 ^ 20 = grind (arith, nat_tests, c.number-number.ensures.value, c.number-number.ensures.fits) in
-    let at : c.args.input.number ≡ next + place = omega (arith, c.number-number.ensures.value, c.applied-applied.ensures, c.if-number-applied.false) in
+    let at : c.args.input.number ≡ next + place = omega (arith, c.number-number.ensures.value, c.applied-applied.ensures, c.in-Some.ensures.some.0) in
     subst (λ (l : List (Option Stamp)). InPlace next l) (sym c.keep.ensures) (InPlace-keep c.args.window.now next place c.args.input at most c.requires.place)

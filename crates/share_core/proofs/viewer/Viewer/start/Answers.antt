@@ -1,7 +1,7 @@
 use Rattle.std.proofs.Common.{◌≡◌, ◌+◌, List, ap, sym, subst, ◌∙◌, arith}
 use Rattle.std.specs.Prelude.{Option}
 use Rattle.x3d_values.specs.Stamp.{Stamp}
-use Rattle.cascade_core.specs.Held.{Held, applied_of}
+use Rattle.cascade_core.specs.Held.{applied_of}
 use Rattle.cascade_core.proofs.Turns.{opening-at}
 use Rattle.share_core.specs.Ahead.{InPlace}
 use Rattle.share_core.proofs.Places.{InPlace-empty}

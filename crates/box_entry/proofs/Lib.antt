@@ -1,0 +1,4 @@
+pub mod Entering
+pub mod Fractions
+pub mod Spans
+pub mod Wide

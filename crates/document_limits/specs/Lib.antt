@@ -1,3 +1,0 @@
-pub mod Flats
-pub mod Lengths
-pub mod Scenes

@@ -1,4 +1,0 @@
-pub mod Fitting
-pub mod Kept
-pub mod Ranged
-pub mod Whole

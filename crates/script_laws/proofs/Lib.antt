@@ -1,3 +1,0 @@
-pub mod Behaviours
-pub mod Outputs
-pub mod Running

@@ -1,5 +1,0 @@
-use Rattle.script_laws.proofs.Running.{attached_all_run}
-use Rattle.script_laws.proofs.scripts.attached_run.Goals as goal
-
-pub returns : goal.returns
-returns c = attached_all_run

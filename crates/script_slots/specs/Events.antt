@@ -1,0 +1,37 @@
+-- What scripts may be given: the range of each type (our choice of kinds).
+use Rattle.std.specs.Prelude.{ℕ, ◌^◌, ℤ, pos, negsuc, List, [], ◌∷◌, Bool, true, false, ◌&&◌, ◌==◌, nat_le, nat_lt, slice_get, unsigned_abs}
+use Rattle.std.specs.Option.{option_map_or}
+use Rattle.x3d_values.specs.Ranges.{coordinate_fits}
+use Rattle.x3d_values.specs.declared.script.Kind.{Kind}
+use Rattle.x3d_values.specs.declared.field_type.FieldType.{FieldType}
+use Rattle.x3d_values.specs.declared.field_type.FieldType.TheVariants.{SFBool, SFFloat, SFTime}
+use Rattle.x3d_values.specs.Tables.{Entry}
+use Rattle.script_slots.specs.Interface.{inputs}
+
+-- 0 for FALSE, 1 for TRUE
+abbrev pub truth_fits : ℤ → Bool
+truth_fits (pos n) = nat_lt n 2
+truth_fits (negsuc n) = false
+
+-- a size of up to 10^18 microseconds
+abbrev pub time_fits : ℤ → Bool
+time_fits z = nat_le (unsigned_abs z) (10 ^ 18)
+
+-- the number is in the range of a type that scripts take
+abbrev pub number_fits : FieldType → ℤ → Bool
+number_fits SFBool z = truth_fits z
+number_fits SFFloat z = coordinate_fits z
+number_fits SFTime z = time_fits z
+number_fits _ z = false
+
+-- the numbers are a value of this type: the first in its range, the others unused
+abbrev pub event_fits : FieldType → List ℤ → Bool
+event_fits t (first ∷ second ∷ third ∷ []) =
+    number_fits t first && (unsigned_abs second == 0 && unsigned_abs third == 0)
+event_fits t _ = false
+
+-- the event is a value of the type of this input, where the kind has such an input
+abbrev pub takes_event : Kind → ℕ → List ℤ → Bool
+takes_event kind input event =
+    option_map_or (λ (e : Entry). event_fits e.field_type event)
+    (slice_get (inputs kind) input) true

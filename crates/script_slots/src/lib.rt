@@ -1,0 +1,16 @@
+//! One script of a world: the contract of its box, its place among the others and whether it counts
+//! as initialized, and what a world asks of the boxes that it takes.
+#![tactic(auto)]
+
+mod asked;
+mod behaviour;
+mod boxed;
+mod fault;
+mod reply;
+mod slot;
+
+pub use asked::{are_as_many, first_unknown, starts_in};
+pub use behaviour::Behaviour;
+pub use fault::StateFault;
+pub use reply::{MAX_REPLIES, Replies, Reply};
+pub use slot::{Slot, receive_at};

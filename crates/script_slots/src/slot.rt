@@ -1,0 +1,151 @@
+//! One script of a world, and whether it counts as initialized.
+
+ghost use Rattle.std.specs.Prelude.{◌≡◌, ◌<◌, length, IsTrue, false, OnOk, OnErr, IfOk, IfErr, Some, None};
+ghost use Rattle.script_slots.specs.Behaviour.{Initialize, Receive, Settle};
+ghost use Rattle.script_slots.specs.Events.{takes_event};
+ghost use Rattle.script_slots.specs.Hosting.{answer_of, after_call, fresh_record, CalledAt, TakesAt};
+ghost use Rattle.script_slots.specs.States.{state_fault};
+
+use crate::behaviour::Behaviour;
+use crate::fault::StateFault;
+use crate::reply::Replies;
+use std::alloc::{AllocError, Global};
+use std::marker::Model;
+use std::mem;
+use x3d_values::{Items, Kind};
+
+/// Puts a script into a state of its kind, which is refused for memory alone.
+fn put<B: Behaviour>(script: &mut B, state: &[i64]) -> Result<(), AllocError>
+    requires { state_fault (B.kind_of script.old) state.now ≡ None }
+    ensures kind { B.kind_of script.new ≡ B.kind_of script.old }
+    ensures ok { OnOk result (B.numbers script.new ≡ state.now) }
+    ensures err { OnErr result (B.numbers script.new ≡ B.numbers script.old) }
+{
+    match script.restore(state) {
+        Ok(()) => Ok(()),
+        Err(StateFault::Memory) => Err(AllocError),
+        Err(StateFault::StateLength | StateFault::StateRange) => unreachable!(),
+    }
+}
+
+#[derive(Drop)]
+pub struct Slot<B: Behaviour> {
+    script: B,
+    initialized: bool,
+}
+
+impl<B: Behaviour> Model for Slot<B> {
+    ghost use Rattle.script_slots.specs.Hosting.{ScriptRecord};
+
+    ghost Value = { ScriptRecord };
+
+    ghost view = { λ s. record {
+      kind = B.kind_of s.script;
+      state = B.numbers s.script;
+      initialized = s.initialized;
+    } };
+}
+
+impl<B: Behaviour> Slot<B> {
+    pub fn new(script: B) -> Slot<B>
+        ensures { result ≡ fresh_record B.kind_of B.numbers script }
+    {
+        Slot {
+            script,
+            initialized: false,
+        }
+    }
+
+    pub fn kind(&self) -> Kind
+        ensures { result ≡ self.now.kind }
+    {
+        self.script.kind()
+    }
+
+    pub fn initialize(&mut self) -> Replies
+        ensures after { self.new ≡ after_call Initialize self.old }
+        ensures replies { result.items ≡ (answer_of Initialize self.old).replies }
+    {
+        self.initialized = true;
+        self.script.initialize()
+    }
+
+    pub fn receive(&mut self, input: u32, event: [i64; 3]) -> Replies
+        requires { IsTrue (takes_event self.old.kind input event) }
+        ensures after { self.new ≡ after_call (Receive input event) self.old }
+        ensures replies { result.items ≡ (answer_of (Receive input event) self.old).replies }
+    {
+        self.script.receive(input, event)
+    }
+
+    pub fn settle(&mut self) -> Replies
+        ensures after { self.new ≡ after_call Settle self.old }
+        ensures replies { result.items ≡ (answer_of Settle self.old).replies }
+    {
+        self.script.events_processed()
+    }
+
+    /// Shuts the script down where it counts as initialized; it doesn't count as that any more.
+    pub fn shutdown(&mut self)
+        ensures { self.new ≡ record self.old { initialized = false } }
+    {
+        if self.initialized {
+            self.initialized = false;
+            self.script.shutdown();
+        }
+    }
+
+    pub fn state(&self, alloc: Global) -> Result<Items<i64>, AllocError>
+        ensures value { IfOk result (λ state. state ≡ self.now.state) }
+        ensures valid { state_fault self.now.kind self.now.state ≡ None }
+    {
+        let mut state = Vec::new(alloc);
+        self.script.state(&mut state)?;
+        Ok(Items::from_vec(state))
+    }
+
+    pub fn fits(&self, state: &[i64]) -> Result<(), StateFault>
+        ensures ok { OnOk result (state_fault self.now.kind state.now ≡ None) }
+        ensures err { IfErr result (λ fault. state_fault self.now.kind state.now ≡ Some fault) }
+    {
+        self.script.fits(state)
+    }
+
+    /// Puts the script into a state of its kind.
+    pub fn restore(&mut self, state: &[i64]) -> Result<(), AllocError>
+        requires { state_fault self.old.kind state.now ≡ None }
+        ensures ok { OnOk result (self.new ≡ record self.old { state = state.now }) }
+        ensures err { OnErr result (self.new ≡ self.old) }
+    {
+        put(&mut self.script, state)
+    }
+
+    /// Puts a script of the same kind in the place of this one, in its state. The old one is shut
+    /// down where it counts as initialized, and the new one then counts as that without a call.
+    pub fn take(&mut self, alloc: Global, mut script: B) -> Result<(), AllocError>
+        requires { B.kind_of script ≡ self.old.kind }
+        ensures { self.new ≡ self.old }
+    {
+        let state = self.state(alloc)?;
+        put(&mut script, state.as_slice())?;
+        let mut old = mem::replace(&mut self.script, script);
+        if self.initialized {
+            old.shutdown();
+        }
+        Ok(())
+    }
+}
+
+/// Hands an event to the script at a place.
+pub fn receive_at<B: Behaviour>(
+    slots: &mut [Slot<B>],
+    k: usize,
+    input: u32,
+    event: [i64; 3],
+) -> Replies
+    requires there { k < length slots.old }
+    requires fits { TakesAt k input event slots.old }
+    ensures { CalledAt (Receive input event) k slots.old slots.new result.items }
+{
+    slots[k].receive(input, event)
+}

@@ -1,0 +1,4 @@
+pub mod Offers
+pub mod Asks
+pub mod Lines
+pub mod Words

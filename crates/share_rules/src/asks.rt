@@ -1,0 +1,25 @@
+//! Which inputs answer an ask.
+
+ghost use Rattle.std.specs.Prelude.{◌≡◌, ◌≤◌, ◌+◌, ◌^◌, ◌<◌};
+ghost use Rattle.share_rules.specs.Asks.{span_of};
+
+/// So many inputs in a row, by the number of the first.
+#[derive(Clone, Copy)]
+pub struct Span {
+    pub first: u32,
+    pub count: u32,
+}
+
+/// The inputs from the one asked for on, at most 64 of them, where `len` are numbered from 1.
+pub fn span_of(next: u32, len: u32) -> Span
+    requires from { 1 ≤ next }
+    requires numbered { next ≤ len }
+    requires few { len + 1 < 2 ^ 32 }
+    ensures value { result ≡ span_of next len }
+    ensures within { result.first + result.count ≤ len + 1 }
+{
+    Span {
+        first: next,
+        count: (len + 1 - next).min(64),
+    }
+}

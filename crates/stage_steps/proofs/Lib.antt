@@ -1,0 +1,3 @@
+pub mod ClockNumbers
+pub mod Sends
+pub mod Shown

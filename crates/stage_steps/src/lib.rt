@@ -1,0 +1,14 @@
+//! The steps that a stage is made of: the `tasks` of a cascade, an event that is sent once in a
+//! turn (`sending`) and one that comes to its node, whose `boxes` are kept, and the `nodes` of a
+//! scene by their types (ISO/IEC 19775-1, event model).
+#![tactic(auto)]
+
+mod boxes;
+mod nodes;
+mod sending;
+mod tasks;
+
+pub use boxes::{deliver, put_boxes};
+pub use nodes::numbers_of;
+pub use sending::send;
+pub use tasks::{Task, push_before, push_replies};

@@ -1,3 +1,0 @@
-pub mod Countable
-pub mod Rewound
-pub mod Worlds

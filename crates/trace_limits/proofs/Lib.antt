@@ -1,3 +1,0 @@
-pub mod Counted
-mod Outputs
-pub mod Sent

@@ -1,4 +1,0 @@
-pub mod Fitting
-pub mod Held
-pub mod Lines
-pub mod Rewritten

@@ -1,0 +1,38 @@
+-- What is in its range, of one script: its state, the values that it takes, and those that it sends
+-- (our choice of kinds and ranges).
+use Rattle.std.specs.Prelude.{◌≡◌, ℤ, Bool, true, false, List, None, slice_get}
+use Rattle.std.specs.List.{list_all}
+use Rattle.std.specs.Option.{option_map_or}
+use Rattle.x3d_values.specs.declared.script.Kind.{Kind}
+use Rattle.x3d_values.specs.Tables.{Entry}
+use Rattle.snapshot_codec.specs.Values.{value_fits}
+use Rattle.script_host.specs.Behaviour.{Answer, Call, Initialize, Receive, Settle, behave}
+use Rattle.script_host.specs.Events.{takes_event}
+use Rattle.script_host.specs.Interface.{outputs}
+use Rattle.script_host.specs.States.{state_fault}
+use Rattle.script_slots.specs.declared.reply.Reply.{Reply}
+use Rattle.script_turn.specs.Values.{value_of}
+
+-- what comes to an input is of its type, and in the range of the type
+abbrev pub call_fits : Kind → Call → Bool
+call_fits kind Initialize = true
+call_fits kind (Receive input event) = takes_event kind input event
+call_fits kind Settle = true
+
+-- what leaves by an output is of its type, and in the range of the type
+abbrev pub reply_fits : Kind → Reply → Bool
+reply_fits kind r =
+    option_map_or (λ (e : Entry). value_fits e.field_type (value_of e.field_type r.numbers))
+    (slice_get (outputs kind) r.output) false
+
+-- the script comes to a state of its kind, and sends what fits
+pub record AnswerFits (kind : Kind) (a : Answer) : Type 0 where
+  pub in_state : state_fault kind a.state ≡ None
+  pub in_replies : list_all (reply_fits kind) a.replies ≡ true
+
+-- so does each call on a script that is in a state of its kind
+abbrev pub CallsFit : Type 0
+CallsFit =
+    (kind : Kind) (call : Call) (state : List ℤ)
+    → state_fault kind state ≡ None → call_fits kind call ≡ true
+    → AnswerFits kind (behave kind call state)

@@ -1,4 +1,0 @@
-pub mod Distinct
-pub mod Fields
-pub mod Flats
-pub mod Written

@@ -1,4 +1,0 @@
-pub mod Parts
-pub mod Plain
-pub mod Sound
-pub mod Written

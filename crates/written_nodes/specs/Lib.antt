@@ -1,3 +1,0 @@
-pub mod Braces
-pub mod Flats
-pub mod Nodes

@@ -1,0 +1,16 @@
+pub mod Order
+pub mod Braces
+pub mod NodesFlats
+pub mod Nodes
+pub mod Distinct
+pub mod Fields
+pub mod FieldsFlats
+pub mod FieldsWritten
+pub mod Routes
+pub mod Resolved
+pub mod Parts
+pub mod Plain
+pub mod Sound
+pub mod LimitsWritten
+pub mod Interfaces
+pub mod Scenes
