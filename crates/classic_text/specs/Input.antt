@@ -85,10 +85,6 @@ expect_word w = λ ts. if sees_word w ts then Ok (tt, next ts) else refuse ts
 abbrev pub copied : Parser (List ℕ)
 copied = λ ts. Ok (spelling ts, ts)
 
--- the string that the next token holds
-abbrev pub held_string : Parser (List ℕ)
-held_string = λ ts. Ok (unquoted (spelling ts), ts)
-
 -- a name
 unfoldable pub name : Parser (List ℕ)
 name = λ ts. if sees t.Name ts then Ok (spelling ts, next ts) else refuse ts

@@ -5,20 +5,18 @@ ghost use Rattle.classic_bounds.specs.Bounds.{takes_is};
 ghost use Rattle.classic_text.specs.Grammar as spec;
 ghost use Rattle.classic_text.specs.Grammar.{until};
 ghost use Rattle.classic_text.specs.Input.{Reads};
-ghost use Rattle.classic_text.specs.declared.terminal.Terminal.TheVariants.{CloseBrace, CloseBracket};
+ghost use Rattle.classic_text.specs.declared.terminal.Terminal.TheVariants.{CloseBracket};
 
 use crate::ahead::{begins_unread_statement, refuse_deep};
 use crate::gathered::grown;
-use crate::parts::{
-    def_name, joined, number_list, numbers, route, string_list, truth_list, use_node, what_is,
-};
+use crate::parts::{all_of, def_name, joined, numbers, route, use_node};
 use crate::refusal::Refusal;
 use crate::terminal::Terminal;
 use crate::tokens::Tokens;
-use classic_bounds::{Owner, holds_value, is_script, top_depth};
+use classic_bounds::{Owner, holds_value, is_script};
 use classic_tree::{BodyItem, Declaration, Given, NodeText, ProtoText, RawValue, Statement};
 use std::alloc::Global;
-use x3d_values::{Access, Items};
+use x3d_values::{Access, Items, Text};
 
 /// A node in which nodes nest no deeper than `depth`, itself counted.
 #[cycle(nodes)]
@@ -49,7 +47,6 @@ fn full_node(alloc: Global, tokens: &mut Tokens<'_>, depth: u32) -> Result<NodeT
 }
 
 #[cycle(nodes)]
-#[tactic(auto, unfolding(crate::specs::Grammar::body))]
 fn body(
     alloc: Global,
     tokens: &mut Tokens<'_>,
@@ -60,20 +57,6 @@ fn body(
         result tokens.new }
 {
     tokens.expect(Terminal::OpenBrace)?;
-    items(alloc, tokens, depth, script)
-}
-
-#[cycle(nodes)]
-fn items(
-    alloc: Global,
-    tokens: &mut Tokens<'_>,
-    depth: u32,
-    script: bool,
-) -> Result<Items<BodyItem>, Refusal>
-    ensures { Reads (until CloseBrace
-        (spec.one_item (spec.node_at depth) (spec.proto_at depth) script) tokens.old) result
-        tokens.new }
-{
     let mut found = Items::new(alloc);
     for _turn in 0..tokens.left() {
         if tokens.sees(Terminal::CloseBrace) {
@@ -86,7 +69,7 @@ fn items(
 }
 
 #[cycle(nodes)]
-#[tactic(auto, unfolding(crate::specs::Grammar::one_item))]
+#[tactic(auto, unfolding(crate::specs::Grammar::one_item, crate::specs::Grammar::other_item))]
 fn one_item(
     alloc: Global,
     tokens: &mut Tokens<'_>,
@@ -102,19 +85,6 @@ fn one_item(
     if tokens.sees(Terminal::Proto) {
         return one_proto(alloc, tokens, depth).map(BodyItem::Proto);
     }
-    other_item(alloc, tokens, depth, script)
-}
-
-#[cycle(nodes)]
-#[tactic(auto, unfolding(crate::specs::Grammar::other_item))]
-fn other_item(
-    alloc: Global,
-    tokens: &mut Tokens<'_>,
-    depth: u32,
-    script: bool,
-) -> Result<BodyItem, Refusal>
-    ensures { Reads (spec.other_item (spec.node_at depth) script tokens.old) result tokens.new }
-{
     if tokens.sees_word(b"EXTERNPROTO") {
         return Err(Refusal::Unsupported(tokens.line()));
     }
@@ -227,30 +197,19 @@ fn proto_body(
         return Err(Refusal::TooDeep(line));
     }
     tokens.expect(Terminal::OpenBrace)?;
-    inner_statements(alloc, tokens, depth - 1)
-}
-
-#[cycle(nodes)]
-fn inner_statements(
-    alloc: Global,
-    tokens: &mut Tokens<'_>,
-    depth: u32,
-) -> Result<Items<Statement>, Refusal>
-    ensures { Reads (until CloseBrace
-        (spec.one_statement (spec.node_at depth) (spec.proto_at depth)) tokens.old) result
-        tokens.new }
-{
     let mut found = Items::new(alloc);
     for _turn in 0..tokens.left() {
         if tokens.sees(Terminal::CloseBrace) {
             tokens.advance();
             return Ok(found);
         }
-        found = grown(found, one_statement(alloc, tokens, depth))?;
+        found = grown(found, one_statement(alloc, tokens, depth - 1))?;
     }
     Err(tokens.refuse())
 }
 
+/// A field of a node, which is given as a field that a Script declares with a value: `IS name` or
+/// a value.
 #[cycle(nodes)]
 #[tactic(auto, unfolding(crate::specs::Grammar::field))]
 fn field(alloc: Global, tokens: &mut Tokens<'_>, depth: u32) -> Result<BodyItem, Refusal>
@@ -258,23 +217,12 @@ fn field(alloc: Global, tokens: &mut Tokens<'_>, depth: u32) -> Result<BodyItem,
 {
     let line = tokens.line();
     let name = tokens.name(alloc)?;
-    let given = one_given(alloc, tokens, depth)?;
+    let given = declared(alloc, tokens, depth, Owner::Script, Access::InputOutput)?;
     Ok(BodyItem::Field(line, name, given))
 }
 
 #[cycle(nodes)]
-#[tactic(auto, unfolding(crate::specs::Grammar::one_given))]
-fn one_given(alloc: Global, tokens: &mut Tokens<'_>, depth: u32) -> Result<Given<NodeText>, Refusal>
-    ensures { Reads (spec.one_given (spec.node_at depth) tokens.old) result tokens.new }
-{
-    if tokens.sees(Terminal::Is) {
-        return what_is(alloc, tokens);
-    }
-    value_of(alloc, tokens, depth).map(Given::Value)
-}
-
-#[cycle(nodes)]
-#[tactic(auto, unfolding(crate::specs::Grammar::value, crate::specs::Input::expect, crate::specs::Input::sees, crate::specs::Terminal::same))]
+#[tactic(auto, unfolding(crate::specs::Grammar::value))]
 fn value_of(
     alloc: Global,
     tokens: &mut Tokens<'_>,
@@ -300,7 +248,7 @@ fn value_of(
 
 /// A list behind its bracket.
 #[cycle(nodes)]
-#[tactic(auto, unfolding(crate::specs::Grammar::list, crate::specs::Input::expect, crate::specs::Input::sees, crate::specs::Terminal::same))]
+#[tactic(auto, unfolding(crate::specs::Grammar::list))]
 fn list_of(
     alloc: Global,
     tokens: &mut Tokens<'_>,
@@ -313,9 +261,9 @@ fn list_of(
             tokens.advance();
             Ok(RawValue::EmptyList)
         }
-        Terminal::True | Terminal::False => truth_list(alloc, tokens).map(RawValue::TruthList),
-        Terminal::String => string_list(alloc, tokens).map(RawValue::StringList),
-        Terminal::Numeral => number_list(alloc, tokens).map(RawValue::NumberList),
+        Terminal::True | Terminal::False => all_of::<bool>(alloc, tokens).map(RawValue::TruthList),
+        Terminal::String => all_of::<Text>(alloc, tokens).map(RawValue::StringList),
+        Terminal::Numeral => all_of::<i64>(alloc, tokens).map(RawValue::NumberList),
         _ => node_list(alloc, tokens, depth).map(RawValue::NodeList),
     }
 }
@@ -337,7 +285,11 @@ fn node_list(alloc: Global, tokens: &mut Tokens<'_>, depth: u32) -> Result<Items
 
 #[cycle(nodes)]
 #[tactic(auto, unfolding(crate::specs::Grammar::one_statement))]
-fn one_statement(alloc: Global, tokens: &mut Tokens<'_>, depth: u32) -> Result<Statement, Refusal>
+pub(crate) fn one_statement(
+    alloc: Global,
+    tokens: &mut Tokens<'_>,
+    depth: u32,
+) -> Result<Statement, Refusal>
     ensures { Reads (spec.one_statement (spec.node_at depth) (spec.proto_at depth) tokens.old)
         result tokens.new }
 {
@@ -347,32 +299,8 @@ fn one_statement(alloc: Global, tokens: &mut Tokens<'_>, depth: u32) -> Result<S
     if tokens.sees(Terminal::Proto) {
         return one_proto(alloc, tokens, depth).map(Statement::Proto);
     }
-    node_statement(alloc, tokens, depth)
-}
-
-#[cycle(nodes)]
-#[tactic(auto, unfolding(crate::specs::Grammar::node_statement))]
-fn node_statement(alloc: Global, tokens: &mut Tokens<'_>, depth: u32) -> Result<Statement, Refusal>
-    ensures { Reads (spec.node_statement (spec.node_at depth) tokens.old) result tokens.new }
-{
     if begins_unread_statement(tokens) {
         return Err(Refusal::Unsupported(tokens.line()));
     }
     one_node(alloc, tokens, depth).map(Statement::Node)
-}
-
-pub(crate) fn statements(
-    alloc: Global,
-    tokens: &mut Tokens<'_>,
-) -> Result<Items<Statement>, Refusal>
-    ensures { Reads (spec.statements tokens.old) result tokens.new }
-{
-    let mut found = Items::new(alloc);
-    for _turn in 0..tokens.left() {
-        if tokens.at_end() {
-            return Ok(found);
-        }
-        found = grown(found, one_statement(alloc, tokens, top_depth()))?;
-    }
-    Ok(found)
 }

@@ -4,7 +4,7 @@ ghost use Rattle.std.specs.Prelude.{◌≡◌};
 ghost use Rattle.classic_bounds.specs.Bounds.{takes_is};
 ghost use Rattle.classic_text.specs.Grammar as spec;
 ghost use Rattle.classic_text.specs.Grammar.{until};
-ghost use Rattle.classic_text.specs.Input.{Reads, number, string, truth};
+ghost use Rattle.classic_text.specs.Input.{Parser, Reads, number, string, truth};
 ghost use Rattle.classic_text.specs.declared.terminal.Terminal.TheVariants.{CloseBracket};
 
 use crate::gathered::grown;
@@ -56,36 +56,41 @@ pub(crate) fn numbers(alloc: Global, tokens: &mut Tokens<'_>) -> Result<Items<i6
     Ok(found)
 }
 
-pub(crate) fn number_list(alloc: Global, tokens: &mut Tokens<'_>) -> Result<Items<i64>, Refusal>
-    ensures { Reads (until CloseBracket number tokens.old) result tokens.new }
-{
-    let mut found = Items::new(alloc);
-    for _turn in 0..tokens.left() {
-        if tokens.sees(Terminal::CloseBracket) {
-            tokens.advance();
-            return Ok(found);
-        }
-        found = grown(found, tokens.number())?;
-    }
-    Err(tokens.refuse())
+/// What a bracketed list without nodes holds.
+pub(crate) trait Listed: Drop {
+    ghost parser: { Parser Self };
+
+    fn read(alloc: Global, tokens: &mut Tokens<'_>) -> Result<Self, Refusal>
+        ensures { Reads (parser tokens.old) result tokens.new };
 }
 
-pub(crate) fn truth_list(alloc: Global, tokens: &mut Tokens<'_>) -> Result<Items<bool>, Refusal>
-    ensures { Reads (until CloseBracket truth tokens.old) result tokens.new }
-{
-    let mut found = Items::new(alloc);
-    for _turn in 0..tokens.left() {
-        if tokens.sees(Terminal::CloseBracket) {
-            tokens.advance();
-            return Ok(found);
-        }
-        found = grown(found, tokens.truth())?;
+impl Listed for i64 {
+    ghost parser = { number };
+
+    fn read(_alloc: Global, tokens: &mut Tokens<'_>) -> Result<i64, Refusal> {
+        tokens.number()
     }
-    Err(tokens.refuse())
 }
 
-pub(crate) fn string_list(alloc: Global, tokens: &mut Tokens<'_>) -> Result<Items<Text>, Refusal>
-    ensures { Reads (until CloseBracket string tokens.old) result tokens.new }
+impl Listed for bool {
+    ghost parser = { truth };
+
+    fn read(_alloc: Global, tokens: &mut Tokens<'_>) -> Result<bool, Refusal> {
+        tokens.truth()
+    }
+}
+
+impl Listed for Text {
+    ghost parser = { string };
+
+    fn read(alloc: Global, tokens: &mut Tokens<'_>) -> Result<Text, Refusal> {
+        tokens.string(alloc)
+    }
+}
+
+/// The items up to the bracket that closes the list.
+pub(crate) fn all_of<T: Listed>(alloc: Global, tokens: &mut Tokens<'_>) -> Result<Items<T>, Refusal>
+    ensures { Reads (until CloseBracket T.Listed.parser tokens.old) result tokens.new }
 {
     let mut found = Items::new(alloc);
     for _turn in 0..tokens.left() {
@@ -93,7 +98,7 @@ pub(crate) fn string_list(alloc: Global, tokens: &mut Tokens<'_>) -> Result<Item
             tokens.advance();
             return Ok(found);
         }
-        found = grown(found, tokens.string(alloc))?;
+        found = grown(found, T::read(alloc, tokens))?;
     }
     Err(tokens.refuse())
 }
@@ -118,16 +123,8 @@ pub(crate) fn use_node(alloc: Global, tokens: &mut Tokens<'_>) -> Result<NodeTex
     Ok(NodeText::Use(line, tokens.name(alloc)?))
 }
 
-#[tactic(auto, unfolding(crate::specs::Grammar::what_is))]
-pub(crate) fn what_is(alloc: Global, tokens: &mut Tokens<'_>) -> Result<Given<NodeText>, Refusal>
-    ensures { Reads (spec.what_is tokens.old) result tokens.new }
-{
-    tokens.expect(Terminal::Is)?;
-    tokens.name(alloc).map(Given::Is)
-}
-
 /// `IS name` in the declaration of a field of that owner.
-#[tactic(auto, unfolding(crate::specs::Grammar::joined))]
+#[tactic(auto, unfolding(crate::specs::Grammar::joined, crate::specs::Grammar::what_is))]
 pub(crate) fn joined(
     alloc: Global,
     tokens: &mut Tokens<'_>,
@@ -138,5 +135,6 @@ pub(crate) fn joined(
     if !takes_is(owner) {
         return Err(tokens.refuse());
     }
-    what_is(alloc, tokens)
+    tokens.expect(Terminal::Is)?;
+    tokens.name(alloc).map(Given::Is)
 }

@@ -208,14 +208,10 @@ impl<'a> Tokens<'a> {
     }
 
     /// A copy of the next token.
-    #[tactic(auto, unfolding(crate::specs::Input::spelling))]
     fn copy(&self, alloc: Global) -> Result<Text, Refusal>
         ensures { Reads (spec.copied self.now) result self.now }
     {
-        match std::str::from_utf8(self.spelling()) {
-            Ok(text) => Ok(Text::from_str(alloc, text)?),
-            Err(_) => unreachable!(),
-        }
+        Ok(Text::from_str(alloc, self.word())?)
     }
 
     #[tactic(auto, unfolding(crate::specs::Input::name))]
@@ -245,14 +241,6 @@ impl<'a> Tokens<'a> {
         }
     }
 
-    /// The string that the next token holds.
-    #[tactic(auto, unfolding(crate::specs::Input::spelling))]
-    fn held(&self, alloc: Global) -> Result<Text, Refusal>
-        ensures { Reads (spec.held_string self.now) result self.now }
-    {
-        Ok(unquoted(alloc, self.spelling())?)
-    }
-
     /// The next token is a string, which has both its quotes.
     fn sees_string(&self) -> bool
         ensures { result ≡ spec.sees_string self.now }
@@ -267,7 +255,7 @@ impl<'a> Tokens<'a> {
         ensures { Reads (spec.string self.old) result self.new }
     {
         if self.sees_string() {
-            let string = self.held(alloc)?;
+            let string = unquoted(alloc, self.spelling())?;
             self.advance();
             Ok(string)
         } else {

@@ -3,6 +3,10 @@ use Rattle.std.proofs.Common.{◌≡◌, ℕ, ◌+◌, List, [], ◌∷◌, ◌+
 use Rattle.std.proofs.lemmas.List.{take_all, replicate_more}
 use Rattle.classic_tree.specs.Writing.{Writes, lines_text}
 
+-- by two texts
+pub twice : (a b old first new : List ℕ) → first ≡ old ++ a → new ≡ first ++ b → new ≡ old ++ (a ++ b)
+twice a b old first new one two = two ∙ ap (λ t. t ++ b) one ∙ append_assoc old a b
+
 -- by three texts
 pub thrice : (a b c old first second new : List ℕ) →
     first ≡ old ++ a → second ≡ first ++ b → new ≡ second ++ c → new ≡ old ++ (a ++ b ++ c)

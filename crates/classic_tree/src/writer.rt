@@ -3,7 +3,7 @@
 
 ghost use Rattle.std.specs.Prelude.{◌≡◌, ◌++◌, ◌∷◌, ◌+◌, [], codes, OnOk, OnErr, IfOk};
 ghost use Rattle.x3d_lists.specs.Extends.{Extends};
-ghost use Rattle.classic_tree.specs.Writing.{line_text, lines_text, deeper_text, block_text, value_text, given_text, declaration_text, item_text, node_text, statement_text, proto_text, document_text};
+ghost use Rattle.classic_tree.specs.Writing.{lines_text, deeper_text, block_text, value_text, given_text, declaration_text, item_text, node_text, statement_text, proto_text, document_text};
 
 use crate::header::push_top;
 use crate::parts::{push_declared, push_head, push_proto_head, push_route};
@@ -160,6 +160,7 @@ fn push_items(items: &[BodyItem], indent: usize, out: &mut Vec<u8>) -> Result<()
     push_spaces(indent, out)
 }
 
+/// Each item on a line of its own.
 #[cycle(push)]
 fn push_item_lines(items: &[BodyItem], indent: usize, out: &mut Vec<u8>) -> Result<(), AllocError>
     ensures ok { OnOk result
@@ -167,20 +168,10 @@ fn push_item_lines(items: &[BodyItem], indent: usize, out: &mut Vec<u8>) -> Resu
     ensures kept { Extends out.old.items out.new.items }
 {
     for item in items {
-        push_item_line(item, indent, out)?;
+        push_spaces(indent, out)?;
+        push_item(item, indent, out)?;
+        out.push(b'\n')?;
     }
-    Ok(())
-}
-
-#[cycle(push)]
-fn push_item_line(item: &BodyItem, indent: usize, out: &mut Vec<u8>) -> Result<(), AllocError>
-    ensures ok { OnOk result
-        (out.new.items ≡ out.old.items ++ line_text item_text indent item.now) }
-    ensures kept { Extends out.old.items out.new.items }
-{
-    push_spaces(indent, out)?;
-    push_item(item, indent, out)?;
-    out.push(b'\n')?;
     Ok(())
 }
 
@@ -199,6 +190,7 @@ fn push_nodes(nodes: &[NodeText], indent: usize, out: &mut Vec<u8>) -> Result<()
     push_spaces(indent, out)
 }
 
+/// Each node on a line of its own.
 #[cycle(push)]
 fn push_node_lines(nodes: &[NodeText], indent: usize, out: &mut Vec<u8>) -> Result<(), AllocError>
     ensures ok { OnOk result
@@ -206,20 +198,10 @@ fn push_node_lines(nodes: &[NodeText], indent: usize, out: &mut Vec<u8>) -> Resu
     ensures kept { Extends out.old.items out.new.items }
 {
     for node in nodes {
-        push_node_line(node, indent, out)?;
+        push_spaces(indent, out)?;
+        push_node(node, indent, out)?;
+        out.push(b'\n')?;
     }
-    Ok(())
-}
-
-#[cycle(push)]
-fn push_node_line(node: &NodeText, indent: usize, out: &mut Vec<u8>) -> Result<(), AllocError>
-    ensures ok { OnOk result
-        (out.new.items ≡ out.old.items ++ line_text node_text indent node.now) }
-    ensures kept { Extends out.old.items out.new.items }
-{
-    push_spaces(indent, out)?;
-    push_node(node, indent, out)?;
-    out.push(b'\n')?;
     Ok(())
 }
 
@@ -243,6 +225,7 @@ fn push_interface(
     push_spaces(indent, out)
 }
 
+/// Each declaration on a line of its own.
 #[cycle(push)]
 fn push_declaration_lines(
     declarations: &[Declaration<NodeText>],
@@ -255,25 +238,10 @@ fn push_declaration_lines(
     ensures kept { Extends out.old.items out.new.items }
 {
     for declaration in declarations {
-        push_declaration_line(declaration, indent, out)?;
+        push_spaces(indent, out)?;
+        push_declaration(declaration, indent, out)?;
+        out.push(b'\n')?;
     }
-    Ok(())
-}
-
-#[cycle(push)]
-fn push_declaration_line(
-    declaration: &Declaration<NodeText>,
-    indent: usize,
-    out: &mut Vec<u8>,
-) -> Result<(), AllocError>
-    ensures ok { OnOk result
-        (out.new.items ≡ out.old.items
-        ++ line_text (declaration_text node_text) indent declaration.now) }
-    ensures kept { Extends out.old.items out.new.items }
-{
-    push_spaces(indent, out)?;
-    push_declaration(declaration, indent, out)?;
-    out.push(b'\n')?;
     Ok(())
 }
 
@@ -292,6 +260,7 @@ fn push_body(body: &[Statement], indent: usize, out: &mut Vec<u8>) -> Result<(),
     Ok(())
 }
 
+/// Each statement on a line of its own.
 #[cycle(push)]
 fn push_statement_lines(
     statements: &[Statement],
@@ -303,24 +272,10 @@ fn push_statement_lines(
     ensures kept { Extends out.old.items out.new.items }
 {
     for statement in statements {
-        push_statement_line(statement, indent, out)?;
+        push_spaces(indent, out)?;
+        push_statement(statement, indent, out)?;
+        out.push(b'\n')?;
     }
-    Ok(())
-}
-
-#[cycle(push)]
-fn push_statement_line(
-    statement: &Statement,
-    indent: usize,
-    out: &mut Vec<u8>,
-) -> Result<(), AllocError>
-    ensures ok { OnOk result
-        (out.new.items ≡ out.old.items ++ line_text statement_text indent statement.now) }
-    ensures kept { Extends out.old.items out.new.items }
-{
-    push_spaces(indent, out)?;
-    push_statement(statement, indent, out)?;
-    out.push(b'\n')?;
     Ok(())
 }
 

@@ -2,7 +2,6 @@
 
 mod clocks;
 mod datagrams;
-mod headers;
 mod lists;
 mod memory;
 mod numerals;
@@ -16,27 +15,50 @@ mod table_text;
 mod token_limits;
 mod tokens;
 mod typing;
-mod typing_faults;
-mod typing_values;
 mod values;
 
-use std::alloc::{AllocError, Global};
+use std::alloc::Global;
+use std::fmt::Display;
 use std::process::Abort;
+use x3d_values::Items;
 
-/// It is so, and no memory was refused.
-fn holds(rt: &impl Abort, answer: Result<bool, AllocError>) {
-    assert!(rt; answer == Ok(true));
+/// It is so.
+fn holds(rt: &impl Abort, answer: bool) {
+    assert!(rt; answer);
 }
 
 /// A row of a table.
 trait Row {
-    /// Whether it is as the row says.
-    fn holds(&self, alloc: Global) -> Result<bool, AllocError>;
+    /// Whether it is as the row says; it isn't where memory is refused.
+    fn holds(&self, alloc: Global) -> bool;
 }
 
 /// Each row of a table holds.
 fn all_hold<R: Row>(rt: &impl Abort, alloc: Global, rows: &[R]) {
     for (number, row) in rows.iter().enumerate() {
-        assert!(rt; row.holds(alloc) == Ok(true), "row {number}");
+        assert!(rt; row.holds(alloc), "row {number}");
+    }
+}
+
+/// The items, or none where memory is refused.
+fn list_of<T: Copy>(alloc: Global, items: &[T]) -> Items<T> {
+    match Items::from_slice(alloc, items) {
+        Ok(list) => list,
+        Err(_) => Items::new(alloc),
+    }
+}
+
+/// A fault, and what it says.
+struct Said<T>(T, &'static str);
+
+impl<T: Display> Row for Said<T> {
+    fn holds(&self, alloc: Global) -> bool {
+        let Said(fault, wanted) = self;
+        let Ok(text) = format!(in alloc; "{fault}") else {
+            return false;
+        };
+        let same = text.as_str() == *wanted;
+        drop(text);
+        same
     }
 }

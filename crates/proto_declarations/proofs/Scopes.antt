@@ -49,6 +49,11 @@ closed-is name old before inner new kept is =
     ∙ ap (λ takes. sight (closed name (shown old) (shown inner)).here (seen old.outside.items) takes (map scope_of new.bodies.items)) (is.takes ∙ kept)
     ∙ ap (λ (bodies : List Scope). sight (closed name (shown old) (shown inner)).here (seen old.outside.items) (names_of old.takes) bodies) (ap (map scope_of) is.bodies ∙ map-append scope_of inner.bodies.items (inner.here ∷ []))
 
+-- the same prototype in the same scope
+pub defined : (name : List ℕ) (takes other : Taken) (body number : ℕ) (here around : Table) → takes ≡ other → body ≡ number → here ≡ around →
+    with_definition name (record { takes = names_of takes; body = body }) (scope_of here) ≡ with_definition name (record { takes = names_of other; body = number }) (scope_of around)
+defined name takes other body number here around same is inside = rw (same, is, inside) refl
+
 -- ---- what is done inside
 
 pub entered : (name : List ℕ) (interface : List (Declaration NodeText)) (body : List Statement) (old : Declarations) (before : Taken) (start inner new : Declarations) →

@@ -55,6 +55,15 @@ pub record IsOpened (old : Declarations) (before : Taken) (new : Declarations) :
   pub takes : names_of new.takes ≡ no_names
   pub bodies : new.bodies.items ≡ old.bodies.items
 
+-- the scope around, the last of those outside, is open again, and the body that closed has a number
+pub record IsLeft (outer : List Table) (around : Table) (body : ℕ) (old new : Declarations)
+    : Type 0 where
+  pub here : new.here ≡ around
+  pub outside : new.outside.items ≡ outer
+  pub takes : new.takes ≡ old.takes
+  pub bodies : new.bodies.items ≡ old.bodies.items ++ old.here ∷ []
+  pub number : body ≡ length old.bodies.items
+
 -- the scope was closed, and its prototype declared in the scope around, the last of those outside
 pub record IsClosed (name : List ℕ) (outer : List Table) (around : Table) (before : Taken)
     (old new : Declarations) : Type 0 where

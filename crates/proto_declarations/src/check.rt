@@ -1,19 +1,18 @@
 //! The walk over a declaration and those inside.
 
-ghost use Rattle.std.specs.Prelude.{◌≡◌, ◌++◌, ◌∷◌, [], List, IfOk};
-ghost use Rattle.proto_declarations.specs.declared.sight.Table.{Table};
+ghost use Rattle.std.specs.Prelude.{◌≡◌, IfOk};
 ghost use Rattle.classic_tree.specs.declared.tree.ProtoText.{out-ProtoText};
 ghost use Rattle.proto_declarations.specs.Meaning as spec;
-ghost use Rattle.proto_declarations.specs.Sight.{in_sight, no_names, through};
-ghost use Rattle.proto_declarations.specs.Held.{names_of, taken_names, Does, IsOpened, IsClosed, shown};
+ghost use Rattle.proto_declarations.specs.Sight.{in_sight, through};
+ghost use Rattle.proto_declarations.specs.Held.{taken_names, Does, shown};
 
+use crate::bodies::{close, open};
 use crate::search::find_inside;
-use crate::sight::{Declarations, Prototype, Table, Taken, Taker};
+use crate::sight::{Declarations, Taken, Taker};
 use classic_tree::{BodyItem, Declaration, Given, NodeText, ProtoText, RawValue, Statement};
 use flat_document::{ExpandFault, ExpandFaultKind};
 use std::alloc::{AllocError, Global};
 use std::mem;
-use std::rc::Rc;
 use x3d_lists::Text;
 use x3d_values::NodeType;
 
@@ -254,38 +253,6 @@ pub fn check_proto<'a>(
 {
     check_declaration(declarations, proto)?;
     enter(alloc, declarations, proto)
-}
-
-/// Opens a scope. Gives what the body around takes so far.
-fn open<'a>(alloc: Global, declarations: &mut Declarations<'a>) -> Result<Taken<'a>, AllocError>
-    ensures { IfOk result (λ before. IsOpened declarations.old before declarations.new) }
-{
-    let here = mem::replace(&mut declarations.here, Table::new(alloc));
-    declarations.outside.push(here)?;
-    Ok(mem::replace(&mut declarations.takes, Taken::new(alloc)))
-}
-
-/// Closes the scope, and declares its prototype in the scope around.
-fn close<'a>(
-    alloc: Global,
-    declarations: &mut Declarations<'a>,
-    name: &'a Text,
-    before: Taken<'a>,
-) -> Result<(), AllocError>
-    ensures { (outer : List Table) (around : Table)
-        → declarations.old.outside.items ≡ outer ++ around ∷ []
-        → IfOk result (λ _.
-        IsClosed name.now outer around before.entry declarations.old declarations.new) }
-{
-    let Some(around) = declarations.outside.pop() else {
-        return Ok(());
-    };
-    let takes = Rc::new(alloc, mem::replace(&mut declarations.takes, before))?;
-    let inner = mem::replace(&mut declarations.here, around);
-    let body = declarations.bodies.len();
-    declarations.bodies.push(inner)?;
-    declarations.here.declare(name, Prototype { takes, body })?;
-    Ok(())
 }
 
 #[cycle(check)]

@@ -2,6 +2,7 @@
 //! declaration, and which names of its interface an IS takes.
 #![tactic(auto)]
 
+mod bodies;
 mod check;
 mod search;
 mod sight;

@@ -1,13 +1,13 @@
 //! What stands between the braces of a node, and the fields that it declares there.
 
-ghost use Rattle.std.specs.Prelude.{◌≡◌, ◌≤◌, IfOk, length};
+ghost use Rattle.std.specs.Prelude.{◌≡◌, ◌≤◌, IfOk, length, option_map, option_to_list};
 ghost use Rattle.proto_fields.specs.Fields as fields_spec;
 ghost use Rattle.proto_fields.specs.Tables.{fields_of};
 ghost use Rattle.proto_steps.specs.Braces as spec;
 ghost use Rattle.proto_steps.specs.Meaning as meaning;
 ghost use Rattle.proto_steps.specs.Meaning.{declared_in};
 
-use classic_tree::BodyItem;
+use classic_tree::{BodyItem, Declaration, NodeText};
 use proto_fields::{KnownField, Named};
 use proto_store::field_declared;
 use std::alloc::{AllocError, Global};
@@ -45,30 +45,37 @@ impl<'a> Model for Braces<'a> {
     ghost invariant = { λ s. IsDeclared s.items.now (option_map (λ t. t.value) s.named) };
 }
 
+/// The field that the item declares.
+pub fn declared_by(item: &BodyItem) -> Option<&Declaration<NodeText>>
+    ensures { option_to_list (option_map (λ d. fields_spec.signature d.now) result)
+        ≡ meaning.item_declares item.now }
+{
+    match item {
+        BodyItem::Declaration(declaration) => Some(declaration),
+        BodyItem::Field(_line, _name, _given) => None,
+        BodyItem::Route(_route) => None,
+        BodyItem::Proto(_proto) => None,
+    }
+}
+
 /// How many fields the item declares.
-#[tactic(auto, using(crate::proofs::Equations::tree_does))]
 fn declared_count(item: &BodyItem) -> usize
     ensures count { result ≡ length (meaning.item_declares item.now) }
     ensures few { result ≤ 1 }
 {
-    match item {
-        BodyItem::Declaration(_declaration) => 1,
-        BodyItem::Field(_line, _name, _given) => 0,
-        BodyItem::Route(_route) => 0,
-        BodyItem::Proto(_proto) => 0,
+    match declared_by(item) {
+        None => 0,
+        Some(_declaration) => 1,
     }
 }
 
 /// The field of that number, if the item declares the name.
-#[tactic(auto, using(crate::proofs::Equations::tree_does))]
 fn declared_here(item: &BodyItem, name: &Text, number: usize) -> Option<KnownField>
     ensures { result ≡ fields_spec.numbered_from number name.now (meaning.item_declares item.now) }
 {
-    match item {
-        BodyItem::Declaration(declaration) => field_declared(declaration, name, number),
-        BodyItem::Field(_line, _name, _given) => None,
-        BodyItem::Route(_route) => None,
-        BodyItem::Proto(_proto) => None,
+    match declared_by(item) {
+        None => None,
+        Some(declaration) => field_declared(declaration, name, number),
     }
 }
 
@@ -87,20 +94,15 @@ fn find_declared(items: &[BodyItem], name: &Text) -> Option<KnownField>
 }
 
 /// The table has what the item declares, behind what was declared before.
-#[tactic(auto, using(crate::proofs::Equations::tree_does))]
 fn add_item<'a>(named: &mut Named<'a>, item: &'a BodyItem, number: usize) -> Result<(), AllocError>
     ensures { IfOk result (λ _. fields_of named.new
         ≡ spec.with_all number (meaning.item_declares item.now) (fields_of named.old)) }
 {
-    match item {
-        BodyItem::Declaration(declaration) => {
-            let _is_new = named.add(declaration, number)?;
-            Ok(())
-        }
-        BodyItem::Field(_line, _name, _given) => Ok(()),
-        BodyItem::Route(_route) => Ok(()),
-        BodyItem::Proto(_proto) => Ok(()),
-    }
+    let Some(declaration) = declared_by(item) else {
+        return Ok(());
+    };
+    let _is_new = named.add(declaration, number)?;
+    Ok(())
 }
 
 /// The first declaration of each name, numbered behind the other fields of a Script.

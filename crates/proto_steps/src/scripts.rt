@@ -1,12 +1,13 @@
 //! The fields that a Script declares between its braces.
 
-ghost use Rattle.std.specs.Prelude.{◌≡◌, ◌++◌, ◌∷◌, [], IfOk, map};
+ghost use Rattle.std.specs.Prelude.{◌≡◌, ◌++◌, IfOk, map};
 ghost use Rattle.proto_fields.specs.Fields.{own_interface, signature};
 ghost use Rattle.proto_steps.specs.Closing as closing;
 ghost use Rattle.proto_steps.specs.Held.{IsPlaced, owner_in};
 ghost use Rattle.proto_steps.specs.Meaning as spec;
 ghost use Rattle.proto_steps.specs.Meaning.{declared_in};
 
+use crate::braces::declared_by;
 use crate::held::Owner;
 use crate::owners;
 use classic_tree::{BodyItem, Declaration, Given, NodeText};
@@ -45,20 +46,7 @@ fn declared(
     })
 }
 
-fn push_declared(
-    alloc: Global,
-    declaration: &Declaration<NodeText>,
-    all: Items<Declaration<u32>>,
-) -> Result<Items<Declaration<u32>>, AllocError>
-    ensures { IfOk result (λ ds. ds ≡ all ++ closing.declared (signature declaration.now) ∷ []) }
-{
-    let mut all = all;
-    all.push(declared(alloc, declaration)?)?;
-    Ok(all)
-}
-
 /// What the item declares, behind what was declared before.
-#[tactic(auto, using(crate::proofs::Equations::tree_does))]
 fn with_declared(
     alloc: Global,
     item: &BodyItem,
@@ -66,12 +54,12 @@ fn with_declared(
 ) -> Result<Items<Declaration<u32>>, AllocError>
     ensures { IfOk result (λ ds. ds ≡ all ++ map closing.declared (spec.item_declares item.now)) }
 {
-    match item {
-        BodyItem::Declaration(declaration) => push_declared(alloc, declaration, all),
-        BodyItem::Field(_line, _name, _given) => Ok(all),
-        BodyItem::Route(_route) => Ok(all),
-        BodyItem::Proto(_proto) => Ok(all),
-    }
+    let Some(declaration) = declared_by(item) else {
+        return Ok(all);
+    };
+    let mut all = all;
+    all.push(declared(alloc, declaration)?)?;
+    Ok(all)
 }
 
 /// All that is declared between these braces.

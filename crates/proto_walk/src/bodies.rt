@@ -138,7 +138,6 @@ fn next_proto<'a>(
     go_on(body, declared)
 }
 
-#[tactic(auto, using(proto_steps::proofs::Equations::tree_does), unfolding(crate::specs::Frames::body_does))]
 pub fn next_statement<'a>(
     alloc: Global,
     walker: &mut Walker<'a>,

@@ -1,6 +1,7 @@
 -- What comes behind what was made so far, where the item may be a fault.
-use Rattle.std.proofs.Common.{◌≡◌, ◌⊎◌, inl, inr, ℕ, ◌+◌, ◌<◌, Bool, List, drop, get_or, length, ap, sym, subst, ◌∙◌}
+use Rattle.std.proofs.Common.{◌≡◌, ◌⊎◌, inl, inr, ℕ, ◌+◌, ◌<◌, Bool, List, Some, drop, get_or, length, ap, sym, refl, subst, ◌∙◌}
 use Rattle.std.specs.Prelude.{Result, Ok, Err, slice_get}
+use Rattle.std.proofs.lemmas.Option.{slice_get_read}
 use Rattle.x3d_lists.specs.Answers.{Gives}
 use Rattle.flat_document.specs.declared.flat.FlatNode.{FlatNode}
 use Rattle.scene_core.specs.declared.fault.SceneFault.{SceneFault}
@@ -9,6 +10,10 @@ use Rattle.scene_core.specs.declared.scene.SceneNode.{SceneNode}
 use Rattle.scene_core.specs.Building.{with_node}
 use Rattle.scene_core.specs.Faults.{memory, ◌>>=◌, through}
 use Rattle.scene_core.proofs.RowLemmas.{drop-step}
+
+-- what `get` finds
+pub found : {A : Type 0} (xs : List A) (n : ℕ) (x : A) → n < length xs → x ≡ get_or xs n x → slice_get xs n ≡ Some x
+found xs n x h is = slice_get_read xs (length xs) n x refl h is
 
 module _ {A B : Type 0} (k : A → Result B SceneFault) where
   by_fault : (f e : SceneFault) (answer : Result A SceneFault) → (f ≡ memory) ⊎ (◌≡◌ {A = Result B SceneFault} (Err e) (Err f)) → (e ≡ memory) ⊎ (answer ≡ Err e)

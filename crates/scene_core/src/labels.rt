@@ -1,15 +1,13 @@
 //! The names that nodes keep.
 
-ghost use Rattle.std.specs.Prelude.{◌≡◌, ◌++◌, OnOk, IfOk, slice_get};
+ghost use Rattle.std.specs.Prelude.{◌≡◌, ◌++◌, OnOk, IfOk};
 ghost use Rattle.std.specs.List.{fold, list_all};
-ghost use Rattle.std.specs.Option.{option_and_then, option_copied};
+ghost use Rattle.std.specs.Option.{option_copied};
 ghost use Rattle.x3d_lists.specs.Extends.{Extends};
 ghost use Rattle.scene_core.specs.Scene.{label_or};
-ghost use Rattle.scene_core.specs.declared.scene.SceneNode.{SceneNode};
 ghost use Rattle.scene_core.specs.Labels as spec;
 ghost use Rattle.scene_core.specs.Labels.{known_of};
 
-use crate::scene::SceneNode;
 use flat_document::FlatNode;
 use indexmap::IndexMap;
 use itoa::Buffer;
@@ -60,19 +58,18 @@ pub(crate) fn label_of(
     Ok(Some(name.duplicate(alloc)?))
 }
 
-/// Appends the name of a node; on a refusal perhaps a part of it.
+/// Appends what a node of that number is called that keeps this name; on a refusal perhaps a part
+/// of it.
 pub(crate) fn push_label(
-    nodes: &[SceneNode],
+    name: Option<&Text>,
     node: u32,
     out: &mut Vec<u8>,
 ) -> Result<(), AllocError>
     ensures ok { OnOk result
-        (out.new.items ≡ out.old.items
-        ++ label_or node
-        (option_and_then (λ (n : SceneNode). n.label) (slice_get nodes.now node))) }
+        (out.new.items ≡ out.old.items ++ label_or node (option_copied name.entry)) }
     ensures kept { Extends out.old.items out.new.items }
 {
-    if let Some(name) = own_label(nodes, node) {
+    if let Some(name) = name {
         return out.extend_from_slice(name.as_bytes());
     }
     out.push(b'N')?;
@@ -83,7 +80,10 @@ pub(crate) fn push_label(
 fn name_at(nodes: &[FlatNode], n: u32) -> Option<&Text>
     ensures { option_copied result ≡ spec.name_at nodes.now n }
 {
-    nodes.get(n as usize)?.name.as_ref()
+    let Some(node) = nodes.get(n as usize) else {
+        return None;
+    };
+    node.name.as_ref()
 }
 
 #[tactic(auto, unfolding(crate::specs::Labels::known_of))]
@@ -113,21 +113,15 @@ fn mark_as<'a>(
     Ok(())
 }
 
-fn mark<'a>(marks: &mut Marks<'a>, name: &'a Text) -> Result<(), AllocError>
-    ensures { IfOk result (λ _. known_of marks.new ≡ spec.mark (known_of marks.old) name.now) }
-{
-    let alone = known(marks, name).is_none();
-    mark_as(marks, name, alone)?;
-    Ok(())
-}
-
 fn mark_at<'a>(marks: &mut Marks<'a>, nodes: &'a [FlatNode], n: u32) -> Result<(), AllocError>
     ensures { IfOk result
         (λ _. known_of marks.new ≡ spec.mark_any (known_of marks.old) (spec.name_at nodes.now n)) }
 {
-    if let Some(name) = name_at(nodes, n) {
-        mark(marks, name)?;
-    }
+    let Some(name) = name_at(nodes, n) else {
+        return Ok(());
+    };
+    let alone = known(marks, name).is_none();
+    mark_as(marks, name, alone)?;
     Ok(())
 }
 
@@ -164,11 +158,4 @@ fn is_numbered(name: &[u8]) -> bool
         }
         [] => false,
     }
-}
-
-fn own_label(nodes: &[SceneNode], node: u32) -> Option<&Text>
-    ensures { option_copied result
-        ≡ option_and_then (λ (n : SceneNode). n.label) (slice_get nodes.now node) }
-{
-    nodes.get(node as usize)?.label.as_ref()
 }

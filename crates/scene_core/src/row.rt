@@ -93,7 +93,9 @@ pub(crate) fn row_by(
     if place < own.len() {
         return Some(own_row(&own[place]));
     }
-    let field = declared.get(place - own.len())?;
+    let Some(field) = declared.get(place - own.len()) else {
+        return None;
+    };
     Some(declared_row(field))
 }
 

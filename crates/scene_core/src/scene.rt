@@ -145,7 +145,9 @@ impl Scene {
     pub fn row(&self, node: u32, number: u16) -> Option<Row<'_>>
         ensures { option_map row_entry result ≡ slice_get (rows_at self.now node) number }
     {
-        let node = self.nodes.get(node as usize)?;
+        let Some(node) = self.nodes.get(node as usize) else {
+            return None;
+        };
         row_by(node.node_type, node.declared.as_slice(), number)
     }
 
@@ -154,7 +156,9 @@ impl Scene {
     pub fn field_named(&self, node: u32, name: &str) -> Option<FieldRow>
         ensures { result ≡ row_named 0 name.now (rows_at self.now node) }
     {
-        let node = self.nodes.get(node as usize)?;
+        let Some(node) = self.nodes.get(node as usize) else {
+            return None;
+        };
         named_by(node.node_type, node.declared.as_slice(), name)
     }
 
@@ -175,7 +179,10 @@ impl Scene {
     pub fn value(&self, node: u32, field: u16) -> Option<&Value>
         ensures { option_copied result ≡ value_at self.now node field }
     {
-        match self.nodes.get(node as usize)?.values.get(field as usize) {
+        let Some(node) = self.nodes.get(node as usize) else {
+            return None;
+        };
+        match node.values.get(field as usize) {
             Some(Some(value)) => Some(value),
             _ => None,
         }
@@ -219,7 +226,7 @@ impl Scene {
         ensures err { OnErr result (out.new.items ≡ out.old.items) }
     {
         let len = out.len();
-        let pushed = push_label(self.nodes.as_slice(), node, out);
+        let pushed = push_label(self.def_name(node), node, out);
         if pushed.is_err() {
             out.truncate(len);
         }
@@ -230,7 +237,10 @@ impl Scene {
     pub fn def_name(&self, node: u32) -> Option<&Text>
         ensures { option_copied result ≡ name_at self.now node }
     {
-        self.nodes.get(node as usize)?.label.as_ref()
+        let Some(node) = self.nodes.get(node as usize) else {
+            return None;
+        };
+        node.label.as_ref()
     }
 
     /// What each node keeps before any event, by their numbers.

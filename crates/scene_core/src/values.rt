@@ -307,7 +307,10 @@ fn push_declared(
         (spec.declared_from known.entry.nodes.now known.entry.numbers.now fields.now number
         interface.now made) }
 {
-    let given = all_given(alloc, fields, number, interface.len())?;
+    let Ok(given) = all_given(alloc, fields, number, interface.len()) else {
+        drop(made);
+        return Err(fault(SceneFaultKind::Memory, 0));
+    };
     for i in 0..interface.len() {
         made = with_item(made, declared_value(alloc, known, &interface[i], given[i]))?;
     }

@@ -2,6 +2,7 @@
 use Rattle.std.proofs.Common.{◌≡◌, ℕ, ◌+◌, ◌<◌, cond, List, [], ◌∷◌, ◌++◌, ◌==◌, length, get_or, map, take, refl, ap, sym, ◌∙◌, append_assoc, append-nil, arith}
 use Rattle.std.specs.List.{flat_map, range_with_len}
 use Rattle.std.proofs.lemmas.Grind.{common_steps}
+use Rattle.std.proofs.lemmas.List.{flat_map_more, take_more}
 use Rattle.std.proofs.lemmas.List.Concat.{flat_map-append}
 use Rattle.std.proofs.lemmas.List.FromFn.{map-range_with_len_more}
 use Rattle.std.proofs.lemmas.List.Sums.{fold_more}
@@ -25,6 +26,13 @@ flat_map_range_more before f n =
     ∙ ap (λ ys. before ++ ys) (flat_map-append f (range_with_len 0 n) (n ∷ []))
     ∙ ap (λ ys. before ++ (flat_map f (range_with_len 0 n) ++ ys)) (append-nil (f n))
     ∙ sym (append_assoc before (flat_map f (range_with_len 0 n)) (f n))
+
+-- what is made of the items of a list, by one more item
+pub flat_map_next : {A B : Type 0} (f : A → List B) (xs : List A) (i : ℕ) (x : A) (made more : List B) → i < length xs → x ≡ get_or xs i x → made ≡ flat_map f (take i xs)
+    → more ≡ made ++ f x → more ≡ flat_map f (take (i + 1) xs)
+flat_map_next f xs i x made more h is so_far pushed =
+    pushed ∙ ap (λ l. l ++ f x) so_far ∙ flat_map_more f [] (take i xs) x
+    ∙ ap (λ l. flat_map f l) (ap (λ y. take i xs ++ y ∷ []) is ∙ sym (take_more xs i x h))
 
 -- how often a number stands in a list, by one more item
 pub times_more : (n : ℕ) (ns : List ℕ) (i : ℕ) → i < length ns → times n (take (i + 1) ns) ≡ times n (take i ns) + cond (get_or ns i 0 == n) 1 0

@@ -151,7 +151,10 @@ fn plain_tree(
         (value_tree (node_tree depth (plan_of plan.now)) seen.old.items value.now)) }
 {
     let name = Text::from_str(alloc, name)?;
-    let value = value_tree(alloc, plan, seen, depth, value)?;
+    let Ok(value) = value_tree(alloc, plan, seen, depth, value) else {
+        drop(name);
+        return Err(AllocError);
+    };
     Ok(BodyItem::Field(0, name, Given::Value(value)))
 }
 

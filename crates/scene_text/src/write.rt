@@ -28,7 +28,9 @@ pub fn write_scene(
     ensures err { OnErr result (out.new.items ≡ out.old.items) }
 {
     let document = scene_document(*out.allocator(), scene, routes, state)?;
-    write(&document, out)
+    let written = write(&document, out);
+    drop(document);
+    written
 }
 
 /// The scene as a document: its header statements as they were read, and its statements.

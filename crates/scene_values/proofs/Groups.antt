@@ -3,9 +3,25 @@ use Rattle.std.proofs.Common.{◌≡◌, ◌&&◌, false, suc, ℕ, ◌+◌, ◌
 use Rattle.std.proofs.lemmas.List.{take_rest}
 use Rattle.std.proofs.Math.Seq.{drop-cons}
 use Rattle.std.specs.List.{list_all}
+use Rattle.x3d_values.specs.declared.vector.Vec2.{Vec2}
 use Rattle.x3d_values.specs.declared.vector.Vec3.{Vec3}
 use Rattle.x3d_values.specs.declared.vector.Color.{Color}
-use Rattle.scene_values.specs.Grouping.{vectors, colors}
+use Rattle.scene_values.specs.Grouping.{pairs, vectors, colors}
+
+-- ---- two at a time
+
+pairs-cons : (s : List ℤ) → 2 ≤ length s →
+    pairs s ≡ record { x = get_or s 0 (pos 0); y = get_or s 1 (pos 0) } ∷ pairs (take (length s - 2) (drop 2 s))
+pairs-cons [] long = absurd (omega arith)
+pairs-cons (x ∷ []) long = absurd (omega arith)
+pairs-cons (x ∷ (y ∷ rest)) long = ap (λ more. record { x = x; y = y } ∷ pairs more) (sym (take_rest (x ∷ (y ∷ rest)) 2))
+
+-- the items that stood before, one more, and what the numerals behind it make
+pub pairs_grow : (start before after : List Vec2) (s : List ℤ) (x y : ℤ) → 2 ≤ length s →
+    x ≡ get_or s 0 (pos 0) → y ≡ get_or s 1 (pos 0) →
+    start ≡ before ++ pairs s → after ≡ before ++ record { x = x; y = y } ∷ [] →
+    start ≡ after ++ pairs (take (length s - 2) (drop 2 s))
+pairs_grow start before after s x y long ex ey is grown = rw (is, grown, ex, ey, pairs-cons s long, append_assoc)
 
 -- ---- three at a time
 
@@ -16,7 +32,6 @@ vectors-cons (x ∷ []) long = absurd (omega arith)
 vectors-cons (x ∷ (y ∷ [])) long = absurd (omega arith)
 vectors-cons (x ∷ (y ∷ (z ∷ rest))) long = ap (λ more. record { x = x; y = y; z = z } ∷ vectors more) (sym (take_rest (x ∷ (y ∷ (z ∷ rest))) 3))
 
--- the items that stood before, one more, and what the numerals behind it make
 pub vectors_grow : (start before after : List Vec3) (s : List ℤ) (x y z : ℤ) → 3 ≤ length s →
     x ≡ get_or s 0 (pos 0) → y ≡ get_or s 1 (pos 0) → z ≡ get_or s 2 (pos 0) →
     start ≡ before ++ vectors s → after ≡ before ++ record { x = x; y = y; z = z } ∷ [] →

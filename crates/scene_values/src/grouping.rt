@@ -1,47 +1,60 @@
 //! Numerals as the components of vectors and colours, and as whole numbers.
 
-ghost use Rattle.std.specs.Prelude.{◌≡◌, ℤ, length, map, true, IfOk};
+ghost use Rattle.std.specs.Prelude.{◌≡◌, map, true, IfOk};
 ghost use Rattle.std.specs.List.{list_all};
+ghost use Rattle.x3d_lists.specs.Answers.{Gives};
+ghost use Rattle.scene_values.specs.declared.quantity.Quantity.TheVariants.{Number};
 ghost use Rattle.scene_values.specs.Grouping.{pair, vector, color, pairs, vectors, colors};
 ghost use Rattle.scene_values.specs.Quantities.{is_integer, whole};
+ghost use Rattle.scene_values.specs.Typing.{made, run, runs};
 
-use crate::quantity::whole;
+use crate::fault::ValueFault;
+use crate::numerals::{run, runs};
+use crate::quantity::{Quantity, whole};
+use classic_tree::RawValue;
 use std::alloc::{AllocError, Global};
 use x3d_values::{Color, Items, Vec2, Vec3};
 
-pub(crate) fn pair(run: &[i64]) -> Vec2
-    requires { length run.now ≡ 2 }
-    ensures { result ≡ pair run.now }
+pub(crate) fn pair(raw: &RawValue<u32>) -> Result<Vec2, ValueFault>
+    ensures { result ≡ made pair (run 2 Number raw.now) }
 {
-    Vec2 {
-        x: run[0],
-        y: run[1],
-    }
+    let list = run(2, Quantity::Number, raw)?;
+    Ok(Vec2 {
+        x: list[0],
+        y: list[1],
+    })
 }
 
-pub(crate) fn vector(run: &[i64]) -> Vec3
-    requires { length run.now ≡ 3 }
-    ensures { result ≡ vector run.now }
+pub(crate) fn vector(raw: &RawValue<u32>) -> Result<Vec3, ValueFault>
+    ensures { result ≡ made vector (run 3 Number raw.now) }
 {
-    Vec3 {
-        x: run[0],
-        y: run[1],
-        z: run[2],
-    }
+    let list = run(3, Quantity::Number, raw)?;
+    Ok(Vec3 {
+        x: list[0],
+        y: list[1],
+        z: list[2],
+    })
 }
 
-pub(crate) fn color(run: &[i64]) -> Color
-    requires { length run.now ≡ 3 }
-    ensures { result ≡ color run.now }
+pub(crate) fn color(raw: &RawValue<u32>) -> Result<Color, ValueFault>
+    ensures { result ≡ made color (run 3 Number raw.now) }
 {
-    Color {
-        red: run[0],
-        green: run[1],
-        blue: run[2],
-    }
+    let list = run(3, Quantity::Number, raw)?;
+    Ok(Color {
+        red: list[0],
+        green: list[1],
+        blue: list[2],
+    })
 }
 
-pub(crate) fn pairs(alloc: Global, numbers: &[i64]) -> Result<Items<Vec2>, AllocError>
+pub(crate) fn pairs(alloc: Global, raw: &RawValue<u32>) -> Result<Items<Vec2>, ValueFault>
+    ensures { Gives ValueFault.Memory (λ v. v) result (made pairs (runs 2 Number raw.now)) }
+{
+    let list = runs(2, Quantity::Number, raw)?;
+    Ok(pairs_of(alloc, list)?)
+}
+
+fn pairs_of(alloc: Global, numbers: &[i64]) -> Result<Items<Vec2>, AllocError>
     ensures { IfOk result (λ items. items ≡ pairs numbers.now) }
 {
     let mut items = Vec::with_capacity(alloc, numbers.len() / 2)?;
@@ -53,7 +66,14 @@ pub(crate) fn pairs(alloc: Global, numbers: &[i64]) -> Result<Items<Vec2>, Alloc
     Ok(Items::from_vec(items))
 }
 
-pub(crate) fn vectors(alloc: Global, numbers: &[i64]) -> Result<Items<Vec3>, AllocError>
+pub(crate) fn vectors(alloc: Global, raw: &RawValue<u32>) -> Result<Items<Vec3>, ValueFault>
+    ensures { Gives ValueFault.Memory (λ v. v) result (made vectors (runs 3 Number raw.now)) }
+{
+    let list = runs(3, Quantity::Number, raw)?;
+    Ok(vectors_of(alloc, list)?)
+}
+
+fn vectors_of(alloc: Global, numbers: &[i64]) -> Result<Items<Vec3>, AllocError>
     ensures { IfOk result (λ items. items ≡ vectors numbers.now) }
 {
     let mut items = Vec::with_capacity(alloc, numbers.len() / 3)?;
@@ -69,7 +89,14 @@ pub(crate) fn vectors(alloc: Global, numbers: &[i64]) -> Result<Items<Vec3>, All
     Ok(Items::from_vec(items))
 }
 
-pub(crate) fn colors(alloc: Global, numbers: &[i64]) -> Result<Items<Color>, AllocError>
+pub(crate) fn colors(alloc: Global, raw: &RawValue<u32>) -> Result<Items<Color>, ValueFault>
+    ensures { Gives ValueFault.Memory (λ v. v) result (made colors (runs 3 Number raw.now)) }
+{
+    let list = runs(3, Quantity::Number, raw)?;
+    Ok(colors_of(alloc, list)?)
+}
+
+fn colors_of(alloc: Global, numbers: &[i64]) -> Result<Items<Color>, AllocError>
     ensures { IfOk result (λ items. items ≡ colors numbers.now) }
 {
     let mut items = Vec::with_capacity(alloc, numbers.len() / 3)?;

@@ -18,7 +18,7 @@ const MIN_INTEGER: i64 = -2_147_483_648;
 const MAX_INTEGER: i64 = 2_147_483_647;
 
 /// What a numeral stands for.
-#[derive(Clone, Copy, Debug, PartialEq, Eq)]
+#[derive(Clone, Copy)]
 pub(crate) enum Quantity {
     /// A number, in millionths.
     Number,

@@ -5,7 +5,6 @@ ghost use Rattle.scene_values.specs.Typing.{typed};
 
 use crate::fault::ValueFault;
 use crate::grouping::{color, colors, pair, pairs, vector, vectors};
-use crate::numerals::{run, runs};
 use crate::plain::{node, nodes, string, strings, truth, truths};
 use crate::quantity::Quantity;
 use crate::scalars::{integer, integers, scalar, scalars};
@@ -24,24 +23,24 @@ pub fn typed(
     ensures { Gives ValueFault.Memory (λ v. v) result (typed field_type raw.now numbers.now) }
 {
     match field_type {
-        FieldType::SFBool => Ok(Value::SFBool(truth(raw)?)),
-        FieldType::SFInt32 => Ok(Value::SFInt32(integer(raw)?)),
-        FieldType::SFFloat => Ok(Value::SFFloat(scalar(Quantity::Number, raw)?)),
-        FieldType::SFTime => Ok(Value::SFTime(scalar(Quantity::Time, raw)?)),
-        FieldType::SFString => Ok(Value::SFString(string(alloc, raw)?)),
-        FieldType::SFVec2f => Ok(Value::SFVec2f(pair(run(2, Quantity::Number, raw)?))),
-        FieldType::SFVec3f => Ok(Value::SFVec3f(vector(run(3, Quantity::Number, raw)?))),
-        FieldType::SFColor => Ok(Value::SFColor(color(run(3, Quantity::Number, raw)?))),
-        FieldType::SFNode => Ok(Value::SFNode(node(numbers, raw)?)),
-        FieldType::MFBool => Ok(Value::MFBool(truths(alloc, raw)?)),
-        FieldType::MFInt32 => Ok(Value::MFInt32(integers(alloc, raw)?)),
-        FieldType::MFFloat => Ok(Value::MFFloat(scalars(alloc, Quantity::Number, raw)?)),
-        FieldType::MFTime => Ok(Value::MFTime(scalars(alloc, Quantity::Time, raw)?)),
-        FieldType::MFString => Ok(Value::MFString(strings(alloc, raw)?)),
-        FieldType::MFVec2f => Ok(Value::MFVec2f(pairs(alloc, runs(2, Quantity::Number, raw)?)?)),
-        FieldType::MFVec3f => Ok(Value::MFVec3f(vectors(alloc, runs(3, Quantity::Number, raw)?)?)),
-        FieldType::MFColor => Ok(Value::MFColor(colors(alloc, runs(3, Quantity::Number, raw)?)?)),
-        FieldType::MFNode => Ok(Value::MFNode(nodes(alloc, numbers, raw)?)),
+        FieldType::SFBool => truth(raw).map(Value::SFBool),
+        FieldType::SFInt32 => integer(raw).map(Value::SFInt32),
+        FieldType::SFFloat => scalar(Quantity::Number, raw).map(Value::SFFloat),
+        FieldType::SFTime => scalar(Quantity::Time, raw).map(Value::SFTime),
+        FieldType::SFString => string(alloc, raw).map(Value::SFString),
+        FieldType::SFVec2f => pair(raw).map(Value::SFVec2f),
+        FieldType::SFVec3f => vector(raw).map(Value::SFVec3f),
+        FieldType::SFColor => color(raw).map(Value::SFColor),
+        FieldType::SFNode => node(numbers, raw).map(Value::SFNode),
+        FieldType::MFBool => truths(alloc, raw).map(Value::MFBool),
+        FieldType::MFInt32 => integers(alloc, raw).map(Value::MFInt32),
+        FieldType::MFFloat => scalars(alloc, Quantity::Number, raw).map(Value::MFFloat),
+        FieldType::MFTime => scalars(alloc, Quantity::Time, raw).map(Value::MFTime),
+        FieldType::MFString => strings(alloc, raw).map(Value::MFString),
+        FieldType::MFVec2f => pairs(alloc, raw).map(Value::MFVec2f),
+        FieldType::MFVec3f => vectors(alloc, raw).map(Value::MFVec3f),
+        FieldType::MFColor => colors(alloc, raw).map(Value::MFColor),
+        FieldType::MFNode => nodes(alloc, numbers, raw).map(Value::MFNode),
         FieldType::SFRotation => Err(ValueFault::WrongType),
     }
 }

@@ -1,10 +1,17 @@
 -- Scripts that are given states one after the other.
-use Rattle.std.proofs.Common.{◌≡◌, ◌<◌, ◌+◌, ℕ, zero, suc, ℤ, List, [], ◌∷◌, length, take, slice_get, slice_set, get_or, Some, None, refl, ap, ◌∙◌, sym, arith}
+use Rattle.std.proofs.Common.{◌≡◌, ◌<◌, ◌+◌, ℕ, zero, suc, ℤ, List, [], ◌∷◌, length, take, slice_get, slice_set, get_or, Bool, true, false, Option, Some, None, refl, ap, ◌∙◌, sym, inr, arith, if◌then◌else◌}
+use Rattle.std.specs.Prelude.{nat_le, IsSomeAnd}
+use Rattle.std.specs.List.{list_all}
+use Rattle.x3d_values.specs.Ranges.{coordinate_fits}
 use Rattle.std.proofs.lemmas.Option.{slice_get_read}
 use Rattle.script_host.specs.Hosting.{ScriptRecord}
 use Rattle.script_host.specs.Pairs.{PairAt}
-use Rattle.script_host.specs.Restoring.{with_states, IsStateOf}
-use Rattle.script_host.specs.States.{state_fault}
+use Rattle.script_host.specs.Restoring.{with_states, IsFirstFault, IsStateOf, RefusesStates}
+use Rattle.script_host.specs.States.{range_fault, state_fault}
+use Rattle.script_slots.specs.declared.fault.StateFault.{StateFault}
+use Rattle.script_slots.specs.declared.fault.StateFault.TheVariants.{StateLength, StateRange, Memory}
+use Rattle.x3d_values.specs.declared.script.Kind.{Kind}
+use Rattle.x3d_values.specs.declared.script.Kind.TheVariants.{Counter, Gate, Adder, Batch, Mover, Meter}
 
 -- the script behind those that have their states is as it was
 pub with_states-next : (rs : List ScriptRecord) (states : List (List ℤ)) (k : ℕ)
@@ -51,3 +58,47 @@ restored_next rs now states k r state e in_now in_states at_r at_state =
     let counted : suc k ≡ k + 1 = omega arith in
     ap (λ xs. slice_set xs k (record r { state = state })) e ∙ with_states-suc rs states k r state r_here state_here
     ∙ ap (λ n. with_states rs (take n states)) counted
+
+-- ---- a list is refused for its length or its numbers alone
+
+in_range : (b : Bool) → range_fault b ≡ Some Memory → ⊥
+in_range true e = absurd cc
+in_range false e = absurd cc
+
+never_memory : (kind : Kind) (state : List ℤ) → state_fault kind state ≡ Some Memory → ⊥
+never_memory Counter (count ∷ step ∷ []) e = in_range _ e
+never_memory Counter [] e = absurd cc
+never_memory Counter (count ∷ []) e = absurd cc
+never_memory Counter (count ∷ step ∷ more ∷ rest) e = absurd cc
+never_memory Gate (truth ∷ []) e = in_range _ e
+never_memory Gate [] e = absurd cc
+never_memory Gate (truth ∷ more ∷ rest) e = absurd cc
+never_memory Adder (a ∷ b ∷ []) e = in_range _ e
+never_memory Adder [] e = absurd cc
+never_memory Adder (a ∷ []) e = absurd cc
+never_memory Adder (a ∷ b ∷ more ∷ rest) e = absurd cc
+never_memory Batch (pending ∷ []) e = in_range _ e
+never_memory Batch [] e = absurd cc
+never_memory Batch (pending ∷ more ∷ rest) e = absurd cc
+never_memory Mover (x ∷ y ∷ z ∷ x' ∷ y' ∷ z' ∷ []) e = in_range _ e
+never_memory Mover [] e = absurd cc
+never_memory Mover (a ∷ []) e = absurd cc
+never_memory Mover (a ∷ b ∷ []) e = absurd cc
+never_memory Mover (a ∷ b ∷ c ∷ []) e = absurd cc
+never_memory Mover (a ∷ b ∷ c ∷ d ∷ []) e = absurd cc
+never_memory Mover (a ∷ b ∷ c ∷ d ∷ f ∷ []) e = absurd cc
+never_memory Mover (a ∷ b ∷ c ∷ d ∷ f ∷ g ∷ more ∷ rest) e = absurd cc
+never_memory Meter readings e =
+    elim (nat_le (length readings) 8) as (λ b. (if b then range_fault (list_all coordinate_fits readings) else Some StateLength) ≡ Some Memory → ⊥)
+    [ true ↦ in_range _ | false ↦ λ h. absurd cc ] e
+
+no_pair : (x : Option ScriptRecord) (y : Option (List ℤ)) → IsSomeAnd x (λ r. IsSomeAnd y (λ state. state_fault r.kind state ≡ Some Memory)) → ⊥
+no_pair (Some r) (Some state) h = never_memory r.kind state h
+no_pair (Some r) None h = absurd h
+no_pair None y h = absurd h
+
+-- the first list that is none is why the lists are refused
+pub refuses_first : (fault : StateFault) (rs : List ScriptRecord) (states : List (List ℤ)) → IsFirstFault fault rs states → RefusesStates fault rs states rs
+refuses_first StateLength rs states h = (refl, inr h)
+refuses_first StateRange rs states h = (refl, h)
+refuses_first Memory rs states h = absurd (no_pair _ _ h.here)

@@ -1,3 +1,4 @@
 pub mod ReadingLemmas
-pub mod SixLemmas
+pub mod Narrow
+pub mod NumberLists
 pub mod WayLemmas

@@ -55,10 +55,13 @@ impl Batch {
         let [pending] = state else {
             return Err(StateFault::StateLength);
         };
-        match i32::try_from(*pending) {
-            Ok(pending) if pending >= 0 => Ok(Batch { pending }),
-            _ => Err(StateFault::StateRange),
+        let Ok(pending) = i32::try_from(*pending) else {
+            return Err(StateFault::StateRange);
+        };
+        if pending < 0 {
+            return Err(StateFault::StateRange);
         }
+        Ok(Batch { pending })
     }
 }
 

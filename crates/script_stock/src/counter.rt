@@ -48,10 +48,13 @@ impl Counter {
         let [count, step] = state else {
             return Err(StateFault::StateLength);
         };
-        match (i32::try_from(*count), i32::try_from(*step)) {
-            (Ok(count), Ok(step)) => Ok(Counter { count, step }),
-            _ => Err(StateFault::StateRange),
-        }
+        let Ok(count) = i32::try_from(*count) else {
+            return Err(StateFault::StateRange);
+        };
+        let Ok(step) = i32::try_from(*step) else {
+            return Err(StateFault::StateRange);
+        };
+        Ok(Counter { count, step })
     }
 }
 

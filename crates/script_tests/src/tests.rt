@@ -10,23 +10,32 @@ mod probe;
 mod stages;
 mod worlds;
 
-use std::alloc::{AllocError, Global};
+use std::alloc::Global;
 use std::process::Abort;
+use x3d_values::Items;
 
-/// It is so, and no memory was refused.
-fn holds(rt: &impl Abort, answer: Result<bool, AllocError>) {
-    assert!(rt; answer == Ok(true));
+/// It is so.
+fn holds(rt: &impl Abort, answer: bool) {
+    assert!(rt; answer);
 }
 
 /// A row of a table.
 trait Row {
-    /// Whether it is as the row says.
-    fn holds(&self, alloc: Global) -> Result<bool, AllocError>;
+    /// Whether it is as the row says; it isn't where memory is refused.
+    fn holds(&self, alloc: Global) -> bool;
 }
 
 /// Each row of a table holds.
 fn all_hold<R: Row>(rt: &impl Abort, alloc: Global, rows: &[R]) {
     for (number, row) in rows.iter().enumerate() {
-        assert!(rt; row.holds(alloc) == Ok(true), "row {number}");
+        assert!(rt; row.holds(alloc), "row {number}");
+    }
+}
+
+/// The numbers, or none where memory is refused.
+fn list_of(alloc: Global, numbers: &[i64]) -> Items<i64> {
+    match Items::from_slice(alloc, numbers) {
+        Ok(list) => list,
+        Err(_) => Items::new(alloc),
     }
 }

@@ -1,6 +1,4 @@
-pub mod Rings
 pub mod Turns
-pub mod Windows
 pub mod Numbering
 pub mod Offers
 pub mod Fresh

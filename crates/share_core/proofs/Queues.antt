@@ -1,5 +1,5 @@
 -- The offers that wait, as a queue in a ring: made - settled of them, from place settled % 64 on.
-use Rattle.std.proofs.Common.{◌≡◌, ℕ, ◌+◌, ◌-◌, ◌%◌, ◌<◌, ◌≤◌, min, max, List, [], ◌∷◌, ◌++◌, length, map, get_or, take, drop, inl, inr, sym, ap, ◌∙◌, arith}
+use Rattle.std.proofs.Common.{◌≡◌, ℕ, ◌+◌, ◌-◌, ◌%◌, ◌<◌, ◌≤◌, min, max, Bool, true, false, refl, List, [], ◌∷◌, ◌++◌, length, map, get_or, take, drop, inl, inr, sym, ap, ◌∙◌, arith}
 use native.Mathlib.Nat.{mod-add-mod}
 use Rattle.std.specs.Prelude.{slice_get, slice_set, ◌==◌, if◌then◌else◌, Some}
 use Rattle.std.proofs.lemmas.List.{map-set, get_or-map, length-map, drop_all}
@@ -8,10 +8,10 @@ use Rattle.x3d_values.specs.declared.pointing.Point.{Point}
 use Rattle.share_wire.specs.declared.message.Body.TheVariants.{Offer}
 use Rattle.share_law.specs.Viewer.{View, ViewerState, offer_packet, settled_by, viewer_resend}
 use Rattle.share_core.specs.declared.waiting.Aim.{Aim}
-use Rattle.share_core.specs.Rings.{in_turn}
+use Rattle.share_rules.specs.Rings.{in_turn}
 use Rattle.share_core.specs.Steps.{point_aimed}
 use Rattle.share_core.specs.Waiting.{Offers, with_offers}
-use Rattle.share_core.proofs.Rings.{length-queue, slice_get-queue, queue-pushed, queue-dropped}
+use Rattle.share_rules.proofs.Rings.{length-queue, slice_get-queue, queue-pushed, queue-dropped}
 
 abbrev pub shown : (settled made : ℕ) → List Aim → List Point
 shown settled made places = take (made - settled) (in_turn (settled % 64) (map point_aimed places))
@@ -69,10 +69,16 @@ pub resend-packet : {W : Type 0} (o : Offers) (view : View W) (i number : ℕ) (
 resend-packet o view i number a at is =
     ap (λ n. offer_packet o.who o.boot n (Some (point_aimed a))) is ∙ ap (offer_packet o.who o.boot (o.made - length o.waiting + i + 1)) (sym at)
 
-pub acks-heeded : {W : Type 0} (o new : Offers) (view : View W) (boot count settled : ℕ) → boot ≡ o.boot → o.made - length o.waiting ≡ settled
-    → new ≡ record { who = o.who; boot = o.boot; made = o.made; waiting = drop (count - settled) o.waiting }
-    → with_offers new view ≡ (if boot == o.boot then settled_by (with_offers o view) count else with_offers o view)
-acks-heeded {W} o new view boot count settled same left is =
-    ap (λ (r : Offers). with_offers r view) is
-    ∙ ap (λ (s : ℕ). let z : ViewerState W = record { boot = o.boot; made = o.made; waiting = drop (count - s) o.waiting; view = view } in z) (sym left)
-    ∙ sym (cond-true (boot == o.boot) _ _ (eq-eqb boot o.boot same))
+-- an ack of this boot, and one of another
+pub acks-heeded : {W : Type 0} (who boot settled made : ℕ) (places : List Aim) → settled ≤ made → made ≤ settled + 64 → length places ≡ 64
+    → (view : View W) (count latest : ℕ) (same : Bool) → latest ≡ (if same then max settled (min count made) else settled)
+    → (let o : Offers = record { who = who; boot = boot; made = made; waiting = shown settled made places } in
+    let new : Offers = record { who = who; boot = boot; made = made; waiting = shown latest made places } in
+    with_offers new view ≡ (if same then settled_by (with_offers o view) count else with_offers o view))
+acks-heeded {W} who boot settled made places less few long view count latest true is =
+    let left : made - length (shown settled made places) ≡ settled = omega (arith, length-shown settled made places less few long) in
+    let state : List Point → ViewerState W = λ xs. record { boot = boot; made = made; waiting = xs; view = view } in
+    ap state (shown-settled settled made places less few long count (min count made) latest refl is)
+    ∙ ap (λ (s : ℕ). state (drop (count - s) (shown settled made places))) (sym left)
+acks-heeded {W} who boot settled made places less few long view count latest false is =
+    ap (λ (s : ℕ). let z : ViewerState W = record { boot = boot; made = made; waiting = shown s made places; view = view } in z) is

@@ -1,5 +1,4 @@
 pub mod Host
-pub mod Rings
 pub mod Waiting
 pub mod Steps
 pub mod Viewer

@@ -10,11 +10,10 @@ ghost use Rattle.share_core.specs.Ahead.{InPlace, IsDrained, IsNext};
 ghost use Rattle.share_core.specs.Viewer.{view_of};
 ghost use Rattle.share_core.specs.Waiting.{Offers, with_offers};
 
-use crate::window::Window;
 use cascade_core::{ApplyFault, Stage};
 use script_host::Behaviour;
 use share_law::{TakeFault, Taken};
-use share_rules::place_of;
+use share_rules::{Window, place_of};
 use x3d_values::Stamped;
 
 /// Applies the next input, if it came.

@@ -6,7 +6,6 @@ mod host;
 mod inputs;
 mod viewer;
 mod waiting;
-mod window;
 
 pub use host::Host;
 pub use viewer::Viewer;

@@ -2,10 +2,10 @@
 
 use crate::ahead::take_input;
 use crate::waiting::Waiting;
-use crate::window::Window;
 use cascade_core::{PlaceFault, Stage, TextFault};
 use script_host::Behaviour;
 use share_law::{OfferFault, TakeFault, Taken};
+use share_rules::Window;
 use share_wire::{Ack, Ask, Body, Message, Packet, decode, encode};
 use snapshot_core::{SaveFault, SnapFault, load_into, save};
 use std::marker::Model;
@@ -299,7 +299,7 @@ impl<B: Behaviour> Viewer<B> {
             return Err(SnapFault::BootNotNew);
         }
         let saved = load_into(&mut self.stage, &self.mark, boot, bytes)?;
-        self.window = Window::new();
+        self.window.clear();
         self.offers = Waiting::new(self.offers.who(), boot);
         Ok(saved.applied)
     }

@@ -14,6 +14,7 @@ ghost use Rattle.share_core.specs.Steps.{offer_fault, point_aimed};
 ghost use Rattle.share_core.specs.Waiting.{with_offers};
 
 use share_law::OfferFault;
+use share_rules::{Tally, settled_after};
 use share_wire::{Ack, Offer};
 use std::marker::Model;
 use x3d_values::{Point, Pointer, Ray, Vec3};
@@ -45,7 +46,7 @@ impl Model for Waiting {
     ghost use Rattle.std.specs.Prelude.{◌≡◌, ◌+◌, ◌-◌, ◌%◌, ◌≤◌, ◌&&◌, IsTrue, length, map, take};
     ghost use Rattle.x3d_values.specs.Ranges.{is_viewer};
     ghost use Rattle.share_wire.specs.Messages.{is_ordinal};
-    ghost use Rattle.share_core.specs.Rings.{in_turn};
+    ghost use Rattle.share_rules.specs.Rings.{in_turn};
     ghost use Rattle.share_core.specs.Steps.{point_aimed};
     ghost use Rattle.share_core.specs.Waiting.{Offers};
 
@@ -188,8 +189,11 @@ impl Waiting {
             then settled_by (with_offers self.old view) ack.count
             else with_offers self.old view) }
     {
-        if ack.boot() == self.boot {
-            self.settled = self.settled.max(ack.count().min(self.made));
-        }
+        let tally = Tally {
+            boot: self.boot,
+            made: self.made,
+            settled: self.settled,
+        };
+        self.settled = settled_after(tally, ack.boot(), ack.count());
     }
 }

@@ -1,8 +1,8 @@
 //! What a run writes of its stage, and that nothing is written where it is refused.
 
-ghost use Rattle.std.specs.Prelude.{◌≡◌, ◌++◌, OnOk, IfErr, MatchResult};
+ghost use Rattle.std.specs.Prelude.{◌≡◌, ◌++◌, Err, OnOk, IfErr, MatchResult};
 ghost use Rattle.std.specs.Io.KnownBytes.{Appends, Keeps};
-ghost use Rattle.cascade_core.specs.Held.{IfRunning};
+ghost use Rattle.cascade_core.specs.Held.{IfRunning, IfSpoiled};
 ghost use Rattle.stage_answers.specs.declared.fault.TextFault.TheVariants as TextFault;
 ghost use Rattle.share_jobs.specs.declared.fault.JobFault.TheVariants.{Device};
 ghost use Rattle.share_ends.specs.Texts.{texts};
@@ -13,8 +13,9 @@ use script_host::Behaviour;
 use share_jobs::JobFault;
 use std::io::Write;
 
-/// Appends the trace and then the scene of a stage.
+/// Appends the trace and then the scene of a stage; a spoiled one has no texts.
 pub fn push_texts<B: Behaviour>(stage: &Stage<B>, out: &mut Vec<u8>) -> Result<(), TextFault>
+    ensures refused { IfSpoiled stage.now.held (result ≡ Err TextFault.Spoiled) }
     ensures ok { IfRunning stage.now.held (λ w.
         OnOk result (out.new.items ≡ out.old.items ++ texts stage.now.scene stage.now.routes w)) }
     ensures memory { IfRunning stage.now.held (λ w.

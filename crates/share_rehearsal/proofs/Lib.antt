@@ -1,4 +1,3 @@
-mod Calling
 mod Endings
 mod Plays
 mod Seating

@@ -1,5 +1,5 @@
 -- One more viewer for the next stage.
-use Rattle.std.proofs.Common.{◌≡◌, ℕ, ◌+◌, ◌≤◌, List, [], ◌∷◌, ◌++◌, suc, refl, ap, sym, ◌∙◌, arith, length, append_assoc}
+use Rattle.std.proofs.Common.{◌≡◌, ℕ, ◌+◌, ◌≤◌, List, [], ◌∷◌, ◌++◌, suc, ap, ◌∙◌, arith, length, append_assoc}
 use Rattle.std.proofs.lemmas.List.{length-append}
 use Rattle.cascade_core.specs.Apply.{opening}
 use Rattle.cascade_core.specs.Held.{StageView}

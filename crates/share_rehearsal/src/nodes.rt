@@ -15,6 +15,7 @@ use crate::made::Made;
 use script_host::Behaviour;
 use share_core::{Host, Viewer};
 use share_law::Step;
+use share_rules::seat_of;
 use share_wire::Packet;
 use std::alloc::{AllocError, Global};
 use x3d_lists::Items;
@@ -145,10 +146,10 @@ impl<B: Behaviour> Nodes<B> {
             (seen_of self.new.host self.new.viewers.items
             self.new.packets.items self.new.shots.items) }
     {
-        match self.viewers.get_mut(viewer as usize) {
-            Some(viewer) => Answer::Offered(viewer.offer(point)),
-            None => Answer::NoSuch,
-        }
+        let Some(seat) = seat_of(self.viewers.len(), viewer) else {
+            return Answer::NoSuch;
+        };
+        Answer::Offered(self.viewers[seat].offer(point))
     }
 
     fn resend(&mut self, viewer: u32, place: u32) -> Result<Answer, AllocError>
@@ -159,10 +160,10 @@ impl<B: Behaviour> Nodes<B> {
             (seen_of self.new.host self.new.viewers.items
             self.new.packets.items self.new.shots.items)) }
     {
-        match self.viewers.get(viewer as usize) {
-            Some(viewer) => send_any(viewer.resend(place), &mut self.packets),
-            None => Ok(Answer::NoSuch),
-        }
+        let Some(seat) = seat_of(self.viewers.len(), viewer) else {
+            return Ok(Answer::NoSuch);
+        };
+        send_any(self.viewers[seat].resend(place), &mut self.packets)
     }
 
     fn ask(&mut self, viewer: u32) -> Result<Answer, AllocError>
@@ -173,10 +174,10 @@ impl<B: Behaviour> Nodes<B> {
             (seen_of self.new.host self.new.viewers.items
             self.new.packets.items self.new.shots.items)) }
     {
-        match self.viewers.get(viewer as usize) {
-            Some(viewer) => send(viewer.ask(), &mut self.packets),
-            None => Ok(Answer::NoSuch),
-        }
+        let Some(seat) = seat_of(self.viewers.len(), viewer) else {
+            return Ok(Answer::NoSuch);
+        };
+        send(self.viewers[seat].ask(), &mut self.packets)
     }
 
     fn give(&mut self, viewer: u32, packet: u32) -> Answer
@@ -187,11 +188,11 @@ impl<B: Behaviour> Nodes<B> {
             (seen_of self.new.host self.new.viewers.items
             self.new.packets.items self.new.shots.items) }
     {
-        let Some(packet) = self.packets.get(packet as usize) else {
+        let Some(seat) = seat_of(self.viewers.len(), viewer) else {
             return Answer::NoSuch;
         };
-        match self.viewers.get_mut(viewer as usize) {
-            Some(viewer) => Answer::ViewerTook(viewer.take(packet.bytes())),
+        match self.packets.get(packet as usize) {
+            Some(packet) => Answer::ViewerTook(self.viewers[seat].take(packet.bytes())),
             None => Answer::NoSuch,
         }
     }
@@ -204,10 +205,10 @@ impl<B: Behaviour> Nodes<B> {
             (seen_of self.new.host self.new.viewers.items
             self.new.packets.items self.new.shots.items)) }
     {
-        match self.viewers.get(viewer as usize) {
-            Some(node) => save(alloc, viewer, node, &mut self.shots),
-            None => Ok(Answer::NoSuch),
-        }
+        let Some(seat) = seat_of(self.viewers.len(), viewer) else {
+            return Ok(Answer::NoSuch);
+        };
+        save(alloc, viewer, &self.viewers[seat], &mut self.shots)
     }
 
     fn rewind(&mut self, viewer: u32, snapshot: u32, boot: u32) -> Answer
@@ -218,15 +219,14 @@ impl<B: Behaviour> Nodes<B> {
             (seen_of self.new.host self.new.viewers.items
             self.new.packets.items self.new.shots.items) }
     {
-        let Some(shot) = self.shots.get(snapshot as usize) else {
+        let Some(seat) = seat_of(self.viewers.len(), viewer) else {
             return Answer::NoSuch;
         };
-        if shot.viewer != viewer {
-            return Answer::NoSuch;
-        }
-        match self.viewers.get_mut(viewer as usize) {
-            Some(node) => Answer::Rewound(node.rewind(shot.bytes.as_slice(), boot)),
-            None => Answer::NoSuch,
+        match self.shots.get(snapshot as usize) {
+            Some(shot) if shot.viewer == viewer => {
+                Answer::Rewound(self.viewers[seat].rewind(shot.bytes.as_slice(), boot))
+            }
+            _ => Answer::NoSuch,
         }
     }
 

@@ -1,6 +1,6 @@
 //! A rehearsal as a whole.
 
-ghost use Rattle.std.specs.Prelude.{◌≡◌, ◌<◌, ◌≤◌, ◌++◌, [], length, Err, IfErr, IfOk, OnErr, OnOk};
+ghost use Rattle.std.specs.Prelude.{◌≡◌, ◌<◌, ◌≤◌, ◌++◌, ◌∷◌, [], length, Err, IfErr, IfOk, OnErr, OnOk};
 ghost use Rattle.share_rehearsal.specs.Calls.{begun_with, seen_of, viewers_from};
 ghost use Rattle.share_rehearsal.specs.Rehearsed.{AreFresh, IsLogged, IsRehearsed};
 
@@ -24,6 +24,22 @@ pub struct Rehearsal<B: Behaviour> {
     pub viewers: Vec<Viewer<B>>,
 }
 
+/// A viewer of this stage takes the next number, as its boot 1.
+fn seat<B: Behaviour>(
+    viewers: &mut Vec<Viewer<B>>,
+    stage: Stage<B>,
+    mark: [u8; 32],
+) -> Result<(), AllocError>
+    requires fresh { AreFresh (stage ∷ []) }
+    requires room { length viewers.old.items < 16 }
+    ensures { IfOk result (λ _. viewers.new.items
+        ≡ viewers.old.items ++ viewers_from mark (length viewers.old.items) (stage ∷ [])) }
+{
+    let number = viewers.len() as u8;
+    viewers.push(Viewer::start(stage, mark, number, 1))?;
+    Ok(())
+}
+
 /// A viewer for each stage, numbered in their order, as its boot 1.
 pub fn viewers_of<B: Behaviour>(
     alloc: Global,
@@ -36,9 +52,8 @@ pub fn viewers_of<B: Behaviour>(
 {
     let mut viewers = Vec::new(alloc);
     for stage in stages {
-        let number = viewers.len() as u8;
         // What the exit lets go is dropped by a call, and not in place.
-        let Ok(()) = viewers.push(Viewer::start(stage, mark, number, 1)) else {
+        let Ok(()) = seat(&mut viewers, stage, mark) else {
             drop(viewers);
             return Err(AllocError);
         };

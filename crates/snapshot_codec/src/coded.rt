@@ -101,7 +101,8 @@ pub(crate) fn list_within(
     many_within(alloc, limit, count, rest)
 }
 
-fn push_many<T: Coded>(items: &[T], out: &mut Vec<u8>) -> Result<(), AllocError>
+/// Appends the items; on a refusal perhaps a part of them.
+pub(crate) fn push_many<T: Coded>(items: &[T], out: &mut Vec<u8>) -> Result<(), AllocError>
     ensures ok { OnOk result (out.new.items ≡ out.old.items ++ flat_map T.codec.write items.now) }
     ensures kept { Extends out.old.items out.new.items }
 {

@@ -5,10 +5,9 @@ ghost use Rattle.std.specs.Cmp.Lexicographic.{pointwise};
 ghost use Rattle.std.specs.Option.{option_map};
 ghost use Rattle.std.specs.Result.{result_map_both};
 ghost use Rattle.sha2.specs.Sha256.{sha256};
-ghost use Rattle.x3d_lists.specs.Extends.{Extends};
 ghost use Rattle.snapshot_codec.specs.Head.{applied_codec, progress_codec, front, unsealed, snapshot, head_fault, opened};
 
-use crate::numbers::{push_i64, push_u32};
+use crate::numbers::{push_pieces, signed_bytes};
 use crate::trace::moment_of;
 use byte_codec::u32_of;
 use sha2::{Digest, Sha256};
@@ -113,27 +112,14 @@ pub fn open<'a>(version: u8, mark: &[u8; 32], bytes: &'a [u8]) -> Result<&'a [u8
     opened(version, mark, bytes)
 }
 
-fn push_front_part(version: u8, mark: &[u8; 32], out: &mut Vec<u8>) -> Result<(), AllocError>
-    ensures ok { OnOk result (out.new.items ≡ out.old.items ++ front version mark.now) }
-    ensures kept { Extends out.old.items out.new.items }
-{
-    out.extend_from_slice(MAGIC)?;
-    out.push(version)?;
-    out.extend_from_slice(mark)
-}
-
 /// Appends what stands before the body: `X3DW`, the version and the mark of the scene. On a refusal
 /// the buffer is as it was.
 pub fn push_front(version: u8, mark: &[u8; 32], out: &mut Vec<u8>) -> Result<(), AllocError>
     ensures ok { OnOk result (out.new.items ≡ out.old.items ++ front version mark.now) }
     ensures err { OnErr result (out.new.items ≡ out.old.items) }
 {
-    let len = out.len();
-    let pushed = push_front_part(version, mark, out);
-    if pushed.is_err() {
-        out.truncate(len);
-    }
-    pushed
+    let pieces: [&[u8]; 3] = [MAGIC, &[version], mark];
+    push_pieces(&pieces, out)
 }
 
 /// Appends the SHA-256 of what stands behind the first `from` bytes. On a refusal the buffer is as
@@ -183,25 +169,16 @@ pub fn progress_of(bytes: &[u8]) -> Option<(Progress, &[u8])>
     Some((progress, rest))
 }
 
-#[tactic(auto, unfolding(crate::specs::Head::progress_codec))]
-fn push_progress_part(progress: Progress, out: &mut Vec<u8>) -> Result<(), AllocError>
-    ensures ok { OnOk result (out.new.items ≡ out.old.items ++ progress_codec.write progress) }
-    ensures kept { Extends out.old.items out.new.items }
-{
-    push_u32(progress.boot, out)?;
-    push_u32(progress.applied, out)?;
-    push_i64(progress.last_time, out)
-}
-
 /// Appends how far a world had come. On a refusal the buffer is as it was.
+#[tactic(auto, unfolding(crate::specs::Head::progress_codec, byte_codec::specs::Codec::number_text))]
 pub fn push_progress(progress: Progress, out: &mut Vec<u8>) -> Result<(), AllocError>
     ensures ok { OnOk result (out.new.items ≡ out.old.items ++ progress_codec.write progress) }
     ensures err { OnErr result (out.new.items ≡ out.old.items) }
 {
-    let len = out.len();
-    let pushed = push_progress_part(progress, out);
-    if pushed.is_err() {
-        out.truncate(len);
-    }
-    pushed
+    let pieces: [&[u8]; 3] = [
+        &progress.boot.to_be_bytes(),
+        &progress.applied.to_be_bytes(),
+        &signed_bytes(&progress.last_time),
+    ];
+    push_pieces(&pieces, out)
 }

@@ -12,7 +12,6 @@ mod exactness;
 mod fault;
 mod head;
 mod kept;
-mod lists;
 mod numbers;
 mod parts;
 mod rest;

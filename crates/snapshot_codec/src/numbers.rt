@@ -2,6 +2,7 @@
 
 ghost use Rattle.std.specs.Prelude.{◌≡◌, ◌++◌, OnErr, OnOk};
 ghost use Rattle.std.specs.Int.{w16, w32, w64, cast_unsigned};
+ghost use Rattle.std.specs.List.{flat_map};
 ghost use Rattle.std.specs.Option.{option_map};
 ghost use Rattle.byte_codec.specs.Codec.{number_text};
 ghost use Rattle.snapshot_codec.specs.Values.{within};
@@ -9,12 +10,29 @@ ghost use Rattle.snapshot_codec.specs.Values.{within};
 use byte_codec::i64_of;
 use std::alloc::AllocError;
 
+/// The bytes of a signed number. It is lent: what is passed by value, contracts see as a number of
+/// 64 bits that is read back, and `search` loses its way.
 #[tactic(auto, unfolding(byte_codec::specs::Codec::number_text))]
-pub(crate) fn push_u16(number: u16, out: &mut Vec<u8>) -> Result<(), AllocError>
-    ensures ok { OnOk result (out.new.items ≡ out.old.items ++ number_text w16 number) }
+pub(crate) fn signed_bytes(number: &i64) -> [u8; 8]
+    ensures { result ≡ number_text w64 (cast_unsigned w64 number.now) }
+{
+    number.to_be_bytes()
+}
+
+/// Appends the pieces one after the other. On a refusal the buffer is as it was.
+pub(crate) fn push_pieces(pieces: &[&[u8]], out: &mut Vec<u8>) -> Result<(), AllocError>
+    ensures ok { OnOk result (out.new.items
+        ≡ out.old.items ++ flat_map (λ piece. piece.now) pieces.now) }
     ensures err { OnErr result (out.new.items ≡ out.old.items) }
 {
-    out.extend_from_slice(&number.to_be_bytes())
+    let len = out.len();
+    for piece in pieces {
+        let Ok(()) = out.extend_from_slice(piece) else {
+            out.truncate(len);
+            return Err(AllocError);
+        };
+    }
+    Ok(())
 }
 
 #[tactic(auto, unfolding(byte_codec::specs::Codec::number_text))]

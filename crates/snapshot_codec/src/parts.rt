@@ -2,13 +2,12 @@
 
 ghost use Rattle.std.specs.Prelude.{◌≡◌, ◌++◌, ◌<◌, ◌^◌, IfSome, OnErr, OnOk};
 ghost use Rattle.std.specs.Option.{option_map};
-ghost use Rattle.x3d_lists.specs.Extends.{Extends};
 ghost use Rattle.snapshot_codec.specs.Reads.{Reads};
 ghost use Rattle.snapshot_codec.specs.Parts.{cycle_in, place_number, cycle_codec, position_codec, state_codec, states_codec};
 
 use crate::coded::{Coded, list_of, many_of, push_list};
 use crate::fault::PartFault;
-use crate::numbers::{push_u32, push_u64};
+use crate::numbers::{push_pieces, push_u32};
 use byte_codec::{flag_of, i64_of, u32_of};
 use std::alloc::{AllocError, Global};
 use x3d_values::{Items, Position};
@@ -47,34 +46,16 @@ pub fn cycle_of(bytes: &[u8]) -> Option<(Option<u64>, &[u8])>
     Some((cycle, rest))
 }
 
-#[tactic(auto, unfolding(crate::specs::Parts::cycle_codec))]
-fn push_cycle_part(cycle: Option<u64>, out: &mut Vec<u8>) -> Result<(), AllocError>
-    ensures ok { OnOk result (out.new.items ≡ out.old.items ++ cycle_codec.write cycle) }
-    ensures kept { Extends out.old.items out.new.items }
-{
-    match cycle {
-        Some(number) => {
-            out.push(1)?;
-            push_u64(number, out)
-        }
-        None => {
-            out.push(0)?;
-            push_u64(0, out)
-        }
-    }
-}
-
 /// Appends the cycle that a TimeSensor runs, if it is active. On a refusal the buffer is as it was.
+#[tactic(auto, unfolding(crate::specs::Parts::cycle_codec, byte_codec::specs::Codec::number_text))]
 pub fn push_cycle(cycle: Option<u64>, out: &mut Vec<u8>) -> Result<(), AllocError>
     ensures ok { OnOk result (out.new.items ≡ out.old.items ++ cycle_codec.write cycle) }
     ensures err { OnErr result (out.new.items ≡ out.old.items) }
 {
-    let len = out.len();
-    let pushed = push_cycle_part(cycle, out);
-    if pushed.is_err() {
-        out.truncate(len);
+    match cycle {
+        Some(number) => push_pieces(&[&[1], &number.to_be_bytes()], out),
+        None => push_pieces(&[&[0], &[0; 8]], out),
     }
-    pushed
 }
 
 /// A sequencer's position at the front of the bytes, and the bytes behind it: a u32, 2^32 - 1

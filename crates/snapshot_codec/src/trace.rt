@@ -3,7 +3,6 @@
 ghost use Rattle.std.specs.Prelude.{◌≡◌, ◌++◌, ◌∷◌, [], ℕ, List, Option, OnErr, OnOk};
 ghost use Rattle.std.specs.Option.{option_map};
 ghost use Rattle.std.specs.Int.{w64};
-ghost use Rattle.x3d_lists.specs.Extends.{Extends};
 ghost use Rattle.byte_codec.specs.Codec.{number_text, many_at};
 ghost use Rattle.x3d_values.specs.declared.field_type.FieldType.{FieldType as AFieldType};
 ghost use Rattle.snapshot_codec.specs.declared.trace.TraceEntry.{TraceEntry as AnEntry};
@@ -11,8 +10,8 @@ ghost use Rattle.snapshot_codec.specs.Reads.{Reads, behind};
 ghost use Rattle.snapshot_codec.specs.Trace.{moment_codec, sent_at_codec, typed_codec, entry_codec, trace_codec, entry_text};
 
 use crate::fault::PartFault;
-use crate::numbers::{push_i64, push_u16, push_u32, push_u64};
-use crate::value::{push_value_part, value_of};
+use crate::numbers::{push_pieces, push_u64, signed_bytes};
+use crate::value::{push_value, value_of};
 use byte_codec::{i64_of, u16_of, u32_of, u64_of};
 use std::alloc::{AllocError, Global};
 use x3d_values::{FieldType, Items, Value};
@@ -175,23 +174,18 @@ pub fn trace_of<'a, O: Outputs, T: TakesEntries>(
     entries_of(alloc, outputs, count, rest, taker)
 }
 
-#[tactic(auto, unfolding(crate::specs::Trace::sent_at_codec))]
+#[tactic(auto, unfolding(crate::specs::Trace::sent_at_codec, byte_codec::specs::Codec::number_text))]
 fn push_sent_at(sent: SentAt, out: &mut Vec<u8>) -> Result<(), AllocError>
     ensures ok { OnOk result (out.new.items ≡ out.old.items ++ sent_at_codec.write sent) }
-    ensures kept { Extends out.old.items out.new.items }
+    ensures err { OnErr result (out.new.items ≡ out.old.items) }
 {
-    push_u32(sent.input, out)?;
-    push_i64(sent.time, out)?;
-    push_u32(sent.node, out)?;
-    push_u16(sent.field, out)
-}
-
-fn push_entry_part(sent: SentAt, value: &Value, out: &mut Vec<u8>) -> Result<(), AllocError>
-    ensures ok { OnOk result (out.new.items ≡ out.old.items ++ entry_text sent value.now) }
-    ensures kept { Extends out.old.items out.new.items }
-{
-    push_sent_at(sent, out)?;
-    push_value_part(value, out)
+    let pieces: [&[u8]; 4] = [
+        &sent.input.to_be_bytes(),
+        &signed_bytes(&sent.time),
+        &sent.node.to_be_bytes(),
+        &sent.field.to_be_bytes(),
+    ];
+    push_pieces(&pieces, out)
 }
 
 /// Appends an event. On a refusal the buffer is as it was.
@@ -200,7 +194,8 @@ pub fn push_entry(sent: SentAt, value: &Value, out: &mut Vec<u8>) -> Result<(), 
     ensures err { OnErr result (out.new.items ≡ out.old.items) }
 {
     let len = out.len();
-    let pushed = push_entry_part(sent, value, out);
+    push_sent_at(sent, out)?;
+    let pushed = push_value(value, out);
     if pushed.is_err() {
         out.truncate(len);
     }

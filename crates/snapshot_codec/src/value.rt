@@ -1,18 +1,17 @@
 //! The value of a field as bytes.
 
-ghost use Rattle.std.specs.Prelude.{◌≡◌, ◌++◌, OnErr, OnOk};
+ghost use Rattle.std.specs.Prelude.{◌≡◌, ◌++◌, Err, IsOkAnd, MatchResult, OnErr, OnOk};
 ghost use Rattle.x3d_lists.specs.Extends.{Extends};
 ghost use Rattle.snapshot_codec.specs.Reads.{Reads};
 ghost use Rattle.snapshot_codec.specs.Values.{list_at, value_codec, value_text};
 
-use crate::coded::{Coded, push_list};
+use crate::coded::{Coded, list_of, list_within, push_list};
 use crate::fault::PartFault;
-use crate::lists;
 use crate::numbers::within_of;
 use crate::vectors::{color_of, number_of, vector2_of, vector3_of};
 use byte_codec::{flag_of, i32_of};
 use std::alloc::{AllocError, Global};
-use x3d_values::{FieldType, Text, Value};
+use x3d_values::{FieldType, MAX_COORDINATE, Text, Value};
 
 /// The largest size of a time, in microseconds.
 pub(crate) const MAX_TIME: u64 = 1_000_000_000_000_000_000;
@@ -90,15 +89,31 @@ fn list_value_of(
     ensures { Reads (λ x. (x.0, x.1.now)) result (list_at field_type bytes.now) }
 {
     match field_type {
-        FieldType::MFBool => lists::truths_of(alloc, bytes),
-        FieldType::MFInt32 => lists::whole_numbers_of(alloc, bytes),
-        FieldType::MFFloat => lists::numbers_of(alloc, bytes),
-        FieldType::MFTime => lists::times_of(alloc, bytes),
-        FieldType::MFString => lists::texts_of(alloc, bytes),
-        FieldType::MFVec2f => lists::plane_points_of(alloc, bytes),
-        FieldType::MFVec3f => lists::points_of(alloc, bytes),
-        FieldType::MFColor => lists::colors_of(alloc, bytes),
+        FieldType::MFBool => valued(list_of(alloc, bytes), Value::MFBool),
+        FieldType::MFInt32 => valued(list_of(alloc, bytes), Value::MFInt32),
+        FieldType::MFFloat => valued(list_within(alloc, MAX_COORDINATE, bytes), Value::MFFloat),
+        FieldType::MFTime => valued(list_within(alloc, MAX_TIME, bytes), Value::MFTime),
+        FieldType::MFString => valued(list_of(alloc, bytes), Value::MFString),
+        FieldType::MFVec2f => valued(list_of(alloc, bytes), Value::MFVec2f),
+        FieldType::MFVec3f => valued(list_of(alloc, bytes), Value::MFVec3f),
+        FieldType::MFColor => valued(list_of(alloc, bytes), Value::MFColor),
         _ => Err(PartFault::NotCanonical),
+    }
+}
+
+/// What was read, as the value that is made of it.
+fn valued<'a, T: Drop, F: FnOnce(T) -> Value>(
+    read: Result<(T, &'a [u8]), PartFault>,
+    make: F,
+) -> Result<(Value, &'a [u8]), PartFault>
+    requires { F.IsAlwaysCallable make }
+    ensures { MatchResult read.entry
+        (λ x. IsOkAnd result (λ made. F.post make x.0 made.0 × made.1.now ≡ x.1.now))
+        (λ fault. result ≡ Err fault) }
+{
+    match read {
+        Ok((part, rest)) => Ok((make(part), rest)),
+        Err(fault) => Err(fault),
     }
 }
 

@@ -5,7 +5,7 @@ ghost use Rattle.std.specs.Option.{option_map};
 ghost use Rattle.byte_codec.specs.Codec.{pair};
 ghost use Rattle.snapshot_codec.specs.Values.{number, vector2, vector3, color};
 
-use crate::coded::Coded;
+use crate::coded::{Coded, push_many};
 use crate::fault::PartFault;
 use crate::numbers::within_of;
 use std::alloc::{AllocError, Global};
@@ -77,8 +77,7 @@ impl Coded for Vec2 {
 
     #[tactic(auto, unfolding(crate::specs::Values::vector2))]
     fn push_to(&self, out: &mut Vec<u8>) -> Result<(), AllocError> {
-        self.x.push_to(out)?;
-        self.y.push_to(out)
+        push_many(&[self.x, self.y], out)
     }
 }
 
@@ -91,9 +90,7 @@ impl Coded for Vec3 {
 
     #[tactic(auto, unfolding(crate::specs::Values::vector3))]
     fn push_to(&self, out: &mut Vec<u8>) -> Result<(), AllocError> {
-        self.x.push_to(out)?;
-        self.y.push_to(out)?;
-        self.z.push_to(out)
+        push_many(&[self.x, self.y, self.z], out)
     }
 }
 
@@ -106,8 +103,6 @@ impl Coded for Color {
 
     #[tactic(auto, unfolding(crate::specs::Values::color))]
     fn push_to(&self, out: &mut Vec<u8>) -> Result<(), AllocError> {
-        self.red.push_to(out)?;
-        self.green.push_to(out)?;
-        self.blue.push_to(out)
+        push_many(&[self.red, self.green, self.blue], out)
     }
 }

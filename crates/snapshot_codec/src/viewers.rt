@@ -2,7 +2,6 @@
 
 ghost use Rattle.std.specs.Prelude.{◌≡◌, ◌++◌, OnErr, OnOk};
 ghost use Rattle.std.specs.Option.{option_map};
-ghost use Rattle.x3d_lists.specs.Extends.{Extends};
 ghost use Rattle.snapshot_codec.specs.Parts.{viewer_count, presser_byte, viewer_set_codec, presser_codec, touch_codec};
 
 use crate::numbers::{push_low_16, push_u64};
@@ -107,23 +106,15 @@ pub fn touch_of(viewers: Viewers, bytes: &[u8]) -> Option<(Touch, &[u8])>
     Some((Touch { over, presser }, rest))
 }
 
-#[tactic(auto, unfolding(crate::specs::Parts::touch_codec, crate::specs::Parts::presser_codec))]
-fn push_touch_part(viewers: Viewers, touch: Touch, out: &mut Vec<u8>) -> Result<(), AllocError>
-    ensures ok { OnOk result (out.new.items ≡ out.old.items ++ (touch_codec viewers).write touch) }
-    ensures kept { Extends out.old.items out.new.items }
-{
-    push_viewer_set(viewers, touch.over, out)?;
-    out.push(presser_byte(touch.presser))?;
-    Ok(())
-}
-
 /// Appends who is over a TouchSensor, and who presses it. On a refusal the buffer is as it was.
+#[tactic(auto, unfolding(crate::specs::Parts::touch_codec, crate::specs::Parts::presser_codec))]
 pub fn push_touch(viewers: Viewers, touch: Touch, out: &mut Vec<u8>) -> Result<(), AllocError>
     ensures ok { OnOk result (out.new.items ≡ out.old.items ++ (touch_codec viewers).write touch) }
     ensures err { OnErr result (out.new.items ≡ out.old.items) }
 {
     let len = out.len();
-    let pushed = push_touch_part(viewers, touch, out);
+    push_viewer_set(viewers, touch.over, out)?;
+    let pushed = out.extend_from_slice(&[presser_byte(touch.presser)]);
     if pushed.is_err() {
         out.truncate(len);
     }

@@ -14,7 +14,8 @@ use Rattle.snapshot_codec.specs.Fields.{kept_field, fields_codec}
 use Rattle.sensor_core.specs.Touches.{Touch}
 use Rattle.snapshot_parts.specs.declared.beside.Beside.{Beside}
 pub use Rattle.snapshot_parts.specs.Beside.{always, touch_in, touch_bytes, touch_fits, is_untouched}
-unfoldable pub use Rattle.snapshot_parts.specs.Beside.{time_part, pointers_codec, touch_part, position_part, beside_codec}
+unfoldable pub use Rattle.snapshot_parts.specs.Beside.{time_part, pointers_codec, touch_part}
+unfoldable pub use Rattle.snapshot_parts.specs.Beside.{position_part, beside_codec}
 use Rattle.snapshot_core.specs.declared.nodes.NodeLists.{NodeLists}
 use Rattle.snapshot_core.specs.declared.nodes.NodeState.{NodeState}
 

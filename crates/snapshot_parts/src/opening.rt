@@ -4,6 +4,7 @@ ghost use Rattle.std.specs.Prelude.{◌≡◌, ◌≢◌, [], OnErr, OnOk, IfErr
 ghost use Rattle.std.specs.Result.{result_map_both};
 ghost use Rattle.snapshot_codec.specs.Head.{opened};
 ghost use Rattle.snapshot_codec.specs.declared.fault.PartFault.TheVariants.{NotCanonical};
+ghost use Rattle.snapshot_parts.specs.Opening.{version};
 
 use snapshot_codec::{HeadFault, PartFault, all_read, open};
 
@@ -13,7 +14,7 @@ pub const VERSION: u8 = 1;
 /// The body of a snapshot of a scene with this mark; else what its head or its digest says.
 pub fn body_in<'a>(mark: &[u8; 32], bytes: &'a [u8]) -> Result<&'a [u8], HeadFault>
     ensures exact { result_map_both (λ body. body.now) (λ fault. fault) result
-        ≡ opened 1 mark.now bytes.now }
+        ≡ opened version mark.now bytes.now }
 {
     open(VERSION, mark, bytes)
 }

@@ -35,7 +35,9 @@ pub fn target_field(node_type: NodeType, name: &str) -> Option<FieldRow>
 fn exact(node_type: NodeType, name: &str) -> Option<FieldRow>
     ensures { result ≡ exact node_type name.now }
 {
-    let row = field_of(node_type, name)?;
+    let Some(row) = field_of(node_type, name) else {
+        return None;
+    };
     if row.field_type == FieldType::SFRotation {
         return None;
     }
@@ -46,7 +48,9 @@ fn exact(node_type: NodeType, name: &str) -> Option<FieldRow>
 fn exposed(node_type: NodeType, name: &str) -> Option<FieldRow>
     ensures { result ≡ exposed node_type name.now }
 {
-    let row = exact(node_type, name)?;
+    let Some(row) = exact(node_type, name) else {
+        return None;
+    };
     if row.access.is_exposed() {
         return Some(row);
     }
@@ -57,7 +61,9 @@ fn exposed(node_type: NodeType, name: &str) -> Option<FieldRow>
 fn set_alias(node_type: NodeType, name: &str) -> Option<FieldRow>
     ensures { result ≡ set_alias node_type name.now }
 {
-    let name = name.strip_prefix("set_")?;
+    let Some(name) = name.strip_prefix("set_") else {
+        return None;
+    };
     exposed(node_type, name)
 }
 
@@ -65,6 +71,8 @@ fn set_alias(node_type: NodeType, name: &str) -> Option<FieldRow>
 fn changed_alias(node_type: NodeType, name: &str) -> Option<FieldRow>
     ensures { result ≡ changed_alias node_type name.now }
 {
-    let name = name.strip_suffix("_changed")?;
+    let Some(name) = name.strip_suffix("_changed") else {
+        return None;
+    };
     exposed(node_type, name)
 }

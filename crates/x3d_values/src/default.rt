@@ -10,7 +10,7 @@ use std::alloc::{AllocError, Global};
 use x3d_lists::{Items, Text};
 
 /// The value that a field has where a scene gives none, in a form that takes no memory.
-#[derive(Clone, Copy, PartialEq, Eq)]
+#[derive(Clone, Copy)]
 pub enum FieldDefault {
     /// FALSE, 0, the empty string, zeros, no node or no items, by the field's type.
     Empty,

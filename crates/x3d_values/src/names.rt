@@ -6,6 +6,7 @@ ghost use Rattle.x3d_values.specs.Names.{node_type_name, node_type_named, all_no
 use crate::field_type::{Access, FieldType};
 use crate::node_type::NodeType;
 
+/// All node types, in the order of `NodeType`.
 static NODE_TYPES: [NodeType; 42] = [
     NodeType::Group,
     NodeType::Transform,
@@ -51,6 +52,53 @@ static NODE_TYPES: [NodeType; 42] = [
     NodeType::Script,
 ];
 
+/// The words for them, in the same order.
+static NODE_TYPE_WORDS: [&str; 42] = [
+    "Group",
+    "Transform",
+    "Switch",
+    "WorldInfo",
+    "Shape",
+    "Appearance",
+    "Material",
+    "ImageTexture",
+    "Box",
+    "Sphere",
+    "Cone",
+    "Cylinder",
+    "IndexedFaceSet",
+    "Text",
+    "Coordinate",
+    "Color",
+    "Normal",
+    "TextureCoordinate",
+    "FontStyle",
+    "Viewpoint",
+    "NavigationInfo",
+    "Background",
+    "DirectionalLight",
+    "PointLight",
+    "MetadataString",
+    "MetadataInteger",
+    "MetadataFloat",
+    "MetadataSet",
+    "TimeSensor",
+    "TouchSensor",
+    "ScalarInterpolator",
+    "PositionInterpolator",
+    "PositionInterpolator2D",
+    "CoordinateInterpolator",
+    "BooleanSequencer",
+    "IntegerSequencer",
+    "BooleanFilter",
+    "BooleanToggle",
+    "BooleanTrigger",
+    "IntegerTrigger",
+    "TimeTrigger",
+    "Script",
+];
+
+/// All types of fields, in the order of `FieldType`.
 static FIELD_TYPES: [FieldType; 19] = [
     FieldType::SFBool,
     FieldType::SFInt32,
@@ -73,55 +121,35 @@ static FIELD_TYPES: [FieldType; 19] = [
     FieldType::SFRotation,
 ];
 
+/// The words for them, in the same order.
+static FIELD_TYPE_WORDS: [&str; 19] = [
+    "SFBool",
+    "SFInt32",
+    "SFFloat",
+    "SFTime",
+    "SFString",
+    "SFVec2f",
+    "SFVec3f",
+    "SFColor",
+    "SFNode",
+    "MFBool",
+    "MFInt32",
+    "MFFloat",
+    "MFTime",
+    "MFString",
+    "MFVec2f",
+    "MFVec3f",
+    "MFColor",
+    "MFNode",
+    "SFRotation",
+];
+
 impl NodeType {
     /// The word that names the type in a scene.
     pub fn name(self) -> &'static str
         ensures { result.now ≡ node_type_name self }
     {
-        match self {
-            NodeType::Group => "Group",
-            NodeType::Transform => "Transform",
-            NodeType::Switch => "Switch",
-            NodeType::WorldInfo => "WorldInfo",
-            NodeType::Shape => "Shape",
-            NodeType::Appearance => "Appearance",
-            NodeType::Material => "Material",
-            NodeType::ImageTexture => "ImageTexture",
-            NodeType::Box => "Box",
-            NodeType::Sphere => "Sphere",
-            NodeType::Cone => "Cone",
-            NodeType::Cylinder => "Cylinder",
-            NodeType::IndexedFaceSet => "IndexedFaceSet",
-            NodeType::Text => "Text",
-            NodeType::Coordinate => "Coordinate",
-            NodeType::Color => "Color",
-            NodeType::Normal => "Normal",
-            NodeType::TextureCoordinate => "TextureCoordinate",
-            NodeType::FontStyle => "FontStyle",
-            NodeType::Viewpoint => "Viewpoint",
-            NodeType::NavigationInfo => "NavigationInfo",
-            NodeType::Background => "Background",
-            NodeType::DirectionalLight => "DirectionalLight",
-            NodeType::PointLight => "PointLight",
-            NodeType::MetadataString => "MetadataString",
-            NodeType::MetadataInteger => "MetadataInteger",
-            NodeType::MetadataFloat => "MetadataFloat",
-            NodeType::MetadataSet => "MetadataSet",
-            NodeType::TimeSensor => "TimeSensor",
-            NodeType::TouchSensor => "TouchSensor",
-            NodeType::ScalarInterpolator => "ScalarInterpolator",
-            NodeType::PositionInterpolator => "PositionInterpolator",
-            NodeType::PositionInterpolator2D => "PositionInterpolator2D",
-            NodeType::CoordinateInterpolator => "CoordinateInterpolator",
-            NodeType::BooleanSequencer => "BooleanSequencer",
-            NodeType::IntegerSequencer => "IntegerSequencer",
-            NodeType::BooleanFilter => "BooleanFilter",
-            NodeType::BooleanToggle => "BooleanToggle",
-            NodeType::BooleanTrigger => "BooleanTrigger",
-            NodeType::IntegerTrigger => "IntegerTrigger",
-            NodeType::TimeTrigger => "TimeTrigger",
-            NodeType::Script => "Script",
-        }
+        NODE_TYPE_WORDS[self as usize]
     }
 
     /// The type of that name.
@@ -149,27 +177,7 @@ impl FieldType {
     pub fn name(self) -> &'static str
         ensures { result.now ≡ field_type_name self }
     {
-        match self {
-            FieldType::SFBool => "SFBool",
-            FieldType::SFInt32 => "SFInt32",
-            FieldType::SFFloat => "SFFloat",
-            FieldType::SFTime => "SFTime",
-            FieldType::SFString => "SFString",
-            FieldType::SFVec2f => "SFVec2f",
-            FieldType::SFVec3f => "SFVec3f",
-            FieldType::SFColor => "SFColor",
-            FieldType::SFNode => "SFNode",
-            FieldType::MFBool => "MFBool",
-            FieldType::MFInt32 => "MFInt32",
-            FieldType::MFFloat => "MFFloat",
-            FieldType::MFTime => "MFTime",
-            FieldType::MFString => "MFString",
-            FieldType::MFVec2f => "MFVec2f",
-            FieldType::MFVec3f => "MFVec3f",
-            FieldType::MFColor => "MFColor",
-            FieldType::MFNode => "MFNode",
-            FieldType::SFRotation => "SFRotation",
-        }
+        FIELD_TYPE_WORDS[self as usize]
     }
 
     /// The type of that name.

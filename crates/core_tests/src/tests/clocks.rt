@@ -4,7 +4,7 @@ use super::sending::{Given, fields, is_sent, value_of};
 use super::{Row, all_hold, holds};
 use react_core::Outbox;
 use sensor_core::{MAX_TIME, TimeFields, TimeState};
-use std::alloc::{AllocError, Global};
+use std::alloc::Global;
 use std::process::Abort;
 use x3d_values::{Fields, Value};
 
@@ -22,12 +22,12 @@ fn set_all(fields: &mut Fields, given: Setting) {
     fields.set(7, Value::SFTime(given.3));
 }
 
-fn timing(alloc: Global, given: Setting) -> Result<Option<TimeFields>, AllocError> {
-    let mut fields = fields(alloc, 14)?;
+fn timing(alloc: Global, given: Setting) -> Option<TimeFields> {
+    let mut fields = fields(alloc, 14);
     set_all(&mut fields, given);
     let timing = TimeFields::from_fields(&fields);
     drop(fields);
-    Ok(timing)
+    timing
 }
 
 fn state_of(cycle: Option<u64>) -> TimeState {
@@ -42,13 +42,7 @@ fn state_of(cycle: Option<u64>) -> TimeState {
 struct Tick(Setting, Option<u64>, i64, Option<u64>, &'static str);
 
 /// Whether the sensor sends that at a tick.
-fn sends(
-    alloc: Global,
-    state: &mut TimeState,
-    timing: &TimeFields,
-    t: i64,
-    wanted: &str,
-) -> Result<bool, AllocError> {
+fn sends(alloc: Global, state: &mut TimeState, timing: &TimeFields, t: i64, wanted: &str) -> bool {
     let mut out = Outbox::new();
     if t >= 0 && t <= MAX_TIME && out.is_empty() {
         state.tick(timing, t, &mut out);
@@ -59,13 +53,13 @@ fn sends(
 }
 
 impl Row for Tick {
-    fn holds(&self, alloc: Global) -> Result<bool, AllocError> {
-        let Some(timing) = timing(alloc, self.0)? else {
-            return Ok(false);
+    fn holds(&self, alloc: Global) -> bool {
+        let Some(timing) = timing(alloc, self.0) else {
+            return false;
         };
         let mut state = state_of(self.1);
-        let sent = sends(alloc, &mut state, &timing, self.2, self.4)?;
-        Ok(sent && state.cycle() == self.3)
+        let sent = sends(alloc, &mut state, &timing, self.2, self.4);
+        sent && state.cycle() == self.3
     }
 }
 
@@ -240,15 +234,15 @@ fn ticks_by_hand(rt: HostRuntime) {
 }
 
 /// Whether fields that were written are read again.
-fn are_read_again(alloc: Global) -> Result<bool, AllocError> {
-    let Some(timing) = timing(alloc, (5, true, -1, 7))? else {
-        return Ok(false);
+fn are_read_again(alloc: Global) -> bool {
+    let Some(timing) = timing(alloc, (5, true, -1, 7)) else {
+        return false;
     };
-    let mut fields = fields(alloc, 14)?;
+    let mut fields = fields(alloc, 14);
     timing.write_to(&mut fields);
     let again = TimeFields::from_fields(&fields);
     drop(fields);
-    Ok(again == Some(timing) && (timing.cycle_interval(), timing.start_time()) == (5, -1))
+    again == Some(timing) && timing.cycle_interval() == 5 && timing.start_time() == -1
 }
 
 #[test]
@@ -260,12 +254,7 @@ fn fields_are_written_and_read(rt: HostRuntime) {
 struct Change(u16, Given, bool, &'static str, bool);
 
 /// Whether that is sent at an event.
-fn tells(
-    alloc: Global,
-    state: &mut TimeState,
-    timing: &mut TimeFields,
-    row: &Change,
-) -> Result<bool, AllocError> {
+fn tells(alloc: Global, state: &mut TimeState, timing: &mut TimeFields, row: &Change) -> bool {
     let mut out = Outbox::new();
     let value = value_of(row.1);
     if out.is_empty() {
@@ -278,13 +267,13 @@ fn tells(
 }
 
 impl Row for Change {
-    fn holds(&self, alloc: Global) -> Result<bool, AllocError> {
-        let Some(mut timing) = timing(alloc, (4, true, 9, 0))? else {
-            return Ok(false);
+    fn holds(&self, alloc: Global) -> bool {
+        let Some(mut timing) = timing(alloc, (4, true, 9, 0)) else {
+            return false;
         };
         let mut state = state_of(self.2.then_some(0));
-        let sent = tells(alloc, &mut state, &mut timing, self)?;
-        Ok(sent && state.is_active() == self.4)
+        let sent = tells(alloc, &mut state, &mut timing, self);
+        sent && state.is_active() == self.4
     }
 }
 

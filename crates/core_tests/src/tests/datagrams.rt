@@ -1,8 +1,8 @@
 //! Datagrams by hand, and damaged ones.
 
-use super::{Row, all_hold};
-use share_wire::{Ack, Ask, Body, Message, Offer, Packet, WireFault, decode, encode, is_viewer};
-use std::alloc::{AllocError, Global};
+use super::{Row, Said, all_hold, holds};
+use share_wire::{Ack, Ask, Body, Message, Offer, Packet, WireFault, decode, encode};
+use std::alloc::Global;
 use std::process::Abort;
 use x3d_values::{Event, Pointer, Ray, Stamped, Vec3};
 
@@ -36,7 +36,8 @@ const ASK: &[u8] = b"X3DS\x01\x03abcdefghijklmnopqrstuvwxyzABCDEF\x01\x00\x00\x0
 const ACK: &[u8] = b"X3DS\x01\x04abcdefghijklmnopqrstuvwxyzABCDEF\
     \x0f\xff\xff\xff\xff\x01\x02\x03\x04";
 
-fn pointer(rt: &impl Abort, who: u8, down: bool) -> Pointer {
+/// From 0.5 -1 10 along 0 0 -1.
+fn ray() -> Ray {
     let origin = Vec3 {
         x: 500_000,
         y: -1_000_000,
@@ -47,26 +48,27 @@ fn pointer(rt: &impl Abort, who: u8, down: bool) -> Pointer {
         y: 0,
         z: -1_000_000,
     };
-    assert!(rt; is_viewer(who) && origin.fits() && dir.fits() && !dir.is_zero());
-    Pointer::new(who, down, Ray::new(origin, dir))
+    Ray::new(origin, dir)
 }
 
-/// The message has these bytes, and is read from them.
-fn is_both_ways(rt: &impl Abort, body: Body, bytes: &[u8]) {
+/// Whether the message has these bytes, and is read from them.
+fn is_both_ways(body: Body, bytes: &[u8]) -> bool {
     let message = Message { mark: MARK, body };
-    assert!(rt; encode(&message).as_slice() == bytes && decode(bytes) == Ok(message));
+    let written = encode(&message).as_slice() == bytes;
+    written && decode(bytes) == Ok(message)
 }
 
 #[test]
 fn each_message_has_its_bytes(rt: HostRuntime) {
     let clock = Stamped::new(1, 1_000_000, Event::Clock);
-    is_both_ways(&rt, Body::Input(clock), CLOCK);
-    let pressed = Stamped::new(2, 1_000_001, Event::Pointer(pointer(&rt, 3, true)));
-    is_both_ways(&rt, Body::Input(pressed), POINTER);
-    let offer = Offer::new(258, 7, pointer(&rt, 3, false));
-    is_both_ways(&rt, Body::Offer(offer), OFFER);
-    is_both_ways(&rt, Body::Ask(Ask::new(1, 4)), ASK);
-    is_both_ways(&rt, Body::Ack(Ack::new(15, u32::MAX, 0x0102_0304)), ACK);
+    holds(&rt, is_both_ways(Body::Input(clock), CLOCK));
+    let pressed = Stamped::new(2, 1_000_001, Event::Pointer(Pointer::new(3, true, ray())));
+    holds(&rt, is_both_ways(Body::Input(pressed), POINTER));
+    let offer = Offer::new(258, 7, Pointer::new(3, false, ray()));
+    holds(&rt, is_both_ways(Body::Offer(offer), OFFER));
+    holds(&rt, is_both_ways(Body::Ask(Ask::new(1, 4)), ASK));
+    let ack = Ack::new(15, u32::MAX, 0x0102_0304);
+    holds(&rt, is_both_ways(Body::Ack(ack), ACK));
 }
 
 const ZERO: &[u8] = &[0; 4];
@@ -89,14 +91,37 @@ const TOO_FAR_BACK: &[u8] = b"\xff\xfc\x72\x81\x5b\x39\x7f\xff";
 
 const NO_DIRECTION: &[u8] = &[0; 24];
 
+/// One of the datagrams above.
+#[derive(Clone, Copy)]
+enum Of {
+    Clock,
+    Pointer,
+    Offer,
+    Ask,
+    Ack,
+}
+
+fn bytes_of(datagram: Of) -> &'static [u8] {
+    match datagram {
+        Of::Clock => CLOCK,
+        Of::Pointer => POINTER,
+        Of::Offer => OFFER,
+        Of::Ask => ASK,
+        Of::Ack => ACK,
+    }
+}
+
 /// A datagram, other bytes and their place in it, and the fault, if that makes it one.
-struct Changed(&'static [u8], usize, &'static [u8], Option<WireFault>);
+struct Changed(Of, usize, &'static [u8], Option<WireFault>);
 
 /// The datagram with other bytes from `at` on.
 fn with(datagram: &[u8], at: usize, other: &[u8]) -> Packet {
     let mut out = Packet::new();
     for (place, byte) in datagram.iter().enumerate() {
-        let new = place.checked_sub(at).and_then(|k| other.get(k));
+        let new = match place.checked_sub(at) {
+            Some(k) => other.get(k),
+            None => None,
+        };
         let _fits = out.try_push(*new.unwrap_or(byte));
     }
     out
@@ -111,80 +136,85 @@ fn is_told(changed: &Packet, fault: Option<WireFault>) -> bool {
 }
 
 impl Row for Changed {
-    fn holds(&self, _alloc: Global) -> Result<bool, AllocError> {
-        Ok(is_told(&with(self.0, self.1, self.2), self.3))
+    fn holds(&self, _alloc: Global) -> bool {
+        is_told(&with(bytes_of(self.0), self.1, self.2), self.3)
     }
 }
 
 static CHANGED: [Changed; 63] = [
     // the head
-    Changed(ASK, 0, b"X3DW", Some(WireFault::BadPacket)),
-    Changed(ASK, 3, b"T\x02", Some(WireFault::BadPacket)),
-    Changed(ASK, 4, b"\x00", Some(WireFault::BadVersion)),
-    Changed(ASK, 4, b"\x02", Some(WireFault::BadVersion)),
-    Changed(ASK, 4, b"\x02\x09", Some(WireFault::BadVersion)),
-    Changed(ASK, 5, b"\x00", Some(WireFault::BadTag)),
-    Changed(ASK, 5, b"\x07", Some(WireFault::BadTag)),
-    Changed(ASK, 6, b"\x00\xff", None),
+    Changed(Of::Ask, 0, b"X3DW", Some(WireFault::BadPacket)),
+    Changed(Of::Ask, 3, b"T\x02", Some(WireFault::BadPacket)),
+    Changed(Of::Ask, 4, b"\x00", Some(WireFault::BadVersion)),
+    Changed(Of::Ask, 4, b"\x02", Some(WireFault::BadVersion)),
+    Changed(Of::Ask, 4, b"\x02\x09", Some(WireFault::BadVersion)),
+    Changed(Of::Ask, 5, b"\x00", Some(WireFault::BadTag)),
+    Changed(Of::Ask, 5, b"\x07", Some(WireFault::BadTag)),
+    Changed(Of::Ask, 6, b"\x00\xff", None),
     // inputs
-    Changed(CLOCK, 38, ZERO, Some(WireFault::BadRange)),
-    Changed(CLOCK, 38, b"\x00\x10\x00\x00", None),
-    Changed(CLOCK, 38, b"\x00\x10\x00\x01", Some(WireFault::BadRange)),
-    Changed(CLOCK, 42, &[0; 8], Some(WireFault::BadRange)),
-    Changed(CLOCK, 42, b"\x00\x00\x00\x00\x00\x00\x00\x01", None),
-    Changed(CLOCK, 42, LATEST, None),
-    Changed(CLOCK, 42, TOO_LATE, Some(WireFault::BadRange)),
-    Changed(CLOCK, 42, &[255; 8], Some(WireFault::BadRange)),
-    Changed(CLOCK, 50, b"\x02", Some(WireFault::BadRange)),
-    Changed(POINTER, 50, b"\xff", Some(WireFault::BadRange)),
-    Changed(CLOCK, 50, b"\x01", Some(WireFault::BadPacket)),
-    Changed(POINTER, 50, b"\x00", Some(WireFault::BadPacket)),
-    Changed(POINTER, 38, ZERO, Some(WireFault::BadRange)),
-    Changed(POINTER, 42, LATEST, None),
-    Changed(POINTER, 42, TOO_LATE, Some(WireFault::BadRange)),
-    Changed(POINTER, 77, NO_DIRECTION, Some(WireFault::ZeroRay)),
+    Changed(Of::Clock, 38, ZERO, Some(WireFault::BadRange)),
+    Changed(Of::Clock, 38, b"\x00\x10\x00\x00", None),
+    Changed(
+        Of::Clock,
+        38,
+        b"\x00\x10\x00\x01",
+        Some(WireFault::BadRange),
+    ),
+    Changed(Of::Clock, 42, &[0; 8], Some(WireFault::BadRange)),
+    Changed(Of::Clock, 42, b"\x00\x00\x00\x00\x00\x00\x00\x01", None),
+    Changed(Of::Clock, 42, LATEST, None),
+    Changed(Of::Clock, 42, TOO_LATE, Some(WireFault::BadRange)),
+    Changed(Of::Clock, 42, &[255; 8], Some(WireFault::BadRange)),
+    Changed(Of::Clock, 50, b"\x02", Some(WireFault::BadRange)),
+    Changed(Of::Pointer, 50, b"\xff", Some(WireFault::BadRange)),
+    Changed(Of::Clock, 50, b"\x01", Some(WireFault::BadPacket)),
+    Changed(Of::Pointer, 50, b"\x00", Some(WireFault::BadPacket)),
+    Changed(Of::Pointer, 38, ZERO, Some(WireFault::BadRange)),
+    Changed(Of::Pointer, 42, LATEST, None),
+    Changed(Of::Pointer, 42, TOO_LATE, Some(WireFault::BadRange)),
+    Changed(Of::Pointer, 77, NO_DIRECTION, Some(WireFault::ZeroRay)),
     // what a pointer of an input has
-    Changed(POINTER, 51, b"\x00", None),
-    Changed(POINTER, 51, b"\x0f", None),
-    Changed(POINTER, 51, b"\x10", Some(WireFault::BadRange)),
-    Changed(POINTER, 51, b"\x10\x03", Some(WireFault::BadRange)),
-    Changed(POINTER, 52, b"\x00", None),
-    Changed(POINTER, 52, b"\x02", Some(WireFault::BadRange)),
-    Changed(POINTER, 53, FAR, None),
-    Changed(POINTER, 53, TOO_FAR, Some(WireFault::BadRange)),
-    Changed(POINTER, 61, FAR_BACK, None),
-    Changed(POINTER, 61, TOO_FAR_BACK, Some(WireFault::BadRange)),
-    Changed(POINTER, 69, TOO_FAR, Some(WireFault::BadRange)),
-    Changed(POINTER, 77, FAR, None),
-    Changed(POINTER, 77, TOO_FAR, Some(WireFault::BadRange)),
-    Changed(POINTER, 85, FAR_BACK, None),
-    Changed(POINTER, 85, TOO_FAR_BACK, Some(WireFault::BadRange)),
-    Changed(POINTER, 93, FAR, None),
-    Changed(POINTER, 93, TOO_FAR, Some(WireFault::BadRange)),
-    Changed(POINTER, 93, b"\x00\x00\x00\x00\x00\x00\x00\x01", None),
-    Changed(POINTER, 93, &[0; 8], Some(WireFault::ZeroRay)),
+    Changed(Of::Pointer, 51, b"\x00", None),
+    Changed(Of::Pointer, 51, b"\x0f", None),
+    Changed(Of::Pointer, 51, b"\x10", Some(WireFault::BadRange)),
+    Changed(Of::Pointer, 51, b"\x10\x03", Some(WireFault::BadRange)),
+    Changed(Of::Pointer, 52, b"\x00", None),
+    Changed(Of::Pointer, 52, b"\x02", Some(WireFault::BadRange)),
+    Changed(Of::Pointer, 53, FAR, None),
+    Changed(Of::Pointer, 53, TOO_FAR, Some(WireFault::BadRange)),
+    Changed(Of::Pointer, 61, FAR_BACK, None),
+    Changed(Of::Pointer, 61, TOO_FAR_BACK, Some(WireFault::BadRange)),
+    Changed(Of::Pointer, 69, TOO_FAR, Some(WireFault::BadRange)),
+    Changed(Of::Pointer, 77, FAR, None),
+    Changed(Of::Pointer, 77, TOO_FAR, Some(WireFault::BadRange)),
+    Changed(Of::Pointer, 85, FAR_BACK, None),
+    Changed(Of::Pointer, 85, TOO_FAR_BACK, Some(WireFault::BadRange)),
+    Changed(Of::Pointer, 93, FAR, None),
+    Changed(Of::Pointer, 93, TOO_FAR, Some(WireFault::BadRange)),
+    Changed(Of::Pointer, 93, b"\x00\x00\x00\x00\x00\x00\x00\x01", None),
+    Changed(Of::Pointer, 93, &[0; 8], Some(WireFault::ZeroRay)),
     // offers
-    Changed(OFFER, 38, b"\x0f", None),
-    Changed(OFFER, 38, b"\x10", Some(WireFault::BadRange)),
-    Changed(OFFER, 39, ZERO, Some(WireFault::BadRange)),
-    Changed(OFFER, 39, b"\x00\x00\x00\x01", None),
-    Changed(OFFER, 39, LARGEST, None),
-    Changed(OFFER, 43, ZERO, Some(WireFault::BadRange)),
-    Changed(OFFER, 43, LARGEST, None),
-    Changed(OFFER, 47, b"\x02", Some(WireFault::BadRange)),
-    Changed(OFFER, 48, TOO_FAR, Some(WireFault::BadRange)),
-    Changed(OFFER, 88, FAR_BACK, None),
-    Changed(OFFER, 72, NO_DIRECTION, Some(WireFault::ZeroRay)),
+    Changed(Of::Offer, 38, b"\x0f", None),
+    Changed(Of::Offer, 38, b"\x10", Some(WireFault::BadRange)),
+    Changed(Of::Offer, 39, ZERO, Some(WireFault::BadRange)),
+    Changed(Of::Offer, 39, b"\x00\x00\x00\x01", None),
+    Changed(Of::Offer, 39, LARGEST, None),
+    Changed(Of::Offer, 43, ZERO, Some(WireFault::BadRange)),
+    Changed(Of::Offer, 43, LARGEST, None),
+    Changed(Of::Offer, 47, b"\x02", Some(WireFault::BadRange)),
+    Changed(Of::Offer, 48, TOO_FAR, Some(WireFault::BadRange)),
+    Changed(Of::Offer, 88, FAR_BACK, None),
+    Changed(Of::Offer, 72, NO_DIRECTION, Some(WireFault::ZeroRay)),
     // asks and acks
-    Changed(ASK, 38, b"\x0f", None),
-    Changed(ASK, 38, b"\x10", Some(WireFault::BadRange)),
-    Changed(ASK, 39, ZERO, Some(WireFault::BadRange)),
-    Changed(ASK, 39, b"\x00\x00\x00\x01", None),
-    Changed(ASK, 39, b"\x00\x10\x00\x01", None),
-    Changed(ASK, 39, b"\x00\x10\x00\x02", Some(WireFault::BadRange)),
-    Changed(ACK, 38, b"\x00\x00\x00\x00\x00\x00\x00\x00\x00", None),
-    Changed(ACK, 38, b"\x10", Some(WireFault::BadRange)),
-    Changed(ACK, 39, &[255; 8], None),
+    Changed(Of::Ask, 38, b"\x0f", None),
+    Changed(Of::Ask, 38, b"\x10", Some(WireFault::BadRange)),
+    Changed(Of::Ask, 39, ZERO, Some(WireFault::BadRange)),
+    Changed(Of::Ask, 39, b"\x00\x00\x00\x01", None),
+    Changed(Of::Ask, 39, b"\x00\x10\x00\x01", None),
+    Changed(Of::Ask, 39, b"\x00\x10\x00\x02", Some(WireFault::BadRange)),
+    Changed(Of::Ack, 38, b"\x00\x00\x00\x00\x00\x00\x00\x00\x00", None),
+    Changed(Of::Ack, 38, b"\x10", Some(WireFault::BadRange)),
+    Changed(Of::Ack, 39, &[255; 8], None),
 ];
 
 #[test]
@@ -192,17 +222,7 @@ fn the_first_fault_is_told(rt: HostRuntime) {
     all_hold(&rt, rt.alloc(), &CHANGED);
 }
 
-/// What a fault says.
-struct Said(WireFault, &'static str);
-
-impl Row for Said {
-    fn holds(&self, alloc: Global) -> Result<bool, AllocError> {
-        let fault = self.0;
-        Ok(format!(in alloc; "{fault}")?.as_str() == self.1)
-    }
-}
-
-static SENTENCES: [Said; 5] = [
+static SENTENCES: [Said<WireFault>; 5] = [
     Said(
         WireFault::BadPacket,
         "the bytes are not those of a datagram",

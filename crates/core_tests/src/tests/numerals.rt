@@ -1,7 +1,7 @@
 //! Numerals by hand, both ways.
 
 use super::{Row, all_hold, holds};
-use std::alloc::{AllocError, Global};
+use std::alloc::Global;
 use std::process::Abort;
 use test_memory::UsedUp;
 use x3d_numerals::{NumeralFault, millionths, push_number};
@@ -10,8 +10,8 @@ use x3d_numerals::{NumeralFault, millionths, push_number};
 struct Read(&'static str, Result<i64, NumeralFault>);
 
 impl Row for Read {
-    fn holds(&self, _alloc: Global) -> Result<bool, AllocError> {
-        Ok(millionths(self.0.as_bytes()) == self.1)
+    fn holds(&self, _alloc: Global) -> bool {
+        millionths(self.0.as_bytes()) == self.1
     }
 }
 
@@ -114,11 +114,14 @@ fn numerals_are_read(rt: HostRuntime) {
 struct Long(&'static [u8], u8, &'static [u8], Result<i64, NumeralFault>);
 
 impl Row for Long {
-    fn holds(&self, alloc: Global) -> Result<bool, AllocError> {
-        let mut text = Vec::from_slice(alloc, self.0)?;
-        text.resize(1_000_000, self.1)?;
-        text.extend_from_slice(self.2)?;
-        Ok(millionths(text.as_slice()) == self.3)
+    fn holds(&self, alloc: Global) -> bool {
+        let mut text = Vec::new(alloc);
+        let first = text.extend_from_slice(self.0).is_ok();
+        let middle = text.resize(1_000_000, self.1).is_ok();
+        let last = text.extend_from_slice(self.2).is_ok();
+        let read = millionths(text.as_slice());
+        drop(text);
+        first & middle & last & (read == self.3)
     }
 }
 
@@ -139,10 +142,12 @@ fn a_million_digits(rt: HostRuntime) {
 struct Written(i64, &'static str);
 
 impl Row for Written {
-    fn holds(&self, alloc: Global) -> Result<bool, AllocError> {
+    fn holds(&self, alloc: Global) -> bool {
         let mut out = Vec::new(alloc);
-        push_number(self.0, &mut out)?;
-        Ok(out.as_slice() == self.1.as_bytes())
+        let pushed = push_number(self.0, &mut out).is_ok();
+        let same = out.as_slice() == self.1.as_bytes();
+        drop(out);
+        pushed && same
     }
 }
 
@@ -167,12 +172,15 @@ fn texts_of_numbers(rt: HostRuntime) {
     all_hold(&rt, rt.alloc(), &TEXTS);
 }
 
-fn is_refused(alloc: Global) -> Result<bool, AllocError> {
+fn is_refused(alloc: Global) -> bool {
+    let Ok(used_up) = UsedUp::new(alloc) else {
+        return false;
+    };
     let mut out = Vec::new(alloc);
-    let used_up = UsedUp::new(alloc)?;
     let refused = push_number(-1_500_000, &mut out).is_err();
+    drop(out);
     drop(used_up);
-    Ok(refused)
+    refused
 }
 
 #[test]

@@ -3,16 +3,16 @@
 use super::reactions::reacts;
 use super::sending::{Given, fields, value_of};
 use super::{Row, all_hold, holds};
-use std::alloc::{AllocError, Global};
+use std::alloc::Global;
 use std::process::Abort;
-use x3d_values::{Fields, NodeType, Text, Value};
+use x3d_values::{NodeType, Text, Value};
 
 /// An event at a node of seven fields, the third FALSE, and what is sent.
 struct Plain(NodeType, u16, Given, &'static str);
 
 impl Row for Plain {
-    fn holds(&self, alloc: Global) -> Result<bool, AllocError> {
-        let mut node = fields(alloc, 7)?;
+    fn holds(&self, alloc: Global) -> bool {
+        let mut node = fields(alloc, 7);
         node.set(2, Value::SFBool(false));
         let answer = reacts(alloc, self.0, &mut node, self.1, value_of(self.2), self.3);
         drop(node);
@@ -57,17 +57,23 @@ fn passes_on_truth_values_and_times(rt: HostRuntime) {
     all_hold(&rt, rt.alloc(), &PLAIN);
 }
 
-fn title(alloc: Global, node: &mut Fields) -> Result<bool, AllocError> {
-    let title = Value::SFString(Text::from_str(alloc, "here")?);
-    reacts(alloc, NodeType::WorldInfo, node, 2, title, "2 \"here\";")
-}
-
 /// Whether a title is sent on.
-fn sends_a_title(alloc: Global) -> Result<bool, AllocError> {
-    let mut node = fields(alloc, 4)?;
-    let answer = title(alloc, &mut node);
+fn sends_a_title(alloc: Global) -> bool {
+    let Ok(title) = Text::from_str(alloc, "here") else {
+        return false;
+    };
+    let mut node = fields(alloc, 4);
+    let value = Value::SFString(title);
+    let sent = reacts(
+        alloc,
+        NodeType::WorldInfo,
+        &mut node,
+        2,
+        value,
+        "2 \"here\";",
+    );
     drop(node);
-    answer
+    sent
 }
 
 #[test]

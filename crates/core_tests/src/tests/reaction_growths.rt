@@ -1,61 +1,76 @@
 //! Growths of a reaction that are refused.
 
-use super::reactions::{ONE, set_keys};
+use super::reactions::ONE;
 use super::sending::fields;
-use super::{Row, all_hold, holds};
+use super::{Row, all_hold, holds, list_of};
 use react_core::{Outbox, copy_of, react};
-use std::alloc::{AllocError, Global};
+use std::alloc::Global;
 use std::process::Abort;
 use test_memory::UsedUp;
 use x3d_values::{Fields, Items, NodeType, Value};
 
-/// Whether a CoordinateInterpolator answers an event where so many bytes of memory are left.
+/// Whether a CoordinateInterpolator answers an event where so many bytes of memory are left; none
+/// where it can't be tried.
 fn answers(
     alloc: Global,
     node: &mut Fields,
     input: u16,
     value: &Value,
     spare: usize,
-) -> Result<bool, AllocError> {
-    let used_up = UsedUp::but_for(alloc, &[spare])?;
+) -> Option<bool> {
+    let Ok(used_up) = UsedUp::but_for(alloc, &[spare]) else {
+        return None;
+    };
     let mut out = Outbox::new();
     let node_type = NodeType::CoordinateInterpolator;
-    let answer = react(alloc, node_type, node, input, value, 0, &mut out);
+    let answered = react(alloc, node_type, node, input, value, 0, &mut out).is_ok();
     drop(used_up);
     let sent = out.len();
     drop(out);
-    Ok(answer.is_ok() && sent == 1)
+    Some(answered && sent == 1)
 }
 
-/// The same of two keys with a hundred vectors each, where input 1 gets 200 keys, and another one a
-/// fraction.
-fn answers_with(
-    alloc: Global,
-    node: &mut Fields,
-    input: u16,
-    spare: usize,
-) -> Result<bool, AllocError> {
-    let vectors = Items::from_vec(vec![in alloc; ONE; 200]?);
-    node.set(2, Value::MFVec3f(vectors));
-    set_keys(alloc, node, &[0, 1_000_000])?;
-    if input != 1 {
-        return answers(alloc, node, input, &Value::SFFloat(500_000), spare);
-    }
-    let keys = Value::MFFloat(Items::from_vec(vec![in alloc; 7; 200]?));
-    let answer = answers(alloc, node, input, &keys, spare);
-    drop(keys);
-    answer
+/// A list of 200 keys.
+fn keys(alloc: Global) -> Option<Value> {
+    let Ok(keys) = vec![in alloc; 7; 200] else {
+        return None;
+    };
+    Some(Value::MFFloat(Items::from_vec(keys)))
 }
 
-/// The input, the bytes that are left, and whether that is enough.
+/// A CoordinateInterpolator of two keys with a hundred vectors each.
+fn interpolator(alloc: Global) -> Option<Fields> {
+    let Ok(vectors) = vec![in alloc; ONE; 200] else {
+        return None;
+    };
+    let mut node = fields(alloc, 7);
+    node.set(2, Value::MFVec3f(Items::from_vec(vectors)));
+    node.set(1, Value::MFFloat(list_of(alloc, &[0, 1_000_000])));
+    Some(node)
+}
+
+/// The input, the bytes that are left, and whether that is enough. Input 1 gets the keys, and
+/// another one a fraction.
 struct Left(u16, usize, bool);
 
 impl Row for Left {
-    fn holds(&self, alloc: Global) -> Result<bool, AllocError> {
-        let mut node = fields(alloc, 7)?;
-        let answer = answers_with(alloc, &mut node, self.0, self.1);
+    fn holds(&self, alloc: Global) -> bool {
+        let given = if self.0 == 1 {
+            keys(alloc)
+        } else {
+            Some(Value::SFFloat(500_000))
+        };
+        let Some(value) = given else {
+            return false;
+        };
+        let Some(mut node) = interpolator(alloc) else {
+            drop(value);
+            return false;
+        };
+        let answer = answers(alloc, &mut node, self.0, &value, self.1);
         drop(node);
-        Ok(answer? == self.2)
+        drop(value);
+        answer == Some(self.2)
     }
 }
 
@@ -68,16 +83,20 @@ static LEFT: [Left; 5] = [
 ];
 
 /// Whether the value is copied where so many bytes of memory are left.
-fn is_copied(alloc: Global, value: &Value, spare: usize) -> Result<bool, AllocError> {
-    let used_up = UsedUp::but_for(alloc, &[spare])?;
+fn is_copied(alloc: Global, value: &Value, spare: usize) -> bool {
+    let Ok(used_up) = UsedUp::but_for(alloc, &[spare]) else {
+        return false;
+    };
     let copied = copy_of(alloc, value).err().is_none();
     drop(used_up);
-    Ok(copied)
+    copied
 }
 
 /// Whether one copy of 200 keys has room in 2048 bytes.
-fn has_room(alloc: Global) -> Result<bool, AllocError> {
-    let keys = Value::MFFloat(Items::from_vec(vec![in alloc; 7; 200]?));
+fn has_room(alloc: Global) -> bool {
+    let Some(keys) = keys(alloc) else {
+        return false;
+    };
     let copied = is_copied(alloc, &keys, 2048);
     drop(keys);
     copied

@@ -1,26 +1,11 @@
 //! Each row of the reactions by hand.
 
 use super::sending::{Given, fields, is_sent, value_of};
-use super::{Row, all_hold};
+use super::{Row, all_hold, list_of};
 use react_core::{Outbox, react};
-use std::alloc::{AllocError, Global};
+use std::alloc::Global;
 use std::process::Abort;
-use x3d_values::{Fields, Items, NodeType, Position, Value, Vec2, Vec3};
-
-/// Whether that is sent at an event.
-fn sends(
-    alloc: Global,
-    node_type: NodeType,
-    node: &mut Fields,
-    input: u16,
-    value: &Value,
-    out: &mut Outbox,
-) -> Result<(), AllocError> {
-    if out.is_empty() {
-        react(alloc, node_type, node, input, value, 42_000_000, out)?;
-    }
-    Ok(())
-}
+use x3d_values::{Fields, NodeType, Position, Value, Vec2, Vec3};
 
 /// Whether a node sends that at one event.
 pub(super) fn reacts(
@@ -30,13 +15,13 @@ pub(super) fn reacts(
     input: u16,
     value: Value,
     wanted: &str,
-) -> Result<bool, AllocError> {
+) -> bool {
     let mut out = Outbox::new();
-    let answer = sends(alloc, node_type, node, input, &value, &mut out);
+    let answered = react(alloc, node_type, node, input, &value, 42_000_000, &mut out).is_ok();
     drop(value);
     let sent = is_sent(alloc, &out, wanted);
     drop(out);
-    Ok(answer.is_ok() && sent?)
+    answered && sent
 }
 
 /// What a node holds in its field 2.
@@ -50,21 +35,15 @@ enum Held {
     Vectors(&'static [Vec3]),
 }
 
-fn hold(alloc: Global, node: &mut Fields, held: Held) -> Result<(), AllocError> {
+fn held_value(alloc: Global, held: Held) -> Value {
     match held {
-        Held::Int32(number) => node.set(2, Value::SFInt32(number)),
-        Held::Truths(items) => node.set(2, Value::MFBool(Items::from_slice(alloc, items)?)),
-        Held::Int32s(items) => node.set(2, Value::MFInt32(Items::from_slice(alloc, items)?)),
-        Held::Floats(items) => node.set(2, Value::MFFloat(Items::from_slice(alloc, items)?)),
-        Held::Pairs(items) => node.set(2, Value::MFVec2f(Items::from_slice(alloc, items)?)),
-        Held::Vectors(items) => node.set(2, Value::MFVec3f(Items::from_slice(alloc, items)?)),
+        Held::Int32(number) => Value::SFInt32(number),
+        Held::Truths(items) => Value::MFBool(list_of(alloc, items)),
+        Held::Int32s(items) => Value::MFInt32(list_of(alloc, items)),
+        Held::Floats(items) => Value::MFFloat(list_of(alloc, items)),
+        Held::Pairs(items) => Value::MFVec2f(list_of(alloc, items)),
+        Held::Vectors(items) => Value::MFVec3f(list_of(alloc, items)),
     }
-    Ok(())
-}
-
-pub(super) fn set_keys(alloc: Global, node: &mut Fields, keys: &[i64]) -> Result<(), AllocError> {
-    node.set(1, Value::MFFloat(Items::from_slice(alloc, keys)?));
-    Ok(())
 }
 
 /// A node with keys and what it holds, where it stands, an event, what is sent, and where it stands
@@ -80,22 +59,24 @@ struct Keyed {
     then: Option<u32>,
 }
 
-/// Whether a node without fields so far answers as the row says.
-fn answers(alloc: Global, node: &mut Fields, row: &Keyed) -> Result<bool, AllocError> {
-    hold(alloc, node, row.held)?;
-    set_keys(alloc, node, row.keys)?;
-    node.position = Position { at: row.at };
-    let (input, given) = row.event;
-    let sent = reacts(alloc, row.node_type, node, input, value_of(given), row.sent)?;
-    Ok(sent && node.position.at == row.then)
-}
-
 impl Row for Keyed {
-    fn holds(&self, alloc: Global) -> Result<bool, AllocError> {
-        let mut node = fields(alloc, 7)?;
-        let answer = answers(alloc, &mut node, self);
+    fn holds(&self, alloc: Global) -> bool {
+        let mut node = fields(alloc, 7);
+        node.set(2, held_value(alloc, self.held));
+        node.set(1, Value::MFFloat(list_of(alloc, self.keys)));
+        node.position = Position { at: self.at };
+        let (input, given) = self.event;
+        let sent = reacts(
+            alloc,
+            self.node_type,
+            &mut node,
+            input,
+            value_of(given),
+            self.sent,
+        );
+        let then = node.position.at;
         drop(node);
-        answer
+        sent && then == self.then
     }
 }
 
@@ -104,7 +85,7 @@ impl Row for Keyed {
 struct Step(Option<u32>, u16, Given, &'static str, Option<u32>);
 
 impl Row for Step {
-    fn holds(&self, alloc: Global) -> Result<bool, AllocError> {
+    fn holds(&self, alloc: Global) -> bool {
         let row = Keyed {
             node_type: NodeType::IntegerSequencer,
             keys: &[0, 500_000, 1_000_000],
@@ -176,7 +157,7 @@ fn sends_what_it_holds(rt: HostRuntime) {
 struct Between(NodeType, &'static [i64], Held, i64, &'static str);
 
 impl Row for Between {
-    fn holds(&self, alloc: Global) -> Result<bool, AllocError> {
+    fn holds(&self, alloc: Global) -> bool {
         let row = Keyed {
             node_type: self.0,
             keys: self.1,

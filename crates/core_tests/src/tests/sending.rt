@@ -1,7 +1,7 @@
 //! Values by one plain part, and what a node sends as text.
 
 use react_core::{Outbox, Reply};
-use std::alloc::{AllocError, Global};
+use std::alloc::Global;
 use x3d_values::{Fields, Items, Position, Show, Value, show_value};
 
 /// A value of one part.
@@ -24,30 +24,35 @@ pub fn value_of(given: Given) -> Value {
     }
 }
 
-/// A node that holds nothing, with so many fields.
-pub fn fields(alloc: Global, count: usize) -> Result<Fields, AllocError> {
+/// A node that holds nothing, with so many fields, or fewer where memory is refused.
+pub fn fields(alloc: Global, count: usize) -> Fields {
     let mut values = Items::new(alloc);
     for _ in 0..count {
-        values.push(None)?;
+        let _given = values.push(None).is_ok();
     }
-    Ok(Fields {
+    Fields {
         values,
         position: Position { at: None },
-    })
+    }
 }
 
 /// Whether that is sent: the field and the value of each reply, in order.
-pub fn is_sent(alloc: Global, out: &Outbox, wanted: &str) -> Result<bool, AllocError> {
+pub fn is_sent(alloc: Global, out: &Outbox, wanted: &str) -> bool {
     let mut text = Vec::new(alloc);
+    let mut is_whole = true;
     for reply in out.as_slice() {
-        push_reply(reply, &mut text)?;
+        is_whole &= push_reply(reply, &mut text);
     }
-    Ok(text.as_slice() == wanted.as_bytes())
+    let same = text.as_slice() == wanted.as_bytes();
+    drop(text);
+    is_whole && same
 }
 
-fn push_reply(reply: &Reply, text: &mut Vec<u8>) -> Result<(), AllocError> {
-    i32::from(reply.field).show(text)?;
-    text.extend_from_slice(b" ")?;
-    show_value(&reply.value, text)?;
-    text.extend_from_slice(b";")
+/// Whether memory is given for the field and the value.
+fn push_reply(reply: &Reply, text: &mut Vec<u8>) -> bool {
+    let field = i32::from(reply.field).show(text).is_ok();
+    let space = text.extend_from_slice(b" ").is_ok();
+    let value = show_value(&reply.value, text).is_ok();
+    let end = text.extend_from_slice(b";").is_ok();
+    field & space & value & end
 }

@@ -7,7 +7,7 @@ use snapshot_codec::{
     push_position, push_progress, push_state, push_touch, push_viewer_set, scene_mark, states_of,
     trace_of,
 };
-use std::alloc::{AllocError, Global};
+use std::alloc::Global;
 use std::process::Abort;
 use x3d_values::{FieldType, Items, Position, Value};
 
@@ -18,24 +18,29 @@ const MARK: [u8; 32] = *b"abcdefghijklmnopqrstuvwxyzABCDEF";
 const EMPTY: &[u8] = b"\x00\x00\x00\x01\x00\x00\x00\x00\x00\x00\x00\x00\x00\x00\x00\x00\
     \x00\x00\x00\x00\x00\x00\x00\x00\x00\x00";
 
-fn push_empty(out: &mut Vec<u8>) -> Result<(), AllocError> {
-    push_front(1, &MARK, out)?;
+/// Whether memory is given for it.
+fn push_empty(out: &mut Vec<u8>) -> bool {
     let progress = Progress {
         boot: 1,
         applied: 0,
         last_time: 0,
     };
-    push_progress(progress, out)?;
-    push_viewer_set(Viewers::Sixteen, 0, out)?;
-    push_entry_count(0, out)?;
-    push_digest(0, out)
+    let front = push_front(1, &MARK, out).is_ok();
+    let middle = push_progress(progress, out).is_ok();
+    let viewers = push_viewer_set(Viewers::Sixteen, 0, out).is_ok();
+    let count = push_entry_count(0, out).is_ok();
+    let digest = push_digest(0, out).is_ok();
+    front & middle & viewers & count & digest
 }
 
 /// Whether the snapshot of an empty world is opened to that body.
-fn is_opened(alloc: Global) -> Result<bool, AllocError> {
+fn is_opened(alloc: Global) -> bool {
     let mut out = Vec::new(alloc);
-    push_empty(&mut out)?;
-    Ok(out.len() == 95 && open(1, &MARK, &out) == Ok(EMPTY))
+    let pushed = push_empty(&mut out);
+    let len = out.len();
+    let opened = open(1, &MARK, out.as_slice()) == Ok(EMPTY);
+    drop(out);
+    pushed && len == 95 && opened
 }
 
 #[test]
@@ -48,35 +53,34 @@ fn a_mark_is_the_digest_of_the_text(rt: HostRuntime) {
     let mark = scene_mark(b"abc");
     let digest = b"\xba\x78\x16\xbf\x8f\x01\xcf\xea\x41\x41\x40\xde\x5d\xae\x22\x23\
         \xb0\x03\x61\xa3\x96\x17\x7a\x9c\xb4\x10\xff\x61\xf2\x00\x15\xad";
-    holds(&rt, Ok(mark.as_slice() == digest.as_slice()));
+    holds(&rt, mark.as_slice() == digest.as_slice());
 }
 
 /// No value, a time and a truth value.
 const KEPT: &[u8] = b"\x00\x00\x00\x00\x00\x00\x00\x01\x01";
 
 /// Whether fields are read from these bytes, and written again.
-fn are_kept(alloc: Global, out: &mut Vec<u8>) -> Result<bool, AllocError> {
+fn are_kept(alloc: Global) -> bool {
     let kept = [
         KeptField::Absent,
         KeptField::Interval,
         KeptField::Typed(FieldType::SFBool),
     ];
-    match kept_fields_of(alloc, &kept, KEPT) {
-        Ok((values, rest)) => {
-            let pushed = push_kept_fields(values.as_slice(), out);
-            let count = values.len();
-            drop(values);
-            pushed?;
-            Ok(count == 3 && rest.is_empty() && out.as_slice() == KEPT)
-        }
-        Err(_) => Ok(false),
-    }
+    let Ok((values, rest)) = kept_fields_of(alloc, &kept, KEPT) else {
+        return false;
+    };
+    let mut out = Vec::new(alloc);
+    let pushed = push_kept_fields(values.as_slice(), &mut out).is_ok();
+    let count = values.len();
+    drop(values);
+    let same = out.as_slice() == KEPT;
+    drop(out);
+    pushed && count == 3 && rest.is_empty() && same
 }
 
 #[test]
 fn fields_are_kept_or_not(rt: HostRuntime) {
-    let mut out = Vec::new(rt.alloc());
-    holds(&rt, are_kept(rt.alloc(), &mut out));
+    holds(&rt, are_kept(rt.alloc()));
 }
 
 /// Each node sends truth values by its field 3.
@@ -117,34 +121,34 @@ const TOUCH: Touch = Touch {
     presser: Some(15),
 };
 
-fn push_events(out: &mut Vec<u8>) -> Result<(), AllocError> {
-    push_entry_count(1, out)?;
+fn push_event(out: &mut Vec<u8>) -> bool {
     let value = Value::SFBool(true);
-    let pushed = push_entry(SENT, &value, out);
+    let pushed = push_entry(SENT, &value, out).is_ok();
     drop(value);
     pushed
 }
 
-fn push_nodes(out: &mut Vec<u8>) -> Result<(), AllocError> {
-    push_cycle(Some(258), out)?;
-    push_cycle(None, out)?;
-    push_touch(Viewers::Sixteen, TOUCH, out)?;
-    push_position(Position { at: None }, out)?;
-    push_position(Position { at: Some(2) }, out)
-}
-
-fn push_parts(out: &mut Vec<u8>) -> Result<(), AllocError> {
-    push_events(out)?;
-    push_state(&[-1, 2], out)?;
-    push_state(&[], out)?;
-    push_nodes(out)
+/// Whether memory is given for them.
+fn push_parts(out: &mut Vec<u8>) -> bool {
+    let count = push_entry_count(1, out).is_ok();
+    let event = push_event(out);
+    let two = push_state(&[-1, 2], out).is_ok();
+    let none = push_state(&[], out).is_ok();
+    let cycle = push_cycle(Some(258), out).is_ok();
+    let no_cycle = push_cycle(None, out).is_ok();
+    let touch = push_touch(Viewers::Sixteen, TOUCH, out).is_ok();
+    let nowhere = push_position(Position { at: None }, out).is_ok();
+    let position = push_position(Position { at: Some(2) }, out).is_ok();
+    count & event & two & none & cycle & no_cycle & touch & nowhere & position
 }
 
 /// Whether the parts have these bytes.
-fn are_written(alloc: Global) -> Result<bool, AllocError> {
+fn are_written(alloc: Global) -> bool {
     let mut out = Vec::new(alloc);
-    push_parts(&mut out)?;
-    Ok(out.as_slice() == PARTS)
+    let pushed = push_parts(&mut out);
+    let same = out.as_slice() == PARTS;
+    drop(out);
+    pushed && same
 }
 
 /// Whether two states are read, with the 29 bytes of the other parts behind them.
@@ -159,18 +163,13 @@ fn are_states(alloc: Global, bytes: &[u8]) -> bool {
     }
 }
 
-/// Whether the events and the states are read.
-fn are_read(alloc: Global, entries: &mut Items<TraceEntry>) -> bool {
-    match trace_of(alloc, &Switches, PARTS, entries) {
-        Ok(rest) => are_states(alloc, rest),
-        Err(_) => false,
-    }
-}
-
 /// Whether the events and the states are read, the first event as it was sent.
 fn are_as_sent(alloc: Global) -> bool {
-    let mut entries = Items::new(alloc);
-    let read = are_read(alloc, &mut entries);
+    let mut entries: Items<TraceEntry> = Items::new(alloc);
+    let read = match trace_of(alloc, &Switches, PARTS, &mut entries) {
+        Ok(rest) => are_states(alloc, rest),
+        Err(_) => false,
+    };
     let first = entries.get(0).map(|entry| entry.sent);
     drop(entries);
     read && first == Some(SENT)
@@ -179,5 +178,5 @@ fn are_as_sent(alloc: Global) -> bool {
 #[test]
 fn parts_have_their_bytes(rt: HostRuntime) {
     holds(&rt, are_written(rt.alloc()));
-    holds(&rt, Ok(are_as_sent(rt.alloc())));
+    holds(&rt, are_as_sent(rt.alloc()));
 }

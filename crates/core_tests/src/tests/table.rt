@@ -5,11 +5,10 @@
 use super::table_text::TABLE;
 use super::values::shows;
 use super::{Row, all_hold, holds};
-use std::alloc::{AllocError, Global};
+use std::alloc::Global;
 use std::process::Abort;
 use x3d_values::{
-    Access, FieldDefault, FieldRow, FieldType, NodeKind, NodeType, default_value, field_at,
-    field_of, fields_of,
+    Access, FieldRow, FieldType, NodeKind, NodeType, default_value, field_at, field_of, fields_of,
 };
 
 /// The letters of the table.
@@ -43,44 +42,9 @@ fn access_of(word: &str) -> Option<Access> {
     }
 }
 
-/// A line of the table.
-#[derive(Clone, Copy)]
-struct Line<'a> {
-    node_type: NodeType,
-    name: &'a str,
-    field_type: Option<FieldType>,
-    access: Option<Access>,
-    default: &'a str,
-    kind: Option<NodeKind>,
-}
-
 /// The first word, and what stands behind it.
 fn cut_word(line: &str) -> (&str, &str) {
     line.split_once(' ').unwrap_or((line, ""))
-}
-
-fn read_line(line: &str) -> Option<Line<'_>> {
-    let (node_type, rest) = cut_word(line);
-    let (name, rest) = cut_word(rest);
-    let (field_type, rest) = cut_word(rest);
-    let (access, rest) = cut_word(rest);
-    let (default, letter) = rest.split_once(" of ").unwrap_or((rest, ""));
-    let node_type = NodeType::named(node_type)?;
-    Some(Line {
-        node_type,
-        name,
-        field_type: FieldType::named(field_type),
-        access: access_of(access),
-        default,
-        kind: kind_of(letter),
-    })
-}
-
-/// Whether the line is that field of the table, but for its default.
-fn is_row(line: Line<'_>, number: u16, row: FieldRow) -> bool {
-    let uses = (row.number, Some(row.access), Some(row.field_type), row.kind);
-    uses == (number, line.access, line.field_type, line.kind)
-        && field_at(line.node_type, number) == Some(row)
 }
 
 /// Whether a field of that access and type holds a value.
@@ -89,30 +53,43 @@ fn holds_a_value(row: FieldRow) -> bool {
     kept && row.field_type != FieldType::SFRotation
 }
 
-/// Whether that is the default as it is written; a node and a list of nodes have no text.
-fn is_default(alloc: Global, row: FieldRow, wanted: &str) -> Result<bool, AllocError> {
-    let default = row.default.unwrap_or(FieldDefault::Empty);
-    let Some(value) = default_value(alloc, row.field_type, default)? else {
-        return Ok(false);
+/// Whether that is the default as it is written, if the field has one; a node and a list of nodes
+/// have no text.
+fn is_default(alloc: Global, row: FieldRow, wanted: &str) -> bool {
+    let Some(default) = row.default else {
+        return !holds_a_value(row);
+    };
+    let Ok(Some(value)) = default_value(alloc, row.field_type, default) else {
+        return false;
     };
     let wanted = if row.kind.is_some() { "" } else { wanted };
     let shown = shows(alloc, &value, wanted);
     drop(value);
-    shown
+    shown && holds_a_value(row)
 }
 
-/// Whether the line is the field of that number in the program's table.
-fn is_found(alloc: Global, line: Line<'_>, number: u16) -> Result<bool, AllocError> {
-    let Some(row) = field_of(line.node_type, line.name) else {
-        return Ok(false);
+/// Whether that is said of the field behind its name: its type, its access, its default and which
+/// nodes it takes.
+fn is_said(alloc: Global, row: FieldRow, said: &str) -> bool {
+    let (field_type, rest) = cut_word(said);
+    let (access, rest) = cut_word(rest);
+    let (default, letter) = rest.split_once(" of ").unwrap_or((rest, ""));
+    FieldType::named(field_type) == Some(row.field_type)
+        && access_of(access) == Some(row.access)
+        && kind_of(letter) == row.kind
+        && is_default(alloc, row, default)
+}
+
+/// Whether that is said of the field of that number.
+fn is_field(alloc: Global, node_type: NodeType, number: u16, said: &str) -> bool {
+    let (name, said) = cut_word(said);
+    let (Some(named), Some(row)) = (field_of(node_type, name), field_at(node_type, number)) else {
+        return false;
     };
-    if !is_row(line, number, row) || row.default.is_some() != holds_a_value(row) {
-        return Ok(false);
-    }
-    if row.default.is_none() {
-        return Ok(true);
-    }
-    is_default(alloc, row, line.default)
+    named.number == number
+        && row.number == number
+        && is_said(alloc, named, said)
+        && is_said(alloc, row, said)
 }
 
 /// How many lines were found so far, the node type and the number of the next field of the last,
@@ -125,24 +102,25 @@ struct Found {
     rows: usize,
 }
 
-/// Whether the line is the next one of the table.
-fn is_next(alloc: Global, text: &str, found: &mut Found) -> Result<bool, AllocError> {
-    let Some(line) = read_line(text) else {
-        return Ok(false);
+/// Counts the line, if it is the next one of the table.
+fn find(alloc: Global, text: &str, found: &mut Found) {
+    let (name, said) = cut_word(text);
+    let Some(node_type) = NodeType::named(name) else {
+        return;
     };
-    if found.node_type != Some(line.node_type) {
-        found.node_type = Some(line.node_type);
+    if found.node_type != Some(node_type) {
+        found.node_type = Some(node_type);
         found.number = 0;
-        found.rows = found.rows.wrapping_add(fields_of(line.node_type).len());
+        found.rows = found.rows.wrapping_add(fields_of(node_type).len());
     }
-    let answer = is_found(alloc, line, found.number);
+    if is_field(alloc, node_type, found.number, said) {
+        found.lines = found.lines.wrapping_add(1);
+    }
     found.number = found.number.wrapping_add(1);
-    found.lines = found.lines.wrapping_add(1);
-    answer
 }
 
 /// Whether each line is found, and each row of the program has one.
-fn are_found(alloc: Global) -> Result<bool, AllocError> {
+fn are_found(alloc: Global) -> bool {
     let mut found = Found {
         lines: 0,
         node_type: None,
@@ -150,11 +128,9 @@ fn are_found(alloc: Global) -> Result<bool, AllocError> {
         rows: 0,
     };
     for text in TABLE.lines() {
-        if !is_next(alloc, text, &mut found)? {
-            return Ok(false);
-        }
+        find(alloc, text, &mut found);
     }
-    Ok(found.lines == 233 && found.rows == 233)
+    found.lines == 233 && found.rows == 233
 }
 
 #[test]
@@ -166,10 +142,10 @@ fn every_row_of_the_table_is_found(rt: HostRuntime) {
 struct Kind(&'static str, &'static str);
 
 impl Row for Kind {
-    fn holds(&self, _alloc: Global) -> Result<bool, AllocError> {
+    fn holds(&self, _alloc: Global) -> bool {
         match NodeType::named(self.0) {
-            Some(node_type) => Ok(Some(node_type.kind()) == kind_of(self.1)),
-            None => Ok(false),
+            Some(node_type) => Some(node_type.kind()) == kind_of(self.1),
+            None => false,
         }
     }
 }

@@ -1,6 +1,6 @@
 //! The table of fields, transcribed by hand: a line a field.
 
-pub(super) const TABLE: &str = "\
+pub(super) static TABLE: &str = "\
 Group metadata SFNode io NULL of D\n\
 Group bboxCenter SFVec3f ini 0 0 0\n\
 Group bboxSize SFVec3f ini -1 -1 -1\n\

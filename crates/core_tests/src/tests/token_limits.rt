@@ -1,18 +1,21 @@
 //! The longest text, what faults say, and growths that are refused.
 
-use super::{Row, all_hold, holds};
+use super::{Row, Said, all_hold, holds};
 use classic_lex::{LexFault, LexFaultKind, MAX_LEN, lex};
-use std::alloc::{AllocError, Global};
+use std::alloc::Global;
 use std::process::Abort;
 use test_memory::UsedUp;
 
 /// Whether a text of 16 MiB is cut, and has no tokens.
-fn is_cut(alloc: Global) -> Result<bool, AllocError> {
-    let mut text = b"#X3D V3.0 utf8\n".to_vec(alloc)?;
-    text.resize(MAX_LEN, b' ')?;
-    match lex(alloc, &text) {
-        Ok(tokens) => Ok(tokens.is_empty()),
-        Err(_) => Ok(false),
+fn is_cut(alloc: Global) -> bool {
+    let mut text = Vec::new(alloc);
+    let made = text.extend_from_slice(b"#X3D V3.0 utf8\n").is_ok();
+    let filled = text.resize(MAX_LEN, b' ').is_ok();
+    let cut = lex(alloc, text.as_slice());
+    drop(text);
+    match cut {
+        Ok(tokens) => made & filled & tokens.is_empty(),
+        Err(_) => false,
     }
 }
 
@@ -21,26 +24,19 @@ fn a_text_may_have_16_mib(rt: HostRuntime) {
     holds(&rt, is_cut(rt.alloc()));
 }
 
-/// A fault, its line, and what it says.
-struct Said(LexFaultKind, u32, &'static str);
+const OPEN_STRING: LexFault = LexFault {
+    kind: LexFaultKind::OpenString,
+    line: 7,
+};
 
-impl Row for Said {
-    fn holds(&self, alloc: Global) -> Result<bool, AllocError> {
-        let fault = LexFault {
-            kind: self.0,
-            line: self.1,
-        };
-        Ok(format!(in alloc; "{fault}")?.as_str() == self.2)
-    }
-}
+const MEMORY: LexFault = LexFault {
+    kind: LexFaultKind::Memory,
+    line: 0,
+};
 
-static SAID: [Said; 2] = [
-    Said(
-        LexFaultKind::OpenString,
-        7,
-        "line 7: a string is not closed",
-    ),
-    Said(LexFaultKind::Memory, 0, "memory was refused"),
+static SAID: [Said<LexFault>; 2] = [
+    Said(OPEN_STRING, "line 7: a string is not closed"),
+    Said(MEMORY, "memory was refused"),
 ];
 
 #[test]
@@ -53,26 +49,21 @@ fn faults_are_shown(rt: HostRuntime) {
 struct Left(usize, usize, bool);
 
 impl Row for Left {
-    fn holds(&self, alloc: Global) -> Result<bool, AllocError> {
-        let mut text = Vec::from_slice(alloc, b"#X3D V3.0 utf8\n")?;
+    fn holds(&self, alloc: Global) -> bool {
+        let mut text = Vec::new(alloc);
+        let mut made = text.extend_from_slice(b"#X3D V3.0 utf8\n").is_ok();
         for _ in 0..self.0 {
-            text.extend_from_slice(b"Group {}\n")?;
+            made &= text.extend_from_slice(b"Group {}\n").is_ok();
         }
-        let memory = LexFault {
-            kind: LexFaultKind::Memory,
-            line: 0,
+        let Ok(used_up) = UsedUp::but_for(alloc, &[self.1]) else {
+            drop(text);
+            return false;
         };
-        let wanted = self.2.then_some(memory);
-        Ok(fault_of(alloc, text.as_slice(), self.1)? == wanted)
+        let fault = lex(alloc, text.as_slice()).err();
+        drop(used_up);
+        drop(text);
+        made && fault == self.2.then_some(MEMORY)
     }
-}
-
-/// The fault of a text where one block of so many bytes is left.
-fn fault_of(alloc: Global, text: &[u8], spare: usize) -> Result<Option<LexFault>, AllocError> {
-    let used_up = UsedUp::but_for(alloc, &[spare])?;
-    let fault = lex(alloc, text).err();
-    drop(used_up);
-    Ok(fault)
 }
 
 /// With 2048 bytes the first growths are given: a short text is cut. Of a long one the first growth

@@ -2,7 +2,7 @@
 
 use super::{Row, all_hold, holds};
 use snapshot_codec::{PartFault, push_value, value_of};
-use std::alloc::{AllocError, Global};
+use std::alloc::Global;
 use std::process::Abort;
 use test_memory::UsedUp;
 use x3d_values::{
@@ -10,47 +10,48 @@ use x3d_values::{
 };
 
 /// Whether that is the value's text.
-pub(super) fn shows(alloc: Global, value: &Value, text: &str) -> Result<bool, AllocError> {
+pub(super) fn shows(alloc: Global, value: &Value, text: &str) -> bool {
     let mut shown = Vec::new(alloc);
-    show_value(value, &mut shown)?;
-    Ok(shown.as_slice() == text.as_bytes())
+    let pushed = show_value(value, &mut shown).is_ok();
+    let same = shown.as_slice() == text.as_bytes();
+    drop(shown);
+    pushed && same
 }
 
 /// Whether the value has those bytes.
-fn is_written(alloc: Global, value: &Value, bytes: &[u8]) -> Result<bool, AllocError> {
+fn is_written(alloc: Global, value: &Value, bytes: &[u8]) -> bool {
     let mut out = Vec::new(alloc);
-    push_value(value, &mut out)?;
-    Ok(out.as_slice() == bytes)
+    let pushed = push_value(value, &mut out).is_ok();
+    let same = out.as_slice() == bytes;
+    drop(out);
+    pushed && same
 }
 
 /// Whether a copy of the value is equal to it.
-fn is_copied(alloc: Global, value: &Value) -> Result<bool, AllocError> {
-    let copy = clone_value(alloc, value)?;
+fn is_copied(alloc: Global, value: &Value) -> bool {
+    let Ok(copy) = clone_value(alloc, value) else {
+        return false;
+    };
     let same = copy == *value;
     drop(copy);
-    Ok(same)
-}
-
-/// Whether the value has those bytes and that text, and a copy that is equal to it.
-fn is_value(alloc: Global, value: &Value, bytes: &[u8], text: &str) -> Result<bool, AllocError> {
-    let written = is_written(alloc, value, bytes)?;
-    let shown = shows(alloc, value, text)?;
-    Ok(written && shown && is_copied(alloc, value)?)
+    same
 }
 
 /// A type, bytes, and the text of the value that has these bytes; none where no value has them.
 struct Coded(FieldType, &'static [u8], Option<&'static str>);
 
 impl Row for Coded {
-    fn holds(&self, alloc: Global) -> Result<bool, AllocError> {
+    fn holds(&self, alloc: Global) -> bool {
         match value_of(alloc, self.0, self.1) {
             Ok((value, rest)) => {
-                let text = self.2.unwrap_or("?");
-                let answer = is_value(alloc, &value, self.1, text);
+                let all = rest.is_empty();
+                let written = is_written(alloc, &value, self.1);
+                let shown = shows(alloc, &value, self.2.unwrap_or("?"));
+                let copied = is_copied(alloc, &value);
                 drop(value);
-                Ok(answer? && rest.is_empty())
+                all && written && shown && copied
             }
-            Err(fault) => Ok(self.2.is_none() && fault == PartFault::NotCanonical),
+            Err(fault) => self.2.is_none() && fault == PartFault::NotCanonical,
         }
     }
 }
@@ -181,44 +182,46 @@ fn values_have_their_bytes_and_texts(rt: HostRuntime) {
     all_hold(&rt, rt.alloc(), &VALUES);
 }
 
-/// A buffer so large that it can't grow where it is, and full.
-fn full_buffer(alloc: Global) -> Result<Vec<u8>, AllocError> {
-    let mut full = Vec::with_capacity(alloc, 4096)?;
-    full.resize(full.capacity(), b'x')?;
-    Ok(full)
-}
-
-/// Whether the value is neither shown nor written nor copied where no memory is left.
-fn is_refused(alloc: Global, value: &Value) -> Result<bool, AllocError> {
-    let mut full = full_buffer(alloc)?;
-    let used_up = UsedUp::new(alloc)?;
+/// Whether the value is neither shown nor written behind a full buffer, so large that it can't grow
+/// where it is, nor copied, where no memory is left.
+fn is_refused(alloc: Global, value: &Value) -> bool {
+    let Ok(mut full) = vec![in alloc; b'x'; 4096] else {
+        return false;
+    };
+    let Ok(used_up) = UsedUp::new(alloc) else {
+        drop(full);
+        return false;
+    };
     let shown = show_value(value, &mut full).is_ok();
     let written = push_value(value, &mut full).is_ok();
     let copied = clone_value(alloc, value).err().is_none();
     drop(used_up);
-    Ok(!shown && !written && !copied)
+    drop(full);
+    !shown && !written && !copied
+}
+
+/// Whether memory is refused to the value of the bytes.
+fn is_unread(alloc: Global, field_type: FieldType, bytes: &[u8]) -> bool {
+    let Ok(used_up) = UsedUp::new(alloc) else {
+        return false;
+    };
+    let fault = value_of(alloc, field_type, bytes).err();
+    drop(used_up);
+    fault == Some(PartFault::Memory)
 }
 
 /// A type, and the bytes of a value that takes memory.
 struct Refused(FieldType, &'static [u8]);
 
 impl Row for Refused {
-    fn holds(&self, alloc: Global) -> Result<bool, AllocError> {
+    fn holds(&self, alloc: Global) -> bool {
         let Ok((value, _)) = value_of(alloc, self.0, self.1) else {
-            return Ok(false);
+            return false;
         };
         let refused = is_refused(alloc, &value);
         drop(value);
-        Ok(refused? && is_unread(alloc, self.0, self.1)?)
+        refused && is_unread(alloc, self.0, self.1)
     }
-}
-
-/// Whether memory is refused to the value of the bytes.
-fn is_unread(alloc: Global, field_type: FieldType, bytes: &[u8]) -> Result<bool, AllocError> {
-    let used_up = UsedUp::new(alloc)?;
-    let fault = value_of(alloc, field_type, bytes).err();
-    drop(used_up);
-    Ok(fault == Some(PartFault::Memory))
 }
 
 static REFUSED: [Refused; 2] = [
@@ -230,8 +233,10 @@ static REFUSED: [Refused; 2] = [
 ];
 
 /// A default with words is refused, an empty list takes no memory.
-fn refuses_a_default(alloc: Global) -> Result<bool, AllocError> {
-    let used_up = UsedUp::new(alloc)?;
+fn refuses_a_default(alloc: Global) -> bool {
+    let Ok(used_up) = UsedUp::new(alloc) else {
+        return false;
+    };
     let refused = default_value(alloc, FieldType::MFString, FieldDefault::ExamineAny)
         .err()
         .is_some();
@@ -239,7 +244,7 @@ fn refuses_a_default(alloc: Global) -> Result<bool, AllocError> {
     drop(used_up);
     let given = empty.is_some();
     drop(empty);
-    Ok(refused && given)
+    refused && given
 }
 
 #[test]

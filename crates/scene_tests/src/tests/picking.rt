@@ -7,7 +7,7 @@ use flat_document::Flat;
 use pick_core::{BoxCache, Hit, local_point, pick, sensors_of};
 use proto_walk::expand;
 use scene_core::Scene;
-use std::alloc::{AllocError, Global};
+use std::alloc::Global;
 use test_memory::UsedUp;
 use x3d_values::{Fields, Ray, Vec3};
 
@@ -64,43 +64,44 @@ fn is_wanted(scene: &Scene, state: &[Fields], hit: Option<Hit>, wanted: &Option<
 }
 
 /// Whether a cache is refused while memory is used up.
-fn is_refused(alloc: Global, scene: &Scene, state: &[Fields]) -> Result<bool, AllocError> {
-    let used_up = UsedUp::new(alloc)?;
-    let is_refused = BoxCache::new(alloc, scene, state).is_err();
+fn is_refused(alloc: Global, scene: &Scene, state: &[Fields]) -> bool {
+    let Ok(used_up) = UsedUp::new(alloc) else {
+        return false;
+    };
+    let fault = BoxCache::new(alloc, scene, state).err();
     drop(used_up);
-    Ok(is_refused)
+    fault.is_some()
 }
 
 /// Whether the ray hits what is wanted, by the scene and by a cache of its boxes; and a cache is
 /// made, and refused where there is no memory.
-fn holds_in(
-    alloc: Global,
-    scene: &Scene,
-    state: &[Fields],
-    wanted: &Option<Wanted>,
-) -> Result<bool, AllocError> {
-    let cache = BoxCache::new(alloc, scene, state)?;
-    let is_so = is_wanted(scene, state, cache.pick(ahead()), wanted)
-        && is_wanted(scene, state, pick(scene, state, ahead()), wanted);
-    let refused = is_refused(alloc, scene, state);
+fn holds_in(alloc: Global, scene: &Scene, state: &[Fields], wanted: &Option<Wanted>) -> bool {
+    let Ok(cache) = BoxCache::new(alloc, scene, state) else {
+        return false;
+    };
+    let is_so = is_wanted(scene, state, cache.pick(ahead()), wanted);
     drop(cache);
-    Ok(refused? && is_so)
+    is_so
+        && is_wanted(scene, state, pick(scene, state, ahead()), wanted)
+        && is_refused(alloc, scene, state)
 }
 
-fn holds_of(alloc: Global, scene: &Scene, wanted: &Option<Wanted>) -> Result<bool, AllocError> {
-    let state = scene.state(alloc)?;
-    let answer = holds_in(alloc, scene, state.as_slice(), wanted);
+fn holds_of(alloc: Global, scene: &Scene, wanted: &Option<Wanted>) -> bool {
+    let Ok(state) = scene.state(alloc) else {
+        return false;
+    };
+    let is_so = holds_in(alloc, scene, state.as_slice(), wanted);
     drop(state);
-    answer
+    is_so
 }
 
 fn holds_built(alloc: Global, flat: &Flat, wanted: &Option<Wanted>) -> bool {
     let Ok(scene) = Scene::build(alloc, flat) else {
         return false;
     };
-    let answer = holds_of(alloc, &scene, wanted);
+    let is_so = holds_of(alloc, &scene, wanted);
     drop(scene);
-    answer == Ok(true)
+    is_so
 }
 
 /// A scene, and what is hit of it.

@@ -1,12 +1,12 @@
 //! What is attached, and what becomes of boxes that are refused.
 
 use super::probe::{Log, Made, two_boxes};
-use super::{Row, all_hold};
+use super::{Row, all_hold, list_of};
 use script_host::{AttachFault, Scripts};
-use std::alloc::{AllocError, Global};
+use std::alloc::Global;
 use std::process::Abort;
 use test_memory::UsedUp;
-use x3d_values::{Items, Kind, ScriptSpec};
+use x3d_values::{Kind, ScriptSpec};
 
 /// A script of a kind, whether its interface is that of the kind, and how it starts.
 #[derive(Clone, Copy)]
@@ -24,80 +24,83 @@ const UNFIT: Asked = Asked(Some(Kind::Counter), false, &[]);
 
 const UNKNOWN: Asked = Asked(None, true, &[]);
 
-fn specs_of(alloc: Global, asked: &[Asked]) -> Result<Vec<ScriptSpec>, AllocError> {
+/// What the scripts ask for, or fewer where memory is refused.
+fn specs_of(alloc: Global, asked: &[Asked]) -> Vec<ScriptSpec> {
     let mut specs = Vec::new(alloc);
     for script in asked {
-        specs.push(ScriptSpec {
+        let spec = ScriptSpec {
             node: 3,
             kind: script.0,
             fits: script.1,
-            start: Items::from_slice(alloc, script.2)?,
-        })?;
+            start: list_of(alloc, script.2),
+        };
+        let Ok(()) = specs.push(spec) else {
+            return specs;
+        };
     }
-    Ok(specs)
+    specs
 }
 
 /// As many scripts that ask for a counter at 5 that steps by 2, up to two.
-pub(super) fn counter_specs(alloc: Global, count: usize) -> Result<Vec<ScriptSpec>, AllocError> {
+pub(super) fn counter_specs(alloc: Global, count: usize) -> Vec<ScriptSpec> {
     specs_of(alloc, [COUNTER, COUNTER].get(..count).unwrap_or(&[]))
 }
 
-/// The fault for which two counters are refused, where these blocks of memory are left.
-fn fault_in(
-    alloc: Global,
-    specs: &[ScriptSpec],
-    log: &Log,
-    left: Option<&[usize]>,
-) -> Result<Option<AttachFault>, AllocError> {
-    let boxes = two_boxes(alloc, Made::Counter(5), Made::Counter(5), log)?;
-    let Some(left) = left else {
-        return Ok(Scripts::attach(alloc, specs, boxes).err());
+/// Scripts, the blocks of memory that are left, and the fault for which two counters are refused
+/// for them.
+struct Attached(&'static [Asked], &'static [usize], Option<AttachFault>);
+
+/// Whether two counters are refused so for these scripts.
+fn are_refused(alloc: Global, specs: &[ScriptSpec], log: &Log, row: &Attached) -> bool {
+    let Ok(boxes) = two_boxes(alloc, Made::Counter(5), Made::Counter(5), log) else {
+        return false;
     };
-    let Ok(used_up) = UsedUp::but_for(alloc, left) else {
+    let Ok(used_up) = UsedUp::but_for(alloc, row.1) else {
         drop(boxes);
-        return Err(AllocError);
+        return false;
     };
     let fault = Scripts::attach(alloc, specs, boxes).err();
     drop(used_up);
-    Ok(fault)
+    fault == row.2
 }
-
-/// Scripts, the blocks of memory that are left if not all is, and the fault for which two counters
-/// are refused for them.
-struct Attached(
-    &'static [Asked],
-    Option<&'static [usize]>,
-    Option<AttachFault>,
-);
 
 /// None of the boxes is initialized, and both are dropped, with the scripts where they are taken.
 impl Row for Attached {
-    fn holds(&self, alloc: Global) -> Result<bool, AllocError> {
-        let specs = specs_of(alloc, self.0)?;
+    fn holds(&self, alloc: Global) -> bool {
+        let specs = specs_of(alloc, self.0);
         let log = Log::new(0);
-        let fault = fault_in(alloc, specs.as_slice(), &log, self.1);
+        let refused = are_refused(alloc, specs.as_slice(), &log, self);
         drop(specs);
-        Ok(fault? == self.2 && log.get() == 78)
+        refused && log.get() == 78
     }
 }
 
+/// The block in which a state of two numbers is put, in bytes: room for four.
+pub(super) const STATE: usize = 32;
+
+/// The block of a list of up to four scripts.
+const SCRIPTS: usize = 352;
+
+/// What two counters take.
+const ENOUGH: &[usize] = &[STATE, SCRIPTS];
+
 static REFUSED: [Attached; 6] = [
-    Attached(&[UNKNOWN], None, Some(AttachFault::UnknownScript(0))),
-    Attached(&[COUNTER], None, Some(AttachFault::WrongCount)),
+    Attached(&[UNKNOWN], ENOUGH, Some(AttachFault::UnknownScript(0))),
+    Attached(&[COUNTER], ENOUGH, Some(AttachFault::WrongCount)),
     Attached(
         &[COUNTER, UNFIT, UNKNOWN],
-        None,
+        ENOUGH,
         Some(AttachFault::UnknownScript(2)),
     ),
     Attached(
         &[COUNTER, UNFIT],
-        None,
+        ENOUGH,
         Some(AttachFault::InterfaceMismatch(1)),
     ),
-    Attached(&[COUNTER, BATCH], None, Some(AttachFault::KindDiffers(1))),
+    Attached(&[COUNTER, BATCH], ENOUGH, Some(AttachFault::KindDiffers(1))),
     Attached(
         &[COUNTER, OTHER_STEP],
-        None,
+        ENOUGH,
         Some(AttachFault::StartMismatch(1)),
     ),
 ];
@@ -107,21 +110,11 @@ fn refused_boxes_are_dropped(rt: HostRuntime) {
     all_hold(&rt, rt.alloc(), &REFUSED);
 }
 
-/// The block in which a state of two numbers is put, in bytes: room for four.
-pub(super) const STATE: usize = 32;
-
-/// The block of a list of up to four scripts.
-const SCRIPTS: usize = 352;
-
 /// A state is looked at in one block, and the list of scripts takes another.
 static GROWTHS: [Attached; 3] = [
-    Attached(&[COUNTER, COUNTER], Some(&[]), Some(AttachFault::Memory)),
-    Attached(
-        &[COUNTER, COUNTER],
-        Some(&[STATE]),
-        Some(AttachFault::Memory),
-    ),
-    Attached(&[COUNTER, COUNTER], Some(&[STATE, SCRIPTS]), None),
+    Attached(&[COUNTER, COUNTER], &[], Some(AttachFault::Memory)),
+    Attached(&[COUNTER, COUNTER], &[STATE], Some(AttachFault::Memory)),
+    Attached(&[COUNTER, COUNTER], ENOUGH, None),
 ];
 
 #[test]

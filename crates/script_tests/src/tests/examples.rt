@@ -5,7 +5,7 @@ use super::holds;
 use super::hosting::sends;
 use script_host::{Behaviour, ReplaceFault, Scripts};
 use script_stock::{Counter, Gate};
-use std::alloc::{AllocError, Global};
+use std::alloc::Global;
 use std::process::Abort;
 
 /// A counter at 5 that steps by 2 is replaced by a fresh one, and then by one of another kind.
@@ -19,28 +19,18 @@ fn is_replaced<B: Behaviour>(scripts: &mut Scripts<B>, fresh: B, other: B) -> bo
     first && second && third && answers
 }
 
-fn replaces<B: Behaviour>(
-    alloc: Global,
-    boxes: Vec<B>,
-    fresh: B,
-    other: B,
-) -> Result<bool, AllocError> {
-    let Ok(specs) = counter_specs(alloc, 1) else {
-        drop(boxes);
-        drop(fresh);
-        drop(other);
-        return Err(AllocError);
-    };
+fn replaces<B: Behaviour>(alloc: Global, boxes: Vec<B>, fresh: B, other: B) -> bool {
+    let specs = counter_specs(alloc, 1);
     let attached = Scripts::attach(alloc, specs.as_slice(), boxes);
     drop(specs);
     let Ok(mut scripts) = attached else {
         drop(fresh);
         drop(other);
-        return Err(AllocError);
+        return false;
     };
     let held = is_replaced(&mut scripts, fresh, other);
     scripts.close();
-    Ok(held)
+    held
 }
 
 #[test]
@@ -52,5 +42,5 @@ fn script_replaced(rt: HostRuntime) {
     let fresh = Box::new(alloc, Counter::new(0, 1)).expect(&rt, "a box");
     let other = Box::new(alloc, Gate::new(true)).expect(&rt, "a box");
     holds(&rt, replaces(alloc, boxes, fresh, other));
-    holds(&rt, Ok(pushed));
+    holds(&rt, pushed);
 }

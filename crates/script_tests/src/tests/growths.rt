@@ -8,7 +8,7 @@ use cascade_core::Stage;
 use script_host::Behaviour;
 use share_program::{Opened, attach, open_scene};
 use snapshot_core::{load_into, save};
-use std::alloc::{AllocError, Global};
+use std::alloc::Global;
 use std::process::Abort;
 use test_memory::UsedUp;
 
@@ -29,28 +29,30 @@ enum Call {
     Restore,
 }
 
-/// Loading with one block of so many bytes: whether it worked.
-fn loads(alloc: Global, log: &Log, spare: usize) -> Result<bool, AllocError> {
-    let boxes = two_boxes(alloc, TWO[0], TWO[1], log)?;
+/// Whether loading works with one block of so many bytes; none where it can't be tried.
+fn loads(alloc: Global, log: &Log, spare: usize) -> Option<bool> {
+    let Ok(boxes) = two_boxes(alloc, TWO[0], TWO[1], log) else {
+        return None;
+    };
     let Ok(opened) = open_scene(alloc, COUNTERS.as_bytes()) else {
         drop(boxes);
-        return Err(AllocError);
+        return None;
     };
     let Opened { scene, routes } = opened;
     let Ok(scripts) = attach(alloc, &scene, boxes) else {
         drop(routes);
         drop(scene);
-        return Err(AllocError);
+        return None;
     };
     let Ok(used_up) = UsedUp::but_for(alloc, &[spare]) else {
         drop(scripts);
         drop(routes);
         drop(scene);
-        return Err(AllocError);
+        return None;
     };
     let fault = Stage::load(alloc, scene, routes, scripts).err();
     drop(used_up);
-    Ok(fault.is_none())
+    Some(fault.is_none())
 }
 
 fn applies<B: Behaviour>(stage: &mut Stage<B>) -> bool {
@@ -75,8 +77,10 @@ fn works_on<'a>(
     shot: &[u8],
     call: Call,
     spare: usize,
-) -> Result<bool, AllocError> {
-    let used_up = UsedUp::but_for(alloc, &[spare])?;
+) -> Option<bool> {
+    let Ok(used_up) = UsedUp::but_for(alloc, &[spare]) else {
+        return None;
+    };
     let worked = match call {
         Call::Load => false,
         Call::Apply => applies(stage),
@@ -87,20 +91,20 @@ fn works_on<'a>(
         Call::Restore => load_into(stage, &MARK, 2, shot).is_ok(),
     };
     drop(used_up);
-    Ok(worked)
+    Some(worked)
 }
 
 /// The same of a call on a stage of its own, which is dropped then.
-fn works_in(alloc: Global, log: &Log, call: Call, spare: usize) -> Result<bool, AllocError> {
+fn works_in(alloc: Global, log: &Log, call: Call, spare: usize) -> Option<bool> {
     let Ok(mut stage) = stage_of(alloc, COUNTERS, TWO, log) else {
-        return Err(AllocError);
+        return None;
     };
     let mut shot = Vec::new(alloc);
     let saved = save(&stage, &MARK, 1, &mut shot).is_ok();
     let worked = works_on(alloc, &mut stage, log, shot.as_slice(), call, spare);
     drop(stage);
     drop(shot);
-    Ok(saved && worked?)
+    if saved { worked } else { None }
 }
 
 /// Whether that was done with boxes where the call worked, or was refused: those that were
@@ -114,34 +118,35 @@ fn is_told(call: Call, worked: bool, digits: u64) -> bool {
     }
 }
 
-/// Whether a call worked, and the boxes were treated so.
-fn works(alloc: Global, call: Call, spare: usize) -> Result<(bool, bool), AllocError> {
+/// Whether a call worked, if the boxes were treated so.
+fn works(alloc: Global, call: Call, spare: usize) -> Option<bool> {
     let log = Log::new(0);
     let worked = match call {
-        Call::Load => loads(alloc, &log, spare)?,
-        _ => works_in(alloc, &log, call, spare)?,
+        Call::Load => loads(alloc, &log, spare),
+        _ => works_in(alloc, &log, call, spare),
     };
-    Ok((worked, is_told(call, worked, log.get())))
+    match worked {
+        Some(worked) if is_told(call, worked, log.get()) => Some(worked),
+        _ => None,
+    }
 }
 
 /// Whether more than so many of these turns refuse the call, each with so many bytes more than the
 /// one before: the first, with none, does, and with a mebibyte the call works.
-fn is_refused(alloc: Global, call: Call, step: usize, least: usize) -> Result<bool, AllocError> {
+fn is_refused(alloc: Global, call: Call, step: usize, least: usize) -> bool {
     let mut refused: usize = 0;
     let mut spare: usize = 0;
     for _turn in 0..TURNS {
-        let (worked, told) = works(alloc, call, spare)?;
-        if !told {
-            return Ok(false);
-        }
-        if !worked {
-            refused = refused.saturating_add(1);
+        match works(alloc, call, spare) {
+            Some(true) => {}
+            Some(false) => refused = refused.saturating_add(1),
+            None => return false,
         }
         spare = spare.saturating_add(step);
     }
-    let without = works(alloc, call, 0)?;
-    let with = works(alloc, call, 1 << 20)?;
-    Ok(refused > least && without == (false, true) && with == (true, true))
+    refused > least
+        && works(alloc, call, 0) == Some(false)
+        && works(alloc, call, 1 << 20) == Some(true)
 }
 
 #[test]

@@ -2,9 +2,9 @@
 
 use super::attaching::{STATE, counter_specs};
 use super::probe::{Log, Made, Probe, two_boxes};
-use super::{Row, all_hold};
-use script_host::{Behaviour, ReplaceFault, Reply, Scripts, StateFault, takes_event};
-use std::alloc::{AllocError, Global};
+use super::{Row, all_hold, list_of};
+use script_host::{AttachFault, Behaviour, ReplaceFault, Reply, Scripts, StateFault, takes_event};
+use std::alloc::Global;
 use std::process::Abort;
 use test_memory::UsedUp;
 use x3d_values::Items;
@@ -14,18 +14,14 @@ fn two_scripts<'a>(
     alloc: Global,
     second: Made,
     log: &'a Log,
-) -> Result<Scripts<Probe<'a>>, AllocError> {
-    let specs = counter_specs(alloc, 2)?;
+) -> Result<Scripts<Probe<'a>>, AttachFault> {
     let Ok(boxes) = two_boxes(alloc, Made::Counter(5), second, log) else {
-        drop(specs);
-        return Err(AllocError);
+        return Err(AttachFault::Memory);
     };
+    let specs = counter_specs(alloc, 2);
     let attached = Scripts::attach(alloc, specs.as_slice(), boxes);
     drop(specs);
-    match attached {
-        Ok(scripts) => Ok(scripts),
-        Err(_) => Err(AllocError),
-    }
+    attached
 }
 
 /// What is done with the scripts, and what comes of it.
@@ -61,12 +57,15 @@ pub(super) fn sends<B: Behaviour>(scripts: &mut Scripts<B>, k: usize, count: i64
     replies.as_slice() == [Reply::number(0, count)].as_slice()
 }
 
-fn states_of(alloc: Global, counts: [i64; 2]) -> Result<Vec<Items<i64>>, AllocError> {
+/// Counts of counters that step by 2, or fewer where memory is refused.
+fn states_of(alloc: Global, counts: [i64; 2]) -> Vec<Items<i64>> {
     let mut states = Vec::new(alloc);
     for count in counts {
-        states.push(Items::from_slice(alloc, &[count, 2])?)?;
+        let Ok(()) = states.push(list_of(alloc, &[count, 2])) else {
+            return states;
+        };
     }
-    Ok(states)
+    states
 }
 
 fn restores<B: Behaviour>(
@@ -74,11 +73,11 @@ fn restores<B: Behaviour>(
     scripts: &mut Scripts<B>,
     counts: [i64; 2],
     wanted: Result<(), StateFault>,
-) -> Result<bool, AllocError> {
-    let states = states_of(alloc, counts)?;
+) -> bool {
+    let states = states_of(alloc, counts);
     let answer = scripts.restore_all(states.as_slice());
     drop(states);
-    Ok(answer == wanted)
+    answer == wanted
 }
 
 /// Whether there are two states that begin so.
@@ -89,34 +88,22 @@ pub(super) fn begin(states: &[Items<i64>], wanted: [i64; 2]) -> bool {
     }
 }
 
-fn are_counts<B: Behaviour>(
-    alloc: Global,
-    scripts: &Scripts<B>,
-    wanted: [i64; 2],
-) -> Result<bool, AllocError> {
+fn are_counts<B: Behaviour>(alloc: Global, scripts: &Scripts<B>, wanted: [i64; 2]) -> bool {
     let mut states = Vec::new(alloc);
     let answer = scripts.states(&mut states);
     let held = begin(states.as_slice(), wanted);
     drop(states);
-    answer?;
-    Ok(held)
+    answer.is_ok() && held
 }
 
-fn does<'a>(
-    alloc: Global,
-    scripts: &mut Scripts<Probe<'a>>,
-    log: &'a Log,
-    step: Step,
-) -> Result<bool, AllocError> {
+fn does<'a>(alloc: Global, scripts: &mut Scripts<Probe<'a>>, log: &'a Log, step: Step) -> bool {
     match step {
-        Step::Initialize(k) => Ok(initializes(scripts, k)),
-        Step::Tick(k, count) => Ok(sends(scripts, k, count)),
-        Step::Replace(k, made, wanted) => {
-            Ok(scripts.replace(k, Probe::new(3, made, log)) == wanted)
-        }
+        Step::Initialize(k) => initializes(scripts, k),
+        Step::Tick(k, count) => sends(scripts, k, count),
+        Step::Replace(k, made, wanted) => scripts.replace(k, Probe::new(3, made, log)) == wanted,
         Step::Restore(counts, wanted) => restores(alloc, scripts, counts, wanted),
         Step::Counts(wanted) => are_counts(alloc, scripts, wanted),
-        Step::Told(digits) => Ok(log.get() == digits),
+        Step::Told(digits) => log.get() == digits,
     }
 }
 
@@ -125,13 +112,13 @@ fn does_all<'a>(
     scripts: &mut Scripts<Probe<'a>>,
     log: &'a Log,
     steps: &[Step],
-) -> Result<bool, AllocError> {
+) -> bool {
     for step in steps {
-        if !does(alloc, scripts, log, *step)? {
-            return Ok(false);
+        if !does(alloc, scripts, log, *step) {
+            return false;
         }
     }
-    Ok(true)
+    true
 }
 
 /// The second box of two scripts, what is done with them, whether they are closed in the end, not
@@ -139,16 +126,18 @@ fn does_all<'a>(
 struct Story(Made, &'static [Step], bool, u64);
 
 impl Row for Story {
-    fn holds(&self, alloc: Global) -> Result<bool, AllocError> {
+    fn holds(&self, alloc: Global) -> bool {
         let log = Log::new(0);
-        let mut scripts = two_scripts(alloc, self.0, &log)?;
+        let Ok(mut scripts) = two_scripts(alloc, self.0, &log) else {
+            return false;
+        };
         let answer = does_all(alloc, &mut scripts, &log, self.1);
         if self.2 {
             scripts.close();
         } else {
             drop(scripts);
         }
-        Ok(answer? && log.get() == self.3)
+        answer && log.get() == self.3
     }
 }
 
@@ -252,14 +241,17 @@ fn tells<B: Behaviour>(alloc: Global, scripts: &Scripts<B>) -> bool {
     told
 }
 
+/// Whether that works where these blocks of memory are left; none where it can't be tried.
 fn works<'a>(
     alloc: Global,
     scripts: &mut Scripts<Probe<'a>>,
     log: &'a Log,
     call: Call,
     left: &[usize],
-) -> Result<bool, AllocError> {
-    let used_up = UsedUp::but_for(alloc, left)?;
+) -> Option<bool> {
+    let Ok(used_up) = UsedUp::but_for(alloc, left) else {
+        return None;
+    };
     let worked = match call {
         Call::States => tells(alloc, scripts),
         Call::Replace => scripts
@@ -267,7 +259,7 @@ fn works<'a>(
             .is_ok(),
     };
     drop(used_up);
-    Ok(worked)
+    Some(worked)
 }
 
 /// A call, the blocks of memory that are left, whether they are enough, and what was done with
@@ -275,12 +267,14 @@ fn works<'a>(
 struct Left(Call, &'static [usize], bool, u64);
 
 impl Row for Left {
-    fn holds(&self, alloc: Global) -> Result<bool, AllocError> {
+    fn holds(&self, alloc: Global) -> bool {
         let log = Log::new(0);
-        let mut scripts = two_scripts(alloc, SECOND, &log)?;
+        let Ok(mut scripts) = two_scripts(alloc, SECOND, &log) else {
+            return false;
+        };
         let worked = works(alloc, &mut scripts, &log, self.0, self.1);
         drop(scripts);
-        Ok(worked? == self.2 && log.get() == self.3)
+        worked == Some(self.2) && log.get() == self.3
     }
 }
 

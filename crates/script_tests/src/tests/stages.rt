@@ -7,7 +7,7 @@ use super::{Row, all_hold};
 use cascade_core::{PlaceFault, Stage, Work};
 use script_host::Behaviour;
 use snapshot_core::{SnapFault, load_into, save};
-use std::alloc::{AllocError, Global};
+use std::alloc::Global;
 use std::process::Abort;
 
 /// What is done with a stage, and what comes of it.
@@ -53,7 +53,9 @@ fn are_counts<B: Behaviour>(alloc: Global, stage: &Stage<B>, wanted: [i64; 2]) -
 fn is_trace<B: Behaviour>(alloc: Global, stage: &Stage<B>, wanted: &str) -> bool {
     let mut text = Vec::new(alloc);
     let answer = stage.trace_text(&mut text);
-    answer.is_ok() && text.as_slice() == wanted.as_bytes()
+    let same = text.as_slice() == wanted.as_bytes();
+    drop(text);
+    answer.is_ok() && same
 }
 
 fn does<'a>(alloc: Global, stage: &mut Stage<Probe<'a>>, log: &'a Log, step: Step) -> bool {
@@ -91,14 +93,14 @@ fn does_all<'a>(alloc: Global, stage: &mut Stage<Probe<'a>>, log: &'a Log, steps
 struct Story(&'static str, [Made; 2], &'static [Step], u64);
 
 impl Row for Story {
-    fn holds(&self, alloc: Global) -> Result<bool, AllocError> {
+    fn holds(&self, alloc: Global) -> bool {
         let log = Log::new(0);
         let Ok(mut stage) = stage_of(alloc, self.0, self.1, &log) else {
-            return Err(AllocError);
+            return false;
         };
         let held = does_all(alloc, &mut stage, &log, self.2);
         stage.close();
-        Ok(held && log.get() == self.3)
+        held && log.get() == self.3
     }
 }
 

@@ -18,13 +18,16 @@ push_proto-returns-clause-ok t c =
     let p = proto_text_is c.args.proto.now c.args.indent in
     on_ok_weaker c.push_body.result (λ e. grind (arith, common_steps)) c.push_body.ensures.ok
 
--- ---- lists of parts, and each part on its line
+-- ---- lists of parts, each on its line
 
 pub push_item_lines-loop-item-preserved : goal.push_item_lines-loop-item-preserved
 push_item_lines-loop-item-preserved t c =
     next (line_text item_text c.args.indent) c.args.items.now c.item-item.result c.item-item.result c.loop-item.item-index
-    c.args.out.now.items c.loop-item.out.items c.push_item_line.new.out.items
-    c.loop-item-test.true c.item-item.is c.loop-item.invariant c.in_ok-push_item_line.ensures.ok
+    c.args.out.now.items c.loop-item.out.items c.push.new.self.items
+    c.loop-item-test.true c.item-item.is c.loop-item.invariant
+    (thrice (replicate c.args.indent 32) (item_text c.item-item.result c.args.indent) (10 ∷ [])
+    c.loop-item.out.items c.push_spaces.new.out.items c.push_item.new.out.items c.push.new.self.items
+    c.in_ok-push_spaces.ensures.ok c.in_ok-push_item.ensures.ok c.in_ok-push.ensures.items)
 
 pub push_item_lines-returns-clause-ok : goal.push_item_lines-returns-clause-ok
 push_item_lines-returns-clause-ok t c =
@@ -32,28 +35,25 @@ push_item_lines-returns-clause-ok t c =
     c.loop-item.invariant c.loop-item-test.false
 
 pub push_item_lines-returns-clause-kept : goal.push_item_lines-returns-clause-kept
-push_item_lines-returns-clause-kept t c =
-    appended _ c.loop-item.invariant
+push_item_lines-returns-clause-kept t c = appended _ c.loop-item.invariant
 
-pub push_item_lines-returns-in_err-push_item_line-clause-kept : goal.push_item_lines-returns-in_err-push_item_line-clause-kept
-push_item_lines-returns-in_err-push_item_line-clause-kept t c =
-    grows _ c.loop-item.invariant c.in_err-push_item_line.ensures.kept
+pub push_item_lines-returns-in_err-push_spaces-clause-kept : goal.push_item_lines-returns-in_err-push_spaces-clause-kept
+push_item_lines-returns-in_err-push_spaces-clause-kept t c = grows _ c.loop-item.invariant c.in_err-push_spaces.ensures.kept
 
-pub push_item_line-returns-clause-ok : goal.push_item_line-returns-clause-ok
-push_item_line-returns-clause-ok t c =
-    thrice (replicate c.args.indent 32) (item_text c.args.item.now c.args.indent) (10 ∷ [])
-    c.args.out.now.items c.push_spaces.new.out.items c.push_item.new.out.items c.push.new.self.items
-    c.in_ok-push_spaces.ensures.ok c.in_ok-push_item.ensures.ok c.in_ok-push.ensures.items
+pub push_item_lines-returns-in_err-push_item-clause-kept : goal.push_item_lines-returns-in_err-push_item-clause-kept
+push_item_lines-returns-in_err-push_item-clause-kept t c = grows _ c.loop-item.invariant (onward c.in_ok-push_spaces.ensures.kept c.in_err-push_item.ensures.kept)
 
-pub push_item_line-returns-clause-kept : goal.push_item_line-returns-clause-kept
-push_item_line-returns-clause-kept t c =
-    appended _ (push_item_line-returns-clause-ok t c)
+pub push_item_lines-returns-in_err-push-clause-kept : goal.push_item_lines-returns-in_err-push-clause-kept
+push_item_lines-returns-in_err-push-clause-kept t c = grows _ c.loop-item.invariant (onward c.in_ok-push_spaces.ensures.kept (onward c.in_ok-push_item.ensures.kept (perhaps _ _ c.push.ensures.items)))
 
 pub push_node_lines-loop-node-preserved : goal.push_node_lines-loop-node-preserved
 push_node_lines-loop-node-preserved t c =
     next (line_text node_text c.args.indent) c.args.nodes.now c.node-item.result c.node-item.result c.loop-node.node-index
-    c.args.out.now.items c.loop-node.out.items c.push_node_line.new.out.items
-    c.loop-node-test.true c.node-item.is c.loop-node.invariant c.in_ok-push_node_line.ensures.ok
+    c.args.out.now.items c.loop-node.out.items c.push.new.self.items
+    c.loop-node-test.true c.node-item.is c.loop-node.invariant
+    (thrice (replicate c.args.indent 32) (node_text c.node-item.result c.args.indent) (10 ∷ [])
+    c.loop-node.out.items c.push_spaces.new.out.items c.push_node.new.out.items c.push.new.self.items
+    c.in_ok-push_spaces.ensures.ok c.in_ok-push_node.ensures.ok c.in_ok-push.ensures.items)
 
 pub push_node_lines-returns-clause-ok : goal.push_node_lines-returns-clause-ok
 push_node_lines-returns-clause-ok t c =
@@ -61,28 +61,25 @@ push_node_lines-returns-clause-ok t c =
     c.loop-node.invariant c.loop-node-test.false
 
 pub push_node_lines-returns-clause-kept : goal.push_node_lines-returns-clause-kept
-push_node_lines-returns-clause-kept t c =
-    appended _ c.loop-node.invariant
+push_node_lines-returns-clause-kept t c = appended _ c.loop-node.invariant
 
-pub push_node_lines-returns-in_err-push_node_line-clause-kept : goal.push_node_lines-returns-in_err-push_node_line-clause-kept
-push_node_lines-returns-in_err-push_node_line-clause-kept t c =
-    grows _ c.loop-node.invariant c.in_err-push_node_line.ensures.kept
+pub push_node_lines-returns-in_err-push_spaces-clause-kept : goal.push_node_lines-returns-in_err-push_spaces-clause-kept
+push_node_lines-returns-in_err-push_spaces-clause-kept t c = grows _ c.loop-node.invariant c.in_err-push_spaces.ensures.kept
 
-pub push_node_line-returns-clause-ok : goal.push_node_line-returns-clause-ok
-push_node_line-returns-clause-ok t c =
-    thrice (replicate c.args.indent 32) (node_text c.args.node.now c.args.indent) (10 ∷ [])
-    c.args.out.now.items c.push_spaces.new.out.items c.push_node.new.out.items c.push.new.self.items
-    c.in_ok-push_spaces.ensures.ok c.in_ok-push_node.ensures.ok c.in_ok-push.ensures.items
+pub push_node_lines-returns-in_err-push_node-clause-kept : goal.push_node_lines-returns-in_err-push_node-clause-kept
+push_node_lines-returns-in_err-push_node-clause-kept t c = grows _ c.loop-node.invariant (onward c.in_ok-push_spaces.ensures.kept c.in_err-push_node.ensures.kept)
 
-pub push_node_line-returns-clause-kept : goal.push_node_line-returns-clause-kept
-push_node_line-returns-clause-kept t c =
-    appended _ (push_node_line-returns-clause-ok t c)
+pub push_node_lines-returns-in_err-push-clause-kept : goal.push_node_lines-returns-in_err-push-clause-kept
+push_node_lines-returns-in_err-push-clause-kept t c = grows _ c.loop-node.invariant (onward c.in_ok-push_spaces.ensures.kept (onward c.in_ok-push_node.ensures.kept (perhaps _ _ c.push.ensures.items)))
 
 pub push_declaration_lines-loop-declaration-preserved : goal.push_declaration_lines-loop-declaration-preserved
 push_declaration_lines-loop-declaration-preserved t c =
     next (line_text (declaration_text node_text) c.args.indent) c.args.declarations.now c.declaration-item.result c.declaration-item.result c.loop-declaration.declaration-index
-    c.args.out.now.items c.loop-declaration.out.items c.push_declaration_line.new.out.items
-    c.loop-declaration-test.true c.declaration-item.is c.loop-declaration.invariant c.in_ok-push_declaration_line.ensures.ok
+    c.args.out.now.items c.loop-declaration.out.items c.push.new.self.items
+    c.loop-declaration-test.true c.declaration-item.is c.loop-declaration.invariant
+    (thrice (replicate c.args.indent 32) ((declaration_text node_text) c.declaration-item.result c.args.indent) (10 ∷ [])
+    c.loop-declaration.out.items c.push_spaces.new.out.items c.push_declaration.new.out.items c.push.new.self.items
+    c.in_ok-push_spaces.ensures.ok c.in_ok-push_declaration.ensures.ok c.in_ok-push.ensures.items)
 
 pub push_declaration_lines-returns-clause-ok : goal.push_declaration_lines-returns-clause-ok
 push_declaration_lines-returns-clause-ok t c =
@@ -90,28 +87,25 @@ push_declaration_lines-returns-clause-ok t c =
     c.loop-declaration.invariant c.loop-declaration-test.false
 
 pub push_declaration_lines-returns-clause-kept : goal.push_declaration_lines-returns-clause-kept
-push_declaration_lines-returns-clause-kept t c =
-    appended _ c.loop-declaration.invariant
+push_declaration_lines-returns-clause-kept t c = appended _ c.loop-declaration.invariant
 
-pub push_declaration_lines-returns-in_err-push_declaration_line-clause-kept : goal.push_declaration_lines-returns-in_err-push_declaration_line-clause-kept
-push_declaration_lines-returns-in_err-push_declaration_line-clause-kept t c =
-    grows _ c.loop-declaration.invariant c.in_err-push_declaration_line.ensures.kept
+pub push_declaration_lines-returns-in_err-push_spaces-clause-kept : goal.push_declaration_lines-returns-in_err-push_spaces-clause-kept
+push_declaration_lines-returns-in_err-push_spaces-clause-kept t c = grows _ c.loop-declaration.invariant c.in_err-push_spaces.ensures.kept
 
-pub push_declaration_line-returns-clause-ok : goal.push_declaration_line-returns-clause-ok
-push_declaration_line-returns-clause-ok t c =
-    thrice (replicate c.args.indent 32) ((declaration_text node_text) c.args.declaration.now c.args.indent) (10 ∷ [])
-    c.args.out.now.items c.push_spaces.new.out.items c.push_declaration.new.out.items c.push.new.self.items
-    c.in_ok-push_spaces.ensures.ok c.in_ok-push_declaration.ensures.ok c.in_ok-push.ensures.items
+pub push_declaration_lines-returns-in_err-push_declaration-clause-kept : goal.push_declaration_lines-returns-in_err-push_declaration-clause-kept
+push_declaration_lines-returns-in_err-push_declaration-clause-kept t c = grows _ c.loop-declaration.invariant (onward c.in_ok-push_spaces.ensures.kept c.in_err-push_declaration.ensures.kept)
 
-pub push_declaration_line-returns-clause-kept : goal.push_declaration_line-returns-clause-kept
-push_declaration_line-returns-clause-kept t c =
-    appended _ (push_declaration_line-returns-clause-ok t c)
+pub push_declaration_lines-returns-in_err-push-clause-kept : goal.push_declaration_lines-returns-in_err-push-clause-kept
+push_declaration_lines-returns-in_err-push-clause-kept t c = grows _ c.loop-declaration.invariant (onward c.in_ok-push_spaces.ensures.kept (onward c.in_ok-push_declaration.ensures.kept (perhaps _ _ c.push.ensures.items)))
 
 pub push_statement_lines-loop-statement-preserved : goal.push_statement_lines-loop-statement-preserved
 push_statement_lines-loop-statement-preserved t c =
     next (line_text statement_text c.args.indent) c.args.statements.now c.statement-item.result c.statement-item.result c.loop-statement.statement-index
-    c.args.out.now.items c.loop-statement.out.items c.push_statement_line.new.out.items
-    c.loop-statement-test.true c.statement-item.is c.loop-statement.invariant c.in_ok-push_statement_line.ensures.ok
+    c.args.out.now.items c.loop-statement.out.items c.push.new.self.items
+    c.loop-statement-test.true c.statement-item.is c.loop-statement.invariant
+    (thrice (replicate c.args.indent 32) (statement_text c.statement-item.result c.args.indent) (10 ∷ [])
+    c.loop-statement.out.items c.push_spaces.new.out.items c.push_statement.new.out.items c.push.new.self.items
+    c.in_ok-push_spaces.ensures.ok c.in_ok-push_statement.ensures.ok c.in_ok-push.ensures.items)
 
 pub push_statement_lines-returns-clause-ok : goal.push_statement_lines-returns-clause-ok
 push_statement_lines-returns-clause-ok t c =
@@ -119,22 +113,16 @@ push_statement_lines-returns-clause-ok t c =
     c.loop-statement.invariant c.loop-statement-test.false
 
 pub push_statement_lines-returns-clause-kept : goal.push_statement_lines-returns-clause-kept
-push_statement_lines-returns-clause-kept t c =
-    appended _ c.loop-statement.invariant
+push_statement_lines-returns-clause-kept t c = appended _ c.loop-statement.invariant
 
-pub push_statement_lines-returns-in_err-push_statement_line-clause-kept : goal.push_statement_lines-returns-in_err-push_statement_line-clause-kept
-push_statement_lines-returns-in_err-push_statement_line-clause-kept t c =
-    grows _ c.loop-statement.invariant c.in_err-push_statement_line.ensures.kept
+pub push_statement_lines-returns-in_err-push_spaces-clause-kept : goal.push_statement_lines-returns-in_err-push_spaces-clause-kept
+push_statement_lines-returns-in_err-push_spaces-clause-kept t c = grows _ c.loop-statement.invariant c.in_err-push_spaces.ensures.kept
 
-pub push_statement_line-returns-clause-ok : goal.push_statement_line-returns-clause-ok
-push_statement_line-returns-clause-ok t c =
-    thrice (replicate c.args.indent 32) (statement_text c.args.statement.now c.args.indent) (10 ∷ [])
-    c.args.out.now.items c.push_spaces.new.out.items c.push_statement.new.out.items c.push.new.self.items
-    c.in_ok-push_spaces.ensures.ok c.in_ok-push_statement.ensures.ok c.in_ok-push.ensures.items
+pub push_statement_lines-returns-in_err-push_statement-clause-kept : goal.push_statement_lines-returns-in_err-push_statement-clause-kept
+push_statement_lines-returns-in_err-push_statement-clause-kept t c = grows _ c.loop-statement.invariant (onward c.in_ok-push_spaces.ensures.kept c.in_err-push_statement.ensures.kept)
 
-pub push_statement_line-returns-clause-kept : goal.push_statement_line-returns-clause-kept
-push_statement_line-returns-clause-kept t c =
-    appended _ (push_statement_line-returns-clause-ok t c)
+pub push_statement_lines-returns-in_err-push-clause-kept : goal.push_statement_lines-returns-in_err-push-clause-kept
+push_statement_lines-returns-in_err-push-clause-kept t c = grows _ c.loop-statement.invariant (onward c.in_ok-push_spaces.ensures.kept (onward c.in_ok-push_statement.ensures.kept (perhaps _ _ c.push.ensures.items)))
 
 -- ---- that what was there stays
 
@@ -173,27 +161,3 @@ push_node-returns-in_err-push-in-Full-clause-kept t c = onward c.in_ok-push_head
 
 pub push_proto-returns-clause-kept : goal.push_proto-returns-clause-kept
 push_proto-returns-clause-kept t c = onward c.in_ok-push_proto_head.ensures.kept (onward c.in_ok-push_interface.ensures.kept c.push_body.ensures.kept)
-
-pub push_item_line-returns-in_err-push-clause-kept : goal.push_item_line-returns-in_err-push-clause-kept
-push_item_line-returns-in_err-push-clause-kept t c = onward c.in_ok-push_spaces.ensures.kept (onward c.in_ok-push_item.ensures.kept (perhaps _ _ c.push.ensures.items))
-
-pub push_item_line-returns-in_err-push_item-clause-kept : goal.push_item_line-returns-in_err-push_item-clause-kept
-push_item_line-returns-in_err-push_item-clause-kept t c = onward c.in_ok-push_spaces.ensures.kept c.in_err-push_item.ensures.kept
-
-pub push_node_line-returns-in_err-push-clause-kept : goal.push_node_line-returns-in_err-push-clause-kept
-push_node_line-returns-in_err-push-clause-kept t c = onward c.in_ok-push_spaces.ensures.kept (onward c.in_ok-push_node.ensures.kept (perhaps _ _ c.push.ensures.items))
-
-pub push_node_line-returns-in_err-push_node-clause-kept : goal.push_node_line-returns-in_err-push_node-clause-kept
-push_node_line-returns-in_err-push_node-clause-kept t c = onward c.in_ok-push_spaces.ensures.kept c.in_err-push_node.ensures.kept
-
-pub push_declaration_line-returns-in_err-push-clause-kept : goal.push_declaration_line-returns-in_err-push-clause-kept
-push_declaration_line-returns-in_err-push-clause-kept t c = onward c.in_ok-push_spaces.ensures.kept (onward c.in_ok-push_declaration.ensures.kept (perhaps _ _ c.push.ensures.items))
-
-pub push_declaration_line-returns-in_err-push_declaration-clause-kept : goal.push_declaration_line-returns-in_err-push_declaration-clause-kept
-push_declaration_line-returns-in_err-push_declaration-clause-kept t c = onward c.in_ok-push_spaces.ensures.kept c.in_err-push_declaration.ensures.kept
-
-pub push_statement_line-returns-in_err-push-clause-kept : goal.push_statement_line-returns-in_err-push-clause-kept
-push_statement_line-returns-in_err-push-clause-kept t c = onward c.in_ok-push_spaces.ensures.kept (onward c.in_ok-push_statement.ensures.kept (perhaps _ _ c.push.ensures.items))
-
-pub push_statement_line-returns-in_err-push_statement-clause-kept : goal.push_statement_line-returns-in_err-push_statement-clause-kept
-push_statement_line-returns-in_err-push_statement-clause-kept t c = onward c.in_ok-push_spaces.ensures.kept c.in_err-push_statement.ensures.kept

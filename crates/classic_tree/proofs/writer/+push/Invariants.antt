@@ -9,9 +9,6 @@ decreases-push_body l = 16 * goal.size-push_body l + 3
 abbrev pub decreases-push_declaration : goal.decreases-push_declaration
 decreases-push_declaration l = 16 * goal.size-push_declaration l + 6
 
-abbrev pub decreases-push_declaration_line : goal.decreases-push_declaration_line
-decreases-push_declaration_line l = 16 * goal.size-push_declaration_line l + 7
-
 abbrev pub decreases-push_declaration_lines : goal.decreases-push_declaration_lines
 decreases-push_declaration_lines l = 16 * goal.size-push_declaration_lines l + 8
 
@@ -24,9 +21,6 @@ decreases-push_interface l = 16 * goal.size-push_interface l + 9
 abbrev pub decreases-push_item : goal.decreases-push_item
 decreases-push_item l = 16 * goal.size-push_item l + 0
 
-abbrev pub decreases-push_item_line : goal.decreases-push_item_line
-decreases-push_item_line l = 16 * goal.size-push_item_line l + 1
-
 abbrev pub decreases-push_item_lines : goal.decreases-push_item_lines
 decreases-push_item_lines l = 16 * goal.size-push_item_lines l + 2
 
@@ -35,9 +29,6 @@ decreases-push_items l = 16 * goal.size-push_items l + 3
 
 abbrev pub decreases-push_node : goal.decreases-push_node
 decreases-push_node l = 16 * goal.size-push_node l + 0
-
-abbrev pub decreases-push_node_line : goal.decreases-push_node_line
-decreases-push_node_line l = 16 * goal.size-push_node_line l + 1
 
 abbrev pub decreases-push_node_lines : goal.decreases-push_node_lines
 decreases-push_node_lines l = 16 * goal.size-push_node_lines l + 2
@@ -50,9 +41,6 @@ decreases-push_proto l = 16 * goal.size-push_proto l + 0
 
 abbrev pub decreases-push_statement : goal.decreases-push_statement
 decreases-push_statement l = 16 * goal.size-push_statement l + 0
-
-abbrev pub decreases-push_statement_line : goal.decreases-push_statement_line
-decreases-push_statement_line l = 16 * goal.size-push_statement_line l + 1
 
 abbrev pub decreases-push_statement_lines : goal.decreases-push_statement_lines
 decreases-push_statement_lines l = 16 * goal.size-push_statement_lines l + 2

@@ -2,6 +2,7 @@ use Rattle.std.proofs.Common.{◌∙◌, List, map, true, ap, sym, refl, arith}
 use Rattle.std.specs.Prelude.{slice_set}
 use Rattle.std.proofs.lemmas.List.{get_or-map, length-map}
 use Rattle.classic_tree.specs.declared.tree.BodyItem.{BodyItem}
+use Rattle.classic_tree.specs.declared.tree.NodeText.{NodeText}
 use Rattle.scene_text.specs.Tree.{Shown, field_tree, node_tree}
 use Rattle.scene_text.specs.Views.{plan_of, shown_of}
 use Rattle.scene_text.proofs.Trees.{step_of, each_more, node_tree_made}
@@ -16,6 +17,15 @@ field_trees-loop-field-preserved t c =
     (omega (arith, length-map c.args.shown.now shown_of, c.loop-field-test.true))
     c.loop-field.invariant
     (c.in_ok-field_tree.ensures ∙ ap (λ (w : Shown). field_tree (node_tree c.args.depth (plan_of c.args.plan.now)) c.loop-field.seen.items w) (ap shown_of c.field-item.is ∙ sym element))
+
+pub node_trees-loop-node-preserved : goal.node_trees-loop-node-preserved
+node_trees-loop-node-preserved t c =
+    ap {A = List NodeText} (λ ws. step_of c.node_tree.new.seen.items ws) c.in_ok-push.ensures.items
+    ∙ each_more (node_tree c.args.depth (plan_of c.args.plan.now)) c.args.seen.now.items c.args.nodes.now c.loop-node.node-index 0
+    (step_of c.loop-node.seen.items c.loop-node.trees.items) (step_of c.node_tree.new.seen.items c.in_ok-node_tree.field-0)
+    c.loop-node-test.true
+    c.loop-node.invariant
+    c.in_ok-node_tree.ensures
 
 pub node_tree-returns : goal.node_tree-returns
 node_tree-returns t c =

@@ -1,4 +1,4 @@
-use Rattle.std.proofs.Common.{◌≡◌, ◌≤◌, ◌++◌, List, ◌∷◌, [], length, ℕ, ◌+◌, subst, ap, ◌∙◌}
+use Rattle.std.proofs.Common.{◌≡◌, ◌≤◌, ◌++◌, List, ◌∷◌, [], length, ◌+◌, subst}
 use Rattle.std.specs.Vec.Iter.{into_iter_items}
 use Rattle.cascade_core.specs.Held.{StageView}
 use Rattle.share_core.specs.Viewer.{ViewerView}
@@ -17,10 +17,9 @@ loop-stage-preserved g c =
     let fresh : AreFresh (stage ∷ rest) = subst AreFresh step c.loop-stage.invariant.1 in
     let all : before ++ viewers_from c.args.mark (length before) (stage ∷ rest) ≡ viewers_from c.args.mark 0 c.args.stages.items =
     subst (λ (xs : List StageView). before ++ viewers_from c.args.mark (length before) xs ≡ viewers_from c.args.mark 0 c.args.stages.items) step c.loop-stage.invariant.0 in
-    let number : c.len-number.result ≡ length before = c.len-number.ensures ∙ c.loop-stage.viewers.ok.0 in
-    let made : c.push.new.self.items ≡ before ++ seat_of c.args.mark (length before) stage ∷ [] = c.in-Ok.ensures.items ∙ ap (λ (x : ViewerView). before ++ x ∷ [])
-    (c.start.ensures ∙ ap (λ (n : ℕ). seat_of c.args.mark n stage) number) in (
-      seated c.args.mark before stage rest c.args.stages.items c.push.new.self.items made all,
+    let more : List ViewerView = c.seat.new.viewers.items in
+    let made : more ≡ before ++ seat_of c.args.mark (length before) stage ∷ [] = c.in-Ok.ensures in (
+      seated c.args.mark before stage rest c.args.stages.items more made all,
       fresh.1,
-      few before (seat_of c.args.mark (length before) stage) stage rest c.push.new.self.items made small,
+      few before (seat_of c.args.mark (length before) stage) stage rest more made small,
     )

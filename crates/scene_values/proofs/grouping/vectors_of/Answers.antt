@@ -1,0 +1,7 @@
+use Rattle.std.proofs.Common.{rules}
+use Rattle.scene_values.proofs.Groups.{vectors_grow}
+use Rattle.scene_values.proofs.grouping.vectors_of.Goals as goal
+
+pub loop-rest-preserved : goal.loop-rest-preserved
+loop-rest-preserved c =
+    vectors_grow _ _ _ c.loop-rest.rest.now _ _ _ c.in-len3-up.len_at_least (search rules) (search rules) (search rules) c.loop-rest.invariant c.in_ok-push.ensures.items
