@@ -6,6 +6,10 @@ SHELL := bash
 JOB ?= examples/two-clocks.job
 PREFIX ?= /usr/local
 
+# How many checks the gate runs side by side, a process each: as many as there are processors, four at
+# most for their memory. (A check that is shared by four processes takes a seventh more of them.)
+export RT_JOBS ?= $(shell nproc | awk '{ print ($$1 < 4 ? $$1 : 4) }')
+
 # Proves and builds the program, and runs a job: its trace, and then its scene.
 run:
 	@job=$$(realpath $(JOB)); cd crates/x3d_share && rt run -- run < "$$job"

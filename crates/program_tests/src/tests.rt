@@ -1,13 +1,16 @@
-//! What the cases of cases/ can't show: devices that fail, memory that is refused, large scenes.
+//! What the cases of cases/ can't show: devices that fail, memory that is refused, faults in words; a
+//! host and its viewers over a bad cable, over one that fails, and one of them by its command.
 
+mod agreeing;
+mod cable;
 mod commands;
 mod devices;
 mod faults;
+mod given;
 mod growths;
 mod inputs;
-mod large;
 mod texts;
-mod written;
+mod turning;
 
 use std::alloc::{AllocError, Global};
 use std::process::Abort;

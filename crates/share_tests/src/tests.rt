@@ -4,4 +4,5 @@ mod given;
 mod hosting;
 mod memory;
 mod ports;
+mod scripts;
 mod snapshots;

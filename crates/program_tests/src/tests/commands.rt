@@ -1,7 +1,7 @@
 //! The commands that read one input and write one output, and what they answer.
 
 use share_program::{Failure, check_text, format_text, refusal_line, run_job, status_of};
-use std::alloc::{AllocError, Global};
+use std::alloc::Global;
 use std::io::{Read, Write};
 
 /// A command of the program.
@@ -34,14 +34,4 @@ pub(super) fn is_refused(answer: Option<Failure>, line: &str, status: u8) -> boo
         }
         None => false,
     }
-}
-
-/// What a command writes, and behind that the line with which it is refused, if it is.
-pub(super) fn answer(alloc: Global, command: Command, input: &[u8]) -> Result<Vec<u8>, AllocError> {
-    let mut reader = input;
-    let mut out = Vec::new(alloc);
-    if let Err(failure) = obey(alloc, command, &mut reader, &mut out) {
-        out.extend_from_slice(refusal_line(&failure).as_bytes())?;
-    }
-    Ok(out)
 }

@@ -3,7 +3,7 @@
 use std::alloc::{AllocError, Global};
 
 /// How often a part of a text stands there, and the part. The first time has number 1; `%` stands
-/// for the number, `~` for the number before it, and `^` for how many times follow.
+/// for the number, and `~` for the number before it.
 pub(super) struct Part(pub u32, pub &'static str);
 
 fn push_number(out: &mut Vec<u8>, number: u32) -> Result<(), AllocError> {
@@ -11,11 +11,10 @@ fn push_number(out: &mut Vec<u8>, number: u32) -> Result<(), AllocError> {
 }
 
 /// A byte of a part, the time of this number.
-fn push_byte(out: &mut Vec<u8>, times: u32, number: u32, byte: u8) -> Result<(), AllocError> {
+fn push_byte(out: &mut Vec<u8>, number: u32, byte: u8) -> Result<(), AllocError> {
     match byte {
         b'%' => push_number(out, number),
         b'~' => push_number(out, number.saturating_sub(1)),
-        b'^' => push_number(out, times.saturating_sub(number)),
         plain => Ok(out.push(plain)?),
     }
 }
@@ -23,7 +22,7 @@ fn push_byte(out: &mut Vec<u8>, times: u32, number: u32, byte: u8) -> Result<(),
 fn push_part(out: &mut Vec<u8>, part: &Part) -> Result<(), AllocError> {
     for before in 0..part.0 {
         for byte in part.1.as_bytes() {
-            push_byte(out, part.0, before + 1, *byte)?;
+            push_byte(out, before + 1, *byte)?;
         }
     }
     Ok(())
