@@ -239,21 +239,6 @@ cast_opened plan scene given c sound same kinds count = record {
   counted = count ∙ sym (length-map c.scripts (λ (r : ScriptRecord). r.kind));
 }
 
--- ---- what the node of one script sends
-
-module _ (shapes : List Shape) (old new : List Task) (node : ℕ) (replies : List Reply) (s : Sending)
-    (empty : old ≡ []) (pushed : new ≡ old ++ map (send_by node) (reverse replies)) (view : record { node = node; replies = replies } ≡ s) where
-  all-pushed : new ≡ map (send_by node) (reverse replies)
-  all-pushed = pushed ∙ ap (λ (xs : List Task). xs ++ map (send_by node) (reverse replies)) empty
-
-  pub sending_ready : are_sent shapes s ≡ true → AllByRecursion (IsReady shapes) new
-  sending_ready h = subst (λ (xs : List Task). AllByRecursion (IsReady shapes) xs) (sym all-pushed) (replies_ready shapes node replies (ap (are_sent shapes) view ∙ h))
-
-  pub sending_done : (plan : Plan) (before after : Course) → after ≡ finish plan before new → after ≡ send_replies plan s.node before s.replies
-  sending_done plan before after is =
-      is ∙ ap (λ (xs : List Task). finish plan before xs) all-pushed ∙ finish-all plan node replies before
-      ∙ ap (λ (x : Sending). send_replies plan x.node before x.replies) view
-
 -- scripts that were all initialized are of the kinds that they were of, and as many
 pub opening-cast : (plan : Plan) (given rs : List ScriptRecord) (turn : Turn) (settling : Settling) (many : ℕ) → IsSound plan (kinds_of given) →
     kinds_of rs ≡ kinds_of given → settling ≡ unsettled many → many ≡ length given → IsCast plan (record { turn = turn; scripts = rs; settling = settling })

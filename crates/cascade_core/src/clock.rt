@@ -12,11 +12,11 @@ ghost use Rattle.cascade_core.specs.Apply.{tick_node as tick_node_of};
 
 use crate::course::Course;
 use crate::fixed::Fixed;
-use crate::stack::run_tasks;
+use crate::stack::send_replies;
 use pick_core::BoxCache;
 use react_core::Outbox;
 use script_host::Behaviour;
-use stage_steps::{Task, push_replies};
+use stage_steps::Task;
 use std::alloc::AllocError;
 use x3d_values::Stamped;
 
@@ -45,9 +45,7 @@ fn tick_node<B: Behaviour>(
     ensures count { course.new.settling.count ≡ course.old.settling.count }
 {
     course.turn.world.tick(node, input, replies);
-    push_replies(tasks, node, replies)?;
-    run_tasks(fixed, tasks, course, replies, boxes)?;
-    Ok(())
+    send_replies(fixed, tasks, course, replies, boxes, node)
 }
 
 /// Each TimeSensor ticks at its turn.

@@ -7,7 +7,7 @@ ghost use Rattle.scene_core.specs.Scene.{shapes_of};
 ghost use Rattle.script_host.specs.Behaviour.{Initialize};
 ghost use Rattle.script_turn.specs.Acting.{act, kinds_of};
 ghost use Rattle.cascade_core.specs.Apply.{opening as opening_of, sent_by_all, started, untold};
-ghost use Rattle.cascade_core.specs.Cascade.{send_replies};
+ghost use Rattle.cascade_core.specs.Cascade.{send_replies as send_replies_of};
 ghost use Rattle.cascade_core.specs.Course.{ended, node_of, plan_at, ports_of, seen};
 ghost use Rattle.cascade_core.specs.Scripts.{kinds_in, scripts_in};
 ghost use Rattle.cascade_core.specs.Settles.{settle as settle_of};
@@ -17,13 +17,13 @@ use crate::bench::Bench;
 use crate::course::Course;
 use crate::fixed::Fixed;
 use crate::settle::settle;
-use crate::stack::run_tasks;
+use crate::stack::send_replies;
 use pick_core::BoxCache;
 use react_core::Outbox;
 use running_scripts::BegunScripts;
 use script_due::DueScripts;
 use script_host::{Behaviour, Scripts};
-use stage_steps::{Task, push_replies};
+use stage_steps::Task;
 use std::alloc::{AllocError, Global};
 use std::marker::Model;
 use world_core::Turn;
@@ -99,7 +99,7 @@ fn send_one<B: Behaviour>(
     requires cast { IsCast (plan_at fixed.now) (seen course.old) }
     requires outputs { are_sent (shapes_of fixed.now.scene) sending ≡ true }
     ensures course { OnOk result (seen course.new
-        ≡ send_replies (plan_at fixed.now) sending.node (seen course.old) sending.replies) }
+        ≡ send_replies_of (plan_at fixed.now) sending.node (seen course.old) sending.replies) }
     ensures empty { OnOk result (tasks.new.items ≡ []) }
     ensures boxes { OnOk result
         (boxes.new ≡ rows_of fixed.now.scene course.new.turn.world.fields) }
@@ -107,9 +107,7 @@ fn send_one<B: Behaviour>(
     ensures count { course.new.settling.count ≡ course.old.settling.count }
 {
     let Sending { node, mut replies } = sending;
-    push_replies(tasks, node, &mut replies)?;
-    run_tasks(fixed, tasks, course, &mut replies, boxes)?;
-    Ok(())
+    send_replies(fixed, tasks, course, &mut replies, boxes, node)
 }
 
 /// What the nodes of scripts are to send is sent, in order.

@@ -14,11 +14,11 @@ ghost use Rattle.world_core.specs.Nodes.{touch_sensors_of};
 use crate::bench::Bench;
 use crate::course::Course;
 use crate::fixed::Fixed;
-use crate::stack::run_tasks;
+use crate::stack::send_replies;
 use pick_core::BoxCache;
 use react_core::Outbox;
 use script_host::Behaviour;
-use stage_steps::{Task, push_replies};
+use stage_steps::Task;
 use std::alloc::AllocError;
 use world_core::{Aim, insides, or_all};
 use x3d_values::Pointer;
@@ -49,9 +49,7 @@ fn point_node<B: Behaviour>(
     ensures count { course.new.settling.count ≡ course.old.settling.count }
 {
     course.turn.world.meet(&fixed.scene, sensor, aim, replies);
-    push_replies(tasks, sensor, replies)?;
-    run_tasks(fixed, tasks, course, replies, boxes)?;
-    Ok(())
+    send_replies(fixed, tasks, course, replies, boxes, sensor)
 }
 
 /// Each of these sensors meets a pointer at its turn.

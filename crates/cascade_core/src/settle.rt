@@ -10,11 +10,11 @@ ghost use Rattle.cascade_core.specs.Settles.{settle as settle_of, settle_one as 
 
 use crate::course::Course;
 use crate::fixed::Fixed;
-use crate::stack::run_tasks;
+use crate::stack::send_replies;
 use pick_core::BoxCache;
 use react_core::Outbox;
 use script_host::Behaviour;
-use stage_steps::{Task, push_replies};
+use stage_steps::Task;
 use std::alloc::AllocError;
 
 /// A script that is due settles, and what its node sends is followed.
@@ -43,9 +43,7 @@ fn settle_one<B: Behaviour>(
 {
     course.scripts.settle(k, fixed.runs.ports(k), replies);
     course.settling.settle(k)?;
-    push_replies(tasks, fixed.runs.node(k), replies)?;
-    run_tasks(fixed, tasks, course, replies, boxes)?;
-    Ok(())
+    send_replies(fixed, tasks, course, replies, boxes, fixed.runs.node(k))
 }
 
 /// Scripts settle until none is due.

@@ -1,13 +1,14 @@
 //! A cascade by a stack of tasks, whose depth is bounded by memory alone.
 
-ghost use Rattle.std.specs.Prelude.{◌≡◌, ◌+◌, ◌≤◌, ◌<◌, ◌^◌, [], true, false, None, Some, IfNone, IfSome, OnOk, slice_get};
+ghost use Rattle.std.specs.Prelude.{◌≡◌, ◌+◌, ◌≤◌, ◌<◌, ◌^◌, [], true, false, None, Some, IfNone, IfSome, OnOk, map, reverse, slice_get};
 ghost use Rattle.std.specs.List.{AllByRecursion};
 ghost use Rattle.scene_core.specs.Scene.{shapes_of};
 ghost use Rattle.pick_core.specs.Sites.{rows_of};
 ghost use Rattle.trace_core.specs.Ends.{targets_of};
+ghost use Rattle.stage_steps.specs.Replies.{send_by};
 ghost use Rattle.cascade_core.specs.Outputs.{is_scene_output};
 ghost use Rattle.cascade_core.specs.Course.{plan_at, seen};
-ghost use Rattle.cascade_core.specs.Cascade.{send_full};
+ghost use Rattle.cascade_core.specs.Cascade.{send_full, send_replies as send_replies_of};
 ghost use Rattle.cascade_core.specs.Sound.{IsCast};
 ghost use Rattle.cascade_core.specs.Stack.{do_task, finish, IsReady, weight, work_left};
 ghost use Rattle.script_turn.specs.Acting.{kinds_of};
@@ -23,8 +24,36 @@ use stage_steps::{Task, push_before, push_replies, send};
 use std::alloc::AllocError;
 use x3d_values::Value;
 
+/// What a node answers is sent, in its order, and followed to its end.
+pub fn send_replies<B: Behaviour>(
+    fixed: &Fixed,
+    tasks: &mut Vec<Task>,
+    course: &mut Course<B>,
+    replies: &mut Outbox,
+    boxes: &mut BoxCache,
+    node: u32,
+) -> Result<(), AllocError>
+    requires empty { tasks.old.items ≡ [] }
+    requires ready { AllByRecursion (IsReady (shapes_of fixed.now.scene))
+        (map (send_by node) (reverse replies.old.items)) }
+    requires boxes { boxes.old ≡ rows_of fixed.now.scene course.old.turn.world.fields }
+    requires cast { IsCast (plan_at fixed.now) (seen course.old) }
+    ensures course { OnOk result (seen course.new
+        ≡ send_replies_of (plan_at fixed.now) node (seen course.old) replies.old.items) }
+    ensures empty { OnOk result (tasks.new.items ≡ []) }
+    ensures none { OnOk result (replies.new.items ≡ []) }
+    ensures boxes { OnOk result
+        (boxes.new ≡ rows_of fixed.now.scene course.new.turn.world.fields) }
+    ensures kinds { kinds_of course.new.scripts ≡ kinds_of course.old.scripts }
+    ensures count { course.new.settling.count ≡ course.old.settling.count }
+{
+    push_replies(tasks, node, replies)?;
+    run_tasks(fixed, tasks, course, replies, boxes)?;
+    Ok(())
+}
+
 /// Does all tasks, the last first.
-pub fn run_tasks<B: Behaviour>(
+fn run_tasks<B: Behaviour>(
     fixed: &Fixed,
     tasks: &mut Vec<Task>,
     course: &mut Course<B>,

@@ -64,13 +64,22 @@ impl LexFaultKind {
     }
 }
 
+/// Writes what a fault of a text is, behind its line where it has one. Lines count from 1; 0 is
+/// none.
+pub fn write_on_line<K: fmt::Display, W: fmt::Write>(
+    kind: &K,
+    line: u32,
+    f: &mut fmt::Formatter<W>,
+) -> fmt::Result {
+    if line > 0 {
+        write!(f, "line {line}: ")?;
+    }
+    kind.fmt(f)
+}
+
 impl fmt::Display for LexFault {
     fn fmt<W: fmt::Write>(&self, f: &mut fmt::Formatter<W>) -> fmt::Result {
-        if self.line == 0 {
-            write!(f, "{}", self.kind)
-        } else {
-            write!(f, "line {}: {}", self.line, self.kind)
-        }
+        write_on_line(&self.kind, self.line, f)
     }
 }
 

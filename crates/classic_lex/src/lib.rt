@@ -13,7 +13,7 @@ mod lexing;
 mod token;
 mod versions;
 
-pub use fault::{LexFault, LexFaultKind};
+pub use fault::{LexFault, LexFaultKind, write_on_line};
 pub use header::{MAX_LEN, version};
 pub use laws::{
     texts_have_one_list_of_tokens, texts_have_the_tokens_that_are_read, tokens_are_utf8,

@@ -4,6 +4,7 @@ ghost use Rattle.std.specs.Prelude.{◌≡◌};
 ghost use Rattle.flat_document.specs.FaultName.{fault_name};
 ghost use Rattle.flat_document.specs.Fault.{fault, memory};
 
+use classic_lex::write_on_line;
 use std::alloc::{AllocError, AllocFailed};
 use std::{error, fmt};
 use thiserror::Error;
@@ -80,11 +81,7 @@ impl ExpandFaultKind {
 
 impl fmt::Display for ExpandFault {
     fn fmt<W: fmt::Write>(&self, f: &mut fmt::Formatter<W>) -> fmt::Result {
-        if self.line == 0 {
-            write!(f, "{}", self.kind)
-        } else {
-            write!(f, "line {}: {}", self.line, self.kind)
-        }
+        write_on_line(&self.kind, self.line, f)
     }
 }
 

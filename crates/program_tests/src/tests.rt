@@ -1,5 +1,5 @@
-//! What the cases of cases/ can't show: devices that fail, memory that is refused, faults in words; a
-//! host and its viewers over a bad cable, over one that fails, and one of them by its command.
+//! What the cases of cases/ can't show: devices that fail, memory that is refused, faults in words;
+//! a host and its viewers over a bad cable, over one that fails, and one of them by its command.
 
 mod agreeing;
 mod cable;

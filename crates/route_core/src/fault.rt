@@ -4,6 +4,7 @@ ghost use Rattle.std.specs.Prelude.{◌≡◌};
 ghost use Rattle.route_core.specs.FaultName.{fault_name};
 ghost use Rattle.route_core.specs.declared.fault.RouteFaultKind.TheVariants.{Memory};
 
+use classic_lex::write_on_line;
 use std::alloc::AllocError;
 use std::{error, fmt};
 use thiserror::Error;
@@ -58,11 +59,7 @@ impl RouteFaultKind {
 
 impl fmt::Display for RouteFault {
     fn fmt<W: fmt::Write>(&self, f: &mut fmt::Formatter<W>) -> fmt::Result {
-        if self.line == 0 {
-            write!(f, "{}", self.kind)
-        } else {
-            write!(f, "line {}: {}", self.line, self.kind)
-        }
+        write_on_line(&self.kind, self.line, f)
     }
 }
 

@@ -1,6 +1,6 @@
 -- A scene by its nodes' numbers (ISO/IEC 19775-1, scene graph).
-use Rattle.std.specs.Prelude.{ℕ, Bool, false, ◌++◌, List, [], Option, Some, None, codes, decimal, map, slice_get, slice_index_or, if◌then◌else◌}
-use Rattle.std.specs.Option.{option_and_then, option_map_or}
+use Rattle.std.specs.Prelude.{ℕ, Bool, false, ◌++◌, List, [], Option, Some, None, codes, decimal, map, slice_get, slice_index_or, unwrap_or, if◌then◌else◌}
+use Rattle.std.specs.Option.{option_and_then, option_map, option_map_or}
 use Rattle.std.specs.List.{zip}
 use Rattle.x3d_values.specs.declared.table.FieldRow.{FieldRow}
 use Rattle.x3d_values.specs.declared.fields.Fields.{Fields}
@@ -10,6 +10,7 @@ use Rattle.x3d_values.specs.declared.value.Value.TheVariants.{MFNode}
 use Rattle.x3d_values.specs.Access.{is_kept}
 use Rattle.x3d_values.specs.Tables.{Entry, rows, row_named}
 use Rattle.flat_document.specs.declared.flat.Header.{Header}
+use Rattle.scene_core.specs.declared.scene.End.{End}
 use Rattle.scene_core.specs.declared.scene.SceneNode.{SceneNode}
 use Rattle.scene_core.specs.declared.row.DeclaredField.{DeclaredField}
 use Rattle.scene_core.specs.Shape.{Shape, shape_by, numbered_fields, rows_of}
@@ -55,6 +56,12 @@ shape_at s node = slice_get (shapes_of s) node
 -- the fields of a node, none where there is no such node
 abbrev pub rows_at : SceneView → ℕ → List Entry
 rows_at s node = option_map_or rows_of (shape_at s node) []
+
+-- the plain name of a field: by the table of fields, or as a Script declares it
+abbrev pub field_name : SceneView → End → List ℕ
+field_name s end =
+    unwrap_or
+    (option_map (λ (e : Entry). e.name) (slice_get (rows_at s end.node) end.field)) []
 
 -- those of them that the node declares
 abbrev pub declared_at : SceneView → ℕ → List DeclaredField

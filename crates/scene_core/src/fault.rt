@@ -3,6 +3,7 @@
 ghost use Rattle.std.specs.Prelude.{◌≡◌};
 ghost use Rattle.scene_core.specs.Faults.{fault_name, fault, memory};
 
+use classic_lex::write_on_line;
 use std::alloc::{AllocError, AllocFailed};
 use std::{error, fmt};
 use thiserror::Error;
@@ -81,11 +82,7 @@ impl<T: Drop> From<AllocFailed<T>> for SceneFault {
 
 impl fmt::Display for SceneFault {
     fn fmt<W: fmt::Write>(&self, f: &mut fmt::Formatter<W>) -> fmt::Result {
-        if self.line == 0 {
-            write!(f, "{}", self.kind)
-        } else {
-            write!(f, "line {}: {}", self.line, self.kind)
-        }
+        write_on_line(&self.kind, self.line, f)
     }
 }
 

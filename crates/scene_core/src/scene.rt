@@ -5,7 +5,7 @@ ghost use Rattle.std.specs.Option.{option_copied, option_map};
 ghost use Rattle.x3d_lists.specs.Answers.{Gives};
 ghost use Rattle.scene_core.specs.Building.{scene_of};
 ghost use Rattle.scene_core.specs.Faults.{memory};
-ghost use Rattle.scene_core.specs.Scene.{types_of, rows_at, declared_at, number_of, value_at, children_of, state_of, label_of, name_at};
+ghost use Rattle.scene_core.specs.Scene.{types_of, rows_at, field_name, declared_at, number_of, value_at, children_of, state_of, label_of, name_at};
 ghost use Rattle.scene_core.specs.Shape.{row_entry};
 ghost use Rattle.x3d_values.specs.declared.node_type.NodeType.{NodeType};
 ghost use Rattle.x3d_values.specs.Tables.{row_named, rows};
@@ -149,6 +149,17 @@ impl Scene {
             return None;
         };
         row_by(node.node_type, node.declared.as_slice(), number)
+    }
+
+    /// The plain name of a field: by the table of fields, or as a Script declares it. Empty where
+    /// there is no such field.
+    pub fn field_name(&self, end: End) -> &str
+        ensures { result.now ≡ field_name self.now end }
+    {
+        match self.row(end.node, end.field) {
+            Some(row) => row.name,
+            None => "",
+        }
     }
 
     /// The first field of that name of a node; none where there is no such field.

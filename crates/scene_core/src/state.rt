@@ -17,7 +17,7 @@ use x3d_values::{Duplicate, Fields, Position, Value};
 pub(crate) fn state_of(alloc: Global, nodes: &[SceneNode]) -> Result<Vec<Fields>, AllocError>
     ensures { IfOk result (λ fields. fields.items ≡ map spec.fields_of nodes.now) }
 {
-    let mut state = Vec::new(alloc);
+    let mut state = Vec::with_capacity(alloc, nodes.len())?;
     for node in nodes {
         state.push(fields_kept(alloc, node)?)?;
     }
@@ -51,7 +51,7 @@ fn values_kept(alloc: Global, node: &SceneNode) -> Result<Items<Option<Value>>, 
     let declared = node.declared.as_slice();
     let values = node.values.as_slice();
     let count = count_by(node.node_type, declared) as usize;
-    let mut made = Items::new(alloc);
+    let mut made = Items::from_vec(Vec::with_capacity(alloc, values.len())?);
     for number in 0..count.min(values.len()) {
         let row = row_by(node.node_type, declared, number as u16);
         let Ok(copy) = kept(alloc, row, &values[number]) else {

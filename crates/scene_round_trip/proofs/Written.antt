@@ -24,11 +24,11 @@ use Rattle.scene_core.specs.declared.row.DeclaredField.{DeclaredField}
 use Rattle.scene_core.specs.declared.scene.End.{End}
 use Rattle.scene_core.specs.declared.scene.Route.{Route}
 use Rattle.scene_core.specs.declared.scene.SceneNode.{SceneNode}
-use Rattle.scene_core.specs.Scene.{SceneView, shape_of, rows_at}
+use Rattle.scene_core.specs.Scene.{SceneView, field_name, shape_of, rows_at}
 use Rattle.scene_core.specs.Shape.{Shape, rows_of, declared_entry, numbered_fields, most_declared}
 use Rattle.scene_text.specs.Places.{named}
 use Rattle.scene_text.specs.SceneText.{scene_text}
-use Rattle.scene_text.specs.Statements.{field_name, route_of, switch_of, helper_root, root_tree, roots_of, helpers_of, routes_of, statements_of, scene_document}
+use Rattle.scene_text.specs.Statements.{route_of, switch_of, helper_root, root_tree, roots_of, helpers_of, routes_of, statements_of, scene_document}
 use Rattle.scene_text.specs.Tree.{PlanView, each, node_tree}
 use Rattle.scene_round_trip.specs.Writable.{IsShallow, IsEnd, IsWritableNode, IsWritableRoute, IsWritable}
 use Rattle.scene_round_trip.specs.Written.{WrittenScenesSpell}

@@ -6,7 +6,6 @@ use Rattle.std.proofs.lemmas.List.{flat_map_more, take_more}
 use Rattle.std.proofs.lemmas.List.Concat.{flat_map-append}
 use Rattle.std.proofs.lemmas.List.FromFn.{map-range_with_len_more}
 use Rattle.std.proofs.lemmas.List.Sums.{fold_more}
-use Rattle.std.proofs.lemmas.Option.{gets, slice_get-map}
 use Rattle.scene_text.specs.Places.{times}
 
 same : (xs : List ℕ) → xs ≡ map (λ k. k) xs
@@ -39,5 +38,3 @@ pub times_more : (n : ℕ) (ns : List ℕ) (i : ℕ) → i < length ns → times
 times_more n ns i h = fold_more (λ a m. a + cond (m == n) 1 0) 0 ns i 0 h
 
 pub ruleset ranges = (common_steps, map_range_more)
-
-pub ruleset names = (common_steps, gets, slice_get-map)

@@ -1,8 +1,7 @@
 -- The document that a scene is written as.
-use Rattle.std.specs.Prelude.{ℕ, Bool, false, List, [], ◌∷◌, ◌++◌, None, codes, length, map, replicate, slice_get, unwrap_or, option_map}
+use Rattle.std.specs.Prelude.{ℕ, Bool, false, List, [], ◌∷◌, ◌++◌, None, codes, length, map, replicate}
 use Rattle.x3d_values.specs.declared.fields.Fields.{Fields}
 use Rattle.x3d_values.specs.Ranges.{max_depth}
-use Rattle.x3d_values.specs.Tables.{Entry}
 use Rattle.classic_tree.specs.declared.tree.Document.{Document}
 use Rattle.classic_tree.specs.declared.tree.Place.{Place}
 use Rattle.classic_tree.specs.declared.tree.RouteText.{RouteText}
@@ -15,16 +14,11 @@ use Rattle.classic_tree.specs.declared.tree.Statement.{Statement}
 use Rattle.classic_tree.specs.declared.tree.Statement.TheVariants as statement
 use Rattle.scene_core.specs.declared.scene.End.{End}
 use Rattle.scene_core.specs.declared.scene.Route.{Route}
-use Rattle.scene_core.specs.Scene.{SceneView, label_of, rows_at}
+use Rattle.scene_core.specs.Scene.{SceneView, field_name, label_of}
 use Rattle.scene_text.specs.Places.{named}
 use Rattle.scene_text.specs.Tree.{PlanView, Step, Makes, each, node_tree}
 
 -- ---- routes, by labels and the fields' own names
-
-abbrev pub field_name : SceneView → End → List ℕ
-field_name s end =
-    unwrap_or
-    (option_map (λ (e : Entry). e.name) (slice_get (rows_at s end.node) end.field)) []
 
 abbrev pub place_of : SceneView → End → Place
 place_of s end = record { node = label_of s end.node; field = field_name s end }

@@ -1,7 +1,7 @@
 //! The statements of a scene: its roots, its helpers and its routes.
 
 ghost use Rattle.std.specs.Prelude.{◌≡◌, [], ◌∷◌, ◌++◌, IfOk, OnOk};
-ghost use Rattle.scene_text.specs.Statements.{field_name, place_of, route_of, root_tree, helper_root, helpers_of, roots_of, routes_of, statements_of, switch_of};
+ghost use Rattle.scene_text.specs.Statements.{place_of, route_of, root_tree, helper_root, helpers_of, roots_of, routes_of, statements_of, switch_of};
 ghost use Rattle.x3d_values.specs.Ranges.{max_depth};
 ghost use Rattle.scene_text.specs.Tree.{each, node_tree};
 ghost use Rattle.scene_text.specs.Views.{plan_of};
@@ -31,23 +31,12 @@ pub(crate) fn statements_of(alloc: Global, plan: &Plan<'_>) -> Result<Vec<Statem
     Ok(statements)
 }
 
-/// The field's own name.
-#[tactic(auto, using(crate::proofs::Ranges::names))]
-fn field_name(scene: &Scene, end: End) -> &str
-    ensures { result.now ≡ field_name scene.now end }
-{
-    match scene.row(end.node, end.field) {
-        Some(row) => row.name,
-        None => "",
-    }
-}
-
 fn place_of(alloc: Global, scene: &Scene, end: &End) -> Result<Place, AllocError>
     ensures { IfOk result (λ place. place ≡ place_of scene.now end.now) }
 {
     Ok(Place {
         node: label(alloc, scene, end.node)?,
-        field: Text::from_str(alloc, field_name(scene, *end))?,
+        field: Text::from_str(alloc, scene.field_name(*end))?,
     })
 }
 

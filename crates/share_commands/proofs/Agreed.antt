@@ -4,7 +4,7 @@ use Rattle.std.proofs.lemmas.List.{append-nil, drop_all, take_all}
 use Rattle.x3d_values.specs.Stamp.{Stamp}
 use Rattle.share_core.specs.Viewer.{ViewerView}
 use Rattle.share_law.specs.Host.{HostState, new_host}
-use Rattle.share_turns.specs.Agreeing.{AreAgreed, IsAgreeRunEnd, IsAgreedText, Meeting, Seats, Ways}
+use Rattle.share_turns.specs.Agreeing.{AreAgreed, IsAgreeRunEnd, IsAgreedText, Meeting, Seats, Ways, meeting}
 use Rattle.share_turns.specs.declared.fault.SeriesFault.{SeriesFault}
 use Rattle.share_commands.specs.Joining.{IsAgreed, IsAgreedInPart, Joint}
 use Rattle.share_commands.specs.Viewing.{series_fault}
@@ -14,9 +14,6 @@ pub written : {A : Type 0} (n : ℕ) (new old : List A) → length new ≡ lengt
 written n new old same all =
     ap (λ l. take n (new ++ l)) (drop_all (length new) old (omega (arith, same)))
     ∙ ap (take n) (append-nil new) ∙ take_all n new (omega (arith, same, all))
-
-abbrev meeting : {P : Type 0} → HostState → P → List ViewerView → List P → Meeting P
-meeting host port viewers ports = record { host = host; port = port; seats = record { viewers = viewers; ports = ports } }
 
 module _ {P : Type 0} (ways : Ways P) (job : Joint) (own turns : ℕ) (port : P) (ports : List P) (left_port : P) (left : Seats P)
     (mark : List ℕ) (before after : HostState) (steps : List Stamp) (seated : List ViewerView)

@@ -1,10 +1,10 @@
 -- Stages of one text.
-use Rattle.std.proofs.Common.{◌≡◌, ℕ, zero, suc, ◌+◌, ◌++◌, List, [], ◌∷◌, replicate, length, refl, sym, ◌∙◌, ap, subst}
-use Rattle.std.specs.Prelude.{Option, None, Some, Result, Ok, Err}
+use Rattle.std.proofs.Common.{◌≡◌, ◌⊎◌, inl, inr, ℕ, zero, suc, ◌+◌, ◌++◌, List, [], ◌∷◌, replicate, length, refl, sym, ◌∙◌, ap, subst}
+use Rattle.std.specs.Prelude.{Option, None, Result, Ok, Err}
 use Rattle.std.proofs.lemmas.List.{length-replicate, replicate_more}
 use Rattle.cascade_core.specs.Held.{StageView}
-use Rattle.share_core.specs.Viewer.{ViewerView}
 use Rattle.share_jobs.specs.declared.fault.JobFault.{JobFault}
+use Rattle.share_jobs.specs.declared.fault.JobFault.TheVariants.{Memory}
 use Rattle.share_program.specs.Opening.{next, opened, same}
 use Rattle.share_program.specs.declared.open.Opened.{Opened}
 use Rattle.share_rehearsal.specs.Calls.{viewers_from}
@@ -30,6 +30,12 @@ is_stage text o stage is taken made = record { scene = o; is_scene = is_staged_s
 same_stage : (text : List ℕ) (a b : StageView) → IsStage text a → IsStage text b → a ≡ b
 same_stage text a b p q =
     p.is ∙ ap fresh (same_ok {E = JobFault} p.scene q.scene (sym p.is_scene ∙ q.is_scene)) ∙ sym q.is
+
+-- a text that has a stage is refused for memory alone
+pub for_memory : (text : List ℕ) (stage : StageView) (f : JobFault) → IsStage text stage
+    → (f ≡ Memory) ⊎ (staged text ≡ Err f) → f ≡ Memory
+for_memory text stage f s (inl is) = is
+for_memory text stage f s (inr is) = let no = sym s.is_scene ∙ is in absurd (cc)
 
 -- one stage more
 pub one_more : (text : List ℕ) (n : ℕ) (first next : StageView) (before after : List StageView)

@@ -5,7 +5,7 @@ use Rattle.cascade_core.specs.Held.{StageView}
 use Rattle.share_law.specs.Host.{new_host}
 use Rattle.share_core.specs.Viewer.{ViewerView}
 use Rattle.share_rehearsal.specs.Calls.{viewers_from}
-use Rattle.share_turns.specs.Agreeing.{Meeting, Seats, Ways, AreAgreed, IsAgreeRunEnd, IsAgreedText}
+use Rattle.share_turns.specs.Agreeing.{Meeting, Seats, Ways, AreAgreed, IsAgreeRunEnd, IsAgreedText, seats_of}
 use Rattle.share_turns.specs.declared.fault.SeriesFault.{SeriesFault}
 use Rattle.share_program.specs.declared.fault.ShareFault.{ShareFault}
 use Rattle.share_words.specs.declared.order.Order.{Order}
@@ -55,7 +55,7 @@ abbrev pub IsAgreed : {P : Type 0} → Ways P → Joint → (own turns : ℕ) �
 IsAgreed {P} ways job own turns port ports left_port left text =
     (new : Meeting P)
     × AreAgreed ways job.mark job.inputs own turns
-    (met port (record { viewers = job.viewers; ports = ports })) new
+    (met port (seats_of job.viewers ports)) new
     × (new.port ≡ left_port) × (new.seats ≡ left)
     × IsAgreedText (length job.inputs) new.seats.viewers [] text
 
@@ -66,4 +66,4 @@ IsAgreedInPart {P} ways job own turns port ports left_port left fault =
     (early : SeriesFault) × (new : Meeting P) × (fault ≡ series_fault early)
     × (new.port ≡ left_port) × (new.seats ≡ left)
     × IsAgreeRunEnd ways job.mark job.inputs own turns
-    (met port (record { viewers = job.viewers; ports = ports })) early new
+    (met port (seats_of job.viewers ports)) early new

@@ -5,6 +5,7 @@ ghost use Rattle.share_commands.specs.Jobs.{staffed};
 ghost use Rattle.share_commands.specs.Joining.{IsAgreed, IsAgreedInPart, IsJoint, IsStaged};
 ghost use Rattle.share_rehearsal.specs.Calls.{viewers_from};
 ghost use Rattle.share_rehearsal.specs.Rehearsed.{AreFresh};
+ghost use Rattle.share_turns.specs.Agreeing.{seats_of, ways_of};
 ghost use Rattle.share_jobs.specs.declared.fault.JobFault.TheVariants.{Memory};
 
 use crate::fits::job_fits;
@@ -146,21 +147,21 @@ pub fn agree_job<P: Port>(
     requires most { length job.old.viewers.items ≤ 16 }
     requires ports { length ports.old ≡ length job.old.viewers.items }
     ensures done { IfOk result (λ text.
-        IsAgreed (record { told = P.told; failures = P.failure_count })
+        IsAgreed (ways_of P.told P.failure_count)
         (record {
           inputs = job.old.inputs;
           mark = job.old.mark;
           viewers = job.old.viewers.items;
         }) own turns port.old ports.old port.new
-        (record { viewers = job.new.viewers.items; ports = ports.new }) text.items) }
+        (seats_of job.new.viewers.items ports.new) text.items) }
     ensures ended { IfErr result
-        (IsAgreedInPart (record { told = P.told; failures = P.failure_count })
+        (IsAgreedInPart (ways_of P.told P.failure_count)
         (record {
           inputs = job.old.inputs;
           mark = job.old.mark;
           viewers = job.old.viewers.items;
         }) own turns port.old ports.old port.new
-        (record { viewers = job.new.viewers.items; ports = ports.new })) }
+        (seats_of job.new.viewers.items ports.new)) }
 {
     let mut host = Host::new(alloc, job.mark, count_of(&job.viewers));
     let mut text = Vec::new(alloc);

@@ -33,6 +33,7 @@ use Rattle.share_rehearsal.specs.declared.answer.Answer.{Answer}
 use Rattle.share_rehearsal.specs.declared.answer.Answer.TheVariants.{Clocked, HostTook, ViewerTook}
 use Rattle.share_rehearsal.specs.declared.answer.Answer.TheVariants.{Offered, Sent, Saved, Rewound}
 use Rattle.share_rehearsal.specs.declared.answer.Answer.TheVariants.{NoSuch}
+use Rattle.share_rehearsal.specs.declared.nodes.Nodes.{Nodes}
 use Rattle.share_rehearsal.specs.declared.nodes.Shot.{Shot}
 
 -- the host, the viewers, the bytes of every packet, and every snapshot
@@ -57,6 +58,10 @@ with_shots s shots = record s { shots = shots }
 abbrev pub seen_of : HostView → List ViewerView → List (List ℕ) → List Shot → Seen
 seen_of host viewers packets shots =
     record { host = host; viewers = viewers; packets = packets; shots = shots }
+
+-- what the program holds
+abbrev pub seen : {B : Type 0} → Nodes B → Seen
+seen nodes = seen_of nodes.host nodes.viewers.items nodes.packets.items nodes.shots.items
 
 -- ---- the beginning
 

@@ -8,7 +8,7 @@ ghost use Rattle.share_law.specs.declared.step.Step.TheVariants.{HostTake, Viewe
 ghost use Rattle.share_law.specs.declared.step.Step.TheVariants.{ViewerResend, ViewerAsk};
 ghost use Rattle.share_law.specs.declared.step.Step.TheVariants.{ViewerTake, ViewerSave};
 ghost use Rattle.share_law.specs.declared.step.Step.TheVariants.{ViewerRewind};
-ghost use Rattle.share_rehearsal.specs.Calls.{IsCall, IsSaving, IsSent, seen_of};
+ghost use Rattle.share_rehearsal.specs.Calls.{IsCall, IsSaving, IsSent, seen};
 
 use crate::answer::Answer;
 use crate::made::Made;
@@ -89,34 +89,19 @@ fn save<B: Behaviour>(
 
 impl<B: Behaviour> Nodes<B> {
     fn clock(&mut self, time: i64) -> Answer
-        ensures { IsCall
-            (seen_of self.old.host self.old.viewers.items
-            self.old.packets.items self.old.shots.items)
-            (HostClock time) result
-            (seen_of self.new.host self.new.viewers.items
-            self.new.packets.items self.new.shots.items) }
+        ensures { IsCall (seen self.old) (HostClock time) result (seen self.new) }
     {
         Answer::Clocked(self.host.clock(time))
     }
 
     fn packet(&mut self, input: u32) -> Result<Answer, AllocError>
-        ensures { IfOk result (λ a. IsCall
-            (seen_of self.old.host self.old.viewers.items
-            self.old.packets.items self.old.shots.items)
-            (HostPacket input) a
-            (seen_of self.new.host self.new.viewers.items
-            self.new.packets.items self.new.shots.items)) }
+        ensures { IfOk result (λ a. IsCall (seen self.old) (HostPacket input) a (seen self.new)) }
     {
         send_any(self.host.packet(input), &mut self.packets)
     }
 
     fn ack(&mut self, viewer: u32) -> Result<Answer, AllocError>
-        ensures { IfOk result (λ a. IsCall
-            (seen_of self.old.host self.old.viewers.items
-            self.old.packets.items self.old.shots.items)
-            (HostAck viewer) a
-            (seen_of self.new.host self.new.viewers.items
-            self.new.packets.items self.new.shots.items)) }
+        ensures { IfOk result (λ a. IsCall (seen self.old) (HostAck viewer) a (seen self.new)) }
     {
         if viewer >= u32::from(self.host.viewers()) {
             return Ok(Answer::NoSuch);
@@ -125,12 +110,7 @@ impl<B: Behaviour> Nodes<B> {
     }
 
     fn give_host(&mut self, packet: u32) -> Answer
-        ensures { IsCall
-            (seen_of self.old.host self.old.viewers.items
-            self.old.packets.items self.old.shots.items)
-            (HostTake packet) result
-            (seen_of self.new.host self.new.viewers.items
-            self.new.packets.items self.new.shots.items) }
+        ensures { IsCall (seen self.old) (HostTake packet) result (seen self.new) }
     {
         match self.packets.get(packet as usize) {
             Some(packet) => Answer::HostTook(self.host.take(packet.bytes())),
@@ -139,12 +119,7 @@ impl<B: Behaviour> Nodes<B> {
     }
 
     fn offer(&mut self, viewer: u32, point: Point) -> Answer
-        ensures { IsCall
-            (seen_of self.old.host self.old.viewers.items
-            self.old.packets.items self.old.shots.items)
-            (ViewerOffer viewer point) result
-            (seen_of self.new.host self.new.viewers.items
-            self.new.packets.items self.new.shots.items) }
+        ensures { IsCall (seen self.old) (ViewerOffer viewer point) result (seen self.new) }
     {
         let Some(seat) = seat_of(self.viewers.len(), viewer) else {
             return Answer::NoSuch;
@@ -153,12 +128,8 @@ impl<B: Behaviour> Nodes<B> {
     }
 
     fn resend(&mut self, viewer: u32, place: u32) -> Result<Answer, AllocError>
-        ensures { IfOk result (λ a. IsCall
-            (seen_of self.old.host self.old.viewers.items
-            self.old.packets.items self.old.shots.items)
-            (ViewerResend viewer place) a
-            (seen_of self.new.host self.new.viewers.items
-            self.new.packets.items self.new.shots.items)) }
+        ensures { IfOk result (λ a.
+            IsCall (seen self.old) (ViewerResend viewer place) a (seen self.new)) }
     {
         let Some(seat) = seat_of(self.viewers.len(), viewer) else {
             return Ok(Answer::NoSuch);
@@ -167,12 +138,7 @@ impl<B: Behaviour> Nodes<B> {
     }
 
     fn ask(&mut self, viewer: u32) -> Result<Answer, AllocError>
-        ensures { IfOk result (λ a. IsCall
-            (seen_of self.old.host self.old.viewers.items
-            self.old.packets.items self.old.shots.items)
-            (ViewerAsk viewer) a
-            (seen_of self.new.host self.new.viewers.items
-            self.new.packets.items self.new.shots.items)) }
+        ensures { IfOk result (λ a. IsCall (seen self.old) (ViewerAsk viewer) a (seen self.new)) }
     {
         let Some(seat) = seat_of(self.viewers.len(), viewer) else {
             return Ok(Answer::NoSuch);
@@ -181,12 +147,7 @@ impl<B: Behaviour> Nodes<B> {
     }
 
     fn give(&mut self, viewer: u32, packet: u32) -> Answer
-        ensures { IsCall
-            (seen_of self.old.host self.old.viewers.items
-            self.old.packets.items self.old.shots.items)
-            (ViewerTake viewer packet) result
-            (seen_of self.new.host self.new.viewers.items
-            self.new.packets.items self.new.shots.items) }
+        ensures { IsCall (seen self.old) (ViewerTake viewer packet) result (seen self.new) }
     {
         let Some(seat) = seat_of(self.viewers.len(), viewer) else {
             return Answer::NoSuch;
@@ -198,12 +159,7 @@ impl<B: Behaviour> Nodes<B> {
     }
 
     fn save(&mut self, alloc: Global, viewer: u32) -> Result<Answer, AllocError>
-        ensures { IfOk result (λ a. IsCall
-            (seen_of self.old.host self.old.viewers.items
-            self.old.packets.items self.old.shots.items)
-            (ViewerSave viewer) a
-            (seen_of self.new.host self.new.viewers.items
-            self.new.packets.items self.new.shots.items)) }
+        ensures { IfOk result (λ a. IsCall (seen self.old) (ViewerSave viewer) a (seen self.new)) }
     {
         let Some(seat) = seat_of(self.viewers.len(), viewer) else {
             return Ok(Answer::NoSuch);
@@ -212,12 +168,8 @@ impl<B: Behaviour> Nodes<B> {
     }
 
     fn rewind(&mut self, viewer: u32, snapshot: u32, boot: u32) -> Answer
-        ensures { IsCall
-            (seen_of self.old.host self.old.viewers.items
-            self.old.packets.items self.old.shots.items)
-            (ViewerRewind viewer snapshot boot) result
-            (seen_of self.new.host self.new.viewers.items
-            self.new.packets.items self.new.shots.items) }
+        ensures { IsCall (seen self.old) (ViewerRewind viewer snapshot boot) result
+            (seen self.new) }
     {
         let Some(seat) = seat_of(self.viewers.len(), viewer) else {
             return Answer::NoSuch;
@@ -233,12 +185,7 @@ impl<B: Behaviour> Nodes<B> {
     /// A step, and its answer. It is refused where memory was refused to the list of packets or to
     /// that of snapshots.
     pub(crate) fn go(&mut self, alloc: Global, step: Step) -> Result<Answer, AllocError>
-        ensures { IfOk result (λ a. IsCall
-            (seen_of self.old.host self.old.viewers.items
-            self.old.packets.items self.old.shots.items)
-            step a
-            (seen_of self.new.host self.new.viewers.items
-            self.new.packets.items self.new.shots.items)) }
+        ensures { IfOk result (λ a. IsCall (seen self.old) step a (seen self.new)) }
     {
         match step {
             Step::HostClock { time } => Ok(self.clock(time)),

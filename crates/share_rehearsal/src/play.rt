@@ -1,7 +1,7 @@
 //! The steps of a rehearsal, one after another.
 
 ghost use Rattle.std.specs.Prelude.{OnOk};
-ghost use Rattle.share_rehearsal.specs.Calls.{seen_of};
+ghost use Rattle.share_rehearsal.specs.Calls.{seen};
 ghost use Rattle.share_rehearsal.specs.Rehearsed.{IsPlayed};
 
 use crate::log::push_line;
@@ -17,12 +17,8 @@ pub(crate) fn play<B: Behaviour>(
     steps: &[Step],
     out: &mut Vec<u8>,
 ) -> Result<(), AllocError>
-    ensures { OnOk result (IsPlayed
-        (seen_of nodes.old.host nodes.old.viewers.items
-        nodes.old.packets.items nodes.old.shots.items)
-        steps.now out.old.items out.new.items
-        (seen_of nodes.new.host nodes.new.viewers.items
-        nodes.new.packets.items nodes.new.shots.items)) }
+    ensures { OnOk result (IsPlayed (seen nodes.old) steps.now out.old.items out.new.items
+        (seen nodes.new)) }
 {
     for (place, step) in steps.iter().enumerate() {
         let answer = nodes.go(alloc, *step)?;

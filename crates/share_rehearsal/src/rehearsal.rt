@@ -1,7 +1,7 @@
 //! A rehearsal as a whole.
 
 ghost use Rattle.std.specs.Prelude.{◌≡◌, ◌<◌, ◌≤◌, ◌++◌, ◌∷◌, [], length, Err, IfErr, IfOk, OnErr, OnOk};
-ghost use Rattle.share_rehearsal.specs.Calls.{begun_with, seen_of, viewers_from};
+ghost use Rattle.share_rehearsal.specs.Calls.{begun_with, seen, viewers_from};
 ghost use Rattle.share_rehearsal.specs.Rehearsed.{AreFresh, IsLogged, IsRehearsed};
 
 use crate::ending::push_endings;
@@ -68,12 +68,8 @@ fn log_all<B: Behaviour>(
     steps: &[Step],
     out: &mut Vec<u8>,
 ) -> Result<(), AllocError>
-    ensures ok { OnOk result (IsLogged
-        (seen_of nodes.old.host nodes.old.viewers.items
-        nodes.old.packets.items nodes.old.shots.items)
-        steps.now out.old.items out.new.items
-        (seen_of nodes.new.host nodes.new.viewers.items
-        nodes.new.packets.items nodes.new.shots.items)) }
+    ensures ok { OnOk result (IsLogged (seen nodes.old) steps.now out.old.items out.new.items
+        (seen nodes.new)) }
     ensures err { OnErr result (out.new.items ≡ out.old.items) }
 {
     let mut log = Vec::new(alloc);
@@ -107,9 +103,7 @@ fn begun<B: Behaviour>(
     requires fresh { AreFresh stages.items }
     requires some { 1 ≤ length stages.items }
     requires most { length stages.items ≤ 16 }
-    ensures { IfOk result (λ nodes.
-        seen_of nodes.host nodes.viewers.items nodes.packets.items nodes.shots.items
-        ≡ begun_with mark stages.items) }
+    ensures { IfOk result (λ nodes. seen nodes ≡ begun_with mark stages.items) }
 {
     let count = stages.len() as u8;
     let viewers = viewers_of(alloc, stages, mark)?;

@@ -1,15 +1,18 @@
 -- Turns of a viewer, one after another.
-use Rattle.std.proofs.Common.{◌≡◌, ℕ, suc, ◌+◌, ◌<◌, Bool, List, refl, ap, subst, arith}
+use Rattle.std.proofs.Common.{◌≡◌, ℕ, suc, ◌+◌, ◌<◌, ◌++◌, Bool, List, refl, ap, ◌∙◌, subst, append_assoc, arith}
 use Rattle.std.specs.Prelude.{Option, Result, Ok, Err, slice_get}
 use Rattle.x3d_values.specs.declared.pointing.Point.{Point}
+use Rattle.stage_answers.specs.declared.fault.TextFault.{TextFault}
+use Rattle.stage_answers.specs.declared.fault.TextFault.TheVariants as text_fault
 use Rattle.cascade_core.specs.Course.{Scripted}
+use Rattle.cascade_core.specs.Texts.{scene_text, trace_text}
 use Rattle.share_law.specs.Viewer.{View, Running, Spoiled}
 use Rattle.share_core.specs.Viewer.{IfRunning, IfSpoiled, ViewerView, machine_of, with_state}
 use Rattle.share_port.specs.declared.traffic.Traffic.{Traffic}
 use Rattle.share_turns.specs.declared.fault.TurnFault.{TurnFault}
 use Rattle.share_turns.specs.declared.fault.TurnFault.TheVariants as turn_fault
 use Rattle.share_turns.specs.ViewerTurn.{IsViewerTurn}
-use Rattle.share_turns.specs.Views.{IsTurnOf, ViewerTurns, applied_by, one_more_if}
+use Rattle.share_turns.specs.Views.{AreAppended, IsTextFault, IsTurnOf, ViewerTurns, applied_by, one_more_if, turn_fault_of}
 
 if_spoiled : (view : View Scripted) (P Q : Type 0) → (P → Q) → IfSpoiled view P → IfSpoiled view Q
 if_spoiled (Running w window) P Q f p = tt
@@ -41,3 +44,36 @@ viewed_more v x y host points until n a b c before did turns same few spoiled tu
     let next : suc n ≡ n + 1 = omega arith in
     subst (λ k. ViewerTurns v host points until k a c (one_more_if did before) y.state) next
     (b, before, x.state, did, turns, few, turn_of v x y host (slice_get points before) b c (Ok did) same spoiled turn, refl)
+
+-- ---- texts
+
+abbrev pub written : Result (Unit {0}) TextFault
+written = Ok tt
+
+abbrev pub refused : TextFault → Result (Unit {0}) TextFault
+refused fault = Err fault
+
+-- a trace and a scene were appended
+pub both_appended : (v : ViewerView) (old mid new : List ℕ) → IfSpoiled v.state.view (written ≡ Err text_fault.Spoiled)
+    → IfRunning v.state.view (λ w. mid ≡ old ++ trace_text v.scene w)
+    → IfRunning v.state.view (λ w. new ≡ mid ++ scene_text v.scene v.routes w) → AreAppended v old new
+both_appended v old mid new unless first second = shown v.state.view refl unless first second
+  where
+    shown : (view : View Scripted) → v.state.view ≡ view → IfSpoiled view (written ≡ Err text_fault.Spoiled)
+        → IfRunning view (λ w. mid ≡ old ++ trace_text v.scene w)
+        → IfRunning view (λ w. new ≡ mid ++ scene_text v.scene v.routes w) → AreAppended v old new
+    shown (Running w window) is unless first second = record {
+      held = w;
+      window = window;
+      runs = is;
+      texts = second ∙ ap (λ xs. xs ++ scene_text v.scene v.routes w) first ∙ append_assoc old (trace_text v.scene w) (scene_text v.scene v.routes w);
+    }
+    shown (Spoiled count) is unless first second = absurd (cc)
+
+-- a text was refused
+pub text_refused : (view : View Scripted) (fault : TextFault) → IfSpoiled view (refused fault ≡ Err text_fault.Spoiled)
+    → IfRunning view (λ w. fault ≡ text_fault.Memory) → IsTextFault view (turn_fault_of fault)
+text_refused (Running w window) text_fault.Spoiled spoiled running = absurd (cc)
+text_refused (Running w window) text_fault.Memory spoiled running = tt
+text_refused (Spoiled count) text_fault.Spoiled spoiled running = tt
+text_refused (Spoiled count) text_fault.Memory spoiled running = absurd (cc)

@@ -46,10 +46,16 @@ pub record Ways (P : Type 0) : Type 0 where
   pub told : P → Option (List Traffic)
   pub failures : P → ℕ
 
+abbrev pub ways_of : {P : Type 0} → (told : P → Option (List Traffic)) → (failures : P → ℕ) → Ways P
+ways_of told failures = record { told = told; failures = failures }
+
 -- viewers, and the port of each
 pub record Seats (P : Type 0) : Type 0 where
   pub viewers : List ViewerView
   pub ports : List P
+
+abbrev pub seats_of : {P : Type 0} → List ViewerView → List P → Seats P
+seats_of viewers ports = record { viewers = viewers; ports = ports }
 
 -- a turn of the viewer with this number, which changes it and its port alone
 pub record IsSeatTurn {P : Type 0} (ways : Ways P) (step : Option Stamp) (host who : ℕ)
@@ -91,6 +97,13 @@ pub record Meeting (P : Type 0) : Type 0 where
   pub host : HostState
   pub port : P
   pub seats : Seats P
+
+abbrev pub meeting : {P : Type 0} → HostState → P → List ViewerView → List P → Meeting P
+meeting host port viewers ports = record {
+  host = host;
+  port = port;
+  seats = seats_of viewers ports;
+}
 
 -- a clock is issued by the host's turn, and a point where it was offered
 abbrev pub is_issued : Option Stamp → (offered : Bool) → Bool

@@ -9,10 +9,11 @@ ghost use Rattle.share_turns.specs.Agreeing.{IsAgreedTextFault};
 ghost use Rattle.share_turns.specs.Agreeing.{IsAgreeRunEnd, IsRoundOf, IsRoundEnd, IsSeatTurn};
 ghost use Rattle.share_turns.specs.Agreeing.{SeatTurns, SeatTurnsEnd};
 ghost use Rattle.share_turns.specs.Agreeing.{agreed_line, are_at, clock_at, clock_of, is_issued};
-ghost use Rattle.share_turns.specs.Agreeing.{offer_of, pointed_by};
+ghost use Rattle.share_turns.specs.Agreeing.{meeting, offer_of, pointed_by, seats_of, ways_of};
 
 use crate::fault::{SeriesFault, TurnFault};
 use crate::host::host_turn;
+use crate::runs::item_at;
 use crate::view::{one_more_if, push_texts};
 use crate::viewer::viewer_turn;
 use itoa::Buffer;
@@ -75,9 +76,8 @@ fn seat_turn<B: Behaviour, P: Port>(
 ) -> Result<bool, TurnFault>
     requires viewer { who < length viewers.old }
     requires port { who < length ports.old }
-    ensures { IsSeatTurn (record { told = P.told; failures = P.failure_count }) step.now host who
-        (record { viewers = viewers.old; ports = ports.old }) result
-        (record { viewers = viewers.new; ports = ports.new }) }
+    ensures { IsSeatTurn (ways_of P.told P.failure_count) step.now host who
+        (seats_of viewers.old ports.old) result (seats_of viewers.new ports.new) }
 {
     viewer_turn(
         &mut viewers[who],
@@ -103,13 +103,11 @@ fn seat_turns<B: Behaviour, P: Port>(
     requires { length ports.old ≡ length viewers.old }
     ensures ports { length ports.new ≡ length ports.old }
     ensures done { IfOk result (λ offered.
-        SeatTurns (record { told = P.told; failures = P.failure_count }) step.now host
-        (length viewers.old) (record { viewers = viewers.old; ports = ports.old }) offered
-        (record { viewers = viewers.new; ports = ports.new })) }
+        SeatTurns (ways_of P.told P.failure_count) step.now host (length viewers.old)
+        (seats_of viewers.old ports.old) offered (seats_of viewers.new ports.new)) }
     ensures ended { IfErr result (λ fault.
-        SeatTurnsEnd (record { told = P.told; failures = P.failure_count }) step.now host
-        (record { viewers = viewers.old; ports = ports.old }) fault
-        (record { viewers = viewers.new; ports = ports.new })) }
+        SeatTurnsEnd (ways_of P.told P.failure_count) step.now host
+        (seats_of viewers.old ports.old) fault (seats_of viewers.new ports.new)) }
 {
     let mut offered = false;
     for who in 0..viewers.len() {
@@ -148,7 +146,7 @@ fn due(steps: &[Stamped], issued: u32, settled: bool) -> Option<Stamped>
     ensures { result ≡ if settled then slice_get steps.now issued else None }
 {
     if settled {
-        steps.get(issued as usize).copied()
+        item_at(steps, issued)
     } else {
         None
     }
@@ -175,31 +173,13 @@ fn round<B: Behaviour, P: Port>(
     ensures viewers { length viewers.new ≡ length viewers.old }
     ensures ports { length ports.new ≡ length ports.old }
     ensures done { IfOk result (λ did.
-        IsRoundOf (record { told = P.told; failures = P.failure_count })
-        host.old.mark step.now own
-        (record {
-          host = host.old.host;
-          port = port.old;
-          seats = record { viewers = viewers.old; ports = ports.old };
-        }) did
-        (record {
-          host = host.new.host;
-          port = port.new;
-          seats = record { viewers = viewers.new; ports = ports.new };
-        })) }
+        IsRoundOf (ways_of P.told P.failure_count) host.old.mark step.now own
+        (meeting host.old.host port.old viewers.old ports.old) did
+        (meeting host.new.host port.new viewers.new ports.new)) }
     ensures ended { IfErr result (λ fault.
-        IsRoundEnd (record { told = P.told; failures = P.failure_count })
-        host.old.mark step.now own
-        (record {
-          host = host.old.host;
-          port = port.old;
-          seats = record { viewers = viewers.old; ports = ports.old };
-        }) fault
-        (record {
-          host = host.new.host;
-          port = port.new;
-          seats = record { viewers = viewers.new; ports = ports.new };
-        })) }
+        IsRoundEnd (ways_of P.told P.failure_count) host.old.mark step.now own
+        (meeting host.old.host port.old viewers.old ports.old) fault
+        (meeting host.new.host port.new viewers.new ports.new)) }
 {
     host_turn(host, clock_of(step), port)?;
     let offered = seat_turns(viewers, step, own, ports)?;
@@ -224,31 +204,14 @@ pub fn agree_until<B: Behaviour, P: Port>(
     requires { length ports.old ≡ length viewers.old }
     ensures mark { host.new.mark ≡ host.old.mark }
     ensures viewers { length viewers.new ≡ length viewers.old }
-    ensures done { OnOk result (AreAgreed (record { told = P.told; failures = P.failure_count })
+    ensures done { OnOk result (AreAgreed (ways_of P.told P.failure_count)
         host.old.mark steps.now own rounds
-        (record {
-          host = host.old.host;
-          port = port.old;
-          seats = record { viewers = viewers.old; ports = ports.old };
-        })
-        (record {
-          host = host.new.host;
-          port = port.new;
-          seats = record { viewers = viewers.new; ports = ports.new };
-        })) }
+        (meeting host.old.host port.old viewers.old ports.old)
+        (meeting host.new.host port.new viewers.new ports.new)) }
     ensures ended { IfErr result (λ fault.
-        IsAgreeEnd (record { told = P.told; failures = P.failure_count })
-        host.old.mark steps.now own rounds
-        (record {
-          host = host.old.host;
-          port = port.old;
-          seats = record { viewers = viewers.old; ports = ports.old };
-        }) fault
-        (record {
-          host = host.new.host;
-          port = port.new;
-          seats = record { viewers = viewers.new; ports = ports.new };
-        })) }
+        IsAgreeEnd (ways_of P.told P.failure_count) host.old.mark steps.now own rounds
+        (meeting host.old.host port.old viewers.old ports.old) fault
+        (meeting host.new.host port.new viewers.new ports.new)) }
 {
     let mut issued = 0;
     for _round in 0..rounds {
@@ -326,33 +289,16 @@ pub fn agree<B: Behaviour, P: Port>(
     requires some { 1 ≤ length viewers.old }
     requires ports { length ports.old ≡ length viewers.old }
     ensures mark { host.new.mark ≡ host.old.mark }
-    ensures done { OnOk result (AreAgreed (record { told = P.told; failures = P.failure_count })
+    ensures done { OnOk result (AreAgreed (ways_of P.told P.failure_count)
         host.old.mark steps.now own rounds
-        (record {
-          host = host.old.host;
-          port = port.old;
-          seats = record { viewers = viewers.old; ports = ports.old };
-        })
-        (record {
-          host = host.new.host;
-          port = port.new;
-          seats = record { viewers = viewers.new; ports = ports.new };
-        })) }
+        (meeting host.old.host port.old viewers.old ports.old)
+        (meeting host.new.host port.new viewers.new ports.new)) }
     ensures texts { OnOk result
         (IsAgreedText (length steps.now) viewers.new out.old.items out.new.items) }
     ensures ended { IfErr result (λ fault.
-        IsAgreeRunEnd (record { told = P.told; failures = P.failure_count })
-        host.old.mark steps.now own rounds
-        (record {
-          host = host.old.host;
-          port = port.old;
-          seats = record { viewers = viewers.old; ports = ports.old };
-        }) fault
-        (record {
-          host = host.new.host;
-          port = port.new;
-          seats = record { viewers = viewers.new; ports = ports.new };
-        })) }
+        IsAgreeRunEnd (ways_of P.told P.failure_count) host.old.mark steps.now own rounds
+        (meeting host.old.host port.old viewers.old ports.old) fault
+        (meeting host.new.host port.new viewers.new ports.new)) }
     ensures kept { OnErr result (out.new.items ≡ out.old.items) }
 {
     agree_until(host, viewers, steps, rounds, own, port, ports)?;

@@ -1,6 +1,6 @@
 //! Turns, one after another.
 
-ghost use Rattle.std.specs.Prelude.{◌≡◌, IfErr, OnOk};
+ghost use Rattle.std.specs.Prelude.{◌≡◌, IfErr, OnOk, slice_get};
 ghost use Rattle.share_turns.specs.HostTurn.{failures_after};
 ghost use Rattle.share_turns.specs.Runs.{HostTurns, HostTurnsEnd};
 
@@ -8,6 +8,13 @@ use crate::fault::TurnFault;
 use crate::host::host_turn;
 use share_core::Host;
 use share_port::Port;
+
+/// The item at that place, from 0, where there is one.
+pub(crate) fn item_at<T: Copy>(items: &[T], place: u32) -> Option<T>
+    ensures { result ≡ slice_get items.now place }
+{
+    items.get(place as usize).copied()
+}
 
 /// So many turns of the host. Each numbers the next of the clocks, at times in microseconds, until
 /// there are no more.
@@ -29,7 +36,7 @@ pub fn host_run<P: Port>(
         ≡ failures_after result (P.failure_count port.old) }
 {
     for turn in 0..turns {
-        host_turn(host, clocks.get(turn as usize).copied(), port)?;
+        host_turn(host, item_at(clocks, turn), port)?;
     }
     Ok(())
 }

@@ -1,12 +1,13 @@
 //! A viewer alone: turns until enough inputs are applied, and then its texts.
 
-ghost use Rattle.std.specs.Prelude.{◌≡◌, ◌≤◌, ◌+◌, ◌<◌, ◌^◌, OnOk, OnErr, IfErr, slice_get};
+ghost use Rattle.std.specs.Prelude.{◌≡◌, ◌≤◌, ◌+◌, ◌<◌, ◌^◌, OnOk, OnErr, IfErr};
 ghost use Rattle.x3d_lists.specs.Extends.{Extends};
 ghost use Rattle.share_core.specs.Viewer.{with_state};
 ghost use Rattle.share_turns.specs.Views.{AreAppended, AreViewed, IsRunEnd, IsTextFault};
 ghost use Rattle.share_turns.specs.Views.{IsViewEnd, failures_in, one_more_if};
 
 use crate::fault::{SeriesFault, TurnFault};
+use crate::runs::item_at;
 use crate::viewer::viewer_turn;
 use script_host::Behaviour;
 use share_core::Viewer;
@@ -20,13 +21,6 @@ pub(crate) fn one_more_if(offered: bool, count: u32) -> u32
     ensures most { result ≤ count + 1 }
 {
     if offered { count + 1 } else { count }
-}
-
-/// The point with this number, where there is one.
-fn point_at(points: &[Point], number: u32) -> Option<Point>
-    ensures { result ≡ slice_get points.now number }
-{
-    points.get(number as usize).copied()
 }
 
 /// Turns of a viewer, `turns` at most, until at least `until` inputs are applied. Each offers the
@@ -55,7 +49,7 @@ pub fn view_until<B: Behaviour, P: Port>(
         if viewer.applied() >= until {
             return Ok(());
         }
-        let point = point_at(points, offered);
+        let point = item_at(points, offered);
         offered = one_more_if(viewer_turn(viewer, point, host, port)?, offered);
     }
     if viewer.applied() < until {

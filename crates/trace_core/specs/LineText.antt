@@ -1,16 +1,10 @@
 -- The text of an event that was sent (our choice).
-use Rattle.std.specs.Prelude.{ℕ, ℤ, ◌++◌, List, [], ◌∷◌, decimal, slice_get}
-use Rattle.std.specs.Option.{option_map_or}
+use Rattle.std.specs.Prelude.{ℕ, ℤ, ◌++◌, List, [], ◌∷◌, decimal}
 use Rattle.x3d_values.specs.declared.value.Value.TheVariants.{SFTime}
 use Rattle.x3d_values.specs.ValueText.{value_text}
 use Rattle.scene_core.specs.declared.scene.End.{End}
-use Rattle.scene_core.specs.Scene.{SceneView, label_of, rows_at}
+use Rattle.scene_core.specs.Scene.{SceneView, field_name, label_of}
 use Rattle.trace_core.specs.declared.trace.TraceLine.{TraceLine}
-
--- the plain name of a field: by the table of fields, or as a Script declares it
-unfoldable pub field_name : SceneView → End → List ℕ
-field_name scene e =
-    option_map_or (λ row. row.name) (slice_get (rows_at scene e.node) e.field) []
 
 -- `<input> <seconds> `
 unfoldable pub stamp_text : ℕ → ℤ → List ℕ

@@ -3,7 +3,7 @@
 ghost use Rattle.std.specs.Prelude.{◌≡◌, ◌++◌, [], ◌∷◌, OnErr, OnOk};
 ghost use Rattle.std.specs.List.{flat_map};
 ghost use Rattle.x3d_lists.specs.Extends.{Extends};
-ghost use Rattle.trace_core.specs.LineText.{field_name, line_text, source_text, stamp_text};
+ghost use Rattle.trace_core.specs.LineText.{line_text, source_text, stamp_text};
 ghost use Rattle.x3d_values.specs.ValueText.{value_text};
 
 use crate::lines::{LineHead, Moment, WritesLines};
@@ -14,17 +14,6 @@ use std::alloc::{AllocError, Global};
 use std::marker::Model;
 use x3d_numerals::push_number;
 use x3d_values::{Value, show_value};
-
-/// The plain name of a field.
-#[tactic(auto, unfolding(crate::specs::LineText::field_name))]
-fn field_name(scene: &Scene, end: End) -> &str
-    ensures { result.now ≡ field_name scene.now end }
-{
-    match scene.row(end.node, end.field) {
-        Some(row) => row.name,
-        None => "",
-    }
-}
 
 /// Appends the number and the time of an input; on a refusal perhaps a part of it.
 #[tactic(auto, unfolding(crate::specs::LineText::stamp_text))]
@@ -49,7 +38,7 @@ fn push_source(scene: &Scene, source: End, out: &mut Vec<u8>) -> Result<(), Allo
 {
     scene.label(source.node, out)?;
     out.push(b'.')?;
-    out.extend_from_slice(field_name(scene, source).as_bytes())
+    out.extend_from_slice(scene.field_name(source).as_bytes())
 }
 
 /// Appends the stamp of an input, the source of one of its events and a space; on a refusal perhaps

@@ -13,8 +13,7 @@ use Rattle.flat_document.specs.declared.flat.FlatEnd.TheVariants.{At, NoNode, No
 use Rattle.flat_document.specs.declared.flat.FlatRoute.{FlatRoute}
 use Rattle.flat_laws.specs.Routes.{RoutesAreRead, Shown, route_shown}
 use Rattle.scene_core.specs.declared.scene.Route.{Route}
-use Rattle.scene_core.specs.Scene.{SceneView, number_of, rows_at}
-use Rattle.scene_text.specs.Statements.{field_name}
+use Rattle.scene_core.specs.Scene.{SceneView, field_name, number_of, rows_at}
 use Rattle.route_core.specs.Names.{target_field, source_field}
 use Rattle.route_core.specs.Ends.{node_of, field_at, usable, output_named, input_named, source_of, target_of, joined, joined_ends, route_of}
 use Rattle.route_core.specs.Resolved.{added, at_line, before_others, each_of, firsts_of, same_route, without_repeats}

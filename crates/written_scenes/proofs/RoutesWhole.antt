@@ -17,9 +17,9 @@ use Rattle.flat_laws.specs.Routes.{ReadRoute, Reading, RoutesAreRead, Shown, end
 use Rattle.flat_laws.proofs.Readings.{read-route}
 use Rattle.scene_core.specs.declared.scene.End.{End}
 use Rattle.scene_core.specs.declared.scene.Route.{Route}
-use Rattle.scene_core.specs.Scene.{SceneView, label_of}
+use Rattle.scene_core.specs.Scene.{SceneView, field_name, label_of}
 use Rattle.scene_text.specs.Places.{ends_of, is_named}
-use Rattle.scene_text.specs.Statements.{field_name, helper_root, helpers_of, place_of, roots_of, route_of, routes_of, scene_document, statements_of}
+use Rattle.scene_text.specs.Statements.{helper_root, helpers_of, place_of, roots_of, route_of, routes_of, scene_document, statements_of}
 use Rattle.scene_text.specs.Tree.{PlanView}
 use Rattle.scene_round_trip.proofs.NumberedScenes.{found}
 use Rattle.scene_round_trip.specs.Labels.{LabelsAreDistinct}

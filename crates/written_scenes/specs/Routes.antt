@@ -10,8 +10,8 @@ use Rattle.flat_laws.specs.Routes.{Shown, route_shown}
 use Rattle.scene_core.specs.declared.scene.End.{End}
 use Rattle.scene_core.specs.declared.scene.Route.{Route}
 use Rattle.scene_core.specs.Building.{scene_of}
-use Rattle.scene_core.specs.Scene.{SceneView}
-use Rattle.scene_text.specs.Statements.{field_name, scene_document}
+use Rattle.scene_core.specs.Scene.{SceneView, field_name}
+use Rattle.scene_text.specs.Statements.{scene_document}
 use Rattle.scene_round_trip.specs.Writable.{AreKeepable, IsWritableRoute}
 
 -- the node by its number in the scene, and the field by its own name

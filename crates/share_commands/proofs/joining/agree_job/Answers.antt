@@ -1,16 +1,16 @@
 use Rattle.std.proofs.Common.{rules, ◌≡◌, ◌∙◌, ap, length}
 use Rattle.share_law.specs.Host.{new_host}
-use Rattle.share_turns.specs.Agreeing.{Seats, Ways}
+use Rattle.share_turns.specs.Agreeing.{seats_of, ways_of}
 use Rattle.share_commands.specs.Joining.{Joint}
 use Rattle.share_commands.proofs.Agreed.{is_agreed, is_agreed_in_part, written}
 use Rattle.share_commands.proofs.joining.agree_job.Goals as goal
 
 pub returns-in-Ok-clause-done : goal.returns-in-Ok-clause-done
 returns-in-Ok-clause-done g c =
-    let ways : Ways g.row.P.Denot = record { told = g.P.Port.told; failures = g.P.Port.failure_count } in
+    let ways = ways_of g.P.Port.told g.P.Port.failure_count in
     let before = c.args.job.now in
     let job : Joint = record { inputs = before.inputs; mark = before.mark; viewers = before.viewers.items } in
-    let left : Seats g.row.P.Denot = record { viewers = c.agree.new.viewers; ports = c.agree.new.ports } in
+    let left = seats_of c.agree.new.viewers c.agree.new.ports in
     let same : length c.agree.new.viewers ≡ length before.viewers.items = search rules in
     let all : before.viewers.len ≡ length before.viewers.items = search rules in
     let counted : c.count_of.result ≡ length before.viewers.items = search rules in
@@ -21,10 +21,10 @@ returns-in-Ok-clause-done g c =
 
 pub returns-in-Err-clause-ended : goal.returns-in-Err-clause-ended
 returns-in-Err-clause-ended g c =
-    let ways : Ways g.row.P.Denot = record { told = g.P.Port.told; failures = g.P.Port.failure_count } in
+    let ways = ways_of g.P.Port.told g.P.Port.failure_count in
     let before = c.args.job.now in
     let job : Joint = record { inputs = before.inputs; mark = before.mark; viewers = before.viewers.items } in
-    let left : Seats g.row.P.Denot = record { viewers = c.agree.new.viewers; ports = c.agree.new.ports } in
+    let left = seats_of c.agree.new.viewers c.agree.new.ports in
     let same : length c.agree.new.viewers ≡ length before.viewers.items = search rules in
     let all : before.viewers.len ≡ length before.viewers.items = search rules in
     let counted : c.count_of.result ≡ length before.viewers.items = search rules in

@@ -1,4 +1,4 @@
-use Rattle.std.proofs.Common.{◌≡◌, ◌∙◌, ap, length}
+use Rattle.std.proofs.Common.{◌∙◌, ap, length}
 use Rattle.share_commands.proofs.Meeting.{is_joint}
 use Rattle.share_commands.proofs.Staging.{viewer_count}
 use Rattle.share_commands.proofs.joining.joint_job.Goals as goal

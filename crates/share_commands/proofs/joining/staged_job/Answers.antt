@@ -1,7 +1,6 @@
 use Rattle.std.proofs.Common.{rules, ◌≡◌}
 use Rattle.std.specs.Prelude.{Ok}
 use Rattle.share_jobs.specs.Job.{Lined}
-use Rattle.share_program.specs.declared.open.Opened.{Opened}
 use Rattle.share_commands.specs.Fits.{fits}
 use Rattle.share_commands.proofs.Meeting.{is_staged}
 use Rattle.share_commands.proofs.Staging.{is_stage}

@@ -1,13 +1,6 @@
-use Rattle.std.proofs.Common.{◌≡◌, replicate, ◌∙◌, ap, arith}
-use Rattle.share_commands.proofs.Staging.{are_stages, fresh_stages, one_more}
+use Rattle.std.proofs.Common.{rules, ◌≡◌, replicate, ◌∙◌, ap, arith}
+use Rattle.share_commands.proofs.Staging.{are_stages, for_memory, fresh_stages, one_more, stage_count}
 use Rattle.share_commands.proofs.stages.with_others.Goals as goal
-
-pub returns-clause-fresh : goal.returns-clause-fresh
-returns-clause-fresh c =
-    let stages = c.loop-stage.stages.items in
-    let all : c.loop-stage._stage ≡ c.args.count = omega (arith, c.loop-stage.invariant.1, c.loop-stage-test.false) in
-    let are : stages ≡ replicate c.args.count c.args.first = c.loop-stage.invariant.0 ∙ ap (λ n. replicate n c.args.first) all in
-    fresh_stages c.args.text.now c.args.count stages (are_stages c.args.text.now c.args.count c.args.first stages c.requires.first are)
 
 pub loop-stage-preserved : goal.loop-stage-preserved
 loop-stage-preserved c = (
@@ -15,3 +8,20 @@ loop-stage-preserved c = (
       c.requires.first c.in_ok-stage_of.ensures.ok c.loop-stage.invariant.0 c.in_ok-push-2.ensures.items,
   omega (arith, c.loop-stage-test.true),
 )
+
+pub returns-in_err-stage_of-clause-err : goal.returns-in_err-stage_of-clause-err
+returns-in_err-stage_of-clause-err c =
+    let refused = for_memory c.args.text.now c.args.first _ c.requires.first c.in_err-stage_of.ensures.err in
+    search rules
+
+pub returns-clause-stages : goal.returns-clause-stages
+returns-clause-stages c =
+    let all : c.loop-stage._stage ≡ c.args.count = omega (arith, c.loop-stage.invariant.1, c.loop-stage-test.false) in
+    are_stages c.args.text.now c.args.count c.args.first c.loop-stage.stages.items c.requires.first
+    (c.loop-stage.invariant.0 ∙ ap (λ n. replicate n c.args.first) all)
+
+pub returns-clause-fresh : goal.returns-clause-fresh
+returns-clause-fresh c = fresh_stages c.args.text.now c.args.count c.loop-stage.stages.items (returns-clause-stages c)
+
+pub returns-clause-count : goal.returns-clause-count
+returns-clause-count c = stage_count c.args.text.now c.args.count c.loop-stage.stages.items (returns-clause-stages c)

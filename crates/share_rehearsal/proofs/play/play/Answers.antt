@@ -1,5 +1,5 @@
 use Rattle.std.proofs.lemmas.Option.{slice_get-get_or}
-use Rattle.share_rehearsal.specs.Calls.{seen_of}
+use Rattle.share_rehearsal.specs.Calls.{seen}
 use Rattle.share_rehearsal.proofs.Plays.{played-more}
 use Rattle.share_rehearsal.proofs.play.play.Goals as goal
 
@@ -10,6 +10,6 @@ loop-place-preserved g c =
     let first = c.args.nodes.now in
     let before = c.loop-place.nodes in
     let after = c.go.new.self in
-    played-more (seen_of first.host first.viewers.items first.packets.items first.shots.items) steps i c.args.out.now.items c.loop-place.out.items c.push_line.new.out.items
-    (seen_of before.host before.viewers.items before.packets.items before.shots.items) _ c.in_ok-answer.answer (seen_of after.host after.viewers.items after.packets.items after.shots.items)
+    played-more (seen first) steps i c.args.out.now.items c.loop-place.out.items c.push_line.new.out.items
+    (seen before) _ c.in_ok-answer.answer (seen after)
     c.loop-place.invariant c.loop-place-test.true (slice_get-get_or steps i _ c.loop-place-test.true) c.in_ok-answer.ensures c.in_ok-push_line.ensures

@@ -1,6 +1,6 @@
 use Rattle.std.proofs.Common.{◌≤◌, arith}
 use Rattle.std.specs.Prelude.{length}
-use Rattle.share_rehearsal.specs.Calls.{seen_of}
+use Rattle.share_rehearsal.specs.Calls.{seen}
 use Rattle.share_rehearsal.proofs.Whole.{is-rehearsed}
 use Rattle.share_rehearsal.proofs.rehearsal.rehearse.Goals as goal
 
@@ -12,5 +12,5 @@ returns-clause-rehearsed g c =
     let some : 1 ≤ length stages = grind (arith, c.len-count.ensures, c.if-count-eq0.false) in
     let most : length stages ≤ 16 = grind (arith, c.len-count.ensures, c.if-count-gt-MOST.false) in
     is-rehearsed c.args.mark stages c.args.steps.now c.args.out.now.items c.log_all.new.out.items
-    (seen_of begun.host begun.viewers.items begun.packets.items begun.shots.items) (seen_of left.host left.viewers.items left.packets.items left.shots.items)
+    (seen begun) (seen left)
     c.ended.result.host c.ended.result.viewers.items some most c.in_ok-nodes.ensures c.in-Ok.ensures.ok c.ended.ensures.host c.ended.ensures.viewers

@@ -1,16 +1,16 @@
 use Rattle.std.proofs.Common.{rules, ◌≡◌, false, ◌∙◌, arith}
 use Rattle.std.specs.Prelude.{◌==◌, ◌&&◌, length, Err}
 use Rattle.share_turns.specs.declared.fault.SeriesFault.TheVariants.{Turn}
-use Rattle.share_turns.specs.Agreeing.{Meeting, Ways}
+use Rattle.share_turns.specs.Agreeing.{meeting, ways_of}
 use Rattle.share_turns.proofs.Meeting.{cut_round, goes_on, one_more_round}
 use Rattle.share_turns.proofs.rounds.agree_until.Goals as goal
 
 pub returns-in_err-round-clause-ended : goal.returns-in_err-round-clause-ended
 returns-in_err-round-clause-ended g c =
-    let ways : Ways g.row.P.Denot = record { told = g.P.Port.told; failures = g.P.Port.failure_count } in
-    let old : Meeting g.row.P.Denot = record { host = c.args.host.now.host; port = c.args.port.now; seats = record { viewers = c.args.viewers.now; ports = c.args.ports.now } } in
-    let mid : Meeting g.row.P.Denot = record { host = c.loop-round.host.host; port = c.loop-round.port; seats = record { viewers = c.loop-round.viewers; ports = c.loop-round.ports } } in
-    let new : Meeting g.row.P.Denot = record { host = c.round.new.host.host; port = c.round.new.port; seats = record { viewers = c.round.new.viewers; ports = c.round.new.ports } } in
+    let ways = ways_of g.P.Port.told g.P.Port.failure_count in
+    let old = meeting c.args.host.now.host c.args.port.now c.args.viewers.now c.args.ports.now in
+    let mid = meeting c.loop-round.host.host c.loop-round.port c.loop-round.viewers c.loop-round.ports in
+    let new = meeting c.round.new.host.host c.round.new.port c.round.new.viewers c.round.new.ports in
     let i = c.loop-round.invariant in
     let failed : c.from_residual.result ≡ Err (Turn c.in_err-round.field-0.0) = search rules in
     let over : c.is_over-over.result ≡ (c.is_settled-settled.result && (c.loop-round.issued == length c.args.steps.now)) = search rules in
@@ -21,10 +21,10 @@ returns-in_err-round-clause-ended g c =
 
 pub loop-round-preserved : goal.loop-round-preserved
 loop-round-preserved g c =
-    let ways : Ways g.row.P.Denot = record { told = g.P.Port.told; failures = g.P.Port.failure_count } in
-    let old : Meeting g.row.P.Denot = record { host = c.args.host.now.host; port = c.args.port.now; seats = record { viewers = c.args.viewers.now; ports = c.args.ports.now } } in
-    let mid : Meeting g.row.P.Denot = record { host = c.loop-round.host.host; port = c.loop-round.port; seats = record { viewers = c.loop-round.viewers; ports = c.loop-round.ports } } in
-    let new : Meeting g.row.P.Denot = record { host = c.round.new.host.host; port = c.round.new.port; seats = record { viewers = c.round.new.viewers; ports = c.round.new.ports } } in
+    let ways = ways_of g.P.Port.told g.P.Port.failure_count in
+    let old = meeting c.args.host.now.host c.args.port.now c.args.viewers.now c.args.ports.now in
+    let mid = meeting c.loop-round.host.host c.loop-round.port c.loop-round.viewers c.loop-round.ports in
+    let new = meeting c.round.new.host.host c.round.new.port c.round.new.viewers c.round.new.ports in
     let i = c.loop-round.invariant in
     let over : c.is_over-over.result ≡ (c.is_settled-settled.result && (c.loop-round.issued == length c.args.steps.now)) = search rules in
     let ended : c.is_over-over.result ≡ false = search rules in
