@@ -1,5 +1,6 @@
 //! What the cases of cases/ can't show: devices that fail, memory that is refused, faults in words;
-//! a host and its viewers over a bad cable, over one that fails, and one of them by its command.
+//! a host and its viewers over a bad cable, over one that fails, and one of them by its command;
+//! scripts by boxes that tell what is done with them, hosts, viewers and their snapshots.
 
 mod agreeing;
 mod cable;
@@ -9,8 +10,10 @@ mod faults;
 mod given;
 mod growths;
 mod inputs;
+mod scripts;
 mod texts;
 mod turning;
+mod viewers;
 
 use std::alloc::{AllocError, Global};
 use std::process::Abort;

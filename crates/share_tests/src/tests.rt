@@ -1,8 +1,0 @@
-//! The tests.
-
-mod given;
-mod hosting;
-mod memory;
-mod ports;
-mod scripts;
-mod snapshots;
