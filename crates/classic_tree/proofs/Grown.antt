@@ -1,5 +1,6 @@
 -- Buffers that grow by a text after the other.
-use Rattle.std.proofs.Common.{◌≡◌, ℕ, ◌+◌, List, [], ◌∷◌, ◌++◌, ◌≤◌, length, take, replicate, ap, append_assoc, ◌∙◌}
+use Rattle.std.proofs.Common.{◌≡◌, ℕ, ◌+◌, ◌*◌, List, [], ◌∷◌, ◌++◌, ◌<◌, ◌≤◌, length, take, get_or, replicate, ap, append_assoc, ◌∙◌, arith}
+use denote.Param.Weighed.{most, at_most}
 use Rattle.std.proofs.lemmas.List.{take_all, replicate_more}
 use Rattle.classic_tree.specs.Writing.{Writes, lines_text}
 
@@ -26,3 +27,11 @@ pub one_space : (n : ℕ) (old mid new : List ℕ) →
 one_space n old mid new before last =
     last ∙ ap (λ t. t ++ 32 ∷ []) before ∙ append_assoc old (replicate n 32) (32 ∷ [])
     ∙ ap (λ t. old ++ t) (replicate_more n 32)
+
+-- a part of a list is written after the list: its depth is no more, and its function's rank is lower
+pub falls_within : {A : Type 0} (depth : A → ℕ) (parts : List A) (n : ℕ) (part : A) (most_steps : ℕ) →
+    n < length parts → part ≡ get_or parts n part → 16 * most depth parts + 2 ≡ most_steps → 16 * depth part + 0 < most_steps
+falls_within depth parts n part most_steps here is all =
+    let inside : depth (get_or parts n part) ≤ most depth parts = at_most depth parts n part here in
+    let same : depth part ≡ depth (get_or parts n part) = ap depth is in
+    omega arith

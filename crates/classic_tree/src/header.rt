@@ -8,7 +8,7 @@ ghost use Rattle.classic_tree.specs.Writing.{header_line, profile_line, componen
 use crate::tree::{Document, Meta};
 use classic_lex::Version;
 use std::alloc::AllocError;
-use x3d_values::{Show, Text};
+use x3d_values::{Show, Text, push_pieces};
 
 fn push_header(version: Version, out: &mut Vec<u8>) -> Result<(), AllocError>
     ensures ok { OnOk result (out.new.items ≡ out.old.items ++ header_line version) }
@@ -23,22 +23,17 @@ fn push_profile(profile: &Option<Text>, out: &mut Vec<u8>) -> Result<(), AllocEr
     ensures ok { OnOk result (out.new.items ≡ out.old.items ++ profile_line profile.now) }
     ensures kept { Extends out.old.items out.new.items }
 {
-    if let Some(name) = profile {
-        out.extend_from_slice(b"PROFILE ")?;
-        out.extend_from_slice(name.as_bytes())?;
-        out.push(b'\n')?;
+    match profile {
+        None => Ok(()),
+        Some(name) => push_pieces(&[b"PROFILE ", name.as_bytes(), b"\n"], out),
     }
-    Ok(())
 }
 
 fn push_component(component: &Text, out: &mut Vec<u8>) -> Result<(), AllocError>
     ensures ok { OnOk result (out.new.items ≡ out.old.items ++ component_line component.now) }
     ensures kept { Extends out.old.items out.new.items }
 {
-    out.extend_from_slice(b"COMPONENT ")?;
-    out.extend_from_slice(component.as_bytes())?;
-    out.push(b'\n')?;
-    Ok(())
+    push_pieces(&[b"COMPONENT ", component.as_bytes(), b"\n"], out)
 }
 
 fn push_components(components: &[Text], out: &mut Vec<u8>) -> Result<(), AllocError>

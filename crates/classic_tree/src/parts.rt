@@ -3,41 +3,30 @@
 ghost use Rattle.std.specs.Prelude.{◌≡◌, ◌++◌, ◌∷◌, codes, OnOk};
 ghost use Rattle.x3d_lists.specs.Extends.{Extends};
 ghost use Rattle.x3d_values.specs.Names.{access_name, field_type_name};
-ghost use Rattle.classic_tree.specs.Writing.{place_text, route_text, def_text};
+ghost use Rattle.classic_tree.specs.Writing.{route_text, def_text};
 
 use crate::tree::{Declaration, NodeText, Place, RouteText};
 use std::alloc::AllocError;
-use x3d_values::Text;
+use x3d_values::{Text, push_pieces};
 
 fn push_def(name: &Option<Text>, out: &mut Vec<u8>) -> Result<(), AllocError>
     ensures ok { OnOk result (out.new.items ≡ out.old.items ++ def_text name.now) }
     ensures kept { Extends out.old.items out.new.items }
 {
-    if let Some(name) = name {
-        out.extend_from_slice(b"DEF ")?;
-        out.extend_from_slice(name.as_bytes())?;
-        out.push(b' ')?;
+    match name {
+        None => Ok(()),
+        Some(name) => push_pieces(&[b"DEF ", name.as_bytes(), b" "], out),
     }
-    Ok(())
-}
-
-fn push_place(place: &Place, out: &mut Vec<u8>) -> Result<(), AllocError>
-    ensures ok { OnOk result (out.new.items ≡ out.old.items ++ place_text place.now) }
-    ensures kept { Extends out.old.items out.new.items }
-{
-    out.extend_from_slice(place.node.as_bytes())?;
-    out.push(b'.')?;
-    out.extend_from_slice(place.field.as_bytes())
 }
 
 pub(crate) fn push_route(route: &RouteText, out: &mut Vec<u8>) -> Result<(), AllocError>
     ensures ok { OnOk result (out.new.items ≡ out.old.items ++ route_text route.now) }
     ensures kept { Extends out.old.items out.new.items }
 {
-    out.extend_from_slice(b"ROUTE ")?;
-    push_place(&route.source, out)?;
-    out.extend_from_slice(b" TO ")?;
-    push_place(&route.target, out)
+    let Place { node, field } = &route.source;
+    push_pieces(&[b"ROUTE ", node.as_bytes(), b".", field.as_bytes()], out)?;
+    let Place { node, field } = &route.target;
+    push_pieces(&[b" TO ", node.as_bytes(), b".", field.as_bytes()], out)
 }
 
 /// The access, the type and the name of a declared field.
@@ -67,8 +56,7 @@ pub(crate) fn push_head(
     ensures kept { Extends out.old.items out.new.items }
 {
     push_def(name, out)?;
-    out.extend_from_slice(node_type.as_bytes())?;
-    out.extend_from_slice(b" {")
+    push_pieces(&[node_type.as_bytes(), b" {"], out)
 }
 
 pub(crate) fn push_proto_head(name: &Text, out: &mut Vec<u8>) -> Result<(), AllocError>
@@ -76,7 +64,5 @@ pub(crate) fn push_proto_head(name: &Text, out: &mut Vec<u8>) -> Result<(), Allo
         ++ codes " [") }
     ensures kept { Extends out.old.items out.new.items }
 {
-    out.extend_from_slice(b"PROTO ")?;
-    out.extend_from_slice(name.as_bytes())?;
-    out.extend_from_slice(b" [")
+    push_pieces(&[b"PROTO ", name.as_bytes(), b" ["], out)
 }

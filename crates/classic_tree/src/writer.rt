@@ -12,7 +12,7 @@ use crate::tree::{
     BodyItem, Declaration, Document, Given, NodeText, ProtoText, RawValue, Statement,
 };
 use std::alloc::AllocError;
-use x3d_values::{Show, push_joined, push_list};
+use x3d_values::{Show, push_joined, push_list, push_pieces};
 
 /// Two more spaces. A line of more spaces than a `usize` counts does not fit in memory.
 fn deeper(indent: usize) -> Result<usize, AllocError>
@@ -28,10 +28,7 @@ fn push_node(node: &NodeText, indent: usize, out: &mut Vec<u8>) -> Result<(), Al
     ensures kept { Extends out.old.items out.new.items }
 {
     match node {
-        NodeText::Use(_line, name) => {
-            out.extend_from_slice(b"USE ")?;
-            out.extend_from_slice(name.as_bytes())
-        }
+        NodeText::Use(_line, name) => push_pieces(&[b"USE ", name.as_bytes()], out),
         NodeText::Full(_line, name, node_type, items) => {
             push_head(name, node_type, out)?;
             push_items(items.as_slice(), indent, out)?;
@@ -70,10 +67,7 @@ fn push_given(given: &Given<NodeText>, indent: usize, out: &mut Vec<u8>) -> Resu
             out.push(b' ')?;
             push_value(value, indent, out)
         }
-        Given::Is(name) => {
-            out.extend_from_slice(b" IS ")?;
-            out.extend_from_slice(name.as_bytes())
-        }
+        Given::Is(name) => push_pieces(&[b" IS ", name.as_bytes()], out),
     }
 }
 

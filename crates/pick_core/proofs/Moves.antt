@@ -1,9 +1,10 @@
 -- What fits in the arithmetic of transforms.
-use Rattle.std.proofs.Common.{◌≡◌, ◌-◌, ◌^◌, ◌<◌, ◌≤◌, ℤ, pos, negsuc, neg_ℤ, ◌+ℤ◌, ◌-ℤ◌, ◌*ℤ◌, ap, sym, subst, unsigned_abs, arith}
-use Rattle.std.proofs.lemmas.Int.{ints, clamps, fits_signed_mul, fits_signed_from_abs}
+use Rattle.std.proofs.Common.{◌≡◌, ℕ, ◌-◌, ◌^◌, ◌<◌, ◌≤◌, ℤ, pos, negsuc, neg_ℤ, ◌+ℤ◌, ◌-ℤ◌, ◌*ℤ◌, ap, sym, subst, unsigned_abs, arith, div-le_self, mul-le-mul}
+use Rattle.std.proofs.lemmas.Int.{ints, clamps, fits_signed_mul, fits_signed_from_abs, unsigned_abs-mul}
 use Rattle.std.specs.Int.{int_div_euclid}
 use mir.Syntax.{w64, w128}
-use mir.Val.{SFits}
+use mir.Val.{Fits, SFits, to_z}
+use mir.ValLaws.{to_z_pos}
 use Rattle.pick_core.specs.Motion.{clamped, half}
 pub use Rattle.box_entry.proofs.Wide.{abs_within, wide, difference_fits}
 
@@ -37,6 +38,26 @@ pub half_fits : (z q : ℤ) → SFits w64 z → q ≡ half z → SFits w64 (pos 
 half_fits z q f e = turned_fits q (subst (λ x. unsigned_abs x ≤ 2 ^ 62) (sym e) (half_small z f))
 
 -- ---- a point in the coordinates inside a transform
+
+pub count_is : (n : ℕ) → Fits w64 n → to_z w128 n ≡ pos n
+count_is n h = to_z_pos w128 n (omega arith)
+
+pub direction_fits : (n : ℕ) (dir : ℤ) → Fits w64 n → SFits w64 dir → SFits w128 (pos n *ℤ dir)
+direction_fits n dir h f = fits_signed_mul w128 (pos n) dir (2 ^ 64 - 1) (2 ^ 63) (omega arith) (abs_within dir (2 ^ 63) (omega (arith, ints)) (omega (arith, ints))) (omega arith)
+
+direction_small : (n : ℕ) (dir : ℤ) → Fits w64 n → SFits w64 dir → unsigned_abs (pos n *ℤ dir) ≤ 2 ^ 127 - 2 ^ 63
+direction_small n dir h f =
+    let d : unsigned_abs dir ≤ 2 ^ 63 = abs_within dir (2 ^ 63) (omega (arith, ints)) (omega (arith, ints)) in
+    let m : n ≤ 2 ^ 64 - 1 = omega arith in
+    omega (arith, unsigned_abs-mul (pos n) dir, mul-le-mul m d)
+
+quotient_within : (z : ℤ) (m k : ℕ) → unsigned_abs z ≤ k → unsigned_abs (int_div_euclid z (pos m)) ≤ k
+quotient_within (pos a) m k h = omega (arith, div-le_self a m)
+quotient_within (negsuc a) m k h = omega (arith, div-le_self a m)
+
+pub way_small : (n m : ℕ) (dir way : ℤ) → Fits w64 n → SFits w64 dir → way ≡ int_div_euclid (pos n *ℤ dir) (pos m) → unsigned_abs way ≤ 2 ^ 127 - 2 ^ 63
+way_small n m dir way h f e =
+    subst (λ z. unsigned_abs z ≤ 2 ^ 127 - 2 ^ 63) (sym e) (quotient_within (pos n *ℤ dir) m (2 ^ 127 - 2 ^ 63) (direction_small n dir h f))
 
 pub way_fits : (origin way : ℤ) → SFits w64 origin → unsigned_abs way ≤ 2 ^ 127 - 2 ^ 63 → SFits w128 (origin +ℤ way)
 way_fits (pos o) (pos w) f h = record { sfits = (let k : o < 2 ^ 63 = f.sfits in omega arith) }

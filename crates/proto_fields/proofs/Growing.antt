@@ -2,9 +2,9 @@
 use Rattle.std.proofs.Common.{if◌then◌else◌, ◌≡◌, ℕ, ◌+◌, Bool, true, false, List, [], ◌∷◌, ◌++◌, length, Option, Some, None, bytes_eq, refl, sym, ap, ◌∙◌, arith}
 use Rattle.std.proofs.Math.Path.{fun_ext}
 use Rattle.std.proofs.lemmas.Slice.Eq.{bytes_eq-Decides}
-use Rattle.std.proofs.lemmas.List.{drop_more, take_more, map-append, length-map, length-take-le}
+use Rattle.std.proofs.lemmas.List.{drop_all, drop_more, take_all, take_more, map-append, length-map, length-take-le}
 use Rattle.std.proofs.lemmas.Bool.{true≢false}
-use Rattle.std.specs.Prelude.{is_none, ◌<◌, get_or, take, drop}
+use Rattle.std.specs.Prelude.{is_none, ◌<◌, ◌≤◌, get_or, take, drop}
 use Rattle.std.specs.Option.{is_some, option_or}
 use Rattle.classic_tree.specs.declared.tree.Declaration.{Declaration}
 use Rattle.classic_tree.specs.declared.tree.NodeText.{NodeText}
@@ -107,3 +107,25 @@ grown ds i number d old new within at is none has more_than twice =
           ∙ twice-next old (signature d) (signatures (drop (i + 1) ds)) (of_signature number (signature d)) none
           ∙ ap (λ (fields : Fields). first_twice (names_in fields) (signatures (drop (i + 1) ds))) (sym more_than),
     )
+
+stood : (o : Found) (b : Bool) (line : ℕ) (others : Option ℕ) → b ≡ is_none o → b ≡ false → (if is_some o then Some line else others) ≡ Some line
+stood None b line others is old = absurd (true≢false (sym is ∙ old))
+stood (Some f) b line others is old = refl
+
+-- the name stood before
+pub twice-at : (ds : List (Declaration NodeText)) (i : ℕ) (d : Declaration NodeText) (old : Fields) (b : Bool) → i < length ds → d ≡ get_or ds i d → b ≡ is_none (old d.name) → b ≡ false →
+    first_twice no_names (signatures ds) ≡ first_twice (λ name. is_some (old name)) (signatures (drop i ds)) →
+    first_twice no_names (signatures ds) ≡ Some d.line
+twice-at ds i d old b within at is stood_before twice =
+    twice
+    ∙ ap (λ xs. first_twice (names_in old) (signatures xs)) (drop_more ds i d within ∙ ap (λ x. x ∷ drop (i + 1) ds) (sym at))
+    ∙ stood (old d.name) b d.line (first_twice (with_name d.name (names_in old)) (signatures (drop (i + 1) ds))) is stood_before
+
+-- no name stood before
+pub read-all : (ds : List (Declaration NodeText)) (i : ℕ) (fields : Fields) → length ds ≤ i → fields ≡ of_interface (signatures (take i ds)) →
+    first_twice no_names (signatures ds) ≡ first_twice (λ name. is_some (fields name)) (signatures (drop i ds)) →
+    (first_twice no_names (signatures ds) ≡ None) × (fields ≡ of_interface (signatures ds))
+read-all ds i fields past has twice = (
+  twice ∙ ap (λ xs. first_twice (names_in fields) (signatures xs)) (drop_all i ds past),
+  has ∙ ap (λ xs. of_interface (signatures xs)) (take_all i ds past),
+)

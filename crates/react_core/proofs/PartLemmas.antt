@@ -25,7 +25,7 @@ down_part (negsuc n) d zero whole h e q = absurd (omega arith)
 down_part (negsuc n) d (suc part) whole h e q =
     subst (λ k. int_div_euclid (neg_ℤ (pos (k * suc part))) (pos whole) ≡ negsuc ((d * suc part - 1) / whole)) e (neg_div (d * suc part) whole q)
 
-quotient_below : (d part whole : ℕ) → part ≤ whole → 0 < whole → d * part ≢ 0 → (d * part - 1) / whole < d
+pub quotient_below : (d part whole : ℕ) → part ≤ whole → 0 < whole → d * part ≢ 0 → (d * part - 1) / whole < d
 quotient_below d part whole h p q = grind arith
 
 pub is_down_within : (from to : ℤ) (part whole d : ℕ) → (to -ℤ from) <ℤ pos 0 → d ≡ unsigned_abs (to -ℤ from) → part ≤ whole → 0 < whole → d * part ≢ 0

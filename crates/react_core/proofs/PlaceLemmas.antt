@@ -1,5 +1,5 @@
 -- Where a fraction lies among keys.
-use Rattle.std.proofs.Common.{◌≡◌, ◌∙◌, sym, refl, ap, ℕ, zero, suc, ◌+◌, ◌-◌, ◌<◌, ℤ, ◌-ℤ◌, ◌≤ℤ◌, ◌<ℤ◌, int_le, unsigned_abs, Bool, true, false, ◌==◌, List, length, slice_get, if◌then◌else◌, eq-eqb, Some, inl, inr, arith}
+use Rattle.std.proofs.Common.{◌≡◌, ◌∙◌, sym, refl, ap, ℕ, zero, suc, ◌+◌, ◌-◌, ◌<◌, ◌≤◌, ℤ, ◌-ℤ◌, ◌≤ℤ◌, ◌<ℤ◌, int_le, unsigned_abs, Bool, true, false, ◌==◌, List, length, slice_get, if◌then◌else◌, eq-eqb, Some, inl, inr, arith}
 use Rattle.std.proofs.lemmas.Bool.{cases_lt}
 use Rattle.std.proofs.lemmas.Int.{ints, to_z-of_z}
 use Rattle.std.proofs.lemmas.Option.{cond_some, slice_get-map}
@@ -35,10 +35,20 @@ step_within keys fraction step s low high =
     let b = s.below in
     elim (cases_lt (step + 1) (length keys)) [ inl h ↦ h | inr h ↦ absurd (not_last keys fraction step s low high (omega arith)) ]
 
-pub IsBetween-step : (keys : List ℤ) (fraction : ℤ) (step : ℕ) → IsStep keys fraction step → key_at keys 0 <ℤ fraction → fraction <ℤ key_at keys (length keys - 1) → IsBetween keys fraction step
+IsBetween-step : (keys : List ℤ) (fraction : ℤ) (step : ℕ) → IsStep keys fraction step → key_at keys 0 <ℤ fraction → fraction <ℤ key_at keys (length keys - 1) → IsBetween keys fraction step
 IsBetween-step keys fraction step s low high =
     let w = step_within keys fraction step s low high in
     record { within = w; above = key_reached keys fraction step s low; below = s.is_last (step + 1) (omega arith) w }
+
+-- where the fraction is above the first key and below the last one
+pub is_between : (keys : List ℤ) (fraction : ℤ) (step : ℕ) → IsStep keys fraction step → int_le fraction (key_at keys 0) ≡ false → int_le (key_at keys (length keys - 1)) fraction ≡ false → IsBetween keys fraction step
+is_between keys fraction step s low high = IsBetween-step keys fraction step s (grind (arith, ints)) (grind (arith, ints))
+
+pub part_within : (keys : List ℤ) (fraction : ℤ) (step part whole : ℕ) → IsBetween keys fraction step → part ≡ unsigned_abs (fraction -ℤ key_at keys step) → whole ≡ unsigned_abs (key_at keys (step + 1) -ℤ key_at keys step) → part ≤ whole
+part_within keys fraction step part whole b p w = let above = b.above in let below = b.below in omega (arith, ints)
+
+pub some_whole : (keys : List ℤ) (fraction : ℤ) (step whole : ℕ) → IsBetween keys fraction step → whole ≡ unsigned_abs (key_at keys (step + 1) -ℤ key_at keys step) → 0 < whole
+some_whole keys fraction step whole b w = let above = b.above in let below = b.below in omega (arith, ints)
 
 if-true : {X : Type 0} (b : Bool) (x y : X) → b ≡ true → (if b then x else y) ≡ x
 if-true true x y e = refl
@@ -54,12 +64,10 @@ place_from step part whole = record { from = step; to = step + 1; part = part; w
 after-reached : (keys : List ℤ) (fraction : ℤ) → ℕ → Place
 after-reached keys fraction step = after_item step (key_at keys step) (key_at keys (step + 1)) fraction
 
-pub place_of-after : (keys : List ℤ) (fraction : ℤ) (step : ℕ) → Some step ≡ step_of keys fraction → key_at keys 0 <ℤ fraction → fraction <ℤ key_at keys (length keys - 1) → place_of keys fraction ≡ Some (after_item step (key_at keys step) (key_at keys (step + 1)) fraction)
+pub place_of-after : (keys : List ℤ) (fraction : ℤ) (step : ℕ) → Some step ≡ step_of keys fraction → int_le fraction (key_at keys 0) ≡ false → int_le (key_at keys (length keys - 1)) fraction ≡ false → place_of keys fraction ≡ Some (after_item step (key_at keys step) (key_at keys (step + 1)) fraction)
 unfolding place_of after-reached
-place_of-after keys fraction step e low high =
+place_of-after keys fraction step e first last =
     let s = step_of-some keys fraction step e in
-    let first : int_le fraction (key_at keys 0) ≡ false = grind (arith, ints) in
-    let last : int_le (key_at keys (length keys - 1)) fraction ≡ false = grind (arith, ints) in
     if-true (have_steps keys) _ _ s.0 ∙ ap Some (if-false (int_le fraction (key_at keys 0)) _ _ first ∙ (if-false (int_le (key_at keys (length keys - 1)) fraction) _ _ last ∙ ap (after-reached keys fraction) s.1))
 
 pub place_of-parts : (keys : List ℤ) (fraction : ℤ) (step part whole : ℕ) → place_of keys fraction ≡ Some (after_item step (key_at keys step) (key_at keys (step + 1)) fraction) → part ≡ unsigned_abs (fraction -ℤ key_at keys step) → whole ≡ unsigned_abs (key_at keys (step + 1) -ℤ key_at keys step) → Some (place_from step part whole) ≡ place_of keys fraction

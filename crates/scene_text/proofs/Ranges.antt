@@ -2,7 +2,7 @@
 use Rattle.std.proofs.Common.{◌≡◌, ℕ, ◌+◌, ◌<◌, cond, List, [], ◌∷◌, ◌++◌, ◌==◌, length, get_or, map, take, refl, ap, sym, ◌∙◌, append_assoc, append-nil, arith}
 use Rattle.std.specs.List.{flat_map, range_with_len}
 use Rattle.std.proofs.lemmas.Grind.{common_steps}
-use Rattle.std.proofs.lemmas.List.{flat_map_more, take_more}
+use Rattle.std.proofs.lemmas.List.{flat_map_more, map-append, take_more}
 use Rattle.std.proofs.lemmas.List.Concat.{flat_map-append}
 use Rattle.std.proofs.lemmas.List.FromFn.{map-range_with_len_more}
 use Rattle.std.proofs.lemmas.List.Sums.{fold_more}
@@ -32,6 +32,15 @@ pub flat_map_next : {A B : Type 0} (f : A → List B) (xs : List A) (i : ℕ) (x
 flat_map_next f xs i x made more h is so_far pushed =
     pushed ∙ ap (λ l. l ++ f x) so_far ∙ flat_map_more f [] (take i xs) x
     ∙ ap (λ l. flat_map f l) (ap (λ y. take i xs ++ y ∷ []) is ∙ sym (take_more xs i x h))
+
+-- the same of one item for each, behind a list
+pub map_next : {A B : Type 0} (f : A → B) (before : List B) (xs : List A) (i : ℕ) (d : A) (made more : List B) → i < length xs → made ≡ before ++ map f (take i xs)
+    → more ≡ made ++ f (get_or xs i d) ∷ [] → more ≡ before ++ map f (take (i + 1) xs)
+map_next f before xs i d made more h so_far pushed =
+    let x = get_or xs i d in
+    pushed ∙ ap (λ l. l ++ f x ∷ []) so_far ∙ append_assoc before (map f (take i xs)) (f x ∷ [])
+    ∙ ap (λ l. before ++ l) (sym (map-append f (take i xs) (x ∷ [])))
+    ∙ ap (λ l. before ++ map f l) (sym (take_more xs i d h))
 
 -- how often a number stands in a list, by one more item
 pub times_more : (n : ℕ) (ns : List ℕ) (i : ℕ) → i < length ns → times n (take (i + 1) ns) ≡ times n (take i ns) + cond (get_or ns i 0 == n) 1 0

@@ -1,17 +1,22 @@
 -- Steps of the trees of nodes.
 use Rattle.std.proofs.Common.{◌≡◌, ◌≢◌, ℕ, zero, suc, ◌+◌, ◌-◌, ◌<◌, Bool, true, List, [], ◌∷◌, ◌++◌, Some, None, length, get_or, take, refl, ap, sym, subst, ◌∙◌, arith}
-use Rattle.std.specs.Prelude.{slice_set}
+use Rattle.std.specs.Prelude.{slice_set, IfOk, Result, Ok, Err}
 use Rattle.std.proofs.lemmas.Grind.{common_steps}
 use Rattle.std.proofs.lemmas.List.Sums.{fold_more}
 use Rattle.x3d_values.specs.declared.node_type.NodeType.{NodeType}
 use Rattle.x3d_values.specs.Names.{node_type_name}
 use Rattle.classic_tree.specs.declared.tree.BodyItem.{BodyItem}
+use Rattle.classic_tree.specs.declared.tree.BodyItem.TheVariants as item
+use Rattle.classic_tree.specs.declared.tree.Given.{Given}
+use Rattle.classic_tree.specs.declared.tree.Given.TheVariants as given
+use Rattle.classic_tree.specs.declared.tree.RawValue.{RawValue}
 use Rattle.classic_tree.specs.declared.tree.NodeText.{NodeText}
 use Rattle.classic_tree.specs.declared.tree.NodeText.TheVariants as node
 use Rattle.classic_tree.specs.declared.tree.Statement.{Statement}
 use Rattle.classic_tree.specs.declared.tree.Statement.TheVariants as statement
+use Rattle.scene_core.specs.declared.row.DeclaredField.{DeclaredField}
 use Rattle.scene_text.specs.Statements.{switch_of, helper_root, root_tree}
-use Rattle.scene_text.specs.Tree.{PlanView, Shown, def_name, Step, Makes, one_more, each, as_nodes, node_list, field_tree, new_type, use_tree, full_tree, shown_fields, node_tree}
+use Rattle.scene_text.specs.Tree.{PlanView, Shown, def_name, Step, Makes, one_more, each, as_nodes, node_list, plain_tree, declaration, declared_tree, field_tree, new_type, use_tree, full_tree, shown_fields, node_tree}
 
 -- ---- one more of a list
 
@@ -52,6 +57,25 @@ node_tree_first (suc depth) p seen n t h e =
 
 abbrev pub step_of : {A : Type 0} → List Bool → A → Step A
 step_of seen made = record { seen = seen; made = made }
+
+-- a node that is written by USE
+pub spent_made : (depth : ℕ) (p : PlanView) (seen : List Bool) (n : ℕ) (made : NodeText) → depth ≡ 0 → made ≡ use_tree p n → step_of seen made ≡ node_tree depth p seen n
+spent_made depth p seen n made h e = ap (λ (w : NodeText). step_of seen w) e ∙ sym (node_tree_spent depth p seen n h)
+
+pub again_made : (depth : ℕ) (p : PlanView) (seen : List Bool) (n : ℕ) (made : NodeText) → new_type p seen n ≡ None → made ≡ use_tree p n → step_of seen made ≡ node_tree depth p seen n
+again_made depth p seen n made h e = ap (λ (w : NodeText). step_of seen w) e ∙ sym (node_tree_again depth p seen n h)
+
+-- a field with its value
+pub plain_made : (seen : List Bool) (name text : List ℕ) (value : RawValue NodeText) (m : Step (RawValue NodeText)) → name ≡ text → step_of seen value ≡ m
+    → step_of seen (item.Field 0 name (given.Value value)) ≡ plain_tree text m
+plain_made seen name text value m e h =
+    ap (λ (w : List ℕ). step_of seen (item.Field 0 w (given.Value value))) e ∙ ap (λ (w : Step (RawValue NodeText)). plain_tree text w) h
+
+-- a declared field, whatever making its declaration answered
+pub declared_made : {E : Type 0} (o : Result BodyItem E) (d : DeclaredField) (seen : List Bool) (held : Given NodeText) (m : Step (Given NodeText)) → IfOk o (λ made. made ≡ declaration d held)
+    → step_of seen held ≡ m → IfOk o (λ made. step_of seen made ≡ declared_tree d m)
+declared_made (Ok made) d seen held m e h = ap (λ (w : BodyItem). step_of seen w) e ∙ ap (λ (w : Step (Given NodeText)). declared_tree d w) h
+declared_made (Err refused) d seen held m e h = e
 
 -- the same by the parts that are made one after the other
 pub node_tree_made : (depth : ℕ) (p : PlanView) (seen : List Bool) (n : ℕ) (t : NodeType) (m : Step (List BodyItem)) (start : List Bool) (fields : List Shown) (made : NodeText) → 0 < depth → new_type p seen n ≡ Some t → m ≡ each (field_tree (node_tree (depth - 1) p)) start fields → start ≡ slice_set seen n true → fields ≡ shown_fields p n t → made ≡ node.Full 0 (def_name p n) (node_type_name t) m.made → step_of m.seen made ≡ node_tree depth p seen n

@@ -94,8 +94,7 @@ fn ends(alloc: Global, routes: &[Route]) -> Result<Vec<u32>, AllocError>
 {
     let mut found = Vec::new(alloc);
     for route in routes {
-        found.push(route.source.node)?;
-        found.push(route.target.node)?;
+        found.extend_from_slice(&[route.source.node, route.target.node])?;
     }
     Ok(found)
 }

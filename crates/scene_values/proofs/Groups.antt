@@ -1,5 +1,5 @@
 -- One more group of numerals.
-use Rattle.std.proofs.Common.{◌≡◌, ◌&&◌, false, suc, ℕ, ◌+◌, ◌-◌, ◌<◌, ◌≤◌, ℤ, pos, Bool, true, List, [], ◌∷◌, ◌++◌, length, get_or, take, drop, map, sym, ap, append_assoc, add-one, arith}
+use Rattle.std.proofs.Common.{◌≡◌, ◌&&◌, false, suc, ℕ, ◌+◌, ◌-◌, ◌<◌, ◌≤◌, ℤ, pos, Bool, true, List, [], ◌∷◌, ◌++◌, length, get_or, take, drop, map, sym, ap, refl, ◌∙◌, append_assoc, add-one, arith}
 use Rattle.std.proofs.lemmas.List.{take_rest}
 use Rattle.std.proofs.Math.Seq.{drop-cons}
 use Rattle.std.specs.List.{list_all}
@@ -64,3 +64,23 @@ first_holds p x xs all = elim (p x) as (λ b. (b && list_all p xs) ≡ true → 
 -- what holds of all the items left holds of those behind the first
 pub rest_holds : (p : ℤ → Bool) (s : List ℤ) (i : ℕ) → i < length s → list_all p (drop i s) ≡ true → list_all p (drop (i + 1) s) ≡ true
 rest_holds p s i short all = rw add-one (first_holds p (get_or s i (pos 0)) (drop (suc i) s) (rw (drop-cons s i (pos 0) short) at all))
+
+its_first : (p : ℤ → Bool) (x : ℤ) (xs : List ℤ) → list_all p (x ∷ xs) ≡ true → p x ≡ true
+its_first p x xs all = elim (p x) as (λ b. (b && list_all p xs) ≡ true → b ≡ true) [ true ↦ λ h. refl | false ↦ λ h. absurd (cc) ] all
+
+-- what holds of all the items left holds of the first of them
+pub holds_here : (p : ℤ → Bool) (s : List ℤ) (i : ℕ) (x : ℤ) → i < length s → x ≡ get_or s i (pos 0) →
+    list_all p (drop i s) ≡ true → p x ≡ true
+holds_here p s i x short is all = rw is (its_first p (get_or s i (pos 0)) (drop (suc i) s) (rw (drop-cons s i (pos 0) short) at all))
+
+-- whether it holds of all of them is told by the first that fails it, or by those behind one that doesn't
+pub fails_here : (p : ℤ → Bool) (all : Bool) (s : List ℤ) (i : ℕ) (x : ℤ) → i < length s → x ≡ get_or s i (pos 0) →
+    all ≡ list_all p (drop i s) → p x ≡ false → false ≡ all
+fails_here p all s i x short is so_far fails = sym (so_far ∙ ap (list_all p) (drop-cons s i (pos 0) short)
+    ∙ ap (λ b. b && list_all p (drop (suc i) s)) (ap p (sym is) ∙ fails))
+
+pub passes_here : (p : ℤ → Bool) (all : Bool) (s : List ℤ) (i : ℕ) (x : ℤ) → i < length s → x ≡ get_or s i (pos 0) →
+    all ≡ list_all p (drop i s) → p x ≡ true → all ≡ list_all p (drop (i + 1) s)
+passes_here p all s i x short is so_far passes = so_far ∙ ap (list_all p) (drop-cons s i (pos 0) short)
+    ∙ ap (λ b. b && list_all p (drop (suc i) s)) (ap p (sym is) ∙ passes)
+    ∙ ap (λ n. list_all p (drop n s)) (sym (add-one i))

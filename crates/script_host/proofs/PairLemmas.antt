@@ -1,5 +1,5 @@
 -- Two lists, place by place.
-use Rattle.std.proofs.Common.{◌≡◌, ◌<◌, ℕ, List, length, map, slice_get, get_or, Some, refl}
+use Rattle.std.proofs.Common.{◌≡◌, ◌<◌, ℕ, List, length, map, slice_get, get_or, Some, refl, sym}
 use Rattle.std.proofs.lemmas.Option.{slice_get_read, slice_get-map}
 use Rattle.script_host.specs.Pairs.{PairAt}
 
@@ -18,3 +18,10 @@ PairAt-map P f xs ys k x y in_xs in_ys at_x at_y h =
     let x_here : slice_get xs k ≡ Some x = slice_get_read xs (length xs) k x refl in_xs at_x in
     let y_here : slice_get ys k ≡ Some y = slice_get_read ys (length ys) k y refl in_ys at_y in
     rw x_here (rw (slice_get-map, y_here) h)
+
+-- what the element at a place means stands at that place of what all of them mean
+pub meaning_at : {X Y : Type 0} (f : X → Y) (xs : List X) (ys : List Y) (k : ℕ) (x : X) →
+    map f xs ≡ ys → k < length xs → x ≡ get_or xs k x → slice_get ys k ≡ Some (f x)
+meaning_at f xs ys k x are in_xs at_x =
+    let x_here : slice_get xs k ≡ Some x = slice_get_read xs (length xs) k x refl in_xs at_x in
+    rw (sym are, slice_get-map, x_here) refl

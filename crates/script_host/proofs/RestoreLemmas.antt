@@ -1,8 +1,9 @@
 -- Scripts that are given states one after the other.
-use Rattle.std.proofs.Common.{◌≡◌, ◌<◌, ◌+◌, ℕ, zero, suc, ℤ, List, [], ◌∷◌, length, take, slice_get, slice_set, get_or, Bool, true, false, Option, Some, None, refl, ap, ◌∙◌, sym, inr, arith, if◌then◌else◌}
+use Rattle.std.proofs.Common.{◌≡◌, ◌<◌, ◌+◌, ℕ, zero, suc, ℤ, List, [], ◌∷◌, ◌++◌, length, take, drop, append-nil, slice_get, slice_set, get_or, Bool, true, false, Option, Some, None, refl, ap, ◌∙◌, sym, inr, arith, if◌then◌else◌}
 use Rattle.std.specs.Prelude.{nat_le, IsSomeAnd}
 use Rattle.std.specs.List.{list_all}
 use Rattle.x3d_values.specs.Ranges.{coordinate_fits}
+use Rattle.std.proofs.lemmas.List.{take_all, drop_all}
 use Rattle.std.proofs.lemmas.Option.{slice_get_read}
 use Rattle.script_host.specs.Hosting.{ScriptRecord}
 use Rattle.script_host.specs.Pairs.{PairAt}
@@ -102,3 +103,9 @@ pub refuses_first : (fault : StateFault) (rs : List ScriptRecord) (states : List
 refuses_first StateLength rs states h = (refl, inr h)
 refuses_first StateRange rs states h = (refl, h)
 refuses_first Memory rs states h = absurd (no_pair _ _ h.here)
+
+-- what a call left of a whole list
+pub written : (n : ℕ) (new old : List ScriptRecord) → length new ≡ length old → n ≡ length old → take n (new ++ drop (length new) old) ≡ new
+written n new old same all =
+    ap (λ l. take n (new ++ l)) (drop_all (length new) old (omega (arith, same)))
+    ∙ ap (take n) (append-nil new) ∙ take_all n new (omega (arith, same, all))

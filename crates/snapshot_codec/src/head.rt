@@ -7,12 +7,13 @@ ghost use Rattle.std.specs.Result.{result_map_both};
 ghost use Rattle.sha2.specs.Sha256.{sha256};
 ghost use Rattle.snapshot_codec.specs.Head.{applied_codec, progress_codec, front, unsealed, snapshot, head_fault, opened};
 
-use crate::numbers::{push_pieces, signed_bytes};
+use crate::numbers::signed_bytes;
 use crate::trace::moment_of;
 use byte_codec::u32_of;
 use sha2::{Digest, Sha256};
 use std::alloc::AllocError;
 use thiserror::Error;
+use x3d_values::push_pieces;
 
 /// The first bytes of each snapshot.
 const MAGIC: &[u8; 4] = b"X3DW";

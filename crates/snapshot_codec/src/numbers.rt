@@ -2,7 +2,6 @@
 
 ghost use Rattle.std.specs.Prelude.{◌≡◌, ◌++◌, OnErr, OnOk};
 ghost use Rattle.std.specs.Int.{w16, w32, w64, cast_unsigned};
-ghost use Rattle.std.specs.List.{flat_map};
 ghost use Rattle.std.specs.Option.{option_map};
 ghost use Rattle.byte_codec.specs.Codec.{number_text};
 ghost use Rattle.snapshot_codec.specs.Values.{within};
@@ -17,22 +16,6 @@ pub(crate) fn signed_bytes(number: &i64) -> [u8; 8]
     ensures { result ≡ number_text w64 (cast_unsigned w64 number.now) }
 {
     number.to_be_bytes()
-}
-
-/// Appends the pieces one after the other. On a refusal the buffer is as it was.
-pub(crate) fn push_pieces(pieces: &[&[u8]], out: &mut Vec<u8>) -> Result<(), AllocError>
-    ensures ok { OnOk result (out.new.items
-        ≡ out.old.items ++ flat_map (λ piece. piece.now) pieces.now) }
-    ensures err { OnErr result (out.new.items ≡ out.old.items) }
-{
-    let len = out.len();
-    for piece in pieces {
-        let Ok(()) = out.extend_from_slice(piece) else {
-            out.truncate(len);
-            return Err(AllocError);
-        };
-    }
-    Ok(())
 }
 
 #[tactic(auto, unfolding(byte_codec::specs::Codec::number_text))]

@@ -7,10 +7,10 @@ ghost use Rattle.snapshot_codec.specs.Parts.{cycle_in, place_number, cycle_codec
 
 use crate::coded::{Coded, list_of, many_of, push_list};
 use crate::fault::PartFault;
-use crate::numbers::{push_pieces, push_u32};
+use crate::numbers::push_u32;
 use byte_codec::{flag_of, i64_of, u32_of};
 use std::alloc::{AllocError, Global};
-use x3d_values::{Items, Position};
+use x3d_values::{Items, Position, push_pieces};
 
 /// The cycle that a TimeSensor runs, if it is active.
 fn cycle_in(active: bool, number: i64) -> Option<Option<u64>>

@@ -10,11 +10,11 @@ ghost use Rattle.snapshot_codec.specs.Reads.{Reads, behind};
 ghost use Rattle.snapshot_codec.specs.Trace.{moment_codec, sent_at_codec, typed_codec, entry_codec, trace_codec, entry_text};
 
 use crate::fault::PartFault;
-use crate::numbers::{push_pieces, push_u64, signed_bytes};
+use crate::numbers::{push_u64, signed_bytes};
 use crate::value::{push_value, value_of};
 use byte_codec::{i64_of, u16_of, u32_of, u64_of};
 use std::alloc::{AllocError, Global};
-use x3d_values::{FieldType, Items, Value};
+use x3d_values::{FieldType, Items, Value, push_pieces};
 
 /// The latest time, in microseconds.
 const LATEST: i64 = 1_000_000_000_000_000_000;

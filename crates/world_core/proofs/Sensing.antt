@@ -1,19 +1,49 @@
 -- What time sensors and touch sensors do in a world, by what is found of them.
-use Rattle.std.proofs.Common.{◌≡◌, ◌∙◌, ap, sym, refl, ℕ, ℤ, List, ◌++◌, [], Option, Some, None}
-use Rattle.std.specs.Prelude.{slice_get, slice_set}
+use Rattle.std.proofs.Common.{◌≡◌, ◌∙◌, ap, sym, refl, ℕ, ℤ, Bool, true, false, List, ◌++◌, [], Option, Some, None, arith}
+use Rattle.std.proofs.lemmas.Int.{ints}
+use Rattle.std.specs.Prelude.{◌≤ℤ◌, ◌^◌, ◌&&◌, FitsSigned, IsTrue, int_le, negsuc, pos, slice_get, slice_set}
+use mir.Syntax.{w64}
 use Rattle.std.specs.Option.{option_map_or}
 use Rattle.x3d_values.specs.declared.fields.Fields.{Fields}
 use Rattle.x3d_values.specs.declared.value.Value.{Value}
+use Rattle.x3d_values.specs.declared.vector.Vec3.{Vec3}
+use Rattle.x3d_values.specs.Pointing.{Pointing}
+use Rattle.x3d_values.specs.Ranges.{is_input_time, max_time}
 use Rattle.react_core.specs.declared.outbox.Reply.{Reply}
 use Rattle.sensor_core.specs.Timing.{Timing, timing_of, with_timing}
 use Rattle.sensor_core.specs.Events.{set}
 use Rattle.sensor_core.specs.Ticks.{tick}
-use Rattle.sensor_core.specs.Touches.{Touch, disable}
+use Rattle.sensor_core.specs.Touches.{Touch, disable, point, pointer}
+use Rattle.scene_core.specs.Scene.{SceneView}
 use Rattle.scene_core.specs.declared.scene.End.{End}
-use Rattle.world_core.specs.Answers.{Answer, answered, nothing, setting, setting_at, ticked, ticking, ticking_at}
+use Rattle.pick_core.specs.Sensors.{is_enabled}
+use Rattle.world_core.specs.Answers.{Answer, answered, meeting, met, nothing, setting, setting_at, ticked, ticking, ticking_at}
 use Rattle.world_core.specs.declared.world.WorldData.{WorldData}
 
 -- ---- the clock ticks
+
+and-parts : (a b : Bool) → (a && b) ≡ true → (a ≡ true) × (b ≡ true)
+and-parts true b h = (refl, h)
+and-parts false b h = cc
+
+-- the time of an input is one at which a time sensor ticks
+pub record IsTimely (t : ℤ) : Type 0 where
+  pub fits : FitsSigned w64 t
+  pub after : pos 0 ≤ℤ t
+  pub late : t ≤ℤ pos (10 ^ 18)
+
+fitting : (t : ℤ) → pos 0 ≤ℤ t → t ≤ℤ pos (10 ^ 18) → FitsSigned w64 t
+fitting (pos n) first last = record { sfits = omega (arith, ints) }
+fitting (negsuc n) first last = record { sfits = omega (arith, ints) }
+
+pub timely : (t : ℤ) → IsTrue (is_input_time t) → IsTimely t
+timely t fits =
+    let parts = and-parts (int_le (pos 1) t) (int_le t (pos max_time)) fits in
+    let first : int_le (pos 1) t ≡ true = parts.0 in
+    let last : int_le t (pos max_time) ≡ true = parts.1 in
+    let after : pos 0 ≤ℤ t = grind (arith, ints) in
+    let late : t ≤ℤ pos (10 ^ 18) = grind (arith, ints) in
+    record { fits = fitting t after late; after = after; late = late }
 
 module _ (w : WorldData) (node : ℕ) (now : ℤ) where
   pub tick-nowhere : slice_get w.fields node ≡ None → nothing w ≡ ticked w node now
@@ -116,3 +146,40 @@ module _ (w : WorldData) (node : ℕ) where
   pub forget-replies : (touch : Option Touch) → slice_get w.touches node ≡ touch → (old new : List Reply) → new ≡ old ++ forgotten touch →
       new ≡ old ++ forgotten (slice_get w.touches node)
   forget-replies touch here old new is = is ∙ ap (λ (t : Option Touch). old ++ forgotten t) (sym here)
+
+-- ---- a touch sensor meets a pointer
+
+module _ (scene : SceneView) (w : WorldData) (node : ℕ) (p : Pointing) (before : Bool) (place : Option Vec3) where
+  pub met-off : is_enabled scene w.fields node ≡ false → nothing w ≡ met scene w node p before place
+  unfolding met
+  met-off off = rw off refl
+
+  module _ (on : is_enabled scene w.fields node ≡ true) where
+    pub met-nowhere : slice_get w.touches node ≡ None → nothing w ≡ met scene w node p before place
+    unfolding met
+    met-nowhere none = rw (on, none) refl
+
+    module _ (touch : Touch) (here : slice_get w.touches node ≡ Some touch) (who : ℕ) (down : Bool) (inside : Option Vec3)
+        (by : who ≡ p.who) (pressing : down ≡ p.down) (there : inside ≡ place) where
+      meets : meeting w node p before place (Some touch) ≡ met scene w node p before place
+      unfolding met
+      meets = rw (on, here) refl
+
+      -- the world and the replies of a touch sensor that meets a pointer
+      pub met-world : (new : Touch) (touches : List Touch) → new ≡ (point touch (pointer who before down inside) w.last_time).touch → touches ≡ slice_set w.touches node new →
+          record w { touches = touches } ≡ answered w (met scene w node p before place)
+      met-world new touches is all =
+          ap (λ (ts : List Touch). record w { touches = ts }) (all ∙ ap (slice_set w.touches node) (is
+          ∙ ap (λ (n : ℕ). (point touch (pointer n before down inside) w.last_time).touch) by
+          ∙ ap (λ (b : Bool). (point touch (pointer p.who before b inside) w.last_time).touch) pressing
+          ∙ ap (λ (o : Option Vec3). (point touch (pointer p.who before p.down o) w.last_time).touch) there))
+          ∙ ap (answered w) meets
+
+      pub met-replies : (replies : List Reply) → replies ≡ (point touch (pointer who before down inside) w.last_time).replies →
+          replies ≡ (met scene w node p before place).replies
+      met-replies replies is =
+          is
+          ∙ ap (λ (n : ℕ). (point touch (pointer n before down inside) w.last_time).replies) by
+          ∙ ap (λ (b : Bool). (point touch (pointer p.who before b inside) w.last_time).replies) pressing
+          ∙ ap (λ (o : Option Vec3). (point touch (pointer p.who before p.down o) w.last_time).replies) there
+          ∙ ap (λ (a : Answer). a.replies) meets

@@ -1,14 +1,16 @@
 -- The nodes of a scene by their shapes and by their types.
-use Rattle.std.proofs.Common.{◌≡◌, ℕ, List, [], ◌∷◌, zero, suc, refl, Option, Some, None, map}
+use Rattle.std.proofs.Common.{◌≡◌, ℕ, List, [], ◌∷◌, zero, suc, refl, Option, Some, None, map, true, false}
 use Rattle.std.specs.Prelude.{slice_get}
 use Rattle.std.specs.Option.{option_map_or}
 use Rattle.x3d_values.specs.declared.node_type.NodeType.{NodeType}
 use Rattle.x3d_values.specs.declared.value.Value.{Value}
+use Rattle.x3d_values.specs.Tables.{Entry}
+use Rattle.react_core.specs.Reaction.{is_time_sensor}
 use Rattle.scene_core.specs.Scene.{SceneView, rows_at, shape_of, shapes_of, types_of}
 use Rattle.scene_core.specs.Shape.{Shape, rows_of}
 use Rattle.scene_core.specs.declared.scene.End.{End}
 use Rattle.scene_core.specs.declared.scene.SceneNode.{SceneNode}
-use Rattle.world_core.specs.Answers.{answer, answer_as, answer_by, nothing}
+use Rattle.world_core.specs.Answers.{answer, answer_as, answer_by, is_script, is_touch_sensor, not_run, nothing, setting_at, touching}
 use Rattle.world_core.specs.declared.world.WorldData.{WorldData}
 
 -- a node of a scene with its type has a shape of that type
@@ -50,3 +52,16 @@ pub answer-none : (scene : SceneView) (w : WorldData) (target : End) (v : Value)
     nothing w ≡ answer (shapes_of scene) w target v
 unfolding answer
 answer-none scene w target v h = rw (no_shape scene.nodes target.node h) refl
+
+-- ---- an event, by the type of its target
+
+module _ (w : WorldData) (target : End) (v : Value) (kind : NodeType) (field : Option Entry) where
+  pub by-time : is_time_sensor kind ≡ true → setting_at w target v (slice_get w.fields target.node) ≡ answer_by w target v kind field
+  by-time is = rw is refl
+
+  module _ (timeless : is_time_sensor kind ≡ false) where
+    pub by-touch : is_touch_sensor kind ≡ true → touching w target v (slice_get w.fields target.node) ≡ answer_by w target v kind field
+    by-touch is = rw (timeless, is) refl
+
+    pub by-script : is_touch_sensor kind ≡ false → is_script kind ≡ true → not_run w target v field (slice_get w.fields target.node) ≡ answer_by w target v kind field
+    by-script untouched is = rw (timeless, untouched, is) refl

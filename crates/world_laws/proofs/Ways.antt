@@ -7,7 +7,7 @@ use Rattle.react_core.specs.declared.place.Place.{Place}
 use Rattle.react_core.specs.Keys.{are_rising, rise_from, reached, have_steps, IsStep}
 use Rattle.react_core.specs.Interpolation.{part_way, place_of, place_among, key_at, last_reached}
 use Rattle.react_core.proofs.KeyLemmas.{IsPassedAt, rise_from-above, reached-passed, IsStep-passed}
-use Rattle.react_core.proofs.PlaceLemmas.{IsBetween-step}
+use Rattle.react_core.proofs.PlaceLemmas.{is_between}
 use Rattle.react_core.proofs.PartLemmas.{quotient_small, down_part}
 use Rattle.byte_codec.proofs.Laws.{both, and_true}
 use Rattle.snapshot_codec.specs.Values.{is_within}
@@ -144,9 +144,7 @@ among keys fraction h = first (int_le fraction (key_at keys 0)) refl
     last : int_le fraction (key_at keys 0) ≡ false → (c : Bool) → int_le (key_at keys (length keys - 1)) fraction ≡ c → IsPart (place_among keys fraction)
     last e true f = rw (e, f) (record { short = omega arith; some = omega arith })
     last e false f =
-        let low : key_at keys 0 <ℤ fraction = grind (arith, ints) in
-        let high : fraction <ℤ key_at keys (length keys - 1) = grind (arith, ints) in
-        let b = IsBetween-step keys fraction (last_reached keys fraction) (step_is keys fraction h) low high in
+        let b = is_between keys fraction (last_reached keys fraction) (step_is keys fraction h) e f in
         let above = b.above in
         let below = b.below in
         rw (e, f) (record { short = omega (arith, ints, above, below); some = omega (arith, ints, above, below) })

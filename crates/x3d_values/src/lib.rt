@@ -4,9 +4,9 @@
 //! Of the table: `field_type` and `node_type` are the types with what may be done with them,
 //! `names` their words, `rows` the table itself, `default` what stands where a scene gives nothing,
 //! `table` fields by name and number, `aliases` fields as routes name them, `laws` what holds of
-//! all rows. Of values: `vector` and `value` are the values, `show` their texts, `fields` what a
-//! node keeps, `script` what a scene asks of scripts. Of inputs: `ranges` has the limits,
-//! `pointing` rays and pointers, `stamped` the numbered input.
+//! all rows. Of values: `vector` and `value` are the values, `show` their texts, `pieces` rows of
+//! texts, `fields` what a node keeps, `script` what a scene asks of scripts. Of inputs: `ranges` has
+//! the limits, `pointing` rays and pointers, `stamped` the numbered input.
 #![tactic(auto)]
 
 mod aliases;
@@ -16,6 +16,7 @@ mod fields;
 mod laws;
 mod names;
 mod node_type;
+mod pieces;
 mod pointing;
 mod ranges;
 mod rows;
@@ -32,6 +33,7 @@ pub use field_type::{Access, FieldType};
 pub use fields::{Fields, Position};
 pub use laws::table_law;
 pub use node_type::{NodeKind, NodeType};
+pub use pieces::push_pieces;
 pub use pointing::{Point, Pointer, Ray};
 pub use ranges::{
     MAX_COORDINATE, MAX_DEPTH, MAX_INPUTS, MAX_TIME, MAX_VIEWERS, coordinate_fits, is_input_number,

@@ -4,7 +4,7 @@ use Rattle.std.proofs.lemmas.Result.{on_ok_weaker}
 use Rattle.x3d_values.proofs.Joined.{next, appended, grows, onward, perhaps}
 use Rattle.classic_tree.specs.Writing.{line_text, declaration_text, item_text, node_text, statement_text}
 use Rattle.classic_tree.proofs.Equations.{node_text-full, proto_text_is}
-use Rattle.classic_tree.proofs.Grown.{thrice, all_lines}
+use Rattle.classic_tree.proofs.Grown.{thrice, all_lines, falls_within}
 use Rattle.classic_tree.proofs.writer.+push.Goals as goal
 
 pub push_node-returns-in_ok-push-in-Full-clause-ok :
@@ -161,3 +161,13 @@ push_node-returns-in_err-push-in-Full-clause-kept t c = onward c.in_ok-push_head
 
 pub push_proto-returns-clause-kept : goal.push_proto-returns-clause-kept
 push_proto-returns-clause-kept t c = onward c.in_ok-push_proto_head.ensures.kept (onward c.in_ok-push_interface.ensures.kept c.push_body.ensures.kept)
+
+-- ---- that what is inside takes fewer steps
+
+pub push_item_lines-push_item-requires : goal.push_item_lines-push_item-requires
+push_item_lines-push_item-requires t c =
+    (falls_within _ c.args.items.now c.loop-item.item-index c.item-item.result t c.loop-item-test.true c.item-item.is c.decreases, tt)
+
+pub push_node_lines-push_node-requires : goal.push_node_lines-push_node-requires
+push_node_lines-push_node-requires t c =
+    (falls_within _ c.args.nodes.now c.loop-node.node-index c.node-item.result t c.loop-node-test.true c.node-item.is c.decreases, tt)

@@ -3,7 +3,7 @@ use Rattle.std.proofs.lemmas.Int.{ints, to_z-of_z}
 use mir.Syntax.{w64}
 use mir.Val.{SFits}
 use Rattle.react_core.specs.Interpolation.{part_way}
-use Rattle.react_core.proofs.PartLemmas.{is_up_within, is_down_within, up_part, down_part}
+use Rattle.react_core.proofs.PartLemmas.{quotient_small, is_up_within, quotient_below, is_down_within, up_part, down_part}
 use Rattle.react_core.proofs.part.part_way.Goals as goal
 
 pub moved_up-requires : goal.moved_up-requires
@@ -44,3 +44,13 @@ returns-then-from-to c =
     let moved = simp to_z-of_z at c.moved_up.ensures in
     let r : SFits w64 c.moved_up.result = record { sfits = c.moved_up.type_inv } in
     simp to_z-of_z (moved ∙ ap (λ z. c.args.from +ℤ z) (sym (up_part c.args.from c.args.to c.abs_diff.result c.args.part c.args.whole h e)))
+
+pub overflow_cast-product-then-from-to : goal.overflow_cast-product-then-from-to
+overflow_cast-product-then-from-to c =
+    let small = quotient_small c.abs_diff.result c.args.part c.args.whole c.requires.is_part c.requires.is_whole in
+    record { fits = omega arith }
+
+pub overflow_cast-product-else-product-eq0 : goal.overflow_cast-product-else-product-eq0
+overflow_cast-product-else-product-eq0 c =
+    let below = quotient_below c.abs_diff.result c.args.part c.args.whole c.requires.is_part c.requires.is_whole c.if-product-eq0.false in
+    record { fits = omega arith }

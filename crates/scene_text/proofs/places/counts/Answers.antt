@@ -1,4 +1,5 @@
-use Rattle.std.proofs.Common.{◌∙◌, arith}
+use Rattle.std.proofs.Common.{◌∙◌, ap, arith, take_all}
+use Rattle.scene_text.specs.Places.{times}
 use Rattle.scene_text.proofs.Ranges.{times_more}
 use Rattle.scene_text.proofs.places.counts.Goals as goal
 
@@ -15,3 +16,7 @@ loop-node-preserved c = record {
       let before = c.loop-node.invariant.each n within in
       cc;
 }
+
+pub returns-clause-each : goal.returns-clause-each
+returns-clause-each c =
+    λ n within. c.loop-node.invariant.each n within ∙ ap (times n) (take_all c.loop-node.node-index c.args.nodes.now c.loop-node-test.false)

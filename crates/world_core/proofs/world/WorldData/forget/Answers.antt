@@ -1,7 +1,7 @@
-use Rattle.std.proofs.Common.{rules, ◌≡◌, ◌∙◌, ap, refl, sym, ◌++◌, Some, None}
+use Rattle.std.proofs.Common.{rules, ◌≡◌, ◌∙◌, ap, refl, sym, Some, None}
 use Rattle.std.proofs.lemmas.List.{append-nil}
 use Rattle.std.specs.Prelude.{slice_get, slice_set}
-use Rattle.world_core.proofs.Sensing.{forget-replies, forget-world, forgets, forgotten}
+use Rattle.world_core.proofs.Sensing.{forget-replies, forget-world}
 use Rattle.world_core.proofs.world.WorldData.forget.Goals as goal
 
 pub returns-in_default-clause-world : goal.returns-in_default-clause-world

@@ -1,8 +1,0 @@
-use Rattle.x3d_values.proofs.Joined.{grows, perhaps}
-use Rattle.classic_tree.proofs.parts.push_place.Goals as goal
-
-pub returns-in_err-push-clause-kept : goal.returns-in_err-push-clause-kept
-returns-in_err-push-clause-kept c = grows _ c.in_ok-extend_from_slice.ensures.items (perhaps _ _ c.push.ensures.items)
-
-pub returns-clause-kept : goal.returns-clause-kept
-returns-clause-kept c = grows _ c.in_ok-extend_from_slice.ensures.items (grows _ c.in_ok-push.ensures.items (perhaps _ _ c.extend_from_slice-2.ensures.items))
