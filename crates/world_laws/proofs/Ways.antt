@@ -8,15 +8,12 @@ use Rattle.react_core.specs.Keys.{are_rising, rise_from, reached, have_steps, Is
 use Rattle.react_core.specs.Interpolation.{part_way, place_of, place_among, key_at, last_reached}
 use Rattle.react_core.proofs.KeyLemmas.{IsPassedAt, rise_from-above, reached-passed, IsStep-passed}
 use Rattle.react_core.proofs.PlaceLemmas.{is_between}
-use Rattle.react_core.proofs.PartLemmas.{quotient_small, down_part}
+use Rattle.react_core.proofs.PartLemmas.{quotient_small, quotient_below, down_part}
 use Rattle.byte_codec.proofs.Laws.{both, and_true}
 use Rattle.snapshot_codec.specs.Values.{is_within}
 use Rattle.world_laws.proofs.Rows.{some_is}
 
 -- ---- part of a way
-
-some_left : (d part whole : ℕ) → part ≤ whole → 0 < whole → d * part ≢ 0 → (d * part - 1) / whole < d
-some_left d part whole h p n = grind arith
 
 none_of : (n whole : ℕ) → 0 < whole → n * 0 / whole ≡ 0
 none_of n whole p = grind arith
@@ -44,7 +41,7 @@ down from to (suc part) whole h p w =
     let some : 0 < d = omega (arith, ints, h) in
     let n : d * suc part ≢ 0 = λ e. grind arith in
     let is = down_part (to -ℤ from) d (suc part) whole (omega (arith, ints, h)) refl n in
-    let small = some_left d (suc part) whole p w n in
+    let small = quotient_below d (suc part) whole p w n in
     rw is (omega (arith, ints, small, h), omega (arith, ints))
 
 pub way_within : (limit part whole : ℕ) (from to : ℤ) → part ≤ whole → 0 < whole → is_within limit from ≡ true → is_within limit to ≡ true → is_within limit (part_way part whole from to) ≡ true
