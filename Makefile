@@ -1,7 +1,7 @@
 # `make run` shows the program at work, `make test` is the gate.
 SHELL := bash
 .SHELLFLAGS := -eu -o pipefail -c
-.PHONY: run try share test cases check definitions bench format install
+.PHONY: run try share test cases prefixes refusals check definitions calls bench format install
 
 JOB ?= examples/two-clocks.job
 PREFIX ?= /usr/local
@@ -25,12 +25,15 @@ share:
 	@scripts/share
 
 # The gate: every proof from nothing, the must-fail edits, the tests; and then, by the program that
-# was proved, the cases, the examples and a shared world over UDP.
+# was proved, the cases, the examples, prefixes of their scenes, each growth of memory refused in turn,
+# and a shared world over UDP.
 test: definitions
 	@log=$$(mktemp); trap 'rm -f "$$log"' EXIT; \
 	rt ci 2>&1 | tee "$$log"; \
 	scripts/cases; \
-	scripts/share || scripts/share || scripts/share; \
+	scripts/prefixes; \
+	scripts/refusals; \
+	scripts/share; \
 	tail -n 1 "$$log"
 
 # Proves and builds the program, and runs it on the cases of cases/ and the examples.
@@ -38,13 +41,32 @@ cases:
 	@cd crates/x3d_share && rt run -- --version > /dev/null
 	@scripts/cases
 
+# Proves and builds the program, and runs it on every prefix of the scenes of cases/ and examples/.
+prefixes:
+	@cd crates/x3d_share && rt run -- --version > /dev/null
+	@scripts/prefixes
+
+# Proves and builds the program, and refuses it memory at each place in turn. Wants a C compiler, as do
+# the prefixes.
+refusals:
+	@cd crates/x3d_share && rt run -- --version > /dev/null
+	@scripts/refusals
+
 # While you edit: every crate, over what earlier checks kept.
 check: definitions
 	@rt all check
 
-# Whether docs/DEFINITIONS.md lists every file that a definition to believe uses.
+# Whether docs/DEFINITIONS.md lists every file that a definition to believe uses, and the test of the
+# stored snapshots has their bytes.
 definitions:
 	@scripts/definitions
+	@scripts/pages
+	@scripts/calls
+	@scripts/snapshots
+
+# Which public functions no other crate, no test and not the program calls.
+calls:
+	@scripts/calls --all
 
 format:
 	@for crate in crates/*; do (cd $$crate && rt fmt) || exit 1; done

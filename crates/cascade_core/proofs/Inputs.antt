@@ -1,5 +1,5 @@
 -- An input by its parts: it begins, it happens, and scripts settle.
-use Rattle.std.proofs.Common.{◌≡◌, ◌∙◌, ℤ, ap, subst, sym, List, []}
+use Rattle.std.proofs.Common.{◌≡◌, ◌∙◌, true, ℤ, ap, subst, sym, List, []}
 use Rattle.x3d_values.specs.declared.script.Kind.{Kind}
 use Rattle.x3d_values.specs.declared.stamped.Event.{Event}
 use Rattle.x3d_values.specs.Stamp.{Stamp}
@@ -8,6 +8,7 @@ use Rattle.scene_core.specs.declared.scene.Route.{Route}
 use Rattle.scene_scripts.specs.declared.runs.Run.{Run}
 use Rattle.script_host.specs.Hosting.{ScriptRecord}
 use Rattle.script_turn.specs.Acting.{kinds_of}
+use Rattle.script_due.specs.Settling.{all_differ}
 use Rattle.cascade_core.specs.Apply.{after_input, apply, begin, begun, happen}
 use Rattle.cascade_core.specs.Course.{Course, Plan, Scripted, course, ended, plan_at, plan_of}
 use Rattle.cascade_core.specs.Scripts.{kinds_in, running, states_of}
@@ -19,6 +20,7 @@ use Rattle.world_core.specs.declared.world.Turn.{Turn}
 use Rattle.cascade_core.proofs.Gained.{gain-input}
 use Rattle.cascade_core.proofs.Gains.{IsGain}
 use Rattle.cascade_core.proofs.Keeping.{happen-of}
+use Rattle.cascade_core.proofs.SettleLemmas.{settles_all}
 use Rattle.cascade_core.proofs.SoundLemmas.{cast-counted, cast_stands}
 
 -- no script was settled before what happened is over
@@ -45,6 +47,11 @@ begun-same scene old new input is run kinds =
 pub after-same : (scene : SceneView) (plan : Plan) (c d e : Course) (input : Stamp) → d ≡ happen scene plan input.time c input.event → e ≡ settle plan d →
     e ≡ after_input scene plan c input
 after-same scene plan c d e input happened settled = settled ∙ ap (λ (x : Course). settle plan x) happened
+
+-- it settles each script once
+pub settled-once : (scene : SceneView) (plan : Plan) (c : Course) (input : Stamp) → c.settling.settled ≡ [] → all_differ (after_input scene plan c input).settling.settled ≡ true
+settled-once scene plan c input none =
+    (settles_all plan (happen scene plan input.time c input.event) (happen-fresh scene plan input.time c input.event none)).1
 
 -- it does so by the plan of the scene
 pub input-same : (scene : SceneView) (plan real : Plan) (c b e : Course) (input : Stamp) → e ≡ after_input scene plan c input → plan ≡ real → c ≡ b →

@@ -63,10 +63,14 @@ begun scene w input = course (begin w.world input) (running (kinds_in scene) w.s
 abbrev pub after_input : SceneView → Plan → Course → Stamp → Course
 after_input scene plan c input = settle plan (happen scene plan input.time c input.event)
 
+-- the course of an input at its end
+abbrev pub course_after : SceneView → List Route → Scripted → Stamp → Course
+course_after scene routes w input =
+    after_input scene (plan_of scene routes) (begun scene w input) input
+
 -- the world after an input
 unfoldable pub apply : SceneView → List Route → Scripted → Stamp → Scripted
-apply scene routes w input =
-    ended (after_input scene (plan_of scene routes) (begun scene w input) input)
+apply scene routes w input = ended (course_after scene routes w input)
 
 -- the world after a list of inputs
 abbrev pub world_after : SceneView → List Route → Scripted → List Stamp → Scripted

@@ -6,7 +6,7 @@ use Rattle.x3d_values.specs.Stamp.{Stamp}
 use Rattle.scene_core.specs.declared.scene.Route.{Route}
 use Rattle.scene_core.specs.Scene.{SceneView}
 use Rattle.cascade_core.specs.Course.{Scripted}
-use Rattle.cascade_core.specs.Apply.{apply}
+use Rattle.cascade_core.specs.Apply.{apply, course_after}
 use Rattle.stage_answers.specs.declared.fault.ApplyFault.{ApplyFault}
 use Rattle.stage_answers.specs.declared.fault.ApplyFault.TheVariants as fault
 use Rattle.trace_core.specs.declared.trace.TraceLine.{TraceLine}
@@ -83,6 +83,14 @@ after_held scene routes (Spoiled n) input = Spoiled n
 -- the stage after an input that it takes
 abbrev pub after : StageView → Stamp → StageView
 after stage input = holding stage (after_held stage.scene stage.routes stage.held input)
+
+-- the scripts that settle at an input that a stage takes, in order
+abbrev pub settled_in : SceneView → List Route → Held → Stamp → List ℕ
+settled_in scene routes (Running w) input = (course_after scene routes w input).settling.settled
+settled_in scene routes (Spoiled n) input = []
+
+abbrev pub settled_by : StageView → Stamp → List ℕ
+settled_by stage input = settled_in stage.scene stage.routes stage.held input
 
 -- the stage after a list of inputs that it takes
 abbrev pub after_all : StageView → List Stamp → StageView

@@ -3,6 +3,7 @@ use Rattle.std.specs.Prelude.{ℕ, ◌≡◌, true, ◌++◌, List, length, map,
 use Rattle.scene_core.specs.declared.scene.End.{End}
 use Rattle.scene_core.specs.declared.scene.Route.{Route}
 use Rattle.trace_core.specs.Ends.{all_differ, has_sent}
+use Rattle.script_due.specs.Settling.{all_differ as scripts_differ}
 use Rattle.stage_answers.specs.declared.work.Work.{Work}
 use Rattle.trace_core.specs.declared.trace.TraceLine.{TraceLine}
 
@@ -11,7 +12,7 @@ abbrev pub sources_of : List TraceLine → List End
 sources_of lines = map (λ line. line.source) lines
 
 -- the trace gained these lines, of different outputs; the work counts them, and the routes whose
--- source sent; and the scripts that were settled
+-- source sent; and the scripts that were settled, each once
 pub record IsWork (routes : List Route) (old new : List TraceLine) (settled : List ℕ) (work : Work)
     : Type 0 where
   pub lines : List TraceLine
@@ -19,4 +20,5 @@ pub record IsWork (routes : List Route) (old new : List TraceLine) (settled : Li
   pub differ : all_differ (sources_of lines) ≡ true
   pub sends : work.sends ≡ length lines
   pub deliveries : work.deliveries ≡ count_by (λ r. has_sent (sources_of lines) r.source) routes
+  pub once : scripts_differ settled ≡ true
   pub settles : work.settles ≡ length settled

@@ -6,12 +6,12 @@ ghost use Rattle.pick_core.specs.Sites.{rows_of};
 ghost use Rattle.script_turn.specs.Acting.{kinds_of};
 ghost use Rattle.cascade_core.specs.Course.{plan_at, seen};
 ghost use Rattle.cascade_core.specs.Sound.{IsCast, IsFixed};
-ghost use Rattle.cascade_core.specs.Course.{course as course_of, ended, plan_of};
+ghost use Rattle.cascade_core.specs.Course.{course as course_of, ended};
 ghost use Rattle.cascade_core.specs.Scripts.{kinds_in, running, states_of};
 ghost use Rattle.cascade_core.specs.Apply.{begin as begin_of};
 ghost use Rattle.world_core.specs.Nodes.{clocks_of, touch_sensors_of};
 ghost use Rattle.cascade_core.specs.Work.{IsWork};
-ghost use Rattle.cascade_core.specs.Apply.{after_input, apply, begun, happen};
+ghost use Rattle.cascade_core.specs.Apply.{apply, course_after, happen};
 
 use crate::bench::{Bench, Sensors};
 use crate::clock::clock;
@@ -97,8 +97,8 @@ pub fn advance<B: Behaviour>(
         (bench.new.boxes ≡ rows_of fixed.now.scene course.new.turn.world.fields) }
     ensures work { IfOk result
         (IsWork fixed.now.routes course.old.turn.world.trace course.new.turn.world.trace
-        (after_input fixed.now.scene (plan_of fixed.now.scene fixed.now.routes)
-        (begun fixed.now.scene (ended (seen course.old)) input.now) input.now).settling.settled) }
+        (course_after fixed.now.scene fixed.now.routes (ended (seen course.old))
+        input.now).settling.settled) }
     ensures kinds { kinds_of course.new.scripts ≡ kinds_of course.old.scripts }
     ensures count { course.new.settling.count ≡ course.old.settling.count }
 {

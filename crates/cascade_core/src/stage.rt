@@ -58,10 +58,10 @@ impl<B: Behaviour> Model for Stage<B> {
 }
 
 impl<B: Behaviour> Stage<B> {
-    ghost use Rattle.std.specs.Prelude.{◌≡◌, ◌++◌, ◌⊎◌, ℕ, ℤ, List, IfOk, IfErr, IfNone, IfSome, IsSomeAnd, None, Some, OnOk, OnErr, length, option_copied, slice_get};
+    ghost use Rattle.std.specs.Prelude.{◌≡◌, ◌++◌, ◌⊎◌, IfOk, IfErr, IfNone, IfSome, IsSomeAnd, None, Some, OnOk, OnErr, length, option_copied, slice_get};
     ghost use Rattle.cascade_core.specs.Apply.{opening};
     ghost use Rattle.cascade_core.specs.Scripts.{kinds_in, scripts_in};
-    ghost use Rattle.cascade_core.specs.Held.{Running, after, holding, refusal_of, spoiled as spoiled_of, applied_of, IfRunning, IfSpoiled, is_spoiled, trace_of, world_in};
+    ghost use Rattle.cascade_core.specs.Held.{Running, after, holding, refusal_of, settled_by, spoiled as spoiled_of, applied_of, IfRunning, IfSpoiled, is_spoiled, trace_of, world_in};
     ghost use Rattle.cascade_core.specs.Installing.{RefusesBox, RefusesInstall, StatesFit};
     ghost use Rattle.cascade_core.specs.Texts.{trace_text, scene_text};
     ghost use Rattle.cascade_core.specs.Work.{IsWork};
@@ -179,10 +179,10 @@ impl<B: Behaviour> Stage<B> {
         ensures refused { IfSome (refusal_of self.old.held input.now) (λ fault. (result ≡ Err fault)
             × (self.new ≡ self.old)) }
         ensures ok { OnOk result (self.new ≡ after self.old input.now) }
+        // It settled the scripts that the definition settles at this input.
         ensures work { IfOk result
-            (λ work. (settled : List ℕ)
-            × IsWork self.old.routes (trace_of self.old.held) (trace_of self.new.held) settled
-            work) }
+            (IsWork self.old.routes (trace_of self.old.held) (trace_of self.new.held)
+            (settled_by self.old input.now)) }
         ensures taken { OnOk result (refusal_of self.old.held input.now ≡ None) }
         ensures err { IfErr result (λ fault. (fault ≡ ApplyFault.Memory)
             ⊎ (refusal_of self.old.held input.now ≡ Some fault)) }

@@ -2,6 +2,7 @@ pub mod Documents
 pub mod Fields
 pub mod Heads
 pub mod Levels
+pub mod Lined
 pub mod Nodes
 pub mod Numbers
 pub mod Pieces

@@ -4,5 +4,7 @@
 mod laws;
 mod writing;
 
-pub use laws::{spellable_documents_are_written, spelled_documents_are_spellable};
+pub use laws::{
+    spellable_documents_are_written, spelled_documents_are_spellable, written_texts_stay,
+};
 pub use writing::write;

@@ -4,6 +4,7 @@ mod clocks;
 mod datagrams;
 mod lists;
 mod memory;
+mod naming;
 mod numerals;
 mod passing;
 mod reaction_growths;

@@ -1,5 +1,5 @@
 -- Routes without repeats.
-use Rattle.std.specs.Prelude.{ℕ, ◌==◌, ◌&&◌, Bool, List, [], ◌∷◌, ◌++◌, take, if◌then◌else◌}
+use Rattle.std.specs.Prelude.{ℕ, ◌==◌, ◌&&◌, Bool, List, [], ◌∷◌, ◌++◌, if◌then◌else◌}
 use Rattle.std.specs.List.{fold, list_any}
 use Rattle.scene_core.specs.declared.scene.End.{End}
 use Rattle.scene_core.specs.declared.scene.Route.{Route}
@@ -14,6 +14,6 @@ same_route a b = same_end a.source b.source && same_end a.target b.target
 abbrev pub added : List Route → Route → List Route
 added routes r = if list_any (same_route r) routes then routes else routes ++ r ∷ []
 
--- each route where it stands first, at most so many
-abbrev pub firsts_up_to : ℕ → List Route → List Route
-firsts_up_to most routes = take most (fold added [] routes)
+-- each route where it stands first
+abbrev pub firsts : List Route → List Route
+firsts routes = fold added [] routes

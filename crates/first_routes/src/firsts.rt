@@ -1,25 +1,20 @@
 //! Each route where it stands first.
 
 ghost use Rattle.std.specs.Prelude.{◌≡◌, IfOk};
-ghost use Rattle.first_routes.specs.Firsts.{firsts_up_to};
+ghost use Rattle.first_routes.specs.Firsts.{firsts};
 
 use indexmap::IndexSet;
 use scene_core::Route;
 use std::alloc::{AllocError, Global};
 use x3d_lists::Items;
 
-/// Each route where it stands first, at most so many.
-pub fn without_repeats(
-    alloc: Global,
-    routes: &[Route],
-    most: usize,
-) -> Result<Items<Route>, AllocError>
-    ensures { IfOk result (λ firsts. firsts ≡ firsts_up_to most routes.now) }
+/// Each route where it stands first.
+pub fn without_repeats(alloc: Global, routes: &[Route]) -> Result<Items<Route>, AllocError>
+    ensures { IfOk result (λ all. all ≡ firsts routes.now) }
 {
-    let mut firsts = IndexSet::new(alloc);
+    let mut kept = IndexSet::new(alloc);
     for route in routes {
-        firsts.insert(*route)?;
+        kept.insert(*route)?;
     }
-    let count = most.min(firsts.len());
-    Items::from_slice(alloc, &firsts.as_slice()[..count])
+    Items::from_slice(alloc, kept.as_slice())
 }

@@ -20,16 +20,16 @@ use Rattle.share_core.proofs.Rewinds.{rewind-step}
 use Rattle.world_laws.specs.Worlds.{IsDocument}
 use Rattle.network_laws.proofs.Saved.{saved_have}
 
-pub own_rewind : (flat : Flat) (scene : SceneView) (routes : List Route) (net : Network Scripted)
-    → IsDocument flat scene routes → RunsAll scene → Reached (cascade scene routes) net
+pub taken_rewind : (flat : Flat) (scene : SceneView) (routes : List Route) (mark : List ℕ) (net : Network Scripted)
+    → IsDocument flat scene routes → RunsAll scene → Reached (cascade mark scene routes) net
     → (s : ℕ) (from : Shot Scripted) → slice_get net.shots s ≡ Some from
     → length from.state.world.trace < 2 ^ 64 → from.boot < 2 ^ 32
     → (v : ViewerView) → v.scene ≡ scene → length v.mark ≡ 32
     → (boot : ℕ) (result : Result ℕ SnapFault) (new : ViewerState Scripted)
     → IsRewound v boot (shot v.mark from.boot scene from.state) result new
     → IsRewind (machine_of v) v.state from boot result new
-own_rewind flat scene routes net d run reached s from at few small v same long boot result new rewound =
+taken_rewind flat scene routes mark net d run reached s from at few small v same long boot result new rewound =
     let has : HasSnapshot v.scene from.state =
-    subst (λ (x : SceneView). HasSnapshot x from.state) (sym same) (saved_have flat scene routes net d run reached s from at few) in
+    subst (λ (x : SceneView). HasSnapshot x from.state) (sym same) (saved_have flat scene routes mark net d run reached s from at few) in
     let its = subst (λ (x : SceneView). IsRewound v boot (shot v.mark from.boot x from.state) result new) (sym same) rewound in
     rewind-step v boot (shot v.mark from.boot v.scene from.state) result new long its from small has refl

@@ -70,11 +70,11 @@ from_one k x e = omega (arith, e)
 
 -- ---- worlds
 
-module _ (flat : Flat) (scene : SceneView) (routes : List Route) (net : Network Scripted) (d : IsDocument flat scene routes) (run : RunsAll scene) (reached : Reached (cascade scene routes) net) where
+module _ (flat : Flat) (scene : SceneView) (routes : List Route) (mark : List ℕ) (net : Network Scripted) (d : IsDocument flat scene routes) (run : RunsAll scene) (reached : Reached (cascade mark scene routes) net) where
   pub front_inputs : (front back : List Stamp) → front ++ back ≡ net.host.list → AreInputs front
   front_inputs front back whole =
-      let sound : Sound (cascade scene routes) net = Sound-reached (cascade-is scene routes) reached in
-      let ranges : InRange net = (both-reached (cascade scene routes) net reached).0 in
+      let sound : Sound (cascade mark scene routes) net = Sound-reached (cascade-is mark scene routes) reached in
+      let ranges : InRange net = (both-reached (cascade mark scene routes) net reached).0 in
       let there : (k : ℕ) (x : Stamp) → slice_get front k ≡ Some x → slice_get net.host.list k ≡ Some x =
       λ k x at. subst (λ (l : List Stamp). slice_get l k ≡ Some x) whole (slice_get_left front back k x at) in
       record {
@@ -83,18 +83,18 @@ module _ (flat : Flat) (scene : SceneView) (routes : List Route) (net : Network 
         in_range = all_inputs front (λ k x at. ranges.list k x (there k x at));
       }
 
-  at_has : (w : Scripted) → IsAt (cascade scene routes) net.host.list w → length w.world.trace < 2 ^ 64 → HasSnapshot scene w
+  at_has : (w : Scripted) → IsAt (cascade mark scene routes) net.host.list w → length w.world.trace < 2 ^ 64 → HasSnapshot scene w
   at_has w a =
       subst (λ (v : Scripted). length v.world.trace < 2 ^ 64 → HasSnapshot scene v) (sym a.is)
       (all_have_snapshots flat scene routes a.done d run (front_inputs a.done a.todo a.whole))
 
   pub saved_have : (s : ℕ) (shot : Shot Scripted) → slice_get net.shots s ≡ Some shot → length shot.state.world.trace < 2 ^ 64 → HasSnapshot scene shot.state
   saved_have s shot at few =
-      let sound : Sound (cascade scene routes) net = Sound-reached (cascade-is scene routes) reached in
+      let sound : Sound (cascade mark scene routes) net = Sound-reached (cascade-is mark scene routes) reached in
       at_has shot.state (sound.shots s shot at) few
 
   pub running_have : (viewer : ℕ) (held : Scripted) (window : List (Option Stamp)) → IsRunning net viewer held window → length held.world.trace < 2 ^ 64 → HasSnapshot scene held
   running_have viewer held window r few =
-      let sound : Sound (cascade scene routes) net = Sound-reached (cascade-is scene routes) reached in
-      let step : InStep (cascade scene routes) net.host.list held window = subst (λ (v : View Scripted). ViewSound (cascade scene routes) net.host.list v) r.view (sound.viewers viewer r.seat r.is) in
+      let sound : Sound (cascade mark scene routes) net = Sound-reached (cascade-is mark scene routes) reached in
+      let step : InStep (cascade mark scene routes) net.host.list held window = subst (λ (v : View Scripted). ViewSound (cascade mark scene routes) net.host.list v) r.view (sound.viewers viewer r.seat r.is) in
       at_has held step.at few

@@ -63,14 +63,14 @@ module _ (text : List ℕ) (f : Flat) (scene : SceneView) (routes : List Route) 
   pub few_nodes : length scene.nodes ≤ 2 ^ 16
   few_nodes = omega (arith, scene_few f scene o.is_scene, nodes_few o.document f o.put_in)
 
-  module _ (run : RunsAll scene) (net : Network Scripted) (reached : Reached (cascade scene routes) net) where
+  module _ (run : RunsAll scene) (mark : List ℕ) (net : Network Scripted) (reached : Reached (cascade mark scene routes) net) where
     few_inputs : length net.host.list ≤ max_inputs
     few_inputs =
-        let sound : Sound (cascade scene routes) net = Sound-reached (cascade-is scene routes) reached in
-        let ranges : InRange net = (both-reached (cascade scene routes) net reached).0 in
+        let sound : Sound (cascade mark scene routes) net = Sound-reached (cascade-is mark scene routes) reached in
+        let ranges : InRange net = (both-reached (cascade mark scene routes) net reached).0 in
         omega (arith, numbered 0 net.host.list (omega arith) (λ k x at. from_none k x (sound.numbers k x at)) ranges.list)
 
-    pub few_lines : (w : Scripted) → IsAt (cascade scene routes) net.host.list w → length w.world.trace < 2 ^ 64
+    pub few_lines : (w : Scripted) → IsAt (cascade mark scene routes) net.host.list w → length w.world.trace < 2 ^ 64
     few_lines w a =
         let front : length a.done ≤ max_inputs = omega (arith, length-append a.done a.todo, ap length a.whole, few_inputs) in
         subst (λ (v : Scripted). length v.world.trace < 2 ^ 64) (sym a.is) (counted scene routes a.done run few_nodes front)
@@ -84,12 +84,12 @@ worlds_have text f scene routes inputs o run i =
     all_have_snapshots f scene routes inputs (is_document text f scene routes o) run i (counted scene routes inputs run (few_nodes text f scene routes o) few)
 
 pub saved_have : SavedOfTextsHaveSnapshots
-saved_have text f scene routes net o run reached s shot at =
-    let sound : Sound (cascade scene routes) net = Sound-reached (cascade-is scene routes) reached in
-    all_saved f scene routes net (is_document text f scene routes o) run reached s shot at (few_lines text f scene routes o run net reached shot.state (sound.shots s shot at))
+saved_have text f scene routes mark net o run reached s shot at =
+    let sound : Sound (cascade mark scene routes) net = Sound-reached (cascade-is mark scene routes) reached in
+    all_saved f scene routes mark net (is_document text f scene routes o) run reached s shot at (few_lines text f scene routes o run mark net reached shot.state (sound.shots s shot at))
 
 pub running_have : RunningOfTextsHaveSnapshots
-running_have text f scene routes net o run reached viewer held window r =
-    let sound : Sound (cascade scene routes) net = Sound-reached (cascade-is scene routes) reached in
-    let step : InStep (cascade scene routes) net.host.list held window = subst (λ (v : View Scripted). ViewSound (cascade scene routes) net.host.list v) r.view (sound.viewers viewer r.seat r.is) in
-    all_running f scene routes net (is_document text f scene routes o) run reached viewer held window r (few_lines text f scene routes o run net reached held step.at)
+running_have text f scene routes mark net o run reached viewer held window r =
+    let sound : Sound (cascade mark scene routes) net = Sound-reached (cascade-is mark scene routes) reached in
+    let step : InStep (cascade mark scene routes) net.host.list held window = subst (λ (v : View Scripted). ViewSound (cascade mark scene routes) net.host.list v) r.view (sound.viewers viewer r.seat r.is) in
+    all_running f scene routes mark net (is_document text f scene routes o) run reached viewer held window r (few_lines text f scene routes o run mark net reached held step.at)

@@ -18,16 +18,18 @@ use Rattle.world_laws.specs.Worlds.{IsDocument}
 -- were sent in 64 bits
 abbrev pub SavedHaveSnapshots : Type 0
 SavedHaveSnapshots =
-    (flat : Flat) (scene : SceneView) (routes : List Route) (net : Network Scripted)
-    → IsDocument flat scene routes → RunsAll scene → Reached (cascade scene routes) net
+    (flat : Flat) (scene : SceneView) (routes : List Route)
+    (mark : List ℕ) (net : Network Scripted)
+    → IsDocument flat scene routes → RunsAll scene → Reached (cascade mark scene routes) net
     → (s : ℕ) (shot : Shot Scripted) → slice_get net.shots s ≡ Some shot
     → length shot.state.world.trace < 2 ^ 64 → HasSnapshot scene shot.state
 
 -- and so has the world of each viewer that runs
 abbrev pub RunningHaveSnapshots : Type 0
 RunningHaveSnapshots =
-    (flat : Flat) (scene : SceneView) (routes : List Route) (net : Network Scripted)
-    → IsDocument flat scene routes → RunsAll scene → Reached (cascade scene routes) net
+    (flat : Flat) (scene : SceneView) (routes : List Route)
+    (mark : List ℕ) (net : Network Scripted)
+    → IsDocument flat scene routes → RunsAll scene → Reached (cascade mark scene routes) net
     → (viewer : ℕ) (held : Scripted) (window : List (Option Stamp))
     → IsRunning net viewer held window
     → length held.world.trace < 2 ^ 64 → HasSnapshot scene held

@@ -1,4 +1,4 @@
--- A viewer begins again by its own snapshot.
+-- A viewer begins again by a snapshot that was taken, its own or another viewer's.
 use Rattle.std.specs.Prelude.{◌≡◌, ℕ, ◌<◌, ◌^◌, List, length, Some, Result, slice_get}
 use Rattle.flat_document.specs.declared.flat.Flat.{Flat}
 use Rattle.scene_core.specs.declared.scene.Route.{Route}
@@ -21,10 +21,11 @@ use Rattle.world_laws.specs.Worlds.{IsDocument}
 -- (`IsRewound`, the clause of its call) is the network's step for that snapshot, so it is refused
 -- for its boot or for memory alone. The snapshot counts its boot in 32 bits and the events that
 -- were sent in 64
-abbrev pub OwnSnapshotsRewind : Type 0
-OwnSnapshotsRewind =
-    (flat : Flat) (scene : SceneView) (routes : List Route) (net : Network Scripted)
-    → IsDocument flat scene routes → RunsAll scene → Reached (cascade scene routes) net
+abbrev pub TakenSnapshotsRewind : Type 0
+TakenSnapshotsRewind =
+    (flat : Flat) (scene : SceneView) (routes : List Route)
+    (mark : List ℕ) (net : Network Scripted)
+    → IsDocument flat scene routes → RunsAll scene → Reached (cascade mark scene routes) net
     → (s : ℕ) (from : Shot Scripted) → slice_get net.shots s ≡ Some from
     → length from.state.world.trace < 2 ^ 64 → from.boot < 2 ^ 32
     → (v : ViewerView) → v.scene ≡ scene → length v.mark ≡ 32

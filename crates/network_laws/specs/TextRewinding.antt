@@ -1,4 +1,4 @@
--- A viewer of a scene that was read from a text begins again by its own snapshot.
+-- A viewer of a scene that was read from a text begins again by a snapshot that was taken.
 use Rattle.std.specs.Prelude.{◌≡◌, ℕ, ◌<◌, ◌^◌, List, length, Some, Result, slice_get}
 use Rattle.flat_document.specs.declared.flat.Flat.{Flat}
 use Rattle.scene_core.specs.declared.scene.Route.{Route}
@@ -20,10 +20,11 @@ use Rattle.network_laws.specs.Opened.{IsOpened}
 -- viewer of the scene makes of the bytes of a snapshot that was taken is the network's step for
 -- that snapshot, so it is refused for its boot or for memory alone. The snapshot counts its boot in
 -- 32 bits
-abbrev pub OwnSnapshotsOfTextsRewind : Type 0
-OwnSnapshotsOfTextsRewind =
-    (text : List ℕ) (f : Flat) (scene : SceneView) (routes : List Route) (net : Network Scripted)
-    → IsOpened text f scene routes → RunsAll scene → Reached (cascade scene routes) net
+abbrev pub TakenSnapshotsOfTextsRewind : Type 0
+TakenSnapshotsOfTextsRewind =
+    (text : List ℕ) (f : Flat) (scene : SceneView) (routes : List Route)
+    (mark : List ℕ) (net : Network Scripted)
+    → IsOpened text f scene routes → RunsAll scene → Reached (cascade mark scene routes) net
     → (s : ℕ) (from : Shot Scripted) → slice_get net.shots s ≡ Some from → from.boot < 2 ^ 32
     → (v : ViewerView) → v.scene ≡ scene → length v.mark ≡ 32
     → (boot : ℕ) (result : Result ℕ SnapFault) (new : ViewerState Scripted)

@@ -35,15 +35,17 @@ WorldsOfTextsHaveSnapshots =
 -- came to
 abbrev pub SavedOfTextsHaveSnapshots : Type 0
 SavedOfTextsHaveSnapshots =
-    (text : List ℕ) (f : Flat) (scene : SceneView) (routes : List Route) (net : Network Scripted)
-    → IsOpened text f scene routes → RunsAll scene → Reached (cascade scene routes) net
+    (text : List ℕ) (f : Flat) (scene : SceneView) (routes : List Route)
+    (mark : List ℕ) (net : Network Scripted)
+    → IsOpened text f scene routes → RunsAll scene → Reached (cascade mark scene routes) net
     → (s : ℕ) (shot : Shot Scripted) → slice_get net.shots s ≡ Some shot
     → HasSnapshot scene shot.state
 
 -- and each that a viewer runs with
 abbrev pub RunningOfTextsHaveSnapshots : Type 0
 RunningOfTextsHaveSnapshots =
-    (text : List ℕ) (f : Flat) (scene : SceneView) (routes : List Route) (net : Network Scripted)
-    → IsOpened text f scene routes → RunsAll scene → Reached (cascade scene routes) net
+    (text : List ℕ) (f : Flat) (scene : SceneView) (routes : List Route)
+    (mark : List ℕ) (net : Network Scripted)
+    → IsOpened text f scene routes → RunsAll scene → Reached (cascade mark scene routes) net
     → (viewer : ℕ) (held : Scripted) (window : List (Option Stamp))
     → IsRunning net viewer held window → HasSnapshot scene held

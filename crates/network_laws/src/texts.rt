@@ -1,7 +1,7 @@
 //! Laws of worlds, each the contract of a function that does nothing.
 
 ghost use Rattle.network_laws.specs.Opened.{OpenedAreDocuments};
-ghost use Rattle.network_laws.specs.TextRewinding.{OwnSnapshotsOfTextsRewind};
+ghost use Rattle.network_laws.specs.TextRewinding.{TakenSnapshotsOfTextsRewind};
 ghost use Rattle.network_laws.specs.Worlds.{
   RunningOfTextsHaveSnapshots,
   SavedOfTextsHaveSnapshots,
@@ -29,6 +29,6 @@ pub fn saved_worlds_of_texts_load_again()
 
 /// A viewer of the scene of a text that is rewound by the bytes of a snapshot that was taken makes
 /// the network's step for it.
-pub fn own_snapshots_of_texts_rewind()
-    ensures { OwnSnapshotsOfTextsRewind }
+pub fn taken_snapshots_of_texts_rewind()
+    ensures { TakenSnapshotsOfTextsRewind }
 {}

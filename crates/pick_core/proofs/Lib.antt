@@ -1,5 +1,6 @@
 pub mod Alike
 pub mod Choosing
+pub mod Few
 pub mod Moves
 pub mod Order
 pub mod Passed
@@ -9,3 +10,4 @@ pub mod SameLocal
 pub mod Seen
 pub mod Trails
 pub mod Unique
+pub mod Within

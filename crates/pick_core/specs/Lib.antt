@@ -9,3 +9,4 @@ pub mod Sensors
 pub mod Sites
 pub mod Spread
 pub mod Trail
+pub mod Within

@@ -19,10 +19,22 @@ use Rattle.pick_core.specs.Sensors.{list_of, siblings_in}
 -- ---- the point in the world
 
 -- origin + n * dir / m, the quotient rounded down
-unfoldable pub reached : ℤ → ℤ → ℕ → ℕ → ℤ
-reached origin dir n m = clamped (origin +ℤ int_div_euclid (pos n *ℤ dir) (pos m))
+abbrev pub on_axis : ℤ → ℤ → ℕ → ℕ → ℤ
+on_axis origin dir n m = origin +ℤ int_div_euclid (pos n *ℤ dir) (pos m)
 
--- the point of a hit; a box lies within the limit, so the limit changes nothing at a real one
+-- where a ray is at n / m of its way
+abbrev pub on_ray : Sight → ℕ → ℕ → Vec3
+on_ray ray n m = record {
+  x = on_axis ray.origin.x ray.dir.x n m;
+  y = on_axis ray.origin.y ray.dir.y n m;
+  z = on_axis ray.origin.z ray.dir.z n m;
+}
+
+-- the same, no further out than the limit: where a box of a scene is hit, that changes nothing
+-- (specs/Within)
+unfoldable pub reached : ℤ → ℤ → ℕ → ℕ → ℤ
+reached origin dir n m = clamped (on_axis origin dir n m)
+
 unfoldable pub point_of : Sight → ℕ → ℕ → Vec3
 point_of ray n m = record {
   x = reached ray.origin.x ray.dir.x n m;

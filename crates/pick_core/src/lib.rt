@@ -19,7 +19,10 @@ mod walk;
 pub use box_entry::{Bounds, Fraction};
 pub use cache::BoxCache;
 pub use hit::{Hit, Path};
-pub use laws::{alike_rows_law, numbers_law, one_local_law, one_nearest_law, picks_nearest_law};
+pub use laws::{
+    alike_rows_law, hits_are_on_rays_law, numbers_law, one_local_law, one_nearest_law,
+    picks_nearest_law,
+};
 pub use local::local_point;
 pub use row::Row;
 pub use sensors::{MAX_SENSORS, is_enabled, sensors_of};

@@ -1,19 +1,16 @@
-//! What the cases of cases/ can't show: devices that fail, memory that is refused, faults in words;
-//! a host and its viewers over a bad cable, over one that fails, and one of them by its command;
-//! scripts by boxes that tell what is done with them, hosts, viewers and their snapshots.
+//! What the cases of cases/ can't show: devices that fail, memory that is refused, faults in words,
+//! what a ray hits; and scripts by boxes that tell what is done with them.
 
-mod agreeing;
-mod cable;
+mod by_hand;
 mod commands;
+mod counting;
 mod devices;
 mod faults;
-mod given;
 mod growths;
 mod inputs;
+mod picking;
 mod scripts;
 mod texts;
-mod turning;
-mod viewers;
 
 use std::alloc::{AllocError, Global};
 use std::process::Abort;

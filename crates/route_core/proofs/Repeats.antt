@@ -1,17 +1,25 @@
 -- What holds of each route holds of those that stay without repeats.
-use Rattle.std.proofs.Common.{◌≡◌, ℕ, List, [], ◌∷◌, ◌++◌, take, ap, arith}
-use Rattle.std.specs.Prelude.{All, slice_index}
+use Rattle.std.proofs.Common.{◌≡◌, ℕ, Bool, true, false, List, [], ◌∷◌, ◌++◌, length, take, ap, arith, if◌then◌else◌}
+use Rattle.std.specs.Prelude.{All, slice_index, nat_lt, Result, Ok, Err}
 use Rattle.std.specs.List.{fold, list_any}
 use Rattle.std.proofs.lemmas.Bool.{cond_both}
 use Rattle.std.proofs.lemmas.List.{get_or-take}
-use Rattle.std.proofs.lemmas.List.Elements.{All-nil, All-push, All-head, All-tail, All-take, All-weaker}
+use Rattle.std.proofs.lemmas.List.Elements.{All-nil, All-push, All-head, All-tail, All-weaker}
 use Rattle.scene_core.specs.Scene.{SceneView}
 use Rattle.scene_core.specs.declared.scene.End.{End}
 use Rattle.scene_core.specs.declared.scene.Route.{Route}
 use Rattle.route_core.specs.Outputs.{IsField}
 use Rattle.route_core.specs.Ends.{IsKnown, field_counts}
-use Rattle.route_core.specs.Resolved.{added, same_route, without_repeats}
+use Rattle.route_core.specs.Resolved.{added, firsts, limited, same_route}
+use Rattle.route_core.specs.declared.fault.RouteFault.{RouteFault}
+use Rattle.route_core.specs.declared.fault.RouteFaultKind.TheVariants.{TooMany}
 use Rattle.route_core.specs.declared.resolving.TheConstants.{MOST_ROUTES}
+
+abbrev good : List Route → Result (List Route) RouteFault
+good routes = Ok routes
+
+abbrev refused : Result (List Route) RouteFault
+refused = Err (record { kind = TooMany; line = 0 })
 
 All-added : (P : Route → Type 0) (routes : List Route) (r : Route) → All P routes → P r → All P (added routes r)
 All-added P routes r all here = cond_both (list_any (same_route r) routes) routes (routes ++ r ∷ []) (λ l. All P l) (λ _. all) (λ _. All-push P routes r all here)
@@ -20,8 +28,15 @@ All-fold : (P : Route → Type 0) (made rs : List Route) → All P made → All 
 All-fold P made [] all more = all
 All-fold P made (r ∷ rs) all more = All-fold P (added made r) rs (All-added P made r all (All-head P r rs more)) (All-tail P r rs more)
 
-pub All-without_repeats : (P : Route → Type 0) (routes : List Route) → All P routes → All P (without_repeats routes)
-All-without_repeats P routes all = All-take P MOST_ROUTES (fold added [] routes) (All-fold P [] routes (All-nil P) all)
+pub All-firsts : (P : Route → Type 0) (routes : List Route) → All P routes → All P (firsts routes)
+All-firsts P routes all = All-fold P [] routes (All-nil P) all
+
+-- routes that are not too many are all of them
+pub limited_is : (routes kept : List Route) → limited routes ≡ Ok kept → routes ≡ kept
+limited_is routes kept h = by_many (nat_lt MOST_ROUTES (length routes)) h where
+  by_many : (b : Bool) → (if b then refused else good routes) ≡ good kept → routes ≡ kept
+  by_many true h = absurd cc
+  by_many false h = cc
 
 known-field : (scene : SceneView) (counts : List ℕ) (e : End) → counts ≡ take 4294967296 (field_counts scene) → IsKnown scene e → IsField counts e
 known-field scene counts e is known =

@@ -1,7 +1,7 @@
 -- The names of faults.
 use Rattle.std.specs.Prelude.{ℕ, List, codes}
 use Rattle.route_core.specs.declared.fault.RouteFaultKind.{RouteFaultKind}
-use Rattle.route_core.specs.declared.fault.RouteFaultKind.TheVariants.{NoSuchNode, NoSuchField, NotOutput, NotInput, TypesDiffer, NodeEvent, Memory}
+use Rattle.route_core.specs.declared.fault.RouteFaultKind.TheVariants.{NoSuchNode, NoSuchField, NotOutput, NotInput, TypesDiffer, NodeEvent, TooMany, Memory}
 
 -- the name of the fault, as it stands in the type
 abbrev pub fault_name : RouteFaultKind → List ℕ
@@ -11,4 +11,5 @@ fault_name NotOutput = codes "NotOutput"
 fault_name NotInput = codes "NotInput"
 fault_name TypesDiffer = codes "TypesDiffer"
 fault_name NodeEvent = codes "NodeEvent"
+fault_name TooMany = codes "TooMany"
 fault_name Memory = codes "Memory"

@@ -1,16 +1,15 @@
 -- The routes of a document in its scene (ISO/IEC 19775-1, ROUTE).
-use Rattle.std.specs.Prelude.{ℕ, List, [], ◌∷◌, Result, Ok, Err}
+use Rattle.std.specs.Prelude.{ℕ, nat_lt, List, [], ◌∷◌, length, Result, Ok, Err, if◌then◌else◌}
 use Rattle.flat_document.specs.declared.flat.Flat.{Flat}
 use Rattle.flat_document.specs.declared.flat.FlatRoute.{FlatRoute}
 use Rattle.scene_core.specs.Scene.{SceneView}
 use Rattle.scene_core.specs.declared.scene.Route.{Route}
-pub use Rattle.first_routes.specs.Firsts.{same_route, added}
-use Rattle.first_routes.specs.Firsts.{firsts_up_to}
+pub use Rattle.first_routes.specs.Firsts.{same_route, added, firsts}
 use Rattle.route_core.specs.Ends.{route_of}
 use Rattle.route_core.specs.declared.resolving.TheConstants.{MOST_ROUTES}
 use Rattle.route_core.specs.declared.fault.RouteFault.{RouteFault}
 use Rattle.route_core.specs.declared.fault.RouteFaultKind.{RouteFaultKind}
-use Rattle.route_core.specs.declared.fault.RouteFaultKind.TheVariants.{Memory}
+use Rattle.route_core.specs.declared.fault.RouteFaultKind.TheVariants.{TooMany, Memory}
 
 -- memory was refused
 abbrev pub memory : RouteFault
@@ -33,14 +32,17 @@ abbrev pub each_of : SceneView → List FlatRoute → Result (List Route) RouteF
 each_of scene [] = Ok []
 each_of scene (r ∷ rs) = before_others (at_line r.line (route_of scene r)) (each_of scene rs)
 
--- each route where it stands first; an expanded document has no more than are kept
-abbrev pub without_repeats : List Route → List Route
-without_repeats routes = firsts_up_to MOST_ROUTES routes
+-- a scene has no more routes (our choice); an expanded document has no more
+abbrev pub limited : List Route → Result (List Route) RouteFault
+limited routes =
+    if nat_lt MOST_ROUTES (length routes)
+    then Err (record { kind = TooMany; line = 0 })
+    else Ok routes
 
 abbrev pub firsts_of : Result (List Route) RouteFault → Result (List Route) RouteFault
 firsts_of (Err fault) = Err fault
-firsts_of (Ok routes) = Ok (without_repeats routes)
+firsts_of (Ok routes) = limited (firsts routes)
 
--- the routes of the document
+-- the routes of the document, each where it stands first
 abbrev pub resolved : Flat → SceneView → Result (List Route) RouteFault
 resolved flat scene = firsts_of (each_of scene flat.routes)

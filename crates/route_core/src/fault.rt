@@ -18,7 +18,7 @@ pub struct RouteFault {
 }
 
 /// The faults of routes. Of the first faulty route its source's is answered, then its target's,
-/// then one of both.
+/// then one of both; TooMany only where no route is faulty.
 #[derive(Clone, Copy, Debug, PartialEq, Eq, Error)]
 pub enum RouteFaultKind {
     #[error("no node of this name stands before the ROUTE")]
@@ -36,6 +36,9 @@ pub enum RouteFaultKind {
     /// Nodes aren't sent.
     #[error("the fields hold nodes")]
     NodeEvent,
+    /// More than 65,536 routes, repeated ones left out. Nothing in the text is its place.
+    #[error("there are too many routes")]
+    TooMany,
     #[error("memory was refused")]
     Memory,
 }
@@ -52,6 +55,7 @@ impl RouteFaultKind {
             RouteFaultKind::NotInput => "NotInput",
             RouteFaultKind::TypesDiffer => "TypesDiffer",
             RouteFaultKind::NodeEvent => "NodeEvent",
+            RouteFaultKind::TooMany => "TooMany",
             RouteFaultKind::Memory => "Memory",
         }
     }

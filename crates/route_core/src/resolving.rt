@@ -1,19 +1,20 @@
 //! From the routes of a document to those of its scene.
 
-ghost use Rattle.std.specs.Prelude.{◌≡◌, ◌^◌, ◌≤◌, IfOk, All, take};
+ghost use Rattle.std.specs.Prelude.{◌≡◌, ◌^◌, ◌≤◌, IfOk, All, length, take};
 ghost use Rattle.x3d_lists.specs.Answers.{Gives};
 ghost use Rattle.route_core.specs.Ends as ends;
 ghost use Rattle.route_core.specs.Ends.{IsKnown, field_counts};
-ghost use Rattle.route_core.specs.Resolved.{at_line, each_of, memory};
+ghost use Rattle.route_core.specs.Resolved.{at_line, each_of, firsts, limited, memory};
 
 use crate::ends::route_of;
-use crate::fault::RouteFault;
+use crate::fault::{RouteFault, RouteFaultKind};
+use first_routes::without_repeats;
 use flat_document::FlatRoute;
 use scene_core::{Route, Scene};
 use std::alloc::{AllocError, Global};
 use x3d_lists::Items;
 
-/// More routes aren't kept. An expanded document has no more.
+/// More routes are refused. An expanded document has no more.
 pub const MOST_ROUTES: usize = 65_536;
 
 /// More nodes have no numbers of 32 bits.
@@ -33,6 +34,23 @@ pub(crate) fn each_of(
         all.push(one_of(scene, route)?)?;
     }
     Ok(all)
+}
+
+/// Each route where it stands first, unless these are too many.
+pub(crate) fn distinct_routes(alloc: Global, each: &[Route]) -> Result<Items<Route>, RouteFault>
+    ensures exact { Gives memory (λ all. all) result (limited (firsts each.now)) }
+    ensures are { IfOk result (λ all. all ≡ firsts each.now) }
+    ensures few { IfOk result (λ all. length all ≤ 65536) }
+{
+    let routes = without_repeats(alloc, each)?;
+    if MOST_ROUTES < routes.len() {
+        drop(routes);
+        return Err(RouteFault {
+            kind: RouteFaultKind::TooMany,
+            line: 0,
+        });
+    }
+    Ok(routes)
 }
 
 /// How many fields each node of the scene has: of the first 2^32 nodes, which is of all nodes of a

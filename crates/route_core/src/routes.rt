@@ -6,8 +6,7 @@ ghost use Rattle.route_core.specs.Outputs.{part_at};
 use crate::fault::RouteFault;
 use crate::grouped::{Groups, group};
 use crate::outputs::{firsts_of, number_of, sources_of};
-use crate::resolving::{MOST_ROUTES, each_of, field_counts};
-use first_routes::without_repeats;
+use crate::resolving::{distinct_routes, each_of, field_counts};
 use flat_document::Flat;
 use scene_core::{End, Route, Scene};
 use std::alloc::{AllocError, Global};
@@ -44,13 +43,13 @@ impl Routes {
     ghost use Rattle.route_core.specs.Outputs.{places_of, IsField};
     ghost use Rattle.route_core.specs.Resolved.{memory, resolved};
 
-    /// The routes of an expanded document in its scene: in the order of the text, without repeats,
-    /// and no more than 65,536.
+    /// The routes of an expanded document in its scene: in the order of the text, without repeats;
+    /// more than 65,536 are refused.
     pub fn resolve(alloc: Global, flat: &Flat, scene: &Scene) -> Result<Routes, RouteFault>
         ensures { Gives memory (λ routes. routes) result (resolved flat.now scene.now) }
     {
         let each = each_of(alloc, scene, flat.routes.as_slice())?;
-        let routes = without_repeats(alloc, each.as_slice(), MOST_ROUTES)?;
+        let routes = distinct_routes(alloc, each.as_slice())?;
         let counts = field_counts(alloc, scene)?;
         Ok(Routes::new(alloc, routes, counts.as_slice())?)
     }

@@ -4,6 +4,7 @@ pub mod Counts
 pub mod Crowds
 pub mod Fuel
 pub mod Heights
+pub mod LimitLemmas
 pub mod NameLemmas
 pub mod TaskLemmas
 pub mod DeclaredSteps

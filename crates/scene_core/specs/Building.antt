@@ -1,5 +1,5 @@
 -- The scene of a document (ISO/IEC 19775-1, scene graph).
-use Rattle.std.specs.Prelude.{ℕ, ◌++◌, Bool, ◌||◌, nat_lt, List, [], ◌∷◌, map, Option, Some, None, Result, Ok, Err, slice_get, slice_index_or, if◌then◌else◌}
+use Rattle.std.specs.Prelude.{◌≡◌, ℕ, ◌++◌, Bool, ◌||◌, nat_lt, List, [], ◌∷◌, map, Option, Some, None, Result, Ok, Err, slice_get, slice_index_or, if◌then◌else◌}
 use Rattle.flat_document.specs.declared.flat.Flat.{Flat}
 use Rattle.flat_document.specs.declared.flat.FlatNode.{FlatNode}
 use Rattle.scene_core.specs.declared.fault.SceneFault.{SceneFault}
@@ -15,6 +15,7 @@ use Rattle.scene_core.specs.Places.{places, max_places, any_crowded}
 use Rattle.scene_core.specs.Scene.{SceneView}
 use Rattle.scene_core.specs.Shape.{declared_by}
 use Rattle.scene_core.specs.Typed.{values_of, all_children}
+use Rattle.scene_core.specs.Wide.{any_wide}
 
 -- a node; it keeps the names that one node alone has
 abbrev pub node_of : List FlatNode → List ℕ → (List ℕ → Bool) → FlatNode
@@ -44,14 +45,19 @@ nodes_by nodes s alone =
 abbrev pub nodes_of : List FlatNode → Numbering → Result (List SceneNode) SceneFault
 nodes_of nodes s = nodes_by nodes s (is_alone (names_of nodes s.order))
 
--- chains first, then places and sensors
+-- chains first, then places, sensors and fields
 unfoldable pub limits : List SceneNode → List ℕ → Result (Unit {0}) SceneFault
 limits nodes roots =
     if too_deep nodes
     then Err (fault TooDeep 0)
-    else (if nat_lt max_places (places max_depth nodes roots) || any_crowded nodes roots
+    else (if nat_lt max_places (places max_depth nodes roots)
+    || (any_crowded nodes roots || any_wide nodes)
     then Err (fault TooMany 0)
     else Ok tt)
+
+-- a scene keeps to them
+abbrev pub IsLimited : List SceneNode → List ℕ → Type 0
+IsLimited nodes roots = limits nodes roots ≡ Ok tt
 
 -- what nodes are called in the scene
 abbrev pub called : List ℕ → List ℕ → List ℕ

@@ -10,3 +10,4 @@ pub mod Scene
 pub mod Shape
 pub mod Tasks
 pub mod Typed
+pub mod Wide

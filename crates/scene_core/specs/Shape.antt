@@ -49,10 +49,13 @@ declared_by d = record { name = d.name; access = d.access; field_type = d.field_
 abbrev pub declaration_entry : Declaration ℕ → Entry
 declaration_entry d = declared_entry (declared_by d)
 
--- ---- numbers have 16 bits: an expanded document has no node with more fields
+-- ---- numbers have 16 bits: a scene has no node with more fields (specs/Wide)
+
+abbrev pub max_fields : ℕ
+max_fields = 65536
 
 abbrev pub most_declared : NodeType → ℕ
-most_declared t = 65536 - length (rows t)
+most_declared t = max_fields - length (rows t)
 
 -- those of the declared fields that have numbers
 abbrev pub numbered_fields : {A : Type 0} → NodeType → List A → List A

@@ -17,6 +17,7 @@ use crate::places::{has_too_many_places, is_any_crowded};
 use crate::row::declared_fields;
 use crate::scene::SceneNode;
 use crate::values::{Known, check_children, values_of};
+use crate::wide::is_any_wide;
 use flat_document::{Flat, FlatNode, Header};
 use std::alloc::{AllocError, Global};
 use x3d_lists::{Duplicate, Items};
@@ -96,7 +97,7 @@ fn nodes_of(
     made
 }
 
-/// No chain is too long, and there are not too many places and sensors.
+/// No chain is too long, and there are not too many places, sensors and fields.
 #[tactic(auto, unfolding(crate::specs::Building::limits))]
 fn check_limits(alloc: Global, nodes: &[SceneNode], roots: &[u32]) -> Result<(), SceneFault>
     ensures { Gives memory (λ u. u) result (spec.limits nodes.now roots.now) }
@@ -108,6 +109,9 @@ fn check_limits(alloc: Global, nodes: &[SceneNode], roots: &[u32]) -> Result<(),
         return Err(fault(SceneFaultKind::TooMany, 0));
     }
     if is_any_crowded(nodes, roots) {
+        return Err(fault(SceneFaultKind::TooMany, 0));
+    }
+    if is_any_wide(nodes) {
         return Err(fault(SceneFaultKind::TooMany, 0));
     }
     Ok(())

@@ -18,7 +18,8 @@ pub struct SceneFault {
 
 /// The faults of a scene: those of fields by the numbers of their nodes and by their own, at one
 /// field the first in this order; then roots and helpers; then TooDeep, and then TooMany. TooDeep
-/// is a chain of more than 64 nodes, TooMany more than 65,536 places or 64 sensors in one list.
+/// is a chain of more than 64 nodes, TooMany more than 65,536 places, 64 sensors in one list or
+/// 65,536 fields of one node.
 #[derive(Clone, Copy, Debug, PartialEq, Eq, Error)]
 pub enum SceneFaultKind {
     #[error("the value has not the form of its field's type")]
@@ -33,7 +34,7 @@ pub enum SceneFaultKind {
     BadChild,
     #[error("nodes are nested too deep")]
     TooDeep,
-    #[error("there are too many places or sensors")]
+    #[error("there are too many places, sensors or fields")]
     TooMany,
     #[error("memory was refused")]
     Memory,

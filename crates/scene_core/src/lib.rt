@@ -2,7 +2,7 @@
 //!
 //! `scene` has the scene and what is asked of it. It is made by `numbering` (which number a node
 //! has) of the `parts` of nodes, by `values` (the values of fields), `labels` (the names that nodes
-//! keep) and `build`, which puts these together; `deep` and `places` have its limits, `state` what
+//! keep) and `build`, which puts these together; `deep`, `places` and `wide` have its limits, `state` what
 //! nodes keep before any event, `fault` why there is no scene, `at` what lists hold by number, and
 //! `behind` puts what may be a fault behind what was made so far.
 #![tactic(auto)]
@@ -21,6 +21,7 @@ mod row;
 mod scene;
 mod state;
 mod values;
+mod wide;
 
 pub use fault::{SceneFault, SceneFaultKind};
 pub use row::{DeclaredField, Row};

@@ -13,8 +13,8 @@ use x3d_values::{
     Access, Field, FieldDefault, FieldRow, FieldType, NodeKind, NodeType, field_of, fields_of,
 };
 
-/// More fields of a node have no numbers of 16 bits. A node of an expanded document has no more.
-const MOST_FIELDS: usize = 65_536;
+/// More fields of a node have no numbers of 16 bits. A node of a scene has no more.
+pub(crate) const MOST_FIELDS: usize = 65_536;
 
 /// A field that a Script declares (ISO/IEC 19775-1, Script).
 #[derive(Drop)]

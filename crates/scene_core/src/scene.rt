@@ -67,6 +67,7 @@ pub struct Scene {
 
 impl Model for Scene {
     ghost use Rattle.scene_core.specs.Scene.{SceneView};
+    ghost use Rattle.scene_core.specs.Building.{IsLimited};
 
     ghost Value = { SceneView };
 
@@ -78,16 +79,20 @@ impl Model for Scene {
       opened = s.opened;
       numbers = s.numbers;
     } };
+
+    ghost invariant = { λ s. IsLimited s.nodes s.roots };
 }
 
 impl Scene {
-    ghost use Rattle.std.specs.Prelude.{◌≡◌, ◌+◌, ◌<◌, ◌≤◌, Some, IfErr, IfOk, length, slice_get, ◌++◌, OnOk, OnErr};
+    ghost use Rattle.std.specs.Prelude.{◌≡◌, ◌+◌, ◌<◌, ◌≤◌, false, Some, IfErr, IfOk, length, slice_get, ◌++◌, OnOk, OnErr};
     ghost use Rattle.std.specs.Option.{option_copied, option_map};
     ghost use Rattle.x3d_lists.specs.Answers.{Gives};
     ghost use Rattle.scene_core.specs.Building.{scene_of};
     ghost use Rattle.scene_core.specs.Faults.{memory};
     ghost use Rattle.scene_core.specs.Scene.{type_at, types_of, rows_at, declared_at, number_of, value_at, children_of, state_of, label_of, name_at};
+    ghost use Rattle.scene_core.specs.Places.{any_crowded};
     ghost use Rattle.scene_core.specs.Shape.{row_entry};
+    ghost use Rattle.scene_core.specs.Wide.{any_wide};
     ghost use Rattle.x3d_values.specs.declared.node_type.NodeType.{NodeType};
     ghost use Rattle.x3d_values.specs.Tables.{row_named, rows};
 
@@ -270,6 +275,14 @@ impl Scene {
             Some(node) => own_children(node),
             None => &[],
         }
+    }
+
+    /// No list of a scene has more than 64 sensors, and no node more fields than there are numbers.
+    pub fn keeps_limits(&self)
+        ensures uncrowded { any_crowded self.now.nodes self.now.roots ≡ false }
+        ensures numbered { any_wide self.now.nodes ≡ false }
+    {
+        let _nodes = self.nodes.as_slice();
     }
 
     /// The scene of a document: its nodes are numbered, their values typed and checked.

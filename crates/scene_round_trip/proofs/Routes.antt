@@ -19,13 +19,13 @@ use Rattle.scene_core.specs.declared.scene.Route.{Route}
 use Rattle.scene_core.specs.Scene.{SceneView, rows_at, number_of}
 use Rattle.route_core.specs.Names.{exact, exposed, set_alias, changed_alias, target_field, source_field}
 use Rattle.route_core.specs.Ends.{node_of, field_at, usable, output_named, input_named, source_of, target_of, joined, joined_ends, route_of}
-use Rattle.route_core.specs.Resolved.{at_line, before_others, each_of, same_route, added, without_repeats, firsts_of, resolved}
+use Rattle.route_core.specs.Resolved.{at_line, before_others, each_of, same_route, added, firsts, firsts_of, resolved}
 use Rattle.route_core.specs.declared.fault.RouteFault.{RouteFault}
 use Rattle.route_core.specs.declared.fault.RouteFaultKind.{RouteFaultKind}
 use Rattle.route_core.specs.declared.fault.RouteFaultKind.TheVariants.{NodeEvent, NotInput, NotOutput, TypesDiffer}
-use Rattle.route_core.specs.declared.resolving.TheConstants.{MOST_ROUTES}
+use Rattle.route_core.proofs.Repeats.{limited_is}
 use Rattle.scene_round_trip.specs.Writable.{IsEnd, IsWritableRoute}
-use Rattle.scene_round_trip.proofs.Lists.{all_push, all_take}
+use Rattle.scene_round_trip.proofs.Lists.{all_push}
 
 -- ---- the row of a name
 
@@ -208,5 +208,4 @@ module _ (s : SceneView) where
         → AllByRecursion (IsWritableRoute s) routes
     by_all (Err x) k h = absurd cc
     by_all (Ok rs) k h =
-        subst (AllByRecursion (IsWritableRoute s)) (right_is (without_repeats rs) routes h)
-        (all_take (IsWritableRoute s) MOST_ROUTES (fold added [] rs) (all_added rs [] tt (k rs refl)))
+        subst (AllByRecursion (IsWritableRoute s)) (limited_is (firsts rs) routes h) (all_added rs [] tt (k rs refl))

@@ -20,6 +20,7 @@ use Rattle.scene_core.specs.Building.{limits, nodes_by, nodes_of, scene_of}
 use Rattle.scene_core.specs.Deep.{too_deep}
 use Rattle.scene_core.specs.Faults.{fault, ◌>>=◌}
 use Rattle.scene_core.specs.Places.{any_crowded, max_places, places}
+use Rattle.scene_core.specs.Wide.{any_wide}
 use Rattle.scene_core.specs.Scene.{SceneView}
 use Rattle.scene_core.specs.Typed.{all_children, child, line_of, takes}
 use Rattle.scene_text.specs.Statements.{scene_document}
@@ -124,7 +125,7 @@ module _ (flat : Flat) where
   unfolding limits
   limited_is nodes =
       let roots : List ℕ = map (called numbers) flat.roots in
-      limits_then (too_deep nodes) (nat_lt max_places (places max_depth nodes roots) || any_crowded nodes roots) (viewed nodes)
+      limits_then (too_deep nodes) (nat_lt max_places (places max_depth nodes roots) || (any_crowded nodes roots || any_wide nodes)) (viewed nodes)
 
   scene_or_limit : IsOkay (nodes_of flat.nodes (numbers_of flat)) → IsOkay (all_children flat.nodes flat.roots) → IsOkay (all_children flat.nodes flat.helpers)
       → IsSceneOrLimit (scene_of flat)

@@ -20,7 +20,7 @@ use Rattle.scene_core.specs.declared.scene.Route.{Route}
 use Rattle.scene_core.specs.declared.scene.SceneNode.{SceneNode}
 use Rattle.scene_core.specs.Building.{scene_of}
 use Rattle.scene_core.specs.Labels.{is_alone, is_numbered, label_by, name_at}
-use Rattle.scene_core.specs.Scene.{SceneView, label_of, label_or}
+use Rattle.scene_core.specs.Scene.{SceneView, label_of, label_or, name_at as kept_name}
 use Rattle.scene_text.specs.Places.{is_named}
 use Rattle.scene_round_trip.proofs.NumberedLists.{some_is, within}
 use Rattle.scene_round_trip.proofs.NumbersInOrder.{equal}
@@ -211,12 +211,14 @@ module _ (from : Flat) (s : SceneView) (routes : List Route) (state : List Field
         by_named true l h = drops_number (alone_in again) l h
         by_named false l h = refl
 
-  pub next_labels : (n : ℕ) → n < count → label_of next n ≡ label_of s n
-  unfolding label_of
-  next_labels n low =
+  pub next_names : (n : ℕ) → n < count → kept_name next n ≡ kept_name s n
+  next_names n low =
       let node = found s.nodes n low in
       let x = three from s routes state again is_scene kept of_type sound table same filled none next is_next typed_again left_out n node.0 node.1 in
       let same_label = x.read.is.label ∙ own_label n node.0 node.1 node.0.label refl x.g x.flat_at in
-      ap (λ (o : Option SceneNode). label_or n (option_and_then (λ (m : SceneNode). m.label) o)) x.next_at
-      ∙ (ap (λ (o : Option (List ℕ)). label_or n o) same_label
-      ∙ sym (ap (λ (o : Option SceneNode). label_or n (option_and_then (λ (m : SceneNode). m.label) o)) node.1))
+      ap (λ (o : Option SceneNode). option_and_then (λ (m : SceneNode). m.label) o) x.next_at
+      ∙ (same_label ∙ sym (ap (λ (o : Option SceneNode). option_and_then (λ (m : SceneNode). m.label) o) node.1))
+
+  pub next_labels : (n : ℕ) → n < count → label_of next n ≡ label_of s n
+  unfolding label_of
+  next_labels n low = ap (λ (o : Option (List ℕ)). label_or n o) (next_names n low)

@@ -21,7 +21,7 @@ use Rattle.written_scenes.proofs.Plans.{type_is}
 use Rattle.written_scenes.specs.FieldsFlats.{WrittenFieldsStay}
 use Rattle.scenes_again.specs.Again.{WrittenScenesAreAgain}
 use Rattle.scenes_again.proofs.Helpers.{none_helps}
-use Rattle.scenes_again.proofs.Labels.{next_labels}
+use Rattle.scenes_again.proofs.Labels.{next_labels, next_names}
 use Rattle.scenes_again.proofs.Switches.{next_switch}
 use Rattle.scenes_again.proofs.InPlace.{numbers_are}
 use Rattle.scenes_again.proofs.Numbered.{numbered_in_place}
@@ -74,6 +74,7 @@ all_again table headers labels values defaults close stay fill from scene routes
       rows = next_rows from scene routes state again is kept of_type sound table same filled none next h values defaults;
       children = next_children from scene routes state again is kept of_type sound table same filled none next h values defaults;
       values = next_values from scene routes state again is kept of_type sound table same filled none next h values defaults;
+      names = next_names from scene routes state again is kept of_type sound table same filled none next h values defaults few labels;
       labels = next_labels from scene routes state again is kept of_type sound table same filled none next h values defaults few labels;
       numbers = numbers_are again next h (numbered_in_place from scene routes state again is kept of_type sound table same filled none)
           (next_many from scene routes state again is kept of_type sound table same filled none next h values defaults);

@@ -51,7 +51,8 @@ pub record IsWrittenOf (s : SceneView) (state : List Fields) (next : SceneView) 
   -- each field holds what it held: what its node keeps of it, and else what the scene gives
   pub values : (n field : ℕ) (e : Entry) → slice_get (rows_at s n) field ≡ Some e
       → value_at next n field ≡ value_now s state n field e.access e.field_type
-  -- a node has the same label
+  -- a node keeps the same name, if any, and so has the same label
+  pub names : (n : ℕ) → n < length s.nodes → name_at next n ≡ name_at s n
   pub labels : (n : ℕ) → n < length s.nodes → label_of next n ≡ label_of s n
   -- the helpers, where there are some, stand in the last node
   pub switch : (h : ℕ) (hs : List ℕ) → s.helpers ≡ h ∷ hs

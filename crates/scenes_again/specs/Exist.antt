@@ -32,7 +32,7 @@ abbrev pub OpeningsAreInRange : Type 0
 OpeningsAreInRange =
     (flat : Flat) (s : SceneView) → scene_of flat ≡ Ok s → AreInRange s (state_of s)
 
--- a scene, or that chains are too long, or that there are too many places or sensors
+-- a scene, or that chains are too long, or that there are too many places, sensors or fields
 abbrev pub IsSceneOrLimit : Result SceneView SceneFault → Type 0
 IsSceneOrLimit result =
     ((scene : SceneView) × (result ≡ Ok scene))

@@ -44,7 +44,8 @@ fn put_in<B: Behaviour>(slot: &mut Slot<B>, alloc: Global, script: B) -> Result<
     if script.kind() != slot.kind() {
         return Err(ReplaceFault::KindDiffers);
     }
-    slot.take(alloc, script)?;
+    let state = slot.state(alloc)?;
+    slot.take(script, state.as_slice())?;
     Ok(())
 }
 

@@ -120,14 +120,17 @@ impl<B: Behaviour> Slot<B> {
         put(&mut self.script, state)
     }
 
-    /// Puts a script of the same kind in the place of this one, in its state. The old one is shut
-    /// down where it counts as initialized, and the new one then counts as that without a call.
-    pub fn take(&mut self, alloc: Global, mut script: B) -> Result<(), AllocError>
-        requires { B.kind_of script ≡ self.old.kind }
-        ensures { self.new ≡ self.old }
+    /// Puts a script, of whatever kind, in the place of this one, in a state of its kind. The old
+    /// one is shut down where it counts as initialized, and the new one then counts as that without
+    /// a call.
+    pub fn take(&mut self, mut script: B, state: &[i64]) -> Result<(), AllocError>
+        requires { state_fault (B.kind_of script) state.now ≡ None }
+        // The script is the new one: the old one's kind may be another.
+        ensures ok { OnOk result (self.new
+            ≡ record self.old { kind = B.kind_of script; state = state.now }) }
+        ensures err { OnErr result (self.new ≡ self.old) }
     {
-        let state = self.state(alloc)?;
-        put(&mut script, state.as_slice())?;
+        put(&mut script, state)?;
         let mut old = mem::replace(&mut self.script, script);
         if self.initialized {
             old.shutdown();

@@ -1,4 +1,5 @@
 pub mod Staging
+pub mod Loaded
 pub mod Logging
 pub mod Meeting
 pub mod Viewed

@@ -14,7 +14,7 @@ use Rattle.share_rehearsal.specs.Calls.{Seen, seen_of}
 use Rattle.share_rehearsal.specs.Rehearsed.{IsRehearsal, IsRehearsed}
 use Rattle.share_commands.specs.Rehearsing.{IsLogOf, IsScheduleLog, schedule_scene}
 use Rattle.share_commands.specs.Stages.{AreStages, fresh, staged}
-use Rattle.share_commands.proofs.Staging.{are_of}
+use Rattle.share_commands.proofs.Loaded.{are_loaded}
 
 is_log : (viewers : ℕ) (schedule : Schedule) (stages : List StageView) (text : List ℕ)
     → AreStages viewers schedule.scene stages → IsLogOf (sha256 schedule.scene) stages schedule.steps text
@@ -32,8 +32,8 @@ is_log viewers schedule stages text are log =
       left = left;
       calls = done.calls;
       log = done.log;
-      law = λ worlds. subst (λ (n : ℕ). IsRehearsal mark o.scene o.routes n schedule.steps done.answers left)
-          (length-replicate viewers (fresh o)) (done.law o.scene o.routes (are_of viewers o) worlds);
+      law = subst (λ (n : ℕ). IsRehearsal mark o.scene o.routes n schedule.steps done.answers left)
+          (length-replicate viewers (fresh o)) (done.law schedule.scene o.scene o.routes (are_loaded viewers schedule.scene o are.is_scene));
     }
 
 pub is_schedule_log : (viewers : ℕ) (schedule : Schedule) (bytes mark : List ℕ) (steps : List Step) (stages : List StageView) (text : List ℕ)

@@ -13,7 +13,7 @@ use Rattle.share_program.specs.declared.open.Opened.{Opened}
 use Rattle.share_rehearsal.specs.declared.answer.Answer.{Answer}
 use Rattle.share_rehearsal.specs.Calls.{Seen, AreCalls, begun_with}
 use Rattle.share_rehearsal.specs.Log.{log_text}
-use Rattle.share_rehearsal.specs.Rehearsed.{IsRehearsal, IsRehearsed, WorldsFit}
+use Rattle.share_rehearsal.specs.Rehearsed.{IsRehearsal, IsRehearsed}
 use Rattle.share_commands.specs.Stages.{fresh, staged}
 
 -- the scene of a schedule, or the first fault of its lines, then of its scene, then of
@@ -29,8 +29,8 @@ pub record IsLogOf (mark : List ℕ) (stages : List StageView) (steps : List Ste
   pub rehearsed : IsRehearsed mark stages steps [] text host viewers
 
 -- the log of a schedule's steps, through which so many viewers of its scene and their host went:
--- it has the answers of the calls, and where worlds fit snapshots they are those of the law's
--- network
+-- it has the answers of the calls, and these are those of the law's network, which stands for what
+-- is left
 pub record IsScheduleLog (viewers : ℕ) (schedule : Schedule) (text : List ℕ) : Type 0 where
   pub scene : Opened
   pub is_scene : staged schedule.scene ≡ Ok scene
@@ -39,8 +39,7 @@ pub record IsScheduleLog (viewers : ℕ) (schedule : Schedule) (text : List ℕ)
   pub calls : AreCalls (begun_with (sha256 schedule.scene) (replicate viewers (fresh scene)))
       schedule.steps answers left
   pub log : text ≡ log_text answers left.viewers
-  pub law : WorldsFit scene.scene scene.routes
-      → IsRehearsal (sha256 schedule.scene) scene.scene scene.routes viewers schedule.steps
+  pub law : IsRehearsal (sha256 schedule.scene) scene.scene scene.routes viewers schedule.steps
       answers left
 
 -- the same of the schedule of bytes

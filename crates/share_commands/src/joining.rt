@@ -134,7 +134,7 @@ fn count_of(viewers: &[Viewer<StockScript>]) -> u8
 /// how many inputs there are, and the trace and the scene of viewer 0.
 ///
 /// `TurnsUsedUp` where it came to less, `Port` where a send or a receive failed, `Memory` where
-/// memory was refused, `Spoiled` in a turn after that.
+/// memory was refused, `Spoiled` where it was refused to a viewer before.
 pub fn agree_job<P: Port>(
     alloc: Global,
     job: &mut JointJob,

@@ -131,7 +131,7 @@ pub fn seated_job(
 /// points is offered to the host.
 ///
 /// `TurnsUsedUp` where fewer were applied after so many turns, `Port` where a send or a receive
-/// failed, `Memory` where memory was refused, `Spoiled` in a turn after that.
+/// failed, `Memory` where memory was refused, `Spoiled` where it was refused to the viewer before.
 pub fn view_job<P: Port>(
     alloc: Global,
     seat: &mut Seat,

@@ -20,7 +20,7 @@ pub record ViewerView : Type 0 where
 
 -- the worlds that it may hold
 abbrev pub machine_of : ViewerView → Machine Scripted
-machine_of v = cascade v.scene v.routes
+machine_of v = cascade v.mark v.scene v.routes
 
 -- the same viewer with another world, other offers or in another boot
 abbrev pub with_state : ViewerView → ViewerState Scripted → ViewerView

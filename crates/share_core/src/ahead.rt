@@ -1,6 +1,6 @@
 //! A stage, and the window of the inputs that come next: they are applied in turn.
 
-ghost use Rattle.std.specs.Prelude.{◌≡◌, ◌≤◌, ◌+◌, ◌^◌, false, length};
+ghost use Rattle.std.specs.Prelude.{◌≡◌, ◌≤◌, ◌+◌, ◌^◌, ℕ, List, false, length};
 ghost use Rattle.cascade_core.specs.Course.{Scripted};
 ghost use Rattle.cascade_core.specs.Held.{Running, applied_of, is_spoiled};
 ghost use Rattle.share_wire.specs.declared.message.Body.TheVariants as body;
@@ -26,9 +26,9 @@ fn apply_next<B: Behaviour>(stage: &mut Stage<B>, window: &mut Window) -> Result
     ensures place { InPlace (applied_of stage.new.held + 1) window.new }
     ensures most { applied_of stage.new.held ≤ 2 ^ 20 }
     ensures places { length window.old ≡ 64 }
-    ensures step { (w : Scripted) → stage.old.held ≡ Running w
-        → IsNext (cascade stage.old.scene stage.old.routes) w window.old result stage.new.held
-        window.new }
+    ensures step { (mark : List ℕ) (w : Scripted) → stage.old.held ≡ Running w
+        → IsNext (cascade mark stage.old.scene stage.old.routes) w window.old result
+        stage.new.held window.new }
 {
     let Some(input) = window.next() else {
         return Ok(false);
@@ -57,9 +57,9 @@ fn apply_ready<B: Behaviour>(stage: &mut Stage<B>, window: &mut Window) -> Resul
     ensures routes { stage.new.routes ≡ stage.old.routes }
     ensures place { InPlace (applied_of stage.new.held + 1) window.new }
     ensures most { applied_of stage.new.held ≤ 2 ^ 20 }
-    ensures step { (w : Scripted) → stage.old.held ≡ Running w
-        → IsDrained (cascade stage.old.scene stage.old.routes) w window.old result stage.new.held
-        window.new }
+    ensures step { (mark : List ℕ) (w : Scripted) → stage.old.held ≡ Running w
+        → IsDrained (cascade mark stage.old.scene stage.old.routes) w window.old result
+        stage.new.held window.new }
 {
     let mut count = 0;
     while apply_next(stage, window)? {
@@ -85,8 +85,8 @@ pub(crate) fn take_input<B: Behaviour>(
     ensures routes { stage.new.routes ≡ stage.old.routes }
     ensures place { InPlace (applied_of stage.new.held + 1) window.new }
     ensures most { applied_of stage.new.held ≤ 2 ^ 20 }
-    ensures step { (o : Offers)
-        → IsTake (cascade stage.old.scene stage.old.routes) o.who
+    ensures step { (mark : List ℕ) (o : Offers)
+        → IsTake (cascade mark stage.old.scene stage.old.routes) o.who
         (with_offers o (view_of stage.old.held window.old)) (body.Input input) result
         (with_offers o (view_of stage.new.held window.new)) }
 {

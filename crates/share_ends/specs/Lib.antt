@@ -1,3 +1,4 @@
 pub mod Boxes
+pub mod Came
 pub mod Faults
 pub mod Texts

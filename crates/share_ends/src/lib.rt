@@ -3,6 +3,7 @@
 #![tactic(auto)]
 
 mod boxes;
+mod counted;
 mod fault;
 mod stream;
 mod texts;

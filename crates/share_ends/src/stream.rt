@@ -1,11 +1,12 @@
 //! Reading an input whole, and writing an output whole.
 
-ghost use Rattle.std.specs.Prelude.{◌≡◌, IfOk, IfErr, OnOk};
+ghost use Rattle.std.specs.Prelude.{◌≡◌, ◌⊎◌, ◌≤◌, ◌*◌, ◌^◌, true, false, length, IfOk, IfErr, OnOk};
 ghost use Rattle.std.specs.Io.KnownBytes.{Appends, Consumes, IsAtEnd};
 ghost use Rattle.share_ends.specs.declared.stream.StreamFault.TheVariants.{Device, Memory};
 
+use crate::counted::{Came, Counted};
 use std::alloc::{AllocError, Global};
-use std::io::{ErrorKind, Read, Write};
+use std::io::{Read, Write};
 use thiserror::Error;
 
 /// No call reads more often, so that an input without an end ends with `Device`.
@@ -36,15 +37,62 @@ pub fn read_whole<R: Read>(alloc: Global, reader: &mut R) -> Result<Vec<u8>, Str
     ensures bytes { IfOk result
         (λ v. Consumes (R.remaining reader.old) (R.remaining reader.new) v.items) }
     ensures end { OnOk result (IsAtEnd (R.remaining reader.new)) }
+    // It gave no more than so many reads do.
+    ensures few { IfOk result (λ v. length v.items ≤ 2 ^ 27 * 4096) }
+{
+    let mut counted = Counted::new(reader);
+    read_counted(alloc, &mut counted)
+}
+
+/// The same of a reader that counts, by 2^27 reads at most.
+fn read_counted<R: Read>(alloc: Global, reader: &mut Counted<'_, R>) -> Result<Vec<u8>, StreamFault>
+    requires unread { reader.old.reads ≡ 0 }
+    requires good { reader.old.failed ≡ false }
+    requires unended { reader.old.ended ≡ false }
+    ensures same_reference { reader.new.reader.ghost_name ≡ reader.old.reader.ghost_name }
+    ensures bytes { IfOk result (λ v.
+        Consumes (R.remaining reader.old.reader.now) (R.remaining reader.new.reader.now) v.items) }
+    ensures end { OnOk result (IsAtEnd (R.remaining reader.new.reader.now)) }
+    ensures long { IfOk result (λ v. length v.items ≤ reader.new.reads * 4096) }
+    ensures few { reader.new.reads ≤ 2 ^ 27 }
+    // The last read came to the end, and none before it failed.
+    ensures ended { OnOk result (reader.new.ended ≡ true) }
+    ensures good { OnOk result (reader.new.failed ≡ false) }
+    // A read failed, or all reads were made and none came to the end.
+    ensures device { IfErr result (λ f. f ≡ Device → (reader.new.failed ≡ true)
+        ⊎ ((reader.new.reads ≡ 2 ^ 27) × (reader.new.ended ≡ false))) }
+{
+    read_up_to(alloc, MAX_READS, reader)
+}
+
+/// The same by so many reads at most.
+fn read_up_to<R: Read>(
+    alloc: Global,
+    limit: u32,
+    reader: &mut Counted<'_, R>,
+) -> Result<Vec<u8>, StreamFault>
+    requires unread { reader.old.reads ≡ 0 }
+    requires good { reader.old.failed ≡ false }
+    requires unended { reader.old.ended ≡ false }
+    ensures same_reference { reader.new.reader.ghost_name ≡ reader.old.reader.ghost_name }
+    ensures bytes { IfOk result (λ v.
+        Consumes (R.remaining reader.old.reader.now) (R.remaining reader.new.reader.now) v.items) }
+    ensures end { OnOk result (IsAtEnd (R.remaining reader.new.reader.now)) }
+    ensures long { IfOk result (λ v. length v.items ≤ reader.new.reads * 4096) }
+    ensures few { reader.new.reads ≤ limit }
+    ensures ended { OnOk result (reader.new.ended ≡ true) }
+    ensures good { OnOk result (reader.new.failed ≡ false) }
+    ensures device { IfErr result (λ f. f ≡ Device → (reader.new.failed ≡ true)
+        ⊎ ((reader.new.reads ≡ limit) × (reader.new.ended ≡ false))) }
 {
     let mut bytes = Vec::new(alloc);
     let mut part = [0u8; PART];
-    for _ in 0..MAX_READS {
+    while reader.reads() < limit {
         match reader.read(&mut part) {
-            Ok(0) => return Ok(bytes),
-            Ok(n) => bytes.extend_from_slice(&part[..n])?,
-            Err(error) if error.kind() == ErrorKind::Interrupted => {}
-            Err(_) => return Err(StreamFault::Device),
+            Came::End => return Ok(bytes),
+            Came::Bytes(n) => bytes.extend_from_slice(&part[..n])?,
+            Came::Interrupted => {}
+            Came::Failed => return Err(StreamFault::Device),
         }
     }
     Err(StreamFault::Device)

@@ -1,5 +1,5 @@
 -- A job that is answered, in the words of its lines.
-use Rattle.std.proofs.Common.{◌≡◌, ◌⊎◌, ℕ, ◌+◌, ℤ, pos, ◌+ℤ◌, List, [], ◌∷◌, ◌++◌, length, take, drop, Bool, true, false, codes, Option, Some, None, Result, Ok}
+use Rattle.std.proofs.Common.{◌≡◌, ℕ, ◌+◌, ℤ, pos, ◌+ℤ◌, List, [], ◌∷◌, ◌++◌, length, take, drop, Bool, true, false, codes, Option, Some, None, Result, Ok}
 use Rattle.std.proofs.Common.{Err, refl, sym, ap, ◌∙◌, inl, inr, append_assoc, append-nil, take-append-drop}
 use Rattle.std.specs.Result.{result_ok}
 use Rattle.std.specs.List.{fold, list_any, before_first}
@@ -7,17 +7,19 @@ use Rattle.std.specs.Str.{bytes_eq}
 use Rattle.std.specs.Str.Lines.{lines}
 use Rattle.std.specs.Cmp.Lexicographic.{same_text}
 use Rattle.std.proofs.lemmas.Bool.{cases_Bool}
+use Rattle.std.proofs.lemmas.List.{length-append}
 use Rattle.x3d_numerals.specs.Numeral.{IsNumeral}
 use Rattle.x3d_numerals.specs.Reading.{numeral}
 use Rattle.x3d_numerals.proofs.Numerals.{value_iff}
 use Rattle.x3d_values.specs.Pointing.{Pointing}
 use Rattle.x3d_values.specs.Stamp.{Stamp}
+use Rattle.x3d_values.specs.declared.stamped.Event.{Event}
 use Rattle.x3d_values.specs.declared.stamped.Event.TheVariants.{Clock, Pointer}
 use Rattle.share_jobs.specs.declared.fault.JobFault.{JobFault}
 use Rattle.share_jobs.specs.declared.fault.JobFault.TheVariants.{BadJob}
-use Rattle.share_jobs.specs.Job.{AreSteps, Lined, IsClock, IsPointed, IsJob, asked, clock_time, last_time, next_input, with_line, with_scene, is_scene, job_lines}
+use Rattle.share_jobs.specs.Job.{AreSteps, Lined, IsJob, IsJobStep, IsNumbered, asked, clock_time, last_time, next_input, with_line, with_scene, is_scene, job_lines}
 use Rattle.share_jobs.specs.Points.{pointed}
-use Rattle.share_jobs.proofs.JobLemmas.{fold-err, before-cons_no, before-cons_yes, last_time-push, taken_from}
+use Rattle.share_jobs.proofs.JobLemmas.{IsTaken, fold-err, before-cons_no, before-cons_yes, last_time-push, taken_from}
 use Rattle.share_jobs.proofs.PointLemmas.{point_from}
 
 -- ---- a line that asks for an input is `clock T`
@@ -37,21 +39,31 @@ clock_from line t e = elim (cases_Bool (bytes_eq (take 6 line) (codes "clock "))
   | inr fails ↦ let none = rw fails at e in absurd (cc)
 ]
 
-abbrev IsStep : ℤ → List ℕ → Stamp → Type 0
-IsStep before line input = IsClock line input ⊎ IsPointed before line input
+numbered_by : (given : List Stamp) (t : ℤ) (event : Event) (input : Stamp) → IsTaken given t event input → IsNumbered (length given) (last_time given) input
+numbered_by given t event input h = record { number = h.next.number; few = h.next.few; later = h.next.later; in_range = h.in_range }
+
+abbrev IsStep : List Stamp → List ℕ → Stamp → Type 0
+IsStep given line input = IsJobStep (length given) (last_time given) line input
 
 step_from : (given : List Stamp) (line : List ℕ) (input : Stamp) (time : Option ℤ) (p : Option Pointing) → clock_time line ≡ time → pointed line ≡ p
-    → asked given time p ≡ Some input → IsStep (last_time given) line input
+    → asked given time p ≡ Some input → IsStep given line input
 step_from given line input None None at_time at_point e = absurd (cc)
 step_from given line input (Some t) p at_time at_point e =
     let taken = taken_from given t Clock input e in
     let (text, whole, number) = clock_from line t at_time in
-    inl (record { text = text; is = whole; time = rw taken.time number; event = taken.event_is })
+    record {
+      says = inl (record { text = text; is = whole; time = rw taken.time number; event = taken.event_is });
+      numbered = numbered_by given t Clock input taken;
+    }
 step_from given line input None (Some p) at_time at_point e =
-    let taken = taken_from given (last_time given +ℤ pos 1) (Pointer p) input e in
-    inr (record { pointing = p; words = point_from line p at_point; time = taken.time; event = taken.event_is })
+    let time : ℤ = last_time given +ℤ pos 1 in
+    let taken = taken_from given time (Pointer p) input e in
+    record {
+      says = inr (record { pointing = p; words = point_from line p at_point; time = taken.time; event = taken.event_is });
+      numbered = numbered_by given time (Pointer p) input taken;
+    }
 
-step_is : (given : List Stamp) (line : List ℕ) (input : Stamp) → next_input given line ≡ Some input → IsStep (last_time given) line input
+step_is : (given : List Stamp) (line : List ℕ) (input : Stamp) → next_input given line ≡ Some input → IsStep given line input
 unfolding next_input
 step_is given line input e = step_from given line input (clock_time line) (pointed line) refl refl e
 
@@ -60,14 +72,14 @@ step_is given line input e = step_from given line input (clock_time line) (point
 record Grown (given : List Stamp) (steps : List (List ℕ)) (inputs : List Stamp) : Type 0 where
   more : List Stamp
   is : inputs ≡ given ++ more
-  each : AreSteps (last_time given) steps more
+  each : AreSteps (length given) (last_time given) steps more
 
-grown_by : (given : List Stamp) (line : List ℕ) (steps : List (List ℕ)) (inputs : List Stamp) (input : Stamp) → IsStep (last_time given) line input
+grown_by : (given : List Stamp) (line : List ℕ) (steps : List (List ℕ)) (inputs : List Stamp) (input : Stamp) → IsStep given line input
     → Grown (given ++ input ∷ []) steps inputs → Grown given (line ∷ steps) inputs
 grown_by given line steps inputs input step g = record {
   more = input ∷ g.more;
   is = g.is ∙ append_assoc given (input ∷ []) g.more;
-  each = (step, (rw (last_time-push given input) at g.each));
+  each = (step, (rw (last_time-push given input, length-append given (input ∷ [])) at g.each));
 }
 
 grown_with : (given : List Stamp) (line : List ℕ) (steps : List (List ℕ)) (inputs : List Stamp) (next : Option Stamp) → next ≡ next_input given line

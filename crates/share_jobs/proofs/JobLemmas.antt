@@ -8,6 +8,7 @@ use Rattle.std.proofs.lemmas.Bool.{cases_Bool, ltb-true, and_parts}
 use Rattle.std.proofs.lemmas.Float.{T_from_true}
 use Rattle.std.proofs.lemmas.List.{length-append}
 use Rattle.x3d_values.specs.Pointing.{Pointing}
+use Rattle.x3d_values.specs.Ranges.{is_input_time}
 use Rattle.x3d_values.specs.Stamp.{Stamp}
 use Rattle.x3d_values.specs.declared.stamped.Event.{Event}
 use Rattle.x3d_values.specs.declared.stamped.Event.TheVariants.{Clock, Pointer}
@@ -31,10 +32,10 @@ before-cons_no p x xs e = ap (λ k. take k (x ∷ xs)) (position-cons_no p x xs 
 pub before-cons_yes : {A : Type 0} (p : A → Bool) (x : A) (xs : List A) → p x ≡ true → before_first p (x ∷ xs) ≡ []
 before-cons_yes p x xs e = rw e refl
 
-any-cons_no : {A : Type 0} (p : A → Bool) (x : A) (xs : List A) → p x ≡ false → list_any p (x ∷ xs) ≡ list_any p xs
+pub any-cons_no : {A : Type 0} (p : A → Bool) (x : A) (xs : List A) → p x ≡ false → list_any p (x ∷ xs) ≡ list_any p xs
 any-cons_no p x xs e = rw e refl
 
-any-cons_yes : {A : Type 0} (p : A → Bool) (x : A) (xs : List A) → p x ≡ true → list_any p (x ∷ xs) ≡ true
+pub any-cons_yes : {A : Type 0} (p : A → Bool) (x : A) (xs : List A) → p x ≡ true → list_any p (x ∷ xs) ≡ true
 any-cons_yes p x xs e = rw e refl
 
 -- ---- what is left
@@ -169,6 +170,7 @@ pub record IsTaken (given : List Stamp) (t : ℤ) (event : Event) (input : Stamp
   pub next : IsNext given input
   pub time : input.time ≡ t
   pub event_is : input.event ≡ event
+  pub in_range : is_input_time input.time ≡ true
 
 pub taken_from : (given : List Stamp) (t : ℤ) (event : Event) (input : Stamp) → input_at given t event ≡ Some input → IsTaken given t event input
 taken_from given t event input e = elim (cases_Bool (is_taken given t)) [
@@ -186,6 +188,7 @@ taken_from given t event input e = elim (cases_Bool (is_taken given t)) [
         };
         time = sym time;
         event_is = sym (ap (λ (s : Stamp). s.event) same);
+        in_range = rw (← time) later.1;
       }
   | inr fails ↦ let none = rw fails at e in absurd (cc)
 ]

@@ -7,3 +7,4 @@ pub mod StepLemmas
 pub mod ScheduleLemmas
 pub mod SpaceLemmas
 pub mod OnlyLemmas
+pub mod JobOnly

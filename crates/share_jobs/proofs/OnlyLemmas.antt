@@ -27,14 +27,14 @@ use Rattle.share_jobs.proofs.SpaceLemmas.{Spaceless, word_is, behind_is, numeral
 
 -- ---- numbers
 
-number_is : (limit : ℕ) (text : List ℕ) (n : ℕ) → IsNumber text n → n < limit → number_below limit text ≡ Some n
+pub number_is : (limit : ℕ) (text : List ℕ) (n : ℕ) → IsNumber text n → n < limit → number_below limit text ≡ Some n
 unfolding number_below
 number_is limit text n h low =
     let read : numeral text ≡ Ok (pos h.millionths) = numeral_complete text (pos h.millionths) h.numeral in
     let few : nat_lt (h.millionths / 1000000) limit ≡ true = lt-ltb (h.millionths / 1000000) limit (rw h.units at low) in
     rw (h.digits, read, few) (ap Some (sym h.units))
 
-vector_is : (x y z : List ℕ) (v : Vec3) → AreNumerals x y z v → vector_of x y z ≡ Some v
+pub vector_is : (x y z : List ℕ) (v : Vec3) → AreNumerals x y z v → vector_of x y z ≡ Some v
 unfolding vector_of
 vector_is x y z v h = rw (numeral_complete x v.x h.x_is, numeral_complete y v.y h.y_is, numeral_complete z v.z h.z_is) refl
 
@@ -206,11 +206,11 @@ point_at : (text x y z d dy dz : List ℕ) (n : ℕ) (o v : Vec3) → behind tex
 unfolding point_of
 point_at text x y z d dy dz n o v at_x at_y at_z at_d at_dy at_dz n_is o_is v_is = rw (at_x, at_y, at_z, at_d, at_dy, at_dz, n_is, o_is, v_is) refl
 
-bit_low : (b : Bool) → (if b then 1 else 0) < 2
+pub bit_low : (b : Bool) → (if b then 1 else 0) < 2
 bit_low true = omega arith
 bit_low false = omega arith
 
-bit_is : (b : Bool) → ((if b then 1 else 0) == 1) ≡ b
+pub bit_is : (b : Bool) → ((if b then 1 else 0) == 1) ≡ b
 bit_is true = refl
 bit_is false = refl
 

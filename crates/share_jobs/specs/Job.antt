@@ -1,5 +1,5 @@
 -- A job: lines of steps, a line `scene`, then the scene (our choice).
-use Rattle.std.specs.Prelude.{◌≡◌, ℕ, ◌+◌, ◌-◌, ◌^◌, ◌&&◌, nat_lt, ℤ, pos, ◌+ℤ◌, int_lt, ⊤, ◌⊎◌, Bool, List, [], ◌∷◌, ◌++◌, length, take, drop, slice_get}
+use Rattle.std.specs.Prelude.{◌≡◌, ℕ, ◌+◌, ◌-◌, ◌^◌, ◌<◌, ◌&&◌, nat_lt, ℤ, pos, ◌+ℤ◌, ◌<ℤ◌, int_lt, ⊤, ◌⊎◌, Bool, true, List, [], ◌∷◌, ◌++◌, length, take, drop, slice_get}
 use Rattle.std.specs.Prelude.{codes, Option, Some, None, Result, Ok, Err, if◌then◌else◌}
 use Rattle.std.specs.Option.{option_map_or}
 use Rattle.std.specs.Result.{result_ok}
@@ -113,18 +113,30 @@ pub record IsPointed (before : ℤ) (line : List ℕ) (input : Stamp) : Type 0 w
   pub time : input.time ≡ before +ℤ pos 1
   pub event : input.event ≡ Pointer pointing
 
--- each line is a step behind an input of this time, and gives one input
-abbrev pub AreSteps : ℤ → List (List ℕ) → List Stamp → Type 0
-AreSteps before [] [] = ⊤
-AreSteps before (line ∷ lines) (input ∷ inputs) =
-    (IsClock line input ⊎ IsPointed before line input) × AreSteps input.time lines inputs
-AreSteps before [] (input ∷ inputs) = ⊥
-AreSteps before (line ∷ lines) [] = ⊥
+-- a host numbers it as the input behind so many, of which the last has this time
+pub record IsNumbered (given : ℕ) (before : ℤ) (input : Stamp) : Type 0 where
+  pub number : input.number ≡ given + 1
+  pub few : given < 2 ^ 20
+  pub later : before <ℤ input.time
+  pub in_range : is_input_time input.time ≡ true
+
+-- the line is a step behind so many inputs, of which the last has this time, and gives this input
+pub record IsJobStep (given : ℕ) (before : ℤ) (line : List ℕ) (input : Stamp) : Type 0 where
+  pub says : IsClock line input ⊎ IsPointed before line input
+  pub numbered : IsNumbered given before input
+
+-- each line is a step, and gives one input
+abbrev pub AreSteps : ℕ → ℤ → List (List ℕ) → List Stamp → Type 0
+AreSteps given before [] [] = ⊤
+AreSteps given before (line ∷ lines) (input ∷ inputs) =
+    IsJobStep given before line input × AreSteps (given + 1) input.time lines inputs
+AreSteps given before [] (input ∷ inputs) = ⊥
+AreSteps given before (line ∷ lines) [] = ⊥
 
 -- the bytes are a line for each input, a line `scene`, and the scene
 pub record IsJob (bytes : List ℕ) (job : Lined) : Type 0 where
   pub steps : List (List ℕ)
   pub rest : List (List ℕ)
   pub lines : lines bytes ≡ steps ++ codes "scene" ∷ rest
-  pub each : AreSteps (pos 0) steps job.inputs
+  pub each : AreSteps 0 (pos 0) steps job.inputs
   pub scene : job.scene ≡ behind_lines (length steps + 1) bytes

@@ -31,6 +31,7 @@ diary =
       applied = length;
       last = last_time;
       fits = λ w. true;
+      text = λ boot w. boot ∷ map (λ x. x.number) w;
     }
 
 abbrev Diaries : Type 0
@@ -149,6 +150,54 @@ lossy-list = refl
 lossy-ends : views (after two lossy) ≡ Running three_inputs empty_window ∷ Running three_inputs empty_window ∷ []
 unfolding fault_of
 lossy-ends = refl
+
+-- ---- a late joiner
+
+-- viewer 1 comes late, and begins in the snapshot that viewer 0 took, by a boot above its own and the
+-- snapshot's; input 3 is the next for both
+abbrev late : List Step
+late =
+    HostClock (pos 1000000)
+    ∷ HostClock (pos 2000000)
+    ∷ HostPacket 1
+    ∷ HostPacket 2
+    ∷ ViewerTake 0 0
+    ∷ ViewerTake 0 1
+    ∷ ViewerSave 0
+    ∷ ViewerRewind 1 0 1
+    ∷ ViewerRewind 1 1 2
+    ∷ ViewerRewind 1 0 2
+    ∷ HostClock (pos 3000000)
+    ∷ HostPacket 3
+    ∷ ViewerTake 1 2
+    ∷ ViewerTake 0 2
+    ∷ []
+
+late-answers : answers two late ≡
+    Clocked (Ok 1)
+    ∷ Clocked (Ok 2)
+    ∷ Sent (Some 0)
+    ∷ Sent (Some 1)
+    ∷ ViewerTook (Ok (Applied 1))
+    ∷ ViewerTook (Ok (Applied 1))
+    ∷ Saved (Ok 0)
+    ∷ Rewound (Err BootNotNew)
+    ∷ NoSuch
+    ∷ Rewound (Ok 2)
+    ∷ Clocked (Ok 3)
+    ∷ Sent (Some 2)
+    ∷ ViewerTook (Ok (Applied 1))
+    ∷ ViewerTook (Ok (Applied 1))
+    ∷ []
+unfolding fault_of
+late-answers = refl
+
+abbrev three_clocks : List Stamp
+three_clocks = clock_at 1 1000000 ∷ clock_at 2 2000000 ∷ clock_at 3 3000000 ∷ []
+
+late-ends : views (after two late) ≡ Running three_clocks empty_window ∷ Running three_clocks empty_window ∷ []
+unfolding fault_of
+late-ends = refl
 
 -- ---- rehearsal
 

@@ -1,7 +1,7 @@
 -- What a refused run says of its boxes is said of its scripts, and of the bytes of its job.
 use Rattle.std.proofs.Common.{◌≡◌, ◌⊎◌, ◌∙◌, ℕ, List, Option, Some, None, ap, inl, inr}
 use Rattle.std.specs.Prelude.{IfErr, OnOk, Result, Ok, Err}
-use Rattle.std.specs.Io.KnownBytes.{Consumes, IsAtEnd, Keeps}
+use Rattle.std.specs.Io.KnownBytes.{Consumes, IsAtEnd}
 use Rattle.scene_core.specs.Scene.{SceneView}
 use Rattle.scene_scripts.specs.Scripts.{script_list}
 use Rattle.script_boxes.specs.Boxes.{stock_for}

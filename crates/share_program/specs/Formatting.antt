@@ -1,5 +1,5 @@
 -- What `format` reads and writes: a text, and the text of its document (ISO/IEC 19776-2, grammar).
-use Rattle.std.specs.Prelude.{◌≡◌, ◌⊎◌, Option, ℕ, List, Result, Ok, Err}
+use Rattle.std.specs.Prelude.{◌≡◌, ◌⊎◌, ◌≤◌, ◌^◌, Option, Some, ℕ, List, [], length, Result, Ok, Err}
 use Rattle.std.specs.Io.KnownBytes.{Appends, Consumes, IsAtEnd, Keeps}
 use Rattle.classic_tree.specs.Writing.{document_text}
 use Rattle.classic_tree.specs.declared.tree.Document.{Document}
@@ -44,3 +44,21 @@ abbrev pub IsUnwritten : Option (List ℕ) → Option (List ℕ) → Option (Lis
 IsUnwritten old_read new_read old_written new_written fault =
     Keeps old_written new_written
     ⊎ ((fault ≡ Device) × ((d : Document) × IsRead old_read new_read d))
+
+-- ---- what is written is read again
+
+-- a scene of these bytes is written as those
+abbrev pub IsFormattedAs : List ℕ → List ℕ → Type 0
+IsFormattedAs text written = IsFormatted (Some text) (Some []) (Some []) (Some written)
+
+-- bytes that are written as themselves and as nothing else, and that are no scene for no reason
+pub record IsFormattedAlike (text : List ℕ) : Type 0 where
+  pub same : IsFormattedAs text text
+  pub only : (other : List ℕ) → IsFormattedAs text other → other ≡ text
+  pub taken : (fault : JobFault) → ¬ IsNoText (Some text) (Some []) fault
+
+-- so are all bytes that a scene is written as, within the limit of 16 MiB
+abbrev pub FormattedTextsStay : Type 0
+FormattedTextsStay =
+    (text written : List ℕ) → IsFormattedAs text written → length written ≤ 2 ^ 24
+    → IsFormattedAlike written

@@ -4,6 +4,7 @@
 mod check;
 mod fault;
 mod format;
+mod laws;
 mod open;
 mod refusal;
 mod runs;
@@ -11,6 +12,7 @@ mod runs;
 pub use check::check_text;
 pub use fault::ShareFault;
 pub use format::format_text;
+pub use laws::formatted_texts_stay;
 pub use open::{Job, Opened, open_job, open_scene, read_job, read_schedule};
 pub use refusal::{Failure, refusal_line, status_of};
 pub use runs::{run, run_job, run_stock};

@@ -94,21 +94,21 @@ ended-more viewers i v before out after so_far within at told =
 -- ---- the start
 
 seated-viewers : (mark : List ℕ) (scene : SceneView) (routes : List Route) (n : ℕ) (stages : List StageView) (v : ℕ) → AreOf scene routes stages
-    → slice_get (viewers_from mark n stages) v ≡ option_map (viewer_at mark scene routes (n + v)) (slice_get (map (seated (cascade scene routes)) (replicate (length stages) 1)) v)
+    → slice_get (viewers_from mark n stages) v ≡ option_map (viewer_at mark scene routes (n + v)) (slice_get (map (seated (cascade mark scene routes)) (replicate (length stages) 1)) v)
 seated-viewers mark scene routes n [] v are = refl
 seated-viewers mark scene routes n (stage ∷ stages) zero are = rw (add-zero n) (rw are.0 (rw are.1 refl))
 seated-viewers mark scene routes n (stage ∷ stages) (suc v) are =
     seated-viewers mark scene routes (suc n) stages v are.2
-    ∙ ap (λ (k : ℕ). option_map (viewer_at mark scene routes k) (slice_get (map (seated (cascade scene routes)) (replicate (length stages) 1)) v)) (let e : suc n + v ≡ n + suc v = omega arith in e)
+    ∙ ap (λ (k : ℕ). option_map (viewer_at mark scene routes k) (slice_get (map (seated (cascade mark scene routes)) (replicate (length stages) 1)) v)) (let e : suc n + v ≡ n + suc v = omega arith in e)
 
-pub stand-begun : (mark : List ℕ) (scene : SceneView) (routes : List Route) (stages : List StageView) → AreOf scene routes stages → StandFor mark scene routes (begun_with mark stages) (start (cascade scene routes) (replicate (length stages) 1))
+pub stand-begun : (mark : List ℕ) (scene : SceneView) (routes : List Route) (stages : List StageView) → AreOf scene routes stages → StandFor mark scene routes (begun_with mark stages) (start (cascade mark scene routes) (replicate (length stages) 1))
 stand-begun mark scene routes stages are =
     let one : ℕ = 1 in
     record {
       host = ap (λ (k : ℕ). let h : HostView = record { mark = mark; host = new_host k } in h) (sym (length-replicate (length stages) one));
       viewers = λ v.
           seated-viewers mark scene routes 0 stages v are
-          ∙ ap (λ (k : ℕ). option_map (viewer_at mark scene routes k) (slice_get (map (seated (cascade scene routes)) (replicate (length stages) 1)) v)) (zero-add v);
+          ∙ ap (λ (k : ℕ). option_map (viewer_at mark scene routes k) (slice_get (map (seated (cascade mark scene routes)) (replicate (length stages) 1)) v)) (zero-add v);
       packets = refl;
       shots = refl;
     }

@@ -3,9 +3,9 @@ use Rattle.std.proofs.Common.{◌≡◌, ℕ, zero, suc, ◌^◌, ◌<◌, ◌�
 use Rattle.std.specs.Prelude.{slice_get, slice_set, Option, Some, None, Result, Ok, Err, ◌==◌}
 use Rattle.std.specs.Option.{option_map}
 use Rattle.std.proofs.lemmas.Option.{same_Some, none-some, slice_get-map}
-use Rattle.std.proofs.lemmas.Bool.{cond-false, ne_eqb}
 use Rattle.std.proofs.lemmas.List.{map-append, length-map}
 use Rattle.x3d_values.specs.declared.pointing.Point.{Point}
+use Rattle.x3d_values.specs.Stamp.{Stamp}
 use Rattle.scene_core.specs.declared.scene.Route.{Route}
 use Rattle.scene_core.specs.Scene.{SceneView}
 use Rattle.cascade_core.specs.Course.{Scripted}
@@ -27,7 +27,7 @@ use Rattle.share_law.specs.Host.{HostState, host_packet, ack_of}
 use Rattle.share_law.specs.Machine.{Machine}
 use Rattle.share_law.specs.Network as law
 use Rattle.share_law.specs.Network.{Network, Seat, Run, IsStep, start, step, sends, with_host as net_host, with_seat, with_node, with_packet, with_shot, host_acks, host_takes, viewer_step, viewer_takes, viewer_rewinds, offered_by, rewound_by}
-use Rattle.share_law.specs.Reached.{Reached}
+use Rattle.share_law.specs.Reached.{Reached, IsRunning}
 use Rattle.share_law.specs.Viewer.{View, Spoiled, Running, ViewerState, Shot as LawShot, viewer_offer, viewer_resend, viewer_ask}
 use Rattle.share_law.proofs.Calls.{IsClocked-step, IsHostTake-step, IsHostTakeOf-take, IsTake-step, IsTakeOf-take, ack-step, offer-step, resend-step, ask-step, save-step, save-refused-step, save-spoiled-step, IsRewind-step}
 use Rattle.share_law.proofs.Elements.{slice_get_push}
@@ -38,7 +38,14 @@ use Rattle.share_rehearsal.specs.declared.answer.Answer.{Answer}
 use Rattle.share_rehearsal.specs.declared.answer.Answer.TheVariants.{Clocked, HostTook, ViewerTook, Offered, Sent, Saved, Rewound, NoSuch}
 use Rattle.share_rehearsal.specs.declared.nodes.Shot.{Shot}
 use Rattle.share_rehearsal.specs.Calls.{Seen, with_host, with_viewer, with_packets, with_shots, message, IsUnknown, IsMade, IsAcked, IsHostGiven, IsGiven, IsSaving, IsSaved, IsRewinding, IsOffering, IsCall, AreCalls}
-use Rattle.share_rehearsal.specs.Rehearsed.{law_answer, viewer_at, shot_at, StandFor, WorldsFit}
+use Rattle.share_rehearsal.specs.Rehearsed.{law_answer, viewer_at, shot_at, StandFor}
+
+-- each world that a viewer runs with fits a snapshot, whatever happened before
+abbrev pub WorldsFit : (mark : List ℕ) → SceneView → List Route → Type 0
+WorldsFit mark scene routes =
+    (net : Network Scripted) → Reached (cascade mark scene routes) net
+    → (v : ℕ) (w : Scripted) (window : List (Option Stamp)) → IsRunning net v w window
+    → HasSnapshot scene w
 
 -- ---- lists by their places
 
@@ -58,7 +65,7 @@ set-both f (z ∷ xs) (y ∷ ys) (suc v) x (suc u) h = set-both (λ k. f (suc k)
 
 module _ (mark : List ℕ) (scene : SceneView) (routes : List Route) where
   abbrev pub m : Machine Scripted
-  m = cascade scene routes
+  m = cascade mark scene routes
 
   -- snapshots can be loaded
   abbrev pub ShotsFit : Network Scripted → Type 0
@@ -221,7 +228,7 @@ module _ (mark : List ℕ) (scene : SceneView) (routes : List Route) where
     | inr last ↦ subst (λ (z : LawShot Scripted). (z.boot < 2 ^ 32) × HasSnapshot scene z.state) last.1 new
   ]
 
-  saved-in : WorldsFit scene routes → (net : Network Scripted) (v : ℕ) (old : Seen) (a : Answer) (new : Seen) (x : Seat Scripted) (view : View Scripted) → Reached m net → StandFor mark scene routes old net → ShotsFit net
+  saved-in : WorldsFit mark scene routes → (net : Network Scripted) (v : ℕ) (old : Seen) (a : Answer) (new : Seen) (x : Seat Scripted) (view : View Scripted) → Reached m net → StandFor mark scene routes old net → ShotsFit net
       → slice_get net.viewers v ≡ Some x → x.node.view ≡ view → new ≡ with_shots old new.shots → IsSaving v (viewer_at mark scene routes v x) old.shots view a new.shots → Goes net (ViewerSave v) a new
   saved-in worlds net v old a new x (Spoiled count) reached stand fit at view leaves call =
       goes net net (ViewerSave v) a (Saved (Err save_fault.Spoiled)) new old call.0 (leaves ∙ ap (with_shots old) call.1) (save-spoiled-step m net v x count at view) stand fit
@@ -239,7 +246,7 @@ module _ (mark : List ℕ) (scene : SceneView) (routes : List Route) where
   saved-in worlds net v old a new x (Running w window) reached stand fit at view leaves (inr call) =
       goes net net (ViewerSave v) a (Saved (Err save_fault.Memory)) new old call.0 (leaves ∙ ap (with_shots old) call.1) (save-refused-step m net v x w window at view) stand fit
 
-  saves : WorldsFit scene routes → (net : Network Scripted) (v : ℕ) (old : Seen) (a : Answer) (new : Seen) (seat : Option (Seat Scripted)) → Reached m net → StandFor mark scene routes old net → ShotsFit net → slice_get net.viewers v ≡ seat
+  saves : WorldsFit mark scene routes → (net : Network Scripted) (v : ℕ) (old : Seen) (a : Answer) (new : Seen) (seat : Option (Seat Scripted)) → Reached m net → StandFor mark scene routes old net → ShotsFit net → slice_get net.viewers v ≡ seat
       → IsSaved old v (option_map (viewer_at mark scene routes v) seat) a new → Goes net (ViewerSave v) a new
   saves worlds net v old a new None reached stand fit at call =
       unknown net (ViewerSave v) old a new stand fit (ap (λ (o : Option (Seat Scripted)). viewer_step m net (ViewerSave v) v o) at) call
@@ -256,20 +263,16 @@ module _ (mark : List ℕ) (scene : SceneView) (routes : List Route) where
       unknown net (ViewerRewind v n boot) old a new stand fit (ap (λ (o : Option (Seat Scripted)). viewer_step m net (ViewerRewind v n boot) v o) at) call
   rewinds net v n boot old a new (Some x) None stand fit at shots call =
       unknown net (ViewerRewind v n boot) old a new stand fit (ap (λ (o : Option (Seat Scripted)). viewer_step m net (ViewerRewind v n boot) v o) at ∙ ap (λ (o : Option (LawShot Scripted)). viewer_rewinds m net v x boot o) shots) call
-  rewinds net v n boot old a new (Some x) (Some k) stand fit at shots (inl other) =
-      let none : viewer_rewinds m net v x boot (Some k) ≡ (law.NoSuch, net) = cond-false (k.viewer == v) _ _ (ne_eqb k.viewer v other.0) in
-      unknown net (ViewerRewind v n boot) old a new stand fit (ap (λ (o : Option (Seat Scripted)). viewer_step m net (ViewerRewind v n boot) v o) at ∙ ap (λ (o : Option (LawShot Scripted)). viewer_rewinds m net v x boot o) shots ∙ none) other.1
-  rewinds net v n boot old a new (Some x) (Some k) stand fit at shots (inr own) =
-      let call = own.1 in
+  rewinds net v n boot old a new (Some x) (Some k) stand fit at shots call =
       let result = call.0 in
       let y = call.1 in
       let ok = fit n k shots in
       let lawful = call.5 k ok.0 ok.1 refl in
-      moves net (ViewerRewind v n boot) old a (Rewound result) new v x (rewound_by x (result, y)) y stand fit call.2 call.3 (rewound-node x result y) (IsRewind-step m net v n boot x k result y at shots own.0 lawful)
+      moves net (ViewerRewind v n boot) old a (Rewound result) new v x (rewound_by x (result, y)) y stand fit call.2 call.3 (rewound-node x result y) (IsRewind-step m net v n boot x k result y at shots lawful)
 
   -- ---- any step
 
-  tie : WorldsFit scene routes → (net : Network Scripted) (old : Seen) (s : Step) (a : Answer) (new : Seen) → Reached m net → StandFor mark scene routes old net → ShotsFit net → IsCall old s a new → Goes net s a new
+  tie : WorldsFit mark scene routes → (net : Network Scripted) (old : Seen) (s : Step) (a : Answer) (new : Seen) → Reached m net → StandFor mark scene routes old net → ShotsFit net → IsCall old s a new → Goes net s a new
   tie worlds net old (HostClock t) a new reached stand fit call =
       let clocked = subst (λ (v : HostView). IsClocked v.host t call.0 call.1) stand.host call.4 in
       goes net (net_host net call.1) (HostClock t) a (Clocked call.0) new (with_host old call.1) call.2 call.3 (IsClocked-step m net t call.0 call.1 clocked) (host-stands net old call.1 stand) fit
@@ -296,7 +299,7 @@ module _ (mark : List ℕ) (scene : SceneView) (routes : List Route) where
 
   -- ---- all steps
 
-  pub tied : WorldsFit scene routes → (viewers : ℕ) → 1 ≤ viewers → viewers ≤ 16 → (before : List Step) (told : List law.Answer) (net : Network Scripted) → Run m (start m (replicate viewers 1)) before told net → (old : Seen) → StandFor mark scene routes old net → ShotsFit net
+  pub tied : WorldsFit mark scene routes → (viewers : ℕ) → 1 ≤ viewers → viewers ≤ 16 → (before : List Step) (told : List law.Answer) (net : Network Scripted) → Run m (start m (replicate viewers 1)) before told net → (old : Seen) → StandFor mark scene routes old net → ShotsFit net
       → (steps : List Step) (answers : List Answer) (new : Seen) → AreCalls old steps answers new → (end : Network Scripted) × Run m net steps (map law_answer answers) end × StandFor mark scene routes new end
   tied worlds viewers some most before told net run old stand fit [] [] new calls = (net, refl, subst (λ (s : Seen). StandFor mark scene routes s net) (sym calls) stand)
   tied worlds viewers some most before told net run old stand fit (s ∷ steps) (a ∷ answers) new calls =

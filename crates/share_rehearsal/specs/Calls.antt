@@ -1,5 +1,5 @@
 -- What the calls of a rehearsal's nodes make of them, step by step.
-use Rattle.std.specs.Prelude.{◌≡◌, ◌≢◌, ◌⊎◌, ◌<◌, ◌^◌, ℕ, suc, ◌++◌, List, [], ◌∷◌, length}
+use Rattle.std.specs.Prelude.{◌≡◌, ◌⊎◌, ◌<◌, ◌^◌, ℕ, suc, ◌++◌, List, [], ◌∷◌, length}
 use Rattle.std.specs.Prelude.{slice_get, slice_set, Option, Some, None, Result, Ok, Err}
 use Rattle.share_wire.specs.Datagram.{datagram}
 use Rattle.share_wire.specs.Decoding.{decoded}
@@ -160,11 +160,9 @@ abbrev pub IsRewinding : Seen → (v boot : ℕ) → Option ViewerView → Optio
 IsRewinding s v boot None kept a new = IsUnknown s a new
 IsRewinding s v boot (Some x) None a new = IsUnknown s a new
 IsRewinding s v boot (Some x) (Some kept) a new =
-    ((kept.viewer ≢ v) × IsUnknown s a new)
-    ⊎ ((kept.viewer ≡ v)
-    × ((result : Result ℕ SnapFault) × (y : law.ViewerState Scripted)
+    (result : Result ℕ SnapFault) × (y : law.ViewerState Scripted)
     × (a ≡ Rewound result) × (new ≡ with_viewer s v (with_state x y))
-    × IsRewound x boot kept.bytes result y × IsLawful x boot kept.bytes result y))
+    × IsRewound x boot kept.bytes result y × IsLawful x boot kept.bytes result y
 
 -- ---- a step
 

@@ -1,9 +1,8 @@
 -- A rehearsal is a run of the law's network: its answers are the network's, and the real nodes
 -- stand where the network's do.
-use Rattle.std.specs.Prelude.{◌≡◌, ℕ, List, [], ◌∷◌, ◌++◌, length, map, replicate, slice_get, Option}
-use Rattle.std.specs.Prelude.{Ok}
+use Rattle.std.specs.Prelude.{◌≡◌, ℕ, List, [], ◌∷◌, ◌++◌, length, map, replicate, slice_get, Ok}
 use Rattle.std.specs.Option.{option_map}
-use Rattle.x3d_values.specs.Stamp.{Stamp}
+use Rattle.flat_document.specs.declared.flat.Flat.{Flat}
 use Rattle.scene_core.specs.declared.scene.Route.{Route}
 use Rattle.scene_core.specs.Scene.{SceneView}
 use Rattle.cascade_core.specs.Apply.{opening}
@@ -11,15 +10,16 @@ use Rattle.cascade_core.specs.Held.{StageView, Running}
 use Rattle.cascade_core.specs.Course.{Scripted}
 use Rattle.share_wire.specs.Decoding.{decoded}
 use Rattle.snapshot_core.specs.Shot.{shot}
-use Rattle.snapshot_core.specs.Loading.{HasSnapshot}
 use Rattle.share_law.specs.declared.step.Step.{Step}
 use Rattle.share_law.specs.Cascade.{cascade}
 use Rattle.share_law.specs.Network as law
-use Rattle.share_law.specs.Network.{Network, Seat, Run, start}
-use Rattle.share_law.specs.Reached.{Reached, IsRunning}
+use Rattle.share_law.specs.Network.{Network, Seat, start}
+use Rattle.share_law.specs.Reached.{Reached}
 use Rattle.share_law.specs.Viewer as law_viewer
 use Rattle.share_core.specs.Host.{HostView}
 use Rattle.share_core.specs.Viewer.{ViewerView}
+use Rattle.world_laws.specs.Nodes.{RunsAll}
+use Rattle.network_laws.specs.Opened.{IsOpened}
 use Rattle.share_rehearsal.specs.declared.answer.Answer.{Answer}
 use Rattle.share_rehearsal.specs.declared.answer.Answer.TheVariants.{Clocked, HostTook, ViewerTook}
 use Rattle.share_rehearsal.specs.declared.answer.Answer.TheVariants.{Offered, Sent, Saved, Rewound}
@@ -27,6 +27,7 @@ use Rattle.share_rehearsal.specs.declared.answer.Answer.TheVariants.{NoSuch}
 use Rattle.share_rehearsal.specs.declared.nodes.Shot.{Shot}
 use Rattle.share_rehearsal.specs.Calls.{AreCalls, Seen, begun_with, message, seen_of}
 use Rattle.share_rehearsal.specs.Log.{lines_from, log_text}
+use Rattle.share_rehearsal.specs.Told.{ToldRun}
 
 -- the network's answer
 abbrev pub law_answer : Answer → law.Answer
@@ -59,20 +60,15 @@ pub record StandFor (mark : List ℕ) (scene : SceneView) (routes : List Route) 
   pub packets : map decoded s.packets ≡ map (λ body. Ok (message mark body)) net.sent
   pub shots : s.shots ≡ map (shot_at mark scene) net.shots
 
--- each world that a viewer runs with fits a snapshot, whatever happened before
-abbrev pub WorldsFit : SceneView → List Route → Type 0
-WorldsFit scene routes =
-    (net : Network Scripted) → Reached (cascade scene routes) net
-    → (v : ℕ) (w : Scripted) (window : List (Option Stamp)) → IsRunning net v w window
-    → HasSnapshot scene w
-
 -- so many viewers of a scene, in their first boots, and their host may be left so by the steps,
--- with these answers
+-- with these answers, of which those say that memory was refused where it was; what they stand for
+-- is reached, so the law of shared worlds holds of it
 pub record IsRehearsal (mark : List ℕ) (scene : SceneView) (routes : List Route) (viewers : ℕ)
     (steps : List Step) (answers : List Answer) (new : Seen) : Type 0 where
   pub net : Network Scripted
-  pub run : Run (cascade scene routes) (start (cascade scene routes) (replicate viewers 1)) steps
-      (map law_answer answers) net
+  pub run : ToldRun (cascade mark scene routes) (start (cascade mark scene routes) (replicate viewers 1))
+      steps (map law_answer answers) net
+  pub reached : Reached (cascade mark scene routes) net
   pub stand : StandFor mark scene routes new net
 
 -- ---- the whole
@@ -81,6 +77,15 @@ abbrev pub AreOf : SceneView → List Route → List StageView → Type 0
 AreOf scene routes [] = Unit {0}
 AreOf scene routes (stage ∷ stages) =
     (stage.scene ≡ scene) × (stage.routes ≡ routes) × AreOf scene routes stages
+
+-- all loaded this text, whose scene and routes these are, and boxes were attached to its scripts:
+-- each of these runs
+pub record AreLoaded (text : List ℕ) (scene : SceneView) (routes : List Route)
+    (stages : List StageView) : Type 0 where
+  pub flat : Flat
+  pub is_scene : IsOpened text flat scene routes
+  pub attached : RunsAll scene
+  pub one_scene : AreOf scene routes stages
 
 -- stages that have had no input
 abbrev pub AreFresh : List StageView → Type 0
@@ -102,8 +107,8 @@ pub record IsLogged (old : Seen) (steps : List Step) (before after : List ℕ) (
   pub calls : AreCalls old steps answers new
   pub log : after ≡ before ++ log_text answers new.viewers
 
--- viewers with these stages and their host went through the steps, and their log was appended; of
--- stages of one scene it is a rehearsal
+-- viewers with these stages and their host went through the steps, and their log was appended;
+-- where all loaded one text it is a rehearsal
 pub record IsRehearsed (mark : List ℕ) (stages : List StageView) (steps : List Step)
     (before after : List ℕ) (host : HostView) (viewers : List ViewerView) : Type 0 where
   pub answers : List Answer
@@ -111,7 +116,7 @@ pub record IsRehearsed (mark : List ℕ) (stages : List StageView) (steps : List
   pub shots : List Shot
   pub calls : AreCalls (begun_with mark stages) steps answers (seen_of host viewers packets shots)
   pub log : after ≡ before ++ log_text answers viewers
-  pub law : (scene : SceneView) (routes : List Route) → AreOf scene routes stages
-      → WorldsFit scene routes
+  pub law : (text : List ℕ) (scene : SceneView) (routes : List Route)
+      → AreLoaded text scene routes stages
       → IsRehearsal mark scene routes (length stages) steps answers
       (seen_of host viewers packets shots)

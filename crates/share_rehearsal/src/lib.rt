@@ -5,6 +5,7 @@
 mod answer;
 mod ending;
 mod fault;
+mod law;
 mod log;
 mod made;
 mod names;
@@ -14,5 +15,6 @@ mod rehearsal;
 
 pub use answer::Answer;
 pub use fault::RehearseFault;
+pub use law::rehearsal_law;
 pub use nodes::Shot;
 pub use rehearsal::{Rehearsal, rehearse, viewers_of};

@@ -175,10 +175,8 @@ impl<B: Behaviour> Nodes<B> {
             return Answer::NoSuch;
         };
         match self.shots.get(snapshot as usize) {
-            Some(shot) if shot.viewer == viewer => {
-                Answer::Rewound(self.viewers[seat].rewind(shot.bytes.as_slice(), boot))
-            }
-            _ => Answer::NoSuch,
+            None => Answer::NoSuch,
+            Some(shot) => Answer::Rewound(self.viewers[seat].rewind(shot.bytes.as_slice(), boot)),
         }
     }
 

@@ -1,3 +1,4 @@
+pub mod Answering
 pub mod Sending
 pub mod Turning
 pub mod Taking

@@ -16,97 +16,114 @@ use Rattle.share_turns.specs.declared.fault.TurnFault.{TurnFault}
 use Rattle.share_turns.specs.declared.fault.TurnFault.TheVariants as turn_fault
 use Rattle.share_turns.specs.Exchanges.{AreSent, IsEnd, sent_to}
 use Rattle.share_turns.specs.HostTurn.{failures_after}
-use Rattle.share_turns.specs.ViewerTurn.{AreTaken, IsOffered, IsTaking, IsViewerTurn, Takes, received, requests}
+use Rattle.share_turns.specs.ViewerTurn.{AreTaken, IsOffered, IsTaking, IsViewerTurn, Takes, Taking, received, refusals_of, requests}
+use Rattle.share_turns.specs.Refusals.{IsAnswerAfter}
+use Rattle.share_turns.proofs.Answering.{answer_kept, answered_at_once, answered_then, went_on}
 use Rattle.share_turns.proofs.Sending.{grows_none, grows_then}
 
-one_more_taken : {W : Type 0} (m : Machine W) (mark : List ℕ) (who : ℕ) (x : ViewerState W) (ds : List Datagram) (d : Datagram) (mid y : ViewerState W)
-    → AreTaken m mark who x ds mid → IsTaking m mark who mid d.bytes y → AreTaken m mark who x (ds ++ d ∷ []) y
-one_more_taken m mark who x [] d mid y same t = (y, rw (← same) t, refl)
-one_more_taken m mark who x (e ∷ ds) d mid y before t = (before.0, before.1, one_more_taken m mark who before.0 ds d mid y before.2 t)
+one_more_taken : {W : Type 0} (m : Machine W) (mark : List ℕ) (who : ℕ) (x : ViewerState W) (ts : List Taking) (t : Taking) (mid y : ViewerState W)
+    → AreTaken m mark who x ts mid → IsTaking m mark who mid t.came.bytes t.refused y → AreTaken m mark who x (ts ++ t ∷ []) y
+one_more_taken m mark who x [] t mid y same took = (y, rw (← same) took, refl)
+one_more_taken m mark who x (e ∷ ts) t mid y before took = (before.0, before.1, one_more_taken m mark who before.0 ts t mid y before.2 took)
 
--- so many datagrams at most were taken
-pub record TakesSoFar (v : ViewerView) (a b : Option (List Traffic)) (new : ViewerState Scripted) (n : ℕ) : Type 0 where
-  pub came : List Datagram
-  pub taken : AreTaken (machine_of v) v.mark v.who v.state came new
-  pub count : length came ≡ n
-  pub told : Grows a b (received came)
+-- so many datagrams were taken, and the turn goes on or ends there
+pub record TakesSoFar (v : ViewerView) (result : Result (Unit {0}) TurnFault) (a b : Option (List Traffic)) (new : ViewerState Scripted) (n : ℕ) : Type 0 where
+  pub takings : List Taking
+  pub taken : AreTaken (machine_of v) v.mark v.who v.state takings new
+  pub memory : IsAnswerAfter (refusals_of takings) result
+  pub count : length takings ≡ n
+  pub told : Grows a b (received takings)
 
-pub takes_none : (v : ViewerView) (a : Option (List Traffic)) → TakesSoFar v a a v.state 0
-takes_none v a = record { came = []; taken = refl; count = refl; told = grows_none a }
+pub takes_none : (v : ViewerView) (a : Option (List Traffic)) → TakesSoFar v went_on a a v.state 0
+takes_none v a = record { takings = []; taken = refl; memory = (0, refl); count = refl; told = grows_none a }
 
 -- what came was taken, and then this was told
-pub takes_end : (v : ViewerView) (all : Bool) (a b c : Option (List Traffic)) (new : ViewerState Scripted) (n : ℕ) (rest : List Traffic)
-    → TakesSoFar v a b new n → n ≤ 64 → IsEnd all n rest → Grows b c rest → Takes (machine_of v) v.mark v.who all a c v.state new
-takes_end v all a b c new n rest t few end grows = record {
-  came = t.came;
+pub takes_end : (v : ViewerView) (result : Result (Unit {0}) TurnFault) (a b c : Option (List Traffic)) (new : ViewerState Scripted) (n : ℕ) (rest : List Traffic)
+    → TakesSoFar v result a b new n → n ≤ 64 → IsEnd (is_ok result) n rest → Grows b c rest → Takes (machine_of v) v.mark v.who result a c v.state new
+takes_end v result a b c new n rest t few end grows = record {
+  takings = t.takings;
   taken = t.taken;
+  memory = t.memory;
   most = omega (arith, t.count, few);
   rest = rest;
   ended = rw t.count end;
-  told = grows_then a b c (received t.came) rest t.told grows;
+  told = grows_then a b c (received t.takings) rest t.told grows;
 }
 
--- 64 came, or one was refused memory
-pub takes_all : (v : ViewerView) (all : Bool) (a b : Option (List Traffic)) (new : ViewerState Scripted) (n : ℕ)
-    → TakesSoFar v a b new n → n ≤ 64 → IsEnd all n [] → Takes (machine_of v) v.mark v.who all a b v.state new
-takes_all v all a b new n t few end = takes_end v all a b b new n [] t few end (grows_none b)
+-- 64 came, or memory was refused to one
+pub takes_all : (v : ViewerView) (result : Result (Unit {0}) TurnFault) (a b : Option (List Traffic)) (new : ViewerState Scripted) (n : ℕ)
+    → TakesSoFar v result a b new n → n ≤ 64 → IsEnd (is_ok result) n [] → Takes (machine_of v) v.mark v.who result a b v.state new
+takes_all v result a b new n t few end = takes_end v result a b b new n [] t few end (grows_none b)
+
+-- the port failed then
+pub takes_failed : (v : ViewerView) (a b c : Option (List Traffic)) (new : ViewerState Scripted) (n : ℕ)
+    → TakesSoFar v went_on a b new n → n ≤ 64 → Grows b c [] → Takes (machine_of v) v.mark v.who (Err turn_fault.Port) a c v.state new
+takes_failed v a b c new n t few grows =
+    takes_end v (Err turn_fault.Port) a b c new n []
+    (record { takings = t.takings; taken = t.taken; memory = t.memory; count = t.count; told = t.told }) few refl grows
 
 -- one more, by a viewer that came of this one
-pub takes_more : (v x : ViewerView) (a b c : Option (List Traffic)) (d : Datagram) (new : ViewerState Scripted) (n : ℕ)
-    → x ≡ with_state v x.state → TakesSoFar v a b x.state n → Grows b c (Received d ∷ []) → IsTaking (machine_of x) x.mark x.who x.state d.bytes new → TakesSoFar v a c new (n + 1)
-takes_more v x a b c d new n same t grows took = record {
-  came = t.came ++ d ∷ [];
-  taken = one_more_taken (machine_of v) v.mark v.who v.state t.came d x.state new t.taken (subst (λ (y : ViewerView). IsTaking (machine_of y) y.mark y.who x.state d.bytes new) same took);
-  count = length-append t.came (d ∷ []) ∙ ap (λ (k : ℕ). k + 1) t.count;
-  told = rw (map-append (λ (datagram : Datagram). Received datagram) t.came (d ∷ [])) (grows_then a b c (received t.came) (Received d ∷ []) t.told grows);
-}
+pub takes_more : (v x : ViewerView) (result : Result (Unit {0}) TurnFault) (a b c : Option (List Traffic)) (d : Datagram) (refused : Bool) (new : ViewerState Scripted) (n : ℕ)
+    → x ≡ with_state v x.state → TakesSoFar v went_on a b x.state n → Grows b c (Received d ∷ []) → IsTaking (machine_of x) x.mark x.who x.state d.bytes refused new
+    → IsAnswerAfter (refused ∷ []) result → TakesSoFar v result a c new (n + 1)
+takes_more v x result a b c d refused new n same t grows took answers =
+    let last : Taking = record { came = d; refused = refused } in
+    let owned = subst (λ (y : ViewerView). IsTaking (machine_of y) y.mark y.who x.state d.bytes refused new) same took in record {
+      takings = t.takings ++ last ∷ [];
+      taken = one_more_taken (machine_of v) v.mark v.who v.state t.takings last x.state new t.taken owned;
+      memory = rw (map-append (λ (k : Taking). k.refused) t.takings (last ∷ [])) (answered_then (refusals_of t.takings) (refused ∷ []) result t.memory answers);
+      count = length-append t.takings (last ∷ []) ∙ ap (λ (k : ℕ). k + 1) t.count;
+      told = rw (map-append (λ (k : Taking). Received k.came) t.takings (last ∷ [])) (grows_then a b c (received t.takings) (Received d ∷ []) t.told grows);
+    }
 
 -- ---- a whole turn
 
 -- it ended early, before anything was sent
 pub turn_stopped : (v begun : ViewerView) (host : ℕ) (point : Option Point) (offered : Bool) (a b : Option (List Traffic)) (fault : TurnFault) (new : ViewerState Scripted)
-    → begun ≡ with_state v begun.state → IsOffered v.state point offered begun.state → Takes (machine_of begun) begun.mark begun.who false a b begun.state new
+    → begun ≡ with_state v begun.state → IsOffered v.state point offered begun.state → Takes (machine_of begun) begun.mark begun.who (Err fault) a b begun.state new
     → IsViewerTurn (machine_of v) v.mark v.who host point a b v.state (Err fault) new
 turn_stopped v begun host point offered a b fault new same offers takes =
-    let t = subst (λ (y : ViewerView). Takes (machine_of y) y.mark y.who false a b begun.state new) same takes in
+    let t = subst (λ (y : ViewerView). Takes (machine_of y) y.mark y.who (Err fault) a b begun.state new) same takes in
     record {
       offered = offered;
       answer = tt;
       begun = begun.state;
       offers = offers;
-      came = t.came;
+      takings = t.takings;
       taken = t.taken;
+      memory = answer_kept fault (refusals_of t.takings) t.memory;
       most = t.most;
       rest = t.rest;
       sent = [];
       ended = inr (t.ended, refl);
       of_wanted = (requests (machine_of v) v.mark v.who new, refl);
-      told = rw (append-nil (received t.came ++ t.rest)) t.told;
+      told = rw (append-nil (received t.takings ++ t.rest)) t.told;
     }
 
 -- all was taken, and then sent as far as the port did
 pub turn_sent : (v begun taken : ViewerView) (host : ℕ) (point : Option Point) (offered : Bool) (a b c : Option (List Traffic)) (result : Result Bool TurnFault)
     → begun ≡ with_state v begun.state → IsOffered v.state point offered begun.state → taken ≡ with_state begun taken.state
-    → Takes (machine_of begun) begun.mark begun.who true a b begun.state taken.state
+    → Takes (machine_of begun) begun.mark begun.who went_on a b begun.state taken.state
     → AreSent (is_ok result) host b c (requests (machine_of taken) taken.mark taken.who taken.state)
-    → IfOk result (λ (x : Bool). x ≡ offered) → IsViewerTurn (machine_of v) v.mark v.who host point a c v.state result taken.state
-turn_sent v begun taken host point offered a b c result same offers then takes sent answer =
+    → IfOk result (λ (x : Bool). x ≡ offered) → IsAnswerAfter [] result → IsViewerTurn (machine_of v) v.mark v.who host point a c v.state result taken.state
+turn_sent v begun taken host point offered a b c result same offers then takes sent answer quiet =
     let whole : taken ≡ with_state v taken.state = then ∙ ap (λ (y : ViewerView). with_state y taken.state) same in
-    let t = subst (λ (y : ViewerView). Takes (machine_of y) y.mark y.who true a b begun.state taken.state) same takes in
+    let t = subst (λ (y : ViewerView). Takes (machine_of y) y.mark y.who went_on a b begun.state taken.state) same takes in
     let s = subst (λ (y : ViewerView). AreSent (is_ok result) host b c (requests (machine_of y) y.mark y.who taken.state)) whole sent in
     record {
       offered = offered;
       answer = answer;
       begun = begun.state;
       offers = offers;
-      came = t.came;
+      takings = t.takings;
       taken = t.taken;
+      memory = answered_at_once (refusals_of t.takings) result t.memory quiet;
       most = t.most;
       rest = t.rest;
       sent = s.sent;
       ended = inl t.ended;
       of_wanted = s.of_wanted;
-      told = grows_then a b c (received t.came ++ t.rest) (sent_to host s.sent) t.told s.told;
+      told = grows_then a b c (received t.takings ++ t.rest) (sent_to host s.sent) t.told s.told;
     }
 
 pub while_running : (view : View Scripted) (P : Type 0) → P → IfRunning view (λ w. P)

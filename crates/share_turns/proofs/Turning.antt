@@ -1,15 +1,25 @@
 -- A turn of the host, datagram by datagram.
 use Rattle.std.proofs.Common.{◌≡◌, ℕ, ◌+◌, ◌<◌, ◌≤◌, ℤ, Bool, true, false, List, [], ◌∷◌, ◌++◌, length, length-append, refl, ap, ◌∙◌, arith, append-nil}
-use Rattle.std.specs.Prelude.{Option, Result, Err, is_ok}
+use Rattle.std.specs.Prelude.{Option, Result, Ok, Err, OnErr, is_err, is_ok}
 use Rattle.std.proofs.lemmas.Grind.{flat_map-append}
+use Rattle.std.proofs.lemmas.List.{map-append}
+use Rattle.share_wire.specs.Decoding.{decoded}
+use Rattle.share_law.specs.declared.fault.HostFault.{HostFault}
+use Rattle.share_law.specs.declared.reply.HostReply.{HostReply}
+use Rattle.share_law.specs.Calls.{IsHostTakeOf}
 use Rattle.share_law.specs.Host.{HostState}
+use Rattle.share_law.specs.Network.{HostTook}
+use Rattle.share_law.specs.Steps.{says_memory}
 use Rattle.share_port.specs.declared.traffic.Datagram.{Datagram}
 use Rattle.share_port.specs.declared.traffic.Traffic.{Traffic}
 use Rattle.share_port.specs.declared.traffic.Traffic.TheVariants.{Received}
 use Rattle.share_port.specs.Told.{Grows}
-use Rattle.share_turns.specs.Exchanges.{Exchange, IsEnd, IsSentOf, all_traffic, sent_to, traffic_of}
-use Rattle.share_turns.specs.HostTurn.{AreAnswered, IsAnswered, IsBegun, IsExchange, IsHostTurn, is_whole, is_whole_before}
+use Rattle.share_turns.specs.Exchanges.{AreSent, Exchange, IsEnd, IsSentOf, all_traffic, refusals_in, sent_to, traffic_of}
+use Rattle.share_turns.specs.HostTurn.{AreAnswered, IsAnswered, IsBegun, IsExchange, IsHostTurn, bodies_for, datagrams_of, is_whole, is_whole_before, sender_of}
+use Rattle.share_turns.specs.Refusals.{IsAnswerAfter}
 use Rattle.share_turns.specs.declared.fault.TurnFault.{TurnFault}
+use Rattle.share_turns.specs.declared.fault.TurnFault.TheVariants as turn_fault
+use Rattle.share_turns.proofs.Answering.{answered_at_once, answered_one, answered_then, went_on}
 use Rattle.share_turns.proofs.Sending.{grows_none, grows_then}
 
 all_is_front : (whole : Bool) (sent wanted : List (List ℕ)) → IsSentOf true sent wanted → IsSentOf whole sent wanted
@@ -24,7 +34,7 @@ front_before whole (x ∷ others) sent wanted e = e
 whole_or_not : (whole : Bool) (mark : List ℕ) (h : HostState) (es : List Exchange) (new : HostState) → AreAnswered true mark h es new → AreAnswered whole mark h es new
 whole_or_not whole mark h [] new e = e
 whole_or_not whole mark h (e ∷ es) new a =
-    (a.0, record { result = a.1.result; took = a.1.took; sent = front_before whole es _ _ a.1.sent }, whole_or_not whole mark a.0 es new a.2)
+    (a.0, record { result = a.1.result; took = a.1.took; refused = a.1.refused; sent = front_before whole es _ _ a.1.sent }, whole_or_not whole mark a.0 es new a.2)
 
 -- what was answered before a datagram was answered whole
 whole_then : (whole : Bool) (mark : List ℕ) (h next : HostState) (x e : Exchange) (es : List Exchange)
@@ -38,66 +48,128 @@ one_more_answered whole mark h [] e mid new same a = (new, rw (← same) a, refl
 one_more_answered whole mark h (x ∷ es) e mid new before a =
     (before.0, whole_then whole mark h before.0 x e es before.1, one_more_answered whole mark before.0 es e mid new before.2 a)
 
--- after so many datagrams
+-- after so many datagrams, where memory was refused to none
 pub record Turned (mark : List ℕ) (clock : Option ℤ) (a b : Option (List Traffic)) (old new : HostState) (n : ℕ) : Type 0 where
   pub begun : HostState
   pub exchanges : List Exchange
-  pub clocked : IsBegun old clock begun
+  pub clocked : IsBegun old clock false begun
   pub answered : AreAnswered true mark begun exchanges new
+  pub memory : IsAnswerAfter (false ∷ refusals_in exchanges) went_on
   pub count : length exchanges ≡ n
   pub told : Grows a b (all_traffic exchanges)
 
-pub turned_begun : (mark : List ℕ) (clock : Option ℤ) (a : Option (List Traffic)) (old begun : HostState) → IsBegun old clock begun → Turned mark clock a a old begun 0
+pub turned_begun : (mark : List ℕ) (clock : Option ℤ) (a : Option (List Traffic)) (old begun : HostState) → IsBegun old clock false begun → Turned mark clock a a old begun 0
 turned_begun mark clock a old begun clocked =
-    record { begun = begun; exchanges = []; clocked = clocked; answered = refl; count = refl; told = grows_none a }
+    record { begun = begun; exchanges = []; clocked = clocked; answered = refl; memory = (1, refl); count = refl; told = grows_none a }
 
--- then this was told
+-- memory was refused to the clock
+pub turn_unclocked : (mark : List ℕ) (clock : Option ℤ) (a : Option (List Traffic)) (old new : HostState) → IsBegun old clock true new → IsHostTurn (Err turn_fault.Memory) mark clock a a old new
+turn_unclocked mark clock a old new clocked = record {
+  refused = true;
+  begun = new;
+  clocked = clocked;
+  exchanges = [];
+  answered = refl;
+  memory = (0, refl);
+  most = omega arith;
+  rest = [];
+  ended = refl;
+  told = grows_none a;
+}
+
+-- then this was told, and it went on or the port failed
 pub turn_end : (result : Result (Unit {0}) TurnFault) (mark : List ℕ) (clock : Option ℤ) (a b c : Option (List Traffic)) (old new : HostState) (n : ℕ) (rest : List Traffic)
-    → Turned mark clock a b old new n → n ≤ 64 → IsEnd (is_ok result) n rest → Grows b c rest → IsHostTurn result mark clock a c old new
-turn_end result mark clock a b c old new n rest t few end grows = record {
+    → Turned mark clock a b old new n → IsAnswerAfter [] result → n ≤ 64 → IsEnd (is_ok result) n rest → Grows b c rest → IsHostTurn result mark clock a c old new
+turn_end result mark clock a b c old new n rest t answers few end grows = record {
+  refused = false;
   begun = t.begun;
-  exchanges = t.exchanges;
   clocked = t.clocked;
+  exchanges = t.exchanges;
   answered = whole_or_not (is_whole result) mark t.begun t.exchanges new t.answered;
+  memory = answered_at_once (false ∷ refusals_in t.exchanges) result t.memory answers;
   most = omega (arith, t.count, few);
   rest = rest;
   ended = rw t.count end;
   told = grows_then a b c (all_traffic t.exchanges) rest t.told grows;
 }
 
-grown_more : (a b c d : Option (List Traffic)) (came : Datagram) (es : List Exchange) (sent : List (List ℕ))
-    → Grows a b (all_traffic es) → Grows b c (Received came ∷ []) → Grows c d (sent_to came.peer sent) → Grows a d (all_traffic (es ++ record { came = came; sent = sent } ∷ []))
-grown_more a b c d came es sent told received sends =
-    let e : Exchange = record { came = came; sent = sent } in
-    let grown = grows_then a b d (all_traffic es) (traffic_of e) told (grows_then b c d (Received came ∷ []) (sent_to came.peer sent) received sends) in
+grown_more : (a b c d : Option (List Traffic)) (es : List Exchange) (e : Exchange)
+    → Grows a b (all_traffic es) → Grows b c (Received e.came ∷ []) → Grows c d (sent_to e.came.peer e.sent) → Grows a d (all_traffic (es ++ e ∷ []))
+grown_more a b c d es e told received sends =
+    let grown = grows_then a b d (all_traffic es) (traffic_of e) told (grows_then b c d (Received e.came ∷ []) (sent_to e.came.peer e.sent) received sends) in
     rw (flat_map-append traffic_of es (e ∷ [])) (rw (append-nil (traffic_of e)) grown)
+
+-- one exchange more, by its answer
+more_answered : (result : Result (Unit {0}) TurnFault) (es : List Exchange) (e : Exchange) → IsAnswerAfter (false ∷ refusals_in es) went_on
+    → IsAnswerAfter (e.refused ∷ []) result → IsAnswerAfter (false ∷ refusals_in (es ++ e ∷ [])) result
+more_answered result es e before last =
+    rw (map-append (λ (x : Exchange). x.refused) es (e ∷ [])) (answered_then (false ∷ refusals_in es) (e.refused ∷ []) result before last)
+
+abbrev exchange_of : (result : Result (Unit {0}) TurnFault) (mark : List ℕ) (h : HostState) (came : Datagram) (a b : Option (List Traffic)) (new : HostState)
+    → IsExchange result mark h came a b new → Exchange
+exchange_of result mark h came a b new x = record { came = came; refused = x.refused; sent = x.sent }
 
 -- one datagram more, at which the turn ended
 pub turn_cut : (fault : TurnFault) (mark : List ℕ) (clock : Option ℤ) (a b c d : Option (List Traffic)) (came : Datagram) (old mid new : HostState) (n : ℕ)
-    → Turned mark clock a b old mid n → n < 64 → Grows b c (Received came ∷ []) → IsExchange (is_whole {A = Unit {0}} (Err fault)) mark mid came c d new
+    → Turned mark clock a b old mid n → n < 64 → Grows b c (Received came ∷ []) → IsExchange (Err fault) mark mid came c d new
     → IsHostTurn (Err fault) mark clock a d old new
 turn_cut fault mark clock a b c d came old mid new n t few received x =
-    let whole = is_whole {A = Unit {0}} (Err fault) in
-    let e : Exchange = record { came = came; sent = x.sent } in record {
+    let result : Result (Unit {0}) TurnFault = Err fault in
+    let e = exchange_of result mark mid came c d new x in record {
+      refused = false;
       begun = t.begun;
-      exchanges = t.exchanges ++ e ∷ [];
       clocked = t.clocked;
-      answered = one_more_answered whole mark t.begun t.exchanges e mid new t.answered x.answered;
+      exchanges = t.exchanges ++ e ∷ [];
+      answered = one_more_answered (is_whole result) mark t.begun t.exchanges e mid new t.answered x.answered;
+      memory = more_answered result t.exchanges e t.memory x.memory;
       most = rw (length-append t.exchanges (e ∷ [])) (omega (arith, t.count, few));
       rest = [];
       ended = refl;
-      told = rw (append-nil (all_traffic (t.exchanges ++ e ∷ []))) (grown_more a b c d came t.exchanges x.sent t.told received x.told);
+      told = rw (append-nil (all_traffic (t.exchanges ++ e ∷ []))) (grown_more a b c d t.exchanges e t.told received x.told);
     }
 
 -- one datagram more
 pub turned_more : (mark : List ℕ) (clock : Option ℤ) (a b c d : Option (List Traffic)) (came : Datagram) (old mid new : HostState) (n : ℕ)
-    → Turned mark clock a b old mid n → Grows b c (Received came ∷ []) → IsExchange true mark mid came c d new → Turned mark clock a d old new (n + 1)
+    → Turned mark clock a b old mid n → Grows b c (Received came ∷ []) → IsExchange went_on mark mid came c d new → Turned mark clock a d old new (n + 1)
 turned_more mark clock a b c d came old mid new n t received x =
-    let e : Exchange = record { came = came; sent = x.sent } in record {
+    let e = exchange_of went_on mark mid came c d new x in record {
       begun = t.begun;
       exchanges = t.exchanges ++ e ∷ [];
       clocked = t.clocked;
       answered = one_more_answered true mark t.begun t.exchanges e mid new t.answered x.answered;
+      memory = more_answered went_on t.exchanges e t.memory x.memory;
       count = length-append t.exchanges (e ∷ []) ∙ ap (λ (k : ℕ). k + 1) t.count;
-      told = grown_more a b c d came t.exchanges x.sent t.told received x.told;
+      told = grown_more a b c d t.exchanges e t.told received x.told;
     }
+
+-- ---- one exchange
+
+-- the host refused what came, and nothing was sent
+pub exchange_refused : (result : Result (Unit {0}) TurnFault) (fault : HostFault) (mark : List ℕ) (h : HostState) (came : Datagram) (a : Option (List Traffic)) (new : HostState)
+    → IsHostTakeOf mark h (decoded came.bytes) (Err fault) new → is_err result ≡ says_memory (HostTook (Err fault)) → OnErr result (result ≡ Err turn_fault.Memory)
+    → IsExchange result mark h came a a new
+exchange_refused result fault mark h came a new took refused memory = record {
+  refused = is_err result;
+  sent = [];
+  answered = record { result = Err fault; took = took; refused = refused; sent = none_sent result };
+  memory = answered_one (is_err result) result refl memory;
+  told = grows_none a;
+}
+  where
+    none_sent : (r : Result (Unit {0}) TurnFault) → IsSentOf (is_whole r) [] []
+    none_sent (Ok x) = refl
+    none_sent (Err turn_fault.Port) = ([], refl)
+    none_sent (Err turn_fault.Spoiled) = refl
+    none_sent (Err turn_fault.Memory) = refl
+
+-- the host took what came, and sent for it as far as the port did
+pub exchange_sent : (result : Result (Unit {0}) TurnFault) (reply : HostReply) (mark : List ℕ) (h : HostState) (came : Datagram) (a b : Option (List Traffic)) (new : HostState)
+    → IsHostTakeOf mark h (decoded came.bytes) (Ok reply) new → AreSent (is_whole result) came.peer a b (datagrams_of mark (bodies_for new (sender_of (decoded came.bytes)) reply))
+    → IsAnswerAfter (false ∷ []) result → IsExchange result mark h came a b new
+exchange_sent result reply mark h came a b new took s answers = record {
+  refused = false;
+  sent = s.sent;
+  answered = record { result = Ok reply; took = took; refused = refl; sent = s.of_wanted };
+  memory = answers;
+  told = s.told;
+}

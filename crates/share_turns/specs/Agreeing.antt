@@ -109,12 +109,17 @@ meeting host port viewers ports = record {
 abbrev pub is_issued : Option Stamp → (offered : Bool) → Bool
 is_issued step offered = offered || is_some (clock_of step)
 
+-- the turn of the host, the first of a round
+pub record IsFirstTurn {P : Type 0} (ways : Ways P) (mark : List ℕ) (step : Option Stamp)
+    (old : Meeting P) (result : Result (Unit {0}) TurnFault) (new : Meeting P) : Type 0 where
+  pub turn : IsHostTurn result mark (clock_of step) (ways.told old.port) (ways.told new.port)
+      old.host new.host
+  pub failures : ways.failures new.port ≡ failures_after result (ways.failures old.port)
+
 -- a turn of the host and one of each viewer, and whether this step was issued in them
 pub record IsRoundOf {P : Type 0} (ways : Ways P) (mark : List ℕ) (step : Option Stamp) (own : ℕ)
     (old : Meeting P) (issued : Bool) (new : Meeting P) : Type 0 where
-  pub hosted : IsHostTurn (Ok tt) mark (clock_of step) (ways.told old.port) (ways.told new.port)
-      old.host new.host
-  pub failures : ways.failures new.port ≡ ways.failures old.port
+  pub first : IsFirstTurn ways mark step old (Ok tt) new
   pub offered : Bool
   pub seated : SeatTurns ways step own (length old.seats.viewers) old.seats offered new.seats
   pub is : issued ≡ is_issued step offered
@@ -123,13 +128,8 @@ pub record IsRoundOf {P : Type 0} (ways : Ways P) (mark : List ℕ) (step : Opti
 abbrev pub IsRoundEnd : {P : Type 0} → Ways P → (mark : List ℕ) → Option Stamp → (own : ℕ)
     → Meeting P → TurnFault → Meeting P → Type 0
 IsRoundEnd ways mark step own old fault new =
-    (IsHostTurn (Err fault) mark (clock_of step) (ways.told old.port)
-    (ways.told new.port) old.host new.host
-    × (ways.failures new.port ≡ failures_after {A = Unit {0}} (Err fault) (ways.failures old.port))
-    × (new.seats ≡ old.seats))
-    ⊎ (IsHostTurn (Ok tt) mark (clock_of step) (ways.told old.port) (ways.told new.port) old.host
-    new.host
-    × (ways.failures new.port ≡ ways.failures old.port)
+    (IsFirstTurn ways mark step old (Err fault) new × (new.seats ≡ old.seats))
+    ⊎ (IsFirstTurn ways mark step old (Ok tt) new
     × SeatTurnsEnd ways step own old.seats fault new.seats)
 
 -- every viewer has applied n inputs

@@ -6,9 +6,11 @@ use Rattle.share_port.specs.declared.traffic.Traffic.{Traffic}
 use Rattle.share_port.specs.declared.traffic.Traffic.TheVariants.{Nothing, Received, Sent}
 use Rattle.share_port.specs.Told.{Grows}
 
--- a datagram that came, and what was sent to its peer for it
+-- a datagram that came, whether memory was refused to its take, and what was sent to its peer for
+-- it
 pub record Exchange : Type 0 where
   pub came : Datagram
+  pub refused : Bool
   pub sent : List (List ℕ)
 
 -- datagrams that were sent to a peer
@@ -20,6 +22,9 @@ traffic_of e = Received e.came ∷ sent_to e.came.peer e.sent
 
 abbrev pub all_traffic : List Exchange → List Traffic
 all_traffic es = flat_map traffic_of es
+
+abbrev pub refusals_in : List Exchange → List Bool
+refusals_in es = map (λ e. e.refused) es
 
 -- what a port tells at the end of what came: where all was taken, that nothing more came, or
 -- nothing where 64 datagrams came; where a turn ended before that, nothing

@@ -15,12 +15,16 @@ use Rattle.share_law.specs.declared.reply.HostReply.{HostReply}
 use Rattle.share_law.specs.declared.reply.HostReply.TheVariants.{Asked}
 use Rattle.share_law.specs.Host.{HostState, host_packet, ack_of}
 use Rattle.share_law.specs.Calls.{IsClocked, IsHostTakeOf}
+use Rattle.share_law.specs.Network.{Clocked, HostTook}
+use Rattle.share_law.specs.Steps.{says_memory}
 use Rattle.share_port.specs.declared.traffic.Datagram.{Datagram}
 use Rattle.share_port.specs.declared.traffic.Traffic.{Traffic}
 use Rattle.share_port.specs.Told.{Grows, one_more}
 use Rattle.share_turns.specs.declared.fault.TurnFault.{TurnFault}
 use Rattle.share_turns.specs.declared.fault.TurnFault.TheVariants.{Port}
-use Rattle.share_turns.specs.Exchanges.{Exchange, all_traffic, sent_to, IsEnd, IsSentOf}
+use Rattle.share_turns.specs.Exchanges.{Exchange, all_traffic, refusals_in, sent_to}
+use Rattle.share_turns.specs.Exchanges.{IsEnd, IsSentOf}
+use Rattle.share_turns.specs.Refusals.{IsAnswerAfter}
 
 -- ---- what is sent for a datagram
 
@@ -79,23 +83,30 @@ abbrev pub failures_after : {A : Type 0} → Result A TurnFault → ℕ → ℕ
 failures_after (Err Port) n = one_more n
 failures_after result n = n
 
--- the host numbers a clock, if there is one, or refuses it
-abbrev pub IsBegun : HostState → Option ℤ → HostState → Type 0
-IsBegun h None new = new ≡ h
-IsBegun h (Some time) new = (result : Result ℕ NumberFault) × IsClocked h time result new
+-- the host numbers a clock, if there is one, or refuses it, perhaps for want of memory
+abbrev pub IsBegun : HostState → Option ℤ → (refused : Bool) → HostState → Type 0
+IsBegun h None refused new = (new ≡ h) × (refused ≡ false)
+IsBegun h (Some time) refused new =
+    (answer : Result ℕ NumberFault) × IsClocked h time answer new
+    × (refused ≡ says_memory (Clocked answer))
 
 -- the host takes what came, and sends what belongs to it
 pub record IsAnswered (whole : Bool) (mark : List ℕ) (h : HostState) (e : Exchange)
     (new : HostState) : Type 0 where
   pub result : Result HostReply HostFault
   pub took : IsHostTakeOf mark h (decoded e.came.bytes) result new
+  pub refused : e.refused ≡ says_memory (HostTook result)
   pub sent : IsSentOf whole e.sent (datagrams_for mark new e.came.bytes result)
 
--- the same, as a port tells what is sent
-pub record IsExchange (whole : Bool) (mark : List ℕ) (h : HostState) (came : Datagram)
-    (told_before told_after : Option (List Traffic)) (new : HostState) : Type 0 where
+-- the same, as a port tells what is sent, and a turn goes on or ends there
+pub record IsExchange (result : Result (Unit {0}) TurnFault) (mark : List ℕ) (h : HostState)
+    (came : Datagram) (told_before told_after : Option (List Traffic)) (new : HostState) :
+    Type 0 where
+  pub refused : Bool
   pub sent : List (List ℕ)
-  pub answered : IsAnswered whole mark h (record { came = came; sent = sent }) new
+  pub answered : IsAnswered (is_whole result) mark h
+      (record { came = came; refused = refused; sent = sent }) new
+  pub memory : IsAnswerAfter (refused ∷ []) result
   pub told : Grows told_before told_after (sent_to came.peer sent)
 
 -- where others follow, all was sent: a port that fails ends the turn
@@ -114,10 +125,12 @@ AreAnswered whole mark h (e ∷ es) new =
 -- the clock, and then datagrams, at most 64, until no more come
 pub record IsHostTurn (result : Result (Unit {0}) TurnFault) (mark : List ℕ) (clock : Option ℤ)
     (told_before told_after : Option (List Traffic)) (old new : HostState) : Type 0 where
+  pub refused : Bool
   pub begun : HostState
+  pub clocked : IsBegun old clock refused begun
   pub exchanges : List Exchange
-  pub clocked : IsBegun old clock begun
   pub answered : AreAnswered (is_whole result) mark begun exchanges new
+  pub memory : IsAnswerAfter (refused ∷ refusals_in exchanges) result
   pub most : length exchanges ≤ 64
   pub rest : List Traffic
   pub ended : IsEnd (is_ok result) (length exchanges) rest

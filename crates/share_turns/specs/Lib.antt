@@ -1,3 +1,4 @@
+pub mod Refusals
 pub mod Exchanges
 pub mod HostTurn
 pub mod ViewerTurn

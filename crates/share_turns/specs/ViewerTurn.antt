@@ -10,6 +10,8 @@ use Rattle.share_law.specs.declared.reply.Taken.{Taken}
 use Rattle.share_law.specs.Machine.{Machine}
 use Rattle.share_law.specs.Viewer.{ViewerState, viewer_ask, viewer_offer, viewer_resend}
 use Rattle.share_law.specs.Calls.{IsTakeOf}
+use Rattle.share_law.specs.Network.{ViewerTook}
+use Rattle.share_law.specs.Steps.{says_memory}
 use Rattle.share_port.specs.declared.traffic.Datagram.{Datagram}
 use Rattle.share_port.specs.declared.traffic.Traffic.{Traffic}
 use Rattle.share_port.specs.declared.traffic.Traffic.TheVariants.{Received}
@@ -17,6 +19,7 @@ use Rattle.share_port.specs.Told.{Grows}
 use Rattle.share_turns.specs.declared.fault.TurnFault.{TurnFault}
 use Rattle.share_turns.specs.Exchanges.{IsEnd, IsSentOf, sent_to}
 use Rattle.share_turns.specs.HostTurn.{datagrams_of, listed}
+use Rattle.share_turns.specs.Refusals.{IsAnswerAfter}
 
 -- a viewer offers a point, if there is one, or refuses it
 abbrev pub IsOffered : {W : Type 0} → ViewerState W → Option Point → (offered : Bool)
@@ -25,33 +28,44 @@ IsOffered x None offered y = (y ≡ x) × (offered ≡ false)
 IsOffered x (Some point) offered y =
     (result : Result ℕ OfferFault) × (viewer_offer x point ≡ (result, y)) × (offered ≡ is_ok result)
 
--- it takes the bytes of a datagram
-pub record IsTaking {W : Type 0} (m : Machine W) (mark : List ℕ) (who : ℕ) (x : ViewerState W)
-    (came : List ℕ) (y : ViewerState W) : Type 0 where
-  pub result : Result Taken TakeFault
-  pub took : IsTakeOf m mark who x x.view (decoded came) result y
+-- it takes the bytes of a datagram, or refuses them, perhaps for want of memory
+abbrev pub IsTaking : {W : Type 0} → Machine W → (mark : List ℕ) (who : ℕ) → ViewerState W
+    → (came : List ℕ) → (refused : Bool) → ViewerState W → Type 0
+IsTaking m mark who x came refused y =
+    (answer : Result Taken TakeFault) × IsTakeOf m mark who x x.view (decoded came) answer y
+    × (refused ≡ says_memory (ViewerTook answer))
+
+-- a datagram that came, and whether memory was refused to its take
+pub record Taking : Type 0 where
+  pub came : Datagram
+  pub refused : Bool
 
 -- it takes one datagram after another
 abbrev pub AreTaken : {W : Type 0} → Machine W → (mark : List ℕ) (who : ℕ) → ViewerState W
-    → List Datagram → ViewerState W → Type 0
+    → List Taking → ViewerState W → Type 0
 AreTaken m mark who x [] y = y ≡ x
-AreTaken {W} m mark who x (came ∷ others) y =
-    (next : ViewerState W) × IsTaking m mark who x came.bytes next
+AreTaken {W} m mark who x (t ∷ others) y =
+    (next : ViewerState W) × IsTaking m mark who x t.came.bytes t.refused next
     × AreTaken m mark who next others y
 
 -- what came
-abbrev pub received : List Datagram → List Traffic
-received came = map (λ datagram. Received datagram) came
+abbrev pub received : List Taking → List Traffic
+received takings = map (λ t. Received t.came) takings
+
+abbrev pub refusals_of : List Taking → List Bool
+refusals_of takings = map (λ t. t.refused) takings
 
 -- the same, of at most 64 datagrams until no more come, as a port tells them
-pub record Takes {W : Type 0} (m : Machine W) (mark : List ℕ) (who : ℕ) (all : Bool)
-    (told_before told_after : Option (List Traffic)) (old new : ViewerState W) : Type 0 where
-  pub came : List Datagram
-  pub taken : AreTaken m mark who old came new
-  pub most : length came ≤ 64
+pub record Takes {W : Type 0} (m : Machine W) (mark : List ℕ) (who : ℕ)
+    (result : Result (Unit {0}) TurnFault) (told_before told_after : Option (List Traffic))
+    (old new : ViewerState W) : Type 0 where
+  pub takings : List Taking
+  pub taken : AreTaken m mark who old takings new
+  pub memory : IsAnswerAfter (refusals_of takings) result
+  pub most : length takings ≤ 64
   pub rest : List Traffic
-  pub ended : IsEnd all (length came) rest
-  pub told : Grows told_before told_after (received came ++ rest)
+  pub ended : IsEnd (is_ok result) (length takings) rest
+  pub told : Grows told_before told_after (received takings ++ rest)
 
 -- the offer that has waited longest, and an ask
 abbrev pub requests : {W : Type 0} → Machine W → (mark : List ℕ) (who : ℕ) → ViewerState W
@@ -72,11 +86,12 @@ pub record IsViewerTurn {W : Type 0} (m : Machine W) (mark : List ℕ) (who host
   pub answer : IfOk result (λ b. b ≡ offered)
   pub begun : ViewerState W
   pub offers : IsOffered old point offered begun
-  pub came : List Datagram
-  pub taken : AreTaken m mark who begun came new
-  pub most : length came ≤ 64
+  pub takings : List Taking
+  pub taken : AreTaken m mark who begun takings new
+  pub memory : IsAnswerAfter (refusals_of takings) result
+  pub most : length takings ≤ 64
   pub rest : List Traffic
   pub sent : List (List ℕ)
-  pub ended : IsEnd true (length came) rest ⊎ IsCut result rest sent
+  pub ended : IsEnd true (length takings) rest ⊎ IsCut result rest sent
   pub of_wanted : IsSentOf (is_ok result) sent (requests m mark who new)
-  pub told : Grows told_before told_after ((received came ++ rest) ++ sent_to host sent)
+  pub told : Grows told_before told_after ((received takings ++ rest) ++ sent_to host sent)

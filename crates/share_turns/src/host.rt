@@ -1,14 +1,17 @@
 //! A turn of the host.
 
-ghost use Rattle.std.specs.Prelude.{◌≡◌, true, OnOk, OnErr, is_ok};
+ghost use Rattle.std.specs.Prelude.{◌≡◌, Err, OnOk, OnErr, is_err, is_ok};
 ghost use Rattle.share_wire.specs.Decoding.{decoded};
 ghost use Rattle.share_port.specs.Told.{one_more};
 ghost use Rattle.share_turns.specs.Exchanges.{AreSent};
 ghost use Rattle.share_law.specs.Host.{host_packet};
+ghost use Rattle.share_law.specs.Network.{Clocked, HostTook};
+ghost use Rattle.share_law.specs.Steps.{says_memory};
 ghost use Rattle.share_core.specs.Host.{AreNumbered};
 ghost use Rattle.share_turns.specs.HostTurn.{IsHostTurn, IsBegun, IsExchange, acks_for};
 ghost use Rattle.share_turns.specs.HostTurn.{bodies_for, datagrams_of, inputs_for, listed, sender_in, sender_of};
-ghost use Rattle.share_turns.specs.HostTurn.{failures_after, is_whole};
+ghost use Rattle.share_turns.specs.HostTurn.{failures_after};
+ghost use Rattle.share_turns.specs.declared.fault.TurnFault.TheVariants.{Memory};
 
 use crate::fault::TurnFault;
 use crate::most::MOST;
@@ -17,18 +20,27 @@ use share_law::{HostFault, HostReply, NumberFault};
 use share_port::{Port, PortFault};
 use share_wire::{Body, decode};
 
-/// Numbers the clock of a turn. One that the host refuses for another cause than memory is dropped.
-fn number_clock(host: &mut Host, clock: Option<i64>) -> Result<(), TurnFault>
-    ensures mark { host.new.mark ≡ host.old.mark }
-    ensures step { IsBegun host.old.host clock host.new.host }
-    ensures whole { is_whole result ≡ true }
+/// Goes on after a clock, unless memory was refused to it. One that was refused for another cause
+/// is dropped.
+fn after_clock(answer: Result<u32, NumberFault>) -> Result<(), TurnFault>
+    ensures refused { is_err result ≡ says_memory (Clocked answer) }
+    ensures fault { OnErr result (result ≡ Err Memory) }
 {
-    let Some(time) = clock else {
-        return Ok(());
-    };
-    match host.clock(time) {
+    match answer {
         Err(NumberFault::Memory) => Err(TurnFault::Memory),
         _ => Ok(()),
+    }
+}
+
+/// Numbers the clock of a turn.
+fn number_clock(host: &mut Host, clock: Option<i64>) -> Result<(), TurnFault>
+    ensures mark { host.new.mark ≡ host.old.mark }
+    ensures step { IsBegun host.old.host clock (is_err result) host.new.host }
+    ensures fault { OnErr result (result ≡ Err Memory) }
+{
+    match clock {
+        Some(time) => after_clock(host.clock(time)),
+        None => Ok(()),
     }
 }
 
@@ -132,10 +144,21 @@ fn send_for<P: Port>(
     send_ack(host, sender, to, port)
 }
 
+/// Goes on after a datagram that the host refused, unless memory was refused to its offer.
+fn after_refusal(fault: HostFault) -> Result<(), TurnFault>
+    ensures refused { is_err result ≡ says_memory (HostTook (Err fault)) }
+    ensures fault { OnErr result (result ≡ Err Memory) }
+{
+    match fault {
+        HostFault::Number(NumberFault::Memory) => Err(TurnFault::Memory),
+        _ => Ok(()),
+    }
+}
+
 /// Takes a datagram, and sends to its peer what belongs to it.
 fn answer<P: Port>(host: &mut Host, from: u16, bytes: &[u8], port: &mut P) -> Result<(), TurnFault>
     ensures mark { host.new.mark ≡ host.old.mark }
-    ensures exchange { IsExchange (is_whole result) host.old.mark host.old.host
+    ensures exchange { IsExchange result host.old.mark host.old.host
         (record { peer = from; bytes = bytes.now }) (P.told port.old) (P.told port.new)
         host.new.host }
     ensures failures { P.failure_count port.new
@@ -143,8 +166,7 @@ fn answer<P: Port>(host: &mut Host, from: u16, bytes: &[u8], port: &mut P) -> Re
 {
     match host.take(bytes) {
         Ok(reply) => Ok(send_for(host, reply, sender_of(bytes), from, port)?),
-        Err(HostFault::Number(NumberFault::Memory)) => Err(TurnFault::Memory),
-        Err(_) => Ok(()),
+        Err(fault) => after_refusal(fault),
     }
 }
 

@@ -1,6 +1,8 @@
 //! A turn of a viewer.
 
-ghost use Rattle.std.specs.Prelude.{◌≡◌, Err, OnOk, OnErr, is_ok};
+ghost use Rattle.std.specs.Prelude.{◌≡◌, Err, OnOk, OnErr, is_err, is_ok};
+ghost use Rattle.share_law.specs.Network.{ViewerTook};
+ghost use Rattle.share_law.specs.Steps.{says_memory};
 ghost use Rattle.share_law.specs.Viewer.{viewer_resend};
 ghost use Rattle.share_port.specs.Told.{one_more};
 ghost use Rattle.share_core.specs.Viewer.{IfRunning, IfSpoiled, machine_of, with_state};
@@ -13,7 +15,7 @@ use crate::fault::TurnFault;
 use crate::most::MOST;
 use script_host::Behaviour;
 use share_core::Viewer;
-use share_law::TakeFault;
+use share_law::{TakeFault, Taken};
 use share_port::{Port, PortFault};
 use x3d_values::Point;
 
@@ -28,23 +30,32 @@ fn offer<B: Behaviour>(viewer: &mut Viewer<B>, point: Option<Point>) -> bool
     }
 }
 
-/// Takes a datagram. One that is refused for another cause than memory is dropped.
-fn take_one<B: Behaviour>(viewer: &mut Viewer<B>, bytes: &[u8]) -> Result<(), TurnFault>
-    ensures others { viewer.new ≡ with_state viewer.old viewer.new.state }
-    ensures taken { IsTaking (machine_of viewer.old) viewer.old.mark viewer.old.who
-        viewer.old.state bytes.now viewer.new.state }
-    ensures not_port { OnErr result (result ≡ Err Memory) }
+/// Goes on after a datagram, unless memory was refused to its input. One that was refused for
+/// another cause is dropped.
+fn after_take(answer: Result<Taken, TakeFault>) -> Result<(), TurnFault>
+    ensures refused { is_err result ≡ says_memory (ViewerTook answer) }
+    ensures fault { OnErr result (result ≡ Err Memory) }
 {
-    match viewer.take(bytes) {
+    match answer {
         Err(TakeFault::Memory) => Err(TurnFault::Memory),
         _ => Ok(()),
     }
 }
 
+/// Takes a datagram.
+fn take_one<B: Behaviour>(viewer: &mut Viewer<B>, bytes: &[u8]) -> Result<(), TurnFault>
+    ensures others { viewer.new ≡ with_state viewer.old viewer.new.state }
+    ensures taken { IsTaking (machine_of viewer.old) viewer.old.mark viewer.old.who
+        viewer.old.state bytes.now (is_err result) viewer.new.state }
+    ensures fault { OnErr result (result ≡ Err Memory) }
+{
+    after_take(viewer.take(bytes))
+}
+
 /// Takes the datagrams of a turn.
 fn take_all<B: Behaviour, P: Port>(viewer: &mut Viewer<B>, port: &mut P) -> Result<(), TurnFault>
     ensures others { viewer.new ≡ with_state viewer.old viewer.new.state }
-    ensures takes { Takes (machine_of viewer.old) viewer.old.mark viewer.old.who (is_ok result)
+    ensures takes { Takes (machine_of viewer.old) viewer.old.mark viewer.old.who result
         (P.told port.old) (P.told port.new) viewer.old.state viewer.new.state }
     ensures failures { P.failure_count port.new
         ≡ failures_after result (P.failure_count port.old) }

@@ -1,6 +1,6 @@
 -- Words that `clap` refuses mean nothing.
-use Rattle.std.specs.Prelude.{Result, Ok, Err, Option, Some, None, IfOk, IfSome, IfNone, IsSomeAnd}
-use Rattle.std.proofs.Common.{◌≡◌, ◌≢◌, ◌⊎◌, ◌∙◌, List, [], ◌∷◌, inl, inr, refl, true}
+use Rattle.std.specs.Prelude.{Option, IsSomeAnd}
+use Rattle.std.proofs.Common.{◌≡◌, ◌⊎◌, ◌∙◌, List, [], ◌∷◌, inl, inr, refl, true}
 use Rattle.clap.specs.Words.{App, Row, Text, fault_of, is_simple, is_simple_and_free, subcommand_of, IsAmong, Kinds}
 use Rattle.clap.specs.declared.error.ErrorKind.{ErrorKind}
 use Rattle.clap.specs.declared.error.ErrorKind.TheVariants as kind
@@ -10,6 +10,7 @@ use Rattle.share_words.specs.declared.order.OrderFault.TheVariants as fault
 use Rattle.share_words.specs.Commands.{program, local_program, single_program, bare_program}
 use Rattle.share_words.specs.Commands.{run_app, format_app, check_app, rehearse_app, agree_app, host_app}
 use Rattle.share_words.specs.Commands.{seat_app, view_app}
+use Rattle.share_words.specs.Request.{RequestsNothing}
 use Rattle.share_words.specs.Words.{Asks, Means, IsText, IsRefusal, AsksForText, AsksOnlyForText}
 
 program_is_simple : is_simple_and_free program ≡ true
@@ -38,15 +39,6 @@ means_none a words rows e found none o m =
 none_among : (k : ErrorKind) (ks : Kinds) → ks ≡ [] → IsAmong k ks → ⊥
 none_among k ks e h = rw e at h
 
-pub refused_by : (a : App) (words : List Text) (k : ErrorKind) (f : OrderFault) → a ≡ program
-    → (is_simple_and_free a ≡ true → (k ≡ kind.OutOfMemory) ⊎ IsAmong k (fault_of a words))
-    → (f ≡ fault.Memory) ⊎ (k ≢ kind.OutOfMemory)
-    → (f ≡ fault.Memory) ⊎ ((o : Order) → ¬ Means words o)
-refused_by a words k f e h (inl m) = inl m
-refused_by a words k f e h (inr other) = inr (λ o m.
-    let faults : fault_of a words ≡ [] = rw e m.taken in
-    elim (h (rw e program_is_simple)) [ inl memory ↦ other memory | inr among ↦ none_among k (fault_of a words) faults among ])
-
 -- ---- help
 
 -- why `clap` answers an error of this kind
@@ -57,7 +49,7 @@ text_or_none : (k : ErrorKind) → IsText k → k ≡ kind.OutOfMemory → ⊥
 text_or_none k (inl help) memory = let bad : kind.DisplayHelp ≡ kind.OutOfMemory = cc in (cc)
 text_or_none k (inr version) memory = let bad : kind.DisplayVersion ≡ kind.OutOfMemory = cc in (cc)
 
-asked_by : (a : App) (words : List Text) (k : ErrorKind) → a ≡ program → IsAnswered a words k → IsText k → AsksForText words
+pub asked_by : (a : App) (words : List Text) (k : ErrorKind) → a ≡ program → IsAnswered a words k → IsText k → AsksForText words
 asked_by a words k e h text =
     elim (h (rw e program_is_simple)) [
       | inl memory ↦ absurd (text_or_none k text memory)
@@ -85,14 +77,16 @@ silent_taken a words e h only =
     let bad : only.0 ∷ [] ≡ [] = cc in
     (cc)
 
-pub asked_from : {X E : Type 0} (r : Result (Option X) E) (a : App) (words : List Text) (k : ErrorKind) → a ≡ program → IsAnswered a words k
-    → IfOk r (λ o. IfSome o (λ _. IsText k)) → IfOk r (λ o. IfSome o (λ _. AsksForText words))
-asked_from (Ok (Some x)) a words k e h text = asked_by a words k e h text
-asked_from (Ok None) a words k e h text = tt
-asked_from (Err f) a words k e h text = tt
+-- words that are refused, and not for memory, ask for nothing
+nothing_by : (a : App) (words : List Text) (k : ErrorKind) → a ≡ program → IsAnswered a words k → IsRefusal k → RequestsNothing words
+nothing_by a words k e h refusal = (
+  λ o m.
+      let faults : fault_of a words ≡ [] = rw e m.taken in
+      elim (h (rw e program_is_simple)) [ inl memory ↦ refusal.2 memory | inr among ↦ none_among k (fault_of a words) faults among ],
+  silent_by a words k e h refusal,
+)
 
-pub silent_from : {X E : Type 0} (r : Result (Option X) E) (a : App) (words : List Text) (k : ErrorKind) → a ≡ program → IsAnswered a words k
-    → IfOk r (λ o. IfNone o (IsRefusal k)) → IfOk r (λ o. IfNone o (¬ AsksOnlyForText words))
-silent_from (Ok (Some x)) a words k e h refusal = tt
-silent_from (Ok None) a words k e h refusal = silent_by a words k e h refusal
-silent_from (Err f) a words k e h refusal = tt
+pub refused_by : (a : App) (words : List Text) (k : ErrorKind) (f : OrderFault) → a ≡ program → IsAnswered a words k
+    → (f ≡ fault.Memory) ⊎ ((f ≡ fault.Words) × IsRefusal k) → (f ≡ fault.Memory) ⊎ ((f ≡ fault.Words) × RequestsNothing words)
+refused_by a words k f e h (inl memory) = inl memory
+refused_by a words k f e h (inr refused) = inr (refused.0, nothing_by a words k e h refused.1)

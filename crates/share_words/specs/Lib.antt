@@ -1,3 +1,4 @@
 pub mod Options
 pub mod Commands
 pub mod Words
+pub mod Request

@@ -3,7 +3,9 @@
 ghost use Rattle.std.specs.Prelude.{◌≡◌};
 ghost use Rattle.std.specs.IoError.{error_kind};
 ghost use Rattle.share_words.specs.Words.{order_fault_of};
+ghost use Rattle.share_words.specs.declared.order.OrderFault.TheVariants as order_fault;
 
+use std::alloc::AllocError;
 use std::io;
 use thiserror::Error;
 
@@ -43,6 +45,13 @@ pub enum Order {
     },
 }
 
+/// What words ask for: the text that `--help` or `--version` shows, or a command.
+#[derive(Drop)]
+pub enum Request {
+    Text(String),
+    Order(Order),
+}
+
 /// Why words give no command.
 #[derive(Clone, Copy, Debug, PartialEq, Eq, Error)]
 pub enum OrderFault {
@@ -50,6 +59,14 @@ pub enum OrderFault {
     Words,
     #[error("memory was refused")]
     Memory,
+}
+
+impl From<AllocError> for OrderFault {
+    ghost from_gives = { λ _ fault. fault ≡ order_fault.Memory };
+
+    fn from(_refused: AllocError) -> OrderFault {
+        OrderFault::Memory
+    }
 }
 
 /// Why the process's own words could not be had.

@@ -194,5 +194,9 @@ only_ranged : (ns : List SceneNode) → All Begins ns → All IsRanged ns
 only_ranged [] b = All-nil IsRanged
 only_ranged (n ∷ ns) b = All-cons IsRanged n ns (All-head Begins n ns b).1 (only_ranged ns (All-tail Begins n ns b))
 
+-- all that a scene's nodes begin with is in range
+pub scene_ranged : (flat : Flat) (scene : SceneView) → scene_of flat ≡ Ok scene → All IsRanged scene.nodes
+scene_ranged flat scene h = only_ranged scene.nodes (scene_begins flat scene h)
+
 pub all_starts_fit : StartsAreStates
-all_starts_fit flat scene h run = starts_fit scene (only_ranged scene.nodes (scene_begins flat scene h)) run
+all_starts_fit flat scene h run = starts_fit scene (scene_ranged flat scene h) run

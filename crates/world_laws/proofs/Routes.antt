@@ -24,10 +24,10 @@ use Rattle.scene_core.specs.Shape.{Shape}
 use Rattle.route_core.specs.declared.fault.RouteFault.{RouteFault}
 use Rattle.route_core.specs.declared.fault.RouteFaultKind.{RouteFaultKind}
 use Rattle.route_core.specs.declared.fault.RouteFaultKind.TheVariants.{NoSuchNode, NoSuchField, NotOutput, NotInput, TypesDiffer, NodeEvent}
-use Rattle.route_core.specs.declared.resolving.TheConstants.{MOST_ROUTES}
+use Rattle.route_core.proofs.Repeats.{limited_is}
 use Rattle.route_core.specs.Ends.{node_of, field_at, usable, output_named, input_named, source_of, target_of, joined, joined_ends, route_of}
 use Rattle.route_core.specs.Names.{exact, exposed, set_alias, changed_alias, source_field, target_field}
-use Rattle.route_core.specs.Resolved.{at_line, before_others, each_of, same_route, added, without_repeats, firsts_of, resolved}
+use Rattle.route_core.specs.Resolved.{at_line, before_others, each_of, same_route, added, firsts, firsts_of, resolved}
 use Rattle.snapshot_core.specs.WorldCodec.{sent_type, output_type}
 use Rattle.world_laws.proofs.Rows.{some_is}
 use Rattle.world_laws.specs.Fits.{input_type, Joins, AllJoin}
@@ -257,14 +257,9 @@ fold_joins : (shapes : List Shape) (made rs : List Route) → AllJoin shapes mad
 fold_joins shapes made [] a j = a
 fold_joins shapes made (r ∷ rs) a j = fold_joins shapes (added made r) rs (added_joins shapes made r a j.0) j.1
 
-take_joins : (shapes : List Shape) (n : ℕ) (rs : List Route) → AllJoin shapes rs → AllJoin shapes (take n rs)
-take_joins shapes zero rs a = tt
-take_joins shapes (suc n) [] a = tt
-take_joins shapes (suc n) (r ∷ rs) a = (a.0, take_joins shapes n rs a.1)
-
 firsts_join : (shapes : List Shape) (x : Result (List Route) RouteFault) (rs : List Route) → ((all : List Route) → x ≡ Ok all → AllJoin shapes all) → firsts_of x ≡ Ok rs → AllJoin shapes rs
 firsts_join shapes (Err f) rs h e = absurd cc
-firsts_join shapes (Ok all) rs h e = subst (λ (l : List Route). AllJoin shapes l) (ok_is (without_repeats all) rs e) (take_joins shapes MOST_ROUTES (fold added [] all) (fold_joins shapes [] all tt (h all refl)))
+firsts_join shapes (Ok all) rs h e = subst (λ (l : List Route). AllJoin shapes l) (limited_is (firsts all) rs e) (fold_joins shapes [] all tt (h all refl))
 
 pub all_routes_join : (flat : Flat) (scene : SceneView) (routes : List Route) → resolved flat scene ≡ Ok routes → AllJoin (shapes_of scene) routes
 all_routes_join flat scene routes e = firsts_join (shapes_of scene) (each_of scene flat.routes) routes (each_joins scene flat.routes) e

@@ -37,7 +37,7 @@ place_ranged [] field a = refl
 place_ranged (v ∷ vs) zero a = (both (ranged_if v) (list_all ranged_if vs) a).0
 place_ranged (v ∷ vs) (suc field) a = place_ranged vs field (both (ranged_if v) (list_all ranged_if vs) a).1
 
-node_ranged : (ns : List SceneNode) (node field : ℕ) → All IsRanged ns → ranged_if (option_and_then (λ (n : SceneNode). option_and_then (λ v. v) (slice_get n.values field)) (slice_get ns node)) ≡ true
+pub node_ranged : (ns : List SceneNode) (node field : ℕ) → All IsRanged ns → ranged_if (option_and_then (λ (n : SceneNode). option_and_then (λ v. v) (slice_get n.values field)) (slice_get ns node)) ≡ true
 node_ranged [] node field a = refl
 node_ranged (n ∷ ns) zero field a = place_ranged n.values field (All-head IsRanged n ns a)
 node_ranged (n ∷ ns) (suc node) field a = node_ranged ns node field (All-tail IsRanged n ns a)

@@ -16,14 +16,14 @@ use Rattle.scene_core.specs.declared.scene.Route.{Route}
 use Rattle.scene_core.specs.Scene.{SceneView, field_name, number_of, rows_at}
 use Rattle.route_core.specs.Names.{target_field, source_field}
 use Rattle.route_core.specs.Ends.{node_of, field_at, usable, output_named, input_named, source_of, target_of, joined, joined_ends, route_of}
-use Rattle.route_core.specs.Resolved.{added, at_line, before_others, each_of, firsts_of, same_route, without_repeats}
+use Rattle.route_core.specs.Resolved.{added, at_line, before_others, each_of, firsts, firsts_of, limited, same_route}
 use Rattle.route_core.specs.declared.fault.RouteFault.{RouteFault}
 use Rattle.route_core.specs.declared.fault.RouteFaultKind.{RouteFaultKind}
 use Rattle.route_core.specs.declared.fault.RouteFaultKind.TheVariants.{NodeEvent, NotInput, NotOutput, TypesDiffer}
-use Rattle.route_core.specs.declared.resolving.TheConstants.{MOST_ROUTES}
+use Rattle.route_core.proofs.Repeats.{limited_is}
 use Rattle.scene_round_trip.specs.Labels.{LabelsAreDistinct}
 use Rattle.scene_round_trip.specs.Writable.{IsEnd, IsWritableRoute}
-use Rattle.scene_round_trip.proofs.Lists.{all_push, all_take, all_weaker}
+use Rattle.scene_round_trip.proofs.Lists.{all_push, all_weaker}
 use Rattle.written_scenes.specs.Braces.{WrittenNodesClose}
 use Rattle.written_scenes.specs.Resolved.{KeepsRows, WrittenRoutesResolve}
 use Rattle.written_scenes.specs.Routes.{written_end, written_route}
@@ -196,19 +196,24 @@ module _ (s other : SceneView) (keeps : KeepsRows s other) where
 
   pub record AreAgain (routes : List Route) : Type 0 where
     pub all : AllByRecursion IsAgain routes
-    pub once : without_repeats routes ≡ routes
+    pub once : firsts routes ≡ routes
+    pub few : limited routes ≡ Ok routes
 
   are_again : (fs : List FlatRoute) (routes : List Route) → firsts_of (each_of s fs) ≡ Ok routes → AreAgain routes
   are_again fs routes e = by_all (each_of s fs) (λ rs. all_again fs rs) e where
     by_all : (a : Result (List Route) RouteFault) → ((rs : List Route) → a ≡ Ok rs → AllByRecursion IsAgain rs) → firsts_of a ≡ Ok routes → AreAgain routes
     by_all (Err x) k h = absurd cc
     by_all (Ok rs) k h =
-        subst AreAgain (right_is (without_repeats rs) routes h)
-        (record { all = all_take IsAgain MOST_ROUTES (fold added [] rs) (all_added rs [] tt (k rs refl)); once = no_repeats rs })
+        let is : firsts rs ≡ routes = limited_is (firsts rs) routes h in
+        record {
+          all = subst (λ (l : List Route). AllByRecursion IsAgain l) is (all_added rs [] tt (k rs refl));
+          once = subst (λ (l : List Route). firsts l ≡ l) is (no_repeats rs);
+          few = subst (λ (l : List Route). limited l ≡ Ok routes) is h;
+        }
 
   resolved_again : (gs : List FlatRoute) (routes : List Route) → AreAgain routes → map route_shown gs ≡ map (written_route s) routes → firsts_of (each_of other gs) ≡ Ok routes
   resolved_again gs routes h e =
-      ap firsts_of (each_again gs routes h.all e) ∙ ap (λ (rs : List Route). Ok rs) h.once
+      ap firsts_of (each_again gs routes h.all e) ∙ ap limited h.once ∙ h.few
 
 pub routes_resolve : LabelsAreDistinct → WrittenNodesClose → RoutesAreRead → WrittenRoutesResolve
 routes_resolve labels closing reads from scene other routes state again is few kept e made keeps =

@@ -1,10 +1,9 @@
 -- Routes without repeats have none.
-use Rattle.std.proofs.Common.{◌≡◌, ℕ, zero, suc, Bool, true, false, List, [], ◌∷◌, ◌++◌, take, if◌then◌else◌, refl, sym, ap, ◌∙◌}
+use Rattle.std.proofs.Common.{◌≡◌, Bool, true, false, List, [], ◌∷◌, ◌++◌, if◌then◌else◌, refl, sym, ap, ◌∙◌}
 use Rattle.std.specs.List.{fold, list_any}
 use Rattle.std.proofs.lemmas.List.{append-nil, append_assoc}
 use Rattle.scene_core.specs.declared.scene.Route.{Route}
-use Rattle.route_core.specs.Resolved.{added, same_route, without_repeats}
-use Rattle.route_core.specs.declared.resolving.TheConstants.{MOST_ROUTES}
+use Rattle.route_core.specs.Resolved.{added, firsts, same_route}
 
 -- behind those before, each of these is new
 abbrev AreNew : List Route → List Route → Type 0
@@ -17,11 +16,6 @@ all_added before (x ∷ xs) h =
     ap (λ (b : Bool). fold added (if b then before else before ++ x ∷ []) xs) h.0
     ∙ (all_added (before ++ x ∷ []) xs h.1 ∙ append_assoc before (x ∷ []) xs)
 
-new_take : (n : ℕ) (before xs : List Route) → AreNew before xs → AreNew before (take n xs)
-new_take zero before xs h = tt
-new_take (suc n) before [] h = tt
-new_take (suc n) before (x ∷ xs) h = (h.0, new_take n (before ++ x ∷ []) xs h.1)
-
 new_push : (before xs : List Route) (x : Route) → AreNew before xs → list_any (same_route x) (before ++ xs) ≡ false → AreNew before (xs ++ x ∷ [])
 new_push before [] x h e = (ap (list_any (same_route x)) (sym (append-nil before)) ∙ e, tt)
 new_push before (y ∷ xs) x h e = (h.0, new_push (before ++ y ∷ []) xs x h.1 (ap (list_any (same_route x)) (append_assoc before (y ∷ []) xs) ∙ e))
@@ -33,12 +27,5 @@ new_added (x ∷ xs) made h = new_added xs (added made x) (by_seen (list_any (sa
   by_seen true e = h
   by_seen false e = new_push [] made x h e
 
-take_again : {A : Type 0} (n : ℕ) (xs : List A) → take n (take n xs) ≡ take n xs
-take_again zero xs = refl
-take_again (suc n) [] = refl
-take_again (suc n) (x ∷ xs) = ap (λ (rest : List _). x ∷ rest) (take_again n xs)
-
-pub no_repeats : (xs : List Route) → without_repeats (without_repeats xs) ≡ without_repeats xs
-no_repeats xs =
-    let new = new_take MOST_ROUTES [] (fold added [] xs) (new_added xs [] tt) in
-    ap (take MOST_ROUTES) (all_added [] (take MOST_ROUTES (fold added [] xs)) new) ∙ take_again MOST_ROUTES (fold added [] xs)
+pub no_repeats : (xs : List Route) → firsts (firsts xs) ≡ firsts xs
+no_repeats xs = all_added [] (firsts xs) (new_added xs [] tt)

@@ -23,19 +23,19 @@ use Rattle.network_laws.proofs.Worlds.{worlds_fit}
 use Rattle.written_worlds.specs.Typed.{RunningWorldsAreOfType, WorldsAreOfType}
 use Rattle.written_worlds.proofs.TypedFitting.{fitting_typed}
 
-module _ (text : List ℕ) (f : Flat) (scene : SceneView) (routes : List Route) (net : Network Scripted) (o : IsOpened text f scene routes) (run : RunsAll scene) (reached : Reached (cascade scene routes) net) where
-  at_fits : (w : Scripted) → IsAt (cascade scene routes) net.host.list w → ScriptedFits scene w
+module _ (text : List ℕ) (f : Flat) (scene : SceneView) (routes : List Route) (mark : List ℕ) (net : Network Scripted) (o : IsOpened text f scene routes) (run : RunsAll scene) (reached : Reached (cascade mark scene routes) net) where
+  at_fits : (w : Scripted) → IsAt (cascade mark scene routes) net.host.list w → ScriptedFits scene w
   at_fits w a =
       let d = is_document text f scene routes o in
       let fits : ScriptedFits scene (world scene routes a.done) =
-      all_worlds_fit f scene routes a.done d run (front_inputs f scene routes net d run reached a.done a.todo a.whole) in
+      all_worlds_fit f scene routes a.done d run (front_inputs f scene routes mark net d run reached a.done a.todo a.whole) in
       subst (λ (v : Scripted). ScriptedFits scene v) (sym a.is) fits
 
   pub running_fits : (viewer : ℕ) (held : Scripted) (window : List (Option Stamp)) → IsRunning net viewer held window → ScriptedFits scene held
   running_fits viewer held window r =
-      let sound : Sound (cascade scene routes) net = Sound-reached (cascade-is scene routes) reached in
-      let step : InStep (cascade scene routes) net.host.list held window =
-      subst (λ (v : View Scripted). ViewSound (cascade scene routes) net.host.list v) r.view (sound.viewers viewer r.seat r.is) in
+      let sound : Sound (cascade mark scene routes) net = Sound-reached (cascade-is mark scene routes) reached in
+      let step : InStep (cascade mark scene routes) net.host.list held window =
+      subst (λ (v : View Scripted). ViewSound (cascade mark scene routes) net.host.list v) r.view (sound.viewers viewer r.seat r.is) in
       at_fits held step.at
 
 pub worlds_typed : WorldsAreOfType
@@ -43,5 +43,5 @@ worlds_typed text f scene routes inputs o run i =
     fitting_typed scene (world scene routes inputs).world (worlds_fit text f scene routes inputs o run i).world
 
 pub running_typed : RunningWorldsAreOfType
-running_typed text f scene routes net o run reached viewer held window r =
-    fitting_typed scene held.world (running_fits text f scene routes net o run reached viewer held window r).world
+running_typed text f scene routes mark net o run reached viewer held window r =
+    fitting_typed scene held.world (running_fits text f scene routes mark net o run reached viewer held window r).world

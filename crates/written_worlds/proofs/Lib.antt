@@ -8,3 +8,6 @@ pub mod StayFitting
 pub mod Kept
 pub mod Ranged
 pub mod Whole
+pub mod SameSteps
+pub mod SameFields
+pub mod SameTrees

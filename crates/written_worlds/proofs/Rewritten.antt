@@ -43,8 +43,8 @@ module _ (named : ExpandedAreNamed) (keepable : FittingAreKeepable) (distinct : 
       fitting_again text f scene routes o (world scene routes inputs) (worlds_fit text f scene routes inputs o run i)
 
   pub running_again : RunningWorldsAreAgain
-  running_again text f scene routes net o run reached viewer held window r =
-      fitting_again text f scene routes o held (running_fits text f scene routes net o run reached viewer held window r)
+  running_again text f scene routes mark net o run reached viewer held window r =
+      fitting_again text f scene routes o held (running_fits text f scene routes mark net o run reached viewer held window r)
 
 -- ---- what was kept is kept again
 
@@ -64,5 +64,5 @@ worlds_kept law again text f scene routes inputs o run i =
     kept_by law scene routes (world scene routes inputs) (worlds_fit text f scene routes inputs o run i) (again text f scene routes inputs o run i)
 
 pub running_kept : KeptAgain → RunningWorldsAreAgain → RunningWorldsAreKeptAgain
-running_kept law again text f scene routes net o run reached viewer held window r =
-    kept_by law scene routes held (running_fits text f scene routes net o run reached viewer held window r) (again text f scene routes net o run reached viewer held window r)
+running_kept law again text f scene routes mark net o run reached viewer held window r =
+    kept_by law scene routes held (running_fits text f scene routes mark net o run reached viewer held window r) (again text f scene routes mark net o run reached viewer held window r)

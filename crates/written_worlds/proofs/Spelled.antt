@@ -38,12 +38,12 @@ module _ (text : List ℕ) (f : Flat) (scene : SceneView) (routes : List Route) 
       (spellable ◌≡◌ text o.document (is_spelled text o.document o.read)) o.put_in o.is_scene few o.are_routes
       (fitting_are_keepable (shapes_of scene) w.world fits.world) room
 
-  at_spells : (net : Network Scripted) → Reached (cascade scene routes) net → (w : Scripted)
-      → IsAt (cascade scene routes) net.host.list w → IsReadAgain scene routes w
-  at_spells net reached w a =
+  at_spells : (mark : List ℕ) (net : Network Scripted) → Reached (cascade mark scene routes) net → (w : Scripted)
+      → IsAt (cascade mark scene routes) net.host.list w → IsReadAgain scene routes w
+  at_spells mark net reached w a =
       let d = is_document text f scene routes o in
       let fits : ScriptedFits scene (world scene routes a.done) =
-      all_worlds_fit f scene routes a.done d run (front_inputs f scene routes net d run reached a.done a.todo a.whole) in
+      all_worlds_fit f scene routes a.done d run (front_inputs f scene routes mark net d run reached a.done a.todo a.whole) in
       subst (λ (v : Scripted). IsReadAgain scene routes v) (sym a.is) (fitting_spell (world scene routes a.done) fits)
 
 pub written_worlds_spell : WrittenWorldsSpell
@@ -51,8 +51,8 @@ written_worlds_spell text f scene routes inputs o run room i =
     fitting_spell text f scene routes o run room (world scene routes inputs) (worlds_fit text f scene routes inputs o run i)
 
 pub running_worlds_spell : RunningWorldsSpell
-running_worlds_spell text f scene routes net o run room reached viewer held window r =
-    let sound : Sound (cascade scene routes) net = Sound-reached (cascade-is scene routes) reached in
-    let step : InStep (cascade scene routes) net.host.list held window =
-    subst (λ (v : View Scripted). ViewSound (cascade scene routes) net.host.list v) r.view (sound.viewers viewer r.seat r.is) in
-    at_spells text f scene routes o run room net reached held step.at
+running_worlds_spell text f scene routes mark net o run room reached viewer held window r =
+    let sound : Sound (cascade mark scene routes) net = Sound-reached (cascade-is mark scene routes) reached in
+    let step : InStep (cascade mark scene routes) net.host.list held window =
+    subst (λ (v : View Scripted). ViewSound (cascade mark scene routes) net.host.list v) r.view (sound.viewers viewer r.seat r.is) in
+    at_spells text f scene routes o run room mark net reached held step.at

@@ -2,21 +2,19 @@
 use Rattle.std.proofs.Common.{◌≡◌, ℕ, ◌^◌, ◌≤◌, true, List, length, Result, Ok, Err, refl, arith, inl, inr}
 use Rattle.x3d_values.specs.declared.fields.Fields.{Fields}
 use Rattle.classic_text.proofs.Documents.{is_spelled}
-use Rattle.classic_round_trip.specs.AnyLength.{SpellsAtAnyLength}
 use Rattle.flat_document.specs.declared.fault.ExpandFault.{ExpandFault}
 use Rattle.flat_document.specs.declared.flat.Flat.{Flat}
 use Rattle.proto_walk.specs.Whole.{flat}
 use Rattle.scene_core.specs.declared.scene.Route.{Route}
 use Rattle.scene_core.specs.Building.{scene_of}
 use Rattle.scene_core.specs.Scene.{SceneView, shapes_of}
-use Rattle.scene_text.specs.SceneText.{scene_text}
 use Rattle.scene_text.specs.Statements.{scene_document}
 use Rattle.cascade_core.specs.Apply.{world}
 use Rattle.world_laws.specs.Fits.{WorldFits}
 use Rattle.network_laws.specs.Opened.{IsOpened}
 use Rattle.network_laws.proofs.Worlds.{few_nodes, worlds_fit}
 use Rattle.scene_round_trip.specs.Named.{ExpandedAreNamed, IsNamed}
-use Rattle.scene_round_trip.specs.Writable.{AreKeepable}
+use Rattle.scene_round_trip.specs.Writable.{AreKeepable, IsWritable}
 use Rattle.scene_round_trip.specs.Written.{ScenesAreWritable, WrittenScenesSpell, has_room}
 use Rattle.written_worlds.specs.Kept.{FittingAreKeepable}
 use Rattle.written_scenes.specs.Distinct.{HaveDistinctFields}
@@ -36,6 +34,7 @@ use Rattle.written_worlds.specs.Ranged.{FittingAreInRange}
 use Rattle.written_worlds.specs.Stays.{IsSame, RunningWorldsStay, ScenesStay, Stays, WorldsStay}
 use Rattle.written_worlds.proofs.StayFitting.{fitting_state, standing, standing_fits}
 use Rattle.written_worlds.proofs.Kept.{keeps_rows}
+use Rattle.written_worlds.proofs.SameTrees.{text_same}
 
 -- what crates below prove
 pub record Known : Type 0 where
@@ -79,17 +78,19 @@ module _ (known : Known) where
     given : AreSound scene
     given = known.sound f scene names o.is_scene
 
-    spells : has_room scene ≡ true → SpellsAtAnyLength (scene_text scene routes state) (scene_document scene routes state)
-    spells room = known.spelled scene routes state (known.writable f scene routes state names o.is_scene few o.are_routes kept room)
+    can_write : has_room scene ≡ true → IsWritable scene routes state
+    can_write room = known.writable f scene routes state names o.is_scene few o.are_routes kept room
 
     same_as : (again : Flat) (next : SceneView) → flat (scene_document scene routes state) ≡ Ok again → scene_of again ≡ Ok next → IsSame scene routes state again next
     same_as again next is is_next =
         let same : IsWrittenOf scene state next =
         known.again f scene routes state again next o.is_scene few kept typed given fields_distinct is is_next in
+        let writable : IsWritable scene routes state = can_write (known.room again scene state next is_next same) in
         record {
           is_written = same;
           resolves = known.resolve f scene next routes state again o.is_scene few kept o.are_routes is (keeps_rows scene state next same);
-          spells = spells (known.room again scene state next is_next same);
+          spells = known.spelled scene routes state writable;
+          writes = text_same f again scene next routes state o.is_scene is_next same kept writable;
         }
 
     stays_by : (r : Result Flat ExpandFault) → flat (scene_document scene routes state) ≡ r → IsFlatOrTooLarge r → Stays scene routes state
@@ -116,6 +117,6 @@ worlds_stay law text f scene routes inputs o run i =
     (fitting_state (shapes_of scene) (world scene routes inputs).world (worlds_fit text f scene routes inputs o run i).world)
 
 pub running_stay : ScenesStay → RunningWorldsStay
-running_stay law text f scene routes net o run reached viewer held window r =
+running_stay law text f scene routes mark net o run reached viewer held window r =
     law text f scene routes held.world.fields o
-    (fitting_state (shapes_of scene) held.world (running_fits text f scene routes net o run reached viewer held window r).world)
+    (fitting_state (shapes_of scene) held.world (running_fits text f scene routes mark net o run reached viewer held window r).world)

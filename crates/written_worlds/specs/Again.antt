@@ -39,8 +39,9 @@ WrittenWorldsAreAgain =
 -- to
 abbrev pub RunningWorldsAreAgain : Type 0
 RunningWorldsAreAgain =
-    (text : List ℕ) (f : Flat) (scene : SceneView) (routes : List Route) (net : Network Scripted)
-    → IsOpened text f scene routes → RunsAll scene → Reached (cascade scene routes) net
+    (text : List ℕ) (f : Flat) (scene : SceneView) (routes : List Route)
+    (mark : List ℕ) (net : Network Scripted)
+    → IsOpened text f scene routes → RunsAll scene → Reached (cascade mark scene routes) net
     → (viewer : ℕ) (held : Scripted) (window : List (Option Stamp))
     → IsRunning net viewer held window → IsAgain scene routes held
 
@@ -60,7 +61,8 @@ WorldsAreKeptAgain =
 
 abbrev pub RunningWorldsAreKeptAgain : Type 0
 RunningWorldsAreKeptAgain =
-    (text : List ℕ) (f : Flat) (scene : SceneView) (routes : List Route) (net : Network Scripted)
-    → IsOpened text f scene routes → RunsAll scene → Reached (cascade scene routes) net
+    (text : List ℕ) (f : Flat) (scene : SceneView) (routes : List Route)
+    (mark : List ℕ) (net : Network Scripted)
+    → IsOpened text f scene routes → RunsAll scene → Reached (cascade mark scene routes) net
     → (viewer : ℕ) (held : Scripted) (window : List (Option Stamp))
     → IsRunning net viewer held window → IsKeptAgain scene routes held

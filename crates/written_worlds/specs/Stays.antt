@@ -11,7 +11,7 @@ use Rattle.proto_walk.specs.Whole.{flat}
 use Rattle.route_core.specs.Resolved.{resolved}
 use Rattle.scene_core.specs.declared.scene.Route.{Route}
 use Rattle.scene_core.specs.Building.{scene_of}
-use Rattle.scene_core.specs.Scene.{SceneView, shapes_of}
+use Rattle.scene_core.specs.Scene.{SceneView, shapes_of, state_of}
 use Rattle.scene_text.specs.SceneText.{scene_text}
 use Rattle.scene_text.specs.Statements.{scene_document}
 use Rattle.world_laws.specs.Nodes.{RunsAll}
@@ -42,6 +42,8 @@ pub record IsSame (scene : SceneView) (routes : List Route) (state : List Fields
   -- the text spells the document that is written, but for lines and the limit of 16 MiB
   pub spells : SpellsAtAnyLength (scene_text scene routes state)
       (scene_document scene routes state)
+  -- and it is written the same again: before any event the second scene has this text
+  pub writes : scene_text next routes (state_of next) ≡ scene_text scene routes state
 
 -- it has a flat form, and there is a scene of this, unless chains are too long, or there are too
 -- many places or sensors; where there is one, it is the scene that was written, and the text can be
@@ -77,7 +79,8 @@ WorldsStay =
 -- to
 abbrev pub RunningWorldsStay : Type 0
 RunningWorldsStay =
-    (text : List ℕ) (f : Flat) (scene : SceneView) (routes : List Route) (net : Network Scripted)
-    → IsOpened text f scene routes → RunsAll scene → Reached (cascade scene routes) net
+    (text : List ℕ) (f : Flat) (scene : SceneView) (routes : List Route)
+    (mark : List ℕ) (net : Network Scripted)
+    → IsOpened text f scene routes → RunsAll scene → Reached (cascade mark scene routes) net
     → (viewer : ℕ) (held : Scripted) (window : List (Option Stamp))
     → IsRunning net viewer held window → Stays scene routes held.world.fields

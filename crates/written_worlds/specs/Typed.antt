@@ -32,7 +32,8 @@ WorldsAreOfType =
 -- to
 abbrev pub RunningWorldsAreOfType : Type 0
 RunningWorldsAreOfType =
-    (text : List ℕ) (f : Flat) (scene : SceneView) (routes : List Route) (net : Network Scripted)
-    → IsOpened text f scene routes → RunsAll scene → Reached (cascade scene routes) net
+    (text : List ℕ) (f : Flat) (scene : SceneView) (routes : List Route)
+    (mark : List ℕ) (net : Network Scripted)
+    → IsOpened text f scene routes → RunsAll scene → Reached (cascade mark scene routes) net
     → (viewer : ℕ) (held : Scripted) (window : List (Option Stamp))
     → IsRunning net viewer held window → AreOfType scene held.world.fields

@@ -35,8 +35,9 @@ WrittenWorldsSpell =
 -- to
 abbrev pub RunningWorldsSpell : Type 0
 RunningWorldsSpell =
-    (text : List ℕ) (f : Flat) (scene : SceneView) (routes : List Route) (net : Network Scripted)
+    (text : List ℕ) (f : Flat) (scene : SceneView) (routes : List Route)
+    (mark : List ℕ) (net : Network Scripted)
     → IsOpened text f scene routes → RunsAll scene → has_room scene ≡ true
-    → Reached (cascade scene routes) net
+    → Reached (cascade mark scene routes) net
     → (viewer : ℕ) (held : Scripted) (window : List (Option Stamp))
     → IsRunning net viewer held window → IsReadAgain scene routes held

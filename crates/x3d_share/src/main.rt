@@ -3,12 +3,14 @@
 
 mod nodes;
 
+ghost use Rattle.share_words.specs.Words.{IsInRange};
+
 use crate::nodes::{agree, host, rehearse, view};
 use share_program::{
     Failure, RunFault, StreamFault, check_text, format_text, refusal_line, run_job, status_of,
     write_whole,
 };
-use share_words::{Order, OrderFault, command_of, help_of};
+use share_words::{Order, OrderFault, Request, request_of};
 use std::alloc::{AllocError, Global};
 use std::io;
 use std::net::Net;
@@ -48,11 +50,15 @@ fn check_scene<R: AllocGlobal + Input + Print>(rt: &R) -> Result<(), Failure> {
     Ok(())
 }
 
-fn obey<R: AllocGlobal + Input + Print + Net + Clock>(
-    rt: &R,
-    words: &[&str],
-) -> Result<(), Failure> {
-    let order = command_of(rt.alloc(), words)?;
+/// Prints a text of help.
+fn print_text<R: Print>(rt: &R, text: &str) -> Result<(), Failure> {
+    write_whole(&mut io::writer(rt), text.as_bytes()).map_err(output_failure)
+}
+
+/// Does what a command with its numbers says.
+fn obey<R: AllocGlobal + Input + Print + Net + Clock>(rt: &R, order: Order) -> Result<(), Failure>
+    requires { IsInRange order }
+{
     match order {
         Order::Run => run_own(rt),
         Order::Format => format_scene(rt),
@@ -74,15 +80,15 @@ fn obey<R: AllocGlobal + Input + Print + Net + Clock>(
     }
 }
 
-/// Prints the help that words ask for, or obeys them.
+/// Prints the text that words ask for, or obeys them.
 fn answer<R: AllocGlobal + Input + Print + Net + Clock>(
     rt: &R,
     words: &[&str],
 ) -> Result<(), Failure> {
-    if let Ok(Some(help)) = help_of(rt.alloc(), words) {
-        return write_whole(&mut io::writer(rt), help.as_bytes()).map_err(output_failure);
+    match request_of(rt.alloc(), words)? {
+        Request::Text(text) => print_text(rt, text.as_str()),
+        Request::Order(order) => obey(rt, order),
     }
-    obey(rt, words)
 }
 
 fn answer_own<R: AllocGlobal + Input + Print + Net + Clock>(

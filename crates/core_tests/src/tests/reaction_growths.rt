@@ -6,36 +6,31 @@ use super::{Row, all_hold, holds, list_of};
 use react_core::{Outbox, copy_of, react};
 use std::alloc::Global;
 use std::process::Abort;
-use test_memory::UsedUp;
+use test_memory::{Outcome, Spared, UsedUp, is_refused_until_enough};
 use x3d_values::{Fields, Items, NodeType, Value};
 
-/// Whether a CoordinateInterpolator answers an event where so many bytes of memory are left; none
-/// where it can't be tried.
-fn answers(
-    alloc: Global,
-    node: &mut Fields,
-    input: u16,
-    value: &Value,
-    spare: usize,
-) -> Option<bool> {
-    let Ok(used_up) = UsedUp::but_for(alloc, &[spare]) else {
-        return None;
-    };
-    let mut out = Outbox::new();
-    let node_type = NodeType::CoordinateInterpolator;
-    let answered = react(alloc, node_type, node, input, value, 0, &mut out).is_ok();
-    drop(used_up);
-    let sent = out.len();
-    drop(out);
-    Some(answered && sent == 1)
+/// An event at a node of this type. Where memory is refused the node may hold the new value.
+#[derive(Clone, Copy)]
+struct Reaction<'a>(NodeType, u16, &'a Value);
+
+impl<'a> Spared<Fields> for Reaction<'a> {
+    fn work(&self, alloc: Global, node: &mut Fields, memory: &mut UsedUp) -> Outcome {
+        let mut out = Outbox::new();
+        memory.run_short();
+        let answer = react(alloc, self.0, node, self.1, self.2, 0, &mut out);
+        memory.come_back();
+        let sent = out.len();
+        drop(out);
+        Outcome::of(answer.is_ok() && sent == 1, answer.is_err())
+    }
 }
 
-/// A list of 200 keys.
-fn keys(alloc: Global) -> Option<Value> {
-    let Ok(keys) = vec![in alloc; 7; 200] else {
-        return None;
-    };
-    Some(Value::MFFloat(Items::from_vec(keys)))
+/// A list of 200 keys, or of none where memory is refused.
+fn keys(alloc: Global) -> Value {
+    match vec![in alloc; 7; 200] {
+        Ok(keys) => Value::MFFloat(Items::from_vec(keys)),
+        Err(_) => Value::MFFloat(Items::new(alloc)),
+    }
 }
 
 /// A CoordinateInterpolator of two keys with a hundred vectors each.
@@ -49,64 +44,54 @@ fn interpolator(alloc: Global) -> Option<Fields> {
     Some(node)
 }
 
-/// The input, the bytes that are left, and whether that is enough. Input 1 gets the keys, and
-/// another one a fraction.
-struct Left(u16, usize, bool);
+/// The input of a CoordinateInterpolator, and in how many turns memory is refused at least: input 1
+/// gets 200 keys, and another one a fraction.
+struct Refused(u16, usize);
 
-impl Row for Left {
+impl Row for Refused {
     fn holds(&self, alloc: Global) -> bool {
-        let given = if self.0 == 1 {
+        let value = if self.0 == 1 {
             keys(alloc)
         } else {
-            Some(Value::SFFloat(500_000))
-        };
-        let Some(value) = given else {
-            return false;
+            Value::SFFloat(500_000)
         };
         let Some(mut node) = interpolator(alloc) else {
             drop(value);
             return false;
         };
-        let answer = answers(alloc, &mut node, self.0, &value, self.1);
+        let event = Reaction(NodeType::CoordinateInterpolator, self.0, &value);
+        let refused = is_refused_until_enough(alloc, &event, &mut node, self.1);
         drop(node);
         drop(value);
-        answer == Some(self.2)
+        refused
     }
 }
 
-static LEFT: [Left; 5] = [
-    Left(1, 0, false),
-    Left(1, 2048, false),
-    Left(1, 8192, true),
-    Left(3, 0, false),
-    Left(3, 8192, true),
-];
+/// A set of a list copies it twice, 1,600 bytes each; a CoordinateInterpolator makes one list of
+/// 2,400.
+static REFUSED: [Refused; 2] = [Refused(1, 200), Refused(3, 150)];
 
-/// Whether the value is copied where so many bytes of memory are left.
-fn is_copied(alloc: Global, value: &Value, spare: usize) -> bool {
-    let Ok(used_up) = UsedUp::but_for(alloc, &[spare]) else {
-        return false;
-    };
-    let copied = copy_of(alloc, value).err().is_none();
-    drop(used_up);
-    copied
-}
-
-/// Whether one copy of 200 keys has room in 2048 bytes.
-fn has_room(alloc: Global) -> bool {
-    let Some(keys) = keys(alloc) else {
-        return false;
-    };
-    let copied = is_copied(alloc, &keys, 2048);
-    drop(keys);
-    copied
-}
-
-/// A set of a list copies it twice, and a CoordinateInterpolator makes one list: each growth is
-/// refused once. Lists are above 1032 bytes, since malloc keeps smaller blocks that were given
-/// back.
 #[test]
-fn each_refused_growth_is_answered(rt: HostRuntime) {
-    holds(&rt, has_room(rt.alloc()));
-    all_hold(&rt, rt.alloc(), &LEFT);
+fn a_reaction_is_refused_until_there_is_enough(rt: HostRuntime) {
+    all_hold(&rt, rt.alloc(), &REFUSED);
+}
+
+/// A value is copied.
+struct Copy;
+
+impl Spared<Value> for Copy {
+    fn work(&self, alloc: Global, value: &mut Value, memory: &mut UsedUp) -> Outcome {
+        memory.run_short();
+        let fault = copy_of(alloc, value).err();
+        memory.come_back();
+        Outcome::of(fault.is_none(), fault.is_some())
+    }
+}
+
+#[test]
+fn a_copy_is_refused_until_there_is_enough(rt: HostRuntime) {
+    let mut value = keys(rt.alloc());
+    let refused = is_refused_until_enough(rt.alloc(), &Copy, &mut value, 100);
+    drop(value);
+    holds(&rt, refused);
 }

@@ -4,7 +4,7 @@ use super::{Row, Said, all_hold, holds};
 use classic_lex::{LexFault, LexFaultKind, MAX_LEN, lex};
 use std::alloc::Global;
 use std::process::Abort;
-use test_memory::UsedUp;
+use test_memory::{Outcome, Spared, UsedUp, is_refused_until_enough};
 
 /// Whether a text of 16 MiB is cut, and has no tokens.
 fn is_cut(alloc: Global) -> bool {
@@ -44,38 +44,38 @@ fn faults_are_shown(rt: HostRuntime) {
     all_hold(&rt, rt.alloc(), &SAID);
 }
 
-/// How many nodes a text has, how many bytes of memory are left, and whether it is refused for want
-/// of memory.
-struct Left(usize, usize, bool);
+/// A text is cut.
+struct Cut;
 
-impl Row for Left {
+impl Spared<Vec<u8>> for Cut {
+    fn work(&self, alloc: Global, text: &mut Vec<u8>, memory: &mut UsedUp) -> Outcome {
+        memory.run_short();
+        let fault = lex(alloc, text.as_slice()).err();
+        memory.come_back();
+        Outcome::of(fault.is_none(), fault == Some(MEMORY))
+    }
+}
+
+/// How many nodes a text has, and in how many turns memory is refused at least.
+struct Refused(usize, usize);
+
+impl Row for Refused {
     fn holds(&self, alloc: Global) -> bool {
         let mut text = Vec::new(alloc);
         let mut made = text.extend_from_slice(b"#X3D V3.0 utf8\n").is_ok();
         for _ in 0..self.0 {
             made &= text.extend_from_slice(b"Group {}\n").is_ok();
         }
-        let Ok(used_up) = UsedUp::but_for(alloc, &[self.1]) else {
-            drop(text);
-            return false;
-        };
-        let fault = lex(alloc, text.as_slice()).err();
-        drop(used_up);
+        let refused = is_refused_until_enough(alloc, &Cut, &mut text, self.1);
         drop(text);
-        made && fault == self.2.then_some(MEMORY)
+        made && refused
     }
 }
 
-/// With 2048 bytes the first growths are given: a short text is cut. Of a long one the first growth
-/// is refused, a later one, and none.
-static LEFT: [Left; 4] = [
-    Left(1, 2048, false),
-    Left(100, 0, true),
-    Left(100, 2048, true),
-    Left(100, 65536, false),
-];
+/// The first list is of four tokens; of many it grows to twice as many, again and again.
+static REFUSED: [Refused; 2] = [Refused(1, 3), Refused(100, 300)];
 
 #[test]
 fn each_refused_growth_is_memory_without_a_line(rt: HostRuntime) {
-    all_hold(&rt, rt.alloc(), &LEFT);
+    all_hold(&rt, rt.alloc(), &REFUSED);
 }

@@ -7,7 +7,7 @@ use classic_tree::RawValue;
 use scene_values::{ValueFault, checked_rotation, typed};
 use std::alloc::Global;
 use std::process::Abort;
-use test_memory::UsedUp;
+use test_memory::{Outcome, Spared, UsedUp, is_refused_until_enough};
 use x3d_values::{FieldType, Items, Text, Value};
 
 /// What the nodes of the raw values are called.
@@ -151,70 +151,48 @@ fn a_list_of_eight_million_numerals(rt: HostRuntime) {
     holds(&rt, is_a_long_list(rt.alloc()));
 }
 
-/// A type, a raw value, the blocks of memory that are left, in bytes, and whether more is refused.
-struct Refused(FieldType, Given, &'static [usize], bool);
+/// A raw value is read as a value of this type.
+#[derive(Clone, Copy)]
+struct Typing(FieldType);
 
-impl Row for Refused {
-    fn holds(&self, alloc: Global) -> bool {
-        let raw = raw_value(alloc, self.1);
-        let Ok(used_up) = UsedUp::but_for(alloc, self.2) else {
-            drop(raw);
-            return false;
-        };
-        let fault = typed(alloc, self.0, &raw, &NUMBERS).err();
-        drop(used_up);
-        drop(raw);
-        fault == self.3.then_some(ValueFault::Memory)
+impl Spared<RawValue<u32>> for Typing {
+    fn work(&self, alloc: Global, raw: &mut RawValue<u32>, memory: &mut UsedUp) -> Outcome {
+        memory.run_short();
+        let fault = typed(alloc, self.0, raw, &NUMBERS).err();
+        memory.come_back();
+        Outcome::of(fault.is_none(), fault == Some(ValueFault::Memory))
     }
 }
 
-/// Each first growth, and the second one of a list of one string.
+/// A type, a raw value, and in how many turns memory is refused at least: in two for a list.
+struct Refused(FieldType, Given, usize);
+
+impl Row for Refused {
+    fn holds(&self, alloc: Global) -> bool {
+        let mut raw = raw_value(alloc, self.1);
+        let refused = is_refused_until_enough(alloc, &Typing(self.0), &mut raw, self.2);
+        drop(raw);
+        refused
+    }
+}
+
 static REFUSED: [Refused; 15] = [
-    Refused(
-        FieldType::MFInt32,
-        Given::List(&[0, 0, 0, 0, 0, 0]),
-        &[],
-        true,
-    ),
-    Refused(
-        FieldType::MFFloat,
-        Given::List(&[0, 0, 0, 0, 0, 0]),
-        &[],
-        true,
-    ),
-    Refused(
-        FieldType::MFTime,
-        Given::List(&[0, 0, 0, 0, 0, 0]),
-        &[],
-        true,
-    ),
-    Refused(
-        FieldType::MFVec2f,
-        Given::List(&[0, 0, 0, 0, 0, 0]),
-        &[],
-        true,
-    ),
-    Refused(
-        FieldType::MFVec3f,
-        Given::List(&[0, 0, 0, 0, 0, 0]),
-        &[],
-        true,
-    ),
-    Refused(
-        FieldType::MFColor,
-        Given::List(&[0, 0, 0, 0, 0, 0]),
-        &[],
-        true,
-    ),
-    Refused(FieldType::MFBool, Given::Truth(true), &[], true),
-    Refused(FieldType::MFBool, Given::Truths(&[true, false]), &[], true),
-    Refused(FieldType::MFNode, Given::Node(1), &[], true),
-    Refused(FieldType::MFNode, Given::Nodes(&[2, 0]), &[], true),
-    Refused(FieldType::SFString, Given::Word(3), &[], true),
-    Refused(FieldType::MFString, Given::Word(3), &[], true),
-    Refused(FieldType::MFString, Given::Words, &[], true),
-    Refused(FieldType::SFString, Given::Word(4096), &[4096], false),
-    Refused(FieldType::MFString, Given::Word(4096), &[4096], true),
+    Refused(FieldType::MFInt32, Given::List(&[0, 0, 0, 0, 0, 0]), 2),
+    Refused(FieldType::MFFloat, Given::List(&[0, 0, 0, 0, 0, 0]), 2),
+    Refused(FieldType::MFTime, Given::List(&[0, 0, 0, 0, 0, 0]), 2),
+    Refused(FieldType::MFVec2f, Given::List(&[0, 0, 0, 0, 0, 0]), 2),
+    Refused(FieldType::MFVec3f, Given::List(&[0, 0, 0, 0, 0, 0]), 2),
+    Refused(FieldType::MFColor, Given::List(&[0, 0, 0, 0, 0, 0]), 2),
+    Refused(FieldType::MFBool, Given::Truth(true), 2),
+    Refused(FieldType::MFBool, Given::Truths(&[true, false]), 2),
+    Refused(FieldType::MFNode, Given::Node(1), 2),
+    Refused(FieldType::MFNode, Given::Nodes(&[2, 0]), 2),
+    Refused(FieldType::SFString, Given::Word(3), 2),
+    Refused(FieldType::MFString, Given::Word(3), 4),
+    Refused(FieldType::MFString, Given::Words, 6),
+    // the word, and then the list of it
+    Refused(FieldType::SFString, Given::Word(4096), 256),
+    Refused(FieldType::MFString, Given::Word(4096), 258),
 ];
 
 #[test]

@@ -4,7 +4,7 @@ use super::{Row, all_hold, holds};
 use snapshot_codec::{PartFault, push_value, value_of};
 use std::alloc::Global;
 use std::process::Abort;
-use test_memory::UsedUp;
+use test_memory::{Outcome, Spared, UsedUp, is_refused_until_enough};
 use x3d_values::{
     FieldDefault, FieldType, Value, clone_value, default_value, empty_value, show_value,
 };
@@ -182,73 +182,115 @@ fn values_have_their_bytes_and_texts(rt: HostRuntime) {
     all_hold(&rt, rt.alloc(), &VALUES);
 }
 
-/// Whether the value is neither shown nor written behind a full buffer, so large that it can't grow
-/// where it is, nor copied, where no memory is left.
-fn is_refused(alloc: Global, value: &Value) -> bool {
-    let Ok(mut full) = vec![in alloc; b'x'; 4096] else {
-        return false;
-    };
-    let Ok(used_up) = UsedUp::new(alloc) else {
-        drop(full);
-        return false;
-    };
-    let shown = show_value(value, &mut full).is_ok();
-    let written = push_value(value, &mut full).is_ok();
-    let copied = clone_value(alloc, value).err().is_none();
-    drop(used_up);
-    drop(full);
-    !shown && !written && !copied
+/// What takes memory for a value.
+#[derive(Clone, Copy)]
+enum Call {
+    Show,
+    Write,
+    Clone,
 }
 
-/// Whether memory is refused to the value of the bytes.
-fn is_unread(alloc: Global, field_type: FieldType, bytes: &[u8]) -> bool {
-    let Ok(used_up) = UsedUp::new(alloc) else {
-        return false;
-    };
-    let fault = value_of(alloc, field_type, bytes).err();
-    drop(used_up);
-    fault == Some(PartFault::Memory)
+/// Appends the text of a value, or its bytes. On a refusal the buffer is as it was.
+fn appends(call: Call, value: &Value, out: &mut Vec<u8>) -> bool {
+    match call {
+        Call::Show => show_value(value, out).is_ok(),
+        _ => push_value(value, out).is_ok(),
+    }
 }
 
-/// A type, and the bytes of a value that takes memory.
+impl Spared<Value> for Call {
+    fn work(&self, alloc: Global, value: &mut Value, memory: &mut UsedUp) -> Outcome {
+        let mut out = Vec::new(alloc);
+        let ready = out.push(b'x').is_ok();
+        memory.run_short();
+        let given = match self {
+            Call::Clone => clone_value(alloc, value).err().is_none(),
+            _ => appends(*self, value, &mut out),
+        };
+        memory.come_back();
+        let same = out.as_slice() == b"x".as_slice();
+        drop(out);
+        Outcome::of(ready & given, same)
+    }
+}
+
+/// Whether each of these is refused in one turn at least, until there is enough.
+fn are_refused(alloc: Global, value: &mut Value) -> bool {
+    for call in [Call::Show, Call::Write, Call::Clone] {
+        if !is_refused_until_enough(alloc, &call, value, 1) {
+            return false;
+        }
+    }
+    true
+}
+
+/// A value of that type is read of bytes.
+#[derive(Clone, Copy)]
+struct Reading(FieldType);
+
+impl Spared<&'static [u8]> for Reading {
+    fn work(&self, alloc: Global, bytes: &mut &'static [u8], memory: &mut UsedUp) -> Outcome {
+        memory.run_short();
+        let fault = value_of(alloc, self.0, bytes).err();
+        memory.come_back();
+        Outcome::of(fault.is_none(), fault == Some(PartFault::Memory))
+    }
+}
+
+/// A type, and the bytes of a value, which like its text are more than the 24 that a small block
+/// holds.
 struct Refused(FieldType, &'static [u8]);
 
 impl Row for Refused {
     fn holds(&self, alloc: Global) -> bool {
-        let Ok((value, _)) = value_of(alloc, self.0, self.1) else {
+        let Ok((mut value, _)) = value_of(alloc, self.0, self.1) else {
             return false;
         };
-        let refused = is_refused(alloc, &value);
+        let refused = are_refused(alloc, &mut value);
         drop(value);
-        refused && is_unread(alloc, self.0, self.1)
+        let mut bytes = self.1;
+        refused && is_refused_until_enough(alloc, &Reading(self.0), &mut bytes, 1)
     }
 }
 
-static REFUSED: [Refused; 2] = [
-    Refused(FieldType::SFString, b"\x00\x00\x00\x04word"),
+static REFUSED: [Refused; 3] = [
+    Refused(
+        FieldType::SFString,
+        b"\x00\x00\x00\x20a word of 32 letters, each of it",
+    ),
     Refused(
         FieldType::MFFloat,
-        b"\x00\x00\x00\x01\x00\x00\x00\x00\x00\x00\x00\x07",
+        b"\x00\x00\x00\x03\
+            \x00\x00\x00\x00\x00\x00\x00\x07\x00\x00\x00\x00\x00\x00\x00\x08\
+            \x00\x00\x00\x00\x00\x00\x00\x09",
+    ),
+    Refused(
+        FieldType::MFString,
+        b"\x00\x00\x00\x02\x00\x00\x00\x0ca long word.\x00\x00\x00\x0canother door",
     ),
 ];
 
-/// A default with words is refused, an empty list takes no memory.
-fn refuses_a_default(alloc: Global) -> bool {
-    let Ok(used_up) = UsedUp::new(alloc) else {
-        return false;
-    };
-    let refused = default_value(alloc, FieldType::MFString, FieldDefault::ExamineAny)
-        .err()
-        .is_some();
-    let empty = empty_value(alloc, FieldType::MFString);
-    drop(used_up);
-    let given = empty.is_some();
-    drop(empty);
-    refused && given
+/// The default that has words, and an empty list, which takes no memory.
+struct Defaults;
+
+impl Spared<()> for Defaults {
+    fn work(&self, alloc: Global, _subject: &mut (), memory: &mut UsedUp) -> Outcome {
+        memory.run_short();
+        let words = default_value(alloc, FieldType::MFString, FieldDefault::ExamineAny);
+        let empty = empty_value(alloc, FieldType::MFString);
+        memory.come_back();
+        let given = empty.is_some();
+        drop(empty);
+        let fault = words.err();
+        Outcome::of(given && fault.is_none(), given)
+    }
 }
 
 #[test]
 fn a_refused_growth_is_answered(rt: HostRuntime) {
     all_hold(&rt, rt.alloc(), &REFUSED);
-    holds(&rt, refuses_a_default(rt.alloc()));
+    holds(
+        &rt,
+        is_refused_until_enough(rt.alloc(), &Defaults, &mut (), 4),
+    );
 }

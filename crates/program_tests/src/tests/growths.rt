@@ -4,87 +4,65 @@
 use super::commands::{Command, is_refused, obey};
 use super::texts::{Part, made};
 use super::{Row, all_hold};
-use share_program::Failure;
 use std::alloc::{AllocError, Global};
 use std::process::Abort;
-use test_memory::UsedUp;
+use test_memory::{Outcome, Spared, UsedUp, is_refused_until_enough};
 
 /// Room for what a command writes, so that its writer needs no memory.
 const ROOM: usize = 65_536;
 
-/// A command and its input. Each turn has so many bytes more than the one before, and the first has
-/// none: at least so many turns are refused, and one of at most so many has enough.
-struct Spared {
-    command: Command,
-    input: &'static [Part],
-    least: usize,
-    most: usize,
-    step: usize,
-}
+/// A command and its input.
+#[derive(Clone, Copy)]
+struct Given<'a>(Command, &'a [u8]);
 
-impl Spared {
-    /// Why it fails with one block of so many bytes.
-    fn failure(
-        &self,
-        alloc: Global,
-        input: &[u8],
-        out: &mut Vec<u8>,
-        spare: usize,
-    ) -> Result<Option<Failure>, AllocError> {
-        let mut reader = input;
-        let used_up = UsedUp::but_for(alloc, &[spare])?;
-        let failure = obey(alloc, self.command, &mut reader, out).err();
-        drop(used_up);
-        Ok(failure)
-    }
-
-    /// Whether it is refused so, and then has enough.
-    fn goes_on(&self, alloc: Global, input: &[u8], out: &mut Vec<u8>) -> Result<bool, AllocError> {
-        for turn in 0..self.most {
-            let failure = self.failure(alloc, input, out, turn.saturating_mul(self.step))?;
-            if failure.is_none() {
-                return Ok(turn >= self.least && !out.is_empty());
-            }
-            if !is_refused(failure, "refused Memory", 5) || !out.is_empty() {
-                return Ok(false);
-            }
-        }
-        Ok(false)
+impl<'a> Spared<Vec<u8>> for Given<'a> {
+    fn work(&self, alloc: Global, out: &mut Vec<u8>, memory: &mut UsedUp) -> Outcome {
+        let mut reader = self.1;
+        out.clear();
+        memory.run_short();
+        let failure = obey(alloc, self.0, &mut reader, out).err();
+        memory.come_back();
+        let done = failure.is_none();
+        let refused = is_refused(failure, "refused Memory", 5);
+        Outcome::of(done, refused).where_so(done != out.is_empty())
     }
 }
 
-impl Row for Spared {
+/// A command and its input, and in how many turns it is refused at least, each of which has 16
+/// bytes more.
+struct Refused(Command, &'static [Part], usize);
+
+impl Row for Refused {
     fn holds(&self, alloc: Global) -> Result<bool, AllocError> {
-        let input = made(alloc, self.input)?;
+        let input = made(alloc, self.1)?;
         let mut out = Vec::with_capacity(alloc, ROOM)?;
-        self.goes_on(alloc, input.as_slice(), &mut out)
+        let given = Given(self.0, input.as_slice());
+        Ok(is_refused_until_enough(alloc, &given, &mut out, self.2))
     }
 }
 
 /// A tree, and then its text, which is longer than what is read. Few levels: where memory is used
 /// up, the stack can't grow either.
-static FORMATTED: [Spared; 1] = [Spared {
-    command: Command::Format,
-    input: &[
+static FORMATTED: [Refused; 1] = [Refused(
+    Command::Format,
+    &[
         Part(1, "#X3D V3.0 utf8"),
         Part(8, "\nGroup { children ["),
         Part(8, " ] }"),
     ],
-    least: 6,
-    most: 48,
-    step: 256,
-}];
+    96,
+)];
 
 #[test]
-fn each_growth_of_formatting_is_refused(rt: HostRuntime) {
+fn formatting_is_refused_until_there_is_enough(rt: HostRuntime) {
     all_hold(&rt, rt.alloc(), &FORMATTED);
 }
 
-/// A few prototypes stand for many nodes with many fields: a tree of 12 KB, then 28 KB with what is
-/// put in, 40 KB with the scene and 43 KB with the routes.
-static CHECKED: [Spared; 1] = [Spared {
-    command: Command::Check,
-    input: &[
+/// A few prototypes stand for many nodes with many fields: each layer holds more than the one before,
+/// so the growths of each are refused.
+static CHECKED: [Refused; 1] = [Refused(
+    Command::Check,
+    &[
         Part(1, "#X3D V3.0 utf8\nPROTO P0 [] { TimeSensor {} }\n"),
         Part(5, "PROTO P% [] { Group { children [ P~ {} P~ {} ] } }\n"),
         Part(1, "P5 {}\nDEF T TimeSensor {} ROUTE T.isActive TO T.loop\n"),
@@ -93,20 +71,18 @@ static CHECKED: [Spared; 1] = [Spared {
             "ROUTE T.isActive TO T.enabled ROUTE T.time TO T.startTime\n",
         ),
     ],
-    least: 13,
-    most: 50,
-    step: 3072,
-}];
+    1500,
+)];
 
 #[test]
-fn each_growth_of_checking_is_refused(rt: HostRuntime) {
+fn checking_is_refused_until_there_is_enough(rt: HostRuntime) {
     all_hold(&rt, rt.alloc(), &CHECKED);
 }
 
-/// The same scene: loading takes up to 55 KB, and the text of the scene up to 105 KB.
-static LOADED: [Spared; 1] = [Spared {
-    command: Command::Run,
-    input: &[
+/// The same scene: loading takes more, and the text of the scene more than that.
+static LOADED: [Refused; 1] = [Refused(
+    Command::Run,
+    &[
         Part(1, "scene\n#X3D V3.0 utf8\nPROTO P0 [] { TimeSensor {} }\n"),
         Part(5, "PROTO P% [] { Group { children [ P~ {} P~ {} ] } }\n"),
         Part(1, "P5 {}\nDEF T TimeSensor {} ROUTE T.isActive TO T.loop\n"),
@@ -115,21 +91,19 @@ static LOADED: [Spared; 1] = [Spared {
             "ROUTE T.isActive TO T.enabled ROUTE T.time TO T.startTime\n",
         ),
     ],
-    least: 23,
-    most: 50,
-    step: 4096,
-}];
+    4000,
+)];
 
 #[test]
-fn each_growth_of_loading_is_refused(rt: HostRuntime) {
+fn loading_is_refused_until_there_is_enough(rt: HostRuntime) {
     all_hold(&rt, rt.alloc(), &LOADED);
 }
 
-/// Clocks of which each is told by many lines: 11 KB for the job, 18 KB with the trace, 26 KB with
-/// its text of just under 8,192 bytes, and 37 KB with the text of the scene behind that.
-static CLOCKS: [Spared; 1] = [Spared {
-    command: Command::Run,
-    input: &[
+/// Clocks of which each is told by many lines: the job, its trace, the text of that, and the text of the
+/// scene behind it each take more than what was before.
+static CLOCKS: [Refused; 1] = [Refused(
+    Command::Run,
+    &[
         Part(26, "clock %\n"),
         Part(1, "scene\n#X3D V3.0 utf8\n"),
         Part(
@@ -137,20 +111,18 @@ static CLOCKS: [Spared; 1] = [Spared {
             "DEF T% TimeSensor { cycleInterval 2 loop TRUE startTime 1 }\n",
         ),
     ],
-    least: 16,
-    most: 48,
-    step: 1536,
-}];
+    1000,
+)];
 
 #[test]
-fn each_growth_of_a_job_is_refused(rt: HostRuntime) {
+fn a_job_is_refused_until_there_is_enough(rt: HostRuntime) {
     all_hold(&rt, rt.alloc(), &CLOCKS);
 }
 
 /// A move, a press and a release.
-static POINTERS: [Spared; 1] = [Spared {
-    command: Command::Run,
-    input: &[Part(
+static POINTERS: [Refused; 1] = [Refused(
+    Command::Run,
+    &[Part(
         1,
         "point 0 0 10 0 20 0 0 -1\npoint 0 1 10 0 20 0 0 -1\npoint 0 0 10 0 20 0 0 -1
 scene
@@ -159,12 +131,10 @@ Transform { translation 10 0 0 scale 2 2 2
 children [ DEF S TouchSensor {} Shape { geometry Box {} } ] }
 ",
     )],
-    least: 8,
-    most: 48,
-    step: 512,
-}];
+    256,
+)];
 
 #[test]
-fn each_growth_of_a_job_of_pointers_is_refused(rt: HostRuntime) {
+fn a_job_of_pointers_is_refused_until_there_is_enough(rt: HostRuntime) {
     all_hold(&rt, rt.alloc(), &POINTERS);
 }

@@ -1,94 +1,198 @@
-//! Memory that is refused to what reads jobs, schedules and words.
+//! What reads jobs, schedules and words: memory that is refused to it until there is enough, and a
+//! schedule that is read.
 
 use super::texts::{Part, made};
 use super::{Row, all_hold, holds};
-use share_program::{JobFault, StreamFault, job_of, read_whole, schedule_of};
-use share_words::{Order, OrderFault, command_of};
+use share_law::Step;
+use share_program::{
+    JobFault, Schedule, StreamFault, job_of, read_schedule, read_whole, schedule_of,
+};
+use share_words::{Order, OrderFault, Request, request_of};
 use std::alloc::{AllocError, Global};
 use std::process::Abort;
-use test_memory::UsedUp;
+use test_memory::{Outcome, Spared, UsedUp, is_refused_until_enough};
+use x3d_values::{Point, Vec3};
 
-static JOB: [Part; 2] = [Part(20_000, "clock %\n"), Part(1, "scene\n")];
+/// What reads bytes.
+#[derive(Clone, Copy)]
+enum Reading {
+    Whole,
+    Job,
+    Schedule,
+}
 
-static SCHEDULE: [Part; 2] = [Part(5_000, "ask 0\n"), Part(1, "scene\n")];
-
-/// A block that is left, in bytes: growths come through up to the first that needs more.
-struct Left(usize);
-
-impl Row for Left {
-    fn holds(&self, alloc: Global) -> Result<bool, AllocError> {
-        let job = made(alloc, &JOB)?;
-        let schedule = made(alloc, &SCHEDULE)?;
-        are_refused(alloc, job.as_slice(), schedule.as_slice(), self.0)
+fn read(alloc: Global, reading: Reading, bytes: &[u8]) -> Outcome {
+    let mut reader = bytes;
+    match reading {
+        Reading::Whole => {
+            let fault = read_whole(alloc, &mut reader).err();
+            Outcome::of(fault.is_none(), fault == Some(StreamFault::Memory))
+        }
+        Reading::Job => {
+            let fault = job_of(alloc, bytes).err();
+            Outcome::of(fault.is_none(), fault == Some(JobFault::Memory))
+        }
+        Reading::Schedule => {
+            let fault = schedule_of(alloc, bytes).err();
+            Outcome::of(fault.is_none(), fault == Some(JobFault::Memory))
+        }
     }
 }
 
-/// Whether the input of a job, its steps and those of a schedule are refused.
-fn are_refused(
-    alloc: Global,
-    job: &[u8],
-    schedule: &[u8],
-    left: usize,
-) -> Result<bool, AllocError> {
-    let mut reader = job;
-    let used_up = UsedUp::but_for(alloc, &[left])?;
-    let whole = read_whole(alloc, &mut reader).err();
-    let inputs = job_of(alloc, job).err();
-    let steps = schedule_of(alloc, schedule).err();
-    drop(used_up);
-    let memory = Some(JobFault::Memory);
-    Ok(whole == Some(StreamFault::Memory) && inputs == memory && steps == memory)
-}
-
-static LEFT: [Left; 5] = [
-    Left(0),
-    Left(2_048),
-    Left(8_192),
-    Left(16_384),
-    Left(65_536),
-];
-
-#[test]
-fn a_refused_growth_of_an_input_is_answered(rt: HostRuntime) {
-    all_hold(&rt, rt.alloc(), &LEFT);
-}
-
-/// What words ask for where one block of so many bytes is left.
-fn asked(alloc: Global, left: usize) -> Result<Result<Order, OrderFault>, AllocError> {
-    let used_up = UsedUp::but_for(alloc, &[left])?;
-    let order = command_of(alloc, &["x3d_share", "run"]);
-    drop(used_up);
-    Ok(order)
-}
-
-/// A block in which words find room for some growths, if not for all.
-struct Room(usize);
-
-impl Row for Room {
-    fn holds(&self, alloc: Global) -> Result<bool, AllocError> {
-        let order = asked(alloc, self.0)?;
-        Ok(order == Err(OrderFault::Memory) || order == Ok(Order::Run))
+impl Spared<Vec<u8>> for Reading {
+    fn work(&self, alloc: Global, bytes: &mut Vec<u8>, memory: &mut UsedUp) -> Outcome {
+        memory.run_short();
+        let outcome = read(alloc, *self, bytes.as_slice());
+        memory.come_back();
+        outcome
     }
 }
 
-static ROOMS: [Room; 7] = [
-    Room(1_500),
-    Room(2_500),
-    Room(4_000),
-    Room(6_000),
-    Room(9_000),
-    Room(13_000),
-    Room(20_000),
+/// What is read, from which parts, and in how many turns it is refused at least.
+struct Refused(Reading, &'static [Part], usize);
+
+impl Row for Refused {
+    fn holds(&self, alloc: Global) -> Result<bool, AllocError> {
+        let mut bytes = made(alloc, self.1)?;
+        Ok(is_refused_until_enough(alloc, &self.0, &mut bytes, self.2))
+    }
+}
+
+/// A list has room for 4, and then for twice as many, again and again, up to 128.
+static REFUSED: [Refused; 3] = [
+    Refused(Reading::Whole, &[Part(1_000, "clock %\n")], 500),
+    Refused(
+        Reading::Job,
+        &[Part(100, "clock %\n"), Part(1, "scene\n")],
+        400,
+    ),
+    Refused(
+        Reading::Schedule,
+        &[Part(100, "ask 0\n"), Part(1, "scene\n")],
+        400,
+    ),
 ];
 
-fn are_taken_with_memory(alloc: Global) -> Result<bool, AllocError> {
-    let without = asked(alloc, 0)?;
-    let with = asked(alloc, 1_000_000)?;
-    Ok(without == Err(OrderFault::Memory) && with == Ok(Order::Run))
+#[test]
+fn inputs_are_refused_until_there_is_enough(rt: HostRuntime) {
+    all_hold(&rt, rt.alloc(), &REFUSED);
+}
+
+/// The order of a request that is one.
+fn order_of(request: Result<Request, OrderFault>) -> Result<Order, OrderFault> {
+    match request {
+        Ok(Request::Order(order)) => Ok(order),
+        Ok(Request::Text(_)) => Err(OrderFault::Words),
+        Err(fault) => Err(fault),
+    }
+}
+
+/// Whether a text is asked for.
+fn shows(request: Result<Request, OrderFault>) -> Result<bool, OrderFault> {
+    match request {
+        Ok(Request::Text(_)) => Ok(true),
+        Ok(Request::Order(_)) => Ok(false),
+        Err(fault) => Err(fault),
+    }
+}
+
+/// Words that ask for a run.
+struct Words;
+
+impl Spared<()> for Words {
+    fn work(&self, alloc: Global, _subject: &mut (), memory: &mut UsedUp) -> Outcome {
+        memory.run_short();
+        let order = order_of(request_of(alloc, &["x3d_share", "run"]));
+        memory.come_back();
+        Outcome::of(order == Ok(Order::Run), order == Err(OrderFault::Memory))
+    }
+}
+
+/// Words that ask for help.
+struct Help;
+
+impl Spared<()> for Help {
+    fn work(&self, alloc: Global, _subject: &mut (), memory: &mut UsedUp) -> Outcome {
+        memory.run_short();
+        let text = shows(request_of(alloc, &["x3d_share", "--help"]));
+        memory.come_back();
+        Outcome::of(text == Ok(true), text == Err(OrderFault::Memory))
+    }
 }
 
 #[test]
-fn words_without_memory_are_refused_for_memory(rt: HostRuntime) {
-    holds(&rt, are_taken_with_memory(rt.alloc()));
-    all_hold(&rt, rt.alloc(), &ROOMS);
+fn words_are_refused_until_there_is_enough(rt: HostRuntime) {
+    assert!(rt; is_refused_until_enough(rt.alloc(), &Words, &mut (), 100));
+    assert!(rt; is_refused_until_enough(rt.alloc(), &Help, &mut (), 100));
+}
+
+/// A step of each kind.
+static STEPS: [Step; 10] = [
+    Step::HostClock { time: 1_500_000 },
+    Step::ViewerOffer {
+        viewer: 1,
+        point: Point {
+            down: true,
+            origin: Vec3 {
+                x: 0,
+                y: -500_000,
+                z: 10_000_000,
+            },
+            dir: Vec3 {
+                x: 0,
+                y: 0,
+                z: -1_000_000,
+            },
+        },
+    },
+    Step::ViewerResend {
+        viewer: 2,
+        place: 3,
+    },
+    Step::ViewerAsk { viewer: 4 },
+    Step::HostPacket { input: 5 },
+    Step::HostAck { viewer: 6 },
+    Step::HostTake { packet: 7 },
+    Step::ViewerTake {
+        viewer: 8,
+        packet: 9,
+    },
+    Step::ViewerSave { viewer: 10 },
+    Step::ViewerRewind {
+        viewer: 11,
+        snapshot: 12,
+        boot: 13,
+    },
+];
+
+const LINES: &[u8] = b"clock 1.5
+offer 1 1 0 -0.5 10 0 0 -1
+resend 2 3
+ask 4
+packet 5
+ack 6
+give 7 host
+give 9 8
+save 10
+rewind 11 12 13
+scene
+#X3D V3.0 utf8
+";
+
+fn is_whole(schedule: &Schedule) -> bool {
+    schedule.steps.as_slice() == STEPS.as_slice()
+        && schedule.scene.as_slice() == b"#X3D V3.0 utf8\n".as_slice()
+}
+
+fn is_read(alloc: Global) -> Result<bool, AllocError> {
+    let mut reader = LINES;
+    let Ok(schedule) = read_schedule(alloc, &mut reader) else {
+        return Ok(false);
+    };
+    Ok(is_whole(&schedule))
+}
+
+#[test]
+fn a_schedule_is_read(rt: HostRuntime) {
+    holds(&rt, is_read(rt.alloc()));
 }

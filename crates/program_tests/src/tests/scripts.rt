@@ -1,5 +1,5 @@
-//! Boxes that tell what is done with them, the examples of scripts by their names, and growths that
-//! are refused.
+//! Boxes that count and tell what is done with them, the examples of scripts by their names, and
+//! growths that are refused.
 
 mod attaching;
 mod examples;
@@ -7,7 +7,9 @@ mod growths;
 mod hosting;
 mod meters;
 mod probe;
+mod running;
 mod stages;
+mod viewing;
 mod worlds;
 
 use std::alloc::Global;

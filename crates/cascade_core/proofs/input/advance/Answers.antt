@@ -1,11 +1,11 @@
-use Rattle.std.proofs.Common.{◌≡◌, ◌∙◌, List, ap, sym, length}
+use Rattle.std.proofs.Common.{◌≡◌, ◌∙◌, List, ap, refl, sym, length}
 use Rattle.std.proofs.lemmas.List.{length-map}
 use Rattle.cascade_core.specs.Apply.{after_input, begin, begun}
 use Rattle.cascade_core.specs.Course.{Course, ended, plan_at, plan_of, seen}
 use Rattle.trace_core.specs.declared.trace.TraceLine.{TraceLine}
 use Rattle.cascade_core.proofs.Gains.{IsGain}
 use Rattle.pick_core.specs.Sites.{rows_of}
-use Rattle.cascade_core.proofs.Inputs.{after-same, begun-cast, begun-count, begun-kinds, gained-by, happen-fresh, input-done, input-world}
+use Rattle.cascade_core.proofs.Inputs.{after-same, begun-cast, begun-count, begun-kinds, gained-by, happen-fresh, input-done, input-world, settled-once}
 use Rattle.cascade_core.proofs.SoundLemmas.{cast-counted, cast_stands}
 use Rattle.cascade_core.proofs.input.advance.Goals as goal
 
@@ -46,6 +46,7 @@ returns-clause-work g c =
       differ = rw gain.sources gain.differ;
       sends = ap length c.as_slice-sent.ensures ∙ sym (ap length gain.sources) ∙ length-map gain.lines (λ (l : TraceLine). l.source);
       deliveries = rw gain.sources (rw c.as_slice-sent.ensures at c.deliveries.ensures);
+      once = settled-once scene (plan_of scene c.args.fixed.now.routes) (begun scene (ended (seen c.args.course.now)) c.args.input.now) c.args.input.now refl;
       settles = c.settles.ensures ∙ ap (λ (d : Course). length d.settling.settled) all;
     }
 

@@ -5,4 +5,4 @@ use Rattle.first_routes.proofs.firsts.without_repeats.Given as goal
 
 -- the routes so far, with the rest added, are all
 abbrev pub invariant-loop-route : goal.invariant-loop-route
-invariant-loop-route l = fold added l.firsts.keys (drop l.route-index l.routes) ≡ fold added [] l.routes
+invariant-loop-route l = fold added l.kept.keys (drop l.route-index l.routes) ≡ fold added [] l.routes

@@ -1,12 +1,12 @@
 //! What is done with the boxes of two scripts.
 
-use super::attaching::{STATE, counter_specs};
-use super::probe::{Log, Made, Probe, two_boxes};
-use super::{Row, all_hold, list_of};
+use super::attaching::counter_specs;
+use super::probe::{Log, Made, Probe, boxes_made};
+use super::{Row, all_hold, holds, list_of};
 use script_host::{AttachFault, Behaviour, ReplaceFault, Reply, Scripts, StateFault, takes_event};
 use std::alloc::Global;
 use std::process::Abort;
-use test_memory::UsedUp;
+use test_memory::{Outcome, Spared, UsedUp, is_refused_until_enough};
 use x3d_values::Items;
 
 /// The scripts of two counters at 5, where the second box is this one.
@@ -15,7 +15,7 @@ fn two_scripts<'a>(
     second: Made,
     log: &'a Log,
 ) -> Result<Scripts<Probe<'a>>, AttachFault> {
-    let Ok(boxes) = two_boxes(alloc, Made::Counter(5), second, log) else {
+    let Ok(boxes) = boxes_made(alloc, &[Made::Counter(5), second], log) else {
         return Err(AttachFault::Memory);
     };
     let specs = counter_specs(alloc, 2);
@@ -58,10 +58,10 @@ pub(super) fn sends<B: Behaviour>(scripts: &mut Scripts<B>, k: usize, count: i64
 }
 
 /// Counts of counters that step by 2, or fewer where memory is refused.
-fn states_of(alloc: Global, counts: [i64; 2]) -> Vec<Items<i64>> {
+pub(super) fn states_of(alloc: Global, counts: &[i64]) -> Vec<Items<i64>> {
     let mut states = Vec::new(alloc);
     for count in counts {
-        let Ok(()) = states.push(list_of(alloc, &[count, 2])) else {
+        let Ok(()) = states.push(list_of(alloc, &[*count, 2])) else {
             return states;
         };
     }
@@ -74,7 +74,7 @@ fn restores<B: Behaviour>(
     counts: [i64; 2],
     wanted: Result<(), StateFault>,
 ) -> bool {
-    let states = states_of(alloc, counts);
+    let states = states_of(alloc, &counts);
     let answer = scripts.restore_all(states.as_slice());
     drop(states);
     answer == wanted
@@ -127,7 +127,7 @@ struct Story(Made, &'static [Step], bool, u64);
 
 impl Row for Story {
     fn holds(&self, alloc: Global) -> bool {
-        let log = Log::new(0);
+        let log = Log::new();
         let Ok(mut scripts) = two_scripts(alloc, self.0, &log) else {
             return false;
         };
@@ -234,65 +234,53 @@ enum Call {
     Replace,
 }
 
-fn tells<B: Behaviour>(alloc: Global, scripts: &Scripts<B>) -> bool {
+/// Two states are told, behind none.
+fn tells<B: Behaviour>(alloc: Global, scripts: &Scripts<B>) -> Outcome {
     let mut states = Vec::new(alloc);
-    let told = scripts.states(&mut states).is_ok();
+    let answer = scripts.states(&mut states);
+    let told = states.len();
     drop(states);
-    told
+    Outcome::of(answer.is_ok() && told == 2, answer.is_err() && told == 0)
 }
 
-/// Whether that works where these blocks of memory are left; none where it can't be tried.
-fn works<'a>(
-    alloc: Global,
-    scripts: &mut Scripts<Probe<'a>>,
-    log: &'a Log,
-    call: Call,
-    left: &[usize],
-) -> Option<bool> {
-    let Ok(used_up) = UsedUp::but_for(alloc, left) else {
-        return None;
-    };
-    let worked = match call {
-        Call::States => tells(alloc, scripts),
-        Call::Replace => scripts
-            .replace(0, Probe::new(3, Made::Counter(0), log))
-            .is_ok(),
-    };
-    drop(used_up);
-    Some(worked)
+fn replaces<'a>(scripts: &mut Scripts<Probe<'a>>, log: &'a Log) -> Outcome {
+    let answer = scripts.replace(0, Probe::new(3, Made::Counter(0), log));
+    Outcome::of(answer == Ok(()), answer == Err(ReplaceFault::Memory))
 }
 
-/// A call, the blocks of memory that are left, whether they are enough, and what was done with
-/// boxes in the end.
-struct Left(Call, &'static [usize], bool, u64);
-
-impl Row for Left {
-    fn holds(&self, alloc: Global) -> bool {
-        let log = Log::new(0);
+/// What was done with boxes in the end is as it is to be.
+impl Spared<()> for Call {
+    fn work(&self, alloc: Global, _subject: &mut (), memory: &mut UsedUp) -> Outcome {
+        let log = Log::new();
         let Ok(mut scripts) = two_scripts(alloc, SECOND, &log) else {
-            return false;
+            return Outcome::Wrong;
         };
-        let worked = works(alloc, &mut scripts, &log, self.0, self.1);
+        memory.run_short();
+        let outcome = match self {
+            Call::States => tells(alloc, &scripts),
+            Call::Replace => replaces(&mut scripts, &log),
+        };
+        memory.come_back();
         drop(scripts);
-        worked == Some(self.2) && log.get() == self.3
+        let told = match (self, outcome) {
+            (Call::States, _) => log.get() == 78,
+            (Call::Replace, Outcome::Done) => log.get() == 7_98,
+            (Call::Replace, _) => log.get() == 9_78,
+        };
+        outcome.where_so(told)
     }
 }
 
-/// The block of a list of up to four states.
-const STATES: usize = 96;
-
-/// A replacement takes a block for the old state, the states of two scripts one each and their
+/// A replacement takes a block for the old state, and the states of two scripts one each and their
 /// list.
-static LEFT: [Left; 6] = [
-    Left(Call::Replace, &[], false, 9_78),
-    Left(Call::Replace, &[STATE], true, 7_98),
-    Left(Call::States, &[], false, 78),
-    Left(Call::States, &[STATE], false, 78),
-    Left(Call::States, &[STATE, STATES], false, 78),
-    Left(Call::States, &[STATE, STATES, STATE], true, 78),
-];
-
 #[test]
-fn each_growth_is_refused(rt: HostRuntime) {
-    all_hold(&rt, rt.alloc(), &LEFT);
+fn calls_are_refused_until_there_is_enough(rt: HostRuntime) {
+    holds(
+        &rt,
+        is_refused_until_enough(rt.alloc(), &Call::Replace, &mut (), 2),
+    );
+    holds(
+        &rt,
+        is_refused_until_enough(rt.alloc(), &Call::States, &mut (), 8),
+    );
 }

@@ -1,4 +1,4 @@
-//! A box that tells what is done with it.
+//! A box that counts and tells what is done with it.
 
 use script_boxes::StockScript;
 use script_host::{Behaviour, Replies, StateFault};
@@ -7,12 +7,59 @@ use std::alloc::{AllocError, Global};
 use std::cell::Cell;
 use x3d_values::Kind;
 
-/// What was done with boxes, as decimal digits, the newest last: 1 to 3 for a box that is
-/// initialized, 4 to 6 for one that is shut down, 7 to 9 for one that is dropped.
-pub(super) type Log = Cell<u64>;
+/// What was done with boxes.
+#[derive(Drop)]
+pub(super) struct Log {
+    /// As decimal digits, the newest last: 1 to 3 for a box that is initialized, 4 to 6 for one
+    /// that is shut down, 7 to 9 for one that is dropped.
+    ends: Cell<u64>,
+    received: Cell<u32>,
+    processed: Cell<u32>,
+    restored: Cell<u32>,
+    told: Cell<u32>,
+}
 
-/// A script of the stock that tells its name where it is initialized, 3 more where it is shut down,
-/// and 6 more where it is dropped.
+impl Log {
+    /// Nothing was done.
+    pub(super) fn new() -> Log {
+        Log {
+            ends: Cell::new(0),
+            received: Cell::new(0),
+            processed: Cell::new(0),
+            restored: Cell::new(0),
+            told: Cell::new(0),
+        }
+    }
+
+    /// Which boxes were initialized, shut down and dropped, as digits.
+    pub(super) fn get(&self) -> u64 {
+        self.ends.get()
+    }
+
+    /// How often boxes received an event, were told that a timestamp's events are processed, were
+    /// restored, and told their states.
+    pub(super) fn calls(&self) -> [u32; 4] {
+        [
+            self.received.get(),
+            self.processed.get(),
+            self.restored.get(),
+            self.told.get(),
+        ]
+    }
+
+    fn tell(&self, digit: u64) {
+        let ends = self.ends.get().saturating_mul(10);
+        self.ends.set(ends.saturating_add(digit));
+    }
+}
+
+/// One more call.
+fn count(calls: &Cell<u32>) {
+    calls.set(calls.get().saturating_add(1));
+}
+
+/// A script of the stock that counts its calls, and tells its name where it is initialized, 3 more
+/// where it is shut down, and 6 more where it is dropped.
 pub(super) struct Probe<'a> {
     script: StockScript,
     /// 1, 2 or 3.
@@ -20,10 +67,6 @@ pub(super) struct Probe<'a> {
     /// Whether it answers that memory was refused where it is restored.
     refuses: bool,
     log: &'a Log,
-}
-
-fn tell(log: &Log, digit: u64) {
-    log.set(log.get().saturating_mul(10).saturating_add(digit));
 }
 
 /// What a box is.
@@ -57,14 +100,19 @@ impl<'a> Probe<'a> {
     }
 }
 
-/// Boxes 1 and 2.
-pub(super) fn two_boxes<'a>(
+/// Boxes 1, 2 and so on.
+pub(super) fn boxes_made<'a>(
     alloc: Global,
-    first: Made,
-    second: Made,
+    made: &[Made],
     log: &'a Log,
 ) -> Result<Vec<Probe<'a>>, AllocError> {
-    Ok(vec![in alloc; Probe::new(1, first, log), Probe::new(2, second, log)]?)
+    let mut boxes = Vec::new(alloc);
+    let mut name: u64 = 0;
+    for one in made {
+        name = name.saturating_add(1);
+        boxes.push(Probe::new(name, *one, log))?;
+    }
+    Ok(boxes)
 }
 
 impl<'a> Drop for Probe<'a> {
@@ -75,7 +123,7 @@ impl<'a> Drop for Probe<'a> {
             refuses: _,
             log,
         } = self;
-        tell(log, name.saturating_add(6));
+        log.tell(name.saturating_add(6));
         drop(script);
     }
 }
@@ -90,24 +138,27 @@ impl<'a> Behaviour for Probe<'a> {
     }
 
     fn initialize(&mut self) -> Replies {
-        tell(self.log, self.name);
+        self.log.tell(self.name);
         self.script.initialize()
     }
 
     fn receive(&mut self, input: u32, event: [i64; 3]) -> Replies {
+        count(&self.log.received);
         self.script.receive(input, event)
     }
 
     fn events_processed(&mut self) -> Replies {
+        count(&self.log.processed);
         self.script.events_processed()
     }
 
     fn shutdown(&mut self) {
-        tell(self.log, self.name.saturating_add(3));
+        self.log.tell(self.name.saturating_add(3));
         self.script.shutdown();
     }
 
     fn state(&self, out: &mut Vec<i64>) -> Result<(), AllocError> {
+        count(&self.log.told);
         self.script.state(out)
     }
 
@@ -116,6 +167,7 @@ impl<'a> Behaviour for Probe<'a> {
     }
 
     fn restore(&mut self, state: &[i64]) -> Result<(), StateFault> {
+        count(&self.log.restored);
         if self.refuses {
             return Err(StateFault::Memory);
         }

@@ -1,12 +1,14 @@
-//! What a stage does with its boxes, and the examples of worlds with scripts.
+//! What a stage does with its boxes, the examples of worlds with scripts, and how much work an input
+//! is.
 
-use super::hosting::begin;
+use super::super::texts::{Part, made};
+use super::hosting::{begin, states_of};
 use super::probe::{Log, Made, Probe};
-use super::worlds::{COUNTERS, clock, stage_of};
+use super::worlds::{COUNTERS, clock, stage_of, untold};
 use super::{Row, all_hold};
 use cascade_core::{PlaceFault, Stage, Work};
-use script_host::Behaviour;
-use snapshot_core::{SnapFault, load_into, save};
+use script_host::{Behaviour, StateFault};
+use snapshot_core::{Saved, SnapFault, load_into, save};
 use std::alloc::Global;
 use std::process::Abort;
 
@@ -20,26 +22,61 @@ enum Step {
     Work(u32, u32, usize, usize, usize),
     /// A box 3 is put in the k-th place.
     Replace(usize, Made, Result<(), PlaceFault>),
-    /// The stage goes back to its own snapshot, and is refused memory for it.
-    GoBack,
+    /// The stage goes back to its own snapshot, or why it doesn't.
+    GoBack(Option<SnapFault>),
+    /// The stage gets the world in which nothing has happened, with counters at these counts.
+    Install(&'static [i64], Result<(), StateFault>),
+    /// So many inputs were applied.
+    Applied(u32),
     /// The states of two scripts begin so.
     Counts([i64; 2]),
-    /// The trace is that of script-replaced.
-    Trace,
+    /// The trace is this.
+    Trace(&'static str),
     /// That was done with boxes up to now.
     Told(u64),
+    /// Boxes were called so often up to now: for an event, for those of a timestamp, to be restored
+    /// and for their states.
+    Called([u32; 4]),
 }
 
 fn works<B: Behaviour>(stage: &mut Stage<B>, number: u32, seconds: u32) -> Option<Work> {
     stage.apply(&clock(number, seconds)?).ok()
 }
 
-fn goes_back<B: Behaviour>(alloc: Global, stage: &mut Stage<B>) -> bool {
+fn goes_back<B: Behaviour>(alloc: Global, stage: &mut Stage<B>, wanted: Option<SnapFault>) -> bool {
+    let applied = stage.applied();
     let mut shot = Vec::new(alloc);
     let saved = save(stage, &[7; 32], 1, &mut shot);
-    let answer = load_into(stage, &[7; 32], 2, shot.as_slice()).err();
+    let answer = load_into(stage, &[7; 32], 2, shot.as_slice());
     drop(shot);
-    saved.is_ok() && answer == Some(SnapFault::Memory)
+    let wanted = match wanted {
+        Some(fault) => Err(fault),
+        None => Ok(Saved { boot: 1, applied }),
+    };
+    saved.is_ok() && answer == wanted
+}
+
+fn installs<B: Behaviour>(
+    alloc: Global,
+    stage: &mut Stage<B>,
+    counts: &[i64],
+    wanted: Result<(), StateFault>,
+) -> bool {
+    let Some(world) = untold(alloc, stage.scene()) else {
+        return false;
+    };
+    let states = states_of(alloc, counts);
+    let answer = stage.install(world, states.as_slice());
+    drop(states);
+    answer == wanted
+}
+
+/// Whether so many inputs were applied.
+fn is_at<B: Behaviour>(stage: &Stage<B>, count: u32) -> bool {
+    match stage.world() {
+        Some(world) => world.applied == count && stage.applied() == count && !stage.spoiled(),
+        None => false,
+    }
 }
 
 fn are_counts<B: Behaviour>(alloc: Global, stage: &Stage<B>, wanted: [i64; 2]) -> bool {
@@ -72,10 +109,13 @@ fn does<'a>(alloc: Global, stage: &mut Stage<Probe<'a>>, log: &'a Log, step: Ste
         Step::Replace(k, made, wanted) => {
             stage.replace_script(k, Probe::new(3, made, log)) == wanted
         }
-        Step::GoBack => goes_back(alloc, stage),
+        Step::GoBack(wanted) => goes_back(alloc, stage, wanted),
+        Step::Install(counts, wanted) => installs(alloc, stage, counts, wanted),
+        Step::Applied(count) => is_at(stage, count),
         Step::Counts(wanted) => are_counts(alloc, stage, wanted),
-        Step::Trace => is_trace(alloc, stage, REPLACED),
+        Step::Trace(wanted) => is_trace(alloc, stage, wanted),
         Step::Told(digits) => log.get() == digits,
+        Step::Called(calls) => log.calls() == calls,
     }
 }
 
@@ -94,8 +134,8 @@ struct Story(&'static str, [Made; 2], &'static [Step], u64);
 
 impl Row for Story {
     fn holds(&self, alloc: Global) -> bool {
-        let log = Log::new(0);
-        let Ok(mut stage) = stage_of(alloc, self.0, self.1, &log) else {
+        let log = Log::new();
+        let Ok(mut stage) = stage_of(alloc, self.0.as_bytes(), &self.1, &log) else {
             return false;
         };
         let held = does_all(alloc, &mut stage, &log, self.2);
@@ -124,7 +164,7 @@ static BOXES: [Story; 3] = [
         COUNTERS,
         [Made::Counter(5), Made::Refusing(5)],
         &[
-            Step::GoBack,
+            Step::GoBack(Some(SnapFault::Memory)),
             Step::Replace(0, Made::Counter(0), Err(PlaceFault::Spoiled)),
         ],
         129_45_78,
@@ -168,7 +208,7 @@ fn batches(rt: HostRuntime) {
     all_hold(&rt, rt.alloc(), &BATCHES);
 }
 
-static REPLACED: &str = "1 1 T.isActive TRUE
+const REPLACED: &str = "1 1 T.isActive TRUE
 1 1 T.cycleTime 1
 1 1 B.triggerTrue TRUE
 1 1 C.count 7
@@ -203,7 +243,9 @@ static SCRIPT_REPLACED: [Story; 1] = [Story(
         Step::Clock(2, 3),
         Step::Replace(0, Made::Gate, Err(PlaceFault::KindDiffers)),
         Step::Clock(3, 5),
-        Step::Trace,
+        Step::Trace(REPLACED),
+        // the old box was asked for its state, and the new one put in it
+        Step::Called([6, 6, 1, 5]),
     ],
     12479_65_98,
 )];
@@ -211,4 +253,124 @@ static SCRIPT_REPLACED: [Story; 1] = [Story(
 #[test]
 fn script_replaced(rt: HostRuntime) {
     all_hold(&rt, rt.alloc(), &SCRIPT_REPLACED);
+}
+
+/// Boxes are called for what comes to them, each once, and never set: one that can't be restored
+/// shows by nothing. They are asked for their states when they are attached, when a snapshot is taken and
+/// when states are looked at; they are set where the stage goes back, and by a world that is put in.
+static CALLED: [Story; 2] = [
+    Story(
+        COUNTERS,
+        [Made::Refusing(5), Made::Refusing(5)],
+        &[
+            Step::Told(12),
+            Step::Called([0, 0, 0, 2]),
+            Step::Clock(1, 1),
+            Step::Called([2, 2, 0, 2]),
+            Step::Clock(2, 2),
+            Step::Called([2, 2, 0, 2]),
+            Step::Clock(3, 3),
+            Step::Called([4, 4, 0, 2]),
+            Step::Counts([9, 9]),
+            Step::Told(12),
+        ],
+        12_45_78,
+    ),
+    Story(
+        COUNTERS,
+        TWO,
+        &[
+            Step::Clock(1, 1),
+            Step::GoBack(None),
+            Step::Called([2, 2, 2, 4]),
+            Step::Applied(1),
+            Step::Clock(2, 3),
+            Step::Called([4, 4, 2, 4]),
+            Step::Counts([9, 9]),
+            Step::Install(&[20], Err(StateFault::StateLength)),
+            Step::Called([4, 4, 2, 6]),
+            Step::Applied(2),
+            Step::Install(&[20, 30], Ok(())),
+            Step::Called([4, 4, 4, 6]),
+            Step::Applied(0),
+            Step::Trace(""),
+            Step::Counts([20, 30]),
+            Step::Told(12),
+        ],
+        12_45_78,
+    ),
+];
+
+#[test]
+fn boxes_are_called_and_not_set(rt: HostRuntime) {
+    all_hold(&rt, rt.alloc(), &CALLED);
+}
+
+/// A scene without scripts, and the work of its first input, a clock at 1 second.
+struct Worked(&'static [Part], Work);
+
+fn first_work(alloc: Global, text: &[u8]) -> Option<Work> {
+    let log = Log::new();
+    let Ok(mut stage) = stage_of(alloc, text, &[], &log) else {
+        return None;
+    };
+    let work = works(&mut stage, 1, 1);
+    stage.close();
+    work
+}
+
+impl Row for Worked {
+    fn holds(&self, alloc: Global) -> bool {
+        let Ok(text) = made(alloc, self.0) else {
+            return false;
+        };
+        let work = first_work(alloc, text.as_slice());
+        drop(text);
+        work == Some(self.1)
+    }
+}
+
+/// The trigger sends to both filters, and both send to one toggle, which sends once. Then a chain of
+/// 20,000 filters, each of which sends two events, the first of them to the next filter.
+static WORKED: [Worked; 2] = [
+    Worked(
+        &[Part(
+            1,
+            "#X3D V3.0 utf8
+DEF T TimeSensor { cycleInterval 2 loop TRUE startTime 1 } DEF B BooleanTrigger {}
+DEF F1 BooleanFilter {} DEF F2 BooleanFilter {} DEF G BooleanToggle { toggle TRUE }
+ROUTE T.cycleTime TO B.set_triggerTime
+ROUTE B.triggerTrue TO F1.set_boolean ROUTE B.triggerTrue TO F2.set_boolean
+ROUTE F1.inputTrue TO G.set_boolean ROUTE F2.inputTrue TO G.set_boolean",
+        )],
+        Work {
+            sends: 11,
+            deliveries: 5,
+            settles: 0,
+        },
+    ),
+    Worked(
+        &[
+            Part(
+                1,
+                "#X3D V3.0 utf8
+DEF T TimeSensor { cycleInterval 2 loop TRUE startTime 1 } DEF B BooleanTrigger {}
+ROUTE T.cycleTime TO B.set_triggerTime
+",
+            ),
+            Part(20_000, "DEF F~ BooleanFilter {}\n"),
+            Part(1, "ROUTE B.triggerTrue TO F0.set_boolean\n"),
+            Part(19_999, "ROUTE F~.inputTrue TO F%.set_boolean\n"),
+        ],
+        Work {
+            sends: 40_006,
+            deliveries: 20_001,
+            settles: 0,
+        },
+    ),
+];
+
+#[test]
+fn diamond_and_long_chain(rt: HostRuntime) {
+    all_hold(&rt, rt.alloc(), &WORKED);
 }

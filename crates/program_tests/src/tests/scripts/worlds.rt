@@ -1,12 +1,18 @@
 //! Stages whose boxes tell what is done with them.
 
-use super::probe::{Log, Made, Probe, two_boxes};
-use cascade_core::{LoadFault, Stage};
+ghost use Rattle.std.specs.Prelude.{◌≡◌, IfOk};
+ghost use Rattle.cascade_core.specs.Apply.{opening};
+ghost use Rattle.cascade_core.specs.Held.{Running};
+
+use super::probe::{Log, Made, Probe, boxes_made};
+use cascade_core::{LoadFault, Stage, State, Trace, WorldData};
+use scene_core::Scene;
+use sensor_core::{TimeState, TouchState};
 use share_program::{Opened, attach, open_scene};
 use std::alloc::Global;
-use x3d_values::{Event, Stamped, is_input_number, is_input_time};
+use x3d_values::{Event, Items, Stamped, is_input_number, is_input_time};
 
-/// Two counters from 5 by steps of 2, which a clock drives each two seconds.
+/// Two counters from 5 by steps of 2, which a clock drives each two seconds; and a box.
 pub(super) const COUNTERS: &str = "#X3D V3.0 utf8
 DEF T TimeSensor { cycleInterval 2 loop TRUE startTime 1 } DEF B BooleanTrigger {}
 DEF C Script { url \"x3dshare:counter\" inputOnly SFBool tick field SFInt32 start 5
@@ -14,17 +20,20 @@ field SFInt32 step 2 outputOnly SFInt32 count }
 DEF D Script { url \"x3dshare:counter\" inputOnly SFBool tick field SFInt32 start 5
 field SFInt32 step 2 outputOnly SFInt32 count }
 ROUTE T.cycleTime TO B.set_triggerTime
-ROUTE B.triggerTrue TO C.tick ROUTE B.triggerTrue TO D.tick";
+ROUTE B.triggerTrue TO C.tick ROUTE B.triggerTrue TO D.tick
+Shape { geometry Box {} }";
 
-/// The stage of a scene with these boxes 1 and 2, behind input 0.
+/// The stage of a scene with these boxes 1, 2 and so on, behind input 0.
 pub(super) fn stage_of<'a>(
     alloc: Global,
-    text: &str,
-    boxes: [Made; 2],
+    text: &[u8],
+    boxes: &[Made],
     log: &'a Log,
-) -> Result<Stage<Probe<'a>>, LoadFault> {
-    let boxes = two_boxes(alloc, boxes[0], boxes[1], log)?;
-    let Ok(opened) = open_scene(alloc, text.as_bytes()) else {
+) -> Result<Stage<Probe<'a>>, LoadFault>
+    ensures { IfOk result (λ stage. stage.held ≡ Running (opening stage.scene stage.routes)) }
+{
+    let boxes = boxes_made(alloc, boxes, log)?;
+    let Ok(opened) = open_scene(alloc, text) else {
         drop(boxes);
         return Err(LoadFault::Memory);
     };
@@ -47,4 +56,30 @@ pub(super) fn clock(number: u32, seconds: u32) -> Option<Stamped> {
         return None;
     }
     Some(Stamped::new(number, time, Event::Clock))
+}
+
+/// The world of a scene in which nothing has happened, and no node sent anything.
+pub(super) fn untold(alloc: Global, scene: &Scene) -> Option<WorldData> {
+    let Ok(fields) = scene.state(alloc) else {
+        return None;
+    };
+    let count = fields.len();
+    let Ok(sensors) = vec![in alloc; TimeState::inactive(); count] else {
+        drop(fields);
+        return None;
+    };
+    let Ok(touches) = vec![in alloc; TouchState::untouched(); count] else {
+        drop(sensors);
+        drop(fields);
+        return None;
+    };
+    Some(WorldData {
+        applied: 0,
+        last_time: 0,
+        fields: State::from_vec(fields),
+        sensors: Items::from_vec(sensors),
+        touches: Items::from_vec(touches),
+        buttons: [false; 16],
+        trace: Trace::new(alloc),
+    })
 }

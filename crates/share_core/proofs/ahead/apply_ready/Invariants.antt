@@ -1,4 +1,4 @@
-use Rattle.std.proofs.Common.{◌≡◌, ◌≤◌, ◌+◌, ◌^◌, false}
+use Rattle.std.proofs.Common.{◌≡◌, ◌≤◌, ◌+◌, ◌^◌, ℕ, List, [], false}
 use Rattle.cascade_core.specs.Held.{applied_of, is_spoiled}
 use Rattle.share_law.specs.Cascade.{cascade}
 use Rattle.share_law.specs.Viewer.{drain}
@@ -14,7 +14,7 @@ invariant-loop-count g l =
     × (is_spoiled l.stage.held ≡ false)
     × (applied_of l.stage.held ≤ 2 ^ 20)
     × InPlace (applied_of l.stage.held + 1) l.window
-    × Goes (cascade l.fn.stage.scene l.fn.stage.routes) (world_in l.fn.stage.scene l.fn.stage.held) l.fn.window (world_in l.fn.stage.scene l.stage.held) l.window l.count
+    × ((mark : List ℕ) → Goes (cascade mark l.fn.stage.scene l.fn.stage.routes) (world_in l.fn.stage.scene l.fn.stage.held) l.fn.window (world_in l.fn.stage.scene l.stage.held) l.window l.count)
 
 abbrev pub decreases-loop-count : goal.decreases-loop-count
-decreases-loop-count g l = (drain (cascade l.fn.stage.scene l.fn.stage.routes) (world_in l.fn.stage.scene l.stage.held) l.window).count
+decreases-loop-count g l = (drain (cascade [] l.fn.stage.scene l.fn.stage.routes) (world_in l.fn.stage.scene l.stage.held) l.window).count

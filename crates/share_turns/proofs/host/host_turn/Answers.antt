@@ -1,10 +1,10 @@
-use Rattle.std.proofs.Common.{rules, ◌≡◌, [], ◌∷◌, take, refl, inl, ◌∙◌, arith}
+use Rattle.std.proofs.Common.{rules, ◌≡◌, [], ◌∷◌, take, refl, inl, inr, ◌∙◌, arith}
 use Rattle.std.specs.Prelude.{Ok, Err}
 use Rattle.share_port.specs.declared.traffic.Datagram.{Datagram}
 use Rattle.share_port.specs.declared.traffic.Traffic.TheVariants.{Nothing}
-use Rattle.share_turns.specs.declared.fault.TurnFault.TheVariants.{Port}
+use Rattle.share_turns.specs.declared.fault.TurnFault.TheVariants.{Memory, Port}
 use Rattle.share_turns.proofs.Sending.{grows_none}
-use Rattle.share_turns.proofs.Turning.{turn_cut, turn_end, turned_begun, turned_more}
+use Rattle.share_turns.proofs.Turning.{turn_cut, turn_end, turn_unclocked, turned_begun, turned_more}
 use Rattle.share_turns.proofs.host.host_turn.Goals as goal
 
 pub loop-turn-init : goal.loop-turn-init
@@ -12,17 +12,14 @@ loop-turn-init g c = (turned_begun c.args.host.now.mark c.args.clock (g.P.Port.t
 
 pub returns-in_err-number_clock-clause-turn : goal.returns-in_err-number_clock-clause-turn
 returns-in_err-number_clock-clause-turn g c =
-    let failed : c.from_residual.result ≡ Err c.in_err-number_clock.field-0.0 = search rules in
-    let told = g.P.Port.told c.args.port.now in
-    rw failed (turn_end (Err c.in_err-number_clock.field-0.0) c.args.host.now.mark c.args.clock told told told
-    c.args.host.now.host c.number_clock.new.host.host 0 [] (turned_begun c.args.host.now.mark c.args.clock told c.args.host.now.host c.number_clock.new.host.host c.in_err-number_clock.ensures.step)
-    (omega arith) refl (grows_none told))
+    let failed : c.from_residual.result ≡ Err Memory = search rules in
+    rw failed (turn_unclocked c.args.host.now.mark c.args.clock (g.P.Port.told c.args.port.now) c.args.host.now.host c.number_clock.new.host.host c.in_err-number_clock.ensures.step)
 
 pub returns-in_err-from-clause-turn : goal.returns-in_err-from-clause-turn
 returns-in_err-from-clause-turn g c =
     let failed : c.from_residual-in_err-from.result ≡ Err Port = search rules in
     rw failed (turn_end (Err Port) c.args.host.now.mark c.args.clock (g.P.Port.told c.args.port.now) (g.P.Port.told c.loop-turn.port) (g.P.Port.told c.receive.new.self)
-    c.args.host.now.host c.loop-turn.host.host c.loop-turn._turn [] c.loop-turn.invariant.0 (omega (arith, c.loop-turn-test.true)) refl c.in_err-from.ensures.got)
+    c.args.host.now.host c.loop-turn.host.host c.loop-turn._turn [] c.loop-turn.invariant.0 (0, refl) (omega (arith, c.loop-turn-test.true)) refl c.in_err-from.ensures.got)
 
 pub returns-in_err-answer-in-Some-clause-turn : goal.returns-in_err-answer-in-Some-clause-turn
 returns-in_err-answer-in-Some-clause-turn g c =
@@ -37,7 +34,14 @@ pub returns-in-None-clause-turn : goal.returns-in-None-clause-turn
 returns-in-None-clause-turn g c =
     let got = rw c.in-None.is at c.in_ok-from.ensures.got in
     turn_end (Ok tt) c.args.host.now.mark c.args.clock (g.P.Port.told c.args.port.now) (g.P.Port.told c.loop-turn.port) (g.P.Port.told c.receive.new.self)
-    c.args.host.now.host c.loop-turn.host.host c.loop-turn._turn (Nothing ∷ []) c.loop-turn.invariant.0 (omega (arith, c.loop-turn-test.true)) (inl refl) got
+    c.args.host.now.host c.loop-turn.host.host c.loop-turn._turn (Nothing ∷ []) c.loop-turn.invariant.0 (0, refl) (omega (arith, c.loop-turn-test.true)) (inl refl) got
+
+pub returns-clause-turn : goal.returns-clause-turn
+returns-clause-turn g c =
+    let told = g.P.Port.told c.loop-turn.port in
+    let count : c.loop-turn._turn ≡ 64 = omega (arith, c.loop-turn-test.false) in
+    turn_end (Ok tt) c.args.host.now.mark c.args.clock (g.P.Port.told c.args.port.now) told told
+    c.args.host.now.host c.loop-turn.host.host c.loop-turn._turn [] c.loop-turn.invariant.0 (0, refl) (omega (arith, count)) (inr (refl, count)) (grows_none told)
 
 pub loop-turn-preserved : goal.loop-turn-preserved
 loop-turn-preserved g c =

@@ -1,10 +1,11 @@
 use Rattle.std.proofs.Common.{◌≡◌}
 use Rattle.share_core.specs.Viewer.{with_state}
+use Rattle.share_turns.proofs.Answering.{went_on}
 use Rattle.share_turns.proofs.Taking.{TakesSoFar}
 use Rattle.share_turns.proofs.viewer.take_all.Given as goal
 
 abbrev pub invariant-loop-turn : goal.invariant-loop-turn
 invariant-loop-turn g l =
-    TakesSoFar l.fn.viewer (g.P.Port.told l.fn.port) (g.P.Port.told l.port) l.viewer.state l._turn
+    TakesSoFar l.fn.viewer went_on (g.P.Port.told l.fn.port) (g.P.Port.told l.port) l.viewer.state l._turn
     × (l.viewer ≡ with_state l.fn.viewer l.viewer.state)
     × (g.P.Port.failure_count l.port ≡ g.P.Port.failure_count l.fn.port)

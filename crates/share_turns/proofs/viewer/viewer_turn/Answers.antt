@@ -56,7 +56,7 @@ returns-in_err-send_requests-clause-turn g c =
     rw failed (while_running c.args.viewer.now.state.view _
     (turn_sent c.args.viewer.now c.offer-offered.new.viewer c.take_all.new.viewer c.args.host c.args.point c.offer-offered.result
     (g.P.Port.told c.args.port.now) (g.P.Port.told c.take_all.new.port) (g.P.Port.told c.send_requests.new.port) (Err Port)
-    c.offer-offered.ensures.others c.offer-offered.ensures.offered c.in_ok-take_all.ensures.others c.in_ok-take_all.ensures.takes c.in_err-send_requests.ensures.sent tt))
+    c.offer-offered.ensures.others c.offer-offered.ensures.offered c.in_ok-take_all.ensures.others c.in_ok-take_all.ensures.takes c.in_err-send_requests.ensures.sent tt (0, refl)))
 
 pub returns-in_err-send_requests-clause-failures : goal.returns-in_err-send_requests-clause-failures
 returns-in_err-send_requests-clause-failures g c =
@@ -68,7 +68,7 @@ returns-clause-turn g c =
     while_running c.args.viewer.now.state.view _
     (turn_sent c.args.viewer.now c.offer-offered.new.viewer c.take_all.new.viewer c.args.host c.args.point c.offer-offered.result
     (g.P.Port.told c.args.port.now) (g.P.Port.told c.take_all.new.port) (g.P.Port.told c.send_requests.new.port) (Ok c.offer-offered.result)
-    c.offer-offered.ensures.others c.offer-offered.ensures.offered c.in_ok-take_all.ensures.others c.in_ok-take_all.ensures.takes c.in_ok-send_requests.ensures.sent refl)
+    c.offer-offered.ensures.others c.offer-offered.ensures.offered c.in_ok-take_all.ensures.others c.in_ok-take_all.ensures.takes c.in_ok-send_requests.ensures.sent refl (0, refl))
 
 pub returns-clause-failures : goal.returns-clause-failures
 returns-clause-failures g c =

@@ -8,4 +8,4 @@ use Rattle.share_core.proofs.viewer.Viewer.take_input.Goals as goal
 pub returns-clause-step : goal.returns-clause-step
 returns-clause-step g c =
     let new = with_offers c.self.inside.offers (view_of c.take_input.new.stage.held c.take_input.new.window) in
-    subst (λ (v : ViewerView). IsTake (machine_of v) v.who v.state (Input c.args.input) c.take_input.result new) c.self.view_is (c.take_input.ensures.step c.self.inside.offers)
+    subst (λ (v : ViewerView). IsTake (machine_of v) v.who v.state (Input c.args.input) c.take_input.result new) c.self.view_is (c.take_input.ensures.step c.args.self.now.mark c.self.inside.offers)

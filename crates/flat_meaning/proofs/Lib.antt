@@ -1,0 +1,13 @@
+pub mod Trees
+pub mod Induction
+pub mod SightLaw
+pub mod SightWhole
+pub mod LimitLaws
+pub mod Known
+pub mod Expected
+pub mod WrittenOut
+pub mod WorkedNodes
+pub mod WorkedSight
+pub mod WorkedRoutes
+pub mod WorkedOut
+pub mod WorkedLimits

@@ -1,0 +1,5 @@
+use Rattle.flat_meaning.proofs.LimitLaws.{limits_stay_passed}
+use Rattle.flat_meaning.proofs.laws.limits_stay_passed.Goals as goal
+
+pub returns : goal.returns
+returns c = limits_stay_passed

@@ -1,0 +1,5 @@
+pub mod Limits
+pub mod Names
+pub mod Sight
+pub mod Flat
+pub mod Laws

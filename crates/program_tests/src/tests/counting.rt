@@ -1,0 +1,407 @@
+//! Boxes that count their calls, in a rehearsal, at a viewer that begins again, and in a run: no
+//! clause says how often a box is called, since what it does is its state alone.
+
+ghost use Rattle.std.specs.Prelude.{◌≡◌, ◌∷◌, [], IfOk};
+ghost use Rattle.cascade_core.specs.Apply.{opening};
+ghost use Rattle.cascade_core.specs.Held.{Running};
+ghost use Rattle.share_rehearsal.specs.Rehearsed.{AreFresh};
+
+use cascade_core::{LoadFault, Stage};
+use script_boxes::StockScript;
+use script_host::{Behaviour, Replies, StateFault};
+use script_stock::Counter;
+use share_core::Viewer;
+use share_law::{Step, Taken};
+use share_program::{Job, Opened, attach, open_job, open_scene, run};
+use share_rehearsal::rehearse;
+use share_wire::{Body, Message, encode};
+use std::alloc::{AllocError, Global};
+use std::cell::Cell;
+use std::process::Abort;
+use x3d_values::{Event, Kind, Stamped, is_input_number, is_input_time};
+
+/// How often each call was made of a box, and how often it was dropped.
+#[derive(Clone, Copy, PartialEq, Eq)]
+struct Calls {
+    initialize: u32,
+    receive: u32,
+    settle: u32,
+    state: u32,
+    restore: u32,
+    shutdown: u32,
+    dropped: u32,
+}
+
+const NONE: Calls = Calls {
+    initialize: 0,
+    receive: 0,
+    settle: 0,
+    state: 0,
+    restore: 0,
+    shutdown: 0,
+    dropped: 0,
+};
+
+/// What is done with a box.
+#[derive(Clone, Copy)]
+enum Call {
+    Initialize,
+    Receive,
+    Settle,
+    State,
+    Restore,
+    Shutdown,
+    Drop,
+}
+
+/// The calls of one box.
+type Count = Cell<Calls>;
+
+fn one_more(count: u32) -> u32 {
+    count.saturating_add(1)
+}
+
+fn tell(count: &Count, call: Call) {
+    let mut calls = count.get();
+    match call {
+        Call::Initialize => calls.initialize = one_more(calls.initialize),
+        Call::Receive => calls.receive = one_more(calls.receive),
+        Call::Settle => calls.settle = one_more(calls.settle),
+        Call::State => calls.state = one_more(calls.state),
+        Call::Restore => calls.restore = one_more(calls.restore),
+        Call::Shutdown => calls.shutdown = one_more(calls.shutdown),
+        Call::Drop => calls.dropped = one_more(calls.dropped),
+    }
+    count.set(calls);
+}
+
+/// A counter from 5 by steps of 2 that counts its calls.
+struct Counted<'a> {
+    script: StockScript,
+    /// Whether it answers that memory was refused where it is restored.
+    refuses: bool,
+    count: &'a Count,
+}
+
+impl<'a> Counted<'a> {
+    fn new(refuses: bool, count: &'a Count) -> Counted<'a> {
+        Counted {
+            script: StockScript::Counter(Counter::new(5, 2)),
+            refuses,
+            count,
+        }
+    }
+}
+
+impl<'a> Drop for Counted<'a> {
+    fn drop(self) {
+        let Counted {
+            script,
+            refuses: _,
+            count,
+        } = self;
+        tell(count, Call::Drop);
+        drop(script);
+    }
+}
+
+impl<'a> Behaviour for Counted<'a> {
+    ghost kind_of = { λ p. ⟦<StockScript as Behaviour>⟧.kind_of p.script };
+
+    ghost numbers = { λ p. ⟦<StockScript as Behaviour>⟧.numbers p.script };
+
+    fn kind(&self) -> Kind {
+        self.script.kind()
+    }
+
+    fn initialize(&mut self) -> Replies {
+        tell(self.count, Call::Initialize);
+        self.script.initialize()
+    }
+
+    fn receive(&mut self, input: u32, event: [i64; 3]) -> Replies {
+        tell(self.count, Call::Receive);
+        self.script.receive(input, event)
+    }
+
+    fn events_processed(&mut self) -> Replies {
+        tell(self.count, Call::Settle);
+        self.script.events_processed()
+    }
+
+    fn shutdown(&mut self) {
+        tell(self.count, Call::Shutdown);
+        self.script.shutdown();
+    }
+
+    fn state(&self, out: &mut Vec<i64>) -> Result<(), AllocError> {
+        tell(self.count, Call::State);
+        self.script.state(out)
+    }
+
+    fn fits(&self, state: &[i64]) -> Result<(), StateFault> {
+        self.script.fits(state)
+    }
+
+    fn restore(&mut self, state: &[i64]) -> Result<(), StateFault> {
+        tell(self.count, Call::Restore);
+        if self.refuses {
+            return Err(StateFault::Memory);
+        }
+        self.script.restore(state)
+    }
+}
+
+/// A counter that a clock drives each two seconds, from the first second on.
+const COUNTED: &str = "#X3D V3.0 utf8
+DEF T TimeSensor { cycleInterval 2 loop TRUE startTime 1 } DEF B BooleanTrigger {}
+DEF C Script { url \"x3dshare:counter\" inputOnly SFBool tick field SFInt32 start 5
+field SFInt32 step 2 outputOnly SFInt32 count }
+ROUTE T.cycleTime TO B.set_triggerTime ROUTE B.triggerTrue TO C.tick";
+
+const MARK: [u8; 32] = *b"abcdefghijklmnopqrstuvwxyzABCDEF";
+
+fn one_box<'a>(alloc: Global, script: Counted<'a>) -> Result<Vec<Counted<'a>>, AllocError> {
+    Ok(vec![in alloc; script]?)
+}
+
+/// The stage of the scene with this box, behind input 0.
+fn stage_of<'a>(alloc: Global, script: Counted<'a>) -> Result<Stage<Counted<'a>>, LoadFault>
+    ensures { IfOk result (λ stage. stage.held ≡ Running (opening stage.scene stage.routes)) }
+{
+    let boxes = one_box(alloc, script)?;
+    let Ok(opened) = open_scene(alloc, COUNTED.as_bytes()) else {
+        drop(boxes);
+        return Err(LoadFault::Memory);
+    };
+    let Opened { scene, routes } = opened;
+    let Ok(scripts) = attach(alloc, &scene, boxes) else {
+        drop(routes);
+        drop(scene);
+        return Err(LoadFault::Memory);
+    };
+    Stage::load(alloc, scene, routes, scripts)
+}
+
+fn both<'a>(
+    alloc: Global,
+    first: Stage<Counted<'a>>,
+    second: Stage<Counted<'a>>,
+) -> Result<Vec<Stage<Counted<'a>>>, AllocError>
+    ensures { IfOk result (λ stages. stages.items ≡ first.entry ∷ second.entry ∷ []) }
+{
+    Ok(vec![in alloc; first, second]?)
+}
+
+/// Two of them; the second one's box can't be restored.
+fn two_stages<'a>(
+    alloc: Global,
+    first: &'a Count,
+    second: &'a Count,
+) -> Result<Vec<Stage<Counted<'a>>>, LoadFault>
+    ensures { IfOk result (λ stages. AreFresh stages.items) }
+{
+    let first = stage_of(alloc, Counted::new(false, first))?;
+    let Ok(second) = stage_of(alloc, Counted::new(true, second)) else {
+        drop(first);
+        return Err(LoadFault::Memory);
+    };
+    Ok(both(alloc, first, second)?)
+}
+
+/// Two clocks come to two viewers; each takes a snapshot between them, goes back to it, and takes
+/// the second clock again.
+static STEPS: [Step; 14] = [
+    Step::HostClock { time: 1_000_000 },
+    Step::HostClock { time: 3_000_000 },
+    Step::HostPacket { input: 1 },
+    Step::HostPacket { input: 2 },
+    Step::ViewerTake {
+        viewer: 0,
+        packet: 0,
+    },
+    Step::ViewerTake {
+        viewer: 1,
+        packet: 0,
+    },
+    Step::ViewerSave { viewer: 0 },
+    Step::ViewerSave { viewer: 1 },
+    Step::ViewerTake {
+        viewer: 0,
+        packet: 1,
+    },
+    Step::ViewerTake {
+        viewer: 1,
+        packet: 1,
+    },
+    Step::ViewerRewind {
+        viewer: 0,
+        snapshot: 0,
+        boot: 2,
+    },
+    Step::ViewerRewind {
+        viewer: 1,
+        snapshot: 1,
+        boot: 2,
+    },
+    Step::ViewerTake {
+        viewer: 0,
+        packet: 1,
+    },
+    Step::ViewerTake {
+        viewer: 1,
+        packet: 1,
+    },
+];
+
+const LINES: &str = "1 Numbered 1
+2 Numbered 2
+3 Packet 0
+4 Packet 1
+5 Applied 1
+6 Applied 1
+7 Saved 0
+8 Saved 1
+9 Applied 1
+10 Applied 1
+11 Rewound 1
+12 Memory
+13 Applied 1
+14 Spoiled
+viewer 0 at 2 boot 2
+";
+
+/// The state is looked at as the box is attached, and as the snapshot is taken.
+const FIRST: Calls = Calls {
+    initialize: 1,
+    receive: 3,
+    settle: 3,
+    state: 2,
+    restore: 1,
+    ..NONE
+};
+
+/// The rewind is refused, and the viewer then applies nothing.
+const SECOND: Calls = Calls {
+    receive: 2,
+    settle: 2,
+    ..FIRST
+};
+
+/// The calls of a box up to its end.
+fn ended(calls: Calls) -> Calls {
+    Calls {
+        shutdown: 1,
+        dropped: 1,
+        ..calls
+    }
+}
+
+/// Whether the steps are answered so by viewers whose boxes were then called so often.
+fn goes<'a>(alloc: Global, first: &'a Count, second: &'a Count) -> bool {
+    let Ok(stages) = two_stages(alloc, first, second) else {
+        return false;
+    };
+    let mut log = Vec::new(alloc);
+    let left = rehearse(alloc, stages, MARK, &STEPS, &mut log);
+    let answered = log.as_slice().starts_with(LINES.as_bytes());
+    let called = first.get() == FIRST && second.get() == SECOND;
+    drop(left);
+    drop(log);
+    answered && called
+}
+
+#[test]
+fn a_rehearsal_calls_each_box(rt: HostRuntime) {
+    let first = Count::new(NONE);
+    let second = Count::new(NONE);
+    let held = goes(rt.alloc(), &first, &second);
+    assert!(rt; held);
+    assert!(rt; first.get() == ended(FIRST) && second.get() == ended(SECOND));
+}
+
+/// A viewer takes the clock of that number, at so many seconds.
+fn takes_clock<B: Behaviour>(viewer: &mut Viewer<B>, number: u32, seconds: u32) -> bool {
+    let time = i64::from(seconds) * 1_000_000;
+    if !is_input_number(number) {
+        return false;
+    }
+    if !is_input_time(time) {
+        return false;
+    }
+    let body = Body::Input(Stamped::new(number, time, Event::Clock));
+    viewer.take(encode(&Message { mark: MARK, body }).as_slice()) == Ok(Taken::Applied(1))
+}
+
+/// Whether a viewer does what the first of the rehearsal does.
+fn begins_again<B: Behaviour>(viewer: &mut Viewer<B>, shot: &mut Vec<u8>) -> bool {
+    takes_clock(viewer, 1, 1)
+        && viewer.snapshot(shot).is_ok()
+        && takes_clock(viewer, 2, 3)
+        && viewer.rewind(shot.as_slice(), 2) == Ok(1)
+        && takes_clock(viewer, 2, 3)
+}
+
+fn is_viewed<'a>(alloc: Global, count: &'a Count) -> bool {
+    let Ok(stage) = stage_of(alloc, Counted::new(false, count)) else {
+        return false;
+    };
+    let mut viewer = Viewer::start(stage, MARK, 0, 1);
+    let mut shot = Vec::new(alloc);
+    let held = begins_again(&mut viewer, &mut shot);
+    let called = count.get() == FIRST;
+    viewer.close();
+    drop(shot);
+    held && called
+}
+
+#[test]
+fn a_viewer_calls_its_box(rt: HostRuntime) {
+    let count = Count::new(NONE);
+    let held = is_viewed(rt.alloc(), &count);
+    assert!(rt; held);
+    assert!(rt; count.get() == ended(FIRST));
+}
+
+/// Both clocks, and the scene.
+fn job_of(alloc: Global) -> Result<Job, AllocError> {
+    let mut bytes = Vec::new(alloc);
+    bytes.extend_from_slice(b"clock 1\nclock 3\nscene\n")?;
+    bytes.extend_from_slice(COUNTED.as_bytes())?;
+    let job = open_job(alloc, bytes.as_slice());
+    drop(bytes);
+    match job {
+        Ok(job) => Ok(job),
+        Err(_fault) => Err(AllocError),
+    }
+}
+
+/// Whether a job is run, by a box that can't be restored.
+fn is_run<'a>(alloc: Global, count: &'a Count) -> Result<bool, AllocError> {
+    let boxes = one_box(alloc, Counted::new(true, count))?;
+    let Ok(job) = job_of(alloc) else {
+        drop(boxes);
+        return Err(AllocError);
+    };
+    let mut out = Vec::new(alloc);
+    let answer = run(alloc, job, boxes, &mut out);
+    drop(out);
+    Ok(answer.is_ok())
+}
+
+/// The state is looked at as the box is attached.
+const RUN: Calls = Calls {
+    initialize: 1,
+    receive: 2,
+    settle: 2,
+    state: 1,
+    ..NONE
+};
+
+#[test]
+fn a_run_calls_each_box(rt: HostRuntime) {
+    let count = Count::new(NONE);
+    let held = is_run(rt.alloc(), &count);
+    assert!(rt; held == Ok(true));
+    assert!(rt; count.get() == ended(RUN));
+}

@@ -1,0 +1,157 @@
+//! What a ray hits in a scene, which sensor that concerns, and where it lies for it.
+
+use super::{Row, all_hold};
+use pick_core::{BoxCache, Hit, local_point, pick, sensors_of};
+use scene_core::Scene;
+use share_program::open_scene;
+use std::alloc::{AllocError, Global};
+use std::process::Abort;
+use x3d_values::{Fields, Ray, Value, Vec3};
+
+/// A scene, the path of the box that is hit, how far it is, and where that lies for the sensor.
+struct Picked(&'static str, &'static [usize], u64, Vec3);
+
+/// From 10 0 20 along 0 0 -1.
+fn ray() -> Ray {
+    let origin = Vec3 {
+        x: 10_000_000,
+        y: 0,
+        z: 20_000_000,
+    };
+    let dir = Vec3 {
+        x: 0,
+        y: 0,
+        z: -1_000_000,
+    };
+    Ray::new(origin, dir)
+}
+
+impl Picked {
+    /// Whether it is this hit, and concerns the sensor, which is node 0.
+    fn is_hit(&self, scene: &Scene, state: &[Fields], hit: &Hit) -> bool {
+        if hit.m == 0 {
+            return false;
+        }
+        let path = hit.path.as_slice() == self.1;
+        let way = Some(hit.n) == hit.m.checked_mul(self.2);
+        let sensors = sensors_of(scene, state, hit);
+        let local = local_point(scene, state, hit, ray(), 0);
+        path && way && sensors.as_slice() == [0].as_slice() && local == self.3
+    }
+
+    /// The same, if something is hit.
+    fn is_the_hit(&self, scene: &Scene, state: &[Fields], hit: Option<Hit>) -> bool {
+        match hit {
+            Some(hit) => self.is_hit(scene, state, &hit),
+            None => false,
+        }
+    }
+}
+
+/// Moves the Transform, which is node 3, to the origin.
+fn move_away(scene: &Scene, state: &mut [Fields]) {
+    let Some(row) = scene.field_named(3, "translation") else {
+        return;
+    };
+    if let Some(fields) = state.get_mut(3) {
+        fields.set(row.number, Value::SFVec3f(Vec3 { x: 0, y: 0, z: 0 }));
+    }
+}
+
+/// Boxes of another state, which are then brought to this one.
+fn renewed(alloc: Global, scene: &Scene, state: &[Fields]) -> Option<BoxCache> {
+    let Ok(mut other) = scene.state(alloc) else {
+        return None;
+    };
+    move_away(scene, other.as_mut_slice());
+    let made = BoxCache::new(alloc, scene, other.as_slice());
+    drop(other);
+    let Ok(mut cache) = made else {
+        return None;
+    };
+    cache.renew_all(scene, state);
+    Some(cache)
+}
+
+impl Picked {
+    /// Whether it is so by boxes that are kept.
+    fn is_kept(&self, scene: &Scene, state: &[Fields], cache: Option<BoxCache>) -> bool {
+        let Some(cache) = cache else {
+            return false;
+        };
+        let hit = cache.pick(ray());
+        drop(cache);
+        self.is_the_hit(scene, state, hit)
+    }
+
+    /// Whether it is so by a walk through the scene, by its boxes that are kept, and by those of
+    /// another state that are brought to this one.
+    fn is_picked(&self, alloc: Global, scene: &Scene, state: &[Fields]) -> bool {
+        let walked = self.is_the_hit(scene, state, pick(scene, state, ray()));
+        let cache = BoxCache::new(alloc, scene, state).ok();
+        let kept = self.is_kept(scene, state, cache);
+        walked && kept && self.is_kept(scene, state, renewed(alloc, scene, state))
+    }
+
+    fn is_picked_in(&self, alloc: Global, scene: &Scene) -> bool {
+        let Ok(state) = scene.state(alloc) else {
+            return false;
+        };
+        let picked = self.is_picked(alloc, scene, state.as_slice());
+        drop(state);
+        picked
+    }
+}
+
+impl Row for Picked {
+    fn holds(&self, alloc: Global) -> Result<bool, AllocError> {
+        let Ok(opened) = open_scene(alloc, self.0.as_bytes()) else {
+            return Ok(false);
+        };
+        let picked = self.is_picked_in(alloc, &opened.scene);
+        drop(opened);
+        Ok(picked)
+    }
+}
+
+static PICKED: [Picked; 3] = [
+    Picked(
+        "#X3D V3.0 utf8
+Transform { translation 10 0 0 scale 2 2 2
+children [ DEF S TouchSensor {} Shape { geometry Box {} } ] }",
+        &[0, 1],
+        18,
+        Vec3 {
+            x: 0,
+            y: 0,
+            z: 1_000_000,
+        },
+    ),
+    Picked(
+        "#X3D V3.0 utf8
+Transform { translation 10 0 0 scale 2 2 0
+children [ DEF S TouchSensor {} Shape { geometry Box {} } ] }",
+        &[0, 1],
+        20,
+        Vec3 { x: 0, y: 0, z: 0 },
+    ),
+    // of two equal hits the first
+    Picked(
+        "#X3D V3.0 utf8
+DEF X Transform { translation 10 0 0 scale 2 2 2
+children [ DEF S TouchSensor {} Shape { geometry Box {} } ] }
+USE X",
+        &[0, 1],
+        18,
+        Vec3 {
+            x: 0,
+            y: 0,
+            z: 1_000_000,
+        },
+    ),
+];
+
+#[test]
+fn pick_through_transform(rt: HostRuntime) {
+    all_hold(&rt, rt.alloc(), &PICKED);
+}

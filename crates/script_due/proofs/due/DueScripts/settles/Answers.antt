@@ -1,0 +1,5 @@
+use Rattle.std.proofs.Common.{rules}
+use Rattle.script_due.proofs.due.DueScripts.settles.Goals as goal
+
+pub returns : goal.returns
+returns c = search rules

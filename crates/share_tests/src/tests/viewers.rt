@@ -1,0 +1,10 @@
+//! A host and viewers by themselves: damaged datagrams and snapshots, growths that are refused, and
+//! a port that fails.
+
+mod damaged;
+mod given;
+mod hosting;
+mod memory;
+mod ports;
+mod snapshots;
+mod turns;

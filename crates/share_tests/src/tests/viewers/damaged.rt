@@ -1,0 +1,148 @@
+//! Damaged datagrams: what is refused of them leaves a host and a viewer as they were.
+
+use super::given::{CLOCKED, MARK, POINT, Trial, clock_packet, take_clock, try_on};
+use super::hosting::{ack_packet, offer_packet};
+use super::memory::is_unchanged;
+use script_boxes::StockScript;
+use share_core::{Host, Viewer};
+use share_law::{HostFault, HostReply, TakeFault, Taken};
+use share_wire::{Ack, Ask, Body, Message, Packet, decode, encode};
+use std::alloc::Global;
+use std::process::Abort;
+
+/// What shows of a node: three counts, and two packets that it sends.
+type Shown = ([u32; 3], Option<Packet>, Option<Packet>);
+
+/// A host or a viewer.
+trait Node {
+    /// Whether it refuses these bytes, which are no datagram or one of another scene.
+    fn refuses(&mut self, bytes: &[u8]) -> bool;
+
+    fn shown(&self) -> Shown;
+}
+
+impl Node for Host {
+    fn refuses(&mut self, bytes: &[u8]) -> bool {
+        let wanted = match decode(bytes) {
+            Ok(_) => HostFault::WrongScene,
+            Err(fault) => HostFault::Wire(fault),
+        };
+        self.take(bytes) == Err(wanted)
+    }
+
+    fn shown(&self) -> Shown {
+        let counts = [self.len(), u32::from(self.viewers()), 0];
+        (counts, ack_packet(self), self.packet(1))
+    }
+}
+
+impl Node for Viewer<StockScript> {
+    fn refuses(&mut self, bytes: &[u8]) -> bool {
+        let wanted = match decode(bytes) {
+            Ok(_) => TakeFault::WrongScene,
+            Err(fault) => TakeFault::Wire(fault),
+        };
+        self.take(bytes) == Err(wanted)
+    }
+
+    fn shown(&self) -> Shown {
+        let counts = [self.applied(), self.boot(), self.waiting()];
+        (counts, Some(self.ask()), self.resend(0))
+    }
+}
+
+/// Whether a node refuses these bytes and is as it was; or they are a datagram of its scene.
+fn stays<N: Node>(node: &mut N, bytes: &[u8]) -> bool {
+    if let Ok(message) = decode(bytes) {
+        if message.mark == MARK {
+            return true;
+        }
+    }
+    let before = node.shown();
+    node.refuses(bytes) && node.shown() == before
+}
+
+/// The packet with this byte flipped by these bits.
+fn flipped(packet: &Packet, at: usize, bits: u8) -> Packet {
+    let mut out = Packet::new();
+    for (place, byte) in packet.as_slice().iter().enumerate() {
+        let new = if place == at { *byte ^ bits } else { *byte };
+        let _fits = out.try_push(new);
+    }
+    out
+}
+
+/// Whether it is so of a packet that is cut off behind this many bytes, and with each bit of the
+/// next byte flipped.
+fn stays_at<N: Node>(node: &mut N, packet: &Packet, at: usize) -> bool {
+    for bits in [1, 2, 4, 8, 16, 32, 64, 128] {
+        if !stays(node, flipped(packet, at, bits).as_slice()) {
+            return false;
+        }
+    }
+    let mut front = Packet::new();
+    for byte in packet.as_slice().iter().take(at) {
+        let _fits = front.try_push(*byte);
+    }
+    stays(node, front.as_slice())
+}
+
+/// Whether a node stays so at each damage of a packet.
+fn refuses_damage<N: Node>(node: &mut N, packet: &Packet) -> bool {
+    for at in 0..packet.len() {
+        if !stays_at(node, packet, at) {
+            return false;
+        }
+    }
+    true
+}
+
+/// The packet of a message of the scene.
+fn packet_of(body: Body) -> Packet {
+    encode(&Message { mark: MARK, body })
+}
+
+/// Whether a node stays so at each damage of a packet of each kind.
+fn refuses_all<N: Node>(node: &mut N) -> bool {
+    let Some(clock) = clock_packet(2) else {
+        return false;
+    };
+    refuses_damage(node, &clock)
+        && refuses_damage(node, &offer_packet())
+        && refuses_damage(node, &packet_of(Body::Ask(Ask::new(1, 1))))
+        && refuses_damage(node, &packet_of(Body::Ack(Ack::new(0, 1, 1))))
+}
+
+/// There is no viewer 2. What was not damaged is taken behind all that.
+fn is_numbered(host: &mut Host) -> bool {
+    let stranger = packet_of(Body::Ask(Ask::new(2, 1)));
+    host.clock(1) == Ok(1)
+        && refuses_all(host)
+        && host.take(stranger.as_slice()) == Err(HostFault::BadViewer)
+        && host.take(offer_packet().as_slice()) == Ok(HostReply::Numbered(2))
+}
+
+#[test]
+fn damaged_datagrams_leave_a_host(rt: HostRuntime) {
+    let mut host = Host::new(rt.alloc(), MARK, 2);
+    let numbered = is_numbered(&mut host);
+    drop(host);
+    assert!(rt; numbered);
+}
+
+/// A viewer with an offer that waits.
+struct Damages;
+
+impl Trial for Damages {
+    fn holds(&self, alloc: Global, viewer: &mut Viewer<StockScript>, shot: &[u8]) -> bool {
+        viewer.offer(POINT) == Ok(1)
+            && refuses_all(viewer)
+            && is_unchanged(alloc, viewer, shot)
+            && take_clock(viewer, 2) == Some(Ok(Taken::Applied(1)))
+    }
+}
+
+#[test]
+fn damaged_datagrams_leave_a_viewer(rt: HostRuntime) {
+    try_on(&rt, rt.alloc(), CLOCKED, 1, &Damages);
+}

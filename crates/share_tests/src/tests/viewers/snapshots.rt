@@ -1,0 +1,276 @@
+//! Snapshots by their bytes: their sizes, and damaged ones, each of which is refused.
+
+use super::given::{CLOCKED, COUNTED, EMPTY, Trial, try_on};
+use super::memory::is_unchanged;
+use script_boxes::StockScript;
+use share_core::Viewer;
+use share_law::SnapFault;
+use snapshot_core::scene_mark;
+use std::alloc::{AllocError, Global};
+use std::process::Abort;
+
+/// A snapshot has so many bytes.
+struct Size(usize);
+
+impl Trial for Size {
+    fn holds(&self, _alloc: Global, _viewer: &mut Viewer<StockScript>, shot: &[u8]) -> bool {
+        shot.len() == self.0
+    }
+}
+
+/// Texts, clocks, and the sizes of their snapshots.
+static SIZES: [(&str, u32, Size); 4] = [
+    (EMPTY, 0, Size(95)),
+    (CLOCKED, 0, Size(147)),
+    (CLOCKED, 1, Size(308)),
+    (COUNTED, 0, Size(190)),
+];
+
+#[test]
+fn snapshot_sizes(rt: HostRuntime) {
+    for (text, clocks, size) in &SIZES {
+        try_on(&rt, rt.alloc(), text, *clocks, size);
+    }
+}
+
+/// Why a viewer doesn't begin again from these bytes, as its next boot.
+fn fault_of(viewer: &mut Viewer<StockScript>, bytes: &[u8]) -> Option<SnapFault> {
+    let boot = viewer.boot().saturating_add(1);
+    viewer.rewind(bytes, boot).err()
+}
+
+/// What the flipping of a bit of that byte is refused as.
+fn flip_fault(at: usize) -> SnapFault {
+    match at {
+        0..=3 => SnapFault::BadMagic,
+        4 => SnapFault::BadVersion,
+        5..=36 => SnapFault::WrongScene,
+        _ => SnapFault::BadDigest,
+    }
+}
+
+fn flip(bytes: &mut [u8], at: usize, bits: u8) {
+    if let Some(byte) = bytes.get_mut(at) {
+        *byte ^= bits;
+    }
+}
+
+/// Whether each bit of one byte can't be flipped.
+fn refuses_byte(viewer: &mut Viewer<StockScript>, shot: &mut [u8], at: usize) -> bool {
+    for bits in [1, 2, 4, 8, 16, 32, 64, 128] {
+        flip(shot, at, bits);
+        let fault = fault_of(viewer, shot);
+        flip(shot, at, bits);
+        if fault != Some(flip_fault(at)) {
+            return false;
+        }
+    }
+    true
+}
+
+/// Whether no bit can be flipped; it is then as it was, and begun from.
+fn refuses_flips(viewer: &mut Viewer<StockScript>, shot: &mut [u8]) -> bool {
+    for at in 0..shot.len() {
+        if !refuses_byte(viewer, shot, at) {
+            return false;
+        }
+    }
+    fault_of(viewer, shot) == None
+}
+
+/// Each bit of a snapshot is flipped.
+struct Flips;
+
+impl Trial for Flips {
+    fn holds(&self, alloc: Global, viewer: &mut Viewer<StockScript>, shot: &[u8]) -> bool {
+        let Ok(mut copy) = shot.to_vec(alloc) else {
+            return false;
+        };
+        let refused = refuses_flips(viewer, copy.as_mut_slice());
+        drop(copy);
+        refused
+    }
+}
+
+#[test]
+fn flipped_snapshot_bit(rt: HostRuntime) {
+    try_on(&rt, rt.alloc(), CLOCKED, 0, &Flips);
+}
+
+/// A snapshot is cut off behind each byte: what is left is too short, or has another digest.
+struct Cuts;
+
+impl Trial for Cuts {
+    fn holds(&self, _alloc: Global, viewer: &mut Viewer<StockScript>, shot: &[u8]) -> bool {
+        for len in 0..shot.len() {
+            let wanted = if len < 85 {
+                SnapFault::Short
+            } else {
+                SnapFault::BadDigest
+            };
+            if fault_of(viewer, &shot[..len]) != Some(wanted) {
+                return false;
+            }
+        }
+        true
+    }
+}
+
+#[test]
+fn each_prefix_is_refused(rt: HostRuntime) {
+    try_on(&rt, rt.alloc(), CLOCKED, 0, &Cuts);
+}
+
+/// How many bytes the digest has.
+const DIGEST: usize = 32;
+
+/// A byte of a snapshot, what stands there in place of it, and what that is refused as, or loaded.
+type Alteration = (usize, u8, Option<SnapFault>);
+
+/// Writes a snapshot with another byte there, or one more behind all, and the digest of that.
+fn alter(shot: &[u8], at: usize, new: u8, out: &mut Vec<u8>) -> Result<(), AllocError> {
+    out.clear();
+    out.extend_from_slice(shot)?;
+    out.truncate(shot.len().saturating_sub(DIGEST));
+    if at == out.len() {
+        out.push(new)?;
+    } else if let Some(byte) = out.get_mut(at) {
+        *byte = new;
+    }
+    let digest = scene_mark(out.as_slice());
+    out.extend_from_slice(&digest)
+}
+
+/// Whether each is refused as that, or begun from.
+fn answers_each(
+    viewer: &mut Viewer<StockScript>,
+    shot: &[u8],
+    alterations: &[Alteration],
+    out: &mut Vec<u8>,
+) -> bool {
+    for (at, new, fault) in alterations {
+        if alter(shot, *at, *new, out).is_err() {
+            return false;
+        }
+        if fault_of(viewer, out.as_slice()) != *fault {
+            return false;
+        }
+    }
+    true
+}
+
+/// A snapshot is altered in these ways, each with a digest that is right.
+struct Alterations(&'static [Alteration]);
+
+impl Trial for Alterations {
+    fn holds(&self, alloc: Global, viewer: &mut Viewer<StockScript>, shot: &[u8]) -> bool {
+        let mut out = Vec::new(alloc);
+        let answered = answers_each(viewer, shot, self.0, &mut out);
+        drop(out);
+        answered
+    }
+}
+
+const NOT_CANONICAL: Option<SnapFault> = Some(SnapFault::NotCanonical);
+
+const NO_STATE: Option<SnapFault> = Some(SnapFault::ScriptState);
+
+/// Of the snapshot before any clock.
+static WORLDS: Alterations = Alterations(&[
+    // 16777216 inputs were applied
+    (41, 1, NOT_CANONICAL),
+    // the last time is below 0
+    (45, 128, NOT_CANONICAL),
+    // the length of a cycle is below 0
+    (53, 128, NOT_CANONICAL),
+    // a truth value is 2
+    (61, 2, NOT_CANONICAL),
+    // the sensor's activity is 2
+    (95, 2, NOT_CANONICAL),
+    // it has a cycle, and isn't active
+    (103, 1, NOT_CANONICAL),
+    // the toggle is 2
+    (104, 2, NOT_CANONICAL),
+    // there is an event
+    (114, 1, NOT_CANONICAL),
+    // there are 2^56 events
+    (107, 1, NOT_CANONICAL),
+    // a byte is left over behind the trace
+    (115, 0, NOT_CANONICAL),
+    // the boot is the one that is to begin
+    (40, 2, Some(SnapFault::BootNotNew)),
+    // the boot is another one
+    (40, 0, None),
+    // a button is down
+    (105, 1, None),
+]);
+
+/// Of the snapshot after a clock: another node, field and value of its first event.
+static EVENTS: Alterations = Alterations(&[
+    (130, 3, NOT_CANONICAL),
+    (132, 0, NOT_CANONICAL),
+    (133, 2, NOT_CANONICAL),
+]);
+
+/// Of the snapshot of a counter's world before any clock.
+static STATES: Alterations = Alterations(&[
+    // the count is above those of an SFInt32, or below
+    (134, 1, NO_STATE),
+    (134, 255, NO_STATE),
+    // the step is above
+    (145, 1, NO_STATE),
+    // it has one number, or three
+    (133, 1, NOT_CANONICAL),
+    (133, 3, NOT_CANONICAL),
+    // the count and the step are others
+    (141, 9, None),
+    (149, 3, None),
+]);
+
+/// Each of these alterations of a snapshot is refused, and the viewer is as it was: it has 84
+/// bytes, the lowest bit of the last byte is another one, or it is of another scene.
+struct Damages;
+
+/// Whether it is refused as these, in turn.
+fn refuses_damages(viewer: &mut Viewer<StockScript>, shot: &[u8], other: &mut Vec<u8>) -> bool {
+    if shot.len() < 84 {
+        return false;
+    }
+    let is_short = fault_of(viewer, &shot[..84]) == Some(SnapFault::Short);
+    let altered = alter(shot, 5, b'z', other).is_ok();
+    let scene = fault_of(viewer, other.as_slice()) == Some(SnapFault::WrongScene);
+    other.clear();
+    let copied = other.extend_from_slice(shot).is_ok();
+    flip(other.as_mut_slice(), shot.len().saturating_sub(1), 1);
+    let digest = fault_of(viewer, other.as_slice()) == Some(SnapFault::BadDigest);
+    is_short && altered && scene && copied && digest
+}
+
+impl Trial for Damages {
+    fn holds(&self, alloc: Global, viewer: &mut Viewer<StockScript>, shot: &[u8]) -> bool {
+        let mut other = Vec::new(alloc);
+        let refused = refuses_damages(viewer, shot, &mut other);
+        drop(other);
+        refused && viewer.boot() == 1 && is_unchanged(alloc, viewer, shot)
+    }
+}
+
+#[test]
+fn damaged_bytes(rt: HostRuntime) {
+    try_on(&rt, rt.alloc(), COUNTED, 3, &Damages);
+}
+
+#[test]
+fn what_no_world_has_is_refused(rt: HostRuntime) {
+    try_on(&rt, rt.alloc(), CLOCKED, 0, &WORLDS);
+}
+
+#[test]
+fn an_event_that_no_node_sends_is_refused(rt: HostRuntime) {
+    try_on(&rt, rt.alloc(), CLOCKED, 1, &EVENTS);
+}
+
+#[test]
+fn a_state_that_no_script_has_is_refused(rt: HostRuntime) {
+    try_on(&rt, rt.alloc(), COUNTED, 0, &STATES);
+}

@@ -1,0 +1,5 @@
+//! Tests of snapshots that are stored as bytes; and nothing else.
+#![tactic(auto)]
+
+#[cfg(test)]
+mod tests;
