@@ -1,7 +1,8 @@
 //! A UDP socket on 127.0.0.1 as a port. It tells none of its datagrams.
 
-ghost use Rattle.std.specs.Prelude.{◌≡◌, IfOk};
+ghost use Rattle.std.specs.Prelude.{◌≡◌, ◌==◌, ◌||◌, IfOk, Option, Some, None, if◌then◌else◌};
 ghost use Rattle.share_port.specs.Told.{one_more};
+ghost use Rattle.share_port.specs.Peers.{answerable};
 
 use crate::port::{Port, PortFault};
 use std::io::{self, ErrorKind};
@@ -12,6 +13,31 @@ use std::net::{Ipv4Addr, Net, SocketAddr, UdpSocket};
 pub struct UdpPort {
     socket: UdpSocket,
     failed: u64,
+}
+
+/// How many datagrams that nobody can answer are passed over in one receive.
+const PASSED_OVER: usize = 64;
+
+/// Who sent a datagram, where an answer can reach it: nobody can be reached at port 0.
+fn answerable(peer: u16) -> Option<u16>
+    ensures { result ≡ answerable peer }
+{
+    if peer == 0 { None } else { Some(peer) }
+}
+
+/// Whether a send failed for its peer or for room on the way: the datagram is lost then, and the
+/// port goes on.
+fn is_lost(kind: ErrorKind) -> bool {
+    matches!(
+        kind,
+        ErrorKind::WouldBlock
+            | ErrorKind::ConnectionRefused
+            | ErrorKind::ConnectionReset
+            | ErrorKind::HostUnreachable
+            | ErrorKind::NetworkUnreachable
+            | ErrorKind::PermissionDenied
+            | ErrorKind::InvalidInput
+    )
 }
 
 /// The address of a peer.
@@ -52,17 +78,24 @@ impl Port for UdpPort {
     fn send(&mut self, to: u16, bytes: &[u8]) -> Result<(), PortFault> {
         match self.socket.send_to(bytes, address_of(to)) {
             Ok(_sent) => Ok(()),
-            Err(error) if error.kind() == ErrorKind::WouldBlock => Ok(()),
+            Err(error) if is_lost(error.kind()) => Ok(()),
             Err(_) => Err(self.fail()),
         }
     }
 
     fn receive(&mut self, into: &mut [u8; 257]) -> Result<Option<(u16, usize)>, PortFault> {
-        match self.socket.recv_from(into) {
-            Ok((count, from)) => Ok(Some((from.port(), count))),
-            Err(error) if error.kind() == ErrorKind::WouldBlock => Ok(None),
-            Err(_) => Err(self.fail()),
+        for _passed in 0..PASSED_OVER {
+            match self.socket.recv_from(into) {
+                Ok((count, from)) => {
+                    if let Some(peer) = answerable(from.port()) {
+                        return Ok(Some((peer, count)));
+                    }
+                }
+                Err(error) if error.kind() == ErrorKind::WouldBlock => return Ok(None),
+                Err(_) => return Err(self.fail()),
+            }
         }
+        Ok(None)
     }
 
     fn failures(&self) -> u64 {
