@@ -4,7 +4,9 @@ use Rattle.std.specs.Prelude.{ℕ, Bool, false, not, ◌&&◌, ◌==◌, length,
 use Rattle.std.specs.List.{filter_map, count_by, list_all}
 use Rattle.std.specs.Option.{option_and_then}
 use Rattle.std.specs.Str.{bytes_eq}
-use Rattle.indexmap.specs.IndexMap.{get_by}
+use Rattle.std.specs.BTreeMap.{get_by}
+use Rattle.std.specs.Cmp.Lexicographic.{slice_cmp}
+use Rattle.std.specs.Ordering.{nat_cmp}
 use Rattle.flat_document.specs.declared.flat.FlatNode.{FlatNode}
 use Rattle.scene_core.specs.declared.labels.Marks.{Marks}
 
@@ -59,4 +61,4 @@ known_alone None = false
 
 -- the map as a function of names
 unfoldable pub known_of : Marks → Known
-known_of marks name = get_by (λ k. bytes_eq name k.now) marks.alone
+known_of marks name = get_by (λ k. slice_cmp nat_cmp name k.now) marks.alone

@@ -9,15 +9,15 @@ ghost use Rattle.scene_core.specs.Labels as spec;
 ghost use Rattle.scene_core.specs.Labels.{known_of};
 
 use flat_document::FlatNode;
-use indexmap::IndexMap;
 use itoa::Buffer;
 use std::alloc::{AllocError, AllocFailed, Global};
+use std::collections::BTreeMap;
 use x3d_lists::{Duplicate, Text};
 
 /// Of each name whether one node alone has it.
 #[derive(Drop)]
 pub struct Marks<'a> {
-    pub alone: IndexMap<&'a str, bool>,
+    pub alone: BTreeMap<&'a str, bool>,
 }
 
 /// Which names one node alone has, among the nodes of these numbers.
@@ -97,7 +97,7 @@ fn no_marks<'a>(alloc: Global) -> Marks<'a>
     ensures { known_of result ≡ spec.unknown }
 {
     Marks {
-        alone: IndexMap::new(alloc),
+        alone: BTreeMap::new(alloc),
     }
 }
 
