@@ -18,11 +18,11 @@ run:
 try:
 	@job=$$(realpath $(JOB)); cd crates/x3d_share && rt try -- run < "$$job"
 
-# Between an edit and the gate: all cases and examples, by a program that is built without a proof and with
-# checks at run time, in some two minutes.
+# Between an edit and the gate: cases and examples, by a program that is built without a proof and with checks at
+# run time, in some two minutes. Such a program is slow at large scenes: a dozen cases of limits are left out.
 quick:
 	@scripts/unproved out/quick/x3d_share
-	@PROGRAM=$$(realpath out/quick/x3d_share) scripts/cases
+	@PROGRAM=$$(realpath out/quick/x3d_share) scripts/cases --leave 10
 
 # Proves and builds the program, and has a host and two viewers do a job over UDP, twice: the second
 # time through a proxy that loses, repeats and reorders datagrams.
