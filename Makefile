@@ -1,7 +1,7 @@
 # `make run` shows the program at work, `make test` is the gate.
 SHELL := bash
 .SHELLFLAGS := -eu -o pipefail -c
-.PHONY: run try share test cases prefixes refusals check definitions calls bench format install
+.PHONY: run try quick share test cases prefixes refusals check definitions calls bench format install
 
 JOB ?= examples/two-clocks.job
 PREFIX ?= /usr/local
@@ -17,6 +17,12 @@ run:
 # The same without a proof, in half a minute.
 try:
 	@job=$$(realpath $(JOB)); cd crates/x3d_share && rt try -- run < "$$job"
+
+# Between an edit and the gate: cases and examples, by a program that is built without a proof and with checks at
+# run time, in some two minutes. Such a program is slow at large scenes: a dozen cases of limits are left out.
+quick:
+	@scripts/unproved out/quick/x3d_share
+	@PROGRAM=$$(realpath out/quick/x3d_share) scripts/cases --leave 10
 
 # Proves and builds the program, and has a host and two viewers do a job over UDP, twice: the second
 # time through a proxy that loses, repeats and reorders datagrams.
