@@ -1,7 +1,7 @@
 # `make run` shows the program at work, `make test` is the gate.
 SHELL := bash
 .SHELLFLAGS := -eu -o pipefail -c
-.PHONY: run try quick share test cases prefixes refusals check definitions calls bench format install
+.PHONY: run try quick share soak fuzz test cases prefixes refusals check definitions calls bench format install
 
 JOB ?= examples/two-clocks.job
 PREFIX ?= /usr/local
@@ -30,16 +30,31 @@ share:
 	@cd crates/x3d_share && rt run -- --version > /dev/null
 	@scripts/share
 
+# Proves and builds the program, and soaks shared worlds for MINUTES: lost datagrams, killed viewers, late
+# ones and malicious datagrams. It prints a seed, by which it is done again.
+MINUTES ?= 5
+soak:
+	@cd crates/x3d_share && rt run -- --version > /dev/null
+	@scripts/soak $(MINUTES)
+
+# Proves and builds the program, and gives each of its commands TEXTS changed scenes, jobs and schedules.
+TEXTS ?= 10000
+fuzz:
+	@cd crates/x3d_share && rt run -- --version > /dev/null
+	@scripts/fuzz $(TEXTS)
+
 # The gate: every proof from nothing, the must-fail edits, the tests; and then, by the program that
 # was proved, the cases, the examples, prefixes of their scenes, each growth of memory refused in turn,
-# and a shared world over UDP.
+# a thousand changed texts, a shared world over UDP, and one with killed viewers and malicious datagrams.
 test: definitions
 	@log=$$(mktemp); trap 'rm -f "$$log"' EXIT; \
 	rt ci 2>&1 | tee "$$log"; \
 	scripts/cases; \
 	scripts/prefixes; \
 	scripts/refusals; \
+	scripts/fuzz 1000 --seed 1; \
 	scripts/share; \
+	scripts/soak 0.3 --seed 48; \
 	tail -n 1 "$$log"
 
 # Proves and builds the program, and runs it on the cases of cases/ and the examples.

@@ -73,10 +73,11 @@ class Programs:
     def __exit__(self, *_):
         self.folder.cleanup()
 
-    def each(self, words, work, things):
-        """What `work` of a Program with these words and a thing gives, for each thing."""
+    def each(self, words, work, things, at_most=SIDE_BY_SIDE):
+        """What `work` of a Program with these words and a thing gives, for each thing; `at_most` so many
+        processes side by side."""
         things = list(things)
-        count = min(SIDE_BY_SIDE, -(-len(things) // RUNS_OF_ONE))
+        count = min(at_most, -(-len(things) // RUNS_OF_ONE))
         parts = [things[start::count] for start in range(count)]
 
         def part(things):
