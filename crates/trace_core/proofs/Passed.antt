@@ -1,6 +1,6 @@
 -- The lines of a trace that pass a test.
-use Rattle.std.proofs.Common.{arith, ◌≤◌, ◌<◌, ◌+◌, get_or, length, drop, ◌≡◌, ◌≢◌, Bool, true, false, ◌&&◌, cond, ℕ, List, [], ◌∷◌, ◌∙◌, ap, sym, refl, Option, Some, None}
-use Rattle.std.specs.Prelude.{ℤ, pos, slice_get}
+use Rattle.std.proofs.Common.{◌≤◌, ◌<◌, ◌+◌, get_or, length, drop, ◌≡◌, ◌≢◌, Bool, true, false, ◌&&◌, cond, ℕ, List, [], ◌∷◌, ◌∙◌, ap, sym, refl, Option, Some, None}
+use Rattle.std.specs.Prelude.{ℤ, slice_get}
 use Rattle.std.specs.List.{list_all}
 use Rattle.std.specs.Option.{option_map, option_map_or}
 use Rattle.std.proofs.lemmas.List.{at_drop_all, at_drop_more}

@@ -1,4 +1,4 @@
-use Rattle.std.proofs.Common.{◌≡◌, drop, length}
+use Rattle.std.proofs.Common.{◌≡◌, drop}
 use Rattle.scene_core.specs.Scene.{rows_at}
 use Rattle.world_core.specs.Fits.{values_fit}
 use Rattle.world_core.proofs.fits.values_fit.Given as goal
