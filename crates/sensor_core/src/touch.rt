@@ -44,7 +44,7 @@ pub(crate) struct Pointed {
 }
 
 impl TouchState {
-    ghost use Rattle.std.specs.Prelude.{◌≡◌, ◌+◌, ◌≤◌, [], ◌++◌, is_some, IsTrue, Some, true};
+    ghost use Rattle.std.specs.Prelude.{◌≡◌, ◌+◌, ◌≤◌, ◌&&◌, [], ◌++◌, is_none, is_some, length, not, IsTrue, Some, true};
     ghost use Rattle.std.specs.Option.{option_map_or};
     ghost use Rattle.arrayvec.specs.ArrayVec.{array_vec_len};
     ghost use Rattle.x3d_values.specs.declared.node_type.NodeType.TheVariants.{TouchSensor};
@@ -121,6 +121,16 @@ impl TouchState {
         ensures { result ≡ is_over self.now }
     {
         self.over.iter().any(|over| *over)
+    }
+
+    /// Whether no pointer is over it, and nobody presses it.
+    pub fn is_untouched(&self) -> bool
+        ensures value { result ≡ (not (is_over self.now) && is_none self.now.presser) }
+        // There is a place for each viewer, and a presser is a viewer.
+        ensures places { length self.now.over ≡ MAX_VIEWERS }
+        ensures viewer { IsTrue (option_map_or is_viewer self.now.presser true) }
+    {
+        !self.is_over() && self.presser.is_none()
     }
 
     /// Whether a viewer presses it.

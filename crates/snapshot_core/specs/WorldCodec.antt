@@ -1,11 +1,7 @@
 -- The state of a scene as bytes (our choice).
-use Rattle.std.specs.Prelude.{ℕ, ◌==◌, ℤ, Bool, List, [], length, map, Option, Some, None, slice_get, if◌then◌else◌}
-use Rattle.std.specs.Option.{option_and_then, option_map_or}
+use Rattle.std.specs.Prelude.{ℕ, ◌==◌, ℤ, Bool, List, length, map, Some}
 use Rattle.byte_codec.specs.Codec.{Codec, refined, named, pair}
-use Rattle.x3d_values.specs.declared.field_type.FieldType.{FieldType}
 use Rattle.x3d_values.specs.declared.ranges.TheConstants.{MAX_VIEWERS}
-use Rattle.x3d_values.specs.Access.{sends}
-use Rattle.x3d_values.specs.Tables.{Entry}
 use Rattle.snapshot_codec.specs.declared.head.Progress.{Progress}
 use Rattle.snapshot_codec.specs.declared.trace.TraceEntry.{TraceEntry}
 use Rattle.snapshot_codec.specs.declared.viewers.Viewers.TheVariants.{Sixteen}
@@ -14,11 +10,12 @@ use Rattle.snapshot_codec.specs.Parts.{states_codec, viewer_set_codec}
 use Rattle.snapshot_codec.specs.Trace.{moment_codec, trace_codec, entry_text}
 use Rattle.sensor_core.specs.Parts.{number_of, over_of}
 use Rattle.scene_core.specs.Scene.{SceneView, shapes_of}
-use Rattle.scene_core.specs.Shape.{Shape, rows_of}
+use Rattle.scene_core.specs.Shape.{Shape}
 use Rattle.cascade_core.specs.Course.{Scripted}
 use Rattle.cascade_core.specs.Scripts.{kinds_in}
 use Rattle.trace_core.specs.declared.trace.TraceLine.{TraceLine}
 use Rattle.world_core.specs.declared.world.WorldData.{WorldData}
+pub use Rattle.world_core.specs.Fits.{sent_type, output_type}
 use Rattle.snapshot_core.specs.declared.nodes.NodeLists.{NodeLists}
 use Rattle.snapshot_core.specs.declared.world.Found.{Found}
 use Rattle.snapshot_core.specs.declared.world.WorldParts.{WorldParts}
@@ -32,16 +29,6 @@ buttons_codec =
     (viewer_set_codec Sixteen)
 
 -- ---- the trace
-
--- the type of the events that leave by a field, if any do
-abbrev pub sent_type : Entry → Option FieldType
-sent_type row = if sends row.access then Some row.field_type else None
-
--- the type of the events that a node sends by its field of that number, if it sends any
-abbrev pub output_type : List Shape → ℕ → ℕ → Option FieldType
-output_type shapes node field =
-    option_and_then sent_type
-    (slice_get (option_map_or rows_of (slice_get shapes node) []) field)
 
 abbrev pub line_of : TraceEntry → TraceLine
 line_of entry = record {

@@ -4,3 +4,4 @@ mod Counting
 mod Marks
 mod Traces
 mod Told
+mod Passed

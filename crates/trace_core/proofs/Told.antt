@@ -21,7 +21,7 @@ unfolding lines_of
 input-left e es i t vs h = ap (lines_by (lines_of es) i t vs e) h
 
 -- the entry of a value that stands aside
-other-left : (e : Entry) (es : List Entry) (i : ℕ) (t : ℤ) (vs : List Value) → e.kind ≡ entry_kind.Other →
+pub other-left : (e : Entry) (es : List Entry) (i : ℕ) (t : ℤ) (vs : List Value) → e.kind ≡ entry_kind.Other →
     lines_of (e ∷ es) i t vs ≡ taking (lines_of es i t) i t (end_of e) vs
 unfolding lines_of
 other-left e es i t vs h = ap (lines_by (lines_of es) i t vs e) h

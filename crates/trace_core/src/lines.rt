@@ -64,7 +64,7 @@ fn whole_of(word: i64) -> i32
 }
 
 /// The value that stands in an entry of this kind, if it is one of an event.
-fn plain_value(kind: Kind, word: i64) -> Option<Value>
+pub(crate) fn plain_value(kind: Kind, word: i64) -> Option<Value>
     ensures { result ≡ plain_value kind word }
 {
     match kind {
@@ -79,7 +79,7 @@ fn plain_value(kind: Kind, word: i64) -> Option<Value>
 
 /// The input that an entry tells.
 #[tactic(auto, using(crate::proofs::Traces::passed))]
-fn moment_of(entry: Entry) -> Moment
+pub(crate) fn moment_of(entry: Entry) -> Moment
     ensures { result ≡ record { input = entry.node; time = entry.word } }
 {
     Moment {
@@ -90,7 +90,7 @@ fn moment_of(entry: Entry) -> Moment
 
 /// What the line of an entry tells beside the value, at an input.
 #[tactic(auto, using(crate::proofs::Traces::passed))]
-fn head_of(moment: Moment, entry: Entry) -> LineHead
+pub(crate) fn head_of(moment: Moment, entry: Entry) -> LineHead
     ensures { result
         ≡ record { input = moment.input; time = moment.time; source = end_of entry } }
 {

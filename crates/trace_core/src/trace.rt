@@ -5,6 +5,7 @@ ghost use Rattle.std.specs.Prelude.{◌≡◌, ◌++◌, [], ◌∷◌, OnErr, O
 ghost use Rattle.trace_core.specs.Trace.{IsWhole, entry_of, plain_entry, whole_of};
 
 use crate::lines::{WritesLines, lines_in, write_lines};
+use crate::passing::{TestsLines, all_pass};
 use scene_core::End;
 use std::alloc::{AllocError, Global};
 use std::marker::Model;
@@ -193,7 +194,7 @@ impl Model for Trace {
 
 impl Trace {
     ghost use Rattle.std.specs.Prelude.{◌≡◌, ◌++◌, [], ◌∷◌, OnErr, OnOk, length};
-    ghost use Rattle.std.specs.List.{flat_map};
+    ghost use Rattle.std.specs.List.{flat_map, list_all};
     ghost use Rattle.trace_core.specs.Trace.{line};
 
     /// Nothing was sent.
@@ -231,6 +232,13 @@ impl Trace {
         ensures { result ≡ length self.now }
     {
         lines_in(&self.kept.entries) as u64
+    }
+
+    /// Whether each line passes a test.
+    pub fn all_pass<T: TestsLines>(&self, test: &T) -> bool
+        ensures { result ≡ list_all (T.passing test.now) self.now }
+    {
+        all_pass(test, &self.kept.entries, &self.kept.values)
     }
 
     /// Writes the lines in order; on a refusal the buffer is as it was.

@@ -1,3 +1,4 @@
+mod Fitting
 pub mod Shapes
 pub mod Senders
 pub mod Sensing

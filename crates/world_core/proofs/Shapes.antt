@@ -30,7 +30,7 @@ shape_at scene node kind h =
     among (n ∷ ns) zero h = (shape_of n, refl, cc)
     among (n ∷ ns) (suc i) h = among ns i h
 
-no_shape : (ns : List SceneNode) (i : ℕ) → slice_get (map (λ (n : SceneNode). n.node_type) ns) i ≡ None → slice_get (map shape_of ns) i ≡ None
+pub no_shape : (ns : List SceneNode) (i : ℕ) → slice_get (map (λ (n : SceneNode). n.node_type) ns) i ≡ None → slice_get (map shape_of ns) i ≡ None
 no_shape [] i h = refl
 no_shape (n ∷ ns) zero h = cc
 no_shape (n ∷ ns) (suc i) h = no_shape ns i h

@@ -1,5 +1,6 @@
 pub mod Access
 pub mod Answers
+pub mod Fits
 pub mod Nodes
 pub mod Pointer
 pub mod World
