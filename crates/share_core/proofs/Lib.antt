@@ -8,3 +8,4 @@ pub mod Drains
 pub mod Nexts
 pub mod Rounds
 pub mod Rewinds
+pub mod Joins

@@ -26,14 +26,14 @@ pub struct Host {
 }
 
 impl Model for Host {
-    ghost use Rattle.std.specs.Prelude.{◌≤◌, length};
+    ghost use Rattle.std.specs.Prelude.{◌≡◌, ◌≤◌, length};
     ghost use Rattle.share_core.specs.Host.{HostView, part_with};
 
     ghost Value = { HostView };
 
     ghost view = { λ h. record { mark = h.mark; part = part_with h.inputs h.kept.items } };
 
-    ghost invariant = { λ h. length h.kept.items ≤ 16 };
+    ghost invariant = { λ h. (length h.kept.items ≤ 16) × (length h.mark ≡ 32) };
 }
 
 /// How many offers of a boot are numbered: none of a boot above the one that is kept.
@@ -188,6 +188,14 @@ impl Host {
         ensures most { result ≤ 2 ^ 20 }
     {
         self.inputs.len()
+    }
+
+    /// The mark of its scene.
+    pub fn mark(&self) -> [u8; 32]
+        ensures value { result ≡ self.now.mark }
+        ensures bytes { length result ≡ 32 }
+    {
+        self.mark
     }
 
     /// How many viewers there are: 1 to 16.
