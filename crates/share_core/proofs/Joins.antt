@@ -28,15 +28,15 @@ use Rattle.share_core.proofs.Rewinds.{rewind-step}
 
 -- ---- the bytes
 
-none : Option (List ℕ)
+abbrev none : Option (List ℕ)
 none = None
 
 -- all that was gathered is there
 record Whole (g : Gathering) (bytes : List ℕ) : Type 0 where
-  pub is : whole_of (Some g) ≡ Some g
-  pub bytes_are : bytes ≡ joined g.places
+  is : whole_of (Some g) ≡ Some g
+  bytes_are : bytes ≡ joined g.places
 
-pub whole_some : (g : Gathering) (bytes : List ℕ) → Some bytes ≡ cond (all_there g.places) (Some (joined g.places)) none → Whole g bytes
+whole_some : (g : Gathering) (bytes : List ℕ) → Some bytes ≡ cond (all_there g.places) (Some (joined g.places)) none → Whole g bytes
 whole_some g bytes e = elim (cases_Bool (all_there g.places)) [
   | inl all ↦ record {
       is = cond-true (all_there g.places) (Some g) None all;
@@ -45,7 +45,7 @@ whole_some g bytes e = elim (cases_Bool (all_there g.places)) [
   | inr some ↦ absurd (none-some bytes (sym (e ∙ cond-false (all_there g.places) (Some (joined g.places)) none some)))
 ]
 
-pub whole_none : (g : Gathering) → none ≡ cond (all_there g.places) (Some (joined g.places)) none → whole_of (Some g) ≡ None
+whole_none : (g : Gathering) → none ≡ cond (all_there g.places) (Some (joined g.places)) none → whole_of (Some g) ≡ None
 whole_none g e = elim (cases_Bool (all_there g.places)) [
   | inl all ↦ absurd (none-some (joined g.places) (e ∙ cond-true (all_there g.places) (Some (joined g.places)) none all))
   | inr some ↦ cond-false (all_there g.places) (Some g) None some

@@ -9,3 +9,4 @@ pub mod Nexts
 pub mod Rounds
 pub mod Rewinds
 pub mod Joins
+pub mod Cuts

@@ -1,6 +1,6 @@
 //! The pieces of a snapshot's bytes.
 
-ghost use Rattle.std.specs.Prelude.{◌≡◌, IsTrue, Ok, length};
+ghost use Rattle.std.specs.Prelude.{◌≡◌, ◌^◌, if◌then◌else◌, nat_le, IsTrue, None, Some, Ok, length};
 ghost use Rattle.std.specs.Option.{option_map};
 ghost use Rattle.share_wire.specs.Datagram.{datagram};
 ghost use Rattle.share_wire.specs.Decoding.{decoded};
@@ -16,7 +16,10 @@ use snapshot_core::{ShotHead, shot_head};
 const MAX_SIZE: usize = 1 << 26;
 
 /// How many bytes there are, where they are not too many to be sent in pieces.
-fn size_of(bytes: &[u8]) -> Option<u32> {
+fn size_of(bytes: &[u8]) -> Option<u32>
+    ensures { result
+        ≡ if nat_le (length bytes.now) (2 ^ 26) then Some (length bytes.now) else None }
+{
     if bytes.len() <= MAX_SIZE {
         Some(bytes.len() as u32)
     } else {

@@ -199,11 +199,14 @@ impl<B: Behaviour> Nodes<B> {
         ensures { IfOk result (λ a.
             IsCall (seen self.old) (PiecePacket snapshot piece) a (seen self.new)) }
     {
-        let Some(shot) = self.shots.get(snapshot as usize) else {
-            return Ok(Answer::NoSuch);
-        };
-        let packet = piece_packet(self.host.mark(), shot.bytes.as_slice(), piece);
-        send_any(packet, &mut self.packets)
+        let mark = self.host.mark();
+        match self.shots.get(snapshot as usize) {
+            None => Ok(Answer::NoSuch),
+            Some(shot) => send_any(
+                piece_packet(mark, shot.bytes.as_slice(), piece),
+                &mut self.packets,
+            ),
+        }
     }
 
     fn gather(&mut self, viewer: u32, packet: u32) -> Answer
