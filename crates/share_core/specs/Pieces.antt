@@ -3,7 +3,7 @@ use Rattle.std.specs.Prelude.{ℕ, List, length, Option, None, Some, if◌then�
 use Rattle.share_wire.specs.Messages.{is_piece, piece_count}
 use Rattle.share_wire.specs.declared.message.Body.{Body}
 use Rattle.share_law.specs.Pieces.{piece_packet}
-use Rattle.snapshot_core.specs.declared.shot_head.ShotHead.{ShotHead}
+use Rattle.snapshot_core.specs.declared.head.ShotHead.{ShotHead}
 use Rattle.snapshot_core.specs.ShotHead.{shot_head}
 
 -- the packet of piece i of these bytes, by what they begin with

@@ -19,7 +19,7 @@ use Rattle.snapshot_core.specs.declared.fault.SaveFault.TheVariants as save_faul
 use Rattle.snapshot_core.specs.declared.fault.SnapFault.{SnapFault}
 use Rattle.snapshot_core.specs.Loading.{HasSnapshot}
 use Rattle.snapshot_core.specs.Shot.{shot}
-use Rattle.snapshot_core.specs.declared.shot_head.ShotHead.{ShotHead}
+use Rattle.snapshot_core.specs.declared.head.ShotHead.{ShotHead}
 use Rattle.snapshot_core.proofs.ShotHeads.{head_of_shot}
 use Rattle.share_law.specs.declared.fault.FloorFault.{FloorFault}
 use Rattle.share_law.specs.declared.fault.JoinFault.{JoinFault}

@@ -5,7 +5,7 @@ use Rattle.std.specs.Cmp.Lexicographic.{pointwise}
 use Rattle.std.specs.Option.{option_map}
 use Rattle.byte_codec.specs.Codec.{pair, number}
 use Rattle.snapshot_parts.specs.Opening.{version}
-use Rattle.snapshot_core.specs.declared.shot_head.ShotHead.{ShotHead}
+use Rattle.snapshot_core.specs.declared.head.ShotHead.{ShotHead}
 
 -- 85 bytes or more, that begin with X3DW and the version
 abbrev pub begins_as_shot : List ℕ → Bool

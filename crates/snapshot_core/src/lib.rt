@@ -8,7 +8,7 @@
 //! | Module | Has |
 //! |---|---|
 //! | `saving`, `loading` | the two calls |
-//! | `shot_head` | what the head of a snapshot says |
+//! | `head` | what the head of a snapshot says |
 //! | `fault` | what may be refused |
 //! | `world` | a whole world, with its boot |
 //! | `nodes`, `kept` | nodes in turn: their fields, and what stands behind them |
@@ -19,17 +19,17 @@
 mod buttons;
 mod exactness;
 mod fault;
+mod head;
 mod kept;
 mod lines;
 mod loading;
 mod nodes;
 mod saving;
-mod shot_head;
 mod world;
 
 pub use exactness::snapshots_are_exact;
 pub use fault::{SaveFault, SnapFault};
+pub use head::{ShotHead, shot_head};
 pub use loading::{Saved, load_into};
 pub use saving::save;
-pub use shot_head::{ShotHead, shot_head};
 pub use snapshot_codec::scene_mark;
