@@ -109,7 +109,7 @@ clocked e kept t result new (inl l) =
     ∙ ap (λ (r : Result ℕ NumberFault × Entries). let z : Result ℕ NumberFault × HostPart = (r.0, part_with r.1 kept) in z) l)
 clocked e kept t result new (inr m) =
     inr (
-      subst (λ (f : Option NumberFault). IsOk (part_clocked (part_with e kept) t f).0) (sym m.0) tt,
+      subst (λ (f : Option NumberFault). IsOk (part_clocked (part_with e kept) t f).0) (sym m.0) refl,
       m.1,
       ap (λ (x : Entries). part_with x kept) m.2,
     )

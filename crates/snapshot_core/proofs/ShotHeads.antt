@@ -1,8 +1,9 @@
 -- The head of a snapshot says its boot and how many inputs its world has had.
-use Rattle.std.proofs.Common.{◌≡◌, ℕ, ◌^◌, ◌<◌, ◌≤◌, Bool, true, false, cond, ltb, leb, List, ◌++◌, length, drop, Option, Some, None, refl, sym, ap, subst, ◌∙◌, append_assoc, arith}
+use Rattle.std.proofs.Common.{◌≡◌, ℕ, ◌^◌, ◌<◌, ◌≤◌, Bool, true, false, cond, ltb, leb, List, ◌++◌, ◌-◌, length, take, drop, Option, Some, None, refl, sym, ap, subst, ◌∙◌, append_assoc, arith}
 use Rattle.std.specs.Int.{w32, w64}
-use Rattle.std.proofs.lemmas.Bool.{le-leb, lt-ltb, leb-true, ltb-false}
-use Rattle.std.proofs.lemmas.List.{drop_at, length-append}
+use Rattle.std.specs.Option.{option_map}
+use Rattle.std.proofs.lemmas.Bool.{cond-true, le-leb, lt-ltb, leb-true, ltb-false}
+use Rattle.std.proofs.lemmas.List.{drop_at, take_all, length-append, length-drop}
 use Rattle.byte_codec.specs.Codec.{number, number_text, pair}
 use Rattle.byte_codec.proofs.Laws.{both, and_true, number_exact, pair_exact, wide32, wide64}
 use Rattle.scene_core.specs.Scene.{SceneView}
@@ -12,11 +13,30 @@ use Rattle.snapshot_codec.specs.declared.head.HeadFault.TheVariants.{Short}
 use Rattle.snapshot_codec.specs.Head.{front, head_fault, sealed, snapshot}
 use Rattle.snapshot_codec.proofs.HeadLaws.{snapshot-opened}
 use Rattle.snapshot_codec.specs.Trace.{moment_codec}
+use Rattle.snapshot_parts.specs.Opening.{version}
+use Rattle.snapshot_core.specs.declared.head.ShotHead.{ShotHead}
 use Rattle.snapshot_core.specs.Loading.{HasSnapshot}
 use Rattle.snapshot_core.specs.Shot.{shot}
 use Rattle.snapshot_core.specs.ShotHead.{begins_as_shot, shot_head}
 use Rattle.snapshot_core.specs.WorldCodec.{parts_codec, parts_in, world_codec}
 use Rattle.snapshot_core.proofs.Heads.{none_is}
+
+-- ---- what is read
+
+abbrev Words : Type 0
+Words = (ℕ × ℕ) × List ℕ
+
+abbrev head_with : Words → ShotHead
+head_with x = record { version = version; boot = x.0.0; applied = x.0.1 }
+
+pub head_found : (bytes : List ℕ) (words : Option Words) → begins_as_shot bytes ≡ true → words ≡ (pair (number w32) (number w32)).read (take (length bytes - 37) (drop 37 bytes)) → option_map head_with words ≡ shot_head bytes
+head_found bytes words begins is =
+    let none : Option ShotHead = None in
+    let all : take (length bytes - 37) (drop 37 bytes) ≡ drop 37 bytes = take_all (length bytes - 37) (drop 37 bytes) (omega (arith, length-drop 37 bytes)) in
+    ap (λ (o : Option Words). option_map head_with o) (is ∙ ap ((pair (number w32) (number w32)).read) all)
+    ∙ sym (cond-true (begins_as_shot bytes) (option_map head_with ((pair (number w32) (number w32)).read (drop 37 bytes))) none begins)
+
+-- ---- of a snapshot
 
 -- the bytes of the boot and of the number of inputs, and more behind them
 abbrev numbered : ℕ → ℕ → List ℕ → List ℕ
