@@ -3,7 +3,7 @@ use Rattle.std.proofs.Common.{◌≡◌, ℕ, List, [], ◌++◌, take, drop, le
 use Rattle.std.proofs.lemmas.List.{append-nil, drop_all, take_all}
 use Rattle.x3d_values.specs.Stamp.{Stamp}
 use Rattle.share_core.specs.Viewer.{ViewerView}
-use Rattle.share_law.specs.Host.{HostState, new_host}
+use Rattle.share_law.specs.Parts.{HostPart, new_part}
 use Rattle.share_turns.specs.Agreeing.{AreAgreed, IsAgreeRunEnd, IsAgreedText, Meeting, Seats, Ways, meeting}
 use Rattle.share_turns.specs.declared.fault.SeriesFault.{SeriesFault}
 use Rattle.share_commands.specs.Joining.{IsAgreed, IsAgreedInPart, Joint}
@@ -16,8 +16,8 @@ written n new old same all =
     ∙ ap (take n) (append-nil new) ∙ take_all n new (omega (arith, same, all))
 
 module _ {P : Type 0} (ways : Ways P) (job : Joint) (own turns : ℕ) (port : P) (ports : List P) (left_port : P) (left : Seats P)
-    (mark : List ℕ) (before after : HostState) (steps : List Stamp) (seated : List ViewerView)
-    (marked : mark ≡ job.mark) (made : before ≡ new_host (length job.viewers)) (stepped : steps ≡ job.inputs) (sat : seated ≡ job.viewers) where
+    (mark : List ℕ) (before after : HostPart) (steps : List Stamp) (seated : List ViewerView)
+    (marked : mark ≡ job.mark) (made : before ≡ new_part (length job.viewers)) (stepped : steps ≡ job.inputs) (sat : seated ≡ job.viewers) where
   abbrev new : Meeting P
   new = record { host = after; port = left_port; seats = left }
 
@@ -27,7 +27,7 @@ module _ {P : Type 0} (ways : Ways P) (job : Joint) (own turns : ℕ) (port : P)
       → IsAgreed ways job own turns port ports left_port left text
   is_agreed empty text none agreed texts = (
     new,
-    subst (λ (h : HostState). AreAgreed ways job.mark job.inputs own turns (meeting h port job.viewers ports) new) made
+    subst (λ (h : HostPart). AreAgreed ways job.mark job.inputs own turns (meeting h port job.viewers ports) new) made
         (subst (λ (v : List ViewerView). AreAgreed ways job.mark job.inputs own turns (meeting before port v ports) new) sat
         (subst (λ (s : List Stamp). AreAgreed ways job.mark s own turns (meeting before port seated ports) new) stepped
         (subst (λ (m : List ℕ). AreAgreed ways m steps own turns (meeting before port seated ports) new) marked agreed))),
@@ -46,7 +46,7 @@ module _ {P : Type 0} (ways : Ways P) (job : Joint) (own turns : ℕ) (port : P)
     refl,
     refl,
     refl,
-    subst (λ (h : HostState). IsAgreeRunEnd ways job.mark job.inputs own turns (meeting h port job.viewers ports) early new) made
+    subst (λ (h : HostPart). IsAgreeRunEnd ways job.mark job.inputs own turns (meeting h port job.viewers ports) early new) made
         (subst (λ (v : List ViewerView). IsAgreeRunEnd ways job.mark job.inputs own turns (meeting before port v ports) early new) sat
         (subst (λ (s : List Stamp). IsAgreeRunEnd ways job.mark s own turns (meeting before port seated ports) early new) stepped
         (subst (λ (m : List ℕ). IsAgreeRunEnd ways m steps own turns (meeting before port seated ports) early new) marked ended))),

@@ -1,7 +1,7 @@
 -- What a host does with a job.
 use Rattle.std.specs.Prelude.{◌≡◌, ◌⊎◌, ℕ, ℤ, List, map, Option, Result, Err}
 use Rattle.x3d_values.specs.Stamp.{Stamp}
-use Rattle.share_law.specs.Host.{HostState, new_host}
+use Rattle.share_law.specs.Parts.{HostPart, new_part}
 use Rattle.share_port.specs.declared.traffic.Traffic.{Traffic}
 use Rattle.share_port.specs.Told.{one_more}
 use Rattle.share_turns.specs.Runs.{HostTurns, HostTurnsEnd}
@@ -28,12 +28,12 @@ failures_after result n = n
 abbrev pub IsHosted : SharedJob → (viewers turns : ℕ)
     → (told_before told_after : Option (List Traffic)) → Type 0
 IsHosted job viewers turns a b =
-    (new : HostState) × HostTurns job.mark (times job.inputs) turns a b (new_host viewers) new
+    (new : HostPart) × HostTurns job.mark (times job.inputs) turns a b (new_part viewers) new
 
 -- memory was refused before the first turn, or a turn ended early
 abbrev pub IsHostedInPart : SharedJob → (viewers turns : ℕ)
     → (told_before told_after : Option (List Traffic)) → ShareFault → Type 0
 IsHostedInPart job viewers turns a b fault =
     ((fault ≡ share.Memory) × (b ≡ a))
-    ⊎ ((early : TurnFault) × (new : HostState) × (fault ≡ share_fault early)
-    × HostTurnsEnd job.mark (times job.inputs) turns a b (new_host viewers) early new)
+    ⊎ ((early : TurnFault) × (new : HostPart) × (fault ≡ share_fault early)
+    × HostTurnsEnd job.mark (times job.inputs) turns a b (new_part viewers) early new)

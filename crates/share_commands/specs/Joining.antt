@@ -2,7 +2,7 @@
 use Rattle.std.specs.Prelude.{◌≡◌, ℕ, List, [], length, Ok, replicate}
 use Rattle.x3d_values.specs.Stamp.{Stamp}
 use Rattle.cascade_core.specs.Held.{StageView}
-use Rattle.share_law.specs.Host.{new_host}
+use Rattle.share_law.specs.Parts.{new_part}
 use Rattle.share_core.specs.Viewer.{ViewerView}
 use Rattle.share_rehearsal.specs.Calls.{viewers_from}
 use Rattle.share_turns.specs.Agreeing.{Meeting, Seats, Ways, AreAgreed, IsAgreeRunEnd, IsAgreedText, seats_of}
@@ -43,7 +43,7 @@ IsJoint order viewers bytes joint =
 -- a host that was made just now, and viewers, each at its port
 abbrev pub met : {P : Type 0} → (port : P) → Seats P → Meeting P
 met port seats = record {
-  host = new_host (length seats.viewers);
+  host = new_part (length seats.viewers);
   port = port;
   seats = seats;
 }

@@ -8,3 +8,5 @@ pub mod Drains
 pub mod Nexts
 pub mod Rounds
 pub mod Rewinds
+pub mod Joins
+pub mod Cuts

@@ -1,40 +1,49 @@
--- When an input may be numbered.
-use Rattle.std.proofs.Common.{◌≡◌, ◌^◌, ◌-◌, ◌+◌, ℤ, pos, ◌≤ℤ◌, ◌<ℤ◌, suc, true, List, [], ◌∷◌, ◌++◌, length, refl, ap, sym, ◌∙◌, arith}
-use Rattle.std.specs.Prelude.{Option, None, Some, slice_get, int_le}
-use Rattle.std.proofs.lemmas.Option.{same_Some, none-some}
-use Rattle.std.proofs.lemmas.Bool.{le-leb}
+-- When an input may be numbered, and the inputs from a floor on.
+use Rattle.std.proofs.Common.{◌≡◌, ℕ, zero, suc, ◌^◌, ◌-◌, ◌+◌, ◌<◌, ◌≤◌, ℤ, pos, ◌≤ℤ◌, ◌<ℤ◌, true, false, List, drop, refl, ap, sym, ◌∙◌, arith}
+use Rattle.std.specs.Prelude.{Option, None, Some, slice_get, int_le, nat_lt, if◌then◌else◌}
+use Rattle.std.proofs.lemmas.Bool.{le-leb, lt-ltb, le-ltb, cond-true, cond-false}
+use Rattle.std.proofs.lemmas.Bool.Decides.{nat_tests}
 use Rattle.std.proofs.lemmas.Int.{ints}
+use Rattle.std.proofs.lemmas.List.{drop-drop}
 use Rattle.x3d_values.specs.Ranges.{is_input_number, is_input_time}
 use Rattle.x3d_values.specs.Stamp.{Stamp}
 use Rattle.share_law.specs.declared.fault.NumberFault.{NumberFault}
-use Rattle.share_law.specs.Host.{last_from, last_time, number_fault}
-use Rattle.share_law.proofs.Effects.{number_fault_none}
+use Rattle.share_law.specs.Parts.{fault_behind}
+use Rattle.share_core.specs.Host.{Entries, entry}
 
-pub last_from-last : (t : ℤ) (list : List Stamp) (x : Stamp) → slice_get list (length list - 1) ≡ Some x → last_from t list ≡ x.time
-last_from-last t [] x h = absurd (none-some x h)
-last_from-last t (y ∷ []) x h = ap (λ (s : Stamp). s.time) (same_Some y x h)
-last_from-last t (y ∷ z ∷ list) x h =
-    let e : length (y ∷ z ∷ list) - 1 ≡ suc (length (z ∷ list) - 1) = omega arith in
-    last_from-last y.time (z ∷ list) x (sym (ap (slice_get (y ∷ z ∷ list)) e) ∙ h)
+pub fault_behind_none : (count : ℕ) (last t : ℤ) → fault_behind count last t ≡ None → (count < 2 ^ 20) × (last <ℤ t) × (t ≤ℤ pos (10 ^ 18))
+unfolding fault_behind
+fault_behind_none count last t h = (grind (arith, nat_tests, ints), grind (arith, nat_tests, ints), grind (arith, nat_tests, ints))
 
-pub last_time-push : (list : List Stamp) (x : Stamp) → last_time (list ++ x ∷ []) ≡ x.time
-last_time-push list x = go (pos 0) list where
-  go : (t : ℤ) (xs : List Stamp) → last_from t (xs ++ x ∷ []) ≡ x.time
-  go t [] = refl
-  go t (y ∷ xs) = go y.time xs
+pub number_ok : (count : ℕ) (last t : ℤ) → fault_behind count last t ≡ None → is_input_number (count + 1) ≡ true
+number_ok count last t free = let facts = fault_behind_none count last t free in rw (le-leb 1 (count + 1) (omega arith)) (rw (le-leb (count + 1) (2 ^ 20) (omega (arith, facts.0))) refl)
 
-pub number_ok : (list : List Stamp) (t : ℤ) → number_fault list t ≡ None → is_input_number (length list + 1) ≡ true
-number_ok list t free = let facts = number_fault_none list t free in rw (le-leb 1 (length list + 1) (omega arith)) (rw (le-leb (length list + 1) (2 ^ 20) (omega (arith, facts.0))) refl)
-
-pub time_ok : (list : List Stamp) (t : ℤ) → pos 0 ≤ℤ last_time list → number_fault list t ≡ None → is_input_time t ≡ true
-time_ok list t from free =
-    let facts = number_fault_none list t free in
-    let later : last_time list <ℤ t = facts.1 in
+pub time_ok : (count : ℕ) (last t : ℤ) → pos 0 ≤ℤ last → fault_behind count last t ≡ None → is_input_time t ≡ true
+time_ok count last t from free =
+    let facts = fault_behind_none count last t free in
+    let later : last <ℤ t = facts.1 in
     let small : t ≤ℤ pos (10 ^ 18) = facts.2 in
     let low : int_le (pos 1) t ≡ true = grind (arith, ints) in
     let high : int_le t (pos (10 ^ 18)) ≡ true = grind (arith, ints) in
     rw low (rw high refl)
 
--- the test that was made was of this list
-pub free_of : (list now : List Stamp) (t : ℤ) (f : Option NumberFault) → now ≡ list → f ≡ number_fault now t → f ≡ None → number_fault list t ≡ None
-free_of list now t f same is none = ap (λ (l : List Stamp). number_fault l t) (sym same) ∙ (sym is ∙ none)
+-- ---- an input is looked up
+
+pub entry_below : (e : Entries) (n : ℕ) → n < e.floor → None ≡ entry e n
+entry_below e zero low = refl
+entry_below e (suc n) low =
+    let none : Option Stamp = None in
+    sym (cond-true (nat_lt (suc n) e.floor) none (slice_get e.rest (suc n - e.floor)) (lt-ltb (suc n) e.floor low))
+
+pub entry_from : (e : Entries) (n : ℕ) → 1 ≤ e.floor → e.floor ≤ n → slice_get e.rest (n - e.floor) ≡ entry e n
+entry_from e zero one from = absurd (omega (arith, one, from))
+entry_from e (suc n) one from =
+    let none : Option Stamp = None in
+    sym (cond-false (nat_lt (suc n) e.floor) none (slice_get e.rest (suc n - e.floor)) (le-ltb (suc n) e.floor from))
+
+-- ---- inputs leave
+
+-- the first so many have left, and then one more
+pub one_less : (n : ℕ) (whole left now : List Stamp) → left ≡ drop n whole → now ≡ drop 1 left → now ≡ drop (n + 1) whole
+one_less n whole left now so_far one =
+    one ∙ ap (drop 1) so_far ∙ drop-drop 1 n whole

@@ -1,9 +1,10 @@
 -- What the host makes of an offer, return by return.
-use Rattle.std.proofs.Common.{◌≡◌, ◌+◌, ◌+ℤ◌, ℕ, pos, Bool, true, false, cond, List, length, refl, ap, sym, ◌∙◌, subst, inl, inr}
-use Rattle.std.specs.Prelude.{slice_get, slice_set, nat_lt, nat_le, Option, Some, None, Result, Ok, Err}
-use Rattle.x3d_values.specs.declared.stamped.Event.TheVariants.{Pointer}
+use Rattle.std.proofs.Common.{◌≡◌, ◌+◌, ◌+ℤ◌, ℕ, zero, suc, ℤ, pos, ◌-◌, Bool, true, false, cond, List, refl, ap, sym, ◌∙◌, subst, inl, inr}
+use Rattle.std.specs.Prelude.{slice_get, slice_set, nat_lt, nat_le, IsOk, Option, Some, None, Result, Ok, Err}
+use Rattle.x3d_values.specs.declared.stamped.Event.TheVariants.{Clock, Pointer}
 use Rattle.x3d_values.specs.Pointing.{Pointing}
 use Rattle.x3d_values.specs.Stamp.{Stamp}
+use Rattle.share_wire.specs.declared.message.Body.{Body}
 use Rattle.share_wire.specs.Messages.{Offering}
 use Rattle.share_wire.specs.declared.message.Body.TheVariants.{Offer}
 use Rattle.share_law.specs.declared.kept.Kept.{Kept}
@@ -13,8 +14,10 @@ use Rattle.share_law.specs.declared.fault.HostFault.{HostFault}
 use Rattle.share_law.specs.declared.fault.HostFault.TheVariants.{Number}
 use Rattle.share_law.specs.declared.reply.HostReply.{HostReply}
 use Rattle.share_law.specs.declared.reply.HostReply.TheVariants.{Numbered, Repeat, Ahead, OldBoot}
-use Rattle.share_law.specs.Host.{HostState, count_for, last_time, number_fault, offer_came, offer_numbered}
-use Rattle.share_law.specs.Calls.{IsHostTake}
+use Rattle.share_law.specs.Host.{count_for, input_packet}
+use Rattle.share_law.specs.Parts.{HostPart, fault_behind, part_clock, part_clocked, part_fault, part_offer_came, part_offer_numbered, part_packet}
+use Rattle.share_law.specs.Calls.{IsPartClocked, IsPartTake}
+use Rattle.share_core.specs.Host.{Entries, entry, part_with}
 use Rattle.share_core.specs.Steps.{listed, IsListed, reply_before}
 
 abbrev ErrN : NumberFault → Result ℕ NumberFault
@@ -27,11 +30,11 @@ same_Err : (a b : NumberFault) → ErrN a ≡ ErrN b → a ≡ b
 same_Err a b e = cc
 
 -- an offer is answered, or it is the next one
-abbrev answered : HostState → Offering → Option HostReply → Result HostReply HostFault × HostState
+abbrev answered : HostPart → Offering → Option HostReply → Result HostReply HostFault × HostPart
 answered h o (Some reply) = (Ok reply, h)
-answered h o None = offer_numbered h o (number_fault h.list (last_time h.list +ℤ pos 1))
+answered h o None = part_offer_numbered h o (part_fault h (h.last +ℤ pos 1))
 
-by_tests : (h : HostState) (o : Offering) (a b c : Bool)
+by_tests : (h : HostPart) (o : Offering) (a b c : Bool)
     → cond a (Ok OldBoot, h) (cond b (Ok Repeat, h) (cond c (Ok Ahead, h) (answered h o None)))
     ≡ answered h o (cond a (Some OldBoot) (cond b (Some Repeat) (cond c (Some Ahead) None)))
 by_tests h o true b c = refl
@@ -39,54 +42,84 @@ by_tests h o false true c = refl
 by_tests h o false false true = refl
 by_tests h o false false false = refl
 
-came : (h : HostState) (o : Offering) (k : Kept) (reply : Option HostReply) → slice_get h.kept o.pointer.who ≡ Some k → reply_before k o ≡ reply
-    → offer_came h o (slice_get h.kept o.pointer.who) ≡ answered h o reply
+came : (h : HostPart) (o : Offering) (k : Kept) (reply : Option HostReply) → slice_get h.kept o.pointer.who ≡ Some k → reply_before k o ≡ reply
+    → part_offer_came h o (slice_get h.kept o.pointer.who) ≡ answered h o reply
 came h o k reply at is =
-    ap (offer_came h o) at
+    ap (part_offer_came h o) at
     ∙ by_tests h o (nat_lt o.boot k.boot) (nat_le o.number (count_for k o.boot)) (nat_lt (count_for k o.boot + 1) o.number)
     ∙ ap (answered h o) is
 
 -- an offer that isn't the next one
-pub take-answered : (h : HostState) (o : Offering) (k : Kept) (reply : HostReply) → slice_get h.kept o.pointer.who ≡ Some k → reply_before k o ≡ Some reply
-    → IsHostTake h (Offer o) (Ok reply) h
+pub take-answered : (h : HostPart) (o : Offering) (k : Kept) (reply : HostReply) → slice_get h.kept o.pointer.who ≡ Some k → reply_before k o ≡ Some reply
+    → IsPartTake h (Offer o) (Ok reply) h
 take-answered h o k reply at is = inl (came h o k (Some reply) at is)
 
--- what the host makes of the list
-abbrev from_list : HostState → Offering → Result ℕ NumberFault → List Stamp → Result HostReply HostFault × HostState
-from_list h o (Ok n) list =
-    (Ok (Numbered n), record { list = list; kept = slice_set h.kept o.pointer.who (record { boot = o.boot; count = o.number }) })
-from_list h o (Err fault) list = (Err (Number fault), record { list = list; kept = h.kept })
+-- ---- with the inputs that a call left
 
-from_list-numbered : (h : HostState) (o : Offering) (fault : Option NumberFault)
-    → offer_numbered h o fault ≡ (let r = listed h.list (last_time h.list +ℤ pos 1) (Pointer o.pointer) fault in from_list h o r.0 r.1)
-from_list-numbered h o None = refl
-from_list-numbered h o (Some fault) = refl
+-- what the host makes of them
+abbrev from_entries : List Kept → Offering → Result ℕ NumberFault × Entries → Result HostReply HostFault × HostPart
+from_entries kept o (Ok n, e) = (Ok (Numbered n), part_with e (slice_set kept o.pointer.who (record { boot = o.boot; count = o.number })))
+from_entries kept o (Err fault, e) = (Err (Number fault), part_with e kept)
+
+from_entries-numbered : (e : Entries) (kept : List Kept) (o : Offering) (fault : Option NumberFault)
+    → part_offer_numbered (part_with e kept) o fault ≡ from_entries kept o (listed e (e.last +ℤ pos 1) (Pointer o.pointer) fault)
+from_entries-numbered e kept o None = refl
+from_entries-numbered e kept o (Some fault) = refl
 
 -- the next offer
-pub take-next : (h : HostState) (o : Offering) (k : Kept) (result : Result ℕ NumberFault) (new : List Stamp) → slice_get h.kept o.pointer.who ≡ Some k → reply_before k o ≡ None
-    → IsListed h.list (last_time h.list +ℤ pos 1) (Pointer o.pointer) result new
-    → IsHostTake h (Offer o) (from_list h o result new).0 (from_list h o result new).1
-take-next h o k result new at is (inl e) =
-    inl (came h o k None at is ∙ from_list-numbered h o (number_fault h.list (last_time h.list +ℤ pos 1))
-    ∙ ap (λ (r : Result ℕ NumberFault × List Stamp). from_list h o r.0 r.1) e)
-take-next h o k (Ok n) new at is (inr m) = absurd (ok-err n Memory m.1)
-take-next h o k (Err fault) new at is (inr m) =
-    let next = came h o k None at is ∙ ap (offer_numbered h o) m.0 in
+pub take-next : (e : Entries) (kept : List Kept) (o : Offering) (k : Kept) (result : Result ℕ NumberFault) (new : Entries) → slice_get kept o.pointer.who ≡ Some k → reply_before k o ≡ None
+    → IsListed e (e.last +ℤ pos 1) (Pointer o.pointer) result new
+    → IsPartTake (part_with e kept) (Offer o) (from_entries kept o (result, new)).0 (from_entries kept o (result, new)).1
+take-next e kept o k result new at is (inl l) =
+    inl (came (part_with e kept) o k None at is ∙ from_entries-numbered e kept o (fault_behind e.count e.last (e.last +ℤ pos 1))
+    ∙ ap (λ (r : Result ℕ NumberFault × Entries). from_entries kept o r) l)
+take-next e kept o k (Ok n) new at is (inr m) = absurd (ok-err n Memory m.1)
+take-next e kept o k (Err fault) new at is (inr m) =
+    let next = came (part_with e kept) o k None at is ∙ ap (part_offer_numbered (part_with e kept) o) m.0 in
     inr (
-      (length h.list + 1, ap (λ (r : Result HostReply HostFault × HostState). r.0) next),
+      (e.count + 1, ap (λ (r : Result HostReply HostFault × HostPart). r.0) next),
       ap Err (ap Number (same_Err fault Memory m.1)),
-      ap (λ (xs : List Stamp). let z : HostState = record { list = xs; kept = h.kept } in z) m.2,
+      ap (λ (x : Entries). part_with x kept) m.2,
     )
 
 -- the same, of what the calls gave
-pub take-numbered : (h : HostState) (o : Offering) (k : Kept) (p : Pointing) (who boot count n : ℕ) (list : List Stamp) (kept : List Kept)
+pub take-numbered : (e : Entries) (kept : List Kept) (o : Offering) (k : Kept) (p : Pointing) (who boot count n : ℕ) (new : Entries) (kept_new : List Kept)
     → p ≡ o.pointer → who ≡ o.pointer.who → boot ≡ o.boot → count ≡ o.number
-    → slice_get h.kept o.pointer.who ≡ Some k → reply_before k o ≡ None
-    → IsListed h.list (last_time h.list +ℤ pos 1) (Pointer p) (Ok n) list
-    → kept ≡ slice_set h.kept who (record { boot = boot; count = count })
-    → IsHostTake h (Offer o) (Ok (Numbered n)) (record { list = list; kept = kept })
-take-numbered h o k p who boot count n list kept same_p same_who same_boot same_count at is listed set =
-    let state : kept ≡ slice_set h.kept o.pointer.who (record { boot = o.boot; count = o.number }) = cc in
-    let whole : IsListed h.list (last_time h.list +ℤ pos 1) (Pointer o.pointer) (Ok n) list =
-    subst (λ (q : Pointing). IsListed h.list (last_time h.list +ℤ pos 1) (Pointer q) (Ok n) list) same_p listed in
-    subst (λ (ks : List Kept). IsHostTake h (Offer o) (Ok (Numbered n)) (record { list = list; kept = ks })) (sym state) (take-next h o k (Ok n) list at is whole)
+    → slice_get kept o.pointer.who ≡ Some k → reply_before k o ≡ None
+    → IsListed e (e.last +ℤ pos 1) (Pointer p) (Ok n) new
+    → kept_new ≡ slice_set kept who (record { boot = boot; count = count })
+    → IsPartTake (part_with e kept) (Offer o) (Ok (Numbered n)) (part_with new kept_new)
+take-numbered e kept o k p who boot count n new kept_new same_p same_who same_boot same_count at is listed set =
+    let state : kept_new ≡ slice_set kept o.pointer.who (record { boot = o.boot; count = o.number }) = cc in
+    let whole : IsListed e (e.last +ℤ pos 1) (Pointer o.pointer) (Ok n) new =
+    subst (λ (q : Pointing). IsListed e (e.last +ℤ pos 1) (Pointer q) (Ok n) new) same_p listed in
+    subst (λ (ks : List Kept). IsPartTake (part_with e kept) (Offer o) (Ok (Numbered n)) (part_with new ks)) (sym state) (take-next e kept o k (Ok n) new at is whole)
+
+-- ---- a clock
+
+clock-listed : (e : Entries) (kept : List Kept) (t : ℤ) (fault : Option NumberFault)
+    → part_clocked (part_with e kept) t fault ≡ (let r = listed e t Clock fault in (r.0, part_with r.1 kept))
+clock-listed e kept t None = refl
+clock-listed e kept t (Some fault) = refl
+
+pub clocked : (e : Entries) (kept : List Kept) (t : ℤ) (result : Result ℕ NumberFault) (new : Entries) → IsListed e t Clock result new
+    → IsPartClocked (part_with e kept) t result (part_with new kept)
+clocked e kept t result new (inl l) =
+    inl (clock-listed e kept t (fault_behind e.count e.last t)
+    ∙ ap (λ (r : Result ℕ NumberFault × Entries). let z : Result ℕ NumberFault × HostPart = (r.0, part_with r.1 kept) in z) l)
+clocked e kept t result new (inr m) =
+    inr (
+      subst (λ (f : Option NumberFault). IsOk (part_clocked (part_with e kept) t f).0) (sym m.0) refl,
+      m.1,
+      ap (λ (x : Entries). part_with x kept) m.2,
+    )
+
+-- ---- a packet
+
+choice : (b : Bool) (o : Option Stamp) → input_packet (cond b None o) ≡ cond b None (input_packet o)
+choice true o = refl
+choice false o = refl
+
+pub packet-entry : (e : Entries) (kept : List Kept) (n : ℕ) → input_packet (entry e n) ≡ part_packet (part_with e kept) n
+packet-entry e kept zero = refl
+packet-entry e kept (suc n) = choice (nat_lt (suc n) e.floor) (slice_get e.rest (suc n - e.floor))

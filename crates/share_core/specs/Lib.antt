@@ -4,3 +4,4 @@ pub mod Steps
 pub mod Viewer
 pub mod Ahead
 pub mod Rewinds
+pub mod Pieces

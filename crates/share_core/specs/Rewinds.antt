@@ -1,12 +1,18 @@
 -- What a viewer makes of the bytes of a snapshot, and which worlds have one.
-use Rattle.std.specs.Prelude.{◌≡◌, ◌⊎◌, ◌<◌, ℕ, List, None, Result, Ok, Err, nat_le}
-use Rattle.std.specs.Prelude.{if◌then◌else◌}
+use Rattle.std.specs.Prelude.{◌≡◌, ◌⊎◌, ◌<◌, ◌^◌, ℕ, List, Option, None, Some, Result, Ok, Err}
+use Rattle.std.specs.Prelude.{nat_le, if◌then◌else◌}
 use Rattle.cascade_core.specs.Course.{Scripted}
 use Rattle.snapshot_codec.specs.Head.{head_fault}
 use Rattle.snapshot_core.specs.declared.fault.SnapFault.{SnapFault}
 use Rattle.snapshot_core.specs.declared.fault.SnapFault.TheVariants.{BootNotNew, Memory}
-use Rattle.snapshot_core.specs.Loading.{loaded}
-use Rattle.share_law.specs.Viewer.{ViewerState, begun, spoiled_at}
+use Rattle.snapshot_core.specs.Loading.{HasSnapshot, loaded}
+use Rattle.snapshot_core.specs.Shot.{shot}
+use Rattle.share_law.specs.declared.fault.JoinFault.{JoinFault}
+use Rattle.share_law.specs.declared.fault.JoinFault.TheVariants.{NotWhole}
+use Rattle.share_law.specs.Calls.{IsJoin, IsNoJoin, left_by}
+use Rattle.share_law.specs.Network.{join_result}
+use Rattle.share_law.specs.Pieces.{Gathering, joined, whole_of}
+use Rattle.share_law.specs.Viewer.{Shot, ViewerState, begun, spoiled_at}
 use Rattle.share_core.specs.Viewer.{ViewerView, machine_of}
 
 -- it begins again in the world that was found, or stays as it is
@@ -30,3 +36,32 @@ IsRewound v boot bytes result new =
     (rewound v boot bytes ≡ (result, new))
     ⊎ ((v.state.boot < boot) × (head_fault 1 v.mark bytes ≡ None) × (result ≡ Err Memory)
     × (new ≡ spoiled_at (machine_of v) v.state 0))
+
+-- ---- what was gathered
+
+-- it begins again by the bytes of these pieces, where none are missing
+abbrev pub IsBegunFrom : ViewerView → Option Gathering → (boot : ℕ) → Result ℕ JoinFault
+    → ViewerState Scripted → Type 0
+IsBegunFrom v None boot result new = (result ≡ Err NotWhole) × (new ≡ v.state)
+IsBegunFrom v (Some g) boot result new =
+    (rewound : Result ℕ SnapFault) × IsRewound v boot (joined g.places) rewound new
+    × (result ≡ join_result rewound)
+
+-- it begins again by the bytes that it gathered, where none are missing, and then gathers anew;
+-- else what it gathered stays
+abbrev pub IsJoined : ViewerView → Option Gathering → (boot : ℕ) → Result ℕ JoinFault
+    → ViewerState Scripted → Option Gathering → Type 0
+IsJoined v None boot result new held = IsNoJoin v.state v.gathering result new held
+IsJoined v (Some g) boot result new held =
+    (rewound : Result ℕ SnapFault) × IsRewound v boot (joined g.places) rewound new
+    × (result ≡ join_result rewound) × (held ≡ left_by v.gathering rewound)
+
+-- where it has gathered the bytes of a world's snapshot, that is the law's step
+abbrev pub IsLawfulJoin : ViewerView → (boot : ℕ) → Result ℕ JoinFault → ViewerState Scripted
+    → Option Gathering → Type 0
+IsLawfulJoin v boot result new held =
+    (g : Gathering) → whole_of v.gathering ≡ Some g
+    → (from : Shot Scripted) → from.boot < 2 ^ 32
+    → HasSnapshot v.scene from.state
+    → joined g.places ≡ shot v.mark from.boot v.scene from.state
+    → IsJoin (machine_of v) v.state v.gathering from boot result new held

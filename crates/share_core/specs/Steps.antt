@@ -1,10 +1,9 @@
 -- What the parts of a call do.
-use Rattle.std.specs.Prelude.{◌≡◌, ◌⊎◌, ℕ, ◌+◌, ◌-◌, ◌^◌, ℤ, ◌&&◌, not, List, length}
+use Rattle.std.specs.Prelude.{◌≡◌, ◌⊎◌, ℕ, ◌+◌, ◌-◌, ◌^◌, ℤ, ◌&&◌, not, [], ◌∷◌, ◌++◌, length}
 use Rattle.std.specs.Prelude.{if◌then◌else◌, nat_lt, nat_le, Option, None, Some, Result, Ok, Err}
 use Rattle.x3d_values.specs.declared.pointing.Point.{Point}
 use Rattle.x3d_values.specs.declared.stamped.Event.{Event}
 use Rattle.x3d_values.specs.Ranges.{coordinates_fit, is_zero}
-use Rattle.x3d_values.specs.Stamp.{Stamp}
 use Rattle.share_wire.specs.Messages.{Offering}
 use Rattle.share_law.specs.declared.fault.NumberFault.{NumberFault}
 use Rattle.share_law.specs.declared.fault.NumberFault.TheVariants.{Memory}
@@ -14,23 +13,32 @@ use Rattle.share_law.specs.declared.fault.OfferFault.TheVariants.{OfferFull, Off
 use Rattle.share_law.specs.declared.kept.Kept.{Kept}
 use Rattle.share_law.specs.declared.reply.HostReply.{HostReply}
 use Rattle.share_law.specs.declared.reply.HostReply.TheVariants.{Repeat, Ahead, OldBoot}
-use Rattle.share_law.specs.Host.{count_for, number_fault, numbered}
+use Rattle.share_law.specs.Host.{count_for}
+use Rattle.share_law.specs.Parts.{fault_behind}
 use Rattle.share_core.specs.declared.waiting.Aim.{Aim}
+use Rattle.share_core.specs.Host.{Entries}
 use Rattle.share_core.specs.Waiting.{Offers}
 
 -- ---- the host
 
--- the number of an event at time t and the list with it, or why it has none
-abbrev pub listed : List Stamp → ℤ → Event → Option NumberFault → Result ℕ NumberFault × List Stamp
-listed list t event (Some fault) = (Err fault, list)
-listed list t event None = (Ok (length list + 1), numbered list t event)
+-- the number of an event at time t and the inputs with it, or why it has none
+abbrev pub listed : Entries → ℤ → Event → Option NumberFault → Result ℕ NumberFault × Entries
+listed e t event (Some fault) = (Err fault, e)
+listed e t event None = (
+  Ok (e.count + 1),
+  record e {
+    rest = e.rest ++ record { number = e.count + 1; time = t; event = event } ∷ [];
+    count = e.count + 1;
+    last = t;
+  },
+)
 
--- the same of a real list: memory is refused only where there is no other fault, and then nothing
+-- the same of real inputs: memory is refused only where there is no other fault, and then nothing
 -- changed
-abbrev pub IsListed : List Stamp → ℤ → Event → Result ℕ NumberFault → List Stamp → Type 0
-IsListed list t event result new =
-    (listed list t event (number_fault list t) ≡ (result, new))
-    ⊎ ((number_fault list t ≡ None) × (result ≡ Err Memory) × (new ≡ list))
+abbrev pub IsListed : Entries → ℤ → Event → Result ℕ NumberFault → Entries → Type 0
+IsListed e t event result new =
+    (listed e t event (fault_behind e.count e.last t) ≡ (result, new))
+    ⊎ ((fault_behind e.count e.last t ≡ None) × (result ≡ Err Memory) × (new ≡ e))
 
 -- what is answered to an offer that isn't the next of its viewer
 abbrev pub reply_before : Kept → Offering → Option HostReply

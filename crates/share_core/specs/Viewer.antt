@@ -8,15 +8,18 @@ use Rattle.cascade_core.specs.Held.{Held}
 use Rattle.cascade_core.specs.Held as held
 use Rattle.share_law.specs.Cascade.{cascade}
 use Rattle.share_law.specs.Machine.{Machine}
+use Rattle.share_law.specs.Pieces.{Gathering}
 use Rattle.share_law.specs.Viewer.{View, Spoiled, Running, ViewerState}
 
--- the mark of its scene, its number, its scene with the routes, and what the law knows of a viewer
+-- the mark of its scene, its number, its scene with the routes, what the law knows of a viewer, and
+-- what it gathers of a snapshot
 pub record ViewerView : Type 0 where
   pub mark : List ℕ
   pub who : ℕ
   pub scene : SceneView
   pub routes : List Route
   pub state : ViewerState Scripted
+  pub gathering : Option Gathering
 
 -- the worlds that it may hold
 abbrev pub machine_of : ViewerView → Machine Scripted
@@ -25,6 +28,10 @@ machine_of v = cascade v.mark v.scene v.routes
 -- the same viewer with another world, other offers or in another boot
 abbrev pub with_state : ViewerView → ViewerState Scripted → ViewerView
 with_state v state = record v { state = state }
+
+-- the same viewer with other pieces of a snapshot
+abbrev pub with_gathering : ViewerView → Option Gathering → ViewerView
+with_gathering v held = record v { gathering = held }
 
 -- what is held by a stage and a window
 abbrev pub view_of : Held → List (Option Stamp) → View Scripted

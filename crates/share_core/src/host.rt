@@ -1,20 +1,23 @@
 //! The host: it numbers inputs, and keeps of each viewer how many of its offers are numbered.
 
-ghost use Rattle.std.specs.Prelude.{◌≡◌, ◌<◌, length, slice_get, slice_set};
-ghost use Rattle.share_law.specs.Host.{count_for};
+ghost use Rattle.std.specs.Prelude.{◌≡◌, ◌<◌, Ok, length, slice_get, slice_set};
+ghost use Rattle.std.specs.Option.{option_map};
+ghost use Rattle.share_law.specs.Host.{count_for, input_packet};
+ghost use Rattle.share_wire.specs.Datagram.{datagram};
+ghost use Rattle.share_wire.specs.Decoding.{decoded};
 ghost use Rattle.share_core.specs.Steps.{reply_before};
 
 use crate::inputs::Inputs;
 use arrayvec::ArrayVec;
-use share_law::{HostFault, HostReply, Kept, NumberFault};
+use share_law::{FloorFault, HostFault, HostReply, Kept, NumberFault};
 use share_rules::{Turn, span_of, turn_of};
-use share_wire::{Ack, Ask, Body, Message, Offer, Packet, decode, encode};
+use share_wire::{Ack, Ask, Body, Floor, Message, Offer, Packet, decode, encode};
 use std::alloc::Global;
 use std::marker::Model;
-use x3d_values::Event;
+use x3d_values::{Event, Stamped};
 
-/// The host of a shared world: the mark of its scene, the inputs that it numbered, and what it
-/// keeps of each viewer.
+/// The host of a shared world: the mark of its scene, the inputs that it numbered, from its floor
+/// on, and what it keeps of each viewer.
 #[derive(Drop)]
 pub struct Host {
     mark: [u8; 32],
@@ -23,17 +26,14 @@ pub struct Host {
 }
 
 impl Model for Host {
-    ghost use Rattle.std.specs.Prelude.{◌≤◌, length};
-    ghost use Rattle.share_core.specs.Host.{HostView};
+    ghost use Rattle.std.specs.Prelude.{◌≡◌, ◌≤◌, length};
+    ghost use Rattle.share_core.specs.Host.{HostView, part_with};
 
     ghost Value = { HostView };
 
-    ghost view = { λ h. record {
-      mark = h.mark;
-      host = record { list = h.inputs; kept = h.kept.items };
-    } };
+    ghost view = { λ h. record { mark = h.mark; part = part_with h.inputs h.kept.items } };
 
-    ghost invariant = { λ h. length h.kept.items ≤ 16 };
+    ghost invariant = { λ h. (length h.kept.items ≤ 16) × (length h.mark ≡ 32) };
 }
 
 /// How many offers of a boot are numbered: none of a boot above the one that is kept.
@@ -70,14 +70,33 @@ fn set_kept(kept: &mut ArrayVec<Kept, 16>, who: u8, now: Kept)
     kept.as_mut_slice()[who as usize] = now;
 }
 
+/// The packet of an input, if there is one.
+fn packet_of(mark: [u8; 32], input: Option<Stamped>) -> Option<Packet>
+    ensures bytes { option_map (λ p. p.items) result
+        ≡ option_map (λ body. datagram (record { mark = mark; body = body }))
+        (input_packet input) }
+    ensures again { option_map (λ p. decoded p.items) result
+        ≡ option_map (λ body. Ok (record { mark = mark; body = body })) (input_packet input) }
+{
+    match input {
+        Some(input) => Some(encode(&Message {
+            mark,
+            body: Body::Input(input),
+        })),
+        None => None,
+    }
+}
+
 impl Host {
     ghost use Rattle.std.specs.Prelude.{◌≡◌, ◌<◌, ◌≤◌, ◌^◌, Some, IfOk, length, slice_get};
     ghost use Rattle.std.specs.Option.{option_map};
     ghost use Rattle.share_wire.specs.Datagram.{datagram};
     ghost use Rattle.share_wire.specs.Decoding.{decoded};
     ghost use Rattle.share_wire.specs.declared.message.Body.TheVariants as body;
-    ghost use Rattle.share_law.specs.Host.{ack_of, ask_came, host_packet, new_host};
-    ghost use Rattle.share_law.specs.Calls.{IsClocked, IsHostTake, IsHostTakeOf};
+    ghost use Rattle.share_law.specs.Host.{ack_of};
+    ghost use Rattle.share_law.specs.Parts.{new_part, part_ask_came, part_drop_below, part_packet};
+    ghost use Rattle.share_law.specs.Parts.{part_floor_packet};
+    ghost use Rattle.share_law.specs.Calls.{IsPartClocked, IsPartTake, IsPartTakeOf};
     ghost use Rattle.share_core.specs.Host.{AreNumbered};
 
     /// The host of a scene with this mark, for viewers that are numbered from 0: 1 to 16 of them.
@@ -85,7 +104,7 @@ impl Host {
     pub fn new(alloc: Global, mark: [u8; 32], viewers: u8) -> Host
         requires some { 1 ≤ viewers }
         requires most { viewers ≤ 16 }
-        ensures { result ≡ record { mark = mark; host = new_host viewers } }
+        ensures { result ≡ record { mark = mark; part = new_part viewers } }
     {
         let mut kept = ArrayVec::from_array_in((), [Kept::default(); 16]);
         kept.truncate(viewers as usize);
@@ -103,42 +122,85 @@ impl Host {
     /// 10^18; `Memory`. A refusal changes nothing.
     pub fn clock(&mut self, time: i64) -> Result<u32, NumberFault>
         ensures mark { self.new.mark ≡ self.old.mark }
-        ensures step { IsClocked self.old.host time result self.new.host }
+        ensures step { IsPartClocked self.old.part time result self.new.part }
     {
         self.inputs.add(time, Event::Clock)
     }
 
-    /// The packet of the input of this number, from 1, if there is one. Takes no memory.
+    /// The packet of the input of this number, from the floor on, if there is one. Takes no memory.
     pub fn packet(&self, number: u32) -> Option<Packet>
         ensures bytes { option_map (λ p. p.items) result
             ≡ option_map (λ body. datagram (record { mark = self.now.mark; body = body }))
-            (host_packet self.now.host number) }
+            (part_packet self.now.part number) }
         // They are decoded as that input.
         ensures again { option_map (λ p. decoded p.items) result
             ≡ option_map (λ body. Ok (record { mark = self.now.mark; body = body }))
-            (host_packet self.now.host number) }
+            (part_packet self.now.part number) }
     {
-        if number == 0 {
-            return None;
+        packet_of(self.mark, self.inputs.get(number))
+    }
+
+    /// The number from which on there are packets of inputs: 1 at first, and at most the next
+    /// input's.
+    pub fn floor(&self) -> u32
+        ensures { result ≡ self.now.part.floor }
+    {
+        self.inputs.floor()
+    }
+
+    /// Drops the inputs below this number, and gives it; their memory is used again or freed. Takes
+    /// no memory.
+    ///
+    /// Refused in this order: `FloorBack`, below the floor; `FloorAhead`, above the number of the
+    /// next input. A refusal changes nothing.
+    pub fn drop_below(&mut self, floor: u32) -> Result<u32, FloorFault>
+        ensures mark { self.new.mark ≡ self.old.mark }
+        ensures step { part_drop_below self.old.part floor ≡ (result, self.new.part) }
+    {
+        if floor < self.inputs.floor() {
+            return Err(FloorFault::FloorBack);
         }
-        let input = self.inputs.get(number - 1)?;
-        Some(encode(&Message {
+        if floor > self.inputs.len() + 1 {
+            return Err(FloorFault::FloorAhead);
+        }
+        self.inputs.drop_below(floor);
+        Ok(floor)
+    }
+
+    /// The packet that tells the floor. Takes no memory.
+    pub fn floor_packet(&self) -> Packet
+        ensures bytes { result.items
+            ≡ datagram (record { mark = self.now.mark; body = part_floor_packet self.now.part }) }
+        // They are decoded as that floor.
+        ensures again { decoded result.items
+            ≡ Ok (record { mark = self.now.mark; body = part_floor_packet self.now.part }) }
+    {
+        let _count = self.inputs.len();
+        encode(&Message {
             mark: self.mark,
-            body: Body::Input(input),
-        }))
+            body: Body::Floor(Floor::new(self.inputs.floor())),
+        })
     }
 
     /// How many inputs are numbered: at most 2^20.
     pub fn len(&self) -> u32
-        ensures value { result ≡ length self.now.host.list }
+        ensures value { result ≡ self.now.part.count }
         ensures most { result ≤ 2 ^ 20 }
     {
         self.inputs.len()
     }
 
+    /// The mark of its scene.
+    pub fn mark(&self) -> [u8; 32]
+        ensures value { result ≡ self.now.mark }
+        ensures bytes { length result ≡ 32 }
+    {
+        self.mark
+    }
+
     /// How many viewers there are: 1 to 16.
     pub fn viewers(&self) -> u8
-        ensures { result ≡ length self.now.host.kept }
+        ensures { result ≡ length self.now.part.kept }
     {
         self.kept.len() as u8
     }
@@ -146,14 +208,14 @@ impl Host {
     /// The packet that tells a viewer how many offers of which of its boots are numbered. `viewers`
     /// is the test. Takes no memory.
     pub fn ack(&self, who: u8) -> Packet
-        requires { who < length self.now.host.kept }
+        requires { who < length self.now.part.kept }
         ensures bytes { option_map
             (λ kept. datagram (record { mark = self.now.mark; body = ack_of who kept }))
-            (slice_get self.now.host.kept who) ≡ Some result.items }
+            (slice_get self.now.part.kept who) ≡ Some result.items }
         // They are decoded as that ack.
         ensures again { option_map
             (λ kept. Ok (record { mark = self.now.mark; body = ack_of who kept }))
-            (slice_get self.now.host.kept who) ≡ Some (decoded result.items) }
+            (slice_get self.now.part.kept who) ≡ Some (decoded result.items) }
     {
         let kept = self.kept.as_slice()[who as usize];
         encode(&Message {
@@ -164,20 +226,20 @@ impl Host {
 
     /// Takes the bytes of a packet.
     ///
-    /// An ask is answered with the inputs from the one asked for on, at most 64, and with
-    /// `NothingToDo` where that one isn't numbered yet. The next offer of a viewer is numbered 1
+    /// An ask is answered with the inputs from the one asked for on, at most 64; with the floor
+    /// where that one is below it; and with `NothingToDo` where it isn't numbered yet. The next offer of a viewer is numbered 1
     /// microsecond after the last input; an earlier one is a `Repeat`, a later one is `Ahead`, and
-    /// one of an earlier boot is of an `OldBoot`. Of a higher boot no offer is numbered yet. Inputs
-    /// and acks are `NothingToDo`.
+    /// one of an earlier boot is of an `OldBoot`. Of a higher boot no offer is numbered yet. Inputs,
+    /// acks, floors and pieces are `NothingToDo`.
     ///
     /// Refused in this order: `Wire`, where the bytes are no datagram; `WrongScene`, where it has
     /// another mark; `BadViewer`, an ask or an offer of a viewer that there isn't; `Number`, where
     /// an offer's input can't be numbered. A refusal changes nothing.
     pub fn take(&mut self, bytes: &[u8]) -> Result<HostReply, HostFault>
         ensures mark { self.new.mark ≡ self.old.mark }
-        ensures asked { IfOk result (AreNumbered self.new.host) }
-        ensures step { IsHostTakeOf self.old.mark self.old.host (decoded bytes.now) result
-            self.new.host }
+        ensures asked { IfOk result (AreNumbered self.new.part) }
+        ensures step { IsPartTakeOf self.old.mark self.old.part (decoded bytes.now) result
+            self.new.part }
     {
         let message = match decode(bytes) {
             Ok(message) => message,
@@ -191,24 +253,30 @@ impl Host {
 
     fn take_body(&mut self, body: Body) -> Result<HostReply, HostFault>
         ensures mark { self.new.mark ≡ self.old.mark }
-        ensures asked { IfOk result (AreNumbered self.new.host) }
-        ensures step { IsHostTake self.old.host body result self.new.host }
+        ensures asked { IfOk result (AreNumbered self.new.part) }
+        ensures step { IsPartTake self.old.part body result self.new.part }
     {
         match body {
             Body::Ask(ask) => self.take_ask(ask),
             Body::Offer(offer) => self.take_offer(offer),
-            Body::Input(_) | Body::Ack(_) => Ok(HostReply::NothingToDo),
+            Body::Input(_) | Body::Ack(_) | Body::Floor(_) | Body::Piece(_) => {
+                Ok(HostReply::NothingToDo)
+            }
         }
     }
 
     /// Which inputs are asked for.
     fn take_ask(&self, ask: Ask) -> Result<HostReply, HostFault>
-        ensures asked { IfOk result (AreNumbered self.now.host) }
+        ensures asked { IfOk result (AreNumbered self.now.part) }
         ensures reply { result
-            ≡ ask_came self.now.host ask.next (slice_get self.now.host.kept ask.who) }
+            ≡ part_ask_came self.now.part ask.next (slice_get self.now.part.kept ask.who) }
     {
         if ask.who() as usize >= self.kept.len() {
             return Err(HostFault::BadViewer);
+        }
+        let floor = self.inputs.floor();
+        if ask.next() < floor {
+            return Ok(HostReply::Below(floor));
         }
         let count = self.inputs.len();
         if ask.next() > count {
@@ -224,8 +292,8 @@ impl Host {
     /// Numbers an offer, if it is the next one of its viewer.
     fn take_offer(&mut self, offer: Offer) -> Result<HostReply, HostFault>
         ensures mark { self.new.mark ≡ self.old.mark }
-        ensures asked { IfOk result (AreNumbered self.new.host) }
-        ensures step { IsHostTake self.old.host (body.Offer offer) result self.new.host }
+        ensures asked { IfOk result (AreNumbered self.new.part) }
+        ensures step { IsPartTake self.old.part (body.Offer offer) result self.new.part }
     {
         let who = offer.pointer().who();
         let Some(kept) = kept_of(&self.kept, who) else {

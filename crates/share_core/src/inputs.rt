@@ -1,111 +1,158 @@
 //! The inputs that a host numbered.
 
-ghost use Rattle.std.specs.Prelude.{◌≡◌, ◌≤◌, ◌^◌, [], length, pos, ◌≤ℤ◌, ◌+ℤ◌, slice_get};
-ghost use Rattle.share_law.specs.Host.{last_time, number_fault};
+ghost use Rattle.std.specs.Prelude.{◌≡◌, ◌≤◌, ◌+◌, ◌^◌, [], drop, slice_get, pos, ◌+ℤ◌};
+ghost use Rattle.share_law.specs.Parts.{fault_behind};
+ghost use Rattle.share_core.specs.Host.{dropped, entry};
 ghost use Rattle.share_core.specs.Steps.{IsListed};
 
 use share_law::NumberFault;
 use std::alloc::Global;
+use std::collections::VecDeque;
 use std::marker::Model;
 use x3d_values::{Event, MAX_INPUTS, MAX_TIME, Stamped};
 
-/// The inputs of a world, in the order of their numbers.
+/// The inputs of a world from its floor on, in the order of their numbers, how many there were in
+/// all, and when the last was, in microseconds.
 #[derive(Drop)]
 pub(crate) struct Inputs {
-    list: Vec<Stamped>,
+    rest: VecDeque<Stamped>,
+    floor: u32,
+    count: u32,
+    last: i64,
 }
 
 impl Model for Inputs {
-    ghost use Rattle.std.specs.Prelude.{◌≤◌, ◌^◌, List, pos, ◌≤ℤ◌, length};
-    ghost use Rattle.x3d_values.specs.Stamp.{Stamp};
-    ghost use Rattle.share_law.specs.Host.{last_time};
+    ghost use Rattle.std.specs.Prelude.{◌≤◌, ◌+◌, ◌^◌, pos, ◌≤ℤ◌};
+    ghost use Rattle.share_core.specs.Host.{Entries};
 
-    ghost Value = { List Stamp };
+    ghost Value = { Entries };
 
-    ghost view = { λ h. h.list.items };
+    ghost view = { λ i. record {
+      floor = i.floor;
+      rest = i.rest.items;
+      count = i.count;
+      last = i.last;
+    } };
 
-    ghost invariant = { λ h. (length h.list.items ≤ 2 ^ 20)
-        × (pos 0 ≤ℤ last_time h.list.items) × (last_time h.list.items ≤ℤ pos (10 ^ 18)) };
+    ghost invariant = { λ i. (1 ≤ i.floor) × (i.floor ≤ i.count + 1) × (i.count ≤ 2 ^ 20)
+        × (pos 0 ≤ℤ i.last) × (i.last ≤ℤ pos (10 ^ 18)) };
 }
 
-/// The time of the last input, or 0.
-fn last_time(list: &[Stamped]) -> i64
-    ensures { result ≡ last_time list.now }
+/// The first so many leave. Their places are used again, and freed once few are left.
+fn drop_front(list: &mut VecDeque<Stamped>, count: usize)
+    ensures { list.new.items ≡ drop count list.old.items }
 {
-    match list.last() {
-        Some(input) => input.time(),
-        None => 0,
+    for _gone in 0..count {
+        list.pop_front();
     }
+    free_most(list);
 }
 
-/// Why no input is numbered at a time, memory aside.
-#[tactic(auto, unfolding(share_law::specs::Host::number_fault))]
-fn fault_at(list: &[Stamped], time: i64) -> Option<NumberFault>
-    ensures { result ≡ number_fault list.now time }
+/// Frees places where more than three of four are empty.
+fn free_most(list: &mut VecDeque<Stamped>)
+    ensures { list.new.items ≡ list.old.items }
 {
-    if list.len() >= MAX_INPUTS as usize {
-        Some(NumberFault::WorldFull)
-    } else if time <= last_time(list) {
-        Some(NumberFault::TimeNotLater)
-    } else if time > MAX_TIME {
-        Some(NumberFault::TimeRange)
-    } else {
-        None
+    if list.capacity() / 4 > list.len() {
+        list.shrink_to(2 * list.len());
     }
 }
 
 impl Inputs {
     /// No inputs. Takes no memory.
     pub(crate) fn new(alloc: Global) -> Inputs
-        ensures { result ≡ [] }
+        ensures { result ≡ record { floor = 1; rest = []; count = 0; last = pos 0 } }
     {
         Inputs {
-            list: Vec::new(alloc),
+            rest: VecDeque::new(alloc),
+            floor: 1,
+            count: 0,
+            last: 0,
         }
     }
 
+    /// How many there were in all.
     pub(crate) fn len(&self) -> u32
-        ensures value { result ≡ length self.now }
-        ensures fits { length self.now ≤ 2 ^ 20 }
+        ensures value { result ≡ self.now.count }
+        ensures fits { self.now.count ≤ 2 ^ 20 }
     {
-        self.list.len() as u32
+        self.count
     }
 
-    /// The input at a place from 0, if there is one.
-    pub(crate) fn get(&self, place: u32) -> Option<Stamped>
-        ensures { result ≡ slice_get self.now place }
+    /// The number of the first that is there, or of the next.
+    pub(crate) fn floor(&self) -> u32
+        ensures value { result ≡ self.now.floor }
+        ensures from { 1 ≤ self.now.floor }
+        ensures to { self.now.floor ≤ self.now.count + 1 }
     {
-        self.list.get(place as usize).copied()
+        self.floor
     }
 
-    /// The time of the last input, or 0, in microseconds.
-    pub(crate) fn last_time(&self) -> i64
-        ensures value { result ≡ last_time self.now }
-        ensures from { pos 0 ≤ℤ result }
-        ensures to { result ≤ℤ pos (10 ^ 18) }
+    /// The input of a number, if it is there.
+    pub(crate) fn get(&self, number: u32) -> Option<Stamped>
+        ensures { result ≡ entry self.now number }
     {
-        last_time(&self.list)
+        if number < self.floor {
+            return None;
+        }
+        at(&self.rest, number - self.floor)
+    }
+
+    /// Why no input is numbered at a time, memory aside.
+    #[tactic(auto, unfolding(share_law::specs::Parts::fault_behind))]
+    fn fault_at(&self, time: i64) -> Option<NumberFault>
+        ensures { result ≡ fault_behind self.now.count self.now.last time }
+    {
+        if self.count >= MAX_INPUTS {
+            Some(NumberFault::WorldFull)
+        } else if time <= self.last {
+            Some(NumberFault::TimeNotLater)
+        } else if time > MAX_TIME {
+            Some(NumberFault::TimeRange)
+        } else {
+            None
+        }
     }
 
     /// Numbers an input at a time in microseconds.
     pub(crate) fn add(&mut self, time: i64, event: Event) -> Result<u32, NumberFault>
         ensures { IsListed self.old time event result self.new }
     {
-        if let Some(fault) = fault_at(&self.list, time) {
+        if let Some(fault) = self.fault_at(time) {
             return Err(fault);
         }
-        let number = self.list.len() as u32 + 1;
-        match self.list.push(Stamped::new(number, time, event)) {
-            Ok(()) => Ok(number),
+        let number = self.count + 1;
+        match self.rest.push_back(Stamped::new(number, time, event)) {
+            Ok(()) => {
+                self.count = number;
+                self.last = time;
+                Ok(number)
+            }
             Err(_) => Err(NumberFault::Memory),
         }
     }
 
     /// Numbers an input 1 microsecond after the last one.
     pub(crate) fn add_next(&mut self, event: Event) -> Result<u32, NumberFault>
-        ensures { IsListed self.old (last_time self.old +ℤ pos 1) event result self.new }
+        ensures { IsListed self.old (self.old.last +ℤ pos 1) event result self.new }
     {
-        let time = self.last_time() + 1;
+        let time = self.last + 1;
         self.add(time, event)
     }
+
+    /// Those below this number leave. Takes no memory.
+    pub(crate) fn drop_below(&mut self, floor: u32)
+        requires from { self.old.floor ≤ floor }
+        requires to { floor ≤ self.old.count + 1 }
+        ensures { self.new ≡ dropped self.old floor }
+    {
+        drop_front(&mut self.rest, (floor - self.floor) as usize);
+        self.floor = floor;
+    }
+}
+
+/// The input at a place from 0, if there is one.
+fn at(list: &VecDeque<Stamped>, place: u32) -> Option<Stamped>
+    ensures { result ≡ slice_get list.now.items place }
+{
+    list.get(place as usize).copied()
 }

@@ -4,8 +4,10 @@
 mod ahead;
 mod host;
 mod inputs;
+mod pieces;
 mod viewer;
 mod waiting;
 
 pub use host::Host;
+pub use pieces::{piece_count, piece_packet};
 pub use viewer::Viewer;

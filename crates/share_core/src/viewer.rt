@@ -1,24 +1,29 @@
 //! A viewer of a shared world: it applies the host's inputs in turn, and offers what it points at.
 
+ghost use Rattle.std.specs.Prelude.{◌≡◌, ◌≤◌, ◌+◌, ◌^◌, if◌then◌else◌, nat_lt, None, Some};
+ghost use Rattle.share_law.specs.Network.{join_result};
+
 use crate::ahead::take_input;
 use crate::waiting::Waiting;
 use cascade_core::{PlaceFault, Stage, TextFault};
 use script_host::Behaviour;
-use share_law::{OfferFault, TakeFault, Taken};
+use share_gather::{Pieces, gather};
+use share_law::{GatherFault, Gathered, JoinFault, OfferFault, TakeFault, Taken};
 use share_rules::Window;
-use share_wire::{Ack, Ask, Body, Message, Packet, decode, encode};
+use share_wire::{Ack, Ask, Body, Floor, Message, Packet, decode, encode};
 use snapshot_core::{SaveFault, SnapFault, load_into, save};
 use std::marker::Model;
 use x3d_values::{Point, Stamped};
 
 /// A viewer of a shared world: the mark of its scene, its stage, the inputs that came before their
-/// turn, and the offers that wait.
+/// turn, the offers that wait, and the pieces of a snapshot that came.
 #[derive(Drop)]
 pub struct Viewer<B: Behaviour> {
     mark: [u8; 32],
     stage: Stage<B>,
     window: Window,
     offers: Waiting,
+    gathering: Option<Pieces>,
 }
 
 impl<B: Behaviour> Model for Viewer<B> {
@@ -36,14 +41,49 @@ impl<B: Behaviour> Model for Viewer<B> {
       scene = v.stage.scene;
       routes = v.stage.routes;
       state = with_offers v.offers (view_of v.stage.held v.window);
+      gathering = v.gathering;
     } };
 
     ghost invariant = { λ v. (applied_of v.stage.held ≤ 2 ^ 20)
         × InPlace (applied_of v.stage.held + 1) v.window × (length v.mark ≡ 32) };
 }
 
+/// The pieces, unless they were joined.
+fn unless(joined: bool, pieces: Pieces) -> Option<Pieces>
+    ensures { result ≡ if joined then None else Some pieces }
+{
+    if joined {
+        drop(pieces);
+        None
+    } else {
+        Some(pieces)
+    }
+}
+
+/// What a join answers where a rewind did so.
+fn joined(rewound: Result<u32, SnapFault>) -> Result<u32, JoinFault>
+    ensures { result ≡ join_result rewound }
+{
+    match rewound {
+        Ok(applied) => Ok(applied),
+        Err(fault) => Err(JoinFault::Snap(fault)),
+    }
+}
+
+/// What a viewer that has applied so many inputs makes of a floor.
+fn behind(applied: u32, floor: Floor) -> Taken
+    requires { applied ≤ 2 ^ 20 }
+    ensures { result ≡ if nat_lt (applied + 1) floor then Taken.Behind else Taken.Noted }
+{
+    if floor.number() > applied + 1 {
+        Taken::Behind
+    } else {
+        Taken::Noted
+    }
+}
+
 impl<B: Behaviour> Viewer<B> {
-    ghost use Rattle.std.specs.Prelude.{◌≡◌, ◌<◌, ◌++◌, ◌^◌, false, Err, IfErr, IsSomeAnd, IsTrue, slice_get};
+    ghost use Rattle.std.specs.Prelude.{◌≡◌, ◌<◌, ◌++◌, ◌^◌, false, None, Some, Err, IfErr, IsSomeAnd, IsTrue, slice_get};
     ghost use Rattle.std.specs.Prelude.{OnErr, OnOk, length};
     ghost use Rattle.std.specs.Option.{option_map};
     ghost use Rattle.x3d_values.specs.Ranges.{is_viewer};
@@ -57,11 +97,13 @@ impl<B: Behaviour> Viewer<B> {
     ghost use Rattle.cascade_core.specs.Scripts.{kinds_in, scripts_in};
     ghost use Rattle.cascade_core.specs.Texts.{scene_text, trace_text};
     ghost use Rattle.cascade_core.specs.Course.{Scripted};
-    ghost use Rattle.share_law.specs.Calls.{IsRewind, IsTake, IsTakeOf};
+    ghost use Rattle.share_law.specs.Calls.{IsGatherOf, IsRewind, IsTake, IsTakeOf};
+    ghost use Rattle.share_law.specs.Pieces.{whole_of};
     ghost use Rattle.share_law.specs.Viewer.{Shot, applied_in, begun, viewer_ask, viewer_offer};
     ghost use Rattle.share_law.specs.Viewer.{viewer_resend};
     ghost use Rattle.share_core.specs.Viewer.{IfRunning, IfSpoiled, held_in, is_spoiled, machine_of};
-    ghost use Rattle.share_core.specs.Viewer.{with_state};
+    ghost use Rattle.share_core.specs.Viewer.{with_gathering, with_state};
+    ghost use Rattle.share_core.specs.Rewinds.{IsBegunFrom, IsJoined, IsLawfulJoin};
     ghost use Rattle.share_core.specs.Rewinds.{IsRewound};
     ghost use Rattle.snapshot_core.specs.Shot.{shot};
     ghost use Rattle.snapshot_core.specs.Loading.{HasSnapshot};
@@ -79,6 +121,7 @@ impl<B: Behaviour> Viewer<B> {
           scene = stage.scene;
           routes = stage.routes;
           state = begun boot (opening stage.scene stage.routes);
+          gathering = None;
         } }
     {
         Viewer {
@@ -86,6 +129,7 @@ impl<B: Behaviour> Viewer<B> {
             stage,
             window: Window::new(),
             offers: Waiting::new(who, boot),
+            gathering: None,
         }
     }
 
@@ -115,11 +159,12 @@ impl<B: Behaviour> Viewer<B> {
     /// An input that was applied is `Old`, and one that is more than 64 ahead `Beyond`. Another is
     /// kept, unless there is one of its number; then, while the next input is there, it is applied:
     /// `Applied` says how many were, and `Kept` that none was. An ack of this viewer is `Noted`: of
-    /// this boot, it lets go the waiting offers up to its count.
+    /// this boot, it lets go the waiting offers up to its count. A floor is `Behind` where the host
+    /// has the next input no more, and else `Noted`.
     ///
     /// Refused in this order: `Spoiled`, where memory was refused before; `Wire`, where the bytes
-    /// are no datagram; `WrongScene`, where it has another mark; `NotForMe`, an offer, an ask, or
-    /// another viewer's ack; each of these changes nothing. `TimeNotLater`, an input that isn't
+    /// are no datagram; `WrongScene`, where it has another mark; `NotForMe`, an offer, an ask, a
+    /// piece, or another viewer's ack; each of these changes nothing. `TimeNotLater`, an input that isn't
     /// later than the one before: it is dropped, and those before it stay applied. `Memory`: the
     /// viewer is spoiled with the inputs that it had applied.
     pub fn take(&mut self, bytes: &[u8]) -> Result<Taken, TakeFault>
@@ -149,7 +194,8 @@ impl<B: Behaviour> Viewer<B> {
         match body {
             Body::Input(input) => self.take_input(input),
             Body::Ack(ack) => self.take_ack(ack),
-            Body::Offer(_) | Body::Ask(_) => Err(TakeFault::NotForMe),
+            Body::Floor(floor) => Ok(self.take_floor(floor)),
+            Body::Offer(_) | Body::Ask(_) | Body::Piece(_) => Err(TakeFault::NotForMe),
         }
     }
 
@@ -173,6 +219,15 @@ impl<B: Behaviour> Viewer<B> {
         }
         self.offers.heed(ack);
         Ok(Taken::Noted)
+    }
+
+    /// Whether the host has the next input no more.
+    fn take_floor(&self, floor: Floor) -> Taken
+        requires { is_spoiled self.now.state.view ≡ false }
+        ensures { IsTake (machine_of self.now) self.now.who self.now.state (body.Floor floor)
+            (Ok result) self.now.state }
+    {
+        behind(self.stage.applied(), floor)
     }
 
     /// Offers a point, and gives the offer's number in this boot, from 1. Takes no memory.
@@ -302,6 +357,70 @@ impl<B: Behaviour> Viewer<B> {
         self.window.clear();
         self.offers = Waiting::new(self.offers.who(), boot);
         Ok(saved.applied)
+    }
+
+    /// Gathers the bytes of a packet, a piece of a snapshot, also where memory was refused before.
+    /// The first piece begins; of the same snapshot are those of its boot, with as many inputs and
+    /// as long.
+    ///
+    /// Refused in this order: `Wire`, where the bytes are no datagram; `WrongScene`, where it has
+    /// another mark; `NotPiece`; `Memory`, at the first piece alone. A refusal changes nothing.
+    pub fn gather(&mut self, bytes: &[u8]) -> Result<Gathered, GatherFault>
+        ensures others { self.new ≡ with_gathering self.old self.new.gathering }
+        ensures step { IsGatherOf self.old.mark self.old.gathering (decoded bytes.now) result
+            self.new.gathering }
+    {
+        let message = match decode(bytes) {
+            Ok(message) => message,
+            Err(fault) => return Err(GatherFault::Wire(fault)),
+        };
+        if message.mark != self.mark {
+            return Err(GatherFault::WrongScene);
+        }
+        gather(self.stage.allocator(), &mut self.gathering, &message.body)
+    }
+
+    /// Begins again in the world of the snapshot that was gathered, as another boot, also where
+    /// memory was refused before, and gives how many inputs that world has had. No piece is kept
+    /// then.
+    ///
+    /// Refused in this order: `NotWhole`, where a piece is missing; then as by `rewind`. A refusal
+    /// keeps what was gathered.
+    pub fn join(&mut self, boot: u32) -> Result<u32, JoinFault>
+        ensures others { self.new
+            ≡ with_gathering (with_state self.old self.new.state) self.new.gathering }
+        ensures step { IsJoined self.old (whole_of self.old.gathering) boot result self.new.state
+            self.new.gathering }
+        // By the snapshot of a world that has one it is the law's step.
+        ensures law { IsLawfulJoin self.old boot result self.new.state self.new.gathering }
+    {
+        let Some(pieces) = self.gathering.take() else {
+            return Err(JoinFault::NotWhole);
+        };
+        let answer = self.begin_from(&pieces, boot);
+        self.gathering = unless(answer.is_ok(), pieces);
+        answer
+    }
+
+    /// Begins again by the bytes of these pieces, where none are missing.
+    fn begin_from(&mut self, pieces: &Pieces, boot: u32) -> Result<u32, JoinFault>
+        ensures others { self.new ≡ with_state self.old self.new.state }
+        ensures step { IsBegunFrom self.old (whole_of (Some pieces.now)) boot result
+            self.new.state }
+        ensures mark { length self.old.mark ≡ 32 }
+    {
+        let _ = &self.mark;
+        let Some(bytes) = pieces.whole() else {
+            return Err(JoinFault::NotWhole);
+        };
+        joined(self.begin_again(bytes, boot))
+    }
+
+    /// Lets go what was gathered. Takes no memory.
+    pub fn forget(&mut self)
+        ensures { self.new ≡ with_gathering self.old None }
+    {
+        self.gathering = None;
     }
 
     /// Puts a box of the same kind in the place of the k-th script, in its state: what the viewer

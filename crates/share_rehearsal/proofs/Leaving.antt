@@ -1,24 +1,25 @@
 -- What a rehearsal leaves, by the law of the network that it stands for.
-use Rattle.std.proofs.Common.{◌≡◌, ℕ, ◌≤◌, pos, List, length, take, refl, ap, sym, ◌∙◌, subst}
+use Rattle.std.proofs.Common.{◌≡◌, ℕ, ◌+◌, ◌-◌, ◌≤◌, List, length, drop, refl, ap, sym, ◌∙◌, subst}
 use Rattle.std.specs.Prelude.{slice_get, Option, Some, None}
 use Rattle.std.specs.Option.{option_map}
 use Rattle.std.proofs.lemmas.Option.{same_Some, none-some}
 use Rattle.x3d_values.specs.Stamp.{Stamp}
 use Rattle.scene_core.specs.declared.scene.Route.{Route}
 use Rattle.scene_core.specs.Scene.{SceneView}
-use Rattle.cascade_core.specs.Apply.{world}
 use Rattle.cascade_core.specs.Course.{Scripted}
 use Rattle.cascade_core.specs.Texts.{scene_text, trace_text}
 use Rattle.share_law.specs.Agreement.{Agreement, TwoViewersAgree}
 use Rattle.share_law.specs.Cascade.{InEveryScene}
-use Rattle.share_law.specs.Lists.{IsAhead, ListGrows, Rises, WindowsAreAhead}
+use Rattle.share_law.specs.Floors.{FloorStands}
+use Rattle.share_law.specs.Host.{last_time}
+use Rattle.share_law.specs.Lists.{ListGrows, WindowsAreAhead}
 use Rattle.share_law.specs.Network.{Network, Seat}
 use Rattle.share_law.specs.Reached.{IsRunning}
 use Rattle.share_law.specs.Viewer.{Running}
 use Rattle.share_core.specs.Host.{HostView}
 use Rattle.share_core.specs.Viewer.{ViewerView}
 use Rattle.share_rehearsal.specs.Calls.{Seen}
-use Rattle.share_rehearsal.specs.Laws.{IsLeft, OfRehearsals, TimesRise, ViewersAgree, ViewersHold, WindowsHold}
+use Rattle.share_rehearsal.specs.Laws.{HostHolds, IsLeft, OfRehearsals, TimesRise, ViewersAgree, ViewersHold, WindowsHold}
 use Rattle.share_rehearsal.specs.Rehearsed.{StandFor, viewer_at}
 
 -- the viewer of a seat that runs
@@ -43,14 +44,10 @@ left_runs : (mark : List ℕ) (scene : SceneView) (routes : List Route) (left : 
 left_runs mark scene routes left net v x held window stand is =
     seat_runs mark scene routes net v x held window (slice_get net.viewers v) refl (sym is.is ∙ stand.viewers v) is.runs
 
-same_list : (mark : List ℕ) (scene : SceneView) (routes : List Route) (left : Seen) (net : Network Scripted) → StandFor mark scene routes left net → net.host.list ≡ left.host.host.list
-same_list mark scene routes left net stand = sym (ap (λ (h : HostView). h.host.list) stand.host)
-
 pub viewers_hold : ((mark : List ℕ) (scene : SceneView) (routes : List Route) → Agreement mark scene routes) → OfRehearsals ViewersHold
 viewers_hold law mark scene routes viewers steps answers left r v x held window is =
     let seat = left_runs mark scene routes left r.net v x held window r.stand is in
-    subst (λ (l : List Stamp). (held.world.applied ≤ length l) × (held ≡ world scene routes (take held.world.applied l)))
-    (same_list mark scene routes left r.net r.stand) (law mark scene routes r.net r.reached v held window seat.running)
+    law mark scene routes r.net r.reached v held window seat.running
 
 pub viewers_agree : ((mark : List ℕ) (scene : SceneView) (routes : List Route) → TwoViewersAgree mark scene routes) → OfRehearsals ViewersAgree
 viewers_agree law mark scene routes viewers steps answers left r v other x y held theirs window their_window is also level =
@@ -66,9 +63,16 @@ viewers_agree law mark scene routes viewers steps answers left r v other x y hel
 pub windows_hold : InEveryScene WindowsAreAhead → OfRehearsals WindowsHold
 windows_hold law mark scene routes viewers steps answers left r v x held window is =
     let seat = left_runs mark scene routes left r.net v x held window r.stand is in
-    subst (λ (l : List Stamp). IsAhead l held.world.applied window)
-    (same_list mark scene routes left r.net r.stand) (law mark scene routes r.net r.reached v held window seat.running)
+    law mark scene routes r.net r.reached v held window seat.running
 
 pub times_rise : InEveryScene ListGrows → OfRehearsals TimesRise
-times_rise law mark scene routes viewers steps answers left r =
-    subst (λ (l : List Stamp). Rises (pos 0) l) (same_list mark scene routes left r.net r.stand) (law mark scene routes r.net r.reached).0
+times_rise law mark scene routes viewers steps answers left r = (law mark scene routes r.net r.reached).0
+
+pub host_holds : InEveryScene FloorStands → OfRehearsals HostHolds
+host_holds law mark scene routes viewers steps answers left r =
+    let stands = law mark scene routes r.net r.reached in
+    let Holds : HostView → Type 0 = λ h.
+    (1 ≤ h.part.floor) × (h.part.floor ≤ length r.net.host.list + 1)
+    × (h.part.rest ≡ drop (h.part.floor - 1) r.net.host.list)
+    × (h.part.count ≡ length r.net.host.list) × (h.part.last ≡ last_time r.net.host.list) in
+    subst Holds (sym r.stand.host) (stands.from_one, stands.at_most, refl, refl, refl)

@@ -11,7 +11,7 @@ use Rattle.scene_core.specs.Scene.{SceneView}
 use Rattle.cascade_core.specs.Held.{StageView}
 use Rattle.share_law.specs.declared.step.Step.{Step}
 use Rattle.share_law.specs.Cascade.{cascade}
-use Rattle.share_law.specs.Host.{new_host}
+use Rattle.share_law.specs.Parts.{new_part}
 use Rattle.share_law.specs.Network.{seated, start}
 use Rattle.share_core.specs.Host.{HostView}
 use Rattle.share_core.specs.Viewer.{ViewerView}
@@ -105,7 +105,7 @@ pub stand-begun : (mark : List ℕ) (scene : SceneView) (routes : List Route) (s
 stand-begun mark scene routes stages are =
     let one : ℕ = 1 in
     record {
-      host = ap (λ (k : ℕ). let h : HostView = record { mark = mark; host = new_host k } in h) (sym (length-replicate (length stages) one));
+      host = ap (λ (k : ℕ). let h : HostView = record { mark = mark; part = new_part k } in h) (sym (length-replicate (length stages) one));
       viewers = λ v.
           seated-viewers mark scene routes 0 stages v are
           ∙ ap (λ (k : ℕ). option_map (viewer_at mark scene routes k) (slice_get (map (seated (cascade mark scene routes)) (replicate (length stages) 1)) v)) (zero-add v);

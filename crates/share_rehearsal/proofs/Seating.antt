@@ -1,5 +1,6 @@
 -- One more viewer for the next stage.
 use Rattle.std.proofs.Common.{◌≡◌, ℕ, ◌+◌, ◌≤◌, List, [], ◌∷◌, ◌++◌, suc, ap, ◌∙◌, arith, length, append_assoc}
+use Rattle.std.specs.Prelude.{None}
 use Rattle.std.proofs.lemmas.List.{length-append}
 use Rattle.cascade_core.specs.Apply.{opening}
 use Rattle.cascade_core.specs.Held.{StageView}
@@ -15,6 +16,7 @@ seat_of mark n stage = record {
   scene = stage.scene;
   routes = stage.routes;
   state = law.begun 1 (opening stage.scene stage.routes);
+  gathering = None;
 }
 
 pub seated : (mark : List ℕ) (viewers : List ViewerView) (stage : StageView) (rest all : List StageView) (more : List ViewerView)

@@ -9,6 +9,12 @@ use Rattle.snapshot_core.specs.declared.fault.SaveFault.{SaveFault}
 use Rattle.snapshot_core.specs.declared.fault.SaveFault.TheVariants as save
 use Rattle.snapshot_core.specs.declared.fault.SnapFault.{SnapFault}
 use Rattle.snapshot_core.specs.declared.fault.SnapFault.TheVariants as snap
+use Rattle.share_law.specs.declared.fault.FloorFault.{FloorFault}
+use Rattle.share_law.specs.declared.fault.FloorFault.TheVariants as floor
+use Rattle.share_law.specs.declared.fault.GatherFault.{GatherFault}
+use Rattle.share_law.specs.declared.fault.GatherFault.TheVariants as gather
+use Rattle.share_law.specs.declared.fault.JoinFault.{JoinFault}
+use Rattle.share_law.specs.declared.fault.JoinFault.TheVariants as join
 use Rattle.share_law.specs.declared.fault.HostFault.{HostFault}
 use Rattle.share_law.specs.declared.fault.HostFault.TheVariants as host
 use Rattle.share_law.specs.declared.fault.NumberFault.{NumberFault}
@@ -17,8 +23,10 @@ use Rattle.share_law.specs.declared.fault.OfferFault.{OfferFault}
 use Rattle.share_law.specs.declared.fault.OfferFault.TheVariants as offer
 use Rattle.share_law.specs.declared.fault.TakeFault.{TakeFault}
 use Rattle.share_law.specs.declared.fault.TakeFault.TheVariants as take
+use Rattle.share_law.specs.declared.reply.Gathered.{Gathered}
+use Rattle.share_law.specs.declared.reply.Gathered.TheVariants as gathered
 use Rattle.share_law.specs.declared.reply.HostReply.{HostReply}
-use Rattle.share_law.specs.declared.reply.HostReply.TheVariants.{Asked, Numbered, Repeat, Ahead, OldBoot, NothingToDo}
+use Rattle.share_law.specs.declared.reply.HostReply.TheVariants.{Asked, Numbered, Repeat, Ahead, OldBoot, Below, NothingToDo}
 use Rattle.share_law.specs.declared.reply.Taken.{Taken}
 use Rattle.share_law.specs.declared.reply.Taken.TheVariants as taken
 use Rattle.share_law.specs.declared.step.Step.{Step}
@@ -28,10 +36,10 @@ use Rattle.share_law.specs.Network.{Network, IsStep, Run}
 use Rattle.share_law.specs.Steps.{says_memory}
 use Rattle.share_law.proofs.Steps.{memory_is_told}
 use Rattle.share_rehearsal.specs.declared.answer.Answer.{Answer}
-use Rattle.share_rehearsal.specs.declared.answer.Answer.TheVariants.{Clocked, HostTook, ViewerTook, Offered, Sent, Saved, Rewound, NoSuch}
+use Rattle.share_rehearsal.specs.declared.answer.Answer.TheVariants.{Clocked, HostTook, ViewerTook, Offered, Sent, Saved, Rewound, Dropped, Collected, Joined, Forgot, NoSuch}
 use Rattle.share_rehearsal.specs.Laws.{MemoryIsLogged}
-use Rattle.share_rehearsal.specs.Log.{answer_text, host_text, take_text}
-use Rattle.share_rehearsal.specs.Names.{number_name, offer_name, save_name, snap_name}
+use Rattle.share_rehearsal.specs.Log.{answer_text, gather_text, host_text, take_text}
+use Rattle.share_rehearsal.specs.Names.{floor_name, join_name, number_name, offer_name, save_name, snap_name}
 use Rattle.share_rehearsal.specs.Rehearsed.{law_answer}
 use Rattle.share_rehearsal.specs.Told.{IsToldStep, ToldRun}
 
@@ -83,6 +91,7 @@ hosted (Ok (Numbered n)) = other _ refl
 hosted (Ok Repeat) = other _ refl
 hosted (Ok Ahead) = other _ refl
 hosted (Ok OldBoot) = other _ refl
+hosted (Ok (Below n)) = other _ refl
 hosted (Ok NothingToDo) = other _ refl
 hosted (Err (host.Wire f)) = no_wire f
 hosted (Err host.WrongScene) = other _ refl
@@ -98,6 +107,7 @@ took (Ok taken.Beyond) = other _ refl
 took (Ok taken.Kept) = other _ refl
 took (Ok (taken.Applied n)) = other _ refl
 took (Ok taken.Noted) = other _ refl
+took (Ok taken.Behind) = other _ refl
 took (Err take.Spoiled) = other _ refl
 took (Err (take.Wire f)) = no_wire f
 took (Err take.WrongScene) = other _ refl
@@ -127,6 +137,32 @@ rewound snap.BootNotNew = other _ refl
 rewound snap.ScriptState = other _ refl
 rewound snap.Memory = memory
 
+no_drop : (f : FloorFault) → Logs (floor_name f) false
+no_drop floor.FloorBack = other _ refl
+no_drop floor.FloorAhead = other _ refl
+
+collected : (r : Result Gathered GatherFault) → Logs (gather_text r) (says_memory (law.Collected r))
+collected (Ok gathered.New) = other _ refl
+collected (Ok gathered.Again) = other _ refl
+collected (Ok gathered.Whole) = other _ refl
+collected (Ok gathered.Other) = other _ refl
+collected (Err (gather.Wire f)) = no_wire f
+collected (Err gather.WrongScene) = other _ refl
+collected (Err gather.NotPiece) = other _ refl
+collected (Err gather.Memory) = memory
+
+no_join : (f : JoinFault) → Logs (join_name f) (says_memory (law.Joined (Err f)))
+no_join join.NotWhole = other _ refl
+no_join (join.Snap snap.Short) = other _ refl
+no_join (join.Snap snap.BadMagic) = other _ refl
+no_join (join.Snap snap.BadVersion) = other _ refl
+no_join (join.Snap snap.WrongScene) = other _ refl
+no_join (join.Snap snap.BadDigest) = other _ refl
+no_join (join.Snap snap.NotCanonical) = other _ refl
+no_join (join.Snap snap.BootNotNew) = other _ refl
+no_join (join.Snap snap.ScriptState) = other _ refl
+no_join (join.Snap snap.Memory) = memory
+
 logged : (a : Answer) → Logs (answer_text a) (says_memory (law_answer a))
 logged (Clocked (Ok n)) = other _ refl
 logged (Clocked (Err f)) = clocked f
@@ -140,6 +176,12 @@ logged (Saved (Ok n)) = other _ refl
 logged (Saved (Err f)) = saved f
 logged (Rewound (Ok n)) = other _ refl
 logged (Rewound (Err f)) = rewound f
+logged (Dropped (Ok n)) = other _ refl
+logged (Dropped (Err f)) = no_drop f
+logged (Collected r) = collected r
+logged (Joined (Ok n)) = other _ refl
+logged (Joined (Err f)) = no_join f
+logged Forgot = other _ refl
 logged NoSuch = other _ refl
 
 pub memory_is_logged : MemoryIsLogged

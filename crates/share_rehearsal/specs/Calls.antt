@@ -12,27 +12,39 @@ use Rattle.snapshot_core.specs.declared.fault.SaveFault.TheVariants as save_faul
 use Rattle.snapshot_core.specs.declared.fault.SnapFault.{SnapFault}
 use Rattle.snapshot_core.specs.Shot.{shot}
 use Rattle.snapshot_core.specs.Loading.{HasSnapshot}
+use Rattle.share_law.specs.declared.fault.FloorFault.{FloorFault}
+use Rattle.share_law.specs.declared.fault.GatherFault.{GatherFault}
+use Rattle.share_law.specs.declared.fault.JoinFault.{JoinFault}
 use Rattle.share_law.specs.declared.fault.NumberFault.{NumberFault}
 use Rattle.share_law.specs.declared.fault.HostFault.{HostFault}
 use Rattle.share_law.specs.declared.fault.TakeFault.{TakeFault}
 use Rattle.share_law.specs.declared.kept.Kept.{Kept}
+use Rattle.share_law.specs.declared.reply.Gathered.{Gathered}
 use Rattle.share_law.specs.declared.reply.HostReply.{HostReply}
 use Rattle.share_law.specs.declared.reply.Taken.{Taken}
 use Rattle.share_law.specs.declared.step.Step.{Step}
 use Rattle.share_law.specs.declared.step.Step.TheVariants.{HostClock, HostPacket, HostAck, HostTake}
 use Rattle.share_law.specs.declared.step.Step.TheVariants.{ViewerOffer, ViewerResend, ViewerAsk}
 use Rattle.share_law.specs.declared.step.Step.TheVariants.{ViewerTake, ViewerSave, ViewerRewind}
-use Rattle.share_law.specs.Calls.{IsClocked, IsHostTakeOf, IsTakeOf, IsRewind}
-use Rattle.share_law.specs.Host.{HostState, new_host, host_packet, ack_of}
+use Rattle.share_law.specs.declared.step.Step.TheVariants.{HostDropBelow, HostFloorPacket}
+use Rattle.share_law.specs.declared.step.Step.TheVariants.{PiecePacket, ViewerGather, ViewerJoin}
+use Rattle.share_law.specs.declared.step.Step.TheVariants.{ViewerForget}
+use Rattle.share_law.specs.Calls.{IsPartClocked, IsPartTakeOf, IsTakeOf, IsRewind, IsGatherOf}
+use Rattle.share_law.specs.Host.{ack_of}
+use Rattle.share_law.specs.Parts.{HostPart, new_part, part_drop_below, part_floor_packet}
+use Rattle.share_law.specs.Parts.{part_packet}
+use Rattle.share_law.specs.Pieces.{Gathering, whole_of}
 use Rattle.share_law.specs.Viewer as law
 use Rattle.share_law.specs.Viewer.{View, Spoiled, Running, viewer_offer, viewer_resend, viewer_ask}
 use Rattle.share_core.specs.Host.{HostView}
-use Rattle.share_core.specs.Viewer.{ViewerView, machine_of, with_state}
-use Rattle.share_core.specs.Rewinds.{IsRewound}
+use Rattle.share_core.specs.Pieces.{piece_of}
+use Rattle.share_core.specs.Viewer.{ViewerView, machine_of, with_gathering, with_state}
+use Rattle.share_core.specs.Rewinds.{IsJoined, IsLawfulJoin, IsRewound}
 use Rattle.share_rehearsal.specs.declared.answer.Answer.{Answer}
 use Rattle.share_rehearsal.specs.declared.answer.Answer.TheVariants.{Clocked, HostTook, ViewerTook}
 use Rattle.share_rehearsal.specs.declared.answer.Answer.TheVariants.{Offered, Sent, Saved, Rewound}
-use Rattle.share_rehearsal.specs.declared.answer.Answer.TheVariants.{NoSuch}
+use Rattle.share_rehearsal.specs.declared.answer.Answer.TheVariants.{Dropped, Collected, Joined}
+use Rattle.share_rehearsal.specs.declared.answer.Answer.TheVariants.{Forgot, NoSuch}
 use Rattle.share_rehearsal.specs.declared.nodes.Nodes.{Nodes}
 use Rattle.share_rehearsal.specs.declared.nodes.Shot.{Shot}
 
@@ -43,8 +55,8 @@ pub record Seen : Type 0 where
   pub packets : List (List ℕ)
   pub shots : List Shot
 
-abbrev pub with_host : Seen → HostState → Seen
-with_host s h = record s { host = record { mark = s.host.mark; host = h } }
+abbrev pub with_host : Seen → HostPart → Seen
+with_host s p = record s { host = record { mark = s.host.mark; part = p } }
 
 abbrev pub with_viewer : Seen → (v : ℕ) → ViewerView → Seen
 with_viewer s v x = record s { viewers = slice_set s.viewers v x }
@@ -75,13 +87,14 @@ viewers_from mark n (stage ∷ stages) =
       scene = stage.scene;
       routes = stage.routes;
       state = law.begun 1 (opening stage.scene stage.routes);
+      gathering = None;
     }
     ∷ viewers_from mark (suc n) stages
 
 -- before the first step
 abbrev pub begun_with : (mark : List ℕ) → List StageView → Seen
 begun_with mark stages =
-    seen_of (record { mark = mark; host = new_host (length stages) }) (viewers_from mark 0 stages)
+    seen_of (record { mark = mark; part = new_part (length stages) }) (viewers_from mark 0 stages)
     [] []
 
 -- ---- numbers
@@ -117,9 +130,9 @@ IsAcked s v (Some kept) a new = IsMade s s.host.mark (Some (ack_of v kept)) a ne
 abbrev pub IsHostGiven : Seen → Option (List ℕ) → Answer → Seen → Type 0
 IsHostGiven s None a new = IsUnknown s a new
 IsHostGiven s (Some bytes) a new =
-    (result : Result HostReply HostFault) × (h : HostState)
-    × (a ≡ HostTook result) × (new ≡ with_host s h)
-    × IsHostTakeOf s.host.mark s.host.host (decoded bytes) result h
+    (result : Result HostReply HostFault) × (p : HostPart)
+    × (a ≡ HostTook result) × (new ≡ with_host s p)
+    × IsPartTakeOf s.host.mark s.host.part (decoded bytes) result p
 
 abbrev pub IsGiven : Seen → (v : ℕ) → Option ViewerView → Option (List ℕ) → Answer → Seen → Type 0
 IsGiven s v None bytes a new = IsUnknown s a new
@@ -164,6 +177,34 @@ IsRewinding s v boot (Some x) (Some kept) a new =
     × (a ≡ Rewound result) × (new ≡ with_viewer s v (with_state x y))
     × IsRewound x boot kept.bytes result y × IsLawful x boot kept.bytes result y
 
+-- ---- snapshots in pieces
+
+abbrev pub IsCut : Seen → (i : ℕ) → Option Shot → Answer → Seen → Type 0
+IsCut s i None a new = IsUnknown s a new
+IsCut s i (Some kept) a new =
+    (length s.host.mark ≡ 32) × IsMade s s.host.mark (piece_of kept.bytes i) a new
+
+abbrev pub IsGathering : Seen → (v : ℕ) → Option ViewerView → Option (List ℕ) → Answer → Seen
+    → Type 0
+IsGathering s v None bytes a new = IsUnknown s a new
+IsGathering s v (Some x) None a new = IsUnknown s a new
+IsGathering s v (Some x) (Some bytes) a new =
+    (result : Result Gathered GatherFault) × (held : Option Gathering)
+    × (a ≡ Collected result) × (new ≡ with_viewer s v (with_gathering x held))
+    × IsGatherOf x.mark x.gathering (decoded bytes) result held
+
+abbrev pub IsJoining : Seen → (v boot : ℕ) → Option ViewerView → Answer → Seen → Type 0
+IsJoining s v boot None a new = IsUnknown s a new
+IsJoining s v boot (Some x) a new =
+    (result : Result ℕ JoinFault) × (y : law.ViewerState Scripted) × (held : Option Gathering)
+    × (a ≡ Joined result) × (new ≡ with_viewer s v (with_gathering (with_state x y) held))
+    × IsJoined x (whole_of x.gathering) boot result y held
+    × IsLawfulJoin x boot result y held
+
+abbrev pub IsForgotten : Seen → (v : ℕ) → Option ViewerView → Answer → Seen → Type 0
+IsForgotten s v None a new = IsUnknown s a new
+IsForgotten s v (Some x) a new = (a ≡ Forgot) × (new ≡ with_viewer s v (with_gathering x None))
+
 -- ---- a step
 
 abbrev pub IsOffering : Seen → (v : ℕ) → Step → Option ViewerView → Answer → Seen → Type 0
@@ -180,10 +221,21 @@ IsOffering s v step (Some x) a new = ⊥
 -- from these nodes, the step may be answered so and leave the new ones
 abbrev pub IsCall : Seen → Step → Answer → Seen → Type 0
 IsCall s (HostClock t) a new =
-    (result : Result ℕ NumberFault) × (h : HostState)
-    × (a ≡ Clocked result) × (new ≡ with_host s h) × IsClocked s.host.host t result h
-IsCall s (HostPacket n) a new = IsMade s s.host.mark (host_packet s.host.host n) a new
-IsCall s (HostAck v) a new = IsAcked s v (slice_get s.host.host.kept v) a new
+    (result : Result ℕ NumberFault) × (p : HostPart)
+    × (a ≡ Clocked result) × (new ≡ with_host s p) × IsPartClocked s.host.part t result p
+IsCall s (HostPacket n) a new = IsMade s s.host.mark (part_packet s.host.part n) a new
+IsCall s (HostAck v) a new = IsAcked s v (slice_get s.host.part.kept v) a new
+IsCall s (HostDropBelow f) a new =
+    (result : Result ℕ FloorFault) × (p : HostPart)
+    × (a ≡ Dropped result) × (new ≡ with_host s p)
+    × (part_drop_below s.host.part f ≡ (result, p))
+IsCall s HostFloorPacket a new =
+    IsMade s s.host.mark (Some (part_floor_packet s.host.part)) a new
+IsCall s (PiecePacket n i) a new = IsCut s i (slice_get s.shots n) a new
+IsCall s (ViewerGather v p) a new =
+    IsGathering s v (slice_get s.viewers v) (slice_get s.packets p) a new
+IsCall s (ViewerJoin v boot) a new = IsJoining s v boot (slice_get s.viewers v) a new
+IsCall s (ViewerForget v) a new = IsForgotten s v (slice_get s.viewers v) a new
 IsCall s (HostTake p) a new = IsHostGiven s (slice_get s.packets p) a new
 IsCall s (ViewerTake v p) a new = IsGiven s v (slice_get s.viewers v) (slice_get s.packets p) a new
 IsCall s (ViewerSave v) a new = IsSaved s v (slice_get s.viewers v) a new

@@ -5,9 +5,12 @@ use Rattle.share_law.specs.declared.fault.HostFault.{HostFault}
 use Rattle.share_law.specs.declared.fault.TakeFault.{TakeFault}
 use Rattle.share_law.specs.declared.reply.HostReply.{HostReply}
 use Rattle.share_law.specs.declared.reply.HostReply.TheVariants.{Asked, Numbered, Repeat, Ahead}
-use Rattle.share_law.specs.declared.reply.HostReply.TheVariants.{OldBoot, NothingToDo}
+use Rattle.share_law.specs.declared.reply.HostReply.TheVariants.{OldBoot, Below, NothingToDo}
 use Rattle.share_law.specs.declared.reply.Taken.{Taken}
 use Rattle.share_law.specs.declared.reply.Taken.TheVariants as taken
+use Rattle.share_law.specs.declared.fault.GatherFault.{GatherFault}
+use Rattle.share_law.specs.declared.reply.Gathered.{Gathered}
+use Rattle.share_law.specs.declared.reply.Gathered.TheVariants as gathered
 use Rattle.share_law.specs.Viewer.{View, Spoiled, Running}
 use Rattle.cascade_core.specs.Texts.{scene_text, trace_text}
 use Rattle.cascade_core.specs.Course.{Scripted}
@@ -15,7 +18,7 @@ use Rattle.share_core.specs.Viewer.{ViewerView}
 use Rattle.share_rehearsal.specs.declared.answer.Answer.{Answer}
 use Rattle.share_rehearsal.specs.declared.answer.Answer.TheVariants as answer
 use Rattle.share_rehearsal.specs.Names.{number_name, host_name, take_name, offer_name, save_name}
-use Rattle.share_rehearsal.specs.Names.{snap_name}
+use Rattle.share_rehearsal.specs.Names.{snap_name, floor_name, gather_name, join_name}
 
 abbrev pub reply_text : HostReply → List ℕ
 reply_text (Asked first count) = codes "Asked " ++ decimal first ++ 32 ∷ decimal count
@@ -23,6 +26,7 @@ reply_text (Numbered n) = codes "Numbered " ++ decimal n
 reply_text Repeat = codes "Repeat"
 reply_text Ahead = codes "Ahead"
 reply_text OldBoot = codes "OldBoot"
+reply_text (Below floor) = codes "Below " ++ decimal floor
 reply_text NothingToDo = codes "NothingToDo"
 
 abbrev pub taken_text : Taken → List ℕ
@@ -31,6 +35,13 @@ taken_text taken.Beyond = codes "Beyond"
 taken_text taken.Kept = codes "Kept"
 taken_text (taken.Applied count) = codes "Applied " ++ decimal count
 taken_text taken.Noted = codes "Noted"
+taken_text taken.Behind = codes "Behind"
+
+abbrev pub gathered_text : Gathered → List ℕ
+gathered_text gathered.New = codes "New"
+gathered_text gathered.Again = codes "Again"
+gathered_text gathered.Whole = codes "Whole"
+gathered_text gathered.Other = codes "Other"
 
 abbrev pub host_text : Result HostReply HostFault → List ℕ
 host_text (Ok reply) = reply_text reply
@@ -39,6 +50,10 @@ host_text (Err fault) = host_name fault
 abbrev pub take_text : Result Taken TakeFault → List ℕ
 take_text (Ok reply) = taken_text reply
 take_text (Err fault) = take_name fault
+
+abbrev pub gather_text : Result Gathered GatherFault → List ℕ
+gather_text (Ok reply) = gathered_text reply
+gather_text (Err fault) = gather_name fault
 
 -- the answer of a step; packets and snapshots go by their numbers, a refusal by the fault's name
 abbrev pub answer_text : Answer → List ℕ
@@ -54,6 +69,12 @@ answer_text (answer.Saved (Ok s)) = codes "Saved " ++ decimal s
 answer_text (answer.Saved (Err fault)) = save_name fault
 answer_text (answer.Rewound (Ok n)) = codes "Rewound " ++ decimal n
 answer_text (answer.Rewound (Err fault)) = snap_name fault
+answer_text (answer.Dropped (Ok n)) = codes "Floor " ++ decimal n
+answer_text (answer.Dropped (Err fault)) = floor_name fault
+answer_text (answer.Collected result) = gather_text result
+answer_text (answer.Joined (Ok n)) = codes "Joined " ++ decimal n
+answer_text (answer.Joined (Err fault)) = join_name fault
+answer_text answer.Forgot = codes "Forgot"
 answer_text answer.NoSuch = codes "NoSuch"
 
 -- `<number> <answer>` and a line feed

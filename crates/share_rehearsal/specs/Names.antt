@@ -9,6 +9,12 @@ use Rattle.share_law.specs.declared.fault.TakeFault.{TakeFault}
 use Rattle.share_law.specs.declared.fault.TakeFault.TheVariants as take
 use Rattle.share_law.specs.declared.fault.OfferFault.{OfferFault}
 use Rattle.share_law.specs.declared.fault.OfferFault.TheVariants as offer
+use Rattle.share_law.specs.declared.fault.FloorFault.{FloorFault}
+use Rattle.share_law.specs.declared.fault.FloorFault.TheVariants as floor
+use Rattle.share_law.specs.declared.fault.GatherFault.{GatherFault}
+use Rattle.share_law.specs.declared.fault.GatherFault.TheVariants as gather
+use Rattle.share_law.specs.declared.fault.JoinFault.{JoinFault}
+use Rattle.share_law.specs.declared.fault.JoinFault.TheVariants as join
 use Rattle.snapshot_core.specs.declared.fault.SaveFault.{SaveFault}
 use Rattle.snapshot_core.specs.declared.fault.SaveFault.TheVariants as save
 use Rattle.snapshot_core.specs.declared.fault.SnapFault.{SnapFault}
@@ -55,3 +61,17 @@ snap_name snap.NotCanonical = codes "NotCanonical"
 snap_name snap.BootNotNew = codes "BootNotNew"
 snap_name snap.ScriptState = codes "ScriptState"
 snap_name snap.Memory = codes "Memory"
+
+abbrev pub floor_name : FloorFault → List ℕ
+floor_name floor.FloorBack = codes "FloorBack"
+floor_name floor.FloorAhead = codes "FloorAhead"
+
+abbrev pub gather_name : GatherFault → List ℕ
+gather_name (gather.Wire fault) = fault_name fault
+gather_name gather.WrongScene = codes "WrongScene"
+gather_name gather.NotPiece = codes "NotPiece"
+gather_name gather.Memory = codes "Memory"
+
+abbrev pub join_name : JoinFault → List ℕ
+join_name join.NotWhole = codes "NotWhole"
+join_name (join.Snap fault) = snap_name fault

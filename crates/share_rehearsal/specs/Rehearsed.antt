@@ -12,6 +12,7 @@ use Rattle.share_wire.specs.Decoding.{decoded}
 use Rattle.snapshot_core.specs.Shot.{shot}
 use Rattle.share_law.specs.declared.step.Step.{Step}
 use Rattle.share_law.specs.Cascade.{cascade}
+use Rattle.share_law.specs.Parts.{part_of}
 use Rattle.share_law.specs.Network as law
 use Rattle.share_law.specs.Network.{Network, Seat, start}
 use Rattle.share_law.specs.Reached.{Reached}
@@ -23,7 +24,8 @@ use Rattle.network_laws.specs.Opened.{IsOpened}
 use Rattle.share_rehearsal.specs.declared.answer.Answer.{Answer}
 use Rattle.share_rehearsal.specs.declared.answer.Answer.TheVariants.{Clocked, HostTook, ViewerTook}
 use Rattle.share_rehearsal.specs.declared.answer.Answer.TheVariants.{Offered, Sent, Saved, Rewound}
-use Rattle.share_rehearsal.specs.declared.answer.Answer.TheVariants.{NoSuch}
+use Rattle.share_rehearsal.specs.declared.answer.Answer.TheVariants.{Dropped, Collected, Joined}
+use Rattle.share_rehearsal.specs.declared.answer.Answer.TheVariants.{Forgot, NoSuch}
 use Rattle.share_rehearsal.specs.declared.nodes.Shot.{Shot}
 use Rattle.share_rehearsal.specs.Calls.{AreCalls, Seen, begun_with, message, seen_of}
 use Rattle.share_rehearsal.specs.Log.{lines_from, log_text}
@@ -38,23 +40,35 @@ law_answer (Offered r) = law.Offered r
 law_answer (Sent r) = law.Sent r
 law_answer (Saved r) = law.Saved r
 law_answer (Rewound r) = law.Rewound r
+law_answer (Dropped r) = law.Dropped r
+law_answer (Collected r) = law.Collected r
+law_answer (Joined r) = law.Joined r
+law_answer Forgot = law.Forgot
 law_answer NoSuch = law.NoSuch
 
 -- the real viewer of a seat, by its number
 abbrev pub viewer_at : (mark : List ℕ) → SceneView → List Route → (v : ℕ) → Seat Scripted
     → ViewerView
 viewer_at mark scene routes v x =
-    record { mark = mark; who = v; scene = scene; routes = routes; state = x.node }
+    record {
+      mark = mark;
+      who = v;
+      scene = scene;
+      routes = routes;
+      state = x.node;
+      gathering = x.gathering;
+    }
 
 -- the bytes of a snapshot
 abbrev pub shot_at : (mark : List ℕ) → SceneView → law_viewer.Shot Scripted → Shot
 shot_at mark scene x =
     record { viewer = x.viewer; bytes = shot mark x.boot scene x.state }
 
--- real nodes, packets and snapshots stand where those of a network do
+-- real nodes, packets and snapshots stand where those of a network do; of its host's list, the real
+-- host holds the part from the floor on
 pub record StandFor (mark : List ℕ) (scene : SceneView) (routes : List Route) (s : Seen)
     (net : Network Scripted) : Type 0 where
-  pub host : s.host ≡ record { mark = mark; host = net.host }
+  pub host : s.host ≡ record { mark = mark; part = part_of net.host }
   pub viewers : (v : ℕ) → slice_get s.viewers v
       ≡ option_map (viewer_at mark scene routes v) (slice_get net.viewers v)
   pub packets : map decoded s.packets ≡ map (λ body. Ok (message mark body)) net.sent

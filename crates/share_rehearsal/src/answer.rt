@@ -1,7 +1,8 @@
 //! What a step of a rehearsal answers.
 
 use share_law::{
-    HostFault, HostReply, NumberFault, OfferFault, SaveFault, SnapFault, TakeFault, Taken,
+    FloorFault, GatherFault, Gathered, HostFault, HostReply, JoinFault, NumberFault, OfferFault,
+    SaveFault, SnapFault, TakeFault, Taken,
 };
 
 /// What a step of a rehearsal answers.
@@ -21,6 +22,14 @@ pub enum Answer {
     Saved(Result<usize, SaveFault>),
     /// A viewer began again in a world of so many inputs, or did not.
     Rewound(Result<u32, SnapFault>),
+    /// The host dropped the inputs below this number, or did not.
+    Dropped(Result<u32, FloorFault>),
+    /// A viewer gathered a piece of a snapshot, or did not.
+    Collected(Result<Gathered, GatherFault>),
+    /// A viewer began again in what it gathered, a world of so many inputs, or did not.
+    Joined(Result<u32, JoinFault>),
+    /// A viewer let go what it gathered.
+    Forgot,
     /// There is no packet, viewer or snapshot of this number.
     NoSuch,
 }

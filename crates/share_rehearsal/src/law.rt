@@ -1,13 +1,13 @@
 //! What holds of every rehearsal.
 
-ghost use Rattle.share_rehearsal.specs.Laws.{MemoryIsLogged, OfRehearsals, TimesRise};
+ghost use Rattle.share_rehearsal.specs.Laws.{HostHolds, MemoryIsLogged, OfRehearsals, TimesRise};
 ghost use Rattle.share_rehearsal.specs.Laws.{ViewersAgree, ViewersHold, WindowsHold};
 
 use share_law::agreement_law;
 
 /// What holds of the nodes that a rehearsal leaves, by the law of shared worlds, and of its log.
 pub fn rehearsal_law()
-    // A running viewer holds the world of as many of the host's inputs as it applied.
+    // A running viewer holds the world of as many of the inputs that the host numbered as it applied.
     ensures equality { OfRehearsals ViewersHold }
     // Two running viewers that have applied as many inputs hold the same world and write its texts.
     ensures two_viewers { OfRehearsals ViewersAgree }
@@ -15,6 +15,8 @@ pub fn rehearsal_law()
     ensures window { OfRehearsals WindowsHold }
     // The times of the host's inputs rise.
     ensures times { OfRehearsals TimesRise }
+    // The host has those from its floor on.
+    ensures floor { OfRehearsals HostHolds }
     // A line says `Memory` exactly where memory was refused in its step.
     ensures memory { MemoryIsLogged }
 {

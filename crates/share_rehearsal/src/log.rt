@@ -4,9 +4,10 @@ ghost use Rattle.std.specs.Prelude.{◌≡◌, ◌++◌, ◌∷◌, codes, decim
 ghost use Rattle.share_rehearsal.specs.Log as spec;
 
 use crate::answer::Answer;
-use crate::names::{host_name, number_name, offer_name, save_name, snap_name, take_name};
+use crate::names::{floor_name, gather_name, host_name, join_name, number_name, offer_name};
+use crate::names::{save_name, snap_name, take_name};
 use itoa::Buffer;
-use share_law::{HostFault, HostReply, TakeFault, Taken};
+use share_law::{GatherFault, Gathered, HostFault, HostReply, TakeFault, Taken};
 use std::alloc::AllocError;
 
 /// Appends a word; on a refusal the buffer is as it was.
@@ -44,6 +45,7 @@ fn push_reply(reply: HostReply, out: &mut Vec<u8>) -> Result<(), AllocError>
         HostReply::Repeat => push_word("Repeat", out),
         HostReply::Ahead => push_word("Ahead", out),
         HostReply::OldBoot => push_word("OldBoot", out),
+        HostReply::Below(floor) => push_number("Below ", floor as usize, out),
         HostReply::NothingToDo => push_word("NothingToDo", out),
     }
 }
@@ -57,6 +59,7 @@ fn push_taken(taken: Taken, out: &mut Vec<u8>) -> Result<(), AllocError>
         Taken::Kept => push_word("Kept", out),
         Taken::Applied(count) => push_number("Applied ", count as usize, out),
         Taken::Noted => push_word("Noted", out),
+        Taken::Behind => push_word("Behind", out),
     }
 }
 
@@ -78,6 +81,29 @@ fn push_viewed(taken: Result<Taken, TakeFault>, out: &mut Vec<u8>) -> Result<(),
     }
 }
 
+fn push_gathered(gathered: Gathered, out: &mut Vec<u8>) -> Result<(), AllocError>
+    ensures { OnOk result (out.new.items ≡ out.old.items ++ spec.gathered_text gathered) }
+{
+    match gathered {
+        Gathered::New => push_word("New", out),
+        Gathered::Again => push_word("Again", out),
+        Gathered::Whole => push_word("Whole", out),
+        Gathered::Other => push_word("Other", out),
+    }
+}
+
+fn push_collected(
+    gathered: Result<Gathered, GatherFault>,
+    out: &mut Vec<u8>,
+) -> Result<(), AllocError>
+    ensures { OnOk result (out.new.items ≡ out.old.items ++ spec.gather_text gathered) }
+{
+    match gathered {
+        Ok(gathered) => push_gathered(gathered, out),
+        Err(fault) => push_word(gather_name(fault), out),
+    }
+}
+
 /// Appends the text of an answer; on a refusal perhaps a part of it.
 pub(crate) fn push_answer(answer: Answer, out: &mut Vec<u8>) -> Result<(), AllocError>
     ensures { OnOk result (out.new.items ≡ out.old.items ++ spec.answer_text answer) }
@@ -95,6 +121,12 @@ pub(crate) fn push_answer(answer: Answer, out: &mut Vec<u8>) -> Result<(), Alloc
         Answer::Saved(Err(fault)) => push_word(save_name(fault), out),
         Answer::Rewound(Ok(applied)) => push_number("Rewound ", applied as usize, out),
         Answer::Rewound(Err(fault)) => push_word(snap_name(fault), out),
+        Answer::Dropped(Ok(floor)) => push_number("Floor ", floor as usize, out),
+        Answer::Dropped(Err(fault)) => push_word(floor_name(fault), out),
+        Answer::Collected(result) => push_collected(result, out),
+        Answer::Joined(Ok(applied)) => push_number("Joined ", applied as usize, out),
+        Answer::Joined(Err(fault)) => push_word(join_name(fault), out),
+        Answer::Forgot => push_word("Forgot", out),
         Answer::NoSuch => push_word("NoSuch", out),
     }
 }

@@ -3,7 +3,8 @@
 ghost use Rattle.std.specs.Prelude.{◌≡◌};
 ghost use Rattle.share_rehearsal.specs.Names as spec;
 
-use share_law::{HostFault, NumberFault, OfferFault, SaveFault, SnapFault, TakeFault};
+use share_law::{FloorFault, GatherFault, HostFault, JoinFault, NumberFault, OfferFault};
+use share_law::{SaveFault, SnapFault, TakeFault};
 
 pub(crate) fn number_name(fault: NumberFault) -> &'static str
     ensures { result.now ≡ spec.number_name fault }
@@ -74,5 +75,34 @@ pub(crate) fn snap_name(fault: SnapFault) -> &'static str
         SnapFault::BootNotNew => "BootNotNew",
         SnapFault::ScriptState => "ScriptState",
         SnapFault::Memory => "Memory",
+    }
+}
+
+pub(crate) fn floor_name(fault: FloorFault) -> &'static str
+    ensures { result.now ≡ spec.floor_name fault }
+{
+    match fault {
+        FloorFault::FloorBack => "FloorBack",
+        FloorFault::FloorAhead => "FloorAhead",
+    }
+}
+
+pub(crate) fn gather_name(fault: GatherFault) -> &'static str
+    ensures { result.now ≡ spec.gather_name fault }
+{
+    match fault {
+        GatherFault::Wire(fault) => fault.name(),
+        GatherFault::WrongScene => "WrongScene",
+        GatherFault::NotPiece => "NotPiece",
+        GatherFault::Memory => "Memory",
+    }
+}
+
+pub(crate) fn join_name(fault: JoinFault) -> &'static str
+    ensures { result.now ≡ spec.join_name fault }
+{
+    match fault {
+        JoinFault::NotWhole => "NotWhole",
+        JoinFault::Snap(fault) => snap_name(fault),
     }
 }

@@ -7,13 +7,16 @@ ghost use Rattle.share_law.specs.declared.step.Step.TheVariants.{HostClock, Host
 ghost use Rattle.share_law.specs.declared.step.Step.TheVariants.{HostTake, ViewerOffer};
 ghost use Rattle.share_law.specs.declared.step.Step.TheVariants.{ViewerResend, ViewerAsk};
 ghost use Rattle.share_law.specs.declared.step.Step.TheVariants.{ViewerTake, ViewerSave};
-ghost use Rattle.share_law.specs.declared.step.Step.TheVariants.{ViewerRewind};
+ghost use Rattle.share_law.specs.declared.step.Step.TheVariants.{ViewerRewind, HostDropBelow};
+ghost use Rattle.share_law.specs.declared.step.Step.TheVariants.{HostFloorPacket, PiecePacket};
+ghost use Rattle.share_law.specs.declared.step.Step.TheVariants.{ViewerForget, ViewerGather};
+ghost use Rattle.share_law.specs.declared.step.Step.TheVariants.{ViewerJoin};
 ghost use Rattle.share_rehearsal.specs.Calls.{IsCall, IsSaving, IsSent, seen};
 
 use crate::answer::Answer;
 use crate::made::Made;
 use script_host::Behaviour;
-use share_core::{Host, Viewer};
+use share_core::{Host, Viewer, piece_packet};
 use share_law::Step;
 use share_rules::seat_of;
 use share_wire::Packet;
@@ -180,6 +183,63 @@ impl<B: Behaviour> Nodes<B> {
         }
     }
 
+    fn drop_below(&mut self, floor: u32) -> Answer
+        ensures { IsCall (seen self.old) (HostDropBelow floor) result (seen self.new) }
+    {
+        Answer::Dropped(self.host.drop_below(floor))
+    }
+
+    fn notice(&mut self) -> Result<Answer, AllocError>
+        ensures { IfOk result (λ a. IsCall (seen self.old) HostFloorPacket a (seen self.new)) }
+    {
+        send(self.host.floor_packet(), &mut self.packets)
+    }
+
+    fn piece(&mut self, snapshot: u32, piece: u32) -> Result<Answer, AllocError>
+        ensures { IfOk result (λ a.
+            IsCall (seen self.old) (PiecePacket snapshot piece) a (seen self.new)) }
+    {
+        let mark = self.host.mark();
+        match self.shots.get(snapshot as usize) {
+            None => Ok(Answer::NoSuch),
+            Some(shot) => send_any(
+                piece_packet(mark, shot.bytes.as_slice(), piece),
+                &mut self.packets,
+            ),
+        }
+    }
+
+    fn gather(&mut self, viewer: u32, packet: u32) -> Answer
+        ensures { IsCall (seen self.old) (ViewerGather viewer packet) result (seen self.new) }
+    {
+        let Some(seat) = seat_of(self.viewers.len(), viewer) else {
+            return Answer::NoSuch;
+        };
+        match self.packets.get(packet as usize) {
+            Some(packet) => Answer::Collected(self.viewers[seat].gather(packet.bytes())),
+            None => Answer::NoSuch,
+        }
+    }
+
+    fn join(&mut self, viewer: u32, boot: u32) -> Answer
+        ensures { IsCall (seen self.old) (ViewerJoin viewer boot) result (seen self.new) }
+    {
+        let Some(seat) = seat_of(self.viewers.len(), viewer) else {
+            return Answer::NoSuch;
+        };
+        Answer::Joined(self.viewers[seat].join(boot))
+    }
+
+    fn forget(&mut self, viewer: u32) -> Answer
+        ensures { IsCall (seen self.old) (ViewerForget viewer) result (seen self.new) }
+    {
+        let Some(seat) = seat_of(self.viewers.len(), viewer) else {
+            return Answer::NoSuch;
+        };
+        self.viewers[seat].forget();
+        Answer::Forgot
+    }
+
     /// A step, and its answer. It is refused where memory was refused to the list of packets or to
     /// that of snapshots.
     pub(crate) fn go(&mut self, alloc: Global, step: Step) -> Result<Answer, AllocError>
@@ -200,6 +260,12 @@ impl<B: Behaviour> Nodes<B> {
                 snapshot,
                 boot,
             } => Ok(self.rewind(viewer, snapshot, boot)),
+            Step::HostDropBelow { floor } => Ok(self.drop_below(floor)),
+            Step::HostFloorPacket => self.notice(),
+            Step::PiecePacket { snapshot, piece } => self.piece(snapshot, piece),
+            Step::ViewerGather { viewer, packet } => Ok(self.gather(viewer, packet)),
+            Step::ViewerJoin { viewer, boot } => Ok(self.join(viewer, boot)),
+            Step::ViewerForget { viewer } => Ok(self.forget(viewer)),
         }
     }
 }

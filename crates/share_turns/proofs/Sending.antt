@@ -9,7 +9,8 @@ use Rattle.std.proofs.lemmas.Option.{none-some, same_Some, slice_get_past}
 use Rattle.share_wire.specs.Datagram.{datagram}
 use Rattle.share_wire.specs.declared.message.Body.{Body}
 use Rattle.share_law.specs.declared.kept.Kept.{Kept}
-use Rattle.share_law.specs.Host.{HostState, ack_of, host_packet}
+use Rattle.share_law.specs.Host.{ack_of}
+use Rattle.share_law.specs.Parts.{HostPart, part_packet}
 use Rattle.share_port.specs.declared.port.PortFault.{PortFault}
 use Rattle.share_port.specs.declared.traffic.Traffic.{Traffic}
 use Rattle.share_port.specs.declared.traffic.Traffic.TheVariants.{Sent}
@@ -72,10 +73,10 @@ counted_err (Err f) a b c e same = e ∙ ap one_more same
 
 -- ---- acks
 
-pub acks_past : (mark : List ℕ) (h : HostState) (who : ℕ) → length h.kept ≤ who → datagrams_of mark (acks_for h (Some who)) ≡ []
+pub acks_past : (mark : List ℕ) (h : HostPart) (who : ℕ) → length h.kept ≤ who → datagrams_of mark (acks_for h (Some who)) ≡ []
 acks_past mark h who past = ap (λ k. datagrams_of mark (ack_to who k)) (slice_get_past h.kept who past)
 
-pub acks_one : (mark : List ℕ) (h : HostState) (who : ℕ) (bytes : List ℕ)
+pub acks_one : (mark : List ℕ) (h : HostPart) (who : ℕ) (bytes : List ℕ)
     → option_map (λ kept. datagram (record { mark = mark; body = ack_of who kept })) (slice_get h.kept who) ≡ Some bytes
     → datagrams_of mark (acks_for h (Some who)) ≡ bytes ∷ []
 acks_one mark h who bytes = go (slice_get h.kept who) where
@@ -97,34 +98,34 @@ range_split a (suc m) k (suc n) e =
     ap (λ zs. a ∷ zs) (range_split (a + 1) m k n less ∙ ap (λ b. range_with_len (a + 1) m ++ range_with_len b k) start)
 
 -- the datagrams of so many inputs from number first on
-abbrev pub inputs_from : (mark : List ℕ) → HostState → (first count : ℕ) → List (List ℕ)
-inputs_from mark h first count = datagrams_of mark (flat_map (λ k. listed (host_packet h k)) (range_with_len first count))
+abbrev pub inputs_from : (mark : List ℕ) → HostPart → (first count : ℕ) → List (List ℕ)
+inputs_from mark h first count = datagrams_of mark (flat_map (λ k. listed (part_packet h k)) (range_with_len first count))
 
-pub inputs_from-none : (mark : List ℕ) (h : HostState) (first : ℕ) → inputs_from mark h first (first - first) ≡ []
+pub inputs_from-none : (mark : List ℕ) (h : HostPart) (first : ℕ) → inputs_from mark h first (first - first) ≡ []
 inputs_from-none mark h first =
     let e : first - first ≡ 0 = omega arith in
     ap (inputs_from mark h first) e
 
-inputs_from-split : (mark : List ℕ) (h : HostState) (first m k n : ℕ) → n ≡ m + k
+inputs_from-split : (mark : List ℕ) (h : HostPart) (first m k n : ℕ) → n ≡ m + k
     → inputs_from mark h first n ≡ inputs_from mark h first m ++ inputs_from mark h (first + m) k
 inputs_from-split mark h first m k n e =
-    let f : ℕ → List Body = λ k. listed (host_packet h k) in
+    let f : ℕ → List Body = λ k. listed (part_packet h k) in
     ap (λ zs. datagrams_of mark (flat_map f zs)) (range_split first m k n e)
     ∙ ap (datagrams_of mark) (flat_map-append f (range_with_len first m) (range_with_len (first + m) k))
     ∙ map-append (λ (body : Body). datagram (record { mark = mark; body = body })) (flat_map f (range_with_len first m)) (flat_map f (range_with_len (first + m) k))
 
-pub inputs_from-more : (mark : List ℕ) (h : HostState) (first n : ℕ) → first ≤ n
-    → inputs_from mark h first ((n + 1) - first) ≡ inputs_from mark h first (n - first) ++ datagrams_of mark (listed (host_packet h n))
+pub inputs_from-more : (mark : List ℕ) (h : HostPart) (first n : ℕ) → first ≤ n
+    → inputs_from mark h first ((n + 1) - first) ≡ inputs_from mark h first (n - first) ++ datagrams_of mark (listed (part_packet h n))
 inputs_from-more mark h first n low =
     let more : (n + 1) - first ≡ (n - first) + 1 = omega (arith, low) in
     let last : first + (n - first) ≡ n = omega (arith, low) in
     inputs_from-split mark h first (n - first) 1 ((n + 1) - first) more
     ∙ ap (λ k. inputs_from mark h first (n - first) ++ inputs_from mark h k 1) last
-    ∙ ap (λ zs. inputs_from mark h first (n - first) ++ datagrams_of mark zs) (append-nil (listed (host_packet h n)))
+    ∙ ap (λ zs. inputs_from mark h first (n - first) ++ datagrams_of mark zs) (append-nil (listed (part_packet h n)))
 
 -- the port failed at input n: what was sent before stands at the front of all
-pub inputs_lost : (mark : List ℕ) (h : HostState) (first count n peer : ℕ) (a b c : Option (List Traffic)) → first ≤ n → n < first + count
-    → AreSent true peer a b (inputs_from mark h first (n - first)) → AreSent false peer b c (datagrams_of mark (listed (host_packet h n)))
+pub inputs_lost : (mark : List ℕ) (h : HostPart) (first count n peer : ℕ) (a b c : Option (List Traffic)) → first ≤ n → n < first + count
+    → AreSent true peer a b (inputs_from mark h first (n - first)) → AreSent false peer b c (datagrams_of mark (listed (part_packet h n)))
     → AreSent false peer a c (inputs_from mark h first count)
 inputs_lost mark h first count n peer a b c low high before lost =
     let e : count ≡ ((n + 1) - first) + (first + count - (n + 1)) = omega (arith, low, high) in

@@ -6,8 +6,8 @@ use Rattle.std.proofs.lemmas.List.{map-append}
 use Rattle.share_wire.specs.Decoding.{decoded}
 use Rattle.share_law.specs.declared.fault.HostFault.{HostFault}
 use Rattle.share_law.specs.declared.reply.HostReply.{HostReply}
-use Rattle.share_law.specs.Calls.{IsHostTakeOf}
-use Rattle.share_law.specs.Host.{HostState}
+use Rattle.share_law.specs.Calls.{IsPartTakeOf}
+use Rattle.share_law.specs.Parts.{HostPart}
 use Rattle.share_law.specs.Network.{HostTook}
 use Rattle.share_law.specs.Steps.{says_memory}
 use Rattle.share_port.specs.declared.traffic.Datagram.{Datagram}
@@ -31,26 +31,26 @@ front_before : (whole : Bool) (others : List Exchange) (sent wanted : List (List
 front_before whole [] sent wanted e = all_is_front whole sent wanted e
 front_before whole (x ∷ others) sent wanted e = e
 
-whole_or_not : (whole : Bool) (mark : List ℕ) (h : HostState) (es : List Exchange) (new : HostState) → AreAnswered true mark h es new → AreAnswered whole mark h es new
+whole_or_not : (whole : Bool) (mark : List ℕ) (h : HostPart) (es : List Exchange) (new : HostPart) → AreAnswered true mark h es new → AreAnswered whole mark h es new
 whole_or_not whole mark h [] new e = e
 whole_or_not whole mark h (e ∷ es) new a =
     (a.0, record { result = a.1.result; took = a.1.took; refused = a.1.refused; sent = front_before whole es _ _ a.1.sent }, whole_or_not whole mark a.0 es new a.2)
 
 -- what was answered before a datagram was answered whole
-whole_then : (whole : Bool) (mark : List ℕ) (h next : HostState) (x e : Exchange) (es : List Exchange)
+whole_then : (whole : Bool) (mark : List ℕ) (h next : HostPart) (x e : Exchange) (es : List Exchange)
     → IsAnswered (is_whole_before true es) mark h x next → IsAnswered (is_whole_before whole (es ++ e ∷ [])) mark h x next
 whole_then whole mark h next x e [] a = a
 whole_then whole mark h next x e (y ∷ es) a = a
 
-one_more_answered : (whole : Bool) (mark : List ℕ) (h : HostState) (es : List Exchange) (e : Exchange) (mid new : HostState)
+one_more_answered : (whole : Bool) (mark : List ℕ) (h : HostPart) (es : List Exchange) (e : Exchange) (mid new : HostPart)
     → AreAnswered true mark h es mid → IsAnswered whole mark mid e new → AreAnswered whole mark h (es ++ e ∷ []) new
 one_more_answered whole mark h [] e mid new same a = (new, rw (← same) a, refl)
 one_more_answered whole mark h (x ∷ es) e mid new before a =
     (before.0, whole_then whole mark h before.0 x e es before.1, one_more_answered whole mark before.0 es e mid new before.2 a)
 
 -- after so many datagrams, where memory was refused to none
-pub record Turned (mark : List ℕ) (clock : Option ℤ) (a b : Option (List Traffic)) (old new : HostState) (n : ℕ) : Type 0 where
-  pub begun : HostState
+pub record Turned (mark : List ℕ) (clock : Option ℤ) (a b : Option (List Traffic)) (old new : HostPart) (n : ℕ) : Type 0 where
+  pub begun : HostPart
   pub exchanges : List Exchange
   pub clocked : IsBegun old clock false begun
   pub answered : AreAnswered true mark begun exchanges new
@@ -58,12 +58,12 @@ pub record Turned (mark : List ℕ) (clock : Option ℤ) (a b : Option (List Tra
   pub count : length exchanges ≡ n
   pub told : Grows a b (all_traffic exchanges)
 
-pub turned_begun : (mark : List ℕ) (clock : Option ℤ) (a : Option (List Traffic)) (old begun : HostState) → IsBegun old clock false begun → Turned mark clock a a old begun 0
+pub turned_begun : (mark : List ℕ) (clock : Option ℤ) (a : Option (List Traffic)) (old begun : HostPart) → IsBegun old clock false begun → Turned mark clock a a old begun 0
 turned_begun mark clock a old begun clocked =
     record { begun = begun; exchanges = []; clocked = clocked; answered = refl; memory = (1, refl); count = refl; told = grows_none a }
 
 -- memory was refused to the clock
-pub turn_unclocked : (mark : List ℕ) (clock : Option ℤ) (a : Option (List Traffic)) (old new : HostState) → IsBegun old clock true new → IsHostTurn (Err turn_fault.Memory) mark clock a a old new
+pub turn_unclocked : (mark : List ℕ) (clock : Option ℤ) (a : Option (List Traffic)) (old new : HostPart) → IsBegun old clock true new → IsHostTurn (Err turn_fault.Memory) mark clock a a old new
 turn_unclocked mark clock a old new clocked = record {
   refused = true;
   begun = new;
@@ -78,7 +78,7 @@ turn_unclocked mark clock a old new clocked = record {
 }
 
 -- then this was told, and it went on or the port failed
-pub turn_end : (result : Result (Unit {0}) TurnFault) (mark : List ℕ) (clock : Option ℤ) (a b c : Option (List Traffic)) (old new : HostState) (n : ℕ) (rest : List Traffic)
+pub turn_end : (result : Result (Unit {0}) TurnFault) (mark : List ℕ) (clock : Option ℤ) (a b c : Option (List Traffic)) (old new : HostPart) (n : ℕ) (rest : List Traffic)
     → Turned mark clock a b old new n → IsAnswerAfter [] result → n ≤ 64 → IsEnd (is_ok result) n rest → Grows b c rest → IsHostTurn result mark clock a c old new
 turn_end result mark clock a b c old new n rest t answers few end grows = record {
   refused = false;
@@ -105,12 +105,12 @@ more_answered : (result : Result (Unit {0}) TurnFault) (es : List Exchange) (e :
 more_answered result es e before last =
     rw (map-append (λ (x : Exchange). x.refused) es (e ∷ [])) (answered_then (false ∷ refusals_in es) (e.refused ∷ []) result before last)
 
-abbrev exchange_of : (result : Result (Unit {0}) TurnFault) (mark : List ℕ) (h : HostState) (came : Datagram) (a b : Option (List Traffic)) (new : HostState)
+abbrev exchange_of : (result : Result (Unit {0}) TurnFault) (mark : List ℕ) (h : HostPart) (came : Datagram) (a b : Option (List Traffic)) (new : HostPart)
     → IsExchange result mark h came a b new → Exchange
 exchange_of result mark h came a b new x = record { came = came; refused = x.refused; sent = x.sent }
 
 -- one datagram more, at which the turn ended
-pub turn_cut : (fault : TurnFault) (mark : List ℕ) (clock : Option ℤ) (a b c d : Option (List Traffic)) (came : Datagram) (old mid new : HostState) (n : ℕ)
+pub turn_cut : (fault : TurnFault) (mark : List ℕ) (clock : Option ℤ) (a b c d : Option (List Traffic)) (came : Datagram) (old mid new : HostPart) (n : ℕ)
     → Turned mark clock a b old mid n → n < 64 → Grows b c (Received came ∷ []) → IsExchange (Err fault) mark mid came c d new
     → IsHostTurn (Err fault) mark clock a d old new
 turn_cut fault mark clock a b c d came old mid new n t few received x =
@@ -129,7 +129,7 @@ turn_cut fault mark clock a b c d came old mid new n t few received x =
     }
 
 -- one datagram more
-pub turned_more : (mark : List ℕ) (clock : Option ℤ) (a b c d : Option (List Traffic)) (came : Datagram) (old mid new : HostState) (n : ℕ)
+pub turned_more : (mark : List ℕ) (clock : Option ℤ) (a b c d : Option (List Traffic)) (came : Datagram) (old mid new : HostPart) (n : ℕ)
     → Turned mark clock a b old mid n → Grows b c (Received came ∷ []) → IsExchange went_on mark mid came c d new → Turned mark clock a d old new (n + 1)
 turned_more mark clock a b c d came old mid new n t received x =
     let e = exchange_of went_on mark mid came c d new x in record {
@@ -145,8 +145,8 @@ turned_more mark clock a b c d came old mid new n t received x =
 -- ---- one exchange
 
 -- the host refused what came, and nothing was sent
-pub exchange_refused : (result : Result (Unit {0}) TurnFault) (fault : HostFault) (mark : List ℕ) (h : HostState) (came : Datagram) (a : Option (List Traffic)) (new : HostState)
-    → IsHostTakeOf mark h (decoded came.bytes) (Err fault) new → is_err result ≡ says_memory (HostTook (Err fault)) → OnErr result (result ≡ Err turn_fault.Memory)
+pub exchange_refused : (result : Result (Unit {0}) TurnFault) (fault : HostFault) (mark : List ℕ) (h : HostPart) (came : Datagram) (a : Option (List Traffic)) (new : HostPart)
+    → IsPartTakeOf mark h (decoded came.bytes) (Err fault) new → is_err result ≡ says_memory (HostTook (Err fault)) → OnErr result (result ≡ Err turn_fault.Memory)
     → IsExchange result mark h came a a new
 exchange_refused result fault mark h came a new took refused memory = record {
   refused = is_err result;
@@ -163,8 +163,8 @@ exchange_refused result fault mark h came a new took refused memory = record {
     none_sent (Err turn_fault.Memory) = refl
 
 -- the host took what came, and sent for it as far as the port did
-pub exchange_sent : (result : Result (Unit {0}) TurnFault) (reply : HostReply) (mark : List ℕ) (h : HostState) (came : Datagram) (a b : Option (List Traffic)) (new : HostState)
-    → IsHostTakeOf mark h (decoded came.bytes) (Ok reply) new → AreSent (is_whole result) came.peer a b (datagrams_of mark (bodies_for new (sender_of (decoded came.bytes)) reply))
+pub exchange_sent : (result : Result (Unit {0}) TurnFault) (reply : HostReply) (mark : List ℕ) (h : HostPart) (came : Datagram) (a b : Option (List Traffic)) (new : HostPart)
+    → IsPartTakeOf mark h (decoded came.bytes) (Ok reply) new → AreSent (is_whole result) came.peer a b (datagrams_of mark (bodies_for new (sender_of (decoded came.bytes)) reply))
     → IsAnswerAfter (false ∷ []) result → IsExchange result mark h came a b new
 exchange_sent result reply mark h came a b new took s answers = record {
   refused = false;

@@ -8,7 +8,7 @@ use Rattle.x3d_values.specs.declared.stamped.Event.{Event}
 use Rattle.x3d_values.specs.declared.stamped.Event.TheVariants.{Clock, Pointer}
 use Rattle.x3d_values.specs.Stamp.{Stamp}
 use Rattle.cascade_core.specs.Course.{Scripted}
-use Rattle.share_law.specs.Host.{HostState}
+use Rattle.share_law.specs.Parts.{HostPart}
 use Rattle.share_law.specs.Viewer.{ViewerState, point_of}
 use Rattle.share_core.specs.Viewer.{ViewerView, with_state}
 use Rattle.share_port.specs.declared.traffic.Traffic.{Traffic}
@@ -94,11 +94,11 @@ pub record SeatTurnsEnd {P : Type 0} (ways : Ways P) (step : Option Stamp) (host
 
 -- a host, its viewers, and the port of each
 pub record Meeting (P : Type 0) : Type 0 where
-  pub host : HostState
+  pub host : HostPart
   pub port : P
   pub seats : Seats P
 
-abbrev pub meeting : {P : Type 0} → HostState → P → List ViewerView → List P → Meeting P
+abbrev pub meeting : {P : Type 0} → HostPart → P → List ViewerView → List P → Meeting P
 meeting host port viewers ports = record {
   host = host;
   port = port;
@@ -139,7 +139,7 @@ are_at n (v ∷ vs) = (applied_by v v.state == n) && are_at n vs
 
 -- the host has numbered all that was issued, and every viewer has applied it
 abbrev pub is_settled : {P : Type 0} → (issued : ℕ) → Meeting P → Bool
-is_settled issued m = (length m.host.list == issued) && are_at issued m.seats.viewers
+is_settled issued m = (m.host.count == issued) && are_at issued m.seats.viewers
 
 -- the next step is issued then
 abbrev pub due : {P : Type 0} → List Stamp → (issued : ℕ) → Meeting P → Option Stamp

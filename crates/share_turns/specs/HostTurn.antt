@@ -6,15 +6,16 @@ use Rattle.share_wire.specs.Datagram.{datagram}
 use Rattle.share_wire.specs.Decoding.{decoded}
 use Rattle.share_wire.specs.declared.fault.WireFault.{WireFault}
 use Rattle.share_wire.specs.declared.message.Body.{Body}
-use Rattle.share_wire.specs.declared.message.Body.TheVariants.{Input, Offer, Ask, Ack}
+use Rattle.share_wire.specs.declared.message.Body.TheVariants.{Input, Offer, Ask, Ack, Floor, Piece}
 use Rattle.share_wire.specs.declared.message.Message.{Message}
 use Rattle.share_law.specs.declared.fault.HostFault.{HostFault}
 use Rattle.share_law.specs.declared.fault.NumberFault.{NumberFault}
 use Rattle.share_law.specs.declared.kept.Kept.{Kept}
 use Rattle.share_law.specs.declared.reply.HostReply.{HostReply}
-use Rattle.share_law.specs.declared.reply.HostReply.TheVariants.{Asked}
-use Rattle.share_law.specs.Host.{HostState, host_packet, ack_of}
-use Rattle.share_law.specs.Calls.{IsClocked, IsHostTakeOf}
+use Rattle.share_law.specs.declared.reply.HostReply.TheVariants.{Asked, Below}
+use Rattle.share_law.specs.Host.{ack_of}
+use Rattle.share_law.specs.Parts.{HostPart, part_packet, part_floor_packet}
+use Rattle.share_law.specs.Calls.{IsPartClocked, IsPartTakeOf}
 use Rattle.share_law.specs.Network.{Clocked, HostTook}
 use Rattle.share_law.specs.Steps.{says_memory}
 use Rattle.share_port.specs.declared.traffic.Datagram.{Datagram}
@@ -32,10 +33,11 @@ abbrev pub listed : {A : Type 0} → Option A → List A
 listed None = []
 listed (Some x) = x ∷ []
 
--- the inputs that were asked for
-abbrev pub inputs_for : HostState → HostReply → List Body
+-- the inputs that were asked for, or the floor where they are below it
+abbrev pub inputs_for : HostPart → HostReply → List Body
 inputs_for h (Asked first count) =
-    flat_map (λ n. listed (host_packet h n)) (range_with_len first count)
+    flat_map (λ n. listed (part_packet h n)) (range_with_len first count)
+inputs_for h (Below f) = part_floor_packet h ∷ []
 inputs_for h reply = []
 
 -- the viewer that offered or asked
@@ -44,6 +46,8 @@ sender_in (Input s) = None
 sender_in (Offer o) = Some o.pointer.who
 sender_in (Ask a) = Some a.who
 sender_in (Ack a) = None
+sender_in (Floor f) = None
+sender_in (Piece p) = None
 
 abbrev pub sender_of : Result Message WireFault → Option ℕ
 sender_of (Ok message) = sender_in message.body
@@ -54,18 +58,18 @@ ack_to who None = []
 ack_to who (Some kept) = ack_of who kept ∷ []
 
 -- an ack to the viewer that offered or asked
-abbrev pub acks_for : HostState → Option ℕ → List Body
+abbrev pub acks_for : HostPart → Option ℕ → List Body
 acks_for h None = []
 acks_for h (Some who) = ack_to who (slice_get h.kept who)
 
-abbrev pub bodies_for : HostState → Option ℕ → HostReply → List Body
+abbrev pub bodies_for : HostPart → Option ℕ → HostReply → List Body
 bodies_for h sender reply = inputs_for h reply ++ acks_for h sender
 
 abbrev pub datagrams_of : (mark : List ℕ) → List Body → List (List ℕ)
 datagrams_of mark bodies = map (λ body. datagram (record { mark = mark; body = body })) bodies
 
 -- what a host that took these bytes sends for them; for what it refused it sends nothing
-abbrev pub datagrams_for : (mark : List ℕ) → HostState → (came : List ℕ)
+abbrev pub datagrams_for : (mark : List ℕ) → HostPart → (came : List ℕ)
     → Result HostReply HostFault → List (List ℕ)
 datagrams_for mark h came (Ok reply) =
     datagrams_of mark (bodies_for h (sender_of (decoded came)) reply)
@@ -84,23 +88,23 @@ failures_after (Err Port) n = one_more n
 failures_after result n = n
 
 -- the host numbers a clock, if there is one, or refuses it, perhaps for want of memory
-abbrev pub IsBegun : HostState → Option ℤ → (refused : Bool) → HostState → Type 0
+abbrev pub IsBegun : HostPart → Option ℤ → (refused : Bool) → HostPart → Type 0
 IsBegun h None refused new = (new ≡ h) × (refused ≡ false)
 IsBegun h (Some time) refused new =
-    (answer : Result ℕ NumberFault) × IsClocked h time answer new
+    (answer : Result ℕ NumberFault) × IsPartClocked h time answer new
     × (refused ≡ says_memory (Clocked answer))
 
 -- the host takes what came, and sends what belongs to it
-pub record IsAnswered (whole : Bool) (mark : List ℕ) (h : HostState) (e : Exchange)
-    (new : HostState) : Type 0 where
+pub record IsAnswered (whole : Bool) (mark : List ℕ) (h : HostPart) (e : Exchange)
+    (new : HostPart) : Type 0 where
   pub result : Result HostReply HostFault
-  pub took : IsHostTakeOf mark h (decoded e.came.bytes) result new
+  pub took : IsPartTakeOf mark h (decoded e.came.bytes) result new
   pub refused : e.refused ≡ says_memory (HostTook result)
   pub sent : IsSentOf whole e.sent (datagrams_for mark new e.came.bytes result)
 
 -- the same, as a port tells what is sent, and a turn goes on or ends there
-pub record IsExchange (result : Result (Unit {0}) TurnFault) (mark : List ℕ) (h : HostState)
-    (came : Datagram) (told_before told_after : Option (List Traffic)) (new : HostState) :
+pub record IsExchange (result : Result (Unit {0}) TurnFault) (mark : List ℕ) (h : HostPart)
+    (came : Datagram) (told_before told_after : Option (List Traffic)) (new : HostPart) :
     Type 0 where
   pub refused : Bool
   pub sent : List (List ℕ)
@@ -115,18 +119,18 @@ is_whole_before whole [] = whole
 is_whole_before whole (e ∷ es) = true
 
 -- one datagram after another
-abbrev pub AreAnswered : (whole : Bool) (mark : List ℕ) → HostState → List Exchange → HostState
+abbrev pub AreAnswered : (whole : Bool) (mark : List ℕ) → HostPart → List Exchange → HostPart
     → Type 0
 AreAnswered whole mark h [] new = new ≡ h
 AreAnswered whole mark h (e ∷ es) new =
-    (next : HostState) × IsAnswered (is_whole_before whole es) mark h e next
+    (next : HostPart) × IsAnswered (is_whole_before whole es) mark h e next
     × AreAnswered whole mark next es new
 
 -- the clock, and then datagrams, at most 64, until no more come
 pub record IsHostTurn (result : Result (Unit {0}) TurnFault) (mark : List ℕ) (clock : Option ℤ)
-    (told_before told_after : Option (List Traffic)) (old new : HostState) : Type 0 where
+    (told_before told_after : Option (List Traffic)) (old new : HostPart) : Type 0 where
   pub refused : Bool
-  pub begun : HostState
+  pub begun : HostPart
   pub clocked : IsBegun old clock refused begun
   pub exchanges : List Exchange
   pub answered : AreAnswered (is_whole result) mark begun exchanges new

@@ -1,10 +1,10 @@
 //! A turn of the host.
 
-ghost use Rattle.std.specs.Prelude.{◌≡◌, Err, OnOk, OnErr, is_err, is_ok};
+ghost use Rattle.std.specs.Prelude.{◌≡◌, [], ◌∷◌, Err, OnOk, OnErr, is_err, is_ok};
 ghost use Rattle.share_wire.specs.Decoding.{decoded};
 ghost use Rattle.share_port.specs.Told.{one_more};
 ghost use Rattle.share_turns.specs.Exchanges.{AreSent};
-ghost use Rattle.share_law.specs.Host.{host_packet};
+ghost use Rattle.share_law.specs.Parts.{part_floor_packet, part_packet};
 ghost use Rattle.share_law.specs.Network.{Clocked, HostTook};
 ghost use Rattle.share_law.specs.Steps.{says_memory};
 ghost use Rattle.share_core.specs.Host.{AreNumbered};
@@ -35,7 +35,7 @@ fn after_clock(answer: Result<u32, NumberFault>) -> Result<(), TurnFault>
 /// Numbers the clock of a turn.
 fn number_clock(host: &mut Host, clock: Option<i64>) -> Result<(), TurnFault>
     ensures mark { host.new.mark ≡ host.old.mark }
-    ensures step { IsBegun host.old.host clock (is_err result) host.new.host }
+    ensures step { IsBegun host.old.part clock (is_err result) host.new.part }
     ensures fault { OnErr result (result ≡ Err Memory) }
 {
     match clock {
@@ -51,7 +51,7 @@ fn sender_in(body: Body) -> Option<u8>
     match body {
         Body::Offer(offer) => Some(offer.pointer().who()),
         Body::Ask(ask) => Some(ask.who()),
-        Body::Input(_) | Body::Ack(_) => None,
+        Body::Input(_) | Body::Ack(_) | Body::Floor(_) | Body::Piece(_) => None,
     }
 }
 
@@ -68,7 +68,7 @@ fn sender_of(bytes: &[u8]) -> Option<u8>
 /// Sends the input of that number, if there is one.
 fn send_input<P: Port>(host: &Host, number: u32, to: u16, port: &mut P) -> Result<(), PortFault>
     ensures sent { AreSent (is_ok result) to (P.told port.old) (P.told port.new)
-        (datagrams_of host.now.mark (listed (host_packet host.now.host number))) }
+        (datagrams_of host.now.mark (listed (part_packet host.now.part number))) }
     ensures count_ok { OnOk result (P.failure_count port.new ≡ P.failure_count port.old) }
     ensures count_err { OnErr result
         (P.failure_count port.new ≡ one_more (P.failure_count port.old)) }
@@ -79,20 +79,34 @@ fn send_input<P: Port>(host: &Host, number: u32, to: u16, port: &mut P) -> Resul
     }
 }
 
-/// Sends the inputs that were asked for.
+/// Sends the floor.
+fn send_floor<P: Port>(host: &Host, to: u16, port: &mut P) -> Result<(), PortFault>
+    ensures sent { AreSent (is_ok result) to (P.told port.old) (P.told port.new)
+        (datagrams_of host.now.mark (part_floor_packet host.now.part ∷ [])) }
+    ensures count_ok { OnOk result (P.failure_count port.new ≡ P.failure_count port.old) }
+    ensures count_err { OnErr result
+        (P.failure_count port.new ≡ one_more (P.failure_count port.old)) }
+{
+    port.send(to, host.floor_packet().as_slice())
+}
+
+/// Sends the inputs that were asked for, or the floor where they are below it.
 fn send_inputs<P: Port>(
     host: &Host,
     reply: HostReply,
     to: u16,
     port: &mut P,
 ) -> Result<(), PortFault>
-    requires { AreNumbered host.now.host reply }
+    requires { AreNumbered host.now.part reply }
     ensures sent { AreSent (is_ok result) to (P.told port.old) (P.told port.new)
-        (datagrams_of host.now.mark (inputs_for host.now.host reply)) }
+        (datagrams_of host.now.mark (inputs_for host.now.part reply)) }
     ensures count_ok { OnOk result (P.failure_count port.new ≡ P.failure_count port.old) }
     ensures count_err { OnErr result
         (P.failure_count port.new ≡ one_more (P.failure_count port.old)) }
 {
+    if let HostReply::Below(_floor) = reply {
+        return send_floor(host, to, port);
+    }
     let HostReply::Asked { first, count } = reply else {
         return Ok(());
     };
@@ -111,7 +125,7 @@ fn send_ack<P: Port>(
     port: &mut P,
 ) -> Result<(), PortFault>
     ensures sent { AreSent (is_ok result) to (P.told port.old) (P.told port.new)
-        (datagrams_of host.now.mark (acks_for host.now.host sender)) }
+        (datagrams_of host.now.mark (acks_for host.now.part sender)) }
     ensures count_ok { OnOk result (P.failure_count port.new ≡ P.failure_count port.old) }
     ensures count_err { OnErr result
         (P.failure_count port.new ≡ one_more (P.failure_count port.old)) }
@@ -133,9 +147,9 @@ fn send_for<P: Port>(
     to: u16,
     port: &mut P,
 ) -> Result<(), PortFault>
-    requires { AreNumbered host.now.host reply }
+    requires { AreNumbered host.now.part reply }
     ensures sent { AreSent (is_ok result) to (P.told port.old) (P.told port.new)
-        (datagrams_of host.now.mark (bodies_for host.now.host sender reply)) }
+        (datagrams_of host.now.mark (bodies_for host.now.part sender reply)) }
     ensures count_ok { OnOk result (P.failure_count port.new ≡ P.failure_count port.old) }
     ensures count_err { OnErr result
         (P.failure_count port.new ≡ one_more (P.failure_count port.old)) }
@@ -158,9 +172,9 @@ fn after_refusal(fault: HostFault) -> Result<(), TurnFault>
 /// Takes a datagram, and sends to its peer what belongs to it.
 fn answer<P: Port>(host: &mut Host, from: u16, bytes: &[u8], port: &mut P) -> Result<(), TurnFault>
     ensures mark { host.new.mark ≡ host.old.mark }
-    ensures exchange { IsExchange result host.old.mark host.old.host
+    ensures exchange { IsExchange result host.old.mark host.old.part
         (record { peer = from; bytes = bytes.now }) (P.told port.old) (P.told port.new)
-        host.new.host }
+        host.new.part }
     ensures failures { P.failure_count port.new
         ≡ failures_after result (P.failure_count port.old) }
 {
@@ -172,7 +186,8 @@ fn answer<P: Port>(host: &mut Host, from: u16, bytes: &[u8], port: &mut P) -> Re
 
 /// A turn of the host: it numbers the next clock of its job, at a time in microseconds, if there is
 /// one; then it takes at most 64 datagrams, and sends to each one's peer what belongs to it: for an
-/// ask the inputs that were asked for and an ack, for an offer an ack. A clock or a datagram that
+/// ask the inputs that were asked for, or the floor where they are below it, and an ack, for an
+/// offer an ack. A clock or a datagram that
 /// is refused for another cause than memory is dropped.
 ///
 /// `Port` where a send or a receive failed, `Memory` where memory was refused to a clock or to an
@@ -184,7 +199,7 @@ pub fn host_turn<P: Port>(
 ) -> Result<(), TurnFault>
     ensures mark { host.new.mark ≡ host.old.mark }
     ensures turn { IsHostTurn result host.old.mark clock (P.told port.old) (P.told port.new)
-        host.old.host host.new.host }
+        host.old.part host.new.part }
     ensures failures { P.failure_count port.new
         ≡ failures_after result (P.failure_count port.old) }
 {

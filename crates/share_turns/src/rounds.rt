@@ -129,7 +129,7 @@ fn are_at<B: Behaviour>(count: u32, viewers: &[Viewer<B>]) -> bool
 
 /// Whether the host has numbered all that was issued, and every viewer has applied it.
 fn is_settled<B: Behaviour>(host: &Host, viewers: &[Viewer<B>], issued: u32) -> bool
-    ensures { result ≡ (length host.now.host.list == issued) && are_at issued viewers.now }
+    ensures { result ≡ (host.now.part.count == issued) && are_at issued viewers.now }
 {
     host.len() == issued && are_at(issued, viewers)
 }
@@ -174,12 +174,12 @@ fn round<B: Behaviour, P: Port>(
     ensures ports { length ports.new ≡ length ports.old }
     ensures done { IfOk result (λ did.
         IsRoundOf (ways_of P.told P.failure_count) host.old.mark step.now own
-        (meeting host.old.host port.old viewers.old ports.old) did
-        (meeting host.new.host port.new viewers.new ports.new)) }
+        (meeting host.old.part port.old viewers.old ports.old) did
+        (meeting host.new.part port.new viewers.new ports.new)) }
     ensures ended { IfErr result (λ fault.
         IsRoundEnd (ways_of P.told P.failure_count) host.old.mark step.now own
-        (meeting host.old.host port.old viewers.old ports.old) fault
-        (meeting host.new.host port.new viewers.new ports.new)) }
+        (meeting host.old.part port.old viewers.old ports.old) fault
+        (meeting host.new.part port.new viewers.new ports.new)) }
 {
     host_turn(host, clock_of(step), port)?;
     let offered = seat_turns(viewers, step, own, ports)?;
@@ -206,12 +206,12 @@ pub fn agree_until<B: Behaviour, P: Port>(
     ensures viewers { length viewers.new ≡ length viewers.old }
     ensures done { OnOk result (AreAgreed (ways_of P.told P.failure_count)
         host.old.mark steps.now own rounds
-        (meeting host.old.host port.old viewers.old ports.old)
-        (meeting host.new.host port.new viewers.new ports.new)) }
+        (meeting host.old.part port.old viewers.old ports.old)
+        (meeting host.new.part port.new viewers.new ports.new)) }
     ensures ended { IfErr result (λ fault.
         IsAgreeEnd (ways_of P.told P.failure_count) host.old.mark steps.now own rounds
-        (meeting host.old.host port.old viewers.old ports.old) fault
-        (meeting host.new.host port.new viewers.new ports.new)) }
+        (meeting host.old.part port.old viewers.old ports.old) fault
+        (meeting host.new.part port.new viewers.new ports.new)) }
 {
     let mut issued = 0;
     for _round in 0..rounds {
@@ -291,14 +291,14 @@ pub fn agree<B: Behaviour, P: Port>(
     ensures mark { host.new.mark ≡ host.old.mark }
     ensures done { OnOk result (AreAgreed (ways_of P.told P.failure_count)
         host.old.mark steps.now own rounds
-        (meeting host.old.host port.old viewers.old ports.old)
-        (meeting host.new.host port.new viewers.new ports.new)) }
+        (meeting host.old.part port.old viewers.old ports.old)
+        (meeting host.new.part port.new viewers.new ports.new)) }
     ensures texts { OnOk result
         (IsAgreedText (length steps.now) viewers.new out.old.items out.new.items) }
     ensures ended { IfErr result (λ fault.
         IsAgreeRunEnd (ways_of P.told P.failure_count) host.old.mark steps.now own rounds
-        (meeting host.old.host port.old viewers.old ports.old) fault
-        (meeting host.new.host port.new viewers.new ports.new)) }
+        (meeting host.old.part port.old viewers.old ports.old) fault
+        (meeting host.new.part port.new viewers.new ports.new)) }
     ensures kept { OnErr result (out.new.items ≡ out.old.items) }
 {
     agree_until(host, viewers, steps, rounds, own, port, ports)?;

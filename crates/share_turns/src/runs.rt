@@ -29,9 +29,9 @@ pub fn host_run<P: Port>(
 ) -> Result<(), TurnFault>
     ensures mark { host.new.mark ≡ host.old.mark }
     ensures done { OnOk result (HostTurns host.old.mark clocks.now turns (P.told port.old)
-        (P.told port.new) host.old.host host.new.host) }
+        (P.told port.new) host.old.part host.new.part) }
     ensures ended { IfErr result (λ fault. HostTurnsEnd host.old.mark clocks.now turns
-        (P.told port.old) (P.told port.new) host.old.host fault host.new.host) }
+        (P.told port.old) (P.told port.new) host.old.part fault host.new.part) }
     ensures failures { P.failure_count port.new
         ≡ failures_after result (P.failure_count port.old) }
 {

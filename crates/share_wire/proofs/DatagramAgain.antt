@@ -1,7 +1,7 @@
 -- Each datagram is decoded to its message.
-use Rattle.std.proofs.Common.{◌≡◌, ℕ, ◌^◌, Bool, true, eqb, ltb, leb, List, [], ◌++◌, length, Ok, refl, ap, arith}
+use Rattle.std.proofs.Common.{◌≡◌, ℕ, ◌*◌, ◌^◌, Bool, true, eqb, ltb, leb, List, [], ◌++◌, length, Ok, refl, ap, arith}
 use Rattle.std.specs.Prelude.{◌&&◌, not, ℤ, codes}
-use Rattle.std.proofs.lemmas.Bool.{lt-ltb, leb-true}
+use Rattle.std.proofs.lemmas.Bool.{lt-ltb, leb-true, ltb-true}
 use Rattle.byte_codec.proofs.Laws.{both, and_true, whole_again}
 use Rattle.x3d_values.specs.Ranges.{coordinates_fit, is_zero, is_viewer, is_input_number, is_input_time}
 use Rattle.x3d_values.specs.Pointing.{Pointing, is_ray}
@@ -12,13 +12,13 @@ use Rattle.share_wire.specs.declared.fields.OfferFields.{OfferFields}
 use Rattle.share_wire.specs.declared.fields.AskFields.{AskFields}
 use Rattle.share_wire.specs.declared.fields.AckFields.{AckFields}
 use Rattle.share_wire.specs.declared.message.Body.{Body}
-use Rattle.share_wire.specs.declared.message.Body.TheVariants.{Input, Offer, Ask, Ack}
+use Rattle.share_wire.specs.declared.message.Body.TheVariants.{Input, Offer, Ask, Ack, Floor, Piece}
 use Rattle.share_wire.specs.declared.message.Message.{Message}
-use Rattle.share_wire.specs.Messages.{is_ordinal, is_next_number}
-use Rattle.share_wire.specs.Fields.{head_fields, stamp_fields, point_fields, offer_fields, ask_fields, ack_fields}
-use Rattle.share_wire.specs.Datagram.{tag_of, kind_of, point_of, event_text, body_text, datagram, pointer_fits, event_fits, body_fits, message_fits}
-use Rattle.share_wire.specs.Decoding.{is_stamp, is_point, is_offer, pointing_of, input_in, offer_in, ask_in, ack_in, body_in, decoded}
-use Rattle.share_wire.proofs.FieldLaws.{head_exact, stamp_exact, point_exact, offer_exact, ask_exact, ack_exact, vector-signed, time-signed, viewer-byte, flag-byte, flag-low, flag-back}
+use Rattle.share_wire.specs.Messages.{Fragment, is_ordinal, is_next_number, is_piece, piece_size}
+use Rattle.share_wire.specs.Fields.{head_fields, stamp_fields, point_fields, offer_fields, ask_fields, ack_fields, floor_fields, piece_fields}
+use Rattle.share_wire.specs.Datagram.{tag_of, kind_of, point_of, piece_of, event_text, body_text, datagram, pointer_fits, event_fits, fragment_fits, body_fits, message_fits}
+use Rattle.share_wire.specs.Decoding.{is_stamp, is_point, is_offer, pointing_of, input_in, offer_in, ask_in, ack_in, floor_in, piece_in, body_in, decoded}
+use Rattle.share_wire.proofs.FieldLaws.{head_exact, stamp_exact, point_exact, offer_exact, ask_exact, ack_exact, floor_exact, piece_exact, vector-signed, time-signed, viewer-byte, flag-byte, flag-low, flag-back}
 use Rattle.share_wire.proofs.Verdicts.{judged-both}
 
 pointing-again : (p : Pointing) → pointing_of (point_of p) ≡ p
@@ -84,8 +84,26 @@ ack-fits : (a : AckFields) → is_viewer a.who ≡ true → (ltb a.boot (2 ^ 32)
 unfolding ack_fields
 ack-fits a e f = and_true _ _ (viewer-byte a.who e) f
 
+next-fits : (n : ℕ) → is_next_number n ≡ true → floor_fields.fits n ≡ true
+next-fits n e =
+    let q = both (leb 1 n) (leb n 0x10_0001) e in
+    lt-ltb _ _ (omega (arith, leb-true n 0x10_0001 q.1))
+
+-- what is at most 2^20 or 2^26 has 32 bits
+piece-fits : (p : Fragment) → is_piece p.boot p.applied p.length p.index ≡ true → ltb p.boot (2 ^ 32) ≡ true → piece_fields.fits (piece_of p) ≡ true
+unfolding piece_fields
+piece-fits p e small =
+    let a = both (leb 1 p.boot && leb p.applied (2 ^ 20)) ((leb 85 p.length && leb p.length (2 ^ 26)) && ltb (192 * p.index) p.length) e in
+    let b = both (leb 1 p.boot) (leb p.applied (2 ^ 20)) a.0 in
+    let c = both (leb 85 p.length && leb p.length (2 ^ 26)) (ltb (192 * p.index) p.length) a.1 in
+    let d = both (leb 85 p.length) (leb p.length (2 ^ 26)) c.0 in
+    let applied : ltb p.applied (2 ^ 32) ≡ true = lt-ltb p.applied (2 ^ 32) (omega (arith, leb-true p.applied (2 ^ 20) b.1)) in
+    let size : ltb p.length (2 ^ 32) ≡ true = lt-ltb p.length (2 ^ 32) (omega (arith, leb-true p.length (2 ^ 26) d.1)) in
+    let index : ltb p.index (2 ^ 32) ≡ true = lt-ltb p.index (2 ^ 32) (omega (arith, leb-true p.length (2 ^ 26) d.1, ltb-true (192 * p.index) p.length c.1)) in
+    and_true _ _ small (and_true _ _ applied (and_true _ _ size index))
+
 body-again : (b : Body) → body_fits b ≡ true → body_in (tag_of b) (body_text b) ≡ Ok b
-unfolding offer_in ask_in ack_in
+unfolding offer_in ask_in ack_in floor_in piece_in
 body-again (Input s) fits = let a = both (is_input_number s.number && is_input_time s.time) (event_fits s.event) fits in input-again s.number s.time s.event a.0 a.1
 body-again (Offer o) fits =
     let a = both ((is_ordinal o.boot && is_ordinal o.number) && pointer_fits o.pointer) (ltb o.boot (2 ^ 32) && ltb o.number (2 ^ 32)) fits in
@@ -105,12 +123,20 @@ body-again (Ack a) fits =
     let b = both (is_viewer a.who) (ltb a.boot (2 ^ 32) && ltb a.count (2 ^ 32)) fits in
     let raw : AckFields = record { who = a.who; boot = a.boot; count = a.count } in
     rw (whole_again ack_fields ack_exact raw (ack-fits raw b.0 b.1)) (judged-both (is_viewer a.who) true (Ack a) (Ack a) b.0 refl refl)
+body-again (Floor n) fits =
+    rw (whole_again floor_fields floor_exact n (next-fits n fits)) (judged-both (is_next_number n) true (Floor n) (Floor n) fits refl refl)
+body-again (Piece p) fits =
+    let a = both (fragment_fits p) (ltb p.boot (2 ^ 32)) fits in
+    let b = both (is_piece p.boot p.applied p.length p.index) (eqb (length p.bytes) (piece_size p.length p.index)) a.0 in
+    rw (piece_exact.again (piece_of p) p.bytes (piece-fits p b.0 a.1), b.0, b.1) refl
 
 tag-byte : (b : Body) → ltb (tag_of b) 256 ≡ true
 tag-byte (Input s) = refl
 tag-byte (Offer o) = refl
 tag-byte (Ask a) = refl
 tag-byte (Ack a) = refl
+tag-byte (Floor n) = refl
+tag-byte (Piece p) = refl
 
 head-fits : (tag : ℕ) (mark : List ℕ) → ltb tag 256 ≡ true → eqb (length mark) 32 ≡ true → head_fields.fits (codes "X3DS", (1, (tag, mark))) ≡ true
 unfolding head_fields

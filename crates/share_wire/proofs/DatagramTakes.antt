@@ -15,14 +15,15 @@ use Rattle.share_wire.specs.declared.fields.StampFields.{StampFields}
 use Rattle.share_wire.specs.declared.fields.PointFields.{PointFields}
 use Rattle.share_wire.specs.declared.fields.OfferFields.{OfferFields}
 use Rattle.share_wire.specs.declared.fields.AckFields.{AckFields}
+use Rattle.share_wire.specs.declared.fields.PieceFields.{PieceFields}
 use Rattle.share_wire.specs.declared.message.Body.{Body}
-use Rattle.share_wire.specs.declared.message.Body.TheVariants.{Offer, Ask, Ack}
+use Rattle.share_wire.specs.declared.message.Body.TheVariants.{Offer, Ask, Ack, Floor, Piece}
 use Rattle.share_wire.specs.declared.message.Message.{Message}
-use Rattle.share_wire.specs.Messages.{is_ordinal}
-use Rattle.share_wire.specs.Fields.{head_fields, stamp_fields, point_fields, offer_fields, ask_fields, ack_fields}
+use Rattle.share_wire.specs.Messages.{is_next_number, is_ordinal, is_piece, piece_size}
+use Rattle.share_wire.specs.Fields.{head_fields, stamp_fields, point_fields, offer_fields, ask_fields, ack_fields, floor_fields, piece_fields}
 use Rattle.share_wire.specs.Datagram.{tag_of, point_of, body_text, datagram, pointer_fits, body_fits, message_fits}
-use Rattle.share_wire.specs.Decoding.{is_stamp, is_point, is_offer, pointing_of, clock_of, pointer_of, offer_of, ask_of, ack_of, input_of, input_in, offer_in, ask_in, ack_in, body_in, message_of, decoded}
-use Rattle.share_wire.proofs.FieldLaws.{head_exact, stamp_exact, point_exact, offer_exact, ask_exact, ack_exact, flag-of_test}
+use Rattle.share_wire.specs.Decoding.{is_stamp, is_point, is_offer, pointing_of, clock_of, pointer_of, offer_of, ask_of, ack_of, floor_of, piece_of, input_of, input_in, offer_in, ask_in, ack_in, floor_in, piece_in, body_in, message_of, decoded}
+use Rattle.share_wire.proofs.FieldLaws.{head_exact, stamp_exact, point_exact, offer_exact, ask_exact, ack_exact, floor_exact, piece_exact, flag-of_test}
 use Rattle.share_wire.proofs.Verdicts.{bind_ok, ok_is, ok_or_some, judged_ok, tested, chosen}
 use Rattle.share_wire.proofs.DatagramAgain.{stamp_of, input}
 
@@ -120,6 +121,33 @@ ack-takes bytes b h e =
     let j = judged_ok _ true made b p.2 in
     subst (Spelled 4 bytes) j.2 (record { tag_is = refl; text = u.0; fits = and_true _ _ j.0 (ack-words p.0 u.1) })
 
+floor-takes : (bytes : List ℕ) (b : Body) → IsBytes bytes → floor_in bytes ≡ Ok b → Spelled 5 bytes b
+unfolding floor_in
+floor-takes bytes b h e =
+    let p = bind_ok (ok_or (whole (floor_fields.read bytes)) BadPacket) floor_of b e in
+    let u = whole_takes floor_fields floor_exact bytes p.0 h (ok_or_some _ _ p.1) in
+    let j = judged_ok (is_next_number p.0) true (Floor p.0) b p.2 in
+    subst (Spelled 5 bytes) j.2 (record { tag_is = refl; text = u.0; fits = j.0 })
+
+piece-word : (x : PieceFields) → piece_fields.fits x ≡ true → ltb x.boot (2 ^ 32) ≡ true
+unfolding piece_fields
+piece-word x e = (both (ltb x.boot (2 ^ 32)) _ e).0
+
+piece-takes : (bytes : List ℕ) (b : Body) → IsBytes bytes → piece_in bytes ≡ Ok b → Spelled 6 bytes b
+unfolding piece_in
+piece-takes bytes b h e =
+    let s = bind_ok (ok_or (piece_fields.read bytes) BadPacket) (λ p. piece_of p.0 p.1) b e in
+    let p : PieceFields = s.0.0 in
+    let t = piece_exact.takes bytes s.0.0 s.0.1 h (ok_or_some _ _ s.1) in
+    let made : Body = Piece (record { boot = p.boot; applied = p.applied; length = p.size; index = p.index; bytes = s.0.1 }) in
+    let range = tested (is_piece p.boot p.applied p.size p.index) (cond (eqb (length s.0.1) (piece_size p.size p.index)) (Ok made) (Err BadPacket)) BadRange b s.2 in
+    let size = tested (eqb (length s.0.1) (piece_size p.size p.index)) (Ok made) BadPacket b range.1 in
+    subst (Spelled 6 bytes) (ok_is made b size.1) (record {
+      tag_is = refl;
+      text = t.parts;
+      fits = and_true _ _ (and_true _ _ range.0 size.0) (piece-word p t.valid);
+    })
+
 retag : (tag n : ℕ) (bytes : List ℕ) (b : Body) → eqb tag n ≡ true → Spelled n bytes b → Spelled tag bytes b
 retag tag n bytes b e s = subst (λ (z : ℕ). Spelled z bytes b) (sym (eqb-true tag n e)) s
 
@@ -128,7 +156,9 @@ body-takes tag bytes b h e =
     chosen (eqb tag 1) (input_in bytes) _ b e _ (λ k f. retag tag 1 bytes b k (input-takes bytes b h f)) (λ _ e2.
     chosen (eqb tag 2) (offer_in bytes) _ b e2 _ (λ k f. retag tag 2 bytes b k (offer-takes bytes b h f)) (λ _ e3.
     chosen (eqb tag 3) (ask_in bytes) _ b e3 _ (λ k f. retag tag 3 bytes b k (ask-takes bytes b h f)) (λ _ e4.
-    let k = tested (eqb tag 4) (ack_in bytes) BadTag b e4 in retag tag 4 bytes b k.0 (ack-takes bytes b h k.1))))
+    chosen (eqb tag 4) (ack_in bytes) _ b e4 _ (λ k f. retag tag 4 bytes b k (ack-takes bytes b h f)) (λ _ e5.
+    chosen (eqb tag 5) (floor_in bytes) _ b e5 _ (λ k f. retag tag 5 bytes b k (floor-takes bytes b h f)) (λ _ e6.
+    let k = tested (eqb tag 6) (piece_in bytes) BadTag b e6 in retag tag 6 bytes b k.0 (piece-takes bytes b h k.1))))))
 
 mark-length : (x : List ℕ × (ℕ × (ℕ × List ℕ))) → head_fields.fits x ≡ true → eqb (length x.1.1.1) 32 ≡ true
 unfolding head_fields

@@ -13,7 +13,8 @@ use Rattle.share_wire.specs.declared.fields.PointFields.{PointFields}
 use Rattle.share_wire.specs.declared.fields.OfferFields.{OfferFields}
 use Rattle.share_wire.specs.declared.fields.AskFields.{AskFields}
 use Rattle.share_wire.specs.declared.fields.AckFields.{AckFields}
-use Rattle.share_wire.specs.Fields.{vector, head_fields, stamp_fields, point_fields, offer_fields, ask_fields, ack_fields}
+use Rattle.share_wire.specs.declared.fields.PieceFields.{PieceFields}
+use Rattle.share_wire.specs.Fields.{vector, head_fields, stamp_fields, point_fields, offer_fields, ask_fields, ack_fields, floor_fields, piece_fields}
 
 -- ---- exactness
 
@@ -43,6 +44,13 @@ ask_exact = named_exact (λ (t : ℕ × ℕ). let a : AskFields = record { who =
 pub ack_exact : IsExact ack_fields
 unfolding ack_fields
 ack_exact = named_exact (λ (t : ℕ × (ℕ × ℕ)). let a : AckFields = record { who = t.0; boot = t.1.0; count = t.1.1 } in a) (λ a. (a.who, (a.boot, a.count))) _ (λ a. refl) (λ b. refl) (pair_exact _ _ byte_exact (pair_exact _ _ (number_exact w32 wide32) (number_exact w32 wide32)))
+
+pub floor_exact : IsExact floor_fields
+floor_exact = number_exact w32 wide32
+
+pub piece_exact : IsExact piece_fields
+unfolding piece_fields
+piece_exact = named_exact (λ (t : ℕ × (ℕ × (ℕ × ℕ))). let p : PieceFields = record { boot = t.0; applied = t.1.0; size = t.1.1.0; index = t.1.1.1 } in p) (λ p. (p.boot, (p.applied, (p.size, p.index)))) _ (λ a. refl) (λ b. refl) (pair_exact _ _ (number_exact w32 wide32) (pair_exact _ _ (number_exact w32 wide32) (pair_exact _ _ (number_exact w32 wide32) (number_exact w32 wide32))))
 
 -- ---- ranges
 

@@ -1,6 +1,7 @@
 -- What bytes are as a datagram: the message, or the first fault (our choice). The tests come in
 -- this order: too few bytes or another magic, the version, the tag, an input's fields but for a
--- pointer, its kind, the length, the ranges, a direction of 0 0 0.
+-- pointer, its kind, the length, the ranges, a direction of 0 0 0. Of a piece the length comes
+-- behind the ranges, since they say how long it is.
 use Rattle.std.specs.Prelude.{ℕ, ◌&&◌, ◌==◌, Bool, true, not, List, length, Result, Ok, Err, nat_le, if◌then◌else◌, codes, nat_eq}
 use Rattle.std.specs.Option.{ok_or}
 use Rattle.std.specs.Cmp.Lexicographic.{pointwise}
@@ -15,11 +16,12 @@ use Rattle.share_wire.specs.declared.fields.PointFields.{PointFields}
 use Rattle.share_wire.specs.declared.fields.OfferFields.{OfferFields}
 use Rattle.share_wire.specs.declared.fields.AskFields.{AskFields}
 use Rattle.share_wire.specs.declared.fields.AckFields.{AckFields}
+use Rattle.share_wire.specs.declared.fields.PieceFields.{PieceFields}
 use Rattle.share_wire.specs.declared.message.Body.{Body}
-use Rattle.share_wire.specs.declared.message.Body.TheVariants.{Input, Offer, Ask, Ack}
+use Rattle.share_wire.specs.declared.message.Body.TheVariants.{Input, Offer, Ask, Ack, Floor, Piece}
 use Rattle.share_wire.specs.declared.message.Message.{Message}
-use Rattle.share_wire.specs.Messages.{is_ordinal, is_next_number}
-use Rattle.share_wire.specs.Fields.{head_fields, stamp_fields, point_fields, offer_fields, ask_fields, ack_fields}
+use Rattle.share_wire.specs.Messages.{is_ordinal, is_next_number, is_piece, piece_size}
+use Rattle.share_wire.specs.Fields.{head_fields, stamp_fields, point_fields, offer_fields, ask_fields, ack_fields, floor_fields, piece_fields}
 
 -- what is decided next, if there is no fault yet
 infixl 10 ◌>>=◌
@@ -85,6 +87,24 @@ abbrev pub ack_of : AckFields → Result Body WireFault
 ack_of a =
     judged (is_viewer a.who) true (Ack (record { who = a.who; boot = a.boot; count = a.count }))
 
+abbrev pub floor_of : ℕ → Result Body WireFault
+floor_of n = judged (is_next_number n) true (Floor n)
+
+-- a piece's ranges, and then the length that they ask for
+abbrev pub piece_of : PieceFields → List ℕ → Result Body WireFault
+piece_of p bytes =
+    if is_piece p.boot p.applied p.size p.index then
+    (if length bytes == piece_size p.size p.index then
+    Ok (Piece (record {
+      boot = p.boot;
+      applied = p.applied;
+      length = p.size;
+      index = p.index;
+      bytes = bytes;
+    }))
+    else Err BadPacket)
+    else Err BadRange
+
 -- by kind: nothing follows a clock, and a point's fields follow a pointer
 abbrev pub input_of : StampFields → List ℕ → Result Body WireFault
 input_of s bytes =
@@ -106,12 +126,20 @@ ask_in bytes = all_in ask_fields bytes >>= ask_of
 unfoldable pub ack_in : List ℕ → Result Body WireFault
 ack_in bytes = all_in ack_fields bytes >>= ack_of
 
+unfoldable pub floor_in : List ℕ → Result Body WireFault
+floor_in bytes = all_in floor_fields bytes >>= floor_of
+
+unfoldable pub piece_in : List ℕ → Result Body WireFault
+piece_in bytes = first_in piece_fields bytes >>= λ p. piece_of p.0 p.1
+
 abbrev pub body_in : ℕ → List ℕ → Result Body WireFault
 body_in tag bytes =
     if tag == 1 then input_in bytes
     else if tag == 2 then offer_in bytes
     else if tag == 3 then ask_in bytes
     else if tag == 4 then ack_in bytes
+    else if tag == 5 then floor_in bytes
+    else if tag == 6 then piece_in bytes
     else Err BadTag
 
 -- by the head: the magic, the version, and then the body by the tag

@@ -4,15 +4,20 @@ ghost use Rattle.std.specs.Prelude.{◌≡◌, ◌&&◌, true, false, IsTrue, If
 ghost use Rattle.x3d_values.specs.Ranges.{is_zero};
 ghost use Rattle.share_wire.specs.declared.message.Message.{Message as AMessage};
 ghost use Rattle.share_wire.specs.Datagram.{datagram, message_fits};
-ghost use Rattle.share_wire.specs.Decoding.{is_stamp, is_point, is_offer, pointing_of, clock_of, pointer_of, offer_of, input_of, input_in, offer_in, ask_in, ack_in, body_in, decoded};
+ghost use Rattle.share_wire.specs.Decoding.{is_stamp, is_point, is_offer, pointing_of, clock_of, pointer_of, offer_of, input_of, floor_of, piece_of, input_in, offer_in, ask_in, ack_in, floor_in, piece_in, body_in, decoded};
 
 use crate::ack::Ack;
 use crate::ask::Ask;
 use crate::fault::WireFault;
-use crate::fields::{AckFields, AskFields, OfferFields, PointFields, StampFields, head_of};
+use crate::fields::{
+    AckFields, AskFields, OfferFields, PieceFields, PointFields, StampFields, head_of,
+};
+use crate::floor::Floor;
 use crate::message::{Body, Message};
 use crate::offer::Offer;
-use crate::ranges::{is_next_number, is_ordinal, is_viewer};
+use crate::piece::Piece;
+use crate::ranges::{is_next_number, is_ordinal, is_piece, is_viewer, piece_size};
+use byte_codec::u32_of;
 use share_rules::all_of;
 use x3d_values::{Event, Pointer, Ray, Stamped, is_input_number, is_input_time};
 
@@ -152,6 +157,47 @@ fn ack_in(bytes: &[u8]) -> Result<Body, WireFault>
     Ok(Body::Ack(Ack::new(ack.who, ack.boot, ack.count)))
 }
 
+#[tactic(auto, unfolding(crate::specs::Decoding::floor_in))]
+fn floor_in(bytes: &[u8]) -> Result<Body, WireFault>
+    ensures { result ≡ floor_in bytes.now }
+{
+    let Some(number) = all_of(u32_of(bytes)) else {
+        return Err(WireFault::BadPacket);
+    };
+    if !is_next_number(number) {
+        return Err(WireFault::BadRange);
+    }
+    Ok(Body::Floor(Floor::new(number)))
+}
+
+fn piece_of(piece: PieceFields, bytes: &[u8]) -> Result<Body, WireFault>
+    ensures { result ≡ piece_of piece bytes.now }
+{
+    let PieceFields {
+        boot,
+        applied,
+        size,
+        index,
+    } = piece;
+    if !is_piece(boot, applied, size, index) {
+        return Err(WireFault::BadRange);
+    }
+    if bytes.len() != piece_size(size, index) as usize {
+        return Err(WireFault::BadPacket);
+    }
+    Ok(Body::Piece(Piece::new(boot, applied, size, index, bytes)))
+}
+
+#[tactic(auto, unfolding(crate::specs::Decoding::piece_in))]
+fn piece_in(bytes: &[u8]) -> Result<Body, WireFault>
+    ensures { result ≡ piece_in bytes.now }
+{
+    match PieceFields::read(bytes) {
+        None => Err(WireFault::BadPacket),
+        Some((piece, rest)) => piece_of(piece, rest),
+    }
+}
+
 fn body_in(tag: u8, bytes: &[u8]) -> Result<Body, WireFault>
     ensures { result ≡ body_in tag bytes.now }
 {
@@ -160,6 +206,8 @@ fn body_in(tag: u8, bytes: &[u8]) -> Result<Body, WireFault>
         2 => offer_in(bytes),
         3 => ask_in(bytes),
         4 => ack_in(bytes),
+        5 => floor_in(bytes),
+        6 => piece_in(bytes),
         _ => Err(WireFault::BadTag),
     }
 }

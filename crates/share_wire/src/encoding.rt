@@ -7,10 +7,12 @@ ghost use Rattle.share_wire.specs.declared.message.Body.TheVariants as body;
 
 use crate::ack::Ack;
 use crate::ask::Ask;
-use crate::fields::{AckFields, AskFields, OfferFields, PointFields, StampFields};
+use crate::fields::{AckFields, AskFields, OfferFields, PieceFields, PointFields, StampFields};
+use crate::floor::Floor;
 use crate::message::{Body, Message};
 use crate::offer::Offer;
-use crate::packet::{Packet, push_bytes};
+use crate::packet::{Packet, push_bytes, push_u32};
+use crate::piece::Piece;
 use arrayvec::ArrayVec;
 use x3d_values::{Event, Pointer, Stamped};
 
@@ -22,6 +24,8 @@ fn tag_of(body: Body) -> u8
         Body::Offer(_) => 2,
         Body::Ask(_) => 3,
         Body::Ack(_) => 4,
+        Body::Floor(_) => 5,
+        Body::Piece(_) => 6,
     }
 }
 
@@ -109,6 +113,29 @@ fn push_ack(out: &mut Packet, ack: Ack)
     fields.push_to(out);
 }
 
+fn push_floor(out: &mut Packet, floor: Floor)
+    requires { length out.old.items ≤ 38 }
+    ensures text { out.new.items ≡ out.old.items ++ body_text (body.Floor floor) }
+    ensures fits { IsTrue (body_fits (body.Floor floor)) }
+{
+    push_u32(out, floor.number());
+}
+
+fn push_piece(out: &mut Packet, piece: &Piece)
+    requires { length out.old.items ≤ 38 }
+    ensures text { out.new.items ≡ out.old.items ++ body_text (body.Piece piece.now) }
+    ensures fits { IsTrue (body_fits (body.Piece piece.now)) }
+{
+    let fields = PieceFields {
+        boot: piece.boot(),
+        applied: piece.applied(),
+        size: piece.size(),
+        index: piece.index(),
+    };
+    fields.push_to(out);
+    push_bytes(out, piece.bytes());
+}
+
 fn push_body(out: &mut Packet, body: Body)
     requires { length out.old.items ≤ 38 }
     ensures text { out.new.items ≡ out.old.items ++ body_text body }
@@ -119,6 +146,8 @@ fn push_body(out: &mut Packet, body: Body)
         Body::Offer(offer) => push_offer(out, offer),
         Body::Ask(ask) => push_ask(out, ask),
         Body::Ack(ack) => push_ack(out, ack),
+        Body::Floor(floor) => push_floor(out, floor),
+        Body::Piece(piece) => push_piece(out, &piece),
     }
 }
 

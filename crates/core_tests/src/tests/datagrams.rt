@@ -1,7 +1,9 @@
 //! Datagrams by hand, and damaged ones.
 
 use super::{Row, Said, all_hold, holds};
-use share_wire::{Ack, Ask, Body, Message, Offer, Packet, WireFault, decode, encode};
+use share_wire::{
+    Ack, Ask, Body, Floor, Message, Offer, Packet, Piece, WireFault, decode, encode, piece_count,
+};
 use std::alloc::Global;
 use std::process::Abort;
 use x3d_values::{Event, Pointer, Ray, Stamped, Vec3};
@@ -36,6 +38,22 @@ const ASK: &[u8] = b"X3DS\x01\x03abcdefghijklmnopqrstuvwxyzABCDEF\x01\x00\x00\x0
 const ACK: &[u8] = b"X3DS\x01\x04abcdefghijklmnopqrstuvwxyzABCDEF\
     \x0f\xff\xff\xff\xff\x01\x02\x03\x04";
 
+/// The host has the inputs from 3 on.
+const FLOOR: &[u8] = b"X3DS\x01\x05abcdefghijklmnopqrstuvwxyzABCDEF\x00\x00\x00\x03";
+
+/// The last piece, of 8 bytes, of a snapshot of 392 bytes with 2 inputs applied, of boot 1.
+const LAST: &[u8] = b"X3DS\x01\x06abcdefghijklmnopqrstuvwxyzABCDEF\
+    \x00\x00\x00\x01\x00\x00\x00\x02\x00\x00\x01\x88\x00\x00\x00\x02\
+    snapshot";
+
+/// The second piece of it, 192 bytes.
+const FULL: &[u8] = b"X3DS\x01\x06abcdefghijklmnopqrstuvwxyzABCDEF\
+    \x00\x00\x00\x01\x00\x00\x00\x02\x00\x00\x01\x88\x00\x00\x00\x01\
+    abcdefghijklmnopqrstuvwxyz0123456789ABCDEFGHIJKL\
+    abcdefghijklmnopqrstuvwxyz0123456789ABCDEFGHIJKL\
+    abcdefghijklmnopqrstuvwxyz0123456789ABCDEFGHIJKL\
+    abcdefghijklmnopqrstuvwxyz0123456789ABCDEFGHIJKL";
+
 /// From 0.5 -1 10 along 0 0 -1.
 fn ray() -> Ray {
     let origin = Vec3 {
@@ -69,6 +87,48 @@ fn each_message_has_its_bytes(rt: HostRuntime) {
     holds(&rt, is_both_ways(Body::Ask(Ask::new(1, 4)), ASK));
     let ack = Ack::new(15, u32::MAX, 0x0102_0304);
     holds(&rt, is_both_ways(Body::Ack(ack), ACK));
+    holds(&rt, is_both_ways(Body::Floor(Floor::new(3)), FLOOR));
+    let last = Piece::new(1, 2, 392, 2, b"snapshot");
+    holds(&rt, is_both_ways(Body::Piece(last), LAST));
+    let full = Piece::new(1, 2, 392, 1, FULL.get(54..).unwrap_or(b""));
+    holds(&rt, is_both_ways(Body::Piece(full), FULL));
+}
+
+/// A length of a snapshot, and how many pieces it has.
+struct Counted(u32, u32);
+
+impl Row for Counted {
+    fn holds(&self, _alloc: Global) -> bool {
+        piece_count(self.0) == self.1
+    }
+}
+
+static COUNTED: [Counted; 6] = [
+    Counted(85, 1),
+    Counted(192, 1),
+    Counted(193, 2),
+    Counted(384, 2),
+    Counted(392, 3),
+    Counted(67_108_864, 349_526),
+];
+
+#[test]
+fn a_snapshot_has_as_many_pieces(rt: HostRuntime) {
+    all_hold(&rt, rt.alloc(), &COUNTED);
+}
+
+/// A snapshot of 392 bytes has pieces of 246, 246 and 62 bytes as datagrams.
+#[test]
+fn piece_sizes(rt: HostRuntime) {
+    let mut index = 0;
+    for (size, of_datagram) in [(192, 246), (192, 246), (8, 62)] {
+        let bytes = [7; 192];
+        let piece = Piece::new(1, 2, 392, index, &bytes[..size]);
+        let body = Body::Piece(piece);
+        let packet = encode(&Message { mark: MARK, body });
+        holds(&rt, packet.len() == of_datagram);
+        index += 1;
+    }
 }
 
 const ZERO: &[u8] = &[0; 4];
@@ -99,6 +159,9 @@ enum Of {
     Offer,
     Ask,
     Ack,
+    Floor,
+    Last,
+    Full,
 }
 
 fn bytes_of(datagram: Of) -> &'static [u8] {
@@ -108,6 +171,9 @@ fn bytes_of(datagram: Of) -> &'static [u8] {
         Of::Offer => OFFER,
         Of::Ask => ASK,
         Of::Ack => ACK,
+        Of::Floor => FLOOR,
+        Of::Last => LAST,
+        Of::Full => FULL,
     }
 }
 
@@ -141,7 +207,7 @@ impl Row for Changed {
     }
 }
 
-static CHANGED: [Changed; 63] = [
+static CHANGED: [Changed; 88] = [
     // the head
     Changed(Of::Ask, 0, b"X3DW", Some(WireFault::BadPacket)),
     Changed(Of::Ask, 3, b"T\x02", Some(WireFault::BadPacket)),
@@ -215,6 +281,111 @@ static CHANGED: [Changed; 63] = [
     Changed(Of::Ack, 38, b"\x00\x00\x00\x00\x00\x00\x00\x00\x00", None),
     Changed(Of::Ack, 38, b"\x10", Some(WireFault::BadRange)),
     Changed(Of::Ack, 39, &[255; 8], None),
+    // floors
+    Changed(Of::Floor, 38, ZERO, Some(WireFault::BadRange)),
+    Changed(Of::Floor, 38, b"\x00\x00\x00\x01", None),
+    Changed(Of::Floor, 38, b"\x00\x10\x00\x01", None),
+    Changed(
+        Of::Floor,
+        38,
+        b"\x00\x10\x00\x02",
+        Some(WireFault::BadRange),
+    ),
+    // pieces: the boot, the inputs applied, the length, the number
+    Changed(Of::Last, 38, ZERO, Some(WireFault::BadRange)),
+    Changed(Of::Last, 38, LARGEST, None),
+    Changed(Of::Last, 42, ZERO, None),
+    Changed(Of::Last, 42, b"\x00\x10\x00\x00", None),
+    Changed(
+        Of::Last,
+        42,
+        b"\x00\x10\x00\x01",
+        Some(WireFault::BadRange),
+    ),
+    // 84 bytes, and 85 in one piece that begins at byte 0
+    Changed(
+        Of::Last,
+        46,
+        b"\x00\x00\x00\x54\x00\x00\x00\x00",
+        Some(WireFault::BadRange),
+    ),
+    Changed(
+        Of::Last,
+        46,
+        b"\x00\x00\x00\x55\x00\x00\x00\x00",
+        Some(WireFault::BadPacket),
+    ),
+    // 384 bytes end before a third piece, and 385 have one of a byte
+    Changed(
+        Of::Last,
+        46,
+        b"\x00\x00\x01\x80",
+        Some(WireFault::BadRange),
+    ),
+    Changed(
+        Of::Last,
+        46,
+        b"\x00\x00\x01\x81",
+        Some(WireFault::BadPacket),
+    ),
+    Changed(
+        Of::Last,
+        46,
+        b"\x00\x00\x01\x87",
+        Some(WireFault::BadPacket),
+    ),
+    Changed(
+        Of::Last,
+        46,
+        b"\x00\x00\x01\x89",
+        Some(WireFault::BadPacket),
+    ),
+    // 2^26 bytes, and one more; a number whose 192-fold has more than 32 bits
+    Changed(Of::Full, 46, b"\x04\x00\x00\x00", None),
+    Changed(
+        Of::Full,
+        46,
+        b"\x04\x00\x00\x01",
+        Some(WireFault::BadRange),
+    ),
+    Changed(
+        Of::Full,
+        46,
+        b"\x04\x00\x00\x00\x00\x05\x55\x54",
+        None,
+    ),
+    Changed(
+        Of::Full,
+        46,
+        b"\x04\x00\x00\x00\x00\x05\x55\x55",
+        Some(WireFault::BadPacket),
+    ),
+    Changed(
+        Of::Full,
+        46,
+        b"\x04\x00\x00\x00\x00\x05\x55\x56",
+        Some(WireFault::BadRange),
+    ),
+    Changed(
+        Of::Full,
+        50,
+        b"\x01\x55\x55\x56",
+        Some(WireFault::BadRange),
+    ),
+    Changed(Of::Full, 50, b"\x00\x00\x00\x00", None),
+    Changed(
+        Of::Full,
+        50,
+        b"\x00\x00\x00\x02",
+        Some(WireFault::BadPacket),
+    ),
+    Changed(
+        Of::Full,
+        50,
+        b"\x00\x00\x00\x03",
+        Some(WireFault::BadRange),
+    ),
+    Changed(Of::Full, 54, b"\x00\xff", None),
 ];
 
 #[test]
@@ -283,12 +454,15 @@ impl Row for Damaged {
     }
 }
 
-static DAMAGED: [Damaged; 5] = [
+static DAMAGED: [Damaged; 8] = [
     Damaged(Of::Clock),
     Damaged(Of::Pointer),
     Damaged(Of::Offer),
     Damaged(Of::Ask),
     Damaged(Of::Ack),
+    Damaged(Of::Floor),
+    Damaged(Of::Last),
+    Damaged(Of::Full),
 ];
 
 #[test]

@@ -1,5 +1,5 @@
 use Rattle.std.proofs.Common.{rules, ◌≡◌, ◌∙◌, ap, length}
-use Rattle.share_law.specs.Host.{new_host}
+use Rattle.share_law.specs.Parts.{new_part}
 use Rattle.share_turns.specs.Agreeing.{seats_of, ways_of}
 use Rattle.share_commands.specs.Joining.{Joint}
 use Rattle.share_commands.proofs.Agreed.{is_agreed, is_agreed_in_part, written}
@@ -15,8 +15,8 @@ returns-in-Ok-clause-done g c =
     let all : before.viewers.len ≡ length before.viewers.items = search rules in
     let counted : c.count_of.result ≡ length before.viewers.items = search rules in
     rw (written before.viewers.len c.agree.new.viewers before.viewers.items same all)
-    (is_agreed ways job c.args.own c.args.turns c.args.port.now c.args.ports.now c.agree.new.port left c.new-host.result.mark c.new-host.result.host c.agree.new.host.host
-    c.as_slice.result.now c.deref_mut.result.now (ap (λ h. h.mark) c.new-host.ensures) (ap (λ h. h.host) c.new-host.ensures ∙ ap new_host counted)
+    (is_agreed ways job c.args.own c.args.turns c.args.port.now c.args.ports.now c.agree.new.port left c.new-host.result.mark c.new-host.result.part c.agree.new.host.part
+    c.as_slice.result.now c.deref_mut.result.now (ap (λ h. h.mark) c.new-host.ensures) (ap (λ h. h.part) c.new-host.ensures ∙ ap new_part counted)
     c.as_slice.ensures.value c.deref_mut.ensures.value c.new-text.result.items c.agree.new.out.items c.new-text.ensures.items c.in-Ok.ensures.done c.in-Ok.ensures.texts)
 
 pub returns-in-Err-clause-ended : goal.returns-in-Err-clause-ended
@@ -29,6 +29,6 @@ returns-in-Err-clause-ended g c =
     let all : before.viewers.len ≡ length before.viewers.items = search rules in
     let counted : c.count_of.result ≡ length before.viewers.items = search rules in
     rw c.series_fault.ensures (rw (written before.viewers.len c.agree.new.viewers before.viewers.items same all)
-    (is_agreed_in_part ways job c.args.own c.args.turns c.args.port.now c.args.ports.now c.agree.new.port left c.new-host.result.mark c.new-host.result.host c.agree.new.host.host
-    c.as_slice.result.now c.deref_mut.result.now (ap (λ h. h.mark) c.new-host.ensures) (ap (λ h. h.host) c.new-host.ensures ∙ ap new_host counted)
+    (is_agreed_in_part ways job c.args.own c.args.turns c.args.port.now c.args.ports.now c.agree.new.port left c.new-host.result.mark c.new-host.result.part c.agree.new.host.part
+    c.as_slice.result.now c.deref_mut.result.now (ap (λ h. h.mark) c.new-host.ensures) (ap (λ h. h.part) c.new-host.ensures ∙ ap new_part counted)
     c.as_slice.ensures.value c.deref_mut.ensures.value c.in-Err.fault c.in-Err.ensures.ended))

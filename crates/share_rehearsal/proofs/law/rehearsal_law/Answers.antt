@@ -1,4 +1,4 @@
-use Rattle.share_rehearsal.proofs.Leaving.{times_rise, viewers_agree, viewers_hold, windows_hold}
+use Rattle.share_rehearsal.proofs.Leaving.{host_holds, times_rise, viewers_agree, viewers_hold, windows_hold}
 use Rattle.share_rehearsal.proofs.Telling.{memory_is_logged}
 use Rattle.share_rehearsal.proofs.law.rehearsal_law.Goals as goal
 
@@ -13,6 +13,9 @@ returns-clause-window c = windows_hold c.agreement_law.ensures.window
 
 pub returns-clause-times : goal.returns-clause-times
 returns-clause-times c = times_rise c.agreement_law.ensures.list_grows
+
+pub returns-clause-floor : goal.returns-clause-floor
+returns-clause-floor c = host_holds c.agreement_law.ensures.floor
 
 pub returns-clause-memory : goal.returns-clause-memory
 returns-clause-memory c = memory_is_logged

@@ -8,7 +8,7 @@ returns-in_err-send_input-clause-sent g c =
     let i = c.loop-number.invariant in
     let failed : c.from_residual.result ≡ Err c.in_err-send_input.field-0.0 = search rules in
     rw c.in-Asked.is (rw failed (
-    inputs_lost c.args.host.now.mark c.args.host.now.host c.in-Asked.first c.in-Asked.count c.loop-number.number c.args.to
+    inputs_lost c.args.host.now.mark c.args.host.now.part c.in-Asked.first c.in-Asked.count c.loop-number.number c.args.to
     (g.P.Port.told c.args.port.now) (g.P.Port.told c.loop-number.port) (g.P.Port.told c.send_input.new.port)
     i.2 (omega (arith, c.loop-number-test.true)) i.0 c.in_err-send_input.ensures.sent))
 
@@ -16,7 +16,7 @@ pub loop-number-preserved : goal.loop-number-preserved
 loop-number-preserved g c =
     let i = c.loop-number.invariant in
     let mark = c.args.host.now.mark in
-    let host = c.args.host.now.host in
+    let host = c.args.host.now.part in
     let n = c.loop-number.number in (
       rw (inputs_from-more mark host c.in-Asked.first n i.2)
           (are_sent_then true c.args.to (g.P.Port.told c.args.port.now) (g.P.Port.told c.loop-number.port) (g.P.Port.told c.send_input.new.port) _ _ i.0 c.in_ok-send_input.ensures.sent),
@@ -25,3 +25,6 @@ loop-number-preserved g c =
       refl,
       omega (arith, c.loop-number-test.true),
     )
+
+pub returns-in-Below-clause-sent : goal.returns-in-Below-clause-sent
+returns-in-Below-clause-sent g c = rw c.in-Below.is c.send_floor.ensures.sent

@@ -8,9 +8,9 @@ use Rattle.share_turns.proofs.rounds.agree_until.Goals as goal
 pub returns-in_err-round-clause-ended : goal.returns-in_err-round-clause-ended
 returns-in_err-round-clause-ended g c =
     let ways = ways_of g.P.Port.told g.P.Port.failure_count in
-    let old = meeting c.args.host.now.host c.args.port.now c.args.viewers.now c.args.ports.now in
-    let mid = meeting c.loop-round.host.host c.loop-round.port c.loop-round.viewers c.loop-round.ports in
-    let new = meeting c.round.new.host.host c.round.new.port c.round.new.viewers c.round.new.ports in
+    let old = meeting c.args.host.now.part c.args.port.now c.args.viewers.now c.args.ports.now in
+    let mid = meeting c.loop-round.host.part c.loop-round.port c.loop-round.viewers c.loop-round.ports in
+    let new = meeting c.round.new.host.part c.round.new.port c.round.new.viewers c.round.new.ports in
     let i = c.loop-round.invariant in
     let failed : c.from_residual.result ≡ Err (Turn c.in_err-round.field-0.0) = search rules in
     let over : c.is_over-over.result ≡ (c.is_settled-settled.result && (c.loop-round.issued == length c.args.steps.now)) = search rules in
@@ -22,9 +22,9 @@ returns-in_err-round-clause-ended g c =
 pub loop-round-preserved : goal.loop-round-preserved
 loop-round-preserved g c =
     let ways = ways_of g.P.Port.told g.P.Port.failure_count in
-    let old = meeting c.args.host.now.host c.args.port.now c.args.viewers.now c.args.ports.now in
-    let mid = meeting c.loop-round.host.host c.loop-round.port c.loop-round.viewers c.loop-round.ports in
-    let new = meeting c.round.new.host.host c.round.new.port c.round.new.viewers c.round.new.ports in
+    let old = meeting c.args.host.now.part c.args.port.now c.args.viewers.now c.args.ports.now in
+    let mid = meeting c.loop-round.host.part c.loop-round.port c.loop-round.viewers c.loop-round.ports in
+    let new = meeting c.round.new.host.part c.round.new.port c.round.new.viewers c.round.new.ports in
     let i = c.loop-round.invariant in
     let over : c.is_over-over.result ≡ (c.is_settled-settled.result && (c.loop-round.issued == length c.args.steps.now)) = search rules in
     let ended : c.is_over-over.result ≡ false = search rules in

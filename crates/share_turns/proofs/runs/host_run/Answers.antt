@@ -6,7 +6,7 @@ use Rattle.share_turns.proofs.runs.host_run.Goals as goal
 pub returns-in_err-host_turn-clause-ended : goal.returns-in_err-host_turn-clause-ended
 returns-in_err-host_turn-clause-ended g c =
     let end : HostTurnsEnd c.args.host.now.mark c.args.clocks.now c.args.turns (g.P.Port.told c.args.port.now)
-    (g.P.Port.told c.host_turn.new.port) c.args.host.now.host c.in_err-host_turn.field-0.0 c.host_turn.new.host.host =
+    (g.P.Port.told c.host_turn.new.port) c.args.host.now.part c.in_err-host_turn.field-0.0 c.host_turn.new.host.part =
     record {
       done = c.loop-turn.turn;
       fewer = omega (arith, c.loop-turn-test.true);

@@ -4,6 +4,6 @@ use Rattle.share_turns.proofs.runs.host_run.Given as goal
 
 abbrev pub invariant-loop-turn : goal.invariant-loop-turn
 invariant-loop-turn g l =
-    HostTurns l.fn.host.mark l.clocks l.turn (g.P.Port.told l.fn.port) (g.P.Port.told l.port) l.fn.host.host l.host.host
+    HostTurns l.fn.host.mark l.clocks l.turn (g.P.Port.told l.fn.port) (g.P.Port.told l.port) l.fn.host.part l.host.part
     × (l.host.mark ≡ l.fn.host.mark)
     × (g.P.Port.failure_count l.port ≡ g.P.Port.failure_count l.fn.port)
