@@ -8,6 +8,7 @@ pub mod Picking
 pub mod Rows
 pub mod SameLocal
 pub mod Seen
+pub mod Sized
 pub mod Trails
 pub mod Unique
 pub mod Within

@@ -17,6 +17,7 @@ mod States
 pub mod Steps
 pub mod Walks
 pub mod Counted
+mod Hits
 mod Kept
 mod Openings
 mod Ranged

@@ -3,6 +3,7 @@ pub mod Ranges
 pub mod Calls
 pub mod Nodes
 pub mod Fits
+pub mod Hits
 pub mod Snapshots
 pub mod Openings
 pub mod Routes

@@ -1,8 +1,12 @@
-//! What holds of the routes of documents, of their opening worlds, and of those that follow.
+//! What holds of the routes of documents, of their opening worlds, of those that follow, and of hits in
+//! their scenes.
 
+ghost use Rattle.world_laws.specs.Hits.{DocumentHitsAreOnRays, DocumentsAreSized};
 ghost use Rattle.world_laws.specs.Openings.{OpeningsFit, StartsAreStates};
 ghost use Rattle.world_laws.specs.Routes.{RoutesJoin};
 ghost use Rattle.world_laws.specs.Worlds.{WorldsFit, WorldsHaveSnapshots};
+
+use pick_core::hits_are_on_rays_law;
 
 /// The routes of a document join outputs and inputs of one type.
 pub fn routes_join()
@@ -21,3 +25,12 @@ pub fn worlds_fit()
     ensures fit { WorldsFit }
     ensures snapshots { WorldsHaveSnapshots }
 {}
+
+/// In the scene of a document the size of each Box is in range, and the point of a hit is where its
+/// ray is.
+pub fn document_hits_are_on_rays()
+    ensures sized { DocumentsAreSized }
+    ensures on_rays { DocumentHitsAreOnRays }
+{
+    hits_are_on_rays_law();
+}

@@ -9,6 +9,6 @@ mod scripts;
 mod worlds;
 
 pub use answers::{reactions_fit, time_sensors_fit, touch_sensors_fit};
-pub use documents::{document_openings_fit, routes_join, worlds_fit};
+pub use documents::{document_hits_are_on_rays, document_openings_fit, routes_join, worlds_fit};
 pub use scripts::{attached_run, calls_fit, outputs_typed};
 pub use worlds::{fitting_worlds_have_snapshots, openings_fit, steps_fit};
