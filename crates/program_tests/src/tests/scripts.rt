@@ -3,6 +3,7 @@
 
 mod attaching;
 mod examples;
+mod fitting;
 mod growths;
 mod hosting;
 mod meters;

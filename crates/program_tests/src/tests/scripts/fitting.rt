@@ -1,0 +1,268 @@
+//! Which worlds fit a scene: that in which nothing has happened, and none that differs from it in
+//! what no snapshot can be of.
+
+use super::worlds::untold;
+use super::{Row, all_hold};
+use cascade_core::{State, WorldData};
+use scene_core::{End, Scene};
+use sensor_core::{TimeState, TouchParts, TouchState};
+use share_program::{Opened, open_scene};
+use std::alloc::Global;
+use x3d_values::{Items, Position, Value};
+
+/// A node of each kind that keeps more than its fields, and one that declares fields: 0 to 3.
+const SCENE: &[u8] = b"#X3D V3.0 utf8
+DEF T TimeSensor { cycleInterval 2 } DEF S TouchSensor {} DEF I IntegerSequencer {}
+DEF A Script { inputOutput SFFloat level 1 inputOutput MFFloat levels [1] inputOnly SFBool mute }";
+
+/// A value of a field.
+#[derive(Clone, Copy)]
+enum Held {
+    Nothing,
+    Truth(bool),
+    Number(i64),
+    Time(i64),
+    /// A list of one number.
+    Numbers(i64),
+}
+
+/// How a world differs from that in which nothing has happened.
+#[derive(Clone, Copy)]
+enum Change {
+    Nothing,
+    /// So many inputs were applied.
+    Applied(u32),
+    /// The last was at this time.
+    Last(i64),
+    /// A node holds this in the field of that name.
+    Field(u32, &'static str, Held),
+    /// A node has no value for its last field, or one more than it has fields.
+    Shorter(u32),
+    Longer(u32),
+    /// A sequencer, or another node, sent its value of that number last.
+    Position(u32, u32),
+    /// A node runs a cycle.
+    Runs(u32),
+    /// A pointer is over a node; a viewer presses it.
+    Over(u32),
+    Pressed(u32),
+    /// There is nothing for the last node.
+    FewerFields,
+    FewerSensors,
+    FewerTouches,
+    /// An event was sent by a node's field of that name, by an input of that number at that time.
+    Sent(u32, i64, u32, &'static str, Held),
+}
+
+fn value_of(alloc: Global, held: Held) -> Option<Value> {
+    match held {
+        Held::Nothing => None,
+        Held::Truth(truth) => Some(Value::SFBool(truth)),
+        Held::Number(number) => Some(Value::SFFloat(number)),
+        Held::Time(time) => Some(Value::SFTime(time)),
+        Held::Numbers(number) => match Items::from_slice(alloc, &[number]) {
+            Ok(numbers) => Some(Value::MFFloat(numbers)),
+            Err(_) => None,
+        },
+    }
+}
+
+/// The state of a scene with a change in the fields of a node.
+fn state_with(alloc: Global, scene: &Scene, node: u32, change: Change) -> Option<State> {
+    let Ok(mut fields) = scene.state(alloc) else {
+        return None;
+    };
+    let count = scene.field_count(node) as usize;
+    let at = node as usize;
+    if at >= fields.len() {
+        drop(fields);
+        return None;
+    }
+    match change {
+        Change::Field(_, name, held) => {
+            if let Some(row) = scene.field_named(node, name)
+                && (row.number as usize) < fields[at].values.len()
+            {
+                fields[at]
+                    .values
+                    .set(row.number as usize, value_of(alloc, held));
+            }
+        }
+        Change::Shorter(_) => {
+            let mut values = Items::new(alloc);
+            for _ in 1..count {
+                let _ = values.push(None);
+            }
+            fields[at].values = values;
+        }
+        Change::Longer(_) => {
+            let _ = fields[at].values.push(None);
+        }
+        Change::Position(_, place) => fields[at].position = Position { at: Some(place) },
+        _ => {}
+    }
+    Some(State::from_vec(fields))
+}
+
+/// The world in which nothing has happened, with a change.
+fn changed(alloc: Global, scene: &Scene, change: Change) -> Option<WorldData> {
+    let mut world = untold(alloc, scene)?;
+    match change {
+        Change::Nothing => {}
+        Change::Applied(count) => world.applied = count,
+        Change::Last(time) => world.last_time = time,
+        Change::Field(node, _, _)
+        | Change::Shorter(node)
+        | Change::Longer(node)
+        | Change::Position(node, _) => {
+            if let Some(state) = state_with(alloc, scene, node, change) {
+                world.fields = state;
+            }
+        }
+        Change::Runs(node) => {
+            if (node as usize) < world.sensors.len() {
+                world.sensors.set(node as usize, TimeState::active(0));
+            }
+        }
+        Change::Over(node) => {
+            if let Some(touch) = TouchState::from_parts(TouchParts {
+                over: 4,
+                presser: None,
+            })
+                && (node as usize) < world.touches.len()
+            {
+                world.touches.set(node as usize, touch);
+            }
+        }
+        Change::Pressed(node) => {
+            if let Some(touch) = TouchState::from_parts(TouchParts {
+                over: 0,
+                presser: Some(2),
+            })
+                && (node as usize) < world.touches.len()
+            {
+                world.touches.set(node as usize, touch);
+            }
+        }
+        Change::FewerFields => world.fields = State::from_vec(Vec::new(alloc)),
+        Change::FewerSensors => world.sensors = Items::new(alloc),
+        Change::FewerTouches => world.touches = Items::new(alloc),
+        Change::Sent(input, time, node, name, held) => {
+            if let Some(value) = value_of(alloc, held) {
+                let field = match scene.field_named(node, name) {
+                    Some(row) => row.number,
+                    None => 0,
+                };
+                let _ = world
+                    .trace
+                    .push(alloc, input, time, End { node, field }, &value);
+                drop(value);
+            }
+        }
+    }
+    Some(world)
+}
+
+/// A change, and whether the world fits with it.
+#[derive(Clone, Copy)]
+struct Changed(Change, bool);
+
+impl Row for Changed {
+    fn holds(&self, alloc: Global) -> bool {
+        let Ok(opened) = open_scene(alloc, SCENE) else {
+            return false;
+        };
+        let Opened { scene, routes } = opened;
+        drop(routes);
+        let Some(world) = changed(alloc, &scene, self.0) else {
+            drop(scene);
+            return false;
+        };
+        let fits = world.fits_scene(&scene);
+        drop(world);
+        drop(scene);
+        fits == self.1
+    }
+}
+
+const LATEST: i64 = 1_000_000_000_000_000_000;
+
+const GREATEST: i64 = 1_000_000_000_000_000;
+
+const ROWS: [Changed; 44] = [
+    Changed(Change::Nothing, true),
+    // Counts and times.
+    Changed(Change::Applied(1 << 20), true),
+    Changed(Change::Applied((1 << 20) + 1), false),
+    Changed(Change::Last(LATEST), true),
+    Changed(Change::Last(LATEST + 1), false),
+    Changed(Change::Last(-1), false),
+    // Fields: a value of the field's type, in its range, where the field is an inputOutput one.
+    Changed(Change::Field(3, "level", Held::Number(GREATEST)), true),
+    Changed(Change::Field(3, "level", Held::Number(-GREATEST)), true),
+    Changed(Change::Field(3, "level", Held::Number(GREATEST + 1)), false),
+    Changed(
+        Change::Field(3, "level", Held::Number(-GREATEST - 1)),
+        false,
+    ),
+    Changed(Change::Field(3, "level", Held::Time(1)), false),
+    Changed(Change::Field(3, "level", Held::Nothing), false),
+    Changed(Change::Field(3, "levels", Held::Numbers(GREATEST)), true),
+    Changed(
+        Change::Field(3, "levels", Held::Numbers(GREATEST + 1)),
+        false,
+    ),
+    Changed(Change::Field(3, "mute", Held::Truth(true)), false),
+    Changed(Change::Field(0, "cycleInterval", Held::Time(1)), true),
+    Changed(Change::Field(0, "cycleInterval", Held::Time(0)), false),
+    Changed(Change::Field(0, "startTime", Held::Time(-LATEST)), true),
+    Changed(
+        Change::Field(0, "startTime", Held::Time(-LATEST - 1)),
+        false,
+    ),
+    Changed(Change::Field(0, "isActive", Held::Truth(false)), false),
+    Changed(Change::Shorter(1), false),
+    Changed(Change::Longer(1), false),
+    // A sequencer's place, the cycle of a TimeSensor, the pointers of a TouchSensor.
+    Changed(Change::Position(2, 4_294_967_294), true),
+    Changed(Change::Position(2, 4_294_967_295), false),
+    Changed(Change::Position(0, 0), false),
+    Changed(Change::Runs(0), true),
+    Changed(Change::Runs(1), false),
+    Changed(Change::Over(1), true),
+    Changed(Change::Over(0), false),
+    Changed(Change::Pressed(1), true),
+    Changed(Change::Pressed(3), false),
+    // Each list is as long as the scene.
+    Changed(Change::FewerFields, false),
+    Changed(Change::FewerSensors, false),
+    Changed(Change::FewerTouches, false),
+    // The trace: events that can have left by an output.
+    Changed(Change::Sent(1, 1, 0, "isActive", Held::Truth(true)), true),
+    Changed(Change::Sent(0, 0, 3, "levels", Held::Numbers(7)), true),
+    Changed(
+        Change::Sent((1 << 20) + 1, 1, 0, "isActive", Held::Truth(true)),
+        false,
+    ),
+    Changed(Change::Sent(1, -1, 0, "isActive", Held::Truth(true)), false),
+    Changed(
+        Change::Sent(1, LATEST + 1, 0, "isActive", Held::Truth(true)),
+        false,
+    ),
+    Changed(Change::Sent(1, 1, 0, "isActive", Held::Number(1)), false),
+    Changed(
+        Change::Sent(1, 1, 3, "level", Held::Number(GREATEST + 1)),
+        false,
+    ),
+    Changed(
+        Change::Sent(1, 1, 3, "levels", Held::Numbers(GREATEST + 1)),
+        false,
+    ),
+    Changed(Change::Sent(1, 1, 3, "mute", Held::Truth(true)), false),
+    Changed(Change::Sent(1, 1, 4, "isActive", Held::Truth(true)), false),
+];
+
+#[test]
+fn worlds_fit_or_not(rt: HostRuntime) {
+    all_hold(&rt, rt.alloc(), &ROWS);
+}
