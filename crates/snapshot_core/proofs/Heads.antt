@@ -14,7 +14,7 @@ use Rattle.snapshot_core.specs.declared.loading.Saved.{Saved}
 use Rattle.snapshot_core.specs.Loading.{behind_head, fault_of, load_outcome, loaded, loaded_body, with_states}
 use Rattle.snapshot_core.specs.WorldCodec.{booted}
 
-none_is : (bytes body : List ℕ) (f : Option HeadFault) → body_or bytes f ≡ Ok body → f ≡ None
+pub none_is : (bytes body : List ℕ) (f : Option HeadFault) → body_or bytes f ≡ Ok body → f ≡ None
 none_is bytes body None e = refl
 none_is bytes body (Some f) e = absurd cc
 

@@ -5,6 +5,7 @@ mod NodeLaws
 mod NodeLoops
 mod Saves
 mod SetLaws
+pub mod ShotHeads
 pub mod ShotLaws
 pub mod StateLaws
 pub mod StateSizes

@@ -1,4 +1,5 @@
 pub mod Loading
 pub mod Nodes
 pub mod Shot
+pub mod ShotHead
 pub mod WorldCodec

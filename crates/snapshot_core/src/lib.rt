@@ -8,6 +8,7 @@
 //! | Module | Has |
 //! |---|---|
 //! | `saving`, `loading` | the two calls |
+//! | `head` | what the head of a snapshot says |
 //! | `fault` | what may be refused |
 //! | `world` | a whole world, with its boot |
 //! | `nodes`, `kept` | nodes in turn: their fields, and what stands behind them |
@@ -18,6 +19,7 @@
 mod buttons;
 mod exactness;
 mod fault;
+mod head;
 mod kept;
 mod lines;
 mod loading;
@@ -27,6 +29,7 @@ mod world;
 
 pub use exactness::snapshots_are_exact;
 pub use fault::{SaveFault, SnapFault};
+pub use head::{ShotHead, shot_head};
 pub use loading::{Saved, load_into};
 pub use saving::save;
 pub use snapshot_codec::scene_mark;

@@ -1,0 +1,109 @@
+-- The head of a snapshot says its boot and how many inputs its world has had.
+use Rattle.std.proofs.Common.{◌≡◌, ℕ, ◌-◌, ◌^◌, ◌<◌, ◌≤◌, Bool, true, false, cond, ltb, leb, List, ◌++◌, length, take, drop, Option, Some, None, refl, sym, ap, subst, ◌∙◌, append_assoc, arith}
+use Rattle.std.specs.Int.{w32, w64}
+use Rattle.std.proofs.lemmas.Bool.{le-leb, lt-ltb, leb-true, ltb-false}
+use Rattle.std.proofs.lemmas.List.{drop_at, length-append, length-drop, take_all}
+use Rattle.byte_codec.specs.Codec.{number, number_text, pair}
+use Rattle.byte_codec.proofs.Laws.{both, and_true, number_exact, pair_exact, wide32, wide64}
+use Rattle.scene_core.specs.Scene.{SceneView}
+use Rattle.cascade_core.specs.Course.{Scripted}
+use Rattle.snapshot_codec.specs.declared.head.HeadFault.{HeadFault}
+use Rattle.snapshot_codec.specs.declared.head.HeadFault.TheVariants.{Short}
+use Rattle.snapshot_codec.specs.Head.{front, head_fault, sealed, snapshot}
+use Rattle.snapshot_codec.proofs.HeadLaws.{snapshot-opened}
+use Rattle.snapshot_codec.specs.Trace.{moment_codec}
+use Rattle.snapshot_core.specs.Loading.{HasSnapshot}
+use Rattle.snapshot_core.specs.Shot.{shot}
+use Rattle.snapshot_core.specs.ShotHead.{begins_as_shot, shot_head}
+use Rattle.snapshot_core.specs.WorldCodec.{parts_codec, parts_in, world_codec}
+use Rattle.snapshot_core.proofs.Heads.{none_is}
+
+-- ---- what is told of bytes that begin as a snapshot does
+
+-- all behind the mark, as the code cuts it
+behind-all : (bytes : List ℕ) → take (length bytes - 37) (drop 37 bytes) ≡ drop 37 bytes
+behind-all bytes = take_all (length bytes - 37) (drop 37 bytes) (omega (arith, length-drop 37 bytes))
+
+abbrev pub words : List ℕ → Option ((ℕ × ℕ) × List ℕ)
+words = (pair (number w32) (number w32)).read
+
+pub none-told : (bytes : List ℕ) → begins_as_shot bytes ≡ true → None ≡ words (take (length bytes - 37) (drop 37 bytes)) → None ≡ shot_head bytes
+none-told bytes begins read =
+    let none : words (drop 37 bytes) ≡ None = sym (read ∙ ap words (behind-all bytes)) in
+    rw (begins, none) refl
+
+some-words : (bytes rest : List ℕ) (boot applied : ℕ) → begins_as_shot bytes ≡ true → words (drop 37 bytes) ≡ Some ((boot, applied), rest)
+    → Some (record { version = 1; boot = boot; applied = applied }) ≡ shot_head bytes
+some-words bytes rest boot applied begins read = rw (begins, read) refl
+
+pub some-told : (bytes rest : List ℕ) (boot applied : ℕ) → begins_as_shot bytes ≡ true → Some ((boot, applied), rest) ≡ words (take (length bytes - 37) (drop 37 bytes))
+    → Some (record { version = 1; boot = boot; applied = applied }) ≡ shot_head bytes
+some-told bytes rest boot applied begins read = some-words bytes rest boot applied begins (sym (read ∙ ap words (behind-all bytes)))
+
+-- ---- what is told of a snapshot
+
+-- the bytes of the boot and of the number of inputs, and more behind them
+abbrev numbered : ℕ → ℕ → List ℕ → List ℕ
+numbered boot applied more = number_text w32 boot ++ (number_text w32 applied ++ more)
+
+length4 : (n : ℕ) → length (number_text w32 n) ≡ 4
+unfolding number_text
+length4 n = wide32.len n
+
+numbers-again : (boot applied : ℕ) (more : List ℕ) → boot < 2 ^ 32 → applied < 2 ^ 32 → words (numbered boot applied more) ≡ Some ((boot, applied), more)
+numbers-again boot applied more b a =
+    ap words (sym (append_assoc (number_text w32 boot) (number_text w32 applied) more))
+    ∙ (pair_exact (number w32) (number w32) (number_exact w32 wide32) (number_exact w32 wide32)).again (boot, applied) more (and_true _ _ (lt-ltb boot (2 ^ 32) b) (lt-ltb applied (2 ^ 32) a))
+
+-- behind the digest nothing is asked of the bytes but that they are enough
+told : (mark : List ℕ) (boot applied : ℕ) (more digest : List ℕ) → length mark ≡ 32 → boot < 2 ^ 32 → applied < 2 ^ 32 → 85 ≤ length ((front 1 mark ++ numbered boot applied more) ++ digest)
+    → shot_head ((front 1 mark ++ numbered boot applied more) ++ digest) ≡ Some (record { version = 1; boot = boot; applied = applied })
+told mark boot applied more digest len b a size =
+    let body : List ℕ = numbered boot applied more in
+    let bytes : List ℕ = (front 1 mark ++ body) ++ digest in
+    let begins : begins_as_shot bytes ≡ true = and_true _ _ (le-leb 85 (length bytes) size) refl in
+    let behind : drop 37 bytes ≡ numbered boot applied (more ++ digest) =
+    ap (drop 32) (append_assoc mark body digest) ∙ drop_at mark (body ++ digest) 32 len
+    ∙ append_assoc (number_text w32 boot) (number_text w32 applied ++ more) digest
+    ∙ ap (λ (l : List ℕ). number_text w32 boot ++ l) (append_assoc (number_text w32 applied) more digest) in
+    sym (some-words bytes (more ++ digest) boot applied begins (ap words behind ∙ numbers-again boot applied (more ++ digest) b a))
+
+long-of : (short : Bool) (others : Option HeadFault) → cond short (Some Short) others ≡ None → short ≡ false
+long-of true others e = absurd cc
+long-of false others e = refl
+
+long : (mark body : List ℕ) → length mark ≡ 32 → 16 ≤ length body → 85 ≤ length (snapshot 1 mark body)
+long mark body len some =
+    let bytes : List ℕ = snapshot 1 mark body in
+    let good : head_fault 1 mark bytes ≡ None = none_is bytes body (head_fault 1 mark bytes) (snapshot-opened 1 mark body len some) in
+    ltb-false (length bytes) 85 (long-of (ltb (length bytes) 85) _ good)
+
+-- the digest
+abbrev behind : List ℕ → List ℕ
+behind bytes = drop (length bytes) (sealed bytes)
+
+sealed-is : (bytes : List ℕ) → sealed bytes ≡ bytes ++ behind bytes
+sealed-is bytes = sym (ap (λ (l : List ℕ). bytes ++ l) (drop_at bytes _ (length bytes) refl))
+
+head_of-numbered : (mark : List ℕ) (boot applied : ℕ) (more : List ℕ) → length mark ≡ 32 → boot < 2 ^ 32 → applied < 2 ^ 32 → 8 ≤ length more
+    → shot_head (snapshot 1 mark (numbered boot applied more)) ≡ Some (record { version = 1; boot = boot; applied = applied })
+head_of-numbered mark boot applied more len b a few =
+    let body : List ℕ = numbered boot applied more in
+    let some : 16 ≤ length body = omega (arith, few, length4 boot, length4 applied, length-append (number_text w32 boot) (number_text w32 applied ++ more), length-append (number_text w32 applied) more) in
+    let same : snapshot 1 mark body ≡ (front 1 mark ++ body) ++ behind (front 1 mark ++ body) = sealed-is (front 1 mark ++ body) in
+    let size : 85 ≤ length ((front 1 mark ++ body) ++ behind (front 1 mark ++ body)) = subst (λ (l : List ℕ). 85 ≤ length l) same (long mark body len some) in
+    ap shot_head same ∙ told mark boot applied more (behind (front 1 mark ++ body)) len b a size
+
+length8 : (n : ℕ) → length (number_text w64 n) ≡ 8
+unfolding number_text
+length8 n = wide64.len n
+
+pub head_of_shot : (mark : List ℕ) (boot : ℕ) (scene : SceneView) (w : Scripted) → length mark ≡ 32 → boot < 2 ^ 32 → HasSnapshot scene w
+    → shot_head (shot mark boot scene w) ≡ Some (record { version = 1; boot = boot; applied = w.world.applied })
+unfolding world_codec
+head_of_shot mark boot scene w len b has =
+    let few : leb w.world.applied (2 ^ 20) ≡ true = (both (leb w.world.applied (2 ^ 20)) _ has.fits).0 in
+    let more : List ℕ = moment_codec.write w.world.last_time ++ (parts_codec scene).write (parts_in w) in
+    let moment : length (moment_codec.write w.world.last_time) ≡ 8 = length8 _ in
+    head_of-numbered mark boot w.world.applied more len b (omega (arith, leb-true w.world.applied (2 ^ 20) few))
+    (omega (arith, moment, length-append (moment_codec.write w.world.last_time) ((parts_codec scene).write (parts_in w))))

@@ -1,0 +1,79 @@
+//! What the head of a snapshot says, with no look at the rest.
+
+ghost use Rattle.std.specs.Prelude.{◌≡◌, ◌<◌, ◌^◌, ℕ, List, Some, length};
+ghost use Rattle.std.specs.Int.{w32};
+ghost use Rattle.std.specs.Option.{option_map};
+ghost use Rattle.byte_codec.specs.Codec.{pair, number};
+ghost use Rattle.scene_core.specs.Scene.{SceneView};
+ghost use Rattle.cascade_core.specs.Course.{Scripted};
+ghost use Rattle.snapshot_core.specs.Loading.{HasSnapshot};
+ghost use Rattle.snapshot_core.specs.Shot.{shot};
+ghost use Rattle.snapshot_core.specs.ShotHead.{begins_as_shot, shot_head};
+
+use byte_codec::u32_of;
+use snapshot_parts::VERSION;
+
+/// The first bytes of each snapshot.
+const MAGIC: &[u8; 4] = b"X3DW";
+
+/// The least length of a snapshot.
+const LEAST: usize = 85;
+
+/// What the head of a snapshot says of it.
+#[derive(Clone, Copy, PartialEq, Eq)]
+pub struct ShotHead {
+    pub version: u8,
+    /// Which start of the viewer.
+    pub boot: u32,
+    /// How many inputs its world has had.
+    pub applied: u32,
+}
+
+fn begins_as_shot(bytes: &[u8]) -> bool
+    ensures { result ≡ begins_as_shot bytes.now }
+{
+    bytes.len() >= LEAST && (&bytes[..4] == MAGIC.as_slice() && bytes[4] == VERSION)
+}
+
+/// Two numbers of 32 bits.
+fn words_of(bytes: &[u8]) -> Option<((u32, u32), &[u8])>
+    ensures { option_map (λ r. (r.0, r.1.now)) result
+        ≡ (pair (number w32) (number w32)).read bytes.now }
+{
+    let Some((first, rest)) = u32_of(bytes) else {
+        return None;
+    };
+    let Some((second, rest)) = u32_of(rest) else {
+        return None;
+    };
+    Some(((first, second), rest))
+}
+
+fn head_in(bytes: &[u8]) -> Option<ShotHead>
+    ensures { result ≡ shot_head bytes.now }
+{
+    if !begins_as_shot(bytes) {
+        return None;
+    }
+    let Some(((boot, applied), _rest)) = words_of(&bytes[37..]) else {
+        return None;
+    };
+    Some(ShotHead {
+        version: VERSION,
+        boot,
+        applied,
+    })
+}
+
+/// What the head says, of bytes that begin as a snapshot does: at least 85, `X3DW` and the version
+/// that is read here. The mark, the world and the digest are not looked at. Takes no memory.
+pub fn shot_head(bytes: &[u8]) -> Option<ShotHead>
+    ensures value { result ≡ shot_head bytes.now }
+    // Of each snapshot it is told whose it is, and how far its world had come.
+    ensures shots { (mark : List ℕ) (boot : ℕ) (scene : SceneView) (w : Scripted)
+        → length mark ≡ 32 → boot < 2 ^ 32 → HasSnapshot scene w
+        → bytes.now ≡ shot mark boot scene w
+        → result ≡ Some (record { version = 1; boot = boot; applied = w.world.applied }) }
+{
+    head_in(bytes)
+}
