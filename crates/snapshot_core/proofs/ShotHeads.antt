@@ -1,9 +1,8 @@
 -- The head of a snapshot says its boot and how many inputs its world has had.
-use Rattle.std.proofs.Common.{◌≡◌, ℕ, ◌^◌, ◌<◌, ◌≤◌, Bool, true, false, cond, ltb, leb, List, ◌++◌, ◌-◌, length, take, drop, Option, Some, None, refl, sym, ap, subst, ◌∙◌, append_assoc, arith}
+use Rattle.std.proofs.Common.{◌≡◌, ℕ, ◌-◌, ◌^◌, ◌<◌, ◌≤◌, Bool, true, false, cond, ltb, leb, List, ◌++◌, length, take, drop, Option, Some, None, refl, sym, ap, subst, ◌∙◌, append_assoc, arith}
 use Rattle.std.specs.Int.{w32, w64}
-use Rattle.std.specs.Option.{option_map}
-use Rattle.std.proofs.lemmas.Bool.{cond-true, le-leb, lt-ltb, leb-true, ltb-false}
-use Rattle.std.proofs.lemmas.List.{drop_at, take_all, length-append, length-drop}
+use Rattle.std.proofs.lemmas.Bool.{le-leb, lt-ltb, leb-true, ltb-false}
+use Rattle.std.proofs.lemmas.List.{drop_at, length-append, length-drop, take_all}
 use Rattle.byte_codec.specs.Codec.{number, number_text, pair}
 use Rattle.byte_codec.proofs.Laws.{both, and_true, number_exact, pair_exact, wide32, wide64}
 use Rattle.scene_core.specs.Scene.{SceneView}
@@ -13,30 +12,35 @@ use Rattle.snapshot_codec.specs.declared.head.HeadFault.TheVariants.{Short}
 use Rattle.snapshot_codec.specs.Head.{front, head_fault, sealed, snapshot}
 use Rattle.snapshot_codec.proofs.HeadLaws.{snapshot-opened}
 use Rattle.snapshot_codec.specs.Trace.{moment_codec}
-use Rattle.snapshot_parts.specs.Opening.{version}
-use Rattle.snapshot_core.specs.declared.head.ShotHead.{ShotHead}
 use Rattle.snapshot_core.specs.Loading.{HasSnapshot}
 use Rattle.snapshot_core.specs.Shot.{shot}
 use Rattle.snapshot_core.specs.ShotHead.{begins_as_shot, shot_head}
 use Rattle.snapshot_core.specs.WorldCodec.{parts_codec, parts_in, world_codec}
 use Rattle.snapshot_core.proofs.Heads.{none_is}
 
--- ---- what is read
+-- ---- what is told of bytes that begin as a snapshot does
 
-abbrev Words : Type 0
-Words = (ℕ × ℕ) × List ℕ
+-- all behind the mark, as the code cuts it
+behind-all : (bytes : List ℕ) → take (length bytes - 37) (drop 37 bytes) ≡ drop 37 bytes
+behind-all bytes = take_all (length bytes - 37) (drop 37 bytes) (omega (arith, length-drop 37 bytes))
 
-abbrev head_with : Words → ShotHead
-head_with x = record { version = version; boot = x.0.0; applied = x.0.1 }
+abbrev pub words : List ℕ → Option ((ℕ × ℕ) × List ℕ)
+words = (pair (number w32) (number w32)).read
 
-pub head_found : (bytes : List ℕ) (words : Option Words) → begins_as_shot bytes ≡ true → words ≡ (pair (number w32) (number w32)).read (take (length bytes - 37) (drop 37 bytes)) → option_map head_with words ≡ shot_head bytes
-head_found bytes words begins is =
-    let none : Option ShotHead = None in
-    let all : take (length bytes - 37) (drop 37 bytes) ≡ drop 37 bytes = take_all (length bytes - 37) (drop 37 bytes) (omega (arith, length-drop 37 bytes)) in
-    ap (λ (o : Option Words). option_map head_with o) (is ∙ ap ((pair (number w32) (number w32)).read) all)
-    ∙ sym (cond-true (begins_as_shot bytes) (option_map head_with ((pair (number w32) (number w32)).read (drop 37 bytes))) none begins)
+pub none-told : (bytes : List ℕ) → begins_as_shot bytes ≡ true → None ≡ words (take (length bytes - 37) (drop 37 bytes)) → None ≡ shot_head bytes
+none-told bytes begins read =
+    let none : words (drop 37 bytes) ≡ None = sym (read ∙ ap words (behind-all bytes)) in
+    rw (begins, none) refl
 
--- ---- of a snapshot
+some-words : (bytes rest : List ℕ) (boot applied : ℕ) → begins_as_shot bytes ≡ true → words (drop 37 bytes) ≡ Some ((boot, applied), rest)
+    → Some (record { version = 1; boot = boot; applied = applied }) ≡ shot_head bytes
+some-words bytes rest boot applied begins read = rw (begins, read) refl
+
+pub some-told : (bytes rest : List ℕ) (boot applied : ℕ) → begins_as_shot bytes ≡ true → Some ((boot, applied), rest) ≡ words (take (length bytes - 37) (drop 37 bytes))
+    → Some (record { version = 1; boot = boot; applied = applied }) ≡ shot_head bytes
+some-told bytes rest boot applied begins read = some-words bytes rest boot applied begins (sym (read ∙ ap words (behind-all bytes)))
+
+-- ---- what is told of a snapshot
 
 -- the bytes of the boot and of the number of inputs, and more behind them
 abbrev numbered : ℕ → ℕ → List ℕ → List ℕ
@@ -46,9 +50,9 @@ length4 : (n : ℕ) → length (number_text w32 n) ≡ 4
 unfolding number_text
 length4 n = wide32.len n
 
-numbers-again : (boot applied : ℕ) (more : List ℕ) → boot < 2 ^ 32 → applied < 2 ^ 32 → (pair (number w32) (number w32)).read (numbered boot applied more) ≡ Some ((boot, applied), more)
+numbers-again : (boot applied : ℕ) (more : List ℕ) → boot < 2 ^ 32 → applied < 2 ^ 32 → words (numbered boot applied more) ≡ Some ((boot, applied), more)
 numbers-again boot applied more b a =
-    ap ((pair (number w32) (number w32)).read) (sym (append_assoc (number_text w32 boot) (number_text w32 applied) more))
+    ap words (sym (append_assoc (number_text w32 boot) (number_text w32 applied) more))
     ∙ (pair_exact (number w32) (number w32) (number_exact w32 wide32) (number_exact w32 wide32)).again (boot, applied) more (and_true _ _ (lt-ltb boot (2 ^ 32) b) (lt-ltb applied (2 ^ 32) a))
 
 -- behind the digest nothing is asked of the bytes but that they are enough
@@ -62,7 +66,7 @@ told mark boot applied more digest len b a size =
     ap (drop 32) (append_assoc mark body digest) ∙ drop_at mark (body ++ digest) 32 len
     ∙ append_assoc (number_text w32 boot) (number_text w32 applied ++ more) digest
     ∙ ap (λ (l : List ℕ). number_text w32 boot ++ l) (append_assoc (number_text w32 applied) more digest) in
-    rw (begins, behind, numbers-again boot applied (more ++ digest) b a) refl
+    sym (some-words bytes (more ++ digest) boot applied begins (ap words behind ∙ numbers-again boot applied (more ++ digest) b a))
 
 long-of : (short : Bool) (others : Option HeadFault) → cond short (Some Short) others ≡ None → short ≡ false
 long-of true others e = absurd cc

@@ -1,18 +1,9 @@
-use Rattle.std.proofs.Common.{◌≡◌, ◌-◌, true, length, take, drop, None, rules}
-use Rattle.std.specs.Int.{w32}
-use Rattle.byte_codec.specs.Codec.{pair, number}
-use Rattle.snapshot_core.specs.ShotHead.{begins_as_shot}
-use Rattle.snapshot_core.proofs.ShotHeads.{head_found}
+use Rattle.std.proofs.Common.{sym, ◌∙◌}
+use Rattle.snapshot_core.proofs.ShotHeads.{none-told, some-told}
 use Rattle.snapshot_core.proofs.head.head_in.Goals as goal
 
 pub returns-in_default : goal.returns-in_default
-returns-in_default c =
-    let begins : begins_as_shot c.args.bytes.now ≡ true = search rules in
-    let words : None ≡ (pair (number w32) (number w32)).read (take (length c.args.bytes.now - 37) (drop 37 c.args.bytes.now)) = rw c.in_default.is at c.words_of.ensures in
-    head_found c.args.bytes.now None begins words
+returns-in_default c = none-told c.args.bytes.now (sym c.begins_as_shot.ensures ∙ c.if-not-begins_as_shot.false) (rw c.in_default.is at c.words_of.ensures)
 
 pub returns : goal.returns
-returns c =
-    let begins : begins_as_shot c.args.bytes.now ≡ true = search rules in
-    let words = rw c.in-Some.is at c.words_of.ensures in
-    head_found c.args.bytes.now _ begins words
+returns c = some-told c.args.bytes.now c.in-Some._rest.now c.in-Some.boot c.in-Some.applied (sym c.begins_as_shot.ensures ∙ c.if-not-begins_as_shot.false) (rw c.in-Some.is at c.words_of.ensures)
