@@ -2,10 +2,12 @@
 #![tactic(auto)]
 
 mod nodes;
+mod stack;
 
 ghost use Rattle.share_words.specs.Words.{IsInRange};
 
 use crate::nodes::{agree, host, rehearse, view};
+use crate::stack::has_room;
 use share_program::{
     Failure, RunFault, StreamFault, check_text, format_text, refusal_line, run_job, status_of,
     write_whole,
@@ -103,6 +105,9 @@ fn answer_own<R: AllocGlobal + Input + Print + Net + Clock>(
 
 fn work<R: Env + AllocGlobal + Input + Print + Net + Clock>(rt: &R) -> Result<(), Failure> {
     let own = own_words(rt)?;
+    if !has_room(own.len()) {
+        return Err(Failure::Order(OrderFault::Memory));
+    }
     answer_own(rt, own.as_slice())
 }
 
