@@ -1,0 +1,50 @@
+-- One IS more.
+use Rattle.std.proofs.Common.{◌≡◌, Bool, true, false, if◌then◌else◌, List, [], ◌∷◌, ◌++◌, map, Option, Some, Result, Ok, Err, refl, ap, sym, ◌∙◌}
+use Rattle.std.specs.Prelude.{IfOk}
+use Rattle.std.specs.Str.{bytes_eq}
+use Rattle.std.specs.declared.rc.Rc.{Rc}
+use Rattle.std.proofs.Math.Path.{fun_ext}
+use Rattle.std.proofs.lemmas.Grind.{flat_map-append}
+use Rattle.std.proofs.lemmas.List.{append-nil, map-append}
+use Rattle.std.proofs.lemmas.Slice.Eq.{bytes_eq-Decides}
+use Rattle.flat_document.specs.declared.flat.FlatEnd.{FlatEnd}
+use Rattle.flat_meaning.specs.Names as meaning
+use Rattle.flat_meaning.specs.Names.{Name}
+use Rattle.proto_routes.specs.declared.ends.Ends.{Ends}
+use Rattle.proto_routes.specs.Ends.{end, list}
+use Rattle.proto_joins.specs.declared.joins.Join.{Join}
+use Rattle.proto_joins.specs.Joined.{meant, owned, with_ends, with_more}
+use Rattle.proto_joins.specs.Joins.{ends_behind, joins_ends}
+
+pub owned-if : {A : Type 0} (b : Bool) (ends : Rc Ends A) (o : Option (Rc Ends A)) → owned (if b then Some ends else o) ≡ (if b then meant ends.value else owned o)
+owned-if true ends o = refl
+owned-if false ends o = refl
+
+-- what holds of a good answer, by what it was made of
+pub if-ok : {X E : Type 0} (r : Result X E) (p q : X → Type 0) → ((x : X) → p x → q x) → IfOk r p → IfOk r q
+if-ok (Ok x) p q k h = k x h
+if-ok (Err e) p q k h = h
+
+pub of-both : (made first second : Ends) (ends : List FlatEnd) → list made ≡ list first ++ list second → meant first ≡ ends → meant made ≡ ends ++ meant second
+of-both made first second ends is same = ap (map end) is ∙ map-append end (list first) (list second) ∙ ap (λ es. es ++ meant second) same
+
+grow-by : (b : Bool) (made more before : List FlatEnd) → (b ≡ true → made ≡ before ++ more) → (if b then made else before) ≡ before ++ (if b then more else [])
+grow-by true made more before k = k refl
+grow-by false made more before k = sym (append-nil before)
+
+pub grows : (given : Name) (made more : List FlatEnd) (old new : Name → List FlatEnd) → new ≡ with_ends given made old → made ≡ old given ++ more → new ≡ with_more given more old
+grows given made more old new is longer =
+    is ∙ fun_ext (λ name. grow-by (bytes_eq given name) made more (old name) (λ h. longer ∙ ap (λ n. old n ++ more) ((bytes_eq-Decides given name).0 h)))
+
+none-more : (b : Bool) (before : List FlatEnd) → before ≡ before ++ (if b then [] else [])
+none-more true before = sym (append-nil before)
+none-more false before = sym (append-nil before)
+
+pub joins-none : (given : Name) (ends : Name → List FlatEnd) → ends ≡ with_more given [] ends
+joins-none given ends = fun_ext (λ name. none-more (bytes_eq given name) (ends name))
+
+-- an IS behind the others
+pub one-more : (joins : List Join) (j : Join) (all : List meaning.Braces) → with_more j.outer.now (ends_behind all j) (joins_ends joins all) ≡ joins_ends (joins ++ j ∷ []) all
+one-more joins j all =
+    fun_ext (λ name. sym (flat_map-append (λ (k : Join). if bytes_eq k.outer.now name then ends_behind all k else []) joins (j ∷ [])
+    ∙ ap (λ es. joins_ends joins all name ++ es) (append-nil (if bytes_eq j.outer.now name then ends_behind all j else []))))

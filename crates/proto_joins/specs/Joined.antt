@@ -1,0 +1,31 @@
+-- The ends of the fields of an interface, as the definition sees them.
+use Rattle.std.specs.Prelude.{if◌then◌else◌, List, [], ◌++◌, map, Option, None, Some, option_map}
+use Rattle.std.specs.Borrow.{Bor}
+use Rattle.std.specs.Str.{bytes_eq}
+use Rattle.std.specs.declared.rc.Rc.{Rc}
+use Rattle.indexmap.specs.IndexMap.{get_by}
+use Rattle.flat_document.specs.declared.flat.FlatEnd.{FlatEnd}
+use Rattle.flat_meaning.specs.Names.{Name}
+use Rattle.proto_joins.specs.declared.joined.JoinedEnds.{JoinedEnds}
+use Rattle.proto_routes.specs.declared.ends.Ends.{Ends}
+use Rattle.proto_routes.specs.Ends.{end, list}
+
+abbrev pub meant : Ends → List FlatEnd
+meant ends = map end (list ends)
+
+abbrev pub owned : {A : Type 0} → Option (Rc Ends A) → List FlatEnd
+owned None = []
+owned (Some ends) = meant ends.value
+
+abbrev pub borrowed : {A : Type 0} → Option (Bor (Rc Ends A)) → List FlatEnd
+borrowed ends = owned (option_map (λ e. e.now) ends)
+
+unfoldable pub ends_in : JoinedEnds → Name → List FlatEnd
+ends_in joined name = owned (get_by (λ k. bytes_eq name k.now) joined.ends)
+
+abbrev pub with_ends : Name → List FlatEnd → (Name → List FlatEnd) → Name → List FlatEnd
+with_ends given ends before name = if bytes_eq given name then ends else before name
+
+-- more ends of one name
+abbrev pub with_more : Name → List FlatEnd → (Name → List FlatEnd) → Name → List FlatEnd
+with_more given more ends name = ends name ++ (if bytes_eq given name then more else [])

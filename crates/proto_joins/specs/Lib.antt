@@ -1,0 +1,3 @@
+pub mod Joined
+pub mod Joins
+pub mod Laws

@@ -1,0 +1,84 @@
+//! The ends of the fields of an interface.
+
+ghost use Rattle.std.specs.Prelude.{◌≡◌, ◌++◌, [], IfOk};
+ghost use Rattle.proto_joins.specs.Joined.{borrowed, ends_in, meant, owned, with_ends, with_more};
+
+use indexmap::IndexMap;
+use proto_routes::{Ends, both};
+use std::alloc::{AllocError, AllocFailed, Global};
+use std::rc::Rc;
+use x3d_lists::Text;
+
+/// The ends of each field of an interface that has any, by its name.
+#[derive(Drop)]
+pub struct JoinedEnds<'a> {
+    pub ends: IndexMap<&'a str, Rc<Ends<'a>>>,
+}
+
+impl<'a> JoinedEnds<'a> {
+    /// Nothing is joined.
+    #[tactic(auto, unfolding(crate::specs::Joined::ends_in))]
+    pub fn new(alloc: Global) -> JoinedEnds<'a>
+        ensures { ends_in result ≡ (λ name. []) }
+    {
+        JoinedEnds {
+            ends: IndexMap::new(alloc),
+        }
+    }
+
+    /// The ends of the field of that name; none where nothing is joined to it.
+    #[tactic(auto, unfolding(crate::specs::Joined::ends_in))]
+    pub fn get(&self, name: &Text) -> Option<&Rc<Ends<'a>>>
+        ensures { borrowed result ≡ ends_in self.now name.now }
+    {
+        self.ends.get(name.as_str())
+    }
+
+    #[tactic(auto, unfolding(crate::specs::Joined::ends_in))]
+    fn insert(
+        &mut self,
+        name: &'a Text,
+        ends: Rc<Ends<'a>>,
+    ) -> Result<(), AllocFailed<(&'a str, Rc<Ends<'a>>)>>
+        ensures { IfOk result (λ _. ends_in self.new
+            ≡ with_ends name.now (meant ends.entry.value) (ends_in self.old)) }
+    {
+        self.ends.insert(name.as_str(), ends)?;
+        Ok(())
+    }
+
+    /// The ends of the field, and then more.
+    fn grown(
+        &self,
+        alloc: Global,
+        name: &Text,
+        more: Rc<Ends<'a>>,
+    ) -> Result<Rc<Ends<'a>>, AllocError>
+        ensures { IfOk result (λ made. meant made.value
+            ≡ ends_in self.now name.now ++ meant more.entry.value) }
+    {
+        let Some(before) = self.get(name) else {
+            return Ok(more);
+        };
+        let first = before.clone()?;
+        both(alloc, first, more)
+    }
+
+    /// More ends are joined to the field of that name, behind those before, or none.
+    pub fn join(
+        &mut self,
+        alloc: Global,
+        name: &'a Text,
+        more: Option<Rc<Ends<'a>>>,
+    ) -> Result<(), AllocError>
+        ensures { IfOk result (λ _. ends_in self.new
+            ≡ with_more name.now (owned more.entry) (ends_in self.old)) }
+    {
+        let Some(more) = more else {
+            return Ok(());
+        };
+        let grown = self.grown(alloc, name, more)?;
+        self.insert(name, grown)?;
+        Ok(())
+    }
+}

@@ -1,0 +1,95 @@
+//! The ISs of a body, by what its braces come to stand for.
+
+ghost use Rattle.std.specs.Prelude.{◌≡◌, map, IfOk};
+ghost use Rattle.proto_joins.specs.Joined.{ends_in, owned};
+ghost use Rattle.proto_joins.specs.Joins.{braces_of, ends_behind, joins_ends, stands_of};
+
+use crate::joined::JoinedEnds;
+use classic_tree::{Declaration, NodeText};
+use proto_routes::{End, Ends, one};
+use std::alloc::{AllocError, Global};
+use std::rc::Rc;
+use x3d_lists::Text;
+
+/// The interface of an instance, and the ends of its fields.
+#[derive(Drop)]
+pub struct InstanceEnds<'a> {
+    pub interface: &'a [Declaration<NodeText>],
+    pub joined: JoinedEnds<'a>,
+}
+
+/// What a node or an instance stands for: the number of a node, and of an instance its ends.
+#[derive(Drop)]
+pub struct Stands<'a> {
+    pub node: u32,
+    pub instance: Option<Rc<InstanceEnds<'a>>>,
+}
+
+/// Braces of a scope: the name that DEF gives them, and once they close what they stand for.
+#[derive(Drop)]
+pub struct Braces<'a> {
+    pub name: &'a Option<Text>,
+    pub stands: Option<Stands<'a>>,
+}
+
+/// An IS: the field of the interface, and the field that it joins to it, of the braces that
+/// opened behind `at` others of the scope.
+#[derive(Clone, Copy)]
+pub struct Join<'a> {
+    pub outer: &'a Text,
+    pub at: usize,
+    pub field: &'a Text,
+}
+
+/// The ends of a field; none where nothing is joined to it.
+fn field_ends<'a>(
+    alloc: Global,
+    stands: &Stands<'a>,
+    field: &'a Text,
+) -> Result<Option<Rc<Ends<'a>>>, AllocError>
+    ensures { IfOk result (λ ends. owned ends ≡ (stands_of stands.now).ends field.now) }
+{
+    let Some(instance) = &stands.instance else {
+        let end = one(alloc, End::At(stands.node, field))?;
+        return Ok(Some(end));
+    };
+    let Some(ends) = instance.joined.get(field) else {
+        return Ok(None);
+    };
+    Ok(Some(ends.clone()?))
+}
+
+/// The ends that an IS joins, by what the braces of the scope stand for.
+fn join_ends<'a>(
+    alloc: Global,
+    braces: &[Braces<'a>],
+    join: Join<'a>,
+) -> Result<Option<Rc<Ends<'a>>>, AllocError>
+    ensures { IfOk result (λ ends. owned ends
+        ≡ ends_behind (map braces_of braces.now) join.entry) }
+{
+    let Some(opened) = braces.get(join.at) else {
+        return Ok(None);
+    };
+    let Some(stands) = &opened.stands else {
+        return Ok(None);
+    };
+    field_ends(alloc, stands, join.field)
+}
+
+/// The ends of the fields of an interface, once all braces of the body are closed.
+pub fn joined_ends<'a>(
+    alloc: Global,
+    braces: &[Braces<'a>],
+    joins: &[Join<'a>],
+) -> Result<JoinedEnds<'a>, AllocError>
+    ensures { IfOk result (λ joined. ends_in joined
+        ≡ joins_ends joins.now (map braces_of braces.now)) }
+{
+    let mut joined = JoinedEnds::new(alloc);
+    for join in joins {
+        let ends = join_ends(alloc, braces, *join)?;
+        joined.join(alloc, join.outer, ends)?;
+    }
+    Ok(joined)
+}

@@ -1,0 +1,134 @@
+//! What USE and ROUTE find by a name.
+
+ghost use Rattle.std.specs.Prelude.{◌≡◌, ◌++◌, ◌∷◌, [], List, None, Some, length, IfOk};
+ghost use Rattle.flat_meaning.specs.Names as meaning;
+ghost use Rattle.flat_meaning.specs.Names.{Braces, Stands};
+ghost use Rattle.proto_names.specs.Held as held;
+ghost use Rattle.proto_names.specs.Held.{Knows, begun_of, closed_of, with_entry};
+
+use indexmap::IndexMap;
+use std::alloc::{AllocError, AllocFailed, Global};
+use x3d_lists::Text;
+
+/// Braces of a scope that are closed: how many of the scope were opened before them, and the
+/// number of the node that they stand for.
+#[derive(Clone, Copy)]
+pub struct Closed {
+    pub at: usize,
+    pub node: u32,
+}
+
+/// The names that DEFs gave in a scope: for each the last braces of that name, and the last that
+/// are closed.
+#[derive(Drop)]
+pub struct Names<'a> {
+    pub begun: IndexMap<&'a str, usize>,
+    pub closed: IndexMap<&'a str, Closed>,
+}
+
+fn is_later(closed: Option<Closed>, at: usize) -> bool
+    ensures { result ≡ held.is_later closed at }
+{
+    match closed {
+        None => false,
+        Some(closed) => at < closed.at,
+    }
+}
+
+impl<'a> Names<'a> {
+    /// Of a scope that begins.
+    #[tactic(auto, unfolding(crate::specs::Held::begun_of, crate::specs::Held::closed_of))]
+    pub fn new(alloc: Global) -> Names<'a>
+        ensures { Knows result [] }
+    {
+        Names {
+            begun: IndexMap::new(alloc),
+            closed: IndexMap::new(alloc),
+        }
+    }
+
+    #[tactic(auto, unfolding(crate::specs::Held::closed_of))]
+    fn know_begun(&mut self, name: &'a Text, at: usize) -> Result<(), AllocFailed<(&'a str, usize)>>
+        ensures begun { IfOk result (λ _. begun_of self.new
+            ≡ with_entry name.now at (begun_of self.old)) }
+        ensures closed { closed_of self.new ≡ closed_of self.old }
+    {
+        self.begun.insert(name.as_str(), at)?;
+        Ok(())
+    }
+
+    #[tactic(auto, unfolding(crate::specs::Held::begun_of))]
+    fn know_closed(
+        &mut self,
+        name: &'a Text,
+        closed: Closed,
+    ) -> Result<(), AllocFailed<(&'a str, Closed)>>
+        ensures closed { IfOk result (λ _. closed_of self.new
+            ≡ with_entry name.now closed (closed_of self.old)) }
+        ensures begun { begun_of self.new ≡ begun_of self.old }
+    {
+        self.closed.insert(name.as_str(), closed)?;
+        Ok(())
+    }
+
+    #[tactic(auto, unfolding(crate::specs::Held::closed_of))]
+    fn closed(&self, name: &Text) -> Option<Closed>
+        ensures { result ≡ closed_of self.now name.now }
+    {
+        self.closed.get(name.as_str()).copied()
+    }
+
+    #[tactic(auto, unfolding(crate::specs::Held::begun_of))]
+    fn begun(&self, name: &Text) -> Option<usize>
+        ensures { result ≡ begun_of self.now name.now }
+    {
+        self.begun.get(name.as_str()).copied()
+    }
+
+    /// Braces open behind the others of the scope, with the name that DEF gives them.
+    pub fn open(&mut self, name: &'a Option<Text>, at: usize) -> Result<(), AllocError>
+        ensures { (braces : List Braces) → at ≡ length braces → Knows self.old braces
+            → IfOk result (λ _. Knows self.new (braces ++ held.opened name.now ∷ [])) }
+    {
+        let Some(name) = name else {
+            return Ok(());
+        };
+        self.know_begun(name, at)?;
+        Ok(())
+    }
+
+    /// Braces close, and stand for the node of that number.
+    pub fn close(&mut self, name: &'a Option<Text>, at: usize, node: u32) -> Result<(), AllocError>
+        ensures { (before after : List Braces) (what : Stands) → at ≡ length before
+            → what.node ≡ node → Knows self.old (before ++ held.opened name.now ∷ after)
+            → IfOk result (λ _. Knows self.new (before ++ held.closed name.now what ∷ after)) }
+    {
+        let Some(name) = name else {
+            return Ok(());
+        };
+        if is_later(self.closed(name), at) {
+            return Ok(());
+        }
+        self.know_closed(name, Closed { at, node })?;
+        Ok(())
+    }
+
+    /// The number of the node that USE takes: of the last braces of that name that are closed.
+    pub fn used(&self, name: &Text) -> Option<u32>
+        ensures { (braces : List Braces) → Knows self.now braces
+            → result ≡ meaning.used name.now braces }
+    {
+        match self.closed(name) {
+            None => None,
+            Some(closed) => Some(closed.node),
+        }
+    }
+
+    /// The braces that ROUTE names: the last of that name, closed or not.
+    pub fn named(&self, name: &Text) -> Option<usize>
+        ensures { (braces : List Braces) → Knows self.now braces
+            → result ≡ meaning.last_from 0 name.now braces }
+    {
+        self.begun(name)
+    }
+}

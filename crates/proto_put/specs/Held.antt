@@ -1,0 +1,22 @@
+-- What was put in, as the definition sees it.
+use Rattle.std.specs.Prelude.{List, map}
+use Rattle.flat_document.specs.declared.flat.FlatNode.{FlatNode}
+use Rattle.flat_meaning.specs.Sight.{Put}
+use Rattle.proto_put.specs.declared.put.PlacedNode.{PlacedNode}
+use Rattle.proto_put.specs.declared.put.PutIn.{PutIn}
+
+abbrev pub flat_of : PlacedNode → FlatNode
+flat_of node =
+    record {
+      line = node.line;
+      name = node.name.now;
+      node_type = node.node_type;
+      fields = node.fields;
+      interface = node.interface;
+    }
+
+abbrev pub nodes_of : List PlacedNode → List FlatNode
+nodes_of nodes = map flat_of nodes
+
+abbrev pub shown : PutIn → Put
+shown put = record { nodes = nodes_of put.nodes.items; helpers = put.helpers }

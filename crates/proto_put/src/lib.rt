@@ -1,0 +1,6 @@
+//! What was put in: the nodes in the order in which they close, and which of them are helpers.
+#![tactic(auto)]
+
+mod put;
+
+pub use put::{PlacedNode, PutIn, flat_nodes};

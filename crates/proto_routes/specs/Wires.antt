@@ -1,0 +1,31 @@
+-- ROUTEs one behind the other.
+use Rattle.std.specs.Prelude.{◌≡◌, ◌⊎◌, ◌≤◌, List, [], ◌∷◌, ◌++◌, length, Result, Ok, Err}
+use Rattle.std.specs.List.{flat_map, fold}
+use Rattle.std.specs.Borrow.{Bor}
+use Rattle.flat_document.specs.Fault.{memory}
+use Rattle.flat_document.specs.declared.fault.ExpandFault.{ExpandFault}
+use Rattle.flat_document.specs.declared.flat.FlatRoute.{FlatRoute}
+use Rattle.proto_routes.specs.declared.routes.Wire.{Wire}
+use Rattle.proto_routes.specs.declared.wires.Wires.{Wires}
+use Rattle.proto_routes.specs.declared.wires.Wires.TheVariants.{One, Both'}
+use Rattle.proto_routes.specs.Ends.{few}
+use Rattle.proto_routes.specs.Routes.{routes_of_wire}
+
+abbrev pub wires : Wires → List Wire
+wires (One wire) = wire ∷ []
+wires (Both' p first q second) = wires first ++ wires second
+
+-- those that wait, of which the last comes first
+abbrev pub wires_waiting : List (Bor Wires) → List Wire
+wires_waiting left = fold (λ behind w. wires w.now ++ behind) [] left
+
+-- the routes that ROUTEs mean, in their order
+abbrev pub means : List Wire → List FlatRoute
+means wires = flat_map routes_of_wire wires
+
+-- of those that waited, some routes were made behind those before, and the others still wait
+abbrev pub StepsOn : List FlatRoute → List Wire → Result (List FlatRoute) ExpandFault → List Wire
+    → Type 0
+StepsOn routes before (Ok made) after =
+    (few (routes ++ means before) ≡ few (made ++ means after)) × (length made ≤ 65536)
+StepsOn routes before (Err e) after = (e ≡ memory) ⊎ (few (routes ++ means before) ≡ Err e)
