@@ -2,7 +2,8 @@
 
 use super::{Row, Said, all_hold, holds};
 use share_wire::{
-    Ack, Ask, Body, Floor, Message, Offer, Packet, Piece, WireFault, decode, encode, piece_count,
+    Ack, Ask, Body, Floor, Message, Offer, Packet, Piece, WireFault, decode, encode, is_piece,
+    piece_count, piece_size,
 };
 use std::alloc::Global;
 use std::process::Abort;
@@ -76,6 +77,25 @@ fn is_both_ways(body: Body, bytes: &[u8]) -> bool {
     written && decode(bytes) == Ok(message)
 }
 
+/// The piece of this number, with these bytes, of the snapshot of 392 bytes.
+fn piece_of(index: u32, bytes: &[u8]) -> Option<Body> {
+    if !is_piece(1, 2, 392, index) {
+        return None;
+    }
+    if bytes.len() != piece_size(392, index) as usize {
+        return None;
+    }
+    Some(Body::Piece(Piece::new(1, 2, 392, index, bytes)))
+}
+
+/// Whether that piece has these bytes as a datagram, and is read from them.
+fn is_piece_both_ways(index: u32, bytes: &[u8], datagram: &[u8]) -> bool {
+    match piece_of(index, bytes) {
+        Some(body) => is_both_ways(body, datagram),
+        None => false,
+    }
+}
+
 #[test]
 fn each_message_has_its_bytes(rt: HostRuntime) {
     let clock = Stamped::new(1, 1_000_000, Event::Clock);
@@ -88,10 +108,8 @@ fn each_message_has_its_bytes(rt: HostRuntime) {
     let ack = Ack::new(15, u32::MAX, 0x0102_0304);
     holds(&rt, is_both_ways(Body::Ack(ack), ACK));
     holds(&rt, is_both_ways(Body::Floor(Floor::new(3)), FLOOR));
-    let last = Piece::new(1, 2, 392, 2, b"snapshot");
-    holds(&rt, is_both_ways(Body::Piece(last), LAST));
-    let full = Piece::new(1, 2, 392, 1, FULL.get(54..).unwrap_or(b""));
-    holds(&rt, is_both_ways(Body::Piece(full), FULL));
+    holds(&rt, is_piece_both_ways(2, b"snapshot", LAST));
+    holds(&rt, is_piece_both_ways(1, FULL.get(54..).unwrap_or(b""), FULL));
 }
 
 /// A length of a snapshot, and how many pieces it has.
@@ -117,18 +135,20 @@ fn a_snapshot_has_as_many_pieces(rt: HostRuntime) {
     all_hold(&rt, rt.alloc(), &COUNTED);
 }
 
+/// The length of the datagram of the piece of this number with these bytes.
+fn datagram_len(index: u32, bytes: &[u8]) -> Option<usize> {
+    let body = piece_of(index, bytes)?;
+    Some(encode(&Message { mark: MARK, body }).len())
+}
+
 /// A snapshot of 392 bytes has pieces of 246, 246 and 62 bytes as datagrams.
 #[test]
 fn piece_sizes(rt: HostRuntime) {
-    let mut index = 0;
-    for (size, of_datagram) in [(192, 246), (192, 246), (8, 62)] {
-        let bytes = [7; 192];
-        let piece = Piece::new(1, 2, 392, index, &bytes[..size]);
-        let body = Body::Piece(piece);
-        let packet = encode(&Message { mark: MARK, body });
-        holds(&rt, packet.len() == of_datagram);
-        index += 1;
-    }
+    holds(&rt, datagram_len(0, &[7; 192]) == Some(246));
+    holds(&rt, datagram_len(1, &[7; 192]) == Some(246));
+    holds(&rt, datagram_len(2, &[7; 8]) == Some(62));
+    holds(&rt, datagram_len(2, &[7; 9]).is_none());
+    holds(&rt, datagram_len(3, &[7; 8]).is_none());
 }
 
 const ZERO: &[u8] = &[0; 4];
