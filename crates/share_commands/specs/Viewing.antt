@@ -1,5 +1,5 @@
 -- What a viewer does with a job.
-use Rattle.std.specs.Prelude.{◌≡◌, ℕ, List, [], ◌∷◌, Option, Ok}
+use Rattle.std.specs.Prelude.{◌≡◌, ℕ, List, [], ◌∷◌, Option, None, Ok}
 use Rattle.std.specs.List.{flat_map}
 use Rattle.x3d_values.specs.declared.pointing.Point.{Point}
 use Rattle.x3d_values.specs.Stamp.{Stamp}
@@ -36,6 +36,7 @@ viewer_of job who boot = record {
   scene = job.scene;
   routes = job.routes;
   state = begun boot (opening job.scene job.routes);
+  gathering = None;
 }
 
 abbrev pub series_fault : SeriesFault → ShareFault
