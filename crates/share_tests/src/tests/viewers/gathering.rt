@@ -1,5 +1,6 @@
 //! What is gathered of a snapshot: pieces in any order, of several snapshots, with little memory.
 
+use share_core::piece_count;
 use share_gather::{Pieces, gather};
 use share_law::{GatherFault, Gathered};
 use share_wire::{Ask, Body, Floor, Piece, is_piece, piece_size};
@@ -141,4 +142,21 @@ fn only_pieces_are_gathered(rt: HostRuntime) {
     let floor = is_no_piece(rt.alloc(), Body::Floor(Floor::new(3)));
     let ask = is_no_piece(rt.alloc(), Body::Ask(Ask::new(1, 4)));
     assert!(rt; floor && ask);
+}
+
+/// 392 bytes that begin as a snapshot of boot 1 behind two inputs does.
+fn beginning() -> [u8; 392] {
+    let mut bytes = [0; 392];
+    bytes[..5].copy_from_slice(b"X3DW\x01");
+    bytes[40] = 1;
+    bytes[44] = 2;
+    bytes
+}
+
+/// 392 bytes are two pieces of 192 and one of 8; what doesn't begin as a snapshot has none.
+#[test]
+fn a_snapshot_has_its_pieces(rt: HostRuntime) {
+    let bytes = beginning();
+    assert!(rt; piece_count(&bytes) == Some(3));
+    assert!(rt; piece_count(&bytes[1..]).is_none());
 }
