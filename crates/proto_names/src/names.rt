@@ -1,6 +1,6 @@
 //! What USE and ROUTE find by a name.
 
-ghost use Rattle.std.specs.Prelude.{◌≡◌, ◌++◌, ◌∷◌, [], List, None, Some, length, IfOk};
+ghost use Rattle.std.specs.Prelude.{◌≡◌, ◌++◌, ◌∷◌, [], List, length, IfOk};
 ghost use Rattle.flat_meaning.specs.Names as meaning;
 ghost use Rattle.flat_meaning.specs.Names.{Braces, Stands};
 ghost use Rattle.proto_names.specs.Held as held;
