@@ -1,6 +1,6 @@
 -- A line with the words of a step is that step and no other, and bytes that are a schedule are
 -- answered as it.
-use Rattle.std.proofs.Common.{◌≡◌, ℕ, suc, ◌+◌, ◌<◌, ◌==◌, ℤ, pos, List, [], ◌∷◌, ◌++◌, length, Bool, true, false, codes, Some, None, Ok}
+use Rattle.std.proofs.Common.{◌≡◌, ℕ, suc, ◌+◌, ◌<◌, ◌==◌, ℤ, pos, List, [], ◌∷◌, ◌++◌, length, Bool, true, false, codes, Option, Some, None, Ok}
 use Rattle.std.proofs.Common.{refl, sym, ap, ◌∙◌, inl, inr, arith}
 use Rattle.std.specs.Prelude.{◌^◌, ◌/◌, nat_lt, if◌then◌else◌}
 use Rattle.std.specs.Option.{option_map, option_or}
@@ -17,11 +17,13 @@ use Rattle.share_law.specs.declared.step.Step.{Step}
 use Rattle.share_law.specs.declared.step.Step.TheVariants.{HostClock, HostPacket, HostAck, HostTake}
 use Rattle.share_law.specs.declared.step.Step.TheVariants.{ViewerOffer, ViewerResend, ViewerAsk}
 use Rattle.share_law.specs.declared.step.Step.TheVariants.{ViewerTake, ViewerSave, ViewerRewind}
+use Rattle.share_law.specs.declared.step.Step.TheVariants.{HostDropBelow, HostFloorPacket}
+use Rattle.share_law.specs.declared.step.Step.TheVariants.{PiecePacket, ViewerGather, ViewerJoin, ViewerForget}
 use Rattle.share_jobs.specs.declared.schedule.Schedule.{Schedule}
 use Rattle.share_jobs.specs.Job.{is_scene, behind_lines}
 use Rattle.share_jobs.specs.Points.{word, behind, number_below, vector_of, IsNumber, AreNumerals}
-use Rattle.share_jobs.specs.Schedule.{number, clock_step, given, give_step, resent, resend_step, rewound, rewind_step, point_of, offered, offer_step}
-use Rattle.share_jobs.specs.Schedule.{host_step, viewer_step, step_of, steps_of, with_step, with_bytes, schedule_lines, spaced, AreNumbers, IsCall, IsClockAt, IsGivenHost, IsOffer, IsStep, EachIsStep, IsSchedule}
+use Rattle.share_jobs.specs.Schedule.{number, clock_step, given, give_step, paired, two_numbers, rewound, rewind_step, point_of, offered, offer_step}
+use Rattle.share_jobs.specs.Schedule.{host_step, viewer_step, piece_step, step_of, steps_of, with_step, with_bytes, schedule_lines, spaced, AreNumbers, IsCall, IsClockAt, IsGivenHost, IsOffer, IsStep, EachIsStep, IsSchedule}
 use Rattle.share_jobs.proofs.ScheduleLemmas.{of_line}
 use Rattle.share_jobs.proofs.SpaceLemmas.{Spaceless, word_is, behind_is, numeral_is}
 
@@ -102,48 +104,78 @@ two_of texts a b h =
 named_one : (line name : List ℕ) (n : ℕ) (c : IsCall line name (n ∷ [])) → line ≡ name ++ (32 ∷ (last_of c.texts n c.each).text)
 named_one line name n c = c.words ∙ ap (λ t. spaced (name ∷ t)) (last_of c.texts n c.each).is
 
+-- what isn't the host's
+abbrev others : List ℕ → List ℕ → Option Step
+others name text = option_or (viewer_step name text) (piece_step name text)
+
 packet_at : (text : List ℕ) (n : ℕ) → number text ≡ Some n → step_of (codes "packet" ++ (32 ∷ text)) ≡ Some (HostPacket n)
 unfolding step_of host_step word behind
-packet_at text n e = ap (λ r. option_or (option_map (λ i. HostPacket i) r) (viewer_step (codes "packet") text)) e
+packet_at text n e = ap (λ r. option_or (option_map (λ i. HostPacket i) r) (others (codes "packet") text)) e
 
 ack_at : (text : List ℕ) (n : ℕ) → number text ≡ Some n → step_of (codes "ack" ++ (32 ∷ text)) ≡ Some (HostAck n)
 unfolding step_of host_step word behind
-ack_at text n e = ap (λ r. option_or (option_map (λ i. HostAck i) r) (viewer_step (codes "ack") text)) e
+ack_at text n e = ap (λ r. option_or (option_map (λ i. HostAck i) r) (others (codes "ack") text)) e
+
+floor_at : (text : List ℕ) (n : ℕ) → number text ≡ Some n → step_of (codes "floor" ++ (32 ∷ text)) ≡ Some (HostDropBelow n)
+unfolding step_of host_step word behind
+floor_at text n e = ap (λ r. option_or (option_map (λ i. HostDropBelow i) r) (others (codes "floor") text)) e
 
 ask_at : (text : List ℕ) (n : ℕ) → number text ≡ Some n → step_of (codes "ask" ++ (32 ∷ text)) ≡ Some (ViewerAsk n)
 unfolding step_of host_step viewer_step word behind
-ask_at text n e = ap (λ r. option_map (λ i. ViewerAsk i) r) e
+ask_at text n e = ap (λ r. option_or (option_map (λ i. ViewerAsk i) r) (piece_step (codes "ask") text)) e
 
 save_at : (text : List ℕ) (n : ℕ) → number text ≡ Some n → step_of (codes "save" ++ (32 ∷ text)) ≡ Some (ViewerSave n)
 unfolding step_of host_step viewer_step word behind
-save_at text n e = ap (λ r. option_map (λ i. ViewerSave i) r) e
+save_at text n e = ap (λ r. option_or (option_map (λ i. ViewerSave i) r) (piece_step (codes "save") text)) e
+
+forget_at : (text : List ℕ) (n : ℕ) → number text ≡ Some n → step_of (codes "forget" ++ (32 ∷ text)) ≡ Some (ViewerForget n)
+unfolding step_of host_step viewer_step piece_step word behind
+forget_at text n e = ap (λ r. option_map (λ i. ViewerForget i) r) e
 
 clock_at : (text : List ℕ) (t : ℤ) → numeral text ≡ Ok t → step_of (codes "clock" ++ (32 ∷ text)) ≡ Some (HostClock t)
 unfolding step_of host_step clock_step word behind
-clock_at text t e = ap (λ r. option_or (option_map (λ i. HostClock i) (result_ok r)) (viewer_step (codes "clock") text)) e
+clock_at text t e = ap (λ r. option_or (option_map (λ i. HostClock i) (result_ok r)) (others (codes "clock") text)) e
 
-resend_at : (text : List ℕ) (v i : ℕ) → number (word text) ≡ Some v → number (behind text) ≡ Some i
-    → step_of (codes "resend" ++ (32 ∷ text)) ≡ Some (ViewerResend v i)
-unfolding step_of host_step viewer_step resend_step word behind
-resend_at text v i first second = ap (λ r. resent r (number (behind text))) first ∙ ap (λ r. resent (Some v) r) second
+two_at : (text : List ℕ) (a b : ℕ) → number (word text) ≡ Some a → number (behind text) ≡ Some b → two_numbers text ≡ Some (a, b)
+unfolding two_numbers
+two_at text a b first second = ap (λ r. paired r (number (behind text))) first ∙ ap (λ r. paired (Some a) r) second
+
+resend_at : (text : List ℕ) (v i : ℕ) → two_numbers text ≡ Some (v, i) → step_of (codes "resend" ++ (32 ∷ text)) ≡ Some (ViewerResend v i)
+unfolding step_of host_step viewer_step word behind
+resend_at text v i e = ap (λ (r : Option (ℕ × ℕ)). option_or (option_map (λ p. ViewerResend p.0 p.1) r) (piece_step (codes "resend") text)) e
+
+piece_at : (text : List ℕ) (s i : ℕ) → two_numbers text ≡ Some (s, i) → step_of (codes "piece" ++ (32 ∷ text)) ≡ Some (PiecePacket s i)
+unfolding step_of host_step viewer_step piece_step word behind
+piece_at text s i e = ap (λ (r : Option (ℕ × ℕ)). option_map (λ p. PiecePacket p.0 p.1) r) e
+
+gather_at : (text : List ℕ) (p v : ℕ) → two_numbers text ≡ Some (p, v) → step_of (codes "gather" ++ (32 ∷ text)) ≡ Some (ViewerGather v p)
+unfolding step_of host_step viewer_step piece_step word behind
+gather_at text p v e = ap (λ (r : Option (ℕ × ℕ)). option_map (λ q. ViewerGather q.1 q.0) r) e
+
+join_at : (text : List ℕ) (v b : ℕ) → two_numbers text ≡ Some (v, b) → step_of (codes "join" ++ (32 ∷ text)) ≡ Some (ViewerJoin v b)
+unfolding step_of host_step viewer_step piece_step word behind
+join_at text v b e = ap (λ (r : Option (ℕ × ℕ)). option_map (λ p. ViewerJoin p.0 p.1) r) e
 
 rewind_at : (text : List ℕ) (v n b : ℕ) → number (word text) ≡ Some v → number (word (behind text)) ≡ Some n → number (behind (behind text)) ≡ Some b
     → step_of (codes "rewind" ++ (32 ∷ text)) ≡ Some (ViewerRewind v n b)
 unfolding step_of host_step viewer_step rewind_step word behind
 rewind_at text v n b first second third =
-    ap (λ r. rewound r (number (word (behind text))) (number (behind (behind text)))) first
-    ∙ (ap (λ r. rewound (Some v) r (number (behind (behind text)))) second ∙ ap (λ r. rewound (Some v) (Some n) r) third)
+    ap (λ r. option_or (rewound r (number (word (behind text))) (number (behind (behind text)))) (piece_step (codes "rewind") text)) first
+    ∙ (ap (λ r. option_or (rewound (Some v) r (number (behind (behind text)))) (piece_step (codes "rewind") text)) second
+    ∙ ap (λ r. option_or (rewound (Some v) (Some n) r) (piece_step (codes "rewind") text)) third)
 
 give_at : (text : List ℕ) (p : ℕ) (s : Step) → number (word text) ≡ Some p → given (Some p) (behind text) ≡ Some s
     → step_of (codes "give" ++ (32 ∷ text)) ≡ Some s
 unfolding step_of host_step give_step word behind
 give_at text p s first e =
-    ap (λ r. option_or (given r (behind text)) (viewer_step (codes "give") text)) first ∙ ap (λ r. option_or r (viewer_step (codes "give") text)) e
+    ap (λ r. option_or (given r (behind text)) (others (codes "give") text)) first ∙ ap (λ r. option_or r (others (codes "give") text)) e
 
 offer_at : (text : List ℕ) (v : ℕ) (p : Point) → number (word text) ≡ Some v → point_of (behind text) ≡ Some p
     → step_of (codes "offer" ++ (32 ∷ text)) ≡ Some (ViewerOffer v p)
 unfolding step_of host_step viewer_step offer_step word behind
-offer_at text v p first second = ap (λ r. offered r (point_of (behind text))) first ∙ ap (λ r. offered (Some v) r) second
+offer_at text v p first second =
+    ap (λ r. option_or (offered r (point_of (behind text))) (piece_step (codes "offer") text)) first
+    ∙ ap (λ r. option_or (offered (Some v) r) (piece_step (codes "offer") text)) second
 
 -- ---- a line that is a step
 
@@ -151,12 +183,11 @@ by_one : (line name : List ℕ) (n : ℕ) (s : Step) → ((text : List ℕ) → 
     → IsCall line name (n ∷ []) → step_of line ≡ Some s
 by_one line name n s at c = ap step_of (named_one line name n c) ∙ at (last_of c.texts n c.each).text (last_of c.texts n c.each).number_is
 
-by_two : (line name : List ℕ) (a b : ℕ) (s : Step)
-    → ((text : List ℕ) → number (word text) ≡ Some a → number (behind text) ≡ Some b → step_of (name ++ (32 ∷ text)) ≡ Some s)
+by_two : (line name : List ℕ) (a b : ℕ) (s : Step) → ((text : List ℕ) → two_numbers text ≡ Some (a, b) → step_of (name ++ (32 ∷ text)) ≡ Some s)
     → IsCall line name (a ∷ b ∷ []) → step_of line ≡ Some s
 by_two line name a b s at c =
     let t = two_of c.texts a b c.each in
-    ap step_of (c.words ∙ t.name name) ∙ at t.text t.first_is t.second_is
+    ap step_of (c.words ∙ t.name name) ∙ at t.text (two_at t.text a b t.first_is t.second_is)
 
 rewind_only : (line : List ℕ) (v n b : ℕ) → IsCall line (codes "rewind") (v ∷ n ∷ b ∷ []) → step_of line ≡ Some (ViewerRewind v n b)
 rewind_only line v n b c =
@@ -187,6 +218,11 @@ take_at : (text : List ℕ) (p v : ℕ) → number (word text) ≡ Some p → nu
 take_at text p v first second =
     let who : given (Some p) (behind text) ≡ Some (ViewerTake v p) = rw (no_host (behind text) v second, second) refl in
     give_at text p (ViewerTake v p) first who
+
+take_only : (line : List ℕ) (p v : ℕ) → IsCall line (codes "give") (p ∷ v ∷ []) → step_of line ≡ Some (ViewerTake v p)
+take_only line p v c =
+    let t = two_of c.texts p v c.each in
+    ap step_of (c.words ∙ t.name (codes "give")) ∙ take_at t.text p v t.first_is t.second_is
 
 host_only : (line : List ℕ) (p : ℕ) → IsGivenHost line p → step_of line ≡ Some (HostTake p)
 host_only line p h =
@@ -248,17 +284,27 @@ offer_only line v p h =
     let second : point_of (behind text) ≡ Some p = ap point_of (behind_is h.who rest who) ∙ (made ∙ same) in
     ap step_of h.words ∙ offer_at text v p first second
 
+notice_at : step_of (codes "notice") ≡ Some HostFloorPacket
+unfolding step_of
+notice_at = refl
+
 step_only : (line : List ℕ) (s : Step) → IsStep line s → step_of line ≡ Some s
 step_only line (HostClock t) h = clock_only line t h
 step_only line (HostPacket n) h = by_one line (codes "packet") n (HostPacket n) (λ text e. packet_at text n e) h
 step_only line (HostAck v) h = by_one line (codes "ack") v (HostAck v) (λ text e. ack_at text v e) h
 step_only line (HostTake p) h = host_only line p h
+step_only line (HostDropBelow f) h = by_one line (codes "floor") f (HostDropBelow f) (λ text e. floor_at text f e) h
+step_only line HostFloorPacket h = ap step_of h ∙ notice_at
 step_only line (ViewerOffer v p) h = offer_only line v p h
-step_only line (ViewerResend v i) h = by_two line (codes "resend") v i (ViewerResend v i) (λ text e k. resend_at text v i e k) h
+step_only line (ViewerResend v i) h = by_two line (codes "resend") v i (ViewerResend v i) (λ text e. resend_at text v i e) h
 step_only line (ViewerAsk v) h = by_one line (codes "ask") v (ViewerAsk v) (λ text e. ask_at text v e) h
-step_only line (ViewerTake v p) h = by_two line (codes "give") p v (ViewerTake v p) (λ text e k. take_at text p v e k) h
+step_only line (ViewerTake v p) h = take_only line p v h
 step_only line (ViewerSave v) h = by_one line (codes "save") v (ViewerSave v) (λ text e. save_at text v e) h
 step_only line (ViewerRewind v n b) h = rewind_only line v n b h
+step_only line (PiecePacket s i) h = by_two line (codes "piece") s i (PiecePacket s i) (λ text e. piece_at text s i e) h
+step_only line (ViewerGather v p) h = by_two line (codes "gather") p v (ViewerGather v p) (λ text e. gather_at text p v e) h
+step_only line (ViewerJoin v b) h = by_two line (codes "join") v b (ViewerJoin v b) (λ text e. join_at text v b e) h
+step_only line (ViewerForget v) h = by_one line (codes "forget") v (ViewerForget v) (λ text e. forget_at text v e) h
 
 pub one_step : (line : List ℕ) (a b : Step) → IsStep line a → IsStep line b → a ≡ b
 one_step line a b h k = let both : Some a ≡ Some b = sym (step_only line a h) ∙ step_only line b k in cc
@@ -266,7 +312,7 @@ one_step line a b h k = let both : Some a ≡ Some b = sym (step_only line a h) 
 -- ---- the whole
 
 scene_is_none : step_of (codes "scene") ≡ None
-unfolding step_of host_step viewer_step word behind
+unfolding step_of host_step viewer_step piece_step word behind
 scene_is_none = refl
 
 no_scene : (line : List ℕ) (s : Step) → step_of line ≡ Some s → is_scene line ≡ false

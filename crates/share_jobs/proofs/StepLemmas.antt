@@ -15,9 +15,11 @@ use Rattle.share_law.specs.declared.step.Step.{Step}
 use Rattle.share_law.specs.declared.step.Step.TheVariants.{HostClock, HostPacket, HostAck, HostTake}
 use Rattle.share_law.specs.declared.step.Step.TheVariants.{ViewerOffer, ViewerResend, ViewerAsk}
 use Rattle.share_law.specs.declared.step.Step.TheVariants.{ViewerTake, ViewerSave, ViewerRewind}
+use Rattle.share_law.specs.declared.step.Step.TheVariants.{HostDropBelow, HostFloorPacket}
+use Rattle.share_law.specs.declared.step.Step.TheVariants.{PiecePacket, ViewerGather, ViewerJoin, ViewerForget}
 use Rattle.share_jobs.specs.Points.{word, behind, number_below, vector_of, IsNumber, AreNumerals}
-use Rattle.share_jobs.specs.Schedule.{number, clock_step, given, give_step, resent, resend_step, rewound, rewind_step, point, point_of, offered, offer_step}
-use Rattle.share_jobs.specs.Schedule.{host_step, viewer_step, step_of, spaced, AreNumbers, IsCall, IsClockAt, IsGivenHost, IsOffer, IsStep}
+use Rattle.share_jobs.specs.Schedule.{number, clock_step, given, give_step, paired, two_numbers, rewound, rewind_step, point, point_of, offered, offer_step}
+use Rattle.share_jobs.specs.Schedule.{host_step, viewer_step, piece_step, named_step, step_of, spaced, AreNumbers, IsCall, IsClockAt, IsGivenHost, IsOffer, IsStep}
 use Rattle.share_jobs.proofs.PointLemmas.{cut_word, word_filled, ok_from, numeral_filled, number_from, vector_from, bit}
 
 -- ---- what a value was made of
@@ -143,7 +145,14 @@ host_from line s e = elim (cases_Bool (bytes_eq (word line) (codes "clock"))) [
                   let e = rw no_ack at e in
                   elim (cases_Bool (bytes_eq (word line) (codes "give"))) [
                     | inl give ↦ give_from line s give (rw give at e)
-                    | inr no_give ↦ let none = rw no_give at e in absurd (cc)
+                    | inr no_give ↦
+                        let e = rw no_give at e in
+                        elim (cases_Bool (bytes_eq (word line) (codes "floor"))) [
+                          | inl floor ↦
+                              let m = mapped (λ f. HostDropBelow f) (number (behind line)) s (rw floor at e) in
+                              subst (λ s. IsStep line s) m.same (called line (codes "floor") (m.value ∷ []) floor (written_one (behind line) m.value m.is))
+                          | inr no_floor ↦ let none = rw no_floor at e in absurd (cc)
+                        ]
                   ]
             ]
       ]
@@ -151,18 +160,23 @@ host_from line s e = elim (cases_Bool (bytes_eq (word line) (codes "clock"))) [
 
 -- ---- steps of a viewer
 
-resent_from : (line text : List ℕ) (v i : Option ℕ) (s : Step) → bytes_eq (word line) (codes "resend") ≡ true → text ≡ behind line
-    → number (word text) ≡ v → number (behind text) ≡ i → resent v i ≡ Some s → IsStep line s
-resent_from line text None i s is at_text v_is i_is e = absurd (cc)
-resent_from line text (Some v) None s is at_text v_is i_is e = absurd (cc)
-resent_from line text (Some v) (Some i) s is at_text v_is i_is e =
-    let same : ViewerResend v i ≡ s = cc in
-    let w : AreWritten text (v ∷ i ∷ []) = written_more text v (i ∷ []) v_is (written_one (behind text) i i_is) in
-    subst (λ s. IsStep line s) same (called_by line text (codes "resend") (v ∷ i ∷ []) is at_text w)
+paired_from : (text : List ℕ) (a b : Option ℕ) (p : ℕ × ℕ) → number (word text) ≡ a → number (behind text) ≡ b → paired a b ≡ Some p → AreWritten text (p.0 ∷ p.1 ∷ [])
+paired_from text None b p a_is b_is e = absurd (cc)
+paired_from text (Some a) None p a_is b_is e = absurd (cc)
+paired_from text (Some a) (Some b) p a_is b_is e =
+    let same : (a, b) ≡ p = cc in
+    subst (λ (q : ℕ × ℕ). AreWritten text (q.0 ∷ q.1 ∷ [])) same (written_more text a (b ∷ []) a_is (written_one (behind text) b b_is))
 
-resend_from : (line : List ℕ) (s : Step) → bytes_eq (word line) (codes "resend") ≡ true → resend_step (behind line) ≡ Some s → IsStep line s
-unfolding resend_step
-resend_from line s is e = resent_from line (behind line) (number (word (behind line))) (number (behind (behind line))) s is refl refl refl e
+written_two : (text : List ℕ) (p : ℕ × ℕ) → two_numbers text ≡ Some p → AreWritten text (p.0 ∷ p.1 ∷ [])
+unfolding two_numbers
+written_two text p e = paired_from text (number (word text)) (number (behind text)) p refl refl e
+
+-- the step that two numbers behind a name make
+two_from : (line name : List ℕ) (make : ℕ × ℕ → Step) (s : Step) → ((p : ℕ × ℕ) → IsCall line name (p.0 ∷ p.1 ∷ []) → IsStep line (make p))
+    → bytes_eq (word line) name ≡ true → option_map make (two_numbers (behind line)) ≡ Some s → IsStep line s
+two_from line name make s is_step is e =
+    let m = mapped make (two_numbers (behind line)) s e in
+    subst (λ s. IsStep line s) m.same (is_step m.value (called line name (m.value.0 ∷ m.value.1 ∷ []) is (written_two (behind line) m.value m.is)))
 
 rewound_from : (line text rest : List ℕ) (v n b : Option ℕ) (s : Step) → bytes_eq (word line) (codes "rewind") ≡ true → text ≡ behind line
     → rest ≡ behind text → number (word text) ≡ v → number (word rest) ≡ n → number (behind rest) ≡ b → rewound v n b ≡ Some s → IsStep line s
@@ -294,7 +308,7 @@ viewer_from line s e = elim (cases_Bool (bytes_eq (word line) (codes "offer"))) 
   | inr no_offer ↦
       let e = rw no_offer at e in
       elim (cases_Bool (bytes_eq (word line) (codes "resend"))) [
-        | inl resend ↦ resend_from line s resend (rw resend at e)
+        | inl resend ↦ two_from line (codes "resend") (λ p. ViewerResend p.0 p.1) s (λ p c. c) resend (rw resend at e)
         | inr no_resend ↦
             let e = rw no_resend at e in
             elim (cases_Bool (bytes_eq (word line) (codes "ask"))) [
@@ -318,13 +332,54 @@ viewer_from line s e = elim (cases_Bool (bytes_eq (word line) (codes "offer"))) 
       ]
 ]
 
+-- ---- pieces
+
+-- of `gather P V` the packet stands first
+gather_from : (line : List ℕ) (s : Step) → bytes_eq (word line) (codes "gather") ≡ true → option_map (λ p. ViewerGather p.1 p.0) (two_numbers (behind line)) ≡ Some s → IsStep line s
+gather_from line s is e = two_from line (codes "gather") (λ p. ViewerGather p.1 p.0) s (λ p c. c) is e
+
+piece_from : (line : List ℕ) (s : Step) → piece_step (word line) (behind line) ≡ Some s → IsStep line s
+unfolding piece_step
+piece_from line s e = elim (cases_Bool (bytes_eq (word line) (codes "piece"))) [
+  | inl piece ↦ two_from line (codes "piece") (λ p. PiecePacket p.0 p.1) s (λ p c. c) piece (rw piece at e)
+  | inr no_piece ↦
+      let e = rw no_piece at e in
+      elim (cases_Bool (bytes_eq (word line) (codes "gather"))) [
+        | inl gather ↦ gather_from line s gather (rw gather at e)
+        | inr no_gather ↦
+            let e = rw no_gather at e in
+            elim (cases_Bool (bytes_eq (word line) (codes "join"))) [
+              | inl join ↦ two_from line (codes "join") (λ p. ViewerJoin p.0 p.1) s (λ p c. c) join (rw join at e)
+              | inr no_join ↦
+                  let e = rw no_join at e in
+                  elim (cases_Bool (bytes_eq (word line) (codes "forget"))) [
+                    | inl forget ↦
+                        let m = mapped (λ v. ViewerForget v) (number (behind line)) s (rw forget at e) in
+                        subst (λ s. IsStep line s) m.same (called line (codes "forget") (m.value ∷ []) forget (written_one (behind line) m.value m.is))
+                    | inr no_forget ↦ let none = rw no_forget at e in absurd (cc)
+                  ]
+            ]
+      ]
+]
+
 -- ---- the line
 
-step_by : (line : List ℕ) (s : Step) (host viewer : Option Step) → host_step (word line) (behind line) ≡ host → viewer_step (word line) (behind line) ≡ viewer
-    → option_or host viewer ≡ Some s → IsStep line s
-step_by line s (Some h) viewer at_host at_viewer e = host_from line s (at_host ∙ e)
-step_by line s None viewer at_host at_viewer e = viewer_from line s (at_viewer ∙ e)
+step_by : (line : List ℕ) (s : Step) (host viewer piece : Option Step) → host_step (word line) (behind line) ≡ host → viewer_step (word line) (behind line) ≡ viewer
+    → piece_step (word line) (behind line) ≡ piece → option_or host (option_or viewer piece) ≡ Some s → IsStep line s
+step_by line s (Some h) viewer piece at_host at_viewer at_piece e = host_from line s (at_host ∙ e)
+step_by line s None (Some v) piece at_host at_viewer at_piece e = viewer_from line s (at_viewer ∙ e)
+step_by line s None None piece at_host at_viewer at_piece e = piece_from line s (at_piece ∙ e)
+
+named_from : (line : List ℕ) (s : Step) → named_step (word line) (behind line) ≡ Some s → IsStep line s
+named_from line s e = step_by line s (host_step (word line) (behind line)) (viewer_step (word line) (behind line)) (piece_step (word line) (behind line)) refl refl refl e
 
 pub step_is : (line : List ℕ) (s : Step) → step_of line ≡ Some s → IsStep line s
 unfolding step_of
-step_is line s e = step_by line s (host_step (word line) (behind line)) (viewer_step (word line) (behind line)) refl refl e
+step_is line s e = elim (cases_Bool (bytes_eq line (codes "notice"))) [
+  | inl notice ↦
+      let some = rw notice at e in
+      let same : HostFloorPacket ≡ s = cc in
+      let floor : IsStep line HostFloorPacket = same_text line (codes "notice") (sym notice) in
+      subst (λ s. IsStep line s) same floor
+  | inr named ↦ named_from line s (rw named at e)
+]

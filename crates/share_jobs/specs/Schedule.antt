@@ -15,6 +15,8 @@ use Rattle.share_law.specs.declared.step.Step.{Step}
 use Rattle.share_law.specs.declared.step.Step.TheVariants.{HostClock, HostPacket, HostAck, HostTake}
 use Rattle.share_law.specs.declared.step.Step.TheVariants.{ViewerOffer, ViewerResend, ViewerAsk}
 use Rattle.share_law.specs.declared.step.Step.TheVariants.{ViewerTake, ViewerSave, ViewerRewind}
+use Rattle.share_law.specs.declared.step.Step.TheVariants.{HostDropBelow, HostFloorPacket}
+use Rattle.share_law.specs.declared.step.Step.TheVariants.{PiecePacket, ViewerGather, ViewerJoin, ViewerForget}
 use Rattle.share_jobs.specs.Points.{word, behind, number_below, vector_of, IsNumber, AreNumerals}
 use Rattle.share_jobs.specs.Job.{is_scene, behind_lines}
 use Rattle.share_jobs.specs.declared.fault.JobFault.{JobFault}
@@ -41,13 +43,14 @@ given None who = None
 unfoldable pub give_step : List ℕ → Option Step
 give_step text = given (number (word text)) (behind text)
 
-abbrev pub resent : Option ℕ → Option ℕ → Option Step
-resent (Some viewer) (Some place) = Some (ViewerResend viewer place)
-resent (Some viewer) None = None
-resent None place = None
+abbrev pub paired : Option ℕ → Option ℕ → Option (ℕ × ℕ)
+paired (Some first) (Some second) = Some (first, second)
+paired (Some first) None = None
+paired None second = None
 
-unfoldable pub resend_step : List ℕ → Option Step
-resend_step text = resent (number (word text)) (number (behind text))
+-- two numbers
+unfoldable pub two_numbers : List ℕ → Option (ℕ × ℕ)
+two_numbers text = paired (number (word text)) (number (behind text))
 
 abbrev pub rewound : Option ℕ → Option ℕ → Option ℕ → Option Step
 rewound (Some viewer) (Some snapshot) (Some boot) = Some (ViewerRewind viewer snapshot boot)
@@ -94,21 +97,39 @@ host_step name text =
     if bytes_eq name (codes "clock") then clock_step text
     else (if bytes_eq name (codes "packet") then option_map (λ n. HostPacket n) (number text)
     else (if bytes_eq name (codes "ack") then option_map (λ v. HostAck v) (number text)
-    else (if bytes_eq name (codes "give") then give_step text else None)))
+    else (if bytes_eq name (codes "give") then give_step text
+    else (if bytes_eq name (codes "floor") then option_map (λ f. HostDropBelow f) (number text)
+    else None))))
 
 -- the same, if it is one of a viewer
 unfoldable pub viewer_step : List ℕ → List ℕ → Option Step
 viewer_step name text =
     if bytes_eq name (codes "offer") then offer_step text
-    else (if bytes_eq name (codes "resend") then resend_step text
+    else (if bytes_eq name (codes "resend") then
+    option_map (λ p. ViewerResend p.0 p.1) (two_numbers text)
     else (if bytes_eq name (codes "ask") then option_map (λ v. ViewerAsk v) (number text)
     else (if bytes_eq name (codes "save") then option_map (λ v. ViewerSave v) (number text)
     else (if bytes_eq name (codes "rewind") then rewind_step text else None))))
 
--- the step of a line, if it is one
+-- the same, if it is about pieces of a snapshot
+unfoldable pub piece_step : List ℕ → List ℕ → Option Step
+piece_step name text =
+    if bytes_eq name (codes "piece") then option_map (λ p. PiecePacket p.0 p.1) (two_numbers text)
+    else (if bytes_eq name (codes "gather") then
+    option_map (λ p. ViewerGather p.1 p.0) (two_numbers text)
+    else (if bytes_eq name (codes "join") then option_map (λ p. ViewerJoin p.0 p.1) (two_numbers text)
+    else (if bytes_eq name (codes "forget") then option_map (λ v. ViewerForget v) (number text)
+    else None)))
+
+abbrev pub named_step : List ℕ → List ℕ → Option Step
+named_step name text =
+    option_or (host_step name text) (option_or (viewer_step name text) (piece_step name text))
+
+-- the step of a line, if it is one; `notice` has nothing behind it
 unfoldable pub step_of : List ℕ → Option Step
 step_of line =
-    option_or (host_step (word line) (behind line)) (viewer_step (word line) (behind line))
+    if bytes_eq line (codes "notice") then Some HostFloorPacket
+    else named_step (word line) (behind line)
 
 -- ---- the schedule
 
@@ -196,6 +217,8 @@ IsStep line (HostClock t) = IsClockAt line t
 IsStep line (HostPacket input) = IsCall line (codes "packet") (input ∷ [])
 IsStep line (HostAck viewer) = IsCall line (codes "ack") (viewer ∷ [])
 IsStep line (HostTake packet) = IsGivenHost line packet
+IsStep line (HostDropBelow floor) = IsCall line (codes "floor") (floor ∷ [])
+IsStep line HostFloorPacket = line ≡ codes "notice"
 IsStep line (ViewerOffer viewer point) = IsOffer line viewer point
 IsStep line (ViewerResend viewer place) = IsCall line (codes "resend") (viewer ∷ place ∷ [])
 IsStep line (ViewerAsk viewer) = IsCall line (codes "ask") (viewer ∷ [])
@@ -203,6 +226,10 @@ IsStep line (ViewerTake viewer packet) = IsCall line (codes "give") (packet ∷ 
 IsStep line (ViewerSave viewer) = IsCall line (codes "save") (viewer ∷ [])
 IsStep line (ViewerRewind viewer snapshot boot) =
     IsCall line (codes "rewind") (viewer ∷ snapshot ∷ boot ∷ [])
+IsStep line (PiecePacket snapshot piece) = IsCall line (codes "piece") (snapshot ∷ piece ∷ [])
+IsStep line (ViewerGather viewer packet) = IsCall line (codes "gather") (packet ∷ viewer ∷ [])
+IsStep line (ViewerJoin viewer boot) = IsCall line (codes "join") (viewer ∷ boot ∷ [])
+IsStep line (ViewerForget viewer) = IsCall line (codes "forget") (viewer ∷ [])
 
 -- each line is a step
 abbrev pub EachIsStep : List (List ℕ) → List Step → Type 0

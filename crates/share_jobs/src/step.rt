@@ -40,17 +40,17 @@ fn give_step(text: &[u8]) -> Option<Step>
     }
 }
 
-/// `V I` behind `resend `.
-#[tactic(auto, unfolding(crate::specs::Schedule::resend_step))]
-fn resend_step(text: &[u8]) -> Option<Step>
-    ensures { result ≡ spec.resend_step text.now }
+/// Two numbers.
+#[tactic(auto, unfolding(crate::specs::Schedule::two_numbers))]
+fn two_numbers(text: &[u8]) -> Option<(u32, u32)>
+    ensures { result ≡ spec.two_numbers text.now }
 {
-    let (viewer, place) = cut_word(text);
-    let Some(viewer) = number(viewer) else {
+    let (first, second) = cut_word(text);
+    let Some(first) = number(first) else {
         return None;
     };
-    match number(place) {
-        Some(place) => Some(Step::ViewerResend { viewer, place }),
+    match number(second) {
+        Some(second) => Some((first, second)),
         None => None,
     }
 }
@@ -138,6 +138,8 @@ fn host_step(name: &[u8], text: &[u8]) -> Option<Step>
         number(text).map(|viewer| Step::HostAck { viewer })
     } else if is(name, b"give") {
         give_step(text)
+    } else if is(name, b"floor") {
+        number(text).map(|floor| Step::HostDropBelow { floor })
     } else {
         None
     }
@@ -151,7 +153,7 @@ fn viewer_step(name: &[u8], text: &[u8]) -> Option<Step>
     if is(name, b"offer") {
         offer_step(text)
     } else if is(name, b"resend") {
-        resend_step(text)
+        two_numbers(text).map(|(viewer, place)| Step::ViewerResend { viewer, place })
     } else if is(name, b"ask") {
         number(text).map(|viewer| Step::ViewerAsk { viewer })
     } else if is(name, b"save") {
@@ -163,14 +165,45 @@ fn viewer_step(name: &[u8], text: &[u8]) -> Option<Step>
     }
 }
 
+/// The step of a name and the words behind it, if it is about pieces of a snapshot.
+#[tactic(auto, unfolding(crate::specs::Schedule::piece_step))]
+fn piece_step(name: &[u8], text: &[u8]) -> Option<Step>
+    ensures { result ≡ spec.piece_step name.now text.now }
+{
+    if is(name, b"piece") {
+        two_numbers(text).map(|(snapshot, piece)| Step::PiecePacket { snapshot, piece })
+    } else if is(name, b"gather") {
+        two_numbers(text).map(|(packet, viewer)| Step::ViewerGather { viewer, packet })
+    } else if is(name, b"join") {
+        two_numbers(text).map(|(viewer, boot)| Step::ViewerJoin { viewer, boot })
+    } else if is(name, b"forget") {
+        number(text).map(|viewer| Step::ViewerForget { viewer })
+    } else {
+        None
+    }
+}
+
+/// The step of a name and the words behind it, if it is one.
+fn named_step(name: &[u8], text: &[u8]) -> Option<Step>
+    ensures { result ≡ spec.named_step name.now text.now }
+{
+    if let Some(step) = host_step(name, text) {
+        return Some(step);
+    }
+    match viewer_step(name, text) {
+        Some(step) => Some(step),
+        None => piece_step(name, text),
+    }
+}
+
 /// The step of a line, if it is one.
 #[tactic(auto, unfolding(crate::specs::Schedule::step_of))]
 pub fn step_of(line: &[u8]) -> Option<Step>
     ensures { result ≡ spec.step_of line.now }
 {
-    let (name, text) = cut_word(line);
-    match host_step(name, text) {
-        Some(step) => Some(step),
-        None => viewer_step(name, text),
+    if is(line, b"notice") {
+        return Some(Step::HostFloorPacket);
     }
+    let (name, text) = cut_word(line);
+    named_step(name, text)
 }
