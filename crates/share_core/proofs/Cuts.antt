@@ -1,7 +1,7 @@
 -- A piece that is cut from a snapshot's bytes.
-use Rattle.std.proofs.Common.{◌≡◌, ℕ, ◌-◌, ◌*◌, ◌^◌, ◌<◌, ◌≤◌, min, Bool, true, false, cond, inl, inr, List, length, take, drop, refl, ap, sym, ◌∙◌, arith}
-use Rattle.std.specs.Prelude.{◌&&◌, nat_le, nat_lt, Option, None, Some, if◌then◌else◌}
-use Rattle.std.proofs.lemmas.Bool.{cases_Bool, cond-true, cond-false, leb-true, leb-false}
+use Rattle.std.proofs.Common.{◌≡◌, ℕ, ◌-◌, ◌*◌, ◌^◌, ◌<◌, ◌≤◌, min, Bool, true, false, inl, inr, List, length, take, drop, refl, ap, sym, ◌∙◌, arith}
+use Rattle.std.specs.Prelude.{◌&&◌, nat_le, nat_lt, Option, None}
+use Rattle.std.proofs.lemmas.Bool.{cases_Bool, cond-false, leb-true, leb-false}
 use Rattle.std.proofs.lemmas.List.{take_all, length-drop}
 use Rattle.share_wire.specs.Messages.{is_ordinal, is_piece, piece_size}
 use Rattle.share_wire.specs.declared.message.Body.{Body}

@@ -1,5 +1,5 @@
 -- A viewer that begins again in what it gathered, and one that is told a floor.
-use Rattle.std.proofs.Common.{◌≡◌, ℕ, ◌+◌, ◌^◌, ◌<◌, Bool, true, false, cond, List, length, refl, ap, sym, ◌∙◌, subst, inl, inr}
+use Rattle.std.proofs.Common.{◌≡◌, ℕ, ◌+◌, true, false, cond, List, length, refl, ap, sym, ◌∙◌, subst, inl, inr}
 use Rattle.std.specs.Prelude.{nat_lt, is_ok, Option, None, Some, Result, Ok, Err, if◌then◌else◌}
 use Rattle.std.proofs.lemmas.Bool.{cases_Bool, cond-true, cond-false, false≢true}
 use Rattle.std.proofs.lemmas.Option.{same_Some, none-some}
@@ -23,7 +23,7 @@ use Rattle.share_law.specs.Network.{join_result}
 use Rattle.share_law.specs.Pieces.{Gathering, all_there, joined, whole_of}
 use Rattle.share_law.specs.Viewer.{View, Running, Spoiled, ViewerState, applied_in, take_in}
 use Rattle.share_core.specs.Rewinds.{IsBegunFrom, IsJoined, IsLawfulJoin, IsRewound}
-use Rattle.share_core.specs.Viewer.{ViewerView, is_spoiled, machine_of, view_of, with_gathering}
+use Rattle.share_core.specs.Viewer.{ViewerView, is_spoiled, view_of, with_gathering}
 use Rattle.share_core.proofs.Rewinds.{rewind-step}
 
 -- ---- the bytes
@@ -39,9 +39,9 @@ record Whole (g : Gathering) (bytes : List ℕ) : Type 0 where
 whole_some : (g : Gathering) (bytes : List ℕ) → Some bytes ≡ cond (all_there g.places) (Some (joined g.places)) none → Whole g bytes
 whole_some g bytes e = elim (cases_Bool (all_there g.places)) [
   | inl all ↦ record {
-      is = cond-true (all_there g.places) (Some g) None all;
-      bytes_are = same_Some bytes (joined g.places) (e ∙ cond-true (all_there g.places) (Some (joined g.places)) none all);
-    }
+    is = cond-true (all_there g.places) (Some g) None all;
+    bytes_are = same_Some bytes (joined g.places) (e ∙ cond-true (all_there g.places) (Some (joined g.places)) none all);
+  }
   | inr some ↦ absurd (none-some bytes (sym (e ∙ cond-false (all_there g.places) (Some (joined g.places)) none some)))
 ]
 

@@ -1,13 +1,12 @@
 -- When an input may be numbered, and the inputs from a floor on.
-use Rattle.std.proofs.Common.{◌≡◌, ℕ, zero, suc, ◌^◌, ◌-◌, ◌+◌, ◌<◌, ◌≤◌, ℤ, pos, ◌≤ℤ◌, ◌<ℤ◌, true, false, List, drop, refl, ap, sym, ◌∙◌, arith}
-use Rattle.std.specs.Prelude.{Option, None, Some, slice_get, int_le, nat_lt, if◌then◌else◌}
+use Rattle.std.proofs.Common.{◌≡◌, ℕ, zero, suc, ◌^◌, ◌-◌, ◌+◌, ◌<◌, ◌≤◌, ℤ, pos, ◌≤ℤ◌, ◌<ℤ◌, true, List, drop, refl, ap, sym, ◌∙◌, arith}
+use Rattle.std.specs.Prelude.{Option, None, slice_get, int_le, nat_lt}
 use Rattle.std.proofs.lemmas.Bool.{le-leb, lt-ltb, le-ltb, cond-true, cond-false}
 use Rattle.std.proofs.lemmas.Bool.Decides.{nat_tests}
 use Rattle.std.proofs.lemmas.Int.{ints}
 use Rattle.std.proofs.lemmas.List.{drop-drop}
 use Rattle.x3d_values.specs.Ranges.{is_input_number, is_input_time}
 use Rattle.x3d_values.specs.Stamp.{Stamp}
-use Rattle.share_law.specs.declared.fault.NumberFault.{NumberFault}
 use Rattle.share_law.specs.Parts.{fault_behind}
 use Rattle.share_core.specs.Host.{Entries, entry}
 

@@ -4,7 +4,6 @@ use Rattle.std.specs.Prelude.{slice_get, slice_set, nat_lt, nat_le, IsOk, Option
 use Rattle.x3d_values.specs.declared.stamped.Event.TheVariants.{Clock, Pointer}
 use Rattle.x3d_values.specs.Pointing.{Pointing}
 use Rattle.x3d_values.specs.Stamp.{Stamp}
-use Rattle.share_wire.specs.declared.message.Body.{Body}
 use Rattle.share_wire.specs.Messages.{Offering}
 use Rattle.share_wire.specs.declared.message.Body.TheVariants.{Offer}
 use Rattle.share_law.specs.declared.kept.Kept.{Kept}
@@ -15,7 +14,7 @@ use Rattle.share_law.specs.declared.fault.HostFault.TheVariants.{Number}
 use Rattle.share_law.specs.declared.reply.HostReply.{HostReply}
 use Rattle.share_law.specs.declared.reply.HostReply.TheVariants.{Numbered, Repeat, Ahead, OldBoot}
 use Rattle.share_law.specs.Host.{count_for, input_packet}
-use Rattle.share_law.specs.Parts.{HostPart, fault_behind, part_clock, part_clocked, part_fault, part_offer_came, part_offer_numbered, part_packet}
+use Rattle.share_law.specs.Parts.{HostPart, fault_behind, part_clocked, part_fault, part_offer_came, part_offer_numbered, part_packet}
 use Rattle.share_law.specs.Calls.{IsPartClocked, IsPartTake}
 use Rattle.share_core.specs.Host.{Entries, entry, part_with}
 use Rattle.share_core.specs.Steps.{listed, IsListed, reply_before}

@@ -9,7 +9,9 @@ ghost use Rattle.share_wire.specs.declared.message.Body.TheVariants as body;
 ghost use Rattle.share_law.specs.Pieces.{fragment_of};
 ghost use Rattle.share_core.specs.Pieces.{count_of, piece_of};
 
-use share_wire::{Body, Message, Packet, Piece, encode, is_piece, piece_count as pieces_of, piece_size};
+use share_wire::{
+    Body, Message, Packet, Piece, encode, is_piece, piece_count as pieces_of, piece_size,
+};
 use snapshot_core::{ShotHead, shot_head};
 
 /// The longest snapshot that is sent in pieces.

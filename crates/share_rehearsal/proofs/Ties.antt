@@ -27,9 +27,9 @@ use Rattle.share_law.specs.declared.fault.OfferFault.{OfferFault}
 use Rattle.share_law.specs.declared.kept.Kept.{Kept}
 use Rattle.share_law.specs.declared.step.Step.{Step}
 use Rattle.share_law.specs.declared.step.Step.TheVariants.{HostClock, HostPacket, HostAck, HostTake, HostDropBelow, HostFloorPacket, PiecePacket, ViewerOffer, ViewerResend, ViewerAsk, ViewerTake, ViewerSave, ViewerRewind, ViewerGather, ViewerJoin, ViewerForget}
-use Rattle.share_law.specs.Calls.{IsClocked, IsGatherOf, IsHostTakeOf, IsPartClocked, IsPartTakeOf, IsTakeOf}
+use Rattle.share_law.specs.Calls.{IsGatherOf, IsPartClocked, IsPartTakeOf, IsTakeOf}
 use Rattle.share_law.specs.Cascade.{cascade}
-use Rattle.share_law.specs.Host.{HostState, host_packet, ack_of, drop_below, floor_packet}
+use Rattle.share_law.specs.Host.{HostState, host_packet, ack_of, floor_packet}
 use Rattle.share_law.specs.Parts.{HostPart, part_of, part_drop_below, part_floor_packet, part_packet}
 use Rattle.share_law.specs.Pieces.{Gathering, all_there, shot_piece, whole_of}
 use Rattle.share_law.specs.Machine.{Machine}
@@ -414,7 +414,6 @@ module _ (mark : List ℕ) (scene : SceneView) (routes : List Route) where
       let seats = subst (λ (o : Option ViewerView). IsRewinding old v boot o (slice_get old.shots n) a new) (stand.viewers v) call in
       let there = kept-at net old n stand in
       rewinds net v n boot old a new (slice_get net.viewers v) (slice_get net.shots n) stand fit refl refl (subst (λ (o : Option Shot). IsRewinding old v boot (option_map (viewer_at mark scene routes v) (slice_get net.viewers v)) o a new) there seats)
-
   tie worlds net old (HostDropBelow f) a new reached stand fit call =
       let part = subst (λ (v : HostView). part_drop_below v.part f ≡ (call.0, call.1)) stand.host call.4 in
       let of_host = part_drop-host (part_of net.host) net.host f call.0 call.1 refl (low net reached).0 part in

@@ -4,8 +4,10 @@ ghost use Rattle.std.specs.Prelude.{◌≡◌, ◌++◌, ◌∷◌, codes, decim
 ghost use Rattle.share_rehearsal.specs.Log as spec;
 
 use crate::answer::Answer;
-use crate::names::{floor_name, gather_name, host_name, join_name, number_name, offer_name};
-use crate::names::{save_name, snap_name, take_name};
+use crate::names::{
+    floor_name, gather_name, host_name, join_name, number_name, offer_name, save_name, snap_name,
+    take_name,
+};
 use itoa::Buffer;
 use share_law::{GatherFault, Gathered, HostFault, HostReply, TakeFault, Taken};
 use std::alloc::AllocError;

@@ -3,8 +3,10 @@
 ghost use Rattle.std.specs.Prelude.{◌≡◌};
 ghost use Rattle.share_rehearsal.specs.Names as spec;
 
-use share_law::{FloorFault, GatherFault, HostFault, JoinFault, NumberFault, OfferFault};
-use share_law::{SaveFault, SnapFault, TakeFault};
+use share_law::{
+    FloorFault, GatherFault, HostFault, JoinFault, NumberFault, OfferFault, SaveFault, SnapFault,
+    TakeFault,
+};
 
 pub(crate) fn number_name(fault: NumberFault) -> &'static str
     ensures { result.now ≡ spec.number_name fault }

@@ -1,4 +1,4 @@
-use Rattle.std.proofs.Common.{◌≡◌, Bool, None, Some, length, ap, sym, ◌∙◌, subst}
+use Rattle.std.proofs.Common.{Bool, None, Some, length, ap, sym, ◌∙◌, subst}
 use Rattle.std.specs.Prelude.{Option, if◌then◌else◌}
 use Rattle.cascade_core.specs.Course.{Scripted}
 use Rattle.share_law.specs.Pieces.{Gathering, whole_of}
