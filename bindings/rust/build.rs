@@ -7,5 +7,8 @@ fn main() {
     println!("cargo:rustc-link-search=native={}", folder.display());
     println!("cargo:rustc-link-lib=static=x3d");
     println!("cargo:rerun-if-env-changed=X3D_LIB");
-    println!("cargo:rerun-if-changed={}", folder.join("libx3d.a").display());
+    println!(
+        "cargo:rerun-if-changed={}",
+        folder.join("libx3d.a").display()
+    );
 }

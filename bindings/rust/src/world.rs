@@ -22,8 +22,16 @@ impl Aim {
     }
 
     fn raw(&self) -> RawAim {
-        let ([origin_x, origin_y, origin_z], [direction_x, direction_y, direction_z]) = (self.origin, self.direction);
-        RawAim { origin_x, origin_y, origin_z, direction_x, direction_y, direction_z }
+        let ([origin_x, origin_y, origin_z], [direction_x, direction_y, direction_z]) =
+            (self.origin, self.direction);
+        RawAim {
+            origin_x,
+            origin_y,
+            origin_z,
+            direction_x,
+            direction_y,
+            direction_z,
+        }
     }
 }
 
@@ -64,17 +72,32 @@ pub struct World {
 impl World {
     /// The world of a scene's text (Classic encoding) before any input.
     pub fn open(text: &[u8]) -> Result<World, Refusal> {
-        let mut world = World { handle: Handle { at: ptr::null_mut() }, stays: PhantomData };
+        let mut world = World {
+            handle: Handle {
+                at: ptr::null_mut(),
+            },
+            stays: PhantomData,
+        };
         let (mut line, mut wanted) = ([0; 64], 0);
         // SAFETY: the handle is null, and the bytes are lent for the call. So it is in each call below, where the handle
         // is as the last call left it.
         let status = unsafe {
-            raw::x3d_world_open(&mut world.handle, text.as_ptr(), text.len(), line.as_mut_ptr(), line.len(), &mut wanted)
+            raw::x3d_world_open(
+                &mut world.handle,
+                text.as_ptr(),
+                text.len(),
+                line.as_mut_ptr(),
+                line.len(),
+                &mut wanted,
+            )
         };
         if status == 0 {
             return Ok(world);
         }
-        Err(Refusal { line: String::from_utf8_lossy(&line[..wanted]).into_owned(), is_memory: status == 5 })
+        Err(Refusal {
+            line: String::from_utf8_lossy(&line[..wanted]).into_owned(),
+            is_memory: status == 5,
+        })
     }
 
     /// How many inputs were applied: the next one has the number behind it.
@@ -92,9 +115,26 @@ impl World {
     }
 
     /// Applies the pointer of a viewer, 0 to 15, whose button is down or not.
-    pub fn point(&mut self, number: u32, time: i64, viewer: u8, down: bool, aim: &Aim) -> Result<Work, Fault> {
+    pub fn point(
+        &mut self,
+        number: u32,
+        time: i64,
+        viewer: u8,
+        down: bool,
+        aim: &Aim,
+    ) -> Result<Work, Fault> {
         let mut work = RawWork::default();
-        let status = unsafe { raw::x3d_world_point(&mut self.handle, number, time, viewer, down, &aim.raw(), &mut work) };
+        let status = unsafe {
+            raw::x3d_world_point(
+                &mut self.handle,
+                number,
+                time,
+                viewer,
+                down,
+                &aim.raw(),
+                &mut work,
+            )
+        };
         Fault::told(status)?;
         Ok(work_of(&work))
     }
@@ -104,7 +144,10 @@ impl World {
         let mut met = RawMet::default();
         Fault::told(unsafe { raw::x3d_world_meet(&mut self.handle, &aim.raw(), &mut met) })?;
         let sensors = self.nodes();
-        Ok((met.m != 0).then_some(Meeting { entry: (met.n, met.m), sensors }))
+        Ok((met.m != 0).then_some(Meeting {
+            entry: (met.n, met.m),
+            sensors,
+        }))
     }
 
     /// The lines of the trace that are of inputs from a number on; from 0 on it is the whole trace.
@@ -116,7 +159,9 @@ impl World {
     /// The same lines by the numbers of nodes and fields.
     pub fn changes(&mut self, first: u32) -> Result<Changes, Fault> {
         Fault::told(unsafe { raw::x3d_world_make_changes(&mut self.handle, first) })?;
-        Ok(Changes { text: self.string() })
+        Ok(Changes {
+            text: self.string(),
+        })
     }
 
     /// The text of the scene as it is now.
@@ -203,9 +248,20 @@ impl World {
     /// below `boot`.
     pub fn load(&mut self, boot: u32, bytes: &[u8]) -> Result<Saved, Fault> {
         let mut saved = RawSaved::default();
-        let status = unsafe { raw::x3d_world_load(&mut self.handle, boot, bytes.as_ptr(), bytes.len(), &mut saved) };
+        let status = unsafe {
+            raw::x3d_world_load(
+                &mut self.handle,
+                boot,
+                bytes.as_ptr(),
+                bytes.len(),
+                &mut saved,
+            )
+        };
         Fault::told(status)?;
-        Ok(Saved { boot: saved.boot, applied: saved.applied })
+        Ok(Saved {
+            boot: saved.boot,
+            applied: saved.applied,
+        })
     }
 
     /// The bytes that were made last.
@@ -215,7 +271,9 @@ impl World {
         // The first call tells how many there are, the second copies them.
         for _call in 0..2 {
             out.resize(wanted, 0);
-            unsafe { raw::x3d_world_copy_text(&mut self.handle, out.as_mut_ptr(), out.len(), &mut wanted) };
+            unsafe {
+                raw::x3d_world_copy_text(&mut self.handle, out.as_mut_ptr(), out.len(), &mut wanted)
+            };
         }
         out
     }
@@ -230,13 +288,23 @@ impl World {
         let mut out = Vec::new();
         for _call in 0..2 {
             out.resize(wanted, 0);
-            unsafe { raw::x3d_world_copy_numbers(&mut self.handle, out.as_mut_ptr(), out.len(), &mut wanted) };
+            unsafe {
+                raw::x3d_world_copy_numbers(
+                    &mut self.handle,
+                    out.as_mut_ptr(),
+                    out.len(),
+                    &mut wanted,
+                )
+            };
         }
         out
     }
 
     fn nodes(&mut self) -> Vec<u32> {
-        self.listed().into_iter().map(|node| u32::try_from(node).expect("a node's number has 32 bits")).collect()
+        self.listed()
+            .into_iter()
+            .map(|node| u32::try_from(node).expect("a node's number has 32 bits"))
+            .collect()
     }
 }
 
@@ -247,5 +315,9 @@ impl Drop for World {
 }
 
 fn work_of(raw: &RawWork) -> Work {
-    Work { sends: raw.sends, deliveries: raw.deliveries, settles: raw.settles }
+    Work {
+        sends: raw.sends,
+        deliveries: raw.deliveries,
+        settles: raw.settles,
+    }
 }

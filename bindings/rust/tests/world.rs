@@ -20,7 +20,9 @@ fn aim() -> Aim {
 
 fn node(world: &mut World, label: &str) -> u32 {
     let count = u32::try_from(world.node_count()).unwrap();
-    (0..count).find(|node| world.label(*node).unwrap() == label).unwrap()
+    (0..count)
+        .find(|node| world.label(*node).unwrap() == label)
+        .unwrap()
 }
 
 fn clicked() -> World {
@@ -42,10 +44,26 @@ fn a_click_opens_the_door() {
     assert_eq!(world.value(door, translation).unwrap(), "0.5 0 0");
     assert_eq!(world.numbers(door, translation).unwrap(), [500_000, 0, 0]);
     let changes = world.changes(4).unwrap();
-    let moved: Vec<_> = changes.into_iter().filter(|change| change.node == door).collect();
+    let moved: Vec<_> = changes
+        .into_iter()
+        .filter(|change| change.node == door)
+        .collect();
     assert_eq!(moved.len(), 1);
-    assert_eq!((moved[0].input, moved[0].time, moved[0].field, moved[0].value), (4, 11_000_002, translation, "0.5 0 0"));
-    assert!(world.trace(4).unwrap().contains("4 11.000002 Door.translation 0.5 0 0\n"));
+    assert_eq!(
+        (
+            moved[0].input,
+            moved[0].time,
+            moved[0].field,
+            moved[0].value
+        ),
+        (4, 11_000_002, translation, "0.5 0 0")
+    );
+    assert!(
+        world
+            .trace(4)
+            .unwrap()
+            .contains("4 11.000002 Door.translation 0.5 0 0\n")
+    );
 }
 
 #[test]
@@ -57,15 +75,26 @@ fn a_ray_meets_the_door_without_an_input() {
     // From 10 units away it enters at 9.95 of them.
     let (n, m) = met.entry;
     assert_eq!(u128::from(n) * 100, u128::from(m) * 995);
-    assert_eq!(world.meet(&Aim::new([5_000_000, 0, 0], [1, 0, 0])).unwrap(), None);
-    assert_eq!(world.meet(&Aim::new([0, 0, 0], [0, 0, 0])), Err(Fault::Range));
+    assert_eq!(
+        world.meet(&Aim::new([5_000_000, 0, 0], [1, 0, 0])).unwrap(),
+        None
+    );
+    assert_eq!(
+        world.meet(&Aim::new([0, 0, 0], [0, 0, 0])),
+        Err(Fault::Range)
+    );
     assert_eq!(world.applied(), 0);
 }
 
 #[test]
 fn nodes_stand_as_in_the_text() {
     let mut world = World::open(DOOR).unwrap();
-    let roots: Vec<_> = world.roots().unwrap().into_iter().map(|root| world.label(root).unwrap()).collect();
+    let roots: Vec<_> = world
+        .roots()
+        .unwrap()
+        .into_iter()
+        .map(|root| world.label(root).unwrap())
+        .collect();
     assert_eq!(roots, ["Motor", "Slide", "Door"]);
     let door = node(&mut world, "Door");
     let children = world.children(door).unwrap();
@@ -74,7 +103,10 @@ fn nodes_stand_as_in_the_text() {
     let geometry = world.field_named(children[1], "geometry").unwrap();
     let shape = u32::try_from(world.numbers(children[1], geometry).unwrap()[0]).unwrap();
     let size = world.field_named(shape, "size").unwrap();
-    assert_eq!(world.numbers(shape, size).unwrap(), [1_000_000, 2_000_000, 100_000]);
+    assert_eq!(
+        world.numbers(shape, size).unwrap(),
+        [1_000_000, 2_000_000, 100_000]
+    );
     let many = u32::try_from(world.node_count()).unwrap();
     assert_eq!(world.label(many), Err(Fault::NoSuchNode));
     assert_eq!(world.value(door, u16::MAX), Err(Fault::NoSuchField));
@@ -96,7 +128,13 @@ fn a_snapshot_goes_back() {
 
 #[test]
 fn what_is_refused_changes_nothing() {
-    assert_eq!(World::open(b"#X3D V3.0 utf8\nGrup {}\n").err().unwrap().line, "refused UnknownNode line 2");
+    assert_eq!(
+        World::open(b"#X3D V3.0 utf8\nGrup {}\n")
+            .err()
+            .unwrap()
+            .line,
+        "refused UnknownNode line 2"
+    );
     let mut world = World::open(DOOR).unwrap();
     assert_eq!(world.clock(2, 5), Err(Fault::NotNext));
     assert_eq!(world.clock(0, 5), Err(Fault::Range));

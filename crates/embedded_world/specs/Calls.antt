@@ -1,11 +1,10 @@
 -- What the calls on an embedded world answer, and the world that they leave.
-use Rattle.std.specs.Prelude.{◌≡◌, ◌⊎◌, ◌++◌, ℕ, ℤ, List, [], Option, None, Result, Ok, Err, IfErr, IfNone, IfOk, IfSome, OnErr, OnOk}
+use Rattle.std.specs.Prelude.{◌≡◌, ◌⊎◌, ℕ, ℤ, List, [], Option, None, Result, Ok, Err, IfNone, IfOk, IfSome, OnErr, OnOk}
 use Rattle.sha2.specs.Sha256.{sha256}
-use Rattle.cascade_core.specs.Held.{IfRunning, IfSpoiled, StageView, after, refusal_of, settled_by, spoiled, trace_of}
+use Rattle.cascade_core.specs.Held.{StageView, after, refusal_of, settled_by, spoiled, trace_of}
 use Rattle.cascade_core.specs.Work.{IsWork}
 use Rattle.snapshot_codec.specs.Head.{head_fault}
 use Rattle.snapshot_core.specs.Loading.{load_outcome, loaded}
-use Rattle.snapshot_core.specs.Shot.{shot}
 use Rattle.snapshot_core.specs.declared.fault.SaveFault.{SaveFault}
 use Rattle.snapshot_core.specs.declared.fault.SaveFault.TheVariants as save
 use Rattle.snapshot_core.specs.declared.fault.SnapFault.{SnapFault}
@@ -18,6 +17,7 @@ use Rattle.stage_answers.specs.declared.fault.ApplyFault.TheVariants as apply
 use Rattle.stage_answers.specs.declared.work.Work.{Work}
 use Rattle.x3d_lists.specs.Answers.{Gives}
 use Rattle.x3d_values.specs.Stamp.{Stamp}
+use Rattle.embedded_world.specs.Looks.{snapshot_in}
 use Rattle.embedded_world.specs.Opening.{opened_stage}
 use Rattle.embedded_world.specs.declared.fault.LookFault.{LookFault}
 use Rattle.embedded_world.specs.declared.fault.LookFault.TheVariants as look
@@ -39,13 +39,15 @@ with_stage w stage = record w { stage = stage }
 -- counts what it did; where memory is refused the stage is spoiled
 abbrev pub Applies : EmbeddedWorld → Stamp → Result Work ApplyFault → EmbeddedWorld → Type 0
 Applies old input result new =
-    IfSome (refusal_of old.stage.held input) (λ fault. (result ≡ Err fault) × (new ≡ old))
-    × OnOk result (new ≡ with_stage old (after old.stage input))
+    IfSome (refusal_of old.stage.held input) (λ fault. (result ≡ Err fault)
+    × (new.stage ≡ old.stage))
+    × OnOk result (new.stage ≡ after old.stage input)
     × IfOk result (IsWork old.stage.routes (trace_of old.stage.held) (trace_of new.stage.held)
     (settled_by old.stage input))
     × OnOk result (refusal_of old.stage.held input ≡ None)
     × IfNone (refusal_of old.stage.held input)
-    (OnErr result ((result ≡ Err apply.Memory) × (new ≡ with_stage old (spoiled old.stage))))
+    (OnErr result ((result ≡ Err apply.Memory) × (new.stage ≡ spoiled old.stage)))
+    × (new ≡ with_stage old new.stage)
 
 -- this text was made of the world, which is as it was
 abbrev pub Makes : Result (List ℕ) LookFault → EmbeddedWorld → Result (Unit {0}) LookFault
@@ -71,14 +73,11 @@ Meets met old result new =
     × OnErr result (new.numbers.items ≡ [])
     × (new ≡ record old { numbers = new.numbers })
 
--- the snapshot of the world, taken as a boot, was made
+-- the snapshot of the world, taken as a boot, was made of it, and it is as it was
 abbrev pub Saves : EmbeddedWorld → ℕ → Result (Unit {0}) SaveFault → EmbeddedWorld → Type 0
 Saves old boot result new =
-    IfSpoiled old.stage.held ((result ≡ Err save.Spoiled) × (new.text.items ≡ []))
-    × IfRunning old.stage.held (λ w.
-    OnOk result (new.text.items ≡ shot old.mark boot old.stage.scene w))
-    × IfRunning old.stage.held (λ w.
-    OnErr result ((result ≡ Err save.Memory) × (new.text.items ≡ [])))
+    Gives save.Memory (λ _. new.text.items) result (snapshot_in old.stage old.mark boot)
+    × OnErr result (new.text.items ≡ [])
     × (new ≡ record old { text = new.text })
 
 -- the world of a snapshot was put in place of what there was, by one that starts again as a boot;

@@ -8,6 +8,9 @@ use Rattle.cascade_core.specs.Texts.{scene_text}
 use Rattle.pick_core.specs.Sensors.{sensors_of}
 use Rattle.pick_core.specs.declared.hit.Hit.{Hit}
 use Rattle.scene_core.specs.Scene.{SceneView, children_of, field_name, label_of, rows_at, type_at}
+use Rattle.snapshot_core.specs.Shot.{shot}
+use Rattle.snapshot_core.specs.declared.fault.SaveFault.{SaveFault}
+use Rattle.snapshot_core.specs.declared.fault.SaveFault.TheVariants as save
 use Rattle.trace_core.specs.LineText.{line_text}
 use Rattle.world_core.specs.declared.world.WorldData.{WorldData}
 use Rattle.world_reading.specs.Lines.{change_text, from_on}
@@ -52,6 +55,14 @@ of_held (Spoiled n) text = Err look.Spoiled
 -- the text of the scene as it is now
 abbrev pub scene_now : StageView → Result (List ℕ) LookFault
 scene_now stage = of_held stage.held (scene_text stage.scene stage.routes)
+
+abbrev pub shot_of : List ℕ → ℕ → SceneView → Held → Result (List ℕ) SaveFault
+shot_of mark boot scene (Running w) = Ok (shot mark boot scene w)
+shot_of mark boot scene (Spoiled n) = Err save.Spoiled
+
+-- the snapshot of the world, of a scene with this mark, taken as a boot
+abbrev pub snapshot_in : StageView → (mark : List ℕ) → (boot : ℕ) → Result (List ℕ) SaveFault
+snapshot_in stage mark boot = shot_of mark boot stage.scene stage.held
 
 -- the word for a node's type
 abbrev pub type_in : SceneView → ℕ → Result (List ℕ) LookFault
@@ -100,8 +111,10 @@ numbers_in stage node field =
 -- where a hit is, and the sensors that it concerns
 abbrev pub met_at : SceneView → List Fields → Option Hit → Option Entry × List ℤ
 met_at scene state None = (None, [])
-met_at scene state (Some hit) =
-    (Some (record { n = hit.n; m = hit.m }), flat_map node_numbers (sensors_of scene state hit.path))
+met_at scene state (Some hit) = (
+  Some (record { n = hit.n; m = hit.m }),
+  flat_map node_numbers (sensors_of scene state hit.path),
+)
 
 -- the same of what a ray hits first
 abbrev pub meeting_in : StageView → Sight → Result (Option Entry × List ℤ) LookFault

@@ -85,11 +85,11 @@ fn write_field(scene: &Scene, node: u32, field: u16, out: &mut Vec<u8>) -> Resul
     ensures is { Gives Memory (λ _. out.new.items) result (spec.field_in scene.now node field) }
     ensures err { OnErr result (out.new.items ≡ []) }
 {
-    if u32::from(field) >= scene.field_count(node) {
-        return Err(LookFault::NoSuchField);
+    if u32::from(field) < scene.field_count(node) {
+        out.extend_from_slice(scene.field_name(End { node, field }).as_bytes())?;
+        return Ok(());
     }
-    out.extend_from_slice(scene.field_name(End { node, field }).as_bytes())?;
-    Ok(())
+    Err(LookFault::NoSuchField)
 }
 
 /// Writes the value that a field has now.

@@ -1,5 +1,5 @@
 -- The numbers that C sees for the answers of a world, and what each export says of a handle.
-use Rattle.std.specs.Prelude.{◌≡◌, ◌⊎◌, ◌++◌, ℕ, ℤ, Bool, List, [], Option, Some, None, Result, Ok, Err, drop, length, nat_le, cond, if◌then◌else◌}
+use Rattle.std.specs.Prelude.{◌≡◌, ◌++◌, ℕ, List, [], Option, Some, None, Result, Ok, Err, drop, length, nat_lt, if◌then◌else◌}
 use Rattle.std.specs.Result.{result_ok}
 use Rattle.share_jobs.specs.declared.fault.JobFault.{JobFault}
 use Rattle.share_program.specs.Refusal.{refusal_text, status}
@@ -75,11 +75,12 @@ status_of_open (Err fault) = status (Job fault)
 -- ---- what is copied out
 
 -- all of it, where there is room, and then the rest is as it was; how many there are is told
-abbrev pub IsCopied : {A : Type 0} → (all old : List A) → (status wanted : ℕ) → (new : List A) → Type 0
+abbrev pub IsCopied : {A : Type 0} → (all old : List A) → (status wanted : ℕ) → (new : List A)
+    → Type 0
 IsCopied all old status wanted new =
     (wanted ≡ length all)
-    × (status ≡ (if nat_le (length all) (length old) then 0 else no_room))
-    × (new ≡ (if nat_le (length all) (length old) then all ++ drop (length all) old else old))
+    × (status ≡ (if nat_lt (length old) (length all) then no_room else 0))
+    × (new ≡ (if nat_lt (length old) (length all) then old else all ++ drop (length all) old))
 
 -- ---- calls
 
@@ -105,7 +106,8 @@ Calls {A} does status_of (Some w) status after =
     × does w answer next × (status ≡ status_of answer) × (after ≡ Some next)
 
 -- what is asked of the world of a handle, which stays as it is
-abbrev pub Asks : {A : Type 0} → (EmbeddedWorld → A) → Option EmbeddedWorld → ℕ → (old new : A) → Type 0
+abbrev pub Asks : {A : Type 0} → (EmbeddedWorld → A) → Option EmbeddedWorld → ℕ → (old new : A)
+    → Type 0
 Asks asked None status old new = (status ≡ closed) × (new ≡ old)
 Asks asked (Some w) status old new = (status ≡ 0) × (new ≡ asked w)
 

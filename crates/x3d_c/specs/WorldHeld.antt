@@ -1,4 +1,5 @@
--- What a handle owns: nothing at null, and else the world behind its pointer with the right to free its block.
+-- What a handle owns: nothing at null, and else the world behind its pointer with the right to free
+-- its block.
 use Rattle.std.specs.Prelude.{Option, Some, None}
 use base.Fml.{Fml, feq}
 use denote.RawPtr.{Ptr, null_ptr}

@@ -19,7 +19,8 @@ use std::alloc::Global;
 /// Lists the roots of the scene.
 #[unsafe(no_mangle)]
 pub extern "C" fn x3d_world_list_roots(alloc: Global, handle: &mut WorldHandle) -> u8
-    ensures { Calls (λ w. Lists (look.roots_in w.stage.scene) w) status_of_look handle.old.world result handle.new.world }
+    ensures { Calls (λ w. Lists (look.roots_in w.stage.scene) w) status_of_look
+        handle.old.world result handle.new.world }
 {
     let Some(mut world) = take(handle, alloc) else {
         return CLOSED;
@@ -32,7 +33,8 @@ pub extern "C" fn x3d_world_list_roots(alloc: Global, handle: &mut WorldHandle) 
 /// Lists the nodes in the field `children` of a node.
 #[unsafe(no_mangle)]
 pub extern "C" fn x3d_world_list_children(alloc: Global, handle: &mut WorldHandle, node: u32) -> u8
-    ensures { Calls (λ w. Lists (look.children_in w.stage.scene node) w) status_of_look handle.old.world result handle.new.world }
+    ensures { Calls (λ w. Lists (look.children_in w.stage.scene node) w) status_of_look
+        handle.old.world result handle.new.world }
 {
     let Some(mut world) = take(handle, alloc) else {
         return CLOSED;
@@ -50,7 +52,8 @@ pub extern "C" fn x3d_world_list_value(
     node: u32,
     field: u16,
 ) -> u8
-    ensures { Calls (λ w. Lists (look.numbers_in w.stage node field) w) status_of_look handle.old.world result handle.new.world }
+    ensures { Calls (λ w. Lists (look.numbers_in w.stage node field) w) status_of_look
+        handle.old.world result handle.new.world }
 {
     let Some(mut world) = take(handle, alloc) else {
         return CLOSED;
@@ -64,7 +67,8 @@ pub extern "C" fn x3d_world_list_value(
 #[unsafe(no_mangle)]
 pub extern "C" fn x3d_world_applied(alloc: Global, handle: &mut WorldHandle, count: &mut u32) -> u8
     ensures kept { handle.new.world ≡ handle.old.world }
-    ensures count { Asks (λ w. applied_of w.stage.held) handle.old.world result count.old count.new }
+    ensures count { Asks (λ w. applied_of w.stage.held)
+        handle.old.world result count.old count.new }
 {
     let Some(world) = take(handle, alloc) else {
         return CLOSED;
@@ -82,7 +86,8 @@ pub extern "C" fn x3d_world_node_count(
     count: &mut usize,
 ) -> u8
     ensures kept { handle.new.world ≡ handle.old.world }
-    ensures count { Asks (λ w. length w.stage.scene.nodes) handle.old.world result count.old count.new }
+    ensures count { Asks (λ w. length w.stage.scene.nodes)
+        handle.old.world result count.old count.new }
 {
     let Some(world) = take(handle, alloc) else {
         return CLOSED;
@@ -101,7 +106,8 @@ pub extern "C" fn x3d_world_field_count(
     count: &mut u32,
 ) -> u8
     ensures kept { handle.new.world ≡ handle.old.world }
-    ensures count { Asks (λ w. length (rows_at w.stage.scene node)) handle.old.world result count.old count.new }
+    ensures count { Asks (λ w. length (rows_at w.stage.scene node))
+        handle.old.world result count.old count.new }
 {
     let Some(world) = take(handle, alloc) else {
         return CLOSED;

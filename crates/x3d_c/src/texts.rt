@@ -13,7 +13,8 @@ use std::alloc::Global;
 /// Makes the lines of the trace that are of inputs from a number on.
 #[unsafe(no_mangle)]
 pub extern "C" fn x3d_world_make_trace(alloc: Global, handle: &mut WorldHandle, first: u32) -> u8
-    ensures { Calls (λ w. Makes (look.trace_from w.stage first) w) status_of_look handle.old.world result handle.new.world }
+    ensures { Calls (λ w. Makes (look.trace_from w.stage first) w) status_of_look
+        handle.old.world result handle.new.world }
 {
     let Some(mut world) = take(handle, alloc) else {
         return CLOSED;
@@ -26,7 +27,8 @@ pub extern "C" fn x3d_world_make_trace(alloc: Global, handle: &mut WorldHandle, 
 /// Makes the same lines by the numbers of nodes and fields.
 #[unsafe(no_mangle)]
 pub extern "C" fn x3d_world_make_changes(alloc: Global, handle: &mut WorldHandle, first: u32) -> u8
-    ensures { Calls (λ w. Makes (look.changes_from w.stage first) w) status_of_look handle.old.world result handle.new.world }
+    ensures { Calls (λ w. Makes (look.changes_from w.stage first) w) status_of_look
+        handle.old.world result handle.new.world }
 {
     let Some(mut world) = take(handle, alloc) else {
         return CLOSED;
@@ -39,7 +41,8 @@ pub extern "C" fn x3d_world_make_changes(alloc: Global, handle: &mut WorldHandle
 /// Makes the text of the scene as it is now.
 #[unsafe(no_mangle)]
 pub extern "C" fn x3d_world_make_scene(alloc: Global, handle: &mut WorldHandle) -> u8
-    ensures { Calls (λ w. Makes (look.scene_now w.stage) w) status_of_look handle.old.world result handle.new.world }
+    ensures { Calls (λ w. Makes (look.scene_now w.stage) w) status_of_look
+        handle.old.world result handle.new.world }
 {
     let Some(mut world) = take(handle, alloc) else {
         return CLOSED;
@@ -52,7 +55,8 @@ pub extern "C" fn x3d_world_make_scene(alloc: Global, handle: &mut WorldHandle) 
 /// Makes the word for a node's type.
 #[unsafe(no_mangle)]
 pub extern "C" fn x3d_world_make_type(alloc: Global, handle: &mut WorldHandle, node: u32) -> u8
-    ensures { Calls (λ w. Makes (look.type_in w.stage.scene node) w) status_of_look handle.old.world result handle.new.world }
+    ensures { Calls (λ w. Makes (look.type_in w.stage.scene node) w) status_of_look
+        handle.old.world result handle.new.world }
 {
     let Some(mut world) = take(handle, alloc) else {
         return CLOSED;
@@ -65,7 +69,8 @@ pub extern "C" fn x3d_world_make_type(alloc: Global, handle: &mut WorldHandle, n
 /// Makes the name of a node that no other node has.
 #[unsafe(no_mangle)]
 pub extern "C" fn x3d_world_make_label(alloc: Global, handle: &mut WorldHandle, node: u32) -> u8
-    ensures { Calls (λ w. Makes (look.label_in w.stage.scene node) w) status_of_look handle.old.world result handle.new.world }
+    ensures { Calls (λ w. Makes (look.label_in w.stage.scene node) w) status_of_look
+        handle.old.world result handle.new.world }
 {
     let Some(mut world) = take(handle, alloc) else {
         return CLOSED;
@@ -83,7 +88,8 @@ pub extern "C" fn x3d_world_make_field_name(
     node: u32,
     field: u16,
 ) -> u8
-    ensures { Calls (λ w. Makes (look.field_in w.stage.scene node field) w) status_of_look handle.old.world result handle.new.world }
+    ensures { Calls (λ w. Makes (look.field_in w.stage.scene node field) w) status_of_look
+        handle.old.world result handle.new.world }
 {
     let Some(mut world) = take(handle, alloc) else {
         return CLOSED;
@@ -101,7 +107,8 @@ pub extern "C" fn x3d_world_make_value(
     node: u32,
     field: u16,
 ) -> u8
-    ensures { Calls (λ w. Makes (look.value_in w.stage node field) w) status_of_look handle.old.world result handle.new.world }
+    ensures { Calls (λ w. Makes (look.value_in w.stage node field) w) status_of_look
+        handle.old.world result handle.new.world }
 {
     let Some(mut world) = take(handle, alloc) else {
         return CLOSED;
