@@ -10,7 +10,6 @@ use Rattle.snapshot_core.specs.Shot.{shot}
 use Rattle.snapshot_core.specs.declared.fault.SaveFault.{SaveFault}
 use Rattle.snapshot_core.specs.declared.fault.SaveFault.TheVariants as save
 use Rattle.embedded_world.specs.Looks.{of_held, shot_of}
-use Rattle.embedded_world.specs.declared.fault.LookFault.{LookFault}
 use Rattle.embedded_world.specs.declared.fault.LookFault.TheVariants as look
 
 abbrev answered : Unit {0} → Result (Unit {0}) TextFault

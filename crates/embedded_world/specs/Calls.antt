@@ -1,5 +1,5 @@
 -- What the calls on an embedded world answer, and the world that they leave.
-use Rattle.std.specs.Prelude.{◌≡◌, ◌⊎◌, ℕ, ℤ, List, [], Option, None, Result, Ok, Err, IfNone, IfOk, IfSome, OnErr, OnOk}
+use Rattle.std.specs.Prelude.{◌≡◌, ◌⊎◌, ℕ, ℤ, List, [], Option, None, Result, Err, IfNone, IfOk, IfSome, OnErr, OnOk}
 use Rattle.sha2.specs.Sha256.{sha256}
 use Rattle.cascade_core.specs.Held.{StageView, after, refusal_of, settled_by, spoiled, trace_of}
 use Rattle.cascade_core.specs.Work.{IsWork}

@@ -1,6 +1,5 @@
 -- Inputs by their parts, where these are in their ranges.
 use Rattle.std.specs.Prelude.{ℕ, ℤ, Bool, ◌&&◌, Option, Some, None, if◌then◌else◌}
-use Rattle.std.specs.Option.{option_map}
 use Rattle.x3d_values.specs.Pointing.{Pointing, Sight, is_ray}
 use Rattle.x3d_values.specs.Ranges.{is_input_number, is_input_time, is_viewer}
 use Rattle.x3d_values.specs.Stamp.{Stamp}

@@ -1,6 +1,6 @@
 //! A world of a scene's text.
 
-ghost use Rattle.std.specs.Prelude.{◌≡◌, ◌≤◌, ◌⊎◌, [], IfOk, IfErr, OnOk, None, Some};
+ghost use Rattle.std.specs.Prelude.{◌≡◌, ◌⊎◌, IfOk, IfErr, OnOk, None, Some};
 ghost use Rattle.cascade_core.specs.Scripts.{scripts_in};
 ghost use Rattle.scene_scripts.specs.Scripts.{script_list};
 ghost use Rattle.script_host.specs.Attaching.{Fits};

@@ -1,9 +1,7 @@
--- What a ray meets in a state of a scene: where, and the sensors that it concerns.
-use Rattle.std.specs.Prelude.{ℕ, List, Option}
-use Rattle.std.specs.Option.{option_map}
+-- What a ray hits first in a state of a scene.
+use Rattle.std.specs.Prelude.{List, Option}
 use Rattle.pick_core.specs.Boxes.{boxes}
 use Rattle.pick_core.specs.Picked.{picked}
-use Rattle.pick_core.specs.Sensors.{sensors_of}
 use Rattle.pick_core.specs.declared.hit.Hit.{Hit}
 use Rattle.scene_core.specs.Scene.{SceneView}
 use Rattle.x3d_values.specs.Pointing.{Sight}

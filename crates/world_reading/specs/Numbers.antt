@@ -1,6 +1,6 @@
 -- The numbers of a value: truths as 1 and 0, integers, millionths and microseconds as they are,
 -- vectors and colors part by part, nodes as their numbers; a text has none (our choice).
-use Rattle.std.specs.Prelude.{ℕ, ℤ, pos, Bool, true, false, List, [], ◌∷◌, Option, Some, None}
+use Rattle.std.specs.Prelude.{ℕ, ℤ, pos, Bool, true, false, List, [], ◌∷◌, Some, None}
 use Rattle.std.specs.List.{flat_map}
 use Rattle.x3d_values.specs.declared.vector.Vec2.{Vec2}
 use Rattle.x3d_values.specs.declared.vector.Vec3.{Vec3}

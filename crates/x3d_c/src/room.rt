@@ -1,6 +1,5 @@
 //! What is copied out, where there is room for it.
 
-ghost use Rattle.std.specs.Prelude.{◌≡◌, ◌++◌, ◌≤◌, length, drop};
 ghost use Rattle.x3d_c.specs.Answers.{IsCopied};
 
 use crate::status::{DONE, ROOM};

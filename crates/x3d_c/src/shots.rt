@@ -1,6 +1,5 @@
 //! A world as bytes, and back.
 
-ghost use Rattle.std.specs.Prelude.{◌≡◌};
 ghost use Rattle.embedded_world.specs.Calls.{Saves};
 ghost use Rattle.x3d_c.specs.Answers.{Calls, LoadsAt, status_of_save};
 
