@@ -1,7 +1,7 @@
 //! A world is opened and closed.
 
-ghost use Rattle.std.specs.Prelude.{◌≡◌, None};
-ghost use Rattle.std.specs.Result.{result_map};
+ghost use Rattle.std.specs.Prelude.{◌≡◌, ℕ, None};
+ghost use Rattle.std.specs.Result.{result_map_both};
 ghost use Rattle.share_program.specs.Refusal.{refusal_text, status};
 ghost use Rattle.share_program.specs.declared.refusal.Failure.TheVariants.{Job};
 ghost use Rattle.embedded_world.specs.Calls.{IsOpened};
@@ -17,7 +17,8 @@ use std::alloc::Global;
 
 /// A world on the heap.
 fn boxed(alloc: Global, text: &[u8]) -> Result<Box<EmbeddedWorld>, JobFault>
-    ensures { IsOpened text.now (result_map (λ b. b.value) result) }
+    ensures { IsOpened text.now
+        (result_map_both (λ b. b.value) (λ fault. fault) result) }
 {
     let world = EmbeddedWorld::open(alloc, text)?;
     match Box::new(alloc, world) {
