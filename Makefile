@@ -1,7 +1,8 @@
 # `make run` shows the program at work, `make test` is the gate.
 SHELL := bash
 .SHELLFLAGS := -eu -o pipefail -c
-.PHONY: run try quick share soak fuzz test cases prefixes refusals check definitions calls bench format install
+.PHONY: run try quick share soak fuzz test cases prefixes refusals check definitions calls bench format install library \
+        bindings
 
 JOB ?= examples/two-clocks.job
 PREFIX ?= /usr/local
@@ -92,10 +93,24 @@ calls:
 format:
 	@for crate in crates/*; do (cd $$crate && rt fmt) || exit 1; done
 
-# Puts the proved program on the path.
-install:
+# Proves the library for programs that embed a world, and builds out/libx3d.a and out/libx3d.so. Wants a C
+# compiler and binutils.
+library:
+	@cd crates/x3d_c && rt lib
+	@PREFIX=$(PREFIX) scripts/library
+
+# Tests that library from C, Rust and Python, as far as their tools are there.
+bindings: library
+	@scripts/bindings
+
+# Puts the proved program on the path, and the library with its header and its pkg-config file beside it.
+install: library
 	@cd crates/x3d_share && rt run -- --version
 	@install -D crates/x3d_share/out/x3d_share $(DESTDIR)$(PREFIX)/bin/x3d_share
+	@install -D -m 644 include/x3d.h $(DESTDIR)$(PREFIX)/include/x3d.h
+	@install -D -m 644 out/libx3d.a $(DESTDIR)$(PREFIX)/lib/libx3d.a
+	@install -D out/libx3d.so $(DESTDIR)$(PREFIX)/lib/libx3d.so
+	@install -D -m 644 out/x3d.pc $(DESTDIR)$(PREFIX)/lib/pkgconfig/x3d.pc
 
 # Measures the proved program beside plain C kernels of the same work; wants a C compiler.
 bench:

@@ -1,0 +1,95 @@
+import unittest
+
+from x3d import Aim, Fault, Refusal, World
+
+DOOR = """#X3D V3.0 utf8
+DEF Motor TimeSensor { cycleInterval 2 }
+DEF Slide PositionInterpolator { key [ 0, 1 ] keyValue [ 0 0 0, 1 0 0 ] }
+DEF Door Transform {
+  children [
+    DEF Knob TouchSensor {}
+    Shape { geometry Box { size 1 2 0.1 } }
+  ]
+}
+ROUTE Knob.touchTime TO Motor.startTime
+ROUTE Motor.fraction_changed TO Slide.set_fraction
+ROUTE Slide.value_changed TO Door.translation
+"""
+AIM = Aim((0, 0, 10_000_000), (0, 0, -1_000_000))
+
+
+def clicked():
+    world = World(DOOR)
+    world.clock(1, 10_000_000)
+    world.point(2, 10_000_001, 0, True, AIM)
+    world.point(3, 10_000_002, 0, False, AIM)
+    return world
+
+
+def node(world, label):
+    return next(n for n in range(world.node_count()) if world.label(n) == label)
+
+
+class Worlds(unittest.TestCase):
+    def refused(self, name, call, *passed):
+        with self.assertRaises(Fault) as told:
+            call(*passed)
+        self.assertEqual(told.exception.name, name)
+
+    def test_a_click_opens_the_door(self):
+        with clicked() as world:
+            self.assertEqual(world.clock(4, 11_000_002), (7, 2, 0))
+            door = node(world, "Door")
+            translation = world.field_named(door, "translation")
+            self.assertEqual(world.value(door, translation), "0.5 0 0")
+            self.assertEqual(world.numbers(door, translation), [500_000, 0, 0])
+            moved = [change for change in world.changes(4) if change.node == door]
+            self.assertEqual(moved, [(4, 11_000_002, door, translation, "0.5 0 0")])
+            self.assertIn("4 11.000002 Door.translation 0.5 0 0\n", world.trace(4))
+
+    def test_a_ray_meets_the_door_without_an_input(self):
+        world = World(DOOR)
+        met = world.meet(AIM)
+        self.assertEqual(met.sensors, [node(world, "Knob")])
+        self.assertEqual(met.entry[0] * 100, met.entry[1] * 995)
+        self.assertIsNone(world.meet(Aim((5_000_000, 0, 0), (1, 0, 0))))
+        self.refused("Range", world.meet, Aim((0, 0, 0), (0, 0, 0)))
+        self.assertEqual(world.applied(), 0)
+
+    def test_nodes_stand_as_in_the_text(self):
+        world = World(DOOR)
+        self.assertEqual([world.label(root) for root in world.roots()], ["Motor", "Slide", "Door"])
+        children = world.children(node(world, "Door"))
+        self.assertEqual([world.node_type(child) for child in children], ["TouchSensor", "Shape"])
+        (box,) = world.numbers(children[1], world.field_named(children[1], "geometry"))
+        self.assertEqual(world.numbers(box, world.field_named(box, "size")), [1_000_000, 2_000_000, 100_000])
+        self.refused("NoSuchNode", world.label, world.node_count())
+        self.refused("NoSuchField", world.value, box, 65535)
+
+    def test_a_snapshot_goes_back(self):
+        world = clicked()
+        shot, scene = world.snapshot(1), world.scene()
+        world.clock(4, 11_000_002)
+        self.refused("BootNotNew", world.load, 1, shot)
+        self.refused("Short", world.load, 2, shot[:50])
+        self.assertEqual(world.load(2, shot), (1, 3))
+        self.assertEqual(world.scene(), scene)
+
+    def test_what_is_refused_changes_nothing(self):
+        with self.assertRaises(Refusal) as told:
+            World("#X3D V3.0 utf8\nGrup {}\n")
+        self.assertEqual(str(told.exception), "refused UnknownNode line 2")
+        world = World(DOOR)
+        self.refused("NotNext", world.clock, 2, 5)
+        self.refused("Range", world.clock, 0, 5)
+        self.refused("Range", world.clock, 1, 1 << 64)
+        self.refused("Range", world.point, 1, 5, 16, False, AIM)
+        world.clock(1, 5)
+        self.refused("TimeNotLater", world.clock, 2, 5)
+        world.close()
+        world.close()
+        self.refused("Closed", world.clock, 2, 6)
+
+
+if __name__ == "__main__":
+    unittest.main()

@@ -1,0 +1,38 @@
+"""Why a call is refused."""
+
+from typing import Dict
+
+
+class Refusal(Exception):
+    """Why a scene's text is no world: the line that the program prints, as `refused UnknownNode line 3`."""
+
+
+class Fault(Exception):
+    """Why a call on a world is refused: its `name` and its `status`.
+
+    Nothing has then changed, but that after `Memory` at an input, or while a snapshot is loaded, the world is spoiled:
+    only a snapshot brings one back."""
+
+    NAMES: Dict[int, str] = {
+        5: "Memory",
+        10: "Closed",
+        11: "Range",
+        20: "Spoiled",
+        21: "NotNext",
+        22: "TimeNotLater",
+        23: "NoSuchNode",
+        24: "NoSuchField",
+        30: "Short",
+        31: "BadMagic",
+        32: "BadVersion",
+        33: "WrongScene",
+        34: "BadDigest",
+        35: "NotCanonical",
+        36: "BootNotNew",
+        37: "ScriptState",
+    }
+
+    def __init__(self, status: int) -> None:
+        self.status = status
+        self.name = self.NAMES[status]
+        super().__init__(self.name)

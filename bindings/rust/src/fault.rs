@@ -1,0 +1,106 @@
+//! Why a call is refused.
+
+use std::error::Error;
+use std::fmt;
+
+/// Why a scene's text is no world.
+#[derive(Clone, Debug, PartialEq, Eq)]
+pub struct Refusal {
+    /// The line that the program prints, as `refused UnknownNode line 3`.
+    pub line: String,
+    /// Whether memory was refused, and not the scene.
+    pub is_memory: bool,
+}
+
+impl fmt::Display for Refusal {
+    fn fmt(&self, f: &mut fmt::Formatter<'_>) -> fmt::Result {
+        f.write_str(&self.line)
+    }
+}
+
+impl Error for Refusal {}
+
+/// Why a call on a world is refused. Nothing has then changed, but that after `Memory` at an input, or while a snapshot
+/// is loaded, the world is spoiled: only a snapshot brings one back.
+#[derive(Clone, Copy, Debug, PartialEq, Eq)]
+pub enum Fault {
+    /// Memory was refused.
+    Memory,
+    /// A number is out of its range.
+    Range,
+    /// Memory was refused at an earlier input.
+    Spoiled,
+    /// The input's number is not the next one.
+    NotNext,
+    /// The input's time is not above that of the last one.
+    TimeNotLater,
+    /// There is no node of that number.
+    NoSuchNode,
+    /// The node has no field of that number, or it holds no value.
+    NoSuchField,
+    /// A snapshot of fewer than 85 bytes.
+    Short,
+    /// No snapshot.
+    BadMagic,
+    /// A snapshot of another version.
+    BadVersion,
+    /// A snapshot of another scene.
+    WrongScene,
+    /// A snapshot that was altered.
+    BadDigest,
+    /// A snapshot of no world of the scene.
+    NotCanonical,
+    /// The boot is not above that of the snapshot.
+    BootNotNew,
+    /// The state of a script does not fit.
+    ScriptState,
+}
+
+impl Fault {
+    /// What a status says.
+    pub(crate) fn told(status: u8) -> Result<(), Fault> {
+        Err(match status {
+            0 => return Ok(()),
+            5 => Fault::Memory,
+            11 => Fault::Range,
+            20 => Fault::Spoiled,
+            21 => Fault::NotNext,
+            22 => Fault::TimeNotLater,
+            23 => Fault::NoSuchNode,
+            24 => Fault::NoSuchField,
+            30 => Fault::Short,
+            31 => Fault::BadMagic,
+            32 => Fault::BadVersion,
+            33 => Fault::WrongScene,
+            34 => Fault::BadDigest,
+            35 => Fault::NotCanonical,
+            36 => Fault::BootNotNew,
+            37 => Fault::ScriptState,
+            _ => unreachable!("status {status} of an open world"),
+        })
+    }
+}
+
+impl fmt::Display for Fault {
+    fn fmt(&self, f: &mut fmt::Formatter<'_>) -> fmt::Result {
+        f.write_str(match self {
+            Fault::Memory => "memory was refused",
+            Fault::Range => "a number is out of its range",
+            Fault::Spoiled => "memory was refused at an earlier input",
+            Fault::NotNext => "the input's number is not the next one",
+            Fault::TimeNotLater => "the input's time is not later than that of the last one",
+            Fault::NoSuchNode => "there is no node of that number",
+            Fault::NoSuchField => "the node has no field of that number, or it holds no value",
+            Fault::Short => "the snapshot is not whole",
+            Fault::BadMagic => "this is no snapshot",
+            Fault::BadVersion => "the version of the snapshot is not 1",
+            Fault::WrongScene => "the snapshot is of another scene",
+            Fault::BadDigest => "the snapshot was altered",
+            Fault::NotCanonical => "the snapshot is none that could be written",
+            Fault::BootNotNew => "the boot is not above the earlier ones",
+            Fault::ScriptState => "the state of a script does not fit",
+        })
+    }
+}
+
+impl Error for Fault {}

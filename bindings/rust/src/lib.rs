@@ -1,0 +1,24 @@
+//! A shared X3D world inside another program: safe Rust over the library `x3d`, whose calls `include/x3d.h` declares.
+//!
+//! ```
+//! use x3d::{Aim, World};
+//!
+//! let scene = b"#X3D V3.0 utf8\nDEF Knob TouchSensor {}\nShape { geometry Box {} }\n";
+//! let mut world = World::open(scene)?;
+//! world.point(1, 1, 0, true, &Aim::new([0, 0, 10_000_000], [0, 0, -1_000_000]))?;
+//! for change in &world.changes(1)? {
+//!     println!("{}.{} is {}", world.label(change.node)?, world.field_name(change.node, change.field)?, change.value);
+//! }
+//! # Ok::<(), Box<dyn std::error::Error>>(())
+//! ```
+//!
+//! Coordinates are whole millionths of a unit, times whole microseconds.
+
+mod changes;
+mod fault;
+mod raw;
+mod world;
+
+pub use changes::{Change, Changes};
+pub use fault::{Fault, Refusal};
+pub use world::{Aim, Meeting, Saved, Work, World};

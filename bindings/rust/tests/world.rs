@@ -1,0 +1,146 @@
+use x3d::{Aim, Fault, World};
+
+const DOOR: &[u8] = b"#X3D V3.0 utf8
+DEF Motor TimeSensor { cycleInterval 2 }
+DEF Slide PositionInterpolator { key [ 0, 1 ] keyValue [ 0 0 0, 1 0 0 ] }
+DEF Door Transform {
+  children [
+    DEF Knob TouchSensor {}
+    Shape { geometry Box { size 1 2 0.1 } }
+  ]
+}
+ROUTE Knob.touchTime TO Motor.startTime
+ROUTE Motor.fraction_changed TO Slide.set_fraction
+ROUTE Slide.value_changed TO Door.translation
+";
+
+fn aim() -> Aim {
+    Aim::new([0, 0, 10_000_000], [0, 0, -1_000_000])
+}
+
+fn node(world: &mut World, label: &str) -> u32 {
+    let count = u32::try_from(world.node_count()).unwrap();
+    (0..count)
+        .find(|node| world.label(*node).unwrap() == label)
+        .unwrap()
+}
+
+fn clicked() -> World {
+    let mut world = World::open(DOOR).unwrap();
+    world.clock(1, 10_000_000).unwrap();
+    world.point(2, 10_000_001, 0, true, &aim()).unwrap();
+    world.point(3, 10_000_002, 0, false, &aim()).unwrap();
+    world
+}
+
+#[test]
+fn a_click_opens_the_door() {
+    let mut world = clicked();
+    let work = world.clock(4, 11_000_002).unwrap();
+    // The motor sends isActive, cycleTime, fraction_changed, elapsedTime and time, the slide and the door one each.
+    assert_eq!((work.sends, work.deliveries, work.settles), (7, 2, 0));
+    let door = node(&mut world, "Door");
+    let translation = world.field_named(door, "translation").unwrap();
+    assert_eq!(world.value(door, translation).unwrap(), "0.5 0 0");
+    assert_eq!(world.numbers(door, translation).unwrap(), [500_000, 0, 0]);
+    let changes = world.changes(4).unwrap();
+    let moved: Vec<_> = changes
+        .into_iter()
+        .filter(|change| change.node == door)
+        .collect();
+    assert_eq!(moved.len(), 1);
+    assert_eq!(
+        (
+            moved[0].input,
+            moved[0].time,
+            moved[0].field,
+            moved[0].value
+        ),
+        (4, 11_000_002, translation, "0.5 0 0")
+    );
+    assert!(
+        world
+            .trace(4)
+            .unwrap()
+            .contains("4 11.000002 Door.translation 0.5 0 0\n")
+    );
+}
+
+#[test]
+fn a_ray_meets_the_door_without_an_input() {
+    let mut world = World::open(DOOR).unwrap();
+    let knob = node(&mut world, "Knob");
+    let met = world.meet(&aim()).unwrap().unwrap();
+    assert_eq!(met.sensors, [knob]);
+    // From 10 units away it enters at 9.95 of them.
+    let (n, m) = met.entry;
+    assert_eq!(u128::from(n) * 100, u128::from(m) * 995);
+    assert_eq!(
+        world.meet(&Aim::new([5_000_000, 0, 0], [1, 0, 0])).unwrap(),
+        None
+    );
+    assert_eq!(
+        world.meet(&Aim::new([0, 0, 0], [0, 0, 0])),
+        Err(Fault::Range)
+    );
+    assert_eq!(world.applied(), 0);
+}
+
+#[test]
+fn nodes_stand_as_in_the_text() {
+    let mut world = World::open(DOOR).unwrap();
+    let roots: Vec<_> = world
+        .roots()
+        .unwrap()
+        .into_iter()
+        .map(|root| world.label(root).unwrap())
+        .collect();
+    assert_eq!(roots, ["Motor", "Slide", "Door"]);
+    let door = node(&mut world, "Door");
+    let children = world.children(door).unwrap();
+    assert_eq!(children.len(), 2);
+    assert_eq!(world.node_type(children[1]).unwrap(), "Shape");
+    let geometry = world.field_named(children[1], "geometry").unwrap();
+    let shape = u32::try_from(world.numbers(children[1], geometry).unwrap()[0]).unwrap();
+    let size = world.field_named(shape, "size").unwrap();
+    assert_eq!(
+        world.numbers(shape, size).unwrap(),
+        [1_000_000, 2_000_000, 100_000]
+    );
+    let many = u32::try_from(world.node_count()).unwrap();
+    assert_eq!(world.label(many), Err(Fault::NoSuchNode));
+    assert_eq!(world.value(door, u16::MAX), Err(Fault::NoSuchField));
+}
+
+#[test]
+fn a_snapshot_goes_back() {
+    let mut world = clicked();
+    let shot = world.snapshot(1).unwrap();
+    let scene = world.scene().unwrap();
+    world.clock(4, 11_000_002).unwrap();
+    assert_eq!(world.load(1, &shot), Err(Fault::BootNotNew));
+    assert_eq!(world.load(2, &shot[..50]), Err(Fault::Short));
+    let saved = world.load(2, &shot).unwrap();
+    assert_eq!((saved.boot, saved.applied), (1, 3));
+    assert_eq!(world.scene().unwrap(), scene);
+    assert_eq!(world.applied(), 3);
+}
+
+#[test]
+fn what_is_refused_changes_nothing() {
+    assert_eq!(
+        World::open(b"#X3D V3.0 utf8\nGrup {}\n")
+            .err()
+            .unwrap()
+            .line,
+        "refused UnknownNode line 2"
+    );
+    let mut world = World::open(DOOR).unwrap();
+    assert_eq!(world.clock(2, 5), Err(Fault::NotNext));
+    assert_eq!(world.clock(0, 5), Err(Fault::Range));
+    assert_eq!(world.clock(1, 0), Err(Fault::Range));
+    assert_eq!(world.point(1, 5, 16, false, &aim()), Err(Fault::Range));
+    world.clock(1, 5).unwrap();
+    assert_eq!(world.clock(2, 5), Err(Fault::TimeNotLater));
+    assert_eq!(world.applied(), 1);
+}

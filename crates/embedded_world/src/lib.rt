@@ -1,0 +1,17 @@
+//! A world for a program that embeds it: `world` is a stage with scripts of the stock, and what was
+//! read of it last. It is made by `opening` a scene's text, moves on by an `input`, is kept in
+//! `shots`, and read as `texts` and as `lists` of numbers; `fault` is why it could not be read.
+#![tactic(auto)]
+
+mod fault;
+mod input;
+mod lists;
+mod opening;
+mod shots;
+mod texts;
+mod world;
+
+pub use fault::LookFault;
+pub use input::{pointer_of, ray_of, stamped};
+pub use lists::Entry;
+pub use world::EmbeddedWorld;

@@ -1,0 +1,4 @@
+pub mod Lines
+pub mod Meeting
+pub mod Numbers
+pub mod Values

@@ -1,0 +1,3 @@
+pub mod Answers
+pub mod Points
+pub mod WorldHeld
