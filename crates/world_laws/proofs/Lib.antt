@@ -19,6 +19,7 @@ pub mod Walks
 pub mod Counted
 mod Hits
 mod Kept
+mod Lowest
 mod Openings
 mod Ranged
 mod Routes

@@ -17,7 +17,7 @@ use Rattle.flat_document.specs.declared.flat.FlatNode.{FlatNode}
 use Rattle.scene_core.specs.declared.fault.SceneFault.{SceneFault}
 use Rattle.scene_core.specs.declared.numbering.Numbering.{Numbering}
 use Rattle.scene_core.specs.declared.scene.SceneNode.{SceneNode}
-use Rattle.scene_core.specs.Building.{node_of, with_node, nodes_by, nodes_of, limits, called, scene_by, scene_of}
+use Rattle.scene_core.specs.Building.{node_of, with_node, nodes_by, nodes_of, IsLimited, limits, called, scene_by, scene_of}
 use Rattle.scene_core.specs.Faults.{through, ◌>>=◌}
 use Rattle.scene_core.specs.Labels.{label_by, is_alone, names_of}
 use Rattle.scene_core.specs.Numbers.{numbering}
@@ -128,6 +128,14 @@ nodes_are flat s scene h =
     let d = bind_is (limits a.0 (called s.numbers flat.roots)) (λ _. Ok (viewed flat s a.0)) scene c.2 in
     subst (λ (v : SceneView). nodes_of flat.nodes s ≡ Ok v.nodes) (ok_is (viewed flat s a.0) scene d.2) a.1
 
+limits_are : (flat : Flat) (s : Numbering) (scene : SceneView) → scene_by flat s ≡ Ok scene → IsLimited scene.nodes scene.roots
+limits_are flat s scene h =
+    let a = bind_is (nodes_of flat.nodes s) (with_roots flat s) scene h in
+    let b = bind_is (all_children flat.nodes flat.roots) (λ _. with_helpers flat s a.0) scene a.2 in
+    let c = bind_is (all_children flat.nodes flat.helpers) (λ _. limited flat s a.0) scene b.2 in
+    let d = bind_is (limits a.0 (called s.numbers flat.roots)) (λ _. Ok (viewed flat s a.0)) scene c.2 in
+    subst (λ (v : SceneView). IsLimited v.nodes v.roots) (ok_is (viewed flat s a.0) scene d.2) d.1
+
 abbrev pub numbers_of : Flat → Numbering
 numbers_of flat = numbering flat.nodes flat.roots flat.helpers
 
@@ -135,6 +143,11 @@ numbers_of flat = numbering flat.nodes flat.roots flat.helpers
 pub scene_nodes : (flat : Flat) (scene : SceneView) → scene_of flat ≡ Ok scene → nodes_of flat.nodes (numbers_of flat) ≡ Ok scene.nodes
 unfolding scene_of
 scene_nodes flat scene h = nodes_are flat (numbers_of flat) scene h
+
+-- a document's scene keeps to the limits
+pub scene_limited : (flat : Flat) (scene : SceneView) → scene_of flat ≡ Ok scene → IsLimited scene.nodes scene.roots
+unfolding scene_of
+scene_limited flat scene h = limits_are flat (numbers_of flat) scene h
 
 scene_begins : (flat : Flat) (scene : SceneView) → scene_of flat ≡ Ok scene → All Begins scene.nodes
 scene_begins flat scene h =

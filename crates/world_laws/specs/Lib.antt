@@ -4,6 +4,7 @@ pub mod Calls
 pub mod Nodes
 pub mod Fits
 pub mod Hits
+pub mod Sensors
 pub mod Snapshots
 pub mod Openings
 pub mod Routes

@@ -1,14 +1,16 @@
 //! That worlds keep the ranges of their fields, and scripts their states: what nodes and scripts do
 //! keeps them, so does each input, and so each world that a document's scene comes to fits its
-//! snapshot.
+//! snapshot. And what a hit in a scene is: where it lies, and which sensors it concerns.
 #![tactic(auto)]
 
 mod answers;
 mod documents;
 mod scripts;
+mod sensors;
 mod worlds;
 
 pub use answers::{reactions_fit, time_sensors_fit, touch_sensors_fit};
 pub use documents::{document_hits_are_on_rays, document_openings_fit, routes_join, worlds_fit};
 pub use scripts::{attached_run, calls_fit, outputs_typed};
+pub use sensors::sensors_are_all;
 pub use worlds::{fitting_worlds_have_snapshots, openings_fit, steps_fit};

@@ -105,7 +105,7 @@ fn state_with(alloc: Global, scene: &Scene, node: u32, change: Change) -> Option
 }
 
 /// The world in which nothing has happened, with a change.
-fn changed(alloc: Global, scene: &Scene, change: Change) -> Option<WorldData> {
+fn world_with(alloc: Global, scene: &Scene, change: Change) -> Option<WorldData> {
     let mut world = untold(alloc, scene)?;
     match change {
         Change::Nothing => {}
@@ -174,7 +174,7 @@ impl Row for Changed {
         };
         let Opened { scene, routes } = opened;
         drop(routes);
-        let Some(world) = changed(alloc, &scene, self.0) else {
+        let Some(world) = world_with(alloc, &scene, self.0) else {
             drop(scene);
             return false;
         };

@@ -117,7 +117,10 @@ fn pieces_of_other_snapshots_are_not_kept(rt: HostRuntime) {
     let others = bytes_of(99);
     let boot = is_other(rt.alloc(), piece_of(2, 2, &others, 1));
     let applied = is_other(rt.alloc(), piece_of(1, 1, &others, 1));
-    let size = is_other(rt.alloc(), piece_of(1, 2, others.get(..391).unwrap_or(b""), 1));
+    let size = is_other(
+        rt.alloc(),
+        piece_of(1, 2, others.get(..391).unwrap_or(b""), 1),
+    );
     assert!(rt; boot && applied && size);
 }
 
