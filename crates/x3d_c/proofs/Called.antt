@@ -1,0 +1,42 @@
+-- What a handle has behind a call on its world.
+use Rattle.std.proofs.Common.{◌≡◌, ℕ, List, Option, Some, Result, subst}
+use Rattle.x3d_values.specs.Stamp.{Stamp}
+use Rattle.x3d_values.specs.Pointing.{Sight}
+use Rattle.stage_answers.specs.declared.fault.ApplyFault.{ApplyFault}
+use Rattle.stage_answers.specs.declared.work.Work.{Work}
+use Rattle.snapshot_core.specs.declared.fault.SnapFault.{SnapFault}
+use Rattle.snapshot_core.specs.declared.loading.Saved.{Saved}
+use Rattle.embedded_world.specs.Calls.{Applies, Loads, Meets}
+use Rattle.embedded_world.specs.Looks.{meeting_in}
+use Rattle.embedded_world.specs.declared.fault.LookFault.{LookFault}
+use Rattle.embedded_world.specs.declared.lists.Entry.{Entry}
+use Rattle.embedded_world.specs.declared.world.EmbeddedWorld.{EmbeddedWorld}
+use Rattle.x3d_c.specs.Answers.{AppliesAt, Calls, LoadsAt, MeetsAt, Meeting, counted, saved_as, status_of_load, status_of_meet, status_of_work, told}
+use Rattle.x3d_c.specs.declared.inputs.WorkCount.{WorkCount}
+use Rattle.x3d_c.specs.declared.lists.Met.{Met}
+use Rattle.x3d_c.specs.declared.shots.SavedAs.{SavedAs}
+
+pub called : {A : Type 0} (does : EmbeddedWorld → A → EmbeddedWorld → Type 0) (status_of : A → ℕ) (before after : Option EmbeddedWorld) (status : ℕ) (w next : EmbeddedWorld) (answer : A)
+    → Some w ≡ before → does w answer next → status ≡ status_of answer → after ≡ Some next → Calls does status_of before status after
+called does status_of before after status w next answer is done says left =
+    subst (λ (o : Option EmbeddedWorld). Calls does status_of o status after) is (answer, next, done, says, left)
+
+pub applied : (input : Stamp) (before after : Option EmbeddedWorld) (status : ℕ) (old new : WorkCount) (w next : EmbeddedWorld) (answer : Result Work ApplyFault)
+    → Some w ≡ before → Applies w input answer next → status ≡ status_of_work answer → after ≡ Some next → new ≡ counted old answer → AppliesAt input before status after old new
+applied input before after status old new w next answer is done says left count =
+    subst (λ (o : Option EmbeddedWorld). AppliesAt input o status after old new) is (answer, next, done, says, left, count)
+
+pub loads : (boot : ℕ) (bytes : List ℕ) (before after : Option EmbeddedWorld) (status : ℕ) (old new : SavedAs) (w next : EmbeddedWorld) (answer : Result Saved SnapFault)
+    → Some w ≡ before → Loads w boot bytes answer next → status ≡ status_of_load answer → after ≡ Some next → new ≡ saved_as old answer → LoadsAt boot bytes before status after old new
+loads boot bytes before after status old new w next answer is done says left told =
+    subst (λ (o : Option EmbeddedWorld). LoadsAt boot bytes o status after old new) is (answer, next, done, says, left, told)
+
+meets_at : (ray : Sight) (before after : Option EmbeddedWorld) (status : ℕ) (old new : Met) (w next : EmbeddedWorld) (answer : Result (Option Entry) LookFault)
+    → Some w ≡ before → Meets (meeting_in w.stage ray) w answer next → status ≡ status_of_meet answer → after ≡ Some next → new ≡ told old answer → MeetsAt ray before status after old new
+meets_at ray before after status old new w next answer is done says left tells =
+    subst (λ (o : Option EmbeddedWorld). MeetsAt ray o status after old new) is (answer, next, done, says, left, tells)
+
+pub meets : (asked : Option Sight) (ray : Sight) (before after : Option EmbeddedWorld) (status : ℕ) (old new : Met) (w next : EmbeddedWorld) (answer : Result (Option Entry) LookFault)
+    → Some ray ≡ asked → Some w ≡ before → Meets (meeting_in w.stage ray) w answer next → status ≡ status_of_meet answer → after ≡ Some next → new ≡ told old answer → Meeting asked before status after old new
+meets asked ray before after status old new w next answer of is done says left tells =
+    subst (λ (o : Option Sight). Meeting o before status after old new) of (meets_at ray before after status old new w next answer is done says left tells)
