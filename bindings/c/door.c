@@ -39,7 +39,8 @@ int main(void) {
   x3d_world_clock(&world, 1, 10000000, &work);
   x3d_world_point(&world, 2, 10000001, 0, true, &aim, &work);
   x3d_world_point(&world, 3, 10000002, 0, false, &aim, &work);
-  x3d_world_clock(&world, 4, 12000002, &work);
+  x3d_world_clock(&world, 4, 11000002, &work);
+  x3d_world_clock(&world, 5, 12000002, &work);
   if (x3d_world_make_trace(&world, 3) == X3D_DONE) print_text(&world);
   x3d_world_close(&world);
   return 0;

@@ -47,7 +47,7 @@ static int run(void) {
   x3d_world_applied(&world, &applied);
   if (applied == 2 && !told(x3d_world_point(&world, 3, 10000002, 0, false, &aim, &work))) return 6;
   if (!told(x3d_world_make_trace(&world, 0)) || !told(x3d_world_make_scene(&world))) return 7;
-  if (!told(x3d_world_make_changes(&world, 2)) || !told(x3d_world_make_value(&world, 2, 7))) return 8;
+  if (!told(x3d_world_make_changes(&world, 2)) || !told(x3d_world_make_value(&world, 0, 0))) return 8;
   if (!told(x3d_world_make_label(&world, 2)) || !told(x3d_world_make_type(&world, 2))) return 9;
   if (!told(x3d_world_list_roots(&world)) || !told(x3d_world_list_children(&world, 2))) return 10;
   if (!told(x3d_world_meet(&world, &aim, &met))) return 11;

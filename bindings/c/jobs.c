@@ -12,8 +12,9 @@ static uint8_t *read_all(size_t *length) {
   uint8_t *bytes = malloc(room);
   *length = 0;
   while (bytes) {
-    *length += fread(bytes + *length, 1, room - *length, stdin);
-    if (*length < room) break;
+    *length += fread(bytes + *length, 1, room - 1 - *length, stdin);
+    bytes[*length] = 0;
+    if (*length < room - 1) break;
     bytes = realloc(bytes, room *= 2);
   }
   return bytes;
