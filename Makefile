@@ -1,7 +1,7 @@
 # `make run` shows the program at work, `make test` is the gate.
 SHELL := bash
 .SHELLFLAGS := -eu -o pipefail -c
-.PHONY: run try share test cases prefixes refusals check definitions calls bench format install
+.PHONY: run try picture share test cases prefixes refusals check definitions calls bench format install
 
 JOB ?= examples/two-clocks.job
 PREFIX ?= /usr/local
@@ -17,6 +17,11 @@ run:
 # The same without a proof, in half a minute.
 try:
 	@job=$$(realpath $(JOB)); cd crates/x3d_share && rt try -- run < "$$job"
+
+# Proves and builds the program, and draws a job: out of examples/door.job comes door.svg, here.
+picture:
+	@cd crates/x3d_share && rt run -- --version > /dev/null
+	@scripts/picture $(JOB) $(basename $(notdir $(JOB))).svg
 
 # Proves and builds the program, and has a host and two viewers do a job over UDP, twice: the second
 # time through a proxy that loses, repeats and reorders datagrams.

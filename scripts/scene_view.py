@@ -10,6 +10,8 @@ NEAR, FLAT = 0.02, 1e-6
 TREE_FACES = 4000
 # Where the light stands from that goes with the eye: above it and to its left.
 HEAD = (-0.30, 0.52, 0.80)
+# How much of its Shape's color a text keeps, to be read on white.
+INK = 0.7
 GHOST = Paint((0.45, 0.45, 0.45), opacity=0)
 
 
@@ -151,10 +153,10 @@ def far_to_near(items):
 
 
 class Canvas:
-    """Draws items of the eye's coordinates into a rectangle of an SVG."""
+    """Draws items of the eye's coordinates into a rectangle of an SVG; with `names` lamps are named."""
 
-    def __init__(self, eye, lights, left, top, width, height):
-        self.lights = lights
+    def __init__(self, eye, lights, names, left, top, width, height):
+        self.lights, self.names = lights, names
         self.scale = min(width, height) / 2 / math.tan(min(eye.angle, 3) / 2)
         self.center = (left + width / 2, top + height / 2)
 
@@ -205,13 +207,14 @@ class Canvas:
         matrix = " ".join("%.4g" % part if k < 4 else "%.1f" % part for k, part in enumerate(parts))
         return (
             f'<text transform="matrix({matrix})" font-size="20" text-anchor="{item.anchor}" '
-            f'fill="{self.color(item.paint)}">{escape(item.text)}</text>'
+            f'fill="{self.color(item.paint, INK)}">{escape(item.text)}</text>'
         )
 
     def lamp(self, item):
         x, y = self.spot(item.place)
         size = min(max(0.12 * self.scale / -item.place[2], 4), 12)
-        name = f'<text x="{x:.1f}" y="{y + 2.2 * size + 10:.1f}" class="lamp">{escape(item.name)}</text>'
+        place = f'x="{x:.1f}" y="{y + 2.2 * size + 10:.1f}"'
+        name = f'<text {place} class="lamp">{escape(item.name)}</text>' if self.names else ""
         if not item.on:
             return f'<circle cx="{x:.1f}" cy="{y:.1f}" r="{size:.1f}" class="dark"/>' + name
         warm = (1, 0.72, 0.15) if item.color == (1, 1, 1) else item.color
@@ -257,5 +260,5 @@ def seen_items(drawn, before, eye):
 def view(drawn, before, eye, left, top, width, height):
     """The elements of a scene in a rectangle, with dashed lines where things stood before."""
     items, lights = seen_items(drawn, before, eye)
-    canvas = Canvas(eye, lights, left, top, width, height)
+    canvas = Canvas(eye, lights, not drawn.faces, left, top, width, height)
     return [part for item in far_to_near(items) if (part := canvas.item(item))]

@@ -57,11 +57,13 @@ def lines_of(text):
 
 
 def lanes_of(lines):
-    lanes = {}
+    """The lanes of a trace, those of one node together, each in the order of its first line."""
+    lanes, nodes = {}, {}
     for line in lines:
         number, _, name, value = line.split(" ", 3)
         lanes.setdefault(name, Lane(name)).events.append((int(number), value, line))
-    return [*lanes.values()]
+        nodes.setdefault(name.split(".")[0], len(nodes))
+    return sorted(lanes.values(), key=lambda lane: nodes[lane.name.split(".")[0]])
 
 
 def heights(values):
