@@ -1,4 +1,5 @@
-"""Chromium without a screen, driven over its remote debugging port: as much as the tests of the room want."""
+"""Chromium without a screen, driven over its remote debugging port, as far as tests of the room
+want it."""
 import base64
 import json
 import os
@@ -91,7 +92,7 @@ class Page:
         return answer["result"].get("value")
 
     def wait(self, expression, seconds=SECONDS):
-        """Waits until an expression is true, and tells for how long; after so many seconds it fails."""
+        """Waits until an expression is true, so many seconds at most; how long it was."""
         begun = time.monotonic()
         while not self.value(expression):
             if time.monotonic() - begun > seconds:
@@ -151,7 +152,8 @@ class Browser:
         self.port = int(port.read_text().split()[0])
 
     def open(self, address):
-        ask = urllib.request.Request(f"http://127.0.0.1:{self.port}/json/new?{address}", method="PUT")
+        new = f"http://127.0.0.1:{self.port}/json/new?{address}"
+        ask = urllib.request.Request(new, method="PUT")
         with urllib.request.urlopen(ask, timeout=SECONDS) as answer:
             return Page(json.load(answer)["webSocketDebuggerUrl"])
 

@@ -46,7 +46,7 @@ class Host:
         return [{"kind": "taken", "boot": boot, "ordinal": ordinal}]
 
     def next_of(self, who, boot):
-        """The offer that is numbered next: the first of a later boot, or the one behind the last."""
+        """The offer that is numbered next: the first of a later boot, or that behind the last."""
         last = self.taken.get(who, (0, 0))
         return (boot, 1) if boot > last[0] else (last[0], last[1] + 1)
 
@@ -70,7 +70,7 @@ class Viewer:
         self.waiting.append({**offer, "down": down, "aim": aim})
 
     def due(self):
-        """What it sends in a turn: the oldest offers that aren't numbered yet, and what it asks for."""
+        """What it sends in a turn: the oldest offers that wait, and what it asks for."""
         return [*self.waiting[:4], {"kind": "ask", "who": self.who, "first": self.applied + 1}]
 
     def take(self, datagram):
@@ -176,7 +176,7 @@ class Room:
             viewer.world.close()
 
     def leave(self, who):
-        """Frees the seat of a window that is gone for good; who sits there next has a later boot."""
+        """Frees the seat of a window that is gone; who sits there next has a later boot."""
         self.kill(who)
         self.seats.discard(who)
         self.saved.pop(who, None)
@@ -203,7 +203,7 @@ class Room:
             self.viewers[who].take(datagram)
 
     def status(self):
-        """What a window shows of each viewer, and whether those that run are equal at one number."""
+        """What windows show of each viewer, and at which number those that run are equal."""
         counts = [viewer.applied for viewer in self.viewers.values()]
         least = min(counts, default=0)
         common = {viewer.digests.get(least) for viewer in self.viewers.values()}

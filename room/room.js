@@ -2,7 +2,7 @@
 "use strict";
 
 const COLORS = ["#0b63a5", "#b4560b", "#00795b", "#8a3d85", "#5b5b12", "#a3263a", "#2f4b7c", "#7a5200"];
-const STOPS = 120, LANE = 18, PACE = 90;
+const STOPS = 120, LANE = 18, LANES = 30, PACE = 90;
 const byId = (id) => document.getElementById(id);
 const colorOf = (who) => COLORS[who % COLORS.length];
 const state = { who: null, token: null, n: 0, status: null, scene: null, lanes: new Map(), gone: false };
@@ -294,11 +294,12 @@ const heightOf = (value) => (Array.isArray(value) ? value.reduce((sum, part) => 
 const marks = [];
 
 function drawLanes() {
-  const canvas = byId("lanes"), wide = canvas.clientWidth, high = canvas.clientHeight;
+  const canvas = byId("lanes"), names = [...state.lanes.keys()].slice(0, LANES);
+  const wide = canvas.clientWidth, high = LANE * Math.max(3, names.length) + 6;
+  canvas.style.height = `${high}px`;
   canvas.width = wide;
   canvas.height = high;
   const draw = canvas.getContext("2d"), left = 190, right = wide - 10, span = 90;
-  const names = [...state.lanes.keys()].slice(0, Math.floor((high - 6) / LANE));
   const x = (number) => right - (right - left) * Math.min(1, (state.n - number) / span);
   draw.font = '12px "DejaVu Sans", sans-serif';
   marks.length = 0;

@@ -62,7 +62,7 @@ class Window:
         return self.budget >= 1
 
     def tell(self, kind, data):
-        """Puts an event into its queue; a window that doesn't read is cut off, and may come back."""
+        """Puts an event into its queue; a window that doesn't read is cut off."""
         if self.news:
             try:
                 self.news.put_nowait((kind, data))
@@ -76,7 +76,6 @@ class Service:
     def __init__(self, text, rate):
         self.room, self.lock, self.windows = Room(text), threading.Lock(), {}
         self.rate = rate or self.room.make.RATE
-        self.begun = time.monotonic()
 
     def run(self):
         due, turn = time.monotonic(), 0
@@ -87,7 +86,8 @@ class Service:
             time.sleep(max(0.005, due - time.monotonic()))
 
     def turn(self, turn):
-        news = self.room.turn(1 + int(1e6 * (time.monotonic() - self.begun)))
+        """A turn at the time of day, as X3D counts it: so no timer starts by its default of 0."""
+        news = self.room.turn(time.time_ns() // 1000)
         status = self.room.status() if turn % max(1, round(self.rate / 5)) == 0 else None
         for window in [*self.windows.values()]:
             if window.who in news:

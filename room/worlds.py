@@ -24,7 +24,8 @@ def decimal(millionths):
 
 def ran(job):
     """What the program prints for a job: the lines of the trace, and the scene."""
-    done = subprocess.run([PROGRAM, "run"], input=job.encode(), capture_output=True, timeout=SECONDS)
+    words, given = [PROGRAM, "run"], job.encode()
+    done = subprocess.run(words, input=given, capture_output=True, timeout=SECONDS)
     if done.returncode:
         raise Refused(done.stderr.decode().strip())
     trace, mark, scene = ("\n" + done.stdout.decode()).partition("\n#X3D V")

@@ -26,7 +26,7 @@ class Paint:
 
 @dataclass
 class Face:
-    """A flat polygon: `edges` says of each corner whether the line from it on is an edge to draw."""
+    """A flat polygon: `edges` says of each corner whether the line from it on is drawn."""
 
     corners: list
     edges: list

@@ -153,7 +153,7 @@ def far_to_near(items):
 
 
 class Canvas:
-    """Draws items of the eye's coordinates into a rectangle of an SVG; with `names` lamps are named."""
+    """Draws items of the eye's coordinates into a rectangle of an SVG; `names`: lamps are named."""
 
     def __init__(self, eye, lights, names, left, top, width, height):
         self.lights, self.names = lights, names

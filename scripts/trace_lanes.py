@@ -67,7 +67,7 @@ def lanes_of(lines):
 
 
 def heights(values):
-    """The values as numbers from 0 to 1, and whether they are whole; none if they are no numbers."""
+    """The values as numbers from 0 to 1, and whether they are whole; none of other values."""
     if all(value in ("TRUE", "FALSE") for value in values):
         return [float(value == "TRUE") for value in values], True
     parts = [value.strip("[]").split() for value in values]
@@ -109,8 +109,9 @@ class Chart:
 
     def x(self, number):
         times = [step.time for step in self.steps]
-        begin, end = (times[self.first], times[-1]) if self.by_time else (self.first, len(times) - 1)
-        here = times[number] if self.by_time else number
+        begin, end, here = self.first, len(times) - 1, number
+        if self.by_time:
+            begin, end, here = (times[place] for place in (begin, end, here))
         part = (here - begin) / (end - begin) if end > begin else 0.5
         return self.left + 6 + part * self.room()
 
@@ -129,14 +130,14 @@ class Chart:
         return parts
 
     def inputs(self):
-        """The lane of inputs: a bar for a clock, a ring for a pointer, filled where it is pressed."""
+        """The lane of inputs: a bar for a clock, a ring for a pointer, filled if pressed."""
         y = self.top + LANE / 2 + 3
         parts = [f'<text x="{self.label:.1f}" y="{y + 4}" class="name">inputs</text>']
         for number, step in self.inputs_from(1):
             x, title = self.x(number), f"<title>input {number}: {escape(step.line)}</title>"
             if step.point:
-                how = "press" if step.down else "point"
-                parts.append(f'<circle cx="{x:.1f}" cy="{y}" r="3.5" class="{how}">{title}</circle>')
+                how = f'r="3.5" class="{"press" if step.down else "point"}"'
+                parts.append(f'<circle cx="{x:.1f}" cy="{y}" {how}>{title}</circle>')
             else:
                 parts.append(f'<path d="M{x:.1f},{y - 6}v12" class="clock">{title}</path>')
         return parts
