@@ -106,7 +106,7 @@ class Service:
 
     def window(self, token):
         """The window of a token, compared so that time tells nothing of it."""
-        given = token.encode() if isinstance(token, str) else b""
+        given = token.encode(errors="replace") if isinstance(token, str) else b""
         for window in self.windows.values():
             if hmac.compare_digest(window.token.encode(), given):
                 return window
@@ -205,7 +205,7 @@ class Handler(BaseHTTPRequestHandler):
 
     def send_error(self, code, message=None, explain=None):
         """What http.server itself refuses, as a bad request line, is answered in the same form."""
-        self.refuse(Wrong(code, message or "refused"))
+        self.refuse(Wrong({501: 405}.get(code, code if code < 500 else 400), message or "refused"))
 
     def refuse(self, wrong):
         self.close_connection = True
@@ -309,7 +309,9 @@ class Server(ThreadingHTTPServer):
 
 
 def scene_of(text):
-    return ("\n" + text).partition("\nscene\n")[2] or text
+    """The scene of a job; a text without a line `scene` is one."""
+    found = re.search(r"^scene\r?\n", text, re.M)
+    return text[found.end() :] if found else text
 
 
 def main():

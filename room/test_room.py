@@ -1,5 +1,5 @@
 #!/usr/bin/env python3
-"""Tests of the room: its core, its server under hostile requests, and two windows of a real browser.
+"""Tests of the room: its core, its server under hostile requests, two windows of a real browser.
 
 usage: room/test_room.py [NAME..]
 Where no browser is installed its tests say "skipped". $SECONDS is how long windows are clicked
@@ -11,6 +11,7 @@ import json
 import os
 import random
 import re
+import socket
 import subprocess
 import sys
 import tempfile
@@ -133,7 +134,7 @@ def test_what_isnt_its_own_is_refused():
         assert get("/") == get("/room.js") == get("/three.js") == 200
         assert get("/../server.py") == get("/server.py") == get("/%2e%2e/etc/passwd") == 404
         assert get("/join") == 405 and served.ask("POST", "/room.js", "{}")[0] == 405
-        assert served.ask("DELETE", "/")[0] in (405, 501)
+        assert served.ask("DELETE", "/")[0] == served.ask("OPTIONS", "/join")[0] == 405
         assert get("/", Host="evil.example") == 403
         status, seat = served.post("/join")
         assert status == 200
@@ -167,7 +168,22 @@ def hostile(chance, token):
         return json.dumps({"token": token, "down": True, "aim": far}).encode()
     if kind == 4:
         return json.dumps([token, {"aim": None}, 1e308, "\ud800"]).encode()
-    return json.dumps({"token": {"a": [token]}, "aim": "NaN", "down": [[]]}).encode()
+    odd = chance.choice(("\ud800", {"a": [token]}, None, 1e308, float("nan"), ""))
+    return json.dumps({"token": odd, "aim": "NaN", "down": [[]], "loss": float("nan")}).encode()
+
+
+def test_what_is_no_http_never_stops_it():
+    chance = random.Random(5)
+    lines = b"GET / HTTP/9.9", b"GET", b"POST /point HTTP/1.1\r\nHost: \xff", b"a" * 70_000
+    with Served() as served:
+        for number in range(200):
+            noise = bytes(chance.randrange(256) for _ in range(chance.randrange(1, 300)))
+            with socket.create_connection(("127.0.0.1", served.port), timeout=60) as link:
+                link.sendall(chance.choice((*lines, noise)) + b"\r\n\r\n")
+                if number % 2:
+                    link.shutdown(socket.SHUT_WR)
+                    link.recv(1 << 16)
+        assert served.post("/join")[0] == 200
 
 
 def test_hostile_bodies_never_stop_it():

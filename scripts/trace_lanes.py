@@ -95,8 +95,11 @@ class Chart:
         values = [len(short(lane.events[-1][1])) for lane in lanes]
         self.left, self.right = self.label + 8, right - LETTER * max([2, *values]) - 8
         self.first = 0 if any(lane.events[0][0] == 0 for lane in lanes) else 1
-        self.bottom = top + LANE * (len(lanes) + 1) + 6
+        self.bottom = top - 20 if self.empty() else top + LANE * (len(lanes) + 1) + 6
         self.by_time = self.stands_by_time()
+
+    def empty(self):
+        return not self.lanes and len(self.steps) == 1
 
     def room(self):
         return self.right - self.left - 12
@@ -173,6 +176,8 @@ class Chart:
         yield f'<path d="{path}" fill="none" stroke="{color}" stroke-width="1.4"/>'
 
     def elements(self):
+        if self.empty():
+            return []
         parts = self.labels() + self.inputs()
         for k in range(len(self.lanes)):
             parts += self.lane(k)
