@@ -10,8 +10,10 @@ NEAR, FLAT = 0.02, 1e-6
 TREE_FACES = 4000
 # Where the light stands from that goes with the eye: above it and to its left.
 HEAD = (-0.30, 0.52, 0.80)
-# How much of its Shape's color a text keeps, to be read on white.
-INK = 0.7
+# How much of its Shape's color a text keeps, to be read on white, and of the color of no Material.
+INK, PLAIN_INK = 0.7, 0.4
+# How far a lamp is drawn beside another one that is at the same place.
+BESIDE = 70
 GHOST = Paint((0.45, 0.45, 0.45), opacity=0)
 
 
@@ -156,7 +158,7 @@ class Canvas:
     """Draws items of the eye's coordinates into a rectangle of an SVG; `names`: lamps are named."""
 
     def __init__(self, eye, lights, names, left, top, width, height):
-        self.lights, self.names = lights, names
+        self.lights, self.names, self.taken = lights, names, []
         self.scale = min(width, height) / 2 / math.tan(min(eye.angle, 3) / 2)
         self.center = (left + width / 2, top + height / 2)
 
@@ -202,16 +204,19 @@ class Canvas:
             near = tuple(a + 0.01 * b for a, b in zip(item.place, step))
             ends.append([100 * (b - a) for a, b in zip(start, self.spot(near))])
         (a, b), (c, d) = ends
+        ink = PLAIN_INK if item.paint == Paint() else INK
         size = item.size / 20
         parts = (a * size, b * size, -c * size, -d * size, *start)
         matrix = " ".join("%.4g" % part if k < 4 else "%.1f" % part for k, part in enumerate(parts))
         return (
             f'<text transform="matrix({matrix})" font-size="20" text-anchor="{item.anchor}" '
-            f'fill="{self.color(item.paint, INK)}">{escape(item.text)}</text>'
+            f'fill="{self.color(item.paint, ink)}">{escape(item.text)}</text>'
         )
 
     def lamp(self, item):
         x, y = self.spot(item.place)
+        x += BESIDE * self.taken.count((x, y))
+        self.taken.append(self.spot(item.place))
         size = min(max(0.12 * self.scale / -item.place[2], 4), 12)
         place = f'x="{x:.1f}" y="{y + 2.2 * size + 10:.1f}"'
         name = f'<text {place} class="lamp">{escape(item.name)}</text>' if self.names else ""
