@@ -21,6 +21,7 @@ from pathlib import Path
 sys.dont_write_bytecode = True
 import browser
 from core import Channel, Host, Room
+from scenes import page_scene
 from worlds import world_maker
 
 HERE = Path(__file__).resolve().parent
@@ -93,6 +94,31 @@ def test_viewers_are_equal_over_a_bad_channel():
     assert [point[1] for point in numbered] == [False, True, False], numbered
     assert status["equal_at"] and not status["different"], status
     assert "Door.translation 1.1 0 0\n" in room.viewers[second].world.trace(0)
+
+
+UNNAMED = """#X3D V3.0 utf8
+Group {
+  children [
+    Transform { children [ TouchSensor {} Shape { geometry DEF Twice Box {} } ] }
+    DEF Twice Transform { children Shape { geometry USE Twice } }
+    DEF N7 TimeSensor { startTime 1 }
+  ]
+}
+"""
+
+
+def test_labels_are_those_of_the_trace():
+    world = MAKER(UNNAMED)
+    world.clock(1, 1_000_000)
+    world.point(2, 1_000_001, 0, False, (AT_BUTTON[:2] + [5_000_000], AT_BUTTON[3:]))
+    world.point(3, 1_000_002, 0, False, ([0, 0, 5_000_000], [0, 0, -1_000_000]))
+    nodes = page_scene(world.scene(), UNNAMED)["nodes"]
+    # Numbers: the sensor, the box, its Shape, the Transform, the second Shape, and so on.
+    kinds = ["TouchSensor", "Box", "Shape", "Transform", "Shape", "Transform", "TimeSensor", "Group"]
+    wanted = [(f"N{number}", kind) for number, kind in enumerate(kinds)]
+    assert [(label, node["kind"]) for label, node in nodes.items()] == wanted
+    sent = {line.split(" ")[2].split(".")[0] for line in world.trace(0).splitlines()}
+    assert sent == {"N0", "N6"}, sent
 
 
 class Served:
