@@ -155,7 +155,10 @@ class Browser:
         new = f"http://127.0.0.1:{self.port}/json/new?{address}"
         ask = urllib.request.Request(new, method="PUT")
         with urllib.request.urlopen(ask, timeout=SECONDS) as answer:
-            return Page(json.load(answer)["webSocketDebuggerUrl"])
+            page = Page(json.load(answer)["webSocketDebuggerUrl"])
+        # Each window counts as the one in front: what is hidden draws nothing and answers late.
+        page.call("Emulation.setFocusEmulationEnabled", enabled=True)
+        return page
 
     def close(self):
         self.process.terminate()

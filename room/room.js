@@ -350,11 +350,13 @@ function aim() {
   return [...whole(three.camera.position), ...whole(way)];
 }
 
-function offer() {
+/* Offers where the pointer is; one that is refused, as there are too many, is made again later. */
+async function offer() {
   clearTimeout(pointer.due);
   pointer.due = null;
   pointer.sent = Date.now();
-  if (state.scene) send("/point", { down: pointer.down, aim: aim() });
+  if (!state.scene || await send("/point", { down: pointer.down, aim: aim() })) return;
+  if (!byId("kill").disabled) setTimeout(moved, 1000);
 }
 
 function moved() {

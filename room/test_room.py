@@ -110,11 +110,11 @@ Group {
 def test_labels_are_those_of_the_trace():
     world = MAKER(UNNAMED)
     world.clock(1, 1_000_000)
-    world.point(2, 1_000_001, 0, False, (AT_BUTTON[:2] + [5_000_000], AT_BUTTON[3:]))
+    world.point(2, 1_000_001, 0, False, (AT_BUTTON[:3], AT_BUTTON[3:]))
     world.point(3, 1_000_002, 0, False, ([0, 0, 5_000_000], [0, 0, -1_000_000]))
     nodes = page_scene(world.scene(), UNNAMED)["nodes"]
     # Numbers: the sensor, the box, its Shape, the Transform, the second Shape, and so on.
-    kinds = ["TouchSensor", "Box", "Shape", "Transform", "Shape", "Transform", "TimeSensor", "Group"]
+    kinds = "TouchSensor Box Shape Transform Shape Transform TimeSensor Group".split()
     wanted = [(f"N{number}", kind) for number, kind in enumerate(kinds)]
     assert [(label, node["kind"]) for label, node in nodes.items()] == wanted
     sent = {line.split(" ")[2].split(".")[0] for line in world.trace(0).splitlines()}
