@@ -125,7 +125,9 @@ class Browser:
     """A browser with a folder of its own, which ends with it."""
 
     def __init__(self):
-        self.folder = tempfile.TemporaryDirectory(prefix="room-browser-")
+        # Its processes may write a moment longer than it runs.
+        named = {"prefix": "room-browser-", "ignore_cleanup_errors": True}
+        self.folder = tempfile.TemporaryDirectory(**named)
         words = [
             installed(),
             "--headless=new",
