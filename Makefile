@@ -1,10 +1,11 @@
 # `make run` shows the program at work, `make test` is the gate.
 SHELL := bash
 .SHELLFLAGS := -eu -o pipefail -c
-.PHONY: run try quick share soak fuzz test cases prefixes refusals check definitions calls bench format install library \
-        bindings
+.PHONY: run try quick picture room test-room share soak fuzz test cases prefixes refusals check definitions calls \
+        bench format install library bindings
 
 JOB ?= examples/two-clocks.job
+ROOM ?= examples/rooms/door.job
 PREFIX ?= /usr/local
 
 # How many checks the gate runs side by side, a process each: as many as there are processors, four at
@@ -24,6 +25,21 @@ try:
 quick:
 	@scripts/unproved out/quick/x3d_share
 	@PROGRAM=$$(realpath out/quick/x3d_share) scripts/cases --leave 10
+
+# Proves and builds the program, and draws a job: out of examples/door.job comes door.svg, here.
+picture:
+	@cd crates/x3d_share && rt run -- --version > /dev/null
+	@scripts/picture $(JOB) $(basename $(notdir $(JOB))).svg
+
+# Shows a shared world in browser windows: prints the address. Wants Debian's package libjs-three.
+room:
+	@cd crates/x3d_share && rt run -- --version > /dev/null
+	@room/server.py $(ROOM)
+
+# Tests that, in a real browser where chromium is installed. No part of `make test`.
+test-room:
+	@cd crates/x3d_share && rt run -- --version > /dev/null
+	@room/test_room.py
 
 # Proves and builds the program, and has a host and two viewers do a job over UDP, twice: the second
 # time through a proxy that loses, repeats and reorders datagrams.

@@ -89,7 +89,7 @@ def example(file):
 
 def all_files():
     """The files of cases, and the inputs of examples."""
-    examples = [file.with_suffix("") for file in (TOP / "examples").glob("*.args")]
+    examples = [file.with_suffix("") for file in (TOP / "examples").rglob("*.args")]
     return sorted([*(TOP / "cases").glob("*.cases"), *examples])
 
 

@@ -1,0 +1,172 @@
+"""Chromium without a screen, driven over its remote debugging port, as far as tests of the room
+want it."""
+import base64
+import json
+import os
+import shutil
+import socket
+import struct
+import subprocess
+import tempfile
+import time
+import urllib.request
+from pathlib import Path
+
+NAMES = ("chromium", "chromium-browser", "google-chrome")
+SECONDS = 60
+
+
+def installed():
+    """The path of a browser, if there is one."""
+    return next(filter(None, map(shutil.which, NAMES)), None)
+
+
+class Socket:
+    """A WebSocket (RFC 6455) as a client: whole texts, in one frame each way or several."""
+
+    def __init__(self, address):
+        host, path = address.removeprefix("ws://").split("/", 1)
+        name, port = host.split(":")
+        self.link = socket.create_connection((name, int(port)), timeout=SECONDS)
+        key = base64.b64encode(os.urandom(16)).decode()
+        ask = (
+            f"GET /{path} HTTP/1.1\r\nHost: {host}\r\nUpgrade: websocket\r\n"
+            f"Connection: Upgrade\r\nSec-WebSocket-Key: {key}\r\nSec-WebSocket-Version: 13\r\n\r\n"
+        )
+        self.link.sendall(ask.encode())
+        self.file = self.link.makefile("rb")
+        if b"101" not in self.file.readline():
+            raise ConnectionError("no WebSocket")
+        while self.file.readline().strip():
+            pass
+
+    def send(self, text):
+        data, mask = text.encode(), os.urandom(4)
+        size = len(data)
+        head = b"\x81" + (
+            bytes([0x80 | size])
+            if size < 126
+            else bytes([0xFE]) + struct.pack(">H", size)
+            if size < 1 << 16
+            else bytes([0xFF]) + struct.pack(">Q", size)
+        )
+        masked = bytes(byte ^ mask[k % 4] for k, byte in enumerate(data))
+        self.link.sendall(head + mask + masked)
+
+    def receive(self):
+        whole = b""
+        while True:
+            first, second = self.file.read(2)
+            size = second & 0x7F
+            if size > 125:
+                size = int.from_bytes(self.file.read(2 if size == 126 else 8), "big")
+            data = self.file.read(size)
+            if first & 0x0F in (0, 1):
+                whole += data
+                if first & 0x80:
+                    return whole.decode()
+
+
+class Page:
+    """One window of the browser."""
+
+    def __init__(self, address):
+        self.socket, self.number = Socket(address), 0
+
+    def call(self, method, **given):
+        self.number += 1
+        self.socket.send(json.dumps({"id": self.number, "method": method, "params": given}))
+        while True:
+            answer = json.loads(self.socket.receive())
+            if answer.get("id") == self.number:
+                if "error" in answer:
+                    raise RuntimeError(f"{method}: {answer['error']}")
+                return answer["result"]
+
+    def value(self, expression):
+        """What an expression of JavaScript is in the page."""
+        given = {"expression": expression, "returnByValue": True, "awaitPromise": True}
+        answer = self.call("Runtime.evaluate", **given)
+        if "exceptionDetails" in answer:
+            raise RuntimeError(json.dumps(answer["exceptionDetails"])[:600])
+        return answer["result"].get("value")
+
+    def wait(self, expression, seconds=SECONDS):
+        """Waits until an expression is true, so many seconds at most; how long it was."""
+        begun = time.monotonic()
+        while not self.value(expression):
+            if time.monotonic() - begun > seconds:
+                raise AssertionError(f"not within {seconds} s: {expression}")
+            time.sleep(0.05)
+        return time.monotonic() - begun
+
+    def mouse(self, kind, spot, buttons=0):
+        given = {"type": kind, "x": spot[0], "y": spot[1], "button": "left" if buttons else "none"}
+        if kind != "mouseMoved":
+            given.update(button="left", clickCount=1)
+        self.call("Input.dispatchMouseEvent", buttons=buttons, **given)
+
+    def click(self, spot):
+        self.mouse("mouseMoved", spot)
+        self.mouse("mousePressed", spot, 1)
+        self.mouse("mouseReleased", spot)
+
+    def key(self, key, code, down=True):
+        text = {"text": key} if down and len(key) == 1 else {}
+        given = {"type": "keyDown" if down else "keyUp", "key": key, "code": code}
+        self.call("Input.dispatchKeyEvent", **given, **text)
+
+    def picture(self, file):
+        data = self.call("Page.captureScreenshot", format="png")["data"]
+        Path(file).write_bytes(base64.b64decode(data))
+
+
+class Browser:
+    """A browser with a folder of its own, which ends with it."""
+
+    def __init__(self):
+        # Its processes may write a moment longer than it runs.
+        named = {"prefix": "room-browser-", "ignore_cleanup_errors": True}
+        self.folder = tempfile.TemporaryDirectory(**named)
+        words = [
+            installed(),
+            "--headless=new",
+            "--remote-debugging-port=0",
+            f"--user-data-dir={self.folder.name}",
+            "--window-size=900,1000",
+            "--disable-dev-shm-usage",
+            "--disable-background-timer-throttling",
+            "--disable-renderer-backgrounding",
+            "--disable-backgrounding-occluded-windows",
+            "--enable-unsafe-swiftshader",
+            "--no-first-run",
+            *(["--no-sandbox"] if os.geteuid() == 0 else []),
+            "about:blank",
+        ]
+        quiet = subprocess.DEVNULL
+        self.process = subprocess.Popen(words, stdout=quiet, stderr=quiet)
+        port = Path(self.folder.name, "DevToolsActivePort")
+        begun = time.monotonic()
+        while not port.exists() or not port.read_text().strip():
+            if time.monotonic() - begun > SECONDS or self.process.poll() is not None:
+                raise RuntimeError("the browser didn't start")
+            time.sleep(0.1)
+        self.port = int(port.read_text().split()[0])
+
+    def open(self, address):
+        new = f"http://127.0.0.1:{self.port}/json/new?{address}"
+        ask = urllib.request.Request(new, method="PUT")
+        with urllib.request.urlopen(ask, timeout=SECONDS) as answer:
+            page = Page(json.load(answer)["webSocketDebuggerUrl"])
+        # Each window counts as the one in front: what is hidden draws nothing and answers late.
+        page.call("Emulation.setFocusEmulationEnabled", enabled=True)
+        return page
+
+    def close(self):
+        self.process.terminate()
+        try:
+            self.process.wait(20)
+        except subprocess.TimeoutExpired:
+            self.process.kill()
+            self.process.wait()
+        self.folder.cleanup()
