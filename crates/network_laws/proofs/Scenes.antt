@@ -18,7 +18,7 @@ use Rattle.flat_document.specs.declared.flat.FlatNode.{FlatNode}
 use Rattle.proto_walk.specs.Whole.{flat}
 use Rattle.scene_core.specs.Building.{called, limits, node_of, nodes_by, nodes_of, scene_by, scene_of, with_node}
 use Rattle.scene_core.specs.Faults.{fault, through, ◌>>=◌}
-use Rattle.scene_core.specs.Labels.{is_alone, label_by, names_of}
+use Rattle.scene_core.specs.Labels.{is_alone, is_label, label_by, names_of}
 use Rattle.scene_core.specs.Numbers.{numbering}
 use Rattle.scene_core.specs.Parts.{given, inner_nodes}
 use Rattle.scene_core.specs.Scene.{SceneView}
@@ -166,16 +166,16 @@ all_values_so nodes numbers node h =
     (λ vs k. declared_values_so nodes numbers node.fields h (length (rows node.node_type)) (numbered_fields node.node_type node.interface) vs k)
 
 abbrev new_node : (List ℕ → Bool) → FlatNode → List (Option Value) → SceneNode
-new_node alone node values = record {
+new_node keeps node values = record {
   node_type = node.node_type;
-  label = label_by alone node.name;
+  label = label_by keeps node.name;
   declared = map declared_by node.interface;
   values = values;
 }
 
-node_so : (nodes : List FlatNode) (numbers : List ℕ) (alone : List ℕ → Bool) (node : FlatNode) → IsShortNode max_len node → IfSo (IsShortSceneNode max_len) (node_of nodes numbers alone node)
-node_so nodes numbers alone node h =
-    then_so AllShort (IsShortSceneNode max_len) (values_of nodes numbers node) (λ values. Ok (new_node alone node values)) (all_values_so nodes numbers node h) (λ vs k. k)
+node_so : (nodes : List FlatNode) (numbers : List ℕ) (keeps : List ℕ → Bool) (node : FlatNode) → IsShortNode max_len node → IfSo (IsShortSceneNode max_len) (node_of nodes numbers keeps node)
+node_so nodes numbers keeps node h =
+    then_so AllShort (IsShortSceneNode max_len) (values_of nodes numbers node) (λ values. Ok (new_node keeps node values)) (all_values_so nodes numbers node h) (λ vs k. k)
 
 abbrev AllNodes : List SceneNode → Type 0
 AllNodes ns = AllByRecursion (IsShortSceneNode max_len) ns
@@ -183,7 +183,7 @@ AllNodes ns = AllByRecursion (IsShortSceneNode max_len) ns
 with_node_so : (nodes : List FlatNode) (numbers : List ℕ) (alone : List ℕ → Bool) (o : Option FlatNode) (done : List SceneNode) → IfAny (IsShortNode max_len) o → AllNodes done → IfSo AllNodes (with_node nodes numbers alone o done)
 with_node_so nodes numbers alone None done h k = k
 with_node_so nodes numbers alone (Some node) done h k =
-    then_so (IsShortSceneNode max_len) AllNodes (node_of nodes numbers alone node) (λ n. Ok (done ++ n ∷ [])) (node_so nodes numbers alone node h)
+    then_so (IsShortSceneNode max_len) AllNodes (node_of nodes numbers (is_label alone (length done)) node) (λ n. Ok (done ++ n ∷ [])) (node_so nodes numbers (is_label alone (length done)) node h)
     (λ n i. all_append (IsShortSceneNode max_len) done (n ∷ []) k (i, tt))
 
 nodes_so : (nodes : List FlatNode) (s : Numbering) (alone : List ℕ → Bool) → AllByRecursion (IsShortNode max_len) nodes → IfSo AllNodes (nodes_by nodes s alone)

@@ -1,5 +1,5 @@
 -- The scene of a document (ISO/IEC 19775-1, scene graph).
-use Rattle.std.specs.Prelude.{◌≡◌, ℕ, ◌++◌, Bool, ◌||◌, nat_lt, List, [], ◌∷◌, map, Option, Some, None, Result, Ok, Err, slice_get, slice_index_or, if◌then◌else◌}
+use Rattle.std.specs.Prelude.{◌≡◌, ℕ, ◌++◌, Bool, ◌||◌, nat_lt, length, List, [], ◌∷◌, map, Option, Some, None, Result, Ok, Err, slice_get, slice_index_or, if◌then◌else◌}
 use Rattle.flat_document.specs.declared.flat.Flat.{Flat}
 use Rattle.flat_document.specs.declared.flat.FlatNode.{FlatNode}
 use Rattle.scene_core.specs.declared.fault.SceneFault.{SceneFault}
@@ -9,7 +9,7 @@ use Rattle.scene_core.specs.declared.scene.SceneNode.{SceneNode}
 use Rattle.x3d_values.specs.Ranges.{max_depth}
 use Rattle.scene_core.specs.Deep.{too_deep}
 use Rattle.scene_core.specs.Faults.{fault, through, ◌>>=◌}
-use Rattle.scene_core.specs.Labels.{label_by, is_alone, names_of}
+use Rattle.scene_core.specs.Labels.{label_by, is_alone, is_label, names_of}
 use Rattle.scene_core.specs.Numbers.{numbering}
 use Rattle.scene_core.specs.Places.{places, max_places, any_crowded}
 use Rattle.scene_core.specs.Scene.{SceneView}
@@ -17,24 +17,24 @@ use Rattle.scene_core.specs.Shape.{declared_by}
 use Rattle.scene_core.specs.Typed.{values_of, all_children}
 use Rattle.scene_core.specs.Wide.{any_wide}
 
--- a node; it keeps the names that one node alone has
+-- a node; it keeps its name where that is its label
 abbrev pub node_of : List FlatNode → List ℕ → (List ℕ → Bool) → FlatNode
     → Result SceneNode SceneFault
-node_of nodes numbers alone node =
+node_of nodes numbers is_label node =
     values_of nodes numbers node >>= λ values.
     Ok (record {
       node_type = node.node_type;
-      label = label_by alone node.name;
+      label = label_by is_label node.name;
       declared = map declared_by node.interface;
       values = values;
     })
 
--- the next node behind those made so far
+-- the next node behind those made so far, whose count is its number
 abbrev pub with_node : List FlatNode → List ℕ → (List ℕ → Bool) → Option FlatNode → List SceneNode
     → Result (List SceneNode) SceneFault
 with_node nodes numbers alone None made = Ok made
 with_node nodes numbers alone (Some node) made =
-    node_of nodes numbers alone node >>= λ n. Ok (made ++ n ∷ [])
+    node_of nodes numbers (is_label alone (length made)) node >>= λ n. Ok (made ++ n ∷ [])
 
 unfoldable pub nodes_by : List FlatNode → Numbering → (List ℕ → Bool)
     → Result (List SceneNode) SceneFault

@@ -1,6 +1,7 @@
--- The names that nodes keep (our choice): DEF names that one node alone has, and that are no names
--- of other nodes by their numbers.
-use Rattle.std.specs.Prelude.{ℕ, Bool, false, not, ◌&&◌, ◌==◌, length, nat_le, List, [], ◌∷◌, Option, Some, None, slice_get, is_none, if◌then◌else◌}
+-- The names that nodes keep (our choice): DEF names that are the labels of their nodes. So are
+-- those that one node alone has, and that aren't `N` with digits; and so is `N` with the number of
+-- the node itself, whoever else has it.
+use Rattle.std.specs.Prelude.{ℕ, Bool, false, not, ◌&&◌, ◌||◌, ◌==◌, length, nat_le, List, [], ◌∷◌, Option, Some, None, slice_get, is_none, if◌then◌else◌}
 use Rattle.std.specs.List.{filter_map, count_by, list_all}
 use Rattle.std.specs.Option.{option_and_then}
 use Rattle.std.specs.Str.{bytes_eq}
@@ -9,6 +10,7 @@ use Rattle.std.specs.Cmp.Lexicographic.{slice_cmp}
 use Rattle.std.specs.Ordering.{nat_cmp}
 use Rattle.flat_document.specs.declared.flat.FlatNode.{FlatNode}
 use Rattle.scene_core.specs.declared.labels.Marks.{Marks}
+use Rattle.scene_core.specs.Scene.{label_or}
 
 abbrev pub name_at : List FlatNode → ℕ → Option (List ℕ)
 name_at nodes n = option_and_then (λ (node : FlatNode). node.name) (slice_get nodes n)
@@ -32,10 +34,18 @@ is_numbered (c ∷ rest) = if c == 78 then are_digits rest else false
 abbrev pub is_alone : List (List ℕ) → List ℕ → Bool
 is_alone names name = count_by (λ other. bytes_eq other name) names == 1
 
+-- what the node of that number is called without a name of its own
+abbrev pub is_own_number : ℕ → List ℕ → Bool
+is_own_number number name = bytes_eq name (label_or number None)
+
+-- the DEF name is the label of the node of that number
+abbrev pub is_label : (List ℕ → Bool) → ℕ → List ℕ → Bool
+is_label alone number name = (alone name && not (is_numbered name)) || is_own_number number name
+
 -- the name that a node keeps
 abbrev pub label_by : (List ℕ → Bool) → Option (List ℕ) → Option (List ℕ)
-label_by alone (Some name) = if alone name && not (is_numbered name) then Some name else None
-label_by alone None = None
+label_by is_label (Some name) = if is_label name then Some name else None
+label_by is_label None = None
 
 -- ---- what is known of names after some of them: whether one was alone
 

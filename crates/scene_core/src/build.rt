@@ -5,7 +5,7 @@ ghost use Rattle.x3d_lists.specs.Answers.{Gives};
 ghost use Rattle.scene_core.specs.Building as spec;
 ghost use Rattle.scene_core.specs.Checked.{check, checked_nodes};
 ghost use Rattle.scene_core.specs.Faults.{memory};
-ghost use Rattle.scene_core.specs.Labels.{known_of, known_alone};
+ghost use Rattle.scene_core.specs.Labels.{is_label, known_of, known_alone};
 
 use crate::at::number_at;
 use crate::behind::with_item;
@@ -146,18 +146,20 @@ fn header_copy(alloc: Global, header: &Header) -> Result<Header, AllocError>
     })
 }
 
+/// The node of that number.
 fn node_of(
     alloc: Global,
     known: Known<'_>,
     marks: &Marks<'_>,
+    number: usize,
     node: &FlatNode,
 ) -> Result<SceneNode, SceneFault>
     ensures { Gives memory (λ n. n) result
         (spec.node_of known.entry.nodes.now known.entry.numbers.now
-        (λ name. known_alone (known_of marks.now name)) node.now) }
+        (is_label (λ name. known_alone (known_of marks.now name)) number) node.now) }
 {
     let values = values_of(alloc, known, node)?;
-    let Ok(label) = label_of(alloc, marks, &node.name) else {
+    let Ok(label) = label_of(alloc, marks, number, &node.name) else {
         drop(values);
         return Err(fault(SceneFaultKind::Memory, 0));
     };
@@ -189,7 +191,8 @@ fn with_node(
     let Some(node) = known.nodes.get(n as usize) else {
         return Ok(made);
     };
-    with_item(made, node_of(alloc, known, marks, node))
+    let number = made.len();
+    with_item(made, node_of(alloc, known, marks, number, node))
 }
 
 #[tactic(auto, unfolding(crate::specs::Building::nodes_by))]

@@ -1,8 +1,9 @@
 //! The names that nodes keep.
 
-ghost use Rattle.std.specs.Prelude.{◌≡◌, ◌++◌, OnOk, IfOk};
+ghost use Rattle.std.specs.Prelude.{◌≡◌, ◌++◌, OnOk, IfOk, decimal};
 ghost use Rattle.std.specs.List.{fold, list_all};
 ghost use Rattle.std.specs.Option.{option_copied};
+ghost use Rattle.std.specs.Str.{bytes_eq};
 ghost use Rattle.x3d_lists.specs.Extends.{Extends};
 ghost use Rattle.scene_core.specs.Scene.{label_or};
 ghost use Rattle.scene_core.specs.Labels as spec;
@@ -40,22 +41,33 @@ pub(crate) fn marked<'a>(
     Ok(marks)
 }
 
-/// The name that a node keeps.
+/// The name that the node of that number keeps.
 pub(crate) fn label_of(
     alloc: Global,
     marks: &Marks<'_>,
+    number: usize,
     name: &Option<Text>,
 ) -> Result<Option<Text>, AllocError>
     ensures { IfOk result
-        (λ label. label ≡ spec.label_by (λ n. spec.known_alone (known_of marks.now n)) name.now) }
+        (λ label. label ≡ spec.label_by
+        (spec.is_label (λ n. spec.known_alone (known_of marks.now n)) number) name.now) }
 {
     let Some(name) = name else {
         return Ok(None);
     };
-    if !known(marks, name).unwrap_or(false) || is_numbered(name.as_bytes()) {
+    if !is_label(marks, number, name) {
         return Ok(None);
     }
     Ok(Some(name.duplicate(alloc)?))
+}
+
+/// Whether a DEF name is the label of the node of that number.
+fn is_label(marks: &Marks<'_>, number: usize, name: &Text) -> bool
+    ensures { result
+        ≡ spec.is_label (λ n. spec.known_alone (known_of marks.now n)) number name.now }
+{
+    let alone = known(marks, name).unwrap_or(false);
+    (alone && !is_numbered(name.as_bytes())) || is_own_number(number, name.as_bytes())
 }
 
 /// Appends what a node of that number is called that keeps this name; on a refusal perhaps a part
@@ -158,4 +170,21 @@ fn is_numbered(name: &[u8]) -> bool
         }
         [] => false,
     }
+}
+
+/// Whether a text is an `N` before that number.
+fn is_own_number(number: usize, name: &[u8]) -> bool
+    ensures { result ≡ spec.is_own_number number name.now }
+{
+    match name {
+        [first, rest @ ..] => *first == b'N' && is_decimal(number, rest),
+        [] => false,
+    }
+}
+
+fn is_decimal(number: usize, text: &[u8]) -> bool
+    ensures { result ≡ bytes_eq text.now (decimal number) }
+{
+    let mut digits = Buffer::new();
+    text == digits.format(number).as_bytes()
 }

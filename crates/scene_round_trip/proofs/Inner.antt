@@ -287,12 +287,12 @@ module _ (all : List FlatNode) (numbers : List ℕ) where
   new_node node label values =
       record { node_type = node.node_type; label = label; declared = map declared_by node.interface; values = values }
 
-  pub children_are : (alone : List ℕ → Bool) (node : FlatNode) (n : SceneNode) → node_of all numbers alone node ≡ Ok n → IsInner (children n) (parts node)
+  pub children_are : (is_label : List ℕ → Bool) (node : FlatNode) (n : SceneNode) → node_of all numbers is_label node ≡ Ok n → IsInner (children n) (parts node)
   unfolding values_of
-  children_are alone node n h =
+  children_are is_label node n h =
       let t : NodeType = node.node_type in
       let ds : List (Declaration ℕ) = numbered_fields t node.interface in
-      let label : Option (List ℕ) = label_by alone node.name in
+      let label : Option (List ℕ) = label_by is_label node.name in
       let a = bind_is (values_of all numbers node) (λ values. Ok (new_node node label values)) n h in
       let b = bind_is (values_from all numbers node.fields 0 (rows t) []) (declared_from all numbers node.fields (length (rows t)) ds) a.0 a.1 in
       let first = values_behind node.fields 0 (rows t) [] b.0 b.1 in

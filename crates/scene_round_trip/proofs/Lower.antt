@@ -17,7 +17,7 @@ use Rattle.scene_values.specs.Typing.{called}
 use Rattle.scene_round_trip.specs.Children.{ChildrenAreLower, children}
 use Rattle.scene_round_trip.proofs.Inner.{IsInner, children_are}
 use Rattle.scene_round_trip.proofs.NumberedLists.{In, all_in, in_append, in_back, in_front, in_map, index_is, map_in, some_is, within}
-use Rattle.scene_round_trip.proofs.NumberedScenes.{IsMade, IsSceneOf, alone_in, found, numbers_of, scene_is}
+use Rattle.scene_round_trip.proofs.NumberedScenes.{IsMade, IsSceneOf, alone_in, found, label_in, numbers_of, scene_is}
 use Rattle.scene_round_trip.proofs.Visits.{Edge, Has, Placed, Way, one_further}
 
 -- ---- nodes that a node links to
@@ -146,7 +146,7 @@ module _ (flat : Flat) (scene : SceneView) (h : IsSceneOf flat scene) where
   unfolding parts_of
   inner i x m =
       subst (λ (o : Option FlatNode). IsInner flat.nodes S.numbers (children m.node) (option_map_or parts o [])) (sym m.flat_is)
-      (children_are flat.nodes S.numbers (alone_in flat) m.flat m.node m.made)
+      (children_are flat.nodes S.numbers (label_in flat i) m.flat m.node m.made)
 
   shorts : (depth i x : ℕ) → slice_get S.order i ≡ Some x → slice_index_or (deeper_than scene.nodes depth) i false ≡ false → Short flat.nodes depth x
   shorts zero i x at d = let m = h.each i x at in absurd (true≢false (sym (all_deep scene.nodes i m.node m.node_is) ∙ d))

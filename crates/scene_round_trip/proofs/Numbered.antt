@@ -8,6 +8,7 @@ use Rattle.scene_core.specs.declared.numbering.Numbering.{Numbering}
 use Rattle.scene_core.specs.declared.scene.SceneNode.{SceneNode}
 use Rattle.scene_core.specs.Building.{node_of, with_node}
 use Rattle.scene_core.specs.Faults.{through}
+use Rattle.scene_core.specs.Labels.{is_label}
 use Rattle.scene_core.specs.Numbers.{is_new, appear, close, visit, unnumbered, numbering}
 use Rattle.scene_core.specs.Parts.{parts_of}
 use Rattle.scene_round_trip.proofs.Lists.{all_push, all_weaker, found}
@@ -141,7 +142,7 @@ module _ (nodes : List FlatNode) (numbers : List ℕ) (alone : List ℕ → Bool
       let rest = all_made ns b.0 all l.1 b.2 in omega (arith, one, rest) where
         with_one : (node : FlatNode) (made more : List SceneNode) → with_node nodes numbers alone (Some node) made ≡ Ok more → length more ≡ length made + 1
         with_one node made more h =
-            let b = bind_is (node_of nodes numbers alone node) (λ n. Ok (made ++ n ∷ [])) more h in
+            let b = bind_is (node_of nodes numbers (is_label alone (length made)) node) (λ n. Ok (made ++ n ∷ [])) more h in
             ap (λ (x : List SceneNode). length x) (sym (ok_is (made ++ b.0 ∷ []) more b.2)) ∙ one_more made b.0
 
 low_at : (count : ℕ) (numbers : List ℕ) (m : ℕ) → 1 ≤ count → AllByRecursion (IsLow count) numbers → slice_index_or numbers m 0 < count

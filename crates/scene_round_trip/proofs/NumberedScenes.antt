@@ -11,7 +11,7 @@ use Rattle.scene_core.specs.declared.scene.SceneNode.{SceneNode}
 use Rattle.scene_core.specs.Building.{called, limits, node_of, nodes_by, nodes_of, scene_of, with_node}
 use Rattle.scene_core.specs.Deep.{too_deep}
 use Rattle.scene_core.specs.Faults.{◌>>=◌, through}
-use Rattle.scene_core.specs.Labels.{is_alone, names_of}
+use Rattle.scene_core.specs.Labels.{is_alone, is_label, names_of}
 use Rattle.scene_core.specs.Numbers.{numbering}
 use Rattle.scene_core.specs.Scene.{SceneView}
 use Rattle.scene_core.specs.Typed.{all_children, child, takes}
@@ -33,7 +33,7 @@ module _ (nodes : List FlatNode) (numbers : List ℕ) (alone : List ℕ → Bool
     pub node : SceneNode
     pub flat_is : slice_get nodes x ≡ Some flat
     pub node_is : slice_get all i ≡ Some node
-    pub made : node_of nodes numbers alone flat ≡ Ok node
+    pub made : node_of nodes numbers (is_label alone i) flat ≡ Ok node
 
   record AreMade (order : List ℕ) (made all : List SceneNode) : Type 0 where
     pub kept : (i : ℕ) (n : SceneNode) → slice_get made i ≡ Some n → slice_get all i ≡ Some n
@@ -48,13 +48,13 @@ module _ (nodes : List FlatNode) (numbers : List ℕ) (alone : List ℕ → Bool
     pub flat : FlatNode
     pub node : SceneNode
     pub flat_is : slice_get nodes x ≡ Some flat
-    pub made_of : node_of nodes numbers alone flat ≡ Ok node
+    pub made_of : node_of nodes numbers (is_label alone (length made)) flat ≡ Ok node
     pub is : made ++ node ∷ [] ≡ more
 
   one_more : (x : ℕ) (made more : List SceneNode) → x < length nodes → step x made ≡ Ok more → IsOneMore x made more
   one_more x made more l h =
       let f = found nodes x l in
-      let b = bind_is (node_of nodes numbers alone f.0) (λ n. Ok (made ++ n ∷ [])) more
+      let b = bind_is (node_of nodes numbers (is_label alone (length made)) f.0) (λ n. Ok (made ++ n ∷ [])) more
       (sym (ap (λ (o : Option FlatNode). with_node nodes numbers alone o made) f.1) ∙ h) in
       record { flat = f.0; node = b.0; flat_is = f.1; made_of = b.1; is = scene_ok_is (made ++ b.0 ∷ []) more b.2 }
 
@@ -133,6 +133,10 @@ module _ (flat : Flat) where
 
   abbrev pub alone_in : List ℕ → Bool
   alone_in = is_alone (names_of flat.nodes numbers_of.order)
+
+  -- which names the node of that number keeps
+  abbrev pub label_in : ℕ → List ℕ → Bool
+  label_in number = is_label alone_in number
 
   pub record IsSceneOf (scene : SceneView) : Type 0 where
     pub each : (i x : ℕ) → slice_get numbers_of.order i ≡ Some x → IsMade flat.nodes numbers_of.numbers alone_in scene.nodes i x

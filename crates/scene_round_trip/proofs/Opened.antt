@@ -33,7 +33,7 @@ use Rattle.scene_core.specs.declared.scene.SceneNode.{SceneNode}
 use Rattle.scene_core.specs.Building.{node_of}
 use Rattle.scene_core.specs.Deep.{linked}
 use Rattle.scene_core.specs.Faults.{fault, ◌>>=◌}
-use Rattle.scene_core.specs.Labels.{is_numbered, label_by}
+use Rattle.scene_core.specs.Labels.{label_by}
 use Rattle.scene_core.specs.Parts.{given, inner_nodes}
 use Rattle.scene_core.specs.Shape.{is_rotation, declared_by, declared_default, declaration_entry, numbered_fields, most_declared}
 use Rattle.scene_core.specs.Typed.{at_line, dropped_rotation, in_range, all_taken, accepted, accepted_in_range, typed_value, given_value, default_of, field_value, values_from, no_rotation, declared_given, declared_empty, declared_value, declared_from, values_of}
@@ -266,9 +266,9 @@ no_nodes count t (Some _) = tt
 
 -- ---- the node
 
-label_kept : (alone : List ℕ → Bool) (o : Option (List ℕ)) → IsNameOrNone o → IsNameOrNone (label_by alone o)
-label_kept alone None h = tt
-label_kept alone (Some name) h = kept_if (alone name && not (is_numbered name)) where
+label_kept : (is_label : List ℕ → Bool) (o : Option (List ℕ)) → IsNameOrNone o → IsNameOrNone (label_by is_label o)
+label_kept is_label None h = tt
+label_kept is_label (Some name) h = kept_if (is_label name) where
   kept_if : (b : Bool) → IsNameOrNone (if b then Some name else None)
   kept_if true = h
   kept_if false = tt
@@ -293,12 +293,12 @@ module _ (count : ℕ) (numbers : List ℕ) (low : (m : ℕ) → called numbers 
     pub writable : IsWritableNode n
     pub closed : IsClosedNode count n
 
-  module _ (nodes : List FlatNode) (alone : List ℕ → Bool) (node : FlatNode) (w : IsNamedNode node) where
-    pub node_opened : (n : SceneNode) → node_of nodes numbers alone node ≡ Ok n → IsOpened n
+  module _ (nodes : List FlatNode) (is_label : List ℕ → Bool) (node : FlatNode) (w : IsNamedNode node) where
+    pub node_opened : (n : SceneNode) → node_of nodes numbers is_label node ≡ Ok n → IsOpened n
     unfolding values_of
     node_opened n h =
         let t : NodeType = node.node_type in
-        let label : Option (List ℕ) = label_by alone node.name in
+        let label : Option (List ℕ) = label_by is_label node.name in
         let ds : List (Declaration ℕ) = numbered_fields t node.interface in
         let a = bind_is (values_of nodes numbers node) (λ values. Ok (new_node node label values)) n h in
         let b = bind_is (values_from nodes numbers node.fields 0 (rows t) []) (declared_from nodes numbers node.fields (length (rows t)) ds) a.0 a.1 in
@@ -310,7 +310,7 @@ module _ (count : ℕ) (numbers : List ℕ) (low : (m : ℕ) → called numbers 
         (all_append (IsGood count) b.0 more.more (subst (AllByRecursion (IsGood count)) (sym first.is) first.good) more.good) in
         subst IsOpened (ok_is (new_node node label a.0) n a.2) (record {
           writable = record {
-            named = label_kept alone node.name w.named;
+            named = label_kept is_label node.name w.named;
             scripted = scripted t node.interface w.scripted;
             declared = all_map declared_by (λ (d : Declaration ℕ). IsFreeName d.name) (λ (d : DeclaredField). IsFreeName d.name) (λ d f. f) node.interface w.declared;
             sound = sound_all count a.0 good;

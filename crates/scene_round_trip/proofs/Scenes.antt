@@ -15,7 +15,7 @@ use Rattle.scene_core.specs.declared.scene.Route.{Route}
 use Rattle.scene_core.specs.declared.scene.SceneNode.{SceneNode}
 use Rattle.scene_core.specs.Building.{node_of, with_node, nodes_by, limits, called, scene_of}
 use Rattle.scene_core.specs.Deep.{deeper_than, too_deep}
-use Rattle.scene_core.specs.Labels.{is_alone, names_of}
+use Rattle.scene_core.specs.Labels.{is_alone, is_label, names_of}
 use Rattle.scene_core.specs.Scene.{SceneView}
 use Rattle.scene_core.specs.Typed.{takes, child, all_children}
 use Rattle.route_core.specs.Resolved.{resolved}
@@ -74,10 +74,10 @@ all_opened count nodes s alone low named made h =
           → AllByRecursion (IsOpened count s.numbers low) x → AllByRecursion (IsOpened count s.numbers low) y
       step n x y None at e p = subst (AllByRecursion (IsOpened count s.numbers low)) (ok_is x y e) p
       step n x y (Some node) at e p =
-          let b = bind_is (node_of nodes s.numbers alone node) (λ k. Ok (x ++ k ∷ [])) y e in
+          let b = bind_is (node_of nodes s.numbers (is_label alone (length x)) node) (λ k. Ok (x ++ k ∷ [])) y e in
           subst (AllByRecursion (IsOpened count s.numbers low)) (ok_is (x ++ b.0 ∷ []) y b.2)
           (all_push (IsOpened count s.numbers low) x b.0 p
-          (node_opened count s.numbers low nodes alone node (all_at IsNamedNode nodes n node named at) b.0 b.1))
+          (node_opened count s.numbers low nodes (is_label alone (length x)) node (all_at IsNamedNode nodes n node named at) b.0 b.1))
 
 -- ---- called nodes
 

@@ -50,7 +50,7 @@ begun next n field e v at keeps held = by_node (slice_get next.nodes n) refl hel
       ∙ ap (λ (b : Bool). if b then Some v else None) keeps)
 
 pub kept_again : KeptAgain
-kept_again s state next w n field e v at keeps held =
+kept_again s routes state next w n field e v at keeps held =
     let now : value_now s state n field e.access e.field_type ≡ Some v =
     ap (λ (b : Bool). option_or (if b then kept_of state n field else None) (value_at s n field)) keeps
     ∙ ap (λ (o : Option Value). option_or o (value_at s n field)) held in

@@ -1,15 +1,12 @@
 -- The labels of the scene that is read again.
 use Rattle.std.proofs.Common.{◌≡◌, ℕ, zero, suc, ◌+◌, ◌<◌, ◌≤◌, ◌^◌, ◌==◌, nat_le, Bool, true, false, cond, not, ◌&&◌, ◌||◌, if◌then◌else◌, List, [], ◌∷◌, ◌++◌, codes, length, Option, Some, None, Ok, slice_get, refl, sym, ap, subst, ◌∙◌, ◌⊎◌, inl, inr, arith, eq-eqb, ne_eqb, le-leb}
-use Rattle.std.specs.Prelude.{decimal, is_some}
-use Rattle.std.specs.List.{cons_option, count_by, filter_map, list_all, range_with_len}
+use Rattle.std.specs.Prelude.{is_some}
+use Rattle.std.specs.List.{cons_option, count_by, filter_map, flat_map, range_with_len}
 use Rattle.std.specs.Option.{option_and_then}
 use Rattle.std.specs.Str.{bytes_eq}
-use Rattle.std.specs.Str.Parse.{AllDigits}
 use Rattle.std.proofs.lemmas.Bool.{cases_lt}
-use Rattle.std.proofs.lemmas.Fmt.{decimal_is_IsNumeral}
 use Rattle.std.proofs.lemmas.List.Recursion.{is_count_by}
 use Rattle.std.proofs.lemmas.Slice.Eq.{bytes_eq-Decides}
-use Rattle.std.proofs.lemmas.Str.Parse.{digit_from_value}
 use Rattle.x3d_values.specs.declared.fields.Fields.{Fields}
 use Rattle.x3d_values.specs.declared.node_type.NodeType.{NodeType}
 use Rattle.x3d_values.specs.Tables.{AreTyped, rows}
@@ -19,12 +16,12 @@ use Rattle.scene_core.specs.declared.numbering.Numbering.{Numbering}
 use Rattle.scene_core.specs.declared.scene.Route.{Route}
 use Rattle.scene_core.specs.declared.scene.SceneNode.{SceneNode}
 use Rattle.scene_core.specs.Building.{scene_of}
-use Rattle.scene_core.specs.Labels.{is_alone, is_numbered, label_by, name_at}
+use Rattle.scene_core.specs.Labels.{is_alone, is_numbered, is_own_number, label_by, name_at}
 use Rattle.scene_core.specs.Scene.{SceneView, label_of, label_or, name_at as kept_name}
-use Rattle.scene_text.specs.Places.{is_named}
+use Rattle.scene_text.specs.Places.{ends_of, is_named, places, times}
 use Rattle.scene_round_trip.proofs.NumberedLists.{some_is, within}
 use Rattle.scene_round_trip.proofs.NumbersInOrder.{equal}
-use Rattle.scene_round_trip.proofs.NumberedScenes.{alone_in, found}
+use Rattle.scene_round_trip.proofs.NumberedScenes.{alone_in, found, label_in}
 use Rattle.scene_round_trip.specs.Defaults.{LeftOutAreDefaults}
 use Rattle.scene_round_trip.specs.Labels.{LabelsAreDistinct}
 use Rattle.scene_round_trip.specs.Values.{WrittenNodesAreTyped}
@@ -37,26 +34,6 @@ use Rattle.scenes_again.specs.Sound.{AreOfType, AreSound}
 use Rattle.scenes_again.proofs.Next.{three}
 use Rattle.scenes_again.proofs.Numbered.{again_is, last_is, many, numbered_in_place}
 use Rattle.scenes_again.proofs.Present.{made_of}
-
--- ---- `N` and a number
-
-both : (a b : Bool) → a ≡ true → b ≡ true → (a && b) ≡ true
-both true b e f = f
-both false b e f = absurd cc
-
-digit_is : (c : ℕ) → 48 ≤ c → c ≤ 57 → (nat_le 48 c && nat_le c 57) ≡ true
-digit_is c l m = both (nat_le 48 c) (nat_le c 57) (le-leb 48 c l) (le-leb c 57 m)
-
-all_digits : (ds : List ℕ) → AllDigits 10 ds → list_all (λ c. nat_le 48 c && nat_le c 57) ds ≡ true
-all_digits [] h = refl
-all_digits (c ∷ cs) h =
-    let r = digit_from_value c h.0 in
-    both (nat_le 48 c && nat_le c 57) (list_all (λ c. nat_le 48 c && nat_le c 57) cs) (digit_is c (omega (arith, r.0, r.1)) (omega (arith, r.0, r.1))) (all_digits cs h.1)
-
-number_numbered : (n : ℕ) → n < 2 ^ 64 → is_numbered (codes "N" ++ decimal n) ≡ true
-number_numbered n h = both (not (length (decimal n) == 0)) _ some_length (all_digits (decimal n) (decimal_is_IsNumeral n h).0.1) where
-  some_length : not (length (decimal n) == 0) ≡ true
-  some_length = let k = (decimal_is_IsNumeral n h).0.0 in ap not (ne_eqb (length (decimal n)) 0 (λ e. omega (arith, k, e)))
 
 -- ---- a name that one node alone has
 
@@ -116,24 +93,24 @@ module _ (l : List ℕ) where
 
 -- ---- the name that a node keeps
 
-unnumbered_if : (a : Bool) (b : Bool) (name l : List ℕ) → is_numbered name ≡ b → (if a && not b then Some name else None) ≡ Some l → is_numbered l ≡ false
-unnumbered_if true false name l e h = subst (λ (x : List ℕ). is_numbered x ≡ false) (some_is name l h) e
-unnumbered_if true true name l e h = absurd cc
-unnumbered_if false b name l e h = absurd cc
+kept_if : (keeps : List ℕ → Bool) (b : Bool) (name l : List ℕ) → keeps name ≡ b → (if b then Some name else None) ≡ Some l → keeps l ≡ true
+kept_if keeps true name l e h = subst (λ (x : List ℕ). keeps x ≡ true) (some_is name l h) e
+kept_if keeps false name l e h = absurd cc
 
-unnumbered : (lone : List ℕ → Bool) (o : Option (List ℕ)) (l : List ℕ) → label_by lone o ≡ Some l → is_numbered l ≡ false
-unnumbered lone None l h = absurd cc
-unnumbered lone (Some name) l h = unnumbered_if (lone name) (is_numbered name) name l refl h
+kept_so : (keeps : List ℕ → Bool) (o : Option (List ℕ)) (l : List ℕ) → label_by keeps o ≡ Some l → keeps l ≡ true
+kept_so keeps None l h = absurd cc
+kept_so keeps (Some name) l h = kept_if keeps (keeps name) name l refl h
 
-keeps_name : (lone : List ℕ → Bool) (l : List ℕ) → lone l ≡ true → is_numbered l ≡ false → label_by lone (Some l) ≡ Some l
-keeps_name lone l a n =
-    ap (λ (b : Bool). if b && not (is_numbered l) then Some l else None) a ∙ ap (λ (b : Bool). if true && not b then Some l else None) n
+or_second : (a b : Bool) → b ≡ true → (a || b) ≡ true
+or_second true b h = refl
+or_second false b h = h
 
-drops_number : (lone : List ℕ → Bool) (l : List ℕ) → is_numbered l ≡ true → label_by lone (Some l) ≡ None
-drops_number lone l n = ap (λ (b : Bool). if lone l && not b then Some l else None) n ∙ by_alone (lone l) where
-  by_alone : (a : Bool) → (if a && false then Some l else None) ≡ None
-  by_alone true = refl
-  by_alone false = refl
+-- what was a label by its number or alone is one where it is alone too
+still : (first lone own : Bool) (plain : Bool) → ((first && plain) || own) ≡ true → (plain ≡ true → lone ≡ true) → ((lone && plain) || own) ≡ true
+still first lone true plain h k = or_second (lone && plain) true refl
+still first lone false true h k = ap (λ (b : Bool). (b && true) || false) (k refl)
+still true lone false false h k = absurd cc
+still false lone false false h k = absurd cc
 
 named_is : (b : Bool) (l x : List ℕ) → (if b then Some l else None) ≡ Some x → x ≡ l
 named_is true l x h = sym (some_is l x h)
@@ -182,43 +159,49 @@ module _ (from : Flat) (s : SceneView) (routes : List Route) (state : List Field
             distinct from s is_scene few j n below low (sym x_is ∙ (h ∙ sym labelled))
         by_place j m x at h (inr above) = absurd (none_some x (name_at again.nodes j) (last_name s.helpers refl j above m) at)
 
-  -- a label of its own
-  own_label : (n : ℕ) (node : SceneNode) → slice_get s.nodes n ≡ Some node → (o : Option (List ℕ)) → node.label ≡ o → (g : FlatNode) → slice_get again.nodes n ≡ Some g
-      → label_by (alone_in again) g.name ≡ o
+  -- the label of a node that is written with a DEF is its label again
+  label_again : (n : ℕ) → n < count → is_named s routes n ≡ true → (node : SceneNode) → slice_get s.nodes n ≡ Some node → (o : Option (List ℕ)) → node.label ≡ o
+      → label_in again n (label_of s n) ≡ true
   unfolding label_of
-  own_label n node is (Some l) e g at =
-      let low = within s.nodes n node is in
+  label_again n low named node is (Some l) e =
       let labelled : label_of s n ≡ l =
       ap (λ (x : Option SceneNode). label_or n (option_and_then (λ (m : SceneNode). m.label) x)) is ∙ ap (λ (x : Option (List ℕ)). label_or n x) e in
-      let there : option_and_then (λ (m : SceneNode). m.label) (slice_get s.nodes n) ≡ Some l = ap (λ (x : Option SceneNode). option_and_then (λ (m : SceneNode). m.label) x) is ∙ e in
-      let named : is_named s routes n ≡ true = first_true (is_some (option_and_then (λ (m : SceneNode). m.label) (slice_get s.nodes n))) _ (ap (λ (x : Option (List ℕ)). is_some x) there) in
       let written : name_at again.nodes n ≡ Some l =
       own_name n low ∙ (ap (λ (b : Bool). if b then Some (label_of s n) else None) named ∙ ap (λ (x : List ℕ). Some x) labelled) in
-      let g_name : g.name ≡ Some l = sym (ap (λ (o : Option FlatNode). option_and_then (λ (x : FlatNode). x.name) o) at) ∙ written in
       let m = made_of from s is_scene table n node is in
-      ap (label_by (alone_in again)) g_name
-      ∙ keeps_name (alone_in again) l (one_alone n low l written labelled) (unnumbered (alone_in from) m.0.name l (sym m.1.label ∙ e)) where
-        first_true : (a b : Bool) → a ≡ true → (a || b) ≡ true
-        first_true true b h = refl
-        first_true false b h = absurd cc
-  own_label n node is None e g at =
-      let low = within s.nodes n node is in
-      let labelled : label_of s n ≡ codes "N" ++ decimal n =
+      let before : label_in from n l ≡ true = kept_so (label_in from n) m.0.name l (sym m.1.label ∙ e) in
+      ap (label_in again n) labelled
+      ∙ still (alone_in from l) (alone_in again l) (is_own_number n l) (not (is_numbered l)) before (λ plain. one_alone n low l written labelled)
+  label_again n low named node is None e =
+      let labelled : label_of s n ≡ label_or n None =
       ap (λ (x : Option SceneNode). label_or n (option_and_then (λ (m : SceneNode). m.label) x)) is ∙ ap (λ (x : Option (List ℕ)). label_or n x) e in
-      let g_name : g.name ≡ written_name s routes n = sym (ap (λ (o : Option FlatNode). option_and_then (λ (x : FlatNode). x.name) o) at) ∙ own_name n low in
-      ap (label_by (alone_in again)) g_name ∙ by_named (is_named s routes n) (label_of s n) (ap is_numbered labelled ∙ number_numbered n (omega (arith, few, low))) where
-        by_named : (b : Bool) (l : List ℕ) → is_numbered l ≡ true → label_by (alone_in again) (if b then Some l else None) ≡ None
-        by_named true l h = drops_number (alone_in again) l h
-        by_named false l h = refl
+      ap (label_in again n) labelled
+      ∙ or_second (alone_in again (label_or n None) && not (is_numbered (label_or n None))) (is_own_number n (label_or n None)) ((bytes_eq-Decides (label_or n None) (label_or n None)).1 refl)
 
-  pub next_names : (n : ℕ) → n < count → kept_name next n ≡ kept_name s n
+  -- the name that is written is kept
+  name_kept : (n : ℕ) → n < count → (b : Bool) → is_named s routes n ≡ b
+      → label_by (label_in again n) (if b then Some (label_of s n) else None) ≡ (if b then Some (label_of s n) else None)
+  name_kept n low true named =
+      let node = found s.nodes n low in
+      ap (λ (c : Bool). if c then Some (label_of s n) else None) (label_again n low named node.0 node.1 node.0.label refl)
+  name_kept n low false named = refl
+
+  pub next_names : (n : ℕ) → n < count → kept_name next n ≡ written_name s routes n
   next_names n low =
       let node = found s.nodes n low in
       let x = three from s routes state again is_scene kept of_type sound table same filled none next is_next typed_again left_out n node.0 node.1 in
-      let same_label = x.read.is.label ∙ own_label n node.0 node.1 node.0.label refl x.g x.flat_at in
+      let g_name : x.g.name ≡ written_name s routes n = sym (ap (λ (o : Option FlatNode). option_and_then (λ (g : FlatNode). g.name) o) x.flat_at) ∙ own_name n low in
       ap (λ (o : Option SceneNode). option_and_then (λ (m : SceneNode). m.label) o) x.next_at
-      ∙ (same_label ∙ sym (ap (λ (o : Option SceneNode). option_and_then (λ (m : SceneNode). m.label) o) node.1))
+      ∙ (x.read.is.label ∙ (ap (label_by (label_in again n)) g_name ∙ name_kept n low (is_named s routes n) refl))
+
+  -- a node without a DEF is called by its number, in both scenes
+  label_by_name : (n : ℕ) (o : Option (List ℕ)) (other : Bool) → label_or n (if is_some o || other then Some (label_or n o) else None) ≡ label_or n o
+  label_by_name n (Some l) other = refl
+  label_by_name n None true = refl
+  label_by_name n None false = refl
 
   pub next_labels : (n : ℕ) → n < count → label_of next n ≡ label_of s n
   unfolding label_of
-  next_labels n low = ap (λ (o : Option (List ℕ)). label_or n o) (next_names n low)
+  next_labels n low =
+      ap (λ (o : Option (List ℕ)). label_or n o) (next_names n low)
+      ∙ label_by_name n (option_and_then (λ (m : SceneNode). m.label) (slice_get s.nodes n)) (nat_le 1 (times n (flat_map ends_of routes)) || nat_le 2 (times n (places s)))

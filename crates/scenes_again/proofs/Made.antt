@@ -87,26 +87,26 @@ module _ (all : List FlatNode) (numbers : List ℕ) where
   new_node node label values =
       record { node_type = node.node_type; label = label; declared = map declared_by node.interface; values = values }
 
-  pub record IsNode (alone : List ℕ → Bool) (flat : FlatNode) (node : SceneNode) : Type 0 where
+  pub record IsNode (is_label : List ℕ → Bool) (flat : FlatNode) (node : SceneNode) : Type 0 where
     pub node_type : node.node_type ≡ flat.node_type
-    pub label : node.label ≡ label_by alone flat.name
+    pub label : node.label ≡ label_by is_label flat.name
     pub declared : node.declared ≡ map declared_by flat.interface
     pub row : (i : ℕ) (e : Entry) → slice_get (rows flat.node_type) i ≡ Some e → IsRowMade flat.fields e i (value_in node.values i)
     pub field : (i : ℕ) (d : Declaration ℕ) → slice_get (numbered_fields flat.node_type flat.interface) i ≡ Some d
         → IsDeclaredMade flat.fields d (length (rows flat.node_type) + i) (value_in node.values (length (rows flat.node_type) + i))
 
-  pub node_is : (alone : List ℕ → Bool) (flat : FlatNode) (node : SceneNode) → node_of all numbers alone flat ≡ Ok node → IsNode alone flat node
+  pub node_is : (is_label : List ℕ → Bool) (flat : FlatNode) (node : SceneNode) → node_of all numbers is_label flat ≡ Ok node → IsNode is_label flat node
   unfolding values_of
-  node_is alone flat node h =
+  node_is is_label flat node h =
       let t : NodeType = flat.node_type in
       let ds : List (Declaration ℕ) = numbered_fields t flat.interface in
-      let label : Option (List ℕ) = label_by alone flat.name in
+      let label : Option (List ℕ) = label_by is_label flat.name in
       let a = bind_is (values_of all numbers flat) (λ values. Ok (new_node flat label values)) node h in
       let b = bind_is (values_from all numbers flat.fields 0 (rows t) []) (declared_from all numbers flat.fields (length (rows t)) ds) a.0 a.1 in
       let first = rows_made flat.fields 0 (rows t) [] b.0 b.1 in
       let more = declared_made flat.fields (length (rows t)) ds b.0 a.0 b.2 in
       let own : a.0 ≡ first.0 ++ more.0 = more.1 ∙ ap (λ (l : List (Option Value)). l ++ more.0) first.1 in
-      subst (IsNode alone flat) (scene_ok_is (new_node flat label a.0) node a.2) (record {
+      subst (IsNode is_label flat) (scene_ok_is (new_node flat label a.0) node a.2) (record {
         node_type = refl;
         label = refl;
         declared = refl;

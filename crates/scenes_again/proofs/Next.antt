@@ -29,7 +29,7 @@ use Rattle.scene_round_trip.specs.Again.{in_place}
 use Rattle.scene_round_trip.specs.Children.{children}
 use Rattle.scene_round_trip.proofs.NumberedLists.{In, at_map, index_is, some_is, within}
 use Rattle.scene_round_trip.proofs.Lower.{inner}
-use Rattle.scene_round_trip.proofs.NumberedScenes.{IsSceneOf, alone_in, found, numbers_of, scene_is}
+use Rattle.scene_round_trip.proofs.NumberedScenes.{IsSceneOf, found, label_in, numbers_of, scene_is}
 use Rattle.scene_round_trip.specs.Defaults.{LeftOutAreDefaults}
 use Rattle.scene_round_trip.specs.Values.{WrittenNodesAreTyped}
 use Rattle.scene_round_trip.specs.Writable.{AreKeepable}
@@ -103,7 +103,7 @@ module _ (from : Flat) (s : SceneView) (routes : List Route) (state : List Field
 
   -- of which node it was made
   pub record IsRead (n : ℕ) (g : FlatNode) (m : SceneNode) : Type 0 where
-    pub is : IsNode again.nodes numbers (alone_in again) g m
+    pub is : IsNode again.nodes numbers (label_in again n) g m
     pub inside : children m ≡ parts g
 
   pub read_is : (n : ℕ) (g : FlatNode) (m : SceneNode) → slice_get again.nodes n ≡ Some g → slice_get next.nodes n ≡ Some m → IsRead n g m
@@ -117,8 +117,8 @@ module _ (from : Flat) (s : SceneView) (routes : List Route) (state : List Field
       let inside : children made.node ≡ parts_of again.nodes n =
       i.linked_are ∙ called_same numbers (parts_of again.nodes n) (λ y k. called_in_place y (i.valid y k)) in
       subst (IsRead n g) same_node (record {
-        is = subst (λ (f : FlatNode). IsNode again.nodes numbers (alone_in again) f made.node) same_flat
-            (node_is again.nodes numbers (alone_in again) made.flat made.node made.made);
+        is = subst (λ (f : FlatNode). IsNode again.nodes numbers (label_in again n) f made.node) same_flat
+            (node_is again.nodes numbers (label_in again n) made.flat made.node made.made);
         inside = inside ∙ ap (λ (o : Option FlatNode). option_map_or parts o []) at;
       })
 

@@ -1,5 +1,5 @@
 -- Steps that may fail, and don't.
-use Rattle.std.proofs.Common.{◌≡◌, ℕ, suc, ◌+◌, List, [], ◌∷◌, ◌++◌, Option, Some, None, Result, Ok, Err, slice_get, map, Bool, refl, subst, arith}
+use Rattle.std.proofs.Common.{◌≡◌, ℕ, suc, ◌+◌, List, [], ◌∷◌, ◌++◌, length, Option, Some, None, Result, Ok, Err, slice_get, map, Bool, refl, subst, arith}
 use Rattle.x3d_values.specs.declared.value.Value.{Value}
 use Rattle.x3d_values.specs.Tables.{Entry}
 use Rattle.classic_tree.specs.declared.tree.Declaration.{Declaration}
@@ -9,7 +9,7 @@ use Rattle.scene_core.specs.declared.fault.SceneFault.{SceneFault}
 use Rattle.scene_core.specs.declared.scene.SceneNode.{SceneNode}
 use Rattle.scene_core.specs.Building.{node_of, with_node}
 use Rattle.scene_core.specs.Faults.{through, ◌>>=◌}
-use Rattle.scene_core.specs.Labels.{label_by}
+use Rattle.scene_core.specs.Labels.{is_label, label_by}
 use Rattle.scene_core.specs.Parts.{given}
 use Rattle.scene_core.specs.Shape.{declared_by}
 use Rattle.scene_core.specs.Typed.{declared_from, declared_value, field_value, values_from, values_of}
@@ -51,17 +51,17 @@ module _ (all : List FlatNode) (numbers : List ℕ) where
       (let there : number + suc i ≡ number + 1 + i = omega arith in
       subst (λ (j : ℕ). IsOkay (declared_value all numbers x (given fields j))) there (k (suc i) x at))))
 
-  module _ (alone : List ℕ → Bool) where
-    node_okay : (g : FlatNode) → IsOkay (values_of all numbers g) → IsOkay (node_of all numbers alone g)
-    node_okay g h =
-        okay_then (values_of all numbers g)
-        (λ values. Ok (record { node_type = g.node_type; label = label_by alone g.name; declared = map declared_by g.interface; values = values })) h (λ v. tt)
+  node_okay : (keeps : List ℕ → Bool) (g : FlatNode) → IsOkay (values_of all numbers g) → IsOkay (node_of all numbers keeps g)
+  node_okay keeps g h =
+      okay_then (values_of all numbers g)
+      (λ values. Ok (record { node_type = g.node_type; label = label_by keeps g.name; declared = map declared_by g.interface; values = values })) h (λ v. tt)
 
+  module _ (alone : List ℕ → Bool) where
     one_okay : ((x : ℕ) (g : FlatNode) → slice_get all x ≡ Some g → IsOkay (values_of all numbers g)) → (x : ℕ) (made : List SceneNode) (o : Option FlatNode)
         → slice_get all x ≡ o → IsOkay (with_node all numbers alone o made)
     one_okay k x made None at = tt
     one_okay k x made (Some g) at =
-        okay_then (node_of all numbers alone g) (λ n. Ok (made ++ n ∷ [])) (node_okay g (k x g at)) (λ n. tt)
+        okay_then (node_of all numbers (is_label alone (length made)) g) (λ n. Ok (made ++ n ∷ [])) (node_okay (is_label alone (length made)) g (k x g at)) (λ n. tt)
 
     pub nodes_okay : ((x : ℕ) (g : FlatNode) → slice_get all x ≡ Some g → IsOkay (values_of all numbers g)) → (order : List ℕ) (made : List SceneNode)
         → IsOkay (through (λ n made. with_node all numbers alone (slice_get all n) made) order made)

@@ -30,7 +30,7 @@ use Rattle.scene_core.specs.Shape.{Shape, declaration_entry, declared_by, declar
 use Rattle.scene_text.specs.Tree.{kept_value}
 use Rattle.scene_round_trip.proofs.NumberedLists.{at_map, some_is, within}
 use Rattle.scene_round_trip.proofs.Lower.{children_lower}
-use Rattle.scene_round_trip.proofs.NumberedScenes.{IsSceneOf, alone_in, found, numbers_of, scene_is}
+use Rattle.scene_round_trip.proofs.NumberedScenes.{IsSceneOf, found, label_in, numbers_of, scene_is}
 use Rattle.scene_round_trip.specs.Values.{is_sound}
 use Rattle.scene_round_trip.specs.Writable.{AreKeepable}
 use Rattle.scene_round_trip.proofs.Lists.{all_at, all_weaker}
@@ -118,15 +118,15 @@ module _ (from : Flat) (s : SceneView) (is_scene : scene_of from ≡ Ok s) (tabl
   scene = scene_is from s is_scene
 
   -- of which node of the document it was made
-  pub made_of : (n : ℕ) (node : SceneNode) → slice_get s.nodes n ≡ Some node → (flat : FlatNode) × IsNode from.nodes (numbers_of from).numbers (alone_in from) flat node
+  pub made_of : (n : ℕ) (node : SceneNode) → slice_get s.nodes n ≡ Some node → (flat : FlatNode) × IsNode from.nodes (numbers_of from).numbers (label_in from n) flat node
   made_of n node is =
       let l = within s.nodes n node is in
       let f = found (numbers_of from).order n (omega (arith, l, scene.many)) in
       let m = scene.each n f.0 f.1 in
       let same : m.node ≡ node = some_is m.node node (sym m.node_is ∙ is) in (
         m.flat,
-        subst (λ (o : SceneNode). IsNode from.nodes (numbers_of from).numbers (alone_in from) m.flat o) same
-            (node_is from.nodes (numbers_of from).numbers (alone_in from) m.flat m.node m.made),
+        subst (λ (o : SceneNode). IsNode from.nodes (numbers_of from).numbers (label_in from n) m.flat o) same
+            (node_is from.nodes (numbers_of from).numbers (label_in from n) m.flat m.node m.made),
       )
 
   -- ---- what the scene gives
@@ -135,20 +135,20 @@ module _ (from : Flat) (s : SceneView) (is_scene : scene_of from ≡ Ok s) (tabl
     pub holds : Holds e o
     pub right_row : right e ≡ true
 
-  abbrev By : FlatNode → SceneNode → Type 0
-  By flat node = IsNode from.nodes (numbers_of from).numbers (alone_in from) flat node
+  abbrev By : ℕ → FlatNode → SceneNode → Type 0
+  By n flat node = IsNode from.nodes (numbers_of from).numbers (label_in from n) flat node
 
-  row_given : (flat : FlatNode) (node : SceneNode) → By flat node → (k : ℕ) (e : Entry) → slice_get (rows flat.node_type) k ≡ Some e → IsGiven e (value_in node.values k)
-  row_given flat node m k e at = record {
+  row_given : (n : ℕ) (flat : FlatNode) (node : SceneNode) → By n flat node → (k : ℕ) (e : Entry) → slice_get (rows flat.node_type) k ≡ Some e → IsGiven e (value_in node.values k)
+  row_given n flat node m k e at = record {
     holds = row_holds from.nodes (numbers_of from).numbers e (given flat.fields k) (value_in node.values k) (typed_at (rows flat.node_type) k e (table flat.node_type) at)
         (right_at flat.node_type k e at) (m.row k e at);
     right_row = right_at flat.node_type k e at;
   }
 
-  field_given : (flat : FlatNode) (node : SceneNode) → By flat node → (i : ℕ) (e : Entry)
+  field_given : (n : ℕ) (flat : FlatNode) (node : SceneNode) → By n flat node → (i : ℕ) (e : Entry)
       → slice_get (map declared_entry (numbered_fields flat.node_type (map declared_by flat.interface))) i ≡ Some e
       → IsGiven e (value_in node.values (length (rows flat.node_type) + i))
-  field_given flat node m i e at =
+  field_given n flat node m i e at =
       let d = declaration_at flat.node_type flat.interface i e at in
       let k : ℕ = length (rows flat.node_type) + i in
       subst (λ (x : Entry). IsGiven x (value_in node.values k)) (sym d.2) (record {
@@ -159,14 +159,14 @@ module _ (from : Flat) (s : SceneView) (is_scene : scene_of from ≡ Ok s) (tabl
   abbrev rows_by : NodeType → List DeclaredField → List Entry
   rows_by t ds = rows t ++ map declared_entry (numbered_fields t ds)
 
-  given_of : (flat : FlatNode) (node : SceneNode) → By flat node → (k : ℕ) (e : Entry) → slice_get (rows_by flat.node_type (map declared_by flat.interface)) k ≡ Some e
+  given_of : (n : ℕ) (flat : FlatNode) (node : SceneNode) → By n flat node → (k : ℕ) (e : Entry) → slice_get (rows_by flat.node_type (map declared_by flat.interface)) k ≡ Some e
       → IsGiven e (value_in node.values k)
-  given_of flat node m k e at = by_part (parted (rows flat.node_type) (map declared_entry (numbered_fields flat.node_type (map declared_by flat.interface))) k e at) where
+  given_of n flat node m k e at = by_part (parted (rows flat.node_type) (map declared_entry (numbered_fields flat.node_type (map declared_by flat.interface))) k e at) where
     by_part : (slice_get (rows flat.node_type) k ≡ Some e)
         ⊎ ((i : ℕ) × (k ≡ length (rows flat.node_type) + i) × (slice_get (map declared_entry (numbered_fields flat.node_type (map declared_by flat.interface))) i ≡ Some e))
         → IsGiven e (value_in node.values k)
-    by_part (inl h) = row_given flat node m k e h
-    by_part (inr h) = subst (λ (j : ℕ). IsGiven e (value_in node.values j)) (sym h.1) (field_given flat node m h.0 e h.2)
+    by_part (inl h) = row_given n flat node m k e h
+    by_part (inr h) = subst (λ (j : ℕ). IsGiven e (value_in node.values j)) (sym h.1) (field_given n flat node m h.0 e h.2)
 
   pub given_at : (n : ℕ) (node : SceneNode) → slice_get s.nodes n ≡ Some node → (k : ℕ) (e : Entry) → slice_get (rows_at s n) k ≡ Some e → IsGiven e (value_at s n k)
   given_at n node is k e at =
@@ -174,7 +174,7 @@ module _ (from : Flat) (s : SceneView) (is_scene : scene_of from ≡ Ok s) (tabl
       let all : rows_of (shape_of node) ≡ rows_by m.0.node_type (map declared_by m.0.interface) =
       ap (λ (t : NodeType). rows_by t node.declared) m.1.node_type ∙ ap (λ (l : List DeclaredField). rows_by m.0.node_type l) m.1.declared in
       subst (IsGiven e) (sym (value_by_node s n node k is))
-      (given_of m.0 node m.1 k e (ap (λ (l : List Entry). slice_get l k) (sym (rows_by_node s n node is ∙ all)) ∙ at))
+      (given_of n m.0 node m.1 k e (ap (λ (l : List Entry). slice_get l k) (sym (rows_by_node s n node is ∙ all)) ∙ at))
 
 -- ---- what is written
 

@@ -128,7 +128,7 @@ one_more : max_depth ≡ suc (max_depth - 1)
 one_more = refl
 
 pub again_has_room : ScenesAgainHaveRoom
-again_has_room again scene state next is_next w = by_helpers scene.helpers refl where
+again_has_room again scene routes state next is_next w = by_helpers scene.helpers refl where
   by_helpers : (hs : List ℕ) → scene.helpers ≡ hs → has_room scene ≡ true
   by_helpers [] none = ap (λ (l : List ℕ). list_all (λ n. not (slice_index_or (deeper_than scene.nodes (max_depth - 1)) n false)) l) none
   by_helpers (h ∷ hs) some =

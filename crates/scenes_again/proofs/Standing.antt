@@ -31,7 +31,7 @@ use Rattle.scene_core.specs.Typed.{accepted_in_range, all_children, all_taken, a
 use Rattle.scene_round_trip.proofs.Inner.{bind_is, inner_if, line_is, scene_ok_is, typed_nodes}
 use Rattle.scene_round_trip.proofs.NumberedLists.{In, all_in, in_back, in_front, in_map, some_is, within}
 use Rattle.scene_round_trip.proofs.Lower.{called_is, inside_has, root_has}
-use Rattle.scene_round_trip.proofs.NumberedScenes.{IsSceneOf, alone_in, found, numbers_of, scene_is}
+use Rattle.scene_round_trip.proofs.NumberedScenes.{IsSceneOf, found, label_in, numbers_of, scene_is}
 use Rattle.scene_round_trip.proofs.Visits.{Edge, Has}
 use Rattle.scenes_again.proofs.Made.{IsNode, node_is, value_in}
 use Rattle.scenes_again.proofs.Present.{value_by_node}
@@ -168,7 +168,7 @@ module _ (from : Flat) (s : SceneView) (is_scene : scene_of from ≡ Ok s) where
       let m = scene.each has.0 y has.1 in
       let g = taken kind (slice_get from.nodes y) t in
       let same : g.0 ≡ m.flat = some_is g.0 m.flat (sym g.1 ∙ m.flat_is) in
-      let is = node_is from.nodes numbers (alone_in from) m.flat m.node m.made in
+      let is = node_is from.nodes numbers (label_in from has.0) m.flat m.node m.made in
       record {
         node = m.node;
         at = ap (λ (k : ℕ). slice_get s.nodes k) (called_is from s scene has.0 y has.1) ∙ m.node_is;
@@ -178,7 +178,7 @@ module _ (from : Flat) (s : SceneView) (is_scene : scene_of from ≡ Ok s) where
   -- ---- a field of the node's type
 
   row_of : (i y : ℕ) (flat : FlatNode) → slice_get (numbers_of from).order i ≡ Some y → slice_get from.nodes y ≡ Some flat → (node : SceneNode)
-      → IsNode from.nodes numbers (alone_in from) flat node → (k : ℕ) (e : Entry) → slice_get (rows flat.node_type) k ≡ Some e
+      → IsNode from.nodes numbers (label_in from i) flat node → (k : ℕ) (e : Entry) → slice_get (rows flat.node_type) k ≡ Some e
       → (x : Value) → value_in node.values k ≡ Some x → (default_of e ≡ Some x) ⊎ IsGivenTo s e x
   unfolding parts_of
   row_of i y flat at flat_is node m k e row x held =
@@ -204,8 +204,8 @@ module _ (from : Flat) (s : SceneView) (is_scene : scene_of from ≡ Ok s) where
       let f = found (numbers_of from).order n (omega (arith, l, scene.many)) in
       let m = scene.each n f.0 f.1 in
       let same : m.node ≡ node = some_is m.node node (sym m.node_is ∙ is) in
-      let made : IsNode from.nodes numbers (alone_in from) m.flat node =
-      subst (λ (o : SceneNode). IsNode from.nodes numbers (alone_in from) m.flat o) same (node_is from.nodes numbers (alone_in from) m.flat m.node m.made) in
+      let made : IsNode from.nodes numbers (label_in from n) m.flat node =
+      subst (λ (o : SceneNode). IsNode from.nodes numbers (label_in from n) m.flat o) same (node_is from.nodes numbers (label_in from n) m.flat m.node m.made) in
       row_of n f.0 m.flat f.1 m.flat_is node made k e (ap (λ (t : NodeType). slice_get (rows t) k) (sym made.node_type) ∙ row) x
       (sym (value_by_node s n node k is) ∙ held)
 

@@ -23,7 +23,7 @@ use Rattle.scene_core.specs.Scene.{SceneView}
 use Rattle.scene_core.specs.Shape.{declared_by, most_declared}
 use Rattle.scene_core.specs.Typed.{default_of, field_value}
 use Rattle.scene_round_trip.proofs.NumberedLists.{some_is}
-use Rattle.scene_round_trip.proofs.NumberedScenes.{alone_in, found}
+use Rattle.scene_round_trip.proofs.NumberedScenes.{found, label_in}
 use Rattle.scene_round_trip.specs.Defaults.{LeftOutAreDefaults}
 use Rattle.scene_round_trip.specs.Values.{WrittenNodesAreTyped, is_sound}
 use Rattle.scene_round_trip.specs.Writable.{AreKeepable}
@@ -88,7 +88,7 @@ module _ (from : Flat) (s : SceneView) (routes : List Route) (state : List Field
       (subst (AllByRecursion (λ (n : ℕ). n < length s.nodes)) e (helpers_there from s is_scene)) in
       let none_declared : m.0.declared ≡ [] = r.is.declared ∙ ap (map declared_by) a.interface in
       record {
-        label = ap (λ (o : Option SceneNode). option_and_then (λ (x : SceneNode). x.label) o) m.1 ∙ (r.is.label ∙ ap (label_by (alone_in again)) a.name);
+        label = ap (λ (o : Option SceneNode). option_and_then (λ (x : SceneNode). x.label) o) m.1 ∙ (r.is.label ∙ ap (label_by (label_in again (length s.nodes))) a.name);
         declared = declared_by_node next (length s.nodes) m.0 m.1 ∙ none_taken (most_declared m.0.node_type) m.0.declared none_declared;
         values = λ field x at. value_by_node next (length s.nodes) m.0 field m.1
             ∙ value_is typed_again left_out again.nodes ns h hs named field x (value_in m.0.values field) at

@@ -16,6 +16,7 @@ use Rattle.scene_core.specs.Typed.{default_of}
 use Rattle.scene_text.specs.Statements.{scene_document}
 use Rattle.scene_round_trip.specs.Children.{children}
 use Rattle.scene_round_trip.specs.Writable.{AreKeepable}
+use Rattle.written_scenes.specs.Braces.{written_name}
 use Rattle.written_scenes.specs.Nodes.{written_nodes, written_roots}
 use Rattle.written_scenes.specs.Distinct.{HaveDistinctFields}
 use Rattle.written_scenes.specs.Fields.{switch_children, value_now}
@@ -37,8 +38,9 @@ pub record IsSwitchOf (helpers : List ℕ) (next : SceneView) (n : ℕ) : Type 0
   pub values : (field : ℕ) (e : Entry) → slice_get (rows Switch) field ≡ Some e
       → value_at next n field ≡ switch_value helpers field e
 
--- the second scene is the first, with what its nodes keep
-pub record IsWrittenOf (s : SceneView) (state : List Fields) (next : SceneView) : Type 0 where
+-- the second scene is the first, with what its nodes keep; the routes decide which nodes have a DEF
+pub record IsWrittenOf (s : SceneView) (routes : List Route) (state : List Fields) (next : SceneView)
+    : Type 0 where
   pub header : next.header ≡ s.header
   -- where there are helpers, one root more, and no helpers
   pub roots : next.roots ≡ written_roots s
@@ -51,9 +53,9 @@ pub record IsWrittenOf (s : SceneView) (state : List Fields) (next : SceneView) 
   -- each field holds what it held: what its node keeps of it, and else what the scene gives
   pub values : (n field : ℕ) (e : Entry) → slice_get (rows_at s n) field ≡ Some e
       → value_at next n field ≡ value_now s state n field e.access e.field_type
-  -- a node keeps the same name, if any, and so has the same label
-  pub names : (n : ℕ) → n < length s.nodes → name_at next n ≡ name_at s n
+  -- a node has the same label, and keeps it as its name where it was written with a DEF
   pub labels : (n : ℕ) → n < length s.nodes → label_of next n ≡ label_of s n
+  pub names : (n : ℕ) → n < length s.nodes → name_at next n ≡ written_name s routes n
   -- the helpers, where there are some, stand in the last node
   pub switch : (h : ℕ) (hs : List ℕ) → s.helpers ≡ h ∷ hs
       → IsSwitchOf (h ∷ hs) next (length s.nodes)
@@ -68,4 +70,4 @@ WrittenScenesAreAgain =
     (next : SceneView) → scene_of from ≡ Ok scene → length scene.nodes ≤ 2 ^ 64
     → AreKeepable state → AreOfType scene state → AreSound scene → HaveDistinctFields scene
     → flat (scene_document scene routes state) ≡ Ok again → scene_of again ≡ Ok next
-    → IsWrittenOf scene state next
+    → IsWrittenOf scene routes state next

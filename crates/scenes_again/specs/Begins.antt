@@ -7,6 +7,7 @@ use Rattle.x3d_values.specs.declared.value.Value.{Value}
 use Rattle.x3d_values.specs.Access.{is_kept}
 use Rattle.x3d_values.specs.Kept.{field_value}
 use Rattle.x3d_values.specs.Tables.{Entry}
+use Rattle.scene_core.specs.declared.scene.Route.{Route}
 use Rattle.scene_core.specs.Scene.{SceneView, rows_at, state_of}
 use Rattle.scenes_again.specs.Again.{IsWrittenOf}
 
@@ -18,7 +19,8 @@ kept_of state n field =
 -- each value that was kept when the scene was written is kept again, before any event
 abbrev pub KeptAgain : Type 0
 KeptAgain =
-    (s : SceneView) (state : List Fields) (next : SceneView) → IsWrittenOf s state next
-    → (n field : ℕ) (e : Entry) (v : Value) → slice_get (rows_at s n) field ≡ Some e
-    → is_kept e.access e.field_type ≡ true → kept_of state n field ≡ Some v
+    (s : SceneView) (routes : List Route) (state : List Fields) (next : SceneView)
+    → IsWrittenOf s routes state next → (n field : ℕ) (e : Entry) (v : Value)
+    → slice_get (rows_at s n) field ≡ Some e → is_kept e.access e.field_type ≡ true
+    → kept_of state n field ≡ Some v
     → kept_of (state_of next) n field ≡ Some v

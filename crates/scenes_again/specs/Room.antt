@@ -3,6 +3,7 @@
 use Rattle.std.specs.Prelude.{◌≡◌, true, List, Ok}
 use Rattle.x3d_values.specs.declared.fields.Fields.{Fields}
 use Rattle.flat_document.specs.declared.flat.Flat.{Flat}
+use Rattle.scene_core.specs.declared.scene.Route.{Route}
 use Rattle.scene_core.specs.Building.{scene_of}
 use Rattle.scene_core.specs.Scene.{SceneView}
 use Rattle.scene_round_trip.specs.Written.{has_room}
@@ -12,5 +13,6 @@ use Rattle.scenes_again.specs.Again.{IsWrittenOf}
 -- the helpers stand one node deeper, exists
 abbrev pub ScenesAgainHaveRoom : Type 0
 ScenesAgainHaveRoom =
-    (again : Flat) (scene : SceneView) (state : List Fields) (next : SceneView)
-    → scene_of again ≡ Ok next → IsWrittenOf scene state next → has_room scene ≡ true
+    (again : Flat) (scene : SceneView) (routes : List Route) (state : List Fields)
+    (next : SceneView) → scene_of again ≡ Ok next → IsWrittenOf scene routes state next
+    → has_room scene ≡ true

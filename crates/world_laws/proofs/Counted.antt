@@ -9,7 +9,7 @@ use Rattle.scene_core.specs.declared.numbering.Numbering.{Numbering}
 use Rattle.scene_core.specs.declared.scene.SceneNode.{SceneNode}
 use Rattle.scene_core.specs.Building.{node_of, with_node, nodes_by, scene_of}
 use Rattle.scene_core.specs.Faults.{through}
-use Rattle.scene_core.specs.Labels.{is_alone, names_of}
+use Rattle.scene_core.specs.Labels.{is_alone, is_label, names_of}
 use Rattle.scene_core.specs.Scene.{SceneView}
 use Rattle.scene_core.specs.Numbers.{is_new, appear, close, visit, unnumbered, numbering}
 use Rattle.scene_core.specs.Parts.{parts_of}
@@ -66,7 +66,7 @@ module _ (nodes : List FlatNode) where
 with_one : (nodes : List FlatNode) (numbers : List ℕ) (alone : List ℕ → Bool) (o : Option FlatNode) (x y : List SceneNode) → with_node nodes numbers alone o x ≡ Ok y → length y ≤ length x + 1
 with_one nodes numbers alone None x y h = subst (λ (l : List SceneNode). length l ≤ length x + 1) (ok_is x y h) (omega arith)
 with_one nodes numbers alone (Some node) x y h =
-    let b = bind_is (node_of nodes numbers alone node) (λ n. Ok (x ++ n ∷ [])) y h in
+    let b = bind_is (node_of nodes numbers (is_label alone (length x)) node) (λ n. Ok (x ++ n ∷ [])) y h in
     subst (λ (l : List SceneNode). length l ≤ length x + 1) (ok_is (x ++ b.0 ∷ []) y b.2) (omega (arith, length-append x (b.0 ∷ [])))
 
 through_few : {A X : Type 0} (step : A → List X → Result (List X) SceneFault) → ((a : A) (x y : List X) → step a x ≡ Ok y → length y ≤ length x + 1) → (items : List A) (x y : List X) → through step items x ≡ Ok y → length y ≤ length x + length items

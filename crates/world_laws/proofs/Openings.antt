@@ -19,7 +19,7 @@ use Rattle.scene_core.specs.declared.numbering.Numbering.{Numbering}
 use Rattle.scene_core.specs.declared.scene.SceneNode.{SceneNode}
 use Rattle.scene_core.specs.Building.{node_of, with_node, nodes_by, nodes_of, IsLimited, limits, called, scene_by, scene_of}
 use Rattle.scene_core.specs.Faults.{through, ◌>>=◌}
-use Rattle.scene_core.specs.Labels.{label_by, is_alone, names_of}
+use Rattle.scene_core.specs.Labels.{label_by, is_alone, is_label, names_of}
 use Rattle.scene_core.specs.Numbers.{numbering}
 use Rattle.scene_core.specs.Scene.{SceneView, shape_of, kept, fields_of, state_of}
 use Rattle.scene_core.specs.Shape.{declared_by, declared_entry, declaration_entry, most_declared, numbered_fields}
@@ -65,10 +65,10 @@ module _ (nodes : List FlatNode) (numbers : List ℕ) (node : FlatNode) where
       let r = all_ranged nodes numbers node.fields node.node_type (numbered_fields node.node_type node.interface) own more a d in
       (λ c. new_fits label own more a d c, all_append ranged_if own more r.0 r.1)
 
-  node_begins : (alone : List ℕ → Bool) (n : SceneNode) → node_of nodes numbers alone node ≡ Ok n → Begins n
+  node_begins : (keeps : List ℕ → Bool) (n : SceneNode) → node_of nodes numbers keeps node ≡ Ok n → Begins n
   unfolding values_of
-  node_begins alone n h =
-      let label : Option (List ℕ) = label_by alone node.name in
+  node_begins keeps n h =
+      let label : Option (List ℕ) = label_by keeps node.name in
       let declared : List (Declaration ℕ) = numbered_fields node.node_type node.interface in
       let first : ℕ = length (rows node.node_type) in
       let b = bind_is (values_of nodes numbers node) (λ values. Ok (new_node node label values)) n h in
@@ -90,8 +90,8 @@ through_keeps P step k (a ∷ items) x y h p =
 with_begins : (nodes : List FlatNode) (numbers : List ℕ) (alone : List ℕ → Bool) (o : Option FlatNode) (x y : List SceneNode) → with_node nodes numbers alone o x ≡ Ok y → All Begins x → All Begins y
 with_begins nodes numbers alone None x y h p = subst (All Begins) (ok_is x y h) p
 with_begins nodes numbers alone (Some node) x y h p =
-    let b = bind_is (node_of nodes numbers alone node) (λ n. Ok (x ++ n ∷ [])) y h in
-    subst (All Begins) (ok_is (x ++ b.0 ∷ []) y b.2) (All-push Begins x b.0 p (node_begins nodes numbers node alone b.0 b.1))
+    let b = bind_is (node_of nodes numbers (is_label alone (length x)) node) (λ n. Ok (x ++ n ∷ [])) y h in
+    subst (All Begins) (ok_is (x ++ b.0 ∷ []) y b.2) (All-push Begins x b.0 p (node_begins nodes numbers node (is_label alone (length x)) b.0 b.1))
 
 nodes_begin : (nodes : List FlatNode) (s : Numbering) (alone : List ℕ → Bool) (all : List SceneNode) → nodes_by nodes s alone ≡ Ok all → All Begins all
 unfolding nodes_by

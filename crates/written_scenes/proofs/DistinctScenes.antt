@@ -17,7 +17,7 @@ use Rattle.scene_core.specs.Building.{scene_of}
 use Rattle.scene_core.specs.Scene.{SceneView}
 use Rattle.scene_core.specs.Shape.{declaration_entry, declared_by, declared_entry, most_declared, numbered_fields}
 use Rattle.scene_round_trip.proofs.NumberedLists.{some_is, within}
-use Rattle.scene_round_trip.proofs.NumberedScenes.{IsSceneOf, alone_in, found, numbers_of, scene_is}
+use Rattle.scene_round_trip.proofs.NumberedScenes.{IsSceneOf, found, label_in, numbers_of, scene_is}
 use Rattle.written_scenes.proofs.OrderFields.{HasValues, has_values}
 use Rattle.flat_laws.proofs.Lists.{all_map}
 use Rattle.written_scenes.specs.Distinct.{HasDistinctFields}
@@ -93,7 +93,7 @@ module _ (f : Flat) (s : SceneView) (is_scene : scene_of f ≡ Ok s) where
         o.0,
         m.flat,
         m.flat_is,
-        subst (λ (k : SceneNode). HasValues m.flat k) same (has_values f.nodes (numbers_of f).numbers (alone_in f) m.flat m.node m.made),
+        subst (λ (k : SceneNode). HasValues m.flat k) same (has_values f.nodes (numbers_of f).numbers (label_in f n) m.flat m.node m.made),
       )
 
 pub scenes_distinct : AreRowsDistinct → FieldsAreDistinct

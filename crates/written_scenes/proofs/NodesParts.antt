@@ -27,7 +27,7 @@ use Rattle.scene_round_trip.specs.Again.{HaveChildren}
 use Rattle.scene_round_trip.specs.Children.{children}
 use Rattle.scene_round_trip.proofs.NumberedLists.{some_is, within}
 use Rattle.scene_round_trip.proofs.Lower.{children_lower}
-use Rattle.scene_round_trip.proofs.NumberedScenes.{IsSceneOf, alone_in, found, numbers_of, scene_is}
+use Rattle.scene_round_trip.proofs.NumberedScenes.{IsSceneOf, found, label_in, numbers_of, scene_is}
 use Rattle.scene_core.specs.Building.{scene_of}
 use Rattle.scene_round_trip.specs.Writable.{AreKeepable, IsShallow}
 use Rattle.scene_round_trip.proofs.Chains.{IsClosedNode, all_shallow}
@@ -152,7 +152,7 @@ module _ (flat : Flat) (s : SceneView) (is_scene : scene_of flat ≡ Ok s) where
       let f = found (numbers_of flat).order n (omega (arith, l, scene.many)) in
       let m = scene.each n f.0 f.1 in
       let same : m.node ≡ node = some_is m.node node (sym m.node_is ∙ is) in
-      (m.flat, subst (λ (o : SceneNode). HasValues m.flat o) same (has_values flat.nodes (numbers_of flat).numbers (alone_in flat) m.flat m.node m.made))
+      (m.flat, subst (λ (o : SceneNode). HasValues m.flat o) same (has_values flat.nodes (numbers_of flat).numbers (label_in flat n) m.flat m.node m.made))
 
   pub shown_are : (p : PlanView) → p.scene ≡ s → AreKeepable p.state → (n : ℕ) (node : SceneNode) → slice_get p.scene.nodes n ≡ Some node
       → flat_map links (shown_fields p n node.node_type) ≡ children node

@@ -174,12 +174,12 @@ module _ (all : List FlatNode) (numbers : List ℕ) where
       let r = declared_fit fields (number + 1) ds (made ++ b.0 ∷ []) values b.2 in
       (b.0 ∷ r.0, r.1 ∙ append_assoc made (b.0 ∷ []) r.0, (declared_is d (given fields number) b.0 b.1, r.2))
 
-  pub has_values : (alone : List ℕ → Bool) (node : FlatNode) (n : SceneNode) → node_of all numbers alone node ≡ Ok n → HasValues node n
+  pub has_values : (is_label : List ℕ → Bool) (node : FlatNode) (n : SceneNode) → node_of all numbers is_label node ≡ Ok n → HasValues node n
   unfolding values_of
-  has_values alone node n h =
+  has_values is_label node n h =
       let t : NodeType = node.node_type in
       let ds : List (Declaration ℕ) = numbered_fields t node.interface in
-      let label : Option (List ℕ) = label_by alone node.name in
+      let label : Option (List ℕ) = label_by is_label node.name in
       let a = bind_is (values_of all numbers node) (λ values. Ok (new_node node label values)) n h in
       let b = bind_is (values_from all numbers node.fields 0 (rows t) []) (declared_from all numbers node.fields (length (rows t)) ds) a.0 a.1 in
       let first = rows_fit node.fields 0 (rows t) [] b.0 (rows_right t) b.1 in

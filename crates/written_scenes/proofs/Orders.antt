@@ -28,7 +28,7 @@ use Rattle.scene_text.specs.Tree.{Declared, Makes, Plain, PlanView, Shown, Step,
 use Rattle.scene_round_trip.specs.Children.{children}
 use Rattle.scene_round_trip.proofs.NumberedLists.{length_set, some_is, within}
 use Rattle.scene_round_trip.proofs.Lower.{children_lower, helpers_low, roots_low}
-use Rattle.scene_round_trip.proofs.NumberedScenes.{IsSceneOf, alone_in, found, numbers_of, scene_is}
+use Rattle.scene_round_trip.proofs.NumberedScenes.{IsSceneOf, found, label_in, numbers_of, scene_is}
 use Rattle.scene_round_trip.proofs.Visits.{full, unopened_few}
 use Rattle.scene_round_trip.specs.Writable.{IsShallow}
 use Rattle.scene_round_trip.proofs.Chains.{IsClosedNode, all_shallow}
@@ -165,7 +165,7 @@ module _ (flat : Flat) (p : PlanView) (nodes : List FlatNode) (w : IsWritten fla
       let m = scene.each n f.0 f.1 in
       let same : m.node ≡ node = some_is m.node node (sym m.node_is ∙ is) in
       shown_links p n node w.kept is m.flat
-      (subst (λ (o : SceneNode). HasValues m.flat o) same (has_values flat.nodes (numbers_of flat).numbers (alone_in flat) m.flat m.node m.made))
+      (subst (λ (o : SceneNode). HasValues m.flat o) same (has_values flat.nodes (numbers_of flat).numbers (label_in flat n) m.flat m.node m.made))
 
   abbrev InOrder : ℕ → Type 0
   InOrder depth = Leaves nodes (IsShallow p.scene depth) (node_tree depth p)

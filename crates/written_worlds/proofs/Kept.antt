@@ -6,6 +6,7 @@ use Rattle.std.proofs.lemmas.List.{length-append, length-map}
 use Rattle.x3d_values.specs.declared.fields.Fields.{Fields}
 use Rattle.x3d_values.specs.declared.node_type.NodeType.{NodeType}
 use Rattle.route_core.specs.Ends.{node_of}
+use Rattle.scene_core.specs.declared.scene.Route.{Route}
 use Rattle.scene_core.specs.declared.scene.SceneNode.{SceneNode}
 use Rattle.scene_core.specs.Scene.{SceneView, types_of}
 use Rattle.scenes_again.specs.Again.{IsWrittenOf, switch_type}
@@ -14,7 +15,7 @@ use Rattle.written_scenes.specs.Resolved.{KeepsRows}
 abbrev type_of_node : SceneNode → NodeType
 type_of_node n = n.node_type
 
-module _ (s : SceneView) (state : List Fields) (next : SceneView) (w : IsWrittenOf s state next) where
+module _ (s : SceneView) (routes : List Route) (state : List Fields) (next : SceneView) (w : IsWrittenOf s routes state next) where
   many : length s.nodes ≤ length next.nodes
   many =
       let a = length-map next.nodes type_of_node in

@@ -57,7 +57,7 @@ held_in scene w fits n field v held = by_node (slice_get w.world.fields n) refl 
 kept_by : KeptAgain → (scene : SceneView) (routes : List Route) (w : Scripted) → ScriptedFits scene w → IsAgain scene routes w → IsKeptAgain scene routes w
 kept_by law scene routes w fits again flat_again next is_flat is_next n field v held =
     let r : IsHeld (rows_at scene n) field v = held_in scene w fits n field v held in
-    law scene w.world.fields next (again flat_again next is_flat is_next) n field r.0 v r.1 r.3 held
+    law scene routes w.world.fields next (again flat_again next is_flat is_next) n field r.0 v r.1 r.3 held
 
 pub worlds_kept : KeptAgain → WrittenWorldsAreAgain → WorldsAreKeptAgain
 worlds_kept law again text f scene routes inputs o run i =

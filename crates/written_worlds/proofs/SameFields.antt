@@ -29,6 +29,7 @@ use Rattle.written_scenes.specs.Nodes.{in_switch, switch_root}
 use Rattle.written_scenes.proofs.Counts.{hits, hits_append, hits_are}
 use Rattle.written_scenes.proofs.NodesParts.{within_are}
 use Rattle.written_scenes.proofs.Plans.{plan}
+use Rattle.written_scenes.specs.Braces.{written_name}
 use Rattle.scenes_again.specs.Again.{IsWrittenOf, switch_type}
 use Rattle.scenes_again.specs.Begins.{kept_of}
 use Rattle.scenes_again.proofs.Made.{behind, front, value_in}
@@ -141,7 +142,7 @@ other_root x count l (h ∷ hs) = ap (λ (b : Bool). cond b (1 + 0) 0) (ne_eqb c
 -- ---- a scene that was written and read again
 
 module _ (from again : Flat) (s next : SceneView) (routes : List Route) (state : List Fields) (is : scene_of from ≡ Ok s) (is_next : scene_of again ≡ Ok next)
-    (w : IsWrittenOf s state next) where
+    (w : IsWrittenOf s routes state next) where
   abbrev count : ℕ
   count = length s.nodes
 
@@ -224,6 +225,12 @@ module _ (from again : Flat) (s next : SceneView) (routes : List Route) (state :
       let switch = switch_parts x count s.helpers in
       omega (arith, here, here_front, inside, there, there_front, roots, roots_apart, helpers, within_next, parts, switch)
 
+  -- a node that was written with a DEF keeps a name, and another has no reason for one either
+  written_so : (kept other : Bool) (l : List ℕ) → (is_some (if kept || other then Some l else None) || other) ≡ (kept || other)
+  written_so true other l = refl
+  written_so false true l = refl
+  written_so false false l = refl
+
   named_same : (n : ℕ) → n < count → is_named next routes n ≡ is_named s routes n
   named_same n low =
       let all = places_are n in
@@ -231,7 +238,8 @@ module _ (from again : Flat) (s next : SceneView) (routes : List Route) (state :
       let counted : hits n (places next) ≡ hits n (places s) = omega (arith, all, none) in
       let same : times n (places next) ≡ times n (places s) = sym (hits_are n (places next)) ∙ (counted ∙ hits_are n (places s)) in
       ap (λ (o : Option (List ℕ)). is_some o || (nat_le 1 (times n (flat_map ends_of routes)) || nat_le 2 (times n (places next)))) (w.names n low)
-      ∙ ap (λ (k : ℕ). is_some (name_at s n) || (nat_le 1 (times n (flat_map ends_of routes)) || nat_le 2 k)) same
+      ∙ (ap (λ (k : ℕ). is_some (written_name s routes n) || (nat_le 1 (times n (flat_map ends_of routes)) || nat_le 2 k)) same
+      ∙ written_so (is_some (name_at s n)) (nat_le 1 (times n (flat_map ends_of routes)) || nat_le 2 (times n (places s))) (label_of s n))
 
   pub def_same : (n : ℕ) → n < count → def_name q n ≡ def_name p n
   unfolding named

@@ -101,7 +101,7 @@ tree_is depth p seen n = refl
 -- ---- a scene that was written and read again
 
 module _ (from again : Flat) (s next : SceneView) (routes : List Route) (state : List Fields) (is : scene_of from ≡ Ok s) (is_next : scene_of again ≡ Ok next)
-    (w : IsWrittenOf s state next) (kept : AreKeepable state) (writable : IsWritable s routes state) where
+    (w : IsWrittenOf s routes state next) (kept : AreKeepable state) (writable : IsWritable s routes state) where
   abbrev count : ℕ
   count = length s.nodes
 

@@ -83,12 +83,12 @@ module _ (known : Known) where
 
     same_as : (again : Flat) (next : SceneView) → flat (scene_document scene routes state) ≡ Ok again → scene_of again ≡ Ok next → IsSame scene routes state again next
     same_as again next is is_next =
-        let same : IsWrittenOf scene state next =
+        let same : IsWrittenOf scene routes state next =
         known.again f scene routes state again next o.is_scene few kept typed given fields_distinct is is_next in
-        let writable : IsWritable scene routes state = can_write (known.room again scene state next is_next same) in
+        let writable : IsWritable scene routes state = can_write (known.room again scene routes state next is_next same) in
         record {
           is_written = same;
-          resolves = known.resolve f scene next routes state again o.is_scene few kept o.are_routes is (keeps_rows scene state next same);
+          resolves = known.resolve f scene next routes state again o.is_scene few kept o.are_routes is (keeps_rows scene routes state next same);
           spells = known.spelled scene routes state writable;
           writes = text_same f again scene next routes state o.is_scene is_next same kept writable;
         }

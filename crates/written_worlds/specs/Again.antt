@@ -26,7 +26,7 @@ abbrev pub IsAgain : SceneView → List Route → Scripted → Type 0
 IsAgain scene routes w =
     (again : Flat) (next : SceneView)
     → flat (scene_document scene routes w.world.fields) ≡ Ok again → scene_of again ≡ Ok next
-    → IsWrittenOf scene w.world.fields next
+    → IsWrittenOf scene routes w.world.fields next
 
 -- so in each world that the scene of a text comes to by inputs in turn
 abbrev pub WrittenWorldsAreAgain : Type 0

@@ -37,7 +37,7 @@ pub record IsTooLarge (scene : SceneView) (routes : List Route) (state : List Fi
 -- the second scene, which is that of the flat form, is the first, and the routes are the same
 pub record IsSame (scene : SceneView) (routes : List Route) (state : List Fields) (again : Flat)
     (next : SceneView) : Type 0 where
-  pub is_written : IsWrittenOf scene state next
+  pub is_written : IsWrittenOf scene routes state next
   pub resolves : resolved again next ≡ Ok routes
   -- the text spells the document that is written, but for lines and the limit of 16 MiB
   pub spells : SpellsAtAnyLength (scene_text scene routes state)
