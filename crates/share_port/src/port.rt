@@ -52,4 +52,13 @@ pub trait Port {
     /// How many sends and receives failed, up to 2^64 - 1.
     fn failures(&self) -> u64
         ensures { result ≡ failure_count self.now };
+
+    /// Is called between two turns, with whether the one before brought something new: a port may
+    /// wait here, until a datagram comes or some time has passed. Nothing is told, and nothing
+    /// fails. Where it isn't written out it returns at once.
+    fn rest(&mut self, _is_new: bool)
+        ensures told { told self.new ≡ told self.old }
+        ensures count { failure_count self.new ≡ failure_count self.old }
+    {
+    }
 }
