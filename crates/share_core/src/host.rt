@@ -14,7 +14,10 @@ use share_rules::{Turn, span_of, turn_of};
 use share_wire::{Ack, Ask, Body, Floor, Message, Offer, Packet, decode, encode};
 use std::alloc::Global;
 use std::marker::Model;
-use x3d_values::{Event, Stamped};
+use x3d_values::{Event, MAX_VIEWERS, Stamped};
+
+/// How many viewers a host may have.
+const SEATS: usize = MAX_VIEWERS as usize;
 
 /// The host of a shared world: the mark of its scene, the inputs that it numbered, from its floor
 /// on, and what it keeps of each viewer.
@@ -22,18 +25,19 @@ use x3d_values::{Event, Stamped};
 pub struct Host {
     mark: [u8; 32],
     inputs: Inputs,
-    kept: ArrayVec<Kept, 16>,
+    kept: ArrayVec<Kept, SEATS>,
 }
 
 impl Model for Host {
     ghost use Rattle.std.specs.Prelude.{◌≡◌, ◌≤◌, length};
+    ghost use Rattle.x3d_values.specs.Ranges.{max_viewers};
     ghost use Rattle.share_core.specs.Host.{HostView, part_with};
 
     ghost Value = { HostView };
 
     ghost view = { λ h. record { mark = h.mark; part = part_with h.inputs h.kept.items } };
 
-    ghost invariant = { λ h. (length h.kept.items ≤ 16) × (length h.mark ≡ 32) };
+    ghost invariant = { λ h. (length h.kept.items ≤ max_viewers) × (length h.mark ≡ 32) };
 }
 
 /// How many offers of a boot are numbered: none of a boot above the one that is kept.
@@ -57,13 +61,13 @@ fn reply_before(kept: Kept, offer: Offer) -> Option<HostReply>
 }
 
 /// What is kept of a viewer, if there is one with this number.
-fn kept_of(kept: &ArrayVec<Kept, 16>, who: u8) -> Option<Kept>
+fn kept_of(kept: &ArrayVec<Kept, SEATS>, who: u8) -> Option<Kept>
     ensures { result ≡ slice_get kept.now.items who }
 {
     kept.as_slice().get(who as usize).copied()
 }
 
-fn set_kept(kept: &mut ArrayVec<Kept, 16>, who: u8, now: Kept)
+fn set_kept(kept: &mut ArrayVec<Kept, SEATS>, who: u8, now: Kept)
     requires { who < length kept.old.items }
     ensures { kept.new.items ≡ slice_set kept.old.items who now }
 {
@@ -90,6 +94,7 @@ fn packet_of(mark: [u8; 32], input: Option<Stamped>) -> Option<Packet>
 impl Host {
     ghost use Rattle.std.specs.Prelude.{◌≡◌, ◌<◌, ◌≤◌, ◌^◌, Some, IfOk, length, slice_get};
     ghost use Rattle.std.specs.Option.{option_map};
+    ghost use Rattle.x3d_values.specs.Ranges.{max_viewers};
     ghost use Rattle.share_wire.specs.Datagram.{datagram};
     ghost use Rattle.share_wire.specs.Decoding.{decoded};
     ghost use Rattle.share_wire.specs.declared.message.Body.TheVariants as body;
@@ -103,10 +108,10 @@ impl Host {
     /// It takes no memory; its list of inputs grows with `alloc`.
     pub fn new(alloc: Global, mark: [u8; 32], viewers: u8) -> Host
         requires some { 1 ≤ viewers }
-        requires most { viewers ≤ 16 }
+        requires most { viewers ≤ max_viewers }
         ensures { result ≡ record { mark = mark; part = new_part viewers } }
     {
-        let mut kept = ArrayVec::from_array_in((), [Kept::default(); 16]);
+        let mut kept = ArrayVec::from_array_in((), [Kept::default(); SEATS]);
         kept.truncate(viewers as usize);
         Host {
             mark,
