@@ -2,7 +2,7 @@
 SHELL := bash
 .SHELLFLAGS := -eu -o pipefail -c
 .PHONY: run try quick picture room test-room share soak fuzz test cases prefixes refusals check definitions calls \
-        bench format install library bindings
+        bench format install library bindings fuzz-library
 
 JOB ?= examples/two-clocks.job
 ROOM ?= examples/rooms/door.job
@@ -118,6 +118,10 @@ library:
 # Tests that library from C, Rust and Python, as far as their tools are there.
 bindings: library
 	@scripts/bindings
+
+# Fuzzes that library: RUNS altered inputs each of a scene, a snapshot and a schedule of calls. Wants clang with libFuzzer.
+fuzz-library: library
+	@scripts/fuzz_library --runs $(or $(RUNS),10000)
 
 # Puts the proved program on the path, and the library with its header and its pkg-config file beside it.
 install: library

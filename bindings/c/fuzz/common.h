@@ -28,8 +28,11 @@ static inline bool are_same(struct bytes a, struct bytes b) {
   return a.length == b.length && memcmp(a.at, b.at, a.length) == 0;
 }
 
+/* Why the last scene was refused. */
+static uint8_t refusal[64];
+
 static inline uint8_t opened(struct x3d_world *world, const uint8_t *text, size_t length) {
-  uint8_t refusal[64], status;
+  uint8_t status;
   size_t wanted = 0;
   status = x3d_world_open(world, text, length, refusal, sizeof refusal, &wanted);
   must(status == X3D_DONE || status == X3D_SCENE || status == X3D_MEMORY);

@@ -2,6 +2,7 @@
  * are applied, and a snapshot of that loads into a second world, which is the same. */
 #include "common.h"
 
+/* What is written is refused for its size alone. */
 static void is_read_again(struct x3d_world *world, struct x3d_world *second) {
   struct bytes text = scene_of(world);
   uint8_t status = opened(second, text.at, text.length);
@@ -9,6 +10,8 @@ static void is_read_again(struct x3d_world *world, struct x3d_world *second) {
     struct bytes again = scene_of(second);
     must(are_same(text, again));
     let_go(again);
+  } else if (status == X3D_SCENE) {
+    must(memcmp(refusal, "refused Too", 11) == 0);
   }
   let_go(text);
 }

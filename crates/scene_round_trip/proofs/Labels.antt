@@ -66,7 +66,7 @@ module _ {A : Type 0} (p : A → Bool) where
 -- ---- what nodes are called
 
 -- these nodes, the first of which has that number, are called as if they kept these names
-Called : ℕ → List SceneNode → List Label → Type 0
+pub Called : ℕ → List SceneNode → List Label → Type 0
 Called number [] [] = Unit {0}
 Called number [] (l ∷ ls) = ⊥
 Called number (n ∷ ns) [] = ⊥

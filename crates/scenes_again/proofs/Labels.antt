@@ -1,5 +1,5 @@
 -- The labels of the scene that is read again.
-use Rattle.std.proofs.Common.{◌≡◌, ℕ, zero, suc, ◌+◌, ◌<◌, ◌≤◌, ◌^◌, ◌==◌, nat_le, Bool, true, false, cond, not, ◌&&◌, ◌||◌, if◌then◌else◌, List, [], ◌∷◌, ◌++◌, codes, length, Option, Some, None, Ok, slice_get, refl, sym, ap, subst, ◌∙◌, ◌⊎◌, inl, inr, arith, eq-eqb, ne_eqb, le-leb}
+use Rattle.std.proofs.Common.{◌≡◌, ℕ, zero, suc, ◌+◌, ◌<◌, ◌≤◌, ◌^◌, nat_le, Bool, true, false, cond, not, ◌&&◌, ◌||◌, if◌then◌else◌, List, [], ◌∷◌, length, Option, Some, None, Ok, slice_get, refl, sym, ap, subst, ◌∙◌, ◌⊎◌, inl, inr, arith, eq-eqb}
 use Rattle.std.specs.Prelude.{is_some}
 use Rattle.std.specs.List.{cons_option, count_by, filter_map, flat_map, range_with_len}
 use Rattle.std.specs.Option.{option_and_then}
@@ -19,7 +19,7 @@ use Rattle.scene_core.specs.Building.{scene_of}
 use Rattle.scene_core.specs.Labels.{is_alone, is_numbered, is_own_number, label_by, name_at}
 use Rattle.scene_core.specs.Scene.{SceneView, label_of, label_or, name_at as kept_name}
 use Rattle.scene_text.specs.Places.{ends_of, is_named, places, times}
-use Rattle.scene_round_trip.proofs.NumberedLists.{some_is, within}
+use Rattle.scene_round_trip.proofs.NumberedLists.{some_is}
 use Rattle.scene_round_trip.proofs.NumbersInOrder.{equal}
 use Rattle.scene_round_trip.proofs.NumberedScenes.{alone_in, found, label_in}
 use Rattle.scene_round_trip.specs.Defaults.{LeftOutAreDefaults}
