@@ -255,14 +255,3 @@ joined_again (Some r) = answers r.1 (ViewerTake 0 0 ∷ ViewerGather 0 2 ∷ Vie
 no_memory-again : joined_again (refused diary gathered_all (ViewerJoin 0 2) 0) ≡ ViewerTook (Err take_fault.Spoiled) ∷ Collected (Ok Again) ∷ Joined (Ok 2) ∷ []
 unfolding fault_of
 no_memory-again = refl
-
--- ---- a round behind the floor
-
--- the floor stands above input 1: a round brings nothing, and one where the next input isn't below
--- the floor brings it
-abbrev floored : (floor : ℕ) → List ℕ
-floored floor = applied (after_rounds diary 0 3 (step diary hosted (HostDropBelow floor)).1)
-
-behind_floor : floored 2 ∷ floored 1 ∷ [] ≡ (0 ∷ []) ∷ (130 ∷ []) ∷ []
-unfolding fault_of
-behind_floor = refl
