@@ -7,11 +7,20 @@
         for change in world.changes(1):
             print(world.label(change.node), change.value)
 
+or a shared world, whose datagrams the program carries between them:
+
+    host, viewer = Host(scene_text, 2), Viewer(scene_text, 0, 1)
+    host.clock(10_000_000)
+    for packet in host.packets(host.take(viewer.ask())):
+        viewer.take(packet)
+
 Coordinates are whole millionths of a unit, times whole microseconds. The shared object is the one that the variable
 X3D_SO names, or libx3d.so beside this file, or in out/ of the checkout, or on the system's path of libraries.
 """
 
 from ._faults import Fault, Refusal
-from ._world import Aim, Change, Meeting, Saved, Work, World
+from ._nodes import Host, Reply, Taken, Viewer
+from ._reading import Aim, Change, Meeting
+from ._world import Saved, Work, World
 
-__all__ = ["Aim", "Change", "Fault", "Meeting", "Refusal", "Saved", "Work", "World"]
+__all__ = ["Aim", "Change", "Fault", "Host", "Meeting", "Refusal", "Reply", "Saved", "Taken", "Viewer", "Work", "World"]

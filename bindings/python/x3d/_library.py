@@ -27,13 +27,24 @@ class RawSaved(Structure):
     _fields_ = [("boot", c_uint32), ("applied", c_uint32)]
 
 
+class RawReply(Structure):
+    _fields_ = [("kind", c_uint32), ("number", c_uint32), ("count", c_uint32)]
+
+
+class RawTaken(Structure):
+    _fields_ = [("kind", c_uint32), ("count", c_uint32)]
+
+
 _WORLD = POINTER(Handle)
+_HOST = POINTER(Handle)
+_VIEWER = POINTER(Handle)
+_COUNT = POINTER(c_uint32)
 _SIZE = POINTER(c_size_t)
-# What each call is passed; each answers a status, but x3d_world_close, which answers nothing.
+# What each call is passed; each answers a status, but those that close, which answer nothing.
 CALLS = {
     "x3d_world_open": [_WORLD, c_char_p, c_size_t, c_char_p, c_size_t, _SIZE],
     "x3d_world_close": [_WORLD],
-    "x3d_world_applied": [_WORLD, POINTER(c_uint32)],
+    "x3d_world_applied": [_WORLD, _COUNT],
     "x3d_world_clock": [_WORLD, c_uint32, c_int64, POINTER(RawWork)],
     "x3d_world_point": [_WORLD, c_uint32, c_int64, c_uint8, c_bool, POINTER(RawAim), POINTER(RawWork)],
     "x3d_world_meet": [_WORLD, POINTER(RawAim), POINTER(RawMet)],
@@ -47,12 +58,54 @@ CALLS = {
     "x3d_world_make_snapshot": [_WORLD, c_uint32],
     "x3d_world_copy_text": [_WORLD, c_char_p, c_size_t, _SIZE],
     "x3d_world_node_count": [_WORLD, _SIZE],
-    "x3d_world_field_count": [_WORLD, c_uint32, POINTER(c_uint32)],
+    "x3d_world_field_count": [_WORLD, c_uint32, _COUNT],
     "x3d_world_list_roots": [_WORLD],
     "x3d_world_list_children": [_WORLD, c_uint32],
     "x3d_world_list_value": [_WORLD, c_uint32, c_uint16],
     "x3d_world_copy_numbers": [_WORLD, POINTER(c_int64), c_size_t, _SIZE],
     "x3d_world_load": [_WORLD, c_uint32, c_char_p, c_size_t, POINTER(RawSaved)],
+    "x3d_host_open": [_HOST, c_char_p, c_size_t, c_uint8],
+    "x3d_host_close": [_HOST],
+    "x3d_host_clock": [_HOST, c_int64, _COUNT],
+    "x3d_host_take": [_HOST, c_char_p, c_size_t, POINTER(RawReply)],
+    "x3d_host_packet": [_HOST, c_uint32, c_char_p, c_size_t, _SIZE],
+    "x3d_host_ack": [_HOST, c_uint8, c_char_p, c_size_t, _SIZE],
+    "x3d_host_floor": [_HOST, _COUNT],
+    "x3d_host_floor_packet": [_HOST, c_char_p, c_size_t, _SIZE],
+    "x3d_host_drop_below": [_HOST, c_uint32],
+    "x3d_host_count": [_HOST, _COUNT],
+    "x3d_host_viewers": [_HOST, _COUNT],
+    "x3d_viewer_open": [_VIEWER, c_char_p, c_size_t, c_uint8, c_uint32, c_char_p, c_size_t, _SIZE],
+    "x3d_viewer_close": [_VIEWER],
+    "x3d_viewer_applied": [_VIEWER, _COUNT],
+    "x3d_viewer_boot": [_VIEWER, _COUNT],
+    "x3d_viewer_waiting": [_VIEWER, _COUNT],
+    "x3d_viewer_take": [_VIEWER, c_char_p, c_size_t, POINTER(RawTaken)],
+    "x3d_viewer_offer": [_VIEWER, c_bool, POINTER(RawAim), _COUNT],
+    "x3d_viewer_resend": [_VIEWER, c_uint32, c_char_p, c_size_t, _SIZE],
+    "x3d_viewer_ask": [_VIEWER, c_char_p, c_size_t, _SIZE],
+    "x3d_viewer_make_snapshot": [_VIEWER],
+    "x3d_viewer_rewind": [_VIEWER, c_uint32, c_char_p, c_size_t, _COUNT],
+    "x3d_viewer_piece_count": [_VIEWER, c_char_p, c_size_t, _COUNT],
+    "x3d_viewer_piece": [_VIEWER, c_char_p, c_size_t, c_uint32, c_char_p, c_size_t, _SIZE],
+    "x3d_viewer_gather": [_VIEWER, c_char_p, c_size_t, _COUNT],
+    "x3d_viewer_join": [_VIEWER, c_uint32, _COUNT],
+    "x3d_viewer_forget": [_VIEWER],
+    "x3d_viewer_meet": [_VIEWER, POINTER(RawAim), POINTER(RawMet)],
+    "x3d_viewer_make_trace": [_VIEWER, c_uint32],
+    "x3d_viewer_make_changes": [_VIEWER, c_uint32],
+    "x3d_viewer_make_scene": [_VIEWER],
+    "x3d_viewer_make_type": [_VIEWER, c_uint32],
+    "x3d_viewer_make_label": [_VIEWER, c_uint32],
+    "x3d_viewer_make_field_name": [_VIEWER, c_uint32, c_uint16],
+    "x3d_viewer_make_value": [_VIEWER, c_uint32, c_uint16],
+    "x3d_viewer_copy_text": [_VIEWER, c_char_p, c_size_t, _SIZE],
+    "x3d_viewer_node_count": [_VIEWER, _SIZE],
+    "x3d_viewer_field_count": [_VIEWER, c_uint32, _COUNT],
+    "x3d_viewer_list_roots": [_VIEWER],
+    "x3d_viewer_list_children": [_VIEWER, c_uint32],
+    "x3d_viewer_list_value": [_VIEWER, c_uint32, c_uint16],
+    "x3d_viewer_copy_numbers": [_VIEWER, POINTER(c_int64), c_size_t, _SIZE],
 }
 
 
@@ -72,6 +125,8 @@ def _path() -> str:
 
 library = ctypes.CDLL(_path())
 for _name, _passed in CALLS.items():
-    _call = getattr(library, _name)
+    _call = getattr(library, _name, None)
+    if _call is None:
+        continue  # a library from before hosts and viewers
     _call.argtypes = _passed
-    _call.restype = None if _name == "x3d_world_close" else c_uint8
+    _call.restype = None if _name.endswith("_close") else c_uint8

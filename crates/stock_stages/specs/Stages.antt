@@ -1,6 +1,6 @@
 -- The stage of a text's scene before any input, with boxes of the stock for its scripts, or why
 -- there is none.
-use Rattle.std.specs.Prelude.{ℕ, List, Option, Some, None, Result, Ok, Err}
+use Rattle.std.specs.Prelude.{◌≡◌, ℕ, List, Option, Some, None, Result, Ok, Err}
 use Rattle.std.specs.Option.{option_map}
 use Rattle.cascade_core.specs.Apply.{opening}
 use Rattle.cascade_core.specs.Held.{StageView, Running}
@@ -22,11 +22,15 @@ scripts_refusal scene =
 abbrev pub fresh : Opened → StageView
 fresh o = record { scene = o.scene; routes = o.routes; held = Running (opening o.scene o.routes) }
 
-abbrev pub unless_refused : StageView → Option JobFault → Result StageView JobFault
-unless_refused stage None = Ok stage
-unless_refused stage (Some fault) = Err fault
+-- the stage has had no input
+abbrev pub IsFresh : StageView → Type 0
+IsFresh s = s.held ≡ Running (opening s.scene s.routes)
 
--- the same, unless its scripts are refused
+abbrev pub unless_refused : {X : Type 0} → X → Option JobFault → Result X JobFault
+unless_refused x None = Ok x
+unless_refused x (Some fault) = Err fault
+
+-- the stage of a scene, unless its scripts are refused
 abbrev pub staged : Opened → Result StageView JobFault
 staged o = unless_refused (fresh o) (scripts_refusal o.scene)
 

@@ -1,7 +1,7 @@
 use Rattle.scene_scripts.specs.Scripts.{script_list}
 use Rattle.script_boxes.specs.Boxes.{stock_kind, stock_state}
 use Rattle.share_ends.proofs.Attached.{attached}
-use Rattle.embedded_world.proofs.opening.scripts_of.Goals as goal
+use Rattle.stock_stages.proofs.stages.scripts_of.Goals as goal
 
 pub returns-clause-fresh : goal.returns-clause-fresh
 returns-clause-fresh c =

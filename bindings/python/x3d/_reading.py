@@ -1,0 +1,220 @@
+"""What a library's object holds, and what is read of a world."""
+
+import ctypes
+from typing import Any, Iterator, List, NamedTuple, Optional, Tuple
+
+from ._faults import Fault, Refusal
+from ._library import Handle, RawAim, RawMet, library
+
+DONE = 0
+_MEMORY = 5
+
+
+class Aim(NamedTuple):
+    """What a viewer points with, in millionths of a unit."""
+
+    origin: Tuple[int, int, int]
+    direction: Tuple[int, int, int]
+
+
+class Meeting(NamedTuple):
+    """What a ray would hit: where it enters, at n / m of the way along its direction, and the sensors that this concerns."""
+
+    entry: Tuple[int, int]
+    sensors: List[int]
+
+
+class Change(NamedTuple):
+    """An event that was sent: what a node's field became, at which input, at which time in microseconds."""
+
+    input: int
+    time: int
+    node: int
+    field: int
+    value: str
+
+
+def fits(number: int, bits: int) -> int:
+    """The number, which ctypes would take modulo 2^bits."""
+    if not 0 <= number < 1 << bits:
+        raise Fault(11)
+    return number
+
+
+def signed(number: int) -> int:
+    """The same of 64 bits with a sign."""
+    if not -(1 << 63) <= number < 1 << 63:
+        raise Fault(11)
+    return number
+
+
+def raw_aim(aim: Aim) -> RawAim:
+    return RawAim(*map(signed, (*aim.origin, *aim.direction)))
+
+
+def _lines(text: str) -> Iterator[str]:
+    """The lines, which end at a line feed that stands in no string."""
+    start, quoted, escaped = 0, False, False
+    for place, letter in enumerate(text):
+        if escaped:
+            escaped = False
+        elif letter == "\\" and quoted:
+            escaped = True
+        elif letter == '"':
+            quoted = not quoted
+        elif letter == "\n" and not quoted:
+            yield text[start:place]
+            start = place + 1
+
+
+def _microseconds(text: str) -> int:
+    whole, _, part = text.partition(".")
+    return int(whole) * 1_000_000 + int(part.ljust(6, "0") or "0")
+
+
+def _change(line: str) -> Change:
+    number, time, node, field, value = line.split(" ", 4)
+    return Change(int(number), _microseconds(time), int(node), int(field), value)
+
+
+class Held:
+    """What a handle holds. It is closed by `close`, at the end of a `with`, or when it is no longer used; each call after that
+    raises Fault `Closed`. It is not for two threads at once: ctypes lets other threads run during a call."""
+
+    _KIND = ""
+
+    def __init__(self) -> None:
+        self._handle = Handle()
+
+    def _open(self, text: bytes, *numbers: int) -> None:
+        """Opens what a scene's text and numbers give, or raises the refusal's line."""
+        line, wanted = ctypes.create_string_buffer(64), ctypes.c_size_t()
+        status = self._status("open", text, len(text), *numbers, line, 64, wanted)
+        if status == _MEMORY:
+            raise MemoryError
+        if status == 1:
+            raise Refusal(line.raw[: wanted.value].decode())
+        self._good(status)
+
+    def _status(self, name: str, *passed: Any) -> int:
+        return int(getattr(library, f"x3d_{self._KIND}_{name}")(self._handle, *passed))
+
+    def _good(self, status: int) -> None:
+        if status != DONE:
+            raise Fault(status)
+
+    def _call(self, name: str, *passed: Any) -> None:
+        self._good(self._status(name, *passed))
+
+    def _number(self, name: str, *passed: Any) -> int:
+        """What a call that tells one number of 32 bits tells."""
+        number = ctypes.c_uint32()
+        self._call(name, *passed, number)
+        return number.value
+
+    def close(self) -> None:
+        """Frees it. Closing twice is allowed."""
+        getattr(library, f"x3d_{self._KIND}_close")(self._handle)
+
+    def __exit__(self, *_: object) -> None:
+        self.close()
+
+    def __del__(self) -> None:
+        if hasattr(self, "_handle"):
+            self.close()
+
+
+class Readable(Held):
+    """What is read of a world, of a World and of a Viewer alike. Where memory was refused at an input all of it raises Fault
+    `Spoiled`, but what a scene says by itself."""
+
+    def _bytes(self) -> bytes:
+        """The bytes that were made last."""
+        wanted = ctypes.c_size_t()
+        self._status("copy_text", ctypes.create_string_buffer(1), 0, wanted)
+        out = ctypes.create_string_buffer(wanted.value + 1)
+        self._call("copy_text", out, wanted.value, wanted)
+        return out.raw[: wanted.value]
+
+    def _numbers(self) -> List[int]:
+        """The numbers that were listed last."""
+        wanted = ctypes.c_size_t()
+        self._status("copy_numbers", (ctypes.c_int64 * 1)(), 0, wanted)
+        out = (ctypes.c_int64 * (wanted.value + 1))()
+        self._call("copy_numbers", out, wanted.value, wanted)
+        return list(out[: wanted.value])
+
+    def _text(self, name: str, *passed: Any) -> str:
+        self._call(name, *passed)
+        return self._bytes().decode()
+
+    def applied(self) -> int:
+        """How many inputs were applied: the next one has the number behind it."""
+        return self._number("applied")
+
+    def meet(self, aim: Aim) -> Optional[Meeting]:
+        """What a ray would hit; the world stays as it is."""
+        met = RawMet()
+        self._call("meet", raw_aim(aim), met)
+        return Meeting((met.n, met.m), self._numbers()) if met.m else None
+
+    def trace(self, first: int = 0) -> str:
+        """The lines of the trace that are of inputs from a number on; from 0 on it is the whole trace."""
+        return self._text("make_trace", fits(first, 32))
+
+    def changes(self, first: int = 0) -> List[Change]:
+        """The same lines by the numbers of nodes and fields."""
+        return [_change(line) for line in _lines(self._text("make_changes", fits(first, 32)))]
+
+    def scene(self) -> str:
+        """The text of the scene as it is now."""
+        return self._text("make_scene")
+
+    def node_count(self) -> int:
+        """How many nodes the scene has, which are numbered from 0."""
+        count = ctypes.c_size_t()
+        self._call("node_count", count)
+        return count.value
+
+    def roots(self) -> List[int]:
+        """The roots of the scene."""
+        self._call("list_roots")
+        return self._numbers()
+
+    def children(self, node: int) -> List[int]:
+        """The nodes in the field `children` of a node; none where it has no such field."""
+        self._call("list_children", fits(node, 32))
+        return self._numbers()
+
+    def node_type(self, node: int) -> str:
+        """The word for a node's type, as `Transform`."""
+        return self._text("make_type", fits(node, 32))
+
+    def label(self, node: int) -> str:
+        """The name of a node that no other node has: its DEF name, where it is alone, or else `N` and its number."""
+        return self._text("make_label", fits(node, 32))
+
+    def field_count(self, node: int) -> int:
+        """How many fields a node has, which are numbered from 0; 0 where there is no such node."""
+        return self._number("field_count", fits(node, 32))
+
+    def field_name(self, node: int, field: int) -> str:
+        """The name of a field of a node, as `translation`."""
+        return self._text("make_field_name", fits(node, 32), fits(field, 16))
+
+    def field_named(self, node: int, name: str) -> int:
+        """The number of the field of that name."""
+        for field in range(self.field_count(node)):
+            if self.field_name(node, field) == name:
+                return field
+        raise Fault(24)
+
+    def value(self, node: int, field: int) -> str:
+        """The text of the value that a field has now, as `0 1.5 0`; nodes have none."""
+        return self._text("make_value", fits(node, 32), fits(field, 16))
+
+    def numbers(self, node: int, field: int) -> List[int]:
+        """The numbers of that value: truths as 1 and 0, integers, millionths and microseconds as they are, vectors and colors
+        part by part, nodes as their numbers; a text has none."""
+        self._call("list_value", fits(node, 32), fits(field, 16))
+        return self._numbers()
