@@ -1,0 +1,15 @@
+//! Laws of what documents stand for, each the contract of a function that does nothing.
+
+ghost use Rattle.laws_flat.specs.Untaken.{UntakenPlainValuesDontMatter, UntakenValuesDontMatter};
+
+/// A document stands for the same with other values where no IS takes them, if these declare as
+/// much.
+pub fn untaken_values_dont_matter()
+    ensures { UntakenValuesDontMatter }
+{}
+
+/// Documents that differ in values without nodes alone, where no IS takes these, stand for the
+/// same.
+pub fn untaken_plain_values_dont_matter()
+    ensures { UntakenPlainValuesDontMatter }
+{}

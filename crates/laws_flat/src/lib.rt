@@ -1,0 +1,6 @@
+//! Laws of what documents with prototypes stand for.
+#![tactic(auto)]
+
+mod laws;
+
+pub use laws::{untaken_plain_values_dont_matter, untaken_values_dont_matter};
