@@ -4,3 +4,7 @@ pub mod UntakenTexts
 pub mod UntakenNodes
 pub mod UntakenProtos
 pub mod UntakenWhole
+pub mod Maps
+pub mod RenamedTexts
+pub mod RenamedGiven
+pub mod RenamedParts

@@ -1,5 +1,6 @@
--- What no IS takes doesn't matter (ISO/IEC 19775-1, 4.4.4): where no IS of its prototype's body takes a
--- field, the value that an instance gives it, and its default, may be any other that declares as much.
+-- What no IS takes doesn't matter (ISO/IEC 19775-1, 4.4.4): where no IS of its prototype's body
+-- takes a field, the value that an instance gives it, and its default, may be any other that declares
+-- as much.
 use Rattle.std.specs.Prelude.{◌≡◌, ℕ, Bool, false, List, [], ◌∷◌, ◌++◌, map, Option, Result, Ok, Err}
 use Rattle.classic_tree.specs.declared.tree.BodyItem.{BodyItem, fold-BodyItem}
 use Rattle.classic_tree.specs.declared.tree.BodyItem.TheOpen.{BodyItem-F, NodeText-F, Statement-F, ProtoText-F}
@@ -39,9 +40,11 @@ Change = ℕ → Name → RawValue NodeText → RawValue NodeText
 -- search for an instance of a prototype finds the same: so it is of all values without nodes
 pub record KeepsDeclarations (change : Change) : Type 0 where
   pub declares : (line : ℕ) (name : Name) (v : RawValue NodeText) (s : Sight)
-      → aside (given_declares (given.Value (change line name v))) s ≡ aside (given_declares (given.Value v)) s
+      → aside (given_declares (given.Value (change line name v))) s
+      ≡ aside (given_declares (given.Value v)) s
   pub holds : (line : ℕ) (name : Name) (v : RawValue NodeText) (own : Name) (hidden : Bool)
-      → given_holds (given.Value (change line name v)) own hidden ≡ given_holds (given.Value v) own hidden
+      → given_holds (given.Value (change line name v)) own hidden
+      ≡ given_holds (given.Value v) own hidden
 
 -- ---- parts of a text by what is in sight before them
 
@@ -113,7 +116,8 @@ abbrev pub statements_declare : List Statement → Step
 statements_declare ss = each (λ s. (statement s).1.sees) ss
 
 -- a prototype whose parts are those, by what is in sight where its interface begins, and its body
-abbrev pub proto_with : Change → ℕ → Name → List (Declaration NodeText) → List Statement → Sight → ProtoText
+abbrev pub proto_with : Change → ℕ → Name → List (Declaration NodeText) → List Statement → Sight
+    → ProtoText
 proto_with change line name ds ss body =
     roll-ProtoText (record {
       line = line;
@@ -149,10 +153,12 @@ interface_at ds s = in_turn declaration_at (λ d. given_declares d.given) ds s
 abbrev pub statements_at : List StatementAt → Sight → List Statement
 statements_at ss s = in_turn (λ (x : StatementAt). x) (λ x. (statement x).1.sees) ss s
 
-abbrev pub body_at : Change → ℕ → Name → List (Declaration NodeText) → List StatementAt → Sight → ProtoText
+abbrev pub body_at : Change → ℕ → Name → List (Declaration NodeText) → List StatementAt → Sight
+    → ProtoText
 body_at change line name ds ss s = proto_with change line name ds (statements_at ss s) s
 
-abbrev pub with_parts : Change → ℕ → Name → List (Declaration NodeText) → List StatementAt → Sight → ProtoText
+abbrev pub with_parts : Change → ℕ → Name → List (Declaration NodeText) → List StatementAt → Sight
+    → ProtoText
 with_parts change line name ds ss s = body_at change line name ds ss (past (defaults_declare ds) s)
 
 unfoldable pub proto_step : Change → ProtoText-F ItemAt NodeAt StatementAt ProtoAt → ProtoAt
@@ -191,7 +197,8 @@ with_untaken change d =
 
 abbrev pub UntakenValuesDontMatter : Type 0
 UntakenValuesDontMatter =
-    (change : Change) → KeepsDeclarations change → (d : Document) → flat (with_untaken change d) ≡ flat d
+    (change : Change) → KeepsDeclarations change → (d : Document)
+    → flat (with_untaken change d) ≡ flat d
 
 -- NULL in the place of a value without nodes
 abbrev pub null_for : List NodeText → RawValue NodeText → RawValue NodeText

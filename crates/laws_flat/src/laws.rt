@@ -1,5 +1,6 @@
 //! Laws of what documents stand for, each the contract of a function that does nothing.
 
+ghost use Rattle.laws_flat.specs.Renamed.{NamesOfPrototypesDontMatter};
 ghost use Rattle.laws_flat.specs.Untaken.{UntakenPlainValuesDontMatter, UntakenValuesDontMatter};
 
 /// A document stands for the same with other values where no IS takes them, if these declare as
@@ -12,4 +13,9 @@ pub fn untaken_values_dont_matter()
 /// same.
 pub fn untaken_plain_values_dont_matter()
     ensures { UntakenPlainValuesDontMatter }
+{}
+
+/// A document stands for the same with other names of prototypes.
+pub fn names_of_prototypes_dont_matter()
+    ensures { NamesOfPrototypesDontMatter }
 {}

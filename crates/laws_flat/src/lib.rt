@@ -3,4 +3,6 @@
 
 mod laws;
 
-pub use laws::{untaken_plain_values_dont_matter, untaken_values_dont_matter};
+pub use laws::{
+    names_of_prototypes_dont_matter, untaken_plain_values_dont_matter, untaken_values_dont_matter,
+};
