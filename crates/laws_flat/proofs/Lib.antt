@@ -8,3 +8,5 @@ pub mod Maps
 pub mod RenamedTexts
 pub mod RenamedGiven
 pub mod RenamedParts
+pub mod PlainTexts
+pub mod PlainWalk

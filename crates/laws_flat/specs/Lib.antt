@@ -1,2 +1,3 @@
 pub mod Untaken
 pub mod Renamed
+pub mod Plain

@@ -1,5 +1,6 @@
 //! Laws of what documents stand for, each the contract of a function that does nothing.
 
+ghost use Rattle.laws_flat.specs.Plain.{PlainDocumentsAreThemselves};
 ghost use Rattle.laws_flat.specs.Renamed.{NamesOfPrototypesDontMatter};
 ghost use Rattle.laws_flat.specs.Untaken.{UntakenPlainValuesDontMatter, UntakenValuesDontMatter};
 
@@ -18,4 +19,9 @@ pub fn untaken_plain_values_dont_matter()
 /// A document stands for the same with other names of prototypes.
 pub fn names_of_prototypes_dont_matter()
     ensures { NamesOfPrototypesDontMatter }
+{}
+
+/// What a document without PROTO stands for is read plainly: each pair of braces is a node.
+pub fn plain_documents_are_themselves()
+    ensures { PlainDocumentsAreThemselves }
 {}

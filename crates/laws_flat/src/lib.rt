@@ -4,5 +4,6 @@
 mod laws;
 
 pub use laws::{
-    names_of_prototypes_dont_matter, untaken_plain_values_dont_matter, untaken_values_dont_matter,
+    names_of_prototypes_dont_matter, plain_documents_are_themselves,
+    untaken_plain_values_dont_matter, untaken_values_dont_matter,
 };
