@@ -10,3 +10,7 @@ pub mod RenamedGiven
 pub mod RenamedParts
 pub mod PlainTexts
 pub mod PlainWalk
+pub mod InPlaceTexts
+pub mod InPlaceWalks
+pub mod InPlaceParts
+pub mod InPlaceWhole

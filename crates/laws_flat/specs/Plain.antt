@@ -1,6 +1,6 @@
--- A document without PROTO is itself: what it stands for, read plainly. Each pair of braces is a node,
--- numbered when it closes; USE is the last node of a name, ROUTE names the last braces of a name
--- (ISO/IEC 19775-1, 4.4.3 and 4.4.8).
+-- A document without PROTO is itself: what it stands for, read plainly. Each pair of braces is a
+-- node, numbered when it closes; USE is the last node of a name, ROUTE names the last braces of a
+-- name (ISO/IEC 19775-1, 4.4.3 and 4.4.8).
 use Rattle.std.specs.Prelude.{◌≡◌, ℕ, ◌+◌, Bool, true, false, if◌then◌else◌, List, [], ◌∷◌, ◌++◌, drop, length, map, Option, Some, None, option_map, is_some, Result, Ok, Err, slice_get, slice_set}
 use Rattle.std.specs.List.{filter_map, list_all, list_any}
 use Rattle.std.specs.Option.{option_and_then, option_map_or, option_or}
@@ -269,7 +269,8 @@ node_step (NodeText-F.Use line name) =
 node_step (NodeText-F.Full line name word items) =
     option_map_or (read_node line name items) (node_type_named word) (refuse UnknownNode line)
 
-unfoldable pub statement_step : Statement-F ItemReads (Reads ℕ) (Reads (List ℕ)) (Unit {0}) → Reads (List ℕ)
+unfoldable pub statement_step : Statement-F ItemReads (Reads ℕ) (Reads (List ℕ)) (Unit {0})
+    → Reads (List ℕ)
 statement_step (Statement-F.Node node) = node >>= λ n. pure (n ∷ [])
 statement_step (Statement-F.Statement::Route route) = wire_route route >>= λ _. pure []
 statement_step (Statement-F.Statement::Proto p) = pure []

@@ -18,25 +18,29 @@ pub record IsRenaming (rename : Name → Name) : Type 0 where
   pub apart : (a b : Name) → rename a ≡ rename b → a ≡ b
   pub types : (a : Name) → node_type_named (rename a) ≡ node_type_named a
 
--- ---- a text with other names of prototypes, where they are declared and where they stand before braces
+-- ---- a text with other names of prototypes, at declarations and before braces
 
-unfoldable pub item_step : (Name → Name) → BodyItem-F BodyItem NodeText Statement ProtoText → BodyItem
+unfoldable pub item_step : (Name → Name) → BodyItem-F BodyItem NodeText Statement ProtoText
+    → BodyItem
 item_step rename (BodyItem-F.Field line name g) = item.Field line name g
 item_step rename (BodyItem-F.Declaration d) = item.Declaration d
 item_step rename (BodyItem-F.BodyItem::Route route) = item.Route route
 item_step rename (BodyItem-F.BodyItem::Proto p) = item.Proto p
 
-unfoldable pub node_step : (Name → Name) → NodeText-F BodyItem NodeText Statement ProtoText → NodeText
+unfoldable pub node_step : (Name → Name) → NodeText-F BodyItem NodeText Statement ProtoText
+    → NodeText
 node_step rename (NodeText-F.Use line name) = node.Use line name
 node_step rename (NodeText-F.Full line name word items) =
     node.Full line name (rename word) items
 
-unfoldable pub statement_step : (Name → Name) → Statement-F BodyItem NodeText Statement ProtoText → Statement
+unfoldable pub statement_step : (Name → Name) → Statement-F BodyItem NodeText Statement ProtoText
+    → Statement
 statement_step rename (Statement-F.Node n) = statement.Node n
 statement_step rename (Statement-F.Statement::Route route) = statement.Route route
 statement_step rename (Statement-F.Statement::Proto p) = statement.Proto p
 
-unfoldable pub proto_step : (Name → Name) → ProtoText-F BodyItem NodeText Statement ProtoText → ProtoText
+unfoldable pub proto_step : (Name → Name) → ProtoText-F BodyItem NodeText Statement ProtoText
+    → ProtoText
 proto_step rename p = roll-ProtoText (record p { name = rename p.name })
 
 abbrev pub renamed_item : (Name → Name) → BodyItem → BodyItem

@@ -1,6 +1,6 @@
 -- What no IS takes doesn't matter (ISO/IEC 19775-1, 4.4.4): where no IS of its prototype's body
--- takes a field, the value that an instance gives it, and its default, may be any other that declares
--- as much.
+-- takes a field, the value that an instance gives it, and its default, may be any other that
+-- declares as much.
 use Rattle.std.specs.Prelude.{◌≡◌, ℕ, Bool, false, List, [], ◌∷◌, ◌++◌, map, Option, Result, Ok, Err}
 use Rattle.classic_tree.specs.declared.tree.BodyItem.{BodyItem, fold-BodyItem}
 use Rattle.classic_tree.specs.declared.tree.BodyItem.TheOpen.{BodyItem-F, NodeText-F, Statement-F, ProtoText-F}

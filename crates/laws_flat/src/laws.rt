@@ -1,5 +1,6 @@
 //! Laws of what documents stand for, each the contract of a function that does nothing.
 
+ghost use Rattle.laws_flat.specs.InPlace.{InstancesAreTheirBodies};
 ghost use Rattle.laws_flat.specs.Plain.{PlainDocumentsAreThemselves};
 ghost use Rattle.laws_flat.specs.Renamed.{NamesOfPrototypesDontMatter};
 ghost use Rattle.laws_flat.specs.Untaken.{UntakenPlainValuesDontMatter, UntakenValuesDontMatter};
@@ -24,4 +25,10 @@ pub fn names_of_prototypes_dont_matter()
 /// What a document without PROTO stands for is read plainly: each pair of braces is a node.
 pub fn plain_documents_are_themselves()
     ensures { PlainDocumentsAreThemselves }
+{}
+
+/// An instance is its prototype's body written in its place: of a prototype without interface whose
+/// body is one node, anywhere in a text without other prototypes, USE and ROUTE.
+pub fn instances_are_their_bodies()
+    ensures { InstancesAreTheirBodies }
 {}

@@ -4,6 +4,6 @@
 mod laws;
 
 pub use laws::{
-    names_of_prototypes_dont_matter, plain_documents_are_themselves,
+    instances_are_their_bodies, names_of_prototypes_dont_matter, plain_documents_are_themselves,
     untaken_plain_values_dont_matter, untaken_values_dont_matter,
 };
