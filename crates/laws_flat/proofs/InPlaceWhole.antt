@@ -218,7 +218,7 @@ module _ (line : ℕ) (proto : Name) (body : NodeText) where
   abbrev declares : Stated
   declares = statement_step (Statement-F.Statement::Proto (proto_of line proto [] one_body))
 
-  declaration_is : stated (declaration_of line proto body) ≡ declares
+  pub declaration_is : stated (declaration_of line proto body) ≡ declares
   declaration_is =
       statement-proto _ refl ∙ ap (λ q. statement_step (Statement-F.Statement::Proto q)) (proto-is line proto [] (statement_text.Node body ∷ []) refl refl
       ∙ ap (λ x. proto_of line proto [] (x ∷ [])) (statement-node body refl))

@@ -14,3 +14,5 @@ pub mod InPlaceTexts
 pub mod InPlaceWalks
 pub mod InPlaceParts
 pub mod InPlaceWhole
+pub mod WorkedUntaken
+pub mod WorkedInPlace

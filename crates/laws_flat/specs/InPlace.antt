@@ -1,6 +1,6 @@
--- An instance is its prototype's body written in its place (ISO/IEC 19775-1, 4.4.4): for a prototype
--- without interface whose body is one node, and instances of it that stand anywhere in a text without
--- other prototypes, USE and ROUTE.
+-- An instance is its prototype's body written in its place (ISO/IEC 19775-1, 4.4.4): of a prototype
+-- without interface whose body is one node, where instances stand anywhere in a text without other
+-- prototypes, USE and ROUTE.
 use Rattle.std.specs.Prelude.{◌≡◌, ◌⊎◌, ℕ, Bool, true, false, ◌&&◌, if◌then◌else◌, List, [], ◌∷◌, map, Option, is_none, Ok, Err}
 use Rattle.std.specs.List.{list_all}
 use Rattle.std.specs.Str.{bytes_eq}
@@ -37,10 +37,12 @@ abbrev pub none_inside : {A : Type 0} → List A → Bool
 none_inside [] = true
 none_inside (x ∷ xs) = false
 
--- braces of the prototype's name are those of an instance without name and fields, if any may stand there
+-- braces behind the prototype's name are those of an instance without DEF and fields, if one may
+-- stand there
 abbrev pub may_stand : Name → Bool → Option Name → Name → List Bool → Bool
 may_stand proto allowed name word items =
-    if bytes_eq proto word then allowed && is_none name && none_inside items else list_all is_true items
+    if bytes_eq proto word then allowed && is_none name && none_inside items
+    else list_all is_true items
 
 unfoldable pub quiet_item_step : BodyItem-F Bool Bool Bool Bool → Bool
 quiet_item_step (BodyItem-F.Field line name g) = all_in g
@@ -84,7 +86,8 @@ item_step (BodyItem-F.Declaration d) = item.Declaration d
 item_step (BodyItem-F.BodyItem::Route route) = item.Route route
 item_step (BodyItem-F.BodyItem::Proto p) = item.Proto p
 
-unfoldable pub node_step : Name → NodeText → NodeText-F BodyItem NodeText Statement ProtoText → NodeText
+unfoldable pub node_step : Name → NodeText → NodeText-F BodyItem NodeText Statement ProtoText
+    → NodeText
 node_step proto body (NodeText-F.Use line name) = node.Use line name
 node_step proto body (NodeText-F.Full line name word items) =
     if bytes_eq proto word then body else node.Full line name word items
@@ -127,14 +130,21 @@ declaration_of line proto body =
 abbrev pub nothing_in_sight : Sight
 nothing_in_sight = record { here = []; outside = []; taken = no_names }
 
--- a document that begins with the declaration, which is sound, and one in which the body is written in
--- the place of each instance: they stand for the same, or there are too many instances
+abbrev pub declared : Document → ℕ → Name → NodeText → List Statement → Document
+declared d line proto body rest =
+    record d { statements = declaration_of line proto body ∷ rest }
+
+abbrev pub written_out : Document → Name → NodeText → List Statement → Document
+written_out d proto body rest = record d { statements = map (written_statement proto body) rest }
+
+-- a document that begins with the declaration, in which nothing is wrong, and one in which the body
+-- is written in the place of each instance: they stand for the same, or the instances are too many
 abbrev pub InstancesAreTheirBodies : Type 0
 InstancesAreTheirBodies =
-    (d : Document) (line : ℕ) (proto : Name) (body : NodeText) (rest : List Statement) (sight : Sight)
+    (d : Document) (line : ℕ) (proto : Name) (body : NodeText) (rest : List Statement)
+    (sight : Sight)
     → (stated (declaration_of line proto body)).1.sees nothing_in_sight ≡ Ok sight
     → is_quiet_node proto false body ≡ true
     → list_all (is_quiet_statement proto true) rest ≡ true
-    → (flat (record d { statements = declaration_of line proto body ∷ rest })
-    ≡ flat (record d { statements = map (written_statement proto body) rest }))
-    ⊎ (flat (record d { statements = declaration_of line proto body ∷ rest }) ≡ Err (fault TooLarge 0))
+    → (flat (declared d line proto body rest) ≡ flat (written_out d proto body rest))
+    ⊎ (flat (declared d line proto body rest) ≡ Err (fault TooLarge 0))

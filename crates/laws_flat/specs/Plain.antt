@@ -28,6 +28,7 @@ use Rattle.flat_document.specs.declared.fault.ExpandFaultKind.TheVariants.{Unkno
 use Rattle.flat_document.specs.declared.flat.Flat.{Flat}
 use Rattle.flat_document.specs.declared.flat.FlatEnd.{FlatEnd}
 use Rattle.flat_document.specs.declared.flat.FlatEnd.TheVariants.{At, NoNode}
+use Rattle.flat_document.specs.declared.flat.FlatField.{FlatField}
 use Rattle.flat_document.specs.declared.flat.FlatNode.{FlatNode}
 use Rattle.flat_document.specs.declared.flat.FlatRoute.{FlatRoute}
 use Rattle.flat_meaning.specs.Limits.{Met, ANode, AField, AnItem, item_count, Outcome, and_then, limited}
@@ -202,7 +203,8 @@ abbrev pub give : ℕ → ℕ × Field → Bool → Given (Reads ℕ) → Betwee
 give line f twice (given.Is outer) b = refuse BadIs line
 give line f twice (given.Value v) b =
     if twice then refuse FieldTwice line
-    else meet (AField f.0 (item_count v)) >>= λ _. read_value v >>= λ r. pure (fill line f b (Some r))
+    else meet (AField f.0 (item_count v)) >>= λ _. read_value v
+    >>= λ r. pure (fill line f b (Some r))
 give line f twice given.Nothing b =
     if twice then refuse FieldTwice line
     else meet (AField f.0 0) >>= λ _. pure (fill line f b None)
@@ -228,13 +230,16 @@ item_step (BodyItem-F.Declaration d) = λ t b.
 item_step (BodyItem-F.BodyItem::Route route) = λ t b. wire_route route >>= λ _. pure b
 item_step (BodyItem-F.BodyItem::Proto p) = λ t b. pure b
 
+abbrev pub flat_field : Filled → Option FlatField
+flat_field f = option_map (λ v. record { line = f.line; number = f.number; value = v }) f.value
+
 abbrev pub flat_node : ℕ → Option Name → NodeType → Between → FlatNode
 flat_node line name t b =
     record {
       line = line;
       name = name;
       node_type = t;
-      fields = filter_map (λ (f : Filled). option_map (λ v. record { line = f.line; number = f.number; value = v }) f.value) b.filled;
+      fields = filter_map flat_field b.filled;
       interface = drop (length (rows t)) b.fields;
     }
 
@@ -265,7 +270,8 @@ read_node line name items t =
 
 unfoldable pub node_step : NodeText-F ItemReads (Reads ℕ) (Reads (List ℕ)) (Unit {0}) → Reads ℕ
 node_step (NodeText-F.Use line name) =
-    meet AnItem >>= λ _ r. option_map_or pure (last_closed name r.pairs) (refuse UseWithoutDef line) r
+    meet AnItem
+    >>= λ _ r. option_map_or pure (last_closed name r.pairs) (refuse UseWithoutDef line) r
 node_step (NodeText-F.Full line name word items) =
     option_map_or (read_node line name items) (node_type_named word) (refuse UnknownNode line)
 
@@ -290,8 +296,8 @@ read_text =
 
 abbrev pub read_statement : Statement → Reads (List ℕ)
 read_statement =
-    fold-Statement ItemReads (Reads ℕ) (Reads (List ℕ)) (Unit {0}) item_step node_step statement_step
-    proto_step
+    fold-Statement ItemReads (Reads ℕ) (Reads (List ℕ)) (Unit {0}) item_step node_step
+    statement_step proto_step
 
 -- ---- a document
 
