@@ -1,10 +1,10 @@
 -- What holds of drags.
-use Rattle.std.proofs.Common.{◌≡◌, ◌∙◌, sym, refl, ap, subst, ◌==◌, ℤ, pos, neg_ℤ, ◌+ℤ◌, ◌-ℤ◌, ◌≤ℤ◌, int_le, true, [], Some, arith}
+use Rattle.std.proofs.Common.{◌≡◌, ◌∙◌, sym, ap, subst, ◌==◌, ℤ, pos, neg_ℤ, int_le, true, [], Some, arith}
 use Rattle.std.proofs.lemmas.Bool.{cond-true, cond-false}
 use Rattle.std.proofs.lemmas.Int.{ints, clamps}
 use Rattle.std.specs.Int.{int_min, int_max}
 use Rattle.x3d_values.specs.declared.vector.Vec3.{Vec3}
-use Rattle.sensor_plane.specs.Planes.{DragsGoByTheirPresser, TranslationsAreWithin, Unmoved, IsBetween, gone_on, shift, shifted, translation, within}
+use Rattle.sensor_plane.specs.Planes.{DragsGoByTheirPresser, TranslationsAreWithin, Unmoved, IsBetween, gone_on, shifted, translation, within}
 
 pub goes_by_its_presser : DragsGoByTheirPresser
 goes_by_its_presser fields pointer drag other =

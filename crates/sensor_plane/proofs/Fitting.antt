@@ -1,5 +1,5 @@
 -- States of PlaneSensors in their ranges, and their parts.
-use Rattle.std.proofs.Common.{◌≡◌, ◌∙◌, refl, sym, ap, ℕ, ◌<◌, ◌≤◌, ◌^◌, ◌==◌, ℤ, pos, neg_ℤ, ◌≤ℤ◌, int_le, unsigned_abs, IsTrue, Bool, true, false, ◌&&◌, List, length, Option, Some, None, length-set, if◌then◌else◌, arith}
+use Rattle.std.proofs.Common.{◌≡◌, ◌∙◌, refl, sym, ap, ℕ, ◌<◌, ◌^◌, ◌==◌, ℤ, pos, neg_ℤ, ◌≤ℤ◌, int_le, unsigned_abs, IsTrue, Bool, true, false, Option, Some, None, length-set, if◌then◌else◌, arith}
 use Rattle.std.proofs.lemmas.Bool.{cond-true, and_from, and_parts, leb-true, le-leb}
 use Rattle.std.proofs.lemmas.Int.{ints, clamps}
 use Rattle.std.specs.Int.{int_min, int_max}
@@ -11,7 +11,7 @@ use Rattle.sensor_plane.specs.declared.drag.Drag.{Drag}
 use Rattle.sensor_plane.specs.declared.fields.PlaneFields.{PlaneFields}
 use Rattle.sensor_plane.specs.declared.pointer.Contact.{Contact}
 use Rattle.sensor_plane.specs.declared.pointer.PlanePointer.{PlanePointer}
-use Rattle.sensor_plane.specs.PlaneParts.{AreFitting, DraggedPlanesFit, IsFitting, LeavesFitting, PartsArePlanes, PlanesHaveOneParts, contact_fits, drag_fits, over_of, parts_of_plane, plane_of_parts}
+use Rattle.sensor_plane.specs.PlaneParts.{AreFitting, DraggedPlanesFit, PartsArePlanes, PlanesHaveOneParts, contact_fits, drag_fits, over_of, parts_of_plane, plane_of_parts}
 use Rattle.sensor_plane.specs.Planes.{Dragged, Plane, begun, clamped, drag_at, drag_from, dragged, ended, gone_on, is_viewer, point, presses, shifted, translation}
 use Rattle.sensor_plane.proofs.Sets.{number_back, over_back}
 

@@ -10,8 +10,8 @@ pub fn dragging_law()
     ensures { Dragging }
 {}
 
-/// Drags with a minimum above the maximum, without `autoOffset`, along no plane, of a sensor that is
-/// disabled, and beside another viewer's button.
+/// Drags with a minimum above the maximum, without `autoOffset`, along no plane, of a sensor that
+/// is disabled, and beside another viewer's button.
 #[tactic(auto, unfolding(crate::specs::Planes::point, crate::specs::Planes::disable, crate::specs::Planes::translation, crate::specs::Examples::sent_at_each))]
 pub fn kept_drags_law()
     ensures { KeptDrags }

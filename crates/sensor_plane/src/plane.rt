@@ -54,8 +54,8 @@ impl PlaneState {
         }
     }
 
-    /// Does what an enabled PlaneSensor with these fields does with a viewer's pointer, and puts what
-    /// it sends into the outbox. A drag that ends may set the offset, which is then sent.
+    /// Does what an enabled PlaneSensor with these fields does with a viewer's pointer, and puts
+    /// what it sends into the outbox. A drag that ends may set the offset, which is then sent.
     #[tactic(auto, unfolding(crate::specs::Planes::point))]
     pub fn point(&mut self, fields: &mut PlaneFields, pointer: &PlanePointer, out: &mut Outbox)
         requires viewer { IsTrue (is_viewer pointer.now.who) }
@@ -123,8 +123,8 @@ impl PlaneState {
         }
     }
 
-    /// The state that these are the parts of, where the presser is a viewer, and where it pressed and
-    /// what was translated last are within 10^15 millionths.
+    /// The state that these are the parts of, where the presser is a viewer, and where it pressed
+    /// and what was translated last are within 10^15 millionths.
     #[tactic(auto, unfolding(crate::specs::PlaneParts::plane_of_parts))]
     pub fn from_parts(parts: PlaneParts) -> Option<PlaneState>
         ensures { result ≡ plane_of_parts parts }
