@@ -1,0 +1,4 @@
+pub mod Back
+pub mod Leading
+pub mod Points
+pub mod Sizes

@@ -1,0 +1,75 @@
+-- Rays and planes, in millionths; the values are by hand.
+use Rattle.std.specs.Prelude.{◌≡◌, ℕ, ℤ, pos, negsuc, Some, None}
+use Rattle.x3d_values.specs.declared.vector.Vec3.{Vec3}
+use Rattle.x3d_values.specs.Pointing.{Sight}
+use Rattle.pick_track.specs.Paths.{put_in, put_out}
+use Rattle.pick_track.specs.Track.{met}
+
+abbrev at : ℤ → ℤ → ℤ → Vec3
+at x y z = record { x = x; y = y; z = z }
+
+abbrev zero : ℤ
+zero = pos 0
+
+-- minus n + 1
+abbrev minus : ℕ → ℤ
+minus n = negsuc n
+
+-- a ray from 14 4 20 straight down z
+abbrev down : Sight
+down = record {
+  origin = at (pos 14000000) (pos 4000000) (pos 20000000);
+  dir = at zero zero (minus 999999);
+}
+
+-- a ray from 0 0 20 that goes 3 along x and -2 along y while it goes 4 down z
+abbrev aslant : Sight
+aslant = record {
+  origin = at zero zero (pos 20000000);
+  dir = at (pos 3000000) (minus 1999999) (minus 3999999);
+}
+
+-- a ray along x at height 20
+abbrev level : Sight
+level = record {
+  origin = at zero zero (pos 20000000);
+  dir = at (pos 1000000) zero zero;
+}
+
+-- inside `translation 10 0 0 scale 2 2 2` a drag that began at 0 0 1 has its plane at height 2; the
+-- ray from 14 4 20 meets it at 14 4 2, which is 2 2 1 inside
+abbrev ten : Vec3
+ten = at (pos 10000000) zero zero
+
+abbrev twos : Vec3
+twos = at (pos 2000000) (pos 2000000) (pos 2000000)
+
+abbrev origin : Vec3
+origin = at zero zero zero
+
+-- a scale of -2 along x, 0 along y, 0.5 along z
+abbrev odd : Vec3
+odd = at (minus 1999999) zero (pos 500000)
+
+pub record Tracking : Type 0 where
+  pub plane : put_out ten twos origin (at zero zero (pos 1000000))
+      ≡ at (pos 10000000) zero (pos 2000000)
+  pub meets : met down (pos 2000000) ≡ Some (at (pos 14000000) (pos 4000000) (pos 2000000))
+  pub inside : put_in ten twos origin (at (pos 14000000) (pos 4000000) (pos 2000000))
+      ≡ at (pos 2000000) (pos 2000000) (pos 1000000)
+  -- 15 down from 20 to 5: 11.25 along x, -7.5 along y
+  pub slants : met aslant (pos 5000000) ≡ Some (at (pos 11250000) (minus 7499999) (pos 5000000))
+  -- a millionth down is 0.75 and -0.5 millionths, rounded down
+  pub rounds : met aslant (pos 19999999) ≡ Some (at zero (minus 0) (pos 19999999))
+  -- it begins on the plane
+  pub begins : met aslant (pos 20000000) ≡ Some (at zero zero (pos 20000000))
+  -- the plane lies behind
+  pub behind : met down (pos 20000001) ≡ None
+  -- along the plane, and along another
+  pub along : met level (pos 20000000) ≡ None
+  pub above : met level (pos 2000000) ≡ None
+  -- a scale below 0 turns x round, one of 0 leaves the center alone, one of 0.5 doubles z
+  pub turned : put_in ten odd origin (at (pos 14000000) (pos 4000000) (pos 1000000))
+      ≡ at (minus 1999999) zero (pos 2000000)
+  pub back : put_out ten odd origin (at (minus 1999999) zero (pos 2000000))
+      ≡ at (pos 14000000) zero (pos 1000000)

@@ -1,0 +1,6 @@
+pub mod Numbers
+pub mod Paths
+pub mod Track
+pub mod Again
+pub mod SensorPaths
+pub mod Examples

@@ -1,0 +1,4 @@
+pub mod Dragging
+pub mod Sets
+pub mod Shifts
+pub mod Fitting

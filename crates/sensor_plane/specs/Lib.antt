@@ -1,0 +1,5 @@
+pub mod Paths
+pub mod PlaneFields
+pub mod Planes
+pub mod PlaneParts
+pub mod Examples

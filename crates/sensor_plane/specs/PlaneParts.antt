@@ -1,0 +1,74 @@
+-- What is kept of a PlaneSensor beside its fields, in plain numbers (our choice).
+use Rattle.std.specs.Prelude.{◌≡◌, ℕ, ◌==◌, ◌^◌, ◌<◌, IsTrue, Bool, true, ◌&&◌, List, length, map, Option, Some, None, if◌then◌else◌}
+use Rattle.std.specs.Int.{bit_at}
+use Rattle.std.specs.List.{range_with_len}
+use Rattle.x3d_values.specs.declared.vector.Vec2.{Vec2}
+use Rattle.x3d_values.specs.Ranges.{coordinate_fits, coordinates_fit}
+use Rattle.sensor_core.specs.Parts.{number_of}
+use Rattle.sensor_plane.specs.declared.drag.Drag.{Drag}
+use Rattle.sensor_plane.specs.declared.fields.PlaneFields.{PlaneFields}
+use Rattle.sensor_plane.specs.declared.parts.PlaneParts.{PlaneParts}
+use Rattle.sensor_plane.specs.declared.pointer.Contact.{Contact}
+use Rattle.sensor_plane.specs.declared.pointer.PlanePointer.{PlanePointer}
+use Rattle.sensor_plane.specs.Planes.{Plane, Pointed, is_viewer, point}
+
+-- a number whose bit v says whether viewer v's pointer is over the sensor
+unfoldable pub parts_of_plane : Plane → PlaneParts
+parts_of_plane plane = record { over = number_of plane.over; drag = plane.drag }
+
+unfoldable pub over_of : ℕ → List Bool
+over_of number = map (λ viewer. bit_at number viewer == 1) (range_with_len 0 64)
+
+-- the presser is a viewer, and both points are in their range
+abbrev pub drag_fits : Option Drag → Bool
+drag_fits None = true
+drag_fits (Some drag) =
+    is_viewer drag.presser && (coordinates_fit drag.start && coordinates_fit drag.last)
+
+-- none where the drag is out of its ranges
+unfoldable pub plane_of_parts : PlaneParts → Option Plane
+plane_of_parts parts =
+    if drag_fits parts.drag
+    then Some (record { over = over_of parts.over; drag = parts.drag })
+    else None
+
+-- ---- what holds
+
+-- a state in its ranges
+pub record IsFitting (plane : Plane) : Type 0 where
+  pub viewers : length plane.over ≡ 64
+  pub drag : IsTrue (drag_fits plane.drag)
+
+-- the parts of a state in its ranges stand for that state
+abbrev pub PartsArePlanes : Type 0
+PartsArePlanes = (plane : Plane) → IsFitting plane
+    → plane_of_parts (parts_of_plane plane) ≡ Some plane
+
+-- and a state that parts stand for has no other parts
+abbrev pub PlanesHaveOneParts : Type 0
+PlanesHaveOneParts = (parts : PlaneParts) (plane : Plane) → parts.over < 2 ^ 64
+    → plane_of_parts parts ≡ Some plane → parts_of_plane plane ≡ parts
+
+abbrev pub contact_fits : Option Contact → Bool
+contact_fits None = true
+contact_fits (Some contact) = coordinates_fit contact.point
+
+abbrev pub pair_fits : Vec2 → Bool
+pair_fits pair = coordinate_fits pair.x && coordinate_fits pair.y
+
+-- the values that a drag goes by, in their ranges
+pub record AreFitting (fields : PlaneFields) : Type 0 where
+  pub max : IsTrue (pair_fits fields.max_position)
+  pub min : IsTrue (pair_fits fields.min_position)
+  pub offset : IsTrue (coordinates_fit fields.offset)
+
+-- what a pointer leaves, in its ranges
+pub record LeavesFitting (pointed : Pointed) : Type 0 where
+  pub plane : IsFitting pointed.plane
+  pub fields : AreFitting pointed.fields
+
+-- a pointer of a viewer that is over the sensor inside the limit leaves all in its ranges
+abbrev pub DraggedPlanesFit : Type 0
+DraggedPlanesFit = (plane : Plane) (fields : PlaneFields) (pointer : PlanePointer)
+    → IsFitting plane → AreFitting fields → IsTrue (is_viewer pointer.who)
+    → IsTrue (contact_fits pointer.contact) → LeavesFitting (point plane fields pointer)

@@ -1,0 +1,217 @@
+-- What a PlaneSensor does with the pointers of several viewers (ISO/IEC 19775-1, pointing device
+-- sensor component: PlaneSensor; what concerns more than one viewer, the limit of size, and that a
+-- press sends `isActive` alone, are our choice).
+use Rattle.std.specs.Prelude.{◌≡◌, ℕ, ◌==◌, nat_lt, IsFalse, ℤ, pos, neg_ℤ, ◌+ℤ◌, ◌-ℤ◌, ◌≤ℤ◌, int_le, Bool, true, false, not, is_some, ◌&&◌, List, [], ◌∷◌, ◌++◌, slice_set, replicate, Option, Some, None, if◌then◌else◌}
+use Rattle.std.specs.Int.{int_min, int_max}
+use Rattle.std.specs.List.{list_any}
+use Rattle.x3d_values.specs.declared.value.Value.TheVariants.{SFBool, SFVec3f}
+use Rattle.x3d_values.specs.declared.vector.Vec3.{Vec3}
+use Rattle.react_core.specs.declared.outbox.Reply.{Reply}
+use Rattle.react_core.specs.Reaction.{reply}
+use Rattle.sensor_plane.specs.declared.drag.Drag.{Drag}
+use Rattle.sensor_plane.specs.declared.fields.PlaneFields.{PlaneFields}
+use Rattle.sensor_plane.specs.declared.pointer.Contact.{Contact}
+use Rattle.sensor_plane.specs.declared.pointer.PlanePointer.{PlanePointer}
+use Rattle.sensor_plane.specs.declared.numbers.TheConstants.{IS_ACTIVE, IS_OVER, OFFSET, TRACK_POINT_CHANGED, TRANSLATION_CHANGED}
+
+-- whether each viewer's pointer is over the sensor, by the viewer's number, and the drag, if a
+-- viewer presses
+pub record Plane : Type 0 where
+  pub over : List Bool
+  pub drag : Option Drag
+
+-- what the sensor keeps, what its fields are, and what it sends, in order
+pub record Pointed : Type 0 where
+  pub plane : Plane
+  pub fields : PlaneFields
+  pub replies : List Reply
+
+-- viewers are numbered from 0
+abbrev pub is_viewer : ℕ → Bool
+is_viewer who = nat_lt who 64
+
+-- a viewer presses
+abbrev pub is_drag : Option Drag → Bool
+is_drag None = true
+is_drag (Some drag) = is_viewer drag.presser
+
+-- no pointer is over it, and nobody presses it
+abbrev pub untouched : Plane
+untouched = record { over = replicate 64 false; drag = None }
+
+abbrev pub is_over : Plane → Bool
+is_over plane = list_any (λ over. over) plane.over
+
+abbrev pub pressed_by : Option Drag → ℕ → Bool
+pressed_by None who = false
+pressed_by (Some drag) who = drag.presser == who
+
+abbrev pub is_pressed_by : Plane → ℕ → Bool
+is_pressed_by plane who = pressed_by plane.drag who
+
+-- ---- how far a drag translates
+
+-- from the start to where it is, on from the offset; at most 10^15 millionths in size
+abbrev pub shifted : ℤ → ℤ → ℤ → ℤ
+shifted offset start at =
+    int_max (neg_ℤ (pos 1000000000000000))
+    (int_min ((at -ℤ start) +ℤ offset) (pos 1000000000000000))
+
+-- between the minimum and the maximum, where the minimum isn't above the maximum
+abbrev pub clamped : ℤ → ℤ → ℤ → ℤ
+clamped low high at = if int_le low high then int_max low (int_min at high) else at
+
+abbrev pub shift : PlaneFields → Vec3 → Vec3 → Vec3
+shift fields start at = record {
+  x = shifted fields.offset.x start.x at.x;
+  y = shifted fields.offset.y start.y at.y;
+  z = shifted fields.offset.z start.z at.z;
+}
+
+-- `minPosition` and `maxPosition` clamp x and y
+abbrev pub within : PlaneFields → Vec3 → Vec3
+within fields at = record {
+  x = clamped fields.min_position.x fields.max_position.x at.x;
+  y = clamped fields.min_position.y fields.max_position.y at.y;
+  z = at.z;
+}
+
+unfoldable pub translation : PlaneFields → Vec3 → Vec3 → Vec3
+translation fields start at = within fields (shift fields start at)
+
+-- ---- what becomes of a drag
+
+-- the drag after it, the fields, and what is sent
+pub record Dragged : Type 0 where
+  pub drag : Option Drag
+  pub fields : PlaneFields
+  pub replies : List Reply
+
+-- its button goes down
+abbrev pub presses : PlanePointer → Bool
+presses pointer = pointer.down && not pointer.before
+
+-- a drag begins where the pointer is over the geometry, and has translated by the offset
+abbrev pub drag_from : PlaneFields → ℕ → Contact → Drag
+drag_from fields who contact =
+    record { presser = who; start = contact.point; last = fields.offset; path = contact.path }
+
+-- nobody presses: a button that goes down over the geometry does, and `isActive` is sent
+abbrev pub begun : PlaneFields → PlanePointer → Option Contact → Dragged
+begun fields pointer None = record { drag = None; fields = fields; replies = [] }
+begun fields pointer (Some contact) =
+    if presses pointer
+    then record {
+      drag = Some (drag_from fields pointer.who contact);
+      fields = fields;
+      replies = reply IS_ACTIVE (SFBool true) ∷ [];
+    }
+    else record { drag = None; fields = fields; replies = [] }
+
+-- a drag goes on where its ray meets the plane
+abbrev pub drag_at : PlaneFields → Drag → Option Vec3 → Drag
+drag_at fields drag None = drag
+drag_at fields drag (Some at) = record drag { last = translation fields drag.start at }
+
+abbrev pub track_replies : PlaneFields → Drag → Option Vec3 → List Reply
+track_replies fields drag None = []
+track_replies fields drag (Some at) =
+    reply TRACK_POINT_CHANGED (SFVec3f at)
+    ∷ reply TRANSLATION_CHANGED (SFVec3f (translation fields drag.start at))
+    ∷ []
+
+-- a drag ends: `isActive`, and where `autoOffset` is TRUE the last translation is the offset from
+-- now on
+abbrev pub ended : PlaneFields → Drag → Dragged
+ended fields drag =
+    if fields.auto_offset
+    then record {
+      drag = None;
+      fields = record fields { offset = drag.last };
+      replies = reply IS_ACTIVE (SFBool false) ∷ reply OFFSET (SFVec3f drag.last) ∷ [];
+    }
+    else record { drag = None; fields = fields; replies = reply IS_ACTIVE (SFBool false) ∷ [] }
+
+-- the pointer of the viewer that presses
+abbrev pub gone_on : PlaneFields → PlanePointer → Drag → Dragged
+gone_on fields pointer drag =
+    if pointer.down
+    then record {
+      drag = Some (drag_at fields drag pointer.tracked);
+      fields = fields;
+      replies = track_replies fields drag pointer.tracked;
+    }
+    else ended fields drag
+
+abbrev pub dragged : PlaneFields → PlanePointer → Option Drag → Dragged
+dragged fields pointer None = begun fields pointer pointer.contact
+dragged fields pointer (Some drag) =
+    if pointer.who == drag.presser then gone_on fields pointer drag
+    else record { drag = Some drag; fields = fields; replies = [] }
+
+-- ---- a pointer
+
+-- the pointer is over the sensor exactly where it is over its geometry
+abbrev pub over_after : Plane → PlanePointer → List Bool
+over_after plane pointer = slice_set plane.over pointer.who (is_some pointer.contact)
+
+-- `isOver` where the first pointer comes and where the last one goes
+abbrev pub over_replies : Bool → Bool → List Reply
+over_replies was is =
+    if was then (if is then [] else reply IS_OVER (SFBool false) ∷ [])
+    else (if is then reply IS_OVER (SFBool true) ∷ [] else [])
+
+-- what an enabled sensor does with a pointer
+unfoldable pub point : Plane → PlaneFields → PlanePointer → Pointed
+point plane fields pointer =
+    let over = over_after plane pointer in
+    let after = dragged fields pointer plane.drag in
+    record {
+      plane = record { over = over; drag = after.drag };
+      fields = after.fields;
+      replies =
+          over_replies (is_over plane) (list_any (λ over. over) over) ++ after.replies;
+    }
+
+-- ---- `enabled` FALSE
+
+-- what the sensor keeps, and what it sends, in order
+pub record Disabled : Type 0 where
+  pub plane : Plane
+  pub replies : List Reply
+
+-- it forgets its pointers: `isOver` FALSE if one was over it, `isActive` FALSE if it was pressed;
+-- the offset stays
+unfoldable pub disable : Plane → Disabled
+disable plane = record {
+  plane = untouched;
+  replies =
+      (if is_over plane then reply IS_OVER (SFBool false) ∷ [] else [])
+      ++ (if is_some plane.drag then reply IS_ACTIVE (SFBool false) ∷ [] else []);
+}
+
+-- ---- what holds
+
+-- the pointer of another viewer changes nothing of a drag
+abbrev pub DragsGoByTheirPresser : Type 0
+DragsGoByTheirPresser = (fields : PlaneFields) (pointer : PlanePointer) (drag : Drag)
+    → IsFalse (pointer.who == drag.presser)
+    → dragged fields pointer (Some drag)
+    ≡ record { drag = Some drag; fields = fields; replies = [] }
+
+pub record IsBetween (low at high : ℤ) : Type 0 where
+  pub above : low ≤ℤ at
+  pub below : at ≤ℤ high
+
+-- what a drag translates lies between the minimum and the maximum, where there is such a place
+abbrev pub TranslationsAreWithin : Type 0
+TranslationsAreWithin = (low high at : ℤ) → low ≤ℤ high → IsBetween low (clamped low high at) high
+
+-- a drag that is where it began translates by the offset, where that is allowed
+abbrev pub Unmoved : Type 0
+Unmoved = (fields : PlaneFields) (start : Vec3)
+    → IsBetween (neg_ℤ (pos 1000000000000000)) fields.offset.x (pos 1000000000000000)
+    → IsBetween (neg_ℤ (pos 1000000000000000)) fields.offset.y (pos 1000000000000000)
+    → IsBetween (neg_ℤ (pos 1000000000000000)) fields.offset.z (pos 1000000000000000)
+    → within fields fields.offset ≡ fields.offset
+    → translation fields start start ≡ fields.offset

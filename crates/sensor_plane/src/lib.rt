@@ -1,0 +1,32 @@
+//! A PlaneSensor: how it answers the pointers of several viewers, and what it keeps of a drag.
+//!
+//! | Module | Has |
+//! |---|---|
+//! | `plane` | what a PlaneSensor does with a pointer, and when it is disabled |
+//! | `drag` | a drag: how it begins, goes on and ends, and how far it translates |
+//! | `pointer`, `path` | a viewer's pointer, and the way to the list that holds the sensor |
+//! | `fields` | what the node's fields say of a drag |
+//! | `parts` | the state in plain numbers |
+//! | `numbers`, `laws` | the numbers of the fields, and what holds of drags |
+#![tactic(auto)]
+
+mod drag;
+mod fields;
+mod laws;
+mod numbers;
+mod parts;
+mod path;
+mod plane;
+mod pointer;
+
+pub use drag::Drag;
+pub use fields::PlaneFields;
+pub use laws::{
+    dragged_planes_fit_law, dragging_law, drags_go_by_their_presser_law, kept_drags_law,
+    parts_are_planes_law, planes_have_one_parts_law, translations_are_within_law, unmoved_law,
+};
+pub use numbers::{OFFSET, PLANE_ENABLED};
+pub use parts::PlaneParts;
+pub use path::{ListPath, MAX_POSITIONS};
+pub use plane::{MOST_VIEWERS, PlaneState};
+pub use pointer::{Contact, PlanePointer};

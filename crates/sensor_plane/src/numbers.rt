@@ -1,0 +1,21 @@
+//! The numbers of a PlaneSensor's fields, which are their places in its row of the table of fields.
+
+pub const AUTO_OFFSET: u16 = 1;
+
+/// Of `enabled`.
+pub const PLANE_ENABLED: u16 = 3;
+
+pub const MAX_POSITION: u16 = 4;
+
+pub const MIN_POSITION: u16 = 5;
+
+/// Of `offset`.
+pub const OFFSET: u16 = 6;
+
+pub const IS_OVER: u16 = 7;
+
+pub const IS_ACTIVE: u16 = 8;
+
+pub const TRACK_POINT_CHANGED: u16 = 9;
+
+pub const TRANSLATION_CHANGED: u16 = 10;

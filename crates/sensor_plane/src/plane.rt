@@ -1,0 +1,176 @@
+//! What a PlaneSensor does with the pointers of several viewers.
+
+ghost use Rattle.std.specs.Prelude.{◌≡◌, ◌+◌, ◌≤◌, [], ◌∷◌, ◌++◌};
+ghost use Rattle.arrayvec.specs.ArrayVec.{array_vec_len};
+ghost use Rattle.std.specs.List.{list_any};
+ghost use Rattle.sensor_plane.specs.PlaneParts.{drag_fits};
+ghost use Rattle.sensor_plane.specs.Planes.{over_replies};
+
+use crate::drag::{Drag, drag_on, send};
+use crate::fields::PlaneFields;
+use crate::numbers::{IS_ACTIVE, IS_OVER};
+use crate::parts::{PlaneParts, number_of, over_of};
+use crate::pointer::PlanePointer;
+use react_core::Outbox;
+use std::marker::Model;
+use x3d_values::Value;
+
+/// How many viewers have pointers.
+pub const MOST_VIEWERS: u8 = 64;
+
+/// Which viewers' pointers are over a PlaneSensor, and the drag, if a viewer presses.
+#[derive(Clone, Copy, PartialEq, Eq)]
+pub struct PlaneState {
+    over: [bool; 64],
+    drag: Option<Drag>,
+}
+
+impl Model for PlaneState {
+    ghost use Rattle.std.specs.Prelude.{IsTrue};
+    ghost use Rattle.sensor_plane.specs.Planes.{Plane, is_drag};
+
+    ghost Value = { Plane };
+
+    ghost view = { λ s. record { over = s.over; drag = s.drag } };
+
+    ghost invariant = { λ s. IsTrue (is_drag s.drag) };
+
+    ghost inverse = { λ plane. record { over = plane.over; drag = plane.drag } };
+}
+
+impl PlaneState {
+    ghost use Rattle.std.specs.Prelude.{◌≡◌, ◌+◌, ◌≤◌, ◌&&◌, [], ◌++◌, is_none, is_some, length, not, IsTrue, Some, true};
+    ghost use Rattle.arrayvec.specs.ArrayVec.{array_vec_len};
+    ghost use Rattle.sensor_plane.specs.Planes.{is_viewer, is_drag, untouched, is_over, is_pressed_by, over_after, point, disable};
+    ghost use Rattle.sensor_plane.specs.PlaneParts.{parts_of_plane, plane_of_parts};
+
+    /// No pointer is over it, and nobody presses it.
+    pub fn untouched() -> PlaneState
+        ensures { result ≡ untouched }
+    {
+        PlaneState {
+            over: [false; 64],
+            drag: None,
+        }
+    }
+
+    /// Does what an enabled PlaneSensor with these fields does with a viewer's pointer, and puts
+    /// what it sends into the outbox. A drag that ends may set the offset, which is then sent.
+    #[tactic(auto, unfolding(crate::specs::Planes::point))]
+    pub fn point(&mut self, fields: &mut PlaneFields, pointer: &PlanePointer, out: &mut Outbox)
+        requires viewer { IsTrue (is_viewer pointer.now.who) }
+        requires empty { out.old.items ≡ [] }
+        ensures plane { self.new ≡ (point self.old fields.old pointer.now).plane }
+        ensures fields { fields.new ≡ (point self.old fields.old pointer.now).fields }
+        ensures replies { out.new.items ≡ (point self.old fields.old pointer.now).replies }
+    {
+        let was = self.is_over();
+        let over = self.over_after(pointer);
+        send_over(was, is_any(&over), out);
+        let drag = drag_on(fields, &self.drag, pointer, out);
+        *self = PlaneState { over, drag };
+    }
+
+    /// Forgets the pointers of a PlaneSensor that is disabled, and puts what it then sends into the
+    /// outbox. Its offset stays.
+    #[tactic(auto, unfolding(crate::specs::Planes::disable))]
+    pub fn disable(&mut self, out: &mut Outbox)
+        requires room { array_vec_len out.old + 2 ≤ 5 }
+        ensures plane { self.new ≡ (disable self.old).plane }
+        ensures replies { out.new.items ≡ out.old.items ++ (disable self.old).replies }
+    {
+        let plane = *self;
+        *self = PlaneState::untouched();
+        send_over(plane.is_over(), false, out);
+        if plane.drag.is_some() {
+            send(IS_ACTIVE, Value::SFBool(false), out);
+        }
+    }
+
+    /// Whether some viewer's pointer is over it.
+    pub fn is_over(&self) -> bool
+        ensures { result ≡ is_over self.now }
+    {
+        is_any(&self.over)
+    }
+
+    /// Whether a viewer presses it.
+    pub fn is_pressed_by(&self, who: u8) -> bool
+        ensures { result ≡ is_pressed_by self.now who }
+    {
+        match &self.drag {
+            Some(drag) => drag.presser == who,
+            None => false,
+        }
+    }
+
+    /// The drag, if a viewer presses.
+    pub fn drag(&self) -> Option<Drag>
+        ensures value { result ≡ self.now.drag }
+        ensures viewer { IsTrue (is_drag result) }
+    {
+        self.drag
+    }
+
+    /// What a snapshot has of it.
+    #[tactic(auto, unfolding(crate::specs::PlaneParts::parts_of_plane))]
+    pub fn parts(&self) -> PlaneParts
+        ensures { result ≡ parts_of_plane self.now }
+    {
+        PlaneParts {
+            over: number_of(&self.over),
+            drag: self.drag,
+        }
+    }
+
+    /// The state that these are the parts of, where the presser is a viewer, and where it pressed
+    /// and what was translated last are within 10^15 millionths.
+    #[tactic(auto, unfolding(crate::specs::PlaneParts::plane_of_parts))]
+    pub fn from_parts(parts: PlaneParts) -> Option<PlaneState>
+        ensures { result ≡ plane_of_parts parts }
+    {
+        if !fits(&parts.drag) {
+            return None;
+        }
+        Some(PlaneState {
+            over: over_of(parts.over),
+            drag: parts.drag,
+        })
+    }
+
+    fn over_after(&self, pointer: &PlanePointer) -> [bool; 64]
+        requires { IsTrue (is_viewer pointer.now.who) }
+        ensures { result ≡ over_after self.now pointer.now }
+    {
+        let mut over = self.over;
+        over[pointer.who as usize] = pointer.contact.is_some();
+        over
+    }
+}
+
+fn is_any(over: &[bool; 64]) -> bool
+    ensures { result ≡ list_any (λ o. o) over.now }
+{
+    over.iter().any(|over| *over)
+}
+
+/// Whether a drag's presser is a viewer, and its points are in their range.
+fn fits(drag: &Option<Drag>) -> bool
+    ensures { result ≡ drag_fits drag.now }
+{
+    let Some(drag) = drag else {
+        return true;
+    };
+    drag.presser < MOST_VIEWERS && drag.start.fits() && drag.last.fits()
+}
+
+/// Sends `isOver` where it changes.
+fn send_over(was: bool, is: bool, out: &mut Outbox)
+    requires { array_vec_len out.old + 1 ≤ 5 }
+    ensures items { out.new.items ≡ out.old.items ++ over_replies was is }
+    ensures len { array_vec_len out.new ≤ array_vec_len out.old + 1 }
+{
+    if was != is {
+        send(IS_OVER, Value::SFBool(is), out);
+    }
+}
