@@ -4,7 +4,12 @@ use Rattle.x3d_values.specs.Stamp.{Stamp}
 use Rattle.share_law.specs.Parts.{HostPart, new_part}
 use Rattle.share_port.specs.declared.traffic.Traffic.{Traffic}
 use Rattle.share_port.specs.Told.{one_more}
-use Rattle.share_turns.specs.Runs.{HostTurns, HostTurnsEnd}
+use Rattle.snapshot_core.specs.declared.fault.SnapFault.{SnapFault}
+use Rattle.snapshot_core.specs.declared.fault.SnapFault.TheVariants as snap
+use Rattle.share_turns.specs.Runs.{AreHosted, IsHostEnd}
+use Rattle.share_turns.specs.declared.runs.HostPlan.{HostPlan}
+use Rattle.share_turns.specs.declared.fault.SeriesFault.{SeriesFault}
+use Rattle.share_turns.specs.declared.fault.SeriesFault.TheVariants as series
 use Rattle.share_turns.specs.declared.fault.TurnFault.{TurnFault}
 use Rattle.share_turns.specs.declared.fault.TurnFault.TheVariants as turn
 use Rattle.share_program.specs.declared.fault.ShareFault.{ShareFault}
@@ -19,21 +24,31 @@ share_fault turn.Port = share.Port
 share_fault turn.Spoiled = share.Spoiled
 share_fault turn.Memory = share.Memory
 
+-- why a viewer can't begin in what it gathered
+abbrev pub join_fault : SnapFault → ShareFault
+join_fault snap.BootNotNew = share.BootNotNew
+join_fault fault = share.BadSnapshot
+
+abbrev pub series_fault : SeriesFault → ShareFault
+series_fault (series.Turn fault) = share_fault fault
+series_fault series.TurnsUsedUp = share.TurnsUsedUp
+series_fault (series.Join fault) = join_fault fault
+
 -- how many sends and receives of a port failed, after work: one more where it ended for that
 abbrev pub failures_after : {A : Type 0} → Result A ShareFault → ℕ → ℕ
 failures_after (Err share.Port) n = one_more n
 failures_after result n = n
 
--- all turns of the job's host, from one that was made just now
-abbrev pub IsHosted : SharedJob → (viewers turns : ℕ)
+-- turns of the job's host, from one that was made just now, until it was done
+abbrev pub IsHosted : SharedJob → (viewers : ℕ) → HostPlan → (turns : ℕ)
     → (told_before told_after : Option (List Traffic)) → Type 0
-IsHosted job viewers turns a b =
-    (new : HostPart) × HostTurns job.mark (times job.inputs) turns a b (new_part viewers) new
+IsHosted job viewers plan turns a b =
+    (new : HostPart) × AreHosted job.mark (times job.inputs) plan turns a b (new_part viewers) new
 
--- memory was refused before the first turn, or a turn ended early
-abbrev pub IsHostedInPart : SharedJob → (viewers turns : ℕ)
+-- memory was refused before the first turn, or the turns came to less
+abbrev pub IsHostedInPart : SharedJob → (viewers : ℕ) → HostPlan → (turns : ℕ)
     → (told_before told_after : Option (List Traffic)) → ShareFault → Type 0
-IsHostedInPart job viewers turns a b fault =
+IsHostedInPart job viewers plan turns a b fault =
     ((fault ≡ share.Memory) × (b ≡ a))
-    ⊎ ((early : TurnFault) × (new : HostPart) × (fault ≡ share_fault early)
-    × HostTurnsEnd job.mark (times job.inputs) turns a b (new_part viewers) early new)
+    ⊎ ((early : SeriesFault) × (new : HostPart) × (fault ≡ series_fault early)
+    × IsHostEnd job.mark (times job.inputs) plan turns a b (new_part viewers) early new)

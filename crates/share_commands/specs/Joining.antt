@@ -11,7 +11,7 @@ use Rattle.share_program.specs.declared.fault.ShareFault.{ShareFault}
 use Rattle.share_words.specs.declared.order.Order.{Order}
 use Rattle.share_commands.specs.Jobs.{staffed}
 use Rattle.share_commands.specs.Stages.{fresh}
-use Rattle.share_commands.specs.Viewing.{series_fault}
+use Rattle.share_commands.specs.Hosting.{series_fault}
 use Rattle.share_commands.specs.declared.job.SharedJob.{SharedJob}
 
 -- the inputs and the mark of a job, and its viewers

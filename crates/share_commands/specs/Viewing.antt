@@ -1,5 +1,5 @@
 -- What a viewer does with a job.
-use Rattle.std.specs.Prelude.{◌≡◌, ℕ, List, [], ◌∷◌, Option, None, Ok}
+use Rattle.std.specs.Prelude.{◌≡◌, ℕ, ◌-◌, max, Bool, if◌then◌else◌, List, [], ◌∷◌, Option, None, Ok}
 use Rattle.std.specs.List.{flat_map}
 use Rattle.x3d_values.specs.declared.pointing.Point.{Point}
 use Rattle.x3d_values.specs.Stamp.{Stamp}
@@ -7,18 +7,17 @@ use Rattle.x3d_values.specs.declared.stamped.Event.{Event}
 use Rattle.x3d_values.specs.declared.stamped.Event.TheVariants.{Clock, Pointer}
 use Rattle.cascade_core.specs.Apply.{opening}
 use Rattle.cascade_core.specs.Course.{Scripted}
-use Rattle.share_law.specs.Viewer.{ViewerState, begun, point_of}
-use Rattle.share_core.specs.Viewer.{ViewerView, with_state}
+use Rattle.share_law.specs.Viewer.{begun, point_of}
+use Rattle.share_core.specs.Viewer.{ViewerView}
 use Rattle.share_port.specs.declared.traffic.Traffic.{Traffic}
-use Rattle.share_turns.specs.Views.{AreViewed, AreAppended, IsRunEnd}
+use Rattle.share_turns.specs.Views.{IsRun, IsRunEnd}
+use Rattle.share_turns.specs.declared.view.ViewPlan.{ViewPlan}
 use Rattle.share_turns.specs.declared.fault.SeriesFault.{SeriesFault}
-use Rattle.share_turns.specs.declared.fault.SeriesFault.TheVariants as series
-use Rattle.share_commands.specs.Hosting.{share_fault}
+use Rattle.share_commands.specs.Hosting.{series_fault}
 use Rattle.share_commands.specs.Jobs.{staffed}
 use Rattle.share_commands.specs.declared.job.SharedJob.{SharedJob}
 use Rattle.share_words.specs.declared.order.Order.{Order}
 use Rattle.share_program.specs.declared.fault.ShareFault.{ShareFault}
-use Rattle.share_program.specs.declared.fault.ShareFault.TheVariants as share
 
 -- what a viewer is asked to point by an input
 abbrev pub pointed : Event → List Point
@@ -39,9 +38,9 @@ viewer_of job who boot = record {
   gathering = None;
 }
 
-abbrev pub series_fault : SeriesFault → ShareFault
-series_fault (series.Turn fault) = share_fault fault
-series_fault series.TurnsUsedUp = share.TurnsUsedUp
+-- as which boot a viewer begins: one that joins begins below the boot by which it will
+abbrev pub first_boot : (boot : ℕ) → (joins : Bool) → ℕ
+first_boot boot joins = if joins then max (boot - 1) 1 else boot
 
 -- the viewer of the job of bytes, before any input, and what it is asked to point
 abbrev pub IsSeated : Order → (bytes : List ℕ) → (who boot : ℕ) → ViewerView → List Point → Type 0
@@ -49,17 +48,14 @@ IsSeated order bytes who boot viewer asked =
     (job : SharedJob) × (staffed order bytes ≡ Ok job)
     × (viewer ≡ viewer_of job who boot) × (asked ≡ points job.inputs)
 
--- turns of a viewer came to enough inputs, and the text is its trace and its scene
-abbrev pub IsViewed : ViewerView → List Point → (host until turns : ℕ)
-    → (told_before told_after : Option (List Traffic)) → ViewerState Scripted → (text : List ℕ)
-    → Type 0
-IsViewed viewer asked host until turns a b new text =
-    AreViewed viewer host asked until turns a b new × AreAppended (with_state viewer new) [] text
+-- a viewer did as its plan says, and the text is its trace and its scene
+abbrev pub IsViewed : ViewerView → List Point → (host : ℕ) → ViewPlan
+    → (told_before told_after : Option (List Traffic)) → ViewerView → (text : List ℕ) → Type 0
+IsViewed viewer asked host plan a b new text = IsRun viewer host asked plan a b new [] text
 
--- the turns or the texts ended early
-abbrev pub IsViewedInPart : ViewerView → List Point → (host until turns : ℕ)
-    → (told_before told_after : Option (List Traffic)) → ViewerState Scripted → ShareFault
-    → Type 0
-IsViewedInPart viewer asked host until turns a b new fault =
+-- its turns came to less, or the texts did
+abbrev pub IsViewedInPart : ViewerView → List Point → (host : ℕ) → ViewPlan
+    → (told_before told_after : Option (List Traffic)) → ViewerView → ShareFault → Type 0
+IsViewedInPart viewer asked host plan a b new fault =
     (early : SeriesFault) × (fault ≡ series_fault early)
-    × IsRunEnd viewer host asked until turns a b early new
+    × IsRunEnd viewer host asked plan a b early new

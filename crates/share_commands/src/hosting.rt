@@ -2,13 +2,15 @@
 
 ghost use Rattle.std.specs.Prelude.{◌≡◌, ◌≤◌, IfOk, IfErr, OnOk};
 ghost use Rattle.share_commands.specs.Hosting.{times, share_fault, failures_after};
+ghost use Rattle.share_commands.specs.Hosting.{join_fault, series_fault};
 ghost use Rattle.share_commands.specs.Hosting.{IsHosted, IsHostedInPart};
 
 use crate::job::SharedJob;
 use share_core::Host;
+use share_law::SnapFault;
 use share_port::Port;
 use share_program::ShareFault;
-use share_turns::{TurnFault, host_run};
+use share_turns::{HostPlan, SeriesFault, TurnFault, host_run};
 use std::alloc::{AllocError, Global};
 use x3d_values::Stamped;
 
@@ -30,23 +32,47 @@ pub(crate) fn share_fault(fault: TurnFault) -> ShareFault
     }
 }
 
-/// So many turns of the host of a job's scene, for viewers that are numbered from 0: 1 to 16 of
-/// them. Each numbers the next of the job's clocks.
+/// Why a viewer can't begin in what it gathered, as a fault of the program.
+fn join_fault(fault: SnapFault) -> ShareFault
+    ensures { result ≡ join_fault fault }
+{
+    match fault {
+        SnapFault::BootNotNew => ShareFault::BootNotNew,
+        _ => ShareFault::BadSnapshot,
+    }
+}
+
+/// Why turns didn't come to their end, as a fault of the program.
+pub(crate) fn series_fault(fault: SeriesFault) -> ShareFault
+    ensures { result ≡ series_fault fault }
+{
+    match fault {
+        SeriesFault::Turn(fault) => share_fault(fault),
+        SeriesFault::TurnsUsedUp => ShareFault::TurnsUsedUp,
+        SeriesFault::Join(fault) => join_fault(fault),
+    }
+}
+
+/// Turns of the host of a job's scene, so many at most, for viewers that are numbered from 0: 1 to
+/// 16 of them. Each numbers the next of the job's clocks. The plan says what it keeps of its inputs,
+/// and when it is done.
 ///
-/// `Port` where a send or a receive failed, `Memory` where memory was refused.
+/// `TurnsUsedUp` where it isn't done after so many turns, `Port` where a send or a receive failed,
+/// `Memory` where memory was refused.
 pub fn host_job<P: Port>(
     alloc: Global,
     job: &SharedJob,
     viewers: u8,
+    plan: &HostPlan,
     turns: u32,
     port: &mut P,
 ) -> Result<(), ShareFault>
     requires some { 1 ≤ viewers }
     requires most { viewers ≤ 16 }
     ensures done { OnOk result
-        (IsHosted job.now viewers turns (P.told port.old) (P.told port.new)) }
+        (IsHosted job.now viewers plan.now turns (P.told port.old) (P.told port.new)) }
     ensures ended { IfErr result
-        (IsHostedInPart job.now viewers turns (P.told port.old) (P.told port.new)) }
+        (IsHostedInPart job.now viewers plan.now turns (P.told port.old) (P.told port.new)) }
     ensures failures { P.failure_count port.new
         ≡ failures_after result (P.failure_count port.old) }
 {
@@ -54,7 +80,7 @@ pub fn host_job<P: Port>(
         return Err(ShareFault::Memory);
     };
     let mut host = Host::new(alloc, job.mark, viewers);
-    match host_run(&mut host, times.as_slice(), turns, port) {
+    match host_run(&mut host, times.as_slice(), plan, turns, port) {
         // A host is dropped by a call: left to the exits, its drop is proved once for each of them.
         Ok(()) => {
             drop(host);
@@ -62,7 +88,7 @@ pub fn host_job<P: Port>(
         }
         Err(fault) => {
             drop(host);
-            Err(share_fault(fault))
+            Err(series_fault(fault))
         }
     }
 }

@@ -9,8 +9,8 @@ ghost use Rattle.share_turns.specs.Agreeing.{seats_of, ways_of};
 ghost use Rattle.share_jobs.specs.declared.fault.JobFault.TheVariants.{Memory};
 
 use crate::fits::job_fits;
+use crate::hosting::series_fault;
 use crate::stages::{fresh_stage, with_others};
-use crate::viewing::series_fault;
 use cascade_core::Stage;
 use script_boxes::StockScript;
 use share_core::{Host, Viewer};

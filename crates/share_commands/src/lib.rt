@@ -19,4 +19,4 @@ pub use joining::{JointJob, agree_job, joint_job};
 pub use patient::PatientPort;
 pub use rehearsing::rehearse_job;
 pub use sockets::{bound, bound_free, number_of};
-pub use viewing::{Seat, seated_job, view_job};
+pub use viewing::{Seat, first_boot, seated_job, view_job};

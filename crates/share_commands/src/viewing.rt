@@ -1,15 +1,15 @@
 //! The work of a viewer.
 
 ghost use Rattle.std.specs.Prelude.{◌≡◌, ◌≤◌, ◌⊎◌, ◌++◌, IfOk, IfErr, OnOk, Err, None, Some};
-ghost use Rattle.share_commands.specs.Viewing.{pointed, points, viewer_of, series_fault};
+ghost use Rattle.share_commands.specs.Viewing.{first_boot, pointed, points, viewer_of};
 ghost use Rattle.share_commands.specs.Hosting.{failures_after};
 ghost use Rattle.share_commands.specs.Jobs.{staffed};
 ghost use Rattle.share_commands.specs.Stages.{scripts_refusal};
 ghost use Rattle.share_commands.specs.Viewing.{IsSeated, IsViewed, IsViewedInPart};
-ghost use Rattle.share_core.specs.Viewer.{with_state};
+ghost use Rattle.share_turns.specs.Gathers.{with_both};
 ghost use Rattle.share_jobs.specs.declared.fault.JobFault.TheVariants.{Memory};
 
-use crate::hosting::share_fault;
+use crate::hosting::series_fault;
 use crate::job::{SharedJob, shared_job};
 use crate::stages::fresh_stage;
 use script_boxes::StockScript;
@@ -18,7 +18,7 @@ use share_jobs::JobFault;
 use share_law::point_of;
 use share_port::Port;
 use share_program::{Opened, ShareFault};
-use share_turns::{SeriesFault, view_run};
+use share_turns::{ViewPlan, view_run};
 use share_words::Order;
 use std::alloc::{AllocError, Global};
 use x3d_values::{Event, Point, Stamped};
@@ -66,14 +66,14 @@ fn viewer_of(
     Ok(Viewer::start(stage, mark, who, boot))
 }
 
-/// Why turns didn't come to their end, as a fault of the program.
-pub(crate) fn series_fault(fault: SeriesFault) -> ShareFault
-    ensures { result ≡ series_fault fault }
+/// As which boot a viewer begins: one that joins begins below the boot by which it will, so that
+/// this is new.
+pub fn first_boot(boot: u32, joins: bool) -> u32
+    requires { 1 ≤ boot }
+    ensures value { result ≡ first_boot boot joins }
+    ensures low { 1 ≤ result }
 {
-    match fault {
-        SeriesFault::Turn(fault) => share_fault(fault),
-        SeriesFault::TurnsUsedUp => ShareFault::TurnsUsedUp,
-    }
+    if joins { (boot - 1).max(1) } else { boot }
 }
 
 /// A viewer of a job's scene, and what it is asked to point.
@@ -127,34 +127,36 @@ pub fn seated_job(
     seat_of(alloc, job, who, boot)
 }
 
-/// Turns of a viewer until so many inputs are applied: its trace and then its scene. Each of its
-/// points is offered to the host.
+/// What a viewer does as its plan says: its trace and then its scene. Each of its points is offered
+/// to the host.
 ///
-/// `TurnsUsedUp` where fewer were applied after so many turns, `Port` where a send or a receive
-/// failed, `Memory` where memory was refused, `Spoiled` where it was refused to the viewer before.
+/// `TurnsUsedUp` where its turns came to less, `Port` where a send or a receive failed, `Memory`
+/// where memory was refused, `Spoiled` where it was refused to the viewer before. Where it was to
+/// join: `BootNotNew`, where its boot isn't above that of the snapshot that it gathered;
+/// `BadSnapshot`, where that is none of its scene.
 pub fn view_job<P: Port>(
     alloc: Global,
     seat: &mut Seat,
     host: u16,
-    until: u32,
-    turns: u32,
+    plan: &ViewPlan,
     port: &mut P,
 ) -> Result<Vec<u8>, ShareFault>
     ensures points { seat.new.points ≡ seat.old.points }
-    ensures others { seat.new.viewer ≡ with_state seat.old.viewer seat.new.viewer.state }
+    ensures others { seat.new.viewer ≡ with_both seat.old.viewer seat.new.viewer.state
+        seat.new.viewer.gathering }
     ensures done { IfOk result (λ text. IsViewed seat.old.viewer seat.old.points.items host
-        until turns (P.told port.old) (P.told port.new) seat.new.viewer.state text.items) }
+        plan.now (P.told port.old) (P.told port.new) seat.new.viewer text.items) }
     ensures ended { IfErr result (IsViewedInPart seat.old.viewer seat.old.points.items host
-        until turns (P.told port.old) (P.told port.new) seat.new.viewer.state) }
+        plan.now (P.told port.old) (P.told port.new) seat.new.viewer) }
     ensures failures { P.failure_count port.new
         ≡ failures_after result (P.failure_count port.old) }
 {
     let mut text = Vec::new(alloc);
     match view_run(
+        alloc,
         &mut seat.viewer,
         seat.points.as_slice(),
-        until,
-        turns,
+        plan,
         host,
         port,
         &mut text,

@@ -25,8 +25,8 @@ use Rattle.share_program.specs.declared.fault.ShareFault.TheVariants as share
 use Rattle.share_program.specs.declared.refusal.Failure.{Failure}
 use Rattle.share_program.specs.declared.refusal.Failure.TheVariants.{Order, Job, Run, Share}
 
--- ---- statuses: 1 for scenes and scripts, 2 for words and jobs, 3 for turns that are used up, 4
--- for devices, 5 for memory
+-- ---- statuses: 1 for scenes, scripts and snapshots, 2 for words, boots and jobs, 3 for turns that
+-- are used up, 4 for devices, 5 for memory
 
 abbrev pub read_status : ReadFaultKind → ℕ
 read_status read.Memory = 5
@@ -66,6 +66,8 @@ run_status run.Memory = 5
 abbrev pub share_status : ShareFault → ℕ
 share_status share.Port = 4
 share_status share.TurnsUsedUp = 3
+share_status share.BootNotNew = 2
+share_status share.BadSnapshot = 1
 share_status share.Spoiled = 5
 share_status share.Memory = 5
 
@@ -96,6 +98,8 @@ run_fault_name run.Memory = codes "Memory"
 abbrev pub share_fault_name : ShareFault → List ℕ
 share_fault_name share.Port = codes "Port"
 share_fault_name share.TurnsUsedUp = codes "TurnsUsedUp"
+share_fault_name share.BootNotNew = codes "BootNotNew"
+share_fault_name share.BadSnapshot = codes "BadSnapshot"
 share_fault_name share.Spoiled = codes "Spoiled"
 share_fault_name share.Memory = codes "Memory"
 

@@ -9,6 +9,10 @@ pub enum ShareFault {
     Port,
     #[error("all turns were used up")]
     TurnsUsedUp,
+    #[error("the boot is not above that of the snapshot")]
+    BootNotNew,
+    #[error("what was gathered is no snapshot of the scene")]
+    BadSnapshot,
     #[error("memory was refused before")]
     Spoiled,
     #[error("memory was refused")]

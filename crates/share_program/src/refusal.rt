@@ -72,6 +72,8 @@ fn share_status(fault: ShareFault) -> u8
     ensures { result ≡ share_status fault }
 {
     match fault {
+        ShareFault::BadSnapshot => 1,
+        ShareFault::BootNotNew => 2,
         ShareFault::TurnsUsedUp => 3,
         ShareFault::Port => 4,
         ShareFault::Spoiled => 5,
@@ -79,8 +81,8 @@ fn share_status(fault: ShareFault) -> u8
     }
 }
 
-/// 1 for a scene that is refused or its scripts, 2 for words and jobs, 3 for turns that are used
-/// up, 4 for devices, 5 for memory.
+/// 1 for a scene that is refused, its scripts or a snapshot, 2 for words, boots and jobs, 3 for turns
+/// that are used up, 4 for devices, 5 for memory.
 pub fn status_of(failure: &Failure) -> u8
     ensures { result ≡ status failure.now }
 {
@@ -127,6 +129,8 @@ fn share_fault_name(fault: ShareFault) -> &'static str
     match fault {
         ShareFault::Port => "Port",
         ShareFault::TurnsUsedUp => "TurnsUsedUp",
+        ShareFault::BootNotNew => "BootNotNew",
+        ShareFault::BadSnapshot => "BadSnapshot",
         ShareFault::Spoiled => "Spoiled",
         ShareFault::Memory => "Memory",
     }

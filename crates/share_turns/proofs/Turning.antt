@@ -1,5 +1,5 @@
 -- A turn of the host, datagram by datagram.
-use Rattle.std.proofs.Common.{◌≡◌, ℕ, ◌+◌, ◌<◌, ◌≤◌, ℤ, Bool, true, false, List, [], ◌∷◌, ◌++◌, length, length-append, refl, ap, ◌∙◌, arith, append-nil}
+use Rattle.std.proofs.Common.{◌≡◌, ℕ, ◌+◌, ◌<◌, ◌≤◌, ℤ, Bool, true, false, List, [], ◌∷◌, ◌++◌, length, length-append, refl, ap, sym, ◌∙◌, arith, append-nil}
 use Rattle.std.specs.Prelude.{Option, Result, Ok, Err, OnErr, is_err, is_ok}
 use Rattle.std.proofs.lemmas.Grind.{flat_map-append}
 use Rattle.std.proofs.lemmas.List.{map-append}
@@ -15,7 +15,7 @@ use Rattle.share_port.specs.declared.traffic.Traffic.{Traffic}
 use Rattle.share_port.specs.declared.traffic.Traffic.TheVariants.{Received}
 use Rattle.share_port.specs.Told.{Grows}
 use Rattle.share_turns.specs.Exchanges.{AreSent, Exchange, IsEnd, IsSentOf, all_traffic, refusals_in, sent_to, traffic_of}
-use Rattle.share_turns.specs.HostTurn.{AreAnswered, IsAnswered, IsBegun, IsExchange, IsHostTurn, bodies_for, datagrams_of, is_whole, is_whole_before, sender_of}
+use Rattle.share_turns.specs.HostTurn.{AreAnswered, IsAnswered, IsBegun, IsExchange, IsHeardTurn, all_heard, bodies_for, datagrams_of, hears, is_whole, is_whole_before, sender_of}
 use Rattle.share_turns.specs.Refusals.{IsAnswerAfter}
 use Rattle.share_turns.specs.declared.fault.TurnFault.{TurnFault}
 use Rattle.share_turns.specs.declared.fault.TurnFault.TheVariants as turn_fault
@@ -48,28 +48,42 @@ one_more_answered whole mark h [] e mid new same a = (new, rw (← same) a, refl
 one_more_answered whole mark h (x ∷ es) e mid new before a =
     (before.0, whole_then whole mark h before.0 x e es before.1, one_more_answered whole mark before.0 es e mid new before.2 a)
 
+one_more_heard : (mark : List ℕ) (viewers : ℕ) (heard : List ℕ) (es : List Exchange) (e : Exchange)
+    → all_heard mark viewers heard (es ++ e ∷ []) ≡ hears mark viewers (all_heard mark viewers heard es) e.came.bytes
+one_more_heard mark viewers heard [] e = refl
+one_more_heard mark viewers heard (x ∷ es) e = one_more_heard mark viewers (hears mark viewers heard x.came.bytes) es e
+
+-- what was heard before a datagram, and of it
+heard_then : (mark : List ℕ) (viewers : ℕ) (x y z : List ℕ) (es : List Exchange) (e : Exchange)
+    → y ≡ all_heard mark viewers x es → z ≡ hears mark viewers y e.came.bytes → z ≡ all_heard mark viewers x (es ++ e ∷ [])
+heard_then mark viewers x y z es e before last =
+    last ∙ ap (λ (h : List ℕ). hears mark viewers h e.came.bytes) before ∙ sym (one_more_heard mark viewers x es e)
+
 -- after so many datagrams, where memory was refused to none
-pub record Turned (mark : List ℕ) (clock : Option ℤ) (a b : Option (List Traffic)) (old new : HostPart) (n : ℕ) : Type 0 where
+pub record Turned (mark : List ℕ) (clock : Option ℤ) (a b : Option (List Traffic)) (old new : HostPart) (x y : List ℕ) (n : ℕ) : Type 0 where
   pub begun : HostPart
   pub exchanges : List Exchange
   pub clocked : IsBegun old clock false begun
   pub answered : AreAnswered true mark begun exchanges new
+  pub heard : y ≡ all_heard mark (length old.kept) x exchanges
   pub memory : IsAnswerAfter (false ∷ refusals_in exchanges) went_on
   pub count : length exchanges ≡ n
   pub told : Grows a b (all_traffic exchanges)
 
-pub turned_begun : (mark : List ℕ) (clock : Option ℤ) (a : Option (List Traffic)) (old begun : HostPart) → IsBegun old clock false begun → Turned mark clock a a old begun 0
-turned_begun mark clock a old begun clocked =
-    record { begun = begun; exchanges = []; clocked = clocked; answered = refl; memory = (1, refl); count = refl; told = grows_none a }
+pub turned_begun : (mark : List ℕ) (clock : Option ℤ) (a : Option (List Traffic)) (old begun : HostPart) (x : List ℕ) → IsBegun old clock false begun → Turned mark clock a a old begun x x 0
+turned_begun mark clock a old begun x clocked =
+    record { begun = begun; exchanges = []; clocked = clocked; answered = refl; heard = refl; memory = (1, refl); count = refl; told = grows_none a }
 
 -- memory was refused to the clock
-pub turn_unclocked : (mark : List ℕ) (clock : Option ℤ) (a : Option (List Traffic)) (old new : HostPart) → IsBegun old clock true new → IsHostTurn (Err turn_fault.Memory) mark clock a a old new
-turn_unclocked mark clock a old new clocked = record {
+pub turn_unclocked : (mark : List ℕ) (clock : Option ℤ) (a : Option (List Traffic)) (old new : HostPart) (x : List ℕ) → IsBegun old clock true new
+    → IsHeardTurn (Err turn_fault.Memory) mark clock a a old new x x
+turn_unclocked mark clock a old new x clocked = record {
   refused = true;
   begun = new;
   clocked = clocked;
   exchanges = [];
   answered = refl;
+  heard = refl;
   memory = (0, refl);
   most = omega arith;
   rest = [];
@@ -78,14 +92,15 @@ turn_unclocked mark clock a old new clocked = record {
 }
 
 -- then this was told, and it went on or the port failed
-pub turn_end : (result : Result (Unit {0}) TurnFault) (mark : List ℕ) (clock : Option ℤ) (a b c : Option (List Traffic)) (old new : HostPart) (n : ℕ) (rest : List Traffic)
-    → Turned mark clock a b old new n → IsAnswerAfter [] result → n ≤ 64 → IsEnd (is_ok result) n rest → Grows b c rest → IsHostTurn result mark clock a c old new
-turn_end result mark clock a b c old new n rest t answers few end grows = record {
+pub turn_end : (result : Result (Unit {0}) TurnFault) (mark : List ℕ) (clock : Option ℤ) (a b c : Option (List Traffic)) (old new : HostPart) (x y : List ℕ) (n : ℕ) (rest : List Traffic)
+    → Turned mark clock a b old new x y n → IsAnswerAfter [] result → n ≤ 64 → IsEnd (is_ok result) n rest → Grows b c rest → IsHeardTurn result mark clock a c old new x y
+turn_end result mark clock a b c old new x y n rest t answers few end grows = record {
   refused = false;
   begun = t.begun;
   clocked = t.clocked;
   exchanges = t.exchanges;
   answered = whole_or_not (is_whole result) mark t.begun t.exchanges new t.answered;
+  heard = t.heard;
   memory = answered_at_once (false ∷ refusals_in t.exchanges) result t.memory answers;
   most = omega (arith, t.count, few);
   rest = rest;
@@ -110,36 +125,39 @@ abbrev exchange_of : (result : Result (Unit {0}) TurnFault) (mark : List ℕ) (h
 exchange_of result mark h came a b new x = record { came = came; refused = x.refused; sent = x.sent }
 
 -- one datagram more, at which the turn ended
-pub turn_cut : (fault : TurnFault) (mark : List ℕ) (clock : Option ℤ) (a b c d : Option (List Traffic)) (came : Datagram) (old mid new : HostPart) (n : ℕ)
-    → Turned mark clock a b old mid n → n < 64 → Grows b c (Received came ∷ []) → IsExchange (Err fault) mark mid came c d new
-    → IsHostTurn (Err fault) mark clock a d old new
-turn_cut fault mark clock a b c d came old mid new n t few received x =
+pub turn_cut : (fault : TurnFault) (mark : List ℕ) (clock : Option ℤ) (a b c d : Option (List Traffic)) (came : Datagram) (old mid new : HostPart) (x y z : List ℕ) (n : ℕ)
+    → Turned mark clock a b old mid x y n → n < 64 → Grows b c (Received came ∷ []) → z ≡ hears mark (length old.kept) y came.bytes → IsExchange (Err fault) mark mid came c d new
+    → IsHeardTurn (Err fault) mark clock a d old new x z
+turn_cut fault mark clock a b c d came old mid new x y z n t few received hearing i =
     let result : Result (Unit {0}) TurnFault = Err fault in
-    let e = exchange_of result mark mid came c d new x in record {
+    let e = exchange_of result mark mid came c d new i in record {
       refused = false;
       begun = t.begun;
       clocked = t.clocked;
       exchanges = t.exchanges ++ e ∷ [];
-      answered = one_more_answered (is_whole result) mark t.begun t.exchanges e mid new t.answered x.answered;
-      memory = more_answered result t.exchanges e t.memory x.memory;
+      answered = one_more_answered (is_whole result) mark t.begun t.exchanges e mid new t.answered i.answered;
+      heard = heard_then mark (length old.kept) x y z t.exchanges e t.heard hearing;
+      memory = more_answered result t.exchanges e t.memory i.memory;
       most = rw (length-append t.exchanges (e ∷ [])) (omega (arith, t.count, few));
       rest = [];
       ended = refl;
-      told = rw (append-nil (all_traffic (t.exchanges ++ e ∷ []))) (grown_more a b c d t.exchanges e t.told received x.told);
+      told = rw (append-nil (all_traffic (t.exchanges ++ e ∷ []))) (grown_more a b c d t.exchanges e t.told received i.told);
     }
 
 -- one datagram more
-pub turned_more : (mark : List ℕ) (clock : Option ℤ) (a b c d : Option (List Traffic)) (came : Datagram) (old mid new : HostPart) (n : ℕ)
-    → Turned mark clock a b old mid n → Grows b c (Received came ∷ []) → IsExchange went_on mark mid came c d new → Turned mark clock a d old new (n + 1)
-turned_more mark clock a b c d came old mid new n t received x =
-    let e = exchange_of went_on mark mid came c d new x in record {
+pub turned_more : (mark : List ℕ) (clock : Option ℤ) (a b c d : Option (List Traffic)) (came : Datagram) (old mid new : HostPart) (x y z : List ℕ) (n : ℕ)
+    → Turned mark clock a b old mid x y n → Grows b c (Received came ∷ []) → z ≡ hears mark (length old.kept) y came.bytes → IsExchange went_on mark mid came c d new
+    → Turned mark clock a d old new x z (n + 1)
+turned_more mark clock a b c d came old mid new x y z n t received hearing i =
+    let e = exchange_of went_on mark mid came c d new i in record {
       begun = t.begun;
       exchanges = t.exchanges ++ e ∷ [];
       clocked = t.clocked;
-      answered = one_more_answered true mark t.begun t.exchanges e mid new t.answered x.answered;
-      memory = more_answered went_on t.exchanges e t.memory x.memory;
+      answered = one_more_answered true mark t.begun t.exchanges e mid new t.answered i.answered;
+      heard = heard_then mark (length old.kept) x y z t.exchanges e t.heard hearing;
+      memory = more_answered went_on t.exchanges e t.memory i.memory;
       count = length-append t.exchanges (e ∷ []) ∙ ap (λ (k : ℕ). k + 1) t.count;
-      told = grown_more a b c d t.exchanges e t.told received x.told;
+      told = grown_more a b c d t.exchanges e t.told received i.told;
     }
 
 -- ---- one exchange

@@ -13,7 +13,7 @@ use Rattle.share_law.specs.Viewer.{ViewerState, point_of}
 use Rattle.share_core.specs.Viewer.{ViewerView, with_state}
 use Rattle.share_port.specs.declared.traffic.Traffic.{Traffic}
 use Rattle.share_turns.specs.declared.fault.SeriesFault.{SeriesFault}
-use Rattle.share_turns.specs.declared.fault.SeriesFault.TheVariants.{Turn, TurnsUsedUp}
+use Rattle.share_turns.specs.declared.fault.SeriesFault.TheVariants.{Turn, TurnsUsedUp, Join}
 use Rattle.share_turns.specs.declared.fault.TurnFault.{TurnFault}
 use Rattle.share_turns.specs.declared.fault.TurnFault.TheVariants.{Memory}
 use Rattle.share_turns.specs.HostTurn.{IsHostTurn, failures_after}
@@ -192,6 +192,7 @@ IsAgreeEnd ways mark steps own rounds old TurnsUsedUp new =
     AreUnsettled ways mark steps own rounds old new
 IsAgreeEnd ways mark steps own rounds old (Turn fault) new =
     AreCut ways mark steps own rounds old fault new
+IsAgreeEnd ways mark steps own rounds old (Join fault) new = ⊥
 
 -- ---- what is written
 
@@ -219,3 +220,4 @@ IsAgreeRunEnd ways mark steps own rounds old (Turn fault) new =
     AreCut ways mark steps own rounds old fault new
     ⊎ (AreAgreed ways mark steps own rounds old new
     × IsAgreedTextFault new.seats.viewers fault)
+IsAgreeRunEnd ways mark steps own rounds old (Join fault) new = ⊥

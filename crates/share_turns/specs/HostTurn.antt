@@ -1,7 +1,11 @@
 -- A turn of the host: the next clock of its job, then datagrams that come, each answered.
 use Rattle.std.specs.Prelude.{◌≡◌, ℕ, ◌≤◌, ℤ, Bool, true, false, List, [], ◌∷◌, ◌++◌, map, slice_get, length}
-use Rattle.std.specs.Prelude.{Option, Some, None, Result, Ok, Err, is_ok}
+use Rattle.std.specs.Prelude.{Option, Some, None, Result, Ok, Err, is_ok, nat_eq, nat_lt}
+use Rattle.std.specs.Prelude.{if◌then◌else◌}
+use Rattle.std.specs.Cmp.Lexicographic.{pointwise}
 use Rattle.std.specs.List.{flat_map, range_with_len}
+use Rattle.share_heard.specs.Heard.{hear}
+use Rattle.share_wire.specs.Messages.{Asking}
 use Rattle.share_wire.specs.Datagram.{datagram}
 use Rattle.share_wire.specs.Decoding.{decoded}
 use Rattle.share_wire.specs.declared.fault.WireFault.{WireFault}
@@ -75,6 +79,36 @@ datagrams_for mark h came (Ok reply) =
     datagrams_of mark (bodies_for h (sender_of (decoded came)) reply)
 datagrams_for mark h came (Err fault) = []
 
+-- ---- what it hears of its viewers
+
+abbrev pub ask_in : Body → Option Asking
+ask_in (Input s) = None
+ask_in (Offer o) = None
+ask_in (Ask a) = Some a
+ask_in (Ack a) = None
+ask_in (Floor f) = None
+ask_in (Piece p) = None
+
+-- the ask of this scene that came
+abbrev pub asked_of : (mark : List ℕ) → Result Message WireFault → Option Asking
+asked_of mark (Ok message) =
+    if pointwise nat_eq message.mark mark then ask_in message.body else None
+asked_of mark (Err fault) = None
+
+-- an ask of one of its viewers is heard
+abbrev pub hear_from : (viewers : ℕ) → (heard : List ℕ) → Option Asking → List ℕ
+hear_from viewers heard None = heard
+hear_from viewers heard (Some a) =
+    if nat_lt a.who viewers then hear heard a.who a.next else heard
+
+abbrev pub hears : (mark : List ℕ) → (viewers : ℕ) → (heard came : List ℕ) → List ℕ
+hears mark viewers heard came = hear_from viewers heard (asked_of mark (decoded came))
+
+abbrev pub all_heard : (mark : List ℕ) → (viewers : ℕ) → (heard : List ℕ) → List Exchange → List ℕ
+all_heard mark viewers heard [] = heard
+all_heard mark viewers heard (e ∷ es) =
+    all_heard mark viewers (hears mark viewers heard e.came.bytes) es
+
 -- ---- a turn
 
 -- all was sent, unless the port failed
@@ -126,16 +160,26 @@ AreAnswered whole mark h (e ∷ es) new =
     (next : HostPart) × IsAnswered (is_whole_before whole es) mark h e next
     × AreAnswered whole mark next es new
 
--- the clock, and then datagrams, at most 64, until no more come
-pub record IsHostTurn (result : Result (Unit {0}) TurnFault) (mark : List ℕ) (clock : Option ℤ)
-    (told_before told_after : Option (List Traffic)) (old new : HostPart) : Type 0 where
+-- the clock, and then datagrams, at most 64, until no more come; what it had heard of its viewers,
+-- and then has
+pub record IsHeardTurn (result : Result (Unit {0}) TurnFault) (mark : List ℕ) (clock : Option ℤ)
+    (told_before told_after : Option (List Traffic)) (old new : HostPart)
+    (before after : List ℕ) : Type 0 where
   pub refused : Bool
   pub begun : HostPart
   pub clocked : IsBegun old clock refused begun
   pub exchanges : List Exchange
   pub answered : AreAnswered (is_whole result) mark begun exchanges new
+  pub heard : after ≡ all_heard mark (length old.kept) before exchanges
   pub memory : IsAnswerAfter (refused ∷ refusals_in exchanges) result
   pub most : length exchanges ≤ 64
   pub rest : List Traffic
   pub ended : IsEnd (is_ok result) (length exchanges) rest
   pub told : Grows told_before told_after (all_traffic exchanges ++ rest)
+
+-- the same, whatever it hears
+abbrev pub IsHostTurn : (result : Result (Unit {0}) TurnFault) → (mark : List ℕ)
+    → (clock : Option ℤ) → (told_before told_after : Option (List Traffic)) → (old new : HostPart)
+    → Type 0
+IsHostTurn result mark clock a b old new =
+    (before : List ℕ) × (after : List ℕ) × IsHeardTurn result mark clock a b old new before after

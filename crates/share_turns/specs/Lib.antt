@@ -3,5 +3,7 @@ pub mod Exchanges
 pub mod HostTurn
 pub mod ViewerTurn
 pub mod Runs
+pub mod Gathers
+pub mod Gives
 pub mod Views
 pub mod Agreeing

@@ -1,6 +1,6 @@
 -- Turns of a viewer, one after another, and the texts that it writes then.
-use Rattle.std.specs.Prelude.{◌≡◌, ℕ, zero, suc, ◌+◌, ◌≤◌, ◌<◌, Bool, true, false, List, ◌++◌}
-use Rattle.std.specs.Prelude.{◌⊎◌, slice_get, Option, Result, Ok, Err}
+use Rattle.std.specs.Prelude.{◌≡◌, ℕ, zero, suc, ◌+◌, ◌-◌, ◌≤◌, ◌<◌, Bool, true, false, List}
+use Rattle.std.specs.Prelude.{◌⊎◌, ◌++◌, slice_get, Option, None, Some, Result, Ok, Err}
 use Rattle.x3d_values.specs.declared.pointing.Point.{Point}
 use Rattle.x3d_values.specs.Stamp.{Stamp}
 use Rattle.stage_answers.specs.declared.fault.TextFault.{TextFault}
@@ -11,9 +11,12 @@ use Rattle.share_law.specs.Viewer.{View, Running, ViewerState, applied_in}
 use Rattle.share_core.specs.Viewer.{IfRunning, IfSpoiled, ViewerView, machine_of, with_state}
 use Rattle.share_port.specs.declared.traffic.Traffic.{Traffic}
 use Rattle.share_turns.specs.declared.fault.SeriesFault.{SeriesFault}
-use Rattle.share_turns.specs.declared.fault.SeriesFault.TheVariants.{Turn, TurnsUsedUp}
+use Rattle.share_turns.specs.declared.fault.SeriesFault.TheVariants.{Turn, TurnsUsedUp, Join}
 use Rattle.share_turns.specs.declared.fault.TurnFault.{TurnFault}
 use Rattle.share_turns.specs.declared.fault.TurnFault.TheVariants.{Memory, Spoiled}
+use Rattle.share_turns.specs.declared.view.ViewPlan.{ViewPlan}
+use Rattle.share_turns.specs.Gathers.{HasJoined, IsJoinEnd, with_both}
+use Rattle.share_turns.specs.Gives.{Gives, IsGiveEnd}
 use Rattle.share_turns.specs.HostTurn.{failures_after}
 use Rattle.share_turns.specs.ViewerTurn.{IsViewerTurn}
 
@@ -51,11 +54,9 @@ ViewerTurns v host points until (suc n) a b offered new =
     × IsTurnOf (with_state v mid) host (slice_get points before) between b (Ok did) new
     × (offered ≡ one_more_if did before)
 
--- turns, until enough inputs are applied
-pub record AreViewed (v : ViewerView) (host : ℕ) (points : List Point) (until turns : ℕ)
+-- turns, until enough inputs are applied: so many
+pub record AreViewed (v : ViewerView) (host : ℕ) (points : List Point) (until done : ℕ)
     (told_before told_after : Option (List Traffic)) (new : ViewerState Scripted) : Type 0 where
-  pub done : ℕ
-  pub most : done ≤ turns
   pub offered : ℕ
   pub turned : ViewerTurns v host points until done told_before told_after offered new
   pub enough : until ≤ applied_by v new
@@ -88,6 +89,7 @@ IsViewEnd v host points until turns a b TurnsUsedUp new =
     AreUsedUp v host points until turns a b new
 IsViewEnd v host points until turns a b (Turn fault) new =
     AreStopped v host points until turns a b fault new
+IsViewEnd v host points until turns a b (Join fault) new = ⊥
 
 -- how many sends and receives of a port failed, after turns
 abbrev pub failures_in : {A : Type 0} → Result A SeriesFault → ℕ → ℕ
@@ -113,12 +115,79 @@ IsTextFault view Spoiled = IfRunning view (λ w. ⊥)
 IsTextFault view Memory = IfSpoiled view ⊥
 IsTextFault view fault = ⊥
 
--- the turns ended so, or enough inputs were applied and a text ended so
-abbrev pub IsRunEnd : ViewerView → (host : ℕ) → List Point → (until turns : ℕ)
-    → (told_before told_after : Option (List Traffic)) → SeriesFault → ViewerState Scripted
+-- ---- a whole run: a viewer joins, views and gives, as it is asked to
+
+-- it joined, as this boot, in so many of its turns; where there is none it is as it was
+abbrev pub IsBegunAs : ViewerView → (join : Option ℕ) → (turns used : ℕ)
+    → (told_before told_after : Option (List Traffic)) → (new : ViewerView) → Type 0
+IsBegunAs v None turns used a b new = (used ≡ 0) × (b ≡ a) × (new ≡ v)
+IsBegunAs v (Some boot) turns used a b new =
+    (used ≤ turns) × HasJoined v boot used a b new.state new.gathering
+    × (new ≡ with_both v new.state new.gathering)
+
+abbrev pub IsBeginEnd : ViewerView → (join : Option ℕ) → (turns : ℕ)
+    → (told_before told_after : Option (List Traffic)) → SeriesFault → (new : ViewerView)
     → Type 0
-IsRunEnd v host points until turns a b TurnsUsedUp new =
-    AreUsedUp v host points until turns a b new
-IsRunEnd v host points until turns a b (Turn fault) new =
-    AreStopped v host points until turns a b fault new
-    ⊎ (AreViewed v host points until turns a b new × IsTextFault new.view fault)
+IsBeginEnd v None turns a b fault new = ⊥
+IsBeginEnd v (Some boot) turns a b fault new =
+    IsJoinEnd v boot turns a b fault new.state new.gathering
+
+-- it gave its snapshot to a port in so many turns; where there is none it took none
+abbrev pub HasGiven : ViewerView → (give : Option ℕ) → (turns : ℕ)
+    → (told_before told_after : Option (List Traffic)) → Type 0
+HasGiven v None turns a b = b ≡ a
+HasGiven v (Some to) turns a b = Gives v to turns a b
+
+abbrev pub IsGivenEnd : ViewerView → (give : Option ℕ) → (turns : ℕ)
+    → (told_before told_after : Option (List Traffic)) → TurnFault → Type 0
+IsGivenEnd v None turns a b fault = ⊥
+IsGivenEnd v (Some to) turns a b fault = IsGiveEnd v to turns a b fault
+
+-- it joined, and then enough inputs were applied: what is left of its turns
+pub record HasViewed (v : ViewerView) (host : ℕ) (points : List Point) (plan : ViewPlan)
+    (a b : Option (List Traffic)) (left : ℕ) (new : ViewerView) : Type 0 where
+  pub joining : ℕ
+  pub between : Option (List Traffic)
+  pub begun : ViewerView
+  pub joined : IsBegunAs v plan.join plan.turns joining a between begun
+  pub viewing : ℕ
+  pub most : viewing ≤ plan.turns - joining
+  pub viewed : AreViewed begun host points plan.until viewing between b new.state
+  pub same : new ≡ with_state begun new.state
+  pub is : left ≡ plan.turns - joining - viewing
+
+-- then it gave in the turns that were left, and its texts are appended
+pub record IsRun (v : ViewerView) (host : ℕ) (points : List Point) (plan : ViewPlan)
+    (a b : Option (List Traffic)) (new : ViewerView) (before after : List ℕ) : Type 0 where
+  pub left : ℕ
+  pub between : Option (List Traffic)
+  pub viewed : HasViewed v host points plan a between left new
+  pub given : HasGiven new plan.give left between b
+  pub texts : AreAppended new before after
+
+-- it joined, and the turns in which it viewed ended so
+pub record IsViewCut (v : ViewerView) (host : ℕ) (points : List Point) (plan : ViewPlan)
+    (a b : Option (List Traffic)) (fault : SeriesFault) (new : ViewerView) : Type 0 where
+  pub joining : ℕ
+  pub between : Option (List Traffic)
+  pub begun : ViewerView
+  pub joined : IsBegunAs v plan.join plan.turns joining a between begun
+  pub ended : IsViewEnd begun host points plan.until (plan.turns - joining) between b fault
+      new.state
+
+-- it viewed, and the turns in which it gave ended so, or a text did
+pub record IsLateCut (v : ViewerView) (host : ℕ) (points : List Point) (plan : ViewPlan)
+    (a b : Option (List Traffic)) (fault : SeriesFault) (new : ViewerView) : Type 0 where
+  pub left : ℕ
+  pub between : Option (List Traffic)
+  pub viewed : HasViewed v host points plan a between left new
+  pub early : TurnFault
+  pub is : fault ≡ Turn early
+  pub ended : IsGivenEnd new plan.give left between b early
+      ⊎ (HasGiven new plan.give left between b × IsTextFault new.state.view early)
+
+abbrev pub IsRunEnd : ViewerView → (host : ℕ) → List Point → ViewPlan
+    → (a b : Option (List Traffic)) → SeriesFault → (new : ViewerView) → Type 0
+IsRunEnd v host points plan a b fault new =
+    IsBeginEnd v plan.join plan.turns a b fault new
+    ⊎ (IsViewCut v host points plan a b fault new ⊎ IsLateCut v host points plan a b fault new)

@@ -6,6 +6,7 @@ ghost use Rattle.share_turns.specs.declared.fault.SeriesFault.TheVariants.{Turn}
 ghost use Rattle.share_turns.specs.declared.fault.TurnFault.TheVariants.{Memory, Port};
 
 use cascade_core::TextFault;
+use share_law::SnapFault;
 use share_port::PortFault;
 use std::alloc::AllocError;
 use thiserror::Error;
@@ -50,14 +51,17 @@ impl From<AllocError> for TurnFault {
     }
 }
 
-/// Why turns, one after another, didn't come to what they were for: one of them ended early, or
-/// there were too few of them.
+/// Why turns, one after another, didn't come to what they were for: one of them ended early, there
+/// were too few of them, or a viewer couldn't begin in the snapshot that it gathered, for another
+/// cause than memory.
 #[derive(Clone, Copy, Debug, PartialEq, Eq, Error)]
 pub enum SeriesFault {
     #[error(transparent)]
     Turn(TurnFault),
     #[error("the turns are used up")]
     TurnsUsedUp,
+    #[error("{0}")]
+    Join(SnapFault),
 }
 
 impl From<TurnFault> for SeriesFault {

@@ -1,6 +1,7 @@
 //! A turn of the host.
 
-ghost use Rattle.std.specs.Prelude.{◌≡◌, [], ◌∷◌, Err, OnOk, OnErr, is_err, is_ok};
+ghost use Rattle.std.specs.Prelude.{◌≡◌, [], ◌∷◌, Err, OnOk, OnErr, is_err, is_ok, nat_eq};
+ghost use Rattle.std.specs.Cmp.Lexicographic.{pointwise};
 ghost use Rattle.share_wire.specs.Decoding.{decoded};
 ghost use Rattle.share_port.specs.Told.{one_more};
 ghost use Rattle.share_turns.specs.Exchanges.{AreSent};
@@ -10,15 +11,17 @@ ghost use Rattle.share_law.specs.Steps.{says_memory};
 ghost use Rattle.share_core.specs.Host.{AreNumbered};
 ghost use Rattle.share_turns.specs.HostTurn.{IsHostTurn, IsBegun, IsExchange, acks_for};
 ghost use Rattle.share_turns.specs.HostTurn.{bodies_for, datagrams_of, inputs_for, listed, sender_in, sender_of};
+ghost use Rattle.share_turns.specs.HostTurn.{IsHeardTurn, ask_in, asked_of, hear_from, hears};
 ghost use Rattle.share_turns.specs.HostTurn.{failures_after};
 ghost use Rattle.share_turns.specs.declared.fault.TurnFault.TheVariants.{Memory};
 
 use crate::fault::TurnFault;
 use crate::most::MOST;
 use share_core::Host;
+use share_heard::Heard;
 use share_law::{HostFault, HostReply, NumberFault};
 use share_port::{Port, PortFault};
-use share_wire::{Body, decode};
+use share_wire::{Ask, Body, decode};
 
 /// Goes on after a clock, unless memory was refused to it. One that was refused for another cause
 /// is dropped.
@@ -184,6 +187,84 @@ fn answer<P: Port>(host: &mut Host, from: u16, bytes: &[u8], port: &mut P) -> Re
     }
 }
 
+fn ask_in(body: Body) -> Option<Ask>
+    ensures { result ≡ ask_in body }
+{
+    match body {
+        Body::Ask(ask) => Some(ask),
+        Body::Input(_) | Body::Offer(_) | Body::Ack(_) | Body::Floor(_) | Body::Piece(_) => None,
+    }
+}
+
+fn is_same(mark: &[u8; 32], other: &[u8; 32]) -> bool
+    ensures { result ≡ pointwise nat_eq mark.now other.now }
+{
+    mark == other
+}
+
+/// The ask of the scene with this mark that came.
+fn asked_of(bytes: &[u8], mark: &[u8; 32]) -> Option<Ask>
+    ensures { result ≡ asked_of mark.now (decoded bytes.now) }
+{
+    match decode(bytes) {
+        Ok(message) => {
+            if is_same(&message.mark, mark) {
+                ask_in(message.body)
+            } else {
+                None
+            }
+        }
+        Err(_) => None,
+    }
+}
+
+fn hear_from(heard: &mut Heard, ask: Option<Ask>, viewers: u8)
+    ensures { heard.new ≡ hear_from viewers heard.old ask }
+{
+    let Some(ask) = ask else {
+        return;
+    };
+    if ask.who() < viewers {
+        heard.hear(ask.who(), ask.next());
+    }
+}
+
+/// Hears of a viewer, if one asks.
+fn hear(heard: &mut Heard, bytes: &[u8], mark: &[u8; 32], viewers: u8)
+    ensures { heard.new ≡ hears mark.now viewers heard.old bytes.now }
+{
+    hear_from(heard, asked_of(bytes, mark), viewers);
+}
+
+/// A turn of the host, as by `host_turn`, in which it hears of its viewers by their asks.
+pub(crate) fn hearing_turn<P: Port>(
+    host: &mut Host,
+    clock: Option<i64>,
+    heard: &mut Heard,
+    port: &mut P,
+) -> Result<(), TurnFault>
+    ensures mark { host.new.mark ≡ host.old.mark }
+    ensures turn { IsHeardTurn result host.old.mark clock (P.told port.old) (P.told port.new)
+        host.old.part host.new.part heard.old heard.new }
+    ensures failures { P.failure_count port.new
+        ≡ failures_after result (P.failure_count port.old) }
+{
+    let mark = host.mark();
+    let viewers = host.viewers();
+    number_clock(host, clock)?;
+    let mut bytes = [0; 257];
+    for _turn in 0..MOST {
+        match port.receive(&mut bytes)? {
+            Some((from, count)) => {
+                hear(heard, &bytes[..count], &mark, viewers);
+                answer(host, from, &bytes[..count], port)?;
+            }
+            None => return Ok(()),
+        }
+    }
+    Ok(())
+}
+
 /// A turn of the host: it numbers the next clock of its job, at a time in microseconds, if there is
 /// one; then it takes at most 64 datagrams, and sends to each one's peer what belongs to it: for an
 /// ask the inputs that were asked for, or the floor where they are below it, and an ack, for an
@@ -203,13 +284,6 @@ pub fn host_turn<P: Port>(
     ensures failures { P.failure_count port.new
         ≡ failures_after result (P.failure_count port.old) }
 {
-    number_clock(host, clock)?;
-    let mut bytes = [0; 257];
-    for _turn in 0..MOST {
-        match port.receive(&mut bytes)? {
-            Some((from, count)) => answer(host, from, &bytes[..count], port)?,
-            None => return Ok(()),
-        }
-    }
-    Ok(())
+    let mut heard = Heard::nobody();
+    hearing_turn(host, clock, &mut heard, port)
 }

@@ -2,6 +2,8 @@
 #![tactic(auto)]
 
 mod fault;
+mod gather;
+mod give;
 mod host;
 mod most;
 mod rounds;
@@ -10,8 +12,10 @@ mod view;
 mod viewer;
 
 pub use fault::{SeriesFault, TurnFault};
+pub use gather::join_run;
+pub use give::give_run;
 pub use host::host_turn;
 pub use rounds::{agree, agree_until};
-pub use runs::host_run;
-pub use view::{view_run, view_until};
+pub use runs::{HostPlan, host_run};
+pub use view::{ViewPlan, view_run, view_until};
 pub use viewer::viewer_turn;

@@ -1,13 +1,28 @@
-//! Turns, one after another.
+//! Turns of the host, one after another.
 
-ghost use Rattle.std.specs.Prelude.{◌≡◌, IfErr, OnOk, slice_get};
-ghost use Rattle.share_turns.specs.HostTurn.{failures_after};
-ghost use Rattle.share_turns.specs.Runs.{HostTurns, HostTurnsEnd};
+ghost use Rattle.std.specs.Prelude.{◌≡◌, Err, IfErr, OnOk, false, is_none, slice_get, true};
+ghost use Rattle.share_turns.specs.HostTurn.{IsHeardTurn, failures_after};
+ghost use Rattle.share_turns.specs.Runs.{AreHosted, IsHostEnd, IsKeptTurn, hosting, is_over};
+ghost use Rattle.share_turns.specs.Runs.{kept_by, next_floor};
+ghost use Rattle.share_turns.specs.Views.{failures_in};
+ghost use Rattle.share_turns.specs.declared.fault.SeriesFault.TheVariants.{TurnsUsedUp};
 
-use crate::fault::TurnFault;
-use crate::host::host_turn;
+use crate::fault::{SeriesFault, TurnFault};
+use crate::host::hearing_turn;
 use share_core::Host;
+use share_heard::{Heard, floor_for, is_served};
 use share_port::Port;
+
+/// What a host keeps of its inputs, and when it is done.
+#[derive(Clone, Copy, Debug, PartialEq, Eq)]
+pub struct HostPlan {
+    /// How many it keeps of the inputs that every viewer of which it heard has asked past; all of
+    /// them where there is no number.
+    pub keep: Option<u32>,
+    /// How many inputs are to be numbered, and asked past by every viewer of which it heard, one at
+    /// least; where there is no number it takes all its turns.
+    pub until: Option<u32>,
+}
 
 /// The item at that place, from 0, where there is one.
 pub(crate) fn item_at<T: Copy>(items: &[T], place: u32) -> Option<T>
@@ -16,27 +31,106 @@ pub(crate) fn item_at<T: Copy>(items: &[T], place: u32) -> Option<T>
     items.get(place as usize).copied()
 }
 
-/// So many turns of the host. Each numbers the next of the clocks, at times in microseconds, until
-/// there are no more.
-///
-/// `Port` where a send or a receive failed, `Memory` where memory was refused to a clock or to an
-/// offer: either ends the run at once.
-pub fn host_run<P: Port>(
+/// The floor that follows from what was heard, if one does.
+fn next_floor(host: &Host, keep: Option<u32>, lowest: Option<u32>) -> Option<u32>
+    ensures { result ≡ next_floor keep lowest host.now.part }
+{
+    let Some(keep) = keep else {
+        return None;
+    };
+    let Some(lowest) = lowest else {
+        return None;
+    };
+    Some(floor_for(keep, lowest, host.floor(), host.len()))
+}
+
+/// Drops the inputs that every viewer of which the host heard has asked past, but for the last
+/// `keep` of them.
+fn drop_passed(host: &mut Host, heard: &Heard, keep: Option<u32>)
+    ensures mark { host.new.mark ≡ host.old.mark }
+    ensures part { host.new.part ≡ kept_by keep heard.now host.old.part }
+{
+    let Some(floor) = next_floor(host, keep, heard.lowest()) else {
+        return;
+    };
+    let _floor = host.drop_below(floor);
+}
+
+/// A turn, after which the inputs are dropped that the host doesn't keep.
+fn kept_turn<P: Port>(
     host: &mut Host,
-    clocks: &[i64],
-    turns: u32,
+    clock: Option<i64>,
+    heard: &mut Heard,
+    keep: Option<u32>,
     port: &mut P,
 ) -> Result<(), TurnFault>
     ensures mark { host.new.mark ≡ host.old.mark }
-    ensures done { OnOk result (HostTurns host.old.mark clocks.now turns (P.told port.old)
-        (P.told port.new) host.old.part host.new.part) }
-    ensures ended { IfErr result (λ fault. HostTurnsEnd host.old.mark clocks.now turns
-        (P.told port.old) (P.told port.new) host.old.part fault host.new.part) }
+    ensures done { OnOk result (IsKeptTurn host.old.mark keep clock (P.told port.old)
+        (P.told port.new) (hosting host.old.part heard.old) (hosting host.new.part heard.new)) }
+    ensures ended { IfErr result (λ fault. IsHeardTurn (Err fault) host.old.mark clock
+        (P.told port.old) (P.told port.new) host.old.part host.new.part heard.old heard.new) }
     ensures failures { P.failure_count port.new
         ≡ failures_after result (P.failure_count port.old) }
 {
-    for turn in 0..turns {
-        host_turn(host, item_at(clocks, turn), port)?;
-    }
+    let before = host.len();
+    hearing_turn(host, clock, heard, port)?;
+    drop_passed(host, heard, keep);
+    port.rest(host.len() > before);
     Ok(())
+}
+
+/// Whether the host has numbered what it was to number, and all viewers of which it heard have
+/// asked past that.
+fn is_over(host: &Host, heard: &Heard, plan: &HostPlan) -> bool
+    ensures { result ≡ is_over plan.now (hosting host.now.part heard.now) }
+{
+    is_served(plan.until, heard.lowest(), host.len())
+}
+
+/// How a host ends that took all its turns and isn't done.
+fn used_up(plan: &HostPlan) -> Result<(), SeriesFault>
+    ensures ok { OnOk result (is_none plan.now.until ≡ true) }
+    ensures err { IfErr result (λ fault. (fault ≡ TurnsUsedUp)
+        × (is_none plan.now.until ≡ false)) }
+{
+    if plan.until.is_none() {
+        Ok(())
+    } else {
+        Err(SeriesFault::TurnsUsedUp)
+    }
+}
+
+/// Turns of the host, `turns` at most, until it is done as `plan` says, and all of them where that
+/// names no number of inputs. Each numbers the next of the clocks, at times in microseconds, until
+/// there are no more, and then drops what `plan` doesn't keep.
+///
+/// `TurnsUsedUp` where it isn't done after the last turn. A turn that ends early ends the run:
+/// `Port` where a send or a receive failed, `Memory` where memory was refused to a clock or to an
+/// offer.
+pub fn host_run<P: Port>(
+    host: &mut Host,
+    clocks: &[i64],
+    plan: &HostPlan,
+    turns: u32,
+    port: &mut P,
+) -> Result<(), SeriesFault>
+    ensures mark { host.new.mark ≡ host.old.mark }
+    ensures done { OnOk result (AreHosted host.old.mark clocks.now plan.now turns
+        (P.told port.old) (P.told port.new) host.old.part host.new.part) }
+    ensures ended { IfErr result (λ fault. IsHostEnd host.old.mark clocks.now plan.now turns
+        (P.told port.old) (P.told port.new) host.old.part fault host.new.part) }
+    ensures failures { P.failure_count port.new
+        ≡ failures_in result (P.failure_count port.old) }
+{
+    let mut heard = Heard::nobody();
+    for turn in 0..turns {
+        if is_over(host, &heard, plan) {
+            return Ok(());
+        }
+        kept_turn(host, item_at(clocks, turn), &mut heard, plan.keep, port)?;
+    }
+    if is_over(host, &heard, plan) {
+        return Ok(());
+    }
+    used_up(plan)
 }

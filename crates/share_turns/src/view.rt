@@ -1,18 +1,39 @@
-//! A viewer alone: turns until enough inputs are applied, and then its texts.
+//! A viewer alone: turns until enough inputs are applied, and then its texts; before them perhaps
+//! turns in which it joins, and behind them turns in which it gives.
 
-ghost use Rattle.std.specs.Prelude.{◌≡◌, ◌≤◌, ◌+◌, ◌<◌, ◌^◌, OnOk, OnErr, IfErr};
+ghost use Rattle.std.specs.Prelude.{◌≡◌, ◌≤◌, ◌+◌, ◌<◌, ◌^◌, OnOk, OnErr, IfErr, IfOk};
 ghost use Rattle.x3d_lists.specs.Extends.{Extends};
 ghost use Rattle.share_core.specs.Viewer.{with_state};
-ghost use Rattle.share_turns.specs.Views.{AreAppended, AreViewed, IsRunEnd, IsTextFault};
+ghost use Rattle.share_turns.specs.Gathers.{with_both};
+ghost use Rattle.share_turns.specs.HostTurn.{failures_after};
+ghost use Rattle.share_turns.specs.Views.{AreAppended, AreViewed, HasGiven, IsBeginEnd, IsBegunAs};
+ghost use Rattle.share_turns.specs.Views.{IsGivenEnd, IsRun, IsRunEnd, IsTextFault};
 ghost use Rattle.share_turns.specs.Views.{IsViewEnd, failures_in, one_more_if};
 
 use crate::fault::{SeriesFault, TurnFault};
+use crate::gather::join_run;
+use crate::give::give_run;
 use crate::runs::item_at;
 use crate::viewer::viewer_turn;
 use script_host::Behaviour;
 use share_core::Viewer;
 use share_port::Port;
+use std::alloc::Global;
 use x3d_values::Point;
+
+/// What a viewer is to do.
+#[derive(Clone, Copy, Debug, PartialEq, Eq)]
+pub struct ViewPlan {
+    /// How many inputs are to be applied.
+    pub until: u32,
+    /// How many turns it takes at most.
+    pub turns: u32,
+    /// As which boot it begins first in the snapshot that comes to it in pieces, if it joins.
+    pub join: Option<u32>,
+    /// To which port the pieces of its own snapshot go then, in all turns that are left, if it
+    /// gives.
+    pub give: Option<u16>,
+}
 
 /// How many points are offered, where a turn offered one or didn't.
 pub(crate) fn one_more_if(offered: bool, count: u32) -> u32
@@ -23,8 +44,8 @@ pub(crate) fn one_more_if(offered: bool, count: u32) -> u32
     if offered { count + 1 } else { count }
 }
 
-/// Turns of a viewer, `turns` at most, until at least `until` inputs are applied. Each offers the
-/// first of the points that wasn't offered yet.
+/// Turns of a viewer, `turns` at most, until at least `until` inputs are applied: how many they
+/// were. Each offers the first of the points that wasn't offered yet.
 ///
 /// `TurnsUsedUp` where fewer are applied after the last turn. A turn that ends early ends the
 /// series.
@@ -35,27 +56,30 @@ pub fn view_until<B: Behaviour, P: Port>(
     turns: u32,
     host: u16,
     port: &mut P,
-) -> Result<(), SeriesFault>
+) -> Result<u32, SeriesFault>
     ensures others { viewer.new ≡ with_state viewer.old viewer.new.state }
-    ensures done { OnOk result (AreViewed viewer.old host points.now until turns
+    ensures done { IfOk result (λ done. AreViewed viewer.old host points.now until done
         (P.told port.old) (P.told port.new) viewer.new.state) }
+    ensures most { IfOk result (λ done. done ≤ turns) }
     ensures ended { IfErr result (λ fault. IsViewEnd viewer.old host points.now until turns
         (P.told port.old) (P.told port.new) fault viewer.new.state) }
     ensures failures { P.failure_count port.new
         ≡ failures_in result (P.failure_count port.old) }
 {
     let mut offered = 0;
-    for _turn in 0..turns {
-        if viewer.applied() >= until {
-            return Ok(());
+    for turn in 0..turns {
+        let before = viewer.applied();
+        if before >= until {
+            return Ok(turn);
         }
         let point = item_at(points, offered);
         offered = one_more_if(viewer_turn(viewer, point, host, port)?, offered);
+        port.rest(viewer.applied() > before);
     }
     if viewer.applied() < until {
         return Err(SeriesFault::TurnsUsedUp);
     }
-    Ok(())
+    Ok(turns)
 }
 
 fn push_both<B: Behaviour>(viewer: &Viewer<B>, out: &mut Vec<u8>) -> Result<(), TurnFault>
@@ -85,28 +109,77 @@ pub(crate) fn push_texts<B: Behaviour>(
     pushed
 }
 
-/// Turns of a viewer as by `view_until`, and then its trace and its scene, which are appended. On a
-/// fault the buffer is as it was.
+/// Joins, as this boot, if there is one: how many turns it took.
+fn begin<B: Behaviour, P: Port>(
+    viewer: &mut Viewer<B>,
+    join: Option<u32>,
+    turns: u32,
+    port: &mut P,
+) -> Result<u32, SeriesFault>
+    ensures others { viewer.new ≡ with_both viewer.old viewer.new.state viewer.new.gathering }
+    ensures done { IfOk result (λ used. IsBegunAs viewer.old join turns used (P.told port.old)
+        (P.told port.new) viewer.new) }
+    ensures most { IfOk result (λ used. used ≤ turns) }
+    ensures ended { IfErr result (λ fault. IsBeginEnd viewer.old join turns (P.told port.old)
+        (P.told port.new) fault viewer.new) }
+    ensures failures { P.failure_count port.new
+        ≡ failures_in result (P.failure_count port.old) }
+{
+    match join {
+        Some(boot) => join_run(viewer, boot, turns, port),
+        None => Ok(0),
+    }
+}
+
+/// Gives to this port, if there is one.
+fn end<B: Behaviour, P: Port>(
+    alloc: Global,
+    viewer: &Viewer<B>,
+    to: Option<u16>,
+    turns: u32,
+    port: &mut P,
+) -> Result<(), TurnFault>
+    ensures done { OnOk result (HasGiven viewer.now to turns (P.told port.old) (P.told port.new)) }
+    ensures ended { IfErr result (λ fault. IsGivenEnd viewer.now to turns (P.told port.old)
+        (P.told port.new) fault) }
+    ensures failures { P.failure_count port.new
+        ≡ failures_after result (P.failure_count port.old) }
+{
+    match to {
+        Some(to) => give_run(alloc, viewer, to, turns, port),
+        None => Ok(()),
+    }
+}
+
+/// What a viewer does as `plan` says: it joins by the pieces that come to it; then it takes turns as
+/// by `view_until`; then it gives its snapshot, in as many turns as are left of `turns`. Its trace
+/// and its scene are appended. On a fault the buffer is as it was.
+///
+/// `TurnsUsedUp` where the turns came to less, `Join` where what it gathered is no snapshot of its
+/// scene that it may begin in: `BootNotNew` where its boot isn't above the snapshot's. A turn that
+/// ends early ends the run.
 pub fn view_run<B: Behaviour, P: Port>(
+    alloc: Global,
     viewer: &mut Viewer<B>,
     points: &[Point],
-    until: u32,
-    turns: u32,
+    plan: &ViewPlan,
     host: u16,
     port: &mut P,
     out: &mut Vec<u8>,
 ) -> Result<(), SeriesFault>
-    ensures others { viewer.new ≡ with_state viewer.old viewer.new.state }
-    ensures done { OnOk result (AreViewed viewer.old host points.now until turns
-        (P.told port.old) (P.told port.new) viewer.new.state
-        × AreAppended viewer.new out.old.items out.new.items) }
-    ensures ended { IfErr result (λ fault. IsRunEnd viewer.old host points.now until turns
-        (P.told port.old) (P.told port.new) fault viewer.new.state) }
+    ensures others { viewer.new ≡ with_both viewer.old viewer.new.state viewer.new.gathering }
+    ensures done { OnOk result (IsRun viewer.old host points.now plan.now (P.told port.old)
+        (P.told port.new) viewer.new out.old.items out.new.items) }
+    ensures ended { IfErr result (λ fault. IsRunEnd viewer.old host points.now plan.now
+        (P.told port.old) (P.told port.new) fault viewer.new) }
     ensures kept { OnErr result (out.new.items ≡ out.old.items) }
     ensures failures { P.failure_count port.new
         ≡ failures_in result (P.failure_count port.old) }
 {
-    view_until(viewer, points, until, turns, host, port)?;
+    let joining = begin(viewer, plan.join, plan.turns, port)?;
+    let turns = plan.turns - joining;
+    let viewing = view_until(viewer, points, plan.until, turns, host, port)?;
+    end(alloc, viewer, plan.give, turns - viewing, port)?;
     push_texts(viewer, out)?;
     Ok(())
 }

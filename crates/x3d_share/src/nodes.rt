@@ -9,6 +9,7 @@ use share_commands::{
 };
 use share_ends::{RunFault, read_whole, write_whole};
 use share_program::{Failure, JobFault, ShareFault};
+use share_turns::{HostPlan, ViewPlan};
 use share_words::Order;
 use std::io;
 use std::net::Net;
@@ -102,7 +103,11 @@ fn hosted<R: AllocGlobal + Net + Clock>(
     requires most { viewers ≤ 16 }
 {
     let mut port = PatientPort::new(bound(rt, port)?, rt);
-    host_job(rt.alloc(), job, viewers, turns, &mut port)
+    let plan = HostPlan {
+        keep: None,
+        until: None,
+    };
+    host_job(rt.alloc(), job, viewers, &plan, turns, &mut port)
 }
 
 /// Reads a job of clocks, and numbers them and what viewers offer at a port.
@@ -145,7 +150,13 @@ fn viewed<R: AllocGlobal + Net + Clock>(
     turns: u32,
 ) -> Result<Vec<u8>, ShareFault> {
     let mut port = PatientPort::new(bound(rt, 0)?, rt);
-    view_job(rt.alloc(), seat, host, until, turns, &mut port)
+    let plan = ViewPlan {
+        until,
+        turns,
+        join: None,
+        give: None,
+    };
+    view_job(rt.alloc(), seat, host, &plan, &mut port)
 }
 
 /// Reads a job of points, and offers them to a host: what came of the inputs.

@@ -9,7 +9,7 @@ use super::{Row, all_hold};
 use share_commands::{JointJob, host_job, joint_job, seated_job, shared_job, view_job};
 use share_core::Host;
 use share_port::{Port, PortFault};
-use share_turns::{host_run, view_run};
+use share_turns::{HostPlan, ViewPlan, host_run, view_run};
 use share_words::Order;
 use std::alloc::{AllocError, Global};
 use std::cell::RefCell;
@@ -17,6 +17,22 @@ use std::process::Abort;
 
 /// More turns than it takes.
 const TURNS: u32 = 100;
+
+/// All inputs are kept, and all turns are taken.
+const ALL: HostPlan = HostPlan {
+    keep: None,
+    until: None,
+};
+
+/// So many inputs, in so many turns.
+fn plan(until: u32, turns: u32) -> ViewPlan {
+    ViewPlan {
+        until,
+        turns,
+        join: None,
+        give: None,
+    }
+}
 
 /// The addresses of the viewers, and one of no node.
 const FIRST: u16 = HOST + 1;
@@ -33,6 +49,7 @@ fn after<T>(items: &[T], turns: usize) -> &[T] {
 /// A host and the viewers of a job, at the ends of a cable, and what viewers print.
 #[derive(Drop)]
 struct Nodes<'a> {
+    alloc: Global,
     cable: &'a RefCell<Cable>,
     job: &'static Job,
     host: Host,
@@ -46,7 +63,7 @@ impl<'a> Nodes<'a> {
     fn host_on(&mut self) {
         let clocks = after(self.job.clocks, self.turn);
         let mut port = End::new(self.cable, HOST);
-        let _ended = host_run(&mut self.host, clocks, 1, &mut port);
+        let _ended = host_run(&mut self.host, clocks, &ALL, 1, &mut port);
     }
 
     /// The next turn of a viewer, unless it came to its end.
@@ -61,7 +78,9 @@ impl<'a> Nodes<'a> {
         if viewer.applied() < until {
             let points = after(points, self.turn);
             let mut port = End::new(self.cable, FIRST + u16::from(who));
-            let _ended = view_run(viewer, points, until, 1, HOST, &mut port, &mut self.printed);
+            let plan = plan(until, 1);
+            let out = &mut self.printed;
+            let _ended = view_run(self.alloc, viewer, points, &plan, HOST, &mut port, out);
         }
     }
 
@@ -115,7 +134,7 @@ fn hosts(alloc: Global, bytes: &[u8], port: &mut Between<'_>) -> bool {
     let Ok(job) = shared_job(alloc, bytes, &order) else {
         return false;
     };
-    let answer = host_job(alloc, &job, 2, TURNS, port);
+    let answer = host_job(alloc, &job, 2, &ALL, TURNS, port);
     drop(job);
     answer == Ok(())
 }
@@ -135,7 +154,7 @@ fn views(alloc: Global, bytes: &[u8], who: u8, port: &mut Between<'_>) -> bool
     let Ok(mut seat) = seated_job(alloc, bytes, &order, who, 1) else {
         return false;
     };
-    let answer = view_job(alloc, &mut seat, HOST, until, TURNS, port);
+    let answer = view_job(alloc, &mut seat, HOST, &plan(until, TURNS), port);
     drop(seat);
     match answer {
         Ok(text) => port
@@ -188,6 +207,7 @@ impl Turns {
             address: self.2,
             end: End::new(cable, self.2),
             others: Nodes {
+                alloc,
                 cable,
                 job: self.0,
                 host: Host::new(alloc, joint.mark, 2),

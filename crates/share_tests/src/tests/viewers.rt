@@ -5,6 +5,7 @@ mod damaged;
 mod gathering;
 mod given;
 mod hosting;
+mod joins;
 mod memory;
 mod ports;
 mod snapshots;

@@ -8,7 +8,9 @@ use super::hosting::{begin, offer_packet};
 use script_boxes::StockScript;
 use share_core::{Host, Viewer};
 use share_port::{Bytes, Datagram, FakePort, Port};
-use share_turns::{SeriesFault, TurnFault, agree, host_run, host_turn, view_run, viewer_turn};
+use share_turns::{
+    HostPlan, SeriesFault, TurnFault, ViewPlan, agree, host_run, host_turn, view_run, viewer_turn,
+};
 use share_wire::Packet;
 use std::alloc::Global;
 use std::cell::Cell;
@@ -48,7 +50,7 @@ fn turn_fault(answer: Result<(), SeriesFault>) -> Option<TurnFault> {
     match answer {
         Ok(()) => None,
         Err(SeriesFault::Turn(fault)) => Some(fault),
-        Err(SeriesFault::TurnsUsedUp) => Some(TurnFault::Spoiled),
+        Err(SeriesFault::TurnsUsedUp | SeriesFault::Join(_)) => Some(TurnFault::Spoiled),
     }
 }
 
@@ -60,10 +62,16 @@ enum HostCall {
     Run,
 }
 
+/// All inputs are kept, and all turns are taken.
+const ALL: HostPlan = HostPlan {
+    keep: None,
+    until: None,
+};
+
 fn take_turn(host: &mut Host, call: HostCall, port: &mut FakePort) -> Option<TurnFault> {
     match call {
         HostCall::Turn(clock) => host_turn(host, clock, port).err(),
-        HostCall::Run => host_run(host, &[1_000_000], 1, port).err(),
+        HostCall::Run => turn_fault(host_run(host, &[1_000_000], &ALL, 1, port)),
     }
 }
 
@@ -117,14 +125,23 @@ fn turns_of_a_host_are_refused_until_there_is_enough(rt: HostRuntime) {
 #[derive(Clone, Copy)]
 struct ViewerTurns<'a>(bool, &'a [u8], &'a Cell<u32>);
 
+/// One input in one turn.
+const ONE: ViewPlan = ViewPlan {
+    until: 1,
+    turns: 1,
+    join: None,
+    give: None,
+};
+
 fn view_turn(
+    alloc: Global,
     viewer: &mut Viewer<StockScript>,
     is_run: bool,
     port: &mut FakePort,
     out: &mut Vec<u8>,
 ) -> Option<TurnFault> {
     if is_run {
-        turn_fault(view_run(viewer, &[POINT], 1, 1, HOST, port, out))
+        turn_fault(view_run(alloc, viewer, &[POINT], &ONE, HOST, port, out))
     } else {
         viewer_turn(viewer, Some(POINT), HOST, port).err()
     }
@@ -152,7 +169,7 @@ impl<'a> Spared<Viewer<StockScript>> for ViewerTurns<'a> {
         let mut port = port_with(alloc, clock_packet(1));
         let mut out = Vec::new(alloc);
         memory.run_short();
-        let answer = view_turn(viewer, self.0, &mut port, &mut out);
+        let answer = view_turn(alloc, viewer, self.0, &mut port, &mut out);
         memory.come_back();
         let failures = port.failures();
         let printed = !out.is_empty();
