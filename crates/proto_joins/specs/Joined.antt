@@ -9,13 +9,13 @@ use Rattle.flat_meaning.specs.Names.{Name}
 use Rattle.proto_joins.specs.declared.joined.JoinedEnds.{JoinedEnds}
 use Rattle.proto_routes.specs.declared.ends.Ends.{Ends}
 use Rattle.proto_routes.specs.Ends.{end, list}
+use Rattle.proto_routes.specs.Routes.{ends_at}
 
 abbrev pub meant : Ends → List FlatEnd
 meant ends = map end (list ends)
 
 abbrev pub owned : {A : Type 0} → Option (Rc Ends A) → List FlatEnd
-owned None = []
-owned (Some ends) = meant ends.value
+owned ends = ends_at ends
 
 abbrev pub borrowed : {A : Type 0} → Option (Bor (Rc Ends A)) → List FlatEnd
 borrowed ends = owned (option_map (λ e. e.now) ends)
