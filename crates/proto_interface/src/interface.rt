@@ -68,7 +68,11 @@ impl<'a> Tables<'a> {
         }
     }
 
-    fn add(&mut self, declaration: &'a Declaration<NodeText>, number: usize) -> Result<(), AllocError>
+    fn add(
+        &mut self,
+        declaration: &'a Declaration<NodeText>,
+        number: usize,
+    ) -> Result<(), AllocError>
         ensures { (fs : List Field) → number ≡ length fs → Reads self.old fs
             → IfOk result (λ _. Reads self.new (fs ++ field declaration.now ∷ [])) }
     {

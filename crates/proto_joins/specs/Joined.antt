@@ -1,5 +1,5 @@
 -- The ends of the fields of an interface, as the definition sees them.
-use Rattle.std.specs.Prelude.{if◌then◌else◌, List, [], ◌++◌, map, Option, None, Some, option_map}
+use Rattle.std.specs.Prelude.{if◌then◌else◌, List, [], ◌++◌, map, Option, option_map}
 use Rattle.std.specs.Borrow.{Bor}
 use Rattle.std.specs.Str.{bytes_eq}
 use Rattle.std.specs.declared.rc.Rc.{Rc}

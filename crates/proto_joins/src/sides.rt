@@ -161,8 +161,16 @@ fn wire<'a>(
     ensures { IfOk result (λ wire. routes_of_wire wire
         ≡ pending_routes pending.entry (map braces_of braces.now)) }
 {
-    let source = sources(alloc, standing(braces, pending.source.at), pending.source.field)?;
-    let target = targets(alloc, standing(braces, pending.target.at), pending.target.field)?;
+    let source = sources(
+        alloc,
+        standing(braces, pending.source.at),
+        pending.source.field,
+    )?;
+    let target = targets(
+        alloc,
+        standing(braces, pending.target.at),
+        pending.target.field,
+    )?;
     Ok(Wire {
         line: pending.line,
         source,

@@ -1,6 +1,6 @@
 //! A name scope, and each step that changes it.
 
-ghost use Rattle.std.specs.Prelude.{◌≡◌, ◌++◌, ◌∷◌, [], ℕ, true, None, Some, length, map, option_map, slice_get, slice_set, IfOk};
+ghost use Rattle.std.specs.Prelude.{◌≡◌, ◌++◌, ◌∷◌, [], true, None, Some, length, option_map, slice_get, IfOk};
 ghost use Rattle.std.specs.List.{find};
 ghost use Rattle.std.specs.Str.{bytes_eq};
 ghost use Rattle.flat_meaning.specs.Names as meaning;
@@ -17,8 +17,10 @@ ghost use Rattle.proto_scope.specs.Held.{Sound, shown};
 use classic_tree::{Place, RawValue, RouteText};
 use proto_given::Given;
 use proto_interface::{Interface, KnownField};
-use proto_joins::{Braces, InstanceEnds, Join, JoinedEnds, Pending, RoutePart, Side, Stands};
-use proto_joins::{joined_ends, routes_made};
+use proto_joins::{
+    Braces, InstanceEnds, Join, JoinedEnds, Pending, RoutePart, Side, Stands, joined_ends,
+    routes_made,
+};
 use proto_names::Names;
 use proto_routes::{Kept, Wires};
 use std::alloc::{AllocError, Global};
@@ -242,7 +244,11 @@ impl<'a> Scope<'a> {
     }
 
     /// The ROUTEs of the scope, once all braces are closed.
-    pub fn wires(&self, alloc: Global, kept: &mut Kept<'a>) -> Result<Option<Rc<Wires<'a>>>, AllocError>
+    pub fn wires(
+        &self,
+        alloc: Global,
+        kept: &mut Kept<'a>,
+    ) -> Result<Option<Rc<Wires<'a>>>, AllocError>
         ensures { IfOk result (λ made. made_routes made
             ≡ (shown self.now).routes (shown self.now).braces) }
     {
