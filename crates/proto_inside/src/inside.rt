@@ -1,9 +1,8 @@
 //! The fields between braces, by name and in the order of the text.
 
-ghost use Rattle.std.specs.Prelude.{◌≡◌, ℕ, ◌+◌, ◌++◌, ◌∷◌, [], List, false, length, map, option_map, IfOk};
+ghost use Rattle.std.specs.Prelude.{◌≡◌, ◌+◌, ◌++◌, ◌∷◌, [], false, length, option_map, IfOk};
 ghost use Rattle.flat_meaning.specs.Flat as meaning;
 ghost use Rattle.flat_meaning.specs.Flat.{field, numbered_from};
-ghost use Rattle.flat_meaning.specs.Names.{Field, Filled};
 ghost use Rattle.proto_given.specs.Held as given;
 ghost use Rattle.proto_interface.specs.Fields.{known, numbered};
 ghost use Rattle.proto_inside.specs.Held.{Sound, fields_in, filled_in, fields_of_owner};
@@ -105,12 +104,16 @@ impl<'a> Inside<'a> {
     }
 
     /// A Script declares a field, behind those that it has. Gives it with its number.
-    pub fn declare(&mut self, declaration: &'a Declaration<NodeText>) -> Result<KnownField, AllocError>
+    pub fn declare(
+        &mut self,
+        declaration: &'a Declaration<NodeText>,
+    ) -> Result<KnownField, AllocError>
         requires { Sound self.old }
         ensures fields { IfOk result (λ _.
             fields_in self.new ≡ fields_in self.old ++ field declaration.now ∷ []) }
         ensures known { IfOk result (λ k. k ≡ known (length (fields_in self.old)) declaration.now) }
         ensures filled { filled_in self.new ≡ filled_in self.old }
+        ensures owner { self.new.owner ≡ self.old.owner }
         ensures sound { IfOk result (λ _. Sound self.new) }
     {
         let Some(number) = owner_count(self.owner).checked_add(self.declared.len()) else {
@@ -133,6 +136,7 @@ impl<'a> Inside<'a> {
         ensures filled { IfOk result (λ _.
             filled_in self.new ≡ filled_in self.old ++ given.filled_of name.now field ∷ []) }
         ensures fields { fields_in self.new ≡ fields_in self.old }
+        ensures owner { self.new.owner ≡ self.old.owner }
         ensures sound { IfOk result (λ _. Sound self.new) }
     {
         self.given.fill(name, field)
