@@ -37,3 +37,7 @@ pub record Holds (given : Given) (filled : List Filled) : Type 0 where
   pub list : shown given ≡ filled
   pub has : (name : Name) → is_some (entry_of given name) ≡ has_name name filled
   pub value : (name : Name) → value_held (entry_of given name) ≡ value_of name filled
+
+-- the table is that of its own fields
+abbrev pub IsHeld : Given → Type 0
+IsHeld given = Holds given (shown given)

@@ -1,15 +1,17 @@
 -- One IS more.
-use Rattle.std.proofs.Common.{◌≡◌, Bool, true, false, if◌then◌else◌, List, [], ◌∷◌, ◌++◌, map, Option, Some, Result, Ok, Err, refl, ap, sym, ◌∙◌}
-use Rattle.std.specs.Prelude.{IfOk}
+use Rattle.std.proofs.Common.{◌≡◌, ℕ, ◌+◌, Bool, true, false, if◌then◌else◌, List, [], ◌∷◌, ◌++◌, length, map, Option, None, Some, Result, Ok, Err, refl, ap, sym, ◌∙◌}
+use Rattle.std.specs.Prelude.{◌<◌, IfOk, get_or, take}
 use Rattle.std.specs.Str.{bytes_eq}
 use Rattle.std.specs.declared.rc.Rc.{Rc}
 use Rattle.std.proofs.Math.Path.{fun_ext}
 use Rattle.std.proofs.lemmas.Grind.{flat_map-append}
-use Rattle.std.proofs.lemmas.List.{append-nil, map-append}
+use Rattle.std.proofs.lemmas.List.{append-nil, map-append, take_more}
 use Rattle.std.proofs.lemmas.Slice.Eq.{bytes_eq-Decides}
+use Rattle.x3d_values.specs.declared.field_type.Access.{Access}
 use Rattle.flat_document.specs.declared.flat.FlatEnd.{FlatEnd}
+use Rattle.flat_document.specs.declared.flat.FlatEnd.TheVariants.{NoField, WrongWay}
 use Rattle.flat_meaning.specs.Names as meaning
-use Rattle.flat_meaning.specs.Names.{Name}
+use Rattle.flat_meaning.specs.Names.{Name, ends_by}
 use Rattle.proto_routes.specs.declared.ends.Ends.{Ends}
 use Rattle.proto_routes.specs.Ends.{end, list}
 use Rattle.proto_joins.specs.declared.joins.Join.{Join}
@@ -48,3 +50,26 @@ pub one-more : (joins : List Join) (j : Join) (all : List meaning.Braces) → wi
 one-more joins j all =
     fun_ext (λ name. sym (flat_map-append (λ (k : Join). if bytes_eq k.outer.now name then ends_behind all k else []) joins (j ∷ [])
     ∙ ap (λ es. joins_ends joins all name ++ es) (append-nil (if bytes_eq j.outer.now name then ends_behind all j else []))))
+
+-- the next IS of a list
+pub joined-next : (js : List Join) (i : ℕ) (j : Join) (all : List meaning.Braces) (old new : Name → List FlatEnd) (more : List FlatEnd) → i < length js → j ≡ get_or js i j →
+    old ≡ joins_ends (take i js) all → more ≡ ends_behind all j → new ≡ with_more j.outer.now more old → new ≡ joins_ends (take (i + 1) js) all
+joined-next js i j all old new more within at was found is =
+    is ∙ ap (λ es. with_more j.outer.now es old) found ∙ ap (with_more j.outer.now (ends_behind all j)) was ∙ one-more (take i js) j all
+    ∙ ap (λ ks. joins_ends ks all) (sym (take_more js i j within ∙ ap (λ k. take i js ++ k ∷ []) (sym at)))
+
+-- ---- ends of a ROUTE
+
+-- a good answer by another that is the same
+pub owned-same : {A E : Type 0} (r : Result (Option (Rc Ends A)) E) (x y : List FlatEnd) → x ≡ y → IfOk r (λ e. owned e ≡ x) → IfOk r (λ e. owned e ≡ y)
+owned-same (Ok e) x y is h = h ∙ is
+owned-same (Err e) x y is h = h
+
+pub named-none : (allowed : Access → Bool) (s : meaning.Stands) (o : Option meaning.Field) → None ≡ o → NoField ∷ [] ≡ ends_by allowed s o
+named-none allowed s o is = ap (ends_by allowed s) is
+
+pub named-way : (allowed : Access → Bool) (s : meaning.Stands) (f : meaning.Field) (o : Option meaning.Field) → Some f ≡ o → allowed f.access ≡ true → s.ends f.name ≡ ends_by allowed s o
+named-way allowed s f o is way = ap (λ b. if b then s.ends f.name else WrongWay ∷ []) (sym way) ∙ ap (ends_by allowed s) is
+
+pub named-wrong : (allowed : Access → Bool) (s : meaning.Stands) (f : meaning.Field) (o : Option meaning.Field) → Some f ≡ o → allowed f.access ≡ false → WrongWay ∷ [] ≡ ends_by allowed s o
+named-wrong allowed s f o is way = ap (λ b. if b then s.ends f.name else WrongWay ∷ []) (sym way) ∙ ap (ends_by allowed s) is

@@ -1,5 +1,5 @@
 -- The ends of the fields of an interface, as the definition sees them.
-use Rattle.std.specs.Prelude.{if◌then◌else◌, List, [], ◌++◌, map, Option, None, Some, option_map}
+use Rattle.std.specs.Prelude.{if◌then◌else◌, List, [], ◌++◌, map, Option, option_map}
 use Rattle.std.specs.Borrow.{Bor}
 use Rattle.std.specs.Str.{bytes_eq}
 use Rattle.std.specs.declared.rc.Rc.{Rc}
@@ -9,13 +9,13 @@ use Rattle.flat_meaning.specs.Names.{Name}
 use Rattle.proto_joins.specs.declared.joined.JoinedEnds.{JoinedEnds}
 use Rattle.proto_routes.specs.declared.ends.Ends.{Ends}
 use Rattle.proto_routes.specs.Ends.{end, list}
+use Rattle.proto_routes.specs.Routes.{ends_at}
 
 abbrev pub meant : Ends → List FlatEnd
 meant ends = map end (list ends)
 
 abbrev pub owned : {A : Type 0} → Option (Rc Ends A) → List FlatEnd
-owned None = []
-owned (Some ends) = meant ends.value
+owned ends = ends_at ends
 
 abbrev pub borrowed : {A : Type 0} → Option (Bor (Rc Ends A)) → List FlatEnd
 borrowed ends = owned (option_map (λ e. e.now) ends)

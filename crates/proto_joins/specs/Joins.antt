@@ -1,5 +1,5 @@
 -- Braces of a scope, and what ISs join, as the definition sees them.
-use Rattle.std.specs.Prelude.{ℕ, if◌then◌else◌, List, [], ◌∷◌, map, Option, None, Some, option_map}
+use Rattle.std.specs.Prelude.{ℕ, if◌then◌else◌, List, [], ◌∷◌, Option, None, Some, option_map}
 use Rattle.std.specs.List.{flat_map}
 use Rattle.std.specs.Option.{option_map_or}
 use Rattle.std.specs.Str.{bytes_eq}
@@ -8,21 +8,23 @@ use Rattle.flat_document.specs.declared.flat.FlatEnd.{FlatEnd}
 use Rattle.flat_document.specs.declared.flat.FlatEnd.TheVariants.{At}
 use Rattle.flat_meaning.specs.Names as meaning
 use Rattle.flat_meaning.specs.Names.{Name, stands_at}
-use Rattle.flat_meaning.specs.Flat.{field}
 use Rattle.proto_joins.specs.declared.joins.Braces.{Braces}
 use Rattle.proto_joins.specs.declared.joins.InstanceEnds.{InstanceEnds}
 use Rattle.proto_joins.specs.declared.joins.Join.{Join}
 use Rattle.proto_joins.specs.declared.joins.Stands.{Stands}
 use Rattle.proto_joins.specs.Joined.{ends_in}
 
-abbrev pub stands_by : {A : Type 0} → ℕ → Option (Rc InstanceEnds A) → meaning.Stands
-stands_by node None = record { node = node; interface = None; ends = λ name. At node name ∷ [] }
-stands_by node (Some instance) =
+abbrev pub instance_by : ℕ → InstanceEnds → meaning.Stands
+instance_by node instance =
     record {
       node = node;
-      interface = Some (map field instance.value.interface.now);
-      ends = ends_in instance.value.joined;
+      interface = Some instance.interface.now;
+      ends = ends_in instance.joined;
     }
+
+abbrev pub stands_by : {A : Type 0} → ℕ → Option (Rc InstanceEnds A) → meaning.Stands
+stands_by node None = record { node = node; interface = None; ends = λ name. At node name ∷ [] }
+stands_by node (Some instance) = instance_by node instance.value
 
 abbrev pub stands_of : Stands → meaning.Stands
 stands_of stands = stands_by stands.node stands.instance

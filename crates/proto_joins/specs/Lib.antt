@@ -1,3 +1,4 @@
 pub mod Joined
 pub mod Joins
 pub mod Laws
+pub mod Sides

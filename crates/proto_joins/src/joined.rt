@@ -4,7 +4,7 @@ ghost use Rattle.std.specs.Prelude.{◌≡◌, ◌++◌, [], IfOk};
 ghost use Rattle.proto_joins.specs.Joined.{borrowed, ends_in, meant, owned, with_ends, with_more};
 
 use indexmap::IndexMap;
-use proto_routes::{Ends, both};
+use proto_routes::{Ends, Kept};
 use std::alloc::{AllocError, AllocFailed, Global};
 use std::rc::Rc;
 use x3d_lists::Text;
@@ -28,10 +28,10 @@ impl<'a> JoinedEnds<'a> {
 
     /// The ends of the field of that name; none where nothing is joined to it.
     #[tactic(auto, unfolding(crate::specs::Joined::ends_in))]
-    pub fn get(&self, name: &Text) -> Option<&Rc<Ends<'a>>>
+    pub fn get(&self, name: &str) -> Option<&Rc<Ends<'a>>>
         ensures { borrowed result ≡ ends_in self.now name.now }
     {
-        self.ends.get(name.as_str())
+        self.ends.get(name)
     }
 
     #[tactic(auto, unfolding(crate::specs::Joined::ends_in))]
@@ -51,7 +51,8 @@ impl<'a> JoinedEnds<'a> {
     fn grown(
         &self,
         alloc: Global,
-        name: &Text,
+        kept: &mut Kept<'a>,
+        name: &str,
         more: Rc<Ends<'a>>,
     ) -> Result<Rc<Ends<'a>>, AllocError>
         ensures { IfOk result (λ made. meant made.value
@@ -61,13 +62,14 @@ impl<'a> JoinedEnds<'a> {
             return Ok(more);
         };
         let first = before.clone()?;
-        both(alloc, first, more)
+        kept.both(alloc, first, more)
     }
 
     /// More ends are joined to the field of that name, behind those before, or none.
     pub fn join(
         &mut self,
         alloc: Global,
+        kept: &mut Kept<'a>,
         name: &'a Text,
         more: Option<Rc<Ends<'a>>>,
     ) -> Result<(), AllocError>
@@ -77,7 +79,7 @@ impl<'a> JoinedEnds<'a> {
         let Some(more) = more else {
             return Ok(());
         };
-        let grown = self.grown(alloc, name, more)?;
+        let grown = self.grown(alloc, kept, name.as_str(), more)?;
         self.insert(name, grown)?;
         Ok(())
     }

@@ -5,8 +5,8 @@ ghost use Rattle.proto_joins.specs.Joined.{ends_in, owned};
 ghost use Rattle.proto_joins.specs.Joins.{braces_of, ends_behind, joins_ends, stands_of};
 
 use crate::joined::JoinedEnds;
-use classic_tree::{Declaration, NodeText};
-use proto_routes::{End, Ends, one};
+use proto_interface::Interface;
+use proto_routes::{End, Ends, Kept, one};
 use std::alloc::{AllocError, Global};
 use std::rc::Rc;
 use x3d_lists::Text;
@@ -14,7 +14,7 @@ use x3d_lists::Text;
 /// The interface of an instance, and the ends of its fields.
 #[derive(Drop)]
 pub struct InstanceEnds<'a> {
-    pub interface: &'a [Declaration<NodeText>],
+    pub interface: &'a Interface<'a>,
     pub joined: JoinedEnds<'a>,
 }
 
@@ -42,7 +42,7 @@ pub struct Join<'a> {
 }
 
 /// The ends of a field; none where nothing is joined to it.
-fn field_ends<'a>(
+pub fn field_ends<'a>(
     alloc: Global,
     stands: &Stands<'a>,
     field: &'a Text,
@@ -53,7 +53,7 @@ fn field_ends<'a>(
         let end = one(alloc, End::At(stands.node, field))?;
         return Ok(Some(end));
     };
-    let Some(ends) = instance.joined.get(field) else {
+    let Some(ends) = instance.joined.get(field.as_str()) else {
         return Ok(None);
     };
     Ok(Some(ends.clone()?))
@@ -80,6 +80,7 @@ fn join_ends<'a>(
 /// The ends of the fields of an interface, once all braces of the body are closed.
 pub fn joined_ends<'a>(
     alloc: Global,
+    kept: &mut Kept<'a>,
     braces: &[Braces<'a>],
     joins: &[Join<'a>],
 ) -> Result<JoinedEnds<'a>, AllocError>
@@ -89,7 +90,7 @@ pub fn joined_ends<'a>(
     let mut joined = JoinedEnds::new(alloc);
     for join in joins {
         let ends = join_ends(alloc, braces, *join)?;
-        joined.join(alloc, join.outer, ends)?;
+        joined.join(alloc, kept, join.outer, ends)?;
     }
     Ok(joined)
 }

@@ -4,7 +4,9 @@
 mod joined;
 mod joins;
 mod laws;
+mod sides;
 
 pub use joined::JoinedEnds;
 pub use joins::{Braces, InstanceEnds, Join, Stands, joined_ends};
 pub use laws::joins_grow;
+pub use sides::{Pending, RoutePart, Side, routes_made};

@@ -2,9 +2,11 @@
 #![tactic(auto)]
 
 mod ends;
+mod kept;
 mod routes;
 mod wires;
 
 pub use ends::{End, Ends, both, listed, one};
+pub use kept::Kept;
 pub use routes::Wire;
 pub use wires::{Wires, both_wires, one_wire, routes_of};

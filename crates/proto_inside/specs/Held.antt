@@ -1,0 +1,32 @@
+-- What stands between braces, as flat_meaning has it.
+use Rattle.std.specs.Prelude.{List, ◌++◌, length, map}
+use Rattle.std.specs.Borrow.{Bor}
+use Rattle.classic_tree.specs.declared.tree.Declaration.{Declaration}
+use Rattle.classic_tree.specs.declared.tree.NodeText.{NodeText}
+use Rattle.flat_meaning.specs.Flat as meaning
+use Rattle.flat_meaning.specs.Flat.{field}
+use Rattle.flat_meaning.specs.Names.{Field, Filled}
+use Rattle.proto_given.specs.Held as given
+use Rattle.proto_interface.specs.Fields.{IsNamed}
+use Rattle.proto_inside.specs.declared.inside.Inside.{Inside}
+use Rattle.proto_inside.specs.declared.inside.Owner.{Owner}
+use Rattle.proto_inside.specs.declared.inside.Owner.TheVariants.{Node, Instance}
+
+abbrev pub fields_of_owner : Owner → List Field
+fields_of_owner (Node t) = meaning.fields_of t
+fields_of_owner (Instance interface) = interface.now
+
+abbrev pub declared_fields : List (Bor (Declaration NodeText)) → List Field
+declared_fields ds = map (λ d. field d.now) ds
+
+-- those of the type or the interface, and those that were declared
+abbrev pub fields_in : Inside → List Field
+fields_in i = fields_of_owner i.owner ++ declared_fields i.declared.items
+
+abbrev pub filled_in : Inside → List Filled
+filled_in i = given.shown i.given
+
+-- the tables are those of the declared fields, and of what is given
+pub record Sound (i : Inside) : Type 0 where
+  pub named : IsNamed i.named (length (fields_of_owner i.owner)) (declared_fields i.declared.items)
+  pub given : given.IsHeld i.given

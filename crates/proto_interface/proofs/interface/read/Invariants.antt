@@ -1,0 +1,10 @@
+use Rattle.std.proofs.Common.{◌≡◌, map, take}
+use Rattle.flat_meaning.specs.Flat.{field}
+use Rattle.proto_interface.specs.Fields.{Reads}
+use Rattle.proto_interface.proofs.interface.read.Given as goal
+
+abbrev pub invariant-loop-declaration : goal.invariant-loop-declaration
+invariant-loop-declaration l = record {
+  at : l.number ≡ l.declaration-index;
+  reads : Reads l.tables (map field (take l.declaration-index l.declarations));
+}

@@ -1,0 +1,117 @@
+//! Fields in a table of their names.
+
+ghost use Rattle.std.specs.Prelude.{◌≡◌, ℕ, ◌+◌, ◌++◌, ◌∷◌, [], List, length, not, is_none, IfOk};
+ghost use Rattle.flat_meaning.specs.Names.{Field};
+ghost use Rattle.flat_meaning.specs.Flat.{field};
+ghost use Rattle.proto_interface.specs.Fields.{IsExposed, IsNamed};
+ghost use Rattle.proto_interface.specs.Fields.{added, fields_of, has_name, known, no_fields, with_entry};
+
+use classic_tree::{Declaration, NodeText};
+use indexmap::IndexMap;
+use std::alloc::{AllocError, AllocFailed, Global};
+use x3d_lists::Text;
+use x3d_values::{Access, FieldType};
+
+/// A field that a name means.
+#[derive(Clone, Copy)]
+pub struct KnownField {
+    /// The line of its declaration, 0 for a field of a node type.
+    pub line: u32,
+    /// Its number among the fields that it stands with.
+    pub number: usize,
+    pub access: Access,
+    pub field_type: FieldType,
+}
+
+/// The first field of each name.
+#[derive(Drop)]
+pub struct Fields<'a> {
+    pub table: IndexMap<&'a str, KnownField>,
+}
+
+impl<'a> Fields<'a> {
+    pub fn new(alloc: Global) -> Fields<'a>
+        ensures { fields_of result ≡ no_fields }
+    {
+        Fields {
+            table: IndexMap::new(alloc),
+        }
+    }
+
+    /// The first field of that name.
+    #[tactic(auto, unfolding(crate::specs::Fields::fields_of))]
+    pub fn get(&self, name: &str) -> Option<KnownField>
+        ensures { result ≡ fields_of self.now name.now }
+    {
+        self.table.get(name).copied()
+    }
+
+    fn insert(
+        &mut self,
+        name: &'a Text,
+        field: KnownField,
+    ) -> Result<(), AllocFailed<(&'a str, KnownField)>>
+        ensures { IfOk result (λ _. fields_of self.new
+            ≡ with_entry name.now field (fields_of self.old)) }
+    {
+        self.table.insert(name.as_str(), field)?;
+        Ok(())
+    }
+
+    /// A field of that name stands behind the others. Says whether none of them has it.
+    fn add(&mut self, name: &'a Text, field: KnownField) -> Result<bool, AllocError>
+        ensures fields { IfOk result (λ _. fields_of self.new
+            ≡ added field name.now (fields_of self.old)) }
+        ensures new { IfOk result (λ new. new ≡ is_none (fields_of self.old name.now)) }
+    {
+        if self.get(name.as_str()).is_some() {
+            return Ok(false);
+        }
+        self.insert(name, field)?;
+        Ok(true)
+    }
+}
+
+fn known(declaration: &Declaration<NodeText>, number: usize) -> KnownField
+    ensures { result ≡ known number declaration.now }
+{
+    KnownField {
+        line: declaration.line,
+        number,
+        access: declaration.access,
+        field_type: declaration.field_type,
+    }
+}
+
+/// The declaration stands behind other fields, the first of which has the number `first`. Says
+/// whether none of them has its name.
+pub fn add_named<'a>(
+    named: &mut Fields<'a>,
+    declaration: &'a Declaration<NodeText>,
+    number: usize,
+) -> Result<bool, AllocError>
+    ensures named { (first : ℕ) (fs : List Field) → number ≡ first + length fs
+        → IsNamed named.old first fs → IfOk result (λ _.
+        IsNamed named.new first (fs ++ field declaration.now ∷ [])) }
+    ensures new { (first : ℕ) (fs : List Field) → IsNamed named.old first fs
+        → IfOk result (λ new. new ≡ not (has_name declaration.now.name fs)) }
+{
+    let new = named.add(&declaration.name, known(declaration, number))?;
+    Ok(new)
+}
+
+/// An inputOutput field stands behind the others; another one doesn't.
+pub fn add_exposed<'a>(
+    exposed: &mut Fields<'a>,
+    declaration: &'a Declaration<NodeText>,
+    number: usize,
+) -> Result<(), AllocError>
+    ensures { (fs : List Field) → IsExposed exposed.old fs → IfOk result (λ _.
+        IsExposed exposed.new (fs ++ field declaration.now ∷ [])) }
+{
+    if !declaration.access.is_exposed() {
+        return Ok(());
+    }
+    exposed.add(&declaration.name, known(declaration, number))?;
+    Ok(())
+}

@@ -1,0 +1,82 @@
+//! Fields of an interface by the names that ROUTEs give them.
+
+ghost use Rattle.std.specs.Prelude.{◌≡◌, ◌&&◌, ◌++◌, codes, option_map};
+ghost use Rattle.std.specs.List.{find};
+ghost use Rattle.std.specs.Str.{bytes_eq};
+ghost use Rattle.x3d_values.specs.Access.{is_exposed};
+ghost use Rattle.flat_meaning.specs.Names.{Field, field_by};
+ghost use Rattle.proto_interface.specs.Routed.{routed};
+
+use crate::fields::KnownField;
+use crate::interface::Interface;
+use x3d_lists::Text;
+
+/// The field that a ROUTE names, and the field's own name.
+#[derive(Clone, Copy)]
+pub struct RouteField<'n> {
+    pub name: &'n str,
+    pub field: KnownField,
+}
+
+/// The inputOutput field of the name before `_changed`.
+fn changed_field<'n>(interface: &Interface<'_>, name: &'n str) -> Option<RouteField<'n>>
+    ensures { option_map routed result ≡ find
+        (λ (f : Field). is_exposed f.access && bytes_eq (f.name ++ codes "_changed") name.now)
+        interface.now }
+{
+    let Some(own) = name.strip_suffix("_changed") else {
+        return None;
+    };
+    let Some(field) = interface.exposed(own) else {
+        return None;
+    };
+    Some(RouteField { name: own, field })
+}
+
+/// The inputOutput field of the name behind `set_`.
+fn set_field<'n>(interface: &Interface<'_>, name: &'n str) -> Option<RouteField<'n>>
+    ensures { option_map routed result ≡ find
+        (λ (f : Field). is_exposed f.access && bytes_eq (codes "set_" ++ f.name) name.now)
+        interface.now }
+{
+    let Some(own) = name.strip_prefix("set_") else {
+        return None;
+    };
+    let Some(field) = interface.exposed(own) else {
+        return None;
+    };
+    Some(RouteField { name: own, field })
+}
+
+/// The field of that very name.
+fn own_field<'n>(interface: &Interface<'_>, name: &'n str) -> Option<RouteField<'n>>
+    ensures { option_map routed result
+        ≡ find (λ (f : Field). bytes_eq f.name name.now) interface.now }
+{
+    let Some(field) = interface.known(name) else {
+        return None;
+    };
+    Some(RouteField { name, field })
+}
+
+/// The field that a source names: by its own name or, of an inputOutput field `f`, as `f_changed`.
+pub fn source_field<'n>(interface: &Interface<'_>, name: &'n Text) -> Option<RouteField<'n>>
+    ensures { option_map routed result
+        ≡ field_by (λ name. name ++ codes "_changed") name.now interface.now }
+{
+    match own_field(interface, name.as_str()) {
+        Some(field) => Some(field),
+        None => changed_field(interface, name.as_str()),
+    }
+}
+
+/// The field that a target names: by its own name or, of an inputOutput field `f`, as `set_f`.
+pub fn target_field<'n>(interface: &Interface<'_>, name: &'n Text) -> Option<RouteField<'n>>
+    ensures { option_map routed result
+        ≡ field_by (λ name. codes "set_" ++ name) name.now interface.now }
+{
+    match own_field(interface, name.as_str()) {
+        Some(field) => Some(field),
+        None => set_field(interface, name.as_str()),
+    }
+}

@@ -1,0 +1,73 @@
+//! Parts that are kept until all is done, so that none lets go of a long row of others.
+
+ghost use Rattle.std.specs.Prelude.{◌≡◌, ◌++◌, IfOk};
+ghost use Rattle.proto_routes.specs.Ends.{list};
+ghost use Rattle.proto_routes.specs.Wires.{wires};
+
+use crate::ends::{Ends, both};
+use crate::wires::{Wires, both_wires};
+use std::alloc::{AllocError, Global};
+use std::rc::Rc;
+
+/// The branches that were made. A drop of a branch drops its parts where nobody else has them,
+/// and these theirs: so each branch is kept here until none is needed, and the last goes first.
+#[derive(Drop)]
+pub struct Kept<'a> {
+    pub ends: Vec<Rc<Ends<'a>>>,
+    pub wires: Vec<Rc<Wires<'a>>>,
+}
+
+impl<'a> Kept<'a> {
+    pub fn new(alloc: Global) -> Kept<'a> {
+        Kept {
+            ends: Vec::new(alloc),
+            wires: Vec::new(alloc),
+        }
+    }
+
+    /// The first ends and then the others.
+    pub fn both(
+        &mut self,
+        alloc: Global,
+        first: Rc<Ends<'a>>,
+        second: Rc<Ends<'a>>,
+    ) -> Result<Rc<Ends<'a>>, AllocError>
+        ensures { IfOk result (λ made. list made.value
+            ≡ list first.entry.value ++ list second.entry.value) }
+    {
+        let made = both(alloc, first, second)?;
+        self.ends.push(made.clone()?)?;
+        Ok(made)
+    }
+
+    /// The first ROUTEs and then the others.
+    pub fn both_wires(
+        &mut self,
+        alloc: Global,
+        first: Rc<Wires<'a>>,
+        second: Rc<Wires<'a>>,
+    ) -> Result<Rc<Wires<'a>>, AllocError>
+        ensures { IfOk result (λ made. wires made.value
+            ≡ wires first.entry.value ++ wires second.entry.value) }
+    {
+        let made = both_wires(alloc, first, second)?;
+        self.wires.push(made.clone()?)?;
+        Ok(made)
+    }
+
+    /// Lets go of all, the last first.
+    pub fn let_go(self) {
+        let mut kept = self;
+        for _ in 0..u64::MAX {
+            if kept.wires.pop().is_none() {
+                break;
+            }
+        }
+        for _ in 0..u64::MAX {
+            if kept.ends.pop().is_none() {
+                break;
+            }
+        }
+        drop(kept);
+    }
+}

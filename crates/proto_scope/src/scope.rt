@@ -1,0 +1,257 @@
+//! A name scope, and each step that changes it.
+
+ghost use Rattle.std.specs.Prelude.{◌≡◌, ◌++◌, ◌∷◌, [], true, None, Some, length, option_map, slice_get, IfOk};
+ghost use Rattle.std.specs.List.{find};
+ghost use Rattle.std.specs.Str.{bytes_eq};
+ghost use Rattle.flat_meaning.specs.Names as meaning;
+ghost use Rattle.flat_meaning.specs.Names.{Field, last_from, value_of};
+ghost use Rattle.proto_names.specs.Held.{opened};
+ghost use Rattle.proto_interface.specs.Fields.{field_named};
+ghost use Rattle.proto_given.specs.Held as given;
+ghost use Rattle.proto_joins.specs.Joined.{ends_in};
+ghost use Rattle.proto_joins.specs.Joins.{stands_by};
+ghost use Rattle.proto_joins.specs.Sides.{made_routes};
+ghost use Rattle.proto_scope.specs.Held as spec;
+ghost use Rattle.proto_scope.specs.Held.{Sound, shown};
+
+use classic_tree::{Place, RawValue, RouteText};
+use proto_given::Given;
+use proto_interface::{Interface, KnownField};
+use proto_joins::{
+    Braces, InstanceEnds, Join, JoinedEnds, Pending, RoutePart, Side, Stands, joined_ends,
+    routes_made,
+};
+use proto_names::Names;
+use proto_routes::{Kept, Wires};
+use std::alloc::{AllocError, Global};
+use std::rc::Rc;
+use x3d_lists::Text;
+
+/// A name scope so far: its braces in the order of the text, the names that DEFs give them, what
+/// ISs join, ROUTEs, and what an IS finds.
+#[derive(Drop)]
+pub struct Scope<'a> {
+    pub braces: Vec<Braces<'a>>,
+    pub names: Names<'a>,
+    pub joins: Vec<Join<'a>>,
+    pub routes: Vec<RoutePart<'a>>,
+    /// Of the prototype whose body this is, once the default values are put in.
+    pub interface: Option<&'a Interface<'a>>,
+    /// What the instance is given, or has by default.
+    pub given: Given<'a>,
+}
+
+fn is_same(one: &Option<Text>, other: &Option<Text>) -> bool
+    ensures { result ≡ true → one.now ≡ other.now }
+{
+    match one {
+        None => other.is_none(),
+        Some(one) => match other {
+            None => false,
+            Some(other) => one.as_str() == other.as_str(),
+        },
+    }
+}
+
+impl<'a> Scope<'a> {
+    /// A scope that begins.
+    pub fn new(alloc: Global) -> Scope<'a>
+        ensures shown { shown result ≡ spec.nothing }
+        ensures sound { Sound result }
+    {
+        Scope {
+            braces: Vec::new(alloc),
+            names: Names::new(alloc),
+            joins: Vec::new(alloc),
+            routes: Vec::new(alloc),
+            interface: None,
+            given: Given::new(alloc),
+        }
+    }
+
+    /// Braces open, with the name that DEF gives them. Gives how many of the scope opened before.
+    pub fn open(&mut self, name: &'a Option<Text>) -> Result<usize, AllocError>
+        requires { Sound self.old }
+        ensures at { IfOk result (λ at. at ≡ length (shown self.old).braces) }
+        ensures shown { IfOk result (λ _. shown self.new
+            ≡ record (shown self.old) { braces = (shown self.old).braces ++ opened name.now ∷ [] }) }
+        ensures sound { IfOk result (λ _. Sound self.new) }
+    {
+        let at = self.braces.len();
+        self.names.open(name, at)?;
+        self.braces.push(Braces { name, stands: None })?;
+        Ok(at)
+    }
+
+    /// Whether the braces behind so many are open, and have that name.
+    fn is_open(&self, name: &Option<Text>, at: usize) -> bool
+        ensures { result ≡ true → slice_get (shown self.now).braces at ≡ Some (opened name.now) }
+    {
+        let Some(braces) = self.braces.get(at) else {
+            return false;
+        };
+        if braces.stands.is_some() {
+            return false;
+        }
+        is_same(braces.name, name)
+    }
+
+    fn set(
+        &mut self,
+        name: &'a Option<Text>,
+        at: usize,
+        node: u32,
+        instance: Option<Rc<InstanceEnds<'a>>>,
+    )
+        ensures shown { shown self.new
+            ≡ spec.closed_at at name.now (stands_by node instance.entry) (shown self.old) }
+        ensures names { self.new.names ≡ self.old.names }
+        ensures given { self.new.given ≡ self.old.given }
+    {
+        if at < self.braces.len() {
+            self.braces[at] = Braces {
+                name,
+                stands: Some(Stands { node, instance }),
+            };
+        } else {
+            drop(instance);
+        }
+    }
+
+    /// The braces behind so many others, which opened with that name, close, and stand for the node
+    /// of that number, and for an instance if there is one. Where these aren't open, memory is said
+    /// to be refused.
+    pub fn close(
+        &mut self,
+        name: &'a Option<Text>,
+        at: usize,
+        node: u32,
+        instance: Option<Rc<InstanceEnds<'a>>>,
+    ) -> Result<(), AllocError>
+        requires { Sound self.old }
+        ensures shown { IfOk result (λ _. shown self.new
+            ≡ spec.closed_at at name.now (stands_by node instance.entry) (shown self.old)) }
+        ensures sound { IfOk result (λ _. Sound self.new) }
+    {
+        if !self.is_open(name, at) {
+            return Err(AllocError);
+        }
+        self.names.close(name, at, node)?;
+        self.set(name, at, node, instance);
+        Ok(())
+    }
+
+    /// The node that USE takes.
+    pub fn used(&self, name: &Text) -> Option<u32>
+        requires { Sound self.now }
+        ensures { result ≡ meaning.used name.now (shown self.now).braces }
+    {
+        self.names.used(name)
+    }
+
+    /// The end of a ROUTE names the last braces of that name.
+    fn side(&self, place: &'a Place) -> Side<'a>
+        requires { Sound self.now }
+        ensures at { result.at ≡ last_from 0 place.now.node (shown self.now).braces }
+        ensures field { result.field.now ≡ place.now.field }
+    {
+        Side {
+            at: self.names.named(&place.node),
+            field: &place.field,
+        }
+    }
+
+    /// A ROUTE stands behind the others.
+    pub fn note_route(&mut self, route: &'a RouteText) -> Result<(), AllocError>
+        requires { Sound self.old }
+        ensures shown { IfOk result (λ _. shown self.new ≡ spec.with_route route.now (shown self.old)) }
+        ensures sound { IfOk result (λ _. Sound self.new) }
+    {
+        let source = self.side(&route.source);
+        let target = self.side(&route.target);
+        self.routes.push(RoutePart::Pending(Pending {
+            line: route.line,
+            source,
+            target,
+        }))?;
+        Ok(())
+    }
+
+    /// The ROUTEs of the body of an instance stand behind the others.
+    pub fn add_routes(&mut self, made: Option<Rc<Wires<'a>>>) -> Result<(), AllocError>
+        requires { Sound self.old }
+        ensures shown { IfOk result (λ _. shown self.new
+            ≡ spec.with_routes (made_routes made.entry) (shown self.old)) }
+        ensures sound { IfOk result (λ _. Sound self.new) }
+    {
+        let Some(made) = made else {
+            return Ok(());
+        };
+        self.routes.push(RoutePart::Made(made))?;
+        Ok(())
+    }
+
+    /// An IS joins a field of the braces behind so many others to a field of the interface.
+    pub fn join(&mut self, outer: &'a Text, at: usize, field: &'a Text) -> Result<(), AllocError>
+        requires { Sound self.old }
+        ensures shown { IfOk result (λ _. shown self.new
+            ≡ spec.with_join outer.now at field.now (shown self.old)) }
+        ensures sound { IfOk result (λ _. Sound self.new) }
+    {
+        self.joins.push(Join { outer, at, field })?;
+        Ok(())
+    }
+
+    /// The field of the interface that an IS names.
+    pub fn outer(&self, name: &Text) -> Option<KnownField>
+        ensures { option_map (field_named name.now) result
+            ≡ find (λ (f : Field). bytes_eq f.name name.now) (shown self.now).interface }
+    {
+        match self.interface {
+            None => None,
+            Some(interface) => interface.known(name.as_str()),
+        }
+    }
+
+    /// What an IS of that name hands on.
+    pub fn value(&self, name: &Text) -> Option<&Rc<RawValue<u32>>>
+        requires { Sound self.now }
+        ensures { option_map (λ v. v.now.value) result ≡ value_of name.now (shown self.now).given }
+    {
+        self.given.value(name)
+    }
+
+    /// The default values are put in: ISs find the interface, and what the instance is given.
+    pub fn begin_body(&mut self, interface: &'a Interface<'a>, values: Given<'a>)
+        requires holds { given.IsHeld values }
+        requires sound { Sound self.old }
+        ensures shown { shown self.new ≡ record (shown self.old) {
+          interface = interface.now;
+          given = given.shown values.entry;
+        } }
+        ensures sound { Sound self.new }
+    {
+        self.interface = Some(interface);
+        self.given = values;
+    }
+
+    /// The ends of the interface's fields, once all braces are closed.
+    pub fn ends(&self, alloc: Global, kept: &mut Kept<'a>) -> Result<JoinedEnds<'a>, AllocError>
+        ensures { IfOk result (λ joined. ends_in joined
+            ≡ (shown self.now).ends (shown self.now).braces) }
+    {
+        joined_ends(alloc, kept, self.braces.as_slice(), self.joins.as_slice())
+    }
+
+    /// The ROUTEs of the scope, once all braces are closed.
+    pub fn wires(
+        &self,
+        alloc: Global,
+        kept: &mut Kept<'a>,
+    ) -> Result<Option<Rc<Wires<'a>>>, AllocError>
+        ensures { IfOk result (λ made. made_routes made
+            ≡ (shown self.now).routes (shown self.now).braces) }
+    {
+        routes_made(alloc, kept, self.braces.as_slice(), self.routes.as_slice())
+    }
+}

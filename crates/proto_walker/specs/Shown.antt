@@ -1,0 +1,34 @@
+-- Where a walk stands, as the definition has it.
+use Rattle.std.specs.Prelude.{◌≡◌, ◌⊎◌, [], Result, Ok, Err}
+use Rattle.flat_document.specs.Fault.{memory}
+use Rattle.flat_document.specs.declared.fault.ExpandFault.{ExpandFault}
+use Rattle.flat_meaning.specs.Flat.{begin}
+use Rattle.flat_meaning.specs.Sight.{no_names}
+use Rattle.proto_limits.specs.Settled.{State, full}
+use Rattle.proto_put.specs.Held as put
+use Rattle.proto_scope.specs.Held as scope
+use Rattle.proto_walker.specs.declared.walker.Walker.{Walker}
+
+-- no prototype is looked up by its name: what is in sight stays as it was
+abbrev pub shown : Walker → State
+shown w =
+    record {
+      room = w.room;
+      walk = record {
+        put = put.shown w.put;
+        sight = record { here = []; outside = []; taken = no_names };
+        scope = scope.shown w.scope;
+      };
+    }
+
+abbrev pub before : State
+before = record { room = full; walk = begin [] (record { nodes = []; helpers = [] }) }
+
+abbrev pub Sound : Walker → Type 0
+Sound w = scope.Sound w.scope
+
+-- a step did what the definition does, or memory was refused
+abbrev pub Steps : {A X : Type 0} → (A → X) → Result (X × State) ExpandFault
+    → Result A ExpandFault → Walker → Type 0
+Steps view outcome (Ok a) new = (outcome ≡ Ok (view a, shown new)) × Sound new
+Steps view outcome (Err e) new = (e ≡ memory) ⊎ (outcome ≡ Err e)

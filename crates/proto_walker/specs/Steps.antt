@@ -1,0 +1,27 @@
+-- Steps of flat_meaning that stand inside others there.
+use Rattle.std.specs.Prelude.{ℕ, [], ◌∷◌, ◌++◌, length, Option, None}
+use Rattle.std.specs.Option.{option_map_or}
+use Rattle.flat_document.specs.declared.fault.ExpandFaultKind.TheVariants.{UseWithoutDef}
+use Rattle.flat_meaning.specs.Limits.{AnItem}
+use Rattle.flat_meaning.specs.Names.{Name, used}
+use Rattle.proto_scope.specs.Held.{with_join}
+use Rattle.flat_meaning.specs.Flat.{Does, ◌>>=◌, pure, refuse, meet, note}
+
+-- the node of that name
+abbrev pub named_node : ℕ → Name → Does ℕ
+named_node line name = λ w. option_map_or pure (used name w.scope.braces) (refuse UseWithoutDef line) w
+
+-- USE, as `node_step` has it
+abbrev pub using : ℕ → Name → Does ℕ
+using line name = meet AnItem >>= λ _. named_node line name
+
+-- braces open, as `inside` has it
+abbrev pub opening : Option Name → Does ℕ
+opening name =
+    λ w. note (length w.scope.braces) (λ s. record s {
+      braces = s.braces ++ record { name = name; stands = None } ∷ [];
+    }) w
+
+-- an IS joins a field, as `join` has it
+abbrev pub joining : Name → ℕ → Name → Does (Unit {0})
+joining outer at field = note (tt {0}) (with_join outer at field)

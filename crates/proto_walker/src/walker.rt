@@ -1,0 +1,35 @@
+//! Where a walk stands.
+
+ghost use Rattle.std.specs.Prelude.{◌≡◌};
+ghost use Rattle.proto_walker.specs.Shown.{Sound, before, shown};
+
+use proto_limits::Room;
+use proto_put::PutIn;
+use proto_routes::Kept;
+use proto_scope::Scope;
+use std::alloc::Global;
+
+/// Where a walk stands: how much more may be met, what was put in, the scope that is open, and the
+/// branches that were made.
+#[derive(Drop)]
+pub struct Walker<'a> {
+    pub room: Room,
+    pub put: PutIn<'a>,
+    pub scope: Scope<'a>,
+    pub kept: Kept<'a>,
+}
+
+impl<'a> Walker<'a> {
+    /// Before a document.
+    pub fn new(alloc: Global) -> Walker<'a>
+        ensures shown { shown result ≡ before }
+        ensures sound { Sound result }
+    {
+        Walker {
+            room: Room::new(),
+            put: PutIn::new(alloc),
+            scope: Scope::new(alloc),
+            kept: Kept::new(alloc),
+        }
+    }
+}
