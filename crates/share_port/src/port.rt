@@ -59,6 +59,5 @@ pub trait Port {
     fn rest(&mut self, _is_new: bool)
         ensures told { told self.new ≡ told self.old }
         ensures count { failure_count self.new ≡ failure_count self.old }
-    {
-    }
+    {}
 }
