@@ -9,16 +9,16 @@ use Rattle.share_words.specs.declared.order.OrderFault.{OrderFault}
 use Rattle.share_words.specs.declared.order.OrderFault.TheVariants as fault
 use Rattle.share_words.specs.Commands.{program, local_program, single_program, bare_program}
 use Rattle.share_words.specs.Commands.{run_app, format_app, check_app, rehearse_app, agree_app, host_app}
-use Rattle.share_words.specs.Commands.{seat_app, view_app}
+use Rattle.share_words.specs.Commands.{view_app}
 use Rattle.share_words.specs.Request.{RequestsNothing}
 use Rattle.share_words.specs.Words.{Asks, Means, IsText, IsRefusal, AsksForText, AsksOnlyForText}
 
 program_is_simple : is_simple_and_free program ≡ true
-unfolding program local_program single_program bare_program run_app format_app check_app rehearse_app agree_app host_app seat_app view_app
+unfolding program local_program single_program bare_program run_app format_app check_app rehearse_app agree_app host_app view_app
 program_is_simple = refl
 
 program_is_plain : is_simple program ≡ true
-unfolding program local_program single_program bare_program run_app format_app check_app rehearse_app agree_app host_app seat_app view_app
+unfolding program local_program single_program bare_program run_app format_app check_app rehearse_app agree_app host_app view_app
 program_is_plain = refl
 
 -- words that are taken mean what their command asks for

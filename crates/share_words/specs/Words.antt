@@ -1,14 +1,21 @@
 -- What the command words mean, by what `clap` makes of them.
-use Rattle.std.specs.Prelude.{◌≡◌, ◌≢◌, ◌⊎◌, ◌≤◌, ℕ, List, [], ◌∷◌, Some, codes, ⊤, IsSomeAnd}
+use Rattle.std.specs.Prelude.{◌≡◌, ◌≢◌, ◌⊎◌, ◌≤◌, ℕ, Bool, List, [], ◌∷◌, Option, Some, None, codes, ⊤}
+use Rattle.std.specs.Prelude.{IsSomeAnd, IfSome, false}
+use Rattle.std.specs.Option.{option_map_or}
+use Rattle.std.specs.Str.{bytes_eq}
 use Rattle.std.specs.Str.Parse.{IsNumeral, digits_value, without_leading_plus}
 use Rattle.clap.specs.Words.{Row, Text, one_of, subcommand_of, fault_of, IsAmong}
 use Rattle.clap.specs.declared.error.kind.ErrorKind.{ErrorKind}
 use Rattle.clap.specs.declared.error.kind.ErrorKind.TheVariants as kind
 use Rattle.share_words.specs.Commands.{program}
+use Rattle.share_words.specs.declared.order.HostOrder.{HostOrder}
 use Rattle.share_words.specs.declared.order.Order.{Order}
 use Rattle.share_words.specs.declared.order.Order.TheVariants.{Run, Format, Check, Rehearse, Agree, Host, View}
 use Rattle.share_words.specs.declared.order.OrderFault.{OrderFault}
 use Rattle.share_words.specs.declared.order.OrderFault.TheVariants.{Words, Memory}
+use Rattle.share_words.specs.declared.order.ViewEnd.{ViewEnd}
+use Rattle.share_words.specs.declared.order.ViewEnd.TheVariants.{Until, Exactly}
+use Rattle.share_words.specs.declared.order.ViewOrder.{ViewOrder}
 use Rattle.std.specs.declared.io.ErrorKind.{ErrorKind as IoErrorKind}
 use Rattle.std.specs.declared.io.ErrorKind.TheVariants.{OutOfMemory}
 
@@ -25,6 +32,19 @@ pub record HasNumberIn (id : Text) (rows : List Row) (low high n : ℕ) : Type 0
   pub low_end : low ≤ n
   pub high_end : n ≤ high
 
+-- the option of this name was not given, and has no default
+abbrev pub IsLeftOut : Text → List Row → Type 0
+IsLeftOut id rows = one_of id rows ≡ None
+
+-- a number of this option, from low to high, or none where it was left out
+abbrev pub MayHaveNumberIn : (id : Text) → List Row → (low high : ℕ) → Option ℕ → Type 0
+MayHaveNumberIn id rows low high (Some n) = HasNumberIn id rows low high n
+MayHaveNumberIn id rows low high None = IsLeftOut id rows
+
+-- whether the option of this name was given, which takes no value: `clap` has it as a text
+abbrev pub is_given : Text → List Row → Bool
+is_given id rows = option_map_or (λ text. bytes_eq text (codes "true")) (one_of id rows) false
+
 abbrev pub IsViewers : List Row → ℕ → Type 0
 IsViewers rows viewers = HasNumberIn (codes "viewers") rows 1 16 viewers
 
@@ -40,8 +60,52 @@ IsWho rows who = HasNumberIn (codes "who") rows 0 15 who
 abbrev pub IsBoot : List Row → ℕ → Type 0
 IsBoot rows boot = HasNumberIn (codes "boot") rows 1 4294967295 boot
 
-abbrev pub IsUntil : List Row → ℕ → Type 0
-IsUntil rows until = HasNumberIn (codes "until") rows 0 1048576 until
+abbrev pub MayHaveKeep : List Row → Option ℕ → Type 0
+MayHaveKeep rows keep = MayHaveNumberIn (codes "keep") rows 0 1048576 keep
+
+abbrev pub MayHaveUntil : List Row → Option ℕ → Type 0
+MayHaveUntil rows until = MayHaveNumberIn (codes "until") rows 0 1048576 until
+
+abbrev pub MayHaveExactly : List Row → Option ℕ → Type 0
+MayHaveExactly rows exactly = MayHaveNumberIn (codes "exactly") rows 0 1048576 exactly
+
+abbrev pub MayHaveAt : List Row → Option ℕ → Type 0
+MayHaveAt rows at = MayHaveNumberIn (codes "at") rows 1 65535 at
+
+abbrev pub MayHaveGive : List Row → Option ℕ → Type 0
+MayHaveGive rows give = MayHaveNumberIn (codes "give") rows 1 65535 give
+
+-- of `--until` and `--exactly` one was given, which says when a viewer ends
+abbrev pub IsEnd : List Row → ViewEnd → Type 0
+IsEnd rows (Until n) = MayHaveUntil rows (Some n) × MayHaveExactly rows None
+IsEnd rows (Exactly n) = MayHaveUntil rows None × MayHaveExactly rows (Some n)
+
+-- the end that the numbers of the two options ask for, if one of them was left out and one was given
+abbrev pub end_of : (until exactly : Option ℕ) → Option ViewEnd
+end_of (Some n) None = Some (Until n)
+end_of None (Some n) = Some (Exactly n)
+end_of _ _ = None
+
+-- the matches of `host` ask for this
+pub record AsksHost (rows : List Row) (o : HostOrder) : Type 0 where
+  pub port : IsPort rows o.port
+  pub viewers : IsViewers rows o.viewers
+  pub until : MayHaveUntil rows o.until
+  pub keep : MayHaveKeep rows o.keep
+  pub turns : IsTurns rows o.turns
+  pub verbose : o.verbose ≡ is_given (codes "verbose") rows
+
+-- the matches of `view` ask for this
+pub record AsksView (rows : List Row) (o : ViewOrder) : Type 0 where
+  pub port : IsPort rows o.port
+  pub who : IsWho rows o.who
+  pub boot : IsBoot rows o.boot
+  pub end : IsEnd rows o.end
+  pub turns : IsTurns rows o.turns
+  pub at : MayHaveAt rows o.at
+  pub give : MayHaveGive rows o.give
+  pub join : o.join ≡ is_given (codes "join") rows
+  pub verbose : o.verbose ≡ is_given (codes "verbose") rows
 
 -- the command of this name with these matches asks for this
 abbrev pub Asks : Order → Text × List Row → Type 0
@@ -51,27 +115,48 @@ Asks Check p = p.0 ≡ codes "check"
 Asks (Rehearse viewers) p = (p.0 ≡ codes "rehearse") × IsViewers p.1 viewers
 Asks (Agree viewers turns) p =
     (p.0 ≡ codes "agree") × IsViewers p.1 viewers × IsTurns p.1 turns
-Asks (Host port viewers turns) p =
-    (p.0 ≡ codes "host") × IsPort p.1 port × IsViewers p.1 viewers × IsTurns p.1 turns
-Asks (View port who boot until turns) p =
-    (p.0 ≡ codes "view")
-    × IsPort p.1 port
-    × IsWho p.1 who
-    × IsBoot p.1 boot
-    × IsUntil p.1 until
-    × IsTurns p.1 turns
+Asks (Host o) p = (p.0 ≡ codes "host") × AsksHost p.1 o
+Asks (View o) p = (p.0 ≡ codes "view") × AsksView p.1 o
 
 -- `clap` takes the words, and the command that they name asks for this
 pub record Means (words : List Text) (order : Order) : Type 0 where
   pub taken : fault_of program words ≡ []
   pub asks : IsSomeAnd (subcommand_of program words) (Asks order)
 
--- the numbers of viewers, of a viewer and of its boot are those that hosts and viewers take
+-- ---- ranges
+
+-- with how many inputs a viewer ends
+abbrev pub end_count : ViewEnd → ℕ
+end_count (Until n) = n
+end_count (Exactly n) = n
+
+-- the numbers of a host are those that it takes
+pub record HostInRange (o : HostOrder) : Type 0 where
+  pub port_low : 1 ≤ o.port
+  pub viewers_low : 1 ≤ o.viewers
+  pub viewers_high : o.viewers ≤ 16
+  pub until_high : IfSome o.until (λ n. n ≤ 1048576)
+  pub keep_high : IfSome o.keep (λ n. n ≤ 1048576)
+  pub turns_low : 1 ≤ o.turns
+  pub turns_high : o.turns ≤ 10000000
+
+-- the numbers of a viewer are those that it takes
+pub record ViewInRange (o : ViewOrder) : Type 0 where
+  pub port_low : 1 ≤ o.port
+  pub who_high : o.who ≤ 15
+  pub boot_low : 1 ≤ o.boot
+  pub end_high : end_count o.end ≤ 1048576
+  pub turns_low : 1 ≤ o.turns
+  pub turns_high : o.turns ≤ 10000000
+  pub at_low : IfSome o.at (λ q. 1 ≤ q)
+  pub give_low : IfSome o.give (λ q. 1 ≤ q)
+
+-- the numbers of an order are those that hosts and viewers take
 abbrev pub IsInRange : Order → Type 0
 IsInRange (Rehearse viewers) = (1 ≤ viewers) × (viewers ≤ 16)
 IsInRange (Agree viewers turns) = (1 ≤ viewers) × (viewers ≤ 16)
-IsInRange (Host port viewers turns) = (1 ≤ viewers) × (viewers ≤ 16)
-IsInRange (View port who boot until turns) = (who ≤ 15) × (1 ≤ boot)
+IsInRange (Host o) = HostInRange o
+IsInRange (View o) = ViewInRange o
 IsInRange _ = ⊤
 
 -- why the process's own words can't be had: memory was refused, or one of them is no text

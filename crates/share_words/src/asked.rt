@@ -1,12 +1,18 @@
 //! What a command with its options asks for.
 
-ghost use Rattle.std.specs.Prelude.{◌≡◌, ℕ, IfSome, IfNone, IsSomeAnd, codes};
+ghost use Rattle.std.specs.Prelude.{◌≡◌, ℕ, Option, IfSome, IfNone, IsSomeAnd, codes};
 ghost use Rattle.clap.specs.Words.{rows_of, found_of, subcommand_rows_of};
-ghost use Rattle.share_words.specs.Words.{Asks, IsViewers, IsTurns, IsPort, IsWho, IsBoot, IsUntil};
+ghost use Rattle.share_words.specs.Words.{Asks, AsksHost, AsksView, IsEnd, end_of};
+ghost use Rattle.share_words.specs.Words.{IsViewers, IsTurns, IsPort, IsWho, IsBoot};
+ghost use Rattle.share_words.specs.Words.{MayHaveAt, MayHaveGive, MayHaveKeep};
+ghost use Rattle.share_words.specs.Words.{MayHaveUntil, MayHaveExactly, MayHaveNumberIn};
+ghost use Rattle.share_words.specs.declared.order.HostOrder.{HostOrder as HostOf};
 ghost use Rattle.share_words.specs.declared.order.Order.{Order as OrderOf};
+ghost use Rattle.share_words.specs.declared.order.ViewEnd.{ViewEnd as EndOf};
+ghost use Rattle.share_words.specs.declared.order.ViewOrder.{ViewOrder as ViewOf};
 
-use crate::numbers::number_in;
-use crate::order::Order;
+use crate::numbers::{is_named, number_in, optional_in};
+use crate::order::{HostOrder, Order, ViewEnd, ViewOrder};
 use clap::ArgMatches;
 
 fn viewers_in(found: &ArgMatches<'_>) -> Option<u8>
@@ -47,11 +53,85 @@ fn boot_in(found: &ArgMatches<'_>) -> Option<u32>
     number_in(found, "boot", 1, u32::MAX)
 }
 
-fn until_in(found: &ArgMatches<'_>) -> Option<u32>
-    ensures some { IfSome result (λ n. IsUntil (rows_of (found_of found.now)) n) }
-    ensures none { IfNone result ((n : ℕ) → ¬ IsUntil (rows_of (found_of found.now)) n) }
+fn keep_in(found: &ArgMatches<'_>) -> Option<Option<u32>>
+    ensures some { IfSome result (λ o. MayHaveKeep (rows_of (found_of found.now)) o) }
+    ensures none { IfNone result
+        ((o : Option ℕ) → ¬ MayHaveKeep (rows_of (found_of found.now)) o) }
 {
-    number_in(found, "until", 0, 1_048_576)
+    optional_in(found, "keep", 0, 1_048_576)
+}
+
+fn until_in(found: &ArgMatches<'_>) -> Option<Option<u32>>
+    ensures some { IfSome result (λ o. MayHaveUntil (rows_of (found_of found.now)) o) }
+    ensures none { IfNone result
+        ((o : Option ℕ) → ¬ MayHaveUntil (rows_of (found_of found.now)) o) }
+{
+    optional_in(found, "until", 0, 1_048_576)
+}
+
+fn exactly_in(found: &ArgMatches<'_>) -> Option<Option<u32>>
+    ensures some { IfSome result (λ o. MayHaveExactly (rows_of (found_of found.now)) o) }
+    ensures none { IfNone result
+        ((o : Option ℕ) → ¬ MayHaveExactly (rows_of (found_of found.now)) o) }
+{
+    optional_in(found, "exactly", 0, 1_048_576)
+}
+
+/// A port of 127.0.0.1 that may be named, 1 to 65,535.
+fn port_or_none(found: &ArgMatches<'_>, id: &str) -> Option<Option<u16>>
+    ensures some { IfSome result
+        (λ o. MayHaveNumberIn id.now (rows_of (found_of found.now)) 1 65535 o) }
+    ensures none { IfNone result ((o : Option ℕ)
+        → ¬ MayHaveNumberIn id.now (rows_of (found_of found.now)) 1 65535 o) }
+{
+    match optional_in(found, id, 1, 65535) {
+        Some(Some(port)) => Some(Some(port as u16)),
+        Some(None) => Some(None),
+        None => None,
+    }
+}
+
+fn at_in(found: &ArgMatches<'_>) -> Option<Option<u16>>
+    ensures some { IfSome result (λ o. MayHaveAt (rows_of (found_of found.now)) o) }
+    ensures none { IfNone result
+        ((o : Option ℕ) → ¬ MayHaveAt (rows_of (found_of found.now)) o) }
+{
+    port_or_none(found, "at")
+}
+
+fn give_in(found: &ArgMatches<'_>) -> Option<Option<u16>>
+    ensures some { IfSome result (λ o. MayHaveGive (rows_of (found_of found.now)) o) }
+    ensures none { IfNone result
+        ((o : Option ℕ) → ¬ MayHaveGive (rows_of (found_of found.now)) o) }
+{
+    port_or_none(found, "give")
+}
+
+/// The end that the numbers of `--until` and `--exactly` ask for.
+fn end_of(until: Option<u32>, exactly: Option<u32>) -> Option<ViewEnd>
+    ensures { result ≡ end_of until exactly }
+{
+    match (until, exactly) {
+        (Some(n), None) => Some(ViewEnd::Until(n)),
+        (None, Some(n)) => Some(ViewEnd::Exactly(n)),
+        (Some(_), Some(_)) => None,
+        (None, None) => None,
+    }
+}
+
+/// The one of `--until` and `--exactly` that was given.
+#[tactic(auto, using(crate::proofs::AskedLemmas::ends))]
+fn end_in(found: &ArgMatches<'_>) -> Option<ViewEnd>
+    ensures some { IfSome result (λ e. IsEnd (rows_of (found_of found.now)) e) }
+    ensures none { IfNone result ((e : EndOf) → ¬ IsEnd (rows_of (found_of found.now)) e) }
+{
+    let Some(until) = until_in(found) else {
+        return None;
+    };
+    let Some(exactly) = exactly_in(found) else {
+        return None;
+    };
+    end_of(until, exactly)
 }
 
 fn rehearse_in(found: &ArgMatches<'_>) -> Option<Order>
@@ -79,10 +159,9 @@ fn agree_in(found: &ArgMatches<'_>) -> Option<Order>
     Some(Order::Agree { viewers, turns })
 }
 
-fn host_in(found: &ArgMatches<'_>) -> Option<Order>
-    ensures some { IfSome result (λ o. Asks o (codes "host", rows_of (found_of found.now))) }
-    ensures none { IfNone result
-        ((o : OrderOf) → ¬ Asks o (codes "host", rows_of (found_of found.now))) }
+fn host_asked(found: &ArgMatches<'_>) -> Option<HostOrder>
+    ensures some { IfSome result (λ o. AsksHost (rows_of (found_of found.now)) o) }
+    ensures none { IfNone result ((o : HostOf) → ¬ AsksHost (rows_of (found_of found.now)) o) }
 {
     let Some(port) = port_in(found) else {
         return None;
@@ -93,17 +172,36 @@ fn host_in(found: &ArgMatches<'_>) -> Option<Order>
     let Some(turns) = turns_in(found) else {
         return None;
     };
-    Some(Order::Host {
+    let Some(keep) = keep_in(found) else {
+        return None;
+    };
+    let Some(until) = until_in(found) else {
+        return None;
+    };
+    Some(HostOrder {
         port,
         viewers,
         turns,
+        keep,
+        until,
+        verbose: is_named(found, "verbose"),
     })
 }
 
-fn view_in(found: &ArgMatches<'_>) -> Option<Order>
-    ensures some { IfSome result (λ o. Asks o (codes "view", rows_of (found_of found.now))) }
+fn host_in(found: &ArgMatches<'_>) -> Option<Order>
+    ensures some { IfSome result (λ o. Asks o (codes "host", rows_of (found_of found.now))) }
     ensures none { IfNone result
-        ((o : OrderOf) → ¬ Asks o (codes "view", rows_of (found_of found.now))) }
+        ((o : OrderOf) → ¬ Asks o (codes "host", rows_of (found_of found.now))) }
+{
+    let Some(asked) = host_asked(found) else {
+        return None;
+    };
+    Some(Order::Host(asked))
+}
+
+fn view_asked(found: &ArgMatches<'_>) -> Option<ViewOrder>
+    ensures some { IfSome result (λ o. AsksView (rows_of (found_of found.now)) o) }
+    ensures none { IfNone result ((o : ViewOf) → ¬ AsksView (rows_of (found_of found.now)) o) }
 {
     let Some(port) = port_in(found) else {
         return None;
@@ -114,19 +212,40 @@ fn view_in(found: &ArgMatches<'_>) -> Option<Order>
     let Some(boot) = boot_in(found) else {
         return None;
     };
-    let Some(until) = until_in(found) else {
+    let Some(end) = end_in(found) else {
         return None;
     };
     let Some(turns) = turns_in(found) else {
         return None;
     };
-    Some(Order::View {
+    let Some(at) = at_in(found) else {
+        return None;
+    };
+    let Some(give) = give_in(found) else {
+        return None;
+    };
+    Some(ViewOrder {
         port,
         who,
         boot,
-        until,
+        end,
         turns,
+        at,
+        give,
+        join: is_named(found, "join"),
+        verbose: is_named(found, "verbose"),
     })
+}
+
+fn view_in(found: &ArgMatches<'_>) -> Option<Order>
+    ensures some { IfSome result (λ o. Asks o (codes "view", rows_of (found_of found.now))) }
+    ensures none { IfNone result
+        ((o : OrderOf) → ¬ Asks o (codes "view", rows_of (found_of found.now))) }
+{
+    let Some(asked) = view_asked(found) else {
+        return None;
+    };
+    Some(Order::View(asked))
 }
 
 /// The order of the command of this name.

@@ -8,7 +8,10 @@ ghost use Rattle.share_words.specs.Commands.{bare_program, program, app_with, wi
 ghost use Rattle.share_words.specs.Commands.{run_app, format_app, check_app};
 ghost use Rattle.share_words.specs.Commands.{rehearse_app, agree_app, host_app, view_app};
 
-use crate::options::{BOOT, NumberOption, PORT, TURNS, UNTIL, VIEWERS, WHO, number_arg};
+use crate::options::{
+    AT, BOOT, EXACTLY, FlagOption, GIVE, HOST_UNTIL, JOIN, KEEP, NumberOption, PORT, TURNS,
+    VERBOSE, VIEW_UNTIL, VIEWERS, WHO, flag_arg, number_arg,
+};
 use clap::Command;
 use std::alloc::{AllocError, Global};
 
@@ -99,25 +102,43 @@ Status:
 
 const HOST_HELP: &str = "A job of clocks is read from standard input; nothing is printed.
 
+With --until N the host ends once N inputs are numbered and each viewer that it has heard of, one
+at least, has asked for what is behind the last; else it takes all its turns. With --keep N it lets
+go of inputs that all those viewers have, but for the last N of them: a viewer that comes later
+joins by the snapshot of another one (`view --join`), or waits in vain.
+A turn takes up to 64 datagrams. While nothing comes the host rests between turns, 1 to 50
+milliseconds: 1000000 turns then last up to 14 hours.
+
 Example:
-  x3d_share host --port 4000 --turns 100000 < examples/two-clocks.job
+  x3d_share host --port 4000 --until 2 < examples/two-clocks.job
 
 Status:
-  0  all turns were taken
+  0  all turns were taken, or with --until N, the inputs were numbered and asked for
   1  the scene is refused
   2  the words or the job are refused
+  3  with --until N, all turns were used up
   4  a device failed
   5  memory was refused";
 
 const VIEW_HELP: &str = "A job of this viewer's points is read from standard input.
 
+One of --until and --exactly is needed. With --until N the viewer ends at the first moment with at
+least N inputs applied; by then it may have up to 126 more, so that two viewers' texts may differ.
+With --exactly N it passes over all inputs beyond N, and two viewers print the same bytes.
+A viewer that comes late needn't ask for all inputs. With --join --at Q it begins with a snapshot
+that another viewer sends to port Q in pieces, and asks for those behind it; its --boot has to be
+above the other's. With --give Q a viewer that has applied its N inputs sends its snapshot to
+port Q, a piece of 192 bytes a turn, round and round, in all turns that are left.
+A turn takes up to 64 datagrams. While nothing comes the viewer rests between turns, 1 to 50
+milliseconds: 1000000 turns then last up to 14 hours.
+
 Example:
-  x3d_share view --port 4000 --who 0 --boot 1 --until 10 < examples/view.job
+  x3d_share view --port 4000 --who 0 --boot 1 --until 2 < examples/view.job
 
 Status:
   0  the trace and the scene are printed
-  1  the scene is refused
-  2  the words or the job are refused
+  1  the scene is refused, or with --join, what was gathered is no snapshot of it
+  2  the words or the job are refused, or with --join, the boot is
   3  all turns were used up
   4  a device failed
   5  memory was refused";
@@ -128,6 +149,7 @@ struct CommandWords {
     about: &'static str,
     after_help: &'static str,
     options: &'static [NumberOption],
+    flags: &'static [FlagOption],
 }
 
 static COMMANDS: [CommandWords; 7] = [
@@ -136,47 +158,54 @@ static COMMANDS: [CommandWords; 7] = [
         about: "Run a job, and print its trace and then the scene",
         after_help: RUN_HELP,
         options: &[],
+        flags: &[],
     },
     CommandWords {
         name: "format",
         about: "Print a scene as it is written, one item a line",
         after_help: FORMAT_HELP,
         options: &[],
+        flags: &[],
     },
     CommandWords {
         name: "check",
         about: "Say how many nodes and routes a scene has",
         after_help: CHECK_HELP,
         options: &[],
+        flags: &[],
     },
     CommandWords {
         name: "rehearse",
         about: "Take a host and viewers through a schedule, and print each step's answer",
         after_help: REHEARSE_HELP,
         options: &[VIEWERS],
+        flags: &[],
     },
     CommandWords {
         name: "agree",
         about: "Have a host and viewers do a job over UDP, and print trace and scene of viewer 0",
         after_help: AGREE_HELP,
         options: &[VIEWERS, TURNS],
+        flags: &[],
     },
     CommandWords {
         name: "host",
         about: "Number the inputs of viewers, and send them to each, over UDP",
         after_help: HOST_HELP,
-        options: &[PORT, VIEWERS, TURNS],
+        options: &[PORT, VIEWERS, HOST_UNTIL, KEEP, TURNS],
+        flags: &[VERBOSE],
     },
     CommandWords {
         name: "view",
         about: "Offer points to a host over UDP, apply what it numbers, and print trace and scene",
         after_help: VIEW_HELP,
-        options: &[PORT, WHO, BOOT, UNTIL, TURNS],
+        options: &[PORT, WHO, BOOT, VIEW_UNTIL, EXACTLY, TURNS, AT, GIVE],
+        flags: &[JOIN, VERBOSE],
     },
 ];
 
 /// The commands in the order of help.
-#[tactic(auto, unfolding(crate::specs::Commands::run_app, crate::specs::Commands::format_app, crate::specs::Commands::check_app, crate::specs::Commands::rehearse_app, crate::specs::Commands::agree_app, crate::specs::Commands::host_app, crate::specs::Commands::seat_app, crate::specs::Commands::view_app))]
+#[tactic(auto, unfolding(crate::specs::Commands::run_app, crate::specs::Commands::format_app, crate::specs::Commands::check_app, crate::specs::Commands::rehearse_app, crate::specs::Commands::agree_app, crate::specs::Commands::host_app, crate::specs::Commands::view_app))]
 fn commands() -> &'static [CommandWords]
     ensures { map app_with result.now ≡ run_app ∷ format_app ∷ check_app ∷ rehearse_app ∷ agree_app
         ∷ host_app ∷ view_app ∷ [] }
@@ -194,6 +223,9 @@ fn command<'a>(alloc: Global, words: &CommandWords) -> Result<Command<'a>, Alloc
         .after_help(words.after_help);
     for option in words.options {
         command = command.arg(number_arg(alloc, option))?;
+    }
+    for flag in words.flags {
+        command = command.arg(flag_arg(alloc, flag))?;
     }
     Ok(command)
 }

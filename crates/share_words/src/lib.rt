@@ -10,5 +10,5 @@ mod order;
 mod words;
 
 pub use laws::{help_and_version_are_asked_for, words_mean_one_order};
-pub use order::{Order, OrderFault, Request};
+pub use order::{HostOrder, Order, OrderFault, Request, ViewEnd, ViewOrder};
 pub use words::request_of;

@@ -1,8 +1,9 @@
-//! The numbers that options have.
+//! The numbers that options have, and whether they are given.
 
-ghost use Rattle.std.specs.Prelude.{◌≡◌, ◌<◌, ◌≤◌, ◌^◌, ℕ, IfSome, IfNone};
+ghost use Rattle.std.specs.Prelude.{◌≡◌, ◌<◌, ◌≤◌, ◌^◌, ℕ, true, false, Option, IfSome, IfNone};
 ghost use Rattle.clap.specs.Words.{rows_of, found_of};
-ghost use Rattle.share_words.specs.Words.{HasNumber, HasNumberIn};
+ghost use Rattle.share_words.specs.Words.{HasNumber, HasNumberIn, IsLeftOut, MayHaveNumberIn};
+ghost use Rattle.share_words.specs.Words.{is_given};
 
 use clap::ArgMatches;
 
@@ -26,4 +27,35 @@ pub fn number_in(matches: &ArgMatches<'_>, id: &str, low: u32, high: u32) -> Opt
         Some(n) if low <= n && n <= high => Some(n),
         _ => None,
     }
+}
+
+/// Whether an option was not given, and has no default.
+fn is_left_out(matches: &ArgMatches<'_>, id: &str) -> bool
+    ensures yes { (result ≡ true) → IsLeftOut id.now (rows_of (found_of matches.now)) }
+    ensures no { (result ≡ false) → ¬ IsLeftOut id.now (rows_of (found_of matches.now)) }
+{
+    matches.get_str(id).is_none()
+}
+
+/// The number of an option, from `low` to `high`, or none where it was left out.
+pub fn optional_in(matches: &ArgMatches<'_>, id: &str, low: u32, high: u32) -> Option<Option<u32>>
+    ensures some { IfSome result
+        (λ o. MayHaveNumberIn id.now (rows_of (found_of matches.now)) low high o) }
+    ensures none { IfNone result
+        ((o : Option ℕ) → ¬ MayHaveNumberIn id.now (rows_of (found_of matches.now)) low high o) }
+{
+    if is_left_out(matches, id) {
+        return Some(None);
+    }
+    match number_in(matches, id, low, high) {
+        Some(n) => Some(Some(n)),
+        None => None,
+    }
+}
+
+/// Whether an option was given that takes no value.
+pub fn is_named(matches: &ArgMatches<'_>, id: &str) -> bool
+    ensures { result ≡ is_given id.now (rows_of (found_of matches.now)) }
+{
+    matches.get_one::<bool>(id).unwrap_or(false)
 }

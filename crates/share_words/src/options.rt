@@ -3,11 +3,22 @@
 ghost use Rattle.std.specs.Prelude.{◌≡◌, false, pos};
 ghost use Rattle.clap.specs.Words.{rule_of};
 ghost use Rattle.clap.specs.declared.builder.value_parser.ValueParser.TheVariants.{Signed};
-ghost use Rattle.share_words.specs.Options.{number_rule, ranged_rule};
+ghost use Rattle.share_words.specs.Options.{flag_rule, number_rule, ranged_rule};
 
-use clap::Arg;
 use clap::builder::ValueParser;
+use clap::{Arg, ArgAction};
 use std::alloc::Global;
+
+/// What an option has where it is not given.
+#[derive(Clone, Copy)]
+pub enum Unless {
+    /// It has to be given.
+    Refused,
+    /// It has this number.
+    Has(&'static str),
+    /// It has none.
+    Nothing,
+}
 
 /// An option that takes a number from `low` to `high`.
 #[derive(Clone, Copy)]
@@ -15,10 +26,18 @@ pub struct NumberOption {
     pub name: &'static str,
     pub low: u32,
     pub high: u32,
-    /// What it has where it is not given; without one it is required.
-    pub default: Option<&'static str>,
+    pub unless: Unless,
     /// What help calls its number.
     pub value: &'static str,
+    pub help: &'static str,
+}
+
+/// An option that is given or not.
+#[derive(Clone, Copy)]
+pub struct FlagOption {
+    pub name: &'static str,
+    /// The letter that it may be given by.
+    pub letter: Option<char>,
     pub help: &'static str,
 }
 
@@ -26,7 +45,7 @@ pub const VIEWERS: NumberOption = NumberOption {
     name: "viewers",
     low: 1,
     high: 16,
-    default: Some("2"),
+    unless: Unless::Has("2"),
     value: "K",
     help: "How many viewers, 1 to 16",
 };
@@ -35,7 +54,7 @@ pub const TURNS: NumberOption = NumberOption {
     name: "turns",
     low: 1,
     high: 10_000_000,
-    default: Some("1000000"),
+    unless: Unless::Has("1000000"),
     value: "T",
     help: "How many turns at most, 1 to 10000000",
 };
@@ -44,16 +63,35 @@ pub const PORT: NumberOption = NumberOption {
     name: "port",
     low: 1,
     high: 65535,
-    default: None,
+    unless: Unless::Refused,
     value: "P",
     help: "The host's UDP port on 127.0.0.1, 1 to 65535",
+};
+
+pub const KEEP: NumberOption = NumberOption {
+    name: "keep",
+    low: 0,
+    high: 1_048_576,
+    unless: Unless::Nothing,
+    value: "N",
+    help: "Keeps the last N of the inputs that all viewers have, 0 to 1048576 [default: all]",
+};
+
+/// As `host` has it.
+pub const HOST_UNTIL: NumberOption = NumberOption {
+    name: "until",
+    low: 0,
+    high: 1_048_576,
+    unless: Unless::Nothing,
+    value: "N",
+    help: "Ends once N inputs are numbered, and each viewer has all, 0 to 1048576",
 };
 
 pub const WHO: NumberOption = NumberOption {
     name: "who",
     low: 0,
     high: 15,
-    default: None,
+    unless: Unless::Refused,
     value: "V",
     help: "Which viewer this is, 0 to 15",
 };
@@ -62,18 +100,58 @@ pub const BOOT: NumberOption = NumberOption {
     name: "boot",
     low: 1,
     high: u32::MAX,
-    default: None,
+    unless: Unless::Refused,
     value: "B",
     help: "How often this viewer has been started, this time too, 1 to 4294967295",
 };
 
-pub const UNTIL: NumberOption = NumberOption {
+/// As `view` has it.
+pub const VIEW_UNTIL: NumberOption = NumberOption {
     name: "until",
     low: 0,
     high: 1_048_576,
-    default: None,
+    unless: Unless::Nothing,
     value: "N",
-    help: "Ends once this many inputs are applied, 0 to 1048576",
+    help: "Ends once at least N inputs are applied, 0 to 1048576",
+};
+
+pub const EXACTLY: NumberOption = NumberOption {
+    name: "exactly",
+    low: 0,
+    high: 1_048_576,
+    unless: Unless::Nothing,
+    value: "N",
+    help: "Ends once N inputs are applied, and passes over others, 0 to 1048576",
+};
+
+pub const AT: NumberOption = NumberOption {
+    name: "at",
+    low: 1,
+    high: 65535,
+    unless: Unless::Nothing,
+    value: "Q",
+    help: "This viewer's own UDP port, 1 to 65535 [default: a free one]",
+};
+
+pub const GIVE: NumberOption = NumberOption {
+    name: "give",
+    low: 1,
+    high: 65535,
+    unless: Unless::Nothing,
+    value: "Q",
+    help: "Sends its snapshot to port Q, once its inputs are applied, 1 to 65535",
+};
+
+pub const JOIN: FlagOption = FlagOption {
+    name: "join",
+    letter: None,
+    help: "Begins with the snapshot that another viewer gives to its port",
+};
+
+pub const VERBOSE: FlagOption = FlagOption {
+    name: "verbose",
+    letter: Some('v'),
+    help: "Tells on standard error what comes to pass",
 };
 
 /// The numbers that the option takes.
@@ -101,8 +179,24 @@ pub fn number_arg<'a>(alloc: Global, option: &NumberOption) -> Arg<'a>
     ensures local { result.global ≡ false }
 {
     let arg = ranged_arg(alloc, option);
-    match option.default {
-        Some(text) => arg.default_value(text),
-        None => arg.required(true),
+    match option.unless {
+        Unless::Refused => arg.required(true),
+        Unless::Has(text) => arg.default_value(text),
+        Unless::Nothing => arg,
+    }
+}
+
+/// The option as `clap` has it.
+pub fn flag_arg<'a>(alloc: Global, option: &FlagOption) -> Arg<'a>
+    ensures rule { rule_of result ≡ flag_rule option.now }
+    ensures local { result.global ≡ false }
+{
+    let arg = Arg::new(alloc, option.name)
+        .long(option.name)
+        .action(ArgAction::SetTrue)
+        .help(option.help);
+    match option.letter {
+        Some(letter) => arg.short(letter),
+        None => arg,
     }
 }
