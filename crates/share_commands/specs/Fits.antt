@@ -28,8 +28,8 @@ is_beyond viewers (Pointer p) = not (nat_lt p.who viewers)
 -- alone, another command every step
 abbrev pub refuses : Order → Stamp → Bool
 refuses (Agree viewers turns) input = is_beyond viewers input.event
-refuses (Host port viewers turns) input = is_point input.event
-refuses (View port who boot until turns) input = is_foreign who input.event
+refuses (Host asked) input = is_point input.event
+refuses (View asked) input = is_foreign asked.who input.event
 refuses _ input = false
 
 abbrev pub first_refused : Order → List Stamp → Option Stamp

@@ -6,7 +6,6 @@ use Rattle.x3d_values.specs.Stamp.{Stamp}
 use Rattle.x3d_values.specs.declared.stamped.Event.{Event}
 use Rattle.x3d_values.specs.declared.stamped.Event.TheVariants.{Clock, Pointer}
 use Rattle.cascade_core.specs.Apply.{opening}
-use Rattle.cascade_core.specs.Course.{Scripted}
 use Rattle.share_law.specs.Viewer.{begun, point_of}
 use Rattle.share_core.specs.Viewer.{ViewerView}
 use Rattle.share_port.specs.declared.traffic.Traffic.{Traffic}

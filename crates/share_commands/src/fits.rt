@@ -44,8 +44,8 @@ fn refuses(order: &Order, input: &Stamped) -> bool
 {
     match order {
         Order::Agree { viewers, .. } => is_beyond(*viewers, input.event()),
-        Order::Host { .. } => is_point(input.event()),
-        Order::View { who, .. } => is_foreign(*who, input.event()),
+        Order::Host(_) => is_point(input.event()),
+        Order::View(asked) => is_foreign(asked.who, input.event()),
         _ => false,
     }
 }

@@ -67,18 +67,8 @@ fn obey<R: AllocGlobal + Input + Print + Net + Clock>(rt: &R, order: Order) -> R
         Order::Check => check_scene(rt),
         Order::Rehearse { viewers } => rehearse(rt, viewers),
         Order::Agree { viewers, turns } => agree(rt, &order, viewers, turns),
-        Order::Host {
-            port,
-            viewers,
-            turns,
-        } => host(rt, &order, port, viewers, turns),
-        Order::View {
-            port,
-            who,
-            boot,
-            until,
-            turns,
-        } => view(rt, &order, port, who, boot, until, turns),
+        Order::Host(asked) => host(rt, &order, &asked),
+        Order::View(asked) => view(rt, &order, &asked),
     }
 }
 

@@ -2,15 +2,16 @@
 //! in a process of its own.
 
 ghost use Rattle.std.specs.Prelude.{◌≡◌, ◌≤◌, IfOk, length};
+ghost use Rattle.share_words.specs.Words.{HostInRange, ViewInRange};
 
 use share_commands::{
-    JointJob, PatientPort, Seat, SharedJob, agree_job, bound, bound_free, host_job, joint_job,
-    number_of, rehearse_job, seated_job, shared_job, view_job,
+    JointJob, PatientPort, Seat, SharedJob, agree_job, bound, bound_free, first_boot, host_job,
+    joint_job, number_of, rehearse_job, seated_job, shared_job, view_job,
 };
 use share_ends::{RunFault, read_whole, write_whole};
 use share_program::{Failure, JobFault, ShareFault};
 use share_turns::{HostPlan, ViewPlan};
-use share_words::Order;
+use share_words::{HostOrder, Order, ViewEnd, ViewOrder};
 use std::io;
 use std::net::Net;
 use std::time::Clock;
@@ -91,38 +92,44 @@ pub fn agree<R: AllocGlobal + Input + Print + Net>(
     Ok(())
 }
 
+/// What a host keeps of its inputs, and when it is done.
+fn host_plan(asked: &HostOrder) -> HostPlan {
+    HostPlan {
+        keep: asked.keep,
+        until: asked.until,
+    }
+}
+
 /// Numbers the clocks of a job and what viewers offer at a port.
 fn hosted<R: AllocGlobal + Net + Clock>(
     rt: &R,
     job: &SharedJob,
-    port: u16,
-    viewers: u8,
-    turns: u32,
+    asked: &HostOrder,
 ) -> Result<(), ShareFault>
-    requires some { 1 ≤ viewers }
-    requires most { viewers ≤ 16 }
+    requires { HostInRange asked.now }
 {
-    let mut port = PatientPort::new(bound(rt, port)?, rt);
-    let plan = HostPlan {
-        keep: None,
-        until: None,
-    };
-    host_job(rt.alloc(), job, viewers, &plan, turns, &mut port)
+    let mut port = PatientPort::new(bound(rt, asked.port)?, rt);
+    let plan = host_plan(asked);
+    host_job(
+        rt.alloc(),
+        job,
+        asked.viewers,
+        &plan,
+        asked.turns,
+        &mut port,
+    )
 }
 
 /// Reads a job of clocks, and numbers them and what viewers offer at a port.
 pub fn host<R: AllocGlobal + Input + Net + Clock>(
     rt: &R,
     order: &Order,
-    port: u16,
-    viewers: u8,
-    turns: u32,
+    asked: &HostOrder,
 ) -> Result<(), Failure>
-    requires some { 1 ≤ viewers }
-    requires most { viewers ≤ 16 }
+    requires { HostInRange asked.now }
 {
     let job = read_shared(rt, order)?;
-    let done = hosted(rt, &job, port, viewers, turns);
+    let done = hosted(rt, &job, asked);
     drop(job);
     Ok(done?)
 }
@@ -131,49 +138,59 @@ pub fn host<R: AllocGlobal + Input + Net + Clock>(
 fn read_seated<R: AllocGlobal + Input>(
     rt: &R,
     order: &Order,
-    who: u8,
-    boot: u32,
+    asked: &ViewOrder,
 ) -> Result<Seat, JobFault>
-    requires who { who ≤ 15 }
-    requires boot { 1 ≤ boot }
+    requires { ViewInRange asked.now }
 {
     let bytes = read_whole(rt.alloc(), &mut rt.reader())?;
-    seated_job(rt.alloc(), bytes.as_slice(), order, who, boot)
+    let boot = first_boot(asked.boot, asked.join);
+    seated_job(rt.alloc(), bytes.as_slice(), order, asked.who, boot)
+}
+
+/// What a viewer is to do.
+fn view_plan(asked: &ViewOrder) -> ViewPlan {
+    let until = match asked.end {
+        ViewEnd::Until(until) => until,
+        ViewEnd::Exactly(until) => until,
+    };
+    let join = if asked.join { Some(asked.boot) } else { None };
+    ViewPlan {
+        until,
+        turns: asked.turns,
+        join,
+        give: asked.give,
+    }
+}
+
+/// The port that a viewer binds; a free one where it asks for none.
+fn own_port(asked: &ViewOrder) -> u16 {
+    match asked.at {
+        Some(port) => port,
+        None => 0,
+    }
 }
 
 /// Offers the points of a viewer to a host: what came of the inputs.
 fn viewed<R: AllocGlobal + Net + Clock>(
     rt: &R,
     seat: &mut Seat,
-    host: u16,
-    until: u32,
-    turns: u32,
+    asked: &ViewOrder,
 ) -> Result<Vec<u8>, ShareFault> {
-    let mut port = PatientPort::new(bound(rt, 0)?, rt);
-    let plan = ViewPlan {
-        until,
-        turns,
-        join: None,
-        give: None,
-    };
-    view_job(rt.alloc(), seat, host, &plan, &mut port)
+    let mut port = PatientPort::new(bound(rt, own_port(asked))?, rt);
+    let plan = view_plan(asked);
+    view_job(rt.alloc(), seat, asked.port, &plan, &mut port)
 }
 
 /// Reads a job of points, and offers them to a host: what came of the inputs.
 fn read_viewed<R: AllocGlobal + Input + Net + Clock>(
     rt: &R,
     order: &Order,
-    host: u16,
-    who: u8,
-    boot: u32,
-    until: u32,
-    turns: u32,
+    asked: &ViewOrder,
 ) -> Result<Vec<u8>, Failure>
-    requires who { who ≤ 15 }
-    requires boot { 1 ≤ boot }
+    requires { ViewInRange asked.now }
 {
-    let mut seat = read_seated(rt, order, who, boot)?;
-    let text = viewed(rt, &mut seat, host, until, turns);
+    let mut seat = read_seated(rt, order, asked)?;
+    let text = viewed(rt, &mut seat, asked);
     seat.close();
     Ok(text?)
 }
@@ -182,16 +199,11 @@ fn read_viewed<R: AllocGlobal + Input + Net + Clock>(
 pub fn view<R: AllocGlobal + Input + Print + Net + Clock>(
     rt: &R,
     order: &Order,
-    host: u16,
-    who: u8,
-    boot: u32,
-    until: u32,
-    turns: u32,
+    asked: &ViewOrder,
 ) -> Result<(), Failure>
-    requires who { who ≤ 15 }
-    requires boot { 1 ≤ boot }
+    requires { ViewInRange asked.now }
 {
-    let text = read_viewed(rt, order, host, who, boot, until, turns)?;
+    let text = read_viewed(rt, order, asked)?;
     print(rt, text.as_slice())?;
     Ok(())
 }

@@ -10,7 +10,7 @@ use share_commands::{JointJob, host_job, joint_job, seated_job, shared_job, view
 use share_core::Host;
 use share_port::{Port, PortFault};
 use share_turns::{HostPlan, ViewPlan, host_run, view_run};
-use share_words::Order;
+use share_words::{HostOrder, Order, ViewEnd, ViewOrder};
 use std::alloc::{AllocError, Global};
 use std::cell::RefCell;
 use std::process::Abort;
@@ -126,11 +126,14 @@ impl<'a> Port for Between<'a> {
 
 /// Whether the host comes to its end by its command, with a job's bytes.
 fn hosts(alloc: Global, bytes: &[u8], port: &mut Between<'_>) -> bool {
-    let order = Order::Host {
+    let order = Order::Host(HostOrder {
         port: HOST,
         viewers: 2,
         turns: TURNS,
-    };
+        keep: None,
+        until: None,
+        verbose: false,
+    });
     let Ok(job) = shared_job(alloc, bytes, &order) else {
         return false;
     };
@@ -144,13 +147,17 @@ fn views(alloc: Global, bytes: &[u8], who: u8, port: &mut Between<'_>) -> bool
     requires { who ≤ 15 }
 {
     let until = port.others.job.inputs;
-    let order = Order::View {
+    let order = Order::View(ViewOrder {
         port: HOST,
         who,
         boot: 1,
-        until,
+        end: ViewEnd::Until(until),
         turns: TURNS,
-    };
+        at: None,
+        give: None,
+        join: false,
+        verbose: false,
+    });
     let Ok(mut seat) = seated_job(alloc, bytes, &order, who, 1) else {
         return false;
     };
