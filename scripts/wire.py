@@ -7,7 +7,7 @@ from typing import NamedTuple
 
 HERE = "127.0.0.1"
 HEAD = struct.Struct(">4sBB32s")
-INPUT, OFFER, ASK, ACK = 1, 2, 3, 4
+INPUT, OFFER, ASK, ACK, FLOOR, PIECE = 1, 2, 3, 4, 5, 6
 MILLION = 10**6
 # How often a host is asked, a second apart, before it counts as gone.
 TRIES = 60
@@ -86,6 +86,36 @@ def answer(end, host, request):
         except TimeoutError:
             pass
     raise TimeoutError(f"the host at port {host} doesn't answer")
+
+
+def ask_once(host, mark, who, first):
+    """Asks the host at this port for the inputs from a number on, as by this viewer, until it has heard it."""
+    with socket.socket(socket.AF_INET, socket.SOCK_DGRAM) as end:
+        end.settimeout(1)
+        for _ in range(TRIES):
+            end.sendto(ask(mark, who, first), (HERE, host))
+            try:
+                end.recv(2048)
+                return
+            except TimeoutError:
+                pass
+    raise TimeoutError(f"the host at port {host} doesn't answer")
+
+
+def await_floor(host, mark, floor=2):
+    """Waits until this host has dropped the inputs below a number. It is asked for the first as by viewer 0."""
+    with socket.socket(socket.AF_INET, socket.SOCK_DGRAM) as end:
+        end.settimeout(0.1)
+        for _ in range(10 * TRIES):
+            end.sendto(ask(mark, 0, 1), (HERE, host))
+            try:
+                while True:
+                    packet = end.recv(2048)
+                    if packet[5] == FLOOR and int.from_bytes(packet[38:42], "big") >= floor:
+                        return
+            except TimeoutError:
+                pass
+    raise TimeoutError(f"the host at port {host} hasn't dropped the inputs below {floor}")
 
 
 def inputs_of(host, mark):

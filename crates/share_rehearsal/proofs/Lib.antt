@@ -1,4 +1,5 @@
 mod Endings
+mod Joining
 mod Leaving
 mod Plays
 mod Seating

@@ -1,6 +1,6 @@
 -- What holds of the nodes that a rehearsal leaves, and of its log.
-use Rattle.std.specs.Prelude.{◌≡◌, ◌↔◌, ℕ, ◌+◌, ◌-◌, ◌≤◌, pos, true, List, length, take, drop}
-use Rattle.std.specs.Prelude.{slice_get, codes, Option, Some}
+use Rattle.std.specs.Prelude.{◌≡◌, ◌↔◌, ℕ, ◌+◌, ◌-◌, ◌≤◌, pos, true, List, [], ◌∷◌, ◌++◌, length}
+use Rattle.std.specs.Prelude.{take, drop, slice_get, codes, Option, None, Some, Ok}
 use Rattle.x3d_values.specs.Stamp.{Stamp}
 use Rattle.scene_core.specs.declared.scene.Route.{Route}
 use Rattle.scene_core.specs.Scene.{SceneView}
@@ -8,15 +8,20 @@ use Rattle.cascade_core.specs.Apply.{world}
 use Rattle.cascade_core.specs.Course.{Scripted}
 use Rattle.cascade_core.specs.Texts.{scene_text, trace_text}
 use Rattle.share_law.specs.declared.step.Step.{Step}
+use Rattle.share_law.specs.declared.step.Step.TheVariants.{ViewerJoin}
+use Rattle.share_law.specs.Cascade.{cascade}
 use Rattle.share_law.specs.Host.{last_time}
+use Rattle.share_law.specs.Joins.{IsPartOf}
 use Rattle.share_law.specs.Lists.{IsAhead, Rises}
+use Rattle.share_law.specs.Pieces.{Gathering, all_there, joined}
 use Rattle.share_law.specs.Steps.{says_memory}
-use Rattle.share_law.specs.Viewer.{Running}
+use Rattle.share_law.specs.Viewer.{Running, Shot, begun}
 use Rattle.share_core.specs.Viewer.{ViewerView}
 use Rattle.share_rehearsal.specs.declared.answer.Answer.{Answer}
+use Rattle.share_rehearsal.specs.declared.answer.Answer.TheVariants.{Joined}
 use Rattle.share_rehearsal.specs.Calls.{Seen}
 use Rattle.share_rehearsal.specs.Log.{answer_text}
-use Rattle.share_rehearsal.specs.Rehearsed.{IsRehearsal, law_answer}
+use Rattle.share_rehearsal.specs.Rehearsed.{IsRehearsal, law_answer, shot_at}
 
 -- of whatever a rehearsal of a scene leaves, whichever its steps, and of the list of all inputs that
 -- its host numbered, of which it holds a part
@@ -68,6 +73,47 @@ HostHolds scene routes list left =
     (1 ≤ left.host.part.floor) × (left.host.part.floor ≤ length list + 1)
     × (left.host.part.rest ≡ drop (left.host.part.floor - 1) list)
     × (left.host.part.count ≡ length list) × (left.host.part.last ≡ last_time list)
+
+-- ---- late joiners
+
+-- snapshot s of those that were taken is this one: its viewer, its boot, and the bytes of its world
+abbrev pub IsTaken : SceneView → Seen → (s : ℕ) → Shot Scripted → Type 0
+IsTaken scene left s from = slice_get left.shots s ≡ Some (shot_at left.host.mark scene from)
+
+-- what a viewer has gathered is of one snapshot that was taken, whichever snapshots its pieces were
+-- cut from; once none are missing it is the bytes of that
+abbrev pub PiecesHold : SceneView → List Route → List Stamp → Seen → Type 0
+PiecesHold scene routes list left =
+    (v : ℕ) (x : ViewerView) (g : Gathering)
+    → slice_get left.viewers v ≡ Some x → x.gathering ≡ Some g
+    → (s : ℕ) × (from : Shot Scripted) × IsTaken scene left s from
+    × IsPartOf (cascade left.host.mark scene routes) g from
+    × (all_there g.places ≡ true → joined g.places ≡ (shot_at left.host.mark scene from).bytes)
+
+-- viewer v stands where the viewer of a snapshot stood as it was taken: in that world, which is
+-- that of the scene and of the first n of all inputs, as a new boot, with nothing gathered
+pub record StandsIn (scene : SceneView) (routes : List Route) (list : List Stamp) (left : Seen)
+    (v boot n : ℕ) : Type 0 where
+  pub s : ℕ
+  pub from : Shot Scripted
+  pub taken : IsTaken scene left s from
+  pub viewer : ViewerView
+  pub is : slice_get left.viewers v ≡ Some viewer
+  pub state : viewer.state ≡ begun boot from.state
+  pub gathered : viewer.gathering ≡ None
+  pub most : n ≤ length list
+  pub world_of_n : from.state ≡ world scene routes (take n list)
+
+-- so stands a viewer that joined with n inputs, by all pieces of a snapshot, in the last step
+abbrev pub JoinersStand : Type 0
+JoinersStand =
+    (mark : List ℕ) (scene : SceneView) (routes : List Route) (viewers : ℕ) (steps : List Step)
+    (answers : List Answer) (left : Seen) (v boot n : ℕ)
+    → (r : IsRehearsal mark scene routes viewers (steps ++ ViewerJoin v boot ∷ [])
+    (answers ++ Joined (Ok n) ∷ []) left)
+    → StandsIn scene routes r.net.host.list left v boot n
+
+-- ---- the log
 
 -- an answer is logged as `Memory` exactly where it says that memory was refused
 abbrev pub MemoryIsLogged : Type 0

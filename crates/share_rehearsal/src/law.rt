@@ -1,6 +1,7 @@
 //! What holds of every rehearsal.
 
-ghost use Rattle.share_rehearsal.specs.Laws.{HostHolds, MemoryIsLogged, OfRehearsals, TimesRise};
+ghost use Rattle.share_rehearsal.specs.Laws.{HostHolds, JoinersStand, MemoryIsLogged};
+ghost use Rattle.share_rehearsal.specs.Laws.{OfRehearsals, PiecesHold, TimesRise};
 ghost use Rattle.share_rehearsal.specs.Laws.{ViewersAgree, ViewersHold, WindowsHold};
 
 use share_law::agreement_law;
@@ -17,6 +18,10 @@ pub fn rehearsal_law()
     ensures times { OfRehearsals TimesRise }
     // The host has those from its floor on.
     ensures floor { OfRehearsals HostHolds }
+    // What a viewer gathers is of one snapshot that was taken, and once whole it is that.
+    ensures pieces { OfRehearsals PiecesHold }
+    // One that joins by it stands where the viewer stood that took it.
+    ensures joins { JoinersStand }
     // A line says `Memory` exactly where memory was refused in its step.
     ensures memory { MemoryIsLogged }
 {

@@ -1,3 +1,4 @@
+use Rattle.share_rehearsal.proofs.Joining.{joiners_stand, pieces_hold}
 use Rattle.share_rehearsal.proofs.Leaving.{host_holds, times_rise, viewers_agree, viewers_hold, windows_hold}
 use Rattle.share_rehearsal.proofs.Telling.{memory_is_logged}
 use Rattle.share_rehearsal.proofs.law.rehearsal_law.Goals as goal
@@ -16,6 +17,12 @@ returns-clause-times c = times_rise c.agreement_law.ensures.list_grows
 
 pub returns-clause-floor : goal.returns-clause-floor
 returns-clause-floor c = host_holds c.agreement_law.ensures.floor
+
+pub returns-clause-pieces : goal.returns-clause-pieces
+returns-clause-pieces c = pieces_hold c.agreement_law.ensures.pieces
+
+pub returns-clause-joins : goal.returns-clause-joins
+returns-clause-joins c = joiners_stand c.agreement_law.ensures.equality
 
 pub returns-clause-memory : goal.returns-clause-memory
 returns-clause-memory c = memory_is_logged
