@@ -81,7 +81,7 @@ blanked_keeps : KeepsDeclarations blanked
 blanked_keeps =
     record {
       declares = λ line name v s. blank_declares v (nodes_in (given.Value v)) refl s;
-      holds = λ line name v own hidden. blank_holds v (nodes_in (given.Value v)) refl own hidden;
+      holds = λ line name v own free hidden. blank_holds v (nodes_in (given.Value v)) refl own hidden;
     }
 
 pub untaken_plain_values_dont_matter : UntakenPlainValuesDontMatter

@@ -1,7 +1,8 @@
 -- What no IS takes doesn't matter (ISO/IEC 19775-1, 4.4.4): where no IS of its prototype's body
 -- takes a field, the value that an instance gives it, and its default, may be any other that
 -- declares as much.
-use Rattle.std.specs.Prelude.{◌≡◌, ℕ, Bool, false, List, [], ◌∷◌, ◌++◌, map, Option, Result, Ok, Err}
+use Rattle.std.specs.Prelude.{◌≡◌, ℕ, Bool, false, List, [], ◌∷◌, ◌++◌, map, Option, None, Result, Ok, Err}
+use Rattle.x3d_values.specs.Names.{node_type_named}
 use Rattle.classic_tree.specs.declared.tree.BodyItem.{BodyItem, fold-BodyItem}
 use Rattle.classic_tree.specs.declared.tree.BodyItem.TheOpen.{BodyItem-F, NodeText-F, Statement-F, ProtoText-F}
 use Rattle.classic_tree.specs.declared.tree.BodyItem.TheVariants as item_text
@@ -37,12 +38,14 @@ abbrev pub Change : Type 0
 Change = ℕ → Name → RawValue NodeText → RawValue NodeText
 
 -- whatever is in sight, the new value declares what the old one does, with the same faults, and the
--- search for an instance of a prototype finds the same: so it is of all values without nodes
+-- search for an instance of a prototype (so of a name of no node type) finds the same: so it is of all
+-- values without nodes
 pub record KeepsDeclarations (change : Change) : Type 0 where
   pub declares : (line : ℕ) (name : Name) (v : RawValue NodeText) (s : Sight)
       → aside (given_declares (given.Value (change line name v))) s
       ≡ aside (given_declares (given.Value v)) s
-  pub holds : (line : ℕ) (name : Name) (v : RawValue NodeText) (own : Name) (hidden : Bool)
+  pub holds : (line : ℕ) (name : Name) (v : RawValue NodeText) (own : Name)
+      → node_type_named own ≡ None → (hidden : Bool)
       → given_holds (given.Value (change line name v)) own hidden
       ≡ given_holds (given.Value v) own hidden
 
