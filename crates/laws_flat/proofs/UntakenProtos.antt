@@ -71,7 +71,7 @@ free_text (given.Value (value.StringList texts)) s = refl
 free_text (given.Value (value.NumberList numbers)) s = refl
 free_text (given.Value (value.NodeList ns)) s = each_free (λ (n : Node). n.sees) (map node_part ns) (nodes_free ns) s
 
-aside_bared : (r q : Seen) (names : Names) → bared r ≡ bared q → and_see {Y = Sight} r (λ u. Ok (record u { taken = names })) ≡ and_see q (λ u. Ok (record u { taken = names }))
+pub aside_bared : (r q : Seen) (names : Names) → bared r ≡ bared q → and_see {Y = Sight} r (λ u. Ok (record u { taken = names })) ≡ and_see q (λ u. Ok (record u { taken = names }))
 aside_bared r q names e = again r ∙ ap (λ x. and_see {Y = Sight} x (λ u. Ok (record u { taken = names }))) e ∙ sym (again q) where
   again : (r : Seen) → and_see {Y = Sight} r (λ u. Ok (record u { taken = names })) ≡ and_see (bared r) (λ u. Ok (record u { taken = names }))
   again (Ok u) = refl
