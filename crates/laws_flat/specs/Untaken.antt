@@ -39,8 +39,7 @@ abbrev pub Change : Type 0
 Change = ℕ → Name → RawValue NodeText → RawValue NodeText
 
 -- whatever is in sight, the new value declares what the old one does, with the same faults, and the
--- search for an instance of a prototype (so of a name of no node type) finds the same: so it is of all
--- values without nodes
+-- search for an instance of a prototype, whose name is no node type's, finds the same
 pub record KeepsDeclarations (change : Change) : Type 0 where
   pub declares : (line : ℕ) (name : Name) (v : RawValue NodeText) (s : Sight)
       → aside (given_declares (given.Value (change line name v))) s
