@@ -16,3 +16,5 @@ pub mod InPlaceParts
 pub mod InPlaceWhole
 pub mod WorkedUntaken
 pub mod WorkedInPlace
+pub mod BareTexts
+pub mod BareValues

@@ -3,6 +3,7 @@ use Rattle.std.proofs.Common.{◌≡◌, ℕ, Bool, true, false, if◌then◌els
 use Rattle.std.specs.Prelude.{◌&&◌, not, is_some}
 use Rattle.std.specs.List.{AllByRecursion}
 use Rattle.std.specs.Str.{bytes_eq}
+use Rattle.x3d_values.specs.Names.{node_type_named}
 use Rattle.classic_tree.specs.declared.tree.BodyItem.{BodyItem}
 use Rattle.classic_tree.specs.declared.tree.BodyItem.TheOpen.{BodyItem-F, NodeText-F}
 use Rattle.classic_tree.specs.declared.tree.BodyItem.TheVariants as item_text
@@ -34,18 +35,18 @@ use Rattle.laws_flat.proofs.UntakenTexts.{at-field, at-declaration, at-item-rout
 -- ---- nodes
 
 pub record SameNode (s : Sight) (m n : Node) : Type 0 where
-  pub finds : (own : Name) (hidden : Bool) → n.finds own hidden ≡ m.finds own hidden
+  pub finds : (own : Name) → node_type_named own ≡ None → (hidden : Bool) → n.finds own hidden ≡ m.finds own hidden
   pub seen : (t : Sight) → Alike s t → n.sees t ≡ m.sees t
   pub done : (w : Walk) → Alike s w.sight → n.does w ≡ m.does w
 
 -- where these braces take that
 pub record SameItem (taken : Option Names) (s : Sight) (m n : Item) : Type 0 where
-  pub finds : (own : Name) (hidden : Bool) → n.finds own hidden ≡ m.finds own hidden
+  pub finds : (own : Name) → node_type_named own ≡ None → (hidden : Bool) → n.finds own hidden ≡ m.finds own hidden
   pub seen : (t : Sight) → Alike s t → n.sees taken t ≡ m.sees taken t
   pub done : (b : Inside) → taken_by (Some b.owner) ≡ taken → (w : Walk) → Alike s w.sight → n.does b w ≡ m.does b w
 
 pub record SameProto (s : Sight) (m n : Proto) : Type 0 where
-  pub finds : (own : Name) (hidden : Bool) → n.finds own hidden ≡ m.finds own hidden
+  pub finds : (own : Name) → node_type_named own ≡ None → (hidden : Bool) → n.finds own hidden ≡ m.finds own hidden
   pub seen : (t : Sight) → Alike s t → n.sees t ≡ m.sees t
   pub done : (w : Walk) → Alike s w.sight → n.does w ≡ m.does w
 
@@ -119,20 +120,20 @@ module _ (change : Change) (keeps : KeepsDeclarations change) where
       node_list s (map node_part ns) (map node_part (in_turn (λ (n : NodeAt). n) (λ n. (node_part n).sees) (map (node_at change) ns) s))
       (steady_in_turn node_sees put_next Any node_part (node_at change) (λ (n : NodeAt). n) OfNode one_by_one ns h s)
 
-  pub given_found : (g : Given NodeText) → OfGiven OfNode g → (s : Sight) (own : Name) (hidden : Bool) → given_finds (given_mapped node_part (given_then g s)) own hidden ≡ given_finds (given_mapped node_part g) own hidden
-  given_found given.Nothing h s own hidden = refl
-  given_found (given.Is name) h s own hidden = refl
-  given_found (given.Value value.Null) h s own hidden = refl
-  given_found (given.Value (value.Truth truth)) h s own hidden = refl
-  given_found (given.Value (value.String text)) h s own hidden = refl
-  given_found (given.Value (value.Numbers numbers)) h s own hidden = refl
-  given_found (given.Value (value.Node n)) h s own hidden = ap (λ r. and_see r (λ x. Ok x)) ((h.1 s).finds own hidden)
-  given_found (given.Value value.EmptyList) h s own hidden = refl
-  given_found (given.Value (value.TruthList truths)) h s own hidden = refl
-  given_found (given.Value (value.StringList texts)) h s own hidden = refl
-  given_found (given.Value (value.NumberList numbers)) h s own hidden = refl
-  given_found (given.Value (value.NodeList ns)) h s own hidden =
-      finds_in_turn (λ (n : Node). n.finds own) (λ n. (node_part n).sees) node_part (node_at change) (λ (n : NodeAt). n) OfNode (λ n k t b. (k.1 t).finds own b) ns h s hidden
+  pub given_found : (g : Given NodeText) → OfGiven OfNode g → (s : Sight) (own : Name) → node_type_named own ≡ None → (hidden : Bool) → given_finds (given_mapped node_part (given_then g s)) own hidden ≡ given_finds (given_mapped node_part g) own hidden
+  given_found given.Nothing h s own free hidden = refl
+  given_found (given.Is name) h s own free hidden = refl
+  given_found (given.Value value.Null) h s own free hidden = refl
+  given_found (given.Value (value.Truth truth)) h s own free hidden = refl
+  given_found (given.Value (value.String text)) h s own free hidden = refl
+  given_found (given.Value (value.Numbers numbers)) h s own free hidden = refl
+  given_found (given.Value (value.Node n)) h s own free hidden = ap (λ r. and_see r (λ x. Ok x)) ((h.1 s).finds own free hidden)
+  given_found (given.Value value.EmptyList) h s own free hidden = refl
+  given_found (given.Value (value.TruthList truths)) h s own free hidden = refl
+  given_found (given.Value (value.StringList texts)) h s own free hidden = refl
+  given_found (given.Value (value.NumberList numbers)) h s own free hidden = refl
+  given_found (given.Value (value.NodeList ns)) h s own free hidden =
+      finds_in_turn (λ (n : Node). n.finds own) (λ n. (node_part n).sees) node_part (node_at change) (λ (n : NodeAt). n) OfNode (λ n k t b. (k.1 t).finds own free b) ns h s hidden
 
   -- ---- what values declare, by their trees
 
@@ -175,9 +176,9 @@ module _ (change : Change) (keeps : KeepsDeclarations change) where
   pub changed_declares : (line : ℕ) (name : Name) (v : RawValue NodeText) → DeclaresSame (given_mapped node_part (given.Value v)) (given_mapped node_part (changed line name v))
   changed_declares line name v s = aside_by (changed line name v) s ∙ keeps.declares line name v s ∙ sym (aside_by (given.Value v) s)
 
-  pub changed_found : (line : ℕ) (name : Name) (v : RawValue NodeText) (own : Name) (hidden : Bool)
+  pub changed_found : (line : ℕ) (name : Name) (v : RawValue NodeText) (own : Name) → node_type_named own ≡ None → (hidden : Bool)
       → given_finds (given_mapped node_part (changed line name v)) own hidden ≡ given_finds (given_mapped node_part (given.Value v)) own hidden
-  changed_found line name v own hidden = holds_is (change line name v) own hidden ∙ keeps.holds line name v own hidden ∙ sym (holds_is v own hidden)
+  changed_found line name v own free hidden = holds_is (change line name v) own hidden ∙ keeps.holds line name v own free hidden ∙ sym (holds_is v own hidden)
 
   -- ---- items between braces
 
@@ -225,12 +226,12 @@ module _ (change : Change) (keeps : KeepsDeclarations change) where
   -- ---- one after the other
 
   same_item : (taken : Option Names) (s : Sight) (m : Item) → SameItem taken s m m
-  same_item taken s m = record { finds = λ own hidden. refl; seen = λ t e. refl; done = λ b o w e. refl }
+  same_item taken s m = record { finds = λ own free hidden. refl; seen = λ t e. refl; done = λ b o w e. refl }
 
   item_then : (taken : Option Names) (s : Sight) (l m n : Item) → SameItem taken s l m → SameItem taken s m n → SameItem taken s l n
   item_then taken s l m n h k =
       record {
-        finds = λ own hidden. k.finds own hidden ∙ h.finds own hidden;
+        finds = λ own free hidden. k.finds own free hidden ∙ h.finds own free hidden;
         seen = λ t e. k.seen t e ∙ h.seen t e;
         done = λ b o w e. k.done b o w e ∙ h.done b o w e;
       }
@@ -383,8 +384,8 @@ module _ (change : Change) (keeps : KeepsDeclarations change) where
   unfolding node_step
   full_node_same line name word is h s =
       record {
-        finds = λ own hidden. ap (λ r. if not hidden && bytes_eq word own then Err line else r)
-            (finds_in_turn (λ (i : Item). i.finds own) (λ (i : BodyItem). (item_part i).sees (taken_by (meant word s))) item_part (item_at change) (λ (i : ItemAt). i (taken_by (meant word s))) OfItem (λ i k t b. (k.1 (taken_by (meant word s)) t).finds own b) is h s hidden);
+        finds = λ own free hidden. ap (λ r. if not hidden && bytes_eq word own then Err line else r)
+            (finds_in_turn (λ (i : Item). i.finds own) (λ (i : BodyItem). (item_part i).sees (taken_by (meant word s))) item_part (item_at change) (λ (i : ItemAt). i (taken_by (meant word s))) OfItem (λ i k t b. (k.1 (taken_by (meant word s)) t).finds own free b) is h s hidden);
         seen = λ t e. subst (λ o. each (item_sees o) (map item_part (there word is s)) t ≡ each (item_sees o) (map item_part is) t) (sym (ap (λ x. taken_by (meant word x)) e))
             (each_same (item_sees (taken_by (meant word s))) item_does (Takes (taken_by (meant word s))) s (map item_part is) (map item_part (there word is s)) (steady_items (taken_by (meant word s)) is h s) t e);
         done = λ w e. full_same line name (meant word w.sight) (taken_by (meant word s)) s (map item_part is) (map item_part (there word is s)) (steady_items (taken_by (meant word s)) is h s) (ap (λ x. taken_by (meant word x)) e) w e;
@@ -400,7 +401,7 @@ module _ (change : Change) (keeps : KeepsDeclarations change) where
   pub use_layer : (line : ℕ) (name : List ℕ) → OfNode (node_text.Use line name)
   use_layer line name = (
     subst GoodNode (sym (node-use line name)) (use_good line name),
-    λ s. node_by s _ (node_part (node_text.Use line name)) (node_part (node_text.Use line name)) _ refl (ap node_part (at-use change line name s)) (record { finds = λ own hidden. refl; seen = λ t e. refl; done = λ w e. refl }),
+    λ s. node_by s _ (node_part (node_text.Use line name)) (node_part (node_text.Use line name)) _ refl (ap node_part (at-use change line name s)) (record { finds = λ own free hidden. refl; seen = λ t e. refl; done = λ w e. refl }),
   )
 
   pub full_layer : (line : ℕ) (name : Option (List ℕ)) (word : List ℕ) (is : List BodyItem) → AllByRecursion OfItem is → OfNode (node_text.Full line name word is)

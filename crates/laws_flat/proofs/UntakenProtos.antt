@@ -1,10 +1,11 @@
 -- Prototypes and statements come to the same with other values where no IS takes them.
-use Rattle.std.proofs.Common.{◌≡◌, ℕ, Bool, true, false, if◌then◌else◌, List, [], ◌∷◌, ◌++◌, Some, Result, Ok, Err, map, refl, ap, sym, ◌∙◌, subst}
+use Rattle.std.proofs.Common.{◌≡◌, ℕ, Bool, true, false, if◌then◌else◌, List, [], ◌∷◌, ◌++◌, Some, None, Option, Result, Ok, Err, map, refl, ap, sym, ◌∙◌, subst}
 use Rattle.std.specs.Prelude.{◌&&◌, ◌||◌, is_none, is_some}
 use Rattle.std.specs.List.{AllByRecursion, list_any}
 use Rattle.std.specs.Str.{bytes_eq}
 use Rattle.std.proofs.Math.Path.{fun_ext}
 use Rattle.x3d_values.specs.Names.{node_type_named}
+use Rattle.x3d_values.specs.declared.node_type.NodeType.{NodeType}
 use Rattle.classic_tree.specs.declared.tree.BodyItem.TheOpen.{Statement-F}
 use Rattle.classic_tree.specs.declared.tree.Declaration.{Declaration}
 use Rattle.classic_tree.specs.declared.tree.Given.{Given}
@@ -70,7 +71,7 @@ free_text (given.Value (value.StringList texts)) s = refl
 free_text (given.Value (value.NumberList numbers)) s = refl
 free_text (given.Value (value.NodeList ns)) s = each_free (λ (n : Node). n.sees) (map node_part ns) (nodes_free ns) s
 
-aside_bared : (r q : Seen) (names : Names) → bared r ≡ bared q → and_see {Y = Sight} r (λ u. Ok (record u { taken = names })) ≡ and_see q (λ u. Ok (record u { taken = names }))
+pub aside_bared : (r q : Seen) (names : Names) → bared r ≡ bared q → and_see {Y = Sight} r (λ u. Ok (record u { taken = names })) ≡ and_see q (λ u. Ok (record u { taken = names }))
 aside_bared r q names e = again r ∙ ap (λ x. and_see {Y = Sight} x (λ u. Ok (record u { taken = names }))) e ∙ sym (again q) where
   again : (r : Seen) → and_see {Y = Sight} r (λ u. Ok (record u { taken = names })) ≡ and_see (bared r) (λ u. Ok (record u { taken = names }))
   again (Ok u) = refl
@@ -80,7 +81,7 @@ aside_bared r q names e = again r ∙ ap (λ x. and_see {Y = Sight} x (λ u. Ok 
 
 pub record SameStatement (s : Sight) (m n : Stated) : Type 0 where
   pub kind : n.0 ≡ m.0
-  pub finds : (own : Name) (hidden : Bool) → n.1.finds own hidden ≡ m.1.finds own hidden
+  pub finds : (own : Name) → node_type_named own ≡ None → (hidden : Bool) → n.1.finds own hidden ≡ m.1.finds own hidden
   pub seen : (t : Sight) → Alike s t → n.1.sees t ≡ m.1.sees t
   pub done : (w : Walk) → Alike s w.sight → n.1.does w ≡ m.1.does w
 
@@ -178,10 +179,10 @@ module _ (change : Change) (keeps : KeepsDeclarations change) where
       (steady_in_turn default_sees (default takes) Any parts (interface_mapped (node_at change)) declaration_at OfDefault
       (λ d k t. steady_default takes (parts d) t (given_mapped node_part (given_then change keeps d.given t)) (given_steady change keeps d.given k t)) ds h s)
 
-  defaults_found : (own : Name) (ds : List (Declaration NodeText)) → AllByRecursion OfDefault ds → (s : Sight) (hidden : Bool)
+  defaults_found : (own : Name) → node_type_named own ≡ None → (ds : List (Declaration NodeText)) → AllByRecursion OfDefault ds → (s : Sight) (hidden : Bool)
       → each (λ (d : Declaration Node). given_finds d.given own) (map parts (defaults_at ds s)) hidden ≡ each (λ (d : Declaration Node). given_finds d.given own) (map parts ds) hidden
-  defaults_found own ds h s hidden =
-      finds_in_turn (λ (d : Declaration Node). given_finds d.given own) text_sees parts (interface_mapped (node_at change)) declaration_at OfDefault (λ d k t b. given_found change keeps d.given k t own b) ds h s hidden
+  defaults_found own free ds h s hidden =
+      finds_in_turn (λ (d : Declaration Node). given_finds d.given own) text_sees parts (interface_mapped (node_at change)) declaration_at OfDefault (λ d k t b. given_found change keeps d.given k t own free b) ds h s hidden
 
   -- ---- defaults that no IS takes
 
@@ -194,12 +195,12 @@ module _ (change : Change) (keeps : KeepsDeclarations change) where
   unless_sees false line name (given.Is a) s = refl
   unless_sees false line name (given.Value v) s = changed_declares change keeps line name v s
 
-  unless_found : (b : Bool) (line : ℕ) (name : Name) (g : Given NodeText) (own : Name) (hidden : Bool)
+  unless_found : (b : Bool) (line : ℕ) (name : Name) (g : Given NodeText) (own : Name) → node_type_named own ≡ None → (hidden : Bool)
       → given_finds (given_mapped node_part (unless_kept change b line name g)) own hidden ≡ given_finds (given_mapped node_part g) own hidden
-  unless_found true line name g own hidden = refl
-  unless_found false line name given.Nothing own hidden = refl
-  unless_found false line name (given.Is a) own hidden = refl
-  unless_found false line name (given.Value v) own hidden = changed_found change keeps line name v own hidden
+  unless_found true line name g own free hidden = refl
+  unless_found false line name given.Nothing own free hidden = refl
+  unless_found false line name (given.Is a) own free hidden = refl
+  unless_found false line name (given.Value v) own free hidden = changed_found change keeps line name v own free hidden
 
   -- a default does the same
   unless_does : (takes : Names) (b : Bool) (d : Declaration NodeText) → takes d.name ≡ b → (filled : List Filled) (w : Walk)
@@ -228,12 +229,12 @@ module _ (change : Change) (keeps : KeepsDeclarations change) where
   found_next (Ok b) k = k b
   found_next (Err line) k = refl
 
-  finally_found : (own : Name) (takes : Names) (ds : List (Declaration NodeText)) (hidden : Bool)
+  finally_found : (own : Name) → node_type_named own ≡ None → (takes : Names) (ds : List (Declaration NodeText)) (hidden : Bool)
       → each (λ (d : Declaration Node). given_finds d.given own) (map parts (finally takes ds)) hidden ≡ each (λ (d : Declaration Node). given_finds d.given own) (map parts ds) hidden
-  finally_found own takes [] hidden = refl
-  finally_found own takes (d ∷ ds) hidden =
-      ap (λ r. and_see r (each (λ (d : Declaration Node). given_finds d.given own) (map parts (finally takes ds)))) (unless_found (takes d.name) d.line d.name d.given own hidden)
-      ∙ found_next (given_finds (given_mapped node_part d.given) own hidden) (finally_found own takes ds)
+  finally_found own free takes [] hidden = refl
+  finally_found own free takes (d ∷ ds) hidden =
+      ap (λ r. and_see r (each (λ (d : Declaration Node). given_finds d.given own) (map parts (finally takes ds)))) (unless_found (takes d.name) d.line d.name d.given own free hidden)
+      ∙ found_next (given_finds (given_mapped node_part d.given) own hidden) (finally_found own free takes ds)
 
   defaults_free : (ds : List (Declaration NodeText)) → AllByRecursion (λ (d : Declaration Node). Free (default_sees d)) (map parts ds)
   defaults_free [] = tt
@@ -263,10 +264,10 @@ module _ (change : Change) (keeps : KeepsDeclarations change) where
   steady_body ss h s =
       steady_in_turn stated_sees in_body Any stated (statement_at change) (λ (x : StatementAt). x) OfStatement (λ x k t. steady_stated t (stated x) (stated (statement_at change x t)) k.0 (k.1 t)) ss h s
 
-  body_found : (own : Name) (ss : List Statement) → AllByRecursion OfStatement ss → (s : Sight) (hidden : Bool)
+  body_found : (own : Name) → node_type_named own ≡ None → (ss : List Statement) → AllByRecursion OfStatement ss → (s : Sight) (hidden : Bool)
       → each (λ (x : Stated). x.1.finds own) (map stated (statements_at (map (statement_at change) ss) s)) hidden ≡ each (λ (x : Stated). x.1.finds own) (map stated ss) hidden
-  body_found own ss h s hidden =
-      finds_in_turn (λ (x : Stated). x.1.finds own) (λ (x : Statement). (stated x).1.sees) stated (statement_at change) (λ (x : StatementAt). x) OfStatement (λ x k t b. (k.1 t).finds own b) ss h s hidden
+  body_found own free ss h s hidden =
+      finds_in_turn (λ (x : Stated). x.1.finds own) (λ (x : Statement). (stated x).1.sees) stated (statement_at change) (λ (x : StatementAt). x) OfStatement (λ x k t b. (k.1 t).finds own free b) ss h s hidden
 
   nodes_same : (ss : List Statement) → AllByRecursion OfStatement ss → (s : Sight) → list_any (λ (x : Stated). x.0) (map stated (statements_at (map (statement_at change) ss) s)) ≡ list_any (λ (x : Stated). x.0) (map stated ss)
   nodes_same [] h s = refl
@@ -392,12 +393,12 @@ module _ (change : Change) (keeps : KeepsDeclarations change) where
       on (Ok u) e = ap (λ p. Ok (record t { here = t.here ++ p ∷ [] })) (prototype_with u e)
       on (Err x) e = refl
 
-    new_found : (own : Name) (hidden : Bool) → body_finds line name new_interface new_body own hidden ≡ body_finds line name old_interface old_body own hidden
-    new_found own hidden =
-        ap (λ r. and_see r (each (λ (x : Stated). x.1.finds own) new_body)) (finally_found own takes defaults hidden ∙ defaults_found own interface good_interface start hidden)
+    new_found : (own : Name) → node_type_named own ≡ None → (hidden : Bool) → body_finds line name new_interface new_body own hidden ≡ body_finds line name old_interface old_body own hidden
+    new_found own free hidden =
+        ap (λ r. and_see r (each (λ (x : Stated). x.1.finds own) new_body)) (finally_found own free takes defaults hidden ∙ defaults_found own free interface good_interface start hidden)
         ∙ on (each (λ (d : Declaration Node). given_finds d.given own) old_interface hidden) where
           on : (r : Result Bool ℕ) → and_see r (each (λ (x : Stated). x.1.finds own) new_body) ≡ and_see r (each (λ (x : Stated). x.1.finds own) old_body)
-          on (Ok b) = body_found own body good_body before b
+          on (Ok b) = body_found own free body good_body before b
           on (Err x) = refl
 
     body_declares : (t : Sight) → Alike s t → (r : Result Bool ℕ) → declare_body line name new_interface new_body r t ≡ declare_body line name old_interface old_body r t
@@ -408,15 +409,20 @@ module _ (change : Change) (keeps : KeepsDeclarations change) where
         (subst (λ around. declares_by new_interface new_body around t ≡ declares_by old_interface old_body around t) (sym (ap (λ (x : Sight). x.here ++ x.outside) e)) (declares_same t))
 
     pub new_declare : (t : Sight) → Alike s t → declare line name new_interface new_body t ≡ declare line name old_interface old_body t
-    new_declare t e =
-        ap (λ r. if is_some (node_type_named name) || is_some (declared name t.here) then Err (fault ProtoTwice line) else r)
-        (ap (λ r. declare_body line name new_interface new_body r t) (new_found name false) ∙ body_declares t e (body_finds line name old_interface old_body name false))
+    new_declare t e = on (node_type_named name) refl where
+      on : (o : Option NodeType) → node_type_named name ≡ o
+          → (if is_some o || is_some (declared name t.here) then Err (fault ProtoTwice line) else declare_body line name new_interface new_body (body_finds line name new_interface new_body name false) t)
+          ≡ (if is_some o || is_some (declared name t.here) then Err (fault ProtoTwice line) else declare_body line name old_interface old_body (body_finds line name old_interface old_body name false) t)
+      on (Some x) is = refl
+      on None is =
+          ap (λ r. if is_some (declared name t.here) then Err (fault ProtoTwice line) else r)
+          (ap (λ r. declare_body line name new_interface new_body r t) (new_found name is false) ∙ body_declares t e (body_finds line name old_interface old_body name false))
 
     pub proto_same : SameProto s (proto_of line name old_interface old_body) (proto_of line name new_interface new_body)
     unfolding proto_step
     proto_same =
         record {
-          finds = λ own hidden. ap (λ r. and_see {Y = Bool} r (λ _. Ok (bytes_eq name own || hidden))) (new_found own hidden);
+          finds = λ own free hidden. ap (λ r. and_see {Y = Bool} r (λ _. Ok (bytes_eq name own || hidden))) (new_found own free hidden);
           seen = new_declare;
           done = λ w e. ap (λ r. follow [] r (λ t. comes (Ok (tt {0}, record w { sight = t })))) (new_declare w.sight e);
         }
@@ -467,7 +473,7 @@ module _ (change : Change) (keeps : KeepsDeclarations change) where
   route_layer r = (
     subst GoodStated (sym (statement-route r)) (route_stated r),
     λ s. statement_by s _ (stated (statement_text.Route r)) (stated (statement_text.Route r)) _ refl (ap stated (at-route change r s))
-        (record { kind = refl; finds = λ own hidden. refl; seen = λ t e. refl; done = λ w e. refl }),
+        (record { kind = refl; finds = λ own free hidden. refl; seen = λ t e. refl; done = λ w e. refl }),
   )
 
   pub proto_layer : (p : ProtoText) → OfProto p → OfStatement (statement_text.Proto p)

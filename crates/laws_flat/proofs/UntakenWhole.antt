@@ -1,18 +1,15 @@
 -- What no IS takes doesn't matter: whole documents.
-use Rattle.std.proofs.Common.{◌≡◌, ℕ, Bool, Ok, List, [], ◌∷◌, ◌++◌, map, refl, ap, sym, ◌∙◌}
+use Rattle.std.proofs.Common.{◌≡◌, ℕ, Ok, List, [], ◌++◌, map, refl, ap, sym, ◌∙◌}
 use Rattle.classic_tree.specs.declared.tree.Document.{Document}
-use Rattle.classic_tree.specs.declared.tree.NodeText.{NodeText}
-use Rattle.classic_tree.specs.declared.tree.RawValue.{RawValue}
-use Rattle.classic_tree.specs.declared.tree.Given.TheVariants as given
 use Rattle.classic_tree.specs.declared.tree.Statement.{Statement}
 use Rattle.flat_meaning.specs.Limits.{and_then, limited}
-use Rattle.flat_meaning.specs.Sight.{Sight, no_names, nodes_in, each, aside}
+use Rattle.flat_meaning.specs.Sight.{Sight, no_names}
 use Rattle.flat_meaning.specs.Flat.{Does, ◌>>=◌, comes, pure, begin, Stated, header_of, flat}
-use Rattle.flat_meaning.specs.Flat.{node, statement as stated}
-use Rattle.flat_meaning.specs.Names.{Name}
+use Rattle.flat_meaning.specs.Flat.{statement as stated}
 use Rattle.flat_meaning.proofs.Induction.{Layers, every}
 use Rattle.flat_meaning.proofs.SightLaw.{Any, then_still}
-use Rattle.laws_flat.specs.Untaken.{Change, KeepsDeclarations, StatementAt, given_declares, given_holds, statements_at, statement_at, with_untaken, null_for, blanked, UntakenValuesDontMatter, UntakenPlainValuesDontMatter}
+use Rattle.laws_flat.specs.Untaken.{Change, KeepsDeclarations, StatementAt, statements_at, statement_at, with_untaken, blanked, UntakenValuesDontMatter, UntakenPlainValuesDontMatter}
+use Rattle.laws_flat.proofs.BareValues.{blanked_keeps}
 use Rattle.laws_flat.proofs.Same.{AllSteady, Steady, through_same, steady_in_turn, same_then}
 use Rattle.laws_flat.proofs.UntakenNodes.{OfNode, OfItem, field_layer, declaration_layer, item_route_layer, item_proto_layer, use_layer, full_layer}
 use Rattle.laws_flat.proofs.UntakenProtos.{OfStatement, OfProto, stated_sees, prototype_layer, node_layer, route_layer, proto_layer}
@@ -66,23 +63,6 @@ module _ (change : Change) (keeps : KeepsDeclarations change) where
 
 pub untaken_values_dont_matter : UntakenValuesDontMatter
 untaken_values_dont_matter = untaken_change
-
--- ---- values without nodes
-
-blank_declares : (v : RawValue NodeText) (ns : List NodeText) → nodes_in (given.Value v) ≡ ns → (s : Sight) → aside (given_declares (given.Value (null_for ns v))) s ≡ aside (given_declares (given.Value v)) s
-blank_declares v [] e s = ap (λ (ns : List NodeText). aside (each (λ n. (node n).sees) ns) s) (sym e)
-blank_declares v (n ∷ ns) e s = refl
-
-blank_holds : (v : RawValue NodeText) (ns : List NodeText) → nodes_in (given.Value v) ≡ ns → (own : Name) (hidden : Bool) → given_holds (given.Value (null_for ns v)) own hidden ≡ given_holds (given.Value v) own hidden
-blank_holds v [] e own hidden = ap (λ (ns : List NodeText). each (λ n. (node n).finds own) ns hidden) (sym e)
-blank_holds v (n ∷ ns) e own hidden = refl
-
-blanked_keeps : KeepsDeclarations blanked
-blanked_keeps =
-    record {
-      declares = λ line name v s. blank_declares v (nodes_in (given.Value v)) refl s;
-      holds = λ line name v own hidden. blank_holds v (nodes_in (given.Value v)) refl own hidden;
-    }
 
 pub untaken_plain_values_dont_matter : UntakenPlainValuesDontMatter
 untaken_plain_values_dont_matter d e same = sym (untaken_change blanked blanked_keeps d) ∙ ap flat same ∙ untaken_change blanked blanked_keeps e

@@ -1,7 +1,9 @@
 -- What no IS takes doesn't matter (ISO/IEC 19775-1, 4.4.4): where no IS of its prototype's body
 -- takes a field, the value that an instance gives it, and its default, may be any other that
 -- declares as much.
-use Rattle.std.specs.Prelude.{◌≡◌, ℕ, Bool, false, List, [], ◌∷◌, ◌++◌, map, Option, Result, Ok, Err}
+use Rattle.std.specs.Prelude.{◌≡◌, ℕ, Bool, true, false, ◌&&◌, is_some, List, [], ◌∷◌, ◌++◌, map, Option, None, Result, Ok, Err}
+use Rattle.std.specs.List.{list_all}
+use Rattle.x3d_values.specs.Names.{node_type_named}
 use Rattle.classic_tree.specs.declared.tree.BodyItem.{BodyItem, fold-BodyItem}
 use Rattle.classic_tree.specs.declared.tree.BodyItem.TheOpen.{BodyItem-F, NodeText-F, Statement-F, ProtoText-F}
 use Rattle.classic_tree.specs.declared.tree.BodyItem.TheVariants as item_text
@@ -37,12 +39,13 @@ abbrev pub Change : Type 0
 Change = ℕ → Name → RawValue NodeText → RawValue NodeText
 
 -- whatever is in sight, the new value declares what the old one does, with the same faults, and the
--- search for an instance of a prototype finds the same: so it is of all values without nodes
+-- search for an instance of a prototype, whose name is no node type's, finds the same
 pub record KeepsDeclarations (change : Change) : Type 0 where
   pub declares : (line : ℕ) (name : Name) (v : RawValue NodeText) (s : Sight)
       → aside (given_declares (given.Value (change line name v))) s
       ≡ aside (given_declares (given.Value v)) s
-  pub holds : (line : ℕ) (name : Name) (v : RawValue NodeText) (own : Name) (hidden : Bool)
+  pub holds : (line : ℕ) (name : Name) (v : RawValue NodeText) (own : Name)
+      → node_type_named own ≡ None → (hidden : Bool)
       → given_holds (given.Value (change line name v)) own hidden
       ≡ given_holds (given.Value v) own hidden
 
@@ -200,15 +203,60 @@ UntakenValuesDontMatter =
     (change : Change) → KeepsDeclarations change → (d : Document)
     → flat (with_untaken change d) ≡ flat d
 
--- NULL in the place of a value without nodes
-abbrev pub null_for : List NodeText → RawValue NodeText → RawValue NodeText
-null_for [] v = value.Null
-null_for (n ∷ ns) v = v
+-- ---- values without prototypes
+
+abbrev pub is_true : Bool → Bool
+is_true b = b
+
+abbrev pub all_in : Given Bool → Bool
+all_in (given.Value (value.Node b)) = b
+all_in (given.Value (value.NodeList bs)) = list_all is_true bs
+all_in _ = true
+
+unfoldable pub bare_item_step : BodyItem-F Bool Bool Bool Bool → Bool
+bare_item_step (BodyItem-F.Field line name g) = all_in g
+bare_item_step (BodyItem-F.Declaration d) = all_in d.given
+bare_item_step (BodyItem-F.BodyItem::Route route) = true
+bare_item_step (BodyItem-F.BodyItem::Proto b) = false
+
+unfoldable pub bare_node_step : NodeText-F Bool Bool Bool Bool → Bool
+bare_node_step (NodeText-F.Use line name) = true
+bare_node_step (NodeText-F.Full line name word items) =
+    is_some (node_type_named word) && list_all is_true items
+
+unfoldable pub bare_statement_step : Statement-F Bool Bool Bool Bool → Bool
+bare_statement_step (Statement-F.Node b) = b
+bare_statement_step (Statement-F.Statement::Route route) = true
+bare_statement_step (Statement-F.Statement::Proto b) = false
+
+unfoldable pub bare_proto_step : ProtoText-F Bool Bool Bool Bool → Bool
+bare_proto_step p = false
+
+abbrev pub is_bare_item : BodyItem → Bool
+is_bare_item =
+    fold-BodyItem Bool Bool Bool Bool bare_item_step bare_node_step bare_statement_step
+    bare_proto_step
+
+-- no PROTO stands in it, and before all braces the names of node types
+abbrev pub is_bare_node : NodeText → Bool
+is_bare_node =
+    fold-NodeText Bool Bool Bool Bool bare_item_step bare_node_step bare_statement_step
+    bare_proto_step
+
+abbrev pub is_bare_statement : Statement → Bool
+is_bare_statement =
+    fold-Statement Bool Bool Bool Bool bare_item_step bare_node_step bare_statement_step
+    bare_proto_step
+
+-- NULL in the place of a value that has to do with no prototype
+abbrev pub null_if : Bool → RawValue NodeText → RawValue NodeText
+null_if true v = value.Null
+null_if false v = v
 
 abbrev pub blanked : Change
-blanked line name v = null_for (nodes_in (given.Value v)) v
+blanked line name v = null_if (list_all is_bare_node (nodes_in (given.Value v))) v
 
--- of documents that differ in values without nodes alone, where no IS takes these
+-- of documents that differ in such values alone, where no IS takes these
 abbrev pub UntakenPlainValuesDontMatter : Type 0
 UntakenPlainValuesDontMatter =
     (d e : Document) → with_untaken blanked d ≡ with_untaken blanked e → flat d ≡ flat e

@@ -11,8 +11,8 @@ pub fn untaken_values_dont_matter()
     ensures { UntakenValuesDontMatter }
 {}
 
-/// Documents that differ in values without nodes alone, where no IS takes these, stand for the
-/// same.
+/// Documents that differ in values alone that no IS takes, and in which stand no PROTO and no
+/// instance, stand for the same.
 pub fn untaken_plain_values_dont_matter()
     ensures { UntakenPlainValuesDontMatter }
 {}
