@@ -5,3 +5,4 @@ pub mod Hosting
 pub mod Viewing
 pub mod Rehearsing
 pub mod Joining
+pub mod Beyond

@@ -2,6 +2,7 @@
 //! viewer, and of both together, in memory or each at a port.
 #![tactic(auto)]
 
+mod exact;
 mod fits;
 mod hosting;
 mod job;
@@ -12,11 +13,12 @@ mod sockets;
 mod stages;
 mod viewing;
 
+pub use exact::ExactPort;
 pub use fits::job_fits;
 pub use hosting::host_job;
 pub use job::{SharedJob, shared_job};
 pub use joining::{JointJob, agree_job, joint_job};
-pub use patient::PatientPort;
+pub use patient::{PatientPort, Tally};
 pub use rehearsing::rehearse_job;
 pub use sockets::{bound, bound_free, number_of};
 pub use viewing::{Seat, first_boot, seated_job, view_job};

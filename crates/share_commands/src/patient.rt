@@ -1,61 +1,113 @@
-//! A port that rests where nothing comes.
+//! A port that waits where nothing comes, and counts what passes.
+
+ghost use Rattle.std.specs.Prelude.{◌≡◌};
 
 use share_port::{Port, PortFault};
-use std::thread;
-use std::time::{Clock, Duration};
+use std::fmt;
 
-/// How long a port rests, in milliseconds.
-const REST: u64 = 1;
+/// How long a port rests at least and at most, in milliseconds.
+const SHORTEST: u32 = 1;
 
-/// A port that rests for a millisecond at each receive for which nothing came, unless something
-/// came at the one before it. What passes is what passes through the port below.
-#[derive(Drop)]
-pub struct PatientPort<'a, P, C> {
-    port: P,
-    clock: &'a C,
-    came: bool,
+const LONGEST: u32 = 50;
+
+/// How many datagrams were received and sent, up to 2^64 - 1.
+#[derive(Clone, Copy)]
+pub struct Tally {
+    pub received: u64,
+    pub sent: u64,
 }
 
-impl<'a, P, C: Clock> PatientPort<'a, P, C> {
-    ghost use Rattle.std.specs.Prelude.{◌≡◌};
+impl fmt::Display for Tally {
+    fn fmt<W: fmt::Write>(&self, f: &mut fmt::Formatter<W>) -> fmt::Result {
+        write!(
+            f,
+            "{} datagrams received, {} sent",
+            self.received, self.sent
+        )
+    }
+}
 
-    pub fn new(port: P, clock: &'a C) -> PatientPort<'a, P, C>
+/// A port that rests between two turns until a datagram comes: a millisecond at most where the
+/// turn before brought something new, and else twice as long as the last time, 50 milliseconds at
+/// most. Where some came in a turn it waits a millisecond for more. It tells nothing of what
+/// passes.
+#[derive(Drop)]
+pub struct PatientPort<P> {
+    port: P,
+    rest: u32,
+    came: bool,
+    tally: Tally,
+}
+
+impl<P> PatientPort<P> {
+    pub fn new(port: P) -> PatientPort<P>
         ensures { result.port ≡ port }
     {
         PatientPort {
             port,
-            clock,
-            came: true,
+            rest: SHORTEST,
+            came: false,
+            tally: Tally {
+                received: 0,
+                sent: 0,
+            },
         }
     }
 
-    /// Rests where nothing came twice in a row.
-    fn rest(&mut self, came: bool)
-        ensures { self.new.port ≡ self.old.port }
-    {
-        if !came && !self.came {
-            thread::sleep(self.clock, Duration::from_millis(REST));
-        }
-        self.came = came;
+    /// How many datagrams passed.
+    pub fn tally(&self) -> Tally {
+        self.tally
     }
 }
 
-impl<'a, P: Port, C: Clock> Port for PatientPort<'a, P, C> {
-    ghost told = { λ p. P.told p.port };
+/// How long the next rest is, after one of so many milliseconds.
+fn next_rest(rest: u32, is_new: bool) -> u32 {
+    if is_new {
+        SHORTEST
+    } else {
+        rest.saturating_mul(2).min(LONGEST)
+    }
+}
 
+impl<P: Port> PatientPort<P> {
+    /// Waits for more, where one came and then none.
+    fn received_late(&mut self, into: &mut [u8; 257]) -> Result<Option<(u16, usize)>, PortFault> {
+        self.port.wait(SHORTEST);
+        self.port.receive(into)
+    }
+
+    fn count(&mut self, has_come: bool) {
+        self.came = has_come;
+        if has_come {
+            self.tally.received = self.tally.received.saturating_add(1);
+        }
+    }
+}
+
+impl<P: Port> Port for PatientPort<P> {
     ghost failure_count = { λ p. P.failure_count p.port };
 
     fn send(&mut self, to: u16, bytes: &[u8]) -> Result<(), PortFault> {
-        self.port.send(to, bytes)
+        self.port.send(to, bytes)?;
+        self.tally.sent = self.tally.sent.saturating_add(1);
+        Ok(())
     }
 
     fn receive(&mut self, into: &mut [u8; 257]) -> Result<Option<(u16, usize)>, PortFault> {
-        let received = self.port.receive(into)?;
-        self.rest(received.is_some());
+        let mut received = self.port.receive(into)?;
+        if received.is_none() && self.came {
+            received = self.received_late(into)?;
+        }
+        self.count(received.is_some());
         Ok(received)
     }
 
     fn failures(&self) -> u64 {
         self.port.failures()
+    }
+
+    fn rest(&mut self, is_new: bool) {
+        self.rest = next_rest(self.rest, is_new);
+        self.port.wait(self.rest);
     }
 }

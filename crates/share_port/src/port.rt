@@ -60,4 +60,11 @@ pub trait Port {
         ensures told { told self.new ≡ told self.old }
         ensures count { failure_count self.new ≡ failure_count self.old }
     {}
+
+    /// Waits until a datagram comes, which `receive` receives then: so many milliseconds at most, 1
+    /// at least. Nothing is told, and nothing fails. Where it isn't written out it returns at once.
+    fn wait(&mut self, _millis: u32)
+        ensures told { told self.new ≡ told self.old }
+        ensures count { failure_count self.new ≡ failure_count self.old }
+    {}
 }

@@ -7,6 +7,7 @@ ghost use Rattle.share_port.specs.Peers.{answerable};
 use crate::port::{Port, PortFault};
 use std::io::{self, ErrorKind};
 use std::net::{Ipv4Addr, Net, SocketAddr, UdpSocket};
+use std::time::Duration;
 
 /// A UDP socket on 127.0.0.1, which doesn't block.
 #[derive(Drop)]
@@ -100,5 +101,19 @@ impl Port for UdpPort {
 
     fn failures(&self) -> u64 {
         self.failed
+    }
+
+    // Where the device can't wait it returns at once.
+    fn wait(&mut self, millis: u32) {
+        let most = Duration::from_millis(u64::from(millis.max(1)));
+        if self.socket.set_read_timeout(Some(most)).is_err() {
+            return;
+        }
+        if self.socket.set_nonblocking(false).is_err() {
+            return;
+        }
+        let mut first = [0; 1];
+        let _came = self.socket.peek_from(&mut first);
+        let _set = self.socket.set_nonblocking(true);
     }
 }

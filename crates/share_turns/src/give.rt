@@ -19,8 +19,11 @@ use script_host::Behaviour;
 use share_core::{Viewer, piece_count, piece_packet};
 use share_law::SaveFault;
 use share_port::{Port, PortFault};
-use share_wire::{Packet, decode};
+use share_wire::Packet;
 use std::alloc::Global;
+
+/// How many pieces are sent in a row before the port rests.
+const IN_A_ROW: u32 = 32;
 
 /// Which of so many pieces is sent in a turn, both from 0: each in turn, and then the first again.
 fn piece_in_turn(count: u32, turn: u32) -> u32
@@ -78,7 +81,17 @@ fn pass_over<P: Port>(port: &mut P) -> Result<(), TurnFault>
     Ok(())
 }
 
-/// A turn of a viewer that gives. Behind it the port has its shortest rest.
+/// Has the port its shortest rest behind some turns, so that whoever gathers the pieces keeps up.
+fn rest_behind<P: Port>(turn: u32, port: &mut P)
+    ensures told { P.told port.new ≡ P.told port.old }
+    ensures count { P.failure_count port.new ≡ P.failure_count port.old }
+{
+    if turn % IN_A_ROW == IN_A_ROW - 1 {
+        port.rest(true);
+    }
+}
+
+/// A turn of a viewer that gives.
 fn give_turn<P: Port>(
     mark: &[u8; 32],
     bytes: &[u8],
@@ -96,8 +109,7 @@ fn give_turn<P: Port>(
 {
     send_piece(mark, bytes, turn, to, port)?;
     pass_over(port)?;
-    port.rest(true);
-    port.rest(false);
+    rest_behind(turn, port);
     Ok(())
 }
 
@@ -121,16 +133,6 @@ fn give_turns<P: Port>(
         give_turn(mark, bytes, turn, to, port)?;
     }
     Ok(())
-}
-
-/// The mark of a viewer's scene, which stands in each of its packets.
-fn mark_of<B: Behaviour>(viewer: &Viewer<B>) -> [u8; 32]
-    ensures { result ≡ viewer.now.mark }
-{
-    match decode(viewer.ask().as_slice()) {
-        Ok(message) => message.mark,
-        Err(_) => unreachable!(),
-    }
 }
 
 fn save_fault(fault: SaveFault) -> TurnFault
@@ -167,7 +169,7 @@ fn give_own<B: Behaviour, P: Port>(
         ≡ failures_after result (P.failure_count port.old) }
 {
     take_shot(viewer, bytes)?;
-    give_turns(&mark_of(viewer), bytes.as_slice(), to, turns, port)
+    give_turns(&viewer.mark(), bytes.as_slice(), to, turns, port)
 }
 
 /// So many turns of a viewer that gives: it takes a snapshot once, and in each turn it sends the

@@ -14,11 +14,10 @@ use share_program::{
 };
 use share_words::{Order, OrderFault, Request, request_of};
 use std::alloc::{AllocError, Global};
-use std::io;
+use std::io::{self, Eprint};
 use std::net::Net;
 use std::process::ExitCode;
 use std::rt::Env;
-use std::time::Clock;
 
 /// The program's own name and its words.
 fn own_words<R: Env + AllocGlobal>(rt: &R) -> Result<Vec<String>, OrderFault> {
@@ -58,7 +57,7 @@ fn print_text<R: Print>(rt: &R, text: &str) -> Result<(), Failure> {
 }
 
 /// Does what a command with its numbers says.
-fn obey<R: AllocGlobal + Input + Print + Net + Clock>(rt: &R, order: Order) -> Result<(), Failure>
+fn obey<R: AllocGlobal + Input + Print + Net + Eprint>(rt: &R, order: Order) -> Result<(), Failure>
     requires { IsInRange order }
 {
     match order {
@@ -73,7 +72,7 @@ fn obey<R: AllocGlobal + Input + Print + Net + Clock>(rt: &R, order: Order) -> R
 }
 
 /// Prints the text that words ask for, or obeys them.
-fn answer<R: AllocGlobal + Input + Print + Net + Clock>(
+fn answer<R: AllocGlobal + Input + Print + Net + Eprint>(
     rt: &R,
     words: &[&str],
 ) -> Result<(), Failure> {
@@ -83,7 +82,7 @@ fn answer<R: AllocGlobal + Input + Print + Net + Clock>(
     }
 }
 
-fn answer_own<R: AllocGlobal + Input + Print + Net + Clock>(
+fn answer_own<R: AllocGlobal + Input + Print + Net + Eprint>(
     rt: &R,
     own: &[String],
 ) -> Result<(), Failure> {
@@ -93,7 +92,7 @@ fn answer_own<R: AllocGlobal + Input + Print + Net + Clock>(
     answer(rt, words.as_slice())
 }
 
-fn work<R: Env + AllocGlobal + Input + Print + Net + Clock>(rt: &R) -> Result<(), Failure> {
+fn work<R: Env + AllocGlobal + Input + Print + Net + Eprint>(rt: &R) -> Result<(), Failure> {
     let own = own_words(rt)?;
     if !has_room(own.len()) {
         return Err(Failure::Order(OrderFault::Memory));

@@ -5,16 +5,17 @@ ghost use Rattle.std.specs.Prelude.{◌≡◌, ◌≤◌, IfOk, length};
 ghost use Rattle.share_words.specs.Words.{HostInRange, ViewInRange};
 
 use share_commands::{
-    JointJob, PatientPort, Seat, SharedJob, agree_job, bound, bound_free, first_boot, host_job,
-    joint_job, number_of, rehearse_job, seated_job, shared_job, view_job,
+    ExactPort, JointJob, PatientPort, Seat, SharedJob, Tally, agree_job, bound, bound_free,
+    first_boot, host_job, joint_job, number_of, rehearse_job, seated_job, shared_job, view_job,
 };
 use share_ends::{RunFault, read_whole, write_whole};
+use share_port::UdpPort;
 use share_program::{Failure, JobFault, ShareFault};
 use share_turns::{HostPlan, ViewPlan};
 use share_words::{HostOrder, Order, ViewEnd, ViewOrder};
-use std::io;
+use std::fmt;
+use std::io::{self, Eprint};
 use std::net::Net;
-use std::time::Clock;
 
 /// Reads the job of a command by which several nodes do it.
 fn read_shared<R: AllocGlobal + Input>(rt: &R, order: &Order) -> Result<SharedJob, JobFault> {
@@ -92,6 +93,30 @@ pub fn agree<R: AllocGlobal + Input + Print + Net>(
     Ok(())
 }
 
+/// Says on standard error, where that is asked for, what passed through a port. A standard error that
+/// fails is nothing to a run.
+fn tell<R: Eprint>(rt: &R, verbose: bool, tally: Tally) {
+    if verbose {
+        let _told = rt.eprintln(tally);
+    }
+}
+
+/// The port that a node is bound to, in words.
+struct BoundAt(u16);
+
+impl fmt::Display for BoundAt {
+    fn fmt<W: fmt::Write>(&self, f: &mut fmt::Formatter<W>) -> fmt::Result {
+        write!(f, "bound to port {}", self.0)
+    }
+}
+
+/// Says on standard error, where that is asked for, which port is bound.
+fn tell_port<R: Eprint>(rt: &R, verbose: bool, port: &UdpPort) {
+    if verbose && let Ok(number) = number_of(port) {
+        let _told = rt.eprintln(BoundAt(number));
+    }
+}
+
 /// What a host keeps of its inputs, and when it is done.
 fn host_plan(asked: &HostOrder) -> HostPlan {
     HostPlan {
@@ -101,27 +126,31 @@ fn host_plan(asked: &HostOrder) -> HostPlan {
 }
 
 /// Numbers the clocks of a job and what viewers offer at a port.
-fn hosted<R: AllocGlobal + Net + Clock>(
+fn hosted<R: AllocGlobal + Net + Eprint>(
     rt: &R,
     job: &SharedJob,
     asked: &HostOrder,
 ) -> Result<(), ShareFault>
     requires { HostInRange asked.now }
 {
-    let mut port = PatientPort::new(bound(rt, asked.port)?, rt);
+    let bound = bound(rt, asked.port)?;
+    tell_port(rt, asked.verbose, &bound);
+    let mut port = PatientPort::new(bound);
     let plan = host_plan(asked);
-    host_job(
+    let done = host_job(
         rt.alloc(),
         job,
         asked.viewers,
         &plan,
         asked.turns,
         &mut port,
-    )
+    );
+    tell(rt, asked.verbose, port.tally());
+    done
 }
 
 /// Reads a job of clocks, and numbers them and what viewers offer at a port.
-pub fn host<R: AllocGlobal + Input + Net + Clock>(
+pub fn host<R: AllocGlobal + Input + Net + Eprint>(
     rt: &R,
     order: &Order,
     asked: &HostOrder,
@@ -162,6 +191,14 @@ fn view_plan(asked: &ViewOrder) -> ViewPlan {
     }
 }
 
+/// The last input that a viewer takes, if there is a last one.
+fn last_input(asked: &ViewOrder) -> Option<u32> {
+    match asked.end {
+        ViewEnd::Until(_) => None,
+        ViewEnd::Exactly(last) => Some(last),
+    }
+}
+
 /// The port that a viewer binds; a free one where it asks for none.
 fn own_port(asked: &ViewOrder) -> u16 {
     match asked.at {
@@ -171,18 +208,22 @@ fn own_port(asked: &ViewOrder) -> u16 {
 }
 
 /// Offers the points of a viewer to a host: what came of the inputs.
-fn viewed<R: AllocGlobal + Net + Clock>(
+fn viewed<R: AllocGlobal + Net + Eprint>(
     rt: &R,
     seat: &mut Seat,
     asked: &ViewOrder,
 ) -> Result<Vec<u8>, ShareFault> {
-    let mut port = PatientPort::new(bound(rt, own_port(asked))?, rt);
+    let bound = bound(rt, own_port(asked))?;
+    tell_port(rt, asked.verbose, &bound);
+    let mut port = PatientPort::new(ExactPort::new(bound, last_input(asked)));
     let plan = view_plan(asked);
-    view_job(rt.alloc(), seat, asked.port, &plan, &mut port)
+    let done = view_job(rt.alloc(), seat, asked.port, &plan, &mut port);
+    tell(rt, asked.verbose, port.tally());
+    done
 }
 
 /// Reads a job of points, and offers them to a host: what came of the inputs.
-fn read_viewed<R: AllocGlobal + Input + Net + Clock>(
+fn read_viewed<R: AllocGlobal + Input + Net + Eprint>(
     rt: &R,
     order: &Order,
     asked: &ViewOrder,
@@ -196,7 +237,7 @@ fn read_viewed<R: AllocGlobal + Input + Net + Clock>(
 }
 
 /// Reads a job of points, offers them to a host, and prints what came of the inputs.
-pub fn view<R: AllocGlobal + Input + Print + Net + Clock>(
+pub fn view<R: AllocGlobal + Input + Print + Net + Eprint>(
     rt: &R,
     order: &Order,
     asked: &ViewOrder,

@@ -1,0 +1,80 @@
+//! A port that passes over inputs beyond a number.
+
+ghost use Rattle.std.specs.Prelude.{◌≡◌};
+ghost use Rattle.share_wire.specs.Decoding.{decoded};
+ghost use Rattle.share_commands.specs.Beyond.{body_is_beyond, count_of, is_beyond};
+
+use share_port::{Port, PortFault};
+use share_wire::{Body, decode};
+
+/// Whether the bytes are the datagram of an input beyond the last one that is wanted.
+fn is_beyond(bytes: &[u8], last: u32) -> bool
+    ensures { result ≡ is_beyond last (decoded bytes.now) }
+{
+    match decode(bytes) {
+        Ok(message) => body_is_beyond(message.body, last),
+        Err(_) => false,
+    }
+}
+
+fn body_is_beyond(body: Body, last: u32) -> bool
+    ensures { result ≡ body_is_beyond last body }
+{
+    match body {
+        Body::Input(input) => input.number() > last,
+        _ => false,
+    }
+}
+
+/// A port that passes over inputs beyond a last one, if there is a last one: of such a datagram no
+/// byte is received. It tells nothing of what passes.
+#[derive(Drop)]
+pub struct ExactPort<P> {
+    port: P,
+    last: Option<u32>,
+}
+
+impl<P> ExactPort<P> {
+    pub fn new(port: P, last: Option<u32>) -> ExactPort<P>
+        ensures { result.port ≡ port }
+    {
+        ExactPort { port, last }
+    }
+}
+
+/// How many bytes of a datagram are received.
+fn count_of(bytes: &[u8], last: Option<u32>) -> usize
+    ensures { result ≡ count_of last bytes.now }
+{
+    match last {
+        Some(last) if is_beyond(bytes, last) => 0,
+        _ => bytes.len(),
+    }
+}
+
+impl<P: Port> Port for ExactPort<P> {
+    ghost failure_count = { λ p. P.failure_count p.port };
+
+    fn send(&mut self, to: u16, bytes: &[u8]) -> Result<(), PortFault> {
+        self.port.send(to, bytes)
+    }
+
+    fn receive(&mut self, into: &mut [u8; 257]) -> Result<Option<(u16, usize)>, PortFault> {
+        match self.port.receive(into)? {
+            Some((from, count)) => Ok(Some((from, count_of(&into[..count], self.last)))),
+            None => Ok(None),
+        }
+    }
+
+    fn failures(&self) -> u64 {
+        self.port.failures()
+    }
+
+    fn rest(&mut self, is_new: bool) {
+        self.port.rest(is_new);
+    }
+
+    fn wait(&mut self, millis: u32) {
+        self.port.wait(millis);
+    }
+}
