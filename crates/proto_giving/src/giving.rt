@@ -1,0 +1,213 @@
+//! Fields that are given something that puts no nodes in.
+
+ghost use Rattle.std.specs.Prelude.{◌≡◌, ℕ, false, List, IfOk, option_map};
+ghost use Rattle.std.specs.Option.{option_map_or};
+ghost use Rattle.classic_tree.specs.declared.tree.Given.TheVariants as text;
+ghost use Rattle.flat_meaning.specs.Flat as flat;
+ghost use Rattle.flat_meaning.specs.Limits.{item_count};
+ghost use Rattle.flat_meaning.specs.Names.{value_of};
+ghost use Rattle.flat_meaning.specs.Sight as sight;
+ghost use Rattle.proto_given.specs.Held as table;
+ghost use Rattle.proto_interface.specs.Fields.{field_named, numbered};
+ghost use Rattle.proto_inside.specs.Held as braces;
+ghost use Rattle.proto_limits.specs.Settled.{doing};
+ghost use Rattle.proto_scope.specs.Held as scope;
+ghost use Rattle.proto_walker.specs.Shown as shown;
+ghost use Rattle.proto_walker.specs.Shown.{Steps};
+ghost use Rattle.proto_giving.specs.Giving.{Gives, MayJoin, inside_of, is_type};
+
+use classic_tree::RawValue;
+use flat_document::{ExpandFault, ExpandFaultKind};
+use proto_given::GivenField;
+use proto_inside::{Inside, Owner, item_count};
+use proto_interface::KnownField;
+use proto_walker::Walker;
+use std::alloc::AllocError;
+use std::rc::Rc;
+use x3d_lists::Text;
+use x3d_values::Access;
+
+/// A field of a node is met with its number and items, one of an instance without.
+fn meet_field(
+    walker: &mut Walker<'_>,
+    owner: Owner<'_>,
+    number: usize,
+    items: usize,
+) -> Result<(), ExpandFault>
+    requires { shown.Sound walker.old }
+    ensures { (o : sight.Owner) → flat.is_node o ≡ is_type owner.entry
+        → Steps (λ a. a) (doing (flat.met_field o number items) (shown.shown walker.old)) result
+        walker.new }
+{
+    match owner {
+        Owner::Node(_node_type) => walker.meet_field(number, items),
+        Owner::Instance(_interface) => walker.meet_item(),
+    }
+}
+
+/// The field is met, and given nothing.
+fn keep_nothing<'a>(
+    walker: &mut Walker<'a>,
+    inside: &mut Inside<'a>,
+    line: u32,
+    name: &'a Text,
+    field: KnownField,
+) -> Result<(), ExpandFault>
+    requires walker { shown.Sound walker.old }
+    requires inside { braces.Sound inside.old }
+    requires free { table.has_name name.now (braces.filled_in inside.old) ≡ false }
+    ensures { (at : ℕ) (o : sight.Owner) → flat.is_node o ≡ is_type inside.old.owner
+        → Gives at o (doing (flat.give line (numbered name.now field) false text.Nothing
+        (inside_of at o inside.old)) (shown.shown walker.old)) result walker.new inside.old
+        inside.new }
+{
+    meet_field(walker, inside.owner, field.number, 0)?;
+    inside.fill(
+        name,
+        GivenField {
+            line,
+            number: field.number,
+            value: None,
+        },
+    )?;
+    Ok(())
+}
+
+/// The field is declared without a value: FieldTwice where it was given something before.
+pub fn put_nothing<'a>(
+    walker: &mut Walker<'a>,
+    inside: &mut Inside<'a>,
+    line: u32,
+    name: &'a Text,
+    field: KnownField,
+) -> Result<(), ExpandFault>
+    requires walker { shown.Sound walker.old }
+    requires inside { braces.Sound inside.old }
+    ensures { (at : ℕ) (o : sight.Owner) → flat.is_node o ≡ is_type inside.old.owner
+        → Gives at o (doing (flat.give line (numbered name.now field)
+        (table.has_name name.now (braces.filled_in inside.old)) text.Nothing
+        (inside_of at o inside.old)) (shown.shown walker.old)) result walker.new inside.old
+        inside.new }
+{
+    if inside.has(name) {
+        return Err(ExpandFaultKind::FieldTwice.on_line(line));
+    }
+    keep_nothing(walker, inside, line, name, field)
+}
+
+/// Whether an interface field of the first access may be joined to a field of the second.
+fn joins(outer: Access, inner: Access) -> bool
+    ensures { result ≡ flat.joins outer inner }
+{
+    match outer {
+        Access::InputOnly => inner.receives(),
+        Access::OutputOnly => inner.sends(),
+        Access::InitializeOnly => inner.is_initial(),
+        Access::InputOutput => inner.is_exposed(),
+    }
+}
+
+fn fits(outer: KnownField, inner: KnownField) -> bool
+    ensures { (a b : List ℕ) → result ≡ flat.fits (field_named a outer) (field_named b inner) }
+{
+    outer.field_type == inner.field_type && joins(outer.access, inner.access)
+}
+
+/// The value once more.
+fn shared(value: Option<&Rc<RawValue<u32>>>) -> Result<Option<Rc<RawValue<u32>>>, AllocError>
+    ensures { IfOk result (λ v. option_map (λ r. r.value) v
+        ≡ option_map (λ r. r.now.value) value.entry) }
+{
+    let Some(value) = value else {
+        return Ok(None);
+    };
+    Ok(Some(value.clone()?))
+}
+
+fn items_of(value: &Option<Rc<RawValue<u32>>>) -> usize
+    ensures { result ≡ option_map_or item_count (option_map (λ r. r.value) value.now) 0 }
+{
+    match value {
+        None => 0,
+        Some(value) => item_count(value),
+    }
+}
+
+/// The field is joined to that of the interface, and holds what it is given.
+fn join<'a>(
+    walker: &mut Walker<'a>,
+    inside: &mut Inside<'a>,
+    at: usize,
+    line: u32,
+    name: &'a Text,
+    field: KnownField,
+    outer: &'a Text,
+) -> Result<(), ExpandFault>
+    requires walker { shown.Sound walker.old }
+    requires inside { braces.Sound inside.old }
+    requires free { table.has_name name.now (braces.filled_in inside.old) ≡ false }
+    ensures { (o : sight.Owner) → flat.is_node o ≡ is_type inside.old.owner
+        → Gives at o (doing (flat.join line (numbered name.now field) (inside_of at o inside.old)
+        outer.now (value_of outer.now (scope.shown walker.old.scope).given))
+        (shown.shown walker.old)) result walker.new inside.old inside.new }
+{
+    let value = shared(walker.scope.value(outer))?;
+    meet_field(walker, inside.owner, field.number, items_of(&value))?;
+    walker.join_field(outer, at, name)?;
+    inside.fill(
+        name,
+        GivenField {
+            line,
+            number: field.number,
+            value,
+        },
+    )?;
+    Ok(())
+}
+
+/// Whether the field may be joined to the interface field of that name: BadIs where there is none,
+/// or where they don't fit, and then FieldTwice where it was given something before.
+fn check_is(
+    walker: &Walker<'_>,
+    inside: &Inside<'_>,
+    line: u32,
+    name: &Text,
+    field: KnownField,
+    outer: &Text,
+) -> Result<(), ExpandFault>
+    requires { braces.Sound inside.now }
+    ensures { MayJoin line name.now field outer.now inside.now (shown.shown walker.now) result }
+{
+    let Some(known) = walker.scope.outer(outer) else {
+        return Err(ExpandFaultKind::BadIs.on_line(line));
+    };
+    if !fits(known, field) {
+        return Err(ExpandFaultKind::BadIs.on_line(line));
+    }
+    if inside.has(name) {
+        return Err(ExpandFaultKind::FieldTwice.on_line(line));
+    }
+    Ok(())
+}
+
+/// IS: the field is an end of the interface field, and has what that is given.
+pub fn put_is<'a>(
+    walker: &mut Walker<'a>,
+    inside: &mut Inside<'a>,
+    at: usize,
+    line: u32,
+    name: &'a Text,
+    field: KnownField,
+    outer: &'a Text,
+) -> Result<(), ExpandFault>
+    requires walker { shown.Sound walker.old }
+    requires inside { braces.Sound inside.old }
+    ensures { (o : sight.Owner) → flat.is_node o ≡ is_type inside.old.owner
+        → Gives at o (doing (flat.give line (numbered name.now field)
+        (table.has_name name.now (braces.filled_in inside.old)) (text.Is outer.now)
+        (inside_of at o inside.old)) (shown.shown walker.old)) result walker.new inside.old
+        inside.new }
+{
+    check_is(walker, inside, line, name, field, outer)?;
+    join(walker, inside, at, line, name, field, outer)
+}
