@@ -18,11 +18,11 @@ returns-clause-done g c =
     let shot = rw c.requires at c.in_ok-take_shot.ensures in
     let same : c.as_slice.result.now ≡ c.take_shot.new.bytes.items = search rules in
     gave c.args.viewer.now c.give_turns.result c.args.to c.args.turns (g.P.Port.told c.args.port.now) (g.P.Port.told c.give_turns.new.port) c.take_shot.new.bytes.items shot
-    (rw (c.mark_of.ensures, same) at c.give_turns.ensures.done)
+    (rw (c.mark.ensures.value, same) at c.give_turns.ensures.done)
 
 pub returns-clause-ended : goal.returns-clause-ended
 returns-clause-ended g c =
     let shot = rw c.requires at c.in_ok-take_shot.ensures in
     let same : c.as_slice.result.now ≡ c.take_shot.new.bytes.items = search rules in
     gave_cut c.args.viewer.now c.give_turns.result c.args.to c.args.turns (g.P.Port.told c.args.port.now) (g.P.Port.told c.give_turns.new.port) c.take_shot.new.bytes.items shot
-    (rw (c.mark_of.ensures, same) at c.give_turns.ensures.ended) c.give_turns.ensures.fault
+    (rw (c.mark.ensures.value, same) at c.give_turns.ensures.ended) c.give_turns.ensures.fault

@@ -1,4 +1,4 @@
-use Rattle.std.proofs.Common.{rules, ◌≡◌, ◌∙◌, inl, inr}
+use Rattle.std.proofs.Common.{rules, ◌≡◌, inl, inr}
 use Rattle.std.specs.Prelude.{Err}
 use Rattle.share_turns.specs.declared.fault.TurnFault.TheVariants.{Port}
 use Rattle.share_turns.proofs.give.give_turn.Goals as goal
@@ -16,5 +16,4 @@ returns-in_err-pass_over-clause-ended g c =
 
 pub returns-clause-done : goal.returns-clause-done
 returns-clause-done g c =
-    let told = c.rest-2.ensures.told ∙ c.rest.ensures.told in
-    (g.P.Port.told c.send_piece.new.port, c.in_ok-send_piece.ensures.sent, rw (← told) at c.in_ok-pass_over.ensures.over)
+    (g.P.Port.told c.send_piece.new.port, c.in_ok-send_piece.ensures.sent, rw (← c.rest_behind.ensures.told) at c.in_ok-pass_over.ensures.over)
