@@ -1,7 +1,9 @@
 -- What the calls on an embedded world answer, and the world that they leave.
-use Rattle.std.specs.Prelude.{◌≡◌, ◌⊎◌, ℕ, ℤ, List, [], Option, None, Result, Err, IfNone, IfOk, IfSome, OnErr, OnOk}
+use Rattle.std.specs.Prelude.{◌≡◌, ◌⊎◌, ℕ, ℤ, List, [], Option, None, Result, Err, IfErr, IfNone, IfOk, IfSome, IsSomeAnd, OnErr, OnOk, slice_get}
 use Rattle.sha2.specs.Sha256.{sha256}
-use Rattle.cascade_core.specs.Held.{StageView, after, refusal_of, settled_by, spoiled, trace_of}
+use Rattle.cascade_core.specs.Held.{IfSpoiled, StageView, after, refusal_of, settled_by, spoiled, trace_of}
+use Rattle.cascade_core.specs.Installing.{RefusesBox}
+use Rattle.cascade_core.specs.Scripts.{kinds_in, scripts_in}
 use Rattle.cascade_core.specs.Work.{IsWork}
 use Rattle.snapshot_codec.specs.Head.{head_fault}
 use Rattle.snapshot_core.specs.Loading.{load_outcome, loaded}
@@ -14,11 +16,14 @@ use Rattle.share_jobs.specs.declared.fault.JobFault.{JobFault}
 use Rattle.share_jobs.specs.declared.fault.JobFault.TheVariants.{Memory}
 use Rattle.stage_answers.specs.declared.fault.ApplyFault.{ApplyFault}
 use Rattle.stage_answers.specs.declared.fault.ApplyFault.TheVariants as apply
+use Rattle.stage_answers.specs.declared.fault.PlaceFault.{PlaceFault}
+use Rattle.stage_answers.specs.declared.fault.PlaceFault.TheVariants as place
 use Rattle.stage_answers.specs.declared.work.Work.{Work}
 use Rattle.x3d_lists.specs.Answers.{Gives}
 use Rattle.x3d_values.specs.Stamp.{Stamp}
+use Rattle.x3d_values.specs.declared.script.Kind.{Kind}
 use Rattle.embedded_world.specs.Looks.{snapshot_in}
-use Rattle.embedded_world.specs.Opening.{opened_stage}
+use Rattle.stock_stages.specs.Stages.{opened_stage}
 use Rattle.embedded_world.specs.declared.fault.LookFault.{LookFault}
 use Rattle.embedded_world.specs.declared.fault.LookFault.TheVariants as look
 use Rattle.embedded_world.specs.declared.lists.Entry.{Entry}
@@ -88,3 +93,13 @@ Loads old boot bytes result new =
     ⊎ ((result ≡ Err snap.Memory) × (new.stage ≡ spoiled old.stage)
     × (head_fault 1 old.mark bytes ≡ None)))
     × (new ≡ with_stage old new.stage)
+
+-- a box of this kind took the place of script k, or is refused, and the world is as it was
+abbrev pub Replaces : EmbeddedWorld → (k : ℕ) → Kind → Result (Unit {0}) PlaceFault → EmbeddedWorld
+    → Type 0
+Replaces old k kind result new =
+    (new ≡ old)
+    × OnOk result (IsSomeAnd (slice_get (kinds_in old.stage.scene) k) (λ own. kind ≡ own))
+    × IfSpoiled old.stage.held (result ≡ Err place.Spoiled)
+    × IfErr result (λ fault. (fault ≡ place.Memory)
+    ⊎ RefusesBox fault old.stage.held (slice_get (scripts_in old.stage.scene) k) kind)

@@ -1,4 +1,3 @@
 pub mod Calls
 pub mod Looks
-pub mod Opening
 pub mod Pointing

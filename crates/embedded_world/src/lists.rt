@@ -20,8 +20,8 @@ pub struct Entry {
     pub m: u64,
 }
 
-/// Writes the roots.
-fn write_roots(scene: &Scene, out: &mut Vec<i64>) -> Result<(), LookFault>
+/// Writes the roots, to an empty list.
+pub fn write_roots(scene: &Scene, out: &mut Vec<i64>) -> Result<(), LookFault>
     requires empty { out.old.items ≡ [] }
     ensures is { Gives Memory (λ _. out.new.items) result (spec.roots_in scene.now) }
     ensures err { OnErr result (out.new.items ≡ []) }
@@ -33,8 +33,8 @@ fn write_roots(scene: &Scene, out: &mut Vec<i64>) -> Result<(), LookFault>
     Ok(())
 }
 
-/// Writes the list `children` of a node.
-fn write_children(scene: &Scene, node: u32, out: &mut Vec<i64>) -> Result<(), LookFault>
+/// Writes the list `children` of a node, to an empty list.
+pub fn write_children(scene: &Scene, node: u32, out: &mut Vec<i64>) -> Result<(), LookFault>
     requires empty { out.old.items ≡ [] }
     ensures is { Gives Memory (λ _. out.new.items) result (spec.children_in scene.now node) }
     ensures err { OnErr result (out.new.items ≡ []) }
@@ -49,8 +49,8 @@ fn write_children(scene: &Scene, node: u32, out: &mut Vec<i64>) -> Result<(), Lo
     Ok(())
 }
 
-/// Writes the numbers of the value that a field has now.
-fn write_numbers(
+/// Writes the numbers of the value that a field has now, to an empty list.
+pub fn write_numbers(
     stage: &Stage<StockScript>,
     node: u32,
     field: u16,
@@ -73,8 +73,8 @@ fn write_numbers(
     Ok(())
 }
 
-/// Writes the sensors that concern what a ray meets, and tells where that is.
-fn write_sensors(
+/// Writes the sensors that concern what a ray meets, to an empty list, and tells where that is.
+pub fn write_sensors(
     stage: &Stage<StockScript>,
     ray: Ray,
     out: &mut Vec<i64>,

@@ -10,8 +10,8 @@ use cascade_core::Stage;
 use script_boxes::StockScript;
 use snapshot_core::{SaveFault, Saved, SnapFault, load_into, save};
 
-/// Writes the snapshot of a stage's world, as a boot.
-fn write_snapshot(
+/// Writes the snapshot of a stage's world, as a boot, to an empty text.
+pub fn write_snapshot(
     stage: &Stage<StockScript>,
     mark: &[u8; 32],
     boot: u32,

@@ -14,8 +14,8 @@ use stage_answers::TextFault;
 use world_reading::{push_changes, push_lines, value_now};
 use x3d_values::show_value;
 
-/// Writes the lines of the trace that are of inputs from a number on.
-fn write_trace(stage: &Stage<StockScript>, first: u32, out: &mut Vec<u8>) -> Result<(), LookFault>
+/// Writes the lines of the trace that are of inputs from a number on, to an empty text.
+pub fn write_trace(stage: &Stage<StockScript>, first: u32, out: &mut Vec<u8>) -> Result<(), LookFault>
     requires empty { out.old.items ≡ [] }
     ensures is { Gives Memory (λ _. out.new.items) result (spec.trace_from stage.now first) }
     ensures err { OnErr result (out.new.items ≡ []) }
@@ -27,8 +27,8 @@ fn write_trace(stage: &Stage<StockScript>, first: u32, out: &mut Vec<u8>) -> Res
     Ok(())
 }
 
-/// Writes the same lines by numbers.
-fn write_changes(stage: &Stage<StockScript>, first: u32, out: &mut Vec<u8>) -> Result<(), LookFault>
+/// Writes the same lines by numbers, to an empty text.
+pub fn write_changes(stage: &Stage<StockScript>, first: u32, out: &mut Vec<u8>) -> Result<(), LookFault>
     requires empty { out.old.items ≡ [] }
     ensures is { Gives Memory (λ _. out.new.items) result (spec.changes_from stage.now first) }
     ensures err { OnErr result (out.new.items ≡ []) }
@@ -40,8 +40,8 @@ fn write_changes(stage: &Stage<StockScript>, first: u32, out: &mut Vec<u8>) -> R
     Ok(())
 }
 
-/// Writes the scene as it is now.
-fn write_scene(stage: &Stage<StockScript>, out: &mut Vec<u8>) -> Result<(), LookFault>
+/// Writes the scene as it is now, to an empty text.
+pub fn write_scene(stage: &Stage<StockScript>, out: &mut Vec<u8>) -> Result<(), LookFault>
     requires empty { out.old.items ≡ [] }
     ensures is { Gives Memory (λ _. out.new.items) result (spec.scene_now stage.now) }
     ensures err { OnErr result (out.new.items ≡ []) }
@@ -53,8 +53,8 @@ fn write_scene(stage: &Stage<StockScript>, out: &mut Vec<u8>) -> Result<(), Look
     }
 }
 
-/// Writes the word for a node's type.
-fn write_type(scene: &Scene, node: u32, out: &mut Vec<u8>) -> Result<(), LookFault>
+/// Writes the word for a node's type, to an empty text.
+pub fn write_type(scene: &Scene, node: u32, out: &mut Vec<u8>) -> Result<(), LookFault>
     requires empty { out.old.items ≡ [] }
     ensures is { Gives Memory (λ _. out.new.items) result (spec.type_in scene.now node) }
     ensures err { OnErr result (out.new.items ≡ []) }
@@ -66,8 +66,8 @@ fn write_type(scene: &Scene, node: u32, out: &mut Vec<u8>) -> Result<(), LookFau
     Ok(())
 }
 
-/// Writes the name of a node.
-fn write_label(scene: &Scene, node: u32, out: &mut Vec<u8>) -> Result<(), LookFault>
+/// Writes the name of a node, to an empty text.
+pub fn write_label(scene: &Scene, node: u32, out: &mut Vec<u8>) -> Result<(), LookFault>
     requires empty { out.old.items ≡ [] }
     ensures is { Gives Memory (λ _. out.new.items) result (spec.label_in scene.now node) }
     ensures err { OnErr result (out.new.items ≡ []) }
@@ -79,8 +79,8 @@ fn write_label(scene: &Scene, node: u32, out: &mut Vec<u8>) -> Result<(), LookFa
     Ok(())
 }
 
-/// Writes the name of a field.
-fn write_field(scene: &Scene, node: u32, field: u16, out: &mut Vec<u8>) -> Result<(), LookFault>
+/// Writes the name of a field, to an empty text.
+pub fn write_field(scene: &Scene, node: u32, field: u16, out: &mut Vec<u8>) -> Result<(), LookFault>
     requires empty { out.old.items ≡ [] }
     ensures is { Gives Memory (λ _. out.new.items) result (spec.field_in scene.now node field) }
     ensures err { OnErr result (out.new.items ≡ []) }
@@ -92,8 +92,8 @@ fn write_field(scene: &Scene, node: u32, field: u16, out: &mut Vec<u8>) -> Resul
     Err(LookFault::NoSuchField)
 }
 
-/// Writes the value that a field has now.
-fn write_value(
+/// Writes the value that a field has now, to an empty text.
+pub fn write_value(
     stage: &Stage<StockScript>,
     node: u32,
     field: u16,

@@ -4,7 +4,7 @@ use Rattle.x3d_values.specs.Stamp.{Stamp}
 use Rattle.scene_core.specs.declared.scene.Route.{Route}
 use Rattle.scene_core.specs.Scene.{SceneView}
 use Rattle.cascade_core.specs.Course.{Scripted}
-use Rattle.cascade_core.specs.Held.{Held}
+use Rattle.cascade_core.specs.Held.{Held, StageView}
 use Rattle.cascade_core.specs.Held as held
 use Rattle.share_law.specs.Cascade.{cascade}
 use Rattle.share_law.specs.Machine.{Machine}
@@ -42,6 +42,10 @@ view_of (held.Spoiled count) window = Spoiled count
 abbrev pub held_in : View Scripted → Held
 held_in (Running w window) = held.Running w
 held_in (Spoiled count) = held.Spoiled count
+
+-- the stage of a viewer
+abbrev pub stage_in : ViewerView → StageView
+stage_in v = record { scene = v.scene; routes = v.routes; held = held_in v.state.view }
 
 abbrev pub is_spoiled : View Scripted → Bool
 is_spoiled (Running w window) = false

@@ -102,7 +102,7 @@ impl<B: Behaviour> Viewer<B> {
     ghost use Rattle.share_law.specs.Viewer.{Shot, applied_in, begun, viewer_ask, viewer_offer};
     ghost use Rattle.share_law.specs.Viewer.{viewer_resend};
     ghost use Rattle.share_core.specs.Viewer.{IfRunning, IfSpoiled, held_in, is_spoiled, machine_of};
-    ghost use Rattle.share_core.specs.Viewer.{with_gathering, with_state};
+    ghost use Rattle.share_core.specs.Viewer.{stage_in, with_gathering, with_state};
     ghost use Rattle.share_core.specs.Rewinds.{IsBegunFrom, IsJoined, IsLawfulJoin};
     ghost use Rattle.share_core.specs.Rewinds.{IsRewound};
     ghost use Rattle.snapshot_core.specs.Shot.{shot};
@@ -152,6 +152,21 @@ impl<B: Behaviour> Viewer<B> {
         ensures { result ≡ self.now.state.boot }
     {
         self.offers.boot()
+    }
+
+    /// The mark of its scene.
+    pub fn mark(&self) -> [u8; 32]
+        ensures value { result ≡ self.now.mark }
+        ensures bytes { length result ≡ 32 }
+    {
+        self.mark
+    }
+
+    /// Its stage, of which the world is read.
+    pub fn stage(&self) -> &Stage<B>
+        ensures { result.now ≡ stage_in self.now }
+    {
+        &self.stage
     }
 
     /// Takes the bytes of a packet.
