@@ -10,7 +10,10 @@ use std::ptr;
 #[derive(Clone, Copy, Debug, PartialEq, Eq)]
 pub enum Reply {
     /// These inputs were asked for: `count` of them, at most 64, from number `first` on.
-    Asked { first: u32, count: u32 },
+    Asked {
+        first: u32,
+        count: u32,
+    },
     /// The offer is the input of this number.
     Numbered(u32),
     /// The offer has been numbered before.
@@ -58,9 +61,8 @@ impl Host {
         };
         // SAFETY: the handle is null, and the bytes are lent for the call. So it is in each call below, where the handle
         // is as the last call left it.
-        let status = unsafe {
-            raw::x3d_host_open(&mut host.handle, text.as_ptr(), text.len(), viewers)
-        };
+        let status =
+            unsafe { raw::x3d_host_open(&mut host.handle, text.as_ptr(), text.len(), viewers) };
         Fault::told(status)?;
         Ok(host)
     }
@@ -76,7 +78,12 @@ impl Host {
     pub fn take(&mut self, datagram: &[u8]) -> Result<Reply, Fault> {
         let mut reply = RawReply::default();
         let status = unsafe {
-            raw::x3d_host_take(&mut self.handle, datagram.as_ptr(), datagram.len(), &mut reply)
+            raw::x3d_host_take(
+                &mut self.handle,
+                datagram.as_ptr(),
+                datagram.len(),
+                &mut reply,
+            )
         };
         Fault::told(status)?;
         Ok(reply_of(&reply))

@@ -105,7 +105,12 @@ impl Viewer {
     pub fn take(&mut self, datagram: &[u8]) -> Result<Taken, Fault> {
         let mut taken = RawTaken::default();
         let status = unsafe {
-            raw::x3d_viewer_take(&mut self.handle, datagram.as_ptr(), datagram.len(), &mut taken)
+            raw::x3d_viewer_take(
+                &mut self.handle,
+                datagram.as_ptr(),
+                datagram.len(),
+                &mut taken,
+            )
         };
         Fault::told(status)?;
         Ok(match taken.kind {
@@ -121,9 +126,8 @@ impl Viewer {
     /// Offers what is pointed at, with the button down or not, and gives the offer's number in this boot.
     pub fn offer(&mut self, down: bool, aim: &Aim) -> Result<u32, Fault> {
         let mut number = 0;
-        let status = unsafe {
-            raw::x3d_viewer_offer(&mut self.handle, down, &aim.raw(), &mut number)
-        };
+        let status =
+            unsafe { raw::x3d_viewer_offer(&mut self.handle, down, &aim.raw(), &mut number) };
         Fault::told(status)?;
         Ok(number)
     }
@@ -137,7 +141,9 @@ impl Viewer {
 
     /// The datagrams of all offers that wait, in order.
     pub fn offers(&mut self) -> Vec<Packet> {
-        (0..self.waiting()).map_while(|place| self.resend(place)).collect()
+        (0..self.waiting())
+            .map_while(|place| self.resend(place))
+            .collect()
     }
 
     /// The datagram that asks for the inputs from the first that it lacks.
@@ -159,7 +165,13 @@ impl Viewer {
     pub fn rewind(&mut self, snapshot: &[u8], boot: u32) -> Result<u32, Fault> {
         let mut applied = 0;
         let status = unsafe {
-            raw::x3d_viewer_rewind(&mut self.handle, boot, snapshot.as_ptr(), snapshot.len(), &mut applied)
+            raw::x3d_viewer_rewind(
+                &mut self.handle,
+                boot,
+                snapshot.as_ptr(),
+                snapshot.len(),
+                &mut applied,
+            )
         };
         Fault::told(status)?;
         Ok(applied)
@@ -170,12 +182,25 @@ impl Viewer {
     pub fn pieces(&mut self, snapshot: &[u8]) -> Vec<Packet> {
         let mut count = 0;
         unsafe {
-            raw::x3d_viewer_piece_count(&mut self.handle, snapshot.as_ptr(), snapshot.len(), &mut count)
+            raw::x3d_viewer_piece_count(
+                &mut self.handle,
+                snapshot.as_ptr(),
+                snapshot.len(),
+                &mut count,
+            )
         };
         (0..count)
             .map_while(|index| {
                 packet(|out, room, wanted| unsafe {
-                    raw::x3d_viewer_piece(&mut self.handle, snapshot.as_ptr(), snapshot.len(), index, out, room, wanted)
+                    raw::x3d_viewer_piece(
+                        &mut self.handle,
+                        snapshot.as_ptr(),
+                        snapshot.len(),
+                        index,
+                        out,
+                        room,
+                        wanted,
+                    )
                 })
             })
             .collect()
@@ -185,7 +210,12 @@ impl Viewer {
     pub fn gather(&mut self, datagram: &[u8]) -> Result<Gathered, Fault> {
         let mut gathered = 0;
         let status = unsafe {
-            raw::x3d_viewer_gather(&mut self.handle, datagram.as_ptr(), datagram.len(), &mut gathered)
+            raw::x3d_viewer_gather(
+                &mut self.handle,
+                datagram.as_ptr(),
+                datagram.len(),
+                &mut gathered,
+            )
         };
         Fault::told(status)?;
         Ok(match gathered {

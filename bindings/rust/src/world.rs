@@ -2,8 +2,8 @@
 
 use crate::changes::Changes;
 use crate::fault::{Fault, Refusal};
-use crate::reading::{Aim, Meeting, readable};
 use crate::raw::{self, RawMet, RawSaved, RawWork, RawWorld};
+use crate::reading::{Aim, Meeting, readable};
 use std::marker::PhantomData;
 use std::ptr;
 

@@ -18,6 +18,7 @@ pub use input::{pointer_of, ray_of, stamped};
 pub use lists::{Entry, write_children, write_numbers, write_roots, write_sensors};
 pub use scripts::stock_box;
 pub use shots::write_snapshot;
-pub use texts::{write_changes, write_field, write_label, write_scene};
-pub use texts::{write_trace, write_type, write_value};
+pub use texts::{
+    write_changes, write_field, write_label, write_scene, write_trace, write_type, write_value,
+};
 pub use world::EmbeddedWorld;

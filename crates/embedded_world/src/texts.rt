@@ -15,7 +15,11 @@ use world_reading::{push_changes, push_lines, value_now};
 use x3d_values::show_value;
 
 /// Writes the lines of the trace that are of inputs from a number on, to an empty text.
-pub fn write_trace(stage: &Stage<StockScript>, first: u32, out: &mut Vec<u8>) -> Result<(), LookFault>
+pub fn write_trace(
+    stage: &Stage<StockScript>,
+    first: u32,
+    out: &mut Vec<u8>,
+) -> Result<(), LookFault>
     requires empty { out.old.items ≡ [] }
     ensures is { Gives Memory (λ _. out.new.items) result (spec.trace_from stage.now first) }
     ensures err { OnErr result (out.new.items ≡ []) }
@@ -28,7 +32,11 @@ pub fn write_trace(stage: &Stage<StockScript>, first: u32, out: &mut Vec<u8>) ->
 }
 
 /// Writes the same lines by numbers, to an empty text.
-pub fn write_changes(stage: &Stage<StockScript>, first: u32, out: &mut Vec<u8>) -> Result<(), LookFault>
+pub fn write_changes(
+    stage: &Stage<StockScript>,
+    first: u32,
+    out: &mut Vec<u8>,
+) -> Result<(), LookFault>
     requires empty { out.old.items ≡ [] }
     ensures is { Gives Memory (λ _. out.new.items) result (spec.changes_from stage.now first) }
     ensures err { OnErr result (out.new.items ≡ []) }
