@@ -1,5 +1,5 @@
 -- What the calls on an embedded host answer, and the host that they leave.
-use Rattle.std.specs.Prelude.{◌≡◌, ◌&&◌, ℕ, ℤ, List, slice_get, nat_le, if◌then◌else◌, Option, None, Some, Result}
+use Rattle.std.specs.Prelude.{◌≡◌, ℕ, ℤ, List, slice_get, nat_lt, if◌then◌else◌, Option, None, Some, Result}
 use Rattle.std.specs.Option.{option_map}
 use Rattle.sha2.specs.Sha256.{sha256}
 use Rattle.share_wire.specs.Datagram.{datagram}
@@ -17,9 +17,9 @@ use Rattle.embedded_nodes.specs.declared.host.EmbeddedHost.{EmbeddedHost}
 -- the host of a scene's text, for so many viewers
 abbrev pub started : List ℕ → ℕ → Option EmbeddedHost
 started text viewers =
-    if nat_le 1 viewers && nat_le viewers 16
-    then Some (record { host = record { mark = sha256 text; part = new_part viewers } })
-    else None
+    if nat_lt viewers 1 then None
+    else if nat_lt 16 viewers then None
+    else Some (record { host = record { mark = sha256 text; part = new_part viewers } })
 
 abbrev pub with_part : EmbeddedHost → HostPart → EmbeddedHost
 with_part h part = record { host = record { mark = h.host.mark; part = part } }

@@ -1,7 +1,5 @@
 //! The host of a shared world.
 
-ghost use Rattle.std.specs.Prelude.{◌≡◌, ◌&&◌, nat_le};
-
 use share_core::Host;
 use share_law::{FloorFault, HostFault, HostReply, NumberFault};
 use share_wire::Packet;
@@ -12,13 +10,6 @@ use std::alloc::Global;
 #[derive(Drop)]
 pub struct EmbeddedHost {
     pub(crate) host: Host,
-}
-
-/// Whether a world may have so many viewers: 1 to 16.
-fn is_viewers(viewers: u8) -> bool
-    ensures { result ≡ (nat_le 1 viewers && nat_le viewers 16) }
-{
-    viewers >= 1 && viewers <= 16
 }
 
 impl EmbeddedHost {
@@ -32,7 +23,10 @@ impl EmbeddedHost {
     pub fn start(alloc: Global, text: &[u8], viewers: u8) -> Option<EmbeddedHost>
         ensures { result ≡ spec.started text.now viewers }
     {
-        if !is_viewers(viewers) {
+        if viewers < 1 {
+            return None;
+        }
+        if viewers > 16 {
             return None;
         }
         Some(EmbeddedHost {

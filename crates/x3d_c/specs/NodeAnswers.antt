@@ -40,12 +40,21 @@ ViewerOpens text who boot status after old wanted new =
     × IsStarted text who boot answer × (status ≡ status_of_start answer)
     × (after ≡ result_ok answer) × IsCopied (start_line answer) old copied wanted new
 
--- the same, unless its numbers are out of range: then nothing is opened
-abbrev pub ViewerOpensIf : Bool → List ℕ → (who boot : ℕ) → Option EmbeddedViewer → ℕ
-    → Option EmbeddedViewer → (old : List ℕ) → (wanted_old wanted : ℕ) → (new : List ℕ) → Type 0
-ViewerOpensIf false text who boot before status after old wanted_old wanted new =
+-- nothing is opened, since a number is out of its range
+abbrev pub OpensNone : Option EmbeddedViewer → ℕ → Option EmbeddedViewer → (old : List ℕ)
+    → (wanted_old wanted : ℕ) → (new : List ℕ) → Type 0
+OpensNone before status after old wanted_old wanted new =
     (status ≡ out_of_range) × (after ≡ before) × (wanted ≡ wanted_old) × (new ≡ old)
-ViewerOpensIf true text who boot before status after old wanted_old wanted new =
+
+-- the viewer of the text is opened, if its number and its boot are in their ranges
+abbrev pub ViewerOpensIf : (is_viewer is_ordinal : Bool) → List ℕ → (who boot : ℕ)
+    → Option EmbeddedViewer → ℕ → Option EmbeddedViewer → (old : List ℕ) → (wanted_old wanted : ℕ)
+    → (new : List ℕ) → Type 0
+ViewerOpensIf false ordinal text who boot before status after old wanted_old wanted new =
+    OpensNone before status after old wanted_old wanted new
+ViewerOpensIf true false text who boot before status after old wanted_old wanted new =
+    OpensNone before status after old wanted_old wanted new
+ViewerOpensIf true true text who boot before status after old wanted_old wanted new =
     ViewerOpens text who boot status after old wanted new
 
 -- ---- calls that answer nothing

@@ -1,6 +1,6 @@
 //! A viewer of a shared world: it is opened and closed, takes datagrams and makes them.
 
-ghost use Rattle.std.specs.Prelude.{◌≡◌, ◌&&◌, Some, None, IsTrue, length};
+ghost use Rattle.std.specs.Prelude.{◌≡◌, Some, None, IsTrue, length};
 ghost use Rattle.std.specs.Result.{result_map_both};
 ghost use Rattle.x3d_values.specs.Ranges.{is_viewer};
 ghost use Rattle.share_wire.specs.Messages.{is_ordinal};
@@ -46,13 +46,6 @@ fn empty(alloc: Global, handle: &mut ViewerHandle)
     drop(take(handle, alloc));
 }
 
-/// Whether a viewer may have this number and this boot.
-fn is_seat(who: u8, boot: u32) -> bool
-    ensures { result ≡ (is_viewer who && is_ordinal boot) }
-{
-    is_viewer(who) && is_ordinal(boot)
-}
-
 /// Opens the viewer of a scene's text, in place of one that the handle had.
 fn open(
     alloc: Global,
@@ -92,10 +85,13 @@ pub extern "C" fn x3d_viewer_open(
     refusal: &mut [u8],
     wanted: &mut usize,
 ) -> u8
-    ensures { ViewerOpensIf (is_viewer who && is_ordinal boot) text.now who boot handle.old.viewer
+    ensures { ViewerOpensIf (is_viewer who) (is_ordinal boot) text.now who boot handle.old.viewer
         result handle.new.viewer refusal.old wanted.old wanted.new refusal.new }
 {
-    if !is_seat(who, boot) {
+    if !is_viewer(who) {
+        return RANGE;
+    }
+    if !is_ordinal(boot) {
         return RANGE;
     }
     open(alloc, handle, text, who, boot, refusal, wanted)
