@@ -6,11 +6,12 @@ use Rattle.share_wire.specs.Datagram.{datagram}
 use Rattle.share_wire.specs.Decoding.{decoded}
 use Rattle.share_wire.specs.declared.message.Body.{Body}
 use Rattle.share_law.specs.Calls.{IsPartClocked, IsPartTakeOf}
-use Rattle.share_law.specs.Host.{Kept, ack_of}
+use Rattle.share_law.specs.Host.{ack_of}
 use Rattle.share_law.specs.Parts.{HostPart, new_part, part_drop_below, part_floor_packet, part_packet}
 use Rattle.share_law.specs.declared.fault.FloorFault.{FloorFault}
 use Rattle.share_law.specs.declared.fault.HostFault.{HostFault}
 use Rattle.share_law.specs.declared.fault.NumberFault.{NumberFault}
+use Rattle.share_law.specs.declared.kept.Kept.{Kept}
 use Rattle.share_law.specs.declared.reply.HostReply.{HostReply}
 use Rattle.embedded_nodes.specs.declared.host.EmbeddedHost.{EmbeddedHost}
 

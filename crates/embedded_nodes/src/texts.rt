@@ -1,8 +1,10 @@
 //! Texts of a viewer's world.
 
 use crate::viewer::EmbeddedViewer;
-use embedded_world::{LookFault, write_changes, write_field, write_label, write_scene};
-use embedded_world::{write_snapshot, write_trace, write_type, write_value};
+use embedded_world::{
+    LookFault, write_changes, write_field, write_label, write_scene, write_snapshot, write_trace,
+    write_type, write_value,
+};
 use snapshot_core::SaveFault;
 
 impl EmbeddedViewer {

@@ -33,12 +33,7 @@ impl EmbeddedViewer {
 
     /// The viewer of a scene's text with scripts of the stock, as this boot of viewer number `who`,
     /// before any input. `is_viewer` and `is_ordinal` are the tests.
-    pub fn start(
-        alloc: Global,
-        text: &[u8],
-        who: u8,
-        boot: u32,
-    ) -> Result<EmbeddedViewer, JobFault>
+    pub fn start(alloc: Global, text: &[u8], who: u8, boot: u32) -> Result<EmbeddedViewer, JobFault>
         requires who { IsTrue (is_viewer who) }
         requires boot { IsTrue (is_ordinal boot) }
         ensures { IsStarted text.now who boot result }
