@@ -9,8 +9,11 @@ mod tell;
 
 pub use node_status::{NO_PACKET, status_of_floor};
 pub use room::{copy_numbers, copy_text, hand_out};
-pub use status::{CLOSED, DONE, MEMORY, RANGE};
-pub use status::{status_of_apply, status_of_look, status_of_place, status_of_save};
-pub use status::status_of_snap;
-pub use tell::{ReplyAs, TakenAs, tell_gathered, tell_joined, tell_number, tell_offer};
-pub use tell::{tell_reply, tell_rewound, tell_taken};
+pub use status::{
+    CLOSED, DONE, MEMORY, RANGE, status_of_apply, status_of_look, status_of_place, status_of_save,
+    status_of_snap,
+};
+pub use tell::{
+    ReplyAs, TakenAs, tell_gathered, tell_joined, tell_number, tell_offer, tell_reply,
+    tell_rewound, tell_taken,
+};

@@ -3,9 +3,10 @@
 ghost use Rattle.std.specs.Prelude.{◌≡◌};
 ghost use Rattle.x3d_answers.specs.NodeStatus as spec;
 
-use crate::status::{BAD_VERSION, MEMORY, SPOILED, TIME_NOT_LATER, WRONG_SCENE};
-use crate::status::status_of_snap;
-use share_law::{FloorFault, GatherFault, HostFault, JoinFault, NumberFault, OfferFault, TakeFault};
+use crate::status::{BAD_VERSION, MEMORY, SPOILED, TIME_NOT_LATER, WRONG_SCENE, status_of_snap};
+use share_law::{
+    FloorFault, GatherFault, HostFault, JoinFault, NumberFault, OfferFault, TakeFault,
+};
 use share_wire::WireFault;
 
 /// There is no such datagram.

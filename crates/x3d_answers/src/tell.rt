@@ -4,11 +4,15 @@ ghost use Rattle.std.specs.Prelude.{◌≡◌};
 ghost use Rattle.x3d_answers.specs.Status as answers;
 ghost use Rattle.x3d_answers.specs.NodeStatus as spec;
 
-use crate::node_status::{status_of_gather, status_of_host, status_of_join, status_of_number};
-use crate::node_status::{status_of_offer, status_of_take};
+use crate::node_status::{
+    status_of_gather, status_of_host, status_of_join, status_of_number, status_of_offer,
+    status_of_take,
+};
 use crate::status::{DONE, status_of_snap};
-use share_law::{GatherFault, Gathered, HostFault, HostReply, JoinFault, NumberFault, OfferFault};
-use share_law::{TakeFault, Taken};
+use share_law::{
+    GatherFault, Gathered, HostFault, HostReply, JoinFault, NumberFault, OfferFault, TakeFault,
+    Taken,
+};
 use snapshot_core::SnapFault;
 
 /// What a host made of a datagram: `count` inputs from `number` on were asked for (kind 0), the

@@ -9,8 +9,10 @@ ghost use Rattle.x3d_answers.specs.NodeStatus.{number_by, replied, status_by, st
 
 use embedded_nodes::EmbeddedHost;
 use std::alloc::Global;
-use x3d_answers::{CLOSED, DONE, MEMORY, NO_PACKET, RANGE};
-use x3d_answers::{ReplyAs, hand_out, status_of_floor, tell_number, tell_reply};
+use x3d_answers::{
+    CLOSED, DONE, MEMORY, NO_PACKET, RANGE, ReplyAs, hand_out, status_of_floor, tell_number,
+    tell_reply,
+};
 use x3d_handles::HostHandle;
 use x3d_handles::host_handle::{put, take};
 

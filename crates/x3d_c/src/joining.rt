@@ -8,8 +8,9 @@ ghost use Rattle.x3d_c.specs.NodeAnswers.{forgets, status_of_nothing};
 ghost use Rattle.x3d_answers.specs.NodeStatus.{gathered_by, number_by, status_by, status_of_gather, status_of_join};
 
 use std::alloc::Global;
-use x3d_answers::{CLOSED, DONE, NO_PACKET, hand_out};
-use x3d_answers::{status_of_save, tell_gathered, tell_joined, tell_rewound};
+use x3d_answers::{
+    CLOSED, DONE, NO_PACKET, hand_out, status_of_save, tell_gathered, tell_joined, tell_rewound,
+};
 use x3d_handles::ViewerHandle;
 use x3d_handles::viewer_handle::{put, take};
 

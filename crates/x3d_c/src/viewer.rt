@@ -19,8 +19,9 @@ use embedded_nodes::EmbeddedViewer;
 use share_jobs::JobFault;
 use share_wire::{is_ordinal, is_viewer};
 use std::alloc::Global;
-use x3d_answers::{CLOSED, DONE, NO_PACKET, RANGE};
-use x3d_answers::{TakenAs, copy_text, hand_out, tell_offer, tell_taken};
+use x3d_answers::{
+    CLOSED, DONE, NO_PACKET, RANGE, TakenAs, copy_text, hand_out, tell_offer, tell_taken,
+};
 use x3d_handles::ViewerHandle;
 use x3d_handles::viewer_handle::{put, take};
 use x3d_values::Point;
