@@ -12,7 +12,7 @@ use Rattle.embedded_world.specs.declared.fault.LookFault.{LookFault}
 use Rattle.embedded_world.specs.declared.lists.Entry.{Entry}
 use Rattle.embedded_world.specs.declared.world.EmbeddedWorld.{EmbeddedWorld}
 use Rattle.x3d_c.specs.Answers.{AppliesAt, LoadsAt, MeetsAt, Meeting, counted, saved_as, status_of_load, status_of_meet, status_of_work, told}
-use Rattle.x3d_answers.specs.Status.{Calls, CallsOut}
+use Rattle.x3d_answers.specs.Status.{Calls, CallsOut, HandsOut, IsHandedOut}
 use Rattle.x3d_c.specs.declared.inputs.WorkCount.{WorkCount}
 use Rattle.x3d_c.specs.declared.lists.Met.{Met}
 use Rattle.x3d_c.specs.declared.shots.SavedAs.{SavedAs}
@@ -26,6 +26,12 @@ pub called_out : {H A O : Type 0} (does : H → A → H → Type 0) (status_of :
     → Some w ≡ before → does w answer next → status ≡ status_of answer → after ≡ Some next → new ≡ told old answer → CallsOut does status_of told before status after old new
 called_out {H} does status_of told before after status old new w next answer is done says left tells =
     subst (λ (o : Option H). CallsOut does status_of told o status after old new) is (answer, next, done, says, left, tells)
+
+pub hands_out : {H : Type 0} (none : ℕ) (made : H → Option (List ℕ)) (before : Option H) (status : ℕ) (old : List ℕ) (wanted_old wanted : ℕ) (new : List ℕ) (h : H) (packet : Option (List ℕ))
+    → Some h ≡ before → packet ≡ made h → IsHandedOut none packet old status wanted_old wanted new → HandsOut none made before status old wanted_old wanted new
+hands_out {H} none made before status old wanted_old wanted new h packet is same handed =
+    subst (λ (o : Option H). HandsOut none made o status old wanted_old wanted new) is
+    (subst (λ (p : Option (List ℕ)). IsHandedOut none p old status wanted_old wanted new) same handed)
 
 pub applied : (input : Stamp) (before after : Option EmbeddedWorld) (status : ℕ) (old new : WorkCount) (w next : EmbeddedWorld) (answer : Result Work ApplyFault)
     → Some w ≡ before → Applies w input answer next → status ≡ status_of_work answer → after ≡ Some next → new ≡ counted old answer → AppliesAt input before status after old new
