@@ -1,5 +1,5 @@
 -- The input of a pointer, and the kind of a script, by the numbers that C hands in.
-use Rattle.std.specs.Prelude.{ℕ, ℤ, Bool, Option, Some, None}
+use Rattle.std.specs.Prelude.{ℕ, ℤ, Bool, ◌==◌, if◌then◌else◌, Option, Some, None}
 use Rattle.x3d_values.specs.Pointing.{Pointing, Sight}
 use Rattle.x3d_values.specs.Stamp.{Stamp}
 use Rattle.x3d_values.specs.declared.script.Kind.{Kind}
@@ -31,13 +31,14 @@ pointed number time who down aim =
 
 -- the kind of a script by its number
 abbrev pub kind_of : ℕ → Option Kind
-kind_of 0 = Some kinds.Counter
-kind_of 1 = Some kinds.Gate
-kind_of 2 = Some kinds.Adder
-kind_of 3 = Some kinds.Batch
-kind_of 4 = Some kinds.Mover
-kind_of 5 = Some kinds.Meter
-kind_of _ = None
+kind_of number =
+    if number == 0 then Some kinds.Counter
+    else if number == 1 then Some kinds.Gate
+    else if number == 2 then Some kinds.Adder
+    else if number == 3 then Some kinds.Batch
+    else if number == 4 then Some kinds.Mover
+    else if number == 5 then Some kinds.Meter
+    else None
 
 -- what is pointed at, with the button down or not
 abbrev pub point_of : Bool → Aim → Point

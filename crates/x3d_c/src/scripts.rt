@@ -17,15 +17,25 @@ use x3d_values::Kind;
 fn kind_of(number: u8) -> Option<Kind>
     ensures { result ≡ kind_of number }
 {
-    match number {
-        0 => Some(Kind::Counter),
-        1 => Some(Kind::Gate),
-        2 => Some(Kind::Adder),
-        3 => Some(Kind::Batch),
-        4 => Some(Kind::Mover),
-        5 => Some(Kind::Meter),
-        _ => None,
+    if number == 0 {
+        return Some(Kind::Counter);
     }
+    if number == 1 {
+        return Some(Kind::Gate);
+    }
+    if number == 2 {
+        return Some(Kind::Adder);
+    }
+    if number == 3 {
+        return Some(Kind::Batch);
+    }
+    if number == 4 {
+        return Some(Kind::Mover);
+    }
+    if number == 5 {
+        return Some(Kind::Meter);
+    }
+    None
 }
 
 /// Tells how many scripts the scene runs.
