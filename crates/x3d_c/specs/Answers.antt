@@ -16,6 +16,7 @@ use Rattle.embedded_world.specs.Looks.{meeting_in}
 use Rattle.embedded_world.specs.declared.fault.LookFault.{LookFault}
 use Rattle.embedded_world.specs.declared.lists.Entry.{Entry}
 use Rattle.embedded_world.specs.declared.world.EmbeddedWorld.{EmbeddedWorld}
+use Rattle.x3d_answers.specs.Status.{Calls, IsCopied, closed, out_of_range, status_of_apply, status_of_look, status_of_place, status_of_snap}
 use Rattle.x3d_c.specs.declared.inputs.WorkCount.{WorkCount}
 use Rattle.x3d_c.specs.declared.lists.Met.{Met}
 use Rattle.x3d_c.specs.declared.shots.SavedAs.{SavedAs}
