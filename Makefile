@@ -115,7 +115,7 @@ library:
 	@cd crates/x3d_c && rt lib
 	@PREFIX=$(PREFIX) scripts/library
 
-# Tests that library from C, Rust and Python, as far as their tools are there.
+# Tests that library from C, Rust and Python, as far as their tools are there. `make test` does so with fewer jobs.
 bindings: library
 	@scripts/bindings
 

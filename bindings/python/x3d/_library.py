@@ -64,6 +64,8 @@ CALLS = {
     "x3d_world_list_value": [_WORLD, c_uint32, c_uint16],
     "x3d_world_copy_numbers": [_WORLD, POINTER(c_int64), c_size_t, _SIZE],
     "x3d_world_load": [_WORLD, c_uint32, c_char_p, c_size_t, POINTER(RawSaved)],
+    "x3d_world_script_count": [_WORLD, _SIZE],
+    "x3d_world_replace_script": [_WORLD, c_size_t, c_uint8],
     "x3d_host_open": [_HOST, c_char_p, c_size_t, c_uint8],
     "x3d_host_close": [_HOST],
     "x3d_host_clock": [_HOST, c_int64, _COUNT],

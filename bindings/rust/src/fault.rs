@@ -20,7 +20,7 @@ impl fmt::Display for Refusal {
 
 impl Error for Refusal {}
 
-/// Why a call on a world is refused. Nothing has then changed, but that after `Memory` at an input, or while a snapshot
+/// Why a call is refused. Nothing has then changed, but that after `Memory` at an input, or while a snapshot
 /// is loaded, the world is spoiled: only a snapshot brings one back.
 #[derive(Clone, Copy, Debug, PartialEq, Eq)]
 pub enum Fault {
@@ -42,9 +42,9 @@ pub enum Fault {
     Short,
     /// No snapshot.
     BadMagic,
-    /// A snapshot of another version.
+    /// A snapshot, or a datagram, of another version.
     BadVersion,
-    /// A snapshot of another scene.
+    /// A snapshot, or a datagram, of another scene.
     WrongScene,
     /// A snapshot that was altered.
     BadDigest,
@@ -54,6 +54,40 @@ pub enum Fault {
     BootNotNew,
     /// The state of a script does not fit.
     ScriptState,
+    /// There is no script of that number.
+    NoSuchScript,
+    /// The script is of another kind.
+    KindDiffers,
+    /// The bytes are no datagram.
+    BadPacket,
+    /// The tag of the datagram is unknown.
+    BadTag,
+    /// A field of the datagram is out of its range.
+    BadRange,
+    /// The direction is 0 0 0.
+    ZeroRay,
+    /// There is no such viewer.
+    BadViewer,
+    /// The world has 1048576 inputs.
+    WorldFull,
+    /// The time is above 1000000000000 seconds.
+    TimeRange,
+    /// The floor is above that.
+    FloorBack,
+    /// There are no inputs up to that.
+    FloorAhead,
+    /// The datagram is for another node.
+    NotForMe,
+    /// A coordinate is above 1000000000.
+    PointRange,
+    /// 64 offers wait.
+    OfferFull,
+    /// There are no more numbers for offers.
+    OffersSpent,
+    /// The datagram is no piece of a snapshot.
+    NotPiece,
+    /// Pieces of the snapshot are missing.
+    NotWhole,
 }
 
 impl Fault {
@@ -76,7 +110,24 @@ impl Fault {
             35 => Fault::NotCanonical,
             36 => Fault::BootNotNew,
             37 => Fault::ScriptState,
-            _ => unreachable!("status {status} of an open world"),
+            26 => Fault::NoSuchScript,
+            27 => Fault::KindDiffers,
+            40 => Fault::BadPacket,
+            41 => Fault::BadTag,
+            42 => Fault::BadRange,
+            43 => Fault::ZeroRay,
+            44 => Fault::BadViewer,
+            45 => Fault::WorldFull,
+            46 => Fault::TimeRange,
+            47 => Fault::FloorBack,
+            48 => Fault::FloorAhead,
+            50 => Fault::NotForMe,
+            51 => Fault::PointRange,
+            52 => Fault::OfferFull,
+            53 => Fault::OffersSpent,
+            54 => Fault::NotPiece,
+            55 => Fault::NotWhole,
+            _ => unreachable!("status {status} of an open handle"),
         })
     }
 }
@@ -93,12 +144,29 @@ impl fmt::Display for Fault {
             Fault::NoSuchField => "the node has no field of that number, or it holds no value",
             Fault::Short => "the snapshot is not whole",
             Fault::BadMagic => "this is no snapshot",
-            Fault::BadVersion => "the version of the snapshot is not 1",
-            Fault::WrongScene => "the snapshot is of another scene",
+            Fault::BadVersion => "the version is not 1",
+            Fault::WrongScene => "this is of another scene",
             Fault::BadDigest => "the snapshot was altered",
             Fault::NotCanonical => "the snapshot is none that could be written",
             Fault::BootNotNew => "the boot is not above the earlier ones",
             Fault::ScriptState => "the state of a script does not fit",
+            Fault::NoSuchScript => "there is no script of that number",
+            Fault::KindDiffers => "the script is of another kind",
+            Fault::BadPacket => "the bytes are no datagram",
+            Fault::BadTag => "the tag of the datagram is unknown",
+            Fault::BadRange => "a field of the datagram is out of its range",
+            Fault::ZeroRay => "the direction is 0 0 0",
+            Fault::BadViewer => "there is no such viewer",
+            Fault::WorldFull => "the world has 1048576 inputs",
+            Fault::TimeRange => "the time is above 1000000000000 seconds",
+            Fault::FloorBack => "the floor is above that",
+            Fault::FloorAhead => "there are no inputs up to that",
+            Fault::NotForMe => "the datagram is for another node",
+            Fault::PointRange => "a coordinate is above 1000000000",
+            Fault::OfferFull => "64 offers wait",
+            Fault::OffersSpent => "there are no more numbers for offers",
+            Fault::NotPiece => "the datagram is no piece of a snapshot",
+            Fault::NotWhole => "pieces of the snapshot are missing",
         })
     }
 }

@@ -12,13 +12,37 @@
 //! # Ok::<(), Box<dyn std::error::Error>>(())
 //! ```
 //!
+//! A shared world is a host and viewers, whose datagrams the program carries between them:
+//!
+//! ```
+//! use x3d::{Host, Viewer};
+//!
+//! let scene = b"#X3D V3.0 utf8\nDEF Motor TimeSensor { loop TRUE }\n";
+//! let (mut host, mut viewer) = (Host::new(scene, 2)?, Viewer::open(scene, 0, 1)?);
+//! host.clock(10_000_000)?;
+//! let reply = host.take(&viewer.ask())?;
+//! for packet in host.packets(reply) {
+//!     viewer.take(&packet)?;
+//! }
+//! assert_eq!(viewer.applied(), 1);
+//! # Ok::<(), Box<dyn std::error::Error>>(())
+//! ```
+//!
 //! Coordinates are whole millionths of a unit, times whole microseconds.
 
 mod changes;
 mod fault;
+mod host;
+mod packet;
 mod raw;
+mod reading;
+mod viewer;
 mod world;
 
 pub use changes::{Change, Changes};
 pub use fault::{Fault, Refusal};
-pub use world::{Aim, Meeting, Saved, Work, World};
+pub use host::{Host, Reply};
+pub use packet::Packet;
+pub use reading::{Aim, Meeting};
+pub use viewer::{Gathered, Taken, Viewer};
+pub use world::{Kind, Saved, Work, World};

@@ -1,2 +1,1 @@
 mod Called
-mod WorldHandles

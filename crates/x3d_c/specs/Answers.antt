@@ -1,86 +1,30 @@
--- The numbers that C sees for the answers of a world, and what each export says of a handle.
-use Rattle.std.specs.Prelude.{◌≡◌, ◌++◌, ℕ, List, [], Option, Some, None, Result, Ok, Err, drop, length, nat_lt, if◌then◌else◌}
+-- The numbers that C sees for the answers of a world, and what an export says of a handle.
+use Rattle.std.specs.Prelude.{◌≡◌, ℕ, List, [], Option, Some, None, Result, Ok, Err}
 use Rattle.std.specs.Result.{result_ok}
 use Rattle.share_jobs.specs.declared.fault.JobFault.{JobFault}
 use Rattle.share_program.specs.Refusal.{refusal_text, status}
 use Rattle.share_program.specs.declared.refusal.Failure.TheVariants.{Job}
-use Rattle.snapshot_core.specs.declared.fault.SaveFault.{SaveFault}
-use Rattle.snapshot_core.specs.declared.fault.SaveFault.TheVariants as save
 use Rattle.snapshot_core.specs.declared.fault.SnapFault.{SnapFault}
-use Rattle.snapshot_core.specs.declared.fault.SnapFault.TheVariants as snap
 use Rattle.snapshot_core.specs.declared.loading.Saved.{Saved}
 use Rattle.stage_answers.specs.declared.fault.ApplyFault.{ApplyFault}
-use Rattle.stage_answers.specs.declared.fault.ApplyFault.TheVariants as apply
 use Rattle.stage_answers.specs.declared.work.Work.{Work}
 use Rattle.x3d_values.specs.Stamp.{Stamp}
 use Rattle.x3d_values.specs.Pointing.{Sight}
-use Rattle.embedded_world.specs.Calls.{Applies, IsOpened, Loads, Meets}
+use Rattle.x3d_values.specs.declared.script.Kind.{Kind}
+use Rattle.embedded_world.specs.Calls.{Applies, IsOpened, Loads, Meets, Replaces}
 use Rattle.embedded_world.specs.Looks.{meeting_in}
 use Rattle.embedded_world.specs.declared.fault.LookFault.{LookFault}
-use Rattle.embedded_world.specs.declared.fault.LookFault.TheVariants as look
 use Rattle.embedded_world.specs.declared.lists.Entry.{Entry}
 use Rattle.embedded_world.specs.declared.world.EmbeddedWorld.{EmbeddedWorld}
+use Rattle.x3d_answers.specs.Status.{Calls, IsCopied, closed, out_of_range, status_of_apply, status_of_look, status_of_place, status_of_snap}
 use Rattle.x3d_c.specs.declared.inputs.WorkCount.{WorkCount}
 use Rattle.x3d_c.specs.declared.lists.Met.{Met}
 use Rattle.x3d_c.specs.declared.shots.SavedAs.{SavedAs}
-
--- ---- statuses
-
--- the handle has no world
-abbrev pub closed : ℕ
-closed = 10
-
--- a number is out of its range
-abbrev pub out_of_range : ℕ
-out_of_range = 11
-
--- there is no room for all
-abbrev pub no_room : ℕ
-no_room = 12
-
-abbrev pub status_of_apply : ApplyFault → ℕ
-status_of_apply apply.Spoiled = 20
-status_of_apply apply.NotNext = 21
-status_of_apply apply.TimeNotLater = 22
-status_of_apply apply.Memory = 5
-
-abbrev pub status_of_look : Result (Unit {0}) LookFault → ℕ
-status_of_look (Ok _) = 0
-status_of_look (Err look.Spoiled) = 20
-status_of_look (Err look.NoSuchNode) = 23
-status_of_look (Err look.NoSuchField) = 24
-status_of_look (Err look.Memory) = 5
-
-abbrev pub status_of_save : Result (Unit {0}) SaveFault → ℕ
-status_of_save (Ok _) = 0
-status_of_save (Err save.Spoiled) = 20
-status_of_save (Err save.Memory) = 5
-
-abbrev pub status_of_snap : SnapFault → ℕ
-status_of_snap snap.Short = 30
-status_of_snap snap.BadMagic = 31
-status_of_snap snap.BadVersion = 32
-status_of_snap snap.WrongScene = 33
-status_of_snap snap.BadDigest = 34
-status_of_snap snap.NotCanonical = 35
-status_of_snap snap.BootNotNew = 36
-status_of_snap snap.ScriptState = 37
-status_of_snap snap.Memory = 5
 
 -- 1 for a scene that is refused or its scripts, 5 for memory, as the program ends
 abbrev pub status_of_open : Result EmbeddedWorld JobFault → ℕ
 status_of_open (Ok _) = 0
 status_of_open (Err fault) = status (Job fault)
-
--- ---- what is copied out
-
--- all of it, where there is room, and then the rest is as it was; how many there are is told
-abbrev pub IsCopied : {A : Type 0} → (all old : List A) → (status wanted : ℕ) → (new : List A)
-    → Type 0
-IsCopied all old status wanted new =
-    (wanted ≡ length all)
-    × (status ≡ (if nat_lt (length old) (length all) then no_room else 0))
-    × (new ≡ (if nat_lt (length old) (length all) then old else all ++ drop (length all) old))
 
 -- ---- calls
 
@@ -95,28 +39,6 @@ Opens text status after old wanted new =
     (answer : Result EmbeddedWorld JobFault) × (copied : ℕ)
     × IsOpened text answer × (status ≡ status_of_open answer) × (after ≡ result_ok answer)
     × IsCopied (refusal_line answer) old copied wanted new
-
--- the world of a handle is called, and the handle has what the call leaves; without a world nothing
--- is called
-abbrev pub Calls : {A : Type 0} → (EmbeddedWorld → A → EmbeddedWorld → Type 0) → (A → ℕ)
-    → Option EmbeddedWorld → ℕ → Option EmbeddedWorld → Type 0
-Calls {A} does status_of None status after = (status ≡ closed) × (after ≡ None)
-Calls {A} does status_of (Some w) status after =
-    (answer : A) × (next : EmbeddedWorld)
-    × does w answer next × (status ≡ status_of answer) × (after ≡ Some next)
-
--- what is asked of the world of a handle, which stays as it is
-abbrev pub Asks : {A : Type 0} → (EmbeddedWorld → A) → Option EmbeddedWorld → ℕ → (old new : A)
-    → Type 0
-Asks asked None status old new = (status ≡ closed) × (new ≡ old)
-Asks asked (Some w) status old new = (status ≡ 0) × (new ≡ asked w)
-
--- the bytes or numbers of the world of a handle are copied
-abbrev pub Copies : {A : Type 0} → (EmbeddedWorld → List A) → Option EmbeddedWorld → ℕ
-    → (old : List A) → (wanted_old wanted : ℕ) → (new : List A) → Type 0
-Copies all None status old wanted_old wanted new =
-    (status ≡ closed) × (wanted ≡ wanted_old) × (new ≡ old)
-Copies all (Some w) status old wanted_old wanted new = IsCopied (all w) old status wanted new
 
 -- ---- inputs
 
@@ -193,3 +115,13 @@ abbrev pub Meeting : Option Sight → Option EmbeddedWorld → ℕ → Option Em
 Meeting None before status after old new =
     (status ≡ out_of_range) × (after ≡ before) × (new ≡ old)
 Meeting (Some ray) before status after old new = MeetsAt ray before status after old new
+
+-- ---- scripts
+
+-- a box of a kind is put in the place of script k of the world of a handle; a kind that there isn't
+-- is out of range
+abbrev pub IsReplacing : (k : ℕ) → Option Kind → Option EmbeddedWorld → ℕ → Option EmbeddedWorld
+    → Type 0
+IsReplacing k None before status after = (status ≡ out_of_range) × (after ≡ before)
+IsReplacing k (Some kind) before status after =
+    Calls (λ (w : EmbeddedWorld). Replaces w k kind) status_of_place before status after

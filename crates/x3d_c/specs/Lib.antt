@@ -1,3 +1,3 @@
 pub mod Answers
+pub mod NodeAnswers
 pub mod Points
-pub mod WorldHeld

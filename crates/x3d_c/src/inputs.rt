@@ -4,13 +4,14 @@ ghost use Rattle.std.specs.Prelude.{◌≡◌, Some, None};
 ghost use Rattle.x3d_values.specs.declared.stamped.Event.TheVariants.{Clock};
 ghost use Rattle.embedded_world.specs.Pointing as pointing;
 ghost use Rattle.x3d_c.specs.Answers.{AppliesAt, Inputs};
-ghost use Rattle.x3d_c.specs.Points.{direction_of, origin_of, pointed};
+ghost use Rattle.x3d_c.specs.Points.{aimed, direction_of, origin_of, pointed};
 
-use crate::status::{CLOSED, DONE, RANGE, status_of_apply};
-use crate::world_handle::{WorldHandle, put, take};
-use embedded_world::{pointer_of, stamped};
+use embedded_world::{pointer_of, ray_of, stamped};
 use std::alloc::Global;
-use x3d_values::{Event, Stamped, Vec3};
+use x3d_answers::{CLOSED, DONE, RANGE, status_of_apply};
+use x3d_handles::WorldHandle;
+use x3d_handles::world_handle::{put, take};
+use x3d_values::{Event, Ray, Stamped, Vec3};
 
 /// What an input gave rise to: how many outputs sent, routes were followed and scripts settled.
 #[derive(Clone, Copy)]
@@ -91,6 +92,13 @@ pub(crate) fn direction_of(aim: &Aim) -> Vec3
         y: aim.direction_y,
         z: aim.direction_z,
     }
+}
+
+/// The ray that is pointed with.
+pub(crate) fn aimed(aim: &Aim) -> Option<Ray>
+    ensures { result ≡ aimed aim.now }
+{
+    ray_of(origin_of(aim), direction_of(aim))
 }
 
 /// The input of a pointer of this viewer.

@@ -1,15 +1,18 @@
-//! A world for C: an opaque handle, and a function for each thing to do with it. include/x3d.h
-//! declares them.
+//! Worlds, hosts and viewers for C: an opaque handle for each, and a function for each thing to do
+//! with it. include/x3d.h declares them.
 //!
-//! `world_handle` has the handle, `status` the numbers that C sees for answers, `room` what is
-//! copied out; `open`, `inputs`, `shots`, `texts` and `lists` have the functions.
+//! Functions of a world stand in `open`, `inputs`, `scripts`, `shots`, `texts` and `lists`, those of a
+//! host in `host`, those of a viewer in `viewer`, `joining`, `viewer_texts` and `viewer_lists`.
 #![tactic(auto)]
 
+mod host;
 mod inputs;
+mod joining;
 mod lists;
 mod open;
-mod room;
+mod scripts;
 mod shots;
-mod status;
 mod texts;
-mod world_handle;
+mod viewer;
+mod viewer_lists;
+mod viewer_texts;

@@ -5,21 +5,23 @@ ghost use Rattle.cascade_core.specs.Held.{applied_of};
 ghost use Rattle.scene_core.specs.Scene.{rows_at};
 ghost use Rattle.embedded_world.specs.Calls.{Lists};
 ghost use Rattle.embedded_world.specs.Looks as look;
-ghost use Rattle.x3d_c.specs.Answers.{Asks, Calls, Copies, Meeting, met_of, status_of_look};
+ghost use Rattle.x3d_answers.specs.Status.{Asks, Calls, Copies, status_of_look};
+ghost use Rattle.x3d_c.specs.Answers.{Meeting, met_of, status_of_meet, told};
 ghost use Rattle.x3d_c.specs.Points.{direction_of, origin_of};
 ghost use Rattle.embedded_world.specs.Pointing.{ray_of};
+ghost use Rattle.embedded_world.specs.declared.world.EmbeddedWorld.{EmbeddedWorld as Embedded};
 
 use crate::inputs::{Aim, direction_of, origin_of};
-use crate::room::copy_numbers;
-use crate::status::{CLOSED, DONE, RANGE, status_of_look};
-use crate::world_handle::{WorldHandle, put, take};
-use embedded_world::{Entry, ray_of};
+use embedded_world::{Entry, LookFault, ray_of};
 use std::alloc::Global;
+use x3d_answers::{CLOSED, DONE, RANGE, copy_numbers, status_of_look};
+use x3d_handles::WorldHandle;
+use x3d_handles::world_handle::{put, take};
 
 /// Lists the roots of the scene.
 #[unsafe(no_mangle)]
 pub extern "C" fn x3d_world_list_roots(alloc: Global, handle: &mut WorldHandle) -> u8
-    ensures { Calls (λ w. Lists (look.roots_in w.stage.scene) w) status_of_look
+    ensures { Calls (λ (w : Embedded). Lists (look.roots_in w.stage.scene) w) status_of_look
         handle.old.world result handle.new.world }
 {
     let Some(mut world) = take(handle, alloc) else {
@@ -33,7 +35,7 @@ pub extern "C" fn x3d_world_list_roots(alloc: Global, handle: &mut WorldHandle) 
 /// Lists the nodes in the field `children` of a node.
 #[unsafe(no_mangle)]
 pub extern "C" fn x3d_world_list_children(alloc: Global, handle: &mut WorldHandle, node: u32) -> u8
-    ensures { Calls (λ w. Lists (look.children_in w.stage.scene node) w) status_of_look
+    ensures { Calls (λ (w : Embedded). Lists (look.children_in w.stage.scene node) w) status_of_look
         handle.old.world result handle.new.world }
 {
     let Some(mut world) = take(handle, alloc) else {
@@ -52,7 +54,7 @@ pub extern "C" fn x3d_world_list_value(
     node: u32,
     field: u16,
 ) -> u8
-    ensures { Calls (λ w. Lists (look.numbers_in w.stage node field) w) status_of_look
+    ensures { Calls (λ (w : Embedded). Lists (look.numbers_in w.stage node field) w) status_of_look
         handle.old.world result handle.new.world }
 {
     let Some(mut world) = take(handle, alloc) else {
@@ -67,7 +69,7 @@ pub extern "C" fn x3d_world_list_value(
 #[unsafe(no_mangle)]
 pub extern "C" fn x3d_world_applied(alloc: Global, handle: &mut WorldHandle, count: &mut u32) -> u8
     ensures kept { handle.new.world ≡ handle.old.world }
-    ensures count { Asks (λ w. applied_of w.stage.held)
+    ensures count { Asks (λ (w : Embedded). applied_of w.stage.held)
         handle.old.world result count.old count.new }
 {
     let Some(world) = take(handle, alloc) else {
@@ -86,7 +88,7 @@ pub extern "C" fn x3d_world_node_count(
     count: &mut usize,
 ) -> u8
     ensures kept { handle.new.world ≡ handle.old.world }
-    ensures count { Asks (λ w. length w.stage.scene.nodes)
+    ensures count { Asks (λ (w : Embedded). length w.stage.scene.nodes)
         handle.old.world result count.old count.new }
 {
     let Some(world) = take(handle, alloc) else {
@@ -106,7 +108,7 @@ pub extern "C" fn x3d_world_field_count(
     count: &mut u32,
 ) -> u8
     ensures kept { handle.new.world ≡ handle.old.world }
-    ensures count { Asks (λ w. length (rows_at w.stage.scene node))
+    ensures count { Asks (λ (w : Embedded). length (rows_at w.stage.scene node))
         handle.old.world result count.old count.new }
 {
     let Some(world) = take(handle, alloc) else {
@@ -127,8 +129,8 @@ pub extern "C" fn x3d_world_copy_numbers(
     wanted: &mut usize,
 ) -> u8
     ensures kept { handle.new.world ≡ handle.old.world }
-    ensures numbers { Copies (λ w. w.numbers.items) handle.old.world result out.old wanted.old
-        wanted.new out.new }
+    ensures numbers { Copies (λ (w : Embedded). w.numbers.items) handle.old.world result out.old
+        wanted.old wanted.new out.new }
 {
     let Some(world) = take(handle, alloc) else {
         return CLOSED;
@@ -158,6 +160,20 @@ fn write_met(entry: Option<Entry>, met: &mut Met)
     };
     met.n = entry.n;
     met.m = entry.m;
+}
+
+/// Where a ray enters, if it was asked.
+pub(crate) fn tell_met(answer: Result<Option<Entry>, LookFault>, met: &mut Met) -> u8
+    ensures status { result ≡ status_of_meet answer }
+    ensures told { met.new ≡ told met.old answer }
+{
+    match answer {
+        Ok(entry) => {
+            write_met(entry, met);
+            DONE
+        }
+        Err(fault) => status_of_look(Err(fault)),
+    }
 }
 
 /// Tells what a ray would hit, and lists the sensors that this concerns: the world stays as it is.

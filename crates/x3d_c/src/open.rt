@@ -5,15 +5,16 @@ ghost use Rattle.std.specs.Result.{result_map_both};
 ghost use Rattle.share_program.specs.Refusal.{refusal_text, status};
 ghost use Rattle.share_program.specs.declared.refusal.Failure.TheVariants.{Job};
 ghost use Rattle.embedded_world.specs.Calls.{IsOpened};
-ghost use Rattle.x3d_c.specs.Answers.{IsCopied, Opens};
+ghost use Rattle.x3d_answers.specs.Status.{IsCopied};
+ghost use Rattle.x3d_c.specs.Answers.{Opens};
 
-use crate::room::copy_text;
-use crate::status::DONE;
-use crate::world_handle::{WorldHandle, put, take};
 use embedded_world::EmbeddedWorld;
 use share_jobs::JobFault;
 use share_program::{Failure, refusal_line, status_of};
 use std::alloc::Global;
+use x3d_answers::{DONE, copy_text};
+use x3d_handles::WorldHandle;
+use x3d_handles::world_handle::{put, take};
 
 /// A world on the heap.
 fn boxed(alloc: Global, text: &[u8]) -> Result<Box<EmbeddedWorld>, JobFault>
@@ -28,7 +29,7 @@ fn boxed(alloc: Global, text: &[u8]) -> Result<Box<EmbeddedWorld>, JobFault>
 }
 
 /// Copies the line of a refusal, and tells its status.
-fn refuse(fault: JobFault, refusal: &mut [u8], wanted: &mut usize) -> u8
+pub(crate) fn refuse(fault: JobFault, refusal: &mut [u8], wanted: &mut usize) -> u8
     ensures status { result ≡ status (Job fault) }
     ensures line { (copied : ℕ)
         × IsCopied (refusal_text (Job fault)) refusal.old copied wanted.new refusal.new }

@@ -1,11 +1,14 @@
 //! A world as bytes, and back.
 
 ghost use Rattle.embedded_world.specs.Calls.{Saves};
-ghost use Rattle.x3d_c.specs.Answers.{Calls, LoadsAt, status_of_save};
+ghost use Rattle.x3d_answers.specs.Status.{Calls, status_of_save};
+ghost use Rattle.x3d_c.specs.Answers.{LoadsAt};
+ghost use Rattle.embedded_world.specs.declared.world.EmbeddedWorld.{EmbeddedWorld as Embedded};
 
-use crate::status::{CLOSED, DONE, status_of_save, status_of_snap};
-use crate::world_handle::{WorldHandle, put, take};
 use std::alloc::Global;
+use x3d_answers::{CLOSED, DONE, status_of_save, status_of_snap};
+use x3d_handles::WorldHandle;
+use x3d_handles::world_handle::{put, take};
 
 /// Of which boot a snapshot was, and how many inputs its world had applied.
 #[derive(Clone, Copy)]
@@ -18,7 +21,8 @@ pub struct SavedAs {
 /// Makes the snapshot of the world, as a boot: it is copied as a text is.
 #[unsafe(no_mangle)]
 pub extern "C" fn x3d_world_make_snapshot(alloc: Global, handle: &mut WorldHandle, boot: u32) -> u8
-    ensures { Calls (λ w. Saves w boot) status_of_save handle.old.world result handle.new.world }
+    ensures { Calls (λ (w : Embedded). Saves w boot) status_of_save handle.old.world result
+        handle.new.world }
 {
     let Some(mut world) = take(handle, alloc) else {
         return CLOSED;

@@ -3,17 +3,18 @@
 ghost use Rattle.std.specs.Prelude.{◌≡◌};
 ghost use Rattle.embedded_world.specs.Calls.{Makes};
 ghost use Rattle.embedded_world.specs.Looks as look;
-ghost use Rattle.x3d_c.specs.Answers.{Calls, Copies, status_of_look};
+ghost use Rattle.x3d_answers.specs.Status.{Calls, Copies, status_of_look};
+ghost use Rattle.embedded_world.specs.declared.world.EmbeddedWorld.{EmbeddedWorld as Embedded};
 
-use crate::room::copy_text;
-use crate::status::{CLOSED, status_of_look};
-use crate::world_handle::{WorldHandle, put, take};
 use std::alloc::Global;
+use x3d_answers::{CLOSED, copy_text, status_of_look};
+use x3d_handles::WorldHandle;
+use x3d_handles::world_handle::{put, take};
 
 /// Makes the lines of the trace that are of inputs from a number on.
 #[unsafe(no_mangle)]
 pub extern "C" fn x3d_world_make_trace(alloc: Global, handle: &mut WorldHandle, first: u32) -> u8
-    ensures { Calls (λ w. Makes (look.trace_from w.stage first) w) status_of_look
+    ensures { Calls (λ (w : Embedded). Makes (look.trace_from w.stage first) w) status_of_look
         handle.old.world result handle.new.world }
 {
     let Some(mut world) = take(handle, alloc) else {
@@ -27,7 +28,7 @@ pub extern "C" fn x3d_world_make_trace(alloc: Global, handle: &mut WorldHandle, 
 /// Makes the same lines by the numbers of nodes and fields.
 #[unsafe(no_mangle)]
 pub extern "C" fn x3d_world_make_changes(alloc: Global, handle: &mut WorldHandle, first: u32) -> u8
-    ensures { Calls (λ w. Makes (look.changes_from w.stage first) w) status_of_look
+    ensures { Calls (λ (w : Embedded). Makes (look.changes_from w.stage first) w) status_of_look
         handle.old.world result handle.new.world }
 {
     let Some(mut world) = take(handle, alloc) else {
@@ -41,7 +42,7 @@ pub extern "C" fn x3d_world_make_changes(alloc: Global, handle: &mut WorldHandle
 /// Makes the text of the scene as it is now.
 #[unsafe(no_mangle)]
 pub extern "C" fn x3d_world_make_scene(alloc: Global, handle: &mut WorldHandle) -> u8
-    ensures { Calls (λ w. Makes (look.scene_now w.stage) w) status_of_look
+    ensures { Calls (λ (w : Embedded). Makes (look.scene_now w.stage) w) status_of_look
         handle.old.world result handle.new.world }
 {
     let Some(mut world) = take(handle, alloc) else {
@@ -55,7 +56,7 @@ pub extern "C" fn x3d_world_make_scene(alloc: Global, handle: &mut WorldHandle) 
 /// Makes the word for a node's type.
 #[unsafe(no_mangle)]
 pub extern "C" fn x3d_world_make_type(alloc: Global, handle: &mut WorldHandle, node: u32) -> u8
-    ensures { Calls (λ w. Makes (look.type_in w.stage.scene node) w) status_of_look
+    ensures { Calls (λ (w : Embedded). Makes (look.type_in w.stage.scene node) w) status_of_look
         handle.old.world result handle.new.world }
 {
     let Some(mut world) = take(handle, alloc) else {
@@ -69,7 +70,7 @@ pub extern "C" fn x3d_world_make_type(alloc: Global, handle: &mut WorldHandle, n
 /// Makes the name of a node that no other node has.
 #[unsafe(no_mangle)]
 pub extern "C" fn x3d_world_make_label(alloc: Global, handle: &mut WorldHandle, node: u32) -> u8
-    ensures { Calls (λ w. Makes (look.label_in w.stage.scene node) w) status_of_look
+    ensures { Calls (λ (w : Embedded). Makes (look.label_in w.stage.scene node) w) status_of_look
         handle.old.world result handle.new.world }
 {
     let Some(mut world) = take(handle, alloc) else {
@@ -88,8 +89,8 @@ pub extern "C" fn x3d_world_make_field_name(
     node: u32,
     field: u16,
 ) -> u8
-    ensures { Calls (λ w. Makes (look.field_in w.stage.scene node field) w) status_of_look
-        handle.old.world result handle.new.world }
+    ensures { Calls (λ (w : Embedded). Makes (look.field_in w.stage.scene node field) w)
+        status_of_look handle.old.world result handle.new.world }
 {
     let Some(mut world) = take(handle, alloc) else {
         return CLOSED;
@@ -107,7 +108,7 @@ pub extern "C" fn x3d_world_make_value(
     node: u32,
     field: u16,
 ) -> u8
-    ensures { Calls (λ w. Makes (look.value_in w.stage node field) w) status_of_look
+    ensures { Calls (λ (w : Embedded). Makes (look.value_in w.stage node field) w) status_of_look
         handle.old.world result handle.new.world }
 {
     let Some(mut world) = take(handle, alloc) else {
@@ -128,8 +129,8 @@ pub extern "C" fn x3d_world_copy_text(
     wanted: &mut usize,
 ) -> u8
     ensures kept { handle.new.world ≡ handle.old.world }
-    ensures text { Copies (λ w. w.text.items) handle.old.world result out.old wanted.old
-        wanted.new out.new }
+    ensures text { Copies (λ (w : Embedded). w.text.items) handle.old.world result out.old
+        wanted.old wanted.new out.new }
 {
     let Some(world) = take(handle, alloc) else {
         return CLOSED;

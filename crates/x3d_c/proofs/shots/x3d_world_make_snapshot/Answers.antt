@@ -1,12 +1,12 @@
 use Rattle.std.proofs.Common.{Some, ap, ◌∙◌}
 use Rattle.embedded_world.specs.declared.world.EmbeddedWorld.{EmbeddedWorld}
 use Rattle.embedded_world.specs.Calls.{Saves}
-use Rattle.x3d_c.specs.Answers.{status_of_save}
+use Rattle.x3d_answers.specs.Status.{status_of_save}
 use Rattle.x3d_c.proofs.Called.{called}
 use Rattle.x3d_c.proofs.shots.x3d_world_make_snapshot.Goals as goal
 
 pub returns : goal.returns
 returns c =
-    called (λ w. Saves w c.args.boot) status_of_save _ _ _ c.deref_mut.result.now _ _
+    called (λ (w : EmbeddedWorld). Saves w c.args.boot) status_of_save _ _ _ c.deref_mut.result.now _ _
     (ap (λ (w : EmbeddedWorld). Some w) c.deref_mut.ensures.value ∙ c.in-Some.ensures.taken)
     c.make_snapshot-answer.ensures c.status_of_save.ensures c.put.ensures

@@ -1,0 +1,153 @@
+import unittest
+
+from x3d import Aim, Fault, Host, Refusal, Viewer, World
+
+DOOR = """#X3D V3.0 utf8
+DEF Motor TimeSensor { cycleInterval 2 }
+DEF Slide PositionInterpolator { key [ 0, 1 ] keyValue [ 0 0 0, 1 0 0 ] }
+DEF Door Transform {
+  children [
+    DEF Knob TouchSensor {}
+    Shape { geometry Box { size 1 2 0.1 } }
+  ]
+}
+ROUTE Knob.touchTime TO Motor.startTime
+ROUTE Motor.fraction_changed TO Slide.set_fraction
+ROUTE Slide.value_changed TO Door.translation
+"""
+AIM = Aim((0, 0, 10_000_000), (0, 0, -1_000_000))
+
+
+class Carrier:
+    """Carries datagrams between a host and its viewers, but every `every`-th."""
+
+    def __init__(self, host, every):
+        self.host, self.every, self.sent = host, every, 0
+
+    def arrives(self):
+        self.sent += 1
+        return self.sent % self.every != 0
+
+    def to_host(self, datagram):
+        if not self.arrives():
+            return []
+        return [packet for packet in self.host.packets(self.host.take(datagram)) if self.arrives()]
+
+    def turn(self, viewer, who):
+        """Whether the viewer is behind the floor."""
+        kinds = []
+        for offer in viewer.resend():
+            self.to_host(offer)
+        if self.arrives():
+            viewer.take(self.host.ack(who))
+        for packet in self.to_host(viewer.ask()):
+            kinds.append(viewer.take(packet).kind)
+        return "Behind" in kinds
+
+
+class Nodes(unittest.TestCase):
+    def refused(self, name, call, *passed):
+        with self.assertRaises(Fault) as told:
+            call(*passed)
+        self.assertEqual(told.exception.name, name)
+
+    def test_two_viewers_end_equal(self):
+        with Host(DOOR, 2) as host, Viewer(DOOR, 0, 1) as one, Viewer(DOOR, 1, 1) as other:
+            carrier = Carrier(host, 5)
+            self.assertEqual((one.offer(True, AIM), one.offer(False, AIM), one.waiting()), (1, 2, 2))
+            for time in range(1, 31):
+                host.clock(10_000_000 + time * 100_000)
+                carrier.turn(one, 0)
+                carrier.turn(other, 1)
+            turns = 0
+            while (one.applied(), other.applied(), one.waiting()) != (len(host), len(host), 0):
+                carrier.turn(one, 0)
+                carrier.turn(other, 1)
+                turns += 1
+                self.assertLess(turns, 100)
+            self.assertEqual(len(host), 32)
+            self.assertEqual(one.trace(), other.trace())
+            self.assertEqual(one.scene(), other.scene())
+            self.assertIn("Door.translation 1 0 0\n", one.trace())
+            door = next(n for n in range(one.node_count()) if one.label(n) == "Door")
+            self.assertEqual(other.value(door, other.field_named(door, "translation")), "1 0 0")
+            # A world of its own comes to the same by the same inputs.
+            self.assertEqual(World(DOOR).scene(), Viewer(DOOR, 0, 1).scene())
+
+    def test_a_late_viewer_joins_by_pieces(self):
+        host, first, late = Host(DOOR, 2), Viewer(DOOR, 0, 1), Viewer(DOOR, 1, 1)
+        carrier = Carrier(host, 1 << 60)
+        for time in range(1, 11):
+            host.clock(time * 1_000_000)
+        carrier.turn(first, 0)
+        self.assertEqual(first.applied(), 10)
+        host.drop_below(11)
+        self.assertEqual(host.floor(), 11)
+        self.assertIsNone(host.packet(10))
+        self.refused("FloorBack", host.drop_below, 5)
+        self.refused("FloorAhead", host.drop_below, 12)
+        self.assertTrue(carrier.turn(late, 1))
+        pieces = first.pieces()
+        self.refused("NotWhole", late.join, 2)
+        self.assertEqual([late.gather(piece) for piece in pieces], ["New"] * (len(pieces) - 1) + ["Whole"])
+        self.assertEqual(late.gather(pieces[0]), "Again")
+        self.refused("BootNotNew", late.join, 1)
+        self.assertEqual(late.join(2), 10)
+        self.assertEqual(late.boot(), 2)
+        host.clock(20_000_000)
+        carrier.turn(first, 0)
+        carrier.turn(late, 1)
+        self.assertEqual(late.trace(), first.trace())
+        self.assertEqual(late.applied(), 11)
+
+    def test_a_viewer_rewinds(self):
+        host, viewer = Host(DOOR, 1), Viewer(DOOR, 0, 1)
+        carrier = Carrier(host, 1 << 60)
+        host.clock(1_000_000)
+        carrier.turn(viewer, 0)
+        shot = viewer.snapshot()
+        host.clock(2_000_000)
+        carrier.turn(viewer, 0)
+        self.assertEqual(viewer.applied(), 2)
+        self.refused("BootNotNew", viewer.rewind, shot, 1)
+        self.refused("Short", viewer.rewind, shot[:40], 2)
+        self.assertEqual(viewer.rewind(shot, 2), 1)
+        carrier.turn(viewer, 0)
+        self.assertEqual(viewer.applied(), 2)
+
+    def test_what_is_refused_changes_nothing(self):
+        self.refused("Range", Host, DOOR, 0)
+        self.refused("Range", Host, DOOR, 17)
+        self.refused("Range", Viewer, DOOR, 16, 1)
+        self.refused("Range", Viewer, DOOR, 0, 0)
+        with self.assertRaises(Refusal) as told:
+            Viewer("#X3D V3.0 utf8\nGrup {}\n", 0, 1)
+        self.assertEqual(str(told.exception), "refused UnknownNode line 2")
+        host, viewer = Host(DOOR, 1), Viewer(DOOR, 0, 1)
+        self.refused("TimeNotLater", host.clock, 0)
+        self.refused("TimeRange", host.clock, 10**18 + 1)
+        self.refused("BadPacket", host.take, b"no datagram")
+        self.refused("WrongScene", host.take, Viewer(DOOR + "\n", 0, 1).ask())
+        self.refused("BadViewer", host.take, Viewer(DOOR, 1, 1).ask())
+        self.refused("Range", host.ack, 1)
+        self.assertEqual((len(host), host.viewers(), host.floor()), (0, 1, 1))
+        self.refused("NotForMe", viewer.take, viewer.ask())
+        self.refused("ZeroRay", viewer.offer, True, Aim((0, 0, 0), (0, 0, 0)))
+        self.refused("PointRange", viewer.offer, True, Aim((0, 0, 0), (10**15 + 1, 0, 0)))
+        for number in range(1, 65):
+            self.assertEqual(viewer.offer(False, AIM), number)
+        self.refused("OfferFull", viewer.offer, False, AIM)
+        offers = viewer.resend()
+        self.assertEqual(host.take(offers[1]).kind, "Ahead")
+        self.assertEqual(host.take(offers[0]), ("Numbered", 1, 0))
+        self.assertEqual(host.take(offers[0]).kind, "Repeat")
+        self.refused("NotPiece", viewer.gather, offers[0])
+        self.assertEqual(viewer.pieces(b"no snapshot"), [])
+        viewer.close()
+        host.close()
+        self.refused("Closed", viewer.ask)
+        self.refused("Closed", host.clock, 1)
+
+
+if __name__ == "__main__":
+    unittest.main()

@@ -1,0 +1,160 @@
+//! The host of a shared world.
+
+use crate::fault::Fault;
+use crate::packet::{Packet, packet};
+use crate::raw::{self, RawHost, RawReply};
+use std::marker::PhantomData;
+use std::ptr;
+
+/// What a host made of a datagram.
+#[derive(Clone, Copy, Debug, PartialEq, Eq)]
+pub enum Reply {
+    /// These inputs were asked for: `count` of them, at most 64, from number `first` on.
+    Asked {
+        first: u32,
+        count: u32,
+    },
+    /// The offer is the input of this number.
+    Numbered(u32),
+    /// The offer has been numbered before.
+    Repeat,
+    /// An offer before this one has not come yet.
+    Ahead,
+    /// The offer is of a boot that is over.
+    OldBoot,
+    /// Inputs were asked for that the host has no more; it has those from this number on.
+    Below(u32),
+    NothingToDo,
+}
+
+fn reply_of(raw: &RawReply) -> Reply {
+    match raw.kind {
+        0 => Reply::Asked {
+            first: raw.number,
+            count: raw.count,
+        },
+        1 => Reply::Numbered(raw.number),
+        2 => Reply::Repeat,
+        3 => Reply::Ahead,
+        4 => Reply::OldBoot,
+        5 => Reply::Below(raw.number),
+        _ => Reply::NothingToDo,
+    }
+}
+
+/// The host of a scene: it numbers what happens, and hands it out. Of the scene it keeps the mark of its text alone, and
+/// does not look at it.
+pub struct Host {
+    handle: RawHost,
+    // Nothing is proved of threads, so a host stays on its own.
+    stays: PhantomData<*mut ()>,
+}
+
+impl Host {
+    /// The host of a scene's text for 1 to 16 viewers, which are numbered from 0.
+    pub fn new(text: &[u8], viewers: u8) -> Result<Host, Fault> {
+        let mut host = Host {
+            handle: RawHost {
+                at: ptr::null_mut(),
+            },
+            stays: PhantomData,
+        };
+        // SAFETY: the handle is null, and the bytes are lent for the call. So it is in each call below, where the handle
+        // is as the last call left it.
+        let status =
+            unsafe { raw::x3d_host_open(&mut host.handle, text.as_ptr(), text.len(), viewers) };
+        Fault::told(status)?;
+        Ok(host)
+    }
+
+    /// Numbers a clock at a time of 1 to 10^18 microseconds, above that of the last input, and gives its number.
+    pub fn clock(&mut self, time: i64) -> Result<u32, Fault> {
+        let mut number = 0;
+        Fault::told(unsafe { raw::x3d_host_clock(&mut self.handle, time, &mut number) })?;
+        Ok(number)
+    }
+
+    /// Takes a datagram of a viewer.
+    pub fn take(&mut self, datagram: &[u8]) -> Result<Reply, Fault> {
+        let mut reply = RawReply::default();
+        let status = unsafe {
+            raw::x3d_host_take(
+                &mut self.handle,
+                datagram.as_ptr(),
+                datagram.len(),
+                &mut reply,
+            )
+        };
+        Fault::told(status)?;
+        Ok(reply_of(&reply))
+    }
+
+    /// The datagram of the input of this number, from the floor on.
+    pub fn packet(&mut self, number: u32) -> Option<Packet> {
+        packet(|out, room, wanted| unsafe {
+            raw::x3d_host_packet(&mut self.handle, number, out, room, wanted)
+        })
+    }
+
+    /// What belongs to a reply: the inputs that were asked for, or the floor where they are below it.
+    pub fn packets(&mut self, reply: Reply) -> Vec<Packet> {
+        match reply {
+            Reply::Asked { first, count } => {
+                let mut packets = Vec::new();
+                for number in first..first + count {
+                    packets.extend(self.packet(number));
+                }
+                packets
+            }
+            Reply::Below(_) => vec![self.floor_packet()],
+            _ => Vec::new(),
+        }
+    }
+
+    /// The datagram that tells a viewer how many of its offers are numbered, if there is such a viewer.
+    pub fn ack(&mut self, who: u8) -> Option<Packet> {
+        packet(|out, room, wanted| unsafe {
+            raw::x3d_host_ack(&mut self.handle, who, out, room, wanted)
+        })
+    }
+
+    /// The number from which on there are datagrams of inputs: 1 at first.
+    pub fn floor(&mut self) -> u32 {
+        let mut number = 0;
+        unsafe { raw::x3d_host_floor(&mut self.handle, &mut number) };
+        number
+    }
+
+    /// The datagram that tells it.
+    pub fn floor_packet(&mut self) -> Packet {
+        packet(|out, room, wanted| unsafe {
+            raw::x3d_host_floor_packet(&mut self.handle, out, room, wanted)
+        })
+        .expect("there is always a floor")
+    }
+
+    /// Drops the inputs below this number: their memory is used again or freed.
+    pub fn drop_below(&mut self, number: u32) -> Result<(), Fault> {
+        Fault::told(unsafe { raw::x3d_host_drop_below(&mut self.handle, number) })
+    }
+
+    /// How many inputs are numbered.
+    pub fn count(&mut self) -> u32 {
+        let mut count = 0;
+        unsafe { raw::x3d_host_count(&mut self.handle, &mut count) };
+        count
+    }
+
+    /// How many viewers there are.
+    pub fn viewers(&mut self) -> u32 {
+        let mut count = 0;
+        unsafe { raw::x3d_host_viewers(&mut self.handle, &mut count) };
+        count
+    }
+}
+
+impl Drop for Host {
+    fn drop(&mut self) {
+        unsafe { raw::x3d_host_close(&mut self.handle) }
+    }
+}

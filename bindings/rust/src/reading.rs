@@ -1,0 +1,191 @@
+//! What is read of a world, of a World and of a Viewer alike.
+
+use crate::raw::RawAim;
+
+/// What a viewer points with.
+#[derive(Clone, Copy, Debug, PartialEq, Eq)]
+pub struct Aim {
+    /// Where the ray begins: sizes up to 10^15 millionths.
+    pub origin: [i64; 3],
+    /// Where it goes: the same, and not 0 0 0.
+    pub direction: [i64; 3],
+}
+
+impl Aim {
+    #[must_use]
+    pub fn new(origin: [i64; 3], direction: [i64; 3]) -> Aim {
+        Aim { origin, direction }
+    }
+
+    pub(crate) fn raw(&self) -> RawAim {
+        let ([origin_x, origin_y, origin_z], [direction_x, direction_y, direction_z]) =
+            (self.origin, self.direction);
+        RawAim {
+            origin_x,
+            origin_y,
+            origin_z,
+            direction_x,
+            direction_y,
+            direction_z,
+        }
+    }
+}
+
+/// What a ray would hit.
+#[derive(Clone, Debug, PartialEq, Eq)]
+pub struct Meeting {
+    /// Where it enters: at `entry.0 / entry.1` of the way along its direction.
+    pub entry: (u64, u64),
+    /// The sensors that this concerns, by their numbers.
+    pub sensors: Vec<u32>,
+}
+
+/// The methods that read, by the calls of one of the two.
+macro_rules! readable {
+    ($object:ty, $copy_numbers:ident, $copy_text:ident, $field_count:ident, $list_children:ident, $list_roots:ident, $list_value:ident, $make_changes:ident, $make_field_name:ident, $make_label:ident, $make_scene:ident, $make_trace:ident, $make_type:ident, $make_value:ident, $meet:ident, $node_count:ident) => {
+        impl $object {
+            /// What a ray would hit; the world stays as it is.
+            pub fn meet(&mut self, aim: &Aim) -> Result<Option<Meeting>, Fault> {
+                let mut met = RawMet::default();
+                Fault::told(unsafe { raw::$meet(&mut self.handle, &aim.raw(), &mut met) })?;
+                let sensors = self.nodes();
+                Ok((met.m != 0).then_some(Meeting {
+                    entry: (met.n, met.m),
+                    sensors,
+                }))
+            }
+
+            /// The lines of the trace that are of inputs from a number on; from 0 on it is the whole trace.
+            pub fn trace(&mut self, first: u32) -> Result<String, Fault> {
+                Fault::told(unsafe { raw::$make_trace(&mut self.handle, first) })?;
+                Ok(self.string())
+            }
+
+            /// The same lines by the numbers of nodes and fields.
+            pub fn changes(&mut self, first: u32) -> Result<Changes, Fault> {
+                Fault::told(unsafe { raw::$make_changes(&mut self.handle, first) })?;
+                Ok(Changes {
+                    text: self.string(),
+                })
+            }
+
+            /// The text of the scene as it is now.
+            pub fn scene(&mut self) -> Result<String, Fault> {
+                Fault::told(unsafe { raw::$make_scene(&mut self.handle) })?;
+                Ok(self.string())
+            }
+
+            /// How many nodes the scene has, which are numbered from 0.
+            pub fn node_count(&mut self) -> usize {
+                let mut count = 0;
+                unsafe { raw::$node_count(&mut self.handle, &mut count) };
+                count
+            }
+
+            /// The roots of the scene.
+            pub fn roots(&mut self) -> Result<Vec<u32>, Fault> {
+                Fault::told(unsafe { raw::$list_roots(&mut self.handle) })?;
+                Ok(self.nodes())
+            }
+
+            /// The nodes in the field `children` of a node; none where it has no such field.
+            pub fn children(&mut self, node: u32) -> Result<Vec<u32>, Fault> {
+                Fault::told(unsafe { raw::$list_children(&mut self.handle, node) })?;
+                Ok(self.nodes())
+            }
+
+            /// The word for a node's type, as `Transform`.
+            pub fn node_type(&mut self, node: u32) -> Result<String, Fault> {
+                Fault::told(unsafe { raw::$make_type(&mut self.handle, node) })?;
+                Ok(self.string())
+            }
+
+            /// The name of a node that no other node has.
+            pub fn label(&mut self, node: u32) -> Result<String, Fault> {
+                Fault::told(unsafe { raw::$make_label(&mut self.handle, node) })?;
+                Ok(self.string())
+            }
+
+            /// How many fields a node has, which are numbered from 0; 0 where there is no such node.
+            pub fn field_count(&mut self, node: u32) -> u32 {
+                let mut count = 0;
+                unsafe { raw::$field_count(&mut self.handle, node, &mut count) };
+                count
+            }
+
+            /// The name of a field of a node, as `translation`.
+            pub fn field_name(&mut self, node: u32, field: u16) -> Result<String, Fault> {
+                Fault::told(unsafe { raw::$make_field_name(&mut self.handle, node, field) })?;
+                Ok(self.string())
+            }
+
+            /// The number of the field of that name.
+            pub fn field_named(&mut self, node: u32, name: &str) -> Result<u16, Fault> {
+                for field in 0..self.field_count(node) {
+                    let field = u16::try_from(field).map_err(|_| Fault::NoSuchField)?;
+                    if self.field_name(node, field)? == name {
+                        return Ok(field);
+                    }
+                }
+                Err(Fault::NoSuchField)
+            }
+
+            /// The text of the value that a field has now, as `0 1.5 0`; nodes have none.
+            pub fn value(&mut self, node: u32, field: u16) -> Result<String, Fault> {
+                Fault::told(unsafe { raw::$make_value(&mut self.handle, node, field) })?;
+                Ok(self.string())
+            }
+
+            /// The numbers of that value: truths as 1 and 0, integers, millionths and microseconds as they are, vectors and colors
+            /// part by part, nodes as their numbers; a text has none.
+            pub fn numbers(&mut self, node: u32, field: u16) -> Result<Vec<i64>, Fault> {
+                Fault::told(unsafe { raw::$list_value(&mut self.handle, node, field) })?;
+                Ok(self.listed())
+            }
+
+            /// The bytes that were made last.
+            fn text(&mut self) -> Vec<u8> {
+                let mut wanted = 0;
+                let mut out = Vec::new();
+                // The first call tells how many there are, the second copies them.
+                for _call in 0..2 {
+                    out.resize(wanted, 0);
+                    unsafe {
+                        raw::$copy_text(&mut self.handle, out.as_mut_ptr(), out.len(), &mut wanted)
+                    };
+                }
+                out
+            }
+
+            fn string(&mut self) -> String {
+                String::from_utf8(self.text()).expect("a text of the library is UTF-8")
+            }
+
+            /// The numbers that were listed last.
+            fn listed(&mut self) -> Vec<i64> {
+                let mut wanted = 0;
+                let mut out = Vec::new();
+                for _call in 0..2 {
+                    out.resize(wanted, 0);
+                    unsafe {
+                        raw::$copy_numbers(
+                            &mut self.handle,
+                            out.as_mut_ptr(),
+                            out.len(),
+                            &mut wanted,
+                        )
+                    };
+                }
+                out
+            }
+
+            fn nodes(&mut self) -> Vec<u32> {
+                self.listed()
+                    .into_iter()
+                    .map(|node| u32::try_from(node).expect("a node's number has 32 bits"))
+                    .collect()
+            }
+        }
+    };
+}
+pub(crate) use readable;

@@ -1,0 +1,137 @@
+use x3d::{Aim, Fault, Gathered, Host, Kind, Reply, Taken, Viewer, World};
+
+const DOOR: &[u8] = b"#X3D V3.0 utf8
+DEF Motor TimeSensor { cycleInterval 2 }
+DEF Slide PositionInterpolator { key [ 0, 1 ] keyValue [ 0 0 0, 1 0 0 ] }
+DEF Door Transform {
+  children [
+    DEF Knob TouchSensor {}
+    Shape { geometry Box { size 1 2 0.1 } }
+  ]
+}
+ROUTE Knob.touchTime TO Motor.startTime
+ROUTE Motor.fraction_changed TO Slide.set_fraction
+ROUTE Slide.value_changed TO Door.translation
+";
+
+fn aim() -> Aim {
+    Aim::new([0, 0, 10_000_000], [0, 0, -1_000_000])
+}
+
+/// Whether the datagram of this number arrives: every fifth is lost.
+fn arrives(sent: &mut u32) -> bool {
+    *sent += 1;
+    !sent.is_multiple_of(5)
+}
+
+/// A viewer's turn. Whether it is behind the floor.
+fn turn(host: &mut Host, viewer: &mut Viewer, who: u8, sent: &mut u32) -> bool {
+    for offer in viewer.offers() {
+        if arrives(sent) {
+            host.take(&offer).unwrap();
+        }
+    }
+    if arrives(sent) {
+        viewer.take(&host.ack(who).unwrap()).unwrap();
+    }
+    let mut behind = false;
+    if arrives(sent) {
+        let reply = host.take(&viewer.ask()).unwrap();
+        for packet in host.packets(reply) {
+            if arrives(sent) {
+                behind |= viewer.take(&packet).unwrap() == Taken::Behind;
+            }
+        }
+    }
+    behind
+}
+
+#[test]
+fn two_viewers_end_equal() {
+    let mut host = Host::new(DOOR, 2).unwrap();
+    let mut one = Viewer::open(DOOR, 0, 1).unwrap();
+    let mut other = Viewer::open(DOOR, 1, 1).unwrap();
+    let mut sent = 0;
+    one.offer(true, &aim()).unwrap();
+    one.offer(false, &aim()).unwrap();
+    for time in 1..=30 {
+        host.clock(10_000_000 + time * 100_000).unwrap();
+        turn(&mut host, &mut one, 0, &mut sent);
+        turn(&mut host, &mut other, 1, &mut sent);
+    }
+    for _turn in 0..100 {
+        turn(&mut host, &mut one, 0, &mut sent);
+        turn(&mut host, &mut other, 1, &mut sent);
+    }
+    assert_eq!((host.count(), one.applied(), other.applied()), (32, 32, 32));
+    assert_eq!(one.waiting(), 0);
+    assert_eq!(one.trace(0), other.trace(0));
+    assert_eq!(one.scene(), other.scene());
+    assert!(one.trace(0).unwrap().contains("Door.translation 1 0 0\n"));
+}
+
+#[test]
+fn a_late_viewer_joins_by_pieces() {
+    let mut host = Host::new(DOOR, 2).unwrap();
+    let mut first = Viewer::open(DOOR, 0, 1).unwrap();
+    let mut late = Viewer::open(DOOR, 1, 1).unwrap();
+    for time in 1..=10 {
+        host.clock(time * 1_000_000).unwrap();
+    }
+    let reply = host.take(&first.ask()).unwrap();
+    assert_eq!(
+        reply,
+        Reply::Asked {
+            first: 1,
+            count: 10
+        }
+    );
+    for packet in host.packets(reply) {
+        first.take(&packet).unwrap();
+    }
+    host.drop_below(11).unwrap();
+    assert_eq!((host.floor(), host.packet(10)), (11, None));
+    let reply = host.take(&late.ask()).unwrap();
+    assert_eq!(reply, Reply::Below(11));
+    let floor = host.packets(reply);
+    assert_eq!(late.take(&floor[0]), Ok(Taken::Behind));
+    let shot = first.snapshot().unwrap();
+    assert_eq!(late.join(2), Err(Fault::NotWhole));
+    let pieces = first.pieces(&shot);
+    for piece in &pieces[1..] {
+        assert_eq!(late.gather(piece), Ok(Gathered::New));
+    }
+    assert_eq!(late.gather(&pieces[0]), Ok(Gathered::Whole));
+    assert_eq!(late.join(2), Ok(10));
+    assert_eq!((late.boot(), late.applied()), (2, 10));
+    assert_eq!(late.scene(), first.scene());
+    assert_eq!(late.rewind(&shot, 2), Err(Fault::BootNotNew));
+    assert_eq!(late.rewind(&shot, 3), Ok(10));
+}
+
+#[test]
+fn what_is_refused_changes_nothing() {
+    assert!(matches!(Host::new(DOOR, 0), Err(Fault::Range)));
+    assert!(matches!(Viewer::open(DOOR, 16, 1), Err(refusal) if refusal.line.is_empty()));
+    let refusal = Viewer::open(b"#X3D V3.0 utf8\nGrup {}\n", 0, 1)
+        .err()
+        .unwrap();
+    assert_eq!(refusal.line, "refused UnknownNode line 2");
+    let mut host = Host::new(DOOR, 1).unwrap();
+    let mut viewer = Viewer::open(DOOR, 0, 1).unwrap();
+    assert_eq!(host.clock(0), Err(Fault::TimeNotLater));
+    assert_eq!(host.take(b"no datagram"), Err(Fault::BadPacket));
+    assert_eq!(host.ack(1), None);
+    let ask = viewer.ask();
+    assert_eq!(viewer.take(&ask), Err(Fault::NotForMe));
+    assert_eq!(
+        viewer.offer(true, &Aim::new([0; 3], [0; 3])),
+        Err(Fault::ZeroRay)
+    );
+    let mut world = World::open(DOOR).unwrap();
+    assert_eq!(world.script_count(), 0);
+    assert_eq!(
+        world.replace_script(0, Kind::Gate),
+        Err(Fault::NoSuchScript)
+    );
+}

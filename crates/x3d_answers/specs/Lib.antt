@@ -1,0 +1,2 @@
+pub mod NodeStatus
+pub mod Status

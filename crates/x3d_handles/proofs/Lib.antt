@@ -1,0 +1,3 @@
+pub mod HostHandles
+pub mod ViewerHandles
+pub mod WorldHandles

@@ -1,0 +1,3 @@
+pub mod HostHeld
+pub mod ViewerHeld
+pub mod WorldHeld
