@@ -2,7 +2,6 @@ use Rattle.std.proofs.Common.{Some, ap, ◌∙◌}
 use Rattle.embedded_nodes.specs.declared.viewer.EmbeddedViewer.{EmbeddedViewer}
 use Rattle.embedded_nodes.specs.Viewers.{Makes}
 use Rattle.embedded_world.specs.Looks as look
-use Rattle.share_core.specs.Viewer.{stage_in}
 use Rattle.x3d_answers.specs.Status.{status_of_look}
 use Rattle.x3d_c.proofs.Called.{called}
 use Rattle.x3d_c.proofs.viewer_texts.x3d_viewer_make_type.Goals as goal
