@@ -9,5 +9,5 @@ use Rattle.x3d_c.proofs.viewer.x3d_viewer_offer.Goals as goal
 pub returns : goal.returns
 returns c =
     subst (λ (p : Point). CallsOut (λ (v : EmbeddedViewer). viewers.Offers v p) (status_by status_of_offer) number_by
-        c.args.handle.now.viewer c.offer.result c.offer.new.handle.viewer c.args.number.now c.offer.new.number)
+    c.args.handle.now.viewer c.offer.result c.offer.new.handle.viewer c.args.number.now c.offer.new.number)
     c.point_of-point.ensures c.offer.ensures
