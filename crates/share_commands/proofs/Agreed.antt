@@ -7,7 +7,7 @@ use Rattle.share_law.specs.Parts.{HostPart, new_part}
 use Rattle.share_turns.specs.Agreeing.{AreAgreed, IsAgreeRunEnd, IsAgreedText, Meeting, Seats, Ways, meeting}
 use Rattle.share_turns.specs.declared.fault.SeriesFault.{SeriesFault}
 use Rattle.share_commands.specs.Joining.{IsAgreed, IsAgreedInPart, Joint}
-use Rattle.share_commands.specs.Viewing.{series_fault}
+use Rattle.share_commands.specs.Hosting.{series_fault}
 
 -- what a call left of a whole list
 pub written : {A : Type 0} (n : ℕ) (new old : List A) → length new ≡ length old → n ≡ length old → take n (new ++ drop (length new) old) ≡ new

@@ -70,16 +70,37 @@ fn next_rest(rest: u32, is_new: bool) -> u32 {
 }
 
 impl<P: Port> PatientPort<P> {
-    /// Waits for more, where one came and then none.
-    fn received_late(&mut self, into: &mut [u8; 257]) -> Result<Option<(u16, usize)>, PortFault> {
-        self.port.wait(SHORTEST);
-        self.port.receive(into)
+    ghost use Rattle.std.specs.Prelude.{◌≡◌, ◌≤◌, ⊤, OnOk, OnErr, MatchOption, MatchResult};
+    ghost use Rattle.share_port.specs.Told.{one_more};
+
+    /// One was received.
+    fn count_one(&mut self)
+        ensures { self.new.port ≡ self.old.port }
+    {
+        self.came = true;
+        self.tally.received = self.tally.received.saturating_add(1);
     }
 
-    fn count(&mut self, has_come: bool) {
-        self.came = has_come;
-        if has_come {
-            self.tally.received = self.tally.received.saturating_add(1);
+    /// Nothing has come: waits for more, where one had come before.
+    fn receive_late(&mut self, into: &mut [u8; 257]) -> Result<Option<(u16, usize)>, PortFault>
+        ensures got { MatchResult result
+            (λ came. MatchOption came ⊤ (λ r. (r.1 ≤ 257) × ⊤)) (λ _. ⊤) }
+        ensures count_ok { OnOk result
+            (P.failure_count self.new.port ≡ P.failure_count self.old.port) }
+        ensures count_err { OnErr result
+            (P.failure_count self.new.port ≡ one_more (P.failure_count self.old.port)) }
+    {
+        if !self.came {
+            return Ok(None);
+        }
+        self.came = false;
+        self.port.wait(SHORTEST);
+        match self.port.receive(into)? {
+            Some((from, count)) => {
+                self.count_one();
+                Ok(Some((from, count)))
+            }
+            None => Ok(None),
         }
     }
 }
@@ -94,12 +115,13 @@ impl<P: Port> Port for PatientPort<P> {
     }
 
     fn receive(&mut self, into: &mut [u8; 257]) -> Result<Option<(u16, usize)>, PortFault> {
-        let mut received = self.port.receive(into)?;
-        if received.is_none() && self.came {
-            received = self.received_late(into)?;
+        match self.port.receive(into)? {
+            Some((from, count)) => {
+                self.count_one();
+                Ok(Some((from, count)))
+            }
+            None => self.receive_late(into),
         }
-        self.count(received.is_some());
-        Ok(received)
     }
 
     fn failures(&self) -> u64 {
