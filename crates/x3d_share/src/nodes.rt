@@ -102,6 +102,7 @@ fn tell<R: Eprint>(rt: &R, verbose: bool, tally: Tally) {
 }
 
 /// The port that a node is bound to, in words.
+#[derive(Drop)]
 struct BoundAt(u16);
 
 impl fmt::Display for BoundAt {

@@ -34,9 +34,9 @@ fn gathers_all(viewer: &mut Viewer<StockScript>, shot: &[u8]) -> bool {
 /// The first piece of this snapshot, which is the viewer's own. Where it is refused nothing is
 /// gathered, and the viewer is as it was.
 #[derive(Clone, Copy)]
-struct Gathers<'a>(&'a [u8]);
+struct OnePiece<'a>(&'a [u8]);
 
-impl<'a> Spared<Viewer<StockScript>> for Gathers<'a> {
+impl<'a> Spared<Viewer<StockScript>> for OnePiece<'a> {
     fn work(
         &self,
         alloc: Global,
@@ -96,7 +96,7 @@ struct Late;
 
 impl Trial for Late {
     fn holds(&self, alloc: Global, viewer: &mut Viewer<StockScript>, shot: &[u8]) -> bool {
-        is_refused_until_enough(alloc, &Gathers(shot), viewer, 1)
+        is_refused_until_enough(alloc, &OnePiece(shot), viewer, 1)
             && is_refused_until_enough(alloc, &Joins(shot), viewer, 20)
     }
 }
