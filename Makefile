@@ -1,7 +1,7 @@
 # `make run` shows the program at work, `make test` is the gate.
 SHELL := bash
 .SHELLFLAGS := -eu -o pipefail -c
-.PHONY: run try quick picture room test-room share soak fuzz test cases prefixes refusals check definitions calls \
+.PHONY: run try quick picture room test-room room-library share soak fuzz test cases prefixes refusals check definitions calls \
         bench format install library bindings fuzz-library
 
 JOB ?= examples/two-clocks.job
@@ -32,14 +32,18 @@ picture:
 	@scripts/picture $(JOB) $(basename $(notdir $(JOB))).svg
 
 # Shows a shared world in browser windows: prints the address. Wants Debian's package libjs-three.
-room:
-	@cd crates/x3d_share && rt run -- --version > /dev/null
+room: room-library
 	@room/server.py $(ROOM)
 
 # Tests that, in a real browser where chromium is installed. No part of `make test`.
-test-room:
-	@cd crates/x3d_share && rt run -- --version > /dev/null
+test-room: room-library
 	@room/test_room.py
+
+# What it stands on: the library, proved and built where it is missing or older than its source; or what X3D_SO names.
+room-library:
+	@[ -n "$(X3D_SO)" ] || { [ -e out/libx3d.so ] && [ -z "$$(find crates -path '*/out' -prune -o \
+	  \( -name '*.rt' -o -name '*.antt' \) -newer out/libx3d.so -print -quit)" ]; } || \
+	  $(MAKE) --no-print-directory library >&2
 
 # Proves and builds the program, and has a host and two viewers do a job over UDP, twice: the second
 # time through a proxy that loses, repeats and reorders datagrams.
@@ -62,7 +66,8 @@ fuzz:
 
 # The gate: every proof from nothing, the must-fail edits, the tests; and then, by the program that
 # was proved, the cases, the examples, prefixes of their scenes, each growth of memory refused in turn,
-# a thousand changed texts, a shared world over UDP, and one with killed viewers and malicious datagrams.
+# a thousand changed texts, a shared world over UDP, and one with killed viewers and malicious datagrams;
+# and by the library of `make library`, where it was built, the jobs from C, Rust and Python.
 test: definitions
 	@log=$$(mktemp); trap 'rm -f "$$log"' EXIT; \
 	rt ci 2>&1 | tee "$$log"; \
@@ -72,6 +77,8 @@ test: definitions
 	scripts/fuzz 1000 --seed 1; \
 	scripts/share; \
 	scripts/soak 0.3 --seed 48; \
+	if [ -e out/libx3d.so ]; then scripts/bindings --quick; \
+	else echo "bindings: skipped: no library (make library)"; fi; \
 	tail -n 1 "$$log"
 
 # Proves and builds the program, and runs it on the cases of cases/ and the examples.
@@ -112,14 +119,15 @@ format:
 # Proves the library for programs that embed a world, and builds out/libx3d.a and out/libx3d.so. Wants a C
 # compiler and binutils.
 library:
-	@cd crates/x3d_c && rt lib
+	@cd crates/embed_c && rt lib
 	@PREFIX=$(PREFIX) scripts/library
 
-# Tests that library from C, Rust and Python, as far as their tools are there. `make test` does so with fewer jobs.
+# Tests that library from C, Rust and Python, as far as their tools are there. `make test` does so with fewer jobs, where it was built.
 bindings: library
 	@scripts/bindings
 
-# Fuzzes that library: RUNS altered inputs each of a scene, a snapshot and a schedule of calls. Wants clang with libFuzzer.
+# Fuzzes that library: RUNS altered inputs each of a scene, datagrams, a snapshot and a schedule of calls. Wants clang with
+# libFuzzer.
 fuzz-library: library
 	@scripts/fuzz_library --runs $(or $(RUNS),10000)
 

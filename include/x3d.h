@@ -1,5 +1,5 @@
 /* A shared X3D world inside another program: the library `x3d`. docs/EMBEDDING.md tells how to use it, and
- * scripts/header compares each declaration below with its export in crates/x3d_c/src. */
+ * scripts/header compares each declaration below with its export in crates/embed_c/src. */
 #ifndef X3D_H
 #define X3D_H
 

@@ -10,8 +10,13 @@ import subprocess
 import tempfile
 import time
 import urllib.request
+import zlib
 from pathlib import Path
 
+# Of each key its code, its number in Windows, by which chromium goes, and what it types.
+ARROWS = ("ArrowLeft", "ArrowUp", "ArrowRight", "ArrowDown")
+KEYS = {" ": ("Space", 32, " "), "Tab": ("Tab", 9, ""), "Enter": ("Enter", 13, "\r")}
+KEYS.update({name: (name, number, "") for number, name in enumerate(ARROWS, 37)})
 NAMES = ("chromium", "chromium-browser", "google-chrome")
 SECONDS = 60
 
@@ -19,6 +24,39 @@ SECONDS = 60
 def installed():
     """The path of a browser, if there is one."""
     return next(filter(None, map(shutil.which, NAMES)), None)
+
+
+def pixels(png):
+    """The rows of a picture as chromium writes it (PNG, 8 bits a part), and how many parts a pixel
+    has."""
+    at, data, parts = 8, b"", 0
+    while at < len(png):
+        size, kind = struct.unpack_from(">I4s", png, at)
+        if kind == b"IHDR":
+            wide, _, _, color = struct.unpack_from(">IIBB", png, at + 8)
+            parts = {2: 3, 6: 4}[color]
+        elif kind == b"IDAT":
+            data += png[at + 8 : at + 8 + size]
+        at += size + 12
+    data, rows, above, length = zlib.decompress(data), [], bytes(wide * parts), wide * parts + 1
+    for start in range(0, len(data), length):
+        above = unfiltered(data[start], bytearray(data[start + 1 : start + length]), above, parts)
+        rows.append(above)
+    return rows, parts
+
+
+def unfiltered(kind, row, above, parts):
+    """A row from what was stored of it (PNG, section 9)."""
+    for k, stored in enumerate(row):
+        left, up = (row[k - parts] if k >= parts else 0), above[k]
+        corner = above[k - parts] if k >= parts else 0
+        if kind == 4:
+            guess = left + up - corner
+            near = min((left, up, corner), key=lambda each: abs(guess - each))
+            row[k] = (stored + near) & 255
+        else:
+            row[k] = (stored + (0, left, up, (left + up) // 2)[kind]) & 255
+    return row
 
 
 class Socket:
@@ -111,14 +149,23 @@ class Page:
         self.mouse("mousePressed", spot, 1)
         self.mouse("mouseReleased", spot)
 
-    def key(self, key, code, down=True):
-        text = {"text": key} if down and len(key) == 1 else {}
+    def key(self, key, down=True):
+        """A key goes down, or comes up."""
+        code, number, text = KEYS.get(key, (key, 0, ""))
         given = {"type": "keyDown" if down else "keyUp", "key": key, "code": code}
-        self.call("Input.dispatchKeyEvent", **given, **text)
+        more = {"text": text} if text and down else {}
+        self.call("Input.dispatchKeyEvent", **given, windowsVirtualKeyCode=number, **more)
 
-    def picture(self, file):
-        data = self.call("Page.captureScreenshot", format="png")["data"]
-        Path(file).write_bytes(base64.b64decode(data))
+    def press(self, key):
+        self.key(key)
+        self.key(key, down=False)
+
+    def picture(self, clip=None):
+        """A screenshot, of all or of x, y, width and height, as PNG."""
+        given = {"format": "png"}
+        if clip:
+            given["clip"] = {**dict(zip(("x", "y", "width", "height"), clip)), "scale": 1}
+        return base64.b64decode(self.call("Page.captureScreenshot", **given)["data"])
 
 
 class Browser:

@@ -2,179 +2,229 @@
 "use strict";
 
 const COLORS = ["#0b63a5", "#b4560b", "#00795b", "#8a3d85", "#5b5b12", "#a3263a", "#2f4b7c", "#7a5200"];
-const STOPS = 120, LANE = 18, LANES = 30, PACE = 90;
+const STOPS = 120, LANE = 18, STRIP = 222, SPAN = 90, PACE = 90;
 const byId = (id) => document.getElementById(id);
 const colorOf = (who) => COLORS[who % COLORS.length];
-const state = { who: null, token: null, n: 0, status: null, scene: null, lanes: new Map(), gone: false };
+const state = { who: null, token: null, n: 0, status: null, nodes: [], labels: new Map(), lanes: new Map() };
 
-/* The scene: values by node and field, and what three.js draws of them. */
+/* Values: what a field holds comes as its text, as `0 1.5 0`, or as a list of nodes. */
+
+function valueOf(text) {
+  if (text === null || Array.isArray(text)) return text;
+  if (text === "TRUE" || text === "FALSE") return text === "TRUE";
+  const list = text[0] === "[", inside = list ? text.slice(1, -1) : text;
+  const strings = inside.match(/"(?:[^"\\]|\\.)*"/gs);
+  const items = strings ? strings.map((word) => word.slice(1, -1).replace(/\\(.)/gs, "$1"))
+    : inside.split(/\s+/).filter((word) => word).map(Number);
+  return list || items.length !== 1 ? items : items[0];
+}
+
+const field = (node, name, otherwise) => (node && node.fields[name] !== null && node.fields[name] !== undefined
+  ? node.fields[name] : otherwise);
+const listed = (node, name) => { const value = field(node, name, []); return Array.isArray(value) ? value : [value]; };
+const nodeIn = (node, name) => state.nodes[listed(node, name)[0]];
+const vector = (node, name) => new THREE.Vector3(...field(node, name, [0, 0, 0]));
+const color = (node, name) => new THREE.Color(...field(node, name, [0, 0, 0]));
+
+/* What three.js draws: `things` are those of each node, `users` the Shapes that a part belongs to. */
 
 const three = {
   renderer: null, scene: new THREE.Scene(), camera: new THREE.PerspectiveCamera(45, 1, 0.05, 5000),
-  things: new Map(), dots: new Map(), dirty: true, content: null,
+  head: new THREE.DirectionalLight(0xffffff, 0.65), content: null, dirty: true, draws: 0,
+  things: new Map(), users: new Map(), stale: new Set(), dots: new Map(), moved: new Map(),
 };
 
-function field(node, name, otherwise) {
-  const value = node.fields[name];
-  return value === undefined || value === null ? otherwise : value;
-}
-const list = (value) => (Array.isArray(value) ? value : value === undefined || value === null ? [] : [value]);
-const nodesIn = (node, name) => list(node.fields[name]).filter((item) => item && item.node);
-
-function child(node, name) {
-  const first = nodesIn(node, name)[0];
-  return first ? state.scene.nodes[first.node] : null;
-}
-
 function materialOf(shape) {
-  const appearance = child(shape, "appearance");
-  const material = appearance && child(appearance, "material");
-  if (!material) return new THREE.MeshLambertMaterial({ color: 0xa8c2e0 });
+  const material = nodeIn(nodeIn(shape, "appearance"), "material");
+  const plain = nodeIn(shape, "geometry").kind === "Text" ? 0x3d4a5c : 0xa8c2e0;
+  if (!material) return new THREE.MeshLambertMaterial({ color: plain });
   const glass = field(material, "transparency", 0);
   return new THREE.MeshLambertMaterial({
-    color: new THREE.Color(...field(material, "diffuseColor", [0.8, 0.8, 0.8])),
-    emissive: new THREE.Color(...field(material, "emissiveColor", [0, 0, 0])),
+    color: color(material, "diffuseColor"), emissive: color(material, "emissiveColor"),
     transparent: glass > 0, opacity: 1 - glass,
   });
 }
 
+/* The corners of each triangle of a face. One that isn't convex is cut as its shadow on an axis' plane is. */
+function trianglesOf(face, points, convex) {
+  if (convex) return face.slice(2).map((_, k) => [face[0], face[k + 1], face[k + 2]]);
+  const at = (corner) => new THREE.Vector3(...points.slice(3 * corner, 3 * corner + 3)), normal = new THREE.Vector3();
+  face.forEach((corner, k) => normal.add(at(corner).cross(at(face[(k + 1) % face.length]))));
+  const sizes = normal.toArray().map(Math.abs), away = sizes.indexOf(Math.max(...sizes));
+  const turn = normal.toArray()[away] < 0;
+  const flat = face.map((corner) => at(corner).toArray()).map((point) =>
+    new THREE.Vector2(point[(away + (turn ? 2 : 1)) % 3], point[(away + (turn ? 1 : 2)) % 3]));
+  return THREE.ShapeUtils.triangulateShape(flat, []).map((places) => places.map((place) => face[place]));
+}
+
 function faceSet(node) {
-  const coord = child(node, "coord"), points = coord ? list(field(coord, "point", [])) : [];
-  const corners = [], geometry = new THREE.BufferGeometry();
+  const points = listed(nodeIn(node, "coord"), "point"), corners = [], ccw = field(node, "ccw", true);
+  const put = (corner) => corners.push(...[0, 1, 2].map((part) => points[3 * corner + part] || 0));
   let face = [];
-  const end = () => {
-    for (let k = 2; k < face.length; k++) {
-      for (const corner of [face[0], face[k - 1], face[k]]) {
-        corners.push(...[0, 1, 2].map((part) => points[3 * corner + part] || 0));
-      }
+  for (const index of [...listed(node, "coordIndex"), -1]) {
+    if (index >= 0) { face.push(index); continue; }
+    for (const each of face.length > 2 ? trianglesOf(face, points, field(node, "convex", true)) : []) {
+      (ccw ? each : each.reverse()).forEach(put);
     }
     face = [];
-  };
-  for (const index of list(field(node, "coordIndex", []))) index < 0 ? end() : face.push(index);
-  end();
+  }
+  const geometry = new THREE.BufferGeometry();
   geometry.setAttribute("position", new THREE.BufferAttribute(new Float32Array(corners), 3));
   geometry.computeVertexNormals();
   return geometry;
 }
 
-function textMesh(node, shape) {
-  const style = child(node, "fontStyle"), lines = list(field(node, "string", []));
-  const size = style ? field(style, "size", 1) : 1;
-  const justify = style ? list(field(style, "justify", ["BEGIN"]))[0] : "BEGIN";
-  const canvas = document.createElement("canvas"), draw = canvas.getContext("2d"), high = 64;
-  draw.font = `${high}px "DejaVu Sans", sans-serif`;
-  const wide = Math.ceil(Math.max(1, ...lines.map((line) => draw.measureText(line).width)));
-  canvas.width = wide + 8;
-  canvas.height = Math.ceil(high * 1.3 * Math.max(1, lines.length));
-  const ink = materialOf(shape).color.clone().multiplyScalar(child(shape, "appearance") ? 1 : 0.4);
-  draw.font = `${high}px "DejaVu Sans", sans-serif`;
+/* The lines of a Text, as a picture on a plane (ISO/IEC 19775-1, 15.4.1 says where they stand). */
+function textMesh(node, ink) {
+  const style = nodeIn(node, "fontStyle"), lines = listed(node, "string"), high = 64;
+  const size = field(style, "size", 1), step = size * field(style, "spacing", 1);
+  const [across = "BEGIN", along = "FIRST"] = listed(style, "justify");
+  const canvas = document.createElement("canvas"), draw = canvas.getContext("2d");
+  const font = `${high}px "DejaVu Sans", sans-serif`;
+  draw.font = font;
+  const widths = lines.map((line) => draw.measureText(line).width), space = high * step / size;
+  canvas.width = Math.ceil(Math.max(1, ...widths)) + 8;
+  canvas.height = Math.ceil(high * 1.4 + space * Math.max(0, lines.length - 1));
+  draw.font = font;
   draw.fillStyle = `#${ink.getHexString()}`;
-  lines.forEach((line, k) => {
-    const space = canvas.width - draw.measureText(line).width;
-    const left = { MIDDLE: space / 2, END: space - 4 }[justify];
-    draw.fillText(line, left === undefined ? 4 : left, high * (1 + 1.3 * k));
-  });
-  const unit = size / high, map = new THREE.CanvasTexture(canvas);
-  const look = new THREE.MeshBasicMaterial({ map, transparent: true, side: THREE.DoubleSide, depthWrite: false });
-  const mesh = new THREE.Mesh(new THREE.PlaneGeometry(canvas.width * unit, canvas.height * unit), look);
-  const shift = { MIDDLE: 0, END: -canvas.width * unit / 2 }[justify];
-  mesh.position.set(shift === undefined ? canvas.width * unit / 2 : shift, size - canvas.height * unit / 2, 0);
+  const part = { MIDDLE: 0.5, END: 1 }[across] || 0;
+  lines.forEach((line, k) => draw.fillText(line, 4 + part * (canvas.width - 8 - widths[k]), high + k * space));
+  const unit = size / high, wide = canvas.width * unit, tall = canvas.height * unit;
+  const paint = { map: new THREE.CanvasTexture(canvas), transparent: true, side: THREE.DoubleSide, depthWrite: false };
+  const mesh = new THREE.Mesh(new THREE.PlaneGeometry(wide, tall), new THREE.MeshBasicMaterial(paint));
+  const whole = lines.length * step;
+  const first = { BEGIN: -0.8 * size, MIDDLE: whole / 2 - 0.8 * size, END: whole - step + 0.2 * size };
+  mesh.position.set((0.5 - part) * (wide - 8 * unit), (first[along] || 0) + size - tall / 2, 0);
   return mesh;
 }
 
 const GEOMETRY = {
-  Box: (node) => new THREE.BoxGeometry(...field(node, "size", [2, 2, 2])),
-  Sphere: (node) => new THREE.SphereGeometry(field(node, "radius", 1), 32, 20),
-  Cone: (node) => new THREE.ConeGeometry(field(node, "bottomRadius", 1), field(node, "height", 2), 32),
-  Cylinder: (node) => {
-    const radius = field(node, "radius", 1);
-    return new THREE.CylinderGeometry(radius, radius, field(node, "height", 2), 32);
+  Box: (node) => new THREE.BoxGeometry(...field(node, "size")),
+  Sphere: (node) => new THREE.SphereBufferGeometry(field(node, "radius"), 24, 16),
+  Cone: (node) => new THREE.ConeGeometry(field(node, "bottomRadius"), field(node, "height"), 24),
+  Cylinder(node) {
+    const radius = field(node, "radius");
+    return new THREE.CylinderGeometry(radius, radius, field(node, "height"), 24);
   },
   IndexedFaceSet: faceSet,
 };
 
-function shapeOf(node) {
-  const geometry = child(node, "geometry");
-  if (!geometry) return new THREE.Group();
-  if (geometry.kind === "Text") return textMesh(geometry, node);
-  if (!GEOMETRY[geometry.kind]) return new THREE.Group();
-  const look = materialOf(node);
-  look.side = field(geometry, "solid", true) ? THREE.FrontSide : THREE.DoubleSide;
-  const mesh = new THREE.Mesh(GEOMETRY[geometry.kind](geometry), look);
+function meshOf(shape) {
+  const node = nodeIn(shape, "geometry");
+  if (!node) return new THREE.Group();
+  const look = materialOf(shape);
+  if (node.kind === "Text") return textMesh(node, look.color);
+  look.side = field(node, "solid", true) ? THREE.FrontSide : THREE.DoubleSide;
+  // A cone and a cylinder have a side, a top and a bottom, any of which may be left out.
+  const none = Object.assign(look.clone(), { visible: false });
+  const parts = ["side", "top", "bottom"].map((name) => (field(node, name, true) ? look : none));
+  const mesh = new THREE.Mesh(GEOMETRY[node.kind](node), ["Cone", "Cylinder"].includes(node.kind) ? parts : look);
   mesh.userData.solid = true;
   return mesh;
 }
 
-/* Puts a Transform's values into its three groups: place, turn and size about a center. */
-function place(thing, node) {
-  const center = field(node, "center", [0, 0, 0]), turn = field(node, "rotation", [0, 0, 1, 0]);
-  const axis = new THREE.Vector3(turn[0], turn[1], turn[2]).normalize();
-  const at = field(node, "translation", [0, 0, 0]);
-  thing.position.set(at[0] + center[0], at[1] + center[1], at[2] + center[2]);
-  thing.quaternion.setFromAxisAngle(axis, turn[3]);
-  thing.scale.set(...field(node, "scale", [1, 1, 1]));
-  thing.children[0].position.set(-center[0], -center[1], -center[2]);
-}
-
-function choose(thing, node) {
-  const choice = field(node, "whichChoice", -1);
-  thing.children.forEach((kid, k) => { kid.visible = k === choice; });
-}
-
-function lamp(node) {
-  const group = new THREE.Group(), color = new THREE.Color(...field(node, "color", [1, 1, 1]));
-  const light = new THREE.PointLight(color, 0.6 * field(node, "intensity", 1), field(node, "radius", 100));
-  const bulb = new THREE.Mesh(new THREE.SphereGeometry(0.08, 16, 12), new THREE.MeshBasicMaterial());
-  group.position.set(...field(node, "location", [0, 0, 0]));
-  group.add(light, bulb);
-  return group;
-}
-
-function shine(thing, node) {
-  const on = field(node, "on", true);
-  thing.children[0].visible = on;
-  thing.children[1].material.color.set(on ? 0xffb726 : 0x777777);
-}
-
-function thingOf(label) {
-  const node = state.scene.nodes[label];
-  let thing = new THREE.Group(), inside = thing;
-  if (node.kind === "Shape") thing = shapeOf(node);
-  else if (node.kind === "PointLight") thing = lamp(node);
-  else if (node.kind === "DirectionalLight") {
-    thing = new THREE.DirectionalLight(new THREE.Color(...field(node, "color", [1, 1, 1])), 0.5 * field(node, "intensity", 1));
-    thing.position.set(...field(node, "direction", [0, 0, -1]).map((part) => -part));
-  } else if (node.kind === "Transform") {
-    inside = new THREE.Group();
-    thing.add(inside);
+/* Draws a Shape anew: what it was drawn of is let go. */
+function rebuild(thing, shape) {
+  for (const mesh of [...thing.children]) {
+    thing.remove(mesh);
+    if (mesh.geometry) mesh.geometry.dispose();
+    for (const look of [mesh.material].flat().filter((each) => each)) {
+      if (look.map) look.map.dispose();
+      look.dispose();
+    }
   }
-  if (["Transform", "Group", "Switch"].includes(node.kind)) {
-    for (const item of nodesIn(node, "children")) inside.add(thingOf(item.node));
-  }
-  if (!three.things.has(label)) three.things.set(label, []);
-  three.things.get(label).push(thing);
-  refresh(label);
+  thing.add(meshOf(shape));
+}
+
+/* What each kind of node is drawn by, at first (`make`) and whenever a field of it changed (`set`). */
+const KINDS = {
+  Transform: {
+    make: () => new THREE.Group(),
+    set(thing, node) {
+      const center = vector(node, "center"), size = new THREE.Vector3(...field(node, "scale", [1, 1, 1]));
+      thing.scale.copy(size);
+      thing.position.copy(vector(node, "translation")).add(center).sub(center.multiply(size));
+    },
+  },
+  Group: { make: () => new THREE.Group(), set() {} },
+  Switch: {
+    make: () => new THREE.Group(),
+    set(thing, node) { thing.children.forEach((kid, k) => { kid.visible = k === field(node, "whichChoice", -1); }); },
+  },
+  Shape: { make: () => new THREE.Group(), set: rebuild },
+  Viewpoint: { make: () => new THREE.Group(), set(thing, node) { thing.position.copy(vector(node, "position")); } },
+  DirectionalLight: {
+    make() {
+      const light = new THREE.DirectionalLight(), thing = new THREE.Group();
+      return thing.add(light, light.target);
+    },
+    set(thing, node) {
+      const light = thing.children[0];
+      light.visible = field(node, "on", true);
+      light.color = color(node, "color");
+      light.intensity = 0.6 * field(node, "intensity", 1);
+      light.position.copy(vector(node, "direction")).negate();
+    },
+  },
+  PointLight: {
+    make: () => new THREE.Group().add(new THREE.PointLight(),
+      new THREE.Mesh(new THREE.SphereBufferGeometry(0.08, 16, 12), new THREE.MeshBasicMaterial())),
+    set(thing, node) {
+      const [light, bulb] = thing.children, on = field(node, "on", true);
+      thing.position.copy(vector(node, "location"));
+      light.visible = on;
+      light.color = color(node, "color");
+      light.intensity = 0.6 * field(node, "intensity", 1);
+      light.distance = field(node, "radius", 100);
+      bulb.material.color.set(on ? 0xffb726 : 0x777777);
+    },
+  },
+};
+
+const DRAWN = new Set([...Object.keys(KINDS), "NavigationInfo"]);
+
+function thingOf(number) {
+  const node = state.nodes[number], kind = KINDS[node.kind];
+  if (!kind) return new THREE.Group();
+  const thing = kind.make();
+  for (const child of listed(node, "children")) thing.add(thingOf(child));
+  if (!three.things.has(number)) three.things.set(number, []);
+  three.things.get(number).push(thing);
+  if (node.kind === "Shape") uses(number, node);
+  kind.set(thing, node);
   return thing;
 }
 
-/* Brings what is drawn of a node to its values. */
-function refresh(label) {
-  const node = state.scene.nodes[label];
-  for (const thing of three.things.get(label) || []) {
-    if (node.kind === "Transform") place(thing, node);
-    else if (node.kind === "Switch") choose(thing, node);
-    else if (node.kind === "PointLight") shine(thing, node);
-    else if (node.kind === "DirectionalLight") thing.visible = field(node, "on", true);
+/* Notes of each part of a Shape, its look and its geometry, that this Shape is drawn of it. */
+function uses(shape, node) {
+  for (const name of ["appearance", "material", "geometry", "coord", "fontStyle"]) {
+    for (const part of listed(node, name)) {
+      if (!three.users.has(part)) three.users.set(part, new Set());
+      three.users.get(part).add(shape);
+      uses(shape, state.nodes[part]);
+    }
   }
-  three.dirty = true;
 }
 
+/* Brings what is drawn of the nodes that changed to their values. */
+function refresh() {
+  for (const number of three.stale) {
+    const node = state.nodes[number];
+    for (const thing of three.things.get(number) || []) KINDS[node.kind].set(thing, node);
+    if (node.kind === "Viewpoint" || node.kind === "NavigationInfo") look();
+  }
+  three.stale.clear();
+}
+
+/* The camera stands at the first Viewpoint; without one before all that there is, above on the right. */
 function look() {
-  const view = Object.values(state.scene.nodes).find((node) => node.kind === "Viewpoint"), camera = three.camera;
-  if (view) {
-    const [x, y, z, angle] = state.scene.orientation;
-    camera.fov = field(view, "fieldOfView", 0.785398) * 180 / Math.PI;
-    camera.position.set(...field(view, "position", [0, 0, 10]));
+  const number = state.nodes.findIndex((node) => node.kind === "Viewpoint"), camera = three.camera;
+  const thing = (three.things.get(number) || [])[0];
+  if (thing) {
+    const [x, y, z, angle] = state.orientation;
+    camera.fov = field(state.nodes[number], "fieldOfView", 0.785398) * 180 / Math.PI;
+    thing.updateWorldMatrix(true, false);
+    camera.position.setFromMatrixPosition(thing.matrixWorld);
     camera.quaternion.setFromAxisAngle(new THREE.Vector3(x, y, z).normalize(), angle);
   } else {
     const box = new THREE.Box3().setFromObject(three.content), ball = box.getBoundingSphere(new THREE.Sphere());
@@ -182,62 +232,73 @@ function look() {
     camera.position.copy(ball.center).add(away);
     camera.lookAt(ball.center);
   }
+  three.head.visible = field(state.nodes.find((node) => node.kind === "NavigationInfo"), "headlight", true);
 }
 
 function showScene(scene) {
   if (three.content) three.scene.remove(three.content);
-  Object.assign(state, { scene, n: scene.n });
+  const labels = new Map(scene.nodes.map((node, k) => [node.label, k]));
+  Object.assign(state, { n: scene.n, nodes: scene.nodes, labels });
+  for (const node of state.nodes) {
+    for (const [name, text] of Object.entries(node.fields)) node.fields[name] = valueOf(text);
+  }
   for (const [name, lane] of state.lanes) state.lanes.set(name, lane.filter((stop) => stop.number <= scene.n));
-  three.things.clear();
+  for (const each of [three.things, three.users, three.stale]) each.clear();
   three.content = new THREE.Group();
   for (const root of scene.roots) three.content.add(thingOf(root));
   three.scene.add(three.content);
   look();
+  showPoints(scene.points);
   three.dirty = true;
 }
 
-/* News: lines of the trace, as `3 3 Door.translation 1 0 0`. */
-
-function valueOf(text) {
-  if (text === "TRUE" || text === "FALSE") return text === "TRUE";
-  const parts = text.replace(/^\[|\]$/g, "").trim().split(/\s+/).map(Number);
-  if (parts.some(Number.isNaN)) return text;
-  return parts.length === 1 && text[0] !== "[" ? parts[0] : parts;
-}
+/* News: lines of the trace, as `3 3 Door.translation 1 0 0`. In a string a line may go on. */
 
 function showLine(line) {
-  const found = /^(\d+) (\S+) (.+?)\.(\S+) ([^]*)$/.exec(line);
-  if (!found) return;
-  const [, number, time, label, name, text] = found, value = valueOf(text);
-  const node = state.scene.nodes[label];
-  if (node) {
-    node.fields[name] = value;
-    refresh(label);
-  }
-  const key = `${label}.${name}`;
+  const [, number, key, label, name, text] = /^(\d+) \S+ ((\S+)\.(\S+)) (.*)$/s.exec(line);
+  const at = state.labels.get(label), value = valueOf(text);
+  state.nodes[at].fields[name] = value;
+  for (const user of three.users.get(at) || [at]) if (DRAWN.has(state.nodes[user].kind)) three.stale.add(user);
   if (!state.lanes.has(key)) state.lanes.set(key, []);
   const lane = state.lanes.get(key);
-  lane.push({ number: Number(number), time: Number(time), value, line });
+  lane.push({ number: Number(number), value, line });
   if (lane.length > STOPS) lane.shift();
 }
 
-function showPoint(who, down, aim) {
-  let dot = three.dots.get(who);
-  if (!dot) {
+function showNews(news) {
+  state.n = news.n;
+  for (const line of news.trace.match(/(?:[^"\n]|"(?:[^"\\]|\\.)*")+/gs) || []) showLine(line);
+  showPoints(news.points);
+}
+
+/* The pointers of other viewers: a dot where the ray meets what is drawn, or else some way off. */
+
+function showPoints(points) {
+  for (const [who, down, ray] of points) if (who !== state.who) three.moved.set(who, [down, ray]);
+}
+
+function showDots() {
+  for (const [who, [down, ray]] of three.moved) {
+    const origin = new THREE.Vector3(...ray.slice(0, 3)).divideScalar(1e6);
+    const way = new THREE.Vector3(...ray.slice(3)).normalize();
+    const hit = new THREE.Raycaster(origin, way).intersectObject(three.content, true)
+      .find((item) => item.object.userData.solid && shown(item.object));
+    const dot = dotOf(who), place = hit ? hit.point : origin.addScaledVector(way, 8);
+    dot.position.copy(place);
+    dot.scale.setScalar(three.camera.position.distanceTo(place) * (down ? 0.016 : 0.01));
+  }
+  three.moved.clear();
+}
+
+function dotOf(who) {
+  if (!three.dots.has(who)) {
     const look = new THREE.MeshBasicMaterial({ color: colorOf(who), depthTest: false, transparent: true });
-    dot = new THREE.Mesh(new THREE.SphereGeometry(1, 16, 12), look);
+    const dot = new THREE.Mesh(new THREE.SphereBufferGeometry(1, 16, 12), look);
     dot.renderOrder = 10;
     three.dots.set(who, dot);
     three.scene.add(dot);
   }
-  const origin = new THREE.Vector3(aim[0], aim[1], aim[2]).divideScalar(1e6);
-  const way = new THREE.Vector3(aim[3], aim[4], aim[5]).normalize();
-  const hits = new THREE.Raycaster(origin, way).intersectObject(three.content, true);
-  const hit = hits.find((item) => item.object.userData.solid && shown(item.object));
-  dot.position.copy(hit ? hit.point : origin.addScaledVector(way, 8));
-  const size = 0.008 * three.camera.position.distanceTo(dot.position);
-  dot.scale.setScalar(down ? size * 1.6 : size);
-  three.dirty = true;
+  return three.dots.get(who);
 }
 
 function shown(object) {
@@ -245,18 +306,20 @@ function shown(object) {
   return true;
 }
 
-function showNews(news) {
-  state.n = news.n;
-  news.lines.forEach(showLine);
-  for (const [who, [down, aim]] of Object.entries(news.points)) showPoint(Number(who), down, aim);
-}
-
 /* What is said of the viewers. */
 
-function cell(row, text) {
-  const made = document.createElement("td");
-  made.textContent = text;
-  row.append(made);
+function rowOf(viewer) {
+  const row = document.createElement("tr"), name = document.createElement("th"), dot = document.createElement("span");
+  name.scope = "row";
+  dot.className = "dot";
+  dot.style.background = colorOf(viewer.who);
+  name.append(dot, `${viewer.who}${viewer.who === state.who ? " (this window)" : ""}`);
+  row.append(name);
+  const { runs, n, waiting, lost, digest, at } = viewer;
+  for (const text of runs ? [n, waiting, lost, `${digest} at ${at}`] : ["not running", "", lost, ""]) {
+    row.append(Object.assign(document.createElement("td"), { textContent: text }));
+  }
+  return row;
 }
 
 function showStatus(status) {
@@ -264,19 +327,9 @@ function showStatus(status) {
   const badge = byId("badge"), equal = status.equal_at !== null;
   badge.textContent = status.different ? "different!" : equal ? `equal at ${status.equal_at}` : "catching up";
   badge.className = status.different ? "different" : equal ? "equal" : "";
-  const rows = status.viewers.map((viewer) => {
-    const row = document.createElement("tr"), name = document.createElement("th"), dot = document.createElement("span");
-    name.scope = "row";
-    dot.className = "dot";
-    dot.style.background = colorOf(viewer.who);
-    name.append(dot, `${viewer.who}${viewer.who === state.who ? " (this window)" : ""}`);
-    row.append(name);
-    if (viewer.runs) [viewer.n, viewer.waiting, viewer.lost, viewer.digest].forEach((part) => cell(row, part));
-    else ["not running", "", viewer.lost, ""].forEach((part) => cell(row, part));
-    return row;
-  });
-  byId("viewers").replaceChildren(...rows);
-  byId("made").textContent = `${status.numbered} inputs numbered. Worlds are made of: ${status.made_of}.`;
+  byId("full").hidden = !status.full;
+  byId("viewers").replaceChildren(...status.viewers.map(rowOf));
+  byId("made").textContent = `${status.numbered} inputs numbered. Worlds are compared by their snapshots.`;
   for (const [name, share] of Object.entries(status.channel)) {
     const slider = byId(name);
     if (document.activeElement !== slider) slider.value = Math.round(100 * share);
@@ -285,51 +338,77 @@ function showStatus(status) {
   const mine = status.viewers.find((viewer) => viewer.who === state.who);
   byId("kill").disabled = !(mine && mine.runs);
   byId("start").disabled = !mine || mine.runs;
-  for (const [who, dot] of three.dots) dot.visible = status.viewers.some((viewer) => viewer.who === who);
+  for (const [who, dot] of three.dots) dot.visible = status.viewers.some((viewer) => viewer.who === who && viewer.runs);
 }
 
-/* The strip of lanes. */
+/* The strip of lanes; `marks` are those that are drawn, by lane, `chosen` is which one the keyboard is at. */
 
-const heightOf = (value) => (Array.isArray(value) ? value.reduce((sum, part) => sum + Math.abs(part), 0) : Number(value));
-const marks = [];
+const heightOf = (value) => [value].flat().reduce((sum, part) => sum + Math.abs(Number(part)), 0);
+const chosen = { lane: 0, back: 0 };
+let marks = [];
 
+/* As many lanes as the strip shows are drawn; it scrolls over all. */
 function drawLanes() {
-  const canvas = byId("lanes"), names = [...state.lanes.keys()].slice(0, LANES);
-  const wide = canvas.clientWidth, high = LANE * Math.max(3, names.length) + 6;
+  const canvas = byId("lanes"), names = [...state.lanes.keys()], all = LANE * Math.max(3, names.length) + 6;
+  const wide = canvas.clientWidth, high = Math.min(all, STRIP), left = 190, right = wide - 10;
+  const top = byId("strip").scrollTop;
   canvas.style.height = `${high}px`;
-  canvas.width = wide;
-  canvas.height = high;
-  const draw = canvas.getContext("2d"), left = 190, right = wide - 10, span = 90;
-  const x = (number) => right - (right - left) * Math.min(1, (state.n - number) / span);
+  byId("rest").style.height = `${all - high}px`;
+  Object.assign(canvas, { width: wide, height: high });
+  const draw = canvas.getContext("2d"), x = (number) => right - (right - left) * (state.n - number) / SPAN;
   draw.font = '12px "DejaVu Sans", sans-serif';
-  marks.length = 0;
-  names.forEach((name, k) => {
-    const low = LANE * (k + 1), lane = state.lanes.get(name);
+  marks = [];
+  for (let k = Math.floor(top / LANE); k < names.length && LANE * k < top + high; k++) {
+    const low = LANE * (k + 1) - top, recent = state.lanes.get(names[k]).filter((stop) => stop.number > state.n - SPAN);
     draw.fillStyle = "#1c1c1c";
-    draw.fillText(name, 6, low - 4, left - 14);
-    draw.strokeStyle = "#e3e3e3";
-    draw.strokeRect(left, low + 0.5, right - left, 0);
-    const recent = lane.filter((stop) => stop.number > state.n - span), sizes = recent.map((stop) => heightOf(stop.value));
-    const least = Math.min(...sizes), range = Math.max(...sizes) - least;
+    draw.fillText(names[k], 6, low - 4, left - 14);
+    draw.fillStyle = "#e3e3e3";
+    draw.fillRect(left, low, right - left, 1);
+    const sizes = recent.map((stop) => heightOf(stop.value)), least = Math.min(...sizes);
+    const range = Math.max(...sizes) - least;
     draw.fillStyle = COLORS[k % COLORS.length];
-    recent.forEach((stop, at) => {
-      const up = Number.isFinite(sizes[at]) && range > 0 ? (sizes[at] - least) / range : 0.4;
+    marks[k] = recent.map((stop, place) => {
+      const up = Number.isFinite(sizes[place]) && range > 0 ? (sizes[place] - least) / range : 0.4;
       const spot = { x: x(stop.number), y: low - 3 - up * (LANE - 8), line: stop.line };
       draw.fillRect(spot.x - 2, spot.y - 2, 4, 4);
-      marks.push(spot);
+      return spot;
     });
-  });
+  }
+  const at = markAt();
+  if (at && document.activeElement === canvas) draw.strokeRect(at.x - 4.5, at.y - 4.5, 9, 9);
 }
+
+function markAt() {
+  const lane = marks[chosen.lane] || [];
+  return lane[lane.length - 1 - chosen.back];
+}
+
+const STEPS = { ArrowLeft: [-1, 0], ArrowRight: [1, 0], ArrowUp: [0, 1], ArrowDown: [0, -1] };
+const within = (value, least, most) => Math.max(least, Math.min(most, value));
 
 byId("lanes").addEventListener("mousemove", (event) => {
   const near = (mark) => Math.hypot(mark.x - event.offsetX, mark.y - event.offsetY);
-  const best = marks.reduce((one, mark) => (!one || near(mark) < near(one) ? mark : one), null);
+  const best = marks.flat().reduce((one, mark) => (!one || near(mark) < near(one) ? mark : one), null);
   if (best && near(best) < 14) byId("line").textContent = best.line;
 });
+byId("lanes").addEventListener("keydown", (event) => {
+  const step = STEPS[event.key], names = [...state.lanes.keys()];
+  if (!step) return;
+  event.preventDefault();
+  chosen.lane = within(chosen.lane - step[1], 0, Math.max(0, names.length - 1));
+  byId("strip").scrollTop = LANE * (chosen.lane - 5);
+  drawLanes();
+  chosen.back = within(chosen.back - step[0], 0, Math.max(0, (marks[chosen.lane] || []).length - 1));
+  drawLanes();
+  const at = markAt();
+  byId("line").textContent = at ? at.line : `${names[chosen.lane] || "No output"} has sent nothing lately.`;
+});
+byId("strip").addEventListener("scroll", drawLanes);
 
-/* The pointer, of a mouse or of the keyboard: it is offered so often at most, a press at once. */
+/* The pointer, of a mouse or of the keyboard: a move is offered so often at most, a press at once. */
 
-const pointer = { x: 0, y: 0, down: false, sent: 0, due: null };
+const pointer = { x: 0, y: 0, down: false, sent: 0, due: null, waits: [], busy: false };
+const pause = (time) => new Promise((resolve) => { setTimeout(resolve, time); });
 
 async function send(path, body) {
   try {
@@ -337,30 +416,45 @@ async function send(path, body) {
       method: "POST", headers: { "Content-Type": "application/json" },
       body: JSON.stringify({ token: state.token, ...body }),
     });
-    return answer.ok ? await answer.json() : null;
+    return { status: answer.status, body: await answer.json() };
   } catch (error) {
-    return null;
+    return { status: 0, body: null };
   }
 }
 
 function aim() {
   three.camera.updateMatrixWorld();
-  const way = new THREE.Vector3(pointer.x, pointer.y, 0.5).unproject(three.camera).sub(three.camera.position).normalize();
+  const way = new THREE.Vector3(pointer.x, pointer.y, 0.5).unproject(three.camera);
+  way.sub(three.camera.position).normalize();
   const whole = (vector) => vector.toArray().map((part) => Math.round(part * 1e6));
   return [...whole(three.camera.position), ...whole(way)];
 }
 
-/* Offers where the pointer is; one that is refused, as there are too many, is made again later. */
-async function offer() {
-  clearTimeout(pointer.due);
-  pointer.due = null;
-  pointer.sent = Date.now();
-  if (!state.scene || await send("/point", { down: pointer.down, aim: aim() })) return;
-  if (!byId("kill").disabled) setTimeout(moved, 1000);
+/* Offers go one after the other, so that a press comes before its end. Of moves the last alone waits. */
+async function offer(moves) {
+  const { waits } = pointer, last = waits[waits.length - 1];
+  if (!three.content) return;
+  if (moves && last && last.moves) waits.pop();
+  waits.push({ moves, body: { down: pointer.down, aim: aim() } });
+  if (pointer.busy) return;
+  pointer.busy = true;
+  while (waits.length) {
+    const first = waits.shift(), { status } = await send("/point", first.body);
+    if (status === 429 || (status === 0 && byId("gone").hidden)) {
+      waits.unshift(first);
+      await pause(200);
+    }
+  }
+  pointer.busy = false;
 }
 
 function moved() {
-  if (pointer.due === null) pointer.due = setTimeout(offer, Math.max(0, pointer.sent + PACE - Date.now()));
+  Object.assign(byId("aim").style, { left: `${50 + 50 * pointer.x}%`, top: `${50 - 50 * pointer.y}%` });
+  if (pointer.due !== null) return;
+  pointer.due = setTimeout(() => {
+    Object.assign(pointer, { due: null, sent: Date.now() });
+    offer(true);
+  }, Math.max(0, pointer.sent + PACE - Date.now()));
 }
 
 function follow(event) {
@@ -370,20 +464,18 @@ function follow(event) {
 }
 
 function press(down) {
-  if (pointer.down !== down) {
-    pointer.down = down;
-    offer();
-  }
+  if (pointer.down === down) return;
+  pointer.down = down;
+  offer(false);
 }
 
-const STEPS = { ArrowLeft: [-1, 0], ArrowRight: [1, 0], ArrowUp: [0, 1], ArrowDown: [0, -1] };
 const view = byId("view");
 view.addEventListener("pointermove", (event) => { follow(event); moved(); });
 view.addEventListener("pointerdown", (event) => {
   follow(event);
   view.focus();
   view.setPointerCapture(event.pointerId);
-  offer();
+  offer(false);
   press(true);
 });
 view.addEventListener("pointerup", (event) => { follow(event); press(false); });
@@ -394,10 +486,13 @@ view.addEventListener("keydown", (event) => {
   if (!step && event.key !== " ") return;
   event.preventDefault();
   if (step) {
-    pointer.x = Math.max(-1, Math.min(1, pointer.x + step[0] * size));
-    pointer.y = Math.max(-1, Math.min(1, pointer.y + step[1] * size));
+    pointer.x = within(pointer.x + step[0] * size, -1, 1);
+    pointer.y = within(pointer.y + step[1] * size, -1, 1);
     moved();
-  } else if (!event.repeat) press(true);
+  } else if (!event.repeat) {
+    offer(false);
+    press(true);
+  }
 });
 view.addEventListener("keyup", (event) => { if (event.key === " ") press(false); });
 
@@ -415,62 +510,80 @@ byId("start").addEventListener("click", () => send("/start", {}));
 function begin3d() {
   three.renderer = new THREE.WebGLRenderer({ canvas: view, antialias: true, alpha: true });
   three.scene.add(new THREE.AmbientLight(0xffffff, 0.45), three.camera);
-  const head = new THREE.DirectionalLight(0xffffff, 0.65);
-  head.position.set(-0.3, 0.52, 0.8);
-  three.camera.add(head, head.target);
+  three.head.position.set(-0.3, 0.52, 0.8);
+  three.camera.add(three.head, three.head.target);
+}
+
+function fit() {
+  const wide = view.clientWidth, high = view.clientHeight, fine = window.devicePixelRatio;
+  if (view.width !== Math.floor(wide * fine) || view.height !== Math.floor(high * fine)) {
+    three.renderer.setPixelRatio(fine);
+    three.renderer.setSize(wide, high, false);
+    three.dirty = true;
+  }
+  three.camera.aspect = wide / high;
+  three.camera.updateProjectionMatrix();
 }
 
 function frame() {
   requestAnimationFrame(frame);
-  if (three.renderer && state.scene && three.dirty) {
-    three.dirty = false;
-    const wide = view.clientWidth, high = view.clientHeight;
-    three.renderer.setPixelRatio(window.devicePixelRatio);
-    three.renderer.setSize(wide, high, false);
-    three.camera.aspect = wide / high;
-    three.camera.updateProjectionMatrix();
-    three.renderer.render(three.scene, three.camera);
-  }
+  if (!three.content || !three.renderer) return;
+  fit();
+  if (!(three.dirty || three.stale.size || three.moved.size)) return;
+  refresh();
+  showDots();
+  three.dirty = false;
+  three.renderer.render(three.scene, three.camera);
+  three.draws += 1;
 }
 
 function gone(is) {
-  state.gone = is;
   byId("gone").hidden = !is;
   if (is) byId("badge").className = "";
 }
 
 function listen() {
-  const events = new EventSource(`/events?token=${encodeURIComponent(state.token)}`);
+  const place = `http://${location.hostname}:${state.port}/events?token=${encodeURIComponent(state.token)}`;
+  const events = new EventSource(place);
   const on = (kind, work) => events.addEventListener(kind, (event) => { gone(false); work(JSON.parse(event.data)); });
   on("scene", showScene);
-  on("news", (news) => { if (state.scene) showNews(news); });
+  on("news", showNews);
   on("status", showStatus);
   events.onerror = () => {
+    events.close();
     gone(true);
-    if (events.readyState === EventSource.CLOSED) setTimeout(join, 1500);
+    setTimeout(join, 1500);
   };
 }
 
+/* Takes a seat. A window that has one keeps it; if the server is another one, the page is loaded anew. */
 async function join() {
-  const seat = await send("/join", {});
-  if (!seat) {
-    gone(true);
+  const had = state.token, { status, body } = await send("/join", {});
+  if (status !== 200) {
+    gone(status === 0);
+    if (status) byId("me").textContent = `No seat: ${body.refused}.`;
     setTimeout(join, 1500);
     return;
   }
-  Object.assign(state, seat);
-  byId("me").textContent = `This window is viewer ${seat.who}.`;
-  document.title = `Viewer ${seat.who} of a shared room`;
+  Object.assign(state, body);
+  if (had && had !== body.token) {
+    location.reload();
+    return;
+  }
+  byId("me").textContent = `This window is viewer ${body.who}.`;
+  document.title = `Viewer ${body.who} of a shared room`;
   listen();
 }
 
 /* What the tests look at. */
 window.room = {
-  state,
-  value: (label, name) => state.scene && state.scene.nodes[label] && state.scene.nodes[label].fields[name],
+  state, three,
+  marks: () => marks,
+  value: (label, name) => field(state.nodes[state.labels.get(label)], name),
   placeOf(label) {
-    const thing = (three.things.get(label) || [])[0];
+    refresh();
     three.scene.updateMatrixWorld();
+    const thing = (three.things.get(state.labels.get(label)) || [])[0];
     return thing ? new THREE.Box3().setFromObject(thing).getCenter(new THREE.Vector3()).toArray() : null;
   },
   spotOf(place) {
@@ -485,7 +598,10 @@ try {
 } catch (error) {
   byId("keys").textContent = "This browser draws no WebGL: the scene isn't shown, the trace and the table are.";
 }
-window.addEventListener("resize", () => { three.dirty = true; });
+// A window that closes frees its seat at once.
+window.addEventListener("pagehide", () => {
+  navigator.sendBeacon("/leave", new Blob([JSON.stringify({ token: state.token })], { type: "application/json" }));
+});
 setInterval(drawLanes, 250);
 frame();
 join();

@@ -1,15 +1,18 @@
 #!/usr/bin/env python3
 """Shows a shared world in browser windows, each with a viewer of its own.
 
-usage: room/server.py [--address 127.0.0.1] [--port 8040] [--rate TURNS] [--three FILE] JOB
+usage: room/server.py [--address 127.0.0.1] [--port 8040] [--three FILE] JOB
 JOB is a scene, or a job, of which the scene counts. It prints one line with the address. The clock
-is numbered TURNS times a second: 30, or 4 where the program has to run again for each turn.
+is numbered 30 times a second.
 
 It answers its own paths alone. A window speaks for its own viewer, by the token that it was given;
 bodies are JSON of 1,024 bytes at most."""
 import argparse
+import base64
+import hashlib
 import hmac
 import json
+import os
 import queue
 import re
 import secrets
@@ -17,27 +20,39 @@ import socket
 import sys
 import threading
 import time
+import traceback
 from http.server import BaseHTTPRequestHandler, ThreadingHTTPServer
 from pathlib import Path
 
 sys.dont_write_bytecode = True
-from core import Room
-from scenes import page_scene
-from worlds import Refused
+try:
+    from room import Room, x3d
+except (ImportError, OSError) as missing:
+    sys.exit(f"room: {missing}")
+from scene_text import read_scene
+from scene_view import orientation_of
 
 HERE = Path(__file__).resolve().parent
 THREE = "/usr/share/javascript/three/three.min.js"
-BODY, WAITING, CONNECTIONS, COORDINATE = 1024, 300, 80, 10**15
+RATE, BODY, WAITING, CONNECTIONS, COORDINATE = 30, 1024, 300, 80, 10**15
+# A browser has six connections to a port at most, and a window holds one for its events. So these
+# go to ports of their own: sixteen windows of one browser want three.
+STREAMS = 3
 # Seconds that a client may take for a request, and a seat is kept for a window that is away.
 PATIENCE, AWAY = 10, 20
-# The most offers of a viewer that wait, and how many a second it may make.
-OFFERS, PACE = 64, 40
+# How many offers a second a window may make.
+PACE = 40
+PAGE = (HERE / "page.html").read_bytes()
+STYLE = re.search(rb"<style>(.*?)</style>", PAGE, re.S)[1]
+POLICY = (
+    "default-src 'none'; script-src 'self'; img-src data:; base-uri 'none'; "
+    f"style-src 'sha256-{base64.b64encode(hashlib.sha256(STYLE).digest()).decode()}'; "
+    "frame-ancestors 'none'; connect-src 'self'"
+)
 SAFE = {
     "Cache-Control": "no-store",
     "X-Content-Type-Options": "nosniff",
     "Referrer-Policy": "no-referrer",
-    "Content-Security-Policy": "default-src 'none'; script-src 'self'; style-src 'self'; "
-    "connect-src 'self'; img-src 'self' data:; base-uri 'none'; frame-ancestors 'none'",
 }
 
 
@@ -49,7 +64,7 @@ class Wrong(Exception):
 
 
 class Window:
-    """A window: its viewer, its token, and what waits to be sent to it."""
+    """A window: its viewer's number, its token, and what waits to be sent to it."""
 
     def __init__(self, who):
         self.who, self.token, self.news = who, secrets.token_urlsafe(24), None
@@ -73,32 +88,48 @@ class Window:
 class Service:
     """The room, its windows and its clock; the lock is held for each call on them."""
 
-    def __init__(self, text, rate):
+    def __init__(self, text):
         self.room, self.lock, self.windows = Room(text), threading.Lock(), {}
-        self.rate = rate or self.room.make.RATE
+        self.ports, self.orientation = [], [0, 0, 1, 0]
+        try:
+            # How a Viewpoint turns is in the text alone: a world holds no rotation.
+            self.orientation = list(orientation_of(read_scene(text)))
+        except (IndexError, KeyError, TypeError, ValueError):
+            pass
 
     def run(self):
+        """The clock goes by the time of day at the start, as X3D counts it, and never back. Where a
+        turn fails the server ends, so that windows say that it is gone."""
+        begun = time.time() - time.monotonic()
         due, turn = time.monotonic(), 0
-        while True:
-            due, turn = max(due + 1 / self.rate, time.monotonic()), turn + 1
-            with self.lock:
-                self.turn(turn)
-            time.sleep(max(0.005, due - time.monotonic()))
+        try:
+            while True:
+                with self.lock:
+                    self.turn(int((begun + time.monotonic()) * 1e6), turn)
+                due, turn = max(due + 1 / RATE, time.monotonic()), turn + 1
+                time.sleep(max(0.002, due - time.monotonic()))
+        except Exception:
+            traceback.print_exc()
+            os._exit(1)
 
-    def turn(self, turn):
-        """A turn at the time of day, as X3D counts it: so no timer starts by its default of 0."""
-        news = self.room.turn(time.time_ns() // 1000)
-        status = self.room.status() if turn % max(1, round(self.rate / 5)) == 0 else None
+    def turn(self, now, turn):
+        self.room.turn(now)
+        status = {**self.room.status(), "channel": self.channel()} if turn % 6 == 0 else None
         for window in [*self.windows.values()]:
-            if window.who in news:
-                window.tell("news", news[window.who])
+            if window.news and (news := self.room.news(window.who)):
+                window.tell(*news)
             if status:
-                window.tell("status", {**status, "channel": self.channel()})
+                window.tell("status", status)
             if window.news:
                 window.seen = time.monotonic()
             elif time.monotonic() - window.seen > AWAY:
-                self.windows.pop(window.token)
-                self.room.leave(window.who)
+                self.let_go(window)
+
+    def let_go(self, window):
+        """Frees the seat of a window."""
+        del self.windows[window.token]
+        self.room.leave(window.who)
+        window.news = None
 
     def channel(self):
         channel = self.room.channel
@@ -113,12 +144,18 @@ class Service:
         raise Wrong(403, "no such window")
 
     def join(self, body):
-        who = self.room.join()
-        if who is None:
-            raise Wrong(409, "the room is full")
-        window = Window(who)
-        self.windows[window.token] = window
-        return {"who": who, "token": window.token}
+        """A seat: the one that the window has, or a new one."""
+        try:
+            window = self.window(body.get("token"))
+        except Wrong:
+            who = self.room.join()
+            if who is None:
+                raise Wrong(409, "the room is full") from None
+            window = Window(who)
+            self.windows[window.token] = window
+        port = self.ports[window.who % len(self.ports)]
+        seat = {"who": window.who, "token": window.token, "port": port}
+        return {**seat, "orientation": self.orientation}
 
     def point(self, body):
         window, down, aim = self.window(body.get("token")), body.get("down"), body.get("aim")
@@ -126,12 +163,15 @@ class Service:
             raise Wrong(400, "a pointer has down and six numbers")
         if any(type(part) is not int or abs(part) > COORDINATE for part in aim) or not any(aim[3:]):
             raise Wrong(400, "whole millionths, and a direction")
-        viewer = self.room.viewers.get(window.who)
+        viewer = self.room.seats[window.who].viewer
         if not viewer:
             raise Wrong(409, "the viewer isn't running")
-        if len(viewer.waiting) >= OFFERS or not window.may_offer():
-            raise Wrong(429, "too many offers")
-        viewer.point(down, aim)
+        if not window.may_offer():
+            raise Wrong(429, "too many offers a second")
+        try:
+            viewer.offer(down, x3d.Aim(aim[:3], aim[3:]))
+        except x3d.Fault as fault:
+            raise Wrong(429, fault.name) from None
         return {}
 
     def set_channel(self, body):
@@ -144,48 +184,41 @@ class Service:
             setattr(self.room.channel, name, part)
         return {}
 
+    def leave(self, body):
+        self.let_go(self.window(body.get("token")))
+        return {}
+
     def kill(self, body):
         self.room.kill(self.window(body.get("token")).who)
         return {}
 
     def start(self, body):
         window = self.window(body.get("token"))
-        if window.who in self.room.viewers:
+        if self.room.seats[window.who].viewer:
             raise Wrong(409, "the viewer is running")
         self.room.start(window.who)
-        window.tell("scene", self.scene(window))
         return {}
 
-    def scene(self, window):
-        viewer = self.room.viewers.get(window.who)
-        text = viewer.world.scene() if viewer else self.room.first_scene
-        scene = page_scene(text, self.room.text)
-        return {"who": window.who, "n": viewer.applied if viewer else 0, **scene}
-
     def listen(self, token):
-        """Begins to send a window its events; an earlier stream of it ends."""
+        """Begins to send a window its events, the scene first; an earlier stream of it ends."""
         window = self.window(token)
-        viewer = self.room.viewers.get(window.who)
-        if viewer:
-            viewer.news()
-        news = queue.Queue(WAITING)
-        window.news = news
-        window.tell("scene", self.scene(window))
+        self.room.seats[window.who].told = None
+        window.news = news = queue.Queue(WAITING)
         return window, news
 
 
 class Handler(BaseHTTPRequestHandler):
     protocol_version, server_version, sys_version = "HTTP/1.1", "room", ""
-    timeout = PATIENCE
+    timeout, disable_nagle_algorithm, wbufsize = PATIENCE, True, 1 << 14
     files = {
         "/": (HERE / "page.html", "text/html; charset=utf-8"),
-        "/room.css": (HERE / "room.css", "text/css; charset=utf-8"),
         "/room.js": (HERE / "room.js", "text/javascript; charset=utf-8"),
     }
     posts = {
         "/join": Service.join,
         "/point": Service.point,
         "/channel": Service.set_channel,
+        "/leave": Service.leave,
         "/kill": Service.kill,
         "/start": Service.start,
     }
@@ -193,10 +226,12 @@ class Handler(BaseHTTPRequestHandler):
     def log_message(self, *_):
         pass
 
-    def answer(self, status, content, kind="application/json"):
-        self.send_response(status)
-        for name, value in {**SAFE, "Content-Type": kind, "Content-Length": len(content)}.items():
-            self.send_header(name, str(value))
+    def answer(self, status, content, kind="application/json", **more):
+        self.send_response_only(status)
+        for name, value in {**SAFE, **more}.items():
+            self.send_header(name, value)
+        self.send_header("Content-Type", kind)
+        self.send_header("Content-Length", str(len(content)))
         if status >= 400:
             self.send_header("Connection", "close")
             self.close_connection = True
@@ -233,7 +268,8 @@ class Handler(BaseHTTPRequestHandler):
         file, kind = self.files.get(self.path, (None, None))
         if not file:
             raise Wrong(405 if self.path in self.posts else 404, "no such path")
-        self.answer(200, file.read_bytes(), kind)
+        policy = {"Content-Security-Policy": self.server.policy()}
+        self.answer(200, file.read_bytes(), kind, **policy)
 
     def post(self):
         work = self.posts.get(self.path)
@@ -241,8 +277,11 @@ class Handler(BaseHTTPRequestHandler):
             known = self.path in self.files or self.path.startswith("/events")
             raise Wrong(405 if known else 404, "no such path")
         body = self.body()
-        with self.server.service.lock:
-            result = work(self.server.service, body)
+        try:
+            with self.server.service.lock:
+                result = work(self.server.service, body)
+        except (x3d.Fault, MemoryError) as fault:
+            raise Wrong(409, str(fault)) from None
         self.answer(200, json.dumps(result).encode())
 
     def body(self):
@@ -262,11 +301,15 @@ class Handler(BaseHTTPRequestHandler):
         return body
 
     def events(self, token):
+        """A window's events, until it is gone. The page is of another port of the same name."""
         with self.server.service.lock:
             window, news = self.server.service.listen(token)
-        self.send_response(200)
-        for name, value in {**SAFE, "Content-Type": "text/event-stream"}.items():
-            self.send_header(name, value)
+        name = self.headers["Host"].rpartition(":")[0] or self.headers["Host"]
+        self.send_response_only(200)
+        for header, value in SAFE.items():
+            self.send_header(header, value)
+        self.send_header("Content-Type", "text/event-stream")
+        self.send_header("Access-Control-Allow-Origin", f"http://{name}:{self.server.page_port}")
         self.send_header("Connection", "close")
         self.end_headers()
         self.close_connection = True
@@ -277,6 +320,7 @@ class Handler(BaseHTTPRequestHandler):
                 except queue.Empty:
                     continue
                 self.wfile.write(f"event: {kind}\ndata: {json.dumps(data)}\n\n".encode())
+                self.wfile.flush()
         finally:
             if window.news is news:
                 window.news = None
@@ -285,11 +329,17 @@ class Handler(BaseHTTPRequestHandler):
 class Server(ThreadingHTTPServer):
     daemon_threads, allow_reuse_address, request_queue_size = True, True, 64
 
-    def __init__(self, place, service):
+    def __init__(self, place, service, page_port=None):
         self.service, self.room_for = service, threading.BoundedSemaphore(CONNECTIONS)
         super().__init__(place, Handler)
-        local = "127\\.0\\.0\\.1|localhost|\\[::1\\]"
-        self.names = re.compile(f"({local}|{re.escape(place[0])})(:[0-9]+)?")
+        self.page_port = page_port or self.server_address[1]
+        self.local = sorted({"127.0.0.1", "localhost", place[0]})
+        self.names = re.compile(f"({'|'.join(map(re.escape, self.local))})(:[0-9]+)?")
+
+    def policy(self):
+        """What a page may do: run its two scripts, and speak to this server."""
+        streams = (f"http://{name}:{port}" for port in self.service.ports for name in self.local)
+        return f"{POLICY} {' '.join(streams)}"
 
     def process_request(self, request, client_address):
         """So many connections at once and no more: the next are closed at once."""
@@ -308,30 +358,39 @@ class Server(ThreadingHTTPServer):
         """A client that goes away or sends what is no HTTP is no fault of the server."""
 
 
-def scene_of(text):
+def scene_in(text):
     """The scene of a job; a text without a line `scene` is one."""
     found = re.search(r"^scene\r?\n", text, re.M)
     return text[found.end() :] if found else text
+
+
+def serve(address, port, text):
+    """The server of pages, and beside it those of events; the clock runs."""
+    service = Service(text)
+    server = Server((address, port), service)
+    for _ in range(STREAMS):
+        stream = Server((address, 0), service, server.page_port)
+        service.ports.append(stream.server_address[1])
+        threading.Thread(target=stream.serve_forever, daemon=True).start()
+    threading.Thread(target=service.run, daemon=True).start()
+    return server
 
 
 def main():
     words = argparse.ArgumentParser(usage=__doc__.split("\n")[2][7:])
     words.add_argument("--address", default="127.0.0.1")
     words.add_argument("--port", type=int, default=8040)
-    words.add_argument("--rate", type=float, default=0)
     words.add_argument("--three", default=THREE)
     words.add_argument("job")
     given = words.parse_args()
     if not Path(given.three).exists():
-        sys.exit(f"there is no {given.three}: Debian's package libjs-three has it")
+        sys.exit(f"room: there is no {given.three}: Debian's package libjs-three has it")
     Handler.files["/three.js"] = (Path(given.three), "text/javascript; charset=utf-8")
     try:
-        service = Service(scene_of(Path(given.job).read_text()), given.rate)
-    except Refused as refused:
-        sys.exit(str(refused))
-    server = Server((given.address, given.port), service)
-    threading.Thread(target=service.run, daemon=True).start()
-    print(f"http://{given.address}:{server.server_address[1]}/", flush=True)
+        server = serve(given.address, given.port, scene_in(Path(given.job).read_text()))
+    except (OSError, x3d.Refusal) as refused:
+        sys.exit(f"room: {refused}")
+    print(f"http://{given.address}:{server.page_port}/", flush=True)
     try:
         server.serve_forever()
     except KeyboardInterrupt:

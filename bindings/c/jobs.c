@@ -84,7 +84,9 @@ int main(int count, char **words) {
     free(job);
     return status;
   }
-  for (char *line = (char *)job; (uint8_t *)line < scene - 6; line = strchr(line, '\n') + 1) {
+  for (char *line = (char *)job, *end; (uint8_t *)line < scene - 6; line = end + 1) {
+    /* (sscanf asks for the length of all that stands in front of a zero.) */
+    *(end = strchr(line, '\n')) = 0;
     if ((status = apply(&world, line)) != X3D_DONE) return fail("apply", status);
     if (count > 1 && (status = again(&world, &boot)) != X3D_DONE) return fail("again", status);
   }

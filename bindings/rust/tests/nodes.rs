@@ -18,27 +18,28 @@ fn aim() -> Aim {
     Aim::new([0, 0, 10_000_000], [0, 0, -1_000_000])
 }
 
-/// Whether the datagram of this number arrives: every fifth is lost.
-fn arrives(sent: &mut u32) -> bool {
-    *sent += 1;
-    !sent.is_multiple_of(5)
+/// Whether a datagram arrives: about one of five is lost, by a rule without a period that a turn
+/// could be in step with.
+fn arrives(dice: &mut u32) -> bool {
+    *dice = dice.wrapping_mul(1_664_525).wrapping_add(1_013_904_223);
+    *dice >> 16 >= 65_536 / 5
 }
 
 /// A viewer's turn. Whether it is behind the floor.
-fn turn(host: &mut Host, viewer: &mut Viewer, who: u8, sent: &mut u32) -> bool {
+fn turn(host: &mut Host, viewer: &mut Viewer, who: u8, dice: &mut u32) -> bool {
     for offer in viewer.offers() {
-        if arrives(sent) {
+        if arrives(dice) {
             host.take(&offer).unwrap();
         }
     }
-    if arrives(sent) {
+    if arrives(dice) {
         viewer.take(&host.ack(who).unwrap()).unwrap();
     }
     let mut behind = false;
-    if arrives(sent) {
+    if arrives(dice) {
         let reply = host.take(&viewer.ask()).unwrap();
         for packet in host.packets(reply) {
-            if arrives(sent) {
+            if arrives(dice) {
                 behind |= viewer.take(&packet).unwrap() == Taken::Behind;
             }
         }
@@ -51,17 +52,17 @@ fn two_viewers_end_equal() {
     let mut host = Host::new(DOOR, 2).unwrap();
     let mut one = Viewer::open(DOOR, 0, 1).unwrap();
     let mut other = Viewer::open(DOOR, 1, 1).unwrap();
-    let mut sent = 0;
+    let mut dice = 1;
     one.offer(true, &aim()).unwrap();
     one.offer(false, &aim()).unwrap();
     for time in 1..=30 {
         host.clock(10_000_000 + time * 100_000).unwrap();
-        turn(&mut host, &mut one, 0, &mut sent);
-        turn(&mut host, &mut other, 1, &mut sent);
+        turn(&mut host, &mut one, 0, &mut dice);
+        turn(&mut host, &mut other, 1, &mut dice);
     }
     for _turn in 0..100 {
-        turn(&mut host, &mut one, 0, &mut sent);
-        turn(&mut host, &mut other, 1, &mut sent);
+        turn(&mut host, &mut one, 0, &mut dice);
+        turn(&mut host, &mut other, 1, &mut dice);
     }
     assert_eq!((host.count(), one.applied(), other.applied()), (32, 32, 32));
     assert_eq!(one.waiting(), 0);

@@ -9,7 +9,7 @@ use Rattle.scene_core.specs.declared.scene.End.{End}
 use Rattle.script_turn.specs.Acting.{kinds_of}
 use Rattle.script_turn.proofs.CallLemmas.{kinds_stand}
 use Rattle.cascade_core.specs.Course.{Course, Plan, ports_of}
-use Rattle.trace_core.specs.Ends.{has_sent, targets_of}
+use Rattle.cascade_trace.specs.Ends.{has_sent, targets_of}
 use Rattle.cascade_core.specs.Outputs.{ends_from, is_scene_output, outputs_of}
 use Rattle.cascade_core.specs.Cascade.{Reached, deliver, reached, recorded, send}
 use Rattle.cascade_core.specs.Sound.{IsSound}

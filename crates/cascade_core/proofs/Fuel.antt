@@ -4,13 +4,13 @@ use Rattle.std.proofs.lemmas.List.Folds.{list_any-append}
 use Rattle.std.proofs.Common.{length-append}
 use Rattle.std.proofs.lemmas.List.{length-map}
 use Rattle.std.proofs.lemmas.List.Sums.{sum_by-cons}
-use Rattle.trace_core.proofs.SameEnds.{same_end-is, same_end-self}
-use Rattle.trace_core.specs.Ends.{has_sent, same_end}
+use Rattle.cascade_trace.proofs.SameEnds.{same_end-is, same_end-self}
+use Rattle.cascade_trace.specs.Ends.{has_sent, same_end}
 use Rattle.cascade_core.specs.Outputs.{ends_from, outputs_of}
 use Rattle.cascade_core.specs.Stack.{one_unless, unsent_among, unsent}
 use Rattle.scene_core.specs.declared.scene.End.{End}
 use Rattle.scene_core.specs.Shape.{Shape}
-use Rattle.world_core.specs.declared.world.Turn.{Turn}
+use Rattle.cascade_world.specs.declared.world.Turn.{Turn}
 
 has_sent-push : (sent : List End) (e o : End) → has_sent (sent ++ e ∷ []) o ≡ (has_sent sent o || (same_end e o || false))
 has_sent-push sent e o = list_any-append (λ x. same_end x o) sent (e ∷ [])

@@ -4,7 +4,7 @@ use Rattle.x3d_values.specs.Stamp.{Stamp}
 use Rattle.scene_core.specs.Scene.{SceneView}
 use Rattle.cascade_core.specs.Apply.{after_input}
 use Rattle.cascade_core.specs.Course.{Course, Plan}
-use Rattle.trace_core.specs.declared.trace.TraceLine.{TraceLine}
+use Rattle.cascade_trace.specs.declared.trace.TraceLine.{TraceLine}
 use Rattle.cascade_core.proofs.Gains.{IsGain, gain-begin, gain-button, gain-record, gain-state}
 use Rattle.cascade_core.proofs.Settled.{input-of}
 

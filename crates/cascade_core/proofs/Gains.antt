@@ -3,16 +3,16 @@ use Rattle.std.proofs.Common.{◌≡◌, Bool, true, false, not, ◌&&◌, ◌||
 use Rattle.x3d_values.specs.Pointing.{Pointing}
 use Rattle.std.proofs.lemmas.List.{map-append, append-nil}
 use Rattle.std.proofs.lemmas.List.Folds.{list_any-append}
-use Rattle.trace_core.specs.Ends.{all_differ, has_sent, same_end}
-use Rattle.world_core.specs.World.{record_event}
-use Rattle.world_core.specs.Answers.{with_answer, Answer}
+use Rattle.cascade_trace.specs.Ends.{all_differ, has_sent, same_end}
+use Rattle.cascade_world.specs.World.{record_event}
+use Rattle.cascade_world.specs.Answers.{with_answer, Answer}
 use Rattle.cascade_core.specs.Apply.{with_button}
 use Rattle.cascade_core.specs.Work.{sources_of}
-use Rattle.trace_core.proofs.SameEnds.{same_end-is, same_end-self}
+use Rattle.cascade_trace.proofs.SameEnds.{same_end-is, same_end-self}
 use Rattle.x3d_values.specs.declared.value.Value.{Value}
 use Rattle.scene_core.specs.declared.scene.End.{End}
-use Rattle.trace_core.specs.declared.trace.TraceLine.{TraceLine}
-use Rattle.world_core.specs.declared.world.Turn.{Turn}
+use Rattle.cascade_trace.specs.declared.trace.TraceLine.{TraceLine}
+use Rattle.cascade_world.specs.declared.world.Turn.{Turn}
 
 -- the trace is the one at the start and a line for each output that has sent, all different
 pub record IsGain (start : List TraceLine) (turn : Turn) : Type 0 where

@@ -5,7 +5,7 @@ use Rattle.x3d_values.specs.declared.stamped.Event.{Event}
 use Rattle.x3d_values.specs.Stamp.{Stamp}
 use Rattle.scene_core.specs.Scene.{SceneView, shapes_of}
 use Rattle.scene_core.specs.declared.scene.Route.{Route}
-use Rattle.scene_scripts.specs.declared.runs.Run.{Run}
+use Rattle.script_specs.specs.declared.runs.Run.{Run}
 use Rattle.script_host.specs.Hosting.{ScriptRecord}
 use Rattle.script_turn.specs.Acting.{kinds_of}
 use Rattle.script_due.specs.Settling.{all_differ}
@@ -15,8 +15,8 @@ use Rattle.cascade_core.specs.Scripts.{kinds_in, running, states_of}
 use Rattle.cascade_core.specs.Settles.{settle}
 use Rattle.cascade_core.specs.Sound.{IsCast, IsFixed}
 use Rattle.cascade_core.specs.declared.fixed.Fixed.{Fixed}
-use Rattle.trace_core.specs.declared.trace.TraceLine.{TraceLine}
-use Rattle.world_core.specs.declared.world.Turn.{Turn}
+use Rattle.cascade_trace.specs.declared.trace.TraceLine.{TraceLine}
+use Rattle.cascade_world.specs.declared.world.Turn.{Turn}
 use Rattle.cascade_core.proofs.Gained.{gain-input}
 use Rattle.cascade_core.proofs.Gains.{IsGain}
 use Rattle.cascade_core.proofs.Keeping.{happen-of}

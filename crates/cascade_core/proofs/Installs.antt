@@ -15,12 +15,12 @@ use Rattle.script_slots.specs.declared.fault.StateFault.TheVariants.{StateLength
 use Rattle.script_turn.specs.Acting.{kinds_of}
 use Rattle.scene_core.specs.declared.scene.Route.{Route}
 use Rattle.scene_core.specs.Scene.{SceneView}
-use Rattle.world_core.specs.declared.world.WorldData.{WorldData}
+use Rattle.cascade_world.specs.declared.world.WorldData.{WorldData}
 use Rattle.cascade_core.specs.Held.{Held, Running, Spoiled, StageView, applied_of, held_of, holding, spoiled}
 use Rattle.cascade_core.specs.Installing.{RefusesBox, RefusesInstall}
-use Rattle.stage_answers.specs.Placing.{place_fault_of}
+use Rattle.cascade_answers.specs.Placing.{place_fault_of}
 use Rattle.cascade_core.specs.Scripts.{kinds_in, running, scripts_in, states_of}
-use Rattle.running_scripts.proofs.Initialized.{running_states}
+use Rattle.script_running.proofs.Initialized.{running_states}
 use Rattle.cascade_core.proofs.SoundLemmas.{cast_stands}
 
 lengths : (xs ys : List ScriptRecord) → kinds_of xs ≡ kinds_of ys → length xs ≡ length ys

@@ -11,13 +11,13 @@ use Rattle.scene_core.specs.Scene.{SceneView, types_of}
 use Rattle.script_host.specs.Behaviour.{Call}
 use Rattle.script_turn.specs.Acting.{act}
 use Rattle.script_due.specs.Settling.{with_received}
-use Rattle.world_core.specs.Answers.{Answer, answer, met, ticked, with_answer}
+use Rattle.cascade_world.specs.Answers.{Answer, answer, met, ticked, with_answer}
 use Rattle.cascade_core.specs.Apply.{with_button}
-use Rattle.trace_core.specs.Ends.{has_sent, targets_of}
-use Rattle.world_core.specs.Nodes.{clocks_of}
+use Rattle.cascade_trace.specs.Ends.{has_sent, targets_of}
+use Rattle.cascade_world.specs.Nodes.{clocks_of}
 use Rattle.cascade_core.specs.Outputs.{outputs_of}
-use Rattle.world_core.specs.Pointer.{concerned, insides, is_down, place_in}
-use Rattle.world_core.specs.declared.aim.Inside.{Inside}
+use Rattle.cascade_world.specs.Pointer.{concerned, insides, is_down, place_in}
+use Rattle.cascade_world.specs.declared.aim.Inside.{Inside}
 use Rattle.cascade_core.specs.Course.{Course, Plan, ports_of, with_turn}
 use Rattle.cascade_core.specs.Cascade.{Arrival, Reached, arrival, deliver, reached, reached_by, recorded, send, send_all, send_replies}
 use Rattle.cascade_core.specs.Apply.{happen, point, point_node, tick_node}

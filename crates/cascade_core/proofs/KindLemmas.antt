@@ -14,7 +14,7 @@ use Rattle.cascade_core.specs.Course.{Course, Plan, Scripted, plan_of, ports_of}
 use Rattle.cascade_core.specs.ScriptLaws.{KindsStand, StatesStand}
 use Rattle.cascade_core.specs.Scripts.{kinds_in, scripts_in, states_of}
 use Rattle.cascade_core.specs.Settles.{settle}
-use Rattle.running_scripts.proofs.Runnings.{running-kinds, states-many}
+use Rattle.script_running.proofs.Runnings.{running-kinds, states-many}
 use Rattle.cascade_core.proofs.Settled.{input-of, sent-of, settle-of}
 
 module _ (plan : Plan) (kinds : List Kind) where

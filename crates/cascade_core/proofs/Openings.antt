@@ -7,7 +7,7 @@ use Rattle.x3d_values.specs.declared.script.Kind.{Kind}
 use Rattle.react_core.specs.declared.outbox.Reply.{Reply}
 use Rattle.scene_core.specs.Scene.{SceneView, shapes_of}
 use Rattle.scene_core.specs.Shape.{Shape}
-use Rattle.scene_scripts.specs.declared.runs.Run.{Run}
+use Rattle.script_specs.specs.declared.runs.Run.{Run}
 use Rattle.script_host.specs.Behaviour.{Initialize}
 use Rattle.script_host.specs.Hosting.{ScriptRecord, after_call}
 use Rattle.script_due.specs.Settling.{Settling, unsettled}
@@ -22,10 +22,10 @@ use Rattle.cascade_core.specs.Scripts.{are_begun, kinds_in, scripts_in}
 use Rattle.cascade_core.specs.Settles.{settle}
 use Rattle.cascade_core.specs.Sound.{IsCast, IsFixed, IsSound, are_outputs, are_sent}
 use Rattle.cascade_core.specs.Stack.{IsReady, finish}
-use Rattle.stage_steps.specs.Replies.{send_by}
+use Rattle.cascade_rules.specs.Replies.{send_by}
 use Rattle.cascade_core.specs.declared.fixed.Fixed.{Fixed}
-use Rattle.stage_steps.specs.declared.tasks.Task.{Task}
-use Rattle.world_core.specs.declared.world.Turn.{Turn}
+use Rattle.cascade_rules.specs.declared.tasks.Task.{Task}
+use Rattle.cascade_world.specs.declared.world.Turn.{Turn}
 use Rattle.cascade_core.proofs.Keeping.{replies-of}
 use Rattle.cascade_core.proofs.SceneOutputs.{AllOutputs}
 use Rattle.cascade_core.proofs.SoundLemmas.{act-sends}

@@ -19,21 +19,21 @@ use Rattle.react_core.specs.Access.{is_output as is_output_of_type}
 use Rattle.react_core.specs.Reaction.{is_time_sensor}
 use Rattle.sensor_core.specs.Timing.{Timing, timing_of}
 use Rattle.scene_core.specs.declared.scene.End.{End}
-use Rattle.trace_core.specs.Ends.{has_sent, same_end}
-use Rattle.world_core.specs.Access.{is_set, is_output}
+use Rattle.cascade_trace.specs.Ends.{has_sent, same_end}
+use Rattle.cascade_world.specs.Access.{is_set, is_output}
 use Rattle.cascade_core.specs.Outputs.{output_fields, ends_from, is_scene_output}
 use Rattle.x3d_values.specs.Pointing.{Pointing}
 use Rattle.x3d_values.specs.declared.vector.Vec3.{Vec3}
 use Rattle.scene_core.specs.Scene.{SceneView, shapes_of, types_of}
 use Rattle.scene_core.specs.Shape.{Shape, rows_of}
 use Rattle.pick_core.specs.Sensors.{is_enabled, is_enabled_as}
-use Rattle.world_core.specs.Answers.{answer, answer_as, is_script, is_touch_sensor, keeping, meeting, met, not_run, nothing, reacting, setting, setting_at, ticked, ticking, ticking_at, touching}
-use Rattle.world_core.specs.Nodes.{is_clock}
-use Rattle.world_core.proofs.Shapes.{HasShape, shape_at}
-use Rattle.world_core.proofs.Senders.{kept-sends, reaction-leaves}
-use Rattle.world_core.proofs.SensorReplies.{set-leaves, tick-leaves}
-use Rattle.world_core.proofs.TouchReplies.{meeting-leaves, touching-leaves}
-use Rattle.world_core.specs.declared.world.WorldData.{WorldData}
+use Rattle.cascade_world.specs.Answers.{answer, answer_as, is_script, is_touch_sensor, keeping, meeting, met, not_run, nothing, reacting, setting, setting_at, ticked, ticking, ticking_at, touching}
+use Rattle.cascade_world.specs.Nodes.{is_clock}
+use Rattle.cascade_world.proofs.Shapes.{HasShape, shape_at}
+use Rattle.cascade_world.proofs.Senders.{kept-sends, reaction-leaves}
+use Rattle.cascade_world.proofs.SensorReplies.{set-leaves, tick-leaves}
+use Rattle.cascade_world.proofs.TouchReplies.{meeting-leaves, touching-leaves}
+use Rattle.cascade_world.specs.declared.world.WorldData.{WorldData}
 
 -- all of these are sent by outputs of the scene
 abbrev pub AllOutputs : List Shape → ℕ → List Reply → Type 0

@@ -8,11 +8,11 @@ use Rattle.scene_core.specs.Scene.{SceneView}
 use Rattle.script_host.specs.Behaviour.{Call, Settle}
 use Rattle.script_turn.specs.Acting.{act}
 use Rattle.script_due.specs.Settling.{with_settled}
-use Rattle.world_core.specs.Answers.{Answer, with_answer}
+use Rattle.cascade_world.specs.Answers.{Answer, with_answer}
 use Rattle.cascade_core.specs.Apply.{Sending, after_input, happen, sent_by_all, with_button}
 use Rattle.cascade_core.specs.Cascade.{recorded, send_replies}
 use Rattle.cascade_core.specs.Course.{Course, Plan, node_of, ports_of, with_turn}
-use Rattle.trace_core.specs.Ends.{has_sent}
+use Rattle.cascade_trace.specs.Ends.{has_sent}
 use Rattle.cascade_core.specs.Settles.{next_due, settle, settle_one, settle_up_to}
 use Rattle.cascade_core.proofs.Keeping.{called, happen-of, replies-of}
 

@@ -8,7 +8,7 @@ use Rattle.x3d_values.specs.declared.script.Kind.{Kind}
 use Rattle.x3d_values.specs.declared.value.Value.{Value}
 use Rattle.scene_core.specs.declared.scene.End.{End}
 use Rattle.scene_core.specs.Shape.{Shape}
-use Rattle.scene_scripts.specs.declared.runs.Run.{Run}
+use Rattle.script_specs.specs.declared.runs.Run.{Run}
 use Rattle.script_host.specs.Behaviour.{Call}
 use Rattle.script_host.specs.Hosting.{ScriptRecord, answer_of}
 use Rattle.script_host.specs.Interface.{outputs}

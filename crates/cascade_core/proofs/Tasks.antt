@@ -2,9 +2,9 @@
 use Rattle.std.proofs.Common.{◌≡◌, Bool, ℕ, ℤ, ◌+◌, ◌*◌, ◌<◌, ◌≤◌, true, false, List, [], ◌∷◌, ◌++◌, ◌∙◌, ap, sym, refl, arith, mul-le-mul_right, map, reverse, length, Option, Some, None}
 use Rattle.std.specs.Prelude.{slice_get}
 use Rattle.std.specs.List.{fold, AllByRecursion}
-use Rattle.trace_core.proofs.RoutePlaces.{drop-none, drop-some}
+use Rattle.cascade_trace.proofs.RoutePlaces.{drop-none, drop-some}
 use Rattle.std.proofs.lemmas.List.{reverse-append, length-reverse, map-append, reverse-reverse}
-use Rattle.trace_core.specs.Ends.{has_sent, targets_of}
+use Rattle.cascade_trace.specs.Ends.{has_sent, targets_of}
 use Rattle.x3d_values.specs.declared.script.Kind.{Kind}
 use Rattle.script_host.specs.Behaviour.{Call}
 use Rattle.script_host.specs.Hosting.{ScriptRecord}
@@ -12,10 +12,10 @@ use Rattle.script_turn.specs.Acting.{act, kinds_of}
 use Rattle.cascade_core.specs.Course.{Course, Plan, node_of, ports_of}
 use Rattle.cascade_core.specs.Cascade.{deliver, reached, recorded, send_all, send_full}
 use Rattle.cascade_core.specs.Sound.{IsSound}
-use Rattle.world_core.specs.Answers.{met, ticked}
+use Rattle.cascade_world.specs.Answers.{met, ticked}
 use Rattle.cascade_core.specs.Outputs.{is_scene_output, ends_from}
 use Rattle.cascade_core.specs.Stack.{do_task, finish, IsReady, weight, weights, unsent, work_left}
-use Rattle.stage_steps.specs.Replies.{send_by}
+use Rattle.cascade_rules.specs.Replies.{send_by}
 use Rattle.cascade_core.proofs.SceneOutputs.{met-sends, ticked-sends}
 use Rattle.cascade_core.proofs.Fuel.{unsent-less}
 use Rattle.cascade_core.proofs.Depths.{send_full-new}
@@ -24,10 +24,10 @@ use Rattle.x3d_values.specs.declared.value.Value.{Value}
 use Rattle.react_core.specs.declared.outbox.Reply.{Reply}
 use Rattle.scene_core.specs.declared.scene.End.{End}
 use Rattle.scene_core.specs.Shape.{Shape}
-use Rattle.stage_steps.specs.declared.tasks.Task.{Task}
-use Rattle.stage_steps.specs.declared.tasks.Task.TheVariants.{Send, Follow}
-use Rattle.world_core.specs.declared.world.WorldData.{WorldData}
-use Rattle.world_core.specs.Nodes.{is_clock}
+use Rattle.cascade_rules.specs.declared.tasks.Task.{Task}
+use Rattle.cascade_rules.specs.declared.tasks.Task.TheVariants.{Send, Follow}
+use Rattle.cascade_world.specs.declared.world.WorldData.{WorldData}
+use Rattle.cascade_world.specs.Nodes.{is_clock}
 use Rattle.scene_core.specs.Scene.{SceneView, shapes_of, types_of}
 use Rattle.x3d_values.specs.Pointing.{Pointing}
 use Rattle.x3d_values.specs.declared.vector.Vec3.{Vec3}

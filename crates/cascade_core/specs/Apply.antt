@@ -15,16 +15,16 @@ use Rattle.scene_core.specs.Scene.{SceneView, state_of, types_of}
 use Rattle.script_host.specs.Behaviour.{Initialize}
 use Rattle.script_host.specs.Hosting.{ScriptRecord}
 use Rattle.script_turn.specs.Acting.{act}
-use Rattle.world_core.specs.Answers.{met, ticked, with_answer}
+use Rattle.cascade_world.specs.Answers.{met, ticked, with_answer}
 use Rattle.cascade_core.specs.Cascade.{send_replies}
 use Rattle.cascade_core.specs.Course.{Course, Plan, Scripted, course, ended, node_of, plan_of, ports_of, with_turn}
-use Rattle.world_core.specs.Nodes.{clocks_of}
-use Rattle.world_core.specs.Pointer.{concerned, insides, is_down, place_in}
+use Rattle.cascade_world.specs.Nodes.{clocks_of}
+use Rattle.cascade_world.specs.Pointer.{concerned, insides, is_down, place_in}
 use Rattle.cascade_core.specs.Scripts.{kinds_in, running, scripts_in}
 use Rattle.cascade_core.specs.Settles.{settle}
-use Rattle.world_core.specs.declared.aim.Inside.{Inside}
-use Rattle.world_core.specs.declared.world.WorldData.{WorldData}
-pub use Rattle.world_core.specs.World.{begin, with_button}
+use Rattle.cascade_world.specs.declared.aim.Inside.{Inside}
+use Rattle.cascade_world.specs.declared.world.WorldData.{WorldData}
+pub use Rattle.cascade_world.specs.World.{begin, with_button}
 
 -- ---- an input
 

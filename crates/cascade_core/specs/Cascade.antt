@@ -9,10 +9,10 @@ use Rattle.scene_core.specs.declared.scene.End.{End}
 use Rattle.script_host.specs.Behaviour.{Call}
 use Rattle.script_turn.specs.Acting.{act, call_of}
 use Rattle.script_due.specs.Settling.{with_received}
-use Rattle.world_core.specs.Answers.{answer, with_answer}
-use Rattle.trace_core.specs.Ends.{has_sent, targets_of}
+use Rattle.cascade_world.specs.Answers.{answer, with_answer}
+use Rattle.cascade_trace.specs.Ends.{has_sent, targets_of}
 use Rattle.cascade_core.specs.Outputs.{outputs_of}
-use Rattle.world_core.specs.World.{record_event}
+use Rattle.cascade_world.specs.World.{record_event}
 use Rattle.cascade_core.specs.Course.{Course, Plan, ports_of, script_of, with_turn}
 
 -- the replies of a node, one after another, each sent on by `go`

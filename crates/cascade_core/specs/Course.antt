@@ -8,14 +8,14 @@ use Rattle.scene_core.specs.Shape.{Shape}
 use Rattle.script_host.specs.Hosting.{ScriptRecord}
 use Rattle.script_turn.specs.Ports.{Wiring}
 use Rattle.script_due.specs.Settling.{Settling, unsettled}
-use Rattle.scene_scripts.specs.Runs.{runs_of}
-use Rattle.scene_scripts.specs.declared.runs.Run.{Run}
+use Rattle.script_specs.specs.Runs.{runs_of}
+use Rattle.script_specs.specs.declared.runs.Run.{Run}
 use Rattle.cascade_core.specs.Scripts.{script_from, states_of}
-pub use Rattle.running_scripts.specs.Running.{no_ports}
+pub use Rattle.script_running.specs.Running.{no_ports}
 use Rattle.cascade_core.specs.declared.course.Course as lent
 use Rattle.cascade_core.specs.declared.fixed.Fixed.{Fixed}
-use Rattle.world_core.specs.declared.world.Turn.{Turn}
-use Rattle.world_core.specs.declared.world.WorldData.{WorldData}
+use Rattle.cascade_world.specs.declared.world.Turn.{Turn}
+use Rattle.cascade_world.specs.declared.world.WorldData.{WorldData}
 
 -- what events go by: the fields of the nodes, the routes, and the scripts that are run
 pub record Plan : Type 0 where

@@ -7,10 +7,10 @@ use Rattle.scene_core.specs.declared.scene.Route.{Route}
 use Rattle.scene_core.specs.Scene.{SceneView}
 use Rattle.cascade_core.specs.Course.{Scripted}
 use Rattle.cascade_core.specs.Apply.{apply, course_after}
-use Rattle.stage_answers.specs.declared.fault.ApplyFault.{ApplyFault}
-use Rattle.stage_answers.specs.declared.fault.ApplyFault.TheVariants as fault
-use Rattle.trace_core.specs.declared.trace.TraceLine.{TraceLine}
-use Rattle.world_core.specs.declared.world.WorldData.{WorldData}
+use Rattle.cascade_answers.specs.declared.fault.ApplyFault.{ApplyFault}
+use Rattle.cascade_answers.specs.declared.fault.ApplyFault.TheVariants as fault
+use Rattle.cascade_trace.specs.declared.trace.TraceLine.{TraceLine}
+use Rattle.cascade_world.specs.declared.world.WorldData.{WorldData}
 
 pub data Held : Type 0 where
   Running : Scripted → Held

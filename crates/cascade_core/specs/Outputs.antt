@@ -3,8 +3,8 @@ use Rattle.std.specs.Prelude.{ℕ, Bool, ◌+◌, ◌++◌, List, [], ◌∷◌,
 use Rattle.std.specs.List.{filter, range_with_len}
 use Rattle.scene_core.specs.declared.scene.End.{End}
 use Rattle.scene_core.specs.Shape.{Shape, rows_of}
-use Rattle.world_core.specs.Access.{is_output}
-use Rattle.trace_core.specs.Ends.{has_sent}
+use Rattle.cascade_world.specs.Access.{is_output}
+use Rattle.cascade_trace.specs.Ends.{has_sent}
 
 -- the numbers of the fields by which a node sends
 unfoldable pub output_fields : Shape → List ℕ

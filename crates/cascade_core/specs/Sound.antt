@@ -4,7 +4,7 @@ use Rattle.std.specs.List.{list_all}
 use Rattle.x3d_values.specs.declared.script.Kind.{Kind}
 use Rattle.scene_core.specs.Shape.{Shape}
 use Rattle.react_core.specs.declared.outbox.Reply.{Reply}
-use Rattle.scene_scripts.specs.Runs.{runs_of}
+use Rattle.script_specs.specs.Runs.{runs_of}
 use Rattle.script_host.specs.Interface.{outputs}
 use Rattle.script_turn.specs.Acting.{kinds_of}
 use Rattle.cascade_core.specs.Apply.{Sending}

@@ -5,12 +5,12 @@ use Rattle.scene_core.specs.declared.scene.End.{End}
 use Rattle.scene_core.specs.declared.scene.Route.{Route}
 use Rattle.scene_core.specs.Shape.{Shape}
 use Rattle.cascade_core.specs.Course.{Course, Plan}
-use Rattle.trace_core.specs.Ends.{has_sent, targets_of}
+use Rattle.cascade_trace.specs.Ends.{has_sent, targets_of}
 use Rattle.cascade_core.specs.Outputs.{is_scene_output, ends_from}
 use Rattle.cascade_core.specs.Cascade.{deliver, send_full}
-use Rattle.stage_steps.specs.declared.tasks.Task.{Task}
-use Rattle.stage_steps.specs.declared.tasks.Task.TheVariants.{Send, Follow}
-use Rattle.world_core.specs.declared.world.Turn.{Turn}
+use Rattle.cascade_rules.specs.declared.tasks.Task.{Task}
+use Rattle.cascade_rules.specs.declared.tasks.Task.TheVariants.{Send, Follow}
+use Rattle.cascade_world.specs.declared.world.Turn.{Turn}
 
 -- a task by the definition of the cascade
 abbrev pub do_task : Plan → Course → Task → Course

@@ -5,7 +5,7 @@ use Rattle.std.specs.List.{flat_map}
 use Rattle.scene_core.specs.declared.scene.Route.{Route}
 use Rattle.scene_core.specs.Scene.{SceneView}
 use Rattle.scene_text.specs.SceneText.{scene_text as text_of_scene}
-use Rattle.trace_core.specs.LineText.{line_text}
+use Rattle.cascade_trace.specs.LineText.{line_text}
 use Rattle.cascade_core.specs.Course.{Scripted}
 
 -- all events in the order in which they were sent

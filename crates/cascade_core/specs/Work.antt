@@ -2,10 +2,10 @@
 use Rattle.std.specs.Prelude.{ℕ, ◌≡◌, true, ◌++◌, List, length, map, count_by}
 use Rattle.scene_core.specs.declared.scene.End.{End}
 use Rattle.scene_core.specs.declared.scene.Route.{Route}
-use Rattle.trace_core.specs.Ends.{all_differ, has_sent}
+use Rattle.cascade_trace.specs.Ends.{all_differ, has_sent}
 use Rattle.script_due.specs.Settling.{all_differ as scripts_differ}
-use Rattle.stage_answers.specs.declared.work.Work.{Work}
-use Rattle.trace_core.specs.declared.trace.TraceLine.{TraceLine}
+use Rattle.cascade_answers.specs.declared.work.Work.{Work}
+use Rattle.cascade_trace.specs.declared.trace.TraceLine.{TraceLine}
 
 -- the outputs that sent
 abbrev pub sources_of : List TraceLine → List End

@@ -1,7 +1,7 @@
 //! What a stage works with beside its world.
 
+use cascade_rules::Task;
 use pick_core::BoxCache;
-use stage_steps::Task;
 
 /// What a stage works with beside its world; no world depends on it.
 #[derive(Drop)]

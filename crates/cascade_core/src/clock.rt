@@ -7,16 +7,16 @@ ghost use Rattle.pick_core.specs.Sites.{rows_of};
 ghost use Rattle.script_turn.specs.Acting.{kinds_of};
 ghost use Rattle.cascade_core.specs.Course.{plan_at, seen};
 ghost use Rattle.cascade_core.specs.Sound.{IsCast};
-ghost use Rattle.world_core.specs.Nodes.{clocks_of, is_clock};
+ghost use Rattle.cascade_world.specs.Nodes.{clocks_of, is_clock};
 ghost use Rattle.cascade_core.specs.Apply.{tick_node as tick_node_of};
 
 use crate::course::Course;
 use crate::fixed::Fixed;
 use crate::stack::send_replies;
+use cascade_rules::Task;
 use pick_core::BoxCache;
 use react_core::Outbox;
 use script_host::Behaviour;
-use stage_steps::Task;
 use std::alloc::AllocError;
 use x3d_values::Stamped;
 

@@ -8,15 +8,15 @@ ghost use Rattle.cascade_core.specs.Cascade.{arrival, reached, received_by};
 ghost use Rattle.cascade_core.specs.Sound.{IsCast};
 
 use crate::fixed::Fixed;
+use cascade_rules::deliver;
+use cascade_world::Turn;
 use pick_core::BoxCache;
 use react_core::Outbox;
-use running_scripts::BegunScripts;
 use scene_core::End;
 use script_due::DueScripts;
 use script_host::Behaviour;
-use stage_steps::deliver;
+use script_running::BegunScripts;
 use std::alloc::{AllocError, Global};
-use world_core::Turn;
 use x3d_values::Value;
 
 /// A world in the course of one input, its scripts, and which of them received in it and were

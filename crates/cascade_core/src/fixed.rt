@@ -1,8 +1,8 @@
 //! What events go by: a scene, its routes, and the scripts that it runs.
 
 use route_core::Routes;
-use running_scripts::Runs;
 use scene_core::Scene;
+use script_running::Runs;
 
 /// What events go by, for good.
 #[derive(Drop)]

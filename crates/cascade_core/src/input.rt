@@ -9,7 +9,7 @@ ghost use Rattle.cascade_core.specs.Sound.{IsCast, IsFixed};
 ghost use Rattle.cascade_core.specs.Course.{course as course_of, ended};
 ghost use Rattle.cascade_core.specs.Scripts.{kinds_in, running, states_of};
 ghost use Rattle.cascade_core.specs.Apply.{begin as begin_of};
-ghost use Rattle.world_core.specs.Nodes.{clocks_of, touch_sensors_of};
+ghost use Rattle.cascade_world.specs.Nodes.{clocks_of, touch_sensors_of};
 ghost use Rattle.cascade_core.specs.Work.{IsWork};
 ghost use Rattle.cascade_core.specs.Apply.{apply, course_after, happen};
 
@@ -19,10 +19,10 @@ use crate::course::Course;
 use crate::fixed::Fixed;
 use crate::pointer::point;
 use crate::settle::settle;
+use cascade_answers::Work;
+use cascade_trace::deliveries;
 use script_host::Behaviour;
-use stage_answers::Work;
 use std::alloc::AllocError;
-use trace_core::deliveries;
 use x3d_values::{Event, Stamped};
 
 impl<B: Behaviour> Course<B> {

@@ -16,9 +16,9 @@ mod settle;
 mod stack;
 mod stage;
 
+pub use cascade_answers::{ApplyFault, LoadFault, PlaceFault, StatesFault, TextFault, Work};
+pub use cascade_trace::{LineHead, Trace, TraceLine, WritesLines};
+pub use cascade_world::{State, WorldData};
 pub use laws::{kinds_law, places_law, settling_law, states_law};
 pub use series::run;
 pub use stage::Stage;
-pub use stage_answers::{ApplyFault, LoadFault, PlaceFault, StatesFault, TextFault, Work};
-pub use trace_core::{LineHead, Trace, TraceLine, WritesLines};
-pub use world_core::{State, WorldData};

@@ -18,15 +18,15 @@ use crate::course::Course;
 use crate::fixed::Fixed;
 use crate::settle::settle;
 use crate::stack::send_replies;
+use cascade_rules::Task;
+use cascade_world::Turn;
 use pick_core::BoxCache;
 use react_core::Outbox;
-use running_scripts::BegunScripts;
 use script_due::DueScripts;
 use script_host::{Behaviour, Scripts};
-use stage_steps::Task;
+use script_running::BegunScripts;
 use std::alloc::{AllocError, Global};
 use std::marker::Model;
-use world_core::Turn;
 
 /// What the node of a script is to send.
 #[derive(Drop)]

@@ -4,27 +4,27 @@ ghost use Rattle.std.specs.Prelude.{◌≡◌, [], IfOk, List, None, replicate};
 ghost use Rattle.script_turn.specs.Acting.{kinds_of};
 ghost use Rattle.script_host.specs.Attaching.{Fits};
 ghost use Rattle.script_host.specs.Hosting.{ScriptRecord};
-ghost use Rattle.scene_scripts.specs.Runs.{runs_of};
-ghost use Rattle.scene_scripts.specs.Scripts.{script_list};
+ghost use Rattle.script_specs.specs.Runs.{runs_of};
+ghost use Rattle.script_specs.specs.Scripts.{script_list};
 ghost use Rattle.cascade_core.specs.Course.{plan_at};
 ghost use Rattle.cascade_core.specs.Sound.{IsFixed, IsSound};
 ghost use Rattle.cascade_core.specs.Apply.{untold};
-ghost use Rattle.world_core.specs.Nodes.{clocks_of, touch_sensors_of};
+ghost use Rattle.cascade_world.specs.Nodes.{clocks_of, touch_sensors_of};
 ghost use Rattle.pick_core.specs.Sites.{rows_of};
 ghost use Rattle.scene_core.specs.Scene.{types_of};
 ghost use Rattle.sensor_core.specs.Touches.{untouched};
 
 use crate::bench::{Bench, Sensors};
 use crate::fixed::Fixed;
+use cascade_rules::numbers_of;
+use cascade_trace::{SentBits, Trace};
+use cascade_world::{State, Turn, VIEWERS, WorldData};
 use pick_core::BoxCache;
 use route_core::Routes;
-use running_scripts::Runs;
 use scene_core::Scene;
+use script_running::Runs;
 use sensor_core::{TimeState, TouchState};
-use stage_steps::numbers_of;
 use std::alloc::{AllocError, Global};
-use trace_core::{SentBits, Trace};
-use world_core::{State, Turn, VIEWERS, WorldData};
 use x3d_lists::Items;
 use x3d_values::NodeType;
 
@@ -154,8 +154,8 @@ pub(crate) fn parts_of(alloc: Global, scene: &Scene) -> Result<Parts, AllocError
 fn runs_in(alloc: Global, scene: &Scene) -> Result<Runs, AllocError>
     ensures { IfOk result (λ runs. runs ≡ runs_of scene.now) }
 {
-    let asked = scene_scripts::script_list(alloc, scene)?;
-    let listed = scene_scripts::runs_of(alloc, scene, &asked);
+    let asked = script_specs::script_list(alloc, scene)?;
+    let listed = script_specs::runs_of(alloc, scene, &asked);
     drop(asked);
     Runs::new(alloc, listed?, scene)
 }

@@ -9,18 +9,18 @@ ghost use Rattle.script_turn.specs.Acting.{kinds_of};
 ghost use Rattle.cascade_core.specs.Course.{plan_at, seen};
 ghost use Rattle.cascade_core.specs.Sound.{IsCast};
 ghost use Rattle.cascade_core.specs.Apply.{point as point_of, point_node as point_node_of};
-ghost use Rattle.world_core.specs.Nodes.{touch_sensors_of};
+ghost use Rattle.cascade_world.specs.Nodes.{touch_sensors_of};
 
 use crate::bench::Bench;
 use crate::course::Course;
 use crate::fixed::Fixed;
 use crate::stack::send_replies;
+use cascade_rules::Task;
+use cascade_world::{Aim, insides, or_all};
 use pick_core::BoxCache;
 use react_core::Outbox;
 use script_host::Behaviour;
-use stage_steps::Task;
 use std::alloc::AllocError;
-use world_core::{Aim, insides, or_all};
 use x3d_values::Pointer;
 
 /// A TouchSensor meets a pointer, and what it sends is followed.
@@ -84,7 +84,7 @@ fn point_all<B: Behaviour>(
 }
 
 /// A viewer points.
-#[tactic(auto, unfolding(crate::specs::Apply::point, world_core::specs::Pointer::concerned))]
+#[tactic(auto, unfolding(crate::specs::Apply::point, cascade_world::specs::Pointer::concerned))]
 pub fn point<B: Behaviour>(
     fixed: &Fixed,
     sensors: &[u32],

@@ -5,14 +5,14 @@ ghost use Rattle.cascade_core.specs.Apply.{opening, world};
 ghost use Rattle.cascade_core.specs.Scripts.{scripts_in};
 ghost use Rattle.cascade_core.specs.Held.{Running, after_all, refusal_in};
 ghost use Rattle.cascade_core.specs.InTurn.{AreInTurn};
-ghost use Rattle.scene_scripts.specs.Scripts.{script_list};
+ghost use Rattle.script_specs.specs.Scripts.{script_list};
 ghost use Rattle.script_host.specs.Attaching.{Fits};
 
 use crate::stage::Stage;
+use cascade_answers::ApplyFault;
 use route_core::Routes;
 use scene_core::Scene;
 use script_host::{Behaviour, Scripts};
-use stage_answers::ApplyFault;
 use std::alloc::Global;
 use x3d_values::Stamped;
 

@@ -11,10 +11,10 @@ ghost use Rattle.cascade_core.specs.Settles.{settle as settle_of, settle_one as 
 use crate::course::Course;
 use crate::fixed::Fixed;
 use crate::stack::send_replies;
+use cascade_rules::Task;
 use pick_core::BoxCache;
 use react_core::Outbox;
 use script_host::Behaviour;
-use stage_steps::Task;
 use std::alloc::AllocError;
 
 /// A script that is due settles, and what its node sends is followed.

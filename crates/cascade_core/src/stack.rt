@@ -4,8 +4,8 @@ ghost use Rattle.std.specs.Prelude.{◌≡◌, ◌+◌, ◌≤◌, ◌<◌, ◌^
 ghost use Rattle.std.specs.List.{AllByRecursion};
 ghost use Rattle.scene_core.specs.Scene.{shapes_of};
 ghost use Rattle.pick_core.specs.Sites.{rows_of};
-ghost use Rattle.trace_core.specs.Ends.{targets_of};
-ghost use Rattle.stage_steps.specs.Replies.{send_by};
+ghost use Rattle.cascade_trace.specs.Ends.{targets_of};
+ghost use Rattle.cascade_rules.specs.Replies.{send_by};
 ghost use Rattle.cascade_core.specs.Outputs.{is_scene_output};
 ghost use Rattle.cascade_core.specs.Course.{plan_at, seen};
 ghost use Rattle.cascade_core.specs.Cascade.{send_full, send_replies as send_replies_of};
@@ -15,12 +15,12 @@ ghost use Rattle.script_turn.specs.Acting.{kinds_of};
 
 use crate::course::Course;
 use crate::fixed::Fixed;
+use cascade_rules::{Task, push_before, push_replies, send};
 use pick_core::BoxCache;
 use react_core::Outbox;
 use route_core::Routes;
 use scene_core::End;
 use script_host::Behaviour;
-use stage_steps::{Task, push_before, push_replies, send};
 use std::alloc::AllocError;
 use x3d_values::Value;
 

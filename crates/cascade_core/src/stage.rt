@@ -6,17 +6,17 @@ use crate::fixed::Fixed;
 use crate::input::advance;
 use crate::opening::open;
 use crate::parts::{Parts, fixed_of, parts_of};
+use cascade_answers::{ApplyFault, LoadFault, PlaceFault, StatesFault, TextFault, Work};
+use cascade_rules::put_boxes;
+use cascade_trace::push_trace;
+use cascade_world::WorldData;
 use route_core::Routes;
 use scene_core::Scene;
 use scene_text::write_scene;
 use script_host::{Behaviour, Scripts, StateFault};
-use stage_answers::{ApplyFault, LoadFault, PlaceFault, StatesFault, TextFault, Work};
-use stage_steps::put_boxes;
 use std::alloc::Global;
 use std::marker::Model;
 use std::mem;
-use trace_core::push_trace;
-use world_core::WorldData;
 use x3d_values::{Items, Stamped};
 
 /// A scene with its world, which moves on by inputs.
@@ -33,7 +33,7 @@ impl<B: Behaviour> Model for Stage<B> {
     ghost use Rattle.std.specs.Prelude.{◌≡◌, IfNone};
     ghost use Rattle.pick_core.specs.Sites.{rows_of};
     ghost use Rattle.scene_core.specs.Scene.{types_of};
-    ghost use Rattle.world_core.specs.Nodes.{clocks_of, touch_sensors_of};
+    ghost use Rattle.cascade_world.specs.Nodes.{clocks_of, touch_sensors_of};
     ghost use Rattle.cascade_core.specs.Held.{StageView, held_of};
     ghost use Rattle.cascade_core.specs.Course.{ended, plan_at, seen};
     ghost use Rattle.cascade_core.specs.Scripts.{kinds_in};
@@ -65,7 +65,7 @@ impl<B: Behaviour> Stage<B> {
     ghost use Rattle.cascade_core.specs.Installing.{RefusesBox, RefusesInstall, StatesFit};
     ghost use Rattle.cascade_core.specs.Texts.{trace_text, scene_text};
     ghost use Rattle.cascade_core.specs.Work.{IsWork};
-    ghost use Rattle.scene_scripts.specs.Scripts.{script_list};
+    ghost use Rattle.script_specs.specs.Scripts.{script_list};
     ghost use Rattle.script_host.specs.Attaching.{Fits};
 
     /// The stage of a scene with its routes and the scripts that were attached for it, none of

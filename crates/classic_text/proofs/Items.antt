@@ -5,7 +5,7 @@ use Rattle.std.proofs.lemmas.Bool.{and_parts, and_right, or_parts, or_from}
 use Rattle.x3d_values.specs.declared.field_type.Access.{Access}
 use Rattle.x3d_values.specs.Names.{access_named}
 use Rattle.classic_lex.specs.Lexed.{Tok}
-use Rattle.classic_bounds.specs.Bounds.{is_script}
+use Rattle.classic_rules.specs.Bounds.{is_script}
 use Rattle.classic_tree.specs.declared.tree.BodyItem.{BodyItem}
 use Rattle.classic_tree.specs.declared.tree.BodyItem.TheVariants as held
 use Rattle.classic_tree.specs.declared.tree.NodeText.{NodeText}

@@ -1,7 +1,7 @@
 -- Bodies, and nodes and prototypes at each depth: what is read is spelled so, and what is spelled so is read.
 use Rattle.std.proofs.Common.{◌≡◌, ℕ, zero, suc, ◌<◌, ◌≤◌, List, length, Bool, true, false, cond, Option, Some, None, Ok, Err, refl, sym, ap, ◌∙◌, subst, ◌⊎◌, inl, inr, ⊎_elim, arith}
 use Rattle.classic_lex.specs.Lexed.{Tok}
-use Rattle.classic_bounds.specs.Bounds.{is_script}
+use Rattle.classic_rules.specs.Bounds.{is_script}
 use Rattle.classic_tree.specs.declared.tree.BodyItem.{BodyItem}
 use Rattle.classic_tree.specs.declared.tree.NodeText.{NodeText}
 use Rattle.classic_tree.specs.declared.tree.NodeText.TheVariants as made

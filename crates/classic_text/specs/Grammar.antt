@@ -3,7 +3,7 @@ use Rattle.std.specs.Prelude.{ℕ, ℤ, zero, suc, Bool, true, false, ◌||◌, 
 use Rattle.x3d_values.specs.declared.field_type.Access.{Access}
 use Rattle.classic_lex.specs.Lexed.{Tok}
 use Rattle.x3d_values.specs.Access.{is_initial}
-use Rattle.classic_bounds.specs.Bounds.{max_depth, is_script}
+use Rattle.classic_rules.specs.Bounds.{max_depth, is_script}
 use Rattle.classic_tree.specs.declared.tree.Place.{Place}
 use Rattle.classic_tree.specs.declared.tree.RouteText.{RouteText}
 use Rattle.classic_tree.specs.declared.tree.RawValue.{RawValue}

@@ -8,7 +8,7 @@ use Rattle.x3d_values.specs.declared.field_type.FieldType.{FieldType}
 use Rattle.x3d_values.specs.Names.{access_named, field_type_named}
 use Rattle.classic_lex.specs.Lexed.{Tok}
 use Rattle.classic_lex.specs.Tokens.{HasTokens, HasVersion}
-pub use Rattle.classic_bounds.specs.Bounds.{max_depth}
+pub use Rattle.classic_rules.specs.Bounds.{max_depth}
 use Rattle.classic_tree.specs.declared.tree.Place.{Place}
 use Rattle.classic_tree.specs.declared.tree.RouteText.{RouteText}
 use Rattle.classic_tree.specs.declared.tree.RawValue.{RawValue}

@@ -1,7 +1,7 @@
 //! The rules of the grammar in which nodes stand, each a function that reads from the tokens.
 
 ghost use Rattle.std.specs.Prelude.{◌≡◌, false};
-ghost use Rattle.classic_bounds.specs.Bounds.{takes_is};
+ghost use Rattle.classic_rules.specs.Bounds.{takes_is};
 ghost use Rattle.classic_text.specs.Grammar as spec;
 ghost use Rattle.classic_text.specs.Grammar.{until};
 ghost use Rattle.classic_text.specs.Input.{Reads};
@@ -13,7 +13,7 @@ use crate::parts::{all_of, def_name, joined, numbers, route, use_node};
 use crate::refusal::Refusal;
 use crate::terminal::Terminal;
 use crate::tokens::Tokens;
-use classic_bounds::{Owner, holds_value, is_script};
+use classic_rules::{Owner, holds_value, is_script};
 use classic_tree::{BodyItem, Declaration, Given, NodeText, ProtoText, RawValue, Statement};
 use std::alloc::Global;
 use x3d_values::{Access, Items, Text};

@@ -1,7 +1,7 @@
 //! The parts of the grammar in which no node stands, each a function that reads from the tokens.
 
 ghost use Rattle.std.specs.Prelude.{◌≡◌};
-ghost use Rattle.classic_bounds.specs.Bounds.{takes_is};
+ghost use Rattle.classic_rules.specs.Bounds.{takes_is};
 ghost use Rattle.classic_text.specs.Grammar as spec;
 ghost use Rattle.classic_text.specs.Grammar.{until};
 ghost use Rattle.classic_text.specs.Input.{Parser, Reads, number, string, truth};
@@ -11,7 +11,7 @@ use crate::gathered::grown;
 use crate::refusal::Refusal;
 use crate::terminal::Terminal;
 use crate::tokens::Tokens;
-use classic_bounds::{Owner, takes_is};
+use classic_rules::{Owner, takes_is};
 use classic_tree::{Given, NodeText, Place, RouteText};
 use std::alloc::Global;
 use x3d_values::{Items, Text};

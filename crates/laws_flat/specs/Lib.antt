@@ -1,4 +1,8 @@
-pub mod Untaken
-pub mod Renamed
-pub mod Plain
-pub mod InPlace
+pub mod Closings
+pub mod Lines
+pub mod Order
+pub mod Readings
+pub mod Uses
+pub mod Routes
+pub mod Fields
+pub mod Shapes

@@ -1,34 +1,29 @@
-//! Laws of what documents stand for, each the contract of a function that does nothing.
+//! Laws of flat documents, each the contract of a function that does nothing.
 
-ghost use Rattle.laws_flat.specs.InPlace.{InstancesAreTheirBodies};
-ghost use Rattle.laws_flat.specs.Plain.{PlainDocumentsAreThemselves};
-ghost use Rattle.laws_flat.specs.Renamed.{NamesOfPrototypesDontMatter};
-ghost use Rattle.laws_flat.specs.Untaken.{UntakenPlainValuesDontMatter, UntakenValuesDontMatter};
+ghost use Rattle.laws_flat.specs.Closings.{NodesClose};
+ghost use Rattle.laws_flat.specs.Lines.{LinesAreForFaults};
+ghost use Rattle.laws_flat.specs.Order.{FlatsAreOrdered};
+ghost use Rattle.laws_flat.specs.Uses.{UsesAreNamed};
 
-/// A document stands for the same with other values where no IS takes them, if these declare as
-/// much.
-pub fn untaken_values_dont_matter()
-    ensures { UntakenValuesDontMatter }
+/// What a flat document names stands in it, and what a node holds has a lower number.
+pub fn flats_are_ordered()
+    ensures { FlatsAreOrdered }
 {}
 
-/// Documents that differ in values alone that no IS takes, and in which stand no PROTO and no
-/// instance, stand for the same.
-pub fn untaken_plain_values_dont_matter()
-    ensures { UntakenPlainValuesDontMatter }
+/// The flat form of a document without instances has a node for each pair of braces, in the order
+/// in which these close, with the type that the word before the braces names, and the name of its
+/// DEF.
+pub fn nodes_close()
+    ensures { NodesClose }
 {}
 
-/// A document stands for the same with other names of prototypes.
-pub fn names_of_prototypes_dont_matter()
-    ensures { NamesOfPrototypesDontMatter }
+/// Documents that differ in lines alone have flat forms that do, or faults of one kind.
+pub fn lines_are_for_faults()
+    ensures { LinesAreForFaults }
 {}
 
-/// What a document without PROTO stands for is read plainly: each pair of braces is a node.
-pub fn plain_documents_are_themselves()
-    ensures { PlainDocumentsAreThemselves }
-{}
-
-/// An instance is its prototype's body written in its place: of a prototype without interface whose
-/// body is one node, anywhere in a text without other prototypes, USE and ROUTE.
-pub fn instances_are_their_bodies()
-    ensures { InstancesAreTheirBodies }
+/// The flat form of a document without instances has each node in its place: between its braces or
+/// as a root, where each USE is the nearest node before it of that name whose braces are closed.
+pub fn uses_are_named()
+    ensures { UsesAreNamed }
 {}

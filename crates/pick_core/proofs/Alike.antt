@@ -12,7 +12,7 @@ use Rattle.pick_core.specs.Looks.{kind_as, kind_of, motion_of, choice_of}
 use Rattle.pick_core.specs.Motion.{box_of, moved_at, moved_by, moved_box}
 use Rattle.pick_core.specs.Sites.{Site, IsAlike, AreAlike, IsSameBut, allows, allows_as, is_shown, is_shown_from_roots, row_of, rows_of, shows, sites}
 use Rattle.pick_core.specs.Trail.{carried}
-use Rattle.box_entry.specs.declared.bounds.Bounds.{Bounds}
+use Rattle.pick_rules.specs.declared.bounds.Bounds.{Bounds}
 use Rattle.pick_core.specs.declared.look.Kind.{Kind}
 use Rattle.pick_core.specs.declared.look.Kind.TheVariants.{Group, Transform, Switch, Shape, Other}
 use Rattle.pick_core.specs.declared.row.Row.{Row}

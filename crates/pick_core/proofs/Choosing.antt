@@ -5,13 +5,13 @@ use Rattle.x3d_values.specs.declared.fields.Fields.{Fields}
 use Rattle.x3d_values.specs.Pointing.{Sight}
 use Rattle.scene_core.specs.Scene.{SceneView}
 use Rattle.pick_core.specs.Boxes.{Placed, boxes}
-use Rattle.box_entry.specs.Entry.{entry_of}
-use Rattle.box_entry.specs.Hits.{IsMissed, IsEntered}
+use Rattle.pick_rules.specs.Entry.{entry_of}
+use Rattle.pick_rules.specs.Hits.{IsMissed, IsEntered}
 use Rattle.pick_core.specs.Nearest.{IsPicked}
 use Rattle.pick_core.specs.Picked.{is_nearer, hit_at, closer, nearer, picked}
-use Rattle.box_entry.specs.declared.bounds.Fraction.{Fraction}
+use Rattle.pick_rules.specs.declared.bounds.Fraction.{Fraction}
 use Rattle.pick_core.specs.declared.hit.Hit.{Hit}
-use Rattle.box_entry.proofs.Entering.{entry-is}
+use Rattle.pick_rules.proofs.Entering.{entry-is}
 use Rattle.pick_core.proofs.Order.{order-boxes}
 use Rattle.pick_core.proofs.Picking.{Continues, IsNearer, continues-none, continues-append, continues-missed, continues-behind, continues-nearer, picked-all}
 

@@ -5,6 +5,7 @@ pub mod Moves
 pub mod Order
 pub mod Passed
 pub mod Picking
+pub mod Renewed
 pub mod Rows
 pub mod SameLocal
 pub mod Seen

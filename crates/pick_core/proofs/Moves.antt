@@ -1,12 +1,12 @@
 -- What fits in the arithmetic of transforms.
-use Rattle.std.proofs.Common.{◌≡◌, ℕ, ◌-◌, ◌^◌, ◌<◌, ◌≤◌, ℤ, pos, negsuc, neg_ℤ, ◌+ℤ◌, ◌-ℤ◌, ◌*ℤ◌, ap, sym, subst, unsigned_abs, arith, div-le_self, mul-le-mul}
+use Rattle.std.proofs.Common.{◌≡◌, ℕ, zero, suc, ◌∙◌, ◌*◌, ◌/◌, ◌-◌, ◌^◌, ◌<◌, ◌≤◌, ℤ, pos, negsuc, neg_ℤ, ◌+ℤ◌, ◌-ℤ◌, ◌*ℤ◌, ap, sym, subst, unsigned_abs, arith, div-le_self, mul-le-mul}
 use Rattle.std.proofs.lemmas.Int.{ints, clamps, fits_signed_mul, fits_signed_from_abs, unsigned_abs-mul}
 use Rattle.std.specs.Int.{int_div_euclid}
 use mir.Syntax.{w64, w128}
 use mir.Val.{Fits, SFits, to_z}
 use mir.ValLaws.{to_z_pos}
 use Rattle.pick_core.specs.Motion.{clamped, half}
-pub use Rattle.box_entry.proofs.Wide.{abs_within, wide, difference_fits}
+pub use Rattle.pick_rules.proofs.Wide.{abs_within, wide, difference_fits}
 
 pub product_fits : (s a b : ℤ) → SFits w64 s → SFits w64 a → SFits w64 b → SFits w128 (s *ℤ (a -ℤ b))
 product_fits s a b e f g =
@@ -19,6 +19,20 @@ quotient_small (negsuc a) h = omega arith
 pub sum_fits : (t c q : ℤ) → SFits w64 t → SFits w64 c → unsigned_abs q ≤ 2 ^ 108 → SFits w128 (t +ℤ c +ℤ q)
 sum_fits t c (pos q) e f g = fits_signed_from_abs w128 (t +ℤ c +ℤ pos q) (let k : unsigned_abs (t +ℤ c +ℤ pos q) ≤ 2 ^ 109 = abs_within (t +ℤ c +ℤ pos q) (2 ^ 109) (omega (arith, ints)) (omega (arith, ints)) in omega arith)
 sum_fits t c (negsuc q) e f g = fits_signed_from_abs w128 (t +ℤ c +ℤ negsuc q) (let k : unsigned_abs (t +ℤ c +ℤ negsuc q) ≤ 2 ^ 109 = abs_within (t +ℤ c +ℤ negsuc q) (2 ^ 109) (omega (arith, ints)) (omega (arith, ints)) in omega arith)
+
+pub short_fits : (z : ℤ) → unsigned_abs z < 2 ^ 63 → SFits w64 z
+short_fits z h = fits_signed_from_abs w64 z (omega arith)
+
+below_zero : (n whole : ℕ) → 0 < n → int_div_euclid (neg_ℤ (pos n)) (pos whole) ≡ negsuc ((n - 1) / whole)
+below_zero zero whole h = absurd (omega arith)
+below_zero (suc n) whole h = let e : n ≡ suc n - 1 = omega arith in ap (λ k. negsuc (k / whole)) e
+
+-- what the scale 1 leaves as it is
+pub unscaled : (z : ℤ) → int_div_euclid (pos 1000000 *ℤ z) (pos 1000000) ≡ z
+unscaled (pos n) = let e : 1000000 * n / 1000000 ≡ n = omega arith in ap pos e
+unscaled (negsuc n) =
+    let e : (1000000 * suc n - 1) / 1000000 ≡ n = omega arith in
+    below_zero (1000000 * suc n) 1000000 (omega arith) ∙ ap negsuc e
 
 pub clamped_fits : (z : ℤ) → SFits w64 (clamped z)
 clamped_fits z = fits_signed_from_abs w64 (clamped z) (let k : unsigned_abs (clamped z) ≤ 10 ^ 15 = abs_within (clamped z) (10 ^ 15) (omega (arith, ints, clamps)) (omega (arith, ints, clamps)) in omega arith)

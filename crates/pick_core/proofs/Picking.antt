@@ -2,13 +2,13 @@
 use Rattle.std.proofs.Common.{◌≡◌, ℕ, ◌*◌, ◌<◌, ◌≤◌, inl, inr, List, [], ◌∷◌, ◌++◌, Option, Some, None, sym, subst, arith, append_assoc, append-nil}
 use Rattle.std.specs.List.{AllByRecursion}
 use Rattle.pick_core.specs.Boxes.{Placed}
-use Rattle.box_entry.specs.Hits.{IsMissed, IsEntered}
+use Rattle.pick_rules.specs.Hits.{IsMissed, IsEntered}
 use Rattle.pick_core.specs.Nearest.{IsPathBefore, IsReached, IsNotBehind, IsPicked}
 use Rattle.x3d_values.specs.Pointing.{Sight}
-use Rattle.box_entry.specs.declared.bounds.Fraction.{Fraction}
+use Rattle.pick_rules.specs.declared.bounds.Fraction.{Fraction}
 use Rattle.pick_core.specs.declared.hit.Hit.{Hit}
 use Rattle.std.proofs.lemmas.Bool.{cases_lt}
-use Rattle.box_entry.proofs.Fractions.{fraction_trans}
+use Rattle.pick_rules.proofs.Fractions.{fraction_trans}
 
 -- the paths rise
 abbrev pub AreInOrder : List Placed → Type 0

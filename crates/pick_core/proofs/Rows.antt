@@ -8,7 +8,7 @@ use Rattle.x3d_values.specs.declared.vector.Vec3.{Vec3}
 use Rattle.scene_core.specs.Scene.{SceneView}
 use Rattle.pick_core.specs.Looks.{kind_of, choice_of}
 use Rattle.pick_core.specs.Motion.{box_of, moved_at, moved_by}
-use Rattle.box_entry.specs.declared.bounds.Bounds.{Bounds}
+use Rattle.pick_rules.specs.declared.bounds.Bounds.{Bounds}
 use Rattle.pick_core.specs.Trail.{carried}
 use Rattle.pick_core.specs.Sites.{Site, row_of, rows_of, placed_row, shown_rows, fresh, is_shown, is_shown_from_roots, allows, allows_as, touches, renewed, sites, IsSameBut}
 use Rattle.pick_core.specs.declared.row.Row.{Row}

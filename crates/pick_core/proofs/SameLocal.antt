@@ -12,7 +12,7 @@ use Rattle.scene_core.specs.Scene.{SceneView}
 use Rattle.pick_core.specs.Local.{reached, point_of, local_along, or_world, local_of}
 use Rattle.pick_core.specs.Motion.{clamped}
 use Rattle.pick_core.specs.declared.hit.Hit.{Hit}
-use Rattle.box_entry.proofs.Fractions.{slope_backward}
+use Rattle.pick_rules.proofs.Fractions.{slope_backward}
 
 parts : (a b : ℕ) → 0 < b → a / b * b + a % b ≡ a
 parts a b h = grind arith

@@ -10,7 +10,7 @@ use Rattle.pick_core.specs.Motion.{moved_at}
 use Rattle.pick_core.specs.Sites.{Site, site_under, site_layer, sites_in, sites, row_of, row_at, rows_of}
 use Rattle.pick_core.specs.Spread.{spread}
 use Rattle.pick_core.specs.Trail.{carried, positions, raised}
-use Rattle.box_entry.specs.declared.bounds.Bounds.{Bounds}
+use Rattle.pick_rules.specs.declared.bounds.Bounds.{Bounds}
 use Rattle.pick_core.specs.declared.trail.Place.{Place}
 
 -- ---- what stands side by side

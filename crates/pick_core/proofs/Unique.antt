@@ -5,12 +5,12 @@ use Rattle.std.proofs.lemmas.Int.{ints}
 use Rattle.std.specs.List.{AllByRecursion}
 use borrow.Author.Differences.{up, down}
 use Rattle.pick_core.specs.Boxes.{Placed}
-use Rattle.box_entry.specs.Hits.{IsCrossed, IsHit}
+use Rattle.pick_rules.specs.Hits.{IsCrossed, IsHit}
 use Rattle.pick_core.specs.Nearest.{IsPathBefore, IsPathUpTo, IsReached, IsNotBehind, IsNearest}
-use Rattle.box_entry.specs.declared.bounds.Bounds.{Bounds}
+use Rattle.pick_rules.specs.declared.bounds.Bounds.{Bounds}
 use Rattle.x3d_values.specs.Pointing.{Sight}
 use Rattle.pick_core.specs.declared.hit.Hit.{Hit}
-use Rattle.box_entry.proofs.Fractions.{mul_parts}
+use Rattle.pick_rules.proofs.Fractions.{mul_parts}
 
 -- six products on each side, at one fraction and at another of the same value
 same_value : (a b c d e f n m n' m' : ℕ) → 0 < m → n * m' ≡ n' * m → m * a + (m * b + n * c) ≤ m * d + (n * e + m * f) → m' * a + (m' * b + n' * c) ≤ m' * d + (n' * e + m' * f)

@@ -11,9 +11,9 @@ use Rattle.x3d_values.specs.declared.vector.Vec3.{Vec3}
 use Rattle.x3d_values.specs.Pointing.{Sight}
 use Rattle.x3d_values.specs.Ranges.{coordinate_fits, coordinates_fit}
 use Rattle.scene_core.specs.Scene.{SceneView}
-use Rattle.box_entry.specs.Hits.{IsCrossed, IsHit}
-use Rattle.box_entry.specs.declared.bounds.Bounds.{Bounds}
-use Rattle.box_entry.proofs.Fractions.{mul_parts}
+use Rattle.pick_rules.specs.Hits.{IsCrossed, IsHit}
+use Rattle.pick_rules.specs.declared.bounds.Bounds.{Bounds}
+use Rattle.pick_rules.proofs.Fractions.{mul_parts}
 use Rattle.pick_core.specs.Boxes.{Placed, boxes, inside, layer, shown, shown_child, under}
 use Rattle.pick_core.specs.Local.{on_axis, on_ray, point_of, reached}
 use Rattle.pick_core.specs.Looks.{choice_of, kind_of, listed, motion_of}

@@ -5,6 +5,7 @@ pub mod Motion
 pub mod Nearest
 pub mod Numbers
 pub mod Picked
+pub mod Renewal
 pub mod Sensors
 pub mod Sites
 pub mod Spread

@@ -5,7 +5,7 @@ use Rattle.std.specs.Int.{int_min, int_max, int_div_euclid}
 use Rattle.x3d_values.specs.declared.fields.Fields.{Fields}
 use Rattle.x3d_values.specs.declared.vector.Vec3.{Vec3}
 use Rattle.scene_core.specs.Scene.{SceneView}
-use Rattle.box_entry.specs.declared.bounds.Bounds.{Bounds}
+use Rattle.pick_rules.specs.declared.bounds.Bounds.{Bounds}
 use Rattle.pick_core.specs.declared.look.Kind.{Kind}
 use Rattle.pick_core.specs.declared.look.Kind.TheVariants.{Group, Transform, Switch, Shape, Other}
 use Rattle.pick_core.specs.declared.look.Motion.{Motion}

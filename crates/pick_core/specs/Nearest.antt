@@ -2,7 +2,7 @@
 use Rattle.std.specs.Prelude.{◌≡◌, ℕ, ◌*◌, ◌<◌, ◌≤◌, ◌⊎◌, List, [], ◌∷◌, Option, MatchOption}
 use Rattle.std.specs.List.{AllByRecursion}
 use Rattle.x3d_values.specs.Pointing.{Sight}
-use Rattle.box_entry.specs.Hits.{IsHit, IsMissed}
+use Rattle.pick_rules.specs.Hits.{IsHit, IsMissed}
 use Rattle.pick_core.specs.Boxes.{Placed}
 use Rattle.pick_core.specs.declared.hit.Hit.{Hit}
 

@@ -5,9 +5,9 @@ use Rattle.x3d_values.specs.declared.fields.Fields.{Fields}
 use Rattle.x3d_values.specs.Pointing.{Sight}
 use Rattle.scene_core.specs.Scene.{SceneView}
 use Rattle.pick_core.specs.Boxes.{Placed, boxes}
-use Rattle.box_entry.specs.Entry.{entry_of}
+use Rattle.pick_rules.specs.Entry.{entry_of}
 use Rattle.pick_core.specs.Nearest.{IsPicked}
-use Rattle.box_entry.specs.declared.bounds.Fraction.{Fraction}
+use Rattle.pick_rules.specs.declared.bounds.Fraction.{Fraction}
 use Rattle.pick_core.specs.declared.hit.Hit.{Hit}
 
 abbrev pub is_nearer : Fraction → Option Hit → Bool

@@ -4,7 +4,7 @@ use Rattle.x3d_values.specs.declared.fields.Fields.{Fields}
 use Rattle.scene_core.specs.Scene.{SceneView}
 use Rattle.pick_core.specs.Boxes.{Placed}
 use Rattle.pick_core.specs.Motion.{moved_at}
-use Rattle.box_entry.specs.declared.bounds.Bounds.{Bounds}
+use Rattle.pick_rules.specs.declared.bounds.Bounds.{Bounds}
 use Rattle.pick_core.specs.declared.trail.Place.{Place}
 
 -- a box at the end of a trail, in the world

@@ -8,25 +8,31 @@ ghost use Rattle.pick_core.specs.Sites as spec;
 use crate::gather::gathered;
 use crate::hit::Hit;
 use crate::nearest::keep_nearer;
-use crate::row::{Row, refresh_all, renew_rows};
+use crate::renewal::{ranges_of, renew_ranges};
+use crate::row::{Row, refresh_all};
+use pick_ranges::{RowRanges, first_place};
 use scene_core::Scene;
 use std::alloc::{AllocError, Global};
 use std::marker::Model;
 use x3d_values::{Fields, Ray};
 
-/// The boxes of a scene in a state.
+/// The boxes of a scene in a state, and for each node which of them stand below it.
 #[derive(Drop)]
 pub struct BoxCache {
     rows: Vec<Row>,
+    ranges: RowRanges,
 }
 
 impl Model for BoxCache {
     ghost use Rattle.std.specs.Prelude.{List};
     ghost use Rattle.pick_core.specs.declared.row.Row.{Row};
+    ghost use Rattle.pick_core.specs.Renewal.{AreRangesOf};
 
     ghost Value = { List Row };
 
     ghost view = { λ c. c.rows.items };
+
+    ghost invariant = { λ c. AreRangesOf c.ranges c.rows.items };
 }
 
 impl BoxCache {
@@ -42,9 +48,9 @@ impl BoxCache {
     pub fn new(alloc: Global, scene: &Scene, state: &[Fields]) -> Result<BoxCache, AllocError>
         ensures { IfOk result (λ cache. cache ≡ spec.rows_of scene.now state.now) }
     {
-        Ok(BoxCache {
-            rows: gathered(alloc, scene, state)?,
-        })
+        let rows = gathered(alloc, scene, state)?;
+        let ranges = ranges_of(alloc, rows.as_slice())?;
+        Ok(BoxCache { rows, ranges })
     }
 
     /// The nearest box that the ray hits, in the state for which the cache stands. It takes no
@@ -59,12 +65,14 @@ impl BoxCache {
     }
 
     /// Where the cache stood for a state that differs from this one at most at the node, it stands
-    /// for this one. It takes no memory.
+    /// for this one. It looks at the boxes below the node alone, and takes no memory.
     pub fn renew(&mut self, scene: &Scene, state: &[Fields], node: u32)
         ensures { (before : List FieldsOf) → self.old ≡ spec.rows_of scene.now before
             → spec.IsSameBut node before state.now → self.new ≡ spec.rows_of scene.now state.now }
     {
-        renew_rows(scene, state, node, self.rows.as_mut_slice());
+        let first = first_place(&self.ranges, node);
+        let ranges = self.ranges.ranges.as_slice();
+        renew_ranges(scene, state, node, ranges, first, self.rows.as_mut_slice());
     }
 
     /// Where the cache stood for any state of the scene, it stands for this one. It takes no

@@ -11,12 +11,12 @@ mod look;
 mod motion;
 mod nearest;
 mod numbers;
+mod renewal;
 mod row;
 mod sensors;
 mod trail;
 mod walk;
 
-pub use box_entry::{Bounds, Fraction};
 pub use cache::BoxCache;
 pub use hit::{Hit, Path};
 pub use laws::{
@@ -24,6 +24,7 @@ pub use laws::{
     picks_nearest_law,
 };
 pub use local::local_point;
+pub use pick_rules::{Bounds, Fraction};
 pub use row::Row;
 pub use sensors::{MAX_SENSORS, is_enabled, sensors_of};
 pub use trail::Place;

@@ -1,13 +1,20 @@
 //! Boxes in the systems round transforms.
 
-ghost use Rattle.std.specs.Prelude.{◌≡◌};
+ghost use Rattle.std.specs.Prelude.{◌≡◌, ◌^◌, ◌<◌, ◌≤◌, true, pos, ◌-ℤ◌, ◌*ℤ◌, unsigned_abs};
+ghost use Rattle.std.specs.Int.{int_div_euclid};
 ghost use Rattle.std.specs.Option.{option_copied};
 ghost use Rattle.pick_core.specs.Motion.{along_of, clamped, moved_at, moved, moved_box, box_of, sides_along};
 
 use crate::look::{Kind, Motion, kind_of, motion_of};
-use box_entry::Bounds;
+use pick_rules::Bounds;
 use scene_core::Scene;
 use x3d_values::{Fields, Vec3};
+
+/// The scale that changes nothing, in millionths.
+const ONE: i64 = 1_000_000;
+
+/// Numbers below it need 64 bits, with their sign.
+const SHORT: u128 = 1 << 63;
 
 /// The largest size of a coordinate.
 const LIMIT: i128 = 1_000_000_000_000_000;
@@ -38,9 +45,36 @@ fn moved_box(motion: Motion, bounds: Bounds) -> Bounds
 fn along(translation: i64, scale: i64, center: i64, at: i64) -> i64
     ensures { result ≡ along_of translation scale center at }
 {
-    let product = scale as i128 * (at as i128 - center as i128);
-    let sum = translation as i128 + center as i128 + product.div_euclid(1_000_000);
-    sum.clamp(-LIMIT, LIMIT) as i64
+    clamped(translation as i128 + center as i128 + scaled(scale, center, at))
+}
+
+/// How far a coordinate lies from the centre of a transform, scaled, rounded down.
+fn scaled(scale: i64, center: i64, at: i64) -> i128
+    ensures value { result ≡ int_div_euclid (scale *ℤ (at -ℤ center)) (pos 1000000) }
+    ensures fits { unsigned_abs result ≤ 2 ^ 108 }
+{
+    let away = at as i128 - center as i128;
+    if scale == ONE {
+        return away;
+    }
+    millionth(scale as i128 * away)
+}
+
+/// Whether 64 bits hold a number.
+fn is_short(number: i128) -> bool
+    ensures { result ≡ true → unsigned_abs number < 2 ^ 63 }
+{
+    number.unsigned_abs() < SHORT
+}
+
+/// Rounded down. A number of 64 bits is divided as one, for which the processor needs no division.
+fn millionth(number: i128) -> i128
+    ensures { result ≡ int_div_euclid number (pos 1000000) }
+{
+    if is_short(number) {
+        return (number as i64).div_euclid(1_000_000) as i128;
+    }
+    number.div_euclid(1_000_000)
 }
 
 /// At most 10^15 in size.

@@ -6,7 +6,7 @@ ghost use Rattle.pick_core.specs.Trail.{positions};
 
 use crate::hit::{Hit, Path};
 use crate::trail::Place;
-use box_entry::{Bounds, Fraction, entry, is_less};
+use pick_rules::{Bounds, Fraction, entry, is_less};
 use x3d_values::Ray;
 
 /// Keeps the hit of a box at the end of a trail where it is nearer than the best.

@@ -6,7 +6,7 @@ ghost use Rattle.pick_core.specs.Sites as spec;
 use crate::look::{Kind, choice_of, kind_of};
 use crate::motion::box_round;
 use crate::trail::{Place, Trail, carry};
-use box_entry::Bounds;
+use pick_rules::Bounds;
 use scene_core::Scene;
 use std::alloc::{AllocError, Global};
 use x3d_values::{Fields, Vec3};
@@ -107,19 +107,11 @@ fn touches(node: u32, trail: &[Place]) -> bool
     trail.iter().any(|place| place.node == node)
 }
 
-fn renew_row(scene: &Scene, state: &[Fields], node: u32, row: &mut Row)
+/// The row then is that of this state, where it leads through the node.
+pub(crate) fn renew_row(scene: &Scene, state: &[Fields], node: u32, row: &mut Row)
     ensures { row.new ≡ spec.renewed scene.now state.now node row.old }
 {
     if touches(node, row.trail.as_slice()) {
         refresh(scene, state, row);
-    }
-}
-
-/// The rows that lead through the node then are those of this state.
-pub(crate) fn renew_rows(scene: &Scene, state: &[Fields], node: u32, rows: &mut [Row])
-    ensures { rows.new ≡ map (spec.renewed scene.now state.now node) rows.old }
-{
-    for row in rows.iter_mut() {
-        renew_row(scene, state, node, row);
     }
 }

@@ -4,7 +4,7 @@ ghost use Rattle.std.specs.Prelude.{◌≡◌};
 ghost use Rattle.pick_core.specs.Trail.{carried};
 
 use crate::motion::move_box;
-use box_entry::Bounds;
+use pick_rules::Bounds;
 use scene_core::Scene;
 use std::alloc::{AllocError, Global};
 use std::marker::Model;

@@ -3,7 +3,7 @@ use Rattle.std.proofs.Common.{◌-◌, ◌^◌, ◌≤◌, ℤ, ◌-ℤ◌, ◌*
 use Rattle.std.proofs.lemmas.Int.{ints, unsigned_abs-mul}
 use mir.Syntax.{w64}
 use mir.Val.{SFits}
-use Rattle.box_entry.proofs.Wide.{abs_within}
+use Rattle.pick_rules.proofs.Wide.{abs_within}
 
 -- a part of a direction times a difference of heights
 pub product_small : (s a b : ℤ) → SFits w64 s → SFits w64 a → SFits w64 b → unsigned_abs (s *ℤ (a -ℤ b)) ≤ 2 ^ 127 - 2 ^ 63

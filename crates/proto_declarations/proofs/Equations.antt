@@ -19,9 +19,9 @@ use Rattle.classic_tree.specs.declared.tree.Statement.{Statement, fold-roll-Stat
 use Rattle.classic_tree.specs.declared.tree.Statement.TheVariants as tree_statement
 use Rattle.classic_tree.specs.declared.tree.ProtoText.{ProtoText, out-ProtoText, fold_out-ProtoText}
 use Rattle.classic_tree.proofs.Mapped.{given_mapped, declaration_mapped, interface_mapped}
-use Rattle.flat_document.specs.Fault.{fault}
-use Rattle.flat_document.specs.declared.fault.ExpandFault.{ExpandFault}
-use Rattle.flat_document.specs.declared.fault.ExpandFaultKind.TheVariants.{ProtoTwice, EmptyBody}
+use Rattle.proto_flat.specs.Fault.{fault}
+use Rattle.proto_flat.specs.declared.fault.ExpandFault.{ExpandFault}
+use Rattle.proto_flat.specs.declared.fault.ExpandFaultKind.TheVariants.{ProtoTwice, EmptyBody}
 use Rattle.proto_declarations.specs.Sight.{Sight, in_sight, no_names, Step, and_then, through}
 use Rattle.proto_declarations.specs.Meaning.{Part, Search, plain, this, through_value, finds_given, given_does, finds_in_node, item_does, taken_by, node_does, opened, closed, is_known, unless_found, finds_inside, finds_in_proto, inside_does, enters, has_node, checked, declares, item_step, node_step, statement_step, proto_step, item, node, statement, proto}
 

@@ -5,8 +5,8 @@ use Rattle.std.proofs.lemmas.List.{map-append, length-map}
 use Rattle.classic_tree.specs.declared.tree.Declaration.{Declaration}
 use Rattle.classic_tree.specs.declared.tree.NodeText.{NodeText}
 use Rattle.classic_tree.specs.declared.tree.Statement.{Statement}
-use Rattle.flat_document.specs.Fault.{memory}
-use Rattle.flat_document.specs.declared.fault.ExpandFault.{ExpandFault}
+use Rattle.proto_flat.specs.Fault.{memory}
+use Rattle.proto_flat.specs.declared.fault.ExpandFault.{ExpandFault}
 use Rattle.proto_declarations.specs.declared.sight.Taken.{Taken}
 use Rattle.proto_declarations.specs.declared.sight.Table.{Table}
 use Rattle.proto_declarations.specs.declared.sight.Declarations.{Declarations}

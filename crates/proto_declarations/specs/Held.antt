@@ -1,10 +1,11 @@
 -- What the code holds, as the definitions see it.
 use Rattle.std.specs.Prelude.{◌≡◌, ◌⊎◌, ℕ, List, [], ◌∷◌, ◌++◌, length, map, Option, option_map, Result, Ok, Err}
-use Rattle.std.specs.Str.{bytes_eq}
-use Rattle.indexmap.specs.IndexMap.{get_by}
-use Rattle.indexmap.specs.IndexSet.{contains_by}
-use Rattle.flat_document.specs.Fault.{memory}
-use Rattle.flat_document.specs.declared.fault.ExpandFault.{ExpandFault}
+use Rattle.std.specs.BTreeMap.{get_by}
+use Rattle.std.specs.BTreeSet.{contains_by}
+use Rattle.std.specs.Cmp.Lexicographic.{slice_cmp}
+use Rattle.std.specs.Ordering.{nat_cmp}
+use Rattle.proto_flat.specs.Fault.{memory}
+use Rattle.proto_flat.specs.declared.fault.ExpandFault.{ExpandFault}
 use Rattle.proto_declarations.specs.declared.sight.Taken.{Taken}
 use Rattle.proto_declarations.specs.declared.sight.Taker.{Taker}
 use Rattle.proto_declarations.specs.declared.sight.Prototype.{Prototype}
@@ -14,7 +15,7 @@ use Rattle.proto_declarations.specs.Sight.{Names, no_names, Definition, Scope, n
 
 -- the set as a function
 unfoldable pub names_of : Taken → Names
-names_of taken name = contains_by (λ k. bytes_eq name k.now) taken.names
+names_of taken name = contains_by (λ k. slice_cmp nat_cmp name k.now) taken.names
 
 abbrev pub taken_names : Taker → Option Names
 taken_names taker = option_map (λ t. names_of t.value) taker.taken
@@ -24,7 +25,7 @@ definition_of prototype = record { takes = names_of prototype.takes.value; body 
 
 -- the map as a function
 unfoldable pub scope_of : Table → Scope
-scope_of table name = option_map definition_of (get_by (λ k. bytes_eq name k.now) table.prototypes)
+scope_of table name = option_map definition_of (get_by (λ k. slice_cmp nat_cmp name k.now) table.prototypes)
 
 -- all in sight in these scopes, where the nearest stands last
 abbrev pub seen : List Table → Scope

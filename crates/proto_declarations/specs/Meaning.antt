@@ -14,9 +14,9 @@ use Rattle.classic_tree.specs.declared.tree.NodeText.{NodeText, fold-NodeText}
 use Rattle.classic_tree.specs.declared.tree.Statement.{Statement, fold-Statement}
 use Rattle.classic_tree.specs.declared.tree.ProtoText.{ProtoText, fold-ProtoText}
 use Rattle.classic_tree.specs.declared.tree.Document.{Document}
-use Rattle.flat_document.specs.Fault.{fault}
-use Rattle.flat_document.specs.declared.fault.ExpandFault.{ExpandFault}
-use Rattle.flat_document.specs.declared.fault.ExpandFaultKind.TheVariants.{ProtoTwice, ProtoItself, EmptyBody}
+use Rattle.proto_flat.specs.Fault.{fault}
+use Rattle.proto_flat.specs.declared.fault.ExpandFault.{ExpandFault}
+use Rattle.proto_flat.specs.declared.fault.ExpandFaultKind.TheVariants.{ProtoTwice, ProtoItself, EmptyBody}
 use Rattle.proto_declarations.specs.Sight.{Names, no_names, with_name, Definition, Scope, no_definitions, with_definition, Sight, in_sight, nothing, Step, and_then, through}
 
 -- A search for a node of one type. It is told whether a PROTO of that name was declared before, in

@@ -1,7 +1,7 @@
 -- What is in sight where a prototype is declared (ISO/IEC 19775-1, PROTO statement).
 use Rattle.std.specs.Prelude.{ℕ, Bool, true, false, if◌then◌else◌, List, [], ◌∷◌, Option, Some, None, Result, Ok, Err}
 use Rattle.std.specs.Str.{bytes_eq}
-use Rattle.flat_document.specs.declared.fault.ExpandFault.{ExpandFault}
+use Rattle.proto_flat.specs.declared.fault.ExpandFault.{ExpandFault}
 
 -- ---- names
 

@@ -10,7 +10,7 @@ use crate::bodies::{close, open};
 use crate::search::find_inside;
 use crate::sight::{Declarations, Taken, Taker};
 use classic_tree::{BodyItem, Declaration, Given, NodeText, ProtoText, RawValue, Statement};
-use flat_document::{ExpandFault, ExpandFaultKind};
+use proto_flat::{ExpandFault, ExpandFaultKind};
 use std::alloc::{AllocError, Global};
 use std::mem;
 use x3d_lists::Text;

@@ -5,15 +5,15 @@ ghost use Rattle.proto_declarations.specs.Sight as spec;
 ghost use Rattle.proto_declarations.specs.Sight.{in_sight};
 ghost use Rattle.proto_declarations.specs.Held.{names_of, definition_of, scope_of, seen, shown};
 
-use indexmap::{IndexMap, IndexSet};
 use std::alloc::{AllocFailed, Global};
+use std::collections::{BTreeMap, BTreeSet};
 use std::rc::Rc;
 use x3d_lists::Text;
 
 /// The names of an interface that some IS of the body takes.
 #[derive(Drop)]
 pub struct Taken<'a> {
-    pub names: IndexSet<&'a str>,
+    pub names: BTreeSet<&'a str>,
 }
 
 /// What stands between the braces of a node goes to the node. That of an instance goes where an IS
@@ -35,7 +35,7 @@ pub struct Prototype<'a> {
 /// The prototypes declared in one scope, by name.
 #[derive(Drop)]
 pub struct Table<'a> {
-    pub prototypes: IndexMap<&'a str, Prototype<'a>>,
+    pub prototypes: BTreeMap<&'a str, Prototype<'a>>,
 }
 
 /// The prototypes of a document up to some place of its text.
@@ -56,7 +56,7 @@ impl<'a> Taken<'a> {
         ensures { names_of result ≡ spec.no_names }
     {
         Taken {
-            names: IndexSet::new(alloc),
+            names: BTreeSet::new(alloc),
         }
     }
 
@@ -81,7 +81,7 @@ impl<'a> Table<'a> {
         ensures { scope_of result ≡ spec.no_definitions }
     {
         Table {
-            prototypes: IndexMap::new(alloc),
+            prototypes: BTreeMap::new(alloc),
         }
     }
 

@@ -1,7 +1,7 @@
 //! The prototypes of a whole document.
 
 ghost use Rattle.std.specs.Prelude.{◌≡◌, [], IfOk};
-ghost use Rattle.flat_document.specs.Fault.{memory};
+ghost use Rattle.proto_flat.specs.Fault.{memory};
 ghost use Rattle.x3d_lists.specs.Answers.{Gives};
 ghost use Rattle.proto_declarations.specs.Meaning as spec;
 ghost use Rattle.proto_declarations.specs.Meaning.{declared};
@@ -10,7 +10,7 @@ ghost use Rattle.proto_declarations.specs.Held.{names_of, shown};
 use crate::check;
 use crate::sight::Declarations;
 use classic_tree::{Document, ProtoText, Statement};
-use flat_document::ExpandFault;
+use proto_flat::ExpandFault;
 use std::alloc::Global;
 
 impl<'a> Declarations<'a> {

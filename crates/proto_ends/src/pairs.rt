@@ -2,12 +2,12 @@
 
 ghost use Rattle.std.specs.Prelude.{◌≡◌, ◌++◌, ◌*◌, ◌-◌, ◌∷◌, [], List, ℕ, length, map, nat_lt, not, slice_get, IfOk};
 ghost use Rattle.x3d_lists.specs.Answers.{Gives};
-ghost use Rattle.flat_document.specs.Fault.{memory};
+ghost use Rattle.proto_flat.specs.Fault.{memory};
 ghost use Rattle.proto_ends.specs.Pairs as spec;
 
 use crate::ends::{Joint, Spot, Stand, Tip, Wire};
 use crate::spots;
-use flat_document::{ExpandFault, ExpandFaultKind, FlatEnd, FlatRoute};
+use proto_flat::{ExpandFault, ExpandFaultKind, FlatEnd, FlatRoute};
 use std::alloc::{AllocError, Global};
 use x3d_lists::{Duplicate, Items, Text};
 

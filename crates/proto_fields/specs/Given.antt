@@ -1,6 +1,7 @@
 -- What the table of given values holds. None of this is part of a definition.
 use Rattle.std.specs.Prelude.{◌≡◌, ℕ, ◌==◌, if◌then◌else◌, List, Option, Some, None}
-use Rattle.indexmap.specs.IndexMap.{get_by}
+use Rattle.std.specs.BTreeMap.{get_by}
+use Rattle.std.specs.Ordering.{nat_cmp}
 use Rattle.proto_fields.specs.declared.given.GivenField.{GivenField}
 use Rattle.proto_fields.specs.declared.given.ValueTable.{ValueTable}
 use Rattle.proto_fields.specs.Owners.{has_field, value_of}
@@ -11,7 +12,7 @@ ByNumber = ℕ → Option (Option ℕ)
 
 -- the map as a function
 unfoldable pub values_of : ValueTable → ByNumber
-values_of v number = get_by (λ k. number == k) v.values
+values_of v number = get_by (nat_cmp number) v.values
 
 abbrev pub no_values : ByNumber
 no_values number = None

@@ -2,7 +2,9 @@
 use Rattle.std.specs.Prelude.{◌≡◌, ℕ, if◌then◌else◌, List, [], Option, Some, None, Result, Ok, Err}
 use Rattle.std.specs.Option.{option_or}
 use Rattle.std.specs.Str.{bytes_eq}
-use Rattle.indexmap.specs.IndexMap.{get_by}
+use Rattle.std.specs.BTreeMap.{get_by}
+use Rattle.std.specs.Cmp.Lexicographic.{slice_cmp}
+use Rattle.std.specs.Ordering.{nat_cmp}
 use Rattle.classic_tree.specs.declared.tree.Declaration.{Declaration}
 use Rattle.classic_tree.specs.declared.tree.NodeText.{NodeText}
 use Rattle.proto_declarations.specs.Sight.{no_names}
@@ -17,7 +19,7 @@ Fields = List ℕ → Option KnownField
 
 -- the map as a function
 unfoldable pub fields_of : Named → Fields
-fields_of named name = get_by (λ k. bytes_eq name k.now) named.fields
+fields_of named name = get_by (λ k. slice_cmp nat_cmp name k.now) named.fields
 
 abbrev pub no_fields : Fields
 no_fields name = None

@@ -6,8 +6,8 @@ ghost use Rattle.proto_fields.specs.declared.given.GivenField.{GivenField};
 ghost use Rattle.proto_fields.specs.Given.{values_of, no_values, with_value, with_given, IsIndexed};
 ghost use Rattle.proto_fields.specs.Owners as spec;
 
-use indexmap::IndexMap;
 use std::alloc::{AllocError, AllocFailed, Global};
+use std::collections::BTreeMap;
 use std::marker::Model;
 use std::mem;
 use x3d_lists::Items;
@@ -48,7 +48,7 @@ pub struct Joined {
 /// The value of each field that was given something, by the field's number.
 #[derive(Drop)]
 pub struct ValueTable {
-    pub values: IndexMap<usize, Option<usize>>,
+    pub values: BTreeMap<usize, Option<usize>>,
 }
 
 impl ValueTable {
@@ -56,7 +56,7 @@ impl ValueTable {
         ensures { values_of result ≡ no_values }
     {
         ValueTable {
-            values: IndexMap::new(alloc),
+            values: BTreeMap::new(alloc),
         }
     }
 

@@ -6,14 +6,14 @@ ghost use Rattle.proto_fields.specs.Tables.{added, fields_of, no_fields, with_na
 
 use crate::given::KnownField;
 use classic_tree::{Declaration, NodeText};
-use indexmap::IndexMap;
 use std::alloc::{AllocError, AllocFailed, Global};
+use std::collections::BTreeMap;
 use x3d_lists::Text;
 
 /// The first field of each name.
 #[derive(Drop)]
 pub struct Named<'a> {
-    pub fields: IndexMap<&'a str, KnownField>,
+    pub fields: BTreeMap<&'a str, KnownField>,
 }
 
 impl<'a> Named<'a> {
@@ -21,7 +21,7 @@ impl<'a> Named<'a> {
         ensures { fields_of result ≡ no_fields }
     {
         Named {
-            fields: IndexMap::new(alloc),
+            fields: BTreeMap::new(alloc),
         }
     }
 

@@ -2,13 +2,13 @@
 
 ghost use Rattle.std.specs.Prelude.{◌≡◌, IfOk, option_map};
 ghost use Rattle.x3d_lists.specs.Answers.{Gives};
-ghost use Rattle.flat_document.specs.Fault.{memory};
+ghost use Rattle.proto_flat.specs.Fault.{memory};
 ghost use Rattle.proto_fields.specs.Plain.{plain};
 ghost use Rattle.proto_fields.specs.Values as spec;
 
 use crate::given::GivenField;
 use classic_tree::{NodeText, RawValue};
-use flat_document::{ExpandFault, ExpandFaultKind, FlatField};
+use proto_flat::{ExpandFault, ExpandFaultKind, FlatField};
 use std::alloc::{AllocError, Global};
 use x3d_lists::{Duplicate, Items};
 

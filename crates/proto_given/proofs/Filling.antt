@@ -7,7 +7,7 @@ use Rattle.std.proofs.lemmas.List.{map-append}
 use Rattle.std.proofs.lemmas.List.Folds.{list_any-append}
 use Rattle.std.proofs.lemmas.Slice.Eq.{bytes_eq-Decides}
 use Rattle.classic_tree.specs.declared.tree.RawValue.{RawValue}
-use Rattle.flat_meaning.specs.Names.{Name, Filled, value_of}
+use Rattle.proto_meaning.specs.Names.{Name, Filled, value_of}
 use Rattle.proto_given.specs.declared.given.Given.{Given}
 use Rattle.proto_given.specs.declared.given.GivenField.{GivenField}
 use Rattle.proto_given.specs.Held.{value_now, filled_of, shown, entry_of, with_entry, value_held, has_name, Holds}

@@ -5,7 +5,7 @@ use Rattle.std.specs.Option.{option_and_then}
 use Rattle.std.specs.Str.{bytes_eq}
 use Rattle.indexmap.specs.IndexMap.{get_by}
 use Rattle.classic_tree.specs.declared.tree.RawValue.{RawValue}
-use Rattle.flat_meaning.specs.Names.{Name, Filled, value_of}
+use Rattle.proto_meaning.specs.Names.{Name, Filled, value_of}
 use Rattle.proto_given.specs.declared.given.Given.{Given}
 use Rattle.proto_given.specs.declared.given.GivenField.{GivenField}
 

@@ -1,7 +1,7 @@
 //! What fields are given, by their names and in the order of the text.
 
 ghost use Rattle.std.specs.Prelude.{◌≡◌, ◌++◌, ◌∷◌, [], List, None, false, option_map, IfOk};
-ghost use Rattle.flat_meaning.specs.Names.{Filled, value_of};
+ghost use Rattle.proto_meaning.specs.Names.{Filled, value_of};
 ghost use Rattle.proto_given.specs.Held.{Holds, entry_of, filled_of, has_name, shown, value_held, with_entry};
 
 use classic_tree::RawValue;

@@ -6,14 +6,14 @@ use Rattle.std.specs.Option.{option_map_or}
 use Rattle.std.specs.Str.{bytes_eq}
 use Rattle.classic_tree.specs.declared.tree.Given.TheVariants as text
 use Rattle.classic_tree.specs.declared.tree.RawValue.{RawValue}
-use Rattle.flat_document.specs.Fault.{fault, memory}
-use Rattle.flat_document.specs.declared.fault.ExpandFault.{ExpandFault}
-use Rattle.flat_document.specs.declared.fault.ExpandFaultKind.TheVariants.{BadIs, FieldTwice}
-use Rattle.flat_meaning.specs.Flat as flat
-use Rattle.flat_meaning.specs.Flat.{◌>>=◌, meet, met_field, pure, note, refuse, fill, fits, give, give_is}
-use Rattle.flat_meaning.specs.Limits.{AField, AnItem, item_count}
-use Rattle.flat_meaning.specs.Names.{Name, Field, value_of}
-use Rattle.flat_meaning.specs.Sight.{Owner, OfType, OfProto, and_see, no_names}
+use Rattle.proto_flat.specs.Fault.{fault, memory}
+use Rattle.proto_flat.specs.declared.fault.ExpandFault.{ExpandFault}
+use Rattle.proto_flat.specs.declared.fault.ExpandFaultKind.TheVariants.{BadIs, FieldTwice}
+use Rattle.proto_meaning.specs.Flat as flat
+use Rattle.proto_meaning.specs.Flat.{◌>>=◌, meet, met_field, pure, note, refuse, fill, fits, give, give_is}
+use Rattle.proto_meaning.specs.Limits.{AField, AnItem, item_count}
+use Rattle.proto_meaning.specs.Names.{Name, Field, value_of}
+use Rattle.proto_meaning.specs.Sight.{Owner, OfType, OfProto, and_see, no_names}
 use Rattle.proto_inside.specs.Held.{fields_in, filled_in}
 use Rattle.proto_inside.specs.declared.inside.Inside.{Inside}
 use Rattle.proto_inside.specs.declared.inside.Owner as holder
@@ -28,7 +28,7 @@ use Rattle.proto_walker.specs.Shown.{Steps}
 use Rattle.proto_walker.proofs.Stepping.{in-turn}
 use Rattle.proto_giving.specs.Giving.{Gives, inside_of, is_type}
 
-stops : {A B : Type 0} (m : flat.Does A) (f : A → flat.Does B) (s : State) (e : ExpandFault) → doing m s ≡ Err e → doing (m >>= f) s ≡ Err e
+pub stops : {A B : Type 0} (m : flat.Does A) (f : A → flat.Does B) (s : State) (e : ExpandFault) → doing m s ≡ Err e → doing (m >>= f) s ≡ Err e
 stops m f s e is = parts_settle_in_turn m f s ∙ ap (λ r. and_see r (λ p. doing (f p.0) p.1)) is
 
 -- ---- a field is met

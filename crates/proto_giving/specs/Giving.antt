@@ -1,12 +1,14 @@
 -- What a step between braces has to do.
-use Rattle.std.specs.Prelude.{◌≡◌, ◌⊎◌, ℕ, Bool, true, false, Result, Ok, Err}
+use Rattle.std.specs.Prelude.{◌≡◌, ◌⊎◌, ℕ, Bool, true, false, ◌||◌, if◌then◌else◌, Option, Some, None, Result, Ok, Err}
 use Rattle.classic_tree.specs.declared.tree.Given.TheVariants as text
-use Rattle.flat_document.specs.Fault.{memory}
-use Rattle.flat_document.specs.declared.fault.ExpandFault.{ExpandFault}
-use Rattle.flat_meaning.specs.Flat as flat
-use Rattle.flat_meaning.specs.Names.{Name, value_of}
-use Rattle.flat_meaning.specs.Sight.{Owner}
-use Rattle.proto_given.specs.Held.{has_name}
+use Rattle.proto_flat.specs.Fault.{memory}
+use Rattle.proto_flat.specs.declared.fault.ExpandFault.{ExpandFault}
+use Rattle.proto_flat.specs.declared.fault.ExpandFaultKind.TheVariants.{FieldTwice, UnknownField}
+use Rattle.x3d_values.specs.Access.{is_initial}
+use Rattle.proto_meaning.specs.Flat as flat
+use Rattle.proto_meaning.specs.Flat.{Does, ◌>>=◌, pure, comes, refuse, fill, met_field}
+use Rattle.proto_meaning.specs.Names.{Name, Field, value_of}
+use Rattle.proto_meaning.specs.Sight.{Owner}
 use Rattle.proto_inside.specs.Held as braces
 use Rattle.proto_inside.specs.Held.{fields_in, filled_in}
 use Rattle.proto_inside.specs.declared.inside.Inside.{Inside}
@@ -22,7 +24,7 @@ abbrev pub is_type : holder.Owner → Bool
 is_type (Node t) = true
 is_type (Instance interface) = false
 
--- as flat_meaning has it: braces that opened behind so many others, and whose they are
+-- as proto_meaning has it: braces that opened behind so many others, and whose they are
 abbrev pub inside_of : ℕ → Owner → Inside → flat.Inside
 inside_of at o i = record { at = at; owner = o; fields = fields_in i; filled = filled_in i }
 
@@ -34,15 +36,58 @@ Gives at o outcome (Ok u) walker old new =
     × (new.owner ≡ old.owner)
 Gives at o outcome (Err e) walker old new = (e ≡ memory) ⊎ (outcome ≡ Err e)
 
--- an IS comes to a join, or to a fault
-abbrev pub MayJoin : ℕ → Name → KnownField → Name → Inside → State
+-- an IS comes to a join, or to a fault; `twice`: the field was given something before
+abbrev pub MayJoin : ℕ → Name → KnownField → Bool → Name → Inside → State
     → Result (Unit {0}) ExpandFault → Type 0
-MayJoin line name field outer i s (Ok u) =
-    (has_name name (filled_in i) ≡ false)
-    × ((at : ℕ) (o : Owner) → doing (flat.give line (numbered name field)
-    (has_name name (filled_in i)) (text.Is outer) (inside_of at o i)) s
+MayJoin line name field twice outer i s (Ok u) =
+    (twice ≡ false)
+    × ((at : ℕ) (o : Owner) → doing (flat.give line (numbered name field) twice (text.Is outer)
+    (inside_of at o i)) s
     ≡ doing (flat.join line (numbered name field) (inside_of at o i) outer
     (value_of outer s.walk.scope.given)) s)
-MayJoin line name field outer i s (Err e) =
-    (at : ℕ) (o : Owner) → doing (flat.give line (numbered name field)
-    (has_name name (filled_in i)) (text.Is outer) (inside_of at o i)) s ≡ Err e
+MayJoin line name field twice outer i s (Err e) =
+    (at : ℕ) (o : Owner) → doing (flat.give line (numbered name field) twice (text.Is outer)
+    (inside_of at o i)) s ≡ Err e
+
+-- ---- values
+
+-- as `give` has it: a value may stand at the field, has so many items, and then goes on like that
+abbrev pub value_at : ℕ → ℕ × Field → Bool → ℕ → flat.Inside → Does flat.Inside → Does flat.Inside
+value_at line f twice items i rest =
+    if flat.is_node i.owner || is_initial f.1.access
+    then (if twice then refuse FieldTwice line else met_field i.owner f.0 items >>= λ _. rest)
+    else refuse UnknownField line
+
+-- a value may stand at the field, or comes to a fault
+abbrev pub MayStand : ℕ → Name → KnownField → Bool → Inside → Result (Unit {0}) ExpandFault → Type 0
+MayStand line name field twice i (Ok u) =
+    (twice ≡ false)
+    × ((at : ℕ) (o : Owner) (items : ℕ) (rest : Does flat.Inside) (s : State)
+    → flat.is_node o ≡ is_type i.owner
+    → doing (value_at line (numbered name field) twice items (inside_of at o i) rest) s
+    ≡ doing (met_field o field.number items >>= λ _. rest) s)
+MayStand line name field twice i (Err e) =
+    (at : ℕ) (o : Owner) (items : ℕ) (rest : Does flat.Inside) (s : State)
+    → flat.is_node o ≡ is_type i.owner
+    → doing (value_at line (numbered name field) twice items (inside_of at o i) rest) s ≡ Err e
+
+-- a value of so many items may stand at the field, and is met; or it comes to a fault
+abbrev pub MayHold : ℕ → Name → KnownField → Bool → ℕ → Inside → State
+    → Result (Unit {0}) ExpandFault → Walker → Type 0
+MayHold line name field twice items i s (Ok u) walker =
+    (twice ≡ false) × Sound walker
+    × ((at : ℕ) (o : Owner) (rest : Does flat.Inside) → flat.is_node o ≡ is_type i.owner
+    → doing (value_at line (numbered name field) twice items (inside_of at o i) rest) s
+    ≡ doing rest (shown walker))
+MayHold line name field twice items i s (Err e) walker =
+    (at : ℕ) (o : Owner) (rest : Does flat.Inside) → flat.is_node o ≡ is_type i.owner
+    → (e ≡ memory)
+    ⊎ (doing (value_at line (numbered name field) twice items (inside_of at o i) rest) s ≡ Err e)
+
+-- a value goes nowhere: a wrong declaration in it is answered
+abbrev pub left_by : Option ExpandFault → Does (Unit {0})
+left_by None = pure tt
+left_by (Some e) = λ w. comes (Err e)
+
+abbrev pub aside : ℕ → ℕ × Field → flat.Inside → Option ExpandFault → Does flat.Inside
+aside line f i wrong = left_by wrong >>= λ _. pure (fill line f i None)

@@ -3,10 +3,10 @@
 ghost use Rattle.std.specs.Prelude.{◌≡◌, ℕ, false, List, IfOk, option_map};
 ghost use Rattle.std.specs.Option.{option_map_or};
 ghost use Rattle.classic_tree.specs.declared.tree.Given.TheVariants as text;
-ghost use Rattle.flat_meaning.specs.Flat as flat;
-ghost use Rattle.flat_meaning.specs.Limits.{item_count};
-ghost use Rattle.flat_meaning.specs.Names.{value_of};
-ghost use Rattle.flat_meaning.specs.Sight as sight;
+ghost use Rattle.proto_meaning.specs.Flat as flat;
+ghost use Rattle.proto_meaning.specs.Limits.{item_count};
+ghost use Rattle.proto_meaning.specs.Names.{value_of};
+ghost use Rattle.proto_meaning.specs.Sight as sight;
 ghost use Rattle.proto_given.specs.Held as table;
 ghost use Rattle.proto_interface.specs.Fields.{field_named, numbered};
 ghost use Rattle.proto_inside.specs.Held as braces;
@@ -17,7 +17,7 @@ ghost use Rattle.proto_walker.specs.Shown.{Steps};
 ghost use Rattle.proto_giving.specs.Giving.{Gives, MayJoin, inside_of, is_type};
 
 use classic_tree::RawValue;
-use flat_document::{ExpandFault, ExpandFaultKind};
+use proto_flat::{ExpandFault, ExpandFaultKind};
 use proto_given::GivenField;
 use proto_inside::{Inside, Owner, item_count};
 use proto_interface::KnownField;
@@ -28,7 +28,7 @@ use x3d_lists::Text;
 use x3d_values::Access;
 
 /// A field of a node is met with its number and items, one of an instance without.
-fn meet_field(
+pub fn meet_field(
     walker: &mut Walker<'_>,
     owner: Owner<'_>,
     number: usize,
@@ -73,23 +73,26 @@ fn keep_nothing<'a>(
     Ok(())
 }
 
-/// The field is declared without a value: FieldTwice where it was given something before.
+/// The field is declared without a value: FieldTwice where `twice` says that it was given something
+/// before.
 pub fn put_nothing<'a>(
     walker: &mut Walker<'a>,
     inside: &mut Inside<'a>,
     line: u32,
     name: &'a Text,
     field: KnownField,
+    twice: bool,
 ) -> Result<(), ExpandFault>
     requires walker { shown.Sound walker.old }
     requires inside { braces.Sound inside.old }
+    requires free { twice ≡ false
+        → table.has_name name.now (braces.filled_in inside.old) ≡ false }
     ensures { (at : ℕ) (o : sight.Owner) → flat.is_node o ≡ is_type inside.old.owner
-        → Gives at o (doing (flat.give line (numbered name.now field)
-        (table.has_name name.now (braces.filled_in inside.old)) text.Nothing
+        → Gives at o (doing (flat.give line (numbered name.now field) twice text.Nothing
         (inside_of at o inside.old)) (shown.shown walker.old)) result walker.new inside.old
         inside.new }
 {
-    if inside.has(name) {
+    if twice {
         return Err(ExpandFaultKind::FieldTwice.on_line(line));
     }
     keep_nothing(walker, inside, line, name, field)
@@ -173,10 +176,11 @@ fn check_is(
     line: u32,
     name: &Text,
     field: KnownField,
+    twice: bool,
     outer: &Text,
 ) -> Result<(), ExpandFault>
-    requires { braces.Sound inside.now }
-    ensures { MayJoin line name.now field outer.now inside.now (shown.shown walker.now) result }
+    ensures { MayJoin line name.now field twice outer.now inside.now (shown.shown walker.now)
+        result }
 {
     let Some(known) = walker.scope.outer(outer) else {
         return Err(ExpandFaultKind::BadIs.on_line(line));
@@ -184,7 +188,7 @@ fn check_is(
     if !fits(known, field) {
         return Err(ExpandFaultKind::BadIs.on_line(line));
     }
-    if inside.has(name) {
+    if twice {
         return Err(ExpandFaultKind::FieldTwice.on_line(line));
     }
     Ok(())
@@ -198,16 +202,18 @@ pub fn put_is<'a>(
     line: u32,
     name: &'a Text,
     field: KnownField,
+    twice: bool,
     outer: &'a Text,
 ) -> Result<(), ExpandFault>
     requires walker { shown.Sound walker.old }
     requires inside { braces.Sound inside.old }
+    requires free { twice ≡ false
+        → table.has_name name.now (braces.filled_in inside.old) ≡ false }
     ensures { (o : sight.Owner) → flat.is_node o ≡ is_type inside.old.owner
-        → Gives at o (doing (flat.give line (numbered name.now field)
-        (table.has_name name.now (braces.filled_in inside.old)) (text.Is outer.now)
+        → Gives at o (doing (flat.give line (numbered name.now field) twice (text.Is outer.now)
         (inside_of at o inside.old)) (shown.shown walker.old)) result walker.new inside.old
         inside.new }
 {
-    check_is(walker, inside, line, name, field, outer)?;
+    check_is(walker, inside, line, name, field, twice, outer)?;
     join(walker, inside, at, line, name, field, outer)
 }

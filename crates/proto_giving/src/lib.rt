@@ -2,6 +2,10 @@
 //! IS statement).
 #![tactic(auto)]
 
+mod declared;
 mod giving;
+mod values;
 
+pub use declared::{Declared, declare};
 pub use giving::{put_is, put_nothing};
+pub use values::{keep_none, keep_value, meet_value, put_aside, put_plain};

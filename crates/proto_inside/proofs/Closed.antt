@@ -2,8 +2,8 @@
 use Rattle.std.proofs.Common.{◌≡◌, List, [], ◌∷◌, ◌++◌, map, Option, Some, None, refl, ap, sym, ◌∙◌}
 use Rattle.std.specs.List.{cons_option, filter_map}
 use Rattle.std.proofs.lemmas.List.{append-nil, append_assoc}
-use Rattle.flat_document.specs.declared.flat.FlatField.{FlatField}
-use Rattle.flat_meaning.specs.Names.{Name}
+use Rattle.proto_flat.specs.declared.flat.FlatField.{FlatField}
+use Rattle.proto_meaning.specs.Names.{Name}
 use Rattle.proto_given.specs.declared.given.GivenField.{GivenField}
 use Rattle.proto_given.specs.Held.{filled_of}
 use Rattle.proto_inside.specs.Closing.{flat_field, flat_fields}

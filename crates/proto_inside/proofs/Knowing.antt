@@ -11,8 +11,8 @@ use Rattle.x3d_values.specs.Tables.{Entry, row_named}
 use Rattle.x3d_values.specs.declared.table.FieldRow.{FieldRow}
 use Rattle.classic_tree.specs.declared.tree.Declaration.{Declaration}
 use Rattle.classic_tree.specs.declared.tree.NodeText.{NodeText}
-use Rattle.flat_meaning.specs.Names.{Name, Field}
-use Rattle.flat_meaning.specs.Flat.{field, field_with, numbered_from}
+use Rattle.proto_meaning.specs.Names.{Name, Field}
+use Rattle.proto_meaning.specs.Flat.{field, field_with, numbered_from}
 use Rattle.proto_interface.specs.declared.fields.Fields.{Fields}
 use Rattle.proto_interface.specs.declared.fields.KnownField.{KnownField}
 use Rattle.proto_interface.specs.Fields.{IsNamed, numbered}

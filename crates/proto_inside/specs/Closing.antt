@@ -1,8 +1,8 @@
 -- What a node holds when its braces close.
 use Rattle.std.specs.Prelude.{List, Option, option_map}
 use Rattle.std.specs.List.{filter_map}
-use Rattle.flat_document.specs.declared.flat.FlatField.{FlatField}
-use Rattle.flat_meaning.specs.Names.{Filled}
+use Rattle.proto_flat.specs.declared.flat.FlatField.{FlatField}
+use Rattle.proto_meaning.specs.Names.{Filled}
 use Rattle.proto_given.specs.declared.given.GivenField.{GivenField}
 use Rattle.proto_given.specs.Held.{value_now}
 

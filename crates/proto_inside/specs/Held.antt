@@ -1,11 +1,11 @@
--- What stands between braces, as flat_meaning has it.
+-- What stands between braces, as proto_meaning has it.
 use Rattle.std.specs.Prelude.{List, ◌++◌, length, map}
 use Rattle.std.specs.Borrow.{Bor}
 use Rattle.classic_tree.specs.declared.tree.Declaration.{Declaration}
 use Rattle.classic_tree.specs.declared.tree.NodeText.{NodeText}
-use Rattle.flat_meaning.specs.Flat as meaning
-use Rattle.flat_meaning.specs.Flat.{field}
-use Rattle.flat_meaning.specs.Names.{Field, Filled}
+use Rattle.proto_meaning.specs.Flat as meaning
+use Rattle.proto_meaning.specs.Flat.{field}
+use Rattle.proto_meaning.specs.Names.{Field, Filled}
 use Rattle.proto_given.specs.Held as given
 use Rattle.proto_interface.specs.Fields.{IsNamed}
 use Rattle.proto_inside.specs.declared.inside.Inside.{Inside}

@@ -1,11 +1,10 @@
 -- Values without nodes.
-use Rattle.std.specs.Prelude.{ℕ}
 use Rattle.classic_tree.specs.declared.tree.RawValue.{RawValue}
 use Rattle.classic_tree.specs.declared.tree.RawValue.TheVariants as value
 use Rattle.classic_tree.specs.declared.tree.NodeText.{NodeText}
 
--- a value without nodes as it is
-abbrev pub plain : RawValue NodeText → RawValue ℕ
+-- a value without nodes as it is, in which nodes could stand as something else
+abbrev pub plain : {N : Type 0} → RawValue NodeText → RawValue N
 plain value.Null = value.Null
 plain (value.Truth truth) = value.Truth truth
 plain (value.String text) = value.String text

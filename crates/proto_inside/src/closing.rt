@@ -2,14 +2,14 @@
 
 ghost use Rattle.std.specs.Prelude.{◌≡◌, ◌++◌, [], IfOk};
 ghost use Rattle.std.specs.List.{cons_option};
-ghost use Rattle.flat_meaning.specs.Flat.{field};
+ghost use Rattle.proto_meaning.specs.Flat.{field};
 ghost use Rattle.proto_given.specs.Held as given;
 ghost use Rattle.proto_inside.specs.Closing.{flat_field, flat_fields};
 ghost use Rattle.proto_inside.specs.Held.{declared_fields};
 
 use crate::values::owned;
 use classic_tree::{Declaration, Given as Gives, NodeText};
-use flat_document::FlatField;
+use proto_flat::FlatField;
 use proto_given::{Given, GivenField};
 use std::alloc::{AllocError, Global};
 use x3d_lists::{Duplicate, Items};

@@ -1,8 +1,8 @@
 //! The fields between braces, by name and in the order of the text.
 
 ghost use Rattle.std.specs.Prelude.{◌≡◌, ◌+◌, ◌++◌, ◌∷◌, [], false, length, option_map, IfOk};
-ghost use Rattle.flat_meaning.specs.Flat as meaning;
-ghost use Rattle.flat_meaning.specs.Flat.{field, numbered_from};
+ghost use Rattle.proto_meaning.specs.Flat as meaning;
+ghost use Rattle.proto_meaning.specs.Flat.{field, numbered_from};
 ghost use Rattle.proto_given.specs.Held as given;
 ghost use Rattle.proto_interface.specs.Fields.{known, numbered};
 ghost use Rattle.proto_inside.specs.Held.{Sound, fields_in, filled_in, fields_of_owner};

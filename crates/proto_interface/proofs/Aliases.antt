@@ -7,8 +7,8 @@ use Rattle.std.specs.Str.{bytes_eq}
 use Rattle.std.proofs.lemmas.List.{append_cancel_left, append_cancel_right}
 use Rattle.std.proofs.lemmas.Slice.Eq.{bytes_eq-Decides}
 use Rattle.x3d_values.specs.Access.{is_exposed}
-use Rattle.flat_meaning.specs.Names.{Name, Field}
-use Rattle.flat_meaning.specs.Flat.{numbered_from}
+use Rattle.proto_meaning.specs.Names.{Name, Field}
+use Rattle.proto_meaning.specs.Flat.{numbered_from}
 use Rattle.proto_interface.specs.declared.fields.KnownField.{KnownField}
 use Rattle.proto_interface.specs.Fields.{field_named, numbered}
 

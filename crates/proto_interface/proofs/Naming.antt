@@ -11,9 +11,9 @@ use Rattle.std.proofs.lemmas.Slice.Eq.{bytes_eq-Decides}
 use Rattle.x3d_values.specs.Access.{is_exposed}
 use Rattle.classic_tree.specs.declared.tree.Declaration.{Declaration}
 use Rattle.classic_tree.specs.declared.tree.NodeText.{NodeText}
-use Rattle.flat_meaning.specs.Names.{Name, Field}
-use Rattle.flat_meaning.specs.Sight.{Names, with_name, no_names}
-use Rattle.flat_meaning.specs.Flat.{field, field_with, numbered_from}
+use Rattle.proto_meaning.specs.Names.{Name, Field}
+use Rattle.proto_meaning.specs.Sight.{Names, with_name, no_names}
+use Rattle.proto_meaning.specs.Flat.{field, field_with, numbered_from}
 use Rattle.proto_interface.specs.declared.fields.Fields.{Fields}
 use Rattle.proto_interface.specs.declared.fields.KnownField.{KnownField}
 use Rattle.proto_interface.specs.Fields.{field_named, numbered, known, fields_of, with_entry, added, IsNamed, IsExposed, has_name, twice_after}

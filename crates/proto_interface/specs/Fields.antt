@@ -3,12 +3,14 @@ use Rattle.std.specs.Prelude.{◌≡◌, ℕ, ◌&&◌, Bool, if◌then◌else�
 use Rattle.std.specs.List.{find, list_any}
 use Rattle.std.specs.Option.{option_or}
 use Rattle.std.specs.Str.{bytes_eq}
-use Rattle.indexmap.specs.IndexMap.{get_by}
+use Rattle.std.specs.BTreeMap.{get_by}
+use Rattle.std.specs.Cmp.Lexicographic.{slice_cmp}
+use Rattle.std.specs.Ordering.{nat_cmp}
 use Rattle.x3d_values.specs.Access.{is_exposed}
 use Rattle.classic_tree.specs.declared.tree.Declaration.{Declaration}
-use Rattle.flat_meaning.specs.Names.{Name, Field}
-use Rattle.flat_meaning.specs.Sight.{Names, with_name, no_names}
-use Rattle.flat_meaning.specs.Flat.{field_with, numbered_from}
+use Rattle.proto_meaning.specs.Names.{Name, Field}
+use Rattle.proto_meaning.specs.Sight.{Names, with_name, no_names}
+use Rattle.proto_meaning.specs.Flat.{field_with, numbered_from}
 use Rattle.proto_interface.specs.declared.fields.Fields.{Fields}
 use Rattle.proto_interface.specs.declared.fields.KnownField.{KnownField}
 use Rattle.proto_interface.specs.declared.interface.Tables.{Tables}
@@ -27,7 +29,7 @@ known number d =
 -- ---- tables
 
 unfoldable pub fields_of : Fields → Name → Option KnownField
-fields_of fields name = get_by (λ k. bytes_eq name k.now) fields.table
+fields_of fields name = get_by (λ k. slice_cmp nat_cmp name k.now) fields.table
 
 abbrev pub no_fields : Name → Option KnownField
 no_fields name = None

@@ -1,5 +1,5 @@
 -- A field that a ROUTE names, as the definition has it.
-use Rattle.flat_meaning.specs.Names.{Field}
+use Rattle.proto_meaning.specs.Names.{Field}
 use Rattle.proto_interface.specs.declared.named.RouteField.{RouteField}
 use Rattle.proto_interface.specs.Fields.{field_named}
 

@@ -1,14 +1,14 @@
 //! Fields in a table of their names.
 
 ghost use Rattle.std.specs.Prelude.{◌≡◌, ℕ, ◌+◌, ◌++◌, ◌∷◌, [], List, length, not, is_none, IfOk};
-ghost use Rattle.flat_meaning.specs.Names.{Field};
-ghost use Rattle.flat_meaning.specs.Flat.{field};
+ghost use Rattle.proto_meaning.specs.Names.{Field};
+ghost use Rattle.proto_meaning.specs.Flat.{field};
 ghost use Rattle.proto_interface.specs.Fields.{IsExposed, IsNamed};
 ghost use Rattle.proto_interface.specs.Fields.{added, fields_of, has_name, known, no_fields, with_entry};
 
 use classic_tree::{Declaration, NodeText};
-use indexmap::IndexMap;
 use std::alloc::{AllocError, AllocFailed, Global};
+use std::collections::BTreeMap;
 use x3d_lists::Text;
 use x3d_values::{Access, FieldType};
 
@@ -26,7 +26,7 @@ pub struct KnownField {
 /// The first field of each name.
 #[derive(Drop)]
 pub struct Fields<'a> {
-    pub table: IndexMap<&'a str, KnownField>,
+    pub table: BTreeMap<&'a str, KnownField>,
 }
 
 impl<'a> Fields<'a> {
@@ -34,7 +34,7 @@ impl<'a> Fields<'a> {
         ensures { fields_of result ≡ no_fields }
     {
         Fields {
-            table: IndexMap::new(alloc),
+            table: BTreeMap::new(alloc),
         }
     }
 

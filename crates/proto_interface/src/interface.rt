@@ -5,9 +5,9 @@ ghost use Rattle.std.specs.List.{find};
 ghost use Rattle.std.specs.Option.{option_or};
 ghost use Rattle.std.specs.Str.{bytes_eq};
 ghost use Rattle.x3d_values.specs.Access.{is_exposed};
-ghost use Rattle.flat_meaning.specs.Names.{Field};
-ghost use Rattle.flat_meaning.specs.Flat.{field, numbered_from};
-ghost use Rattle.flat_meaning.specs.Sight.{no_names};
+ghost use Rattle.proto_meaning.specs.Names.{Field};
+ghost use Rattle.proto_meaning.specs.Flat.{field, numbered_from};
+ghost use Rattle.proto_meaning.specs.Sight.{no_names};
 ghost use Rattle.proto_interface.specs.Fields.{Reads, field_named, numbered, twice_after};
 
 use crate::fields::{Fields, KnownField, add_exposed, add_named};
@@ -33,8 +33,8 @@ pub struct Interface<'a> {
 
 impl<'a> Model for Interface<'a> {
     ghost use Rattle.std.specs.Prelude.{List, map};
-    ghost use Rattle.flat_meaning.specs.Names.{Field};
-    ghost use Rattle.flat_meaning.specs.Flat.{field};
+    ghost use Rattle.proto_meaning.specs.Names.{Field};
+    ghost use Rattle.proto_meaning.specs.Flat.{field};
     ghost use Rattle.proto_interface.specs.Fields.{Reads};
 
     ghost Value = { List Field };

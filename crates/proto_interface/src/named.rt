@@ -4,7 +4,7 @@ ghost use Rattle.std.specs.Prelude.{◌≡◌, ◌&&◌, ◌++◌, codes, option
 ghost use Rattle.std.specs.List.{find};
 ghost use Rattle.std.specs.Str.{bytes_eq};
 ghost use Rattle.x3d_values.specs.Access.{is_exposed};
-ghost use Rattle.flat_meaning.specs.Names.{Field, field_by};
+ghost use Rattle.proto_meaning.specs.Names.{Field, field_by};
 ghost use Rattle.proto_interface.specs.Routed.{routed};
 
 use crate::fields::KnownField;

@@ -8,10 +8,10 @@ use Rattle.std.proofs.lemmas.Grind.{flat_map-append}
 use Rattle.std.proofs.lemmas.List.{append-nil, map-append, take_more}
 use Rattle.std.proofs.lemmas.Slice.Eq.{bytes_eq-Decides}
 use Rattle.x3d_values.specs.declared.field_type.Access.{Access}
-use Rattle.flat_document.specs.declared.flat.FlatEnd.{FlatEnd}
-use Rattle.flat_document.specs.declared.flat.FlatEnd.TheVariants.{NoField, WrongWay}
-use Rattle.flat_meaning.specs.Names as meaning
-use Rattle.flat_meaning.specs.Names.{Name, ends_by}
+use Rattle.proto_flat.specs.declared.flat.FlatEnd.{FlatEnd}
+use Rattle.proto_flat.specs.declared.flat.FlatEnd.TheVariants.{NoField, WrongWay}
+use Rattle.proto_meaning.specs.Names as meaning
+use Rattle.proto_meaning.specs.Names.{Name, ends_by}
 use Rattle.proto_routes.specs.declared.ends.Ends.{Ends}
 use Rattle.proto_routes.specs.Ends.{end, list}
 use Rattle.proto_joins.specs.declared.joins.Join.{Join}

@@ -3,9 +3,11 @@ use Rattle.std.specs.Prelude.{if◌then◌else◌, List, [], ◌++◌, map, Opti
 use Rattle.std.specs.Borrow.{Bor}
 use Rattle.std.specs.Str.{bytes_eq}
 use Rattle.std.specs.declared.rc.Rc.{Rc}
-use Rattle.indexmap.specs.IndexMap.{get_by}
-use Rattle.flat_document.specs.declared.flat.FlatEnd.{FlatEnd}
-use Rattle.flat_meaning.specs.Names.{Name}
+use Rattle.std.specs.BTreeMap.{get_by}
+use Rattle.std.specs.Cmp.Lexicographic.{slice_cmp}
+use Rattle.std.specs.Ordering.{nat_cmp}
+use Rattle.proto_flat.specs.declared.flat.FlatEnd.{FlatEnd}
+use Rattle.proto_meaning.specs.Names.{Name}
 use Rattle.proto_joins.specs.declared.joined.JoinedEnds.{JoinedEnds}
 use Rattle.proto_routes.specs.declared.ends.Ends.{Ends}
 use Rattle.proto_routes.specs.Ends.{end, list}
@@ -21,7 +23,7 @@ abbrev pub borrowed : {A : Type 0} → Option (Bor (Rc Ends A)) → List FlatEnd
 borrowed ends = owned (option_map (λ e. e.now) ends)
 
 unfoldable pub ends_in : JoinedEnds → Name → List FlatEnd
-ends_in joined name = owned (get_by (λ k. bytes_eq name k.now) joined.ends)
+ends_in joined name = owned (get_by (λ k. slice_cmp nat_cmp name k.now) joined.ends)
 
 abbrev pub with_ends : Name → List FlatEnd → (Name → List FlatEnd) → Name → List FlatEnd
 with_ends given ends before name = if bytes_eq given name then ends else before name

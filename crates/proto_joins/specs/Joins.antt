@@ -4,10 +4,10 @@ use Rattle.std.specs.List.{flat_map}
 use Rattle.std.specs.Option.{option_map_or}
 use Rattle.std.specs.Str.{bytes_eq}
 use Rattle.std.specs.declared.rc.Rc.{Rc}
-use Rattle.flat_document.specs.declared.flat.FlatEnd.{FlatEnd}
-use Rattle.flat_document.specs.declared.flat.FlatEnd.TheVariants.{At}
-use Rattle.flat_meaning.specs.Names as meaning
-use Rattle.flat_meaning.specs.Names.{Name, stands_at}
+use Rattle.proto_flat.specs.declared.flat.FlatEnd.{FlatEnd}
+use Rattle.proto_flat.specs.declared.flat.FlatEnd.TheVariants.{At}
+use Rattle.proto_meaning.specs.Names as meaning
+use Rattle.proto_meaning.specs.Names.{Name, stands_at}
 use Rattle.proto_joins.specs.declared.joins.Braces.{Braces}
 use Rattle.proto_joins.specs.declared.joins.InstanceEnds.{InstanceEnds}
 use Rattle.proto_joins.specs.declared.joins.Join.{Join}

@@ -3,10 +3,10 @@ use Rattle.std.specs.Prelude.{List, [], ◌++◌, codes, Option, None, Some}
 use Rattle.std.specs.List.{flat_map}
 use Rattle.std.specs.declared.rc.Rc.{Rc}
 use Rattle.x3d_values.specs.Access.{receives, sends}
-use Rattle.flat_document.specs.declared.flat.FlatEnd.{FlatEnd}
-use Rattle.flat_document.specs.declared.flat.FlatRoute.{FlatRoute}
-use Rattle.flat_meaning.specs.Names as meaning
-use Rattle.flat_meaning.specs.Names.{Name, ends_at, stands_at, pairs}
+use Rattle.proto_flat.specs.declared.flat.FlatEnd.{FlatEnd}
+use Rattle.proto_flat.specs.declared.flat.FlatRoute.{FlatRoute}
+use Rattle.proto_meaning.specs.Names as meaning
+use Rattle.proto_meaning.specs.Names.{Name, ends_at, stands_at, pairs}
 use Rattle.proto_routes.specs.declared.wires.Wires.{Wires}
 use Rattle.proto_routes.specs.Wires.{means, wires}
 use Rattle.proto_joins.specs.declared.sides.Pending.{Pending}
@@ -19,7 +19,7 @@ sources_of field stands = ends_at sends (λ name. name ++ codes "_changed") fiel
 abbrev pub targets_of : Name → Option meaning.Stands → List FlatEnd
 targets_of field stands = ends_at receives (λ name. codes "set_" ++ name) field stands
 
--- what flat_meaning's `note_route` adds, by what all braces come to stand for
+-- what proto_meaning's `note_route` adds, by what all braces come to stand for
 abbrev pub pending_routes : Pending → List meaning.Braces → List FlatRoute
 pending_routes p all =
     pairs p.line (sources_of p.source.field.now (stands_at all p.source.at))

@@ -3,16 +3,16 @@
 ghost use Rattle.std.specs.Prelude.{◌≡◌, ◌++◌, [], IfOk};
 ghost use Rattle.proto_joins.specs.Joined.{borrowed, ends_in, meant, owned, with_ends, with_more};
 
-use indexmap::IndexMap;
 use proto_routes::{Ends, Kept};
 use std::alloc::{AllocError, AllocFailed, Global};
+use std::collections::BTreeMap;
 use std::rc::Rc;
 use x3d_lists::Text;
 
 /// The ends of each field of an interface that has any, by its name.
 #[derive(Drop)]
 pub struct JoinedEnds<'a> {
-    pub ends: IndexMap<&'a str, Rc<Ends<'a>>>,
+    pub ends: BTreeMap<&'a str, Rc<Ends<'a>>>,
 }
 
 impl<'a> JoinedEnds<'a> {
@@ -22,7 +22,7 @@ impl<'a> JoinedEnds<'a> {
         ensures { ends_in result ≡ (λ name. []) }
     {
         JoinedEnds {
-            ends: IndexMap::new(alloc),
+            ends: BTreeMap::new(alloc),
         }
     }
 

@@ -2,8 +2,8 @@
 
 ghost use Rattle.std.specs.Prelude.{◌≡◌, ℕ, ◌++◌, ◌∷◌, [], Some, codes, map, option_map, IfOk};
 ghost use Rattle.x3d_values.specs.Access.{receives, sends};
-ghost use Rattle.flat_meaning.specs.Names as meaning;
-ghost use Rattle.flat_meaning.specs.Names.{ends_by, field_by, stands_at};
+ghost use Rattle.proto_meaning.specs.Names as meaning;
+ghost use Rattle.proto_meaning.specs.Names.{ends_by, field_by, stands_at};
 ghost use Rattle.proto_routes.specs.Ends.{end};
 ghost use Rattle.proto_routes.specs.Routes.{routes_of_wire};
 ghost use Rattle.proto_routes.specs.Wires.{means, wires};

@@ -3,11 +3,11 @@ use Rattle.std.proofs.Common.{◌≡◌, ℕ, ◌+◌, ◌-◌, Bool, true, fals
 use Rattle.std.specs.Prelude.{nat_lt}
 use Rattle.std.specs.List.{list_all, sum_by, fold}
 use Rattle.std.proofs.lemmas.Bool.{ltb-true, ltb-false, lt-ltb, le-ltb}
-use Rattle.flat_document.specs.declared.fault.ExpandFault.{ExpandFault}
-use Rattle.flat_document.specs.declared.flat.Flat.{Flat}
-use Rattle.flat_meaning.specs.Limits.{Met, Outcome, follow, and_then, with_few_routes, nodes_met, instances_met, items_met, all_met, has_room}
-use Rattle.flat_meaning.specs.Sight.{and_see}
-use Rattle.flat_meaning.specs.Flat.{meet}
+use Rattle.proto_flat.specs.declared.fault.ExpandFault.{ExpandFault}
+use Rattle.proto_flat.specs.declared.flat.Flat.{Flat}
+use Rattle.proto_meaning.specs.Limits.{Met, Outcome, follow, and_then, with_few_routes, nodes_met, instances_met, items_met, all_met, has_room}
+use Rattle.proto_meaning.specs.Sight.{and_see}
+use Rattle.proto_meaning.specs.Flat.{meet}
 use Rattle.proto_limits.specs.declared.room.Room.{Room}
 use Rattle.proto_limits.specs.Settled.{full, too_large, spend, spend_all, beside, settle, State, onward, doing}
 use Rattle.proto_limits.specs.Laws.{LimitsAreSettled, PartsSettleInTurn}

@@ -1,9 +1,9 @@
 -- Laws of limits.
 use Rattle.std.specs.Prelude.{◌≡◌, Ok}
-use Rattle.flat_document.specs.declared.flat.Flat.{Flat}
-use Rattle.flat_meaning.specs.Limits.{Outcome, limited, with_few_routes}
-use Rattle.flat_meaning.specs.Sight.{and_see}
-use Rattle.flat_meaning.specs.Flat.{Does, ◌>>=◌}
+use Rattle.proto_flat.specs.declared.flat.Flat.{Flat}
+use Rattle.proto_meaning.specs.Limits.{Outcome, limited, with_few_routes}
+use Rattle.proto_meaning.specs.Sight.{and_see}
+use Rattle.proto_meaning.specs.Flat.{Does, ◌>>=◌}
 use Rattle.proto_limits.specs.Settled.{State, full, settle, doing}
 
 -- where limits are met on the way, and routes behind all, a document comes to the same

@@ -2,12 +2,12 @@
 -- much room. Nothing of this is part of the definition of a flat document; limits_are_settled says that
 -- the answers are the same.
 use Rattle.std.specs.Prelude.{ℕ, ◌-◌, ◌&&◌, not, nat_lt, if◌then◌else◌, List, [], ◌∷◌, Result, Ok, Err}
-use Rattle.flat_document.specs.Fault.{fault}
-use Rattle.flat_document.specs.declared.fault.ExpandFault.{ExpandFault}
-use Rattle.flat_document.specs.declared.fault.ExpandFaultKind.TheVariants.{TooLarge}
-use Rattle.flat_meaning.specs.Limits.{Met, Outcome, nodes_met, instances_met, items_met, has_room}
-use Rattle.flat_meaning.specs.Sight.{and_see}
-use Rattle.flat_meaning.specs.Flat.{Walk, Does}
+use Rattle.proto_flat.specs.Fault.{fault}
+use Rattle.proto_flat.specs.declared.fault.ExpandFault.{ExpandFault}
+use Rattle.proto_flat.specs.declared.fault.ExpandFaultKind.TheVariants.{TooLarge}
+use Rattle.proto_meaning.specs.Limits.{Met, Outcome, nodes_met, instances_met, items_met, has_room}
+use Rattle.proto_meaning.specs.Sight.{and_see}
+use Rattle.proto_meaning.specs.Flat.{Walk, Does}
 use Rattle.proto_limits.specs.declared.room.Room.{Room}
 
 -- before anything is met

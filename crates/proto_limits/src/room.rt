@@ -2,10 +2,10 @@
 
 ghost use Rattle.std.specs.Prelude.{◌≡◌, ◌&&◌, not, nat_lt};
 ghost use Rattle.std.specs.Result.{result_map_both};
-ghost use Rattle.flat_meaning.specs.Limits.{ANode, AnInstance, AField, AnItem};
+ghost use Rattle.proto_meaning.specs.Limits.{ANode, AnInstance, AField, AnItem};
 ghost use Rattle.proto_limits.specs.Settled.{full, spend, spend_so_much};
 
-use flat_document::{ExpandFault, ExpandFaultKind};
+use proto_flat::{ExpandFault, ExpandFaultKind};
 
 /// The most fields that a node may have.
 const MAX_FIELDS: usize = 65_536;

@@ -1,7 +1,9 @@
 -- What the tables hold. None of this is part of the definition.
 use Rattle.std.specs.Prelude.{◌≡◌, ◌≤◌, ◌+◌, ◌-◌, ℕ, if◌then◌else◌, List, length, map, nat_lt, Option, Some, None, slice_get, slice_set}
 use Rattle.std.specs.Str.{bytes_eq}
-use Rattle.indexmap.specs.IndexMap.{get_by}
+use Rattle.std.specs.BTreeMap.{get_by}
+use Rattle.std.specs.Cmp.Lexicographic.{slice_cmp}
+use Rattle.std.specs.Ordering.{nat_cmp}
 use Rattle.proto_links.specs.declared.chain.Chain.{Chain}
 use Rattle.proto_links.specs.declared.links.Link.{Link}
 use Rattle.proto_links.specs.declared.links.Entry.{Entry}
@@ -9,7 +11,7 @@ use Rattle.proto_links.specs.Sight.{found}
 
 -- the map as a function
 unfoldable pub table_of : Chain → List ℕ → Option ℕ
-table_of chain name = get_by (λ k. bytes_eq name k.now) chain.numbers
+table_of chain name = get_by (λ k. slice_cmp nat_cmp name k.now) chain.numbers
 
 abbrev pub no_numbers : List ℕ → Option ℕ
 no_numbers name = None

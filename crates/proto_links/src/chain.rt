@@ -3,15 +3,15 @@
 ghost use Rattle.std.specs.Prelude.{◌≡◌, ◌+◌, ◌<◌, length, IfOk, IsTrue, None};
 ghost use Rattle.proto_links.specs.Chains.{table_of, with_number, no_numbers, below, IsLonger};
 
-use indexmap::IndexMap;
 use std::alloc::{AllocFailed, Global};
+use std::collections::BTreeMap;
 use x3d_lists::Text;
 
 /// Links of different names, each of which sees the one before it and all that this one sees.
 #[derive(Drop)]
 pub struct Chain<'a> {
     /// Their numbers among all links.
-    pub numbers: IndexMap<&'a str, usize>,
+    pub numbers: BTreeMap<&'a str, usize>,
     /// What the first of them sees.
     pub from: usize,
     /// The number of the last of them.
@@ -76,7 +76,7 @@ pub fn begin<'a>(
     ensures last { IfOk result (λ c. c.last ≡ number) }
 {
     let mut chain = Chain {
-        numbers: IndexMap::new(alloc),
+        numbers: BTreeMap::new(alloc),
         from,
         last: number,
     };

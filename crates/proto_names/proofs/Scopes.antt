@@ -6,7 +6,7 @@ use Rattle.std.specs.Option.{option_or}
 use Rattle.std.specs.Str.{bytes_eq}
 use Rattle.std.proofs.lemmas.Bool.{lt-ltb, le-ltb}
 use Rattle.std.proofs.lemmas.Slice.Eq.{bytes_eq-Decides}
-use Rattle.flat_meaning.specs.Names.{Name, Braces, Stands, has_name, used, last_from}
+use Rattle.proto_meaning.specs.Names.{Name, Braces, Stands, has_name, used, last_from}
 use Rattle.proto_names.specs.declared.names.Closed.{Closed}
 use Rattle.proto_names.specs.declared.names.Names.{Names}
 use Rattle.proto_names.specs.Held.{begun_of, closed_of, with_entry, is_later, opened, closed, closed_at, last_closed, Knows}

@@ -2,16 +2,18 @@
 use Rattle.std.specs.Prelude.{◌≡◌, ℕ, ◌+◌, nat_lt, Bool, false, if◌then◌else◌, List, [], ◌∷◌, Option, None, Some, option_map}
 use Rattle.std.specs.Option.{option_or}
 use Rattle.std.specs.Str.{bytes_eq}
-use Rattle.indexmap.specs.IndexMap.{get_by}
-use Rattle.flat_meaning.specs.Names.{Name, Braces, Stands, has_name, last_from}
+use Rattle.std.specs.BTreeMap.{get_by}
+use Rattle.std.specs.Cmp.Lexicographic.{slice_cmp}
+use Rattle.std.specs.Ordering.{nat_cmp}
+use Rattle.proto_meaning.specs.Names.{Name, Braces, Stands, has_name, last_from}
 use Rattle.proto_names.specs.declared.names.Closed.{Closed}
 use Rattle.proto_names.specs.declared.names.Names.{Names}
 
 unfoldable pub begun_of : Names → Name → Option ℕ
-begun_of names name = get_by (λ k. bytes_eq name k.now) names.begun
+begun_of names name = get_by (λ k. slice_cmp nat_cmp name k.now) names.begun
 
 unfoldable pub closed_of : Names → Name → Option Closed
-closed_of names name = get_by (λ k. bytes_eq name k.now) names.closed
+closed_of names name = get_by (λ k. slice_cmp nat_cmp name k.now) names.closed
 
 abbrev pub with_entry : {A : Type 0} → Name → A → (Name → Option A) → Name → Option A
 with_entry given a entries name = if bytes_eq given name then Some a else entries name

@@ -1,13 +1,13 @@
 //! What USE and ROUTE find by a name.
 
 ghost use Rattle.std.specs.Prelude.{◌≡◌, ◌++◌, ◌∷◌, [], List, length, IfOk};
-ghost use Rattle.flat_meaning.specs.Names as meaning;
-ghost use Rattle.flat_meaning.specs.Names.{Braces, Stands};
+ghost use Rattle.proto_meaning.specs.Names as meaning;
+ghost use Rattle.proto_meaning.specs.Names.{Braces, Stands};
 ghost use Rattle.proto_names.specs.Held as held;
 ghost use Rattle.proto_names.specs.Held.{Knows, begun_of, closed_of, with_entry};
 
-use indexmap::IndexMap;
 use std::alloc::{AllocError, AllocFailed, Global};
+use std::collections::BTreeMap;
 use x3d_lists::Text;
 
 /// Braces of a scope that are closed: how many of the scope were opened before them, and the
@@ -22,8 +22,8 @@ pub struct Closed {
 /// are closed.
 #[derive(Drop)]
 pub struct Names<'a> {
-    pub begun: IndexMap<&'a str, usize>,
-    pub closed: IndexMap<&'a str, Closed>,
+    pub begun: BTreeMap<&'a str, usize>,
+    pub closed: BTreeMap<&'a str, Closed>,
 }
 
 fn is_later(closed: Option<Closed>, at: usize) -> bool
@@ -42,8 +42,8 @@ impl<'a> Names<'a> {
         ensures { Knows result [] }
     {
         Names {
-            begun: IndexMap::new(alloc),
-            closed: IndexMap::new(alloc),
+            begun: BTreeMap::new(alloc),
+            closed: BTreeMap::new(alloc),
         }
     }
 

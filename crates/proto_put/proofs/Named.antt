@@ -5,8 +5,8 @@ use Rattle.std.specs.Borrow.{Bor}
 use Rattle.std.specs.Option.{option_map_or}
 use Rattle.std.proofs.lemmas.List.{map-set}
 use Rattle.std.proofs.lemmas.Option.{slice_get-map}
-use Rattle.flat_document.specs.declared.flat.FlatNode.{FlatNode}
-use Rattle.flat_meaning.specs.Flat.{renamed}
+use Rattle.proto_flat.specs.declared.flat.FlatNode.{FlatNode}
+use Rattle.proto_meaning.specs.Flat.{renamed}
 use Rattle.proto_put.specs.declared.put.PlacedNode.{PlacedNode}
 use Rattle.proto_put.specs.Held.{flat_of, nodes_of}
 

@@ -1,7 +1,7 @@
 -- What was put in, as the definition sees it.
 use Rattle.std.specs.Prelude.{List, map}
-use Rattle.flat_document.specs.declared.flat.FlatNode.{FlatNode}
-use Rattle.flat_meaning.specs.Sight.{Put}
+use Rattle.proto_flat.specs.declared.flat.FlatNode.{FlatNode}
+use Rattle.proto_meaning.specs.Sight.{Put}
 use Rattle.proto_put.specs.declared.put.PlacedNode.{PlacedNode}
 use Rattle.proto_put.specs.declared.put.PutIn.{PutIn}
 

@@ -1,11 +1,11 @@
 //! Nodes that were put in, and how they grow.
 
 ghost use Rattle.std.specs.Prelude.{◌≡◌, ◌++◌, ◌∷◌, [], length, IfOk, OnOk};
-ghost use Rattle.flat_meaning.specs.Flat.{renamed};
+ghost use Rattle.proto_meaning.specs.Flat.{renamed};
 ghost use Rattle.proto_put.specs.Held.{flat_of, nodes_of, shown};
 
 use classic_tree::Declaration;
-use flat_document::{FlatField, FlatNode};
+use proto_flat::{FlatField, FlatNode};
 use std::alloc::{AllocError, Global};
 use x3d_lists::{Duplicate, Items, Text};
 use x3d_values::NodeType;

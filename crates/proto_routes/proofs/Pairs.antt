@@ -7,12 +7,12 @@ use Rattle.std.proofs.lemmas.Bool.{not-true, not-false, ltb-true, ltb-false, lt-
 use Rattle.std.proofs.lemmas.List.{append-nil}
 use Rattle.std.proofs.lemmas.List.Sums.{fold-append}
 use Rattle.std.proofs.lemmas.Nat.{mul-le}
-use Rattle.flat_document.specs.Fault.{fault, memory}
-use Rattle.flat_document.specs.declared.fault.ExpandFault.{ExpandFault}
-use Rattle.flat_document.specs.declared.fault.ExpandFaultKind.TheVariants.{TooLarge}
-use Rattle.flat_document.specs.declared.flat.FlatEnd.{FlatEnd}
-use Rattle.flat_document.specs.declared.flat.FlatRoute.{FlatRoute}
-use Rattle.flat_meaning.specs.Names.{pairs}
+use Rattle.proto_flat.specs.Fault.{fault, memory}
+use Rattle.proto_flat.specs.declared.fault.ExpandFault.{ExpandFault}
+use Rattle.proto_flat.specs.declared.fault.ExpandFaultKind.TheVariants.{TooLarge}
+use Rattle.proto_flat.specs.declared.flat.FlatEnd.{FlatEnd}
+use Rattle.proto_flat.specs.declared.flat.FlatRoute.{FlatRoute}
+use Rattle.proto_meaning.specs.Names.{pairs}
 use Rattle.proto_routes.specs.declared.ends.End.{End}
 use Rattle.proto_routes.specs.declared.ends.Ends.{Ends}
 use Rattle.proto_routes.specs.declared.ends.Ends.TheVariants.{One, Both'}

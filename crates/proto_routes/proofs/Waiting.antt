@@ -4,9 +4,9 @@ use Rattle.std.specs.Borrow.{Bor}
 use Rattle.std.proofs.lemmas.List.{append-nil}
 use Rattle.std.proofs.lemmas.List.Sums.{fold-append}
 use Rattle.x3d_lists.specs.Answers.{Gives}
-use Rattle.flat_document.specs.Fault.{memory}
-use Rattle.flat_document.specs.declared.fault.ExpandFault.{ExpandFault}
-use Rattle.flat_document.specs.declared.flat.FlatRoute.{FlatRoute}
+use Rattle.proto_flat.specs.Fault.{memory}
+use Rattle.proto_flat.specs.declared.fault.ExpandFault.{ExpandFault}
+use Rattle.proto_flat.specs.declared.flat.FlatRoute.{FlatRoute}
 use Rattle.proto_routes.specs.declared.routes.Wire.{Wire}
 use Rattle.proto_routes.specs.declared.wires.Wires.{Wires}
 use Rattle.proto_routes.specs.Ends.{few}

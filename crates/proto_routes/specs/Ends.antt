@@ -2,11 +2,11 @@
 use Rattle.std.specs.Prelude.{nat_lt, if◌then◌else◌, List, [], ◌∷◌, ◌++◌, length, Result, Ok, Err}
 use Rattle.std.specs.List.{fold}
 use Rattle.std.specs.Borrow.{Bor}
-use Rattle.flat_document.specs.Fault.{fault}
-use Rattle.flat_document.specs.declared.fault.ExpandFault.{ExpandFault}
-use Rattle.flat_document.specs.declared.fault.ExpandFaultKind.TheVariants.{TooLarge}
-use Rattle.flat_document.specs.declared.flat.FlatEnd.{FlatEnd}
-use Rattle.flat_document.specs.declared.flat.FlatEnd.TheVariants as flat_end
+use Rattle.proto_flat.specs.Fault.{fault}
+use Rattle.proto_flat.specs.declared.fault.ExpandFault.{ExpandFault}
+use Rattle.proto_flat.specs.declared.fault.ExpandFaultKind.TheVariants.{TooLarge}
+use Rattle.proto_flat.specs.declared.flat.FlatEnd.{FlatEnd}
+use Rattle.proto_flat.specs.declared.flat.FlatEnd.TheVariants as flat_end
 use Rattle.proto_routes.specs.declared.ends.End.{End}
 use Rattle.proto_routes.specs.declared.ends.End.TheVariants.{At, NoNode, NoField, WrongWay}
 use Rattle.proto_routes.specs.declared.ends.Ends.{Ends}

@@ -1,10 +1,10 @@
 -- What ROUTEs between ends that are known mean.
 use Rattle.std.specs.Prelude.{ℕ, List, [], map, Option, Some, None}
 use Rattle.std.specs.List.{flat_map}
-use Rattle.flat_document.specs.declared.flat.FlatEnd.{FlatEnd}
-use Rattle.flat_document.specs.declared.flat.FlatRoute.{FlatRoute}
+use Rattle.proto_flat.specs.declared.flat.FlatEnd.{FlatEnd}
+use Rattle.proto_flat.specs.declared.flat.FlatRoute.{FlatRoute}
 use Rattle.std.specs.declared.rc.Rc.{Rc}
-use Rattle.flat_meaning.specs.Names.{pairs}
+use Rattle.proto_meaning.specs.Names.{pairs}
 use Rattle.proto_routes.specs.declared.ends.End.{End}
 use Rattle.proto_routes.specs.declared.ends.Ends.{Ends}
 use Rattle.proto_routes.specs.declared.routes.Wire.{Wire}

@@ -2,9 +2,9 @@
 use Rattle.std.specs.Prelude.{◌≡◌, ◌⊎◌, ◌≤◌, List, [], ◌∷◌, ◌++◌, length, Result, Ok, Err}
 use Rattle.std.specs.List.{flat_map, fold}
 use Rattle.std.specs.Borrow.{Bor}
-use Rattle.flat_document.specs.Fault.{memory}
-use Rattle.flat_document.specs.declared.fault.ExpandFault.{ExpandFault}
-use Rattle.flat_document.specs.declared.flat.FlatRoute.{FlatRoute}
+use Rattle.proto_flat.specs.Fault.{memory}
+use Rattle.proto_flat.specs.declared.fault.ExpandFault.{ExpandFault}
+use Rattle.proto_flat.specs.declared.flat.FlatRoute.{FlatRoute}
 use Rattle.proto_routes.specs.declared.routes.Wire.{Wire}
 use Rattle.proto_routes.specs.declared.wires.Wires.{Wires}
 use Rattle.proto_routes.specs.declared.wires.Wires.TheVariants.{One, Both'}

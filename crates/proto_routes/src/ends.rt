@@ -2,11 +2,11 @@
 
 ghost use Rattle.std.specs.Prelude.{◌≡◌, ◌++◌, ◌∷◌, [], IfOk};
 ghost use Rattle.x3d_lists.specs.Answers.{Gives};
-ghost use Rattle.flat_document.specs.Fault.{memory};
+ghost use Rattle.proto_flat.specs.Fault.{memory};
 ghost use Rattle.proto_routes.specs.Ends as spec;
 ghost use Rattle.proto_routes.specs.Ends.{list, waiting, few};
 
-use flat_document::{ExpandFault, ExpandFaultKind, FlatEnd};
+use proto_flat::{ExpandFault, ExpandFaultKind, FlatEnd};
 use std::alloc::{AllocError, Global};
 use std::rc::Rc;
 use x3d_lists::{Duplicate, Items, Text};

@@ -2,12 +2,12 @@
 
 ghost use Rattle.std.specs.Prelude.{◌≡◌, ◌≤◌, ◌++◌, ◌∷◌, [], length, IfOk};
 ghost use Rattle.x3d_lists.specs.Answers.{Gives};
-ghost use Rattle.flat_document.specs.Fault.{memory};
+ghost use Rattle.proto_flat.specs.Fault.{memory};
 ghost use Rattle.proto_routes.specs.Ends.{few};
 ghost use Rattle.proto_routes.specs.Wires.{StepsOn, means, wires, wires_waiting};
 
 use crate::routes::{Wire, push_wire};
-use flat_document::{ExpandFault, ExpandFaultKind, FlatRoute};
+use proto_flat::{ExpandFault, ExpandFaultKind, FlatRoute};
 use std::alloc::{AllocError, Global};
 use std::rc::Rc;
 use x3d_lists::Items;

@@ -1,15 +1,18 @@
 -- Braces of a scope that open and close, and what stands in it.
-use Rattle.std.proofs.Common.{◌≡◌, ℕ, suc, zero, ◌+◌, false, true≢false, List, [], ◌∷◌, ◌++◌, length, map, Option, Some, None, refl, ap, sym, subst, ◌∙◌, arith}
+use Rattle.std.proofs.Common.{◌≡◌, ℕ, suc, zero, false, true≢false, if◌then◌else◌, List, [], ◌∷◌, ◌++◌, length, map, Option, Some, None, refl, ap, sym, subst, ◌∙◌, arith}
 use Rattle.std.specs.Prelude.{slice_get, slice_set, option_map, is_some}
+use Rattle.std.specs.Option.{option_or}
+use Rattle.std.specs.Str.{bytes_eq}
 use Rattle.std.proofs.Math.Path.{fun_ext}
 use Rattle.std.proofs.lemmas.Grind.{flat_map-append}
 use Rattle.std.proofs.lemmas.List.{append-nil, map-append, map-set, length-map}
 use Rattle.std.proofs.lemmas.Option.{none-some}
 use Rattle.std.specs.declared.rc.Rc.{Rc}
+use Rattle.classic_tree.specs.declared.tree.RawValue.{RawValue}
 use Rattle.classic_tree.specs.declared.tree.RouteText.{RouteText}
-use Rattle.flat_document.specs.declared.flat.FlatRoute.{FlatRoute}
-use Rattle.flat_meaning.specs.Names as meaning
-use Rattle.flat_meaning.specs.Names.{last_from, stands_at, pairs, sources, targets}
+use Rattle.proto_flat.specs.declared.flat.FlatRoute.{FlatRoute}
+use Rattle.proto_meaning.specs.Names as meaning
+use Rattle.proto_meaning.specs.Names.{Filled, last_from, stands_at, pairs, sources, targets, value_of}
 use Rattle.proto_names.specs.declared.names.Names.{Names}
 use Rattle.proto_names.specs.Held.{Knows, opened, closed}
 use Rattle.proto_joins.specs.declared.joins.Braces.{Braces}
@@ -105,3 +108,22 @@ pub set-shown : (s : meaning.Scope) (items : List Braces) (at : ℕ) (b : Braces
     record s { braces = map braces_of (slice_set items at b) } ≡ record s { braces = slice_set s.braces at (braces_of b) }
 set-shown s items at b is =
     ap (λ bs. record s { braces = bs }) (map-set braces_of items at b ∙ ap (λ bs. slice_set bs at (braces_of b)) (sym is))
+
+-- ---- what an IS finds
+
+or-assoc : (o p q : Option (RawValue ℕ)) → option_or (option_or o p) q ≡ option_or o (option_or p q)
+or-assoc None p q = refl
+or-assoc (Some a) p q = refl
+
+-- what is given, and then the default values
+value-behind : (name : meaning.Name) (xs ys : List Filled) → value_of name (xs ++ ys) ≡ option_or (value_of name xs) (value_of name ys)
+value-behind name [] ys = refl
+value-behind name (f ∷ fs) ys =
+    ap (λ o. option_or (if bytes_eq f.name name then f.value else None) o) (value-behind name fs ys)
+    ∙ sym (or-assoc (if bytes_eq f.name name then f.value else None) (value_of name fs) (value_of name ys))
+
+pub given-first : (name : meaning.Name) (xs ys : List Filled) (v : RawValue ℕ) → Some v ≡ value_of name xs → Some v ≡ value_of name (xs ++ ys)
+given-first name xs ys v is = ap (λ o. option_or o (value_of name ys)) is ∙ sym (value-behind name xs ys)
+
+pub given-then : (name : meaning.Name) (xs ys : List Filled) (o : Option (RawValue ℕ)) → None ≡ value_of name xs → o ≡ value_of name ys → o ≡ value_of name (xs ++ ys)
+given-then name xs ys o none is = is ∙ ap (λ p. option_or p (value_of name ys)) none ∙ sym (value-behind name xs ys)

@@ -1,12 +1,12 @@
--- A name scope of the program as flat_meaning has it, and the steps of flat_meaning on a scope.
+-- A name scope of the program as proto_meaning has it, and the steps of proto_meaning on a scope.
 use Rattle.std.specs.Prelude.{ℕ, if◌then◌else◌, List, [], ◌++◌, map, Option, Some, None, slice_set}
 use Rattle.std.specs.Borrow.{Bor}
 use Rattle.std.specs.Option.{option_map_or}
 use Rattle.std.specs.Str.{bytes_eq}
 use Rattle.classic_tree.specs.declared.tree.RouteText.{RouteText}
-use Rattle.flat_document.specs.declared.flat.FlatRoute.{FlatRoute}
-use Rattle.flat_meaning.specs.Names as meaning
-use Rattle.flat_meaning.specs.Names.{Name, Field, stands_at, sources, targets, pairs}
+use Rattle.proto_flat.specs.declared.flat.FlatRoute.{FlatRoute}
+use Rattle.proto_meaning.specs.Names as meaning
+use Rattle.proto_meaning.specs.Names.{Name, Field, stands_at, sources, targets, pairs}
 use Rattle.proto_names.specs.Held.{Knows}
 use Rattle.proto_given.specs.Held as given
 use Rattle.proto_joins.specs.Joins.{braces_of, joins_ends}
@@ -24,15 +24,16 @@ shown s =
       routes = parts_routes s.routes.items;
       ends = joins_ends s.joins.items;
       interface = fields_of s.interface;
-      given = given.shown s.given;
+      given = given.shown s.given ++ given.shown s.defaults;
     }
 
 -- the tables are those of the braces, and of what is given
 pub record Sound (s : Scope) : Type 0 where
   pub names : Knows s.names (map braces_of s.braces.items)
+  pub defaults : given.IsHeld s.defaults
   pub given : given.IsHeld s.given
 
--- ---- flat_meaning's steps
+-- ---- proto_meaning's steps
 
 -- as `begin` has it
 abbrev pub nothing : meaning.Scope

@@ -3,8 +3,8 @@
 ghost use Rattle.std.specs.Prelude.{◌≡◌, ◌++◌, ◌∷◌, [], true, None, Some, length, option_map, slice_get, IfOk};
 ghost use Rattle.std.specs.List.{find};
 ghost use Rattle.std.specs.Str.{bytes_eq};
-ghost use Rattle.flat_meaning.specs.Names as meaning;
-ghost use Rattle.flat_meaning.specs.Names.{Field, last_from, value_of};
+ghost use Rattle.proto_meaning.specs.Names as meaning;
+ghost use Rattle.proto_meaning.specs.Names.{Field, last_from, value_of};
 ghost use Rattle.proto_names.specs.Held.{opened};
 ghost use Rattle.proto_interface.specs.Fields.{field_named};
 ghost use Rattle.proto_given.specs.Held as given;
@@ -37,8 +37,10 @@ pub struct Scope<'a> {
     pub routes: Vec<RoutePart<'a>>,
     /// Of the prototype whose body this is, once the default values are put in.
     pub interface: Option<&'a Interface<'a>>,
-    /// What the instance is given, or has by default.
+    /// What the instance is given.
     pub given: Given<'a>,
+    /// The default values of fields that it gives no value.
+    pub defaults: Given<'a>,
 }
 
 fn is_same(one: &Option<Text>, other: &Option<Text>) -> bool
@@ -66,6 +68,7 @@ impl<'a> Scope<'a> {
             routes: Vec::new(alloc),
             interface: None,
             given: Given::new(alloc),
+            defaults: Given::new(alloc),
         }
     }
 
@@ -107,6 +110,7 @@ impl<'a> Scope<'a> {
             ≡ spec.closed_at at name.now (stands_by node instance.entry) (shown self.old) }
         ensures names { self.new.names ≡ self.old.names }
         ensures given { self.new.given ≡ self.old.given }
+        ensures defaults { self.new.defaults ≡ self.old.defaults }
     {
         if at < self.braces.len() {
             self.braces[at] = Braces {
@@ -218,21 +222,32 @@ impl<'a> Scope<'a> {
         requires { Sound self.now }
         ensures { option_map (λ v. v.now.value) result ≡ value_of name.now (shown self.now).given }
     {
-        self.given.value(name)
+        match self.given.value(name) {
+            Some(value) => Some(value),
+            None => self.defaults.value(name),
+        }
     }
 
-    /// The default values are put in: ISs find the interface, and what the instance is given.
-    pub fn begin_body(&mut self, interface: &'a Interface<'a>, values: Given<'a>)
+    /// The default values are put in: ISs find the interface, and what the instance is given, and
+    /// then those.
+    pub fn begin_body(
+        &mut self,
+        interface: &'a Interface<'a>,
+        values: Given<'a>,
+        defaults: Given<'a>,
+    )
         requires holds { given.IsHeld values }
+        requires defaults { given.IsHeld defaults }
         requires sound { Sound self.old }
         ensures shown { shown self.new ≡ record (shown self.old) {
           interface = interface.now;
-          given = given.shown values.entry;
+          given = given.shown values.entry ++ given.shown defaults.entry;
         } }
         ensures sound { Sound self.new }
     {
         self.interface = Some(interface);
         self.given = values;
+        self.defaults = defaults;
     }
 
     /// The ends of the interface's fields, once all braces are closed.

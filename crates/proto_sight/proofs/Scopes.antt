@@ -10,11 +10,11 @@ use Rattle.std.proofs.lemmas.List.Sums.{fold-append}
 use Rattle.classic_tree.specs.declared.tree.ProtoText.{ProtoText, out-ProtoText}
 use Rattle.x3d_values.specs.Names.{node_type_named}
 use Rattle.x3d_values.specs.declared.node_type.NodeType.{NodeType}
-use Rattle.flat_document.specs.Fault.{memory}
-use Rattle.flat_document.specs.declared.fault.ExpandFault.{ExpandFault}
-use Rattle.flat_meaning.specs.Names.{Name}
-use Rattle.flat_meaning.specs.Sight as meaning
-use Rattle.flat_meaning.specs.Sight.{Names, no_names, Sight, Owner, OfType, OfProto, declared, meant, taken_by, and_see}
+use Rattle.proto_flat.specs.Fault.{memory}
+use Rattle.proto_flat.specs.declared.fault.ExpandFault.{ExpandFault}
+use Rattle.proto_meaning.specs.Names.{Name}
+use Rattle.proto_meaning.specs.Sight as meaning
+use Rattle.proto_meaning.specs.Sight.{Names, no_names, Sight, Owner, OfType, OfProto, declared, meant, taken_by, and_see}
 use Rattle.proto_sight.specs.declared.sight.Taken.{Taken}
 use Rattle.proto_sight.specs.declared.sight.Prototype.{Prototype}
 use Rattle.proto_sight.specs.declared.sight.Table.{Table}

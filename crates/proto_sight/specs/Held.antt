@@ -6,11 +6,11 @@ use Rattle.std.specs.Str.{bytes_eq}
 use Rattle.indexmap.specs.IndexMap.{get_by}
 use Rattle.indexmap.specs.IndexSet.{contains_by}
 use Rattle.classic_tree.specs.declared.tree.ProtoText.{ProtoText, out-ProtoText}
-use Rattle.flat_document.specs.Fault.{memory}
-use Rattle.flat_document.specs.declared.fault.ExpandFault.{ExpandFault}
-use Rattle.flat_meaning.specs.Names.{Name}
-use Rattle.flat_meaning.specs.Sight as meaning
-use Rattle.flat_meaning.specs.Sight.{Names, no_names, Sight}
+use Rattle.proto_flat.specs.Fault.{memory}
+use Rattle.proto_flat.specs.declared.fault.ExpandFault.{ExpandFault}
+use Rattle.proto_meaning.specs.Names.{Name}
+use Rattle.proto_meaning.specs.Sight as meaning
+use Rattle.proto_meaning.specs.Sight.{Names, no_names, Sight}
 use Rattle.proto_sight.specs.declared.sight.Taken.{Taken}
 use Rattle.proto_sight.specs.declared.sight.Taker.{Taker}
 use Rattle.proto_sight.specs.declared.sight.Prototype.{Prototype}

@@ -1,4 +1,4 @@
--- What the parts of a text declare and take, by the text itself: the steps of flat_meaning, part by part.
+-- What the parts of a text declare and take, by the text itself: the steps of proto_meaning, part by part.
 use Rattle.std.specs.Prelude.{ℕ, Bool, false, not, ◌&&◌, ◌||◌, if◌then◌else◌, List, [], ◌∷◌, ◌++◌, Result, Ok, Err, is_some}
 use Rattle.std.specs.List.{list_any}
 use Rattle.std.specs.Str.{bytes_eq}
@@ -13,13 +13,13 @@ use Rattle.classic_tree.specs.declared.tree.BodyItem.TheOpen.{ProtoText-F}
 use Rattle.classic_tree.specs.declared.tree.RawValue.{RawValue}
 use Rattle.classic_tree.specs.declared.tree.RawValue.TheVariants as value
 use Rattle.classic_tree.specs.declared.tree.Statement.{Statement}
-use Rattle.flat_document.specs.Fault.{fault}
-use Rattle.flat_document.specs.declared.fault.ExpandFault.{ExpandFault}
-use Rattle.flat_document.specs.declared.fault.ExpandFaultKind.TheVariants.{ProtoTwice, ProtoItself, EmptyBody}
-use Rattle.flat_meaning.specs.Names.{Name}
-use Rattle.flat_meaning.specs.Sight.{Names, no_names, with_name, Prototype, Sight, Step, Search, and_see, each, aside, declared, meant, taken_by}
-use Rattle.flat_meaning.specs.Flat as flat
-use Rattle.flat_meaning.specs.Flat.{Item, Node, Stated, Proto}
+use Rattle.proto_flat.specs.Fault.{fault}
+use Rattle.proto_flat.specs.declared.fault.ExpandFault.{ExpandFault}
+use Rattle.proto_flat.specs.declared.fault.ExpandFaultKind.TheVariants.{ProtoTwice, ProtoItself, EmptyBody}
+use Rattle.proto_meaning.specs.Names.{Name}
+use Rattle.proto_meaning.specs.Sight.{Names, no_names, with_name, Prototype, Sight, Step, Search, and_see, each, aside, declared, meant, taken_by}
+use Rattle.proto_meaning.specs.Flat as flat
+use Rattle.proto_meaning.specs.Flat.{Item, Node, Stated, Proto}
 
 -- ---- the search for a node of one type
 

@@ -2,8 +2,8 @@
 
 ghost use Rattle.std.specs.Prelude.{◌≡◌, false, None, IfOk};
 ghost use Rattle.classic_tree.specs.declared.tree.ProtoText.{out-ProtoText};
-ghost use Rattle.flat_meaning.specs.Flat as flat;
-ghost use Rattle.flat_meaning.specs.Sight.{aside, each, is_kept, meant, taken_by};
+ghost use Rattle.proto_meaning.specs.Flat as flat;
+ghost use Rattle.proto_meaning.specs.Sight.{aside, each, is_kept, meant, taken_by};
 ghost use Rattle.proto_sight.specs.Texts as spec;
 ghost use Rattle.proto_sight.specs.Held.{found, names_of, taken_names, Does, shown};
 
@@ -11,7 +11,7 @@ use crate::bodies::{close, open};
 use crate::search::find_inside;
 use crate::sight::{Declarations, Taken, Taker};
 use classic_tree::{BodyItem, Declaration, Given, NodeText, ProtoText, RawValue, Statement};
-use flat_document::{ExpandFault, ExpandFaultKind};
+use proto_flat::{ExpandFault, ExpandFaultKind};
 use std::alloc::{AllocError, Global};
 use std::mem;
 use x3d_lists::Text;

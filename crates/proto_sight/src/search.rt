@@ -3,8 +3,8 @@
 ghost use Rattle.std.specs.Prelude.{◌≡◌, ◌&&◌, not, Ok, Err};
 ghost use Rattle.std.specs.Str.{bytes_eq};
 ghost use Rattle.classic_tree.specs.declared.tree.ProtoText.{out-ProtoText};
-ghost use Rattle.flat_meaning.specs.Flat as flat;
-ghost use Rattle.flat_meaning.specs.Sight.{and_see, each};
+ghost use Rattle.proto_meaning.specs.Flat as flat;
+ghost use Rattle.proto_meaning.specs.Sight.{and_see, each};
 ghost use Rattle.proto_sight.specs.Texts as spec;
 
 use classic_tree::{BodyItem, Declaration, Given, NodeText, ProtoText, RawValue, Statement};

@@ -1,8 +1,8 @@
 //! The prototypes in sight.
 
 ghost use Rattle.std.specs.Prelude.{◌≡◌, ◌++◌, ◌∷◌, [], List, None, IfOk, option_map};
-ghost use Rattle.flat_meaning.specs.Sight as meaning;
-ghost use Rattle.flat_meaning.specs.Sight.{no_names, with_name};
+ghost use Rattle.proto_meaning.specs.Sight as meaning;
+ghost use Rattle.proto_meaning.specs.Sight.{no_names, with_name};
 ghost use Rattle.proto_sight.specs.Texts.{prototype_of};
 ghost use Rattle.proto_sight.specs.Held.{names_of, takes_of, scope_of, found, seen, in_sight, shown};
 

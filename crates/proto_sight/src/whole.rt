@@ -1,16 +1,16 @@
 //! The prototypes of a whole document.
 
 ghost use Rattle.std.specs.Prelude.{◌≡◌, [], IfOk};
-ghost use Rattle.flat_document.specs.Fault.{memory};
+ghost use Rattle.proto_flat.specs.Fault.{memory};
 ghost use Rattle.x3d_lists.specs.Answers.{Gives};
-ghost use Rattle.flat_meaning.specs.Flat as flat;
-ghost use Rattle.flat_meaning.specs.Sight.{each, no_names};
+ghost use Rattle.proto_meaning.specs.Flat as flat;
+ghost use Rattle.proto_meaning.specs.Sight.{each, no_names};
 ghost use Rattle.proto_sight.specs.Held.{shown};
 
 use crate::check;
 use crate::sight::Declarations;
 use classic_tree::{Document, Statement};
-use flat_document::ExpandFault;
+use proto_flat::ExpandFault;
 use std::alloc::Global;
 
 impl<'a> Declarations<'a> {

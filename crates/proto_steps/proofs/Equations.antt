@@ -19,13 +19,13 @@ use Rattle.classic_tree.specs.declared.tree.Statement.{Statement, fold-roll-Stat
 use Rattle.classic_tree.specs.declared.tree.Statement.TheVariants as statement
 use Rattle.classic_tree.specs.declared.tree.ProtoText.{ProtoText, out-ProtoText, fold_out-ProtoText}
 use Rattle.classic_tree.proofs.Mapped.{given_mapped, interface_mapped}
-use Rattle.flat_document.specs.declared.fault.ExpandFault.{ExpandFault}
-use Rattle.flat_document.specs.declared.fault.ExpandFaultKind.TheVariants.{UnknownField, FieldTwice}
+use Rattle.proto_flat.specs.declared.fault.ExpandFault.{ExpandFault}
+use Rattle.proto_flat.specs.declared.fault.ExpandFaultKind.TheVariants.{UnknownField, FieldTwice}
 use Rattle.proto_fields.specs.declared.given.GivenField.{GivenField}
 use Rattle.proto_fields.specs.declared.given.KnownField.{KnownField}
 use Rattle.proto_fields.specs.Fields.{Signature, signature, signatures}
-use Rattle.proto_store.specs.Store.{used as finished}
-use Rattle.proto_store.specs.declared.names.Named.{Named}
+use Rattle.proto_rules.specs.Store.{used as finished}
+use Rattle.proto_rules.specs.declared.names.Named.{Named}
 use Rattle.proto_steps.specs.Machine.{Walk, Machine, Outcome, Does, and_then, ◌>>=◌, pure, refuse, through, keep, used, use_node}
 use Rattle.proto_steps.specs.Limits.{count_items}
 use Rattle.proto_steps.specs.Routes.{wire}

@@ -10,8 +10,8 @@ use Rattle.proto_ends.specs.declared.ends.Tip.{Tip}
 use Rattle.proto_ends.specs.declared.ends.Wire.{Wire}
 use Rattle.proto_fields.specs.Fields.{Signature, first_twice}
 use Rattle.proto_links.specs.declared.links.Link.{Link}
-use Rattle.proto_store.specs.Store.{with_instance}
-use Rattle.proto_store.specs.declared.store.Store.{Store}
+use Rattle.proto_rules.specs.Store.{with_instance}
+use Rattle.proto_rules.specs.declared.store.Store.{Store}
 use Rattle.proto_steps.specs.declared.held.Scope.{Scope}
 use Rattle.proto_steps.specs.Held.{defs_of, names_of, view}
 use Rattle.proto_steps.specs.Limits.{begin_instance, begin_node, count_interface, max_instances, max_nodes}

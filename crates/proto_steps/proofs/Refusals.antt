@@ -1,7 +1,7 @@
 -- What becomes of a declaration of a Script, case by case.
 use Rattle.std.proofs.Common.{◌≡◌, ℕ, nat_lt, List, Some, None, Err, true, false, refl}
-use Rattle.flat_document.specs.Fault.{fault}
-use Rattle.flat_document.specs.declared.fault.ExpandFaultKind.TheVariants.{UnknownField, FieldTwice, TooLarge}
+use Rattle.proto_flat.specs.Fault.{fault}
+use Rattle.proto_flat.specs.declared.fault.ExpandFaultKind.TheVariants.{UnknownField, FieldTwice, TooLarge}
 use Rattle.proto_fields.specs.declared.given.GivenField.{GivenField}
 use Rattle.proto_fields.specs.declared.given.KnownField.{KnownField}
 use Rattle.proto_fields.specs.Values.{max_fields}

@@ -3,10 +3,10 @@ use Rattle.std.specs.Prelude.{ℕ, if◌then◌else◌, List, [], ◌∷◌, ◌
 use Rattle.x3d_values.specs.declared.node_type.NodeType.{NodeType}
 use Rattle.classic_tree.specs.declared.tree.Declaration.{Declaration}
 use Rattle.classic_tree.specs.declared.tree.Given.TheVariants.{Nothing}
-use Rattle.flat_document.specs.Fault.{fault}
-use Rattle.flat_document.specs.declared.fault.ExpandFault.{ExpandFault}
-use Rattle.flat_document.specs.declared.fault.ExpandFaultKind.TheVariants.{TooLarge}
-use Rattle.flat_document.specs.declared.flat.FlatField.{FlatField}
+use Rattle.proto_flat.specs.Fault.{fault}
+use Rattle.proto_flat.specs.declared.fault.ExpandFault.{ExpandFault}
+use Rattle.proto_flat.specs.declared.fault.ExpandFaultKind.TheVariants.{TooLarge}
+use Rattle.proto_flat.specs.declared.flat.FlatField.{FlatField}
 use Rattle.proto_fields.specs.declared.given.GivenField.{GivenField}
 use Rattle.proto_fields.specs.Fields.{Signature}
 use Rattle.proto_steps.specs.Machine.{Machine}

@@ -1,16 +1,17 @@
 -- What the code holds, as the definitions see it. None of this is part of the definition of a flat
 -- document.
 use Rattle.std.specs.Prelude.{◌≡◌, ◌⊎◌, ◌≤◌, ℕ, nat_lt, if◌then◌else◌, List, [], ◌∷◌, length, map, reverse, Option, Some, None, option_map, Result, Ok, Err}
-use Rattle.std.specs.Str.{bytes_eq}
-use Rattle.indexmap.specs.IndexMap.{get_by}
+use Rattle.std.specs.BTreeMap.{get_by}
+use Rattle.std.specs.Cmp.Lexicographic.{slice_cmp}
+use Rattle.std.specs.Ordering.{nat_cmp}
 use Rattle.classic_tree.specs.declared.tree.ProtoText.{ProtoText, out-ProtoText}
-use Rattle.flat_document.specs.Fault.{fault, memory}
-use Rattle.flat_document.specs.declared.fault.ExpandFaultKind.TheVariants.{FieldTwice}
-use Rattle.flat_document.specs.declared.fault.ExpandFault.{ExpandFault}
+use Rattle.proto_flat.specs.Fault.{fault, memory}
+use Rattle.proto_flat.specs.declared.fault.ExpandFaultKind.TheVariants.{FieldTwice}
+use Rattle.proto_flat.specs.declared.fault.ExpandFault.{ExpandFault}
 use Rattle.proto_declarations.specs.declared.sight.Declarations.{Declarations}
 use Rattle.proto_declarations.specs.Held.{shown as all_declared}
 use Rattle.proto_fields.specs.declared.given.GivenField.{GivenField}
-use Rattle.proto_store.specs.declared.store.Store.{Store}
+use Rattle.proto_rules.specs.declared.store.Store.{Store}
 use Rattle.proto_steps.specs.declared.held.BegunNode.{BegunNode}
 use Rattle.proto_links.specs.declared.links.Link.{Link}
 use Rattle.proto_steps.specs.declared.held.Scope.{Scope}
@@ -26,13 +27,13 @@ use Rattle.proto_steps.specs.Meaning.{add_defaults, node_owner, declared_in, wit
 
 -- the map as a function of names
 unfoldable pub names_of : Scope → Names
-names_of scope name = get_by (λ k. bytes_eq name k.now) scope.names
+names_of scope name = get_by (λ k. slice_cmp nat_cmp name k.now) scope.names
 
 abbrev pub begun_of : BegunNode → Begun
 begun_of b = record { at = b.at; interface = b.interface }
 
 unfoldable pub defs_of : Scope → Defs
-defs_of scope name = option_map begun_of (get_by (λ k. bytes_eq name k.now) scope.defs)
+defs_of scope name = option_map begun_of (get_by (λ k. slice_cmp nat_cmp name k.now) scope.defs)
 
 abbrev pub place_of : ProtoText → Option ℕ → Place
 place_of p within = record { within = within; name = (out-ProtoText p).name }

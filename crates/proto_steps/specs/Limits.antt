@@ -1,8 +1,8 @@
 -- The limits: what was begun is counted, and what is too large has no flat form. Each node and
 -- instance has its place among all that were begun.
 use Rattle.std.specs.Prelude.{ℕ, ◌+◌, ◌-◌, if◌then◌else◌, [], ◌∷◌, ◌++◌, length, nat_lt, None, Ok, Err, slice_get}
-use Rattle.flat_document.specs.Fault.{fault}
-use Rattle.flat_document.specs.declared.fault.ExpandFaultKind.TheVariants.{TooLarge}
+use Rattle.proto_flat.specs.Fault.{fault}
+use Rattle.proto_flat.specs.declared.fault.ExpandFaultKind.TheVariants.{TooLarge}
 use Rattle.proto_fields.specs.Values.{count_of}
 use Rattle.proto_steps.specs.Machine.{Machine}
 

@@ -4,18 +4,18 @@ use Rattle.std.specs.Prelude.{ℕ, if◌then◌else◌, Bool, false, List, [], �
 use Rattle.std.specs.Str.{bytes_eq}
 use Rattle.x3d_lists.specs.Answers.{Gives}
 use Rattle.classic_tree.specs.declared.tree.RawValue.{RawValue}
-use Rattle.flat_document.specs.Fault.{fault, memory}
-use Rattle.flat_document.specs.declared.fault.ExpandFault.{ExpandFault}
-use Rattle.flat_document.specs.declared.fault.ExpandFaultKind.{ExpandFaultKind}
-use Rattle.flat_document.specs.declared.fault.ExpandFaultKind.TheVariants.{UseWithoutDef}
+use Rattle.proto_flat.specs.Fault.{fault, memory}
+use Rattle.proto_flat.specs.declared.fault.ExpandFault.{ExpandFault}
+use Rattle.proto_flat.specs.declared.fault.ExpandFaultKind.{ExpandFaultKind}
+use Rattle.proto_flat.specs.declared.fault.ExpandFaultKind.TheVariants.{UseWithoutDef}
 use Rattle.proto_declarations.specs.Sight.{Sight as Declared}
 use Rattle.proto_ends.specs.declared.ends.Spot.{Spot}
 use Rattle.proto_ends.specs.declared.ends.Stand.{Stand}
 use Rattle.proto_ends.specs.declared.ends.Tie.{Tie}
 use Rattle.proto_fields.specs.Fields.{Signature}
 use Rattle.proto_fields.specs.declared.given.GivenField.{GivenField}
-use Rattle.proto_store.specs.declared.store.Store.{Store}
-use Rattle.proto_store.specs.declared.names.Named.{Named}
+use Rattle.proto_rules.specs.declared.store.Store.{Store}
+use Rattle.proto_rules.specs.declared.names.Named.{Named}
 
 -- ---- machines
 

@@ -9,7 +9,7 @@ ghost use Rattle.proto_steps.specs.Meaning.{declared_in};
 
 use classic_tree::{BodyItem, Declaration, NodeText};
 use proto_fields::{KnownField, Named};
-use proto_store::field_declared;
+use proto_rules::field_declared;
 use std::alloc::{AllocError, Global};
 use std::marker::Model;
 use x3d_lists::Text;

@@ -2,10 +2,10 @@
 
 use crate::braces::Braces;
 use crate::instance::Instance;
-use indexmap::IndexMap;
 use proto_ends::Tie;
 use proto_fields::{GivenFields, Interface};
-use proto_store::Named;
+use proto_rules::Named;
+use std::collections::BTreeMap;
 use x3d_lists::Items;
 use x3d_values::NodeType;
 
@@ -21,8 +21,8 @@ pub struct BegunNode<'a> {
 /// body. `sight` counts links as in `Link` of proto_links.
 #[derive(Drop)]
 pub struct Scope<'a> {
-    pub names: IndexMap<&'a str, Named>,
-    pub defs: IndexMap<&'a str, BegunNode<'a>>,
+    pub names: BTreeMap<&'a str, Named>,
+    pub defs: BTreeMap<&'a str, BegunNode<'a>>,
     pub sight: usize,
     pub given: GivenFields,
     pub interface: Interface<'a>,

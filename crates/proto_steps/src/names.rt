@@ -7,10 +7,10 @@ ghost use Rattle.proto_steps.specs.Machine as spec;
 ghost use Rattle.proto_steps.specs.Machine.{Does, with_def, with_name};
 
 use crate::held::{BegunNode, Scope};
-use flat_document::ExpandFault;
 use proto_declarations::Declarations;
+use proto_flat::ExpandFault;
 use proto_links::{Link, Links};
-use proto_store::{Named, Store};
+use proto_rules::{Named, Store};
 use std::alloc::{AllocFailed, Global};
 use x3d_lists::{Duplicate, Text};
 
@@ -115,7 +115,7 @@ pub fn use_node(
         (view store.now declarations.now scope.now links.now)) result
         (view store.now declarations.now scope.now links.now) }
 {
-    proto_store::used(line, named(scope, name))
+    proto_rules::used(line, named(scope, name))
 }
 
 /// The last prototype of this name among so many links, with what its body sees.

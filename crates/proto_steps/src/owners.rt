@@ -10,7 +10,7 @@ use crate::instance::Placed;
 use crate::scripts;
 use proto_declarations::Declarations;
 use proto_fields::{GivenFields, KnownField};
-use proto_store::field_of_type;
+use proto_rules::field_of_type;
 use x3d_lists::Text;
 
 /// The place of whose braces are open.
@@ -63,7 +63,7 @@ fn is_taken_there(declarations: &Declarations<'_>, placed: Placed<'_>, name: &Te
     ensures { result ≡ spec.is_taken (Some (place_of placed.entry.proto.now placed.entry.within))
         name.now (all_declared declarations.now) }
 {
-    proto_store::is_passed_on(declarations, placed.within, &placed.proto.name, name)
+    proto_rules::is_passed_on(declarations, placed.within, &placed.proto.name, name)
 }
 
 /// Whether what the field is given goes anywhere.

@@ -10,12 +10,12 @@ ghost use Rattle.proto_steps.specs.Routes as spec;
 use crate::held::{BegunNode, Scope};
 use crate::names::begun;
 use classic_tree::RouteText;
-use flat_document::ExpandFault;
 use proto_declarations::Declarations;
 use proto_ends::{Joint, Tip, Wire};
 use proto_fields::{KnownField, source_field, target_field};
+use proto_flat::ExpandFault;
 use proto_links::Links;
-use proto_store::Store;
+use proto_rules::Store;
 use std::alloc::Global;
 use x3d_lists::{Duplicate, Text};
 

@@ -8,12 +8,12 @@ ghost use Rattle.proto_steps.specs.Limits as limit;
 ghost use Rattle.proto_steps.specs.Meaning as meaning;
 
 use crate::held::Scope;
-use flat_document::{ExpandFault, ExpandFaultKind};
 use proto_declarations::Declarations;
 use proto_ends::{Joint, Spot, Stand, Tie, spot_count, with_spots};
 use proto_fields::{Interface, Joined};
+use proto_flat::{ExpandFault, ExpandFaultKind};
 use proto_links::Links;
-use proto_store::Store;
+use proto_rules::Store;
 use std::alloc::{AllocError, Global};
 use x3d_lists::Items;
 

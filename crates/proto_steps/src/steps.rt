@@ -14,13 +14,13 @@ ghost use Rattle.proto_steps.specs.Meaning.{declared_in};
 use crate::held::Scope;
 use crate::scripts;
 use classic_tree::{BodyItem, Declaration, NodeText, RawValue};
-use flat_document::{ExpandFault, ExpandFaultKind, FlatField};
-use indexmap::IndexMap;
 use proto_declarations::Declarations;
 use proto_fields::{GivenFields, Interface, flat_fields, item_count};
+use proto_flat::{ExpandFault, ExpandFaultKind, FlatField};
 use proto_links::Links;
-use proto_store::{PlacedNode, Store};
+use proto_rules::{PlacedNode, Store};
 use std::alloc::{AllocError, Global};
+use std::collections::BTreeMap;
 use x3d_lists::{Duplicate, Items, Text};
 use x3d_values::NodeType;
 
@@ -58,8 +58,8 @@ pub fn empty_scope<'a>(alloc: Global, sight: usize, inside: Option<usize>) -> Sc
     ensures inside { result.inside ≡ inside }
 {
     Scope {
-        names: IndexMap::new(alloc),
-        defs: IndexMap::new(alloc),
+        names: BTreeMap::new(alloc),
+        defs: BTreeMap::new(alloc),
         sight,
         given: GivenFields::few(alloc),
         interface: Interface::none(),

@@ -7,7 +7,7 @@ use Rattle.classic_tree.specs.declared.tree.NodeText.{NodeText}
 use Rattle.classic_tree.specs.declared.tree.Statement.TheVariants as statement
 use Rattle.classic_tree.specs.declared.tree.ProtoText.{ProtoText, out-ProtoText}
 use Rattle.classic_tree.specs.declared.tree.RouteText.{RouteText}
-use Rattle.flat_document.specs.declared.fault.ExpandFault.{ExpandFault}
+use Rattle.proto_flat.specs.declared.fault.ExpandFault.{ExpandFault}
 use Rattle.proto_fields.specs.declared.given.GivenField.{GivenField}
 use Rattle.proto_links.specs.declared.links.Link.{Link}
 use Rattle.proto_walk.specs.declared.frames.Task.{Task}

@@ -8,7 +8,7 @@ use Rattle.classic_tree.specs.declared.tree.BodyItem.TheVariants as item
 use Rattle.classic_tree.specs.declared.tree.NodeText.{NodeText}
 use Rattle.classic_tree.specs.declared.tree.ProtoText.{ProtoText}
 use Rattle.classic_tree.specs.declared.tree.RouteText.{RouteText}
-use Rattle.flat_document.specs.declared.fault.ExpandFault.{ExpandFault}
+use Rattle.proto_flat.specs.declared.fault.ExpandFault.{ExpandFault}
 use Rattle.proto_fields.specs.declared.given.GivenField.{GivenField}
 use Rattle.proto_fields.specs.declared.given.Joined.{Joined}
 use Rattle.proto_links.specs.declared.links.Link.{Link}

@@ -2,9 +2,9 @@
 use Rattle.std.proofs.Common.{◌≡◌, ℕ, List, Some, None, Err, true, false, ◌∙◌, refl}
 use Rattle.classic_tree.specs.declared.tree.RawValue.{RawValue}
 use Rattle.classic_tree.specs.declared.tree.NodeText.{NodeText}
-use Rattle.flat_document.specs.Fault.{fault}
-use Rattle.flat_document.specs.declared.fault.ExpandFault.{ExpandFault}
-use Rattle.flat_document.specs.declared.fault.ExpandFaultKind.TheVariants.{UnknownField, FieldTwice, BadIs}
+use Rattle.proto_flat.specs.Fault.{fault}
+use Rattle.proto_flat.specs.declared.fault.ExpandFault.{ExpandFault}
+use Rattle.proto_flat.specs.declared.fault.ExpandFaultKind.TheVariants.{UnknownField, FieldTwice, BadIs}
 use Rattle.proto_fields.specs.declared.given.GivenField.{GivenField}
 use Rattle.proto_fields.specs.declared.given.KnownField.{KnownField}
 use Rattle.proto_fields.specs.Fields.{Signature, of_interface, of_signature, fits}

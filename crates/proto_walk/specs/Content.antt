@@ -1,12 +1,12 @@
 -- What a document comes to without its header. This is no part of the definition.
 use Rattle.std.specs.Prelude.{ℕ, List, Result, Ok, Err}
-use Rattle.flat_document.specs.declared.fault.ExpandFault.{ExpandFault}
-use Rattle.flat_document.specs.declared.flat.Flat.{Flat}
-use Rattle.flat_document.specs.declared.flat.FlatRoute.{FlatRoute}
-use Rattle.flat_document.specs.declared.flat.Header.{Header}
+use Rattle.proto_flat.specs.declared.fault.ExpandFault.{ExpandFault}
+use Rattle.proto_flat.specs.declared.flat.Flat.{Flat}
+use Rattle.proto_flat.specs.declared.flat.FlatRoute.{FlatRoute}
+use Rattle.proto_flat.specs.declared.flat.Header.{Header}
 use Rattle.proto_ends.specs.Pairs.{routes_of}
 use Rattle.proto_steps.specs.Machine.{Outcome}
-use Rattle.proto_store.specs.declared.store.Store.{Store}
+use Rattle.proto_rules.specs.declared.store.Store.{Store}
 use Rattle.proto_walk.specs.Whole.{flat_nodes}
 use Rattle.proto_walk.specs.declared.content.Content.{Content}
 

@@ -3,17 +3,17 @@ use Rattle.std.specs.Prelude.{ℕ, List, [], ◌∷◌, ◌++◌, length, Option
 use Rattle.std.specs.List.{fold}
 use Rattle.classic_tree.specs.declared.tree.Document.{Document}
 use Rattle.classic_tree.specs.declared.tree.Statement.{Statement}
-use Rattle.flat_document.specs.declared.fault.ExpandFault.{ExpandFault}
-use Rattle.flat_document.specs.declared.flat.Flat.{Flat}
-use Rattle.flat_document.specs.declared.flat.FlatNode.{FlatNode}
-use Rattle.flat_document.specs.declared.flat.FlatRoute.{FlatRoute}
-use Rattle.flat_document.specs.declared.flat.Header.{Header}
+use Rattle.proto_flat.specs.declared.fault.ExpandFault.{ExpandFault}
+use Rattle.proto_flat.specs.declared.flat.Flat.{Flat}
+use Rattle.proto_flat.specs.declared.flat.FlatNode.{FlatNode}
+use Rattle.proto_flat.specs.declared.flat.FlatRoute.{FlatRoute}
+use Rattle.proto_flat.specs.declared.flat.Header.{Header}
 use Rattle.proto_declarations.specs.Sight.{Sight as Declared}
 use Rattle.proto_declarations.specs.Sight.{nothing as nothing_declared}
 use Rattle.proto_declarations.specs.Meaning.{statement as checked}
 use Rattle.proto_ends.specs.Pairs.{routes_of}
-use Rattle.proto_store.specs.declared.store.Store.{Store}
-use Rattle.proto_store.specs.declared.store.PlacedNode.{PlacedNode}
+use Rattle.proto_rules.specs.declared.store.Store.{Store}
+use Rattle.proto_rules.specs.declared.store.PlacedNode.{PlacedNode}
 use Rattle.proto_steps.specs.Machine.{Walk, Machine, Outcome, ◌>>=◌, pure, through}
 use Rattle.proto_steps.specs.Limits.{max_interface_fields, max_items, max_joined}
 use Rattle.proto_steps.specs.Meaning.{statement_does, within}

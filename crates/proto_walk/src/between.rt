@@ -11,8 +11,8 @@ ghost use Rattle.proto_walk.specs.Frames.{Holds, IsJoined, Leads, shown};
 use crate::frames::{Listing, Next, Open, Walker};
 use crate::items::add_field;
 use classic_tree::{Given, NodeText, RawValue};
-use flat_document::{ExpandFault, ExpandFaultKind};
 use proto_fields::{GivenFields, Joined};
+use proto_flat::{ExpandFault, ExpandFaultKind};
 use proto_steps::Owner;
 use std::alloc::Global;
 use x3d_lists::{Items, Text};
@@ -184,7 +184,7 @@ fn joined(
     let Some(outer) = walker.scope.interface.field(name.as_str()) else {
         return Err(ExpandFaultKind::BadIs.on_line(line));
     };
-    if !proto_store::fits(outer, inner) {
+    if !proto_rules::fits(outer, inner) {
         return Err(ExpandFaultKind::BadIs.on_line(line));
     }
     if fields.has(inner.number) {

@@ -2,14 +2,14 @@
 
 ghost use Rattle.std.specs.Prelude.{◌≡◌, slice_get, IfOk};
 ghost use Rattle.x3d_lists.specs.Answers.{Gives};
-ghost use Rattle.flat_document.specs.Fault.{memory};
+ghost use Rattle.proto_flat.specs.Fault.{memory};
 ghost use Rattle.proto_ends.specs.Pairs.{routes_of as all_routes};
 ghost use Rattle.proto_walk.specs.Content.{under, with_pairs};
 ghost use Rattle.proto_walk.specs.Whole as spec;
 
-use flat_document::{ExpandFault, Flat, FlatNode, FlatRoute, Header};
 use proto_ends::routes_of;
-use proto_store::{PlacedNode, Store};
+use proto_flat::{ExpandFault, Flat, FlatNode, FlatRoute, Header};
+use proto_rules::{PlacedNode, Store};
 use std::alloc::{AllocError, Global};
 use std::mem;
 use x3d_lists::{Duplicate, Items, Text};

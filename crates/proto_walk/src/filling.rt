@@ -11,8 +11,8 @@ ghost use Rattle.proto_walk.specs.Frames.{Holds, Leads, shown};
 use crate::between::put_taken;
 use crate::frames::{Body, Filling, Next, Open, Walker};
 use classic_tree::{Declaration, Given, NodeText};
-use flat_document::{ExpandFault, ExpandFaultKind};
 use proto_fields::{GivenFields, Interface};
+use proto_flat::{ExpandFault, ExpandFaultKind};
 use proto_steps::{Instance, Placed, Scope};
 use std::alloc::Global;
 use std::mem;
@@ -33,7 +33,7 @@ pub fn open_defaults<'a>(
         (shown walker.old)) walker.old result walker.new opened.new }
 {
     let Placed { proto, within, .. } = instance.placed();
-    let inside = proto_store::body_of(&walker.declarations, within, &proto.name);
+    let inside = proto_rules::body_of(&walker.declarations, within, &proto.name);
     let inner = proto_steps::empty_scope(alloc, opened.sight, inside);
     let outer = mem::replace(&mut walker.scope, inner);
     opened.sight = outer.sight;
@@ -86,7 +86,7 @@ fn put_default<'a>(
         (in_sight walker.old.links opened.old.sight) opened.old)) walker.old
         result walker.new opened.new }
 {
-    if proto_store::is_wanted(
+    if proto_rules::is_wanted(
         &walker.declarations,
         placed.within,
         &placed.proto.name,

@@ -7,7 +7,7 @@ ghost use Rattle.proto_walk.specs.Frames.{Holds, IfHanded, shown};
 
 use crate::frames::Walker;
 use classic_tree::{ProtoText, RouteText};
-use flat_document::ExpandFault;
+use proto_flat::ExpandFault;
 use proto_links::Link;
 use std::alloc::Global;
 

@@ -13,8 +13,8 @@ ghost use Rattle.proto_walk.specs.Frames.{Holds, IsJoined, Leads, shown};
 use crate::frames::{Next, Open, Walker};
 use crate::{between, items};
 use classic_tree::{Declaration, Given, NodeText, RawValue};
-use flat_document::{ExpandFault, ExpandFaultKind};
 use proto_fields::{GivenFields, Joined, KnownField};
+use proto_flat::{ExpandFault, ExpandFaultKind};
 use proto_steps::{Owner, declared_number};
 use std::alloc::Global;
 use x3d_lists::Text;
@@ -35,7 +35,7 @@ fn outer_field(
         access: declaration.access,
         field_type: declaration.field_type,
     };
-    if !proto_store::fits(outer, inner) {
+    if !proto_rules::fits(outer, inner) {
         return Err(ExpandFaultKind::BadIs.on_line(declaration.line));
     }
     Ok(outer)

@@ -9,13 +9,13 @@ ghost use Rattle.proto_steps.specs.Meaning as spec;
 ghost use Rattle.proto_walk.specs.Rows as rows;
 
 use classic_tree::{BodyItem, Declaration, NodeText};
-use flat_document::{ExpandFault, ExpandFaultKind};
 use proto_declarations::Declarations;
 use proto_ends::{Spot, Stand};
 use proto_fields::{GivenFields, Interface};
+use proto_flat::{ExpandFault, ExpandFaultKind};
 use proto_links::Links;
+use proto_rules::Store;
 use proto_steps::{BegunNode, Scope};
-use proto_store::Store;
 use std::alloc::Global;
 use x3d_lists::{Items, Text};
 use x3d_values::NodeType;

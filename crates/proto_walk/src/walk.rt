@@ -11,7 +11,7 @@ ghost use Rattle.proto_walk.specs.Frames.{StepsOn, comes_to, shown};
 use crate::frames::{Frame, Listing, Next, Opened, Task, Walker};
 use crate::{between, bodies, entering, items};
 use classic_tree::{NodeText, RawValue};
-use flat_document::{ExpandFault, ExpandFaultKind};
+use proto_flat::{ExpandFault, ExpandFaultKind};
 use std::alloc::Global;
 use std::mem;
 

@@ -2,7 +2,7 @@
 
 ghost use Rattle.std.specs.Prelude.{◌≡◌, [], IfOk, None};
 ghost use Rattle.x3d_lists.specs.Answers.{Gives};
-ghost use Rattle.flat_document.specs.Fault.{memory};
+ghost use Rattle.proto_flat.specs.Fault.{memory};
 ghost use Rattle.proto_steps.specs.Machine.{and_then, pure, through};
 ghost use Rattle.proto_steps.specs.Routes.{wire};
 ghost use Rattle.proto_steps.specs.Meaning.{statement_does};
@@ -15,10 +15,10 @@ use crate::content::Content;
 use crate::frames::Walker;
 use crate::{content, met, walk};
 use classic_tree::{Document, RouteText, Statement};
-use flat_document::{ExpandFault, ExpandFaultKind, Flat, Header};
 use proto_declarations::Declarations;
+use proto_flat::{ExpandFault, ExpandFaultKind, Flat, Header};
 use proto_links::Links;
-use proto_store::Store;
+use proto_rules::Store;
 use std::alloc::{AllocError, Global};
 use x3d_lists::Items;
 

@@ -1,29 +1,33 @@
 -- What a step comes to, one part after the other.
-use Rattle.std.proofs.Common.{◌≡◌, ℕ, [], ◌∷◌, ◌++◌, length, Option, Some, None, Result, Ok, Err, refl, ap, sym, ◌∙◌, inl, inr}
+use Rattle.std.proofs.Common.{◌≡◌, ℕ, Bool, true, false, true≢false, ◌||◌, if◌then◌else◌, List, [], ◌∷◌, ◌++◌, length, Option, Some, None, Result, Ok, Err, refl, ap, sym, ◌∙◌, inl, inr}
 use Rattle.std.specs.Prelude.{◌⊎◌}
 use Rattle.std.specs.Result.{result_map_both}
 use Rattle.std.specs.Option.{option_map_or}
-use Rattle.flat_document.specs.Fault.{fault, memory}
-use Rattle.flat_document.specs.declared.fault.ExpandFault.{ExpandFault}
-use Rattle.flat_document.specs.declared.fault.ExpandFaultKind.{ExpandFaultKind}
-use Rattle.flat_document.specs.declared.fault.ExpandFaultKind.TheVariants.{UseWithoutDef}
-use Rattle.flat_meaning.specs.Limits.{Met}
-use Rattle.flat_meaning.specs.Names.{Name, Scope, Stands, used}
-use Rattle.flat_meaning.specs.Sight.{Put, and_see, no_names}
-use Rattle.flat_meaning.specs.Flat.{Does, ◌>>=◌, pure, refuse, meet, note, close_node}
-use Rattle.flat_document.specs.declared.flat.FlatEnd.TheVariants.{At}
-use Rattle.flat_document.specs.declared.flat.FlatNode.{FlatNode}
+use Rattle.std.specs.Str.{bytes_eq}
+use Rattle.std.proofs.lemmas.Slice.Eq.{bytes_eq-Decides}
+use Rattle.proto_flat.specs.Fault.{fault, memory}
+use Rattle.proto_flat.specs.declared.fault.ExpandFault.{ExpandFault}
+use Rattle.proto_flat.specs.declared.fault.ExpandFaultKind.{ExpandFaultKind}
+use Rattle.proto_flat.specs.declared.fault.ExpandFaultKind.TheVariants.{FieldTwice, UseWithoutDef}
+use Rattle.proto_meaning.specs.Limits.{Met}
+use Rattle.proto_meaning.specs.Names.{Name, Field, Scope, Stands, used}
+use Rattle.proto_meaning.specs.Sight.{Names, Put, and_see, no_names, with_name}
+use Rattle.proto_meaning.specs.Flat.{Does, ◌>>=◌, pure, refuse, meet, note, close_node, is_one, renamed, unless_twice}
+use Rattle.proto_flat.specs.declared.flat.FlatEnd.TheVariants.{At}
+use Rattle.proto_flat.specs.declared.flat.FlatNode.{FlatNode}
+use Rattle.proto_flat.specs.declared.flat.FlatRoute.{FlatRoute}
+use Rattle.proto_interface.specs.Fields.{twice_after}
 use Rattle.proto_names.specs.Held.{opened}
 use Rattle.proto_put.specs.Held as puts
 use Rattle.proto_scope.specs.Held as scopes
 use Rattle.proto_scope.specs.declared.scope.Scope as held
-use Rattle.proto_scope.specs.Held.{closed_at}
+use Rattle.proto_scope.specs.Held.{closed_at, with_routes}
 use Rattle.proto_limits.specs.declared.room.Room.{Room}
 use Rattle.proto_limits.specs.Settled.{State, spend, settle, onward, doing}
 use Rattle.proto_limits.proofs.Settling.{doing-meet, parts_settle_in_turn}
 use Rattle.proto_walker.specs.declared.walker.Walker.{Walker}
-use Rattle.proto_walker.specs.Shown.{shown, Sound, Steps}
-use Rattle.proto_walker.specs.Steps.{named_node, opening}
+use Rattle.proto_walker.specs.Shown.{shown, in_scope, Sound, Steps}
+use Rattle.proto_walker.specs.Steps.{named_node, opening, standing_in}
 
 -- ---- single parts
 
@@ -114,3 +118,59 @@ closes name at node old new number is put scope room =
     ∙ ap (λ p. Ok (number, standing old.room p (closed_at at name (node_at number) (scopes.shown old.scope)))) (sym put)
     ∙ ap (λ sc. Ok (number, standing old.room (puts.shown new.put) sc)) (sym scope)
     ∙ ap (λ r. Ok (number, standing r (puts.shown new.put) (scopes.shown new.scope))) (sym room)
+
+-- ---- the body of an instance
+
+-- another scope, and what was put in is the same
+pub scoped : (old : Walker) (scope : held.Scope) (shown_now : Scope) → scopes.shown scope ≡ shown_now → shown (record old { scope = scope }) ≡ in_scope shown_now (shown old)
+scoped old scope shown_now is = ap (λ sc. standing old.room (puts.shown old.put) sc) is
+
+pub stands : (name : Option Name) (at : ℕ) (what : Stands) (routes : List FlatRoute) (old new : Walker) (between : held.Scope) → puts.shown new.put ≡ record (puts.shown old.put) { nodes = renamed name what.node (puts.shown old.put).nodes } →
+    scopes.shown between ≡ with_routes routes (scopes.shown old.scope) → scopes.shown new.scope ≡ closed_at at name what (scopes.shown between) → new.room ≡ old.room →
+    doing (standing_in name at what routes) (shown old) ≡ Ok (what.node, shown new)
+stands name at what routes old new between put routed scope room =
+    ap (λ sc. Ok (what.node, standing old.room (record (puts.shown old.put) { nodes = renamed name what.node (puts.shown old.put).nodes }) (closed_at at name what sc))) (sym routed)
+    ∙ ap (λ p. Ok (what.node, standing old.room p (closed_at at name what (scopes.shown between)))) (sym put)
+    ∙ ap (λ sc. Ok (what.node, standing old.room (puts.shown new.put) sc)) (sym scope)
+    ∙ ap (λ r. Ok (what.node, standing r (puts.shown new.put) (scopes.shown new.scope))) (sym room)
+
+-- ---- names that stand twice
+
+abbrev twice_comes : Option ℕ → State → Result (Unit {0} × State) ExpandFault
+twice_comes None s = Ok (tt, s)
+twice_comes (Some line) s = Err (fault FieldTwice line)
+
+same-bool : (p q : Bool) → (p ≡ true → q ≡ true) → (q ≡ true → p ≡ true) → p ≡ q
+same-bool true q f g = sym (f refl)
+same-bool false true f g = absurd (true≢false (sym (g refl)))
+same-bool false false f g = refl
+
+turned : (a b : Name) → bytes_eq a b ≡ bytes_eq b a
+turned a b =
+    same-bool (bytes_eq a b) (bytes_eq b a) (λ e. (bytes_eq-Decides b a).1 (sym ((bytes_eq-Decides a b).0 e)))
+    (λ e. (bytes_eq-Decides a b).1 (sym ((bytes_eq-Decides b a).0 e)))
+
+one-more : (b p q : Bool) → p ≡ q → (if b then true else p) ≡ b || q
+one-more true p q is = refl
+one-more false p q is = is
+
+known-by : (seen : List Name) (names : Names) (name n : Name) → names n ≡ is_one n seen → with_name name names n ≡ is_one n (name ∷ seen)
+known-by seen names name n is =
+    one-more (bytes_eq name n) (names n) (is_one n seen) is ∙ ap (λ b. b || is_one n seen) (turned name n)
+
+unless-by : (seen : List Name) (names : Names) (f : Field) (fs : List Field) (s : State) (b : Bool) → names f.name ≡ b →
+    doing (unless_twice (f.name ∷ seen) fs) s ≡ twice_comes (twice_after (with_name f.name names) fs) s →
+    doing (if b then refuse FieldTwice f.line else unless_twice (f.name ∷ seen) fs) s ≡ twice_comes (if names f.name then Some f.line else twice_after (with_name f.name names) fs) s
+unless-by seen names f fs s true is next = sym (ap (λ b. twice_comes (if b then Some f.line else twice_after (with_name f.name names) fs) s) is)
+unless-by seen names f fs s false is next = next ∙ sym (ap (λ b. twice_comes (if b then Some f.line else twice_after (with_name f.name names) fs) s) is)
+
+unless : (seen : List Name) (names : Names) (fs : List Field) (s : State) → ((n : Name) → names n ≡ is_one n seen) → doing (unless_twice seen fs) s ≡ twice_comes (twice_after names fs) s
+unless seen names [] s agree = refl
+unless seen names (f ∷ fs) s agree =
+    unless-by seen names f fs s (is_one f.name seen) (agree f.name) (unless (f.name ∷ seen) (with_name f.name names) fs s (λ n. known-by seen names f.name n (agree n)))
+
+pub none-twice : (fs : List Field) (s : State) → None ≡ twice_after no_names fs → doing (unless_twice [] fs) s ≡ Ok (tt, s)
+none-twice fs s is = unless [] no_names fs s (λ n. refl) ∙ sym (ap (λ o. twice_comes o s) is)
+
+pub one-twice : (fs : List Field) (s : State) (line : ℕ) → Some line ≡ twice_after no_names fs → doing (unless_twice [] fs) s ≡ Err (fault FieldTwice line)
+one-twice fs s line is = unless [] no_names fs s (λ n. refl) ∙ sym (ap (λ o. twice_comes o s) is)

@@ -1,9 +1,10 @@
 -- Where a walk stands, as the definition has it.
 use Rattle.std.specs.Prelude.{◌≡◌, ◌⊎◌, [], Result, Ok, Err}
-use Rattle.flat_document.specs.Fault.{memory}
-use Rattle.flat_document.specs.declared.fault.ExpandFault.{ExpandFault}
-use Rattle.flat_meaning.specs.Flat.{begin}
-use Rattle.flat_meaning.specs.Sight.{no_names}
+use Rattle.proto_flat.specs.Fault.{memory}
+use Rattle.proto_flat.specs.declared.fault.ExpandFault.{ExpandFault}
+use Rattle.proto_meaning.specs.Flat.{begin}
+use Rattle.proto_meaning.specs.Names.{Scope}
+use Rattle.proto_meaning.specs.Sight.{no_names}
 use Rattle.proto_limits.specs.Settled.{State, full}
 use Rattle.proto_put.specs.Held as put
 use Rattle.proto_scope.specs.Held as scope
@@ -20,6 +21,10 @@ shown w =
         scope = scope.shown w.scope;
       };
     }
+
+-- the same with another scope
+abbrev pub in_scope : Scope → State → State
+in_scope scope s = record { room = s.room; walk = record s.walk { scope = scope } }
 
 abbrev pub before : State
 before = record { room = full; walk = begin [] (record { nodes = []; helpers = [] }) }

@@ -1,11 +1,12 @@
--- Steps of flat_meaning that stand inside others there.
-use Rattle.std.specs.Prelude.{ℕ, [], ◌∷◌, ◌++◌, length, Option, None}
+-- Steps of proto_meaning that stand inside others there.
+use Rattle.std.specs.Prelude.{ℕ, List, [], ◌∷◌, ◌++◌, length, Option, None}
 use Rattle.std.specs.Option.{option_map_or}
-use Rattle.flat_document.specs.declared.fault.ExpandFaultKind.TheVariants.{UseWithoutDef}
-use Rattle.flat_meaning.specs.Limits.{AnItem}
-use Rattle.flat_meaning.specs.Names.{Name, used}
-use Rattle.proto_scope.specs.Held.{with_join}
-use Rattle.flat_meaning.specs.Flat.{Does, ◌>>=◌, pure, refuse, meet, note}
+use Rattle.proto_flat.specs.declared.fault.ExpandFaultKind.TheVariants.{UseWithoutDef}
+use Rattle.proto_meaning.specs.Limits.{AnItem}
+use Rattle.proto_flat.specs.declared.flat.FlatRoute.{FlatRoute}
+use Rattle.proto_meaning.specs.Names.{Name, Stands, used}
+use Rattle.proto_scope.specs.Held.{with_join, with_routes}
+use Rattle.proto_meaning.specs.Flat.{Does, ◌>>=◌, pure, refuse, meet, note, close, renamed}
 
 -- the node of that name
 abbrev pub named_node : ℕ → Name → Does ℕ
@@ -25,3 +26,9 @@ opening name =
 -- an IS joins a field, as `join` has it
 abbrev pub joining : Name → ℕ → Name → Does (Unit {0})
 joining outer at field = note (tt {0}) (with_join outer at field)
+
+-- the body of an instance is done, as `close_instance` has it
+abbrev pub standing_in : Option Name → ℕ → Stands → List FlatRoute → Does ℕ
+standing_in name at what routes =
+    λ w. close name at what (record w.put { nodes = renamed name what.node w.put.nodes })
+    (record w { scope = with_routes routes w.scope })

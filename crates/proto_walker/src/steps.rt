@@ -1,17 +1,29 @@
 //! Steps that put no other nodes in.
 
-ghost use Rattle.flat_meaning.specs.Flat as flat;
-ghost use Rattle.flat_meaning.specs.Flat.{meet};
-ghost use Rattle.flat_meaning.specs.Limits.{ANode, AnInstance, AField, AnItem};
+ghost use Rattle.std.specs.Prelude.{◌≡◌, []};
+ghost use Rattle.proto_meaning.specs.Flat as flat;
+ghost use Rattle.proto_meaning.specs.Flat.{meet};
+ghost use Rattle.proto_meaning.specs.Limits.{ANode, AnInstance, AField, AnItem};
 ghost use Rattle.proto_limits.specs.Settled.{doing};
+ghost use Rattle.proto_joins.specs.Joins.{instance_by};
+ghost use Rattle.proto_joins.specs.Sides.{made_routes};
 ghost use Rattle.proto_put.specs.Held.{flat_of};
-ghost use Rattle.proto_walker.specs.Shown.{Sound, Steps, shown};
-ghost use Rattle.proto_walker.specs.Steps.{joining, opening, using};
+ghost use Rattle.proto_scope.specs.Held as scope;
+ghost use Rattle.proto_scope.specs.Held.{nothing};
+ghost use Rattle.proto_walker.specs.Shown.{Sound, Steps, in_scope, shown};
+ghost use Rattle.proto_walker.specs.Steps.{joining, opening, standing_in, using};
 
 use crate::walker::Walker;
 use classic_tree::RouteText;
-use flat_document::{ExpandFault, ExpandFaultKind};
+use proto_flat::{ExpandFault, ExpandFaultKind};
+use proto_interface::Interface;
+use proto_joins::InstanceEnds;
 use proto_put::PlacedNode;
+use proto_routes::Wires;
+use proto_scope::Scope;
+use std::alloc::Global;
+use std::mem;
+use std::rc::Rc;
 use x3d_lists::Text;
 
 impl<'a> Walker<'a> {
@@ -109,5 +121,59 @@ impl<'a> Walker<'a> {
     {
         self.scope.join(outer, at, field)?;
         Ok(())
+    }
+
+    /// No name stands twice in the interface: FieldTwice where one does.
+    pub fn check_interface(&self, interface: &Interface<'_>) -> Result<(), ExpandFault>
+        requires { Sound self.now }
+        ensures { Steps (λ a. a) (doing (flat.unless_twice [] interface.now) (shown self.now)) result
+            self.now }
+    {
+        let Some(line) = interface.twice() else {
+            return Ok(());
+        };
+        Err(ExpandFaultKind::FieldTwice.on_line(line))
+    }
+
+    /// A scope of its own begins, for the body of an instance. Gives the scope around it.
+    pub fn enter(&mut self, alloc: Global) -> Scope<'a>
+        requires { Sound self.old }
+        ensures shown { shown self.new ≡ in_scope nothing (shown self.old) }
+        ensures sound { Sound self.new }
+        ensures around { scope.shown result ≡ (shown self.old).walk.scope }
+        ensures held { scope.Sound result }
+    {
+        mem::replace(&mut self.scope, Scope::new(alloc))
+    }
+
+    /// The scope around goes on.
+    pub fn leave(&mut self, around: Scope<'a>)
+        requires { scope.Sound around }
+        ensures shown { shown self.new ≡ in_scope (scope.shown around.entry) (shown self.old) }
+        ensures sound { Sound self.new }
+    {
+        drop(mem::replace(&mut self.scope, around));
+    }
+
+    /// The braces of an instance stand for the first node of its body, which takes its name; the
+    /// ROUTEs of the body stand behind the others.
+    pub fn stand_in(
+        &mut self,
+        alloc: Global,
+        name: &'a Option<Text>,
+        at: usize,
+        node: u32,
+        ends: InstanceEnds<'a>,
+        routes: Option<Rc<Wires<'a>>>,
+    ) -> Result<u32, ExpandFault>
+        requires { Sound self.old }
+        ensures { Steps (λ n. n) (doing (standing_in name.now at (instance_by node ends.entry)
+            (made_routes routes.entry)) (shown self.old)) result self.new }
+    {
+        let ends = Rc::new(alloc, ends)?;
+        self.put.rename(node, name);
+        self.scope.add_routes(routes)?;
+        self.scope.close(name, at, node, Some(ends))?;
+        Ok(node)
     }
 }

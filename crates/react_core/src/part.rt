@@ -1,6 +1,6 @@
 //! Numbers part of the way between two others.
 
-ghost use Rattle.std.specs.Prelude.{◌≡◌, ◌<◌, ◌≤◌, pos, negsuc, ◌+ℤ◌, ◌≤ℤ◌};
+ghost use Rattle.std.specs.Prelude.{◌≡◌, ◌<◌, ◌≤◌, ◌/◌, ◌^◌, pos, negsuc, ◌+ℤ◌, ◌≤ℤ◌};
 ghost use Rattle.react_core.specs.Interpolation.{part_way};
 
 /// The number `way` above `from`, which isn't above `to`.
@@ -19,6 +19,19 @@ fn moved_down(from: i64, to: i64, way: u64) -> i64
     (from as i128 - way as i128 - 1) as i64
 }
 
+/// A quotient of 64 bits. A number that has no more itself is divided as one of 64 bits, which the
+/// processor does in one instruction.
+fn divided(number: u128, whole: u64) -> u64
+    requires is_whole { 0 < whole }
+    requires fits { number / whole < 2 ^ 64 }
+    ensures { result ≡ number / whole }
+{
+    if number <= u64::MAX as u128 {
+        return number as u64 / whole;
+    }
+    (number / whole as u128) as u64
+}
+
 /// The number at `part` of `whole` of the way from one number to another, rounded down.
 #[tactic(auto, unfolding(crate::specs::Interpolation::part_way))]
 pub fn part_way(part: u64, whole: u64, from: i64, to: i64) -> i64
@@ -28,10 +41,10 @@ pub fn part_way(part: u64, whole: u64, from: i64, to: i64) -> i64
 {
     let product = to.abs_diff(from) as u128 * part as u128;
     if from <= to {
-        moved_up(from, to, (product / whole as u128) as u64)
+        moved_up(from, to, divided(product, whole))
     } else if product == 0 {
         from
     } else {
-        moved_down(from, to, ((product - 1) / whole as u128) as u64)
+        moved_down(from, to, divided(product - 1, whole))
     }
 }

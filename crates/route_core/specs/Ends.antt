@@ -6,9 +6,9 @@ use Rattle.x3d_values.specs.contracts.field_type.FieldType as types
 use Rattle.x3d_values.specs.declared.field_type.Access.{Access}
 use Rattle.x3d_values.specs.declared.table.FieldRow.{FieldRow}
 use Rattle.x3d_values.specs.Access.{receives, sends, holds_nodes}
-use Rattle.flat_document.specs.declared.flat.FlatEnd.{FlatEnd}
-use Rattle.flat_document.specs.declared.flat.FlatEnd.TheVariants.{At, NoNode, NoField, WrongWay}
-use Rattle.flat_document.specs.declared.flat.FlatRoute.{FlatRoute}
+use Rattle.proto_flat.specs.declared.flat.FlatEnd.{FlatEnd}
+use Rattle.proto_flat.specs.declared.flat.FlatEnd.TheVariants.{At, NoNode, NoField, WrongWay}
+use Rattle.proto_flat.specs.declared.flat.FlatRoute.{FlatRoute}
 use Rattle.scene_core.specs.Scene.{SceneView, shapes_of, rows_at, number_of}
 use Rattle.scene_core.specs.Shape.{rows_of}
 use Rattle.scene_core.specs.declared.scene.End.{End}

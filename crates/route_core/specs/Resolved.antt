@@ -1,10 +1,10 @@
 -- The routes of a document in its scene (ISO/IEC 19775-1, ROUTE).
 use Rattle.std.specs.Prelude.{ℕ, nat_lt, List, [], ◌∷◌, length, Result, Ok, Err, if◌then◌else◌}
-use Rattle.flat_document.specs.declared.flat.Flat.{Flat}
-use Rattle.flat_document.specs.declared.flat.FlatRoute.{FlatRoute}
+use Rattle.proto_flat.specs.declared.flat.Flat.{Flat}
+use Rattle.proto_flat.specs.declared.flat.FlatRoute.{FlatRoute}
 use Rattle.scene_core.specs.Scene.{SceneView}
 use Rattle.scene_core.specs.declared.scene.Route.{Route}
-pub use Rattle.first_routes.specs.Firsts.{same_route, added, firsts}
+pub use Rattle.route_first.specs.Firsts.{same_route, added, firsts}
 use Rattle.route_core.specs.Ends.{route_of}
 use Rattle.route_core.specs.declared.resolving.TheConstants.{MOST_ROUTES}
 use Rattle.route_core.specs.declared.fault.RouteFault.{RouteFault}

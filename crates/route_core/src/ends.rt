@@ -2,10 +2,12 @@
 
 ghost use Rattle.std.specs.Prelude.{◌≡◌, ◌^◌, ◌<◌, IfOk, IfSome};
 ghost use Rattle.route_core.specs.Ends as spec;
+ghost use Rattle.route_core.specs.Named.{AreTables};
 
 use crate::fault::RouteFaultKind;
+use crate::named::RowTables;
 use crate::names::{source_field, target_field};
-use flat_document::{FlatEnd, FlatRoute};
+use proto_flat::{FlatEnd, FlatRoute};
 use scene_core::{End, Route, Scene};
 use x3d_values::{FieldRow, FieldType};
 
@@ -17,12 +19,17 @@ pub(crate) struct SceneField {
 }
 
 /// The route of the scene, or its source's fault, its target's, or that of both.
-pub(crate) fn route_of(scene: &Scene, route: &FlatRoute) -> Result<Route, RouteFaultKind>
+pub(crate) fn route_of(
+    scene: &Scene,
+    tables: &RowTables<'_>,
+    route: &FlatRoute,
+) -> Result<Route, RouteFaultKind>
+    requires { AreTables scene.now tables.now }
     ensures exact { result ≡ spec.route_of scene.now route.now }
     ensures known { IfOk result (λ r. spec.IsKnown scene.now r.source) }
 {
-    let source = source_of(scene, &route.source)?;
-    let target = target_of(scene, &route.target)?;
+    let source = source_of(scene, tables, &route.source)?;
+    let target = target_of(scene, tables, &route.target)?;
     joined(source, target)
 }
 
@@ -50,14 +57,20 @@ fn field_at(node: u32, row: FieldRow) -> SceneField
     }
 }
 
-fn output_named(scene: &Scene, node: u32, name: &str) -> Result<SceneField, RouteFaultKind>
+fn output_named(
+    scene: &Scene,
+    tables: &RowTables<'_>,
+    node: u32,
+    name: &str,
+) -> Result<SceneField, RouteFaultKind>
+    requires { AreTables scene.now tables.now }
     ensures exact { result ≡ spec.output_named scene.now name.now (spec.node_of scene.now node) }
     ensures known { IfOk result (λ field. spec.IsKnown scene.now field.end) }
 {
     let Some(node) = node_of(scene, node) else {
         return Err(RouteFaultKind::NoSuchNode);
     };
-    let Some(row) = source_field(scene, node, name) else {
+    let Some(row) = source_field(scene, tables, node, name) else {
         return Err(RouteFaultKind::NoSuchField);
     };
     if row.access.sends() {
@@ -66,13 +79,19 @@ fn output_named(scene: &Scene, node: u32, name: &str) -> Result<SceneField, Rout
     Err(RouteFaultKind::NotOutput)
 }
 
-fn input_named(scene: &Scene, node: u32, name: &str) -> Result<SceneField, RouteFaultKind>
+fn input_named(
+    scene: &Scene,
+    tables: &RowTables<'_>,
+    node: u32,
+    name: &str,
+) -> Result<SceneField, RouteFaultKind>
+    requires { AreTables scene.now tables.now }
     ensures { result ≡ spec.input_named scene.now name.now (spec.node_of scene.now node) }
 {
     let Some(node) = node_of(scene, node) else {
         return Err(RouteFaultKind::NoSuchNode);
     };
-    let Some(row) = target_field(scene, node, name) else {
+    let Some(row) = target_field(scene, tables, node, name) else {
         return Err(RouteFaultKind::NoSuchField);
     };
     if row.access.receives() {
@@ -82,12 +101,17 @@ fn input_named(scene: &Scene, node: u32, name: &str) -> Result<SceneField, Route
 }
 
 /// The output that a source names.
-fn source_of(scene: &Scene, end: &FlatEnd) -> Result<SceneField, RouteFaultKind>
+fn source_of(
+    scene: &Scene,
+    tables: &RowTables<'_>,
+    end: &FlatEnd,
+) -> Result<SceneField, RouteFaultKind>
+    requires { AreTables scene.now tables.now }
     ensures exact { result ≡ spec.source_of scene.now end.now }
     ensures known { IfOk result (λ field. spec.IsKnown scene.now field.end) }
 {
     match end {
-        FlatEnd::At(node, name) => output_named(scene, *node, name.as_str()),
+        FlatEnd::At(node, name) => output_named(scene, tables, *node, name.as_str()),
         FlatEnd::NoNode => Err(RouteFaultKind::NoSuchNode),
         FlatEnd::NoField => Err(RouteFaultKind::NoSuchField),
         FlatEnd::WrongWay => Err(RouteFaultKind::NotOutput),
@@ -95,11 +119,16 @@ fn source_of(scene: &Scene, end: &FlatEnd) -> Result<SceneField, RouteFaultKind>
 }
 
 /// The input that a destination names.
-fn target_of(scene: &Scene, end: &FlatEnd) -> Result<SceneField, RouteFaultKind>
+fn target_of(
+    scene: &Scene,
+    tables: &RowTables<'_>,
+    end: &FlatEnd,
+) -> Result<SceneField, RouteFaultKind>
+    requires { AreTables scene.now tables.now }
     ensures { result ≡ spec.target_of scene.now end.now }
 {
     match end {
-        FlatEnd::At(node, name) => input_named(scene, *node, name.as_str()),
+        FlatEnd::At(node, name) => input_named(scene, tables, *node, name.as_str()),
         FlatEnd::NoNode => Err(RouteFaultKind::NoSuchNode),
         FlatEnd::NoField => Err(RouteFaultKind::NoSuchField),
         FlatEnd::WrongWay => Err(RouteFaultKind::NotInput),

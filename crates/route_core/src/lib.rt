@@ -1,13 +1,15 @@
 //! Routes: which outputs of a scene lead to which inputs (ISO/IEC 19775-1, ROUTE).
 //!
 //! `routes` has the routes of a scene. They are made by `resolving` of what their `ends` name, by
-//! the `names` of fields, and found by `outputs`, the numbers of fields among those of all nodes,
-//! in a table of `grouped` numbers; `fault` says why there are none.
+//! the `names` of fields (by the tables of `named` where a node declares many), and found by
+//! `outputs`, the numbers of fields among those of all nodes, in a table of `grouped` numbers;
+//! `fault` says why there are none.
 #![tactic(auto)]
 
 mod ends;
 mod fault;
 mod grouped;
+mod named;
 mod names;
 mod outputs;
 mod resolving;

@@ -2,40 +2,55 @@
 
 ghost use Rattle.std.specs.Prelude.{◌≡◌};
 ghost use Rattle.scene_core.specs.Scene.{rows_at};
+ghost use Rattle.route_core.specs.Named.{AreTables};
 ghost use Rattle.route_core.specs.Names as spec;
 
+use crate::named::{RowTables, field_named};
 use scene_core::Scene;
 use x3d_values::{FieldRow, FieldType};
 
 /// The field that a route's source names: its own name, or that of an inputOutput field before
 /// `_changed`. A rotation counts as not there.
 #[tactic(auto, unfolding(crate::specs::Names::source_field))]
-pub(crate) fn source_field(scene: &Scene, node: u32, name: &str) -> Option<FieldRow>
+pub(crate) fn source_field(
+    scene: &Scene,
+    tables: &RowTables<'_>,
+    node: u32,
+    name: &str,
+) -> Option<FieldRow>
+    requires { AreTables scene.now tables.now }
     ensures { result ≡ spec.source_field (rows_at scene.now node) name.now }
 {
-    if let Some(output) = exact(scene, node, name) {
+    if let Some(output) = exact(scene, tables, node, name) {
         return Some(output);
     }
-    changed_alias(scene, node, name)
+    changed_alias(scene, tables, node, name)
 }
 
 /// The field that a route's destination names: its own name, or that of an inputOutput field
 /// behind `set_`. A rotation counts as not there.
 #[tactic(auto, unfolding(crate::specs::Names::target_field))]
-pub(crate) fn target_field(scene: &Scene, node: u32, name: &str) -> Option<FieldRow>
+pub(crate) fn target_field(
+    scene: &Scene,
+    tables: &RowTables<'_>,
+    node: u32,
+    name: &str,
+) -> Option<FieldRow>
+    requires { AreTables scene.now tables.now }
     ensures { result ≡ spec.target_field (rows_at scene.now node) name.now }
 {
-    if let Some(input) = exact(scene, node, name) {
+    if let Some(input) = exact(scene, tables, node, name) {
         return Some(input);
     }
-    set_alias(scene, node, name)
+    set_alias(scene, tables, node, name)
 }
 
 /// The field of that name; a rotation counts as not there.
-fn exact(scene: &Scene, node: u32, name: &str) -> Option<FieldRow>
+fn exact(scene: &Scene, tables: &RowTables<'_>, node: u32, name: &str) -> Option<FieldRow>
+    requires { AreTables scene.now tables.now }
     ensures { result ≡ spec.exact (rows_at scene.now node) name.now }
 {
-    let row = scene.field_named(node, name)?;
+    let row = field_named(scene, tables, node, name)?;
     if row.field_type == FieldType::SFRotation {
         return None;
     }
@@ -43,10 +58,11 @@ fn exact(scene: &Scene, node: u32, name: &str) -> Option<FieldRow>
 }
 
 /// The inputOutput field of that name.
-fn exposed(scene: &Scene, node: u32, name: &str) -> Option<FieldRow>
+fn exposed(scene: &Scene, tables: &RowTables<'_>, node: u32, name: &str) -> Option<FieldRow>
+    requires { AreTables scene.now tables.now }
     ensures { result ≡ spec.exposed (rows_at scene.now node) name.now }
 {
-    let row = exact(scene, node, name)?;
+    let row = exact(scene, tables, node, name)?;
     if row.access.is_exposed() {
         return Some(row);
     }
@@ -54,17 +70,19 @@ fn exposed(scene: &Scene, node: u32, name: &str) -> Option<FieldRow>
 }
 
 /// The inputOutput field of the name behind `set_`.
-fn set_alias(scene: &Scene, node: u32, name: &str) -> Option<FieldRow>
+fn set_alias(scene: &Scene, tables: &RowTables<'_>, node: u32, name: &str) -> Option<FieldRow>
+    requires { AreTables scene.now tables.now }
     ensures { result ≡ spec.set_alias (rows_at scene.now node) name.now }
 {
     let name = name.strip_prefix("set_")?;
-    exposed(scene, node, name)
+    exposed(scene, tables, node, name)
 }
 
 /// The inputOutput field of the name before `_changed`.
-fn changed_alias(scene: &Scene, node: u32, name: &str) -> Option<FieldRow>
+fn changed_alias(scene: &Scene, tables: &RowTables<'_>, node: u32, name: &str) -> Option<FieldRow>
+    requires { AreTables scene.now tables.now }
     ensures { result ≡ spec.changed_alias (rows_at scene.now node) name.now }
 {
     let name = name.strip_suffix("_changed")?;
-    exposed(scene, node, name)
+    exposed(scene, tables, node, name)
 }

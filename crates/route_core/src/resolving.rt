@@ -4,12 +4,14 @@ ghost use Rattle.std.specs.Prelude.{◌≡◌, ◌^◌, ◌≤◌, IfOk, All, le
 ghost use Rattle.x3d_lists.specs.Answers.{Gives};
 ghost use Rattle.route_core.specs.Ends as ends;
 ghost use Rattle.route_core.specs.Ends.{IsKnown, field_counts};
+ghost use Rattle.route_core.specs.Named.{AreTables};
 ghost use Rattle.route_core.specs.Resolved.{at_line, each_of, firsts, limited, memory};
 
 use crate::ends::route_of;
 use crate::fault::{RouteFault, RouteFaultKind};
-use first_routes::without_repeats;
-use flat_document::FlatRoute;
+use crate::named::{RowTables, tables_of};
+use proto_flat::FlatRoute;
+use route_first::without_repeats;
 use scene_core::{Route, Scene};
 use std::alloc::{AllocError, Global};
 use x3d_lists::Items;
@@ -18,7 +20,7 @@ use x3d_lists::Items;
 pub const MOST_ROUTES: usize = 65_536;
 
 /// More nodes have no numbers of 32 bits.
-const MOST_NODES: usize = 1 << 32;
+pub(crate) const MOST_NODES: usize = 1 << 32;
 
 /// Each route in the order of the text, or the first fault.
 pub(crate) fn each_of(
@@ -29,9 +31,26 @@ pub(crate) fn each_of(
     ensures exact { Gives memory (λ all. all) result (each_of scene.now routes.now) }
     ensures known { IfOk result (λ all. All (λ r. IsKnown scene.now r.source) all) }
 {
+    let tables = tables_of(alloc, scene)?;
+    let all = each_by(alloc, scene, &tables, routes);
+    drop(tables);
+    all
+}
+
+/// The same, with the tables of the scene.
+fn each_by(
+    alloc: Global,
+    scene: &Scene,
+    tables: &RowTables<'_>,
+    routes: &[FlatRoute],
+) -> Result<Items<Route>, RouteFault>
+    requires { AreTables scene.now tables.now }
+    ensures exact { Gives memory (λ all. all) result (each_of scene.now routes.now) }
+    ensures known { IfOk result (λ all. All (λ r. IsKnown scene.now r.source) all) }
+{
     let mut all = Items::new(alloc);
     for route in routes {
-        all.push(one_of(scene, route)?)?;
+        all.push(one_of(scene, tables, route)?)?;
     }
     Ok(all)
 }
@@ -66,11 +85,12 @@ pub fn field_counts(alloc: Global, scene: &Scene) -> Result<Vec<u32>, AllocError
     Ok(counts)
 }
 
-fn one_of(scene: &Scene, route: &FlatRoute) -> Result<Route, RouteFault>
+fn one_of(scene: &Scene, tables: &RowTables<'_>, route: &FlatRoute) -> Result<Route, RouteFault>
+    requires { AreTables scene.now tables.now }
     ensures exact { result ≡ at_line route.now.line (ends.route_of scene.now route.now) }
     ensures known { IfOk result (λ r. IsKnown scene.now r.source) }
 {
-    match route_of(scene, route) {
+    match route_of(scene, tables, route) {
         Ok(route) => Ok(route),
         Err(kind) => Err(RouteFault {
             kind,

@@ -7,7 +7,7 @@ use crate::fault::RouteFault;
 use crate::grouped::{Groups, group};
 use crate::outputs::{firsts_of, number_of, sources_of};
 use crate::resolving::{distinct_routes, each_of, field_counts};
-use flat_document::Flat;
+use proto_flat::Flat;
 use scene_core::{End, Route, Scene};
 use std::alloc::{AllocError, Global};
 use std::marker::Model;

@@ -4,8 +4,8 @@ use Rattle.std.specs.Prelude.{Result, Ok, Err}
 use Rattle.x3d_lists.specs.Answers.{Gives}
 use Rattle.x3d_values.specs.declared.value.Value.{Value}
 use Rattle.classic_tree.specs.declared.tree.Declaration.{Declaration}
-use Rattle.flat_document.specs.declared.flat.FlatNode.{FlatNode}
-use Rattle.flat_document.specs.declared.flat.FlatField.{FlatField}
+use Rattle.proto_flat.specs.declared.flat.FlatNode.{FlatNode}
+use Rattle.proto_flat.specs.declared.flat.FlatField.{FlatField}
 use Rattle.scene_core.specs.declared.fault.SceneFault.{SceneFault}
 use Rattle.scene_core.specs.Faults.{memory, ◌>>=◌, with_item}
 use Rattle.scene_core.specs.Parts.{given, parts_from, parts_in}

@@ -2,7 +2,7 @@
 use Rattle.std.proofs.Common.{◌≡◌, ℕ, Bool, true, false, List, refl, subst}
 use Rattle.std.specs.Prelude.{Result, Ok, Err, ◌||◌, nat_lt, if◌then◌else◌}
 use Rattle.std.proofs.lemmas.Bool.{or_parts}
-use Rattle.flat_document.specs.declared.flat.Flat.{Flat}
+use Rattle.proto_flat.specs.declared.flat.Flat.{Flat}
 use Rattle.x3d_values.specs.Ranges.{max_depth}
 use Rattle.scene_core.specs.declared.fault.SceneFault.{SceneFault}
 use Rattle.scene_core.specs.declared.fault.SceneFaultKind.TheVariants.{TooMany}

@@ -2,7 +2,7 @@
 use Rattle.std.proofs.Common.{◌≡◌, ℕ, ◌+◌, ◌≤◌, true, false, List, [], ◌∷◌, ◌++◌, ◌∙◌, ap, sym, zero, suc, refl, arith, map, reverse, length, length-append, replicate}
 use Rattle.std.specs.List.{fold}
 use Rattle.std.proofs.lemmas.List.{reverse-append, length-reverse, reverse-reverse, length-map}
-use Rattle.flat_document.specs.declared.flat.FlatNode.{FlatNode}
+use Rattle.proto_flat.specs.declared.flat.FlatNode.{FlatNode}
 use Rattle.scene_core.specs.declared.numbering.Numbering.{Numbering}
 use Rattle.scene_core.specs.declared.numbering.Task.{Task}
 use Rattle.scene_core.specs.declared.numbering.Task.TheVariants.{Visit, Close}

@@ -1,7 +1,7 @@
 -- The scene of a document (ISO/IEC 19775-1, scene graph).
 use Rattle.std.specs.Prelude.{◌≡◌, ℕ, ◌++◌, Bool, ◌||◌, nat_lt, length, List, [], ◌∷◌, map, Option, Some, None, Result, Ok, Err, slice_get, slice_index_or, if◌then◌else◌}
-use Rattle.flat_document.specs.declared.flat.Flat.{Flat}
-use Rattle.flat_document.specs.declared.flat.FlatNode.{FlatNode}
+use Rattle.proto_flat.specs.declared.flat.Flat.{Flat}
+use Rattle.proto_flat.specs.declared.flat.FlatNode.{FlatNode}
 use Rattle.scene_core.specs.declared.fault.SceneFault.{SceneFault}
 use Rattle.scene_core.specs.declared.fault.SceneFaultKind.TheVariants.{TooDeep, TooMany}
 use Rattle.scene_core.specs.declared.numbering.Numbering.{Numbering}

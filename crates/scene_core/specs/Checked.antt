@@ -1,6 +1,6 @@
 -- The scene of a document in parts, for the functions that make it: nothing here is to be believed.
 use Rattle.std.specs.Prelude.{ℕ, List, Result, Ok}
-use Rattle.flat_document.specs.declared.flat.Flat.{Flat}
+use Rattle.proto_flat.specs.declared.flat.Flat.{Flat}
 use Rattle.scene_core.specs.declared.fault.SceneFault.{SceneFault}
 use Rattle.scene_core.specs.declared.numbering.Numbering.{Numbering}
 use Rattle.scene_core.specs.declared.scene.SceneNode.{SceneNode}

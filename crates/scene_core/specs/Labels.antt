@@ -8,7 +8,7 @@ use Rattle.std.specs.Str.{bytes_eq}
 use Rattle.std.specs.BTreeMap.{get_by}
 use Rattle.std.specs.Cmp.Lexicographic.{slice_cmp}
 use Rattle.std.specs.Ordering.{nat_cmp}
-use Rattle.flat_document.specs.declared.flat.FlatNode.{FlatNode}
+use Rattle.proto_flat.specs.declared.flat.FlatNode.{FlatNode}
 use Rattle.scene_core.specs.declared.labels.Marks.{Marks}
 use Rattle.scene_core.specs.Scene.{label_or}
 

@@ -3,7 +3,7 @@
 -- appearance; then the helpers likewise.
 use Rattle.std.specs.Prelude.{ℕ, zero, suc, ◌+◌, ◌++◌, Bool, true, false, not, List, [], ◌∷◌, length, replicate, slice_index_or, slice_set, if◌then◌else◌}
 use Rattle.std.specs.List.{fold}
-use Rattle.flat_document.specs.declared.flat.FlatNode.{FlatNode}
+use Rattle.proto_flat.specs.declared.flat.FlatNode.{FlatNode}
 use Rattle.scene_core.specs.declared.numbering.Numbering.{Numbering}
 use Rattle.scene_core.specs.Parts.{parts_of}
 

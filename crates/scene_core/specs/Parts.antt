@@ -7,8 +7,8 @@ use Rattle.x3d_values.specs.Access.{holds_nodes}
 use Rattle.x3d_values.specs.Tables.{Entry, rows}
 use Rattle.classic_tree.specs.declared.tree.RawValue.{RawValue}
 use Rattle.classic_tree.specs.declared.tree.RawValue.TheVariants.{Node, NodeList}
-use Rattle.flat_document.specs.declared.flat.FlatNode.{FlatNode}
-use Rattle.flat_document.specs.declared.flat.FlatField.{FlatField}
+use Rattle.proto_flat.specs.declared.flat.FlatNode.{FlatNode}
+use Rattle.proto_flat.specs.declared.flat.FlatField.{FlatField}
 use Rattle.scene_core.specs.Shape.{declaration_entry, numbered_fields}
 
 -- what a node gives to the field of that number

@@ -9,7 +9,7 @@ use Rattle.x3d_values.specs.declared.value.Value.{Value}
 use Rattle.x3d_values.specs.declared.value.Value.TheVariants.{MFNode}
 use Rattle.x3d_values.specs.Access.{is_kept}
 use Rattle.x3d_values.specs.Tables.{Entry, rows, row_named}
-use Rattle.flat_document.specs.declared.flat.Header.{Header}
+use Rattle.proto_flat.specs.declared.flat.Header.{Header}
 use Rattle.scene_core.specs.declared.scene.End.{End}
 use Rattle.scene_core.specs.declared.scene.SceneNode.{SceneNode}
 use Rattle.scene_core.specs.declared.row.DeclaredField.{DeclaredField}

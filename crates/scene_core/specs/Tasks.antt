@@ -1,7 +1,7 @@
 -- What the tasks of a work stack come to: the last is done first.
 use Rattle.std.specs.Prelude.{ℕ, ◌+◌, Bool, true, false, List, [], ◌∷◌, length, reverse}
 use Rattle.std.specs.List.{fold}
-use Rattle.flat_document.specs.declared.flat.FlatNode.{FlatNode}
+use Rattle.proto_flat.specs.declared.flat.FlatNode.{FlatNode}
 use Rattle.scene_core.specs.declared.numbering.Numbering.{Numbering}
 use Rattle.scene_core.specs.declared.numbering.Task.{Task}
 use Rattle.scene_core.specs.declared.numbering.Task.TheVariants.{Visit, Close}

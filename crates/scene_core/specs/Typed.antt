@@ -17,8 +17,8 @@ use Rattle.x3d_values.specs.Defaults.{default_value}
 use Rattle.x3d_values.specs.Nodes.{kind_of}
 use Rattle.x3d_values.specs.Tables.{Entry, rows}
 use Rattle.classic_tree.specs.declared.tree.Declaration.{Declaration}
-use Rattle.flat_document.specs.declared.flat.FlatNode.{FlatNode}
-use Rattle.flat_document.specs.declared.flat.FlatField.{FlatField}
+use Rattle.proto_flat.specs.declared.flat.FlatNode.{FlatNode}
+use Rattle.proto_flat.specs.declared.flat.FlatField.{FlatField}
 use Rattle.scene_values.specs.declared.fault.ValueFault.{ValueFault}
 use Rattle.scene_values.specs.declared.fault.ValueFault.TheVariants as value_fault
 use Rattle.scene_values.specs.Rotations.{checked_rotation}

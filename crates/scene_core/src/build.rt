@@ -18,7 +18,7 @@ use crate::row::declared_fields;
 use crate::scene::SceneNode;
 use crate::values::{Known, check_children, values_of};
 use crate::wide::is_any_wide;
-use flat_document::{Flat, FlatNode, Header};
+use proto_flat::{Flat, FlatNode, Header};
 use std::alloc::{AllocError, Global};
 use x3d_lists::{Duplicate, Items};
 

@@ -4,7 +4,7 @@ ghost use Rattle.std.specs.Prelude.{◌≡◌, ◌+◌, ◌<◌, ◌==◌, ℕ, 
 ghost use Rattle.std.specs.Option.{option_copied, option_or};
 ghost use Rattle.scene_core.specs.Parts as spec;
 
-use flat_document::FlatField;
+use proto_flat::FlatField;
 use std::alloc::{AllocError, Global};
 
 /// What a node gives to the field of that number.

@@ -9,8 +9,8 @@ ghost use Rattle.scene_core.specs.Scene.{label_or};
 ghost use Rattle.scene_core.specs.Labels as spec;
 ghost use Rattle.scene_core.specs.Labels.{known_of};
 
-use flat_document::FlatNode;
 use itoa::Buffer;
+use proto_flat::FlatNode;
 use std::alloc::{AllocError, AllocFailed, Global};
 use std::collections::BTreeMap;
 use x3d_lists::{Duplicate, Text};

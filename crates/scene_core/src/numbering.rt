@@ -6,7 +6,7 @@ ghost use Rattle.scene_core.specs.Numbers as spec;
 ghost use Rattle.scene_core.specs.Tasks.{do_task, finish, unopened, work_left};
 
 use crate::parts::push_parts;
-use flat_document::FlatNode;
+use proto_flat::FlatNode;
 use std::alloc::{AllocError, Global};
 use x3d_lists::Items;
 

@@ -9,7 +9,7 @@ ghost use Rattle.scene_core.specs.Shape.{declaration_entry};
 use crate::given::{all_given, given};
 use crate::row::numbered_fields;
 use classic_tree::{Declaration, RawValue};
-use flat_document::{FlatField, FlatNode};
+use proto_flat::{FlatField, FlatNode};
 use std::alloc::{AllocError, Global};
 use x3d_values::{Field, FieldType, fields_of};
 

@@ -18,7 +18,7 @@ use crate::numbering::numbered;
 use crate::places::own_children;
 use crate::row::{DeclaredField, Row, count_by, named_by, numbered_fields, row_by};
 use crate::state::state_of;
-use flat_document::{Flat, Header};
+use proto_flat::{Flat, Header};
 use std::alloc::{AllocError, Global};
 use std::marker::Model;
 use x3d_lists::{Items, Text};

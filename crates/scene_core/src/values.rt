@@ -14,7 +14,7 @@ use crate::given::{all_given, given};
 use crate::parts::inner_nodes;
 use crate::row::numbered_fields;
 use classic_tree::Declaration;
-use flat_document::{FlatField, FlatNode};
+use proto_flat::{FlatField, FlatNode};
 use scene_values::{ValueFault, checked_rotation, typed};
 use std::alloc::{AllocError, Global};
 use x3d_lists::Items;

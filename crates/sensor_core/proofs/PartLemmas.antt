@@ -21,7 +21,7 @@ number_of-drop set left some within =
     ap number_of (e ∙ ap (λ k. get_or set (left - 1) false ∷ drop k set) front) ∙ omega arith
 
 -- it has one bit more
-pub one_more_bit : (number bit left : ℕ) → 0 < left → left ≤ 16 → bit ≤ 1 → number + 1 ≤ 2 ^ (16 - left) → 2 * number + bit + 1 ≤ 2 ^ (16 - (left - 1))
-one_more_bit number bit left some most small below =
-    let size : 16 - (left - 1) ≡ suc (16 - left) = omega (arith, some, most) in
-    rw (size, pow-suc 2 (16 - left)) (omega (arith, small, below))
+pub one_more_bit : (viewers number bit left : ℕ) → 0 < left → left ≤ viewers → bit ≤ 1 → number + 1 ≤ 2 ^ (viewers - left) → 2 * number + bit + 1 ≤ 2 ^ (viewers - (left - 1))
+one_more_bit viewers number bit left some most small below =
+    let size : viewers - (left - 1) ≡ suc (viewers - left) = omega (arith, some, most) in
+    rw (size, pow-suc 2 (viewers - left)) (omega (arith, small, below))

@@ -20,27 +20,27 @@ pub struct TimeParts {
 #[derive(Clone, Copy, PartialEq, Eq)]
 pub struct TouchParts {
     /// Bit v is 1 where viewer v's pointer is over it.
-    pub over: u16,
-    /// Below 16.
+    pub over: u64,
+    /// Below `MAX_VIEWERS`.
     pub presser: Option<u8>,
 }
 
 /// A number whose bit v says whether viewer v is in a set.
-pub fn number_of(set: &[bool; VIEWERS]) -> u16
+pub fn number_of(set: &[bool; VIEWERS]) -> u64
     ensures { result ≡ number_of set.now }
 {
-    let mut number = 0_u16;
+    let mut number = 0_u64;
     let mut left = VIEWERS;
     while left > 0 {
         left -= 1;
-        number = 2 * number + u16::from(set[left]);
+        number = 2 * number + u64::from(set[left]);
     }
     number
 }
 
 /// Which viewers are in the set that a number stands for.
 #[tactic(auto, unfolding(crate::specs::Parts::over_of))]
-pub fn over_of(number: u16) -> [bool; VIEWERS]
+pub fn over_of(number: u64) -> [bool; VIEWERS]
     ensures { result ≡ over_of number }
 {
     let mut set = [false; VIEWERS];

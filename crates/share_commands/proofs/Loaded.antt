@@ -8,13 +8,13 @@ use Rattle.x3d_values.specs.declared.script.Kind.{Kind}
 use Rattle.x3d_values.specs.declared.script.ScriptSpec.{ScriptSpec}
 use Rattle.script_host.specs.declared.fault.AttachFault.{AttachFault}
 use Rattle.script_boxes.specs.Refused.{scripts_fault, unknown_at, unknown_from, unfit_at, unfit_from}
-use Rattle.scene_scripts.specs.Scripts.{script_list}
-use Rattle.world_laws.specs.Nodes.{RunsAll, runs}
+use Rattle.script_specs.specs.Scripts.{script_list}
+use Rattle.laws_worlds.specs.Nodes.{RunsAll, runs}
 use Rattle.classic_tree.specs.declared.tree.Document.{Document}
 use Rattle.classic_text.specs.Reading.{read_text}
 use Rattle.classic_text.specs.declared.fault.ReadFault.{ReadFault}
-use Rattle.flat_document.specs.declared.flat.Flat.{Flat}
-use Rattle.flat_document.specs.declared.fault.ExpandFault.{ExpandFault}
+use Rattle.proto_flat.specs.declared.flat.Flat.{Flat}
+use Rattle.proto_flat.specs.declared.fault.ExpandFault.{ExpandFault}
 use Rattle.proto_walk.specs.Whole.{flat}
 use Rattle.scene_core.specs.Building.{scene_of}
 use Rattle.scene_core.specs.Scene.{SceneView}
@@ -27,7 +27,7 @@ use Rattle.share_jobs.specs.declared.fault.JobFault.TheVariants.{Attach}
 use Rattle.share_jobs.specs.Faults.{of_read, of_expand, of_scene, of_route}
 use Rattle.share_program.specs.Opening.{next, same, good, built, routed, with_routes, flattened, opened}
 use Rattle.share_program.specs.declared.open.Opened.{Opened}
-use Rattle.network_laws.specs.Opened.{IsOpened}
+use Rattle.laws_networks.specs.Opened.{IsOpened}
 use Rattle.share_rehearsal.specs.Rehearsed.{AreLoaded}
 use Rattle.share_commands.specs.Stages.{fresh, scripted, staged, unless_refused}
 use Rattle.share_commands.proofs.Staging.{are_of, same_ok}

@@ -39,16 +39,19 @@ abbrev pub failures_after : {A : Type 0} → Result A ShareFault → ℕ → ℕ
 failures_after (Err share.Port) n = one_more n
 failures_after result n = n
 
--- turns of the job's host, from one that was made just now, until it was done
+-- turns of the job's host, from one that was made just now, until it was done; so many inputs are
+-- numbered then
 abbrev pub IsHosted : SharedJob → (viewers : ℕ) → HostPlan → (turns : ℕ)
-    → (told_before told_after : Option (List Traffic)) → Type 0
-IsHosted job viewers plan turns a b =
+    → (told_before told_after : Option (List Traffic)) → (count : ℕ) → Type 0
+IsHosted job viewers plan turns a b count =
     (new : HostPart) × AreHosted job.mark (times job.inputs) plan turns a b (new_part viewers) new
+    × (count ≡ new.count)
 
 -- memory was refused before the first turn, or the turns came to less
 abbrev pub IsHostedInPart : SharedJob → (viewers : ℕ) → HostPlan → (turns : ℕ)
-    → (told_before told_after : Option (List Traffic)) → ShareFault → Type 0
-IsHostedInPart job viewers plan turns a b fault =
-    ((fault ≡ share.Memory) × (b ≡ a))
+    → (told_before told_after : Option (List Traffic)) → (count : ℕ) → ShareFault → Type 0
+IsHostedInPart job viewers plan turns a b count fault =
+    ((fault ≡ share.Memory) × (b ≡ a) × (count ≡ 0))
     ⊎ ((early : SeriesFault) × (new : HostPart) × (fault ≡ series_fault early)
-    × IsHostEnd job.mark (times job.inputs) plan turns a b (new_part viewers) early new)
+    × IsHostEnd job.mark (times job.inputs) plan turns a b (new_part viewers) early new
+    × (count ≡ new.count))

@@ -6,3 +6,4 @@ pub mod Viewing
 pub mod Rehearsing
 pub mod Joining
 pub mod Beyond
+pub mod Pace

@@ -1,4 +1,4 @@
-//! A port that passes over inputs beyond a number.
+//! A port that passes over inputs beyond a number, and snapshots of more inputs.
 
 ghost use Rattle.std.specs.Prelude.{◌≡◌};
 ghost use Rattle.share_wire.specs.Decoding.{decoded};
@@ -7,7 +7,8 @@ ghost use Rattle.share_commands.specs.Beyond.{body_is_beyond, count_of, is_beyon
 use share_port::{Port, PortFault};
 use share_wire::{Body, decode};
 
-/// Whether the bytes are the datagram of an input beyond the last one that is wanted.
+/// Whether the bytes are the datagram of an input beyond the last one that is wanted, or of a piece of
+/// a snapshot with more inputs applied than that.
 fn is_beyond(bytes: &[u8], last: u32) -> bool
     ensures { result ≡ is_beyond last (decoded bytes.now) }
 {
@@ -22,12 +23,13 @@ fn body_is_beyond(body: Body, last: u32) -> bool
 {
     match body {
         Body::Input(input) => input.number() > last,
+        Body::Piece(piece) => piece.applied() > last,
         _ => false,
     }
 }
 
-/// A port that passes over inputs beyond a last one, if there is a last one: of such a datagram no
-/// byte is received. It tells nothing of what passes.
+/// A port that passes over inputs beyond a last one, if there is a last one, and pieces of a snapshot
+/// in which more are applied: of such a datagram no byte is received. It tells nothing of what passes.
 #[derive(Drop)]
 pub struct ExactPort<P> {
     port: P,
@@ -35,10 +37,19 @@ pub struct ExactPort<P> {
 }
 
 impl<P> ExactPort<P> {
+    ghost use Rattle.std.specs.Prelude.{◌≡◌};
+
     pub fn new(port: P, last: Option<u32>) -> ExactPort<P>
         ensures { result.port ≡ port }
     {
         ExactPort { port, last }
+    }
+
+    /// The port that it has.
+    pub fn port(&self) -> &P
+        ensures { result.now ≡ self.now.port }
+    {
+        &self.port
     }
 }
 

@@ -55,7 +55,7 @@ pub(crate) fn series_fault(fault: SeriesFault) -> ShareFault
 
 /// Turns of the host of a job's scene, so many at most, for viewers that are numbered from 0: 1 to
 /// 16 of them. Each numbers the next of the job's clocks. The plan says what it keeps of its inputs,
-/// and when it is done.
+/// and when it is done. `count` is then how many inputs are numbered.
 ///
 /// `TurnsUsedUp` where it isn't done after so many turns, `Port` where a send or a receive failed,
 /// `Memory` where memory was refused.
@@ -66,21 +66,25 @@ pub fn host_job<P: Port>(
     plan: &HostPlan,
     turns: u32,
     port: &mut P,
+    count: &mut u32,
 ) -> Result<(), ShareFault>
     requires some { 1 ≤ viewers }
     requires most { viewers ≤ 16 }
-    ensures done { OnOk result
-        (IsHosted job.now viewers plan.now turns (P.told port.old) (P.told port.new)) }
-    ensures ended { IfErr result
-        (IsHostedInPart job.now viewers plan.now turns (P.told port.old) (P.told port.new)) }
+    ensures done { OnOk result (IsHosted job.now viewers plan.now turns (P.told port.old)
+        (P.told port.new) count.new) }
+    ensures ended { IfErr result (IsHostedInPart job.now viewers plan.now turns (P.told port.old)
+        (P.told port.new) count.new) }
     ensures failures { P.failure_count port.new
         ≡ failures_after result (P.failure_count port.old) }
 {
+    *count = 0;
     let Ok(times) = times_of(alloc, job.inputs.as_slice()) else {
         return Err(ShareFault::Memory);
     };
     let mut host = Host::new(alloc, job.mark, viewers);
-    match host_run(&mut host, times.as_slice(), plan, turns, port) {
+    let done = host_run(&mut host, times.as_slice(), plan, turns, port);
+    *count = host.len();
+    match done {
         // A host is dropped by a call: left to the exits, its drop is proved once for each of them.
         Ok(()) => {
             drop(host);

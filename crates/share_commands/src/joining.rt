@@ -10,7 +10,7 @@ ghost use Rattle.share_jobs.specs.declared.fault.JobFault.TheVariants.{Memory};
 
 use crate::fits::job_fits;
 use crate::hosting::series_fault;
-use crate::stages::{fresh_stage, with_others};
+use crate::stages::with_others;
 use cascade_core::Stage;
 use script_boxes::StockScript;
 use share_core::{Host, Viewer};
@@ -18,6 +18,7 @@ use share_jobs::{Inputs, JobFault, job_of};
 use share_port::Port;
 use share_program::{ShareFault, open_scene};
 use share_rehearsal::viewers_of;
+use share_stages::fresh_stage;
 use share_turns::agree;
 use share_words::Order;
 use snapshot_codec::scene_mark;

@@ -2,23 +2,30 @@
 //! viewer, and of both together, in memory or each at a port.
 #![tactic(auto)]
 
+mod brief;
 mod exact;
 mod fits;
 mod hosting;
 mod job;
 mod joining;
+mod pace;
 mod patient;
 mod rehearsing;
 mod sockets;
 mod stages;
+mod telling;
 mod viewing;
+mod watch;
 
 pub use exact::ExactPort;
 pub use fits::job_fits;
 pub use hosting::host_job;
 pub use job::{SharedJob, shared_job};
 pub use joining::{JointJob, agree_job, joint_job};
-pub use patient::{PatientPort, Tally};
+pub use pace::Pace;
+pub use patient::PatientPort;
 pub use rehearsing::rehearse_job;
 pub use sockets::{bound, bound_free, number_of};
+pub use telling::TellingPort;
 pub use viewing::{Seat, first_boot, seated_job, view_job};
+pub use watch::{Node, Note, Refusal, Tally, Watch};

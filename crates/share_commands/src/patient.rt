@@ -1,67 +1,59 @@
-//! A port that waits where nothing comes, and counts what passes.
+//! A port that waits where nothing comes, and sends nothing again whose answer may be under way.
 
 ghost use Rattle.std.specs.Prelude.{◌≡◌};
+ghost use Rattle.share_commands.specs.Pace.{next_rest};
 
+use crate::brief::{Brief, brief_of};
+use crate::pace::Pace;
 use share_port::{Port, PortFault};
-use std::fmt;
+use std::thread;
+use std::time::{Clock, Duration};
 
 /// How long a port rests at least and at most, in milliseconds.
 const SHORTEST: u32 = 1;
 
 const LONGEST: u32 = 50;
 
-/// How many datagrams were received and sent, up to 2^64 - 1.
-#[derive(Clone, Copy)]
-pub struct Tally {
-    pub received: u64,
-    pub sent: u64,
-}
-
-impl fmt::Display for Tally {
-    fn fmt<W: fmt::Write>(&self, f: &mut fmt::Formatter<W>) -> fmt::Result {
-        write!(
-            f,
-            "{} datagrams received, {} sent",
-            self.received, self.sent
-        )
-    }
-}
-
-/// A port that rests between two turns until a datagram comes: a millisecond at most where the
-/// turn before brought something new, and else twice as long as the last time, 50 milliseconds at
-/// most. Where some came in a turn it waits a millisecond for more. It tells nothing of what
-/// passes.
+/// A port that rests between two turns: not at all where the turn before brought something new and
+/// datagrams came in it, a millisecond where they didn't, and else until a datagram comes, at most
+/// twice as long as the last time and at most 50 milliseconds. An ask or an offer is held back, as
+/// if it were lost, while the answers to those before may be under way, and so is an ask that is the
+/// last one again until it has rested; while answers are under way a receive waits for them, 50
+/// milliseconds at most. It tells nothing of what passes.
 #[derive(Drop)]
-pub struct PatientPort<P> {
+pub struct PatientPort<P, C> {
     port: P,
+    clock: C,
+    pace: Pace,
     rest: u32,
     came: bool,
-    tally: Tally,
 }
 
-impl<P> PatientPort<P> {
-    pub fn new(port: P) -> PatientPort<P>
+impl<P, C> PatientPort<P, C> {
+    pub fn new(port: P, clock: C) -> PatientPort<P, C>
         ensures { result.port ≡ port }
     {
         PatientPort {
             port,
+            clock,
+            pace: Pace::new(),
             rest: SHORTEST,
             came: false,
-            tally: Tally {
-                received: 0,
-                sent: 0,
-            },
         }
     }
 
-    /// How many datagrams passed.
-    pub fn tally(&self) -> Tally {
-        self.tally
+    /// The port that it has.
+    pub fn port(&self) -> &P
+        ensures { result.now ≡ self.now.port }
+    {
+        &self.port
     }
 }
 
 /// How long the next rest is, after one of so many milliseconds.
-fn next_rest(rest: u32, is_new: bool) -> u32 {
+fn next_rest(rest: u32, is_new: bool) -> u32
+    ensures { result ≡ next_rest rest is_new }
+{
     if is_new {
         SHORTEST
     } else {
@@ -69,19 +61,56 @@ fn next_rest(rest: u32, is_new: bool) -> u32 {
     }
 }
 
-impl<P: Port> PatientPort<P> {
+/// What a clock shows, in microseconds; one that fails shows the last time there is, at which no
+/// answer is under way.
+fn time_of<C: Clock>(clock: &C) -> u64 {
+    match clock.monotonic() {
+        Ok(time) => u64::try_from(time.as_micros()).unwrap_or(u64::MAX),
+        Err(_) => u64::MAX,
+    }
+}
+
+/// So many microseconds in milliseconds, rounded down; no more than the longest rest.
+fn millis_of(micros: u64) -> u32 {
+    u32::try_from(micros / 1000).unwrap_or(LONGEST).min(LONGEST)
+}
+
+impl<P: Port, C: Clock> PatientPort<P, C> {
     ghost use Rattle.std.specs.Prelude.{◌≡◌, ◌≤◌, ⊤, OnOk, OnErr, MatchOption, MatchResult};
     ghost use Rattle.share_port.specs.Told.{one_more};
 
+    /// Whether a datagram is sent now.
+    fn is_due(&mut self, bytes: &[u8]) -> bool
+        ensures { self.new.port ≡ self.old.port }
+    {
+        let now = time_of(&self.clock);
+        match brief_of(bytes) {
+            Brief::Ask { next, .. } => self.pace.asks(next, now, u64::from(self.rest) * 1000),
+            Brief::Offer { number, .. } => self.pace.offers(number, now),
+            _ => true,
+        }
+    }
+
     /// One was received.
-    fn count_one(&mut self)
+    fn take_note(&mut self, bytes: &[u8])
         ensures { self.new.port ≡ self.old.port }
     {
         self.came = true;
-        self.tally.received = self.tally.received.saturating_add(1);
+        let now = time_of(&self.clock);
+        match brief_of(bytes) {
+            Brief::Ack { .. } => {
+                self.pace.comes(now);
+                self.pace.is_answered();
+            }
+            Brief::Input { number } => {
+                self.pace.measures(number, now);
+                self.pace.comes(now);
+            }
+            _ => {}
+        }
     }
 
-    /// Nothing has come: waits for more, where one had come before.
+    /// Nothing has come: waits for answers that are under way.
     fn receive_late(&mut self, into: &mut [u8; 257]) -> Result<Option<(u16, usize)>, PortFault>
         ensures got { MatchResult result
             (λ came. MatchOption came ⊤ (λ r. (r.1 ≤ 257) × ⊤)) (λ _. ⊤) }
@@ -90,14 +119,14 @@ impl<P: Port> PatientPort<P> {
         ensures count_err { OnErr result
             (P.failure_count self.new.port ≡ one_more (P.failure_count self.old.port)) }
     {
-        if !self.came {
+        let left = self.pace.left(time_of(&self.clock));
+        if left == 0 {
             return Ok(None);
         }
-        self.came = false;
-        self.port.wait(SHORTEST);
+        self.port.wait(millis_of(left));
         match self.port.receive(into)? {
             Some((from, count)) => {
-                self.count_one();
+                self.take_note(&into[..count]);
                 Ok(Some((from, count)))
             }
             None => Ok(None),
@@ -105,19 +134,20 @@ impl<P: Port> PatientPort<P> {
     }
 }
 
-impl<P: Port> Port for PatientPort<P> {
+impl<P: Port, C: Clock> Port for PatientPort<P, C> {
     ghost failure_count = { λ p. P.failure_count p.port };
 
     fn send(&mut self, to: u16, bytes: &[u8]) -> Result<(), PortFault> {
-        self.port.send(to, bytes)?;
-        self.tally.sent = self.tally.sent.saturating_add(1);
-        Ok(())
+        if !self.is_due(bytes) {
+            return Ok(());
+        }
+        self.port.send(to, bytes)
     }
 
     fn receive(&mut self, into: &mut [u8; 257]) -> Result<Option<(u16, usize)>, PortFault> {
         match self.port.receive(into)? {
             Some((from, count)) => {
-                self.count_one();
+                self.take_note(&into[..count]);
                 Ok(Some((from, count)))
             }
             None => self.receive_late(into),
@@ -129,7 +159,14 @@ impl<P: Port> Port for PatientPort<P> {
     }
 
     fn rest(&mut self, is_new: bool) {
+        let came = self.came;
+        self.came = false;
         self.rest = next_rest(self.rest, is_new);
-        self.port.wait(self.rest);
+        self.port.rest(is_new);
+        if !is_new {
+            self.port.wait(self.rest);
+        } else if !came {
+            thread::sleep(&self.clock, Duration::from_millis(u64::from(SHORTEST)));
+        }
     }
 }

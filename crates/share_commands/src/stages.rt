@@ -1,64 +1,16 @@
-//! Stages of a scene, one for each viewer, with boxes of the stock for its scripts.
+//! Stages of a text's scene, one for each viewer, with boxes of the stock for its scripts.
 
-ghost use Rattle.std.specs.Prelude.{◌≡◌, ◌≤◌, ◌⊎◌, IfOk, IfErr, OnOk, Err, None, Some, length};
-ghost use Rattle.cascade_core.specs.Scripts.{scripts_in};
-ghost use Rattle.scene_scripts.specs.Scripts.{script_list};
-ghost use Rattle.script_host.specs.Attaching.{Fits};
-ghost use Rattle.share_commands.specs.Stages.{AreStages, IsStage, fresh, scripts_refusal, staged};
+ghost use Rattle.std.specs.Prelude.{◌≡◌, ◌≤◌, ◌⊎◌, IfOk, IfErr, Err, length};
+ghost use Rattle.share_commands.specs.Stages.{AreStages, IsStage, staged};
 ghost use Rattle.share_rehearsal.specs.Rehearsed.{AreFresh};
 ghost use Rattle.share_jobs.specs.declared.fault.JobFault.TheVariants.{Memory};
 
 use cascade_core::Stage;
-use scene_core::Scene;
-use scene_scripts::script_list;
-use script_boxes::{StockScript, attach_stock};
-use script_host::Scripts;
+use script_boxes::StockScript;
 use share_jobs::JobFault;
-use share_program::{Opened, open_scene};
-use std::alloc::{AllocError, Global};
-
-/// Boxes of the stock for the scripts of a scene, none of which is initialized.
-fn scripts_of(alloc: Global, scene: &Scene) -> Result<Scripts<StockScript>, JobFault>
-    ensures fits { IfOk result (λ scripts. Fits (script_list scene.now) scripts) }
-    ensures fresh { IfOk result (λ scripts. scripts ≡ scripts_in scene.now) }
-    ensures taken { OnOk result (scripts_refusal scene.now ≡ None) }
-    ensures refused { IfErr result (λ f. (f ≡ Memory) ⊎ (scripts_refusal scene.now ≡ Some f)) }
-{
-    let specs = script_list(alloc, scene)?;
-    Ok(attach_stock(alloc, specs.as_slice())?)
-}
-
-/// The stage of a scene with these scripts before any input.
-fn loaded(
-    alloc: Global,
-    opened: Opened,
-    scripts: Scripts<StockScript>,
-) -> Result<Stage<StockScript>, AllocError>
-    requires fits { Fits (script_list opened.scene) scripts }
-    requires fresh { scripts ≡ scripts_in opened.scene }
-    ensures { IfOk result (λ s. s ≡ fresh opened) }
-{
-    match Stage::load(alloc, opened.scene, opened.routes, scripts) {
-        Ok(stage) => Ok(stage),
-        Err(_refused) => Err(AllocError),
-    }
-}
-
-/// The stage of a scene before any input, unless its scripts are refused.
-pub(crate) fn fresh_stage(alloc: Global, opened: Opened) -> Result<Stage<StockScript>, JobFault>
-    ensures ok { IfOk result (λ s. s ≡ fresh opened) }
-    ensures taken { OnOk result (scripts_refusal opened.scene ≡ None) }
-    ensures err { IfErr result (λ f. (f ≡ Memory) ⊎ (scripts_refusal opened.scene ≡ Some f)) }
-{
-    match scripts_of(alloc, &opened.scene) {
-        Ok(scripts) => Ok(loaded(alloc, opened, scripts)?),
-        // A scene is dropped by a call: left to an exit, its drop is proved in place.
-        Err(fault) => {
-            drop(opened);
-            Err(fault)
-        }
-    }
-}
+use share_program::open_scene;
+use share_stages::fresh_stage;
+use std::alloc::Global;
 
 /// A stage of a text's scene before any input.
 #[tactic(auto, unfolding(crate::specs::Stages::staged))]

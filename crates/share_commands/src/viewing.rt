@@ -11,13 +11,13 @@ ghost use Rattle.share_jobs.specs.declared.fault.JobFault.TheVariants.{Memory};
 
 use crate::hosting::series_fault;
 use crate::job::{SharedJob, shared_job};
-use crate::stages::fresh_stage;
 use script_boxes::StockScript;
 use share_core::Viewer;
 use share_jobs::JobFault;
 use share_law::point_of;
 use share_port::Port;
 use share_program::{Opened, ShareFault};
+use share_stages::fresh_stage;
 use share_turns::{ViewPlan, view_run};
 use share_words::Order;
 use std::alloc::{AllocError, Global};

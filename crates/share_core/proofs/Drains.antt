@@ -5,6 +5,7 @@ use Rattle.std.proofs.lemmas.Bool.{cond_both, cond-true, cond-false}
 use Rattle.std.proofs.lemmas.List.{append-nil}
 use Rattle.std.proofs.lemmas.Option.{same_Some, none-some}
 use Rattle.x3d_values.specs.Stamp.{Stamp}
+use Rattle.share_rules.specs.Window.{window_places}
 use Rattle.cascade_core.specs.Course.{Scripted}
 use Rattle.cascade_core.specs.Held.{Held, Running, Spoiled}
 use Rattle.share_law.specs.declared.fault.TakeFault.{TakeFault}
@@ -45,17 +46,17 @@ drain-length {W} m w (Some x ∷ ws) =
     cond_both (int_lt (m.last w) x.time) (one_more (drain m (m.apply w x) ws)) (stopped w ws) P
     (λ _. omega (arith, drain-length m (m.apply w x) ws)) (λ _. omega arith)
 
-refilled-push : (ws : List (Option Stamp)) → length ws < 64 → refilled (ws ++ None ∷ []) ≡ refilled ws
+refilled-push : (ws : List (Option Stamp)) → length ws < window_places → refilled (ws ++ None ∷ []) ≡ refilled ws
 refilled-push ws h =
     let none : Option Stamp = None in
-    let n : 64 - length (ws ++ none ∷ []) + 1 ≡ 64 - length ws = omega (arith, length-append ws (none ∷ [])) in
-    append_assoc ws (none ∷ []) (replicate (64 - length (ws ++ none ∷ [])) none)
+    let n : window_places - length (ws ++ none ∷ []) + 1 ≡ window_places - length ws = omega (arith, length-append ws (none ∷ [])) in
+    append_assoc ws (none ∷ []) (replicate (window_places - length (ws ++ none ∷ [])) none)
     ∙ ap (λ l. ws ++ l) (rw (← n) (rw add-one refl))
 
-refilled-full : (ws : List (Option Stamp)) → length ws ≡ 64 → refilled ws ≡ ws
+refilled-full : (ws : List (Option Stamp)) → length ws ≡ window_places → refilled ws ≡ ws
 refilled-full ws h =
     let none : Option Stamp = None in
-    let n : 64 - length ws ≡ 0 = omega (arith, h) in
+    let n : window_places - length ws ≡ 0 = omega (arith, h) in
     ap (λ k. ws ++ replicate k none) n ∙ append-nil ws
 
 -- what stands at the front
@@ -84,13 +85,13 @@ drain-late m w x later ge = cond-false (int_lt (m.last w) x.time) (one_more (dra
 
 -- the front is applied, and the others move up
 Goes-shift : {W : Type 0} (m : Machine W) (first : W) (ws : List (Option Stamp)) (w : W) (x : Stamp) (later : List (Option Stamp)) (count : ℕ)
-    → length later < 64 → m.applied (m.apply w x) ≡ m.applied w + 1 → int_lt (m.last w) x.time ≡ true
+    → length later < window_places → m.applied (m.apply w x) ≡ m.applied w + 1 → int_lt (m.last w) x.time ≡ true
     → Goes m first ws w (Some x ∷ later) count → Goes m first ws (m.apply w x) (later ++ None ∷ []) (count + 1)
 Goes-shift {W} m first ws w x later count room more lt h =
     let d : Drained W = drain m (m.apply w x) later in
     let l : Longer d (drain m (m.apply w x) (later ++ None ∷ [])) = drain-push m (m.apply w x) later in
     let one : drain m w (Some x ∷ later) ≡ one_more d = drain-applied m w x later lt in
-    let short : length d.rest < 64 = omega (arith, drain-length m (m.apply w x) later, room) in
+    let short : length d.rest < window_places = omega (arith, drain-length m (m.apply w x) later, room) in
     record {
       applied = omega (arith, more, h.applied);
       state = h.state ∙ ap (λ (z : Drained W). z.state) one ∙ l.state;
@@ -100,7 +101,7 @@ Goes-shift {W} m first ws w x later count room more lt h =
     }
 
 pub Goes-next : {W : Type 0} (m : Machine W) (first : W) (ws : List (Option Stamp)) (w : W) (now rest : List (Option Stamp)) (x : Stamp) (count : ℕ)
-    → length now ≡ 64 → slice_get now 0 ≡ Some (Some x) → m.applied (m.apply w x) ≡ m.applied w + 1 → int_lt (m.last w) x.time ≡ true → rest ≡ drop 1 now ++ None ∷ []
+    → length now ≡ window_places → slice_get now 0 ≡ Some (Some x) → m.applied (m.apply w x) ≡ m.applied w + 1 → int_lt (m.last w) x.time ≡ true → rest ≡ drop 1 now ++ None ∷ []
     → Goes m first ws w now count → Goes m first ws (m.apply w x) rest (count + 1)
 Goes-next m first ws w now rest x count room front more lt moved h =
     subst (λ l. Goes m first ws (m.apply w x) l (count + 1)) (sym moved)
@@ -120,7 +121,7 @@ drained-at m first ws w now count o front h = subst (λ l. Goes m first ws w l c
 
 -- the next input did not come
 pub drained-gap : (m : Machine Scripted) (first : Scripted) (ws : List (Option Stamp)) (w : Scripted) (now rest : List (Option Stamp)) (held : Held) (count : ℕ)
-    → length now ≡ 64 → slice_get now 0 ≡ Some None → held ≡ Running w → rest ≡ now → Goes m first ws w now count
+    → length now ≡ window_places → slice_get now 0 ≡ Some None → held ≡ Running w → rest ≡ now → Goes m first ws w now count
     → IsDrained m first ws (cond (count == 0) (Ok taken.Kept) (Ok (taken.Applied count))) held rest
 drained-gap m first ws w now rest held count room front is same h =
     let g : Goes m first ws w (None ∷ drop 1 now) count = drained-at m first ws w now count None front h in
@@ -136,13 +137,13 @@ drained-gap m first ws w now rest held count room front is same h =
 
 -- the next input isn't later than the last
 pub drained-late : (m : Machine Scripted) (first : Scripted) (ws : List (Option Stamp)) (w : Scripted) (now rest : List (Option Stamp)) (held : Held) (count : ℕ) (x : Stamp) (fault : TakeFault)
-    → length now ≡ 64 → slice_get now 0 ≡ Some (Some x) → fault ≡ take_fault.TimeNotLater → int_lt (m.last w) x.time ≡ false → held ≡ Running w → rest ≡ slice_set now 0 None
+    → length now ≡ window_places → slice_get now 0 ≡ Some (Some x) → fault ≡ take_fault.TimeNotLater → int_lt (m.last w) x.time ≡ false → held ≡ Running w → rest ≡ slice_set now 0 None
     → Goes m first ws w now count → IsDrained m first ws (Err fault) held rest
 drained-late m first ws w now rest held count x fault room front late ge is left h =
     let g : Goes m first ws w (Some x ∷ drop 1 now) count = drained-at m first ws w now count (Some x) front h in
     let one : drain m w (Some x ∷ drop 1 now) ≡ stopped w (drop 1 now) = drain-late m w x (drop 1 now) ge in
     let stuck : (drain m first ws).stuck ≡ true = g.stuck ∙ ap (λ (z : Drained Scripted). z.stuck) one in
-    let full : length (None ∷ drop 1 now) ≡ 64 = ap length (sym (front_is now (Some x) front)) ∙ room in
+    let full : length (None ∷ drop 1 now) ≡ window_places = ap length (sym (front_is now (Some x) front)) ∙ room in
     let answer : input_answer (drain m first ws) ≡ Err take_fault.TimeNotLater =
     cond-true (drain m first ws).stuck (Err take_fault.TimeNotLater) (cond ((drain m first ws).count == 0) (Ok taken.Kept) (Ok (taken.Applied (drain m first ws).count))) stuck in
     inl (

@@ -1,4 +1,3 @@
-pub mod Turns
 pub mod Numbering
 pub mod Offers
 pub mod Fresh

@@ -1,6 +1,6 @@
 -- What the host makes of an offer, return by return.
 use Rattle.std.proofs.Common.{◌≡◌, ◌+◌, ◌+ℤ◌, ℕ, zero, suc, ℤ, pos, ◌-◌, Bool, true, false, cond, List, refl, ap, sym, ◌∙◌, subst, inl, inr}
-use Rattle.std.specs.Prelude.{slice_get, slice_set, nat_lt, nat_le, IsOk, Option, Some, None, Result, Ok, Err}
+use Rattle.std.specs.Prelude.{slice_get, slice_set, nat_lt, IsOk, Option, Some, None, Result, Ok, Err}
 use Rattle.x3d_values.specs.declared.stamped.Event.TheVariants.{Clock, Pointer}
 use Rattle.x3d_values.specs.Pointing.{Pointing}
 use Rattle.x3d_values.specs.Stamp.{Stamp}
@@ -12,12 +12,12 @@ use Rattle.share_law.specs.declared.fault.NumberFault.TheVariants.{Memory}
 use Rattle.share_law.specs.declared.fault.HostFault.{HostFault}
 use Rattle.share_law.specs.declared.fault.HostFault.TheVariants.{Number}
 use Rattle.share_law.specs.declared.reply.HostReply.{HostReply}
-use Rattle.share_law.specs.declared.reply.HostReply.TheVariants.{Numbered, Repeat, Ahead, OldBoot}
-use Rattle.share_law.specs.Host.{count_for, input_packet}
-use Rattle.share_law.specs.Parts.{HostPart, fault_behind, part_clocked, part_fault, part_offer_came, part_offer_numbered, part_packet}
+use Rattle.share_law.specs.declared.reply.HostReply.TheVariants.{Numbered}
+use Rattle.share_law.specs.Host.{input_packet, reply_before}
+use Rattle.share_law.specs.Parts.{HostPart, fault_behind, part_clocked, part_offer_answered, part_offer_came, part_offer_numbered, part_packet}
 use Rattle.share_law.specs.Calls.{IsPartClocked, IsPartTake}
 use Rattle.share_core.specs.Host.{Entries, entry, part_with}
-use Rattle.share_core.specs.Steps.{listed, IsListed, reply_before}
+use Rattle.share_core.specs.Steps.{listed, IsListed}
 
 abbrev ErrN : NumberFault → Result ℕ NumberFault
 ErrN fault = Err fault
@@ -28,25 +28,10 @@ ok-err n fault e = cc
 same_Err : (a b : NumberFault) → ErrN a ≡ ErrN b → a ≡ b
 same_Err a b e = cc
 
--- an offer is answered, or it is the next one
-abbrev answered : HostPart → Offering → Option HostReply → Result HostReply HostFault × HostPart
-answered h o (Some reply) = (Ok reply, h)
-answered h o None = part_offer_numbered h o (part_fault h (h.last +ℤ pos 1))
-
-by_tests : (h : HostPart) (o : Offering) (a b c : Bool)
-    → cond a (Ok OldBoot, h) (cond b (Ok Repeat, h) (cond c (Ok Ahead, h) (answered h o None)))
-    ≡ answered h o (cond a (Some OldBoot) (cond b (Some Repeat) (cond c (Some Ahead) None)))
-by_tests h o true b c = refl
-by_tests h o false true c = refl
-by_tests h o false false true = refl
-by_tests h o false false false = refl
-
 came : (h : HostPart) (o : Offering) (k : Kept) (reply : Option HostReply) → slice_get h.kept o.pointer.who ≡ Some k → reply_before k o ≡ reply
-    → part_offer_came h o (slice_get h.kept o.pointer.who) ≡ answered h o reply
+    → part_offer_came h o (slice_get h.kept o.pointer.who) ≡ part_offer_answered h o reply
 came h o k reply at is =
-    ap (part_offer_came h o) at
-    ∙ by_tests h o (nat_lt o.boot k.boot) (nat_le o.number (count_for k o.boot)) (nat_lt (count_for k o.boot + 1) o.number)
-    ∙ ap (answered h o) is
+    ap (part_offer_came h o) at ∙ ap (part_offer_answered h o) is
 
 -- an offer that isn't the next one
 pub take-answered : (h : HostPart) (o : Offering) (k : Kept) (reply : HostReply) → slice_get h.kept o.pointer.who ≡ Some k → reply_before k o ≡ Some reply

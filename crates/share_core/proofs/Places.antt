@@ -3,6 +3,7 @@ use Rattle.std.proofs.Common.{◌≡◌, ℕ, zero, suc, ◌+◌, ◌^◌, ◌�
 use Rattle.std.specs.Prelude.{slice_get, slice_set, Option, Some, None}
 use Rattle.std.proofs.lemmas.Option.{same_Some, none-some}
 use Rattle.x3d_values.specs.Stamp.{Stamp}
+use Rattle.share_rules.specs.Window.{window_places}
 use Rattle.share_law.specs.Viewer.{empty_window, keep, keep_at}
 use Rattle.share_core.specs.Ahead.{InPlace}
 
@@ -11,7 +12,7 @@ InPlace-none zero n = tt
 InPlace-none (suc k) n = InPlace-none k (suc n)
 
 pub InPlace-empty : (n : ℕ) → InPlace n empty_window
-InPlace-empty n = InPlace-none 64 n
+InPlace-empty n = InPlace-none window_places n
 
 pub InPlace-drop : (ws : List (Option Stamp)) (n : ℕ) → InPlace n ws → InPlace n (slice_set ws 0 None)
 InPlace-drop [] n h = tt

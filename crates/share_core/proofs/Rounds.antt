@@ -3,6 +3,7 @@ use Rattle.std.proofs.Common.{◌≡◌, ℕ, ◌+◌, ◌<◌, Bool, true, fals
 use Rattle.std.specs.Prelude.{◌==◌, Option, Result, Ok, Err}
 use Rattle.std.proofs.lemmas.Bool.{false≢true}
 use Rattle.x3d_values.specs.Stamp.{Stamp}
+use Rattle.share_rules.specs.Window.{window_places}
 use Rattle.scene_core.specs.declared.scene.Route.{Route}
 use Rattle.scene_core.specs.Scene.{SceneView}
 use Rattle.cascade_core.specs.Course.{Scripted}
@@ -29,7 +30,7 @@ module _ (mark : List ℕ) (scene : SceneView) (routes : List Route) (first h ne
   GoesTo held window n = Goes (cascade mark scene routes) (world_in scene first) ws (world_in scene held) window n
 
   -- the input was applied
-  pub gone_on : (go : Bool) → go ≡ true → length now ≡ 64 → IsNext (cascade mark scene routes) (world_in scene h) now (Ok go) new rest → GoesTo h now count
+  pub gone_on : (go : Bool) → go ≡ true → length now ≡ window_places → IsNext (cascade mark scene routes) (world_in scene h) now (Ok go) new rest → GoesTo h now count
       → (is_spoiled new ≡ false) × GoesTo new rest (count + 1)
   gone_on false e room step goes = absurd (false≢true e)
   gone_on true e room step goes =
@@ -40,12 +41,12 @@ module _ (mark : List ℕ) (scene : SceneView) (routes : List Route) (first h ne
             (Goes-next (cascade mark scene routes) (world_in scene first) ws w now rest step.0 count room step.1 more step.2 step.4 goes),
       )
 
-  pub fewer : (go : Bool) → go ≡ true → length now ≡ 64 → IsNext (cascade mark scene routes) (world_in scene h) now (Ok go) new rest → GoesTo h now count
+  pub fewer : (go : Bool) → go ≡ true → length now ≡ window_places → IsNext (cascade mark scene routes) (world_in scene h) now (Ok go) new rest → GoesTo h now count
       → (drain (cascade mark scene routes) (world_in scene new) rest).count < (drain (cascade mark scene routes) (world_in scene h) now).count
   fewer go e room step goes = Goes-smaller (cascade mark scene routes) (world_in scene first) ws (world_in scene h) (world_in scene new) now rest count goes (gone_on go e room step goes).1
 
   -- the next input did not come
-  pub ended : (go : Bool) (result : Result Taken TakeFault) → go ≡ false → cond (count == 0) (Ok taken.Kept) (Ok (taken.Applied count)) ≡ result → length now ≡ 64
+  pub ended : (go : Bool) (result : Result Taken TakeFault) → go ≡ false → cond (count == 0) (Ok taken.Kept) (Ok (taken.Applied count)) ≡ result → length now ≡ window_places
       → IsNext (cascade mark scene routes) (world_in scene h) now (Ok go) new rest → GoesTo h now count
       → (w : Scripted) → first ≡ Running w → IsDrained (cascade mark scene routes) w ws result new rest
   ended true result e answer room step goes w is = absurd (false≢true (sym e))
@@ -55,7 +56,7 @@ module _ (mark : List ℕ) (scene : SceneView) (routes : List Route) (first h ne
       (drained-gap (cascade mark scene routes) (world_in scene first) ws (world_in scene h) now rest new count room step.0 step.1 step.2 goes))
 
   -- it was refused
-  pub failed : (fault : TakeFault) → length now ≡ 64 → IsNext (cascade mark scene routes) (world_in scene h) now (Err fault) new rest → GoesTo h now count
+  pub failed : (fault : TakeFault) → length now ≡ window_places → IsNext (cascade mark scene routes) (world_in scene h) now (Err fault) new rest → GoesTo h now count
       → (w : Scripted) → first ≡ Running w → IsDrained (cascade mark scene routes) w ws (Err fault) new rest
   failed fault room step goes w is =
       let m = cascade mark scene routes in

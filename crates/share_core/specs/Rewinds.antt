@@ -2,10 +2,9 @@
 use Rattle.std.specs.Prelude.{◌≡◌, ◌⊎◌, ◌<◌, ◌^◌, ℕ, List, Option, None, Some, Result, Ok, Err}
 use Rattle.std.specs.Prelude.{nat_le, if◌then◌else◌}
 use Rattle.cascade_core.specs.Course.{Scripted}
-use Rattle.snapshot_codec.specs.Head.{head_fault}
 use Rattle.snapshot_core.specs.declared.fault.SnapFault.{SnapFault}
 use Rattle.snapshot_core.specs.declared.fault.SnapFault.TheVariants.{BootNotNew, Memory}
-use Rattle.snapshot_core.specs.Loading.{HasSnapshot, loaded}
+use Rattle.snapshot_core.specs.Loading.{HasSnapshot, fault_before, loaded}
 use Rattle.snapshot_core.specs.Shot.{shot}
 use Rattle.share_law.specs.declared.fault.JoinFault.{JoinFault}
 use Rattle.share_law.specs.declared.fault.JoinFault.TheVariants.{NotWhole}
@@ -34,7 +33,7 @@ abbrev pub IsRewound : ViewerView → (boot : ℕ) → (bytes : List ℕ) → Re
     → ViewerState Scripted → Type 0
 IsRewound v boot bytes result new =
     (rewound v boot bytes ≡ (result, new))
-    ⊎ ((v.state.boot < boot) × (head_fault 1 v.mark bytes ≡ None) × (result ≡ Err Memory)
+    ⊎ ((v.state.boot < boot) × (fault_before v.mark bytes ≡ None) × (result ≡ Err Memory)
     × (new ≡ spoiled_at (machine_of v) v.state 0))
 
 -- ---- what was gathered

@@ -3,6 +3,7 @@
 ghost use Rattle.std.specs.Prelude.{◌≡◌, ◌≤◌, ◌+◌, ◌^◌, ℕ, List, false, length};
 ghost use Rattle.cascade_core.specs.Course.{Scripted};
 ghost use Rattle.cascade_core.specs.Held.{Running, applied_of, is_spoiled};
+ghost use Rattle.share_rules.specs.Window.{window_places};
 ghost use Rattle.share_wire.specs.declared.message.Body.TheVariants as body;
 ghost use Rattle.share_law.specs.Calls.{IsTake};
 ghost use Rattle.share_law.specs.Cascade.{cascade};
@@ -25,7 +26,7 @@ fn apply_next<B: Behaviour>(stage: &mut Stage<B>, window: &mut Window) -> Result
     ensures routes { stage.new.routes ≡ stage.old.routes }
     ensures place { InPlace (applied_of stage.new.held + 1) window.new }
     ensures most { applied_of stage.new.held ≤ 2 ^ 20 }
-    ensures places { length window.old ≡ 64 }
+    ensures places { length window.old ≡ window_places }
     ensures step { (mark : List ℕ) (w : Scripted) → stage.old.held ≡ Running w
         → IsNext (cascade mark stage.old.scene stage.old.routes) w window.old result
         stage.new.held window.new }

@@ -2,10 +2,9 @@
 
 ghost use Rattle.std.specs.Prelude.{◌≡◌, ◌<◌, Ok, length, slice_get, slice_set};
 ghost use Rattle.std.specs.Option.{option_map};
-ghost use Rattle.share_law.specs.Host.{count_for, input_packet};
+ghost use Rattle.share_law.specs.Host.{count_for, input_packet, reply_before};
 ghost use Rattle.share_wire.specs.Datagram.{datagram};
 ghost use Rattle.share_wire.specs.Decoding.{decoded};
-ghost use Rattle.share_core.specs.Steps.{reply_before};
 
 use crate::inputs::Inputs;
 use arrayvec::ArrayVec;
@@ -104,8 +103,8 @@ impl Host {
     ghost use Rattle.share_law.specs.Calls.{IsPartClocked, IsPartTake, IsPartTakeOf};
     ghost use Rattle.share_core.specs.Host.{AreNumbered};
 
-    /// The host of a scene with this mark, for viewers that are numbered from 0: 1 to 16 of them.
-    /// It takes no memory; its list of inputs grows with `alloc`.
+    /// The host of a scene with this mark, for viewers that are numbered from 0: 1 to
+    /// `MAX_VIEWERS` of them. It takes no memory; its list of inputs grows with `alloc`.
     pub fn new(alloc: Global, mark: [u8; 32], viewers: u8) -> Host
         requires some { 1 ≤ viewers }
         requires most { viewers ≤ max_viewers }
@@ -203,7 +202,7 @@ impl Host {
         self.mark
     }
 
-    /// How many viewers there are: 1 to 16.
+    /// How many viewers there are: 1 to `MAX_VIEWERS`.
     pub fn viewers(&self) -> u8
         ensures { result ≡ length self.now.part.kept }
     {

@@ -171,7 +171,7 @@ impl<B: Behaviour> Viewer<B> {
 
     /// Takes the bytes of a packet.
     ///
-    /// An input that was applied is `Old`, and one that is more than 64 ahead `Beyond`. Another is
+    /// An input that was applied is `Old`, and one behind the window `Beyond`. Another is
     /// kept, unless there is one of its number; then, while the next input is there, it is applied:
     /// `Applied` says how many were, and `Kept` that none was. An ack of this viewer is `Noted`: of
     /// this boot, it lets go the waiting offers up to its count. A floor is `Behind` where the host

@@ -9,18 +9,19 @@ ghost use Rattle.x3d_values.specs.Stamp.{Stamp};
 ghost use Rattle.share_wire.specs.Messages.{is_ordinal};
 ghost use Rattle.share_wire.specs.declared.message.Body.TheVariants as body;
 ghost use Rattle.cascade_core.specs.Course.{Scripted};
-ghost use Rattle.share_law.specs.Viewer.{View, Running, settled_by, viewer_offer, viewer_resend};
-ghost use Rattle.share_core.specs.Steps.{offer_fault, point_aimed};
+ghost use Rattle.share_law.specs.Viewer.{View, Running, offer_refusal, settled_by, viewer_offer};
+ghost use Rattle.share_law.specs.Viewer.{viewer_resend};
+ghost use Rattle.share_core.specs.Steps.{point_aimed};
 ghost use Rattle.share_core.specs.Waiting.{with_offers};
 
 use share_law::OfferFault;
-use share_rules::{Tally, settled_after};
+use share_rules::{MOST_WAITING, Tally, settled_after};
 use share_wire::{Ack, Offer};
 use std::marker::Model;
 use x3d_values::{Point, Pointer, Ray, Vec3};
 
 /// How many offers may wait.
-const PLACES: u32 = 64;
+const PLACES: usize = MOST_WAITING as usize;
 
 /// A point that was looked at.
 #[derive(Clone, Copy)]
@@ -30,7 +31,7 @@ struct Aim {
 }
 
 /// The offers of one boot of a viewer, which are numbered from 1: how many were made, and the last
-/// of them, at most 64, which wait.
+/// of them, at most `MOST_WAITING`, which wait.
 #[derive(Drop)]
 pub(crate) struct Waiting {
     who: u8,
@@ -38,14 +39,15 @@ pub(crate) struct Waiting {
     /// How many offers wait no more.
     settled: u32,
     made: u32,
-    /// Offer n at place (n - 1) % 64.
-    places: [Aim; 64],
+    /// Offer n at place (n - 1) % `MOST_WAITING`.
+    places: [Aim; PLACES],
 }
 
 impl Model for Waiting {
     ghost use Rattle.std.specs.Prelude.{◌≡◌, ◌+◌, ◌-◌, ◌%◌, ◌≤◌, ◌&&◌, IsTrue, length, map, take};
     ghost use Rattle.x3d_values.specs.Ranges.{is_viewer};
     ghost use Rattle.share_wire.specs.Messages.{is_ordinal};
+    ghost use Rattle.share_rules.specs.Offers.{most_waiting};
     ghost use Rattle.share_rules.specs.Rings.{in_turn};
     ghost use Rattle.share_core.specs.Steps.{point_aimed};
     ghost use Rattle.share_core.specs.Waiting.{Offers};
@@ -56,11 +58,13 @@ impl Model for Waiting {
       who = w.who;
       boot = w.boot;
       made = w.made;
-      waiting = take (w.made - w.settled) (in_turn (w.settled % 64) (map point_aimed w.places));
+      waiting = take (w.made - w.settled)
+          (in_turn (w.settled % most_waiting) (map point_aimed w.places));
     } };
 
     ghost invariant = { λ w. IsTrue (is_viewer w.who && is_ordinal w.boot)
-        × (w.settled ≤ w.made) × (w.made ≤ w.settled + 64) × (length w.places ≡ 64) };
+        × (w.settled ≤ w.made) × (w.made ≤ w.settled + most_waiting)
+        × (length w.places ≡ most_waiting) };
 }
 
 /// A point that may be offered.
@@ -75,6 +79,8 @@ fn aim_of(point: Point) -> Aim
 }
 
 impl Waiting {
+    ghost use Rattle.share_rules.specs.Offers.{most_waiting};
+
     /// No offers yet. `is_viewer` and `is_ordinal` are the tests.
     pub(crate) fn new(who: u8, boot: u32) -> Waiting
         requires who { IsTrue (is_viewer who) }
@@ -92,7 +98,7 @@ impl Waiting {
             boot,
             settled: 0,
             made: 0,
-            places: [aim; 64],
+            places: [aim; PLACES],
         }
     }
 
@@ -111,23 +117,23 @@ impl Waiting {
         self.boot
     }
 
-    /// How many offers wait: at most 64.
+    /// How many offers wait: at most `MOST_WAITING`.
     pub(crate) fn len(&self) -> u32
         ensures value { result ≡ length self.now.waiting }
-        ensures most { result ≤ 64 }
+        ensures most { result ≤ most_waiting }
     {
         self.made - self.settled
     }
 
     /// Why a viewer that runs offers no point.
     fn fault_of(&self, point: Point) -> Option<OfferFault>
-        ensures { result ≡ offer_fault self.now point }
+        ensures { result ≡ offer_refusal self.now.made (length self.now.waiting) point }
     {
         if point.dir.is_zero() {
             Some(OfferFault::ZeroRay)
         } else if !(point.origin.fits() && point.dir.fits()) {
             Some(OfferFault::PointRange)
-        } else if self.len() >= PLACES {
+        } else if self.len() >= MOST_WAITING {
             Some(OfferFault::OfferFull)
         } else if self.made == u32::MAX {
             Some(OfferFault::OffersSpent)
@@ -137,7 +143,7 @@ impl Waiting {
     }
 
     fn push(&mut self, aim: Aim)
-        requires room { length self.old.waiting < 64 }
+        requires room { length self.old.waiting < most_waiting }
         requires numbers { self.old.made + 1 < 2 ^ 32 }
         ensures { self.new ≡ record {
           who = self.old.who;
@@ -146,15 +152,15 @@ impl Waiting {
           waiting = self.old.waiting ++ point_aimed aim ∷ [];
         } }
     {
-        self.places[(self.made % PLACES) as usize] = aim;
+        self.places[(self.made % MOST_WAITING) as usize] = aim;
         self.made += 1;
     }
 
     /// A viewer that runs offers a point, and gives the offer's number in this boot, from 1.
     ///
     /// Refused in this order: `ZeroRay`, a direction of 0 0 0; `PointRange`, a coordinate of a size
-    /// above 10^15 millionths; `OfferFull`, where 64 offers wait; `OffersSpent`, after 2^32 - 1
-    /// offers of this boot. A refusal changes nothing.
+    /// above 10^15 millionths; `OfferFull`, where `MOST_WAITING` wait; `OffersSpent`, after
+    /// 2^32 - 1 offers of this boot. A refusal changes nothing.
     pub(crate) fn offer(&mut self, point: Point) -> Result<u32, OfferFault>
         ensures who { self.new.who ≡ self.old.who }
         ensures step { (world : Scripted) (window : List (Option Stamp))
@@ -176,7 +182,7 @@ impl Waiting {
         if place >= self.made - self.settled {
             return None;
         }
-        let aim = self.places[((self.settled + place) % PLACES) as usize];
+        let aim = self.places[((self.settled + place) % MOST_WAITING) as usize];
         let pointer = Pointer::new(self.who, aim.down, aim.ray);
         Some(Offer::new(self.boot, self.settled + place + 1, pointer))
     }

@@ -4,9 +4,9 @@ use denote.Enum.Bare.{sameb}
 use Rattle.classic_text.specs.declared.fault.ReadFault.{ReadFault}
 use Rattle.classic_text.specs.declared.fault.ReadFaultKind.TheVariants as read
 use Rattle.classic_text.specs.contracts.fault.ReadFaultKind as reads
-use Rattle.flat_document.specs.declared.fault.ExpandFault.{ExpandFault}
-use Rattle.flat_document.specs.declared.fault.ExpandFaultKind.TheVariants as expand
-use Rattle.flat_document.specs.contracts.fault.ExpandFaultKind as expands
+use Rattle.proto_flat.specs.declared.fault.ExpandFault.{ExpandFault}
+use Rattle.proto_flat.specs.declared.fault.ExpandFaultKind.TheVariants as expand
+use Rattle.proto_flat.specs.contracts.fault.ExpandFaultKind as expands
 use Rattle.scene_core.specs.declared.fault.SceneFault.{SceneFault}
 use Rattle.scene_core.specs.declared.fault.SceneFaultKind.TheVariants as scene
 use Rattle.scene_core.specs.contracts.fault.SceneFaultKind as scenes

@@ -5,7 +5,7 @@ ghost use Rattle.share_jobs.specs.declared.fault.JobFault.TheVariants as job;
 ghost use Rattle.share_jobs.specs.Faults.{of_read, of_expand, of_scene, of_route, of_attach};
 
 use classic_text::{ReadFault, ReadFaultKind};
-use flat_document::{ExpandFault, ExpandFaultKind};
+use proto_flat::{ExpandFault, ExpandFaultKind};
 use route_core::{RouteFault, RouteFaultKind};
 use scene_core::{SceneFault, SceneFaultKind};
 use script_host::AttachFault;

@@ -3,19 +3,19 @@ use Rattle.std.proofs.Common.{◌≡◌, ◌⊎◌, ◌∙◌, ℕ, List, Option
 use Rattle.std.specs.Prelude.{IfErr, OnOk, Result, Ok, Err}
 use Rattle.std.specs.Io.KnownBytes.{Consumes, IsAtEnd}
 use Rattle.scene_core.specs.Scene.{SceneView}
-use Rattle.scene_scripts.specs.Scripts.{script_list}
+use Rattle.script_specs.specs.Scripts.{script_list}
 use Rattle.script_boxes.specs.Boxes.{stock_for}
 use Rattle.script_boxes.specs.Refused.{scripts_fault}
 use Rattle.script_boxes.proofs.Faults.{fault_of, no_fault}
 use Rattle.script_host.specs.Hosting.{ScriptRecord}
 use Rattle.script_host.specs.declared.fault.AttachFault.{AttachFault}
 use Rattle.script_host.specs.declared.fault.AttachFault.TheVariants.{UnknownScript, WrongCount, KindDiffers, InterfaceMismatch, StartMismatch, Memory}
-use Rattle.share_ends.specs.declared.fault.RunFault.{RunFault}
-use Rattle.share_ends.specs.declared.fault.RunFault.TheVariants as run_fault
+use Rattle.share_io.specs.declared.fault.RunFault.{RunFault}
+use Rattle.share_io.specs.declared.fault.RunFault.TheVariants as run_fault
 use Rattle.share_program.specs.declared.open.Job.{Job}
 use Rattle.share_program.specs.declared.refusal.Failure.{Failure}
 use Rattle.share_program.specs.declared.refusal.Failure.TheVariants as failure
-use Rattle.share_ends.specs.Boxes.{RefusesBoxes}
+use Rattle.share_io.specs.Boxes.{RefusesBoxes}
 use Rattle.share_program.specs.Opening.{opened_job}
 use Rattle.share_program.specs.Running.{FitsJob, IsFailed, IsNoRun, IsUnrun, IsUnrunStock, job_scripts_fault, run_text, unless_refused, written}
 

@@ -3,9 +3,9 @@ use Rattle.std.specs.Prelude.{ℕ, List, [], ◌++◌, codes, decimal, nat_eq, i
 use Rattle.classic_text.specs.declared.fault.ReadFaultKind.{ReadFaultKind}
 use Rattle.classic_text.specs.declared.fault.ReadFaultKind.TheVariants as read
 use Rattle.classic_text.specs.FaultName.{fault_name}
-use Rattle.flat_document.specs.declared.fault.ExpandFaultKind.{ExpandFaultKind}
-use Rattle.flat_document.specs.declared.fault.ExpandFaultKind.TheVariants as expand
-use Rattle.flat_document.specs.FaultName.{fault_name as expand_fault_name}
+use Rattle.proto_flat.specs.declared.fault.ExpandFaultKind.{ExpandFaultKind}
+use Rattle.proto_flat.specs.declared.fault.ExpandFaultKind.TheVariants as expand
+use Rattle.proto_flat.specs.FaultName.{fault_name as expand_fault_name}
 use Rattle.scene_core.specs.declared.fault.SceneFaultKind.{SceneFaultKind}
 use Rattle.scene_core.specs.declared.fault.SceneFaultKind.TheVariants as scene
 use Rattle.scene_core.specs.Faults.{fault_name as scene_fault_name}
@@ -18,8 +18,8 @@ use Rattle.script_host.specs.Faults.{attach_fault_name}
 use Rattle.share_words.specs.declared.order.OrderFault.TheVariants as order
 use Rattle.share_jobs.specs.declared.fault.JobFault.{JobFault}
 use Rattle.share_jobs.specs.declared.fault.JobFault.TheVariants as job
-use Rattle.share_ends.specs.declared.fault.RunFault.{RunFault}
-use Rattle.share_ends.specs.declared.fault.RunFault.TheVariants as run
+use Rattle.share_io.specs.declared.fault.RunFault.{RunFault}
+use Rattle.share_io.specs.declared.fault.RunFault.TheVariants as run
 use Rattle.share_program.specs.declared.fault.ShareFault.{ShareFault}
 use Rattle.share_program.specs.declared.fault.ShareFault.TheVariants as share
 use Rattle.share_program.specs.declared.refusal.Failure.{Failure}

@@ -2,16 +2,16 @@
 use Rattle.std.specs.Prelude.{◌≡◌, ◌⊎◌, ℕ, List, Option, Some, None, Result, Ok, Err}
 use Rattle.std.specs.Io.KnownBytes.{Appends, Consumes, IsAtEnd, Keeps}
 use Rattle.cascade_core.specs.Apply.{world}
-use Rattle.scene_scripts.specs.Scripts.{script_list}
+use Rattle.script_specs.specs.Scripts.{script_list}
 use Rattle.script_boxes.specs.Refused.{scripts_fault}
 use Rattle.script_host.specs.Attaching.{Fits}
 use Rattle.script_host.specs.Hosting.{ScriptRecord}
 use Rattle.script_host.specs.declared.fault.AttachFault.{AttachFault}
 use Rattle.share_jobs.specs.declared.fault.JobFault.{JobFault}
-use Rattle.share_ends.specs.declared.fault.RunFault.{RunFault}
-use Rattle.share_ends.specs.declared.fault.RunFault.TheVariants as run_fault
-use Rattle.share_ends.specs.Boxes.{RefusesBoxes}
-use Rattle.share_ends.specs.Texts.{texts}
+use Rattle.share_io.specs.declared.fault.RunFault.{RunFault}
+use Rattle.share_io.specs.declared.fault.RunFault.TheVariants as run_fault
+use Rattle.share_io.specs.Boxes.{RefusesBoxes}
+use Rattle.share_io.specs.Texts.{texts}
 use Rattle.share_program.specs.declared.open.Job.{Job}
 use Rattle.share_program.specs.declared.refusal.Failure.{Failure}
 use Rattle.share_program.specs.declared.refusal.Failure.TheVariants as failure

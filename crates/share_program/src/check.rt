@@ -7,7 +7,7 @@ ghost use Rattle.share_program.specs.declared.open.Opened.{Opened as OpenedOf};
 
 use crate::open::{Opened, open_scene};
 use itoa::Buffer;
-use share_ends::{read_whole, write_made};
+use share_io::{read_whole, write_made};
 use share_jobs::JobFault;
 use std::alloc::{AllocError, Global};
 use std::io::{Read, Write};

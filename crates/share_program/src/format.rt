@@ -11,7 +11,7 @@ ghost use Rattle.share_program.specs.Opening.{IsDeviceOrMemory};
 use classic_round_trip::{spellable_documents_are_written, spelled_documents_are_spellable, write};
 use classic_text::read;
 use classic_tree::Document;
-use share_ends::{read_whole, write_made};
+use share_io::{read_whole, write_made};
 use share_jobs::JobFault;
 use std::alloc::{AllocError, Global};
 use std::io::{Read, Write};

@@ -16,5 +16,5 @@ pub use laws::formatted_texts_stay;
 pub use open::{Job, Opened, open_job, open_scene, read_job, read_schedule};
 pub use refusal::{Failure, refusal_line, status_of};
 pub use runs::{run, run_job, run_stock};
-pub use share_ends::{MAX_READS, RunFault, StreamFault, attach, read_whole, write_whole};
+pub use share_io::{MAX_READS, RunFault, StreamFault, attach, read_whole, write_whole};
 pub use share_jobs::{Inputs, JobFault, Schedule, Steps, job_of, schedule_of};

@@ -10,11 +10,11 @@ ghost use Rattle.share_program.specs.Opening.{IsNoJob, IsNoSchedule};
 ghost use Rattle.share_jobs.specs.declared.fault.JobFault.TheVariants.{Memory};
 
 use classic_text::read;
-use flat_document::Flat;
+use proto_flat::Flat;
 use proto_walk::expand;
 use route_core::Routes;
 use scene_core::Scene;
-use share_ends::read_whole;
+use share_io::read_whole;
 use share_jobs::{Inputs, JobFault, Schedule, job_of, schedule_of};
 use std::alloc::Global;
 use std::io::Read;

@@ -1,3 +1,4 @@
+mod Cuts
 mod Endings
 mod Joining
 mod Leaving

@@ -2,6 +2,7 @@
 use Rattle.std.proofs.Common.{◌≡◌, ℕ, ◌+◌, ◌≤◌, List, [], ◌∷◌, ◌++◌, suc, ap, ◌∙◌, arith, length, append_assoc}
 use Rattle.std.specs.Prelude.{None}
 use Rattle.std.proofs.lemmas.List.{length-append}
+use Rattle.x3d_values.specs.Ranges.{max_viewers}
 use Rattle.cascade_core.specs.Apply.{opening}
 use Rattle.cascade_core.specs.Held.{StageView}
 use Rattle.share_core.specs.Viewer.{ViewerView}
@@ -30,6 +31,6 @@ seated mark viewers stage rest all more is h =
     ∙ h
 
 pub few : (viewers : List ViewerView) (x : ViewerView) (stage : StageView) (rest : List StageView) (more : List ViewerView)
-    → more ≡ viewers ++ x ∷ [] → length viewers + length (stage ∷ rest) ≤ 16 → length more + length rest ≤ 16
+    → more ≡ viewers ++ x ∷ [] → length viewers + length (stage ∷ rest) ≤ max_viewers → length more + length rest ≤ max_viewers
 few viewers x stage rest more is h =
     let count : length more ≡ length viewers + 1 = ap length is ∙ length-append viewers (x ∷ []) in omega (arith, count, h)

@@ -6,6 +6,7 @@ use Rattle.std.proofs.lemmas.Bool.{cases_Bool, cond-true, cond-false}
 use Rattle.std.proofs.lemmas.Option.{same_Some, none-some, slice_get-map}
 use Rattle.std.proofs.lemmas.List.{map-append, length-map}
 use Rattle.x3d_values.specs.declared.pointing.Point.{Point}
+use Rattle.x3d_values.specs.Ranges.{max_viewers}
 use Rattle.x3d_values.specs.Stamp.{Stamp}
 use Rattle.scene_core.specs.declared.scene.Route.{Route}
 use Rattle.scene_core.specs.Scene.{SceneView}
@@ -432,7 +433,7 @@ module _ (mark : List ℕ) (scene : SceneView) (routes : List Route) where
 
   -- ---- all steps
 
-  pub tied : WorldsFit mark scene routes → (viewers : ℕ) → 1 ≤ viewers → viewers ≤ 16 → (before : List Step) (told : List law.Answer) (net : Network Scripted) → Run m (start m (replicate viewers 1)) before told net → (old : Seen) → StandFor mark scene routes old net → ShotsFit net
+  pub tied : WorldsFit mark scene routes → (viewers : ℕ) → 1 ≤ viewers → viewers ≤ max_viewers → (before : List Step) (told : List law.Answer) (net : Network Scripted) → Run m (start m (replicate viewers 1)) before told net → (old : Seen) → StandFor mark scene routes old net → ShotsFit net
       → (steps : List Step) (answers : List Answer) (new : Seen) → AreCalls old steps answers new → (end : Network Scripted) × Run m net steps (map law_answer answers) end × StandFor mark scene routes new end
   tied worlds viewers some most before told net run old stand fit [] [] new calls = (net, refl, subst (λ (s : Seen). StandFor mark scene routes s net) (sym calls) stand)
   tied worlds viewers some most before told net run old stand fit (s ∷ steps) (a ∷ answers) new calls =

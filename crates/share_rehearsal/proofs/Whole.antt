@@ -1,6 +1,7 @@
 -- A rehearsal as a whole.
 use Rattle.std.proofs.Common.{◌≡◌, ℕ, ◌≤◌, List, [], length, map, replicate, refl, sym, subst}
 use Rattle.std.proofs.lemmas.Option.{none-some}
+use Rattle.x3d_values.specs.Ranges.{max_viewers}
 use Rattle.scene_core.specs.declared.scene.Route.{Route}
 use Rattle.scene_core.specs.Scene.{SceneView}
 use Rattle.cascade_core.specs.Held.{StageView}
@@ -10,7 +11,7 @@ use Rattle.share_law.specs.Network.{start}
 use Rattle.share_law.proofs.Runs.{Run-reached}
 use Rattle.share_core.specs.Host.{HostView}
 use Rattle.share_core.specs.Viewer.{ViewerView}
-use Rattle.network_laws.proofs.Worlds.{running_have}
+use Rattle.laws_networks.proofs.Worlds.{running_have}
 use Rattle.share_rehearsal.specs.declared.answer.Answer.{Answer}
 use Rattle.share_rehearsal.specs.Calls.{Seen, AreCalls, begun_with}
 use Rattle.share_rehearsal.specs.Rehearsed.{AreLoaded, IsLogged, IsRehearsal, IsRehearsed, law_answer}
@@ -24,7 +25,7 @@ use Rattle.share_rehearsal.proofs.Ties.{WorldsFit, tied}
 fits : (text mark : List ℕ) (scene : SceneView) (routes : List Route) (stages : List StageView) → AreLoaded text scene routes stages → WorldsFit mark scene routes
 fits text mark scene routes stages loaded net reached v w window at = running_have text loaded.flat scene routes mark net loaded.is_scene loaded.attached reached v w window at
 
-is-rehearsal : (mark : List ℕ) (stages : List StageView) (steps : List Step) (answers : List Answer) (new : Seen) → 1 ≤ length stages → length stages ≤ 16 → AreCalls (begun_with mark stages) steps answers new
+is-rehearsal : (mark : List ℕ) (stages : List StageView) (steps : List Step) (answers : List Answer) (new : Seen) → 1 ≤ length stages → length stages ≤ max_viewers → AreCalls (begun_with mark stages) steps answers new
     → (text : List ℕ) (scene : SceneView) (routes : List Route) → AreLoaded text scene routes stages → IsRehearsal mark scene routes (length stages) steps answers new
 is-rehearsal mark stages steps answers new some most calls text scene routes loaded =
     let m = cascade mark scene routes in
@@ -37,7 +38,7 @@ is-rehearsal mark stages steps answers new some most calls text scene routes loa
       stand = t.2;
     }
 
-pub is-rehearsed : (mark : List ℕ) (stages : List StageView) (steps : List Step) (before after : List ℕ) (old new : Seen) (host : HostView) (viewers : List ViewerView) → 1 ≤ length stages → length stages ≤ 16 → old ≡ begun_with mark stages → IsLogged old steps before after new
+pub is-rehearsed : (mark : List ℕ) (stages : List StageView) (steps : List Step) (before after : List ℕ) (old new : Seen) (host : HostView) (viewers : List ViewerView) → 1 ≤ length stages → length stages ≤ max_viewers → old ≡ begun_with mark stages → IsLogged old steps before after new
     → host ≡ new.host → viewers ≡ new.viewers → IsRehearsed mark stages steps before after host viewers
 is-rehearsed mark stages steps before after old new host viewers some most begun logged first second =
     let calls : AreCalls (begun_with mark stages) steps logged.answers new = subst (λ (s : Seen). AreCalls s steps logged.answers new) begun logged.calls in

@@ -2,7 +2,7 @@
 -- stand where the network's do.
 use Rattle.std.specs.Prelude.{◌≡◌, ℕ, List, [], ◌∷◌, ◌++◌, length, map, replicate, slice_get, Ok}
 use Rattle.std.specs.Option.{option_map}
-use Rattle.flat_document.specs.declared.flat.Flat.{Flat}
+use Rattle.proto_flat.specs.declared.flat.Flat.{Flat}
 use Rattle.scene_core.specs.declared.scene.Route.{Route}
 use Rattle.scene_core.specs.Scene.{SceneView}
 use Rattle.cascade_core.specs.Apply.{opening}
@@ -19,8 +19,8 @@ use Rattle.share_law.specs.Reached.{Reached}
 use Rattle.share_law.specs.Viewer as law_viewer
 use Rattle.share_core.specs.Host.{HostView}
 use Rattle.share_core.specs.Viewer.{ViewerView}
-use Rattle.world_laws.specs.Nodes.{RunsAll}
-use Rattle.network_laws.specs.Opened.{IsOpened}
+use Rattle.laws_worlds.specs.Nodes.{RunsAll}
+use Rattle.laws_networks.specs.Opened.{IsOpened}
 use Rattle.share_rehearsal.specs.declared.answer.Answer.{Answer}
 use Rattle.share_rehearsal.specs.declared.answer.Answer.TheVariants.{Clocked, HostTook, ViewerTook}
 use Rattle.share_rehearsal.specs.declared.answer.Answer.TheVariants.{Offered, Sent, Saved, Rewound}

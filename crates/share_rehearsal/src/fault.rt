@@ -11,7 +11,7 @@ use thiserror::Error;
 pub enum RehearseFault {
     #[error("there are no viewers")]
     NoViewers,
-    #[error("there are more than 16 viewers")]
+    #[error("there are more viewers than a world may have")]
     TooManyViewers,
     #[error("memory was refused")]
     Memory,

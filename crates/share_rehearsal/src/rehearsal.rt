@@ -1,6 +1,7 @@
 //! A rehearsal as a whole.
 
 ghost use Rattle.std.specs.Prelude.{◌≡◌, ◌<◌, ◌≤◌, ◌++◌, ◌∷◌, [], length, Err, IfErr, IfOk, OnErr, OnOk};
+ghost use Rattle.x3d_values.specs.Ranges.{max_viewers};
 ghost use Rattle.share_rehearsal.specs.Calls.{begun_with, seen, viewers_from};
 ghost use Rattle.share_rehearsal.specs.Rehearsed.{AreFresh, IsLogged, IsRehearsed};
 
@@ -13,9 +14,10 @@ use script_host::Behaviour;
 use share_core::{Host, Viewer};
 use share_law::Step;
 use std::alloc::{AllocError, Global};
+use x3d_values::MAX_VIEWERS;
 
 /// How many viewers there may be.
-const MOST: usize = 16;
+const MOST: usize = MAX_VIEWERS as usize;
 
 /// The host and the viewers as the steps left them.
 #[derive(Drop)]
@@ -31,7 +33,7 @@ fn seat<B: Behaviour>(
     mark: [u8; 32],
 ) -> Result<(), AllocError>
     requires fresh { AreFresh (stage ∷ []) }
-    requires room { length viewers.old.items < 16 }
+    requires room { length viewers.old.items < max_viewers }
     ensures { IfOk result (λ _. viewers.new.items
         ≡ viewers.old.items ++ viewers_from mark (length viewers.old.items) (stage ∷ [])) }
 {
@@ -47,7 +49,7 @@ pub fn viewers_of<B: Behaviour>(
     mark: [u8; 32],
 ) -> Result<Vec<Viewer<B>>, AllocError>
     requires fresh { AreFresh stages.items }
-    requires most { length stages.items ≤ 16 }
+    requires most { length stages.items ≤ max_viewers }
     ensures { IfOk result (λ viewers. viewers.items ≡ viewers_from mark 0 stages.items) }
 {
     let mut viewers = Vec::new(alloc);
@@ -102,7 +104,7 @@ fn begun<B: Behaviour>(
 ) -> Result<Nodes<B>, AllocError>
     requires fresh { AreFresh stages.items }
     requires some { 1 ≤ length stages.items }
-    requires most { length stages.items ≤ 16 }
+    requires most { length stages.items ≤ max_viewers }
     ensures { IfOk result (λ nodes. seen nodes ≡ begun_with mark stages.items) }
 {
     let count = stages.len() as u8;
@@ -121,9 +123,9 @@ fn begun<B: Behaviour>(
 /// scene, or a line that it is spoiled.
 ///
 /// A refusal of memory inside a step is the step's answer, and the steps go on. The rehearsal is
-/// refused in this order: `NoViewers`; `TooManyViewers`, more than 16 stages; `Memory`, where it
-/// was refused to the log, or to the lists of viewers, packets and snapshots. The buffer is then as
-/// it was.
+/// refused in this order: `NoViewers`; `TooManyViewers`, more than `MAX_VIEWERS` stages; `Memory`, where
+/// it was refused to the log, or to the lists of viewers, packets and snapshots. The buffer is then
+/// as it was.
 pub fn rehearse<B: Behaviour>(
     alloc: Global,
     stages: Vec<Stage<B>>,
@@ -133,8 +135,8 @@ pub fn rehearse<B: Behaviour>(
 ) -> Result<Rehearsal<B>, RehearseFault>
     requires { AreFresh stages.items }
     ensures none { length stages.items ≡ 0 → result ≡ Err RehearseFault.NoViewers }
-    ensures many { 16 < length stages.items → result ≡ Err RehearseFault.TooManyViewers }
-    ensures memory { 1 ≤ length stages.items → length stages.items ≤ 16
+    ensures many { max_viewers < length stages.items → result ≡ Err RehearseFault.TooManyViewers }
+    ensures memory { 1 ≤ length stages.items → length stages.items ≤ max_viewers
         → IfErr result (λ fault. fault ≡ RehearseFault.Memory) }
     ensures err { OnErr result (out.new.items ≡ out.old.items) }
     // The answers are those of the calls, and of stages of one scene those of a run of the network.

@@ -3,6 +3,9 @@
 ghost use Rattle.std.specs.Prelude.{◌≡◌, ◌≤◌, ◌+◌, ◌^◌, ◌<◌};
 ghost use Rattle.share_rules.specs.Asks.{span_of};
 
+/// How many inputs answer one ask at most.
+const MOST_ASKED: u32 = 64;
+
 /// So many inputs in a row, by the number of the first.
 #[derive(Clone, Copy)]
 pub struct Span {
@@ -10,7 +13,8 @@ pub struct Span {
     pub count: u32,
 }
 
-/// The inputs from the one asked for on, at most 64 of them, where `len` are numbered from 1.
+/// The inputs from the one asked for on, at most `MOST_ASKED` of them, where `len` are numbered
+/// from 1.
 pub fn span_of(next: u32, len: u32) -> Span
     requires from { 1 ≤ next }
     requires numbered { next ≤ len }
@@ -20,6 +24,6 @@ pub fn span_of(next: u32, len: u32) -> Span
 {
     Span {
         first: next,
-        count: (len + 1 - next).min(64),
+        count: (len + 1 - next).min(MOST_ASKED),
     }
 }

@@ -18,7 +18,7 @@ pub use asks::{Span, span_of};
 pub use fields::all_of;
 pub use inputs::place_of;
 pub use lines::cut_line;
-pub use offers::{Turn, turn_of};
+pub use offers::{MOST_WAITING, Turn, turn_of};
 pub use seats::seat_of;
 pub use window::Window;
 pub use words::cut_word;

@@ -3,6 +3,9 @@
 ghost use Rattle.std.specs.Prelude.{◌≡◌, ◌≤◌};
 ghost use Rattle.share_rules.specs.Offers.{turn_of};
 
+/// How many offers of a viewer wait at most.
+pub const MOST_WAITING: u32 = 64;
+
 /// Where an offer stands among those of its viewer.
 #[derive(Clone, Copy)]
 pub enum Turn {

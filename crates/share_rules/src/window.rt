@@ -2,19 +2,19 @@
 
 ghost use Rattle.std.specs.Prelude.{◌≡◌, ◌<◌, [], ◌∷◌, ◌++◌, None, Some, drop, length};
 ghost use Rattle.std.specs.Prelude.{slice_get, slice_set};
-ghost use Rattle.share_rules.specs.Window.{empty_window, keep};
+ghost use Rattle.share_rules.specs.Window.{empty_window, keep, window_places};
 
 use std::marker::Model;
 use x3d_values::Stamped;
 
 /// How many inputs ahead are kept.
-const PLACES: usize = 64;
+pub(crate) const PLACES: usize = 64;
 
-/// What is kept of the 64 inputs after the last that was applied: place i, from 0, is for the input
+/// What is kept of the inputs after the last that was applied: place i, from 0, is for the input
 /// whose number is higher by 1 + i.
 #[derive(Drop)]
 pub struct Window {
-    places: [Option<Stamped>; 64],
+    places: [Option<Stamped>; PLACES],
     first: usize,
 }
 
@@ -22,12 +22,13 @@ impl Model for Window {
     ghost use Rattle.std.specs.Prelude.{◌<◌, List, Option};
     ghost use Rattle.x3d_values.specs.Stamp.{Stamp};
     ghost use Rattle.share_rules.specs.Rings.{in_turn};
+    ghost use Rattle.share_rules.specs.Window.{window_places};
 
     ghost Value = { List (Option Stamp) };
 
     ghost view = { λ w. in_turn w.first w.places };
 
-    ghost invariant = { λ w. w.first < 64 };
+    ghost invariant = { λ w. w.first < window_places };
 }
 
 impl Window {
@@ -36,7 +37,7 @@ impl Window {
         ensures { result ≡ empty_window }
     {
         Window {
-            places: [None; 64],
+            places: [None; PLACES],
             first: 0,
         }
     }
@@ -44,14 +45,14 @@ impl Window {
     /// The next input, if it came.
     pub fn next(&self) -> Option<Stamped>
         ensures input { slice_get self.now 0 ≡ Some result }
-        ensures places { length self.now ≡ 64 }
+        ensures places { length self.now ≡ window_places }
     {
         self.places[self.first]
     }
 
     /// Keeps an input at a place, unless that has one.
     pub fn keep(&mut self, place: usize, input: Stamped)
-        requires { place < 64 }
+        requires { place < window_places }
         ensures { self.new ≡ keep self.old place input }
     {
         let index = (self.first + place) % PLACES;

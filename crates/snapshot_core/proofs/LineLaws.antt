@@ -13,7 +13,7 @@ use Rattle.snapshot_codec.specs.declared.trace.TraceEntry.{TraceEntry}
 use Rattle.snapshot_codec.specs.Reads.{Fails, behind}
 use Rattle.snapshot_codec.specs.Trace.{entry_codec, trace_codec}
 use Rattle.snapshot_codec.proofs.TraceLaws.{trace_exact}
-use Rattle.trace_core.specs.declared.trace.TraceLine.{TraceLine}
+use Rattle.cascade_trace.specs.declared.trace.TraceLine.{TraceLine}
 use Rattle.snapshot_core.specs.WorldCodec.{line_of, entry_of, line_text, output_type, lines_codec}
 
 entries_back : (entries : List TraceEntry) → map entry_of (map line_of entries) ≡ entries

@@ -13,7 +13,7 @@ use Rattle.x3d_values.specs.declared.fields.Fields.{Fields}
 use Rattle.x3d_values.specs.declared.fields.Position.{Position}
 use Rattle.x3d_values.specs.declared.node_type.NodeType.{NodeType}
 use Rattle.x3d_values.specs.declared.node_type.NodeType.TheVariants.{TimeSensor, TouchSensor, BooleanSequencer, IntegerSequencer}
-use Rattle.x3d_values.specs.Ranges.{is_viewer}
+use Rattle.x3d_values.specs.Ranges.{is_viewer, max_viewers}
 use Rattle.scene_core.specs.Shape.{Shape}
 use Rattle.snapshot_codec.specs.declared.viewers.Touch.{Touch as TouchBytes}
 use Rattle.snapshot_codec.specs.declared.viewers.Viewers.TheVariants.{Sixteen}
@@ -54,25 +54,25 @@ time_exact _ = always_exact None is_none refl is_nothing
 abbrev touched : List Bool → Option ℕ → Touch
 touched over presser = record { over = over; presser = presser }
 
-pressers : (presser : Option ℕ) → option_map_or is_viewer presser true ≡ presser_fits 16 presser
+pressers : (presser : Option ℕ) → option_map_or is_viewer presser true ≡ presser_fits max_viewers presser
 pressers None = refl
 pressers (Some viewer) = refl
 
-touch_parts : (a : TouchBytes) → (touch_codec Sixteen).fits a ≡ true → (a.over < 2 ^ 16) × (presser_fits 16 a.presser ≡ true)
+touch_parts : (a : TouchBytes) → (touch_codec Sixteen).fits a ≡ true → (a.over < 2 ^ max_viewers) × (presser_fits max_viewers a.presser ≡ true)
 unfolding touch_codec viewer_set_codec presser_codec
 touch_parts a fits =
     let f = both ((viewer_set_codec Sixteen).fits a.over) ((presser_codec Sixteen).fits a.presser) fits in
     (ltb-true _ _ f.0, f.1)
 
-touch_whole : (a : TouchBytes) → a.over < 2 ^ 16 → presser_fits 16 a.presser ≡ true → (touch_codec Sixteen).fits a ≡ true
+touch_whole : (a : TouchBytes) → a.over < 2 ^ max_viewers → presser_fits max_viewers a.presser ≡ true → (touch_codec Sixteen).fits a ≡ true
 unfolding touch_codec viewer_set_codec presser_codec
 touch_whole a small ok = and_true ((viewer_set_codec Sixteen).fits a.over) ((presser_codec Sixteen).fits a.presser) (lt-ltb _ _ small) ok
 
-touch_in_is : (a : TouchBytes) → presser_fits 16 a.presser ≡ true → n.touch_in a ≡ Some (touched (over_of a.over) a.presser)
+touch_in_is : (a : TouchBytes) → presser_fits max_viewers a.presser ≡ true → n.touch_in a ≡ Some (touched (over_of a.over) a.presser)
 unfolding touch_of_parts
 touch_in_is a ok = rw (pressers a.presser, ok) refl
 
-touch_fits_is : (n0 : ℕ) (presser : Option ℕ) → presser_fits 16 presser ≡ true → n.touch_fits (touched (over_of n0) presser) ≡ true
+touch_fits_is : (n0 : ℕ) (presser : Option ℕ) → presser_fits max_viewers presser ≡ true → n.touch_fits (touched (over_of n0) presser) ≡ true
 touch_fits_is n0 presser ok = and_true _ _ (eq-eqb _ _ (over_length n0)) (pressers presser ∙ ok)
 
 pub pointers_exact : IsExact n.pointers_codec
@@ -85,9 +85,9 @@ pointers_exact = refined_exact n.touch_in n.touch_bytes n.touch_fits (touch_code
       subst P (some_is (touched (over_of a.over) a.presser) b (sym (touch_in_is a f.1) ∙ e))
       (ap (λ k. let t : TouchBytes = record { over = k; presser = a.presser } in t) number, touch_fits_is a.over a.presser f.1);
   forth = λ b ok.
-      let f = both (eqb (length b.over) 16) (option_map_or is_viewer b.presser true) ok in
-      let len : length b.over ≡ 16 = eqb-true _ _ f.0 in
-      let viewer : presser_fits 16 b.presser ≡ true = sym (pressers b.presser) ∙ f.1 in
+      let f = both (eqb (length b.over) max_viewers) (option_map_or is_viewer b.presser true) ok in
+      let len : length b.over ≡ max_viewers = eqb-true _ _ f.0 in
+      let viewer : presser_fits max_viewers b.presser ≡ true = sym (pressers b.presser) ∙ f.1 in
       (touch_whole (n.touch_bytes b) (number_small b.over len) viewer, touch_in_is (n.touch_bytes b) viewer ∙ ap (λ (set : List Bool). Some (touched set b.presser)) (over_back b.over len));
 }) (touch_exact Sixteen)
 
@@ -104,8 +104,8 @@ only_untouched : (t : Touch) → n.is_untouched t ≡ true → t ≡ untouched
 only_untouched t e =
     let f = both (n.touch_fits t) (not (is_over t) && is_none t.presser) e in
     let g = both (not (is_over t)) (is_none t.presser) f.1 in
-    let len : length t.over ≡ 16 = eqb-true _ _ (both (eqb (length t.over) 16) (option_map_or is_viewer t.presser true) f.0).0 in
-    let none : t.over ≡ replicate 16 false = nobody t.over (not_true (is_over t) g.0) ∙ ap (λ k. replicate k false) len in
+    let len : length t.over ≡ max_viewers = eqb-true _ _ (both (eqb (length t.over) max_viewers) (option_map_or is_viewer t.presser true) f.0).0 in
+    let none : t.over ≡ replicate max_viewers false = nobody t.over (not_true (is_over t) g.0) ∙ ap (λ k. replicate k false) len in
     rw (none, is_nothing t.presser g.1) refl
 
 touch_part_exact : (t : NodeType) → IsExact (n.touch_part t)

@@ -1,6 +1,6 @@
 -- A stage that holds a world, and one that doesn't.
 use Rattle.std.proofs.Common.{◌≡◌, Some, None}
-use Rattle.world_core.specs.declared.world.WorldData.{WorldData}
+use Rattle.cascade_world.specs.declared.world.WorldData.{WorldData}
 use Rattle.cascade_core.specs.Course.{Scripted}
 use Rattle.cascade_core.specs.Held.{Held, IfRunning, IfSpoiled, Running, Spoiled, world_in}
 

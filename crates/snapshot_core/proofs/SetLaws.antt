@@ -7,6 +7,7 @@ use Rattle.std.proofs.Math.Nat.{pow-suc}
 use Rattle.std.proofs.lemmas.Bool.{eqb-true, eqb-false}
 use Rattle.std.proofs.lemmas.Nat.Bits.{bit_at_lowest, bit_at-suc}
 use Rattle.std.proofs.lemmas.List.FromFn.{length-map-range_with_len}
+use Rattle.x3d_values.specs.Ranges.{max_viewers}
 use Rattle.sensor_core.specs.Parts.{bit_of, number_of, over_of}
 
 -- the bits of a number from a place on
@@ -59,19 +60,19 @@ below [] = omega arith
 below (true ∷ set) = omega (arith, below set, pow-suc 2 (length set))
 below (false ∷ set) = omega (arith, below set, pow-suc 2 (length set))
 
--- ---- of 16 viewers
+-- ---- of all viewers
 
-pub number_back : (n : ℕ) → n < 2 ^ 16 → number_of (over_of n) ≡ n
+pub number_back : (n : ℕ) → n < 2 ^ max_viewers → number_of (over_of n) ≡ n
 unfolding over_of bits
-number_back n small = numbered 16 n small
+number_back n small = numbered max_viewers n small
 
-pub over_back : (set : List Bool) → length set ≡ 16 → over_of (number_of set) ≡ set
+pub over_back : (set : List Bool) → length set ≡ max_viewers → over_of (number_of set) ≡ set
 unfolding over_of bits
 over_back set len = ap (λ k. bits (number_of set) 0 k) (sym len) ∙ bits_back set
 
-pub over_length : (n : ℕ) → length (over_of n) ≡ 16
+pub over_length : (n : ℕ) → length (over_of n) ≡ max_viewers
 unfolding over_of
-over_length n = length-map-range_with_len (λ viewer. eqb (bit_at n viewer) 1) 0 16
+over_length n = length-map-range_with_len (λ viewer. eqb (bit_at n viewer) 1) 0 max_viewers
 
-pub number_small : (set : List Bool) → length set ≡ 16 → number_of set < 2 ^ 16
+pub number_small : (set : List Bool) → length set ≡ max_viewers → number_of set < 2 ^ max_viewers
 number_small set len = subst (λ k. number_of set < 2 ^ k) len (below set)

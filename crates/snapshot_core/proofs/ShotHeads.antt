@@ -1,5 +1,7 @@
 -- The head of a snapshot says its boot and how many inputs its world has had.
 use Rattle.std.proofs.Common.{◌≡◌, ℕ, ◌-◌, ◌^◌, ◌<◌, ◌≤◌, Bool, true, false, cond, ltb, leb, List, ◌++◌, length, take, drop, Option, Some, None, refl, sym, ap, subst, ◌∙◌, append_assoc, arith}
+use Rattle.std.specs.Prelude.{◌&&◌, ◌==◌, ◌∷◌, codes, nat_eq, slice_index, slice_range}
+use Rattle.std.specs.Cmp.Lexicographic.{pointwise}
 use Rattle.std.specs.Int.{w32, w64}
 use Rattle.std.proofs.lemmas.Bool.{le-leb, lt-ltb, leb-true, ltb-false}
 use Rattle.std.proofs.lemmas.List.{drop_at, length-append, length-drop, take_all}
@@ -9,16 +11,23 @@ use Rattle.scene_core.specs.Scene.{SceneView}
 use Rattle.cascade_core.specs.Course.{Scripted}
 use Rattle.snapshot_codec.specs.declared.head.HeadFault.{HeadFault}
 use Rattle.snapshot_codec.specs.declared.head.HeadFault.TheVariants.{Short}
-use Rattle.snapshot_codec.specs.Head.{front, head_fault, sealed, snapshot}
-use Rattle.snapshot_codec.proofs.HeadLaws.{snapshot-opened}
+use Rattle.snapshot_codec.specs.Head.{front, sealed, snapshot}
 use Rattle.snapshot_codec.specs.Trace.{moment_codec}
+use Rattle.snapshot_rules.specs.declared.version.Version.{Version}
+use Rattle.snapshot_rules.specs.declared.version.Version.TheVariants.{One}
+use Rattle.snapshot_rules.specs.Opening.{fault_before, newest, version_in, version_number}
+use Rattle.snapshot_core.specs.declared.head.ShotHead.{ShotHead}
 use Rattle.snapshot_core.specs.Loading.{HasSnapshot}
 use Rattle.snapshot_core.specs.Shot.{shot}
 use Rattle.snapshot_core.specs.ShotHead.{begins_as_shot, shot_head}
 use Rattle.snapshot_core.specs.WorldCodec.{parts_codec, parts_in, world_codec}
 use Rattle.snapshot_core.proofs.Heads.{none_is}
+use Rattle.snapshot_core.proofs.ShotLaws.{body_again, named-front}
 
 -- ---- what is told of bytes that begin as a snapshot does
+
+abbrev pub head_with : Version → (boot : ℕ) → (applied : ℕ) → ShotHead
+head_with version boot applied = record { version = version_number version; boot = boot; applied = applied }
 
 -- all behind the mark, as the code cuts it
 behind-all : (bytes : List ℕ) → take (length bytes - 37) (drop 37 bytes) ≡ drop 37 bytes
@@ -33,11 +42,11 @@ none-told bytes begins read =
     rw (begins, none) refl
 
 some-words : (bytes rest : List ℕ) (boot applied : ℕ) → begins_as_shot bytes ≡ true → words (drop 37 bytes) ≡ Some ((boot, applied), rest)
-    → Some (record { version = 1; boot = boot; applied = applied }) ≡ shot_head bytes
+    → Some (head_with (version_in bytes) boot applied) ≡ shot_head bytes
 some-words bytes rest boot applied begins read = rw (begins, read) refl
 
 pub some-told : (bytes rest : List ℕ) (boot applied : ℕ) → begins_as_shot bytes ≡ true → Some ((boot, applied), rest) ≡ words (take (length bytes - 37) (drop 37 bytes))
-    → Some (record { version = 1; boot = boot; applied = applied }) ≡ shot_head bytes
+    → Some (head_with (version_in bytes) boot applied) ≡ shot_head bytes
 some-told bytes rest boot applied begins read = some-words bytes rest boot applied begins (sym (read ∙ ap words (behind-all bytes)))
 
 -- ---- what is told of a snapshot
@@ -55,27 +64,33 @@ numbers-again boot applied more b a =
     ap words (sym (append_assoc (number_text w32 boot) (number_text w32 applied) more))
     ∙ (pair_exact (number w32) (number w32) (number_exact w32 wide32) (number_exact w32 wide32)).again (boot, applied) more (and_true _ _ (lt-ltb boot (2 ^ 32) b) (lt-ltb applied (2 ^ 32) a))
 
+-- a front begins as a snapshot does, whatever stands behind it
+begins-front : (version : Version) (rest : List ℕ) → (let bytes : List ℕ = codes "X3DW" ++ version_number version ∷ rest in (pointwise nat_eq (slice_range bytes 0 4) (codes "X3DW") && slice_index bytes 4 == version_number (version_in bytes))) ≡ true
+begins-front One rest = refl
+
 -- behind the digest nothing is asked of the bytes but that they are enough
-told : (mark : List ℕ) (boot applied : ℕ) (more digest : List ℕ) → length mark ≡ 32 → boot < 2 ^ 32 → applied < 2 ^ 32 → 85 ≤ length ((front 1 mark ++ numbered boot applied more) ++ digest)
-    → shot_head ((front 1 mark ++ numbered boot applied more) ++ digest) ≡ Some (record { version = 1; boot = boot; applied = applied })
-told mark boot applied more digest len b a size =
+told : (version : Version) (mark : List ℕ) (boot applied : ℕ) (more digest : List ℕ) → length mark ≡ 32 → boot < 2 ^ 32 → applied < 2 ^ 32 → 85 ≤ length ((front (version_number version) mark ++ numbered boot applied more) ++ digest)
+    → shot_head ((front (version_number version) mark ++ numbered boot applied more) ++ digest) ≡ Some (head_with version boot applied)
+told version mark boot applied more digest len b a size =
     let body : List ℕ = numbered boot applied more in
-    let bytes : List ℕ = (front 1 mark ++ body) ++ digest in
-    let begins : begins_as_shot bytes ≡ true = and_true _ _ (le-leb 85 (length bytes) size) refl in
+    let bytes : List ℕ = (front (version_number version) mark ++ body) ++ digest in
+    let behind_front : List ℕ = (mark ++ body) ++ digest in
+    let begins : begins_as_shot bytes ≡ true = and_true _ _ (le-leb 85 (length bytes) size) (begins-front version behind_front) in
     let behind : drop 37 bytes ≡ numbered boot applied (more ++ digest) =
     ap (drop 32) (append_assoc mark body digest) ∙ drop_at mark (body ++ digest) 32 len
     ∙ append_assoc (number_text w32 boot) (number_text w32 applied ++ more) digest
     ∙ ap (λ (l : List ℕ). number_text w32 boot ++ l) (append_assoc (number_text w32 applied) more digest) in
     sym (some-words bytes (more ++ digest) boot applied begins (ap words behind ∙ numbers-again boot applied (more ++ digest) b a))
+    ∙ ap (λ (v : Version). Some (head_with v boot applied)) (named-front version behind_front)
 
 long-of : (short : Bool) (others : Option HeadFault) → cond short (Some Short) others ≡ None → short ≡ false
 long-of true others e = absurd cc
 long-of false others e = refl
 
-long : (mark body : List ℕ) → length mark ≡ 32 → 16 ≤ length body → 85 ≤ length (snapshot 1 mark body)
-long mark body len some =
-    let bytes : List ℕ = snapshot 1 mark body in
-    let good : head_fault 1 mark bytes ≡ None = none_is bytes body (head_fault 1 mark bytes) (snapshot-opened 1 mark body len some) in
+long : (version : Version) (mark body : List ℕ) → length mark ≡ 32 → 16 ≤ length body → 85 ≤ length (snapshot (version_number version) mark body)
+long version mark body len some =
+    let bytes : List ℕ = snapshot (version_number version) mark body in
+    let good : fault_before mark bytes ≡ None = none_is bytes body (fault_before mark bytes) (body_again version mark body len some) in
     ltb-false (length bytes) 85 (long-of (ltb (length bytes) 85) _ good)
 
 -- the digest
@@ -85,25 +100,26 @@ behind bytes = drop (length bytes) (sealed bytes)
 sealed-is : (bytes : List ℕ) → sealed bytes ≡ bytes ++ behind bytes
 sealed-is bytes = sym (ap (λ (l : List ℕ). bytes ++ l) (drop_at bytes _ (length bytes) refl))
 
-head_of-numbered : (mark : List ℕ) (boot applied : ℕ) (more : List ℕ) → length mark ≡ 32 → boot < 2 ^ 32 → applied < 2 ^ 32 → 8 ≤ length more
-    → shot_head (snapshot 1 mark (numbered boot applied more)) ≡ Some (record { version = 1; boot = boot; applied = applied })
-head_of-numbered mark boot applied more len b a few =
+head_of-numbered : (version : Version) (mark : List ℕ) (boot applied : ℕ) (more : List ℕ) → length mark ≡ 32 → boot < 2 ^ 32 → applied < 2 ^ 32 → 8 ≤ length more
+    → shot_head (snapshot (version_number version) mark (numbered boot applied more)) ≡ Some (head_with version boot applied)
+head_of-numbered version mark boot applied more len b a few =
     let body : List ℕ = numbered boot applied more in
     let some : 16 ≤ length body = omega (arith, few, length4 boot, length4 applied, length-append (number_text w32 boot) (number_text w32 applied ++ more), length-append (number_text w32 applied) more) in
-    let same : snapshot 1 mark body ≡ (front 1 mark ++ body) ++ behind (front 1 mark ++ body) = sealed-is (front 1 mark ++ body) in
-    let size : 85 ≤ length ((front 1 mark ++ body) ++ behind (front 1 mark ++ body)) = subst (λ (l : List ℕ). 85 ≤ length l) same (long mark body len some) in
-    ap shot_head same ∙ told mark boot applied more (behind (front 1 mark ++ body)) len b a size
+    let whole : List ℕ = front (version_number version) mark ++ body in
+    let same : snapshot (version_number version) mark body ≡ whole ++ behind whole = sealed-is whole in
+    let size : 85 ≤ length (whole ++ behind whole) = subst (λ (l : List ℕ). 85 ≤ length l) same (long version mark body len some) in
+    ap shot_head same ∙ told version mark boot applied more (behind whole) len b a size
 
 length8 : (n : ℕ) → length (number_text w64 n) ≡ 8
 unfolding number_text
 length8 n = wide64.len n
 
 pub head_of_shot : (mark : List ℕ) (boot : ℕ) (scene : SceneView) (w : Scripted) → length mark ≡ 32 → boot < 2 ^ 32 → HasSnapshot scene w
-    → shot_head (shot mark boot scene w) ≡ Some (record { version = 1; boot = boot; applied = w.world.applied })
+    → shot_head (shot mark boot scene w) ≡ Some (head_with newest boot w.world.applied)
 unfolding world_codec
 head_of_shot mark boot scene w len b has =
     let few : leb w.world.applied (2 ^ 20) ≡ true = (both (leb w.world.applied (2 ^ 20)) _ has.fits).0 in
     let more : List ℕ = moment_codec.write w.world.last_time ++ (parts_codec scene).write (parts_in w) in
     let moment : length (moment_codec.write w.world.last_time) ≡ 8 = length8 _ in
-    head_of-numbered mark boot w.world.applied more len b (omega (arith, leb-true w.world.applied (2 ^ 20) few))
+    head_of-numbered newest mark boot w.world.applied more len b (omega (arith, leb-true w.world.applied (2 ^ 20) few))
     (omega (arith, moment, length-append (moment_codec.write w.world.last_time) ((parts_codec scene).write (parts_in w))))

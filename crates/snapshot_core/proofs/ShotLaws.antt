@@ -1,5 +1,6 @@
 -- A snapshot is loaded to its world, and what is loaded is a snapshot.
 use Rattle.std.proofs.Common.{◌≡◌, ℕ, zero, suc, ◌^◌, ◌<◌, ◌≤◌, Bool, true, false, cond, ltb, List, [], ◌∷◌, ◌++◌, length, Option, Some, None, Result, Ok, Err, refl, sym, ap, subst, ◌∙◌, arith}
+use Rattle.std.specs.Prelude.{codes}
 use Rattle.std.specs.Int.{w32, w64}
 use Rattle.std.proofs.lemmas.Bool.{le-ltb, lt-ltb, ltb-true}
 use Rattle.std.proofs.lemmas.List.{length-append}
@@ -9,6 +10,9 @@ use Rattle.byte_codec.proofs.Laws.{IsBytes-rest, both, and_true, whole_again, wh
 use Rattle.scene_core.specs.Scene.{SceneView}
 use Rattle.snapshot_codec.specs.declared.head.HeadFault.{HeadFault}
 use Rattle.snapshot_codec.specs.Head.{applied_codec, front, opened, snapshot}
+use Rattle.snapshot_rules.specs.declared.version.Version.{Version}
+use Rattle.snapshot_rules.specs.declared.version.Version.TheVariants.{One}
+use Rattle.snapshot_rules.specs.Opening.{found_body, newest, version_in, version_number}
 use Rattle.snapshot_codec.specs.Trace.{moment_codec}
 use Rattle.snapshot_codec.proofs.HeadLaws.{opened-found, snapshot-opened}
 use Rattle.cascade_core.specs.Course.{Scripted}
@@ -17,7 +21,7 @@ use Rattle.cascade_core.specs.Scripts.{kinds_in}
 use Rattle.snapshot_core.specs.declared.fault.SnapFault.{SnapFault}
 use Rattle.snapshot_core.specs.declared.fault.SnapFault.TheVariants.{BootNotNew, ScriptState}
 use Rattle.snapshot_core.specs.Loading.{HasSnapshot, behind_head, loaded, newer, states_fit, with_states}
-use Rattle.snapshot_core.specs.Shot.{body_codec, shot}
+use Rattle.snapshot_core.specs.Shot.{body_codec, shot, shot_as}
 use Rattle.snapshot_core.specs.WorldCodec.{parts_codec, parts_in, world_codec}
 use Rattle.snapshot_core.proofs.StateLaws.{all_fit, fitting_all, stated}
 use Rattle.snapshot_core.proofs.WorldLaws.{body_exact}
@@ -42,9 +46,21 @@ some_body scene boot w = long boot (applied_codec.write w.world.applied) (moment
 read_again : (scene : SceneView) (boot : ℕ) (w : Scripted) → boot < 2 ^ 32 → (world_codec scene).fits w ≡ true → whole ((body_codec scene).read ((body_codec scene).write (boot, w))) ≡ Some (boot, w)
 read_again scene boot w small fits = whole_again (body_codec scene) (body_exact scene) (boot, w) (and_true _ _ (lt-ltb boot (2 ^ 32) small) fits)
 
-shot_read : (mark : List ℕ) (scene : SceneView) (boot new : ℕ) (w : Scripted) → length mark ≡ 32 → boot < 2 ^ 32 → (world_codec scene).fits w ≡ true → behind_head scene new (opened 1 mark (shot mark boot scene w)) ≡ newer new (Some (boot, w))
+-- a snapshot names its version, and so is opened to its body
+pub named-front : (version : Version) (rest : List ℕ) → version_in (codes "X3DW" ++ version_number version ∷ rest) ≡ version
+named-front One rest = refl
+
+named : (version : Version) (mark body : List ℕ) → version_in (snapshot (version_number version) mark body) ≡ version
+named One mark body = refl
+
+pub body_again : (version : Version) (mark body : List ℕ) → length mark ≡ 32 → 16 ≤ length body → found_body mark (snapshot (version_number version) mark body) ≡ Ok body
+body_again version mark body len some =
+    ap (λ (v : Version). opened (version_number v) mark (snapshot (version_number version) mark body)) (named version mark body)
+    ∙ snapshot-opened (version_number version) mark body len some
+
+shot_read : (mark : List ℕ) (scene : SceneView) (boot new : ℕ) (w : Scripted) → length mark ≡ 32 → boot < 2 ^ 32 → (world_codec scene).fits w ≡ true → behind_head scene new (found_body mark (shot mark boot scene w)) ≡ newer new (Some (boot, w))
 shot_read mark scene boot new w len small fits =
-    ap (behind_head scene new) (snapshot-opened 1 mark ((body_codec scene).write (boot, w)) len (some_body scene boot w))
+    ap (behind_head scene new) (body_again newest mark ((body_codec scene).write (boot, w)) len (some_body scene boot w))
     ∙ ap (newer new) (read_again scene boot w small fits)
 
 pub loads : (mark : List ℕ) (scene : SceneView) (boot new : ℕ) (w : Scripted) → length mark ≡ 32 → boot < 2 ^ 32 → HasSnapshot scene w → boot < new → loaded mark scene new (shot mark boot scene w) ≡ Ok (boot, w)
@@ -66,14 +82,14 @@ IsBytes-front [] b h i = omega arith
 IsBytes-front (x ∷ a) b h zero = h 0
 IsBytes-front (x ∷ a) b h (suc i) = IsBytes-front a b (λ j. h (suc j)) i
 
-body_bytes : (mark bytes body : List ℕ) → IsBytes bytes → bytes ≡ snapshot 1 mark body → IsBytes body
-body_bytes mark bytes body h e =
-    let all : IsBytes (snapshot 1 mark body) = subst IsBytes e h in
-    IsBytes-rest (front 1 mark) body (IsBytes-front (front 1 mark ++ body) _ all)
+body_bytes : (version : ℕ) (mark bytes body : List ℕ) → IsBytes bytes → bytes ≡ snapshot version mark body → IsBytes body
+body_bytes version mark bytes body h e =
+    let all : IsBytes (snapshot version mark body) = subst IsBytes e h in
+    IsBytes-rest (front version mark) body (IsBytes-front (front version mark ++ body) _ all)
 
 -- what it comes to that this is read of these bytes
 abbrev Found : List ℕ → SceneView → ℕ → List ℕ → ℕ × Scripted → Type 0
-Found mark scene new bytes x = (bytes ≡ shot mark x.0 scene x.1) × ((world_codec scene).fits x.1 ≡ true) × (x.0 < new)
+Found mark scene new bytes x = (bytes ≡ shot_as (version_in bytes) mark x.0 scene x.1) × ((world_codec scene).fits x.1 ≡ true) × (x.0 < new)
 
 abbrev fault : SnapFault → Result (ℕ × Scripted) SnapFault
 fault f = Err f
@@ -85,18 +101,19 @@ by_boot : (new : ℕ) (y x : ℕ × Scripted) (t : Bool) → ltb y.0 new ≡ t �
 by_boot new y x true lt e = (ok_is y x e, ltb-true y.0 new lt)
 by_boot new y x false lt e = absurd cc
 
-by_body : (mark : List ℕ) (scene : SceneView) (new : ℕ) (bytes body : List ℕ) (x : ℕ × Scripted) (r : Option (ℕ × Scripted)) → IsBytes body → bytes ≡ snapshot 1 mark body → whole ((body_codec scene).read body) ≡ r → newer new r ≡ Ok x → Found mark scene new bytes x
+by_body : (mark : List ℕ) (scene : SceneView) (new : ℕ) (bytes body : List ℕ) (x : ℕ × Scripted) (r : Option (ℕ × Scripted)) → IsBytes body → bytes ≡ snapshot (version_number (version_in bytes)) mark body → whole ((body_codec scene).read body) ≡ r → newer new r ≡ Ok x → Found mark scene new bytes x
 by_body mark scene new bytes body x None h is read e = absurd cc
 by_body mark scene new bytes body x (Some y) h is read e =
     let b = by_boot new y x (ltb y.0 new) refl e in
     let t = whole_takes (body_codec scene) (body_exact scene) body y h read in
     let f = both ((number w32).fits y.0) ((world_codec scene).fits y.1) t.1 in
-    subst (Found mark scene new bytes) b.0 (is ∙ ap (snapshot 1 mark) t.0, f.1, b.1)
+    subst (Found mark scene new bytes) b.0 (is ∙ ap (snapshot (version_number (version_in bytes)) mark) t.0, f.1, b.1)
 
-by_head : (mark : List ℕ) (scene : SceneView) (new : ℕ) (bytes : List ℕ) (x : ℕ × Scripted) (r : Result (List ℕ) HeadFault) → IsBytes bytes → opened 1 mark bytes ≡ r → behind_head scene new r ≡ Ok x → Found mark scene new bytes x
+by_head : (mark : List ℕ) (scene : SceneView) (new : ℕ) (bytes : List ℕ) (x : ℕ × Scripted) (r : Result (List ℕ) HeadFault) → IsBytes bytes → found_body mark bytes ≡ r → behind_head scene new r ≡ Ok x → Found mark scene new bytes x
 by_head mark scene new bytes x (Ok body) h is e =
-    let found : bytes ≡ snapshot 1 mark body = opened-found (λ b. b) (Ok body) 1 mark bytes (sym is) in
-    by_body mark scene new bytes body x (whole ((body_codec scene).read body)) (body_bytes mark bytes body h found) found refl e
+    let version : ℕ = version_number (version_in bytes) in
+    let found : bytes ≡ snapshot version mark body = opened-found (λ b. b) (Ok body) version mark bytes (sym is) in
+    by_body mark scene new bytes body x (whole ((body_codec scene).read body)) (body_bytes version mark bytes body h found) found refl e
 by_head mark scene new bytes x (Err f) h is e = absurd cc
 
 by_states : (scene : SceneView) (y x : ℕ × Scripted) (t : Bool) → states_fit (kinds_in scene) y.1.states ≡ t → cond t (Ok y) (fault ScriptState) ≡ Ok x → (y ≡ x) × (states_fit (kinds_in scene) y.1.states ≡ true)
@@ -111,9 +128,9 @@ by_loaded scene x (Ok y) e =
 by_loaded scene x (Err f) e = absurd cc
 
 pub found : (mark : List ℕ) (scene : SceneView) (new : ℕ) (bytes : List ℕ) (x : ℕ × Scripted) → IsBytes bytes → loaded mark scene new bytes ≡ Ok x
-    → (bytes ≡ shot mark x.0 scene x.1) × HasSnapshot scene x.1 × (x.0 < new)
+    → (bytes ≡ shot_as (version_in bytes) mark x.0 scene x.1) × HasSnapshot scene x.1 × (x.0 < new)
 unfolding loaded
 found mark scene new bytes x h e =
-    let s = by_loaded scene x (behind_head scene new (opened 1 mark bytes)) e in
-    let f = by_head mark scene new bytes x (opened 1 mark bytes) h refl s.0 in
+    let s = by_loaded scene x (behind_head scene new (found_body mark bytes)) e in
+    let f = by_head mark scene new bytes x (found_body mark bytes) h refl s.0 in
     (f.0, record { fits = f.1; states = s.1 }, f.2)

@@ -17,6 +17,7 @@ use Rattle.snapshot_codec.specs.Trace.{moment_codec}
 use Rattle.snapshot_codec.proofs.HeadLaws.{applied_exact}
 use Rattle.snapshot_codec.proofs.PartLaws.{states_exact}
 use Rattle.snapshot_codec.proofs.TraceLaws.{moment_exact}
+use Rattle.x3d_values.specs.Ranges.{max_viewers}
 use Rattle.sensor_core.specs.Parts.{number_of, over_of}
 use Rattle.cascade_core.specs.Course.{Scripted}
 use Rattle.cascade_core.specs.Scripts.{kinds_in}
@@ -113,12 +114,12 @@ body_written scene boot w old o1 o2 o3 o4 new p n u s l =
 
 buttons_exact : IsExact buttons_codec
 unfolding buttons_codec viewer_set_codec
-buttons_exact = refined_exact (λ n. Some (over_of n)) number_of (λ set. eqb (length set) 16) (number w16) (record {
+buttons_exact = refined_exact (λ n. Some (over_of n)) number_of (λ set. eqb (length set) max_viewers) (number w16) (record {
   back = λ a b fits e.
-      let P : List Bool → Type 0 = λ set. (number_of set ≡ a) × (eqb (length set) 16 ≡ true) in
+      let P : List Bool → Type 0 = λ set. (number_of set ≡ a) × (eqb (length set) max_viewers ≡ true) in
       subst P (some_is (over_of a) b e) (number_back a (ltb-true _ _ fits), eq-eqb _ _ (over_length a));
   forth = λ b ok.
-      let len : length b ≡ 16 = eqb-true _ _ ok in
+      let len : length b ≡ max_viewers = eqb-true _ _ ok in
       (lt-ltb _ _ (number_small b len), ap (λ (set : List Bool). Some set) (over_back b len));
 }) (number_exact w16 wide16)
 

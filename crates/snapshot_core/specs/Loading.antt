@@ -4,13 +4,14 @@ use Rattle.byte_codec.specs.Codec.{whole}
 use Rattle.scene_core.specs.Scene.{SceneView}
 use Rattle.snapshot_codec.specs.declared.head.HeadFault.{HeadFault}
 use Rattle.snapshot_codec.specs.declared.head.HeadFault.TheVariants as head_fault
-use Rattle.snapshot_codec.specs.Head.{opened}
 use Rattle.cascade_core.specs.Course.{Scripted}
 use Rattle.cascade_core.specs.Held.{StageView, Running, holding}
 use Rattle.cascade_core.specs.Installing.{StatesFit}
 use Rattle.cascade_core.specs.Scripts.{kinds_in}
 use Rattle.script_host.specs.States.{state_fault}
 use Rattle.x3d_values.specs.declared.script.Kind.{Kind}
+use Rattle.snapshot_rules.specs.Opening.{found_body}
+pub use Rattle.snapshot_rules.specs.Opening.{fault_before}
 use Rattle.snapshot_core.specs.declared.fault.SnapFault.{SnapFault}
 use Rattle.snapshot_core.specs.declared.fault.SnapFault.TheVariants.{Short, BadMagic, BadVersion, WrongScene, BadDigest, NotCanonical, BootNotNew, ScriptState}
 use Rattle.snapshot_core.specs.declared.loading.Saved.{Saved}
@@ -61,7 +62,7 @@ with_states scene (Err fault) = Err fault
 -- ScriptState
 unfoldable pub loaded : (mark : List ℕ) → SceneView → (boot : ℕ) → (bytes : List ℕ)
     → Result (ℕ × Scripted) SnapFault
-loaded mark scene boot bytes = with_states scene (behind_head scene boot (opened 1 mark bytes))
+loaded mark scene boot bytes = with_states scene (behind_head scene boot (found_body mark bytes))
 
 -- the world has a snapshot that can be loaded
 pub record HasSnapshot (scene : SceneView) (w : Scripted) : Type 0 where

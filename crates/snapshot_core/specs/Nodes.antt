@@ -12,10 +12,10 @@ use Rattle.scene_core.specs.Shape.{Shape, rows_of}
 use Rattle.snapshot_codec.specs.declared.kept.KeptField.{KeptField}
 use Rattle.snapshot_codec.specs.Fields.{kept_field, fields_codec}
 use Rattle.sensor_core.specs.Touches.{Touch}
-use Rattle.snapshot_parts.specs.declared.beside.Beside.{Beside}
-pub use Rattle.snapshot_parts.specs.Beside.{always, touch_in, touch_bytes, touch_fits, is_untouched}
-unfoldable pub use Rattle.snapshot_parts.specs.Beside.{time_part, pointers_codec, touch_part}
-unfoldable pub use Rattle.snapshot_parts.specs.Beside.{position_part, beside_codec}
+use Rattle.snapshot_rules.specs.declared.beside.Beside.{Beside}
+pub use Rattle.snapshot_rules.specs.Beside.{always, touch_in, touch_bytes, touch_fits, is_untouched}
+unfoldable pub use Rattle.snapshot_rules.specs.Beside.{time_part, pointers_codec, touch_part}
+unfoldable pub use Rattle.snapshot_rules.specs.Beside.{position_part, beside_codec}
 use Rattle.snapshot_core.specs.declared.nodes.NodeLists.{NodeLists}
 use Rattle.snapshot_core.specs.declared.nodes.NodeState.{NodeState}
 

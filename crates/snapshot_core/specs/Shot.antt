@@ -5,12 +5,19 @@ use Rattle.byte_codec.specs.Codec.{Codec, pair, number}
 use Rattle.scene_core.specs.Scene.{SceneView}
 use Rattle.cascade_core.specs.Course.{Scripted}
 use Rattle.snapshot_codec.specs.Head.{snapshot}
+use Rattle.snapshot_rules.specs.declared.version.Version.{Version}
+use Rattle.snapshot_rules.specs.Opening.{newest, version_number}
 use Rattle.snapshot_core.specs.WorldCodec.{world_codec}
 
 -- all between the mark and the digest: the boot, and the world
 abbrev pub body_codec : SceneView → Codec (ℕ × Scripted)
 body_codec scene = pair (number w32) (world_codec scene)
 
--- the snapshot of a scene's world by the scene's mark, as a boot
+-- the snapshot of this version of a scene's world by the scene's mark, as a boot
+abbrev pub shot_as : Version → (mark : List ℕ) → (boot : ℕ) → SceneView → Scripted → List ℕ
+shot_as version mark boot scene w =
+    snapshot (version_number version) mark ((body_codec scene).write (boot, w))
+
+-- the one that is written
 abbrev pub shot : (mark : List ℕ) → (boot : ℕ) → SceneView → Scripted → List ℕ
-shot mark boot scene w = snapshot 1 mark ((body_codec scene).write (boot, w))
+shot mark boot scene w = shot_as newest mark boot scene w

@@ -13,9 +13,9 @@ use Rattle.scene_core.specs.Scene.{SceneView, shapes_of}
 use Rattle.scene_core.specs.Shape.{Shape}
 use Rattle.cascade_core.specs.Course.{Scripted}
 use Rattle.cascade_core.specs.Scripts.{kinds_in}
-use Rattle.trace_core.specs.declared.trace.TraceLine.{TraceLine}
-use Rattle.world_core.specs.declared.world.WorldData.{WorldData}
-pub use Rattle.world_core.specs.Fits.{sent_type, output_type}
+use Rattle.cascade_trace.specs.declared.trace.TraceLine.{TraceLine}
+use Rattle.cascade_world.specs.declared.world.WorldData.{WorldData}
+pub use Rattle.cascade_world.specs.Fits.{sent_type, output_type}
 use Rattle.snapshot_core.specs.declared.nodes.NodeLists.{NodeLists}
 use Rattle.snapshot_core.specs.declared.world.Found.{Found}
 use Rattle.snapshot_core.specs.declared.world.WorldParts.{WorldParts}

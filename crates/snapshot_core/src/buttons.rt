@@ -2,29 +2,18 @@
 
 ghost use Rattle.std.specs.Prelude.{◌≡◌, ◌++◌, OnErr, OnOk};
 ghost use Rattle.std.specs.Option.{option_map};
-ghost use Rattle.snapshot_codec.specs.Parts.{viewer_set_codec};
 ghost use Rattle.snapshot_core.specs.WorldCodec.{buttons_codec};
 
-use byte_codec::u16_of;
 use sensor_core::{VIEWERS, number_of, over_of};
-use snapshot_codec::{Viewers, push_viewer_set};
+use snapshot_codec::{Viewers, push_viewer_set, viewer_set_of};
 use std::alloc::AllocError;
-
-/// The number of a set of viewers at the front of the bytes, and the bytes behind it.
-#[tactic(auto, unfolding(snapshot_codec::specs::Parts::viewer_set_codec))]
-fn set_of(bytes: &[u8]) -> Option<(u16, &[u8])>
-    ensures { option_map (λ x. (x.0, x.1.now)) result
-        ≡ (viewer_set_codec Viewers.Sixteen).read bytes.now }
-{
-    u16_of(bytes)
-}
 
 /// Whose buttons are down, at the front of the bytes, and the bytes behind it.
 #[tactic(auto, unfolding(crate::specs::WorldCodec::buttons_codec))]
 pub(crate) fn buttons_of(bytes: &[u8]) -> Option<([bool; VIEWERS], &[u8])>
     ensures { option_map (λ x. (x.0, x.1.now)) result ≡ buttons_codec.read bytes.now }
 {
-    let Some((number, rest)) = set_of(bytes) else {
+    let Some((number, rest)) = viewer_set_of(Viewers::Sixteen, bytes) else {
         return None;
     };
     Some((over_of(number), rest))
@@ -36,5 +25,5 @@ pub(crate) fn push_buttons(buttons: &[bool; VIEWERS], out: &mut Vec<u8>) -> Resu
     ensures ok { OnOk result (out.new.items ≡ out.old.items ++ buttons_codec.write buttons.now) }
     ensures err { OnErr result (out.new.items ≡ out.old.items) }
 {
-    push_viewer_set(Viewers::Sixteen, u64::from(number_of(buttons)), out)
+    push_viewer_set(Viewers::Sixteen, number_of(buttons), out)
 }

@@ -6,12 +6,13 @@ ghost use Rattle.std.specs.Option.{option_map};
 ghost use Rattle.byte_codec.specs.Codec.{pair, number};
 ghost use Rattle.scene_core.specs.Scene.{SceneView};
 ghost use Rattle.cascade_core.specs.Course.{Scripted};
+ghost use Rattle.snapshot_rules.specs.Opening.{newest, version_number};
 ghost use Rattle.snapshot_core.specs.Loading.{HasSnapshot};
 ghost use Rattle.snapshot_core.specs.Shot.{shot};
 ghost use Rattle.snapshot_core.specs.ShotHead.{begins_as_shot, shot_head};
 
 use byte_codec::u32_of;
-use snapshot_parts::VERSION;
+use snapshot_rules::version_in;
 
 /// The first bytes of each snapshot.
 const MAGIC: &[u8; 4] = b"X3DW";
@@ -32,7 +33,8 @@ pub struct ShotHead {
 fn begins_as_shot(bytes: &[u8]) -> bool
     ensures { result ≡ begins_as_shot bytes.now }
 {
-    bytes.len() >= LEAST && (&bytes[..4] == MAGIC.as_slice() && bytes[4] == VERSION)
+    bytes.len() >= LEAST
+        && (&bytes[..4] == MAGIC.as_slice() && bytes[4] == version_in(bytes).number())
 }
 
 /// Two numbers of 32 bits.
@@ -59,21 +61,25 @@ fn head_in(bytes: &[u8]) -> Option<ShotHead>
         return None;
     };
     Some(ShotHead {
-        version: VERSION,
+        version: version_in(bytes).number(),
         boot,
         applied,
     })
 }
 
-/// What the head says, of bytes that begin as a snapshot does: at least 85, `X3DW` and the version
-/// that is read here. The mark, the world and the digest are not looked at. Takes no memory.
+/// What the head says, of bytes that begin as a snapshot does: at least 85, `X3DW` and a version
+/// that is read. The mark, the world and the digest are not looked at. Takes no memory.
 pub fn shot_head(bytes: &[u8]) -> Option<ShotHead>
     ensures value { result ≡ shot_head bytes.now }
     // Of each snapshot it is told whose it is, and how far its world had come.
     ensures shots { (mark : List ℕ) (boot : ℕ) (scene : SceneView) (w : Scripted)
         → length mark ≡ 32 → boot < 2 ^ 32 → HasSnapshot scene w
         → bytes.now ≡ shot mark boot scene w
-        → result ≡ Some (record { version = 1; boot = boot; applied = w.world.applied }) }
+        → result ≡ Some (record {
+          version = version_number newest;
+          boot = boot;
+          applied = w.world.applied;
+        }) }
 {
     head_in(bytes)
 }

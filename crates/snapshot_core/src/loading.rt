@@ -4,7 +4,7 @@ ghost use Rattle.std.specs.Prelude.{◌≡◌, ◌⊎◌, Err, None, Ok, Result,
 ghost use Rattle.std.specs.Result.{result_map_both};
 ghost use Rattle.cascade_core.specs.Held.{spoiled};
 ghost use Rattle.cascade_core.specs.Scripts.{kinds_in};
-ghost use Rattle.snapshot_codec.specs.Head.{head_fault, opened};
+ghost use Rattle.snapshot_rules.specs.Opening.{fault_before, found_body};
 ghost use Rattle.snapshot_core.specs.Loading.{behind_head, load_outcome, loaded, loaded_body, with_states};
 ghost use Rattle.snapshot_core.specs.WorldCodec.{booted};
 
@@ -14,7 +14,7 @@ use cascade_core::Stage;
 use scene_core::Scene;
 use script_host::{Behaviour, StateFault};
 use snapshot_codec::PartFault;
-use snapshot_parts::{body_in, is_older};
+use snapshot_rules::{body_in, is_older};
 use std::alloc::Global;
 
 /// Of which boot a snapshot was, and how many inputs its world had applied.
@@ -64,9 +64,9 @@ fn behind_head(
     bytes: &[u8],
 ) -> Result<Found, SnapFault>
     requires { scripts ≡ length (kinds_in scene.now) }
-    ensures { (behind_head scene.now boot (opened 1 mark.now bytes.now)
+    ensures { (behind_head scene.now boot (found_body mark.now bytes.now)
         ≡ result_map_both booted (λ fault. fault) result)
-        ⊎ ((result ≡ Err SnapFault.Memory) × (head_fault 1 mark.now bytes.now ≡ None)) }
+        ⊎ ((result ≡ Err SnapFault.Memory) × (fault_before mark.now bytes.now ≡ None)) }
 {
     match body_in(mark, bytes) {
         Ok(body) => loaded_body(alloc, scene, scripts, boot, body),
@@ -122,7 +122,7 @@ pub fn load_into<B: Behaviour>(
     ensures { (load_outcome stage.old (loaded mark.now stage.old.scene boot bytes.now)
         ≡ (result, stage.new))
         ⊎ ((result ≡ Err SnapFault.Memory) × (stage.new ≡ spoiled stage.old)
-        × (head_fault 1 mark.now bytes.now ≡ None)) }
+        × (fault_before mark.now bytes.now ≡ None)) }
 {
     let alloc = stage.allocator();
     let scripts = stage.script_count();

@@ -14,7 +14,7 @@ use cascade_core::WorldData;
 use scene_core::Scene;
 use sensor_core::{TimeState, TouchState};
 use snapshot_codec::{KeptField, PartFault, kept_fields_of, push_kept_fields};
-use snapshot_parts::{Beside, beside_of, push_beside};
+use snapshot_rules::{Beside, beside_of, push_beside};
 use std::alloc::{AllocError, Global};
 use x3d_values::{Fields, Items, NodeType, Value};
 

@@ -11,7 +11,7 @@ use cascade_core::{Stage, WorldData};
 use scene_core::Scene;
 use script_host::Behaviour;
 use snapshot_codec::{push_digest, push_front};
-use snapshot_parts::VERSION;
+use snapshot_rules::newest;
 use std::alloc::AllocError;
 use x3d_values::Items;
 
@@ -31,7 +31,7 @@ fn push_shot(
     ensures kept { Extends out.old.items out.new.items }
 {
     let from = out.len();
-    push_front(VERSION, mark, out)?;
+    push_front(newest().number(), mark, out)?;
     push_body(scene, world, states, boot, out)?;
     push_digest(from, out)
 }

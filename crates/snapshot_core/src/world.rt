@@ -15,7 +15,7 @@ use cascade_core::{State, Trace, WorldData};
 use scene_core::Scene;
 use sensor_core::VIEWERS;
 use snapshot_codec::{PartFault, Progress, progress_of, push_progress};
-use snapshot_parts::{none_left, push_states, states_of};
+use snapshot_rules::{none_left, push_states, states_of};
 use std::alloc::{AllocError, Global};
 use x3d_values::Items;
 

@@ -1,6 +1,7 @@
 //! The program: its words, its input, and what it prints.
 #![tactic(auto)]
 
+mod ends;
 mod nodes;
 mod stack;
 
@@ -18,6 +19,7 @@ use std::io::{self, Eprint};
 use std::net::Net;
 use std::process::ExitCode;
 use std::rt::Env;
+use std::time::Clock;
 
 /// The program's own name and its words.
 fn own_words<R: Env + AllocGlobal>(rt: &R) -> Result<Vec<String>, OrderFault> {
@@ -57,7 +59,10 @@ fn print_text<R: Print>(rt: &R, text: &str) -> Result<(), Failure> {
 }
 
 /// Does what a command with its numbers says.
-fn obey<R: AllocGlobal + Input + Print + Net + Eprint>(rt: &R, order: Order) -> Result<(), Failure>
+fn obey<R: AllocGlobal + Input + Print + Net + Eprint + Clock>(
+    rt: &R,
+    order: Order,
+) -> Result<(), Failure>
     requires { IsInRange order }
 {
     match order {
@@ -72,7 +77,7 @@ fn obey<R: AllocGlobal + Input + Print + Net + Eprint>(rt: &R, order: Order) -> 
 }
 
 /// Prints the text that words ask for, or obeys them.
-fn answer<R: AllocGlobal + Input + Print + Net + Eprint>(
+fn answer<R: AllocGlobal + Input + Print + Net + Eprint + Clock>(
     rt: &R,
     words: &[&str],
 ) -> Result<(), Failure> {
@@ -82,7 +87,7 @@ fn answer<R: AllocGlobal + Input + Print + Net + Eprint>(
     }
 }
 
-fn answer_own<R: AllocGlobal + Input + Print + Net + Eprint>(
+fn answer_own<R: AllocGlobal + Input + Print + Net + Eprint + Clock>(
     rt: &R,
     own: &[String],
 ) -> Result<(), Failure> {
@@ -92,7 +97,9 @@ fn answer_own<R: AllocGlobal + Input + Print + Net + Eprint>(
     answer(rt, words.as_slice())
 }
 
-fn work<R: Env + AllocGlobal + Input + Print + Net + Eprint>(rt: &R) -> Result<(), Failure> {
+fn work<R: Env + AllocGlobal + Input + Print + Net + Eprint + Clock>(
+    rt: &R,
+) -> Result<(), Failure> {
     let own = own_words(rt)?;
     if !has_room(own.len()) {
         return Err(Failure::Order(OrderFault::Memory));

@@ -4,18 +4,19 @@
 ghost use Rattle.std.specs.Prelude.{◌≡◌, ◌≤◌, IfOk, length};
 ghost use Rattle.share_words.specs.Words.{HostInRange, ViewInRange};
 
+use crate::ends::{tell_host_end, tell_port, tell_view_end};
 use share_commands::{
-    ExactPort, JointJob, PatientPort, Seat, SharedJob, Tally, agree_job, bound, bound_free,
-    first_boot, host_job, joint_job, number_of, rehearse_job, seated_job, shared_job, view_job,
+    ExactPort, JointJob, Node, PatientPort, Seat, SharedJob, TellingPort, Watch, agree_job, bound,
+    bound_free, first_boot, host_job, joint_job, number_of, rehearse_job, seated_job, shared_job,
+    view_job,
 };
-use share_ends::{RunFault, read_whole, write_whole};
-use share_port::UdpPort;
+use share_io::{RunFault, read_whole, write_whole};
 use share_program::{Failure, JobFault, ShareFault};
 use share_turns::{HostPlan, ViewPlan};
 use share_words::{HostOrder, Order, ViewEnd, ViewOrder};
-use std::fmt;
 use std::io::{self, Eprint};
 use std::net::Net;
+use std::time::Clock;
 
 /// Reads the job of a command by which several nodes do it.
 fn read_shared<R: AllocGlobal + Input>(rt: &R, order: &Order) -> Result<SharedJob, JobFault> {
@@ -93,31 +94,6 @@ pub fn agree<R: AllocGlobal + Input + Print + Net>(
     Ok(())
 }
 
-/// Says on standard error, where that is asked for, what passed through a port. A standard error that
-/// fails is nothing to a run.
-fn tell<R: Eprint>(rt: &R, verbose: bool, tally: Tally) {
-    if verbose {
-        let _told = rt.eprintln(tally);
-    }
-}
-
-/// The port that a node is bound to, in words.
-#[derive(Drop)]
-struct BoundAt(u16);
-
-impl fmt::Display for BoundAt {
-    fn fmt<W: fmt::Write>(&self, f: &mut fmt::Formatter<W>) -> fmt::Result {
-        write!(f, "bound to port {}", self.0)
-    }
-}
-
-/// Says on standard error, where that is asked for, which port is bound.
-fn tell_port<R: Eprint>(rt: &R, verbose: bool, port: &UdpPort) {
-    if verbose && let Ok(number) = number_of(port) {
-        let _told = rt.eprintln(BoundAt(number));
-    }
-}
-
 /// What a host keeps of its inputs, and when it is done.
 fn host_plan(asked: &HostOrder) -> HostPlan {
     HostPlan {
@@ -127,7 +103,7 @@ fn host_plan(asked: &HostOrder) -> HostPlan {
 }
 
 /// Numbers the clocks of a job and what viewers offer at a port.
-fn hosted<R: AllocGlobal + Net + Eprint>(
+fn hosted<R: AllocGlobal + Net + Eprint + Clock>(
     rt: &R,
     job: &SharedJob,
     asked: &HostOrder,
@@ -136,8 +112,10 @@ fn hosted<R: AllocGlobal + Net + Eprint>(
 {
     let bound = bound(rt, asked.port)?;
     tell_port(rt, asked.verbose, &bound);
-    let mut port = PatientPort::new(bound);
+    let watch = Watch::new(job.mark, Node::Host(asked.viewers));
+    let mut port = PatientPort::new(TellingPort::new(bound, rt, asked.verbose, watch), rt);
     let plan = host_plan(asked);
+    let mut count = 0;
     let done = host_job(
         rt.alloc(),
         job,
@@ -145,13 +123,15 @@ fn hosted<R: AllocGlobal + Net + Eprint>(
         &plan,
         asked.turns,
         &mut port,
+        &mut count,
     );
-    tell(rt, asked.verbose, port.tally());
+    let clocks = job.inputs.as_slice().len();
+    tell_host_end(rt, asked.verbose, clocks, count, port.port().tally());
     done
 }
 
 /// Reads a job of clocks, and numbers them and what viewers offer at a port.
-pub fn host<R: AllocGlobal + Input + Net + Eprint>(
+pub fn host<R: AllocGlobal + Input + Net + Eprint + Clock>(
     rt: &R,
     order: &Order,
     asked: &HostOrder,
@@ -209,22 +189,25 @@ fn own_port(asked: &ViewOrder) -> u16 {
 }
 
 /// Offers the points of a viewer to a host: what came of the inputs.
-fn viewed<R: AllocGlobal + Net + Eprint>(
+fn viewed<R: AllocGlobal + Net + Eprint + Clock>(
     rt: &R,
     seat: &mut Seat,
     asked: &ViewOrder,
 ) -> Result<Vec<u8>, ShareFault> {
     let bound = bound(rt, own_port(asked))?;
     tell_port(rt, asked.verbose, &bound);
-    let mut port = PatientPort::new(ExactPort::new(bound, last_input(asked)));
+    let watch = Watch::new(seat.viewer.mark(), Node::Viewer(asked.boot));
+    let telling = TellingPort::new(bound, rt, asked.verbose, watch);
+    let mut port = PatientPort::new(ExactPort::new(telling, last_input(asked)), rt);
     let plan = view_plan(asked);
     let done = view_job(rt.alloc(), seat, asked.port, &plan, &mut port);
-    tell(rt, asked.verbose, port.tally());
+    let tally = port.port().port().tally();
+    tell_view_end(rt, asked.verbose, seat.viewer.applied(), tally);
     done
 }
 
 /// Reads a job of points, and offers them to a host: what came of the inputs.
-fn read_viewed<R: AllocGlobal + Input + Net + Eprint>(
+fn read_viewed<R: AllocGlobal + Input + Net + Eprint + Clock>(
     rt: &R,
     order: &Order,
     asked: &ViewOrder,
@@ -238,7 +221,7 @@ fn read_viewed<R: AllocGlobal + Input + Net + Eprint>(
 }
 
 /// Reads a job of points, offers them to a host, and prints what came of the inputs.
-pub fn view<R: AllocGlobal + Input + Print + Net + Eprint>(
+pub fn view<R: AllocGlobal + Input + Print + Net + Eprint + Clock>(
     rt: &R,
     order: &Order,
     asked: &ViewOrder,

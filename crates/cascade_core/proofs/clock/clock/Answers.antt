@@ -1,7 +1,7 @@
 use Rattle.std.proofs.Common.{◌∙◌, sym}
 use Rattle.scene_core.specs.Scene.{types_of}
 use Rattle.cascade_core.specs.Course.{plan_at, seen}
-use Rattle.stage_steps.proofs.ClockNumbers.{clocks-are}
+use Rattle.cascade_rules.proofs.ClockNumbers.{clocks-are}
 use Rattle.cascade_core.proofs.SoundLemmas.{cast_stands}
 use Rattle.cascade_core.proofs.Steps.{fold_ended, fold_next}
 use Rattle.cascade_core.proofs.clock.clock.Goals as goal

@@ -4,7 +4,7 @@ use Rattle.scene_core.specs.Scene.{types_of}
 use Rattle.pick_core.specs.Sites.{rows_of}
 use Rattle.script_turn.specs.Acting.{kinds_of}
 use Rattle.cascade_core.specs.Course.{plan_at, seen}
-use Rattle.world_core.specs.Nodes.{clocks_of}
+use Rattle.cascade_world.specs.Nodes.{clocks_of}
 use Rattle.cascade_core.specs.Apply.{tick_node as tick_node_of}
 use Rattle.cascade_core.proofs.clock.clock.Given as goal
 

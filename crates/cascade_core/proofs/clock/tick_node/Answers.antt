@@ -1,5 +1,5 @@
 use Rattle.cascade_core.specs.Apply.{tick_node}
-use Rattle.stage_steps.proofs.Shown.{ticked-fields}
+use Rattle.cascade_rules.proofs.Shown.{ticked-fields}
 use Rattle.cascade_core.proofs.Tasks.{ticked-ready}
 use Rattle.cascade_core.proofs.clock.tick_node.Goals as goal
 

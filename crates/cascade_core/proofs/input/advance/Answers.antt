@@ -2,7 +2,7 @@ use Rattle.std.proofs.Common.{◌≡◌, ◌∙◌, List, ap, refl, sym, length}
 use Rattle.std.proofs.lemmas.List.{length-map}
 use Rattle.cascade_core.specs.Apply.{after_input, begin, begun}
 use Rattle.cascade_core.specs.Course.{Course, ended, plan_at, plan_of, seen}
-use Rattle.trace_core.specs.declared.trace.TraceLine.{TraceLine}
+use Rattle.cascade_trace.specs.declared.trace.TraceLine.{TraceLine}
 use Rattle.cascade_core.proofs.Gains.{IsGain}
 use Rattle.pick_core.specs.Sites.{rows_of}
 use Rattle.cascade_core.proofs.Inputs.{after-same, begun-cast, begun-count, begun-kinds, gained-by, happen-fresh, input-done, input-world, settled-once}

@@ -1,6 +1,6 @@
-use Rattle.world_core.specs.Pointer.{place_in}
+use Rattle.cascade_world.specs.Pointer.{place_in}
 use Rattle.cascade_core.specs.Apply.{point_node}
-use Rattle.stage_steps.proofs.Shown.{met-fields}
+use Rattle.cascade_rules.proofs.Shown.{met-fields}
 use Rattle.cascade_core.proofs.Tasks.{met-ready}
 use Rattle.cascade_core.proofs.pointer.point_node.Goals as goal
 

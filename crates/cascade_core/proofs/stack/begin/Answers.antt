@@ -1,11 +1,11 @@
 use Rattle.std.proofs.Common.{◌≡◌, ◌∙◌, true, false, sym, ap, arith, refl}
-use Rattle.trace_core.specs.Ends.{has_sent}
+use Rattle.cascade_trace.specs.Ends.{has_sent}
 use Rattle.cascade_core.specs.Course.{Course, plan_at, seen}
 use Rattle.cascade_core.specs.Cascade.{recorded}
 use Rattle.cascade_core.specs.Stack.{finish}
-use Rattle.stage_steps.specs.declared.tasks.Task.TheVariants.{Follow}
+use Rattle.cascade_rules.specs.declared.tasks.Task.TheVariants.{Follow}
 use Rattle.script_turn.specs.Acting.{kinds_of}
-use Rattle.stage_steps.proofs.Sends.{is_first, moves, stands, was_sent}
+use Rattle.cascade_rules.proofs.Sends.{is_first, moves, stands, was_sent}
 use Rattle.cascade_core.proofs.Depths.{send_full-sent}
 use Rattle.cascade_core.proofs.SoundLemmas.{cast_stands}
 use Rattle.cascade_core.proofs.Tasks.{begin-done, begin-fewer, finish-push, work-push}

@@ -2,7 +2,7 @@ use Rattle.std.proofs.Common.{◌+◌, ◌<◌, sym, ap, length}
 use Rattle.cascade_core.specs.Course.{Course, plan_at, seen}
 use Rattle.cascade_core.specs.Stack.{finish}
 use Rattle.cascade_core.proofs.Tasks.{follow-none, follow-done, follow-fewer, follow-ready, last-done, last-fewer, reached-ready}
-use Rattle.trace_core.proofs.RoutePlaces.{target-few}
+use Rattle.cascade_trace.proofs.RoutePlaces.{target-few}
 use Rattle.cascade_core.proofs.stack.follow.Goals as goal
 
 pub returns-in_default-clause-done : goal.returns-in_default-clause-done

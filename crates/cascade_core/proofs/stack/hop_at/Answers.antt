@@ -1,7 +1,7 @@
 use Rattle.std.proofs.Common.{◌<◌, ◌≤◌, ◌+◌, ap, arith, length}
 use Rattle.std.proofs.lemmas.Bool.{ltb-false}
 use Rattle.route_core.specs.Outputs.{places_of}
-use Rattle.trace_core.proofs.RoutePlaces.{target-none, target-some, place-below}
+use Rattle.cascade_trace.proofs.RoutePlaces.{target-none, target-some, place-below}
 use Rattle.cascade_core.proofs.stack.hop_at.Goals as goal
 
 pub returns-then-next-places-clause-none : goal.returns-then-next-places-clause-none

@@ -12,7 +12,7 @@ use Rattle.pick_core.specs.Motion.{box_of}
 use Rattle.pick_core.specs.Picked.{nearer}
 use Rattle.pick_core.specs.Spread.{spread}
 use Rattle.pick_core.specs.Trail.{carried, positions, raised}
-use Rattle.box_entry.specs.declared.bounds.Bounds.{Bounds}
+use Rattle.pick_rules.specs.declared.bounds.Bounds.{Bounds}
 use Rattle.pick_core.specs.declared.hit.Hit.{Hit}
 use Rattle.pick_core.specs.declared.look.Kind.TheVariants.{Switch, Shape, Other}
 use Rattle.pick_core.specs.declared.trail.Place.{Place}

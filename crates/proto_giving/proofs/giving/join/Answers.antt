@@ -1,10 +1,10 @@
 use Rattle.std.proofs.Common.{◌≡◌, ◌++◌, ◌∷◌, [], ◌∙◌, Err, ap, rules, sym}
 use Rattle.std.specs.Prelude.{option_map}
 use Rattle.std.specs.Option.{option_map_or}
-use Rattle.flat_meaning.specs.Flat as flat
-use Rattle.flat_meaning.specs.Flat.{met_field}
-use Rattle.flat_meaning.specs.Limits.{item_count}
-use Rattle.flat_meaning.specs.Names.{value_of}
+use Rattle.proto_meaning.specs.Flat as flat
+use Rattle.proto_meaning.specs.Flat.{met_field}
+use Rattle.proto_meaning.specs.Limits.{item_count}
+use Rattle.proto_meaning.specs.Names.{value_of}
 use Rattle.proto_inside.specs.Held.{filled_in}
 use Rattle.proto_interface.specs.Fields.{numbered}
 use Rattle.proto_limits.specs.Settled.{doing}

@@ -1,6 +1,6 @@
 use Rattle.std.proofs.Common.{◌≡◌, None, Err, false, rules}
 use Rattle.classic_tree.specs.declared.tree.Given.TheVariants as text
-use Rattle.flat_meaning.specs.Flat.{give}
+use Rattle.proto_meaning.specs.Flat.{give}
 use Rattle.proto_interface.specs.Fields.{numbered}
 use Rattle.proto_limits.specs.Settled.{doing}
 use Rattle.proto_walker.specs.Shown.{shown}

@@ -1,8 +1,6 @@
 use Rattle.std.proofs.Common.{◌∙◌, Err, false, ap, inr, sym}
 use Rattle.classic_tree.specs.declared.tree.Given.TheVariants as text
-use Rattle.flat_meaning.specs.Flat.{give}
-use Rattle.proto_given.specs.Held.{has_name}
-use Rattle.proto_inside.specs.Held.{filled_in}
+use Rattle.proto_meaning.specs.Flat.{give}
 use Rattle.proto_interface.specs.Fields.{numbered}
 use Rattle.proto_limits.specs.Settled.{doing}
 use Rattle.proto_walker.specs.Shown.{shown}
@@ -10,17 +8,17 @@ use Rattle.proto_giving.specs.Giving.{inside_of}
 use Rattle.proto_giving.proofs.Given.{gives-same, nothing-once, nothing-twice}
 use Rattle.proto_giving.proofs.giving.put_nothing.Goals as goal
 
-pub returns-then-has : goal.returns-then-has
-returns-then-has c =
+pub returns-then-twice : goal.returns-then-twice
+returns-then-twice c =
     λ at o is. inr (
-    nothing-twice at o c.args.inside.now c.args.line c.args.name.now c.args.field (has_name c.args.name.now (filled_in c.args.inside.now)) (shown c.args.walker.now) (sym c.has.ensures ∙ c.if-has.true)
+    nothing-twice at o c.args.inside.now c.args.line c.args.name.now c.args.field c.args.twice (shown c.args.walker.now) c.if-twice.true
     ∙ ap (λ f. Err f) (sym c.on_line.ensures))
 
 pub returns : goal.returns
 returns c =
     λ at o is. gives-same at o
-    (doing (give c.args.line (numbered c.args.name.now c.args.field) (has_name c.args.name.now (filled_in c.args.inside.now)) text.Nothing (inside_of at o c.args.inside.now)) (shown c.args.walker.now))
+    (doing (give c.args.line (numbered c.args.name.now c.args.field) c.args.twice text.Nothing (inside_of at o c.args.inside.now)) (shown c.args.walker.now))
     (doing (give c.args.line (numbered c.args.name.now c.args.field) false text.Nothing (inside_of at o c.args.inside.now)) (shown c.args.walker.now))
     c.keep_nothing.result c.keep_nothing.new.walker c.args.inside.now c.keep_nothing.new.inside
-    (nothing-once at o c.args.inside.now c.args.line c.args.name.now c.args.field (has_name c.args.name.now (filled_in c.args.inside.now)) (shown c.args.walker.now) (sym c.has.ensures ∙ c.if-has.false))
+    (nothing-once at o c.args.inside.now c.args.line c.args.name.now c.args.field c.args.twice (shown c.args.walker.now) c.if-twice.false)
     (c.keep_nothing.ensures at o is)

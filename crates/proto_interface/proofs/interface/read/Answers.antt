@@ -1,5 +1,5 @@
 use Rattle.std.proofs.Common.{arith, sym, subst, map, take}
-use Rattle.flat_meaning.specs.Flat.{field}
+use Rattle.proto_meaning.specs.Flat.{field}
 use Rattle.proto_interface.specs.Fields.{Reads}
 use Rattle.proto_interface.proofs.Naming.{list-length, list-more}
 use Rattle.proto_interface.proofs.interface.read.Goals as goal

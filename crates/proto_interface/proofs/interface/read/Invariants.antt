@@ -1,5 +1,5 @@
 use Rattle.std.proofs.Common.{◌≡◌, map, take}
-use Rattle.flat_meaning.specs.Flat.{field}
+use Rattle.proto_meaning.specs.Flat.{field}
 use Rattle.proto_interface.specs.Fields.{Reads}
 use Rattle.proto_interface.proofs.interface.read.Given as goal
 

@@ -3,7 +3,7 @@ use Rattle.std.specs.Prelude.{option_map}
 use Rattle.std.specs.List.{find}
 use Rattle.std.specs.Str.{bytes_eq}
 use Rattle.x3d_values.specs.Access.{is_exposed}
-use Rattle.flat_meaning.specs.Names.{Field}
+use Rattle.proto_meaning.specs.Names.{Field}
 use Rattle.proto_interface.specs.Routed.{routed}
 use Rattle.proto_interface.proofs.Aliases.{second}
 use Rattle.proto_interface.proofs.named.target_field.Goals as goal

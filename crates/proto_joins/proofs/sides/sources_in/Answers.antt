@@ -1,6 +1,6 @@
 use Rattle.std.proofs.Common.{◌++◌, codes, ◌∙◌, sym}
 use Rattle.x3d_values.specs.Access.{sends}
-use Rattle.flat_meaning.specs.Names.{field_by}
+use Rattle.proto_meaning.specs.Names.{field_by}
 use Rattle.proto_interface.specs.Routed.{routed}
 use Rattle.proto_joins.specs.Joins.{instance_by}
 use Rattle.proto_joins.proofs.Joining.{named-none, named-way, named-wrong, owned-same}

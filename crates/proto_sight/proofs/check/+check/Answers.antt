@@ -1,6 +1,6 @@
 use Rattle.std.proofs.Common.{◌≡◌, ◌∙◌, Option, Err, refl, rules, subst}
-use Rattle.flat_meaning.specs.Sight.{Names, each}
-use Rattle.flat_meaning.specs.Flat.{item}
+use Rattle.proto_meaning.specs.Sight.{Names, each}
+use Rattle.proto_meaning.specs.Flat.{item}
 use Rattle.proto_sight.specs.Texts.{sees_full}
 use Rattle.proto_sight.specs.Held.{taken_names, Does, shown}
 use Rattle.proto_sight.proofs.Equations.{item-declaration-sees, item-route-sees, item-proto-sees, node-use-sees, statement-node-sees, statement-route-sees, statement-proto-sees}

@@ -1,6 +1,6 @@
 use Rattle.std.proofs.Common.{◌≡◌, ◌+◌, ◌*◌, drop}
-use Rattle.flat_meaning.specs.Sight.{each}
-use Rattle.flat_meaning.specs.Flat.{item, node, statement}
+use Rattle.proto_meaning.specs.Sight.{each}
+use Rattle.proto_meaning.specs.Flat.{item, node, statement}
 use Rattle.proto_sight.specs.Texts.{sees_given}
 use Rattle.proto_sight.specs.Held.{taken_names, shown}
 use Rattle.proto_sight.proofs.check.+check.Given as goal

@@ -1,5 +1,5 @@
 use Rattle.std.proofs.Common.{◌∙◌, ap}
-use Rattle.proto_store.specs.Store.{used}
+use Rattle.proto_rules.specs.Store.{used}
 use Rattle.proto_steps.specs.Machine.{use_node}
 use Rattle.proto_steps.specs.Held.{names_of, view}
 use Rattle.proto_steps.proofs.Equations.{used-does}

@@ -1,5 +1,7 @@
-use Rattle.std.proofs.Common.{◌≡◌, ◌∙◌, sym, ◌+◌, ◌-◌, ◌*◌, ◌≤◌, false, get_or, length, arith}
-use Rattle.sensor_core.specs.Parts.{bit_of}
+use Rattle.std.proofs.Common.{◌≡◌, ◌∙◌, sym, ap, ◌+◌, ◌-◌, ◌*◌, ◌≤◌, false, get_or, length, arith}
+use Rattle.std.proofs.lemmas.List.{drop_all}
+use Rattle.x3d_values.specs.Ranges.{max_viewers}
+use Rattle.sensor_core.specs.Parts.{bit_of, number_of}
 use Rattle.sensor_core.proofs.PartLemmas.{byte_bit, bit_small, number_of-drop, one_more_bit}
 use Rattle.sensor_core.proofs.parts.number_of.Goals as goal
 
@@ -16,5 +18,14 @@ loop-left-preserved c =
     record {
       left = omega (arith, kept.left);
       number = (λ i. 2 * kept.number i + bit i) ∙ sym (number_of-drop set left some within);
-      small = one_more_bit c.loop-left.number c.from.result left some kept.left small kept.small;
+      small = one_more_bit max_viewers c.loop-left.number c.from.result left some kept.left small kept.small;
+    }
+
+pub loop-left-init : goal.loop-left-init
+loop-left-init c =
+    let long : length c.args.set.now ≤ max_viewers = omega (arith, c.told-set) in
+    record {
+      left = omega arith;
+      number = ap number_of (sym (drop_all max_viewers c.args.set.now long));
+      small = omega arith;
     }

@@ -1,5 +1,5 @@
 use Rattle.std.proofs.Common.{inl, refl}
-use Rattle.share_ends.proofs.Made.{on_written, if_refused, if_nothing}
+use Rattle.share_io.proofs.Made.{on_written, if_refused, if_nothing}
 use Rattle.share_program.proofs.format.format_text.Goals as goal
 
 pub returns-clause-ok : goal.returns-clause-ok

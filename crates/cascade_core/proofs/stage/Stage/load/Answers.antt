@@ -2,7 +2,7 @@ use Rattle.std.proofs.Common.{rules, ◌≡◌, ◌∙◌, ap, sym}
 use Rattle.pick_core.specs.Sites.{rows_of}
 use Rattle.scene_core.specs.Scene.{types_of}
 use Rattle.cascade_core.specs.Course.{plan_at, seen}
-use Rattle.world_core.specs.Nodes.{clocks_of, touch_sensors_of}
+use Rattle.cascade_world.specs.Nodes.{clocks_of, touch_sensors_of}
 use Rattle.cascade_core.specs.Scripts.{scripts_in}
 use Rattle.cascade_core.specs.Sound.{IsCast}
 use Rattle.cascade_core.proofs.Openings.{cast_opened}

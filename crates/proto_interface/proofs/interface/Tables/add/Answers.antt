@@ -1,5 +1,5 @@
 use Rattle.std.proofs.Common.{arith}
-use Rattle.flat_meaning.specs.Flat.{field}
+use Rattle.proto_meaning.specs.Flat.{field}
 use Rattle.proto_interface.proofs.Naming.{twice-more}
 use Rattle.proto_interface.proofs.interface.Tables.add.Goals as goal
 

@@ -1,5 +1,5 @@
 use Rattle.std.proofs.Common.{map, slice_set, subst, sym, ap}
-use Rattle.flat_meaning.specs.Names as meaning
+use Rattle.proto_meaning.specs.Names as meaning
 use Rattle.proto_names.specs.Held.{closed}
 use Rattle.proto_given.specs.Held.{IsHeld}
 use Rattle.proto_joins.specs.Joins.{braces_of, stands_by}
@@ -15,4 +15,5 @@ returns-clause-sound c = record {
       (c.is_open.ensures c.if-not-is_open.false) c.requires.names
       (λ before after is k. c.in_ok-close.ensures before after (stands_by c.args.node c.args.instance) is (node-is c.args.node c.args.instance) k));
   given = subst (λ g. IsHeld g) (sym c.set.ensures.given) c.requires.given;
+  defaults = subst (λ g. IsHeld g) (sym c.set.ensures.defaults) c.requires.defaults;
 }

@@ -12,4 +12,5 @@ returns-clause-sound c =
           (sym (more-braces c.args.self.now.braces.items c.push.new.self.items (record { name = c.args.name; stands = None }) c.in_ok-push.ensures.items))
           (c.in_ok-open.ensures (map braces_of c.args.self.now.braces.items) (so-many c.args.self.now.braces.items c.len-at.result many) c.requires.names);
       given = c.requires.given;
+      defaults = c.requires.defaults;
     }

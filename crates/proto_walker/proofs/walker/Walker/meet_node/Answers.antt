@@ -1,5 +1,5 @@
 use Rattle.std.proofs.Common.{refl}
-use Rattle.flat_meaning.specs.Limits.{ANode}
+use Rattle.proto_meaning.specs.Limits.{ANode}
 use Rattle.proto_walker.proofs.Stepping.{meets}
 use Rattle.proto_walker.proofs.walker.Walker.meet_node.Goals as goal
 

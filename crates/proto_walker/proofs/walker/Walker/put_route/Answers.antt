@@ -1,6 +1,6 @@
 use Rattle.std.proofs.Common.{◌≡◌, Ok, Err, rules}
-use Rattle.flat_meaning.specs.Limits.{AnItem}
-use Rattle.flat_meaning.specs.Flat.{meet, note}
+use Rattle.proto_meaning.specs.Limits.{AnItem}
+use Rattle.proto_meaning.specs.Flat.{meet, note}
 use Rattle.proto_scope.specs.Held.{with_route}
 use Rattle.proto_walker.specs.Shown.{shown}
 use Rattle.proto_walker.proofs.Stepping.{ends, goes_on, noted}

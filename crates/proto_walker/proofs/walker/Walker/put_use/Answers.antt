@@ -1,6 +1,6 @@
 use Rattle.std.proofs.Common.{◌≡◌, ◌∙◌, ℕ, Ok, Err, ap, inr, rules, sym}
-use Rattle.flat_meaning.specs.Limits.{AnItem}
-use Rattle.flat_meaning.specs.Flat.{meet}
+use Rattle.proto_meaning.specs.Limits.{AnItem}
+use Rattle.proto_meaning.specs.Flat.{meet}
 use Rattle.proto_walker.specs.Shown.{shown}
 use Rattle.proto_walker.specs.Steps.{named_node}
 use Rattle.proto_walker.proofs.Stepping.{ends, goes_on, in-turn, use-found, use-none}

@@ -1,0 +1,90 @@
+//! The boxes that rays may hit stay those of the nodes as they are now.
+
+ghost use Rattle.std.specs.Prelude.{◌≡◌, [], OnOk, slice_get};
+ghost use Rattle.pick_core.specs.Sites.{rows_of};
+ghost use Rattle.scene_core.specs.Scene.{shapes_of, types_of};
+ghost use Rattle.cascade_world.specs.Answers.{answer, answered, with_answer};
+ghost use Rattle.cascade_world.specs.Nodes.{moves_boxes};
+
+use cascade_world::{Turn, WorldData};
+use pick_core::BoxCache;
+use react_core::Outbox;
+use scene_core::{End, Scene};
+use std::alloc::{AllocError, Global};
+use std::mem;
+use x3d_values::{Fields, NodeType, Value};
+
+/// Whether an event at a node may move boxes, or show or hide them: where it is a Transform or a
+/// Switch. All fields that events set there do: `center`, `scale` and `translation`, `whichChoice`.
+fn moves_boxes(scene: &Scene, node: u32) -> bool
+    ensures { result ≡ moves_boxes (slice_get (types_of scene.now) node) }
+{
+    match scene.type_at(node) {
+        Some(NodeType::Transform) => true,
+        Some(NodeType::Switch) => true,
+        _ => false,
+    }
+}
+
+/// An event comes to the target, if there is such a node, whatever has sent before.
+pub fn deliver(
+    turn: &mut Turn,
+    alloc: Global,
+    scene: &Scene,
+    boxes: &mut BoxCache,
+    target: End,
+    value: &Value,
+    out: &mut Outbox,
+) -> Result<(), AllocError>
+    requires empty { out.old.items ≡ [] }
+    requires boxes { boxes.old ≡ rows_of scene.now turn.old.world.fields }
+    ensures turn { OnOk result (turn.new
+        ≡ with_answer turn.old (answer (shapes_of scene.now) turn.old.world target value.now)) }
+    ensures replies { OnOk result (out.new.items
+        ≡ (answer (shapes_of scene.now) turn.old.world target value.now).replies) }
+    ensures boxes { OnOk result (boxes.new ≡ rows_of scene.now turn.new.world.fields) }
+{
+    answer(&mut turn.world, alloc, scene, boxes, target, value, out)
+}
+
+/// An event comes to the target, if there is such a node.
+fn answer(
+    world: &mut WorldData,
+    alloc: Global,
+    scene: &Scene,
+    boxes: &mut BoxCache,
+    target: End,
+    value: &Value,
+    out: &mut Outbox,
+) -> Result<(), AllocError>
+    requires empty { out.old.items ≡ [] }
+    requires boxes { boxes.old ≡ rows_of scene.now world.old.fields }
+    ensures world { OnOk result
+        (world.new ≡ answered world.old
+        (answer (shapes_of scene.now) world.old target value.now)) }
+    ensures replies { OnOk result
+        (out.new.items ≡ (answer (shapes_of scene.now) world.old target value.now).replies) }
+    ensures boxes { OnOk result (boxes.new ≡ rows_of scene.now world.new.fields) }
+{
+    world.reply_to(alloc, scene, target, value, out)?;
+    if !moves_boxes(scene, target.node) {
+        return Ok(());
+    }
+    boxes.renew(scene, world.fields.as_slice(), target.node);
+    Ok(())
+}
+
+/// The boxes of nodes in another state take the place of those that were kept, whatever these
+/// were.
+pub fn put_boxes(
+    boxes: &mut BoxCache,
+    alloc: Global,
+    scene: &Scene,
+    state: &[Fields],
+) -> Result<(), AllocError>
+    ensures { OnOk result (boxes.new ≡ rows_of scene.now state.now) }
+{
+    let made = BoxCache::new(alloc, scene, state)?;
+    drop(mem::replace(boxes, made));
+    Ok(())
+}

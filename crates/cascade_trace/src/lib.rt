@@ -1,0 +1,21 @@
+//! What was sent in a world: the `trace` of all events, its `lines`, those `since` an input, their
+//! `texts`, and whether all lines are `passing` a test; in one turn, the outputs that have `sent`,
+//! each with its bit at one of the `places`, and how many routes are `followed` from them.
+#![tactic(auto)]
+
+mod followed;
+mod labels;
+mod lines;
+mod passing;
+mod places;
+mod sent;
+mod since;
+mod texts;
+mod trace;
+
+pub use followed::deliveries;
+pub use lines::{LineHead, WritesLines};
+pub use passing::TestsLines;
+pub use sent::SentBits;
+pub use texts::push_trace;
+pub use trace::{Trace, TraceLine};

@@ -1,0 +1,84 @@
+//! The lines of a trace of the inputs from a number on, found from the end.
+
+ghost use Rattle.std.specs.Prelude.{◌≡◌, ◌≤◌, ◌++◌, IfSome, OnOk, count_by, drop, length, pos, slice_get, take, true, false};
+ghost use Rattle.std.specs.List.{flat_map};
+ghost use Rattle.std.specs.Option.{option_map_or};
+ghost use Rattle.x3d_lists.specs.Extends.{Extends};
+ghost use Rattle.cascade_trace.specs.Since.{begins_by, takes_value};
+ghost use Rattle.cascade_trace.specs.Trace.{lines_of};
+
+use crate::lines::{WritesLines, write_lines};
+use crate::trace::{Entry, Kind};
+use std::alloc::AllocError;
+use x3d_values::Value;
+
+/// Whether the value of an entry stands aside.
+fn takes_value(entry: &Entry) -> bool
+    ensures { result ≡ takes_value entry.now }
+{
+    matches!(entry.kind, Kind::Other)
+}
+
+/// How many of the values that stand aside entries take.
+fn values_of(entries: &[Entry]) -> usize
+    ensures { result ≡ count_by takes_value entries.now }
+{
+    entries.iter().filter(|entry| takes_value(entry)).count()
+}
+
+/// Whether an entry tells an input whose number is at most `first`.
+fn begins_by(entry: &Entry, first: u32) -> bool
+    ensures { result ≡ begins_by first entry.now }
+{
+    match entry.kind {
+        Kind::Input => entry.node <= first,
+        _ => false,
+    }
+}
+
+/// The place of the last entry that tells an input whose number is at most `first`, if there is one.
+pub(crate) fn start_of(entries: &[Entry], first: u32) -> Option<usize>
+    ensures { IfSome result
+        (λ at. option_map_or (begins_by first) (slice_get entries.now at) false ≡ true) }
+{
+    let count = entries.len();
+    for back in 0..count {
+        let at = count - 1 - back;
+        if begins_by(&entries[at], first) {
+            return Some(at);
+        }
+    }
+    None
+}
+
+/// The items from a place on.
+fn items_from<T>(items: &[T], at: usize) -> &[T]
+    requires { at ≤ length items.now }
+    ensures { result.now ≡ drop at items.now }
+{
+    &items[at..]
+}
+
+/// Writes the lines of the entries from a place on, which begin with an input, where as many values
+/// stand aside as there are entries that take one; on a refusal perhaps a part of them.
+pub(crate) fn write_lines_at<W: WritesLines>(
+    writer: &mut W,
+    at: usize,
+    entries: &[Entry],
+    values: &[Value],
+    out: &mut Vec<u8>,
+) -> Result<(), AllocError>
+    requires inside { at ≤ length entries.now }
+    requires counted { count_by takes_value entries.now ≡ length values.now }
+    ensures ok { OnOk result (out.new.items
+        ≡ out.old.items
+        ++ flat_map (W.text writer.old)
+        (lines_of (drop at entries.now) 0 (pos 0)
+        (drop (count_by takes_value (take at entries.now)) values.now))) }
+    ensures kept { Extends out.old.items out.new.items }
+{
+    let behind = items_from(entries, at);
+    let left = values_of(behind);
+    let values = items_from(values, values.len() - left);
+    write_lines(writer, behind, values, out)
+}

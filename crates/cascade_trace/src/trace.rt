@@ -1,0 +1,332 @@
+//! The trace as it is kept: sixteen bytes for each event, and the number and the time of an input
+//! once for all its events.
+
+ghost use Rattle.std.specs.Prelude.{◌≡◌, ◌++◌, [], ◌∷◌, ◌&&◌, nat_lt, OnErr, OnOk};
+ghost use Rattle.cascade_trace.specs.Trace.{IsWhole, entry_of, plain_entry, whole_of};
+
+use crate::lines::{WritesLines, lines_in, write_lines};
+use crate::passing::{TestsLines, all_pass};
+use crate::since::{start_of, write_lines_at};
+use scene_core::End;
+use std::alloc::{AllocError, Global};
+use std::marker::Model;
+use x3d_values::{Value, clone_value};
+
+/// One event that was sent.
+#[derive(Drop)]
+pub struct TraceLine {
+    /// The number of the input.
+    pub input: u32,
+    /// In microseconds.
+    pub time: i64,
+    /// The output.
+    pub source: End,
+    pub value: Value,
+}
+
+/// What an entry says.
+#[derive(Clone, Copy)]
+pub enum Kind {
+    /// The number of an input, in the node's place, and its time: those of the events behind it.
+    Input,
+    /// The value TRUE.
+    True,
+    /// The value FALSE.
+    False,
+    /// An integer.
+    Whole,
+    /// A number of millionths.
+    Number,
+    /// A time.
+    Time,
+    /// The next of the values that stand aside.
+    Other,
+}
+
+/// An event, or the input of those behind it.
+#[derive(Clone, Copy)]
+pub struct Entry {
+    pub node: u32,
+    pub field: u16,
+    pub kind: Kind,
+    pub word: i64,
+}
+
+const _: () = prove!(size_of::<Entry>() == 16);
+
+/// The entries of a trace, and what stands aside.
+#[derive(Drop)]
+pub struct Kept {
+    /// The number and the time of the input of the events that come.
+    pub input: u32,
+    pub time: i64,
+    /// Whether each input's number is above those before it.
+    pub in_turn: bool,
+    pub entries: Vec<Entry>,
+    pub values: Vec<Value>,
+}
+
+/// The entry of an output.
+#[tactic(auto, using(crate::proofs::Traces::passed))]
+fn entry_of(source: End, kind: Kind, word: i64) -> Entry
+    ensures { result ≡ entry_of source kind word }
+{
+    Entry {
+        node: source.node,
+        field: source.field,
+        kind,
+        word,
+    }
+}
+
+/// The entry of an input.
+#[tactic(auto, using(crate::proofs::Traces::passed))]
+fn input_entry(input: u32, time: i64) -> Entry
+    ensures { result ≡ record { node = input; field = 0; kind = Kind.Input; word = time } }
+{
+    Entry {
+        node: input,
+        field: 0,
+        kind: Kind::Input,
+        word: time,
+    }
+}
+
+/// The entry of an integer.
+#[tactic(auto, using(crate::proofs::Traces::passed))]
+fn whole_entry(source: End, number: i32) -> Entry
+    ensures entry { result ≡ entry_of source Kind.Whole number }
+    ensures whole { whole_of number ≡ number }
+{
+    entry_of(source, Kind::Whole, i64::from(number))
+}
+
+/// The entry of a value that needs no place aside.
+#[tactic(auto, using(crate::proofs::Traces::passed))]
+fn plain_entry(source: End, value: &Value) -> Option<Entry>
+    ensures entry { result ≡ plain_entry source value.now }
+    ensures whole { IsWhole value.now }
+{
+    match value {
+        Value::SFBool(true) => Some(entry_of(source, Kind::True, 0)),
+        Value::SFBool(false) => Some(entry_of(source, Kind::False, 0)),
+        Value::SFInt32(number) => Some(whole_entry(source, *number)),
+        Value::SFFloat(number) => Some(entry_of(source, Kind::Number, *number)),
+        Value::SFTime(time) => Some(entry_of(source, Kind::Time, *time)),
+        _ => None,
+    }
+}
+
+/// Whether all inputs have risen, up to a next one.
+fn follows(in_turn: bool, last: u32, next: u32) -> bool
+    ensures { result ≡ (in_turn && nat_lt last next) }
+{
+    in_turn && last < next
+}
+
+impl Kept {
+    ghost use Rattle.std.specs.Prelude.{◌≡◌, ◌++◌, [], ◌∷◌, OnOk, pos};
+    ghost use Rattle.std.specs.List.{flat_map};
+    ghost use Rattle.x3d_lists.specs.Extends.{Extends};
+    ghost use Rattle.cascade_trace.specs.Since.{IsCounted, IsInTurn, IsSilent};
+    ghost use Rattle.cascade_trace.specs.Trace.{IsOpen, kept_lines, line};
+
+    /// The events that come are of this input.
+    fn begin(&mut self, input: u32, time: i64) -> Result<(), AllocError>
+        requires open { IsOpen self.old }
+        requires counted { IsCounted self.old }
+        requires in_turn { IsInTurn self.old }
+        ensures open { IsOpen self.new }
+        ensures counted { IsCounted self.new }
+        ensures in_turn { IsInTurn self.new }
+        ensures lines { kept_lines self.new ≡ kept_lines self.old }
+        ensures input { OnOk result (self.new.input ≡ input) }
+        ensures time { OnOk result (self.new.time ≡ time) }
+    {
+        if input == self.input && time == self.time {
+            return Ok(());
+        }
+        self.entries.push(input_entry(input, time))?;
+        let in_turn = follows(self.in_turn, self.input, input);
+        self.in_turn = in_turn;
+        self.input = input;
+        self.time = time;
+        Ok(())
+    }
+
+    /// An event of the input.
+    fn event(&mut self, alloc: Global, source: End, value: &Value) -> Result<(), AllocError>
+        requires open { IsOpen self.old }
+        requires counted { IsCounted self.old }
+        requires in_turn { IsInTurn self.old }
+        ensures open { IsOpen self.new }
+        ensures counted { IsCounted self.new }
+        ensures in_turn { IsInTurn self.new }
+        ensures lines { OnOk result (kept_lines self.new
+            ≡ kept_lines self.old ++ line self.old.input self.old.time source value.now ∷ []) }
+    {
+        if let Some(plain) = plain_entry(source, value) {
+            self.entries.push(plain)?;
+            return Ok(());
+        }
+        let copy = clone_value(alloc, value)?;
+        let other = entry_of(source, Kind::Other, 0);
+        push_both(&mut self.entries, &mut self.values, other, copy)?;
+        Ok(())
+    }
+
+    /// Writes the lines for a writer that writes nothing of an input below `first`; on a refusal
+    /// perhaps a part of them.
+    fn write_from<W: WritesLines>(
+        &self,
+        first: u32,
+        writer: &mut W,
+        out: &mut Vec<u8>,
+    ) -> Result<(), AllocError>
+        requires counted { IsCounted self.now }
+        requires in_turn { IsInTurn self.now }
+        requires silent { IsSilent (W.text writer.old) first }
+        ensures ok { OnOk result
+            (out.new.items ≡ out.old.items ++ flat_map (W.text writer.old) (kept_lines self.now)) }
+        ensures kept { Extends out.old.items out.new.items }
+    {
+        if !self.in_turn {
+            return write_lines(writer, &self.entries, &self.values, out);
+        }
+        if self.input < first {
+            return Ok(());
+        }
+        match start_of(&self.entries, first) {
+            Some(at) => write_lines_at(writer, at, &self.entries, &self.values, out),
+            None => write_lines(writer, &self.entries, &self.values, out),
+        }
+    }
+}
+
+/// Appends an entry and a value; on a refusal both lists are as they were.
+fn push_both(
+    entries: &mut Vec<Entry>,
+    values: &mut Vec<Value>,
+    entry: Entry,
+    value: Value,
+) -> Result<(), AllocError>
+    ensures entries { OnOk result (entries.new.items ≡ entries.old.items ++ entry ∷ []) }
+    ensures values { OnOk result (values.new.items ≡ values.old.items ++ value ∷ []) }
+    ensures same_entries { OnErr result (entries.new.items ≡ entries.old.items) }
+    ensures same_values { OnErr result (values.new.items ≡ values.old.items) }
+{
+    let many = values.len();
+    values.push(value)?;
+    if entries.push(entry).is_err() {
+        values.truncate(many);
+        return Err(AllocError);
+    }
+    Ok(())
+}
+
+/// All events that were sent, in order.
+#[derive(Drop)]
+pub struct Trace {
+    kept: Kept,
+}
+
+impl Model for Trace {
+    ghost use Rattle.std.specs.Prelude.{List};
+    ghost use Rattle.cascade_trace.specs.declared.trace.TraceLine.{TraceLine};
+    ghost use Rattle.cascade_trace.specs.Since.{IsCounted, IsInTurn};
+    ghost use Rattle.cascade_trace.specs.Trace.{IsOpen, kept_lines};
+
+    ghost Value = { List TraceLine };
+
+    ghost view = { λ t. kept_lines t.kept };
+
+    ghost invariant = { λ t. IsOpen t.kept × IsCounted t.kept × IsInTurn t.kept };
+}
+
+impl Trace {
+    ghost use Rattle.std.specs.Prelude.{◌≡◌, ◌++◌, [], ◌∷◌, OnErr, OnOk, length};
+    ghost use Rattle.std.specs.List.{flat_map, list_all};
+    ghost use Rattle.cascade_trace.specs.Since.{IsSilent};
+    ghost use Rattle.cascade_trace.specs.Trace.{line};
+
+    /// Nothing was sent.
+    pub fn new(alloc: Global) -> Trace
+        ensures { result ≡ [] }
+    {
+        Trace {
+            kept: Kept {
+                input: 0,
+                time: 0,
+                in_turn: true,
+                entries: Vec::new(alloc),
+                values: Vec::new(alloc),
+            },
+        }
+    }
+
+    /// Appends an event.
+    pub fn push(
+        &mut self,
+        alloc: Global,
+        input: u32,
+        time: i64,
+        source: End,
+        value: &Value,
+    ) -> Result<(), AllocError>
+        ensures { OnOk result (self.new ≡ self.old ++ line input time source value.now ∷ []) }
+    {
+        self.kept.begin(input, time)?;
+        self.kept.event(alloc, source, value)?;
+        Ok(())
+    }
+
+    /// How many lines there are.
+    pub fn len(&self) -> u64
+        ensures { result ≡ length self.now }
+    {
+        lines_in(&self.kept.entries) as u64
+    }
+
+    /// Whether each line passes a test.
+    pub fn all_pass<T: TestsLines>(&self, test: &T) -> bool
+        ensures { result ≡ list_all (T.passing test.now) self.now }
+    {
+        all_pass(test, &self.kept.entries, &self.kept.values)
+    }
+
+    /// Writes the lines in order; on a refusal the buffer is as it was.
+    pub fn write<W: WritesLines>(&self, writer: &mut W, out: &mut Vec<u8>) -> Result<(), AllocError>
+        ensures ok { OnOk result
+            (out.new.items ≡ out.old.items ++ flat_map (W.text writer.old) self.now) }
+        ensures err { OnErr result (out.new.items ≡ out.old.items) }
+    {
+        let len = out.len();
+        let written = write_lines(writer, &self.kept.entries, &self.kept.values, out);
+        if written.is_err() {
+            out.truncate(len);
+        }
+        written
+    }
+
+    /// The same for a writer that writes nothing of an input below `first`: where the numbers of
+    /// the inputs rise it goes through the lines from there on, and through those of one input
+    /// before at most.
+    pub fn write_from<W: WritesLines>(
+        &self,
+        first: u32,
+        writer: &mut W,
+        out: &mut Vec<u8>,
+    ) -> Result<(), AllocError>
+        requires silent { IsSilent (W.text writer.old) first }
+        ensures ok { OnOk result
+            (out.new.items ≡ out.old.items ++ flat_map (W.text writer.old) self.now) }
+        ensures err { OnErr result (out.new.items ≡ out.old.items) }
+    {
+        let len = out.len();
+        let written = self.kept.write_from(first, writer, out);
+        if written.is_err() {
+            out.truncate(len);
+        }
+        written
+    }
+}

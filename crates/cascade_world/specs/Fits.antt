@@ -1,0 +1,109 @@
+-- Worlds of which a snapshot can be: each value is in the range of its field (ISO/IEC 19775-1, field
+-- semantics; the ranges are our choice).
+use Rattle.std.specs.Prelude.{◌≡◌, ℕ, ◌+◌, ◌++◌, ◌^◌, ◌<◌, ◌≤◌, ◌==◌, ◌&&◌, is_none, nat_le, nat_lt, Bool, true, false, List, [], ◌∷◌, length, Option, Some, None, slice_get, if◌then◌else◌}
+use Rattle.std.specs.List.{list_all}
+use Rattle.std.specs.Option.{option_and_then, option_map_or}
+use Rattle.x3d_values.specs.declared.field_type.FieldType.{FieldType}
+use Rattle.x3d_values.specs.declared.fields.Fields.{Fields}
+use Rattle.x3d_values.specs.declared.fields.Position.{Position}
+use Rattle.x3d_values.specs.declared.node_type.NodeType.{NodeType}
+use Rattle.x3d_values.specs.declared.node_type.NodeType.TheVariants.{BooleanSequencer, IntegerSequencer, TimeSensor, TouchSensor}
+use Rattle.x3d_values.specs.declared.ranges.TheConstants.{MAX_VIEWERS}
+use Rattle.x3d_values.specs.declared.value.Value.{Value}
+use Rattle.x3d_values.specs.Access.{sends}
+use Rattle.x3d_values.specs.Tables.{Entry, rows}
+use Rattle.snapshot_codec.specs.Fields.{kept_field, kept_fits}
+use Rattle.snapshot_codec.specs.Parts.{cycle_fits, place_fits}
+use Rattle.snapshot_codec.specs.Trace.{is_moment, typed_fits}
+use Rattle.snapshot_rules.specs.Beside.{touch_fits, is_untouched}
+use Rattle.sensor_core.specs.Touches.{Touch}
+use Rattle.scene_core.specs.Scene.{SceneView, shapes_of}
+use Rattle.scene_core.specs.Shape.{Shape, rows_of}
+use Rattle.cascade_trace.specs.declared.trace.TraceLine.{TraceLine}
+use Rattle.cascade_world.specs.declared.world.WorldData.{WorldData}
+
+-- ---- what a node keeps: it has the fields of its type, and behind them those that it declares, if
+-- it is a Script
+
+-- a value for each of these rows, the first of which has number n: of the row's type, in the range
+-- of the type, where the row is that of an inputOutput field, and else none
+abbrev pub values_fit : NodeType → ℕ → List Entry → List (Option Value) → Bool
+values_fit node_type n [] [] = true
+values_fit node_type n [] (value ∷ values) = false
+values_fit node_type n (row ∷ others) [] = false
+values_fit node_type n (row ∷ others) (value ∷ values) =
+    kept_fits (kept_field node_type n row.access row.field_type) value
+    && values_fit node_type (n + 1) others values
+
+-- sequencers alone have a position, of 32 bits
+abbrev pub position_fits : NodeType → Position → Bool
+position_fits BooleanSequencer position = place_fits position.at
+position_fits IntegerSequencer position = place_fits position.at
+position_fits _ position = is_none position.at
+
+-- the node keeps for each field what its row says
+abbrev pub fields_fit : NodeType → List Entry → Fields → Bool
+fields_fit node_type declared fields =
+    values_fit node_type 0 (rows node_type ++ declared) fields.values
+    && position_fits node_type fields.position
+
+-- ---- the nodes
+
+-- a TimeSensor alone runs cycles
+abbrev pub time_fits : NodeType → Option ℕ → Bool
+time_fits TimeSensor cycle = cycle_fits cycle
+time_fits _ cycle = is_none cycle
+
+-- pointers are over TouchSensors alone, and they alone are pressed
+abbrev pub pointers_fit : NodeType → Touch → Bool
+pointers_fit TouchSensor touch = touch_fits touch
+pointers_fit _ touch = is_untouched touch
+
+abbrev pub node_fits : Shape → Fields → Option ℕ → Touch → Bool
+node_fits s fields cycle touch =
+    fields_fit s.node_type s.declared fields
+    && (time_fits s.node_type cycle && pointers_fit s.node_type touch)
+
+-- node by node; each of the lists is as long
+abbrev pub nodes_fit : List Shape → List Fields → List (Option ℕ) → List Touch → Bool
+nodes_fit [] fields cycles touches =
+    (length fields == 0) && ((length cycles == 0) && (length touches == 0))
+nodes_fit (s ∷ shapes) [] cycles touches = false
+nodes_fit (s ∷ shapes) (f ∷ fields) [] touches = false
+nodes_fit (s ∷ shapes) (f ∷ fields) (c ∷ cycles) [] = false
+nodes_fit (s ∷ shapes) (f ∷ fields) (c ∷ cycles) (u ∷ touches) =
+    node_fits s f c u && nodes_fit shapes fields cycles touches
+
+-- ---- the trace
+
+-- the type of the events that leave by a field, if any do
+abbrev pub sent_type : Entry → Option FieldType
+sent_type row = if sends row.access then Some row.field_type else None
+
+-- the type of the events that a node sends by its field of that number, if it sends any
+abbrev pub output_type : List Shape → ℕ → ℕ → Option FieldType
+output_type shapes node field =
+    option_and_then sent_type
+    (slice_get (option_map_or rows_of (slice_get shapes node) []) field)
+
+-- an event that was sent: at 0 to 10^18 microseconds, with a value that may leave by its output
+abbrev pub line_fits : List Shape → TraceLine → Bool
+line_fits shapes line =
+    nat_le line.input (2 ^ 20)
+    && (is_moment line.time
+    && ((nat_lt line.source.node (2 ^ 32) && nat_lt line.source.field (2 ^ 16))
+    && typed_fits (output_type shapes line.source.node line.source.field) line.value))
+
+-- ---- a world
+
+pub record WorldFits (shapes : List Shape) (w : WorldData) : Type 0 where
+  pub count : w.applied ≤ 2 ^ 20
+  pub last : is_moment w.last_time ≡ true
+  pub nodes : nodes_fit shapes w.fields w.sensors w.touches ≡ true
+  pub buttons : length w.buttons ≡ MAX_VIEWERS
+  pub lines : list_all (line_fits shapes) w.trace ≡ true
+
+-- a snapshot of the scene can be of this world; the nodes of the scene have numbers of 32 bits
+pub record FitsScene (scene : SceneView) (w : WorldData) : Type 0 where
+  pub few : length scene.nodes < 2 ^ 32
+  pub world : WorldFits (shapes_of scene) w

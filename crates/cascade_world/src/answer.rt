@@ -1,0 +1,121 @@
+//! What one node does when an event comes to it, and when the clock ticks.
+
+ghost use Rattle.std.specs.Prelude.{◌≡◌, [], OnOk, pos, ◌≤ℤ◌, ◌^◌, Some, slice_get};
+ghost use Rattle.scene_core.specs.Scene.{rows_at, shapes_of};
+ghost use Rattle.cascade_world.specs.Answers.{answer, answer_by, answered, setting_at, reacting, ticked};
+
+use crate::world::WorldData;
+use react_core::Outbox;
+use scene_core::{End, Scene};
+use sensor_core::TimeFields;
+use std::alloc::{AllocError, Global};
+use x3d_values::{NodeType, Stamped, Value};
+
+impl WorldData {
+    /// An event comes to a TimeSensor.
+    fn set_sensor(&mut self, target: End, value: &Value, out: &mut Outbox)
+        requires empty { out.old.items ≡ [] }
+        ensures world { self.new
+            ≡ answered self.old
+            (setting_at self.old target value.now (slice_get self.old.fields target.node)) }
+        ensures replies { out.new.items
+            ≡ (setting_at self.old target value.now
+            (slice_get self.old.fields target.node)).replies }
+    {
+        let Some(fields) = self.fields.get(target.node) else {
+            return;
+        };
+        let Some(mut timing) = TimeFields::from_fields(fields) else {
+            return;
+        };
+        let Some(state) = self.sensors.get(target.node as usize) else {
+            return;
+        };
+        let mut state = *state;
+        state.set(&mut timing, target.field, value, out);
+        self.fields.keep_timing(target.node, &timing);
+        self.sensors.set(target.node as usize, state);
+    }
+
+    /// What the target of an event does, a node of this type.
+    fn reply_by(
+        &mut self,
+        alloc: Global,
+        scene: &Scene,
+        node_type: NodeType,
+        target: End,
+        value: &Value,
+        out: &mut Outbox,
+    ) -> Result<(), AllocError>
+        requires empty { out.old.items ≡ [] }
+        ensures world { OnOk result (self.new
+            ≡ answered self.old
+            (answer_by self.old target value.now node_type
+            (slice_get (rows_at scene.now target.node) target.field))) }
+        ensures replies { OnOk result (out.new.items
+            ≡ (answer_by self.old target value.now node_type
+            (slice_get (rows_at scene.now target.node) target.field)).replies) }
+    {
+        if node_type == NodeType::TimeSensor {
+            self.set_sensor(target, value, out);
+            return Ok(());
+        }
+        if node_type == NodeType::TouchSensor {
+            return self.touch(alloc, target, value, out);
+        }
+        if node_type == NodeType::Script {
+            return self.set_script(alloc, scene, target, value, out);
+        }
+        self.fields.react(
+            alloc,
+            target.node,
+            node_type,
+            target.field,
+            value,
+            self.last_time,
+            out,
+        )
+    }
+
+    /// What the target of an event does, if there is such a node.
+    pub fn reply_to(
+        &mut self,
+        alloc: Global,
+        scene: &Scene,
+        target: End,
+        value: &Value,
+        out: &mut Outbox,
+    ) -> Result<(), AllocError>
+        requires empty { out.old.items ≡ [] }
+        ensures world { OnOk result (self.new
+            ≡ answered self.old (answer (shapes_of scene.now) self.old target value.now)) }
+        ensures replies { OnOk result (out.new.items
+            ≡ (answer (shapes_of scene.now) self.old target value.now).replies) }
+    {
+        let Some(node_type) = scene.type_at(target.node) else {
+            return Ok(());
+        };
+        self.reply_by(alloc, scene, node_type, target, value, out)
+    }
+
+    /// The clock ticks for a TimeSensor.
+    #[tactic(auto, unfolding(crate::specs::Answers::ticked))]
+    pub fn tick(&mut self, node: u32, input: &Stamped, out: &mut Outbox)
+        requires empty { out.old.items ≡ [] }
+        ensures world { self.new ≡ answered self.old (ticked self.old node input.now.time) }
+        ensures replies { out.new.items ≡ (ticked self.old node input.now.time).replies }
+    {
+        let Some(fields) = self.fields.get(node) else {
+            return;
+        };
+        let Some(timing) = TimeFields::from_fields(fields) else {
+            return;
+        };
+        let Some(state) = self.sensors.get(node as usize) else {
+            return;
+        };
+        let mut state = *state;
+        state.tick(&timing, input.time(), out);
+        self.sensors.set(node as usize, state);
+    }
+}

@@ -1,0 +1,67 @@
+//! The state of a scene after some inputs, and in the course of one.
+
+ghost use Rattle.std.specs.Prelude.{◌≡◌, ◌+◌, OnOk};
+ghost use Rattle.cascade_world.specs.World.{begin as begin_of, record_event};
+
+use crate::state::State;
+use cascade_trace::{SentBits, Trace};
+use scene_core::End;
+use sensor_core::{TimeState, TouchState};
+use std::alloc::{AllocError, Global};
+use x3d_lists::Items;
+use x3d_values::{MAX_VIEWERS, Stamped, Value};
+
+/// How many viewers have buttons.
+pub const VIEWERS: usize = MAX_VIEWERS as usize;
+
+/// The state of a scene after some inputs.
+#[derive(Drop)]
+pub struct WorldData {
+    /// How many inputs were applied.
+    pub applied: u32,
+    /// The time of the last of them in microseconds, or 0.
+    pub last_time: i64,
+    pub fields: State,
+    /// Which cycle each node runs, by its number: none but a TimeSensor runs one.
+    pub sensors: Items<TimeState>,
+    /// Whose pointers are over each node, and who presses it, by its number: that is a
+    /// TouchSensor.
+    pub touches: Items<TouchState>,
+    /// Whether each viewer's button is down, by its number.
+    pub buttons: [bool; VIEWERS],
+    /// All events that were sent, in order.
+    pub trace: Trace,
+}
+
+/// The world in the course of one input.
+#[derive(Drop)]
+pub struct Turn {
+    pub world: WorldData,
+    pub sent: SentBits,
+}
+
+impl Turn {
+    /// The turn of an input begins: no output has sent yet.
+    pub fn begin(&mut self, input: &Stamped)
+        requires next { input.now.number ≡ self.old.world.applied + 1 }
+        ensures { self.new ≡ begin_of self.old.world input.now }
+    {
+        self.world.applied = input.number();
+        self.world.last_time = input.time();
+        self.sent.clear();
+    }
+
+    /// Records an event: it stands in the trace, and its output has sent.
+    pub fn record_event(
+        &mut self,
+        alloc: Global,
+        source: End,
+        value: &Value,
+    ) -> Result<(), AllocError>
+        ensures { OnOk result (self.new ≡ record_event self.old source value.now) }
+    {
+        let (input, time) = (self.world.applied, self.world.last_time);
+        self.world.trace.push(alloc, input, time, source, value)?;
+        self.sent.push(source)
+    }
+}

@@ -1,7 +1,0 @@
-use Rattle.std.proofs.Common.{rules}
-use Rattle.classic_bounds.specs.Bounds.{is_script}
-use Rattle.classic_bounds.proofs.declared.is_script.Goals as goal
-
-pub returns : goal.returns
-unfolding is_script
-returns c = search rules

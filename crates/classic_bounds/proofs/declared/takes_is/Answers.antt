@@ -1,5 +1,0 @@
-use Rattle.std.proofs.Common.{rules}
-use Rattle.classic_bounds.proofs.declared.takes_is.Goals as goal
-
-pub returns-in-Interface : goal.returns-in-Interface
-returns-in-Interface c = search rules

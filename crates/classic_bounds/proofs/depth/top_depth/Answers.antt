@@ -1,5 +1,0 @@
-use Rattle.std.proofs.Common.{rules}
-use Rattle.classic_bounds.proofs.depth.top_depth.Goals as goal
-
-pub returns : goal.returns
-returns c = search rules

@@ -1,0 +1,18 @@
+-- How deep nodes may nest, and where declarations and `IS` may stand (ISO/IEC 19776-2, grammar).
+use Rattle.std.specs.Prelude.{ℕ, Bool, true, false, List, codes}
+use Rattle.std.specs.Str.{bytes_eq}
+use Rattle.classic_rules.specs.declared.declared.Owner.{Owner}
+use Rattle.classic_rules.specs.declared.declared.Owner.TheVariants.{Script, Interface}
+
+-- nodes and the bodies of PROTOs nest at most 64 deep (our choice)
+abbrev pub max_depth : ℕ
+max_depth = 64
+
+-- `IS name` stands in the declarations of a Script, not in an interface
+abbrev pub takes_is : Owner → Bool
+takes_is Script = true
+takes_is Interface = false
+
+-- fields are declared in the body of a Script alone
+unfoldable pub is_script : List ℕ → Bool
+is_script word = bytes_eq word (codes "Script")

@@ -1,0 +1,43 @@
+//! Where a field may be declared, and what its declaration may give it.
+
+ghost use Rattle.std.specs.Prelude.{◌≡◌};
+ghost use Rattle.x3d_values.specs.Access.{is_initial};
+ghost use Rattle.classic_rules.specs.Bounds as spec;
+
+use x3d_values::{Access, Text};
+
+/// Who has the declared field.
+#[derive(Clone, Copy)]
+pub enum Owner {
+    Script,
+    /// The interface of a PROTO.
+    Interface,
+}
+
+/// Whether `IS name` may stand in a declaration.
+pub fn takes_is(owner: Owner) -> bool
+    ensures { result ≡ spec.takes_is owner }
+{
+    match owner {
+        Owner::Script => true,
+        Owner::Interface => false,
+    }
+}
+
+/// Whether a field of that access holds a value.
+pub fn holds_value(access: Access) -> bool
+    ensures { result ≡ is_initial access }
+{
+    match access {
+        Access::InputOnly | Access::OutputOnly => false,
+        Access::InputOutput | Access::InitializeOnly => true,
+    }
+}
+
+/// Whether fields may be declared in the body of a node of that type.
+#[tactic(auto, unfolding(crate::specs::Bounds::is_script))]
+pub fn is_script(node_type: &Text) -> bool
+    ensures { result ≡ spec.is_script node_type.now }
+{
+    node_type.as_bytes() == b"Script".as_slice()
+}

@@ -1,0 +1,125 @@
+-- The numbers that C sees for answers, and what an export says of a handle.
+use Rattle.std.specs.Prelude.{◌≡◌, ◌++◌, ℕ, List, Option, Some, None, Result, Ok, Err, drop, length, nat_lt, if◌then◌else◌}
+use Rattle.snapshot_core.specs.declared.fault.SaveFault.{SaveFault}
+use Rattle.snapshot_core.specs.declared.fault.SaveFault.TheVariants as save
+use Rattle.snapshot_core.specs.declared.fault.SnapFault.{SnapFault}
+use Rattle.snapshot_core.specs.declared.fault.SnapFault.TheVariants as snap
+use Rattle.cascade_answers.specs.declared.fault.ApplyFault.{ApplyFault}
+use Rattle.cascade_answers.specs.declared.fault.ApplyFault.TheVariants as apply
+use Rattle.cascade_answers.specs.declared.fault.PlaceFault.{PlaceFault}
+use Rattle.cascade_answers.specs.declared.fault.PlaceFault.TheVariants as place
+use Rattle.embed_world.specs.declared.fault.LookFault.{LookFault}
+use Rattle.embed_world.specs.declared.fault.LookFault.TheVariants as look
+
+-- ---- statuses
+
+-- the handle has nothing
+abbrev pub closed : ℕ
+closed = 10
+
+-- a number is out of its range
+abbrev pub out_of_range : ℕ
+out_of_range = 11
+
+-- there is no such datagram
+abbrev pub no_packet : ℕ
+no_packet = 25
+
+-- there is no room for all
+abbrev pub no_room : ℕ
+no_room = 12
+
+abbrev pub status_of_apply : ApplyFault → ℕ
+status_of_apply apply.Spoiled = 20
+status_of_apply apply.NotNext = 21
+status_of_apply apply.TimeNotLater = 22
+status_of_apply apply.Memory = 5
+
+abbrev pub status_of_look : Result (Unit {0}) LookFault → ℕ
+status_of_look (Ok _) = 0
+status_of_look (Err look.Spoiled) = 20
+status_of_look (Err look.NoSuchNode) = 23
+status_of_look (Err look.NoSuchField) = 24
+status_of_look (Err look.Memory) = 5
+
+abbrev pub status_of_place : Result (Unit {0}) PlaceFault → ℕ
+status_of_place (Ok _) = 0
+status_of_place (Err place.Spoiled) = 20
+status_of_place (Err place.NoSuchScript) = 26
+status_of_place (Err place.KindDiffers) = 27
+status_of_place (Err place.Memory) = 5
+
+abbrev pub status_of_save : Result (Unit {0}) SaveFault → ℕ
+status_of_save (Ok _) = 0
+status_of_save (Err save.Spoiled) = 20
+status_of_save (Err save.Memory) = 5
+
+abbrev pub status_of_snap : SnapFault → ℕ
+status_of_snap snap.Short = 30
+status_of_snap snap.BadMagic = 31
+status_of_snap snap.BadVersion = 32
+status_of_snap snap.WrongScene = 33
+status_of_snap snap.BadDigest = 34
+status_of_snap snap.NotCanonical = 35
+status_of_snap snap.BootNotNew = 36
+status_of_snap snap.ScriptState = 37
+status_of_snap snap.Memory = 5
+
+-- ---- what is copied out
+
+-- all of it, where there is room, and then the rest is as it was; how many there are is told
+abbrev pub IsCopied : {A : Type 0} → (all old : List A) → (status wanted : ℕ) → (new : List A)
+    → Type 0
+IsCopied all old status wanted new =
+    (wanted ≡ length all)
+    × (status ≡ (if nat_lt (length old) (length all) then no_room else 0))
+    × (new ≡ (if nat_lt (length old) (length all) then old else all ++ drop (length all) old))
+
+-- ---- calls
+
+-- what a handle has is called, and the handle has what the call leaves; without it nothing is called
+abbrev pub Calls : {H A : Type 0} → (H → A → H → Type 0) → (A → ℕ) → Option H → ℕ → Option H
+    → Type 0
+Calls {H} {A} does status_of None status after = (status ≡ closed) × (after ≡ None)
+Calls {H} {A} does status_of (Some w) status after =
+    (answer : A) × (next : H)
+    × does w answer next × (status ≡ status_of answer) × (after ≡ Some next)
+
+-- the same, and what the answer tells is written in the place of what stood there
+abbrev pub CallsOut : {H A O : Type 0} → (H → A → H → Type 0) → (A → ℕ) → (O → A → O) → Option H
+    → ℕ → Option H → (old new : O) → Type 0
+CallsOut {H} {A} does status_of told None status after old new =
+    (status ≡ closed) × (after ≡ None) × (new ≡ old)
+CallsOut {H} {A} does status_of told (Some w) status after old new =
+    (answer : A) × (next : H)
+    × does w answer next × (status ≡ status_of answer) × (after ≡ Some next)
+    × (new ≡ told old answer)
+
+-- something is asked of what a handle has, which stays as it is
+abbrev pub Asks : {H A : Type 0} → (H → A) → Option H → ℕ → (old new : A) → Type 0
+Asks asked None status old new = (status ≡ closed) × (new ≡ old)
+Asks asked (Some w) status old new = (status ≡ 0) × (new ≡ asked w)
+
+-- bytes or numbers of what a handle has are copied
+abbrev pub Copies : {H A : Type 0} → (H → List A) → Option H → ℕ → (old : List A)
+    → (wanted_old wanted : ℕ) → (new : List A) → Type 0
+Copies all None status old wanted_old wanted new =
+    (status ≡ closed) × (wanted ≡ wanted_old) × (new ≡ old)
+Copies all (Some w) status old wanted_old wanted new = IsCopied (all w) old status wanted new
+
+-- ---- datagrams
+
+-- a datagram is copied; where there is none nothing is
+abbrev pub IsHandedOut : (none : ℕ) → Option (List ℕ) → (old : List ℕ) → (status : ℕ)
+    → (wanted_old wanted : ℕ) → (new : List ℕ) → Type 0
+IsHandedOut none None old status wanted_old wanted new =
+    (status ≡ none) × (wanted ≡ wanted_old) × (new ≡ old)
+IsHandedOut none (Some bytes) old status wanted_old wanted new = IsCopied bytes old status wanted new
+
+-- a datagram of what a handle has is copied
+abbrev pub HandsOut : {H : Type 0} → (none : ℕ) → (H → Option (List ℕ)) → Option H → ℕ
+    → (old : List ℕ) → (wanted_old wanted : ℕ) → (new : List ℕ) → Type 0
+HandsOut none made None status old wanted_old wanted new =
+    (status ≡ closed) × (wanted ≡ wanted_old) × (new ≡ old)
+HandsOut none made (Some h) status old wanted_old wanted new =
+    IsHandedOut none (made h) old status wanted_old wanted new

@@ -1,0 +1,12 @@
+use Rattle.std.proofs.Common.{Some, ap, ◌∙◌}
+use Rattle.embed_nodes.specs.declared.viewer.EmbeddedViewer.{EmbeddedViewer}
+use Rattle.embed_nodes.specs.Viewers as viewers
+use Rattle.embed_answers.specs.NodeStatus.{number_by, status_by, status_of_join}
+use Rattle.embed_c.proofs.Called.{called_out}
+use Rattle.embed_c.proofs.joining.x3d_viewer_join.Goals as goal
+
+pub returns : goal.returns
+returns c =
+    called_out (λ (v : EmbeddedViewer). viewers.Joins v c.args.boot) (status_by status_of_join) number_by _ _ _ _ _ c.deref_mut.result.now _ _
+    (ap (λ (x : EmbeddedViewer). Some x) c.deref_mut.ensures.value ∙ c.in-Some.ensures.taken)
+    c.join-answer.ensures c.tell_joined.ensures.status c.put.ensures c.tell_joined.ensures.told

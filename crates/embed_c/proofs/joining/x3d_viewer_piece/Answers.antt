@@ -1,0 +1,12 @@
+use Rattle.std.proofs.Common.{Some, ap, ◌∙◌}
+use Rattle.embed_nodes.specs.declared.viewer.EmbeddedViewer.{EmbeddedViewer}
+use Rattle.embed_nodes.specs.Viewers as viewers
+use Rattle.embed_answers.specs.Status.{no_packet}
+use Rattle.embed_c.proofs.Called.{hands_out}
+use Rattle.embed_c.proofs.joining.x3d_viewer_piece.Goals as goal
+
+pub returns-clause-packet : goal.returns-clause-packet
+returns-clause-packet c =
+    hands_out no_packet (λ (x : EmbeddedViewer). viewers.piece_bytes x c.args.bytes.now c.args.index) _ _ _ _ _ _ c.deref.result.now _
+    (ap (λ (x : EmbeddedViewer). Some x) c.deref.ensures ∙ c.in-Some.ensures.taken)
+    c.piece-packet.ensures c.hand_out.ensures

@@ -1,0 +1,14 @@
+use Rattle.std.proofs.Common.{Some, ap, ◌∙◌}
+use Rattle.embed_nodes.specs.declared.viewer.EmbeddedViewer.{EmbeddedViewer}
+use Rattle.embed_nodes.specs.Viewers.{Lists}
+use Rattle.embed_world.specs.Looks as look
+use Rattle.share_core.specs.Viewer.{stage_in}
+use Rattle.embed_answers.specs.Status.{status_of_look}
+use Rattle.embed_c.proofs.Called.{called}
+use Rattle.embed_c.proofs.viewer_lists.x3d_viewer_list_value.Goals as goal
+
+pub returns : goal.returns
+returns c =
+    called (λ (v : EmbeddedViewer). Lists (look.numbers_in (stage_in v.viewer) c.args.node c.args.field) v) status_of_look _ _ _ c.deref_mut.result.now _ _
+    (ap (λ (x : EmbeddedViewer). Some x) c.deref_mut.ensures.value ∙ c.in-Some.ensures.taken)
+    c.list_value-answer.ensures c.status_of_look.ensures c.put.ensures

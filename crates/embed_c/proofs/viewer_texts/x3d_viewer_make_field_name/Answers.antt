@@ -1,0 +1,13 @@
+use Rattle.std.proofs.Common.{Some, ap, ◌∙◌}
+use Rattle.embed_nodes.specs.declared.viewer.EmbeddedViewer.{EmbeddedViewer}
+use Rattle.embed_nodes.specs.Viewers.{Makes}
+use Rattle.embed_world.specs.Looks as look
+use Rattle.embed_answers.specs.Status.{status_of_look}
+use Rattle.embed_c.proofs.Called.{called}
+use Rattle.embed_c.proofs.viewer_texts.x3d_viewer_make_field_name.Goals as goal
+
+pub returns : goal.returns
+returns c =
+    called (λ (v : EmbeddedViewer). Makes (look.field_in v.viewer.scene c.args.node c.args.field) v) status_of_look _ _ _ c.deref_mut.result.now _ _
+    (ap (λ (x : EmbeddedViewer). Some x) c.deref_mut.ensures.value ∙ c.in-Some.ensures.taken)
+    c.make_field_name-answer.ensures c.status_of_look.ensures c.put.ensures

@@ -1,0 +1,127 @@
+-- The numbers that C sees for the answers of a world, and what an export says of a handle.
+use Rattle.std.specs.Prelude.{◌≡◌, ℕ, List, [], Option, Some, None, Result, Ok, Err}
+use Rattle.std.specs.Result.{result_ok}
+use Rattle.share_jobs.specs.declared.fault.JobFault.{JobFault}
+use Rattle.share_program.specs.Refusal.{refusal_text, status}
+use Rattle.share_program.specs.declared.refusal.Failure.TheVariants.{Job}
+use Rattle.snapshot_core.specs.declared.fault.SnapFault.{SnapFault}
+use Rattle.snapshot_core.specs.declared.loading.Saved.{Saved}
+use Rattle.cascade_answers.specs.declared.fault.ApplyFault.{ApplyFault}
+use Rattle.cascade_answers.specs.declared.work.Work.{Work}
+use Rattle.x3d_values.specs.Stamp.{Stamp}
+use Rattle.x3d_values.specs.Pointing.{Sight}
+use Rattle.x3d_values.specs.declared.script.Kind.{Kind}
+use Rattle.embed_world.specs.Calls.{Applies, IsOpened, Loads, Meets, Replaces}
+use Rattle.embed_world.specs.Looks.{meeting_in}
+use Rattle.embed_world.specs.declared.fault.LookFault.{LookFault}
+use Rattle.embed_world.specs.declared.lists.Entry.{Entry}
+use Rattle.embed_world.specs.declared.world.EmbeddedWorld.{EmbeddedWorld}
+use Rattle.embed_answers.specs.Status.{Calls, IsCopied, closed, out_of_range, status_of_apply, status_of_look, status_of_place, status_of_snap}
+use Rattle.embed_c.specs.declared.inputs.WorkCount.{WorkCount}
+use Rattle.embed_c.specs.declared.lists.Met.{Met}
+use Rattle.embed_c.specs.declared.shots.SavedAs.{SavedAs}
+
+-- 1 for a scene that is refused or its scripts, 5 for memory, as the program ends
+abbrev pub status_of_open : Result EmbeddedWorld JobFault → ℕ
+status_of_open (Ok _) = 0
+status_of_open (Err fault) = status (Job fault)
+
+-- ---- calls
+
+-- the line for a refusal, as the program prints it; none where a world is opened
+abbrev pub refusal_line : Result EmbeddedWorld JobFault → List ℕ
+refusal_line (Ok _) = []
+refusal_line (Err fault) = refusal_text (Job fault)
+
+-- the handle has the world of the text, or none, with the status and the line of the refusal
+abbrev pub Opens : List ℕ → ℕ → Option EmbeddedWorld → (old : List ℕ) → ℕ → (new : List ℕ) → Type 0
+Opens text status after old wanted new =
+    (answer : Result EmbeddedWorld JobFault) × (copied : ℕ)
+    × IsOpened text answer × (status ≡ status_of_open answer) × (after ≡ result_ok answer)
+    × IsCopied (refusal_line answer) old copied wanted new
+
+-- ---- inputs
+
+abbrev pub counted : WorkCount → Result Work ApplyFault → WorkCount
+counted old (Ok work) =
+    record { sends = work.sends; deliveries = work.deliveries; settles = work.settles }
+counted old (Err fault) = old
+
+abbrev pub status_of_work : Result Work ApplyFault → ℕ
+status_of_work (Ok _) = 0
+status_of_work (Err fault) = status_of_apply fault
+
+-- an input is applied to the world of a handle, and its work counted
+abbrev pub AppliesAt : Stamp → Option EmbeddedWorld → ℕ → Option EmbeddedWorld
+    → (old new : WorkCount) → Type 0
+AppliesAt input None status after old new = (status ≡ closed) × (after ≡ None) × (new ≡ old)
+AppliesAt input (Some w) status after old new =
+    (answer : Result Work ApplyFault) × (next : EmbeddedWorld)
+    × Applies w input answer next × (status ≡ status_of_work answer) × (after ≡ Some next)
+    × (new ≡ counted old answer)
+
+-- the same of an input whose numbers may be out of range
+abbrev pub Inputs : Option Stamp → Option EmbeddedWorld → ℕ → Option EmbeddedWorld
+    → (old new : WorkCount) → Type 0
+Inputs None before status after old new =
+    (status ≡ out_of_range) × (after ≡ before) × (new ≡ old)
+Inputs (Some input) before status after old new = AppliesAt input before status after old new
+
+-- ---- snapshots
+
+abbrev pub saved_as : SavedAs → Result Saved SnapFault → SavedAs
+saved_as old (Ok saved) = record { boot = saved.boot; applied = saved.applied }
+saved_as old (Err fault) = old
+
+abbrev pub status_of_load : Result Saved SnapFault → ℕ
+status_of_load (Ok _) = 0
+status_of_load (Err fault) = status_of_snap fault
+
+-- a snapshot is put into the world of a handle, and what it was is told
+abbrev pub LoadsAt : (boot : ℕ) → (bytes : List ℕ) → Option EmbeddedWorld → ℕ
+    → Option EmbeddedWorld → (old new : SavedAs) → Type 0
+LoadsAt boot bytes None status after old new = (status ≡ closed) × (after ≡ None) × (new ≡ old)
+LoadsAt boot bytes (Some w) status after old new =
+    (answer : Result Saved SnapFault) × (next : EmbeddedWorld)
+    × Loads w boot bytes answer next × (status ≡ status_of_load answer) × (after ≡ Some next)
+    × (new ≡ saved_as old answer)
+
+-- ---- rays
+
+abbrev pub met_of : Option Entry → Met
+met_of None = record { n = 0; m = 0 }
+met_of (Some entry) = record { n = entry.n; m = entry.m }
+
+abbrev pub told : Met → Result (Option Entry) LookFault → Met
+told old (Ok entry) = met_of entry
+told old (Err fault) = old
+
+abbrev pub status_of_meet : Result (Option Entry) LookFault → ℕ
+status_of_meet (Ok _) = 0
+status_of_meet (Err fault) = status_of_look (Err fault)
+
+-- what a ray meets is asked of the world of a handle
+abbrev pub MeetsAt : Sight → Option EmbeddedWorld → ℕ → Option EmbeddedWorld → (old new : Met)
+    → Type 0
+MeetsAt ray None status after old new = (status ≡ closed) × (after ≡ None) × (new ≡ old)
+MeetsAt ray (Some w) status after old new =
+    (answer : Result (Option Entry) LookFault) × (next : EmbeddedWorld)
+    × Meets (meeting_in w.stage ray) w answer next × (status ≡ status_of_meet answer)
+    × (after ≡ Some next) × (new ≡ told old answer)
+
+-- the same of a ray whose numbers may be out of range
+abbrev pub Meeting : Option Sight → Option EmbeddedWorld → ℕ → Option EmbeddedWorld
+    → (old new : Met) → Type 0
+Meeting None before status after old new =
+    (status ≡ out_of_range) × (after ≡ before) × (new ≡ old)
+Meeting (Some ray) before status after old new = MeetsAt ray before status after old new
+
+-- ---- scripts
+
+-- a box of a kind is put in the place of script k of the world of a handle; a kind that there isn't
+-- is out of range
+abbrev pub IsReplacing : (k : ℕ) → Option Kind → Option EmbeddedWorld → ℕ → Option EmbeddedWorld
+    → Type 0
+IsReplacing k None before status after = (status ≡ out_of_range) × (after ≡ before)
+IsReplacing k (Some kind) before status after =
+    Calls (λ (w : EmbeddedWorld). Replaces w k kind) status_of_place before status after

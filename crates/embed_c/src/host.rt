@@ -1,0 +1,227 @@
+//! The host of a shared world.
+
+ghost use Rattle.std.specs.Prelude.{◌≡◌, Some, None, IfSome, length};
+ghost use Rattle.embed_nodes.specs.Hosts as hosts;
+ghost use Rattle.embed_nodes.specs.declared.host.EmbeddedHost.{EmbeddedHost as Embedded};
+ghost use Rattle.embed_answers.specs.Status.{Asks, Calls, CallsOut, out_of_range, HandsOut, no_packet};
+ghost use Rattle.embed_c.specs.NodeAnswers.{HostOpens};
+ghost use Rattle.embed_answers.specs.NodeStatus.{number_by, replied, status_by, status_of_floor, status_of_host, status_of_number};
+
+use embed_answers::{
+    CLOSED, DONE, MEMORY, NO_PACKET, RANGE, ReplyAs, hand_out, status_of_floor, tell_number,
+    tell_reply,
+};
+use embed_handles::HostHandle;
+use embed_handles::host_handle::{put, take};
+use embed_nodes::EmbeddedHost;
+use std::alloc::Global;
+
+/// Frees the host of a handle, if it has one.
+fn empty(alloc: Global, handle: &mut HostHandle)
+    ensures { handle.new.host ≡ None }
+{
+    drop(take(handle, alloc));
+}
+
+/// A host on the heap.
+fn boxed(alloc: Global, host: EmbeddedHost) -> Option<Box<EmbeddedHost>>
+    ensures { IfSome result (λ b. b.value ≡ host) }
+{
+    Box::new(alloc, host).ok()
+}
+
+/// Puts a host into a handle, in place of one that it had. Where memory is refused it has none.
+fn hold(alloc: Global, handle: &mut HostHandle, host: EmbeddedHost) -> u8
+    ensures { HostOpens (Some host) handle.old.host result handle.new.host }
+{
+    empty(alloc, handle);
+    let Some(host) = boxed(alloc, host) else {
+        return MEMORY;
+    };
+    put(handle, alloc, host);
+    DONE
+}
+
+/// Opens the host of a scene's text for so many viewers, 1 to 16, in place of one that the handle
+/// had.
+#[unsafe(no_mangle)]
+pub extern "C" fn x3d_host_open(
+    alloc: Global,
+    handle: &mut HostHandle,
+    text: &[u8],
+    viewers: u8,
+) -> u8
+    ensures { HostOpens (hosts.started text.now viewers) handle.old.host result handle.new.host }
+{
+    let Some(host) = EmbeddedHost::start(alloc, text, viewers) else {
+        return RANGE;
+    };
+    hold(alloc, handle, host)
+}
+
+/// Frees the host. Without one it does nothing.
+#[unsafe(no_mangle)]
+pub extern "C" fn x3d_host_close(alloc: Global, handle: &mut HostHandle)
+    ensures { handle.new.host ≡ None }
+{
+    empty(alloc, handle);
+}
+
+/// Numbers a clock at this time in microseconds, and tells its number.
+#[unsafe(no_mangle)]
+pub extern "C" fn x3d_host_clock(
+    alloc: Global,
+    handle: &mut HostHandle,
+    time: i64,
+    number: &mut u32,
+) -> u8
+    ensures { CallsOut (λ (h : Embedded). hosts.Clocks h time) (status_by status_of_number)
+        number_by handle.old.host result handle.new.host number.old number.new }
+{
+    let Some(mut host) = take(handle, alloc) else {
+        return CLOSED;
+    };
+    let answer = host.clock(time);
+    put(handle, alloc, host);
+    tell_number(answer, number)
+}
+
+/// Takes the bytes of a datagram, and tells what was made of it.
+#[unsafe(no_mangle)]
+pub extern "C" fn x3d_host_take(
+    alloc: Global,
+    handle: &mut HostHandle,
+    bytes: &[u8],
+    reply: &mut ReplyAs,
+) -> u8
+    ensures { CallsOut (λ (h : Embedded). hosts.HostTakes h bytes.now) (status_by status_of_host)
+        replied handle.old.host result handle.new.host reply.old reply.new }
+{
+    let Some(mut host) = take(handle, alloc) else {
+        return CLOSED;
+    };
+    let answer = host.take(bytes);
+    put(handle, alloc, host);
+    tell_reply(answer, reply)
+}
+
+/// Copies the datagram of the input of this number.
+#[unsafe(no_mangle)]
+pub extern "C" fn x3d_host_packet(
+    alloc: Global,
+    handle: &mut HostHandle,
+    number: u32,
+    out: &mut [u8],
+    wanted: &mut usize,
+) -> u8
+    ensures kept { handle.new.host ≡ handle.old.host }
+    ensures packet { HandsOut no_packet (λ (h : Embedded). hosts.input_bytes h number)
+        handle.old.host result out.old wanted.old wanted.new out.new }
+{
+    let Some(host) = take(handle, alloc) else {
+        return CLOSED;
+    };
+    let packet = host.packet(number);
+    put(handle, alloc, host);
+    hand_out(packet, NO_PACKET, out, wanted)
+}
+
+/// Copies the datagram that tells viewer `who` how many of its offers are numbered.
+#[unsafe(no_mangle)]
+pub extern "C" fn x3d_host_ack(
+    alloc: Global,
+    handle: &mut HostHandle,
+    who: u8,
+    out: &mut [u8],
+    wanted: &mut usize,
+) -> u8
+    ensures kept { handle.new.host ≡ handle.old.host }
+    ensures packet { HandsOut out_of_range (λ (h : Embedded). hosts.ack_bytes h who)
+        handle.old.host result out.old wanted.old wanted.new out.new }
+{
+    let Some(host) = take(handle, alloc) else {
+        return CLOSED;
+    };
+    let packet = host.ack(who);
+    put(handle, alloc, host);
+    hand_out(packet, RANGE, out, wanted)
+}
+
+/// Tells from which number on there are datagrams of inputs.
+#[unsafe(no_mangle)]
+pub extern "C" fn x3d_host_floor(alloc: Global, handle: &mut HostHandle, number: &mut u32) -> u8
+    ensures kept { handle.new.host ≡ handle.old.host }
+    ensures number { Asks (λ (h : Embedded). h.host.part.floor) handle.old.host result number.old
+        number.new }
+{
+    let Some(host) = take(handle, alloc) else {
+        return CLOSED;
+    };
+    *number = host.floor();
+    put(handle, alloc, host);
+    DONE
+}
+
+/// Copies the datagram that tells the floor.
+#[unsafe(no_mangle)]
+pub extern "C" fn x3d_host_floor_packet(
+    alloc: Global,
+    handle: &mut HostHandle,
+    out: &mut [u8],
+    wanted: &mut usize,
+) -> u8
+    ensures kept { handle.new.host ≡ handle.old.host }
+    ensures packet { HandsOut no_packet (λ (h : Embedded). Some (hosts.floor_bytes h))
+        handle.old.host result out.old wanted.old wanted.new out.new }
+{
+    let Some(host) = take(handle, alloc) else {
+        return CLOSED;
+    };
+    let packet = host.floor_packet();
+    put(handle, alloc, host);
+    hand_out(packet, NO_PACKET, out, wanted)
+}
+
+/// Drops the inputs below this number.
+#[unsafe(no_mangle)]
+pub extern "C" fn x3d_host_drop_below(alloc: Global, handle: &mut HostHandle, number: u32) -> u8
+    ensures { Calls (λ (h : Embedded). hosts.Drops h number) status_of_floor
+        handle.old.host result handle.new.host }
+{
+    let Some(mut host) = take(handle, alloc) else {
+        return CLOSED;
+    };
+    let answer = host.drop_below(number);
+    put(handle, alloc, host);
+    status_of_floor(answer)
+}
+
+/// Tells how many inputs are numbered.
+#[unsafe(no_mangle)]
+pub extern "C" fn x3d_host_count(alloc: Global, handle: &mut HostHandle, count: &mut u32) -> u8
+    ensures kept { handle.new.host ≡ handle.old.host }
+    ensures count { Asks (λ (h : Embedded). h.host.part.count) handle.old.host result count.old
+        count.new }
+{
+    let Some(host) = take(handle, alloc) else {
+        return CLOSED;
+    };
+    *count = host.count();
+    put(handle, alloc, host);
+    DONE
+}
+
+/// Tells how many viewers there are.
+#[unsafe(no_mangle)]
+pub extern "C" fn x3d_host_viewers(alloc: Global, handle: &mut HostHandle, count: &mut u32) -> u8
+    ensures kept { handle.new.host ≡ handle.old.host }
+    ensures count { Asks (λ (h : Embedded). length h.host.part.kept) handle.old.host result
+        count.old count.new }
+{
+    let Some(host) = take(handle, alloc) else {
+        return CLOSED;
+    };
+    *count = host.viewers();
+    put(handle, alloc, host);
+    DONE
+}

@@ -1,0 +1,133 @@
+//! Inputs to a world.
+
+ghost use Rattle.std.specs.Prelude.{◌≡◌, Some, None};
+ghost use Rattle.x3d_values.specs.declared.stamped.Event.TheVariants.{Clock};
+ghost use Rattle.embed_world.specs.Pointing as pointing;
+ghost use Rattle.embed_c.specs.Answers.{AppliesAt, Inputs};
+ghost use Rattle.embed_c.specs.Points.{aimed, direction_of, origin_of, pointed};
+
+use embed_answers::{CLOSED, DONE, RANGE, status_of_apply};
+use embed_handles::WorldHandle;
+use embed_handles::world_handle::{put, take};
+use embed_world::{pointer_of, ray_of, stamped};
+use std::alloc::Global;
+use x3d_values::{Event, Ray, Stamped, Vec3};
+
+/// What an input gave rise to: how many outputs sent, routes were followed and scripts settled.
+#[derive(Clone, Copy)]
+#[repr(C)]
+pub struct WorkCount {
+    pub sends: usize,
+    pub deliveries: usize,
+    pub settles: usize,
+}
+
+/// What a viewer points with: coordinates in millionths of a unit.
+#[derive(Clone, Copy)]
+#[repr(C)]
+pub struct Aim {
+    pub origin_x: i64,
+    pub origin_y: i64,
+    pub origin_z: i64,
+    pub direction_x: i64,
+    pub direction_y: i64,
+    pub direction_z: i64,
+}
+
+/// Applies an input to the world of a handle.
+fn apply(alloc: Global, handle: &mut WorldHandle, input: &Stamped, work: &mut WorkCount) -> u8
+    ensures { AppliesAt input.now handle.old.world result handle.new.world work.old work.new }
+{
+    let Some(mut world) = take(handle, alloc) else {
+        return CLOSED;
+    };
+    let answer = world.apply(input);
+    put(handle, alloc, world);
+    match answer {
+        Ok(done) => {
+            work.sends = done.sends;
+            work.deliveries = done.deliveries;
+            work.settles = done.settles;
+            DONE
+        }
+        Err(fault) => status_of_apply(fault),
+    }
+}
+
+/// Applies a clock of this number, at this time in microseconds.
+#[unsafe(no_mangle)]
+pub extern "C" fn x3d_world_clock(
+    alloc: Global,
+    handle: &mut WorldHandle,
+    number: u32,
+    time: i64,
+    work: &mut WorkCount,
+) -> u8
+    ensures { Inputs (pointing.stamped number time Clock) handle.old.world result
+        handle.new.world work.old work.new }
+{
+    let Some(input) = stamped(number, time, Event::Clock) else {
+        return RANGE;
+    };
+    apply(alloc, handle, &input, work)
+}
+
+/// Where a ray begins.
+pub(crate) fn origin_of(aim: &Aim) -> Vec3
+    ensures { result ≡ origin_of aim.now }
+{
+    Vec3 {
+        x: aim.origin_x,
+        y: aim.origin_y,
+        z: aim.origin_z,
+    }
+}
+
+/// Where a ray goes.
+pub(crate) fn direction_of(aim: &Aim) -> Vec3
+    ensures { result ≡ direction_of aim.now }
+{
+    Vec3 {
+        x: aim.direction_x,
+        y: aim.direction_y,
+        z: aim.direction_z,
+    }
+}
+
+/// The ray that is pointed with.
+pub(crate) fn aimed(aim: &Aim) -> Option<Ray>
+    ensures { result ≡ aimed aim.now }
+{
+    ray_of(origin_of(aim), direction_of(aim))
+}
+
+/// The input of a pointer of this viewer.
+fn pointed(number: u32, time: i64, who: u8, down: bool, aim: &Aim) -> Option<Stamped>
+    ensures { result ≡ pointed number time who down aim.now }
+{
+    let Some(pointer) = pointer_of(who, down, origin_of(aim), direction_of(aim)) else {
+        return None;
+    };
+    stamped(number, time, Event::Pointer(pointer))
+}
+
+/// Applies a pointer of viewer `who` with this number, at this time in microseconds.
+#[unsafe(no_mangle)]
+pub extern "C" fn x3d_world_point(
+    alloc: Global,
+    handle: &mut WorldHandle,
+    number: u32,
+    time: i64,
+    who: u8,
+    down: bool,
+    aim: &Aim,
+    work: &mut WorkCount,
+) -> u8
+    ensures { Inputs (pointed number time who down aim.now) handle.old.world result
+        handle.new.world work.old work.new }
+{
+    let Some(input) = pointed(number, time, who, down, aim) else {
+        return RANGE;
+    };
+    apply(alloc, handle, &input, work)
+}

@@ -1,0 +1,60 @@
+//! A world as bytes, and back.
+
+ghost use Rattle.embed_world.specs.Calls.{Saves};
+ghost use Rattle.embed_answers.specs.Status.{Calls, status_of_save};
+ghost use Rattle.embed_c.specs.Answers.{LoadsAt};
+ghost use Rattle.embed_world.specs.declared.world.EmbeddedWorld.{EmbeddedWorld as Embedded};
+
+use embed_answers::{CLOSED, DONE, status_of_save, status_of_snap};
+use embed_handles::WorldHandle;
+use embed_handles::world_handle::{put, take};
+use std::alloc::Global;
+
+/// Of which boot a snapshot was, and how many inputs its world had applied.
+#[derive(Clone, Copy)]
+#[repr(C)]
+pub struct SavedAs {
+    pub boot: u32,
+    pub applied: u32,
+}
+
+/// Makes the snapshot of the world, as a boot: it is copied as a text is.
+#[unsafe(no_mangle)]
+pub extern "C" fn x3d_world_make_snapshot(alloc: Global, handle: &mut WorldHandle, boot: u32) -> u8
+    ensures { Calls (λ (w : Embedded). Saves w boot) status_of_save handle.old.world result
+        handle.new.world }
+{
+    let Some(mut world) = take(handle, alloc) else {
+        return CLOSED;
+    };
+    let answer = world.make_snapshot(boot);
+    put(handle, alloc, world);
+    status_of_save(answer)
+}
+
+/// Puts the world of a snapshot in place of what there was: one of this scene, of a boot below
+/// `boot`.
+#[unsafe(no_mangle)]
+pub extern "C" fn x3d_world_load(
+    alloc: Global,
+    handle: &mut WorldHandle,
+    boot: u32,
+    bytes: &[u8],
+    saved: &mut SavedAs,
+) -> u8
+    ensures { LoadsAt boot bytes.now handle.old.world result handle.new.world saved.old saved.new }
+{
+    let Some(mut world) = take(handle, alloc) else {
+        return CLOSED;
+    };
+    let answer = world.load(boot, bytes);
+    put(handle, alloc, world);
+    match answer {
+        Ok(done) => {
+            saved.boot = done.boot;
+            saved.applied = done.applied;
+            DONE
+        }
+        Err(fault) => status_of_snap(fault),
+    }
+}

@@ -1,0 +1,78 @@
+//! A handle: a pointer to a host on the heap, or null.
+
+ghost use Rattle.std.specs.Prelude.{◌≡◌, Option, Some, None, option_map};
+ghost use Rattle.embed_nodes.specs.declared.host.EmbeddedHost.{EmbeddedHost as Embedded};
+ghost use Rattle.embed_handles.specs.HostHeld.{held};
+
+use embed_box::Loose;
+use embed_nodes::EmbeddedHost;
+use std::alloc::Global;
+use std::marker::Model;
+use std::{mem, ptr};
+
+/// A host on the heap, or nothing. C sees a struct of one pointer, which is null where there is
+/// nothing.
+#[repr(C)]
+pub struct HostHandle {
+    at: *mut u8,
+    pub ghost host: { Option Embedded },
+}
+
+impl Model for HostHandle {
+    ghost also_owns = { λ h. held h.at h.host };
+}
+
+impl HostHandle {
+    /// No host.
+    pub fn none() -> HostHandle
+        ensures { result.host ≡ None }
+    {
+        HostHandle {
+            at: ptr::null_mut(),
+        }
+    }
+
+    /// The handle of a host.
+    pub fn of(host: Loose<EmbeddedHost, Global>) -> HostHandle
+        ensures { result.host ≡ Some host.value }
+    {
+        let Loose { at, alloc: _ } = host;
+        HostHandle { at: at as *mut u8 }
+    }
+
+    /// The host, taken out.
+    pub fn into_loose(self, alloc: Global) -> Option<Loose<EmbeddedHost, Global>>
+        ensures { option_map (λ l. l.value) result ≡ self.host }
+    {
+        let HostHandle { at } = self;
+        if at.is_null() {
+            None
+        } else {
+            Some(Loose {
+                at: at as *mut EmbeddedHost,
+                alloc,
+            })
+        }
+    }
+}
+
+/// The host of a handle, which has none from then on.
+pub fn take(handle: &mut HostHandle, alloc: Global) -> Option<Box<EmbeddedHost>>
+    ensures taken { option_map (λ b. b.value) result ≡ handle.old.host }
+    ensures left { handle.new.host ≡ None }
+{
+    match mem::replace(handle, HostHandle::none()).into_loose(alloc) {
+        Some(host) => Some(host.into_box()),
+        None => None,
+    }
+}
+
+/// Puts a host into a handle. One that was there is dropped.
+pub fn put(handle: &mut HostHandle, alloc: Global, host: Box<EmbeddedHost>)
+    ensures { handle.new.host ≡ Some host.value }
+{
+    let before = mem::replace(handle, HostHandle::of(Loose::of(host)));
+    if let Some(host) = before.into_loose(alloc) {
+        drop(host.into_box());
+    }
+}

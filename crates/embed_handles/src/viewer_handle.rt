@@ -1,0 +1,78 @@
+//! A handle: a pointer to a viewer on the heap, or null.
+
+ghost use Rattle.std.specs.Prelude.{◌≡◌, Option, Some, None, option_map};
+ghost use Rattle.embed_nodes.specs.declared.viewer.EmbeddedViewer.{EmbeddedViewer as Embedded};
+ghost use Rattle.embed_handles.specs.ViewerHeld.{held};
+
+use embed_box::Loose;
+use embed_nodes::EmbeddedViewer;
+use std::alloc::Global;
+use std::marker::Model;
+use std::{mem, ptr};
+
+/// A viewer on the heap, or nothing. C sees a struct of one pointer, which is null where there is
+/// nothing.
+#[repr(C)]
+pub struct ViewerHandle {
+    at: *mut u8,
+    pub ghost viewer: { Option Embedded },
+}
+
+impl Model for ViewerHandle {
+    ghost also_owns = { λ h. held h.at h.viewer };
+}
+
+impl ViewerHandle {
+    /// No viewer.
+    pub fn none() -> ViewerHandle
+        ensures { result.viewer ≡ None }
+    {
+        ViewerHandle {
+            at: ptr::null_mut(),
+        }
+    }
+
+    /// The handle of a viewer.
+    pub fn of(viewer: Loose<EmbeddedViewer, Global>) -> ViewerHandle
+        ensures { result.viewer ≡ Some viewer.value }
+    {
+        let Loose { at, alloc: _ } = viewer;
+        ViewerHandle { at: at as *mut u8 }
+    }
+
+    /// The viewer, taken out.
+    pub fn into_loose(self, alloc: Global) -> Option<Loose<EmbeddedViewer, Global>>
+        ensures { option_map (λ l. l.value) result ≡ self.viewer }
+    {
+        let ViewerHandle { at } = self;
+        if at.is_null() {
+            None
+        } else {
+            Some(Loose {
+                at: at as *mut EmbeddedViewer,
+                alloc,
+            })
+        }
+    }
+}
+
+/// The viewer of a handle, which has none from then on.
+pub fn take(handle: &mut ViewerHandle, alloc: Global) -> Option<Box<EmbeddedViewer>>
+    ensures taken { option_map (λ b. b.value) result ≡ handle.old.viewer }
+    ensures left { handle.new.viewer ≡ None }
+{
+    match mem::replace(handle, ViewerHandle::none()).into_loose(alloc) {
+        Some(viewer) => Some(viewer.into_box()),
+        None => None,
+    }
+}
+
+/// Puts a viewer into a handle. One that was there is dropped.
+pub fn put(handle: &mut ViewerHandle, alloc: Global, viewer: Box<EmbeddedViewer>)
+    ensures { handle.new.viewer ≡ Some viewer.value }
+{
+    let before = mem::replace(handle, ViewerHandle::of(Loose::of(viewer)));
+    if let Some(viewer) = before.into_loose(alloc) {
+        drop(viewer.into_box());
+    }
+}

@@ -1,0 +1,78 @@
+//! A handle: a pointer to a world on the heap, or null.
+
+ghost use Rattle.std.specs.Prelude.{◌≡◌, Option, Some, None, option_map};
+ghost use Rattle.embed_world.specs.declared.world.EmbeddedWorld.{EmbeddedWorld as Embedded};
+ghost use Rattle.embed_handles.specs.WorldHeld.{held};
+
+use embed_box::Loose;
+use embed_world::EmbeddedWorld;
+use std::alloc::Global;
+use std::marker::Model;
+use std::{mem, ptr};
+
+/// A world on the heap, or nothing. C sees a struct of one pointer, which is null where there is
+/// nothing.
+#[repr(C)]
+pub struct WorldHandle {
+    at: *mut u8,
+    pub ghost world: { Option Embedded },
+}
+
+impl Model for WorldHandle {
+    ghost also_owns = { λ h. held h.at h.world };
+}
+
+impl WorldHandle {
+    /// No world.
+    pub fn none() -> WorldHandle
+        ensures { result.world ≡ None }
+    {
+        WorldHandle {
+            at: ptr::null_mut(),
+        }
+    }
+
+    /// The handle of a world.
+    pub fn of(world: Loose<EmbeddedWorld, Global>) -> WorldHandle
+        ensures { result.world ≡ Some world.value }
+    {
+        let Loose { at, alloc: _ } = world;
+        WorldHandle { at: at as *mut u8 }
+    }
+
+    /// The world, taken out.
+    pub fn into_loose(self, alloc: Global) -> Option<Loose<EmbeddedWorld, Global>>
+        ensures { option_map (λ l. l.value) result ≡ self.world }
+    {
+        let WorldHandle { at } = self;
+        if at.is_null() {
+            None
+        } else {
+            Some(Loose {
+                at: at as *mut EmbeddedWorld,
+                alloc,
+            })
+        }
+    }
+}
+
+/// The world of a handle, which has none from then on.
+pub fn take(handle: &mut WorldHandle, alloc: Global) -> Option<Box<EmbeddedWorld>>
+    ensures taken { option_map (λ b. b.value) result ≡ handle.old.world }
+    ensures left { handle.new.world ≡ None }
+{
+    match mem::replace(handle, WorldHandle::none()).into_loose(alloc) {
+        Some(world) => Some(world.into_box()),
+        None => None,
+    }
+}
+
+/// Puts a world into a handle. One that was there is dropped.
+pub fn put(handle: &mut WorldHandle, alloc: Global, world: Box<EmbeddedWorld>)
+    ensures { handle.new.world ≡ Some world.value }
+{
+    let before = mem::replace(handle, WorldHandle::of(Loose::of(world)));
+    if let Some(world) = before.into_loose(alloc) {
+        drop(world.into_box());
+    }
+}

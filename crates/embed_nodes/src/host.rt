@@ -1,0 +1,104 @@
+//! The host of a shared world.
+
+use share_core::Host;
+use share_law::{FloorFault, HostFault, HostReply, NumberFault};
+use share_wire::Packet;
+use snapshot_core::scene_mark;
+use std::alloc::Global;
+
+/// The host of a scene, of which it knows the mark.
+#[derive(Drop)]
+pub struct EmbeddedHost {
+    pub(crate) host: Host,
+}
+
+impl EmbeddedHost {
+    ghost use Rattle.std.specs.Prelude.{◌≡◌, Some, length};
+    ghost use Rattle.std.specs.Option.{option_map};
+    ghost use Rattle.embed_nodes.specs.Hosts as spec;
+    ghost use Rattle.embed_nodes.specs.Hosts.{Clocks, Drops, HostTakes};
+
+    /// The host of a scene's text, for 1 to 16 viewers, which are numbered from 0. It does not look
+    /// at the scene.
+    pub fn start(alloc: Global, text: &[u8], viewers: u8) -> Option<EmbeddedHost>
+        ensures { result ≡ spec.started text.now viewers }
+    {
+        if viewers < 1 {
+            return None;
+        }
+        if viewers > 16 {
+            return None;
+        }
+        Some(EmbeddedHost {
+            host: Host::new(alloc, scene_mark(text), viewers),
+        })
+    }
+
+    /// Numbers a clock at a time in microseconds, and gives its number: `Host::clock` of
+    /// share_core.
+    pub fn clock(&mut self, time: i64) -> Result<u32, NumberFault>
+        ensures { Clocks self.old time result self.new }
+    {
+        self.host.clock(time)
+    }
+
+    /// Takes the bytes of a datagram: `Host::take` of share_core.
+    pub fn take(&mut self, bytes: &[u8]) -> Result<HostReply, HostFault>
+        ensures { HostTakes self.old bytes.now result self.new }
+    {
+        self.host.take(bytes)
+    }
+
+    /// The datagram of the input of this number, if there is one: `Host::packet` of share_core.
+    pub fn packet(&self, number: u32) -> Option<Packet>
+        ensures { option_map (λ p. p.items) result ≡ spec.input_bytes self.now number }
+    {
+        self.host.packet(number)
+    }
+
+    /// The datagram that tells a viewer how many of its offers are numbered, if there is such a
+    /// viewer: `Host::ack` of share_core.
+    pub fn ack(&self, who: u8) -> Option<Packet>
+        ensures { option_map (λ p. p.items) result ≡ spec.ack_bytes self.now who }
+    {
+        if who >= self.host.viewers() {
+            return None;
+        }
+        Some(self.host.ack(who))
+    }
+
+    /// The number from which on there are datagrams of inputs.
+    pub fn floor(&self) -> u32
+        ensures { result ≡ self.now.host.part.floor }
+    {
+        self.host.floor()
+    }
+
+    /// The datagram that tells the floor: `Host::floor_packet` of share_core.
+    pub fn floor_packet(&self) -> Option<Packet>
+        ensures { option_map (λ p. p.items) result ≡ Some (spec.floor_bytes self.now) }
+    {
+        Some(self.host.floor_packet())
+    }
+
+    /// Drops the inputs below this number, and gives it: `Host::drop_below` of share_core.
+    pub fn drop_below(&mut self, floor: u32) -> Result<u32, FloorFault>
+        ensures { Drops self.old floor result self.new }
+    {
+        self.host.drop_below(floor)
+    }
+
+    /// How many inputs are numbered.
+    pub fn count(&self) -> u32
+        ensures { result ≡ self.now.host.part.count }
+    {
+        self.host.len()
+    }
+
+    /// How many viewers there are.
+    pub fn viewers(&self) -> u32
+        ensures { result ≡ length self.now.host.part.kept }
+    {
+        u32::from(self.host.viewers())
+    }
+}

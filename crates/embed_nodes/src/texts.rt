@@ -1,0 +1,84 @@
+//! Texts of a viewer's world.
+
+use crate::viewer::EmbeddedViewer;
+use embed_world::{
+    LookFault, write_changes, write_field, write_label, write_scene, write_snapshot, write_trace,
+    write_type, write_value,
+};
+use snapshot_core::SaveFault;
+
+impl EmbeddedViewer {
+    ghost use Rattle.share_core.specs.Viewer.{stage_in};
+    ghost use Rattle.embed_world.specs.Looks as look;
+    ghost use Rattle.embed_nodes.specs.Viewers.{Makes, Saves};
+
+    /// Makes the lines of the trace that are of inputs from a number on, `<input> <seconds>
+    /// <label>.<field> <value>` each: from 0 on it is the whole trace.
+    pub fn make_trace(&mut self, first: u32) -> Result<(), LookFault>
+        ensures { Makes (look.trace_from (stage_in self.old.viewer) first) self.old result self.new }
+    {
+        self.text.clear();
+        write_trace(self.viewer.stage(), first, &mut self.text)
+    }
+
+    /// Makes the same lines by numbers, `<input> <seconds> <node> <field> <value>` each.
+    pub fn make_changes(&mut self, first: u32) -> Result<(), LookFault>
+        ensures { Makes (look.changes_from (stage_in self.old.viewer) first) self.old result
+            self.new }
+    {
+        self.text.clear();
+        write_changes(self.viewer.stage(), first, &mut self.text)
+    }
+
+    /// Makes the text of the scene as it is now.
+    pub fn make_scene(&mut self) -> Result<(), LookFault>
+        ensures { Makes (look.scene_now (stage_in self.old.viewer)) self.old result self.new }
+    {
+        self.text.clear();
+        write_scene(self.viewer.stage(), &mut self.text)
+    }
+
+    /// Makes the word for a node's type, as `Transform`.
+    pub fn make_type(&mut self, node: u32) -> Result<(), LookFault>
+        ensures { Makes (look.type_in self.old.viewer.scene node) self.old result self.new }
+    {
+        self.text.clear();
+        write_type(self.viewer.stage().scene(), node, &mut self.text)
+    }
+
+    /// Makes the name of a node that no other node has: its DEF name, where it is alone, or else
+    /// `N` and its number.
+    pub fn make_label(&mut self, node: u32) -> Result<(), LookFault>
+        ensures { Makes (look.label_in self.old.viewer.scene node) self.old result self.new }
+    {
+        self.text.clear();
+        write_label(self.viewer.stage().scene(), node, &mut self.text)
+    }
+
+    /// Makes the name of a field, as `translation`.
+    pub fn make_field_name(&mut self, node: u32, field: u16) -> Result<(), LookFault>
+        ensures { Makes (look.field_in self.old.viewer.scene node field) self.old result self.new }
+    {
+        self.text.clear();
+        write_field(self.viewer.stage().scene(), node, field, &mut self.text)
+    }
+
+    /// Makes the text of the value that a field has now, as `0 1.5 0`; a node has none.
+    pub fn make_value(&mut self, node: u32, field: u16) -> Result<(), LookFault>
+        ensures { Makes (look.value_in (stage_in self.old.viewer) node field) self.old result
+            self.new }
+    {
+        self.text.clear();
+        write_value(self.viewer.stage(), node, field, &mut self.text)
+    }
+
+    /// Makes the snapshot of the world, as its boot, in place of the text.
+    pub fn make_snapshot(&mut self) -> Result<(), SaveFault>
+        ensures { Saves self.old result self.new }
+    {
+        self.text.clear();
+        let mark = self.viewer.mark();
+        let boot = self.viewer.boot();
+        write_snapshot(self.viewer.stage(), &mark, boot, &mut self.text)
+    }
+}

@@ -1,0 +1,155 @@
+//! A viewer of a shared world, with what was read of it last.
+
+ghost use Rattle.std.specs.Prelude.{◌≡◌, IsTrue};
+
+use script_boxes::StockScript;
+use share_core::Viewer;
+use share_jobs::JobFault;
+use share_law::{GatherFault, Gathered, JoinFault, OfferFault, TakeFault, Taken};
+use share_stages::stage_of;
+use share_wire::Packet;
+use snapshot_core::{SnapFault, scene_mark};
+use std::alloc::Global;
+use x3d_values::Point;
+
+/// A viewer whose scripts are of the stock, and the text and the numbers that were read of it last.
+#[derive(Drop)]
+pub struct EmbeddedViewer {
+    pub(crate) viewer: Viewer<StockScript>,
+    pub(crate) text: Vec<u8>,
+    pub(crate) numbers: Vec<i64>,
+}
+
+impl EmbeddedViewer {
+    ghost use Rattle.std.specs.Prelude.{◌≡◌, None, Some, IsTrue, length};
+    ghost use Rattle.std.specs.Option.{option_map};
+    ghost use Rattle.x3d_values.specs.Ranges.{is_viewer};
+    ghost use Rattle.scene_core.specs.Scene.{rows_at};
+    ghost use Rattle.share_wire.specs.Messages.{is_ordinal};
+    ghost use Rattle.share_law.specs.Viewer.{applied_in};
+    ghost use Rattle.share_core.specs.Viewer.{machine_of};
+    ghost use Rattle.embed_nodes.specs.Viewers as spec;
+    ghost use Rattle.embed_nodes.specs.Viewers.{Gathers, IsStarted, Joins, Offers, Rewinds, Takes};
+
+    /// The viewer of a scene's text with scripts of the stock, as this boot of viewer number `who`,
+    /// before any input. `is_viewer` and `is_ordinal` are the tests.
+    pub fn start(alloc: Global, text: &[u8], who: u8, boot: u32) -> Result<EmbeddedViewer, JobFault>
+        requires who { IsTrue (is_viewer who) }
+        requires boot { IsTrue (is_ordinal boot) }
+        ensures { IsStarted text.now who boot result }
+    {
+        let stage = stage_of(alloc, text)?;
+        Ok(EmbeddedViewer {
+            viewer: Viewer::start(stage, scene_mark(text), who, boot),
+            text: Vec::new(alloc),
+            numbers: Vec::new(alloc),
+        })
+    }
+
+    /// How many inputs were applied, or had been when memory was refused.
+    pub fn applied(&self) -> u32
+        ensures { result ≡ applied_in (machine_of self.now.viewer) self.now.viewer.state.view }
+    {
+        self.viewer.applied()
+    }
+
+    /// Its boot.
+    pub fn boot(&self) -> u32
+        ensures { result ≡ self.now.viewer.state.boot }
+    {
+        self.viewer.boot()
+    }
+
+    /// How many offers wait.
+    pub fn waiting(&self) -> u32
+        ensures { result ≡ length self.now.viewer.state.waiting }
+    {
+        self.viewer.waiting()
+    }
+
+    /// Takes the bytes of a datagram: `Viewer::take` of share_core.
+    pub fn take(&mut self, bytes: &[u8]) -> Result<Taken, TakeFault>
+        ensures { Takes self.old bytes.now result self.new }
+    {
+        self.viewer.take(bytes)
+    }
+
+    /// Offers a point, and gives the offer's number: `Viewer::offer` of share_core.
+    pub fn offer(&mut self, point: Point) -> Result<u32, OfferFault>
+        ensures { Offers self.old point result self.new }
+    {
+        self.viewer.offer(point)
+    }
+
+    /// The datagram of the waiting offer at a place from 0, if there is one: `Viewer::resend` of
+    /// share_core.
+    pub fn resend(&self, place: u32) -> Option<Packet>
+        ensures { option_map (λ p. p.items) result ≡ spec.offer_bytes self.now place }
+    {
+        self.viewer.resend(place)
+    }
+
+    /// The datagram that asks for the inputs that it lacks: `Viewer::ask` of share_core.
+    pub fn ask(&self) -> Option<Packet>
+        ensures { option_map (λ p. p.items) result ≡ Some (spec.ask_bytes self.now) }
+    {
+        Some(self.viewer.ask())
+    }
+
+    /// Begins again in the world of a snapshot, as another boot: `Viewer::rewind` of share_core.
+    pub fn rewind(&mut self, boot: u32, bytes: &[u8]) -> Result<u32, SnapFault>
+        ensures { Rewinds self.old boot bytes.now result self.new }
+    {
+        self.viewer.rewind(bytes, boot)
+    }
+
+    /// Gathers the bytes of a datagram, a piece of a snapshot: `Viewer::gather` of share_core.
+    pub fn gather(&mut self, bytes: &[u8]) -> Result<Gathered, GatherFault>
+        ensures { Gathers self.old bytes.now result self.new }
+    {
+        self.viewer.gather(bytes)
+    }
+
+    /// Begins again in the world of the snapshot that was gathered, as another boot: `Viewer::join`
+    /// of share_core.
+    pub fn join(&mut self, boot: u32) -> Result<u32, JoinFault>
+        ensures { Joins self.old boot result self.new }
+    {
+        self.viewer.join(boot)
+    }
+
+    /// Lets go what was gathered.
+    pub fn forget(&mut self)
+        ensures { self.new ≡ spec.forgetting self.old }
+    {
+        self.viewer.forget();
+    }
+
+    /// How many nodes the scene has, which are numbered from 0.
+    pub fn node_count(&self) -> usize
+        ensures { result ≡ length self.now.viewer.scene.nodes }
+    {
+        self.viewer.stage().scene().node_count()
+    }
+
+    /// How many fields a node has, which are numbered from 0; 0 where there is no such node.
+    pub fn field_count(&self, node: u32) -> u32
+        ensures { result ≡ length (rows_at self.now.viewer.scene node) }
+    {
+        self.viewer.stage().scene().field_count(node)
+    }
+
+    /// The text that was made last.
+    pub fn text(&self) -> &[u8]
+        ensures { result.now ≡ self.now.text.items }
+    {
+        self.text.as_slice()
+    }
+
+    /// The numbers that were listed last.
+    pub fn numbers(&self) -> &[i64]
+        ensures { result.now ≡ self.now.numbers.items }
+    {
+        self.numbers.as_slice()
+    }
+}

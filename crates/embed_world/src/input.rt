@@ -1,0 +1,59 @@
+//! Inputs of a world.
+
+ghost use Rattle.std.specs.Prelude.{◌≡◌};
+ghost use Rattle.embed_world.specs.Pointing as spec;
+
+use crate::world::EmbeddedWorld;
+use cascade_answers::{ApplyFault, Work};
+use x3d_values::{Event, Pointer, Ray, Stamped, Vec3, is_input_number, is_input_time, is_viewer};
+
+/// The ray with this origin and this direction: coordinates of a size up to 10^15 millionths, and a
+/// direction other than 0 0 0.
+pub fn ray_of(origin: Vec3, dir: Vec3) -> Option<Ray>
+    ensures { result ≡ spec.ray_of origin dir }
+{
+    if !origin.fits() {
+        return None;
+    }
+    if !dir.fits() || dir.is_zero() {
+        return None;
+    }
+    Some(Ray::new(origin, dir))
+}
+
+/// The pointer of a viewer, 0 to 15, with such a ray.
+pub fn pointer_of(who: u8, down: bool, origin: Vec3, dir: Vec3) -> Option<Pointer>
+    ensures { result ≡ spec.pointer_of who down (spec.ray_of origin dir) }
+{
+    let Some(ray) = ray_of(origin, dir) else {
+        return None;
+    };
+    if !is_viewer(who) {
+        return None;
+    }
+    Some(Pointer::new(who, down, ray))
+}
+
+/// The input of a number from 1 to 2^20, at a time of 1 to 10^18 microseconds.
+pub fn stamped(number: u32, time: i64, event: Event) -> Option<Stamped>
+    ensures { result ≡ spec.stamped number time event }
+{
+    if !is_input_number(number) {
+        return None;
+    }
+    if !is_input_time(time) {
+        return None;
+    }
+    Some(Stamped::new(number, time, event))
+}
+
+impl EmbeddedWorld {
+    ghost use Rattle.embed_world.specs.Calls.{Applies};
+
+    /// Applies the next input: `Stage::apply` of cascade_core.
+    pub fn apply(&mut self, input: &Stamped) -> Result<Work, ApplyFault>
+        ensures { Applies self.old input.now result self.new }
+    {
+        self.stage.apply(input)
+    }
+}

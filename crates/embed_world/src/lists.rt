@@ -1,0 +1,140 @@
+//! Numbers of a world.
+
+ghost use Rattle.std.specs.Prelude.{◌≡◌, [], OnErr};
+ghost use Rattle.x3d_lists.specs.Answers.{Gives};
+ghost use Rattle.embed_world.specs.Looks as spec;
+ghost use Rattle.embed_world.specs.declared.fault.LookFault.TheVariants.{Memory};
+
+use crate::fault::LookFault;
+use crate::world::EmbeddedWorld;
+use cascade_core::Stage;
+use embed_reading::{met_by, push_nodes, push_numbers, value_now};
+use scene_core::Scene;
+use script_boxes::StockScript;
+use x3d_values::Ray;
+
+/// Where a ray enters a box: at `n / m` of the way along its direction; m is above 0.
+#[derive(Clone, Copy)]
+pub struct Entry {
+    pub n: u64,
+    pub m: u64,
+}
+
+/// Writes the roots, to an empty list.
+pub fn write_roots(scene: &Scene, out: &mut Vec<i64>) -> Result<(), LookFault>
+    requires empty { out.old.items ≡ [] }
+    ensures is { Gives Memory (λ _. out.new.items) result (spec.roots_in scene.now) }
+    ensures err { OnErr result (out.new.items ≡ []) }
+{
+    let Ok(()) = push_nodes(scene.roots(), out) else {
+        out.clear();
+        return Err(LookFault::Memory);
+    };
+    Ok(())
+}
+
+/// Writes the list `children` of a node, to an empty list.
+pub fn write_children(scene: &Scene, node: u32, out: &mut Vec<i64>) -> Result<(), LookFault>
+    requires empty { out.old.items ≡ [] }
+    ensures is { Gives Memory (λ _. out.new.items) result (spec.children_in scene.now node) }
+    ensures err { OnErr result (out.new.items ≡ []) }
+{
+    let Some(_node_type) = scene.type_at(node) else {
+        return Err(LookFault::NoSuchNode);
+    };
+    let Ok(()) = push_nodes(scene.children(node), out) else {
+        out.clear();
+        return Err(LookFault::Memory);
+    };
+    Ok(())
+}
+
+/// Writes the numbers of the value that a field has now, to an empty list.
+pub fn write_numbers(
+    stage: &Stage<StockScript>,
+    node: u32,
+    field: u16,
+    out: &mut Vec<i64>,
+) -> Result<(), LookFault>
+    requires empty { out.old.items ≡ [] }
+    ensures is { Gives Memory (λ _. out.new.items) result (spec.numbers_in stage.now node field) }
+    ensures err { OnErr result (out.new.items ≡ []) }
+{
+    let Some(world) = stage.world() else {
+        return Err(LookFault::Spoiled);
+    };
+    let Some(value) = value_now(stage.scene(), world.fields.as_slice(), node, field) else {
+        return Err(LookFault::NoSuchField);
+    };
+    let Ok(()) = push_numbers(value, out) else {
+        out.clear();
+        return Err(LookFault::Memory);
+    };
+    Ok(())
+}
+
+/// Writes the sensors that concern what a ray meets, to an empty list, and tells where that is.
+pub fn write_sensors(
+    stage: &Stage<StockScript>,
+    ray: Ray,
+    out: &mut Vec<i64>,
+) -> Result<Option<Entry>, LookFault>
+    requires empty { out.old.items ≡ [] }
+    ensures is { Gives Memory (λ met. (met, out.new.items)) result (spec.meeting_in stage.now ray) }
+    ensures err { OnErr result (out.new.items ≡ []) }
+{
+    let Some(world) = stage.world() else {
+        return Err(LookFault::Spoiled);
+    };
+    let Some(met) = met_by(stage.scene(), world.fields.as_slice(), ray) else {
+        return Ok(None);
+    };
+    let Ok(()) = push_nodes(met.sensors.as_slice(), out) else {
+        out.clear();
+        return Err(LookFault::Memory);
+    };
+    Ok(Some(Entry {
+        n: met.hit.n,
+        m: met.hit.m,
+    }))
+}
+
+impl EmbeddedWorld {
+    ghost use Rattle.embed_world.specs.Calls.{Lists, Meets};
+    ghost use Rattle.embed_world.specs.Looks as spec;
+
+    /// Lists the roots of the scene by their numbers.
+    pub fn list_roots(&mut self) -> Result<(), LookFault>
+        ensures { Lists (spec.roots_in self.old.stage.scene) self.old result self.new }
+    {
+        self.numbers.clear();
+        write_roots(self.stage.scene(), &mut self.numbers)
+    }
+
+    /// Lists the nodes in the field `children` of a node; none where it has no such field.
+    pub fn list_children(&mut self, node: u32) -> Result<(), LookFault>
+        ensures { Lists (spec.children_in self.old.stage.scene node) self.old result self.new }
+    {
+        self.numbers.clear();
+        write_children(self.stage.scene(), node, &mut self.numbers)
+    }
+
+    /// Lists the numbers of the value that a field has now: truths as 1 and 0, integers, millionths
+    /// and microseconds as they are, vectors and colors part by part, nodes as their numbers; a
+    /// text has none.
+    pub fn list_value(&mut self, node: u32, field: u16) -> Result<(), LookFault>
+        ensures { Lists (spec.numbers_in self.old.stage node field) self.old result self.new }
+    {
+        self.numbers.clear();
+        write_numbers(&self.stage, node, field, &mut self.numbers)
+    }
+
+    /// Tells where a ray would enter the box that it hits first, if it hits one, and lists the
+    /// sensors that this concerns: the enabled TouchSensors beside it, or else above it.
+    pub fn list_sensors(&mut self, ray: Ray) -> Result<Option<Entry>, LookFault>
+        ensures { Meets (spec.meeting_in self.old.stage ray) self.old result self.new }
+    {
+        self.numbers.clear();
+        write_sensors(&self.stage, ray, &mut self.numbers)
+    }
+}

@@ -1,0 +1,25 @@
+//! A world of a scene's text.
+
+use crate::world::EmbeddedWorld;
+use share_jobs::JobFault;
+use share_stages::stage_of;
+use snapshot_core::scene_mark;
+use std::alloc::Global;
+
+impl EmbeddedWorld {
+    ghost use Rattle.std.specs.Prelude.{◌≡◌};
+    ghost use Rattle.embed_world.specs.Calls.{IsOpened};
+
+    /// The world of a scene's text before any input, with scripts of the stock.
+    pub fn open(alloc: Global, text: &[u8]) -> Result<EmbeddedWorld, JobFault>
+        ensures { IsOpened text.now result }
+    {
+        let stage = stage_of(alloc, text)?;
+        Ok(EmbeddedWorld {
+            stage,
+            mark: scene_mark(text),
+            text: Vec::new(alloc),
+            numbers: Vec::new(alloc),
+        })
+    }
+}

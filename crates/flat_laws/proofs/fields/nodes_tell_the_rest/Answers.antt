@@ -1,5 +1,0 @@
-use Rattle.flat_laws.proofs.FieldsFilled.{nodes_tell_the_rest}
-use Rattle.flat_laws.proofs.fields.nodes_tell_the_rest.Goals as goal
-
-pub returns : goal.returns
-returns c = nodes_tell_the_rest

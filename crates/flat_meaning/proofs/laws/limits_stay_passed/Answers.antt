@@ -1,5 +1,0 @@
-use Rattle.flat_meaning.proofs.LimitLaws.{limits_stay_passed}
-use Rattle.flat_meaning.proofs.laws.limits_stay_passed.Goals as goal
-
-pub returns : goal.returns
-returns c = limits_stay_passed

@@ -1,0 +1,18 @@
+-- A Switch has room above the helpers of a scene that was written and read again (the limit on
+-- chains of nodes is our choice).
+use Rattle.std.specs.Prelude.{◌≡◌, true, List, Ok}
+use Rattle.x3d_values.specs.declared.fields.Fields.{Fields}
+use Rattle.proto_flat.specs.declared.flat.Flat.{Flat}
+use Rattle.scene_core.specs.declared.scene.Route.{Route}
+use Rattle.scene_core.specs.Building.{scene_of}
+use Rattle.scene_core.specs.Scene.{SceneView}
+use Rattle.laws_text.specs.Written.{has_room}
+use Rattle.laws_again.specs.Again.{IsWrittenOf}
+
+-- no chain from a helper is as long as a chain may be, where the scene that is read again, in which
+-- the helpers stand one node deeper, exists
+abbrev pub ScenesAgainHaveRoom : Type 0
+ScenesAgainHaveRoom =
+    (again : Flat) (scene : SceneView) (routes : List Route) (state : List Fields)
+    (next : SceneView) → scene_of again ≡ Ok next → IsWrittenOf scene routes state next
+    → has_room scene ≡ true

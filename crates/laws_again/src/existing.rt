@@ -1,0 +1,26 @@
+//! Laws of scenes that were written and read again, each the contract of a function that does
+//! nothing.
+
+ghost use Rattle.laws_again.specs.Exist.{OpeningsAreInRange, WrittenScenesExist};
+
+use laws_text::{fields_are_left_out, values_are_typed};
+use laws_written::{written_fields_stay, written_nodes_close, written_nodes_stay};
+use x3d_values::table_law;
+
+/// Of the flat form of a written scene, where there is one, there is a scene, or it is beyond a
+/// limit of size.
+pub fn written_scenes_exist()
+    ensures { WrittenScenesExist }
+{
+    table_law();
+    values_are_typed();
+    fields_are_left_out();
+    written_nodes_close();
+    written_nodes_stay();
+    written_fields_stay();
+}
+
+/// What the nodes of a document's scene keep before any event is in the range of its field.
+pub fn openings_are_in_range()
+    ensures { OpeningsAreInRange }
+{}

@@ -1,0 +1,48 @@
+//! Laws of scenes that were written and read again, each the contract of a function that does
+//! nothing.
+
+ghost use Rattle.laws_again.specs.Again.{WrittenScenesAreAgain};
+ghost use Rattle.laws_again.specs.Begins.{KeptAgain};
+ghost use Rattle.laws_again.specs.Room.{ScenesAgainHaveRoom};
+ghost use Rattle.laws_again.specs.Sound.{DocumentScenesAreSound, OpeningsAreOfType};
+
+use laws_text::{fields_are_left_out, headers_are_kept, labels_are_distinct, values_are_typed};
+use laws_written::{written_fields_stay, written_nodes_close, written_nodes_stay};
+use x3d_values::table_law;
+
+/// The scene of the flat form of a written scene, where there is one, is the scene.
+pub fn written_scenes_are_again()
+    ensures { WrittenScenesAreAgain }
+{
+    table_law();
+    headers_are_kept();
+    labels_are_distinct();
+    values_are_typed();
+    fields_are_left_out();
+    written_nodes_close();
+    written_nodes_stay();
+    written_fields_stay();
+}
+
+/// What the scene of a document gives its fields is sound, where the document's names are names and
+/// its texts UTF-8.
+pub fn document_scenes_are_sound()
+    ensures { DocumentScenesAreSound }
+{}
+
+/// What the nodes of a document's scene keep before any event is of their fields' types.
+pub fn openings_are_of_type()
+    ensures { OpeningsAreOfType }
+{
+    table_law();
+}
+
+/// Each value that nodes kept when a scene was written they keep again, before any event.
+pub fn values_are_kept_again()
+    ensures { KeptAgain }
+{}
+
+/// Where the scene of what is written of a scene exists, a Switch has room above the helpers.
+pub fn scenes_again_have_room()
+    ensures { ScenesAgainHaveRoom }
+{}

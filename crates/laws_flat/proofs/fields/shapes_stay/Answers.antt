@@ -1,0 +1,5 @@
+use Rattle.laws_flat.proofs.ShapeTrees.{shapes_stay}
+use Rattle.laws_flat.proofs.fields.shapes_stay.Goals as goal
+
+pub returns : goal.returns
+returns c = shapes_stay

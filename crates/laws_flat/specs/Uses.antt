@@ -1,0 +1,91 @@
+-- Which node a USE gives in a document without instances (ISO/IEC 19775-1, DEF and USE): the
+-- nearest DEF before it of that name whose braces are closed.
+use Rattle.std.specs.Prelude.{◌≡◌, ℕ, Bool, false, if◌then◌else◌, List, [], ◌∷◌, ◌++◌, length, map, Option, Some, None, Ok, slice_set}
+use Rattle.std.specs.List.{AllByRecursion, flat_map, fold}
+use Rattle.std.specs.Option.{option_or}
+use Rattle.std.specs.Str.{bytes_eq}
+use Rattle.classic_tree.specs.declared.tree.Document.{Document}
+use Rattle.proto_flat.specs.declared.flat.Flat.{Flat}
+use Rattle.proto_flat.specs.declared.flat.FlatNode.{FlatNode}
+use Rattle.proto_walk.specs.Whole.{flat}
+use Rattle.laws_flat.specs.Closings.{IsOfNode, closings}
+use Rattle.laws_flat.specs.Order.{nodes_in}
+use Rattle.laws_flat.specs.Readings.{Step, Steps, read_document, same}
+
+-- braces that opened: the name that DEF gives, and the number of the node once they are closed
+pub record Opened : Type 0 where
+  pub name : Option (List ℕ)
+  pub node : Option ℕ
+
+-- a text up to some place: all braces that opened, in that order; of each node whose braces are
+-- closed, in the order in which they close, the nodes that stand between them; and the nodes that
+-- stand so far between the braces that are open, or as statements. A node stands there as its
+-- number, and a USE as that of the node it names, None where it names none
+pub record Reading : Type 0 where
+  pub opened : List Opened
+  pub closed : List (List (Option ℕ))
+  pub here : List (Option ℕ)
+
+abbrev pub nothing_read : Reading
+nothing_read = record { opened = []; closed = []; here = [] }
+
+-- ---- names
+
+abbrev pub has_name : List ℕ → Option (List ℕ) → Bool
+has_name name None = false
+has_name name (Some given) = bytes_eq given name
+
+abbrev pub named_next : List ℕ → Option ℕ → Opened → Option ℕ
+named_next name before o = if has_name name o.name then option_or o.node before else before
+
+-- the last of that name whose braces are closed
+abbrev pub named : List ℕ → List Opened → Option ℕ
+named name opened = fold (named_next name) None opened
+
+-- ---- what a part of the text does
+
+abbrev pub stands : Option ℕ → Step Reading
+stands what r = record r { here = r.here ++ what ∷ [] }
+
+abbrev pub opens : Option (List ℕ) → Step Reading
+opens name r =
+    record r { opened = r.opened ++ record { name = name; node = None } ∷ []; here = [] }
+
+-- the braces that opened behind what was read before close: their node has the next number
+abbrev pub closes : Option (List ℕ) → Reading → Step Reading
+closes name before r =
+    record {
+      opened = slice_set r.opened (length before.opened)
+          (record { name = name; node = Some (length r.closed) });
+      closed = r.closed ++ r.here ∷ [];
+      here = before.here ++ Some (length r.closed) ∷ [];
+    }
+
+-- a USE stands as the node that it names, and a ROUTE changes nothing
+abbrev pub steps : Steps Reading
+steps =
+    record {
+      uses = λ name r. stands (named name r.opened) r;
+      routes = λ route. same;
+      opens = opens;
+      closes = closes;
+    }
+
+abbrev pub read : Document → Reading
+read document = read_document steps document nothing_read
+
+-- ---- the law
+
+abbrev pub some : ℕ → Option ℕ
+some node = Some node
+
+-- the nodes in the fields of a node
+abbrev pub held : FlatNode → List (Option ℕ)
+held node = map some (flat_map (λ field. nodes_in field.value) node.fields)
+
+-- in the flat form of a document without instances stand those nodes that are read, each in its
+-- place: between its braces, where each USE is the node that it names, and as roots
+abbrev pub UsesAreNamed : Type 0
+UsesAreNamed =
+    (d : Document) (f : Flat) → AllByRecursion IsOfNode (closings d) → flat d ≡ Ok f
+    → (map held f.nodes ≡ (read d).closed) × (map some f.roots ≡ (read d).here)

@@ -1,0 +1,4 @@
+pub mod Untaken
+pub mod Renamed
+pub mod Plain
+pub mod InPlace

@@ -1,0 +1,260 @@
+-- What each event, each answer and each call of a script keep, all inputs and openings keep.
+use Rattle.std.proofs.Common.{◌≡◌, ℕ, zero, suc, ◌+◌, ℤ, Bool, true, false, if◌then◌else◌, List, [], ◌∷◌, ◌++◌, length, Option, Some, None, slice_get, refl, subst}
+use Rattle.std.specs.List.{AllByRecursion, filter, range_with_len}
+use Rattle.x3d_values.specs.declared.fields.Fields.{Fields}
+use Rattle.x3d_values.specs.declared.node_type.NodeType.{NodeType}
+use Rattle.x3d_values.specs.declared.node_type.NodeType.TheVariants.{TimeSensor, TouchSensor}
+use Rattle.x3d_values.specs.declared.stamped.Event.{Event}
+use Rattle.x3d_values.specs.declared.stamped.Event.TheVariants.{Clock, Pointer}
+use Rattle.x3d_values.specs.declared.value.Value.{Value}
+use Rattle.x3d_values.specs.Pointing.{Pointing}
+use Rattle.x3d_values.specs.Stamp.{Stamp}
+use Rattle.react_core.specs.declared.outbox.Reply.{Reply}
+use Rattle.scene_core.specs.declared.scene.End.{End}
+use Rattle.scene_core.specs.declared.scene.Route.{Route}
+use Rattle.scene_core.specs.Scene.{SceneView, shapes_of, types_of}
+use Rattle.script_host.specs.Behaviour.{Call, Initialize, Settle}
+use Rattle.script_host.specs.Hosting.{ScriptRecord}
+use Rattle.script_turn.specs.Acting.{Acted, act}
+use Rattle.script_due.specs.Settling.{with_settled}
+use Rattle.laws_worlds.specs.Calls.{call_fits}
+use Rattle.cascade_world.specs.Answers.{Answer, answer, met, ticked, with_answer}
+use Rattle.cascade_core.specs.Apply.{Sending, Started, after_input, begin, begun, happen, opening, opening_course, point, point_node, sent_by_all, start_one, started, tick_node, untold, with_button}
+use Rattle.cascade_core.specs.Cascade.{Arrival, arrival, deliver, reached, reached_by, recorded, send, send_all, send_replies}
+use Rattle.cascade_core.specs.Course.{Course, Plan, Scripted, ended, node_of, plan_of, ports_of, with_turn}
+use Rattle.cascade_trace.specs.Ends.{has_sent, targets_of}
+use Rattle.cascade_world.specs.Nodes.{clocks_of, is_of, numbers_of, touch_sensors_of}
+use Rattle.cascade_core.specs.Outputs.{outputs_of}
+use Rattle.cascade_world.specs.Pointer.{concerned, insides, is_down, is_pressed, or_all, place_in}
+use Rattle.cascade_core.specs.Scripts.{kinds_in, running, scripts_in}
+use Rattle.cascade_core.specs.Settles.{next_due, settle, settle_one, settle_up_to}
+use Rattle.cascade_world.specs.World.{record_event}
+use Rattle.cascade_world.specs.declared.world.Turn.{Turn}
+use Rattle.cascade_world.specs.declared.world.WorldData.{WorldData}
+use Rattle.cascade_core.proofs.Folds.{all_free, fold-keeps}
+use Rattle.laws_worlds.proofs.Casts.{Arrives, arrives}
+
+-- ---- what is kept
+
+-- each of these leaves by a field of the node as Q allows
+abbrev pub AllSent : (End → Value → Type 0) → ℕ → List Reply → Type 0
+AllSent Q node replies = AllByRecursion (λ (r : Reply). Q (record { node = node; field = r.field }) r.value) replies
+
+-- the turn after a node has answered, and what the node sends
+abbrev pub AnswerKeeps : (Turn → Type 0) → (End → Value → Type 0) → ℕ → Turn → Answer → Type 0
+AnswerKeeps T Q node turn a = T (with_answer turn a) × AllSent Q node a.replies
+
+-- the scripts after a call, and what the node of the script sends
+abbrev pub ActKeeps : (List ScriptRecord → Type 0) → (End → Value → Type 0) → ℕ → Acted → Type 0
+ActKeeps S Q node a = S a.scripts × AllSent Q node a.replies
+
+-- each script of that number takes the call
+abbrev pub Takes : List ScriptRecord → ℕ → Call → Type 0
+Takes scripts k call = (r : ScriptRecord) → slice_get scripts k ≡ Some r → call_fits r.kind call ≡ true
+
+-- T holds of turns, and S of scripts, while events leave as Q allows, and come as R allows
+pub record Rules (scene : SceneView) (routes : List Route) (T : Turn → Type 0) (S : List ScriptRecord → Type 0) (Q R : End → Value → Type 0) : Type 0 where
+  pub comes : (source : End) (v : Value) → Q source v → AllByRecursion (λ (target : End). R target v) (targets_of routes source)
+  pub records : (turn : Turn) (source : End) (v : Value) → has_sent turn.sent source ≡ false → Q source v → T turn → T (record_event turn source v)
+  pub answers : (turn : Turn) (target : End) (v : Value) → R target v → T turn → AnswerKeeps T Q target.node turn (answer (shapes_of scene) turn.world target v)
+  pub calls : (scripts : List ScriptRecord) (k : ℕ) (call : Call) → Takes scripts k call → S scripts
+      → ActKeeps S Q (node_of (plan_of scene routes) k) (act (ports_of (plan_of scene routes) k) call k scripts)
+
+-- both hold of a course
+pub record Holds (T : Turn → Type 0) (S : List ScriptRecord → Type 0) (c : Course) : Type 0 where
+  pub turn : T c.turn
+  pub scripts : S c.scripts
+
+-- where the clock ticks, and where a viewer points
+abbrev pub TickKeeps : SceneView → (Turn → Type 0) → (End → Value → Type 0) → ℤ → Type 0
+TickKeeps scene T Q now =
+    (turn : Turn) (node : ℕ) → is_of TimeSensor (types_of scene) node ≡ true → T turn → AnswerKeeps T Q node turn (ticked turn.world node now)
+
+abbrev pub PointKeeps : SceneView → (Turn → Type 0) → (End → Value → Type 0) → Pointing → Type 0
+PointKeeps scene T Q p =
+    (fields : List Fields) (before : Bool) (turn : Turn) (node : ℕ) → is_of TouchSensor (types_of scene) node ≡ true → T turn
+    → AnswerKeeps T Q node turn (met scene turn.world node p before (place_in (insides scene fields p.ray) node))
+
+abbrev pub EventKeeps : SceneView → (Turn → Type 0) → (End → Value → Type 0) → ℤ → Event → Type 0
+EventKeeps scene T Q now Clock = TickKeeps scene T Q now
+EventKeeps scene T Q now (Pointer p) = ((turn : Turn) → T turn → T (with_button turn p)) × PointKeeps scene T Q p
+
+-- ---- the sensors
+
+passing : (p : ℕ → Bool) (xs : List ℕ) → AllByRecursion (λ n. p n ≡ true) (filter p xs)
+passing p [] = tt
+passing p (x ∷ xs) = by (p x) refl (passing p xs)
+  where
+    by : (b : Bool) → p x ≡ b → AllByRecursion (λ n. p n ≡ true) (filter p xs) → AllByRecursion (λ n. p n ≡ true) (if b then x ∷ filter p xs else filter p xs)
+    by true e h = (e, h)
+    by false e h = h
+
+still_all : (P : ℕ → Type 0) (p : ℕ → Bool) (xs : List ℕ) → AllByRecursion P xs → AllByRecursion P (filter p xs)
+still_all P p [] a = tt
+still_all P p (x ∷ xs) a = by (p x) (still_all P p xs a.1)
+  where
+    by : (b : Bool) → AllByRecursion P (filter p xs) → AllByRecursion P (if b then x ∷ filter p xs else filter p xs)
+    by true h = (a.0, h)
+    by false h = h
+
+either_all : (P : ℕ → Type 0) (some all : List ℕ) → AllByRecursion P some → AllByRecursion P all → AllByRecursion P (or_all some all)
+either_all P [] all a b = b
+either_all P (x ∷ some) all a b = a
+
+all_of : (wanted : NodeType) (types : List NodeType) → AllByRecursion (λ n. is_of wanted types n ≡ true) (numbers_of wanted types)
+unfolding numbers_of
+all_of wanted types = passing (is_of wanted types) (range_with_len 0 (length types))
+
+all_concerned : (types : List NodeType) (w : WorldData) (who : ℕ) → AllByRecursion (λ n. is_of TouchSensor types n ≡ true) (concerned types w who)
+unfolding concerned
+all_concerned types w who =
+    either_all (λ n. is_of TouchSensor types n ≡ true) (filter (is_pressed w who) (touch_sensors_of types)) (touch_sensors_of types)
+    (still_all (λ n. is_of TouchSensor types n ≡ true) (is_pressed w who) (touch_sensors_of types) (all_of TouchSensor types)) (all_of TouchSensor types)
+
+all_push : {X : Type 0} (P : X → Type 0) (xs : List X) (x : X) → AllByRecursion P xs → P x → AllByRecursion P (xs ++ x ∷ [])
+all_push P [] x a p = (p, tt)
+all_push P (y ∷ xs) x a p = (a.0, all_push P xs x a.1 p)
+
+-- the course of input 0
+abbrev pub first_course : SceneView → List Route → Course
+first_course scene routes =
+    let s = started (plan_of scene routes) (scripts_in scene) in
+    settle (plan_of scene routes) (sent_by_all (plan_of scene routes) (opening_course scene s.scripts) s.sendings)
+
+module _ (scene : SceneView) (routes : List Route) (T : Turn → Type 0) (S : List ScriptRecord → Type 0) (Q R : End → Value → Type 0) (rules : Rules scene routes T S Q R) where
+  abbrev plan : Plan
+  plan = plan_of scene routes
+
+  abbrev P : Course → Type 0
+  P c = Holds T S c
+
+  abbrev Goes : (Course → End → Value → Course) → Type 0
+  Goes go = (c : Course) (source : End) (v : Value) → Q source v → P c → P (go c source v)
+
+  -- ---- a cascade
+
+  all_sent : (go : Course → End → Value → Course) → Goes go → (node : ℕ) (c : Course) (replies : List Reply) → AllSent Q node replies → P c → P (send_all go node c replies)
+  all_sent go keeps node c replies a p =
+      fold-keeps P (λ (r : Reply). Q (record { node = node; field = r.field }) r.value) (λ (t : Course) (r : Reply). go t (record { node = node; field = r.field }) r.value)
+      (λ t r q k. keeps t (record { node = node; field = r.field }) r.value q k) c replies a p
+
+  abbrev Reaches : Course → End → Value → Option Arrival → Type 0
+  Reaches c target v at = P (reached_by plan c target v at).course × AllSent Q target.node (reached_by plan c target v at).replies
+
+  reaches : (c : Course) (target : End) (v : Value) → R target v → P c → (at : Option Arrival) → arrival plan c target v ≡ at → Reaches c target v at
+  reaches c target v come p None h =
+      let g = rules.answers c.turn target v come p.turn in
+      (record { turn = g.0; scripts = p.scripts }, g.1)
+  reaches c target v come p (Some at) h =
+      let a : Arrives plan c.scripts target at = arrives plan c target v at h in
+      let g = rules.calls c.scripts at.number at.call a.fits p.scripts in
+      (record { turn = p.turn; scripts = g.0 }, subst (λ (n : ℕ). AllSent Q n (act (ports_of plan at.number) at.call at.number c.scripts).replies) a.node g.1)
+
+  delivers : (go : Course → End → Value → Course) → Goes go → (v : Value) (c : Course) (target : End) → R target v → P c → P (deliver go plan v c target)
+  unfolding deliver reached
+  delivers go keeps v c target come p =
+      let at : Option Arrival = arrival plan c target v in
+      let g = reaches c target v come p at refl in
+      all_sent go keeps target.node (reached_by plan c target v at).course (reached_by plan c target v at).replies g.1 g.0
+
+  deeper : (depth : ℕ) → Goes (send plan depth) → (c : Course) (source : End) (v : Value) → Q source v → P c → (b : Bool) → has_sent c.turn.sent source ≡ b → P (send plan (suc depth) c source v)
+  unfolding send
+  deeper depth keeps c source v q p true e = rw e p
+  deeper depth keeps c source v q p false e =
+      rw e (fold-keeps P (λ (target : End). R target v) (deliver (send plan depth) plan v) (λ d target come k. delivers (send plan depth) keeps v d target come k)
+      (recorded c source v) (targets_of routes source) (rules.comes source v q) (record { turn = rules.records c.turn source v e q p.turn; scripts = p.scripts }))
+
+  sends : (depth : ℕ) → Goes (send plan depth)
+  unfolding send
+  sends zero c source v q p = p
+  sends (suc depth) c source v q p = deeper depth (sends depth) c source v q p (has_sent c.turn.sent source) refl
+
+  replies_keep : (node : ℕ) (c : Course) (replies : List Reply) → AllSent Q node replies → P c → P (send_replies plan node c replies)
+  replies_keep node c replies a p = all_sent (send plan (outputs_of (shapes_of scene) + 1)) (sends (outputs_of (shapes_of scene) + 1)) node c replies a p
+
+  -- ---- an input
+
+  answered_keeps : (node : ℕ) (c : Course) (a : Answer) → AnswerKeeps T Q node c.turn a → P c → P (send_replies plan node (with_turn c (with_answer c.turn a)) a.replies)
+  answered_keeps node c a g p = replies_keep node (with_turn c (with_answer c.turn a)) a.replies g.1 (record { turn = g.0; scripts = p.scripts })
+
+  ticks : (now : ℤ) → TickKeeps scene T Q now → (c : Course) (node : ℕ) → is_of TimeSensor (types_of scene) node ≡ true → P c → P (tick_node plan now c node)
+  unfolding tick_node
+  ticks now keeps c node is p = answered_keeps node c (ticked c.turn.world node now) (keeps c.turn node is p.turn) p
+
+  touches : (p : Pointing) → PointKeeps scene T Q p → (fields : List Fields) (before : Bool) (c : Course) (node : ℕ) → is_of TouchSensor (types_of scene) node ≡ true → P c
+      → P (point_node scene plan p before (insides scene fields p.ray) c node)
+  unfolding point_node
+  touches p keeps fields before c node is k =
+      answered_keeps node c (met scene c.turn.world node p before (place_in (insides scene fields p.ray) node)) (keeps fields before c.turn node is k.turn) k
+
+  points : (p : Pointing) → ((turn : Turn) → T turn → T (with_button turn p)) → PointKeeps scene T Q p → (c : Course) → P c → P (point scene plan c p)
+  unfolding point
+  points p buttons keeps c k =
+      let before : Bool = is_down c.turn.world p.who in
+      fold-keeps P (λ (n : ℕ). is_of TouchSensor (types_of scene) n ≡ true) (point_node scene plan p before (insides scene c.turn.world.fields p.ray))
+      (λ d n is h. touches p keeps c.turn.world.fields before d n is h) (with_turn c (with_button c.turn p)) (concerned (types_of scene) c.turn.world p.who)
+      (all_concerned (types_of scene) c.turn.world p.who) (record { turn = buttons c.turn k.turn; scripts = k.scripts })
+
+  happens : (now : ℤ) (event : Event) → EventKeeps scene T Q now event → (c : Course) → P c → P (happen scene plan now c event)
+  happens now Clock keeps c p =
+      fold-keeps P (λ (n : ℕ). is_of TimeSensor (types_of scene) n ≡ true) (tick_node plan now) (λ d n is h. ticks now keeps d n is h) c (clocks_of (types_of scene)) (all_of TimeSensor (types_of scene)) p
+  happens now (Pointer p) keeps c k = points p keeps.0 keeps.1 c k
+
+  -- ---- scripts settle
+
+  settles_one : (c : Course) (k : ℕ) → P c → P (settle_one plan c k)
+  unfolding settle_one
+  settles_one c k p =
+      let a : Acted = act (ports_of plan k) Settle k c.scripts in
+      let g = rules.calls c.scripts k Settle (λ r h. refl) p.scripts in
+      replies_keep (node_of plan k) (record c { scripts = a.scripts; settling = with_settled c.settling k }) a.replies g.1 (record { turn = p.turn; scripts = g.0 })
+
+  settles_by : (n : ℕ) → ((c : Course) → P c → P (settle_up_to plan n c)) → (c : Course) (due : Option ℕ) → next_due c ≡ due → P c → P (settle_up_to plan (suc n) c)
+  unfolding settle_up_to
+  settles_by n keeps c None h p = rw h p
+  settles_by n keeps c (Some k) h p = rw h (keeps (settle_one plan c k) (settles_one c k p))
+
+  settles : (n : ℕ) (c : Course) → P c → P (settle_up_to plan n c)
+  unfolding settle_up_to
+  settles zero c p = p
+  settles (suc n) c p = settles_by n (settles n) c (next_due c) refl p
+
+  -- the course of an input
+  pub input_keeps : (w : Scripted) (input : Stamp) → EventKeeps scene T Q input.time input.event → T (begin w.world input) → S (running (kinds_in scene) w.states)
+      → P (after_input scene plan (begun scene w input) input)
+  input_keeps w input keeps t s =
+      let c : Course = happen scene plan input.time (begun scene w input) input.event in
+      settles c.settling.count c (happens input.time input.event keeps (begun scene w input) (record { turn = t; scripts = s }))
+
+  -- ---- input 0
+
+  abbrev Begins : Started → Type 0
+  Begins s = S s.scripts × AllByRecursion (λ (x : Sending). AllSent Q x.node x.replies) s.sendings
+
+  starts_one : (s : Started) (k : ℕ) → Begins s → Begins (start_one plan s k)
+  starts_one s k b =
+      let a : Acted = act (ports_of plan k) Initialize k s.scripts in
+      let g = rules.calls s.scripts k Initialize (λ r h. refl) b.0 in
+      (g.0, all_push (λ (x : Sending). AllSent Q x.node x.replies) s.sendings (record { node = node_of plan k; replies = a.replies }) b.1 g.1)
+
+  starts : (scripts : List ScriptRecord) → S scripts → Begins (started plan scripts)
+  unfolding started
+  starts scripts s =
+      fold-keeps Begins (λ (k : ℕ). Unit {0}) (start_one plan) (λ b k q h. starts_one b k h) (record { scripts = scripts; sendings = [] })
+      (range_with_len 0 (length scripts)) (all_free (range_with_len 0 (length scripts))) (s, tt)
+
+  all_send : (c : Course) (sendings : List Sending) → AllByRecursion (λ (x : Sending). AllSent Q x.node x.replies) sendings → P c → P (sent_by_all plan c sendings)
+  all_send c sendings a p =
+      fold-keeps P (λ (x : Sending). AllSent Q x.node x.replies) (λ (d : Course) (x : Sending). send_replies plan x.node d x.replies)
+      (λ d x q k. replies_keep x.node d x.replies q k) c sendings a p
+
+  pub opening_keeps : T (record { world = untold scene; sent = [] }) → S (scripts_in scene) → P (first_course scene routes)
+  opening_keeps t s =
+      let b : Started = started plan (scripts_in scene) in
+      let g = starts (scripts_in scene) s in
+      let c : Course = sent_by_all plan (opening_course scene b.scripts) b.sendings in
+      settles c.settling.count c (all_send (opening_course scene b.scripts) b.sendings g.1 (record { turn = t; scripts = g.0 }))
+
+pub opening_is : (scene : SceneView) (routes : List Route) → opening scene routes ≡ ended (first_course scene routes)
+unfolding opening
+opening_is scene routes = refl

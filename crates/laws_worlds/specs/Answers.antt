@@ -1,0 +1,86 @@
+-- What nodes do keeps the ranges of their fields.
+use Rattle.std.specs.Prelude.{◌≡◌, ℕ, ℤ, Bool, true, List, length, Option, Some}
+use Rattle.std.specs.Option.{option_map_or}
+use Rattle.x3d_values.specs.declared.fields.Fields.{Fields}
+use Rattle.x3d_values.specs.declared.node_type.NodeType.{NodeType}
+use Rattle.x3d_values.specs.declared.node_type.NodeType.TheVariants.{TimeSensor, TouchSensor}
+use Rattle.x3d_values.specs.declared.ranges.TheConstants.{MAX_VIEWERS}
+use Rattle.x3d_values.specs.declared.value.Value.{Value}
+use Rattle.x3d_values.specs.declared.vector.Vec3.{Vec3}
+use Rattle.x3d_values.specs.Ranges.{is_viewer}
+use Rattle.x3d_values.specs.Tables.{Entry}
+use Rattle.react_core.specs.Reaction.{Reaction, reaction}
+use Rattle.sensor_core.specs.Events.{Answer, set}
+use Rattle.sensor_core.specs.Ticks.{Tick, tick}
+use Rattle.sensor_core.specs.Timing.{Timing, timing_of, with_timing, is_timing}
+use Rattle.sensor_core.specs.Touches.{Touch, Touched, pointer, point, disable}
+use Rattle.snapshot_codec.specs.Parts.{cycle_fits}
+use Rattle.snapshot_codec.specs.Trace.{is_moment}
+use Rattle.snapshot_codec.specs.Values.{vector3}
+use Rattle.laws_worlds.specs.Ranges.{event_fits, fields_fit, replies_fit}
+
+-- ---- any node, with these fields behind those of its type
+
+-- the node keeps fields that fit, and sends events that do
+pub record Fit (node_type : NodeType) (declared : List Entry) (r : Reaction) : Type 0 where
+  pub in_fields : fields_fit node_type declared r.fields ≡ true
+  pub in_replies : replies_fit node_type declared r.replies ≡ true
+
+-- its fields fit, and the event that comes to it
+abbrev pub ReactionsFit : Type 0
+ReactionsFit =
+    (node_type : NodeType) (declared : List Entry) (fields : Fields) (input : ℕ) (value : Value)
+    (time : ℤ)
+    → fields_fit node_type declared fields ≡ true
+    → event_fits node_type declared input value ≡ true → is_moment time ≡ true
+    → Fit node_type declared (reaction node_type fields input value time)
+
+-- ---- a TimeSensor
+
+-- it keeps fields that fit, a cycle that is numbered in 63 bits if one runs, and sends what fits
+pub record Set (declared : List Entry) (fields : Fields) (a : Answer) : Type 0 where
+  pub in_fields : fields_fit TimeSensor declared (with_timing fields a.timing) ≡ true
+  pub in_cycle : cycle_fits a.cycle ≡ true
+  pub in_replies : replies_fit TimeSensor declared a.replies ≡ true
+
+pub record Ticked (declared : List Entry) (t : Tick) : Type 0 where
+  pub in_cycle : cycle_fits t.cycle ≡ true
+  pub in_replies : replies_fit TimeSensor declared t.replies ≡ true
+
+-- an event comes to it
+abbrev pub SetsFit : Type 0
+SetsFit =
+    (declared : List Entry) (fields : Fields) (timing : Timing) (cycle : Option ℕ) (input : ℕ)
+    (value : Value)
+    → fields_fit TimeSensor declared fields ≡ true → timing_of fields ≡ Some timing
+    → cycle_fits cycle ≡ true → Set declared fields (set cycle timing input value)
+
+-- the clock ticks
+abbrev pub TicksFit : Type 0
+TicksFit =
+    (declared : List Entry) (timing : Timing) (cycle : Option ℕ) (now : ℤ)
+    → is_timing timing ≡ true → cycle_fits cycle ≡ true → is_moment now ≡ true
+    → Ticked declared (tick cycle timing now)
+
+-- ---- a TouchSensor
+
+-- it tells of each viewer whether its pointer is over it, a viewer presses it if anybody does, and
+-- it sends what fits
+pub record TouchFit (declared : List Entry) (t : Touched) : Type 0 where
+  pub in_over : length t.touch.over ≡ MAX_VIEWERS
+  pub in_presser : option_map_or is_viewer t.touch.presser true ≡ true
+  pub in_replies : replies_fit TouchSensor declared t.replies ≡ true
+
+-- a viewer points, inside at a place of its range or outside
+abbrev pub PointsFit : Type 0
+PointsFit =
+    (declared : List Entry) (touch : Touch) (who : ℕ) (before down : Bool) (inside : Option Vec3)
+    (now : ℤ)
+    → length touch.over ≡ MAX_VIEWERS → option_map_or is_viewer touch.presser true ≡ true
+    → is_viewer who ≡ true
+    → option_map_or vector3.fits inside true ≡ true → is_moment now ≡ true
+    → TouchFit declared (point touch (pointer who before down inside) now)
+
+-- it is turned off
+abbrev pub DisablesFit : Type 0
+DisablesFit = (declared : List Entry) (touch : Touch) → TouchFit declared (disable touch)

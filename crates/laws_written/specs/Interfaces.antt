@@ -1,0 +1,33 @@
+-- The fields that nodes declare, and that they are told apart by their names (ISO/IEC 19775-1,
+-- Script).
+use Rattle.std.specs.Prelude.{◌≡◌, ◌⊎◌, ℕ, true, List, [], map, Some, None, Ok, slice_get}
+use Rattle.std.specs.List.{AllByRecursion}
+use Rattle.x3d_values.specs.declared.node_type.NodeType.{NodeType}
+use Rattle.x3d_values.specs.declared.node_type.NodeType.TheVariants.{Script}
+use Rattle.x3d_values.specs.Tables.{are_distinct}
+use Rattle.classic_tree.specs.declared.tree.Declaration.{Declaration}
+use Rattle.classic_tree.specs.declared.tree.Document.{Document}
+use Rattle.proto_flat.specs.declared.flat.Flat.{Flat}
+use Rattle.proto_flat.specs.declared.flat.FlatNode.{FlatNode}
+use Rattle.proto_fields.specs.Fields.{of_type}
+use Rattle.proto_walk.specs.Whole.{flat}
+use Rattle.scene_core.specs.Shape.{declaration_entry}
+
+-- a type has no field of that name
+abbrev pub IsNoneOf : NodeType → Declaration ℕ → Type 0
+IsNoneOf t d = of_type t d.name ≡ None
+
+-- what a node of that type declares
+pub record IsDistinctInterface (t : NodeType) (interface : List (Declaration ℕ)) : Type 0 where
+  -- only a Script declares fields
+  pub scripted : (t ≡ Script) ⊎ (interface ≡ [])
+  -- no two of them have one name
+  pub apart : are_distinct (map declaration_entry interface) ≡ true
+  -- and none that of a field of the type
+  pub none_own : AllByRecursion (IsNoneOf t) interface
+
+-- of all nodes of the flat form of a document, those that stand for instances included
+abbrev pub InterfacesAreDistinct : Type 0
+InterfacesAreDistinct =
+    (d : Document) (f : Flat) (n : ℕ) (node : FlatNode) → flat d ≡ Ok f
+    → slice_get f.nodes n ≡ Some node → IsDistinctInterface node.node_type node.interface

@@ -1,0 +1,39 @@
+-- The nodes of a scene are written in the order in which they are numbered (our choice of order).
+use Rattle.std.specs.Prelude.{◌≡◌, ◌+◌, ℕ, List, [], length, Ok}
+use Rattle.proto_flat.specs.declared.flat.Flat.{Flat}
+use Rattle.proto_flat.specs.declared.flat.FlatNode.{FlatNode}
+use Rattle.scene_core.specs.declared.numbering.Numbering.{Numbering}
+use Rattle.scene_core.specs.Building.{scene_of}
+use Rattle.scene_core.specs.Numbers.{numbering, visit}
+use Rattle.scene_text.specs.Statements.{helpers_of, roots_of}
+use Rattle.scene_text.specs.Tree.{PlanView, node_tree}
+use Rattle.laws_text.specs.Again.{HaveChildren}
+use Rattle.laws_text.specs.Writable.{AreKeepable, IsShallow}
+
+-- a document's scene is written, with what its nodes keep; in these nodes stand the nodes that
+-- stand in the scene's
+pub record IsWritten (flat : Flat) (p : PlanView) (nodes : List FlatNode) : Type 0 where
+  pub is_scene : scene_of flat ≡ Ok p.scene
+  pub kept : AreKeepable p.state
+  pub many : length nodes ≡ length p.scene.nodes
+  pub children : HaveChildren p.scene nodes
+
+-- which nodes have appeared in the text when a node was written is which have appeared in the
+-- numbering when it was visited; where the chains that begin at the node are short enough
+abbrev pub NodesInOrder : Type 0
+NodesInOrder =
+    (flat : Flat) (p : PlanView) (nodes : List FlatNode) → IsWritten flat p nodes
+    → (s : Numbering) (depth n : ℕ) → length s.opened ≡ length nodes → IsShallow p.scene depth n
+    → (node_tree depth p s.opened n).seen ≡ (visit (length nodes + 1) nodes s n).opened
+
+-- so it is behind the roots, and behind the helpers
+abbrev pub RootsInOrder : Type 0
+RootsInOrder =
+    (flat : Flat) (p : PlanView) (nodes : List FlatNode) → IsWritten flat p nodes
+    → (roots_of p).seen ≡ (numbering nodes p.scene.roots []).opened
+
+abbrev pub HelpersInOrder : Type 0
+HelpersInOrder =
+    (flat : Flat) (p : PlanView) (nodes : List FlatNode) → IsWritten flat p nodes
+    → (helpers_of p (roots_of p).seen).seen
+    ≡ (numbering nodes p.scene.roots p.scene.helpers).opened

@@ -1,0 +1,23 @@
+//! Laws of the fields in a written scene, each the contract of a function that does nothing.
+
+ghost use Rattle.laws_written.specs.FieldsFlats.{WrittenFieldsStay};
+ghost use Rattle.laws_written.specs.FieldsWritten.{WrittenShapes};
+
+use crate::nodes::{written_nodes_close, written_nodes_stay};
+use laws_flat::{nodes_tell_the_rest, shapes_stay};
+
+/// Between the braces of each node of a written scene stand its fields, by their numbers.
+pub fn written_shapes()
+    ensures { WrittenShapes }
+{}
+
+/// The nodes in the flat form of a written scene, where there is one, have the fields of the
+/// scene's.
+pub fn written_fields_stay()
+    ensures { WrittenFieldsStay }
+{
+    shapes_stay();
+    nodes_tell_the_rest();
+    written_nodes_close();
+    written_nodes_stay();
+}

@@ -1,0 +1,39 @@
+-- What the nodes of a world keep is of their fields' types (ISO/IEC 19775-1, field types).
+use Rattle.std.specs.Prelude.{ℕ, List, Option}
+use Rattle.x3d_values.specs.Stamp.{Stamp}
+use Rattle.proto_flat.specs.declared.flat.Flat.{Flat}
+use Rattle.scene_core.specs.declared.scene.Route.{Route}
+use Rattle.scene_core.specs.Scene.{SceneView, shapes_of}
+use Rattle.laws_worlds.specs.Nodes.{RunsAll}
+use Rattle.cascade_core.specs.Apply.{world}
+use Rattle.cascade_core.specs.Course.{Scripted}
+use Rattle.cascade_world.specs.declared.world.WorldData.{WorldData}
+use Rattle.share_law.specs.Cascade.{cascade}
+use Rattle.share_law.specs.Network.{Network}
+use Rattle.share_law.specs.Reached.{IsRunning, Reached}
+use Rattle.laws_worlds.specs.Fits.{WorldFits}
+use Rattle.laws_worlds.specs.Worlds.{AreInputs}
+use Rattle.laws_networks.specs.Opened.{IsOpened}
+use Rattle.laws_again.specs.Sound.{AreOfType}
+
+-- so it is in a world that fits
+abbrev pub FittingAreOfType : Type 0
+FittingAreOfType =
+    (scene : SceneView) (w : WorldData) → WorldFits (shapes_of scene) w → AreOfType scene w.fields
+
+-- in each world that the scene of a text comes to by inputs in turn, that of no inputs too
+abbrev pub WorldsAreOfType : Type 0
+WorldsAreOfType =
+    (text : List ℕ) (f : Flat) (scene : SceneView) (routes : List Route) (inputs : List Stamp)
+    → IsOpened text f scene routes → RunsAll scene → AreInputs inputs
+    → AreOfType scene (world scene routes inputs).world.fields
+
+-- and in that of each viewer that runs, whatever 1 to max_viewers viewers, their host and their
+-- network came to
+abbrev pub RunningWorldsAreOfType : Type 0
+RunningWorldsAreOfType =
+    (text : List ℕ) (f : Flat) (scene : SceneView) (routes : List Route)
+    (mark : List ℕ) (net : Network Scripted)
+    → IsOpened text f scene routes → RunsAll scene → Reached (cascade mark scene routes) net
+    → (viewer : ℕ) (held : Scripted) (window : List (Option Stamp))
+    → IsRunning net viewer held window → AreOfType scene held.world.fields

@@ -1,0 +1,97 @@
+//! The rows of a cache that a change at a node concerns.
+
+ghost use Rattle.std.specs.Prelude.{◌≡◌, ℕ, true, Some, length, map, slice_get, IfOk, OnOk};
+ghost use Rattle.pick_ranges.specs.Ranges.{HasRow, IsAmong, IsInRange};
+ghost use Rattle.pick_core.specs.declared.row.Row.{Row as RowOf};
+ghost use Rattle.pick_core.specs.Renewal.{AreRangesOf};
+ghost use Rattle.pick_core.specs.Sites.{renewed, touches};
+
+use crate::row::{Row, renew_row};
+use crate::trail::Place;
+use pick_ranges::{RowRange, RowRanges, add_row, no_rows};
+use scene_core::Scene;
+use std::alloc::{AllocError, Global};
+use x3d_values::Fields;
+
+/// For each node the ranges of rows whose trails lead through it.
+pub(crate) fn ranges_of(alloc: Global, rows: &[Row]) -> Result<RowRanges, AllocError>
+    ensures { IfOk result (λ ranges. AreRangesOf ranges rows.now) }
+{
+    let mut ranges = no_rows(alloc);
+    for (at, row) in rows.iter().enumerate() {
+        add_at(&mut ranges, at, row)?;
+    }
+    Ok(ranges)
+}
+
+/// The row at a place is one of each node's on its trail.
+fn add_at(ranges: &mut RowRanges, at: usize, row: &Row) -> Result<(), AllocError>
+    ensures added { OnOk result
+        ((n : ℕ) → touches n row.now.trail ≡ true → HasRow ranges.new n at) }
+    ensures kept { OnOk result ((n k : ℕ) → HasRow ranges.old n k → HasRow ranges.new n k) }
+{
+    add_trail(ranges, at, row.trail.as_slice())
+}
+
+/// The row at a place is one of each node's on a trail.
+fn add_trail(ranges: &mut RowRanges, at: usize, trail: &[Place]) -> Result<(), AllocError>
+    ensures added { OnOk result
+        ((n : ℕ) → touches n trail.now ≡ true → HasRow ranges.new n at) }
+    ensures kept { OnOk result ((n k : ℕ) → HasRow ranges.old n k → HasRow ranges.new n k) }
+{
+    for place in trail {
+        add_row(ranges, place.node, at)?;
+    }
+    Ok(())
+}
+
+/// The rows that lead through a node then are those of this state. Each of them is in the range at
+/// a place, or in one that follows it.
+pub(crate) fn renew_ranges(
+    scene: &Scene,
+    state: &[Fields],
+    node: u32,
+    ranges: &[RowRange],
+    first: usize,
+    rows: &mut [Row],
+)
+    requires { (k : ℕ) (r : RowOf) → slice_get rows.old k ≡ Some r → touches node r.trail ≡ true
+        → IsAmong ranges.now (length ranges.now) first k }
+    ensures { rows.new ≡ map (renewed scene.now state.now node) rows.old }
+{
+    let mut place = first;
+    let mut left = ranges.len();
+    while left > 0 {
+        let Some(range) = range_at(ranges, place) else {
+            return;
+        };
+        renew_range(scene, state, node, range, rows);
+        place = range.next;
+        left -= 1;
+    }
+}
+
+fn range_at(ranges: &[RowRange], place: usize) -> Option<RowRange>
+    ensures { result ≡ slice_get ranges.now place }
+{
+    ranges.get(place).copied()
+}
+
+/// The rows of a range then are those of this state, where they lead through the node. All others
+/// stay as they are.
+fn renew_range(scene: &Scene, state: &[Fields], node: u32, range: RowRange, rows: &mut [Row])
+    ensures long { length rows.new ≡ length rows.old }
+    ensures inside { (k : ℕ) (r : RowOf) → IsInRange range k → slice_get rows.old k ≡ Some r
+        → slice_get rows.new k ≡ Some (renewed scene.now state.now node r) }
+    ensures outside { (k : ℕ) → (IsInRange range k → ⊥)
+        → slice_get rows.new k ≡ slice_get rows.old k }
+{
+    let mut at = range.first;
+    while at < rows.len() {
+        if at > range.last {
+            return;
+        }
+        renew_row(scene, state, node, &mut rows[at]);
+        at += 1;
+    }
+}

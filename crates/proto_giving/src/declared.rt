@@ -1,0 +1,74 @@
+//! Fields that a Script declares.
+
+ghost use Rattle.std.specs.Prelude.{◌≡◌, true, false};
+ghost use Rattle.proto_given.specs.Held.{has_name};
+ghost use Rattle.proto_inside.specs.Held as braces;
+ghost use Rattle.proto_giving.specs.Scripts.{MayDeclare, is_script};
+
+use classic_tree::{Declaration, NodeText};
+use proto_flat::{ExpandFault, ExpandFaultKind};
+use proto_inside::{Inside, Owner};
+use proto_interface::KnownField;
+use x3d_lists::Text;
+use x3d_values::NodeType;
+
+/// A field that was declared: as it is known, and whether its name was known before.
+#[derive(Clone, Copy)]
+pub struct Declared {
+    pub field: KnownField,
+    pub twice: bool,
+}
+
+fn is_script(owner: Owner<'_>) -> bool
+    ensures { result ≡ is_script owner.entry }
+{
+    match owner {
+        Owner::Node(node_type) => node_type == NodeType::Script,
+        Owner::Instance(_interface) => false,
+    }
+}
+
+/// Whether the name is known, or was given nothing.
+fn is_free(inside: &Inside<'_>, name: &Text, twice: bool) -> bool
+    requires { braces.Sound inside.now }
+    ensures { result ≡ true → twice ≡ false
+        → has_name name.now (braces.filled_in inside.now) ≡ false }
+{
+    if twice {
+        return true;
+    }
+    !inside.has(name)
+}
+
+/// The field stands behind the others. Where it isn't known, but was given something, memory is said
+/// to be refused.
+fn add<'a>(
+    inside: &mut Inside<'a>,
+    declaration: &'a Declaration<NodeText>,
+) -> Result<Declared, ExpandFault>
+    requires sound { braces.Sound inside.old }
+    requires script { is_script inside.old.owner ≡ true }
+    ensures { MayDeclare declaration.now inside.old result inside.new }
+{
+    let twice = inside.field(&declaration.name).is_some();
+    if !is_free(inside, &declaration.name, twice) {
+        return Err(ExpandFaultKind::Memory.on_line(0));
+    }
+    let field = inside.declare(declaration)?;
+    Ok(Declared { field, twice })
+}
+
+/// A Script declares a field, behind those that it has: UnknownField where it is no Script. What
+/// the field is given, is given to it then.
+pub fn declare<'a>(
+    inside: &mut Inside<'a>,
+    declaration: &'a Declaration<NodeText>,
+) -> Result<Declared, ExpandFault>
+    requires { braces.Sound inside.old }
+    ensures { MayDeclare declaration.now inside.old result inside.new }
+{
+    if !is_script(inside.owner) {
+        return Err(ExpandFaultKind::UnknownField.on_line(declaration.line));
+    }
+    add(inside, declaration)
+}

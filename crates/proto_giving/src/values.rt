@@ -1,0 +1,183 @@
+//! Values between braces.
+
+ghost use Rattle.std.specs.Prelude.{◌≡◌, ℕ, ◌||◌, false, None, Some, IfOk};
+ghost use Rattle.x3d_values.specs.Access.{is_initial};
+ghost use Rattle.proto_meaning.specs.Flat as flat;
+ghost use Rattle.proto_meaning.specs.Limits.{item_count};
+ghost use Rattle.proto_meaning.specs.Sight as sight;
+ghost use Rattle.proto_given.specs.Held as table;
+ghost use Rattle.proto_interface.specs.Fields.{numbered};
+ghost use Rattle.proto_inside.specs.Held as braces;
+ghost use Rattle.proto_inside.specs.Values.{plain};
+ghost use Rattle.proto_limits.specs.Settled.{doing};
+ghost use Rattle.proto_walker.specs.Shown as shown;
+ghost use Rattle.proto_giving.specs.Giving.{Gives, MayHold, MayStand, aside, inside_of, is_type, value_at};
+
+use crate::giving::meet_field;
+use classic_tree::{NodeText, RawValue};
+use proto_flat::{ExpandFault, ExpandFaultKind};
+use proto_given::GivenField;
+use proto_inside::{Inside, Owner, plain, plain_count};
+use proto_interface::KnownField;
+use proto_walker::Walker;
+use std::alloc::{AllocError, Global};
+use std::rc::Rc;
+use x3d_lists::Text;
+
+/// A node may be given a value at each field, an instance at those that hold one.
+fn admits(owner: Owner<'_>, field: KnownField) -> bool
+    ensures { result ≡ (is_type owner.entry || is_initial field.access) }
+{
+    match owner {
+        Owner::Node(_node_type) => true,
+        Owner::Instance(_interface) => field.access.is_initial(),
+    }
+}
+
+/// Whether a value may stand at the field: UnknownField where it holds none, FieldTwice where it
+/// was given something before.
+fn check_value(
+    inside: &Inside<'_>,
+    line: u32,
+    name: &Text,
+    field: KnownField,
+    twice: bool,
+) -> Result<(), ExpandFault>
+    ensures { MayStand line name.now field twice inside.now result }
+{
+    if !admits(inside.owner, field) {
+        return Err(ExpandFaultKind::UnknownField.on_line(line));
+    }
+    if twice {
+        return Err(ExpandFaultKind::FieldTwice.on_line(line));
+    }
+    Ok(())
+}
+
+/// A value of so many items is met, if it may stand at the field.
+pub fn meet_value(
+    walker: &mut Walker<'_>,
+    inside: &Inside<'_>,
+    line: u32,
+    name: &Text,
+    field: KnownField,
+    twice: bool,
+    items: usize,
+) -> Result<(), ExpandFault>
+    requires { shown.Sound walker.old }
+    ensures { MayHold line name.now field twice items inside.now (shown.shown walker.old) result
+        walker.new }
+{
+    check_value(inside, line, name, field, twice)?;
+    meet_field(walker, inside.owner, field.number, items)
+}
+
+/// The field has the value.
+pub fn keep_value<'a>(
+    alloc: Global,
+    inside: &mut Inside<'a>,
+    line: u32,
+    name: &'a Text,
+    field: KnownField,
+    value: RawValue<u32>,
+) -> Result<(), AllocError>
+    requires inside { braces.Sound inside.old }
+    requires free { table.has_name name.now (braces.filled_in inside.old) ≡ false }
+    ensures filled { IfOk result (λ _. (at : ℕ) (o : sight.Owner)
+        → flat.fill line (numbered name.now field) (inside_of at o inside.old) (Some value)
+        ≡ inside_of at o inside.new) }
+    ensures sound { IfOk result (λ _. braces.Sound inside.new) }
+    ensures owner { inside.new.owner ≡ inside.old.owner }
+{
+    let value = Rc::new(alloc, value)?;
+    inside.fill(
+        name,
+        GivenField {
+            line,
+            number: field.number,
+            value: Some(value),
+        },
+    )?;
+    Ok(())
+}
+
+/// The field is given something that goes nowhere.
+pub fn keep_none<'a>(
+    inside: &mut Inside<'a>,
+    line: u32,
+    name: &'a Text,
+    field: KnownField,
+) -> Result<(), AllocError>
+    requires inside { braces.Sound inside.old }
+    requires free { table.has_name name.now (braces.filled_in inside.old) ≡ false }
+    ensures filled { IfOk result (λ _. (at : ℕ) (o : sight.Owner)
+        → flat.fill line (numbered name.now field) (inside_of at o inside.old) None
+        ≡ inside_of at o inside.new) }
+    ensures sound { IfOk result (λ _. braces.Sound inside.new) }
+    ensures owner { inside.new.owner ≡ inside.old.owner }
+{
+    inside.fill(
+        name,
+        GivenField {
+            line,
+            number: field.number,
+            value: None,
+        },
+    )?;
+    Ok(())
+}
+
+/// A value without nodes.
+pub fn put_plain<'a>(
+    alloc: Global,
+    walker: &mut Walker<'a>,
+    inside: &mut Inside<'a>,
+    line: u32,
+    name: &'a Text,
+    field: KnownField,
+    twice: bool,
+    value: &RawValue<NodeText>,
+) -> Result<(), ExpandFault>
+    requires walker { shown.Sound walker.old }
+    requires inside { braces.Sound inside.old }
+    requires free { twice ≡ false
+        → table.has_name name.now (braces.filled_in inside.old) ≡ false }
+    ensures { (at : ℕ) (o : sight.Owner) → flat.is_node o ≡ is_type inside.old.owner
+        → Gives at o (doing (value_at line (numbered name.now field) twice
+        (item_count (plain {N = ℕ} value.now)) (inside_of at o inside.old) (flat.pure (flat.fill line
+        (numbered name.now field) (inside_of at o inside.old) (Some (plain value.now)))))
+        (shown.shown walker.old)) result walker.new inside.old inside.new }
+{
+    meet_value(walker, inside, line, name, field, twice, plain_count(value))?;
+    let copy = plain(alloc, value)?;
+    keep_value(alloc, inside, line, name, field, copy)?;
+    Ok(())
+}
+
+/// A value that goes nowhere, and the first wrong declaration in it.
+pub fn put_aside<'a>(
+    walker: &mut Walker<'a>,
+    inside: &mut Inside<'a>,
+    line: u32,
+    name: &'a Text,
+    field: KnownField,
+    twice: bool,
+    wrong: Option<ExpandFault>,
+) -> Result<(), ExpandFault>
+    requires walker { shown.Sound walker.old }
+    requires inside { braces.Sound inside.old }
+    requires free { twice ≡ false
+        → table.has_name name.now (braces.filled_in inside.old) ≡ false }
+    ensures { (at : ℕ) (o : sight.Owner) → flat.is_node o ≡ is_type inside.old.owner
+        → Gives at o (doing (value_at line (numbered name.now field) twice 0
+        (inside_of at o inside.old) (aside line (numbered name.now field)
+        (inside_of at o inside.old) wrong)) (shown.shown walker.old)) result walker.new inside.old
+        inside.new }
+{
+    meet_value(walker, inside, line, name, field, twice, 0)?;
+    if let Some(fault) = wrong {
+        return Err(fault);
+    }
+    keep_none(inside, line, name, field)?;
+    Ok(())
+}

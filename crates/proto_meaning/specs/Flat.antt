@@ -1,0 +1,482 @@
+-- What a document stands for (ISO/IEC 19775-1, 4.4.4, prototypes; 4.4.3, DEF and USE): each instance is
+-- its prototype's body, in which `field IS name` holds what the instance gives, or the default. Order,
+-- lines and which fault comes first are our choice.
+use Rattle.std.specs.Prelude.{ℕ, ◌+◌, Bool, true, false, ◌&&◌, ◌||◌, not, if◌then◌else◌, List, [], ◌∷◌, ◌++◌, drop, length, map, Option, Some, None, option_map, is_none, is_some, Result, Ok, Err, slice_get, slice_set}
+use Rattle.std.specs.List.{filter_map, find, list_any}
+use Rattle.std.specs.Option.{option_map_or}
+use Rattle.std.specs.Str.{bytes_eq}
+use denote.Enum.Bare.{sameb}
+use Rattle.x3d_values.specs.declared.field_type.Access.{Access}
+use Rattle.x3d_values.specs.declared.field_type.Access.TheVariants.{InputOnly, OutputOnly, InputOutput, InitializeOnly}
+use Rattle.x3d_values.specs.declared.field_type.FieldType.{FieldType}
+use Rattle.x3d_values.specs.contracts.field_type.FieldType.{the_type}
+use Rattle.x3d_values.specs.declared.node_type.NodeType.{NodeType}
+use Rattle.x3d_values.specs.declared.node_type.NodeType.TheVariants.{Script}
+use Rattle.x3d_values.specs.contracts.node_type.NodeType as node_types
+use Rattle.x3d_values.specs.Access.{receives, sends, is_initial, is_exposed}
+use Rattle.x3d_values.specs.Names.{node_type_named}
+use Rattle.x3d_values.specs.Tables.{rows}
+use Rattle.classic_tree.specs.declared.tree.BodyItem.{BodyItem, fold-BodyItem}
+use Rattle.classic_tree.specs.declared.tree.BodyItem.TheOpen.{BodyItem-F, NodeText-F, Statement-F, ProtoText-F}
+use Rattle.classic_tree.specs.declared.tree.Declaration.{Declaration}
+use Rattle.classic_tree.specs.declared.tree.Document.{Document}
+use Rattle.classic_tree.specs.declared.tree.Given.{Given}
+use Rattle.classic_tree.specs.declared.tree.Given.TheVariants as given
+use Rattle.classic_tree.specs.declared.tree.NodeText.{NodeText, fold-NodeText}
+use Rattle.classic_tree.specs.declared.tree.ProtoText.{ProtoText, fold-ProtoText}
+use Rattle.classic_tree.specs.declared.tree.RawValue.{RawValue}
+use Rattle.classic_tree.specs.declared.tree.RawValue.TheVariants as value
+use Rattle.classic_tree.specs.declared.tree.RouteText.{RouteText}
+use Rattle.classic_tree.specs.declared.tree.Statement.{Statement, fold-Statement}
+use Rattle.proto_flat.specs.Fault.{fault}
+use Rattle.proto_flat.specs.declared.fault.ExpandFault.{ExpandFault}
+use Rattle.proto_flat.specs.declared.fault.ExpandFaultKind.{ExpandFaultKind}
+use Rattle.proto_flat.specs.declared.fault.ExpandFaultKind.TheVariants.{UnknownNode, UnknownField, ProtoTwice, ProtoItself, EmptyBody, BadIs, UseWithoutDef, FieldTwice}
+use Rattle.proto_flat.specs.declared.flat.Flat.{Flat}
+use Rattle.proto_flat.specs.declared.flat.FlatEnd.TheVariants.{At}
+use Rattle.proto_flat.specs.declared.flat.FlatNode.{FlatNode}
+use Rattle.proto_flat.specs.declared.flat.Header.{Header}
+use Rattle.proto_meaning.specs.Limits.{Met, ANode, AnInstance, AField, AnItem, item_count, Outcome, follow, and_then, limited}
+use Rattle.proto_meaning.specs.Names.{Name, Field, Filled, value_of, Stands, Scope, used, stands_at, sources, targets, pairs}
+use Rattle.proto_meaning.specs.Sight.{Put, Instance, Prototype, Sight, Step, and_see, each, aside, nodes_in, Names, no_names, taking, Owner, OfType, OfProto, declared, meant, taken_by, is_kept, Search}
+
+-- ---- one thing after the other
+
+-- what was put in, what is in sight, and the name scope
+pub record Walk : Type 0 where
+  pub put : Put
+  pub sight : Sight
+  pub scope : Scope
+
+-- what a part of the text does: it gives an A and goes on, or is refused
+abbrev pub Does : Type 0 → Type 0
+Does A = Walk → Outcome (A × Walk)
+
+-- one after the other, the second by what the first gives
+infixl 10 ◌>>=◌
+abbrev pub ◌>>=◌ : {A B : Type 0} → Does A → (A → Does B) → Does B
+m >>= f = λ w. and_then (m w) (λ p. f p.0 p.1)
+
+abbrev pub comes : {A : Type 0} → Result A ExpandFault → Outcome A
+comes result = record { met = []; comes = result }
+
+abbrev pub pure : {A : Type 0} → A → Does A
+pure a = λ w. comes (Ok (a, w))
+
+abbrev pub refuse : {A : Type 0} → ExpandFaultKind → ℕ → Does A
+refuse kind line = λ w. comes (Err (fault kind line))
+
+-- in turn, each by what the one before gives
+abbrev pub through : {A X : Type 0} → (A → X → Does X) → List A → X → Does X
+through f [] x = pure x
+through f (a ∷ rest) x = f a x >>= through f rest
+
+abbrev pub meet : Met → Does (Unit {0})
+meet m = λ w. record { met = m ∷ []; comes = Ok (tt, w) }
+
+-- what comes to be in sight, and nothing else
+abbrev pub see : Step → Does (Unit {0})
+see step = λ w. follow [] (step w.sight) (λ s. comes (Ok (tt, record w { sight = s })))
+
+-- the name scope changes
+abbrev pub note : {A : Type 0} → A → (Scope → Scope) → Does A
+note a f = λ w. comes (Ok (a, record w { scope = f w.scope }))
+
+-- ---- the parts of a tree
+
+-- the search for a type in it; what it declares and takes, whether it is put in or not; and what it does
+-- where it is put in
+pub record Part (S D : Type 0) : Type 0 where
+  pub finds : Name → Search
+  pub sees : S
+  pub does : D
+
+abbrev pub part : {S D : Type 0} → (Name → Search) → S → D → Part S D
+part finds sees does = record { finds = finds; sees = sees; does = does }
+
+abbrev pub Node : Type 0
+Node = Part Step (Does ℕ)
+
+abbrev pub nothing_found : Name → Search
+nothing_found own hidden = Ok hidden
+
+abbrev pub given_finds : Given Node → Name → Search
+given_finds g own = each (λ n. n.finds own) (nodes_in g)
+
+abbrev pub given_sees : Given Node → Step
+given_sees g s = each (λ n. n.sees) (nodes_in g) (record s { taken = taking g s.taken })
+
+-- a value that goes nowhere is left out with all that is inside
+abbrev pub leave_out : Given Node → Does (Unit {0})
+leave_out g = see (aside (given_sees g))
+
+-- the nodes in a value are put in, and stand in it by their numbers
+abbrev pub put_in : RawValue Node → Does (RawValue ℕ)
+put_in value.Null = pure value.Null
+put_in (value.Truth truth) = pure (value.Truth truth)
+put_in (value.String text) = pure (value.String text)
+put_in (value.Numbers numbers) = pure (value.Numbers numbers)
+put_in (value.Node node) = node.does >>= λ n. pure (value.Node n)
+put_in value.EmptyList = pure value.EmptyList
+put_in (value.TruthList truths) = pure (value.TruthList truths)
+put_in (value.StringList texts) = pure (value.StringList texts)
+put_in (value.NumberList numbers) = pure (value.NumberList numbers)
+put_in (value.NodeList nodes) =
+    through (λ node ns. node.does >>= λ n. pure (ns ++ n ∷ [])) nodes []
+    >>= λ ns. pure (value.NodeList ns)
+
+-- ---- fields
+
+-- between braces: they opened as the at-th of the scope; whose fields they hold, the fields, and
+-- what was given so far
+pub record Inside : Type 0 where
+  pub at : ℕ
+  pub owner : Owner
+  pub fields : List Field
+  pub filled : List Filled
+
+abbrev pub field_with : ℕ → Access → FieldType → Name → Field
+field_with line access field_type name =
+    record { line = line; access = access; field_type = field_type; name = name; given = given.Nothing }
+
+abbrev pub field : {N : Type 0} → Declaration N → Field
+field d = field_with d.line d.access d.field_type d.name
+
+abbrev pub fields_of : NodeType → List Field
+fields_of t = map (λ row. field_with 0 row.access row.field_type row.name) (rows t)
+
+abbrev pub numbered_from : ℕ → Name → List Field → Option (ℕ × Field)
+numbered_from number name [] = None
+numbered_from number name (f ∷ fs) =
+    if bytes_eq f.name name then Some (number, f) else numbered_from (number + 1) name fs
+
+abbrev pub is_filled : Name → Inside → Bool
+is_filled name i = list_any (λ (f : Filled). bytes_eq f.name name) i.filled
+
+abbrev pub is_node : Owner → Bool
+is_node (OfType t) = true
+is_node (OfProto p) = false
+
+-- an interface field of the first access may be joined to a field of the second
+abbrev pub joins : Access → Access → Bool
+joins InputOnly access = receives access
+joins OutputOnly access = sends access
+joins InitializeOnly access = is_initial access
+joins InputOutput access = is_exposed access
+
+abbrev pub fits : Field → Field → Bool
+fits outer inner =
+    sameb the_type outer.field_type inner.field_type && joins outer.access inner.access
+
+-- a value counts where it stands in a node
+abbrev pub met_field : Owner → ℕ → ℕ → Does (Unit {0})
+met_field owner number items = meet (if is_node owner then AField number items else AnItem)
+
+abbrev pub fill : ℕ → ℕ × Field → Inside → Option (RawValue ℕ) → Inside
+fill line f i v =
+    record i {
+      filled = i.filled
+          ++ record { line = line; name = f.1.name; number = f.0; value = v } ∷ [];
+    }
+
+-- the value of a field, unless it goes nowhere
+abbrev pub give_value : ℕ → ℕ × Field → Inside → RawValue Node → Does Inside
+give_value line f i v =
+    met_field i.owner f.0 (item_count v)
+    >>= λ _. if is_kept (taken_by (Some i.owner)) f.1.name then (put_in v >>= λ r. pure (fill line f i (Some r)))
+    else leave_out (given.Value v) >>= λ _. pure (fill line f i None)
+
+-- IS: the field is an end of the interface field, and holds what that is given
+abbrev pub join : ℕ → ℕ × Field → Inside → Name → Option (RawValue ℕ) → Does Inside
+join line f i outer v =
+    met_field i.owner f.0 (option_map_or item_count v 0) >>= λ _. note (tt {0}) (λ s. record s {
+      ends = λ all name. s.ends all name ++ (if bytes_eq outer name
+          then option_map_or (λ what. what.ends f.1.name) (stands_at all (Some i.at)) [] else []);
+    }) >>= λ _. pure (fill line f i v)
+
+-- only what stands in the interface and fits can be joined
+abbrev pub give_is : ℕ → ℕ × Field → Bool → Inside → Option Field → Does Inside
+give_is line f twice i None = refuse BadIs line
+give_is line f twice i (Some outer) =
+    if fits outer f.1
+    then (if twice then refuse FieldTwice line
+    else (λ w. join line f i outer.name (value_of outer.name w.scope.given) w))
+    else refuse BadIs line
+
+-- f is the field with its number; `twice`: it was given something before. A node may be given a value at
+-- each field, which the scene judges; an instance only at those that hold a value
+abbrev pub give : ℕ → ℕ × Field → Bool → Given Node → Inside → Does Inside
+give line f twice (given.Is outer) i =
+    λ w. give_is line f twice i (find (λ o. bytes_eq o.name outer) w.scope.interface) w
+give line f twice (given.Value v) i =
+    if is_node i.owner || is_initial f.1.access
+    then (if twice then refuse FieldTwice line else give_value line f i v)
+    else refuse UnknownField line
+give line f twice given.Nothing i =
+    if twice then refuse FieldTwice line
+    else met_field i.owner f.0 0 >>= λ _. pure (fill line f i None)
+
+abbrev pub is_script : Owner → Bool
+is_script (OfType t) = sameb node_types.the_type t Script
+is_script (OfProto p) = false
+
+-- a Script's declaration is one field more
+abbrev pub declare_field : Declaration Node → Inside → Does Inside
+declare_field d i =
+    if is_script i.owner
+    then give d.line (length i.fields, field d) (is_some (numbered_from 0 d.name i.fields)) d.given
+    (record i { fields = i.fields ++ field d ∷ [] })
+    else refuse UnknownField d.line
+
+-- ---- nodes and instances
+
+abbrev pub Item : Type 0
+Item = Part (Option Names → Step) (Inside → Does Inside)
+
+-- the items between braces, in turn
+abbrev pub inside : Option Name → Owner → List Field → List Item → Does Inside
+inside name owner fields items =
+    (λ w. note (length w.scope.braces) (λ s. record s {
+      braces = s.braces ++ record { name = name; stands = None } ∷ [];
+    }) w) >>= λ at. through (λ (item : Item). item.does) items
+    (record { at = at; owner = owner; fields = fields; filled = [] })
+
+-- braces that close stand for that
+abbrev pub close : Option Name → ℕ → Stands → Put → Walk → Outcome (ℕ × Walk)
+close name at what put w = comes (Ok (
+  what.node,
+  record w {
+    put = put;
+    scope = record w.scope {
+      braces = slice_set w.scope.braces at (record { name = name; stands = Some what });
+    };
+  },
+))
+
+abbrev pub flat_node : ℕ → Option Name → NodeType → Inside → FlatNode
+flat_node line name t i =
+    record {
+      line = line;
+      name = name;
+      node_type = t;
+      fields = filter_map (λ (f : Filled). option_map (λ v. record { line = f.line; number = f.number; value = v }) f.value) i.filled;
+      interface = drop (length (rows t)) i.fields;
+    }
+
+-- a node has the next number when its braces close
+abbrev pub close_node : Option Name → ℕ → FlatNode → Does ℕ
+close_node name at node = λ w.
+    close name at
+    (record { node = length w.put.nodes; interface = None; ends = λ f. At (length w.put.nodes) f ∷ [] })
+    (record w.put { nodes = w.put.nodes ++ node ∷ [] }) w
+
+-- the node in its place takes the instance's name, if it has one
+abbrev pub renamed : Option Name → ℕ → List FlatNode → List FlatNode
+renamed None n nodes = nodes
+renamed name n nodes =
+    option_map_or (λ node. slice_set nodes n (record node { name = name })) (slice_get nodes n) nodes
+
+abbrev pub close_instance : Option Name → Prototype → Inside → Does ℕ
+close_instance name p i = λ w. and_then (p.instance i.filled w.put) (λ made.
+    close name i.at
+    (record { node = made.node; interface = Some p.interface; ends = made.ends })
+    (record made.put { nodes = renamed name made.node made.put.nodes })
+    (record w { scope = record w.scope { routes = λ all. w.scope.routes all ++ made.routes } }))
+
+-- whether a name is one of these
+abbrev pub is_one : Name → List Name → Bool
+is_one name names = list_any (bytes_eq name) names
+
+-- no name stands twice in an interface
+abbrev pub unless_twice : List Name → List Field → Does (Unit {0})
+unless_twice seen [] = pure tt
+unless_twice seen (f ∷ fs) =
+    if is_one f.name seen then refuse FieldTwice f.line else unless_twice (f.name ∷ seen) fs
+
+-- braces by what the word before them means
+abbrev pub full_node : ℕ → Option Name → List Item → Option Owner → Does ℕ
+full_node line name items None = refuse UnknownNode line
+full_node line name items (Some (OfType t)) =
+    meet ANode >>= λ _. inside name (OfType t) (fields_of t) items
+    >>= λ i. close_node name i.at (flat_node line name t i)
+full_node line name items (Some (OfProto p)) =
+    meet AnInstance >>= λ _. unless_twice [] p.interface
+    >>= λ _. inside name (OfProto p) p.interface items >>= close_instance name p
+
+-- a ROUTE names what stands before it
+abbrev pub note_route : RouteText → Does (Unit {0})
+note_route r = meet AnItem >>= λ _. note (tt {0}) (λ s. record s {
+  routes = λ all. s.routes all
+      ++ pairs r.line (sources s.braces all r.source) (targets s.braces all r.target);
+})
+
+-- ---- prototypes
+
+-- a statement: whether it is a node; it gives the nodes that it puts in its place, one or none
+abbrev pub Stated : Type 0
+Stated = Bool × Part Step (Does (List ℕ))
+
+-- the first node of a body stands for the instance, the others are helpers
+abbrev pub in_body : Stated → List ℕ → Does (List ℕ)
+in_body s [] = s.1.does
+in_body s first = s.1.does >>= λ ns. (λ w. comes (Ok (
+  first,
+  record w { put = record w.put { helpers = w.put.helpers ++ ns } },
+)))
+
+-- a default is put in where some IS takes it, and the instance gives nothing
+abbrev pub put_default : Declaration Node → List Filled → Given Node → Does (List Filled)
+put_default d filled (given.Value v) =
+    put_in v >>= λ r. pure (filled
+    ++ record { line = d.line; name = d.name; number = 0; value = Some r } ∷ [])
+put_default d filled _ = pure filled
+
+abbrev pub default : Names → Declaration Node → List Filled → Does (List Filled)
+default takes d filled =
+    if takes d.name && is_none (value_of d.name filled) then put_default d filled d.given
+    else leave_out d.given >>= λ _. pure filled
+
+-- where a scope begins, which sees the prototypes around it
+abbrev pub begin : List Prototype → Put → Walk
+begin outside put =
+    record {
+      put = put;
+      sight = record { here = []; outside = outside; taken = no_names };
+      scope = record { braces = []; routes = λ all. []; ends = λ all name. []; interface = []; given = [] };
+    }
+
+-- where a body ends, whose first node stands for the instance
+abbrev pub made : ℕ → List ℕ → Walk → Outcome Instance
+made line [] w = comes (Err (fault EmptyBody line))
+made line (n ∷ ns) w =
+    comes (Ok (record {
+      node = n;
+      ends = w.scope.ends w.scope.braces;
+      routes = w.scope.routes w.scope.braces;
+      put = w.put;
+    }))
+
+module _ (line : ℕ) (name : Name) (interface : List (Declaration Node)) (body : List Stated) where
+  -- the defaults, in which IS finds nothing, and then the statements
+  abbrev pub instance_of : List Prototype → Names → List Filled → Put → Outcome Instance
+  instance_of outside takes given put =
+      and_then ((through (default takes) interface given
+      >>= λ all. note (tt {0}) (λ s. record s { interface = map field interface; given = all })
+      >>= λ _. through in_body body []) (begin outside put)) (λ p. made line p.0 p.1)
+
+  -- by the prototypes around it, and what its ISs take
+  abbrev pub prototype : List Prototype → Names → Prototype
+  prototype outside takes =
+      record {
+        name = name;
+        interface = map field interface;
+        takes = takes;
+        instance = instance_of outside takes;
+      }
+
+  -- in the text's order: the defaults stand in the scope of the body
+  abbrev pub body_finds : Name → Search
+  body_finds own hidden =
+      and_see (each (λ (d : Declaration Node). given_finds d.given own) interface hidden)
+      (each (λ (s : Stated). s.1.finds own) body)
+
+  -- an IS in a default takes nothing
+  abbrev pub body_sees : Step
+  body_sees s =
+      and_see (aside (each (λ (d : Declaration Node). given_sees d.given) interface) s)
+      (each (λ (s : Stated). s.1.sees) body)
+
+  -- first the declaration itself, and then those inside
+  abbrev pub declare_body : Result Bool ℕ → Step
+  declare_body (Err itself) s = Err (fault ProtoItself itself)
+  declare_body (Ok hidden) s =
+      if list_any (λ (x : Stated). x.0) body
+      then and_see (body_sees (record { here = []; outside = s.here ++ s.outside; taken = no_names })) (λ t.
+      Ok (record s {
+        here = s.here ++ prototype (s.here ++ s.outside) t.taken ∷ [];
+      }))
+      else Err (fault EmptyBody line)
+
+  abbrev pub declare : Step
+  declare s =
+      if is_some (node_type_named name) || is_some (declared name s.here)
+      then Err (fault ProtoTwice line)
+      else declare_body (body_finds name false) s
+
+-- ---- each part, by those inside
+
+abbrev pub Proto : Type 0
+Proto = Part Step (Does (Unit {0}))
+
+unfoldable pub item_step : BodyItem-F Item Node Stated Proto → Item
+item_step (BodyItem-F.Field line name g) =
+    part (given_finds g)
+    (λ taken. if is_kept taken name then given_sees g else aside (given_sees g))
+    (λ i. option_map_or (λ f. give line f (is_filled name i) g i) (numbered_from 0 name i.fields)
+    (refuse UnknownField line))
+item_step (BodyItem-F.Declaration d) =
+    part (given_finds d.given) (λ taken. given_sees d.given) (declare_field d)
+item_step (BodyItem-F.BodyItem::Route route) =
+    part nothing_found (λ taken s. Ok s) (λ i. note_route route >>= λ _. pure i)
+item_step (BodyItem-F.BodyItem::Proto proto) =
+    part proto.finds (λ taken. proto.sees) (λ i. proto.does >>= λ _. pure i)
+
+unfoldable pub node_step : NodeText-F Item Node Stated Proto → Node
+node_step (NodeText-F.Use line name) =
+    part nothing_found (λ s. Ok s) (meet AnItem >>= λ _ w. option_map_or pure (used name w.scope.braces) (refuse UseWithoutDef line) w)
+node_step (NodeText-F.Full line name word items) =
+    part
+    (λ own hidden. if not hidden && bytes_eq word own then Err line
+    else each (λ (i : Item). i.finds own) items hidden)
+    (λ s. each (λ (i : Item). i.sees (taken_by (meant word s))) items s)
+    (λ w. full_node line name items (meant word w.sight) w)
+
+unfoldable pub statement_step : Statement-F Item Node Stated Proto → Stated
+statement_step (Statement-F.Node node) =
+    (true, part node.finds node.sees (node.does >>= λ n. pure (n ∷ [])))
+statement_step (Statement-F.Statement::Route route) =
+    (false, part nothing_found (λ s. Ok s) (note_route route >>= λ _. pure []))
+statement_step (Statement-F.Statement::Proto proto) =
+    (false, part proto.finds proto.sees (proto.does >>= λ _. pure []))
+
+unfoldable pub proto_step : ProtoText-F Item Node Stated Proto → Proto
+proto_step p =
+    part
+    (λ own hidden. and_see (body_finds p.line p.name p.interface p.body own hidden) (λ _.
+    Ok (bytes_eq p.name own || hidden)))
+    (declare p.line p.name p.interface p.body) (see (declare p.line p.name p.interface p.body))
+
+abbrev pub item : BodyItem → Item
+item = fold-BodyItem Item Node Stated Proto item_step node_step statement_step proto_step
+
+abbrev pub node : NodeText → Node
+node = fold-NodeText Item Node Stated Proto item_step node_step statement_step proto_step
+
+abbrev pub proto : ProtoText → Proto
+proto = fold-ProtoText Item Node Stated Proto item_step node_step statement_step proto_step
+
+abbrev pub statement : Statement → Stated
+statement = fold-Statement Item Node Stated Proto item_step node_step statement_step proto_step
+
+-- ---- a document
+
+-- what the statements come to, without limits
+abbrev pub stand_together : Header → List Stated → Outcome Flat
+stand_together header parts =
+    and_then
+    (through (λ s roots. s.1.does >>= λ ns. pure (roots ++ ns)) parts []
+    (begin [] (record { nodes = []; helpers = [] })))
+    (λ p. comes (Ok (record {
+      header = header;
+      nodes = p.1.put.nodes;
+      roots = p.0;
+      helpers = p.1.put.helpers;
+      routes = p.1.scope.routes p.1.scope.braces;
+    })))
+
+abbrev pub header_of : Document → Header
+header_of d =
+    record { version = d.version; profile = d.profile; components = d.components; metas = d.metas }
+
+unfoldable pub flat : Document → Result Flat ExpandFault
+flat d = limited (stand_together (header_of d) (map statement d.statements))

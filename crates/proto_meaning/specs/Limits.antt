@@ -1,0 +1,86 @@
+-- The limits of a flat document (our choice). They are no part of what a document stands for: they are
+-- asked of what was met on the way, up to the end of the text or to its first fault. So TooLarge is
+-- answered exactly where too much was met before anything else was wrong.
+use Rattle.std.specs.Prelude.{ℕ, ◌&&◌, Bool, true, not, if◌then◌else◌, List, ◌++◌, length, nat_lt, Result, Ok, Err}
+use Rattle.std.specs.List.{list_all, sum_by}
+use Rattle.classic_tree.specs.declared.tree.RawValue.{RawValue}
+use Rattle.classic_tree.specs.declared.tree.RawValue.TheVariants as value
+use Rattle.proto_flat.specs.Fault.{fault}
+use Rattle.proto_flat.specs.declared.fault.ExpandFault.{ExpandFault}
+use Rattle.proto_flat.specs.declared.fault.ExpandFaultKind.TheVariants.{TooLarge}
+use Rattle.proto_flat.specs.declared.flat.Flat.{Flat}
+
+-- what is met, in the order of the work: the first word of a node, and of an instance; a field of a
+-- node, by its number there and how many items its value has; and whatever else is put in: a field of
+-- an instance, a ROUTE, a USE
+pub data Met : Type 0 where
+  ANode : Met
+  AnInstance : Met
+  AField : ℕ → ℕ → Met
+  AnItem : Met
+
+-- a list has as many items as its length, any other value one
+abbrev pub item_count : {N : Type 0} → RawValue N → ℕ
+item_count value.Null = 1
+item_count (value.Truth truth) = 1
+item_count (value.String text) = 1
+item_count (value.Numbers numbers) = length numbers
+item_count (value.Node node) = 1
+item_count value.EmptyList = 0
+item_count (value.TruthList truths) = length truths
+item_count (value.StringList texts) = length texts
+item_count (value.NumberList numbers) = length numbers
+item_count (value.NodeList nodes) = length nodes
+
+-- what a part of a text comes to, with all that was met on the way
+pub record Outcome (A : Type 0) : Type 0 where
+  pub met : List Met
+  pub comes : Result A ExpandFault
+
+abbrev pub behind : {A : Type 0} → List Met → Outcome A → Outcome A
+behind before o = record { met = before ++ o.met; comes = o.comes }
+
+-- one after the other, up to the first fault
+abbrev pub follow : {A B : Type 0} → List Met → Result A ExpandFault → (A → Outcome B) → Outcome B
+follow met (Ok a) next = behind met (next a)
+follow met (Err e) next = record { met = met; comes = Err e }
+
+abbrev pub and_then : {A B : Type 0} → Outcome A → (A → Outcome B) → Outcome B
+and_then o next = follow o.met o.comes next
+
+-- ---- the limits
+
+-- how many nodes that is, how many instances, how many items of values
+abbrev pub nodes_met : Met → ℕ
+nodes_met ANode = 1
+nodes_met _ = 0
+
+abbrev pub instances_met : Met → ℕ
+instances_met AnInstance = 1
+instances_met _ = 0
+
+abbrev pub items_met : Met → ℕ
+items_met (AField number items) = items
+items_met _ = 0
+
+-- all that is put in counts one
+abbrev pub all_met : Met → ℕ
+all_met met = 1
+
+abbrev pub has_room : Met → Bool
+has_room (AField number items) = nat_lt number 65536
+has_room _ = true
+
+abbrev pub is_within : List Met → Bool
+is_within met =
+    not (nat_lt 65536 (sum_by nodes_met met)) && not (nat_lt 8388608 (sum_by instances_met met))
+    && not (nat_lt 8388608 (sum_by items_met met)) && not (nat_lt 134217728 (sum_by all_met met))
+    && list_all has_room met
+
+-- routes are made when all nodes are there
+abbrev pub with_few_routes : Result Flat ExpandFault → Result Flat ExpandFault
+with_few_routes (Ok f) = if nat_lt 65536 (length f.routes) then Err (fault TooLarge 0) else Ok f
+with_few_routes (Err e) = Err e
+
+abbrev pub limited : Outcome Flat → Result Flat ExpandFault
+limited o = if is_within o.met then with_few_routes o.comes else Err (fault TooLarge 0)

@@ -1,0 +1,115 @@
+-- Names of nodes (ISO/IEC 19775-1, 4.4.3, DEF and USE; 4.4.7, run-time name scope), and the ends of
+-- routes (4.4.4, PROTO interface declarations; 4.4.8, ROUTE).
+use Rattle.std.specs.Prelude.{ℕ, ◌+◌, Bool, false, ◌&&◌, if◌then◌else◌, List, [], ◌∷◌, ◌++◌, codes, map, Option, Some, None, option_map, slice_get}
+use Rattle.std.specs.List.{find, flat_map, fold}
+use Rattle.std.specs.Option.{option_or, option_and_then, option_map_or}
+use Rattle.std.specs.Str.{bytes_eq}
+use Rattle.x3d_values.specs.declared.field_type.Access.{Access}
+use Rattle.x3d_values.specs.Access.{receives, sends, is_exposed}
+use Rattle.classic_tree.specs.declared.tree.Declaration.{Declaration}
+use Rattle.classic_tree.specs.declared.tree.RawValue.{RawValue}
+use Rattle.classic_tree.specs.declared.tree.Place.{Place}
+use Rattle.proto_flat.specs.declared.flat.FlatEnd.{FlatEnd}
+use Rattle.proto_flat.specs.declared.flat.FlatEnd.TheVariants.{NoNode, NoField, WrongWay}
+use Rattle.proto_flat.specs.declared.flat.FlatRoute.{FlatRoute}
+
+abbrev pub Name : Type 0
+Name = List ℕ
+
+-- a field of a node or of an interface: what its declaration says, but the value
+abbrev pub Field : Type 0
+Field = Declaration ℕ
+
+-- what a field is given between braces: its name and its number among the fields there, and the value,
+-- in which nodes stand by their numbers. There is none where IS hands on nothing, or where the value
+-- goes nowhere
+pub record Filled : Type 0 where
+  pub line : ℕ
+  pub name : Name
+  pub number : ℕ
+  pub value : Option (RawValue ℕ)
+
+-- the first that has a value
+abbrev pub value_of : Name → List Filled → Option (RawValue ℕ)
+value_of name [] = None
+value_of name (f ∷ fs) =
+    option_or (if bytes_eq f.name name then f.value else None) (value_of name fs)
+
+-- what a node or an instance stands for: a node, the interface of an instance (None: it is a node), and
+-- which ends each field is
+pub record Stands : Type 0 where
+  pub node : ℕ
+  pub interface : Option (List Field)
+  pub ends : Name → List FlatEnd
+
+-- a pair of braces: the name that DEF gives, and what they stand for once they close
+pub record Braces : Type 0 where
+  pub name : Option Name
+  pub stands : Option Stands
+
+-- a name scope, which is the text without its bodies, or one instance's body: its braces so far, in
+-- the order of the text; its routes, and the ends that ISs join to each interface field, by what all
+-- braces of the scope come to stand for; and what an IS finds: the interface, and what the instance is
+-- given or has by default
+pub record Scope : Type 0 where
+  pub braces : List Braces
+  pub routes : List Braces → List FlatRoute
+  pub ends : List Braces → Name → List FlatEnd
+  pub interface : List Field
+  pub given : List Filled
+
+-- ---- DEF and USE
+
+abbrev pub has_name : Name → Braces → Bool
+has_name name b = option_map_or (bytes_eq name) b.name false
+
+-- USE names the last of that name whose braces are closed
+abbrev pub used : Name → List Braces → Option ℕ
+used name braces =
+    fold (λ before b. if has_name name b
+    then option_or (option_map (λ s. s.node) b.stands) before else before) None braces
+
+-- ROUTE names the last of that name, closed or not; the first of these has that place
+abbrev pub last_from : ℕ → Name → List Braces → Option ℕ
+last_from at name [] = None
+last_from at name (b ∷ bs) =
+    option_or (last_from (at + 1) name bs) (if has_name name b then Some at else None)
+
+-- what the braces at a place of the scope come to stand for
+abbrev pub stands_at : List Braces → Option ℕ → Option Stands
+stands_at all at = option_and_then (λ b. b.stands) (option_and_then (slice_get all) at)
+
+-- ---- the ends of a ROUTE
+
+-- a field of an interface goes by its own name first, an inputOutput field also by the other
+abbrev pub field_by : (Name → Name) → Name → List Field → Option Field
+field_by other name fields =
+    option_or (find (λ f. bytes_eq f.name name) fields)
+    (find (λ f. is_exposed f.access && bytes_eq (other f.name) name) fields)
+
+abbrev pub ends_by : (Access → Bool) → Stands → Option Field → List FlatEnd
+ends_by allowed s None = NoField ∷ []
+ends_by allowed s (Some f) = if allowed f.access then s.ends f.name else WrongWay ∷ []
+
+-- no node, an instance's field, or a node's; whether a node has the field is for the scene to say
+abbrev pub ends_at : (Access → Bool) → (Name → Name) → Name → Option Stands → List FlatEnd
+ends_at allowed other field None = NoNode ∷ []
+ends_at allowed other field (Some s) =
+    option_map_or (λ fields. ends_by allowed s (field_by other field fields)) s.interface
+    (s.ends field)
+
+-- the ends that a ROUTE names behind these braces, by what all come to stand for
+abbrev pub sources : List Braces → List Braces → Place → List FlatEnd
+sources braces all p =
+    ends_at sends (λ name. name ++ codes "_changed") p.field
+    (stands_at all (last_from 0 p.node braces))
+
+abbrev pub targets : List Braces → List Braces → Place → List FlatEnd
+targets braces all p =
+    ends_at receives (λ name. codes "set_" ++ name) p.field
+    (stands_at all (last_from 0 p.node braces))
+
+-- each source in turn meets each target
+abbrev pub pairs : ℕ → List FlatEnd → List FlatEnd → List FlatRoute
+pairs line sources targets =
+    flat_map (λ s. map (λ t. record { line = line; source = s; target = t }) targets) sources

@@ -1,0 +1,119 @@
+-- Which prototypes are in sight (ISO/IEC 19775-1, 4.4.4, prototype scoping rules), by the place in the
+-- text alone.
+use Rattle.std.specs.Prelude.{ℕ, Bool, true, false, if◌then◌else◌, List, [], ◌∷◌, ◌++◌, Option, Some, None, option_map, Result, Ok, Err}
+use Rattle.std.specs.List.{find}
+use Rattle.std.specs.Option.{option_or}
+use Rattle.std.specs.Str.{bytes_eq}
+use Rattle.x3d_values.specs.Names.{node_type_named}
+use Rattle.x3d_values.specs.declared.node_type.NodeType.{NodeType}
+use Rattle.classic_tree.specs.declared.tree.Given.{Given}
+use Rattle.classic_tree.specs.declared.tree.Given.TheVariants as given
+use Rattle.classic_tree.specs.declared.tree.RawValue.TheVariants as value
+use Rattle.proto_flat.specs.declared.fault.ExpandFault.{ExpandFault}
+use Rattle.proto_flat.specs.declared.flat.FlatEnd.{FlatEnd}
+use Rattle.proto_flat.specs.declared.flat.FlatNode.{FlatNode}
+use Rattle.proto_flat.specs.declared.flat.FlatRoute.{FlatRoute}
+use Rattle.proto_meaning.specs.Limits.{Outcome}
+use Rattle.proto_meaning.specs.Names.{Name, Field, Filled}
+
+-- what was put in: the nodes in the order in which they close, and the helpers
+pub record Put : Type 0 where
+  pub nodes : List FlatNode
+  pub helpers : List ℕ
+
+-- an instance: the node in its place, which ends each interface field is, the routes of its body,
+-- and what was put in with it
+pub record Instance : Type 0 where
+  pub node : ℕ
+  pub ends : Name → List FlatEnd
+  pub routes : List FlatRoute
+  pub put : Put
+
+-- ---- names that ISs take
+
+abbrev pub Names : Type 0
+Names = Name → Bool
+
+abbrev pub no_names : Names
+no_names name = false
+
+abbrev pub with_name : Name → Names → Names
+with_name given names name = if bytes_eq given name then true else names name
+
+-- ---- what is in sight
+
+-- a prototype: its name, its interface, which fields of it some IS of its body takes, and what an
+-- instance is: by what it is given, and put in behind what was put in before
+pub record Prototype : Type 0 where
+  pub name : Name
+  pub interface : List Field
+  pub takes : Names
+  pub instance : List Filled → Put → Outcome Instance
+
+-- the prototypes in sight at a place of the text: those declared in the scope, in the order of the text,
+-- and those of the scopes around it, the nearest scope first; and the names that the ISs of the body have
+-- taken up to there
+pub record Sight : Type 0 where
+  pub here : List Prototype
+  pub outside : List Prototype
+  pub taken : Names
+
+-- what a part of the text declares and takes: what is in sight before it, and behind it
+abbrev pub Step : Type 0
+Step = Sight → Result Sight ExpandFault
+
+abbrev pub and_see : {X Y E : Type 0} → Result X E → (X → Result Y E) → Result Y E
+and_see (Ok x) f = f x
+and_see (Err e) f = Err e
+
+abbrev pub each : {A X E : Type 0} → (A → X → Result X E) → List A → X → Result X E
+each f [] x = Ok x
+each f (a ∷ rest) x = and_see (f a x) (each f rest)
+
+-- a part that declares, but takes nothing
+abbrev pub aside : Step → Step
+aside step s =
+    and_see (step (record s { taken = no_names })) (λ t. Ok (record t { taken = s.taken }))
+
+-- the nodes that stand in a value
+abbrev pub nodes_in : {N : Type 0} → Given N → List N
+nodes_in (given.Value (value.Node node)) = node ∷ []
+nodes_in (given.Value (value.NodeList nodes)) = nodes
+nodes_in _ = []
+
+-- an IS takes a name
+abbrev pub taking : {N : Type 0} → Given N → Names → Names
+taking (given.Is name) names = with_name name names
+taking _ names = names
+
+-- ---- what the word before the braces means
+
+pub data Owner : Type 0 where
+  OfType : NodeType → Owner
+  OfProto : Prototype → Owner
+
+-- no scope has two of one name
+abbrev pub declared : Name → List Prototype → Option Prototype
+declared name prototypes = find (λ (p : Prototype). bytes_eq name p.name) prototypes
+
+-- a node type, or the nearest prototype that is declared before
+abbrev pub meant : Name → Sight → Option Owner
+meant word s =
+    option_or (option_map OfType (node_type_named word))
+    (option_map OfProto (declared word (s.here ++ s.outside)))
+
+-- a node keeps what it is given; an instance only what some IS of its prototype's body takes. A word
+-- that means nothing is no reason to leave out what stands between the braces
+abbrev pub taken_by : Option Owner → Option Names
+taken_by (Some (OfProto p)) = Some p.takes
+taken_by _ = None
+
+abbrev pub is_kept : Option Names → Name → Bool
+is_kept None name = true
+is_kept (Some taken) name = taken name
+
+-- the search for a node of one type name in a part of the text, by whether a PROTO of that name hides
+-- it there: it ends with the line of the first such node, or says whether the name is hidden from
+-- there on
+abbrev pub Search : Type 0
+Search = Bool → Result Bool ℕ

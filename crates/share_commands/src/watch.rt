@@ -1,0 +1,232 @@
+//! What is seen of a run at a port: who comes, what is refused and why, and how much passes.
+
+use crate::brief::{Brief, Came, brief_of, how_came};
+use std::fmt;
+use x3d_values::MAX_VIEWERS;
+
+/// After how many turns in which nothing came a viewer says so.
+const SILENT: u64 = 20;
+
+/// A place for each viewer.
+const PLACES: usize = MAX_VIEWERS as usize;
+
+/// How much passed, up to 2^64 - 1 of each.
+#[derive(Clone, Copy)]
+pub struct Tally {
+    pub turns: u64,
+    /// Datagrams.
+    pub received: u64,
+    pub sent: u64,
+    /// Of a host: how many offers it numbered.
+    pub points: u64,
+}
+
+impl fmt::Display for Tally {
+    fn fmt<W: fmt::Write>(&self, f: &mut fmt::Formatter<W>) -> fmt::Result {
+        write!(
+            f,
+            "{} turns, {} datagrams received, {} sent",
+            self.turns, self.received, self.sent
+        )
+    }
+}
+
+/// Why a datagram is dropped, in the order in which that is looked for.
+#[derive(Clone, Copy, PartialEq, Eq)]
+pub enum Refusal {
+    Foreign,
+    WrongScene,
+    BadViewer,
+    OldBoot,
+}
+
+impl Refusal {
+    fn place(self) -> usize {
+        match self {
+            Refusal::Foreign => 0,
+            Refusal::WrongScene => 1,
+            Refusal::BadViewer => 2,
+            Refusal::OldBoot => 3,
+        }
+    }
+
+    fn words(self) -> &'static str {
+        match self {
+            Refusal::Foreign => "no datagram of a shared world",
+            Refusal::WrongScene => "another scene",
+            Refusal::BadViewer => "no such viewer",
+            Refusal::OldBoot => "an old boot",
+        }
+    }
+}
+
+/// What is told of a run; a peer is its port.
+#[derive(Clone, Copy, PartialEq, Eq)]
+pub enum Note {
+    /// A host first hears of this viewer.
+    Viewer(u8, u16),
+    /// A datagram of this peer is dropped, the first for that cause.
+    Dropped(Refusal, u16),
+    /// Nothing has come to a viewer.
+    NoAnswer,
+}
+
+impl fmt::Display for Note {
+    fn fmt<W: fmt::Write>(&self, f: &mut fmt::Formatter<W>) -> fmt::Result {
+        match self {
+            Note::Viewer(who, peer) => write!(f, "viewer {who} at port {peer}"),
+            Note::Dropped(why, peer) => write!(f, "dropped from port {peer}: {}", why.words()),
+            Note::NoAnswer => write!(f, "no answer yet"),
+        }
+    }
+}
+
+/// Whose port it is.
+#[derive(Clone, Copy)]
+pub enum Node {
+    /// A host of so many viewers.
+    Host(u8),
+    /// A viewer as this boot.
+    Viewer(u32),
+}
+
+/// What was seen of a run of the scene with a mark.
+#[derive(Clone, Copy)]
+pub struct Watch {
+    mark: [u8; 32],
+    node: Node,
+    heard: [bool; PLACES],
+    /// The highest boot of an offer of each viewer, and how many offers of its boot are numbered, as
+    /// the host's acks say.
+    boots: [u32; PLACES],
+    acked: [(u32, u32); PLACES],
+    told: [bool; 4],
+    tally: Tally,
+}
+
+impl Watch {
+    /// Nothing was seen.
+    pub fn new(mark: [u8; 32], node: Node) -> Watch {
+        Watch {
+            mark,
+            node,
+            heard: [false; PLACES],
+            boots: [0; PLACES],
+            acked: [(0, 0); PLACES],
+            told: [false; 4],
+            tally: Tally {
+                turns: 0,
+                received: 0,
+                sent: 0,
+                points: 0,
+            },
+        }
+    }
+
+    pub fn tally(&self) -> Tally {
+        self.tally
+    }
+
+    /// Whether an offer's boot is below one that came before; else it is the highest.
+    fn is_old(&mut self, who: u8, boot: u32) -> bool {
+        match self.boots.get_mut(who as usize) {
+            Some(highest) if boot < *highest => true,
+            Some(highest) => {
+                *highest = boot;
+                false
+            }
+            None => false,
+        }
+    }
+
+    /// Why a host of so many viewers drops what a datagram of its scene says.
+    fn host_refusal(&mut self, brief: Brief, viewers: u8) -> Option<Refusal> {
+        match brief {
+            Brief::Ask { who, .. } | Brief::Offer { who, .. } if who >= viewers => {
+                Some(Refusal::BadViewer)
+            }
+            Brief::Offer { who, boot, .. } if self.is_old(who, boot) => Some(Refusal::OldBoot),
+            _ => None,
+        }
+    }
+
+    /// Why the bytes of a datagram are dropped.
+    fn refusal(&mut self, bytes: &[u8]) -> Option<Refusal> {
+        let brief = match how_came(bytes, &self.mark) {
+            Came::Foreign => return Some(Refusal::Foreign),
+            Came::Elsewhere => return Some(Refusal::WrongScene),
+            Came::Here(brief) => brief,
+        };
+        match (self.node, brief) {
+            (Node::Host(viewers), brief) => self.host_refusal(brief, viewers),
+            (Node::Viewer(own), Brief::Ack { boot, .. }) if boot > own => Some(Refusal::OldBoot),
+            _ => None,
+        }
+    }
+
+    /// Tells of a refusal, the first of its kind.
+    fn dropped(&mut self, why: Refusal, peer: u16) -> Option<Note> {
+        let told = self.told.get_mut(why.place())?;
+        if *told {
+            return None;
+        }
+        *told = true;
+        Some(Note::Dropped(why, peer))
+    }
+
+    /// Tells of the viewer that sent these bytes to a host, where it first hears of it.
+    fn first_heard(&mut self, bytes: &[u8], peer: u16) -> Option<Note> {
+        let Node::Host(_) = self.node else {
+            return None;
+        };
+        let who = match brief_of(bytes) {
+            Brief::Ask { who, .. } | Brief::Offer { who, .. } => who,
+            _ => return None,
+        };
+        let heard = self.heard.get_mut(who as usize)?;
+        if *heard {
+            return None;
+        }
+        *heard = true;
+        Some(Note::Viewer(who, peer))
+    }
+
+    /// A datagram comes from a peer: what is told of that.
+    pub fn comes(&mut self, peer: u16, bytes: &[u8]) -> Option<Note> {
+        self.tally.received = self.tally.received.saturating_add(1);
+        match self.refusal(bytes) {
+            Some(why) => self.dropped(why, peer),
+            None => self.first_heard(bytes, peer),
+        }
+    }
+
+    /// An ack is sent: more offers of a viewer may be numbered than it said before.
+    fn acks(&mut self, who: u8, boot: u32, count: u32) {
+        let Some(acked) = self.acked.get_mut(who as usize) else {
+            return;
+        };
+        let before = if acked.0 == boot { acked.1 } else { 0 };
+        *acked = (boot, count);
+        let more = u64::from(count.saturating_sub(before));
+        self.tally.points = self.tally.points.saturating_add(more);
+    }
+
+    /// A datagram is sent.
+    pub fn goes(&mut self, bytes: &[u8]) {
+        self.tally.sent = self.tally.sent.saturating_add(1);
+        if let Brief::Ack { who, boot, count } = brief_of(bytes) {
+            self.acks(who, boot, count);
+        }
+    }
+
+    /// A turn is over: what is told of that.
+    pub fn rests(&mut self) -> Option<Note> {
+        self.tally.turns = self.tally.turns.saturating_add(1);
+        match self.node {
+            Node::Viewer(_) if self.tally.received == 0 && self.tally.turns == SILENT => {
+                Some(Note::NoAnswer)
+            }
+            _ => None,
+        }
+    }
+}

@@ -1,0 +1,35 @@
+//! The boxes of a scene's scripts.
+
+ghost use Rattle.std.specs.Prelude.{◌≡◌, OnOk, IfOk, IfErr, map};
+ghost use Rattle.cascade_core.specs.Scripts.{scripts_in};
+ghost use Rattle.script_specs.specs.Scripts.{script_list};
+ghost use Rattle.script_host.specs.Attaching.{Fits};
+ghost use Rattle.script_host.specs.Hosting.{fresh_record};
+ghost use Rattle.share_io.specs.Boxes.{IsRefused};
+ghost use Rattle.share_io.specs.declared.fault.RunFault.TheVariants.{Memory};
+
+use crate::fault::RunFault;
+use scene_core::Scene;
+use script_host::{Behaviour, Scripts};
+use script_specs::script_list;
+use std::alloc::Global;
+
+/// The scripts of a scene with these boxes, none of which is initialized, as a stage of the scene
+/// takes them. Where they are refused the boxes are dropped.
+pub fn attach<B: Behaviour>(
+    alloc: Global,
+    scene: &Scene,
+    boxes: Vec<B>,
+) -> Result<Scripts<B>, RunFault>
+    ensures fits { IfOk result (λ scripts. Fits (script_list scene.now) scripts) }
+    ensures fresh { IfOk result (λ scripts. scripts ≡ scripts_in scene.now) }
+    ensures boxes { OnOk result
+        (Fits (script_list scene.now) (map (fresh_record B.kind_of B.numbers) boxes.items)) }
+    ensures takes { Fits (script_list scene.now)
+        (map (fresh_record B.kind_of B.numbers) boxes.items) → IfErr result (λ f. f ≡ Memory) }
+    ensures refused { IfErr result
+        (IsRefused scene.now (map (fresh_record B.kind_of B.numbers) boxes.items)) }
+{
+    let specs = script_list(alloc, scene)?;
+    Ok(Scripts::attach(alloc, specs.as_slice(), boxes)?)
+}

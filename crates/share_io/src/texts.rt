@@ -1,0 +1,40 @@
+//! What a run writes of its stage, and that nothing is written where it is refused.
+
+ghost use Rattle.std.specs.Prelude.{◌≡◌, ◌++◌, Err, OnOk, IfErr, MatchResult};
+ghost use Rattle.std.specs.Io.KnownBytes.{Appends, Keeps};
+ghost use Rattle.cascade_core.specs.Held.{IfRunning, IfSpoiled};
+ghost use Rattle.cascade_answers.specs.declared.fault.TextFault.TheVariants as TextFault;
+ghost use Rattle.share_jobs.specs.declared.fault.JobFault.TheVariants.{Device};
+ghost use Rattle.share_io.specs.Texts.{texts};
+
+use crate::stream::write_whole;
+use cascade_core::{Stage, TextFault};
+use script_host::Behaviour;
+use share_jobs::JobFault;
+use std::io::Write;
+
+/// Appends the trace and then the scene of a stage; a spoiled one has no texts.
+pub fn push_texts<B: Behaviour>(stage: &Stage<B>, out: &mut Vec<u8>) -> Result<(), TextFault>
+    ensures refused { IfSpoiled stage.now.held (result ≡ Err TextFault.Spoiled) }
+    ensures ok { IfRunning stage.now.held (λ w.
+        OnOk result (out.new.items ≡ out.old.items ++ texts stage.now.scene stage.now.routes w)) }
+    ensures memory { IfRunning stage.now.held (λ w.
+        IfErr result (λ fault. fault ≡ TextFault.Memory)) }
+{
+    stage.trace_text(out)?;
+    stage.scene_text(out)?;
+    Ok(())
+}
+
+/// Writes a text that was made; where it was refused, nothing.
+pub fn write_made<W: Write>(writer: &mut W, made: Result<Vec<u8>, JobFault>) -> Result<(), JobFault>
+    ensures { MatchResult made
+        (λ text. MatchResult result
+        (λ _. Appends (W.contents writer.old) (W.contents writer.new) text.items)
+        (λ fault. fault ≡ Device))
+        (λ fault. (result ≡ Err fault) × Keeps (W.contents writer.old) (W.contents writer.new)) }
+{
+    let text = made?;
+    write_whole(writer, text.as_slice())?;
+    Ok(())
+}

@@ -1,0 +1,74 @@
+//! Stages with boxes of the stock.
+
+ghost use Rattle.std.specs.Prelude.{◌≡◌, ◌⊎◌, IfOk, IfErr, OnOk, None, Some};
+ghost use Rattle.cascade_core.specs.Scripts.{scripts_in};
+ghost use Rattle.script_specs.specs.Scripts.{script_list};
+ghost use Rattle.script_host.specs.Attaching.{Fits};
+ghost use Rattle.x3d_lists.specs.Answers.{Gives};
+ghost use Rattle.share_stages.specs.Stages.{IsFresh, fresh, opened_stage, scripts_refusal, staged};
+ghost use Rattle.share_jobs.specs.declared.fault.JobFault.TheVariants.{Memory};
+
+use cascade_core::Stage;
+use scene_core::Scene;
+use script_boxes::{StockScript, attach_stock};
+use script_host::Scripts;
+use script_specs::script_list;
+use share_jobs::JobFault;
+use share_program::{Opened, open_scene};
+use std::alloc::{AllocError, Global};
+
+/// Boxes of the stock for the scripts of a scene, none of which is initialized.
+fn scripts_of(alloc: Global, scene: &Scene) -> Result<Scripts<StockScript>, JobFault>
+    ensures fits { IfOk result (λ scripts. Fits (script_list scene.now) scripts) }
+    ensures fresh { IfOk result (λ scripts. scripts ≡ scripts_in scene.now) }
+    ensures taken { OnOk result (scripts_refusal scene.now ≡ None) }
+    ensures refused { IfErr result (λ f. (f ≡ Memory) ⊎ (scripts_refusal scene.now ≡ Some f)) }
+{
+    let specs = script_list(alloc, scene)?;
+    Ok(attach_stock(alloc, specs.as_slice())?)
+}
+
+/// The stage of a scene with these scripts before any input.
+fn loaded(
+    alloc: Global,
+    opened: Opened,
+    scripts: Scripts<StockScript>,
+) -> Result<Stage<StockScript>, AllocError>
+    requires fits { Fits (script_list opened.scene) scripts }
+    requires fresh { scripts ≡ scripts_in opened.scene }
+    ensures { IfOk result (λ s. s ≡ fresh opened) }
+{
+    match Stage::load(alloc, opened.scene, opened.routes, scripts) {
+        Ok(stage) => Ok(stage),
+        Err(_refused) => Err(AllocError),
+    }
+}
+
+/// The stage of a scene before any input. It is refused for memory, or else for the first fault of
+/// its scripts.
+pub fn fresh_stage(alloc: Global, opened: Opened) -> Result<Stage<StockScript>, JobFault>
+    ensures exact { Gives Memory (λ s. s) result (staged opened) }
+    ensures ok { IfOk result (λ s. s ≡ fresh opened) }
+    ensures taken { OnOk result (scripts_refusal opened.scene ≡ None) }
+    ensures err { IfErr result (λ f. (f ≡ Memory) ⊎ (scripts_refusal opened.scene ≡ Some f)) }
+{
+    match scripts_of(alloc, &opened.scene) {
+        Ok(scripts) => Ok(loaded(alloc, opened, scripts)?),
+        // A scene is dropped by a call: left to an exit, its drop is proved in place.
+        Err(fault) => {
+            drop(opened);
+            Err(fault)
+        }
+    }
+}
+
+/// The stage of a text's scene before any input. It is refused for memory, or else for the first
+/// fault of the text or of its scripts.
+#[tactic(auto, unfolding(crate::specs::Stages::opened_stage))]
+pub fn stage_of(alloc: Global, text: &[u8]) -> Result<Stage<StockScript>, JobFault>
+    ensures exact { Gives Memory (λ s. s) result (opened_stage text.now) }
+    ensures fresh { IfOk result IsFresh }
+{
+    let opened = open_scene(alloc, text)?;
+    fresh_stage(alloc, opened)
+}

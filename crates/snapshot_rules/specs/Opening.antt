@@ -1,0 +1,41 @@
+-- The versions of snapshots, and what is tested of one before its world (our choice).
+use Rattle.std.specs.Prelude.{ℕ, ◌==◌, List, Option, Some, None, Result, if◌then◌else◌, slice_get}
+use Rattle.std.specs.Option.{option_and_then, unwrap_or}
+use Rattle.snapshot_codec.specs.declared.head.HeadFault.{HeadFault}
+use Rattle.snapshot_codec.specs.declared.viewers.Viewers.{Viewers}
+use Rattle.snapshot_codec.specs.declared.viewers.Viewers.TheVariants.{Sixteen}
+use Rattle.snapshot_codec.specs.Head.{head_fault, opened}
+use Rattle.snapshot_rules.specs.declared.version.Version.{Version}
+use Rattle.snapshot_rules.specs.declared.version.Version.TheVariants.{One}
+
+-- ---- the versions that are read
+
+-- the number of a version: the fifth byte of its snapshots
+abbrev pub version_number : Version → ℕ
+version_number One = 1
+
+-- the version of this number, where there is one
+abbrev pub version_of : ℕ → Option Version
+version_of n = if n == version_number One then Some One else None
+
+-- the version of the snapshots that are written
+abbrev pub newest : Version
+newest = One
+
+-- how many viewers a world has in snapshots of a version
+abbrev pub viewers_of : Version → Viewers
+viewers_of One = Sixteen
+
+-- ---- the version of a snapshot
+
+-- the version that its fifth byte names; bytes that name none are held against the newest
+abbrev pub version_in : List ℕ → Version
+version_in bytes = unwrap_or (option_and_then version_of (slice_get bytes 4)) newest
+
+-- what is wrong before the body, by the version that is named
+abbrev pub fault_before : (mark : List ℕ) → (bytes : List ℕ) → Option HeadFault
+fault_before mark bytes = head_fault (version_number (version_in bytes)) mark bytes
+
+-- the body, by the version that is named, or what is wrong before it
+abbrev pub found_body : (mark : List ℕ) → (bytes : List ℕ) → Result (List ℕ) HeadFault
+found_body mark bytes = opened (version_number (version_in bytes)) mark bytes

@@ -1,0 +1,189 @@
+//! What stands behind the fields of a node.
+
+ghost use Rattle.std.specs.Prelude.{◌≡◌, ◌++◌, IsTrue, OnErr, OnOk};
+ghost use Rattle.std.specs.Option.{option_map};
+ghost use Rattle.x3d_lists.specs.Extends.{Extends};
+ghost use Rattle.snapshot_codec.specs.Parts.{cycle_fits, cycle_codec};
+ghost use Rattle.snapshot_rules.specs.Beside.{time_part, touch_bytes, pointers_codec, touch_part, position_part, beside_codec};
+
+use sensor_core::{TimeState, TouchParts, TouchState};
+use snapshot_codec::{
+    Touch, Viewers, cycle_of, position_of, push_cycle, push_position, push_touch, touch_of,
+};
+use std::alloc::AllocError;
+use x3d_values::{NodeType, Position};
+
+/// What a node keeps beside the values of its fields: which cycle a TimeSensor runs, whose pointers
+/// are over a TouchSensor and who presses it, and which value a sequencer sent last. A node of
+/// another type keeps none of it.
+#[derive(Clone, Copy)]
+pub struct Beside {
+    pub time: TimeState,
+    pub touch: TouchState,
+    pub position: Position,
+}
+
+fn state_of(cycle: Option<u64>) -> TimeState
+    requires { IsTrue (cycle_fits cycle) }
+    ensures { result ≡ cycle }
+{
+    match cycle {
+        Some(number) => TimeState::active(number),
+        None => TimeState::inactive(),
+    }
+}
+
+/// A TimeSensor's cycle at the front of the bytes.
+fn time_state_of(bytes: &[u8]) -> Option<(TimeState, &[u8])>
+    ensures { option_map (λ x. (x.0, x.1.now)) result ≡ cycle_codec.read bytes.now }
+{
+    let Some((cycle, rest)) = cycle_of(bytes) else {
+        return None;
+    };
+    Some((state_of(cycle), rest))
+}
+
+#[tactic(auto, unfolding(crate::specs::Beside::time_part))]
+fn time_of(node_type: NodeType, bytes: &[u8]) -> Option<(TimeState, &[u8])>
+    ensures { option_map (λ x. (x.0, x.1.now)) result ≡ (time_part node_type).read bytes.now }
+{
+    match node_type {
+        NodeType::TimeSensor => time_state_of(bytes),
+        _ => Some((TimeState::inactive(), bytes)),
+    }
+}
+
+#[tactic(auto, unfolding(crate::specs::Beside::time_part))]
+fn push_time(node_type: NodeType, time: TimeState, out: &mut Vec<u8>) -> Result<(), AllocError>
+    ensures ok { OnOk result (out.new.items ≡ out.old.items ++ (time_part node_type).write time) }
+    ensures err { OnErr result (out.new.items ≡ out.old.items) }
+{
+    match node_type {
+        NodeType::TimeSensor => push_cycle(time.cycle(), out),
+        _ => Ok(()),
+    }
+}
+
+/// Who is over a TouchSensor, and who presses it, at the front of the bytes.
+#[tactic(auto, unfolding(crate::specs::Beside::pointers_codec))]
+fn pointers_of(bytes: &[u8]) -> Option<(TouchState, &[u8])>
+    ensures { option_map (λ x. (x.0, x.1.now)) result ≡ pointers_codec.read bytes.now }
+{
+    let Some((touch, rest)) = touch_of(Viewers::Sixteen, bytes) else {
+        return None;
+    };
+    let state = TouchState::from_parts(TouchParts {
+        over: touch.over,
+        presser: touch.presser,
+    })?;
+    Some((state, rest))
+}
+
+#[tactic(auto, unfolding(crate::specs::Beside::touch_part))]
+fn touch_state_of(node_type: NodeType, bytes: &[u8]) -> Option<(TouchState, &[u8])>
+    ensures { option_map (λ x. (x.0, x.1.now)) result ≡ (touch_part node_type).read bytes.now }
+{
+    match node_type {
+        NodeType::TouchSensor => pointers_of(bytes),
+        _ => Some((TouchState::untouched(), bytes)),
+    }
+}
+
+#[tactic(auto, unfolding(sensor_core::specs::Parts::parts_of_touch))]
+fn touch_bytes(touch: &TouchState) -> Touch
+    ensures { result ≡ touch_bytes touch.now }
+{
+    let parts = touch.parts();
+    Touch {
+        over: parts.over,
+        presser: parts.presser,
+    }
+}
+
+#[tactic(auto, unfolding(crate::specs::Beside::pointers_codec))]
+fn push_pointers(touch: &TouchState, out: &mut Vec<u8>) -> Result<(), AllocError>
+    ensures ok { OnOk result (out.new.items ≡ out.old.items ++ pointers_codec.write touch.now) }
+    ensures err { OnErr result (out.new.items ≡ out.old.items) }
+{
+    push_touch(Viewers::Sixteen, touch_bytes(touch), out)
+}
+
+#[tactic(auto, unfolding(crate::specs::Beside::touch_part))]
+fn push_touch_state(
+    node_type: NodeType,
+    touch: &TouchState,
+    out: &mut Vec<u8>,
+) -> Result<(), AllocError>
+    ensures ok { OnOk result
+        (out.new.items ≡ out.old.items ++ (touch_part node_type).write touch.now) }
+    ensures err { OnErr result (out.new.items ≡ out.old.items) }
+{
+    match node_type {
+        NodeType::TouchSensor => push_pointers(touch, out),
+        _ => Ok(()),
+    }
+}
+
+#[tactic(auto, unfolding(crate::specs::Beside::position_part))]
+fn place_of(node_type: NodeType, bytes: &[u8]) -> Option<(Position, &[u8])>
+    ensures { option_map (λ x. (x.0, x.1.now)) result ≡ (position_part node_type).read bytes.now }
+{
+    match node_type {
+        NodeType::BooleanSequencer => position_of(bytes),
+        NodeType::IntegerSequencer => position_of(bytes),
+        _ => Some((Position { at: None }, bytes)),
+    }
+}
+
+#[tactic(auto, unfolding(crate::specs::Beside::position_part))]
+fn push_place(node_type: NodeType, position: Position, out: &mut Vec<u8>) -> Result<(), AllocError>
+    ensures ok { OnOk result
+        (out.new.items ≡ out.old.items ++ (position_part node_type).write position) }
+    ensures err { OnErr result (out.new.items ≡ out.old.items) }
+{
+    match node_type {
+        NodeType::BooleanSequencer => push_position(position, out),
+        NodeType::IntegerSequencer => push_position(position, out),
+        _ => Ok(()),
+    }
+}
+
+/// What stands behind the fields of a node of this type, at the front of the bytes, and the bytes
+/// behind it.
+#[tactic(auto, unfolding(crate::specs::Beside::beside_codec))]
+pub fn beside_of(node_type: NodeType, bytes: &[u8]) -> Option<(Beside, &[u8])>
+    ensures { option_map (λ x. (x.0, x.1.now)) result ≡ (beside_codec node_type).read bytes.now }
+{
+    let Some((time, rest)) = time_of(node_type, bytes) else {
+        return None;
+    };
+    let Some((touch, rest)) = touch_state_of(node_type, rest) else {
+        return None;
+    };
+    let Some((position, rest)) = place_of(node_type, rest) else {
+        return None;
+    };
+    let beside = Beside {
+        time,
+        touch,
+        position,
+    };
+    Some((beside, rest))
+}
+
+/// Appends what stands behind the fields of a node of this type; on a refusal perhaps a part of it.
+#[tactic(auto, unfolding(crate::specs::Beside::beside_codec))]
+pub fn push_beside(
+    node_type: NodeType,
+    beside: &Beside,
+    out: &mut Vec<u8>,
+) -> Result<(), AllocError>
+    ensures ok { OnOk result
+        (out.new.items ≡ out.old.items ++ (beside_codec node_type).write beside.now) }
+    ensures kept { Extends out.old.items out.new.items }
+{
+    push_time(node_type, beside.time, out)?;
+    push_touch_state(node_type, &beside.touch, out)?;
+    push_place(node_type, beside.position, out)?;
+    Ok(())
+}

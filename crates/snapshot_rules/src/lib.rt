@@ -1,0 +1,13 @@
+//! Parts of snapshots that need no world: what stands behind the fields of a node, the states of
+//! scripts, and what is tested before a world is read.
+#![tactic(auto)]
+
+mod beside;
+mod opening;
+mod states;
+mod version;
+
+pub use beside::{Beside, beside_of, push_beside};
+pub use opening::{body_in, is_older, none_left};
+pub use states::{push_states, states_of};
+pub use version::{Version, newest, version_in};

@@ -1,0 +1,118 @@
+//! How refusals are said: the line and the status of each, and faults in words.
+
+use super::{Row, all_hold};
+use classic_text::{ReadFault, ReadFaultKind};
+use proto_flat::{ExpandFault, ExpandFaultKind};
+use route_core::{RouteFault, RouteFaultKind};
+use scene_core::{SceneFault, SceneFaultKind};
+use script_host::AttachFault;
+use share_program::{Failure, JobFault, RunFault, ShareFault, refusal_line, status_of};
+use share_words::OrderFault;
+use std::alloc::{AllocError, Global};
+use std::process::Abort;
+
+/// A failure, the status and the line that tell of it, and what it says itself.
+struct Told(Failure, u8, &'static str, &'static str);
+
+impl Row for Told {
+    fn holds(&self, alloc: Global) -> Result<bool, AllocError> {
+        let words = format!(in alloc; "{}", self.0)?;
+        let line = refusal_line(&self.0);
+        Ok(status_of(&self.0) == self.1 && line.as_str() == self.2 && words.as_str() == self.3)
+    }
+}
+
+static TOLD: [Told; 12] = [
+    Told(
+        Failure::Order(OrderFault::Memory),
+        5,
+        "refused Memory",
+        "memory was refused",
+    ),
+    Told(
+        Failure::Job(JobFault::BadJob(7)),
+        2,
+        "refused BadJob line 7",
+        "line 7 is no step",
+    ),
+    Told(
+        Failure::Job(JobFault::Read(ReadFault {
+            kind: ReadFaultKind::UnexpectedEnd,
+            line: 4_294_967_295,
+        })),
+        1,
+        "refused UnexpectedEnd line 4294967295",
+        "line 4294967295: the text ends too early",
+    ),
+    Told(
+        Failure::Job(JobFault::Read(ReadFault {
+            kind: ReadFaultKind::Memory,
+            line: 0,
+        })),
+        5,
+        "refused Memory",
+        "memory was refused",
+    ),
+    Told(
+        Failure::Job(JobFault::Expand(ExpandFault {
+            kind: ExpandFaultKind::FieldTwice,
+            line: 3,
+        })),
+        1,
+        "refused FieldTwice line 3",
+        "line 3: the field is given twice",
+    ),
+    Told(
+        Failure::Job(JobFault::Scene(SceneFault {
+            kind: SceneFaultKind::ValueRange,
+            line: 5,
+        })),
+        1,
+        "refused ValueRange line 5",
+        "line 5: a number is out of its range",
+    ),
+    Told(
+        Failure::Job(JobFault::Route(RouteFault {
+            kind: RouteFaultKind::TypesDiffer,
+            line: 4,
+        })),
+        1,
+        "refused TypesDiffer line 4",
+        "line 4: the fields have different types",
+    ),
+    Told(
+        Failure::Run(RunFault::Attach(AttachFault::UnknownScript(2))),
+        1,
+        "refused UnknownScript",
+        "the kind of script 2 is unknown",
+    ),
+    Told(
+        Failure::Run(RunFault::Device),
+        4,
+        "refused Device",
+        "the output failed",
+    ),
+    Told(
+        Failure::Share(ShareFault::Port),
+        4,
+        "refused Port",
+        "a port failed",
+    ),
+    Told(
+        Failure::Share(ShareFault::TurnsUsedUp),
+        3,
+        "refused TurnsUsedUp",
+        "all turns were used up",
+    ),
+    Told(
+        Failure::Share(ShareFault::Spoiled),
+        5,
+        "refused Spoiled",
+        "memory was refused before",
+    ),
+];
+
+#[test]
+fn refusals_are_told(rt: HostRuntime) {
+    all_hold(&rt, rt.alloc(), &TOLD);
+}

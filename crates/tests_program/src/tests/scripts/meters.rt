@@ -1,0 +1,54 @@
+//! Where a meter takes memory, and where not.
+
+use super::holds;
+use script_host::Behaviour;
+use script_stock::Meter;
+use std::alloc::Global;
+use std::process::Abort;
+use tests_memory::UsedUp;
+
+const READINGS: [i64; 8] = [1, 2, 3, 4, 5, 6, 7, 8];
+
+/// The mean that is sent at a ninth reading.
+fn mean(meter: &mut Meter) -> Option<i64> {
+    let replies = meter.receive(0, [9, 0, 0]);
+    replies.as_slice().first().map(|reply| reply.numbers[0])
+}
+
+/// Whether the state is told.
+fn tells(alloc: Global, meter: &Meter) -> bool {
+    let mut state = Vec::new(alloc);
+    let told = meter.state(&mut state).is_ok();
+    drop(state);
+    told
+}
+
+/// Whether it takes no memory to look at a state, to restore a meter and to receive a reading, but
+/// to tell the state and to make a meter.
+fn works(alloc: Global, meter: &mut Meter) -> bool {
+    let Ok(used_up) = UsedUp::new(alloc) else {
+        return false;
+    };
+    let fits = meter.fits(&READINGS);
+    let restored = meter.restore(&READINGS);
+    let mean = mean(meter);
+    let told = tells(alloc, meter);
+    let made = Meter::new(alloc).err().is_none();
+    drop(used_up);
+    fits == Ok(()) && restored == Ok(()) && mean == Some(5) && !told && !made
+}
+
+fn takes_memory(alloc: Global) -> bool {
+    let Ok(mut meter) = Meter::new(alloc) else {
+        return false;
+    };
+    let worked = works(alloc, &mut meter);
+    let told = tells(alloc, &meter);
+    drop(meter);
+    worked && told
+}
+
+#[test]
+fn a_meter_takes_memory_where_it_is_made_and_where_it_tells_its_state(rt: HostRuntime) {
+    holds(&rt, takes_memory(rt.alloc()));
+}

@@ -1,0 +1,279 @@
+//! A host and two viewers that take turns, one of them perhaps by its command: each viewer comes to
+//! what `run` prints.
+
+ghost use Rattle.std.specs.Prelude.{◌≤◌};
+
+use super::cable::{Cable, End, HOST, laid};
+use super::given::{Job, ONE_POINTER, ORDER, TEN_CLOCKS, TWO_CLOCKS, TWO_POINTERS, joined, run_of};
+use super::{Row, all_hold};
+use share_commands::{JointJob, host_job, joint_job, seated_job, shared_job, view_job};
+use share_core::Host;
+use share_port::{Port, PortFault};
+use share_turns::{HostPlan, ViewPlan, host_run, view_run};
+use share_words::{HostOrder, Order, ViewEnd, ViewOrder};
+use std::alloc::{AllocError, Global};
+use std::cell::RefCell;
+use std::process::Abort;
+
+/// More turns than it takes.
+const TURNS: u32 = 100;
+
+/// All inputs are kept, and all turns are taken.
+const ALL: HostPlan = HostPlan {
+    keep: None,
+    until: None,
+};
+
+/// So many inputs, in so many turns.
+fn plan(until: u32, turns: u32) -> ViewPlan {
+    ViewPlan {
+        until,
+        turns,
+        join: None,
+        give: None,
+    }
+}
+
+/// The addresses of the viewers, and one of no node.
+const FIRST: u16 = HOST + 1;
+
+const SECOND: u16 = HOST + 2;
+
+const NOBODY: u16 = HOST + 3;
+
+/// What is left of these after so many turns.
+fn after<T>(items: &[T], turns: usize) -> &[T] {
+    items.split_at(turns.min(items.len())).1
+}
+
+/// A host and the viewers of a job, at the ends of a cable, and what viewers print.
+#[derive(Drop)]
+struct Nodes<'a> {
+    alloc: Global,
+    cable: &'a RefCell<Cable>,
+    job: &'static Job,
+    host: Host,
+    joint: JointJob,
+    turn: usize,
+    printed: Vec<u8>,
+}
+
+impl<'a> Nodes<'a> {
+    /// The next turn of the host.
+    fn host_on(&mut self) {
+        let clocks = after(self.job.clocks, self.turn);
+        let mut port = End::new(self.cable, HOST);
+        let _ended = host_run(&mut self.host, clocks, &ALL, 1, &mut port);
+    }
+
+    /// The next turn of a viewer, unless it came to its end.
+    fn view_on(&mut self, who: u8) {
+        let Some(points) = self.job.points.get(usize::from(who)) else {
+            return;
+        };
+        let Some(viewer) = self.joint.viewers.get_mut(usize::from(who)) else {
+            return;
+        };
+        let until = self.job.inputs;
+        if viewer.applied() < until {
+            let points = after(points, self.turn);
+            let mut port = End::new(self.cable, FIRST + u16::from(who));
+            let plan = plan(until, 1);
+            let out = &mut self.printed;
+            let _ended = view_run(self.alloc, viewer, points, &plan, HOST, &mut port, out);
+        }
+    }
+
+    /// The next turn of each that isn't at this address. What ends a turn early shows in what is
+    /// printed.
+    fn take_turns(&mut self, away: u16) {
+        if away != HOST {
+            self.host_on();
+        }
+        for who in 0..2 {
+            if away != FIRST + u16::from(who) {
+                self.view_on(who);
+            }
+        }
+        self.turn = self.turn.saturating_add(1);
+    }
+}
+
+/// The end of one node, before whose receives the others take a turn.
+#[derive(Drop)]
+struct Between<'a> {
+    address: u16,
+    end: End<'a>,
+    others: Nodes<'a>,
+}
+
+impl<'a> Port for Between<'a> {
+    ghost failure_count = { λ p. p.end.failed };
+
+    fn send(&mut self, to: u16, bytes: &[u8]) -> Result<(), PortFault> {
+        self.end.send(to, bytes)
+    }
+
+    fn receive(&mut self, into: &mut [u8; 257]) -> Result<Option<(u16, usize)>, PortFault> {
+        self.others.take_turns(self.address);
+        self.end.receive(into)
+    }
+
+    fn failures(&self) -> u64 {
+        self.end.failures()
+    }
+}
+
+/// Whether the host comes to its end by its command, with a job's bytes.
+fn hosts(alloc: Global, bytes: &[u8], port: &mut Between<'_>) -> bool {
+    let order = Order::Host(HostOrder {
+        port: HOST,
+        viewers: 2,
+        turns: TURNS,
+        keep: None,
+        until: None,
+        verbose: false,
+    });
+    let Ok(job) = shared_job(alloc, bytes, &order) else {
+        return false;
+    };
+    let mut count = 0;
+    let answer = host_job(alloc, &job, 2, &ALL, TURNS, port, &mut count);
+    drop(job);
+    answer == Ok(())
+}
+
+/// Whether a viewer comes to its end by its command, with a job's bytes.
+fn views(alloc: Global, bytes: &[u8], who: u8, port: &mut Between<'_>) -> bool
+    requires { who ≤ 15 }
+{
+    let until = port.others.job.inputs;
+    let order = Order::View(ViewOrder {
+        port: HOST,
+        who,
+        boot: 1,
+        end: ViewEnd::Until(until),
+        turns: TURNS,
+        at: None,
+        give: None,
+        join: false,
+        verbose: false,
+    });
+    let Ok(mut seat) = seated_job(alloc, bytes, &order, who, 1) else {
+        return false;
+    };
+    let answer = view_job(alloc, &mut seat, HOST, &plan(until, TURNS), port);
+    drop(seat);
+    match answer {
+        Ok(text) => port
+            .others
+            .printed
+            .extend_from_slice(text.as_slice())
+            .is_ok(),
+        Err(_) => false,
+    }
+}
+
+/// The nodes of a job over a cable that is lossy or not, and the address of the one that does its
+/// work by its command, which begins when the others have taken so many turns.
+struct Turns(&'static Job, bool, u16, u32);
+
+impl Turns {
+    /// Whether that node comes to its end, if there is one.
+    fn ends(&self, alloc: Global, port: &mut Between<'_>) -> bool {
+        let Some(steps) = self.0.parts.get(usize::from(self.2)) else {
+            return true;
+        };
+        let Ok(bytes) = joined(alloc, steps, self.0.scene) else {
+            return false;
+        };
+        match self.2 {
+            HOST => hosts(alloc, bytes.as_slice(), port),
+            FIRST => views(alloc, bytes.as_slice(), 0, port),
+            _ => views(alloc, bytes.as_slice(), 1, port),
+        }
+    }
+
+    /// The same, while the others begin before it and go on behind it.
+    fn ends_between(&self, alloc: Global, port: &mut Between<'_>) -> bool {
+        for _turn in 0..self.3 {
+            port.others.take_turns(self.2);
+        }
+        let ended = self.ends(alloc, port);
+        for _turn in 0..TURNS {
+            port.others.take_turns(self.2);
+        }
+        ended
+    }
+
+    /// Whether both viewers print that.
+    fn print(&self, alloc: Global, cable: &RefCell<Cable>, bytes: &[u8], wanted: &[u8]) -> bool {
+        let Ok(joint) = joint_job(alloc, bytes, &ORDER, 2) else {
+            return false;
+        };
+        let mut port = Between {
+            address: self.2,
+            end: End::new(cable, self.2),
+            others: Nodes {
+                alloc,
+                cable,
+                job: self.0,
+                host: Host::new(alloc, joint.mark, 2),
+                joint,
+                turn: 0,
+                printed: Vec::new(alloc),
+            },
+        };
+        let ended = self.ends_between(alloc, &mut port);
+        let printed = port.others.printed.strip_prefix(wanted) == Some(wanted);
+        drop(port);
+        ended && printed
+    }
+}
+
+impl Row for Turns {
+    fn holds(&self, alloc: Global) -> Result<bool, AllocError> {
+        let bytes = joined(alloc, self.0.steps, self.0.scene)?;
+        let wanted = run_of(alloc, "", bytes.as_slice())?;
+        let cable = laid(alloc, self.1, 0);
+        let held = self.print(alloc, &cable, bytes.as_slice(), wanted.as_slice());
+        drop(cable);
+        Ok(held)
+    }
+}
+
+const CLEAN: bool = false;
+
+const LOSSY: bool = true;
+
+static TURN_FOR_TURN: [Turns; 4] = [
+    Turns(&TWO_CLOCKS, CLEAN, NOBODY, 0),
+    Turns(&TWO_POINTERS, CLEAN, NOBODY, 0),
+    Turns(&TEN_CLOCKS, LOSSY, NOBODY, 0),
+    Turns(&ONE_POINTER, LOSSY, NOBODY, 0),
+];
+
+#[test]
+fn nodes_come_to_a_run(rt: HostRuntime) {
+    all_hold(&rt, rt.alloc(), &TURN_FOR_TURN);
+}
+
+static BY_COMMAND: [Turns; 12] = [
+    Turns(&TWO_CLOCKS, CLEAN, HOST, 0),
+    Turns(&TWO_CLOCKS, CLEAN, FIRST, 0),
+    Turns(&TWO_CLOCKS, CLEAN, SECOND, TURNS),
+    Turns(&ONE_POINTER, CLEAN, HOST, 0),
+    Turns(&ONE_POINTER, CLEAN, FIRST, 0),
+    Turns(&ONE_POINTER, CLEAN, SECOND, TURNS),
+    Turns(&TEN_CLOCKS, LOSSY, HOST, 0),
+    Turns(&TEN_CLOCKS, LOSSY, FIRST, 0),
+    Turns(&TEN_CLOCKS, LOSSY, SECOND, TURNS),
+    Turns(&ONE_POINTER, LOSSY, HOST, 0),
+    Turns(&ONE_POINTER, LOSSY, FIRST, 0),
+    Turns(&ONE_POINTER, LOSSY, SECOND, TURNS),
+];
+
+#[test]
+fn commands_come_to_their_ends(rt: HostRuntime) {
+    all_hold(&rt, rt.alloc(), &BY_COMMAND);
+}

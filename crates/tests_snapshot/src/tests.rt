@@ -1,0 +1,154 @@
+//! Snapshots of version 1 by their bytes: today's `save` makes them, and they are loaded again.
+
+ghost use Rattle.std.specs.Prelude.{◌≡◌, IfOk};
+ghost use Rattle.cascade_core.specs.Scripts.{scripts_in};
+ghost use Rattle.script_specs.specs.Scripts.{script_list};
+ghost use Rattle.script_host.specs.Attaching.{Fits};
+
+mod stored;
+
+use cascade_core::{Stage, TextFault};
+use scene_core::Scene;
+use script_boxes::{StockScript, boxes_of};
+use script_host::Scripts;
+use script_specs::script_list;
+use share_commands::{SharedJob, shared_job};
+use share_jobs::Inputs;
+use share_program::{RunFault, attach};
+use share_words::Order;
+use snapshot_core::{Saved, load_into, save};
+use std::alloc::Global;
+use std::process::Abort;
+use stored::{CLOCKED, EMPTY, EVERYTHING, OPENING, Stored};
+
+/// Boxes of the stock for the scripts of a scene.
+fn scripts_of(alloc: Global, scene: &Scene) -> Result<Scripts<StockScript>, RunFault>
+    ensures fits { IfOk result (λ scripts. Fits (script_list scene.now) scripts) }
+    ensures fresh { IfOk result (λ scripts. scripts ≡ scripts_in scene.now) }
+{
+    let specs = script_list(alloc, scene)?;
+    let boxes = boxes_of(alloc, specs.as_slice())?;
+    attach(alloc, scene, boxes)
+}
+
+/// A stage before any input, with the inputs that are to come, and the mark of its scene.
+#[derive(Drop)]
+struct Begun {
+    stage: Stage<StockScript>,
+    inputs: Inputs,
+    mark: [u8; 32],
+}
+
+/// What a job begins with; none where memory is refused.
+fn begin(alloc: Global, job: &str) -> Option<Begun> {
+    let Ok(job) = shared_job(alloc, job.as_bytes(), &Order::Run) else {
+        return None;
+    };
+    let SharedJob {
+        inputs,
+        mark,
+        scene,
+        routes,
+    } = job;
+    let Ok(scripts) = scripts_of(alloc, &scene) else {
+        drop(routes);
+        drop(scene);
+        drop(inputs);
+        return None;
+    };
+    match Stage::load(alloc, scene, routes, scripts) {
+        Ok(stage) => Some(Begun {
+            stage,
+            inputs,
+            mark,
+        }),
+        Err(_refused) => {
+            drop(inputs);
+            None
+        }
+    }
+}
+
+fn applies_all(stage: &mut Stage<StockScript>, inputs: &Inputs) -> bool {
+    for input in inputs.as_slice() {
+        if stage.apply(input).is_err() {
+            return false;
+        }
+    }
+    true
+}
+
+/// Whether the snapshot of a stage, of boot 1, has these bytes.
+fn is_saved(alloc: Global, stage: &Stage<StockScript>, mark: &[u8; 32], shot: &[u8]) -> bool {
+    let mut out = Vec::new(alloc);
+    let saved = save(stage, mark, 1, &mut out).is_ok();
+    let same = out.as_slice() == shot;
+    drop(out);
+    saved && same
+}
+
+/// Appends the trace and the scene of a stage.
+fn push_texts(stage: &Stage<StockScript>, out: &mut Vec<u8>) -> Result<(), TextFault> {
+    stage.trace_text(out)?;
+    stage.scene_text(out)
+}
+
+/// Whether two stages have the same texts.
+fn are_alike(alloc: Global, one: &Stage<StockScript>, other: &Stage<StockScript>) -> bool {
+    let mut first = Vec::new(alloc);
+    let mut second = Vec::new(alloc);
+    let pushed = push_texts(one, &mut first).is_ok() & push_texts(other, &mut second).is_ok();
+    let same = first.as_slice() == second.as_slice();
+    drop(second);
+    drop(first);
+    pushed && same
+}
+
+/// Whether a stage that applies all inputs is saved as these bytes, and one that loads them is left
+/// as that one, and saved as the same bytes again.
+fn are_exact(alloc: Global, one: &mut Begun, other: &mut Begun, stored: &Stored) -> bool {
+    let saved = Saved {
+        boot: 1,
+        applied: stored.applied,
+    };
+    applies_all(&mut one.stage, &one.inputs)
+        && is_saved(alloc, &one.stage, &one.mark, stored.shot)
+        && load_into(&mut other.stage, &other.mark, 2, stored.shot) == Ok(saved)
+        && are_alike(alloc, &one.stage, &other.stage)
+        && is_saved(alloc, &other.stage, &other.mark, stored.shot)
+}
+
+fn end(begun: Begun) {
+    let Begun { stage, inputs, .. } = begun;
+    drop(inputs);
+    stage.close();
+}
+
+fn holds(rt: &impl Abort, alloc: Global, stored: &Stored) {
+    let Some(mut one) = begin(alloc, stored.job) else {
+        panic!(rt; "there is no stage");
+    };
+    let Some(mut other) = begin(alloc, stored.job) else {
+        panic!(rt; "there is no other stage");
+    };
+    let exact = are_exact(alloc, &mut one, &mut other, stored);
+    end(other);
+    end(one);
+    assert!(rt; exact);
+}
+
+#[test]
+fn a_scene_without_nodes(rt: HostRuntime) {
+    holds(&rt, rt.alloc(), &EMPTY);
+}
+
+#[test]
+fn a_scene_before_and_after_a_clock(rt: HostRuntime) {
+    holds(&rt, rt.alloc(), &OPENING);
+    holds(&rt, rt.alloc(), &CLOCKED);
+}
+
+#[test]
+fn each_kind_of_state_and_field(rt: HostRuntime) {
+    holds(&rt, rt.alloc(), &EVERYTHING);
+}

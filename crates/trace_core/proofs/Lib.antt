@@ -1,7 +1,0 @@
-pub mod SameEnds
-pub mod RoutePlaces
-mod Counting
-mod Marks
-mod Traces
-mod Told
-mod Passed

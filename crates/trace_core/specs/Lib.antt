@@ -1,4 +1,0 @@
-pub mod Bits
-pub mod Ends
-pub mod LineText
-pub mod Trace

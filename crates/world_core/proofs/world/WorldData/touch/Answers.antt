@@ -1,5 +1,0 @@
-use Rattle.world_core.proofs.TouchReplies.{few-replies, few-room}
-use Rattle.world_core.proofs.world.WorldData.touch.Goals as goal
-
-pub forget-requires : goal.forget-requires
-forget-requires c = record { room = rw c.in_ok-react.ensures.replies (few-room _ (few-replies _ _ _ _)) }

@@ -1,5 +1,0 @@
-use Rattle.world_laws.proofs.Reactions.{all_reactions_fit}
-use Rattle.world_laws.proofs.answers.reactions_fit.Goals as goal
-
-pub returns : goal.returns
-returns c = λ t ds. all_reactions_fit ds t

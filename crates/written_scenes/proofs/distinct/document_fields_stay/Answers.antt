@@ -1,5 +1,0 @@
-use Rattle.written_scenes.proofs.DistinctScenes.{fields_stay}
-use Rattle.written_scenes.proofs.distinct.document_fields_stay.Goals as goal
-
-pub returns : goal.returns
-returns c = fields_stay c.fields_are_distinct.ensures c.written_fields_stay.ensures

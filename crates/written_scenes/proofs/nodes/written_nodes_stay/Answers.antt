@@ -1,5 +1,0 @@
-use Rattle.written_scenes.proofs.NodesStaying.{all_stay}
-use Rattle.written_scenes.proofs.nodes.written_nodes_stay.Goals as goal
-
-pub returns : goal.returns
-returns c = all_stay c.labels_are_distinct.ensures

@@ -1,0 +1,166 @@
+#!/usr/bin/env python3
+"""Measures the room: a scene of 1,000 nodes, and 16 windows whose pointers move 11 times a second.
+
+usage: room/measure.py [SECONDS] [SHOWN]
+SHOWN (1) of the windows are chromium's; the others post and listen as a page does. It tells what
+the server took of a processor, and how many frames a second each window of chromium had."""
+import contextlib
+import http.client
+import json
+import math
+import os
+import random
+import re
+import subprocess
+import sys
+import tempfile
+import threading
+import time
+from pathlib import Path
+
+sys.dont_write_bytecode = True
+import browser
+from test_room import Served
+
+WINDOWS, PACE, MOVING = 16, 0.09, 8
+GRID = [(column - 7, row - 5) for row in range(11) for column in range(15)]
+BOX = """DEF Box%d Transform {
+  translation %d %d 0
+  children [
+    DEF Touch%d TouchSensor {}
+    Shape {
+      appearance Appearance { material Material { diffuseColor %.2f %.2f 0.7 } }
+      geometry Box { size 0.7 0.7 0.7 }
+    }
+  ]
+}
+"""
+WAY = """DEF Way%d PositionInterpolator { key [ 0, 0.5, 1 ] keyValue [ %d %d 0, %d %d 2, %d %d 0 ] }
+ROUTE Clock.fraction_changed TO Way%d.set_fraction
+ROUTE Way%d.value_changed TO Box%d.translation
+"""
+# A page's pointer goes in a circle, and its frames are counted.
+MOVE = """(() => {
+  const view = document.getElementById('view'), box = view.getBoundingClientRect();
+  let way = 6 * Math.random();
+  window.counted = 0;
+  const count = () => { window.counted += 1; requestAnimationFrame(count); };
+  count();
+  setInterval(() => {
+    way += 0.05;
+    const clientX = box.left + box.width * (0.5 + 0.4 * Math.cos(way));
+    const clientY = box.top + box.height * (0.5 + 0.4 * Math.sin(way));
+    view.dispatchEvent(new PointerEvent('pointermove', { clientX, clientY }));
+  }, 90);
+})()"""
+
+
+def scene():
+    """1,000 nodes: 165 boxes that can be pointed at, of which eight go to and fro."""
+    parts = ["#X3D V3.0 utf8\nViewpoint { position 0 0 17 }\n"]
+    for number, (x, y) in enumerate(GRID):
+        parts.append(BOX % (number, x, y, number, 0.55 + 0.05 * x, 0.6 + 0.06 * y))
+    parts.append("DEF Clock TimeSensor { cycleInterval 4 loop TRUE startTime 1 }\n")
+    for number in range(MOVING):
+        ends = GRID[20 * number] * 3
+        parts.append(WAY % (number, *ends, number, number, 20 * number))
+    return "".join(parts)
+
+
+class Client(threading.Thread):
+    """A window without a browser: it listens to its events, and moves its pointer in a circle."""
+
+    def __init__(self, port):
+        super().__init__(daemon=True)
+        self.link, self.numbered = http.client.HTTPConnection("127.0.0.1", port, timeout=60), 0
+        self.seat = self.post("/join")
+        self.events = http.client.HTTPConnection("127.0.0.1", self.seat["port"], timeout=60)
+        self.events.request("GET", f"/events?token={self.seat['token']}")
+        threading.Thread(target=self.listen, daemon=True).start()
+
+    def post(self, path, **body):
+        given = {"Content-Type": "application/json"}
+        self.link.request("POST", path, json.dumps(body), given)
+        return json.loads(self.link.getresponse().read())
+
+    def listen(self):
+        answer = self.events.getresponse()
+        while part := answer.read1(1 << 16):
+            for found in re.finditer(rb'"numbered": (\d+)', part):
+                self.numbered = int(found[1])
+
+    def run(self):
+        way = 6 * random.random()
+        while True:
+            way += 0.05
+            ray = round(400_000 * math.cos(way)), round(280_000 * math.sin(way)), -1_000_000
+            aim = [0, 0, 17_000_000, *ray]
+            self.post("/point", token=self.seat["token"], down=False, aim=aim)
+            time.sleep(PACE)
+
+
+def used(process):
+    """The seconds of a processor that a process has taken."""
+    parts = Path(f"/proc/{process.pid}/stat").read_text().rpartition(") ")[2].split()
+    return (int(parts[11]) + int(parts[12])) / os.sysconf("SC_CLK_TCK")
+
+
+def clients(port, count):
+    """Windows without a browser, in a process that tells each second how much is numbered."""
+    found = [Client(port) for _ in range(count)]
+    for client in found:
+        client.start()
+    while True:
+        print(found[0].numbered, flush=True)
+        time.sleep(1)
+
+
+def counts_of(page):
+    """How many frames a window had, how many were drawn anew, and its seconds of script."""
+    page.call("Performance.enable")
+    known = {each["name"]: each["value"] for each in page.call("Performance.getMetrics")["metrics"]}
+    return [*page.value("[window.counted, room.three.draws]"), known["ScriptDuration"]]
+
+
+def measure(served, pages, others, seconds):
+    for page in pages:
+        page.wait("window.room && room.three.content && room.state.status")
+        page.value(MOVE)
+    for _ in range(4):
+        others.stdout.readline()
+    begun, before = time.monotonic(), used(served.process)
+    counts, first = [counts_of(page) for page in pages], int(others.stdout.readline())
+    for _ in range(seconds):
+        last = int(others.stdout.readline())
+    took, share = time.monotonic() - begun, used(served.process) - before
+    print(f"{WINDOWS} windows, {(last - first) / took:.0f} inputs a second, {took:.1f} s")
+    print(f"server: {100 * share / took:.1f} % of a processor")
+    for page, old in zip(pages, counts):
+        frames, draws, script = ((now - then) / took for now, then in zip(counts_of(page), old))
+        badge = page.value("document.getElementById('badge').textContent")
+        print(f"window: {frames:.1f} frames a second, {draws:.1f} of them drawn anew; {badge}")
+        print(f"        {1000 * script / max(frames, 1):.1f} ms of script a frame")
+
+
+def main():
+    if sys.argv[1:2] == ["--clients"]:
+        return clients(int(sys.argv[2]), int(sys.argv[3]))
+    given = [int(word) for word in sys.argv[1:]]
+    seconds, shown = [*given, *[20, 1][len(given) :]]
+    with contextlib.ExitStack() as ends:
+        file = ends.enter_context(tempfile.NamedTemporaryFile("w", suffix=".x3dv"))
+        file.write(scene())
+        file.flush()
+        served, pages = ends.enter_context(Served(file.name)), []
+        if shown and browser.installed():
+            window = ends.enter_context(contextlib.closing(browser.Browser()))
+            pages = [window.open(served.address) for _ in range(shown)]
+        count = str(WINDOWS - len(pages))
+        words = [sys.executable, __file__, "--clients", str(served.port), count]
+        others = ends.enter_context(subprocess.Popen(words, stdout=subprocess.PIPE, text=True))
+        ends.callback(others.terminate)
+        measure(served, pages, others, seconds)
+
+
+if __name__ == "__main__":
+    main()

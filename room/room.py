@@ -1,0 +1,265 @@
+"""A room: the host of a shared world, and a viewer for each window. Both are the library's, by
+bindings/python; what stands here carries their datagrams, ticks the clock, and saves viewers."""
+import functools
+import hashlib
+import itertools
+import sys
+from pathlib import Path
+from typing import NamedTuple
+
+TOP = Path(__file__).resolve().parent.parent
+sys.path[:0] = [str(TOP / "bindings/python"), str(TOP / "scripts")]
+import x3d
+from channel import Channel
+from scene import scene_of
+from wire import PIECE, read_input
+
+VIEWERS = 16
+# Viewers are saved, and their worlds compared, every so many turns: as many more for so many bytes.
+CHECK, GROWTH = 60, 1 << 18
+# How many inputs the host keeps below those that a late window lacks.
+KEPT = 600
+# How many offers a viewer sends in a turn, and pieces, unless all would then take so many turns.
+OFFERS, PIECES, ROUND = 8, 64, 30
+# How often a viewer asks in a turn, at most, as long as what comes shows that something was lost.
+ASKS = 4
+# Of how many numbers a viewer's digests are remembered.
+DIGESTS = 64
+# What was just read or written for one viewer comes at once for the next.
+RECENT = 1024
+# The boot in a snapshot and its seal (crates/snapshot_codec/README.md) are no part of a world.
+BOOT, SEAL = slice(37, 41), 32
+
+
+def digest_of(snapshot):
+    """The digest of the world that a snapshot is of, whoever took it."""
+    world = snapshot[: BOOT.start] + snapshot[BOOT.stop : -SEAL]
+    return hashlib.sha256(world).hexdigest()[:16]
+
+
+class Joining(NamedTuple):
+    """How a viewer joins: the number of a snapshot, its pieces round and round, how many a turn."""
+
+    number: int
+    pieces: itertools.cycle
+    batch: int
+
+
+class Seat:
+    """The place of a window. It stays while its viewer is killed and starts again."""
+
+    def __init__(self, who):
+        self.who, self.viewer, self.saved, self.marked = who, None, None, 0
+        self.begin()
+
+    def begin(self):
+        """The viewer has another world: `told`, which number the window was told of, is none."""
+        self.digests, self.points, self.joins, self.told = {}, [], None, None
+        # Whether an input came in this turn before one that is lacking.
+        self.lacks = False
+
+    def mark(self):
+        """Saves the viewer where it stands, and notes its digest; the number and the snapshot."""
+        self.marked, self.saved = self.viewer.applied(), self.viewer.snapshot()
+        self.digests[self.marked] = digest_of(self.saved)
+        if len(self.digests) > DIGESTS:
+            del self.digests[min(self.digests)]
+        return self.marked, self.saved
+
+    def news(self):
+        """What the window has to be told, with its kind: what the last inputs changed, or all."""
+        number = self.viewer.applied()
+        if number == self.told:
+            return None
+        first, self.told = self.told, number
+        here = [each for each in self.points if each.number <= number]
+        self.points = [each for each in self.points if each.number > number]
+        points = {each.point.who: each.point for each in sorted(here)}
+        told = {"n": number, "points": [*points.values()]}
+        if first is None:
+            return "scene", {**told, **scene_of(self.viewer)}
+        return "news", {**told, "trace": self.viewer.trace(first + 1)}
+
+    def status(self):
+        """What windows show of the viewer."""
+        if not self.viewer:
+            return {"who": self.who, "runs": False}
+        about = {"n": self.viewer.applied(), "waiting": self.viewer.waiting()}
+        digest = self.digests.get(self.marked, "")
+        return {"who": self.who, "runs": True, "at": self.marked, "digest": digest, **about}
+
+
+class Room:
+    """All of it, in turns. A scene that is refused raises x3d.Refusal."""
+
+    def __init__(self, text):
+        self.text, self.channel, self.full = text, Channel(), False
+        self.seats, self.boots = {}, itertools.count(1)
+        # The numbers at which viewers are saved, and the turns until the next.
+        self.marks, self.rest = [], CHECK
+        with x3d.Viewer(text, 0, next(self.boots)) as first:
+            self.newest = 0, first.snapshot()
+        self.host = x3d.Host(text, VIEWERS)
+        self.packet = functools.lru_cache(RECENT)(self.host.packet)
+        self.read = functools.lru_cache(RECENT)(read_input)
+
+    def join(self):
+        """The seat of a new window, with a viewer that runs; none where the room is full."""
+        free = [who for who in range(VIEWERS) if who not in self.seats]
+        if not free:
+            return None
+        self.seats[free[0]] = Seat(free[0])
+        try:
+            self.start(free[0])
+        except (x3d.Fault, MemoryError):
+            self.leave(free[0])
+            raise
+        return free[0]
+
+    def start(self, who):
+        """Starts a viewer: in its snapshot, if one was saved, or else at the beginning."""
+        seat, viewer = self.seats[who], x3d.Viewer(self.text, who, next(self.boots))
+        if seat.saved:
+            viewer.rewind(seat.saved, next(self.boots))
+        seat.viewer = viewer
+        seat.begin()
+        self.mark(seat)
+
+    def kill(self, who):
+        """Drops a viewer with all that it holds in memory. What it saved stays."""
+        if self.seats[who].viewer:
+            self.seats[who].viewer.close()
+            self.seats[who].viewer = None
+
+    def leave(self, who):
+        """Frees the seat of a window that is gone."""
+        self.kill(who)
+        del self.seats[who]
+        self.channel.lost.pop(who, None)
+
+    def running(self):
+        return [seat for seat in self.seats.values() if seat.viewer]
+
+    def mark(self, seat):
+        """Saves a viewer. The host lets go of inputs that no one lacks who joins."""
+        self.newest = max(self.newest, seat.mark(), key=lambda saved: saved[0])
+        joining = [each.joins.number for each in self.running() if each.joins]
+        floor = min([self.newest[0], *joining]) + 1 - KEPT
+        self.host.drop_below(max(self.host.floor(), floor))
+        self.marks = [number for number in self.marks if number >= floor]
+
+    def turn(self, time):
+        """One turn: the clock is numbered, and datagrams go both ways. A world that nobody is in
+        rests."""
+        if not self.seats:
+            return
+        self.tick(time)
+        for seat in self.running():
+            for offer in seat.viewer.resend()[:OFFERS]:
+                self.channel.send(seat.who, True, offer)
+            if seat.joins:
+                for piece in itertools.islice(seat.joins.pieces, seat.joins.batch):
+                    self.channel.send(seat.who, False, piece)
+        asking = self.running()
+        for _ in range(ASKS):
+            for seat in asking:
+                seat.lacks = False
+                self.channel.send(seat.who, True, seat.viewer.ask())
+            for _ in range(2):
+                for who, to_host, datagram in self.channel.arrived():
+                    self.deliver(who, to_host, datagram)
+            asking = [seat for seat in self.running() if seat.lacks]
+        self.channel.pass_turn()
+
+    def tick(self, time):
+        """Numbers the clock. Now and then viewers are to be saved at it; none has it yet."""
+        try:
+            self.rest -= 1
+            number = self.host.clock(time)
+            if self.rest <= 0:
+                self.marks.append(number)
+                self.rest = CHECK * (1 + len(self.newest[1]) // GROWTH)
+        except x3d.Fault as fault:
+            self.full = self.full or fault.name == "WorldFull"
+
+    def deliver(self, who, to_host, datagram):
+        """Hands a datagram to the host, or to a viewer that runs. A refused one changes nothing."""
+        seat = self.seats.get(who)
+        if not seat or not seat.viewer:
+            return
+        try:
+            (self.to_host if to_host else self.to_viewer)(seat, datagram)
+        except x3d.Fault as fault:
+            self.full = self.full or fault.name == "WorldFull"
+            if fault.name in ("Memory", "Spoiled"):
+                self.kill(who)
+
+    def to_host(self, seat, datagram):
+        """The host answers, with no input behind the next mark: so each viewer comes to it."""
+        kind, first, count = self.host.take(datagram)
+        if kind == "Asked":
+            stop = next((mark + 1 for mark in self.marks if mark >= first), first + count)
+            packets = map(self.packet, range(first, min(first + count, stop)))
+        else:
+            packets = [self.host.floor_packet() if kind == "Below" else self.host.ack(seat.who)]
+        for packet in packets:
+            self.channel.send(seat.who, False, packet)
+
+    def to_viewer(self, seat, datagram):
+        if datagram[5] == PIECE:
+            return self.gather(seat, datagram)
+        taken = seat.viewer.take(datagram)
+        seat.lacks = seat.lacks or taken.kind == "Kept"
+        if taken.kind in ("Applied", "Kept") and (pointed := self.read(datagram)).point:
+            seat.points.append(pointed)
+        elif taken.kind == "Behind" and not seat.joins:
+            self.give(seat)
+        if self.marks and self.marks[-1] > seat.marked:
+            number = seat.viewer.applied()
+            if number > seat.marked and number in self.marks:
+                self.mark(seat)
+
+    def give(self, seat):
+        """The newest snapshot of any viewer is sent to this one, in pieces."""
+        seat.viewer.forget()
+        number, snapshot = self.newest
+        pieces = seat.viewer.pieces(snapshot)
+        batch = min(len(pieces), max(PIECES, len(pieces) // ROUND))
+        seat.joins = Joining(number, itertools.cycle(pieces), batch)
+
+    def gather(self, seat, piece):
+        """A piece; once none is missing the viewer begins in the snapshot."""
+        if not seat.joins:
+            return
+        kind = seat.viewer.gather(piece)
+        if kind == "Other":
+            seat.viewer.forget()
+        elif kind == "Whole":
+            seat.viewer.join(next(self.boots))
+            seat.begin()
+            self.mark(seat)
+
+    def news(self, who):
+        """What a window has to be told of its viewer, with its kind, if it runs."""
+        try:
+            return self.seats[who].news() if self.seats[who].viewer else None
+        except x3d.Fault:
+            self.kill(who)
+            return None
+
+    def status(self):
+        """What windows show: each viewer, and the last number at which those that run are equal."""
+        found, lost = {}, self.channel.lost
+        for seat in self.running():
+            for number, digest in seat.digests.items():
+                found.setdefault(number, []).append(digest)
+        count = len(self.running())
+        equal = [each for each in found if len(found[each]) == count and len(set(found[each])) == 1]
+        viewers = [{**seat.status(), "lost": lost.get(who, 0)} for who, seat in self.seats.items()]
+        return {
+            "numbered": len(self.host),
+            "full": self.full,
+            "equal_at": max(equal, default=None),
+            "different": any(len(set(digests)) > 1 for digests in found.values()),
+            "viewers": sorted(viewers, key=lambda viewer: viewer["who"]),
+        }
