@@ -3,6 +3,7 @@ pub mod Choosing
 pub mod Few
 pub mod Moves
 pub mod Order
+pub mod Passing
 pub mod Passed
 pub mod Picking
 pub mod Renewed

@@ -6,6 +6,7 @@ pub mod Nearest
 pub mod Numbers
 pub mod Picked
 pub mod Renewal
+pub mod Runs
 pub mod Sensors
 pub mod Sites
 pub mod Spread

@@ -14,6 +14,11 @@ abbrev pub is_nearer : Fraction → Option Hit → Bool
 is_nearer at None = true
 is_nearer at (Some hit) = nat_lt (at.n * hit.m) (hit.n * at.m)
 
+-- how far the best hit is
+abbrev pub fraction_of : Option Hit → Option Fraction
+fraction_of None = None
+fraction_of (Some hit) = Some (record { n = hit.n; m = hit.m })
+
 abbrev pub hit_at : Placed → Fraction → Hit
 hit_at b at = record { path = b.path; n = at.n; m = at.m }
 

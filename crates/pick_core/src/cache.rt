@@ -1,38 +1,47 @@
 //! The boxes of a scene in a state, kept so that a ray needs no walk.
 
-ghost use Rattle.std.specs.Prelude.{◌≡◌, [], ◌∷◌, None};
+ghost use Rattle.std.specs.Prelude.{◌≡◌, ◌<◌, [], ◌∷◌, None, length, take};
 ghost use Rattle.std.specs.List.{fold};
 ghost use Rattle.pick_core.specs.Picked.{nearer};
+ghost use Rattle.pick_core.specs.Runs.{seen_in};
 ghost use Rattle.pick_core.specs.Sites as spec;
+ghost use Rattle.pick_tree.specs.Tree.{IsTreeOf};
 
 use crate::gather::gathered;
 use crate::hit::Hit;
-use crate::nearest::keep_nearer;
+use crate::nearest::{fraction_of, keep_nearer};
 use crate::renewal::{ranges_of, renew_ranges};
 use crate::row::{Row, refresh_all};
+use crate::runs::{renew_runs, tree_of};
 use pick_ranges::{RowRanges, first_place};
+use pick_tree::{Tree, passed};
 use scene_core::Scene;
 use std::alloc::{AllocError, Global};
 use std::marker::Model;
 use x3d_values::{Fields, Ray};
 
-/// The boxes of a scene in a state, and for each node which of them stand below it.
+/// The boxes of a scene in a state, for each node which of them stand below it, and the boxes round
+/// runs of them.
 #[derive(Drop)]
 pub struct BoxCache {
     rows: Vec<Row>,
     ranges: RowRanges,
+    tree: Tree,
 }
 
 impl Model for BoxCache {
     ghost use Rattle.std.specs.Prelude.{List};
     ghost use Rattle.pick_core.specs.declared.row.Row.{Row};
     ghost use Rattle.pick_core.specs.Renewal.{AreRangesOf};
+    ghost use Rattle.pick_core.specs.Runs.{seen_in};
+    ghost use Rattle.pick_tree.specs.Tree.{IsTreeOf};
 
     ghost Value = { List Row };
 
     ghost view = { λ c. c.rows.items };
 
-    ghost invariant = { λ c. AreRangesOf c.ranges c.rows.items };
+    ghost invariant = { λ c. AreRangesOf c.ranges c.rows.items
+        × IsTreeOf c.tree (seen_in c.rows.items) };
 }
 
 impl BoxCache {
@@ -50,7 +59,8 @@ impl BoxCache {
     {
         let rows = gathered(alloc, scene, state)?;
         let ranges = ranges_of(alloc, rows.as_slice())?;
-        Ok(BoxCache { rows, ranges })
+        let tree = tree_of(alloc, rows.as_slice())?;
+        Ok(BoxCache { rows, ranges, tree })
     }
 
     /// The nearest box that the ray hits, in the state for which the cache stands. It takes no
@@ -61,7 +71,7 @@ impl BoxCache {
         ensures value { (scene : SceneView) → (state : List FieldsOf)
             → self.now ≡ spec.rows_of scene state → result ≡ picked ray (boxes scene state) }
     {
-        pick_rows(self.rows.as_slice(), ray)
+        pick_rows(self.rows.as_slice(), &self.tree, ray)
     }
 
     /// Where the cache stood for a state that differs from this one at most at the node, it stands
@@ -72,7 +82,15 @@ impl BoxCache {
     {
         let first = first_place(&self.ranges, node);
         let ranges = self.ranges.ranges.as_slice();
-        renew_ranges(scene, state, node, ranges, first, self.rows.as_mut_slice());
+        renew_ranges(
+            scene,
+            state,
+            node,
+            ranges,
+            first,
+            self.rows.as_mut_slice(),
+            &mut self.tree,
+        );
     }
 
     /// Where the cache stood for any state of the scene, it stands for this one. It takes no
@@ -82,6 +100,7 @@ impl BoxCache {
             → self.new ≡ spec.rows_of scene.now state.now }
     {
         refresh_all(scene, state, self.rows.as_mut_slice());
+        renew_runs(self.rows.as_slice(), 0, usize::MAX, &mut self.tree);
     }
 }
 
@@ -93,12 +112,31 @@ fn pick_row(row: &Row, ray: Ray, best: &mut Option<Hit>)
     }
 }
 
-fn pick_rows(rows: &[Row], ray: Ray) -> Option<Hit>
+/// Goes past the rows from a place on that a tree tells to be no nearer than the best, or past one
+/// that it looks at, and answers the place of the next.
+fn pick_next(rows: &[Row], tree: &Tree, at: usize, ray: Ray, best: &mut Option<Hit>) -> usize
+    requires tree { IsTreeOf tree.now (seen_in rows.now) }
+    requires inside { at < length rows.now }
+    ensures further { at < result }
+    ensures best { best.old ≡ fold (nearer ray) None (spec.shown_rows (take at rows.now))
+        → best.new ≡ fold (nearer ray) None (spec.shown_rows (take result rows.now)) }
+{
+    let many = passed(tree, at, ray, fraction_of(best));
+    if many > 0 {
+        return at.saturating_add(many);
+    }
+    pick_row(&rows[at], ray, best);
+    at + 1
+}
+
+fn pick_rows(rows: &[Row], tree: &Tree, ray: Ray) -> Option<Hit>
+    requires { IsTreeOf tree.now (seen_in rows.now) }
     ensures { result ≡ fold (nearer ray) None (spec.shown_rows rows.now) }
 {
     let mut best = None;
-    for row in rows {
-        pick_row(row, ray, &mut best);
+    let mut at = 0;
+    while at < rows.len() {
+        at = pick_next(rows, tree, at, ray, &mut best);
     }
     best
 }

@@ -13,6 +13,7 @@ mod nearest;
 mod numbers;
 mod renewal;
 mod row;
+mod runs;
 mod sensors;
 mod trail;
 mod walk;

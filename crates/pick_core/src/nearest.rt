@@ -6,7 +6,8 @@ ghost use Rattle.pick_core.specs.Trail.{positions};
 
 use crate::hit::{Hit, Path};
 use crate::trail::Place;
-use pick_rules::{Bounds, Fraction, entry, is_less};
+use pick_rules::{Bounds, Fraction, entry};
+use pick_tree::is_before;
 use x3d_values::Ray;
 
 /// Keeps the hit of a box at the end of a trail where it is nearer than the best.
@@ -32,8 +33,15 @@ pub(crate) fn keep_nearer(trail: &[Place], bounds: Bounds, ray: Ray, best: &mut 
 fn is_nearer(at: Fraction, best: &Option<Hit>) -> bool
     ensures { result ≡ spec.is_nearer at best.now }
 {
+    is_before(at, fraction_of(best))
+}
+
+/// How far the best hit is.
+pub(crate) fn fraction_of(best: &Option<Hit>) -> Option<Fraction>
+    ensures { result ≡ spec.fraction_of best.now }
+{
     match best {
-        Some(hit) => is_less(at, Fraction { n: hit.n, m: hit.m }),
-        None => true,
+        Some(hit) => Some(Fraction { n: hit.n, m: hit.m }),
+        None => None,
     }
 }

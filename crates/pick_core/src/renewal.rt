@@ -4,11 +4,15 @@ ghost use Rattle.std.specs.Prelude.{◌≡◌, ℕ, true, Some, length, map, sli
 ghost use Rattle.pick_ranges.specs.Ranges.{HasRow, IsAmong, IsInRange};
 ghost use Rattle.pick_core.specs.declared.row.Row.{Row as RowOf};
 ghost use Rattle.pick_core.specs.Renewal.{AreRangesOf};
+ghost use Rattle.pick_core.specs.Runs.{seen_in};
 ghost use Rattle.pick_core.specs.Sites.{renewed, touches};
+ghost use Rattle.pick_tree.specs.Tree.{IsTreeOf};
 
 use crate::row::{Row, renew_row};
+use crate::runs::renew_runs;
 use crate::trail::Place;
 use pick_ranges::{RowRange, RowRanges, add_row, no_rows};
+use pick_tree::Tree;
 use scene_core::Scene;
 use std::alloc::{AllocError, Global};
 use x3d_values::Fields;
@@ -45,8 +49,8 @@ fn add_trail(ranges: &mut RowRanges, at: usize, trail: &[Place]) -> Result<(), A
     Ok(())
 }
 
-/// The rows that lead through a node then are those of this state. Each of them is in the range at
-/// a place, or in one that follows it.
+/// The rows that lead through a node then are those of this state, and the tree is round them. Each
+/// of them is in the range at a place, or in one that follows it.
 pub(crate) fn renew_ranges(
     scene: &Scene,
     state: &[Fields],
@@ -54,10 +58,13 @@ pub(crate) fn renew_ranges(
     ranges: &[RowRange],
     first: usize,
     rows: &mut [Row],
+    tree: &mut Tree,
 )
-    requires { (k : ℕ) (r : RowOf) → slice_get rows.old k ≡ Some r → touches node r.trail ≡ true
-        → IsAmong ranges.now (length ranges.now) first k }
-    ensures { rows.new ≡ map (renewed scene.now state.now node) rows.old }
+    requires ranges { (k : ℕ) (r : RowOf) → slice_get rows.old k ≡ Some r
+        → touches node r.trail ≡ true → IsAmong ranges.now (length ranges.now) first k }
+    requires tree { IsTreeOf tree.old (seen_in rows.old) }
+    ensures rows { rows.new ≡ map (renewed scene.now state.now node) rows.old }
+    ensures tree { IsTreeOf tree.new (seen_in rows.new) }
 {
     let mut place = first;
     let mut left = ranges.len();
@@ -66,6 +73,7 @@ pub(crate) fn renew_ranges(
             return;
         };
         renew_range(scene, state, node, range, rows);
+        renew_runs(rows, range.first, range.last, tree);
         place = range.next;
         left -= 1;
     }

@@ -3,6 +3,8 @@ use Rattle.std.specs.Prelude.{slice_get}
 use Rattle.pick_ranges.specs.Ranges.{IsAmong}
 use Rattle.std.proofs.lemmas.List.{take-append-le, length-map}
 use Rattle.pick_core.specs.Renewal.{AreRangesOf}
+use Rattle.pick_core.specs.Runs.{seen_in}
+use Rattle.pick_tree.specs.Tree.{IsTreeOf}
 use Rattle.pick_core.specs.Sites.{renewed}
 use Rattle.pick_core.proofs.Renewed.{ranges-kept, renewed-trail}
 use Rattle.pick_core.proofs.Rows.{renewed-rows}
@@ -14,8 +16,8 @@ returns c before h same =
     let state = c.args.state.now in
     let old = c.self.inside.rows in
     let new = c.renew_ranges.new.rows in
-    let mapped : new ≡ map (renewed scene state c.args.node) old.items = c.renew_ranges.ensures ∙ ap (map (renewed scene state c.args.node)) c.as_mut_slice.ensures.value in
-    let long : length new ≡ length c.as_mut_slice.result.now = ap length c.renew_ranges.ensures ∙ simp length-map in
+    let mapped : new ≡ map (renewed scene state c.args.node) old.items = c.renew_ranges.ensures.rows ∙ ap (map (renewed scene state c.args.node)) c.as_mut_slice.ensures.value in
+    let long : length new ≡ length c.as_mut_slice.result.now = ap length c.renew_ranges.ensures.rows ∙ simp length-map in
     let most : old.len ≤ length new = omega (arith, c.as_mut_slice.ensures.len) in
     let least : length new ≤ old.len = omega (arith, c.as_mut_slice.ensures.len) in
     take-append-le old.len new (drop (length new) old.items) most ∙ (take_all old.len new least ∙ (mapped ∙ renewed-rows scene before state c.args.node same old.items (c.self.view_is ∙ h)))
@@ -26,14 +28,20 @@ invariant_of-self c =
     let state = c.args.state.now in
     let old = c.self.inside.rows in
     let new = c.renew_ranges.new.rows in
-    let mapped : new ≡ map (renewed scene state c.args.node) old.items = c.renew_ranges.ensures ∙ ap (map (renewed scene state c.args.node)) c.as_mut_slice.ensures.value in
-    let long : length new ≡ length c.as_mut_slice.result.now = ap length c.renew_ranges.ensures ∙ simp length-map in
+    let mapped : new ≡ map (renewed scene state c.args.node) old.items = c.renew_ranges.ensures.rows ∙ ap (map (renewed scene state c.args.node)) c.as_mut_slice.ensures.value in
+    let long : length new ≡ length c.as_mut_slice.result.now = ap length c.renew_ranges.ensures.rows ∙ simp length-map in
     let most : old.len ≤ length new = omega (arith, c.as_mut_slice.ensures.len) in
     let least : length new ≤ old.len = omega (arith, c.as_mut_slice.ensures.len) in
     let whole : take old.len (new ++ drop (length new) old.items) ≡ map (renewed scene state c.args.node) old.items = take-append-le old.len new (drop (length new) old.items) most ∙ (take_all old.len new least ∙ mapped) in
-    subst (λ rows. AreRangesOf c.self.inside.ranges rows) (sym whole) (ranges-kept c.self.inside.ranges (renewed scene state c.args.node) old.items (renewed-trail scene state c.args.node) c.self.invariant)
+    let kept : take old.len (new ++ drop (length new) old.items) ≡ new = take-append-le old.len new (drop (length new) old.items) most ∙ take_all old.len new least in (
+      subst (λ rows. AreRangesOf c.self.inside.ranges rows) (sym whole) (ranges-kept c.self.inside.ranges (renewed scene state c.args.node) old.items (renewed-trail scene state c.args.node) c.self.invariant.0),
+      subst (λ rows. IsTreeOf c.renew_ranges.new.tree (seen_in rows)) (sym kept) c.renew_ranges.ensures.tree,
+    )
 
-pub renew_ranges-requires : goal.renew_ranges-requires
-renew_ranges-requires c k r e t =
-    let has = c.self.invariant c.args.node k r (ap (λ rows. slice_get rows k) (sym c.as_mut_slice.ensures.value) ∙ e) t in
+pub renew_ranges-requires-clause-ranges : goal.renew_ranges-requires-clause-ranges
+renew_ranges-requires-clause-ranges c k r e t =
+    let has = c.self.invariant.0 c.args.node k r (ap (λ rows. slice_get rows k) (sym c.as_mut_slice.ensures.value) ∙ e) t in
     subst (λ rs. IsAmong rs (length rs) c.first_place-first.result k) (sym c.as_slice-ranges.ensures.value) (c.first_place-first.ensures k has)
+
+pub renew_ranges-requires-clause-tree : goal.renew_ranges-requires-clause-tree
+renew_ranges-requires-clause-tree c = subst (λ rows. IsTreeOf c.self.inside.tree (seen_in rows)) (sym c.as_mut_slice.ensures.value) c.self.invariant.1

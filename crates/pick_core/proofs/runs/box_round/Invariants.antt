@@ -1,0 +1,10 @@
+use Rattle.std.proofs.Common.{◌-◌, length}
+use Rattle.pick_core.specs.Runs.{seen_in}
+use Rattle.pick_tree.proofs.Runs.{IsRound}
+use Rattle.pick_core.proofs.runs.box_round.Given as goal
+
+abbrev pub invariant-loop-at : goal.invariant-loop-at
+invariant-loop-at l = IsRound (seen_in l.rows) l.run l.at l.outer
+
+abbrev pub decreases-loop-at : goal.decreases-loop-at
+decreases-loop-at l = length l.rows - l.at

@@ -1,0 +1,75 @@
+//! The boxes round runs of rows.
+
+ghost use Rattle.std.specs.Prelude.{◌≡◌, ℕ, Option, Some, slice_get, IfOk};
+ghost use Rattle.pick_rules.specs.declared.bounds.Bounds.{Bounds as BoundsOf};
+ghost use Rattle.pick_tree.specs.Tree.{IsIn, IsOf, IsOverBut, IsRenewed, IsTreeOf, IsTreeBut};
+ghost use Rattle.pick_core.specs.Runs as spec;
+
+use crate::row::Row;
+use pick_rules::Bounds;
+use pick_tree::{Tree, WIDTH, empty_tree, joined, renew_groups};
+use std::alloc::{AllocError, Global};
+
+/// The box of a row that is shown.
+fn seen(row: &Row) -> Option<Bounds>
+    ensures { result ≡ spec.seen row.now }
+{
+    if row.shown { Some(row.bounds) } else { None }
+}
+
+/// The box round all rows of a run that are shown.
+fn box_round(rows: &[Row], run: usize) -> Option<Bounds>
+    ensures { (n : ℕ) (b : Option BoundsOf) → slice_get (spec.seen_in rows.now) n ≡ Some b
+        → IsOf n run → IsIn b result }
+{
+    let mut outer = None;
+    let mut at = run.saturating_mul(WIDTH);
+    let end = at.saturating_add(WIDTH);
+    while at < rows.len() {
+        if at >= end {
+            return outer;
+        }
+        outer = joined(outer, seen(&rows[at]));
+        at += 1;
+    }
+    outer
+}
+
+/// The boxes of the runs then are round their rows again, where the rows from `first` to `last`
+/// have changed.
+fn renew_boxes(rows: &[Row], first: usize, last: usize, runs: &mut [Option<Bounds>])
+    requires { IsOverBut first last runs.old (spec.seen_in rows.now) }
+    ensures { IsRenewed first last runs.old runs.new (spec.seen_in rows.now) }
+{
+    let mut run = first / WIDTH;
+    while run < runs.len() {
+        if run > last / WIDTH {
+            return;
+        }
+        runs[run] = box_round(rows, run);
+        run += 1;
+    }
+}
+
+/// The tree then is round the rows again, where those from `first` to `last` have changed.
+pub(crate) fn renew_runs(rows: &[Row], first: usize, last: usize, tree: &mut Tree)
+    requires { IsTreeBut first last tree.old (spec.seen_in rows.now) }
+    ensures { IsTreeOf tree.new (spec.seen_in rows.now) }
+{
+    renew_boxes(rows, first, last, tree.runs.as_mut_slice());
+    renew_groups(
+        tree.runs.as_slice(),
+        first / WIDTH,
+        last / WIDTH,
+        tree.groups.as_mut_slice(),
+    );
+}
+
+/// A tree round the rows.
+pub(crate) fn tree_of(alloc: Global, rows: &[Row]) -> Result<Tree, AllocError>
+    ensures { IfOk result (λ tree. IsTreeOf tree (spec.seen_in rows.now)) }
+{
+    let mut tree = empty_tree(alloc, rows.len())?;
+    renew_runs(rows, 0, usize::MAX, &mut tree);
+    Ok(tree)
+}

@@ -1,0 +1,72 @@
+-- Boxes round runs of 16 boxes.
+use Rattle.std.specs.Prelude.{◌≡◌, ℕ, ◌+◌, ◌*◌, ◌/◌, ◌≤◌, ◌<◌, ◌≤ℤ◌, List, length, Option, Some, None, slice_get, false}
+use Rattle.x3d_values.specs.Pointing.{Sight}
+use Rattle.pick_rules.specs.declared.bounds.Bounds.{Bounds}
+use Rattle.pick_rules.specs.declared.bounds.Fraction.{Fraction}
+use Rattle.pick_tree.specs.declared.tree.Tree.{Tree}
+use Rattle.pick_tree.specs.Passed.{enters_before}
+
+-- a box is inside another
+pub record IsInside (inner outer : Bounds) : Type 0 where
+  pub low_x : outer.low.x ≤ℤ inner.low.x
+  pub low_y : outer.low.y ≤ℤ inner.low.y
+  pub low_z : outer.low.z ≤ℤ inner.low.z
+  pub high_x : inner.high.x ≤ℤ outer.high.x
+  pub high_y : inner.high.y ≤ℤ outer.high.y
+  pub high_z : inner.high.z ≤ℤ outer.high.z
+
+-- the same, where there is a box
+abbrev pub IsIn : Option Bounds → Option Bounds → Type 0
+IsIn None outer = Unit {0}
+IsIn (Some b) None = ⊥
+IsIn (Some b) (Some c) = IsInside b c
+
+-- an item of a list stands in a run of 16
+abbrev pub IsOf : ℕ → ℕ → Type 0
+IsOf n run = (16 * run ≤ n) × (n < 16 * run + 16)
+
+-- the box of each run of a list is round all boxes of the run
+pub record IsOver (upper lower : List (Option Bounds)) : Type 0 where
+  pub room : length lower ≤ 16 * length upper
+  pub round : (n run : ℕ) (b c : Option Bounds) → slice_get lower n ≡ Some b
+      → slice_get upper run ≡ Some c → IsOf n run → IsIn b c
+
+-- the same, but for the boxes from one to another
+pub record IsOverBut (first last : ℕ) (upper lower : List (Option Bounds)) : Type 0 where
+  pub room : length lower ≤ 16 * length upper
+  pub round : (n run : ℕ) (b c : Option Bounds) → slice_get lower n ≡ Some b
+      → slice_get upper run ≡ Some c → IsOf n run → (first ≤ n → n ≤ last → ⊥) → IsIn b c
+
+-- the boxes of the runs then are round all, and only those of runs that have one of the boxes from
+-- one to another are others than before
+pub record IsRenewed (first last : ℕ) (old new lower : List (Option Bounds)) : Type 0 where
+  pub over : IsOver new lower
+  pub long : length new ≡ length old
+  pub outside : (run : ℕ) → (first / 16 ≤ run → run ≤ last / 16 → ⊥)
+      → slice_get new run ≡ slice_get old run
+
+-- the boxes of a tree are round the runs of a list, and round the groups of these
+pub record IsTreeOf (tree : Tree) (boxes : List (Option Bounds)) : Type 0 where
+  pub runs : IsOver tree.runs.items boxes
+  pub groups : IsOver tree.groups.items tree.runs.items
+
+-- the same, but for the boxes from one to another
+pub record IsTreeBut (first last : ℕ) (tree : Tree) (boxes : List (Option Bounds)) : Type 0 where
+  pub runs : IsOverBut first last tree.runs.items boxes
+  pub groups : IsOver tree.groups.items tree.runs.items
+
+-- what stands at a place, a box or none, a ray doesn't enter before the best so far
+pub record IsPassed (boxes : List (Option Bounds)) (at : ℕ) (ray : Sight) (best : Option Fraction) : Type 0 where
+  pub outer : Option Bounds
+  pub there : slice_get boxes at ≡ Some outer
+  pub late : enters_before outer ray best ≡ false
+
+-- a ray enters none of so many boxes from a place on before the best so far
+abbrev pub ArePassed : List (Option Bounds) → ℕ → ℕ → Sight → Option Fraction → Type 0
+ArePassed boxes at many ray best = (n : ℕ) (b : Option Bounds) → slice_get boxes n ≡ Some b
+    → at ≤ n → n < at + many → enters_before b ray best ≡ false
+
+-- what a ray doesn't enter in time has no box inside that it enters in time
+abbrev pub PassedInside : Type 0
+PassedInside = (inner outer : Option Bounds) (ray : Sight) (best : Option Fraction)
+    → IsIn inner outer → enters_before outer ray best ≡ false → enters_before inner ray best ≡ false
