@@ -20,3 +20,5 @@ mod Inputs
 pub mod Installs
 mod Places
 pub mod RunFaults
+mod Skipped
+mod Walks

@@ -21,15 +21,13 @@ use Rattle.cascade_core.specs.Outputs.{is_scene_output}
 use Rattle.cascade_core.specs.Scripts.{are_begun, kinds_in, scripts_in}
 use Rattle.cascade_core.specs.Settles.{settle}
 use Rattle.cascade_core.specs.Sound.{IsCast, IsFixed, IsSound, are_outputs, are_sent}
-use Rattle.cascade_core.specs.Stack.{IsReady, finish}
+use Rattle.cascade_core.specs.Stack.{IsReady}
 use Rattle.cascade_rules.specs.Replies.{send_by}
 use Rattle.cascade_core.specs.declared.fixed.Fixed.{Fixed}
-use Rattle.cascade_rules.specs.declared.tasks.Task.{Task}
 use Rattle.cascade_world.specs.declared.world.Turn.{Turn}
 use Rattle.cascade_core.proofs.Keeping.{replies-of}
 use Rattle.cascade_core.proofs.SceneOutputs.{AllOutputs}
 use Rattle.cascade_core.proofs.SoundLemmas.{act-sends}
-use Rattle.cascade_core.proofs.Tasks.{finish-all}
 
 both : (x y : Bool) → (x && y) ≡ true → (x ≡ true) × (y ≡ true)
 both true true h = (refl, refl)

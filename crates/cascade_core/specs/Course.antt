@@ -1,6 +1,6 @@
 -- A world whose scene runs scripts, and the course of one of its inputs (ISO/IEC 19775-1, event
 -- model, Script).
-use Rattle.std.specs.Prelude.{ℕ, ℤ, List, [], Option, length, slice_get}
+use Rattle.std.specs.Prelude.{ℕ, ℤ, List, Option, length, slice_get}
 use Rattle.std.specs.Option.{option_map_or}
 use Rattle.scene_core.specs.declared.scene.Route.{Route}
 use Rattle.scene_core.specs.Scene.{SceneView, shapes_of}

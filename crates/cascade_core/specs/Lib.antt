@@ -3,6 +3,7 @@ pub mod Cascade
 pub mod Apply
 pub mod Held
 pub mod InTurn
+pub mod Walks
 pub mod Work
 pub mod Texts
 pub mod Stack

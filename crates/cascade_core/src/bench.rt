@@ -13,12 +13,3 @@ pub struct Bench {
     /// The boxes of the scene as its nodes are now.
     pub boxes: BoxCache,
 }
-
-/// The sensors of a scene by their numbers, in order.
-#[derive(Drop)]
-pub struct Sensors {
-    /// The TimeSensors.
-    pub clocks: Vec<u32>,
-    /// The TouchSensors.
-    pub touches: Vec<u32>,
-}

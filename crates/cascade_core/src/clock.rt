@@ -1,7 +1,8 @@
-//! The clock ticks for each TimeSensor in number order.
+//! The clock ticks for each TimeSensor in number order; blocks of nodes of which it is known that
+//! nothing happens there are passed.
 
-ghost use Rattle.std.specs.Prelude.{◌≡◌, [], OnOk, true, length};
-ghost use Rattle.std.specs.List.{fold};
+ghost use Rattle.std.specs.Prelude.{◌≡◌, ◌*◌, ◌-◌, ◌≤◌, [], OnOk, true};
+ghost use Rattle.std.specs.List.{fold, range_with_len};
 ghost use Rattle.scene_core.specs.Scene.{types_of};
 ghost use Rattle.pick_core.specs.Sites.{rows_of};
 ghost use Rattle.script_turn.specs.Acting.{kinds_of};
@@ -9,16 +10,18 @@ ghost use Rattle.cascade_core.specs.Course.{plan_at, seen};
 ghost use Rattle.cascade_core.specs.Sound.{IsCast};
 ghost use Rattle.cascade_world.specs.Nodes.{clocks_of, is_clock};
 ghost use Rattle.cascade_core.specs.Apply.{tick_node as tick_node_of};
+ghost use Rattle.cascade_core.specs.Walks.{over_block, where_passes};
 
 use crate::course::Course;
 use crate::fixed::Fixed;
 use crate::stack::send_replies;
-use cascade_rules::Task;
+use cascade_rules::{Task, is_of};
+use cascade_world::BLOCK;
 use pick_core::BoxCache;
 use react_core::Outbox;
 use script_host::Behaviour;
 use std::alloc::AllocError;
-use x3d_values::Stamped;
+use x3d_values::{NodeType, Stamped};
 
 /// A TimeSensor ticks, and what it sends is followed.
 fn tick_node<B: Behaviour>(
@@ -48,17 +51,123 @@ fn tick_node<B: Behaviour>(
     send_replies(fixed, tasks, course, replies, boxes, node)
 }
 
+/// The node of that number ticks, where it is a TimeSensor.
+fn tick_any<B: Behaviour>(
+    fixed: &Fixed,
+    tasks: &mut Vec<Task>,
+    course: &mut Course<B>,
+    replies: &mut Outbox,
+    boxes: &mut BoxCache,
+    node: u32,
+    input: &Stamped,
+) -> Result<(), AllocError>
+    requires empty { tasks.old.items ≡ [] }
+    requires none { replies.old.items ≡ [] }
+    requires boxes { boxes.old ≡ rows_of fixed.now.scene course.old.turn.world.fields }
+    requires cast { IsCast (plan_at fixed.now) (seen course.old) }
+    ensures course { OnOk result (seen course.new
+        ≡ where_passes (is_clock (types_of fixed.now.scene))
+        (tick_node_of (plan_at fixed.now) input.now.time) (seen course.old) node) }
+    ensures empty { OnOk result (tasks.new.items ≡ []) }
+    ensures none { OnOk result (replies.new.items ≡ []) }
+    ensures boxes { OnOk result
+        (boxes.new ≡ rows_of fixed.now.scene course.new.turn.world.fields) }
+    ensures kinds { kinds_of course.new.scripts ≡ kinds_of course.old.scripts }
+    ensures count { course.new.settling.count ≡ course.old.settling.count }
+{
+    if !is_of(&fixed.scene, node, NodeType::TimeSensor) {
+        return Ok(());
+    }
+    tick_node(fixed, tasks, course, replies, boxes, node, input)
+}
+
+/// Each TimeSensor of some nodes ticks at its turn.
+fn tick_all<B: Behaviour>(
+    fixed: &Fixed,
+    tasks: &mut Vec<Task>,
+    course: &mut Course<B>,
+    replies: &mut Outbox,
+    boxes: &mut BoxCache,
+    start: u32,
+    end: u32,
+    input: &Stamped,
+) -> Result<(), AllocError>
+    requires empty { tasks.old.items ≡ [] }
+    requires none { replies.old.items ≡ [] }
+    requires boxes { boxes.old ≡ rows_of fixed.now.scene course.old.turn.world.fields }
+    requires cast { IsCast (plan_at fixed.now) (seen course.old) }
+    ensures course { OnOk result (seen course.new
+        ≡ fold (where_passes (is_clock (types_of fixed.now.scene))
+        (tick_node_of (plan_at fixed.now) input.now.time)) (seen course.old)
+        (range_with_len start (end - start))) }
+    ensures empty { OnOk result (tasks.new.items ≡ []) }
+    ensures none { OnOk result (replies.new.items ≡ []) }
+    ensures boxes { OnOk result
+        (boxes.new ≡ rows_of fixed.now.scene course.new.turn.world.fields) }
+    ensures kinds { kinds_of course.new.scripts ≡ kinds_of course.old.scripts }
+    ensures count { course.new.settling.count ≡ course.old.settling.count }
+{
+    for node in start..end {
+        tick_any(fixed, tasks, course, replies, boxes, node, input)?;
+    }
+    Ok(())
+}
+
+/// The TimeSensors of a block of nodes tick, of so many nodes in all. A block is passed where it is
+/// known that nothing happens there.
+fn tick_block<B: Behaviour>(
+    fixed: &Fixed,
+    tasks: &mut Vec<Task>,
+    course: &mut Course<B>,
+    replies: &mut Outbox,
+    boxes: &mut BoxCache,
+    block: u32,
+    count: u32,
+    input: &Stamped,
+) -> Result<(), AllocError>
+    requires within { block * 32 ≤ count }
+    requires empty { tasks.old.items ≡ [] }
+    requires none { replies.old.items ≡ [] }
+    requires boxes { boxes.old ≡ rows_of fixed.now.scene course.old.turn.world.fields }
+    requires cast { IsCast (plan_at fixed.now) (seen course.old) }
+    ensures course { OnOk result (seen course.new
+        ≡ over_block (where_passes (is_clock (types_of fixed.now.scene))
+        (tick_node_of (plan_at fixed.now) input.now.time)) (seen course.old) block count) }
+    ensures empty { OnOk result (tasks.new.items ≡ []) }
+    ensures none { OnOk result (replies.new.items ≡ []) }
+    ensures boxes { OnOk result
+        (boxes.new ≡ rows_of fixed.now.scene course.new.turn.world.fields) }
+    ensures kinds { kinds_of course.new.scripts ≡ kinds_of course.old.scripts }
+    ensures count { course.new.settling.count ≡ course.old.settling.count }
+{
+    if course.turn.world.is_idle(block, input) {
+        return Ok(());
+    }
+    let start = block * BLOCK;
+    let many = (count - start).min(BLOCK);
+    tick_all(
+        fixed,
+        tasks,
+        course,
+        replies,
+        boxes,
+        start,
+        start + many,
+        input,
+    )?;
+    course.turn.world.remember_idle(block, input);
+    Ok(())
+}
+
 /// Each TimeSensor ticks at its turn.
 pub fn clock<B: Behaviour>(
     fixed: &Fixed,
-    clocks: &[u32],
     tasks: &mut Vec<Task>,
     course: &mut Course<B>,
     boxes: &mut BoxCache,
     input: &Stamped,
 ) -> Result<(), AllocError>
     requires empty { tasks.old.items ≡ [] }
-    requires clocks { clocks.now ≡ clocks_of (types_of fixed.now.scene) }
     requires boxes { boxes.old ≡ rows_of fixed.now.scene course.old.turn.world.fields }
     requires cast { IsCast (plan_at fixed.now) (seen course.old) }
     ensures course { OnOk result (seen course.new
@@ -70,9 +179,19 @@ pub fn clock<B: Behaviour>(
     ensures kinds { kinds_of course.new.scripts ≡ kinds_of course.old.scripts }
     ensures count { course.new.settling.count ≡ course.old.settling.count }
 {
+    let count = fixed.scene.count()?;
     let mut replies = Outbox::new();
-    for node in clocks {
-        tick_node(fixed, tasks, course, &mut replies, boxes, *node, input)?;
+    for block in 0..count / BLOCK + 1 {
+        tick_block(
+            fixed,
+            tasks,
+            course,
+            &mut replies,
+            boxes,
+            block,
+            count,
+            input,
+        )?;
     }
     Ok(())
 }

@@ -1,7 +1,6 @@
 //! An input happens: it goes to the nodes that it concerns, scripts settle, and the world moves on.
 
 ghost use Rattle.std.specs.Prelude.{◌≡◌, ◌+◌, [], IfOk, OnOk, true, length};
-ghost use Rattle.scene_core.specs.Scene.{types_of};
 ghost use Rattle.pick_core.specs.Sites.{rows_of};
 ghost use Rattle.script_turn.specs.Acting.{kinds_of};
 ghost use Rattle.cascade_core.specs.Course.{plan_at, seen};
@@ -9,11 +8,10 @@ ghost use Rattle.cascade_core.specs.Sound.{IsCast, IsFixed};
 ghost use Rattle.cascade_core.specs.Course.{course as course_of, ended};
 ghost use Rattle.cascade_core.specs.Scripts.{kinds_in, running, states_of};
 ghost use Rattle.cascade_core.specs.Apply.{begin as begin_of};
-ghost use Rattle.cascade_world.specs.Nodes.{clocks_of, touch_sensors_of};
 ghost use Rattle.cascade_core.specs.Work.{IsWork};
 ghost use Rattle.cascade_core.specs.Apply.{apply, course_after, happen};
 
-use crate::bench::{Bench, Sensors};
+use crate::bench::Bench;
 use crate::clock::clock;
 use crate::course::Course;
 use crate::fixed::Fixed;
@@ -43,14 +41,11 @@ impl<B: Behaviour> Course<B> {
 /// What happened at an input goes to the nodes that it concerns.
 fn happen<B: Behaviour>(
     fixed: &Fixed,
-    sensors: &Sensors,
     bench: &mut Bench,
     course: &mut Course<B>,
     input: &Stamped,
 ) -> Result<(), AllocError>
     requires empty { bench.old.tasks.items ≡ [] }
-    requires clocks { sensors.now.clocks.items ≡ clocks_of (types_of fixed.now.scene) }
-    requires touches { sensors.now.touches.items ≡ touch_sensors_of (types_of fixed.now.scene) }
     requires boxes { bench.old.boxes ≡ rows_of fixed.now.scene course.old.turn.world.fields }
     requires cast { IsCast (plan_at fixed.now) (seen course.old) }
     ensures course { OnOk result (seen course.new
@@ -63,15 +58,8 @@ fn happen<B: Behaviour>(
     ensures count { course.new.settling.count ≡ course.old.settling.count }
 {
     match input.event() {
-        Event::Clock => clock(
-            fixed,
-            &sensors.clocks,
-            &mut bench.tasks,
-            course,
-            &mut bench.boxes,
-            input,
-        ),
-        Event::Pointer(pointer) => point(fixed, &sensors.touches, bench, course, pointer),
+        Event::Clock => clock(fixed, &mut bench.tasks, course, &mut bench.boxes, input),
+        Event::Pointer(pointer) => point(fixed, bench, course, pointer),
     }
 }
 
@@ -79,13 +67,10 @@ fn happen<B: Behaviour>(
 #[tactic(auto, unfolding(crate::specs::Apply::apply))]
 pub fn advance<B: Behaviour>(
     fixed: &Fixed,
-    sensors: &Sensors,
     bench: &mut Bench,
     course: &mut Course<B>,
     input: &Stamped,
 ) -> Result<Work, AllocError>
-    requires clocks { sensors.now.clocks.items ≡ clocks_of (types_of fixed.now.scene) }
-    requires touches { sensors.now.touches.items ≡ touch_sensors_of (types_of fixed.now.scene) }
     requires boxes { bench.old.boxes ≡ rows_of fixed.now.scene course.old.turn.world.fields }
     requires cast { IsCast (plan_at fixed.now) (seen course.old) }
     requires next { input.now.number ≡ course.old.turn.world.applied + 1 }
@@ -104,7 +89,7 @@ pub fn advance<B: Behaviour>(
 {
     bench.tasks.clear();
     course.begin(input);
-    happen(fixed, sensors, bench, course, input)?;
+    happen(fixed, bench, course, input)?;
     settle(fixed, &mut bench.tasks, course, &mut bench.boxes)?;
     let sent = course.turn.sent.as_slice();
     Ok(Work {

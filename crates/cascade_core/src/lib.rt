@@ -11,6 +11,7 @@ mod laws;
 mod opening;
 mod parts;
 mod pointer;
+mod pressed;
 mod series;
 mod settle;
 mod stack;
@@ -18,7 +19,7 @@ mod stage;
 
 pub use cascade_answers::{ApplyFault, LoadFault, PlaceFault, StatesFault, TextFault, Work};
 pub use cascade_trace::{LineHead, Trace, TraceLine, WritesLines};
-pub use cascade_world::{State, WorldData};
+pub use cascade_world::{State, Watched, WorldData};
 pub use laws::{kinds_law, places_law, settling_law, states_law};
 pub use series::run;
 pub use stage::Stage;

@@ -9,39 +9,34 @@ ghost use Rattle.script_specs.specs.Scripts.{script_list};
 ghost use Rattle.cascade_core.specs.Course.{plan_at};
 ghost use Rattle.cascade_core.specs.Sound.{IsFixed, IsSound};
 ghost use Rattle.cascade_core.specs.Apply.{untold};
-ghost use Rattle.cascade_world.specs.Nodes.{clocks_of, touch_sensors_of};
 ghost use Rattle.pick_core.specs.Sites.{rows_of};
-ghost use Rattle.scene_core.specs.Scene.{types_of};
 ghost use Rattle.sensor_core.specs.Touches.{untouched};
 
-use crate::bench::{Bench, Sensors};
+use crate::bench::Bench;
 use crate::fixed::Fixed;
-use cascade_rules::numbers_of;
 use cascade_trace::{SentBits, Trace};
-use cascade_world::{State, Turn, VIEWERS, WorldData};
+use cascade_world::{State, Turn, VIEWERS, Watched, WorldData};
 use pick_core::BoxCache;
 use route_core::Routes;
 use scene_core::Scene;
 use script_running::Runs;
 use sensor_core::{TimeState, TouchState};
 use std::alloc::{AllocError, Global};
-use x3d_lists::Items;
-use x3d_values::NodeType;
 
 /// No node runs a cycle.
-fn idle_sensors(alloc: Global, nodes: usize) -> Result<Items<TimeState>, AllocError>
+fn idle_sensors(alloc: Global, nodes: usize) -> Result<Watched<TimeState>, AllocError>
     ensures { IfOk result (λ sensors. sensors ≡ replicate nodes None) }
 {
     let sensors = vec![in alloc; TimeState::inactive(); nodes]?;
-    Ok(Items::from_vec(sensors))
+    Ok(Watched::from_vec(sensors))
 }
 
 /// No pointer is over a node.
-fn untouched_sensors(alloc: Global, nodes: usize) -> Result<Items<TouchState>, AllocError>
+fn untouched_sensors(alloc: Global, nodes: usize) -> Result<Watched<TouchState>, AllocError>
     ensures { IfOk result (λ touches. touches ≡ replicate nodes untouched) }
 {
     let touches = vec![in alloc; TouchState::untouched(); nodes]?;
-    Ok(Items::from_vec(touches))
+    Ok(Watched::from_vec(touches))
 }
 
 /// The world of a scene in which nothing has happened.
@@ -70,34 +65,15 @@ fn untold(alloc: Global, scene: &Scene) -> Result<WorldData, AllocError>
     })
 }
 
-/// The sensors of a scene.
-fn sensors_of(alloc: Global, scene: &Scene) -> Result<Sensors, AllocError>
-    ensures clocks { IfOk result
-        (λ sensors. sensors.clocks.items ≡ clocks_of (types_of scene.now)) }
-    ensures touches { IfOk result
-        (λ sensors. sensors.touches.items ≡ touch_sensors_of (types_of scene.now)) }
-{
-    let clocks = numbers_of(alloc, scene, NodeType::TimeSensor)?;
-    let touches = numbers_of(alloc, scene, NodeType::TouchSensor)?;
-    Ok(Sensors { clocks, touches })
-}
-
-/// What a stage works with: no task is left, and the boxes are those of the world. There is room
-/// for as many pressed sensors as there are.
-fn bench_of(
-    alloc: Global,
-    scene: &Scene,
-    world: &WorldData,
-    sensors: usize,
-) -> Result<Bench, AllocError>
+/// What a stage works with: no task is left, and the boxes are those of the world.
+fn bench_of(alloc: Global, scene: &Scene, world: &WorldData) -> Result<Bench, AllocError>
     ensures boxes { IfOk result (λ bench. bench.boxes ≡ rows_of scene.now world.now.fields) }
     ensures tasks { IfOk result (λ bench. bench.tasks.items ≡ []) }
 {
     let boxes = BoxCache::new(alloc, scene, world.fields.as_slice())?;
-    let pressed = Vec::with_capacity(alloc, sensors)?;
     Ok(Bench {
         tasks: Vec::new(alloc),
-        pressed,
+        pressed: Vec::new(alloc),
         boxes,
     })
 }
@@ -115,17 +91,12 @@ fn turn_of(alloc: Global, scene: &Scene) -> Result<Turn, AllocError>
 /// What a stage has beside its scene, its routes and its scripts.
 #[derive(Drop)]
 pub(crate) struct Parts {
-    pub(crate) sensors: Sensors,
     pub(crate) turn: Turn,
     pub(crate) bench: Bench,
 }
 
 /// The parts of a stage before any input.
 pub(crate) fn parts_of(alloc: Global, scene: &Scene) -> Result<Parts, AllocError>
-    ensures clocks { IfOk result
-        (λ parts. parts.sensors.clocks.items ≡ clocks_of (types_of scene.now)) }
-    ensures touches { IfOk result
-        (λ parts. parts.sensors.touches.items ≡ touch_sensors_of (types_of scene.now)) }
     ensures world { IfOk result (λ parts. parts.turn.world ≡ untold scene.now) }
     ensures sent { IfOk result (λ parts. parts.turn.sent ≡ []) }
     ensures tasks { IfOk result (λ parts. parts.bench.tasks.items ≡ []) }
@@ -133,21 +104,12 @@ pub(crate) fn parts_of(alloc: Global, scene: &Scene) -> Result<Parts, AllocError
         (λ parts. parts.bench.boxes ≡ rows_of scene.now parts.turn.world.fields) }
 {
     // Each exit drops by calls: a drop in place is proved anew at each.
-    let sensors = sensors_of(alloc, scene)?;
-    let Ok(turn) = turn_of(alloc, scene) else {
-        drop(sensors);
-        return Err(AllocError);
-    };
-    let Ok(bench) = bench_of(alloc, scene, &turn.world, sensors.touches.len()) else {
+    let turn = turn_of(alloc, scene)?;
+    let Ok(bench) = bench_of(alloc, scene, &turn.world) else {
         drop(turn);
-        drop(sensors);
         return Err(AllocError);
     };
-    Ok(Parts {
-        sensors,
-        turn,
-        bench,
-    })
+    Ok(Parts { turn, bench })
 }
 
 /// The scripts that a scene runs.

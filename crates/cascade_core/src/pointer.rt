@@ -1,27 +1,31 @@
 //! A viewer points: what that concerns is fixed first, and then each sensor meets the pointer at
 //! its turn (ISO/IEC 19775-1, pointing device sensor component).
 
-ghost use Rattle.std.specs.Prelude.{◌≡◌, [], OnOk};
-ghost use Rattle.std.specs.List.{fold};
+ghost use Rattle.std.specs.Prelude.{◌≡◌, ◌*◌, ◌-◌, ◌≤◌, [], OnOk};
+ghost use Rattle.std.specs.List.{fold, range_with_len};
 ghost use Rattle.scene_core.specs.Scene.{types_of};
 ghost use Rattle.pick_core.specs.Sites.{rows_of};
 ghost use Rattle.script_turn.specs.Acting.{kinds_of};
 ghost use Rattle.cascade_core.specs.Course.{plan_at, seen};
 ghost use Rattle.cascade_core.specs.Sound.{IsCast};
 ghost use Rattle.cascade_core.specs.Apply.{point as point_of, point_node as point_node_of};
-ghost use Rattle.cascade_world.specs.Nodes.{touch_sensors_of};
+ghost use Rattle.cascade_world.specs.Nodes.{is_of, touch_sensors_of};
+ghost use Rattle.cascade_world.specs.Pointer.{or_all};
+ghost use Rattle.cascade_core.specs.Walks.{over_block, where_passes};
+ghost use Rattle.x3d_values.specs.declared.node_type.NodeType.TheVariants.{TouchSensor};
 
 use crate::bench::Bench;
 use crate::course::Course;
 use crate::fixed::Fixed;
+use crate::pressed::list_pressed;
 use crate::stack::send_replies;
-use cascade_rules::Task;
-use cascade_world::{Aim, insides, or_all};
+use cascade_rules::{Task, is_of};
+use cascade_world::{Aim, BLOCK, insides};
 use pick_core::BoxCache;
 use react_core::Outbox;
 use script_host::Behaviour;
 use std::alloc::AllocError;
-use x3d_values::Pointer;
+use x3d_values::{NodeType, Pointer};
 
 /// A TouchSensor meets a pointer, and what it sends is followed.
 fn point_node<B: Behaviour>(
@@ -48,6 +52,9 @@ fn point_node<B: Behaviour>(
     ensures kinds { kinds_of course.new.scripts ≡ kinds_of course.old.scripts }
     ensures count { course.new.settling.count ≡ course.old.settling.count }
 {
+    if course.turn.world.passes(sensor, aim) {
+        return Ok(());
+    }
     course.turn.world.meet(&fixed.scene, sensor, aim, replies);
     send_replies(fixed, tasks, course, replies, boxes, sensor)
 }
@@ -83,16 +90,186 @@ fn point_all<B: Behaviour>(
     Ok(())
 }
 
+/// The node of that number meets a pointer, where it is a TouchSensor.
+fn point_any<B: Behaviour>(
+    fixed: &Fixed,
+    tasks: &mut Vec<Task>,
+    course: &mut Course<B>,
+    replies: &mut Outbox,
+    boxes: &mut BoxCache,
+    node: u32,
+    aim: &Aim,
+) -> Result<(), AllocError>
+    requires empty { tasks.old.items ≡ [] }
+    requires none { replies.old.items ≡ [] }
+    requires boxes { boxes.old ≡ rows_of fixed.now.scene course.old.turn.world.fields }
+    requires cast { IsCast (plan_at fixed.now) (seen course.old) }
+    ensures course { OnOk result (seen course.new
+        ≡ where_passes (is_of TouchSensor (types_of fixed.now.scene))
+        (point_node_of fixed.now.scene (plan_at fixed.now) aim.now.pointer aim.now.before
+        aim.now.inside.items) (seen course.old) node) }
+    ensures empty { OnOk result (tasks.new.items ≡ []) }
+    ensures none { OnOk result (replies.new.items ≡ []) }
+    ensures boxes { OnOk result
+        (boxes.new ≡ rows_of fixed.now.scene course.new.turn.world.fields) }
+    ensures kinds { kinds_of course.new.scripts ≡ kinds_of course.old.scripts }
+    ensures count { course.new.settling.count ≡ course.old.settling.count }
+{
+    if !is_of(&fixed.scene, node, NodeType::TouchSensor) {
+        return Ok(());
+    }
+    point_node(fixed, tasks, course, replies, boxes, node, aim)
+}
+
+/// Each TouchSensor of some nodes meets a pointer at its turn.
+fn point_some<B: Behaviour>(
+    fixed: &Fixed,
+    tasks: &mut Vec<Task>,
+    course: &mut Course<B>,
+    replies: &mut Outbox,
+    boxes: &mut BoxCache,
+    start: u32,
+    end: u32,
+    aim: &Aim,
+) -> Result<(), AllocError>
+    requires empty { tasks.old.items ≡ [] }
+    requires none { replies.old.items ≡ [] }
+    requires boxes { boxes.old ≡ rows_of fixed.now.scene course.old.turn.world.fields }
+    requires cast { IsCast (plan_at fixed.now) (seen course.old) }
+    ensures course { OnOk result (seen course.new
+        ≡ fold (where_passes (is_of TouchSensor (types_of fixed.now.scene))
+        (point_node_of fixed.now.scene (plan_at fixed.now) aim.now.pointer aim.now.before
+        aim.now.inside.items)) (seen course.old)
+        (range_with_len start (end - start))) }
+    ensures empty { OnOk result (tasks.new.items ≡ []) }
+    ensures none { OnOk result (replies.new.items ≡ []) }
+    ensures boxes { OnOk result
+        (boxes.new ≡ rows_of fixed.now.scene course.new.turn.world.fields) }
+    ensures kinds { kinds_of course.new.scripts ≡ kinds_of course.old.scripts }
+    ensures count { course.new.settling.count ≡ course.old.settling.count }
+{
+    for node in start..end {
+        point_any(fixed, tasks, course, replies, boxes, node, aim)?;
+    }
+    Ok(())
+}
+
+/// The TouchSensors of a block of nodes meet a pointer, of so many nodes in all. A block is passed
+/// where it is known that nothing happens there.
+fn point_block<B: Behaviour>(
+    fixed: &Fixed,
+    tasks: &mut Vec<Task>,
+    course: &mut Course<B>,
+    replies: &mut Outbox,
+    boxes: &mut BoxCache,
+    block: u32,
+    count: u32,
+    aim: &Aim,
+) -> Result<(), AllocError>
+    requires within { block * 32 ≤ count }
+    requires empty { tasks.old.items ≡ [] }
+    requires none { replies.old.items ≡ [] }
+    requires boxes { boxes.old ≡ rows_of fixed.now.scene course.old.turn.world.fields }
+    requires cast { IsCast (plan_at fixed.now) (seen course.old) }
+    ensures course { OnOk result (seen course.new
+        ≡ over_block (where_passes (is_of TouchSensor (types_of fixed.now.scene))
+        (point_node_of fixed.now.scene (plan_at fixed.now) aim.now.pointer aim.now.before
+        aim.now.inside.items)) (seen course.old) block count) }
+    ensures empty { OnOk result (tasks.new.items ≡ []) }
+    ensures none { OnOk result (replies.new.items ≡ []) }
+    ensures boxes { OnOk result
+        (boxes.new ≡ rows_of fixed.now.scene course.new.turn.world.fields) }
+    ensures kinds { kinds_of course.new.scripts ≡ kinds_of course.old.scripts }
+    ensures count { course.new.settling.count ≡ course.old.settling.count }
+{
+    if course.turn.world.passes_block(block, aim) {
+        return Ok(());
+    }
+    let start = block * BLOCK;
+    let many = (count - start).min(BLOCK);
+    point_some(
+        fixed,
+        tasks,
+        course,
+        replies,
+        boxes,
+        start,
+        start + many,
+        aim,
+    )?;
+    course.turn.world.remember_touches(block);
+    Ok(())
+}
+
+/// Each TouchSensor meets a pointer at its turn.
+fn point_each<B: Behaviour>(
+    fixed: &Fixed,
+    tasks: &mut Vec<Task>,
+    course: &mut Course<B>,
+    boxes: &mut BoxCache,
+    aim: &Aim,
+) -> Result<(), AllocError>
+    requires empty { tasks.old.items ≡ [] }
+    requires boxes { boxes.old ≡ rows_of fixed.now.scene course.old.turn.world.fields }
+    requires cast { IsCast (plan_at fixed.now) (seen course.old) }
+    ensures course { OnOk result
+        (seen course.new
+        ≡ fold
+        (point_node_of fixed.now.scene (plan_at fixed.now) aim.now.pointer aim.now.before
+        aim.now.inside.items)
+        (seen course.old) (touch_sensors_of (types_of fixed.now.scene))) }
+    ensures empty { OnOk result (tasks.new.items ≡ []) }
+    ensures boxes { OnOk result
+        (boxes.new ≡ rows_of fixed.now.scene course.new.turn.world.fields) }
+    ensures kinds { kinds_of course.new.scripts ≡ kinds_of course.old.scripts }
+    ensures count { course.new.settling.count ≡ course.old.settling.count }
+{
+    let count = fixed.scene.count()?;
+    let mut replies = Outbox::new();
+    for block in 0..count / BLOCK + 1 {
+        point_block(fixed, tasks, course, &mut replies, boxes, block, count, aim)?;
+    }
+    Ok(())
+}
+
+/// Each of those that are pressed meets a pointer at its turn, or each TouchSensor where none is.
+fn point_concerned<B: Behaviour>(
+    fixed: &Fixed,
+    pressed: &[u32],
+    tasks: &mut Vec<Task>,
+    course: &mut Course<B>,
+    boxes: &mut BoxCache,
+    aim: &Aim,
+) -> Result<(), AllocError>
+    requires empty { tasks.old.items ≡ [] }
+    requires boxes { boxes.old ≡ rows_of fixed.now.scene course.old.turn.world.fields }
+    requires cast { IsCast (plan_at fixed.now) (seen course.old) }
+    ensures course { OnOk result
+        (seen course.new
+        ≡ fold
+        (point_node_of fixed.now.scene (plan_at fixed.now) aim.now.pointer aim.now.before
+        aim.now.inside.items)
+        (seen course.old) (or_all pressed.now (touch_sensors_of (types_of fixed.now.scene)))) }
+    ensures empty { OnOk result (tasks.new.items ≡ []) }
+    ensures boxes { OnOk result
+        (boxes.new ≡ rows_of fixed.now.scene course.new.turn.world.fields) }
+    ensures kinds { kinds_of course.new.scripts ≡ kinds_of course.old.scripts }
+    ensures count { course.new.settling.count ≡ course.old.settling.count }
+{
+    match pressed {
+        [] => point_each(fixed, tasks, course, boxes, aim),
+        _ => point_all(fixed, pressed, tasks, course, boxes, aim),
+    }
+}
+
 /// A viewer points.
 #[tactic(auto, unfolding(crate::specs::Apply::point, cascade_world::specs::Pointer::concerned))]
 pub fn point<B: Behaviour>(
     fixed: &Fixed,
-    sensors: &[u32],
     bench: &mut Bench,
     course: &mut Course<B>,
     pointer: Pointer,
 ) -> Result<(), AllocError>
-    requires sensors { sensors.now ≡ touch_sensors_of (types_of fixed.now.scene) }
     requires empty { bench.old.tasks.items ≡ [] }
     requires boxes { bench.old.boxes ≡ rows_of fixed.now.scene course.old.turn.world.fields }
     requires cast { IsCast (plan_at fixed.now) (seen course.old) }
@@ -105,7 +282,7 @@ pub fn point<B: Behaviour>(
     ensures count { course.new.settling.count ≡ course.old.settling.count }
 {
     let world = &course.turn.world;
-    world.list_pressed(pointer.who(), sensors, &mut bench.pressed)?;
+    list_pressed(world, &fixed.scene, pointer.who(), &mut bench.pressed)?;
     let aim = Aim {
         pointer,
         before: world.is_down(pointer.who()),
@@ -117,9 +294,9 @@ pub fn point<B: Behaviour>(
         ),
     };
     course.turn.set_button(pointer);
-    point_all(
+    point_concerned(
         fixed,
-        or_all(&bench.pressed, sensors),
+        &bench.pressed,
         &mut bench.tasks,
         course,
         &mut bench.boxes,

@@ -1,6 +1,6 @@
 //! A stage holds the world of a scene, and applies inputs to it.
 
-use crate::bench::{Bench, Sensors};
+use crate::bench::Bench;
 use crate::course::Course;
 use crate::fixed::Fixed;
 use crate::input::advance;
@@ -23,7 +23,6 @@ use x3d_values::{Items, Stamped};
 #[derive(Drop)]
 pub struct Stage<B: Behaviour> {
     fixed: Fixed,
-    sensors: Sensors,
     course: Course<B>,
     bench: Bench,
     spoiled: Option<u32>,
@@ -32,8 +31,6 @@ pub struct Stage<B: Behaviour> {
 impl<B: Behaviour> Model for Stage<B> {
     ghost use Rattle.std.specs.Prelude.{◌≡◌, IfNone};
     ghost use Rattle.pick_core.specs.Sites.{rows_of};
-    ghost use Rattle.scene_core.specs.Scene.{types_of};
-    ghost use Rattle.cascade_world.specs.Nodes.{clocks_of, touch_sensors_of};
     ghost use Rattle.cascade_core.specs.Held.{StageView, held_of};
     ghost use Rattle.cascade_core.specs.Course.{ended, plan_at, seen};
     ghost use Rattle.cascade_core.specs.Scripts.{kinds_in};
@@ -49,9 +46,8 @@ impl<B: Behaviour> Model for Stage<B> {
           held = held_of s.spoiled (ended (seen s.course));
         } };
 
-    ghost invariant = { λ s. (s.sensors.clocks.items ≡ clocks_of (types_of s.fixed.scene))
-        × (s.sensors.touches.items ≡ touch_sensors_of (types_of s.fixed.scene))
-        × IfNone s.spoiled (s.bench.boxes ≡ rows_of s.fixed.scene s.course.turn.world.fields)
+    ghost invariant = { λ s. IfNone s.spoiled
+        (s.bench.boxes ≡ rows_of s.fixed.scene s.course.turn.world.fields)
         × IsFixed s.fixed
         × IsCast (plan_at s.fixed) (seen s.course)
         × (kinds_of s.course.scripts ≡ kinds_in s.fixed.scene) };
@@ -96,20 +92,14 @@ impl<B: Behaviour> Stage<B> {
             drop(fixed);
             return Err(LoadFault::Memory);
         };
-        let Parts {
-            sensors,
-            turn,
-            mut bench,
-        } = parts;
+        let Parts { turn, mut bench } = parts;
         let Ok(course) = open(alloc, &fixed, &mut bench, turn, scripts) else {
             drop(bench);
-            drop(sensors);
             drop(fixed);
             return Err(LoadFault::Memory);
         };
         Ok(Stage {
             fixed,
-            sensors,
             course,
             bench,
             spoiled: None,
@@ -194,13 +184,7 @@ impl<B: Behaviour> Stage<B> {
             return Err(fault);
         }
         let before = self.course.turn.world.applied;
-        match advance(
-            &self.fixed,
-            &self.sensors,
-            &mut self.bench,
-            &mut self.course,
-            input,
-        ) {
+        match advance(&self.fixed, &mut self.bench, &mut self.course, input) {
             Ok(work) => Ok(work),
             Err(_) => {
                 self.spoiled = Some(before);

@@ -1,3 +1,2 @@
-pub mod ClockNumbers
 pub mod Sends
 pub mod Shown

@@ -4,3 +4,5 @@ pub mod Senders
 pub mod Sensing
 pub mod SensorReplies
 pub mod TouchReplies
+mod Blocks
+mod Waiting

@@ -68,7 +68,7 @@ module _ (w : WorldData) (node : ℕ) (now : ℤ) where
       tick-unlisted none = sym (ap (ticking w node now (Some timing)) none) ∙ at-timing
 
       module _ (cycle : Option ℕ) (listed : slice_get w.sensors node ≡ Some cycle) where
-        ticks : ticking w node now (Some timing) (Some cycle) ≡ ticked w node now
+        pub ticks : ticking w node now (Some timing) (Some cycle) ≡ ticked w node now
         ticks = sym (ap (ticking w node now (Some timing)) listed) ∙ at-timing
 
         -- the world and the replies of a time sensor that ticks

@@ -1,6 +1,9 @@
 pub mod Access
 pub mod Answers
+pub mod Blocks
 pub mod Fits
+pub mod Idle
+pub mod Near
 pub mod Nodes
 pub mod Pointer
 pub mod World

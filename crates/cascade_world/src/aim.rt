@@ -3,7 +3,7 @@
 ghost use Rattle.std.specs.Prelude.{◌≡◌, ◌<◌, ◌≤◌, pos, map, length};
 ghost use Rattle.pick_core.specs.Local.{local_of};
 ghost use Rattle.pick_core.specs.Sites.{rows_of};
-ghost use Rattle.cascade_world.specs.Pointer.{insides as insides_of, or_all, place_in};
+ghost use Rattle.cascade_world.specs.Pointer.{insides as insides_of, place_in};
 
 use crate::world::{Turn, WorldData};
 use arrayvec::ArrayVec;
@@ -124,15 +124,5 @@ impl Turn {
         ensures { self.new ≡ with_button self.old pointer }
     {
         self.world.buttons[pointer.who() as usize] = pointer.is_down();
-    }
-}
-
-/// Those that are pressed, or all where none is.
-pub fn or_all<'a>(pressed: &'a [u32], sensors: &'a [u32]) -> &'a [u32]
-    ensures { result.now ≡ or_all pressed.now sensors.now }
-{
-    match pressed {
-        [] => sensors,
-        _ => pressed,
     }
 }

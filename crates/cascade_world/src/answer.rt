@@ -1,8 +1,8 @@
 //! What one node does when an event comes to it, and when the clock ticks.
 
-ghost use Rattle.std.specs.Prelude.{◌≡◌, [], OnOk, pos, ◌≤ℤ◌, ◌^◌, Some, slice_get};
+ghost use Rattle.std.specs.Prelude.{◌≡◌, ◌/◌, ℕ, [], IsTrue, OnOk, pos, ◌≤ℤ◌, ◌^◌, Some, slice_get};
 ghost use Rattle.scene_core.specs.Scene.{rows_at, shapes_of};
-ghost use Rattle.cascade_world.specs.Answers.{answer, answer_by, answered, setting_at, reacting, ticked};
+ghost use Rattle.cascade_world.specs.Answers.{answer, answer_by, answered, setting_at, nothing, reacting, ticked};
 
 use crate::world::WorldData;
 use react_core::Outbox;
@@ -117,5 +117,27 @@ impl WorldData {
         let mut state = *state;
         state.tick(&timing, input.time(), out);
         self.sensors.set(node as usize, state);
+    }
+
+    /// Whether it was remembered of a block of nodes that a tick does nothing there: none is
+    /// active, and none starts at that time.
+    pub fn is_idle(&self, block: u32, input: &Stamped) -> bool
+        ensures { (node : ℕ) → IsTrue result → node / 32 ≡ block
+            → ticked self.now node input.now.time ≡ nothing self.now }
+    {
+        if !self.sensors.is_resting(block) {
+            return false;
+        }
+        self.fields.is_idle(block, input.time())
+    }
+
+    /// Remembers of a block of nodes whether a tick does nothing there, and until when.
+    pub fn remember_idle(&mut self, block: u32, input: &Stamped)
+        ensures { self.new ≡ self.old }
+    {
+        self.sensors.look_at(block);
+        if self.sensors.is_resting(block) {
+            self.fields.look_at(block, input.time());
+        }
     }
 }

@@ -7,12 +7,15 @@
 mod aim;
 mod answer;
 mod fits;
+mod idle;
 mod state;
 mod touch;
 mod unrun;
+mod watched;
 mod world;
 
-pub use aim::{Aim, Inside, insides, or_all, place_in};
+pub use aim::{Aim, Inside, insides, place_in};
 pub use fits::output_type;
 pub use state::State;
+pub use watched::{BLOCK, Rests, Watched};
 pub use world::{Turn, VIEWERS, WorldData};

@@ -1,11 +1,16 @@
 //! What the nodes of a scene keep, by their numbers.
 
-ghost use Rattle.std.specs.Prelude.{◌≡◌, [], OnOk, Some, None, option_copied, slice_get, slice_set};
+ghost use Rattle.std.specs.Prelude.{◌≡◌, ◌/◌, ℕ, [], IsTrue, OnOk, Some, None, false, option_copied, slice_get, slice_set};
 ghost use Rattle.std.specs.Option.{option_map_or};
 ghost use Rattle.x3d_values.specs.Kept.{field_value};
 ghost use Rattle.react_core.specs.Reaction.{keeps, reaction};
 ghost use Rattle.sensor_core.specs.Timing.{with_timing};
+ghost use Rattle.x3d_values.specs.declared.fields.Fields.{Fields as FieldsView};
+ghost use Rattle.cascade_world.specs.Blocks.{AreOthers};
+ghost use Rattle.cascade_world.specs.Idle.{starts_at};
 
+use crate::idle::{Idle, idle_of, is_among, no_time, wake};
+use crate::watched::WIDTH;
 use react_core::{Outbox, Reply, copy_of, react};
 use scene_core::End;
 use sensor_core::TimeFields;
@@ -17,22 +22,106 @@ use x3d_values::{Fields, NodeType, Value};
 #[derive(Drop)]
 pub struct State {
     items: Vec<Fields>,
+    /// When none of a block of nodes starts, as far as was remembered.
+    idles: Vec<Idle>,
 }
 
 impl Model for State {
     ghost use Rattle.std.specs.Prelude.{List};
     ghost use Rattle.x3d_values.specs.declared.fields.Fields.{Fields};
+    ghost use Rattle.cascade_world.specs.Idle.{AreIdle};
 
     ghost Value = { List Fields };
 
     ghost view = { λ s. s.items.items };
+
+    ghost invariant = { λ s. AreIdle s.items.items s.idles.items };
+}
+
+/// A node of this type reacts to an event, where there is such a node; the others are as they were.
+fn react_at(
+    items: &mut Vec<Fields>,
+    alloc: Global,
+    node: u32,
+    node_type: NodeType,
+    input: u16,
+    value: &Value,
+    time: i64,
+    out: &mut Outbox,
+) -> Result<(), AllocError>
+    requires empty { out.old.items ≡ [] }
+    ensures fields { OnOk result (items.new.items
+        ≡ option_map_or (λ fields.
+        slice_set items.old.items node (reaction node_type fields input value.now time).fields)
+        (slice_get items.old.items node) items.old.items) }
+    ensures replies { OnOk result (out.new.items
+        ≡ option_map_or (λ fields. (reaction node_type fields input value.now time).replies)
+        (slice_get items.old.items node) []) }
+    ensures others { AreOthers node items.old.items items.new.items }
+{
+    let node = node as usize;
+    if node >= items.len() {
+        return Ok(());
+    }
+    react(alloc, node_type, &mut items[node], input, value, time, out)
+}
+
+/// A node sets the field that an event comes to, and sends it, where there is such a node; the
+/// others are as they were.
+fn keep_at(
+    items: &mut Vec<Fields>,
+    alloc: Global,
+    target: End,
+    value: &Value,
+    out: &mut Outbox,
+) -> Result<(), AllocError>
+    requires empty { out.old.items ≡ [] }
+    ensures fields { OnOk result (items.new.items
+        ≡ option_map_or (λ fields.
+        slice_set items.old.items target.node (keeps fields target.field value.now).fields)
+        (slice_get items.old.items target.node) items.old.items) }
+    ensures replies { OnOk result (out.new.items
+        ≡ option_map_or (λ fields. (keeps fields target.field value.now).replies)
+        (slice_get items.old.items target.node) []) }
+    ensures others { AreOthers target.node items.old.items items.new.items }
+{
+    let node = target.node as usize;
+    if node >= items.len() {
+        return Ok(());
+    }
+    let kept = copy_of(alloc, value)?;
+    let Ok(sent) = copy_of(alloc, value) else {
+        drop(kept);
+        return Err(AllocError);
+    };
+    items[node].set(target.field, kept);
+    out.push(Reply {
+        field: target.field,
+        value: sent,
+    });
+    Ok(())
+}
+
+/// A TimeSensor keeps these values, where there is such a node; the others are as they were.
+fn time_at(items: &mut Vec<Fields>, node: u32, timing: &TimeFields)
+    ensures fields { items.new.items
+        ≡ option_map_or (λ fields. slice_set items.old.items node (with_timing fields timing.now))
+        (slice_get items.old.items node) items.old.items }
+    ensures others { AreOthers node items.old.items items.new.items }
+{
+    let node = node as usize;
+    if node >= items.len() {
+        return;
+    }
+    timing.write_to(&mut items[node]);
 }
 
 impl State {
     pub fn from_vec(items: Vec<Fields>) -> State
         ensures { result ≡ items.items }
     {
-        State { items }
+        let idles = Vec::new(*items.allocator());
+        State { items, idles }
     }
 
     pub fn as_slice(&self) -> &[Fields]
@@ -68,14 +157,12 @@ impl State {
             ≡ option_map_or (λ fields. (reaction node_type fields input value.now time).replies)
             (slice_get self.old node) []) }
     {
-        let node = node as usize;
-        if node >= self.items.len() {
-            return Ok(());
-        }
-        react(
+        wake(&mut self.idles, node as usize / WIDTH);
+        react_at(
+            &mut self.items,
             alloc,
+            node,
             node_type,
-            &mut self.items[node],
             input,
             value,
             time,
@@ -100,21 +187,8 @@ impl State {
             ≡ option_map_or (λ fields. (keeps fields target.field value.now).replies)
             (slice_get self.old target.node) []) }
     {
-        let node = target.node as usize;
-        if node >= self.items.len() {
-            return Ok(());
-        }
-        let kept = copy_of(alloc, value)?;
-        let Ok(sent) = copy_of(alloc, value) else {
-            drop(kept);
-            return Err(AllocError);
-        };
-        self.items[node].set(target.field, kept);
-        out.push(Reply {
-            field: target.field,
-            value: sent,
-        });
-        Ok(())
+        wake(&mut self.idles, target.node as usize / WIDTH);
+        keep_at(&mut self.items, alloc, target, value, out)
     }
 
     /// A TimeSensor keeps these values, where there is such a node.
@@ -123,10 +197,49 @@ impl State {
             ≡ option_map_or (λ fields. slice_set self.old node (with_timing fields timing.now))
             (slice_get self.old node) self.old }
     {
-        let node = node as usize;
-        if node >= self.items.len() {
+        wake(&mut self.idles, node as usize / WIDTH);
+        time_at(&mut self.items, node, timing);
+    }
+
+    /// Takes room to remember of each block when none of it starts; nothing is known of any then.
+    fn make_room(&mut self) -> Result<(), AllocError>
+        ensures { self.new ≡ self.old }
+    {
+        let blocks = self.items.len() / WIDTH + 1;
+        if self.idles.len() == blocks {
+            return Ok(());
+        }
+        let alloc = *self.idles.allocator();
+        self.idles = vec![in alloc; no_time(); blocks]?;
+        Ok(())
+    }
+
+    /// Remembers of a block of nodes until when none of them starts, as their fields are now, from
+    /// a time in microseconds on. Where memory for that is refused nothing is remembered.
+    pub(crate) fn look_at(&mut self, block: u32, now: i64)
+        ensures { self.new ≡ self.old }
+    {
+        if self.make_room().is_err() {
             return;
         }
-        timing.write_to(&mut self.items[node]);
+        let block = block as usize;
+        let start = block * WIDTH;
+        if start >= self.items.len() || block >= self.idles.len() {
+            return;
+        }
+        let end = (start + WIDTH).min(self.items.len());
+        let idle = idle_of(&self.items[start..end], now);
+        self.idles[block] = idle;
+    }
+
+    /// Whether it was remembered that none of a block of nodes starts at a time in microseconds.
+    pub(crate) fn is_idle(&self, block: u32, time: i64) -> bool
+        ensures { (node : ℕ) (fields : FieldsView) → IsTrue result → node / 32 ≡ block
+            → slice_get self.now node ≡ Some fields → starts_at fields time ≡ false }
+    {
+        match self.idles.get(block as usize) {
+            Some(idle) => is_among(*idle, time),
+            None => false,
+        }
     }
 }

@@ -1,14 +1,17 @@
 //! What a TouchSensor does when an event comes to it, and when a viewer points.
 
-ghost use Rattle.std.specs.Prelude.{◌≡◌, ◌+◌, ◌≤◌, [], ◌++◌, OnOk, option_copied, slice_get, slice_set};
+ghost use Rattle.std.specs.Prelude.{◌≡◌, ◌+◌, ◌/◌, ◌≤◌, ℕ, true, false, [], ◌++◌, IsTrue, OnOk, is_none, not, option_copied, slice_get, slice_set};
 ghost use Rattle.std.specs.Option.{option_map_or};
-ghost use Rattle.std.specs.List.{filter};
+ghost use Rattle.std.specs.List.{list_any};
+ghost use Rattle.cascade_world.specs.Near.{is_near};
 ghost use Rattle.arrayvec.specs.ArrayVec.{array_vec_len};
 ghost use Rattle.sensor_core.specs.Touches.{disable};
-ghost use Rattle.cascade_world.specs.Answers.{answered, touching, turns_off, met};
+ghost use Rattle.cascade_world.specs.Answers.{answered, met, nothing, touching, turns_off};
+ghost use Rattle.scene_core.specs.Scene.{SceneView};
 ghost use Rattle.cascade_world.specs.Pointer.{is_pressed, place_in};
 
-use crate::aim::{Aim, place_in};
+use crate::aim::{Aim, Inside, place_in};
+use crate::watched::BLOCK;
 use crate::world::WorldData;
 use pick_core::is_enabled;
 use react_core::Outbox;
@@ -25,6 +28,27 @@ fn turns_off(field: u16, value: &Value) -> bool
         Value::SFBool(on) => field == TOUCH_ENABLED && !*on,
         _ => false,
     }
+}
+
+/// Whether a pointer isn't inside a sensor.
+fn is_outside(aim: &Aim, sensor: u32) -> bool
+    ensures { result ≡ is_none (place_in aim.now.inside.items sensor) }
+{
+    place_in(aim.inside.as_slice(), sensor).is_none()
+}
+
+/// Whether a pointer is inside a sensor of a block.
+fn is_near(inside: &[Inside], block: u32) -> bool
+    ensures { result ≡ list_any (is_near block) inside.now }
+{
+    inside.iter().any(|i| i.sensor / BLOCK == block)
+}
+
+/// Whether a pointer is inside no sensor of a block.
+fn is_beside(aim: &Aim, block: u32) -> bool
+    ensures { result ≡ not (list_any (is_near block) aim.now.inside.items) }
+{
+    !is_near(aim.inside.as_slice(), block)
 }
 
 impl WorldData {
@@ -115,31 +139,56 @@ impl WorldData {
         self.touches.set(sensor as usize, state);
     }
 
+    /// Whether a pointer passes a TouchSensor, so that nothing happens: it isn't inside, and no
+    /// pointer is over the sensor or presses it.
+    pub fn passes(&self, sensor: u32, aim: &Aim) -> bool
+        ensures { (scene : SceneView) → IsTrue result
+            → met scene self.now sensor aim.now.pointer aim.now.before
+            (place_in aim.now.inside.items sensor)
+            ≡ nothing self.now }
+    {
+        match self.touches.get(sensor as usize) {
+            Some(touch) => touch.is_untouched() && is_outside(aim, sensor),
+            None => false,
+        }
+    }
+
+    /// Whether a pointer passes a block of nodes, so that nothing happens at any TouchSensor of it.
+    pub fn passes_block(&self, block: u32, aim: &Aim) -> bool
+        ensures { (scene : SceneView) (sensor : ℕ) → IsTrue result → sensor / 32 ≡ block
+            → met scene self.now sensor aim.now.pointer aim.now.before
+            (place_in aim.now.inside.items sensor)
+            ≡ nothing self.now }
+    {
+        if !self.touches.is_resting(block) {
+            return false;
+        }
+        is_beside(aim, block)
+    }
+
+    /// Whether it is known of a block of nodes that nobody presses any of its TouchSensors.
+    pub fn is_untouched(&self, block: u32) -> bool
+        ensures { (who : ℕ) (sensor : ℕ) → IsTrue result → sensor / 32 ≡ block
+            → is_pressed self.now who sensor ≡ false }
+    {
+        self.touches.is_resting(block)
+    }
+
+    /// Remembers of a block of nodes whether no pointer is over any of its TouchSensors, and nobody
+    /// presses one.
+    pub fn remember_touches(&mut self, block: u32)
+        ensures { self.new ≡ self.old }
+    {
+        self.touches.look_at(block);
+    }
+
     /// Whether a viewer presses the sensor of that number.
-    fn is_pressed(&self, who: u8, sensor: u32) -> bool
+    pub fn is_pressed(&self, who: u8, sensor: u32) -> bool
         ensures { result ≡ is_pressed self.now who sensor }
     {
         match self.touches.get(sensor as usize) {
             Some(touch) => touch.is_pressed_by(who),
             None => false,
         }
-    }
-
-    /// Lists those of these sensors that a viewer presses.
-    pub fn list_pressed(
-        &self,
-        who: u8,
-        sensors: &[u32],
-        pressed: &mut Vec<u32>,
-    ) -> Result<(), AllocError>
-        ensures { OnOk result (pressed.new.items ≡ filter (is_pressed self.now who) sensors.now) }
-    {
-        pressed.clear();
-        for sensor in sensors {
-            if self.is_pressed(who, *sensor) {
-                pressed.push(*sensor)?;
-            }
-        }
-        Ok(())
     }
 }

@@ -1,14 +1,15 @@
 //! The state of a scene after some inputs, and in the course of one.
 
-ghost use Rattle.std.specs.Prelude.{◌≡◌, ◌+◌, OnOk};
+ghost use Rattle.std.specs.Prelude.{◌≡◌, ◌+◌, ◌&&◌, OnOk, is_none, not};
+ghost use Rattle.sensor_core.specs.Touches.{is_over};
 ghost use Rattle.cascade_world.specs.World.{begin as begin_of, record_event};
 
 use crate::state::State;
+use crate::watched::{Rests, Watched};
 use cascade_trace::{SentBits, Trace};
 use scene_core::End;
 use sensor_core::{TimeState, TouchState};
 use std::alloc::{AllocError, Global};
-use x3d_lists::Items;
 use x3d_values::{MAX_VIEWERS, Stamped, Value};
 
 /// How many viewers have buttons.
@@ -23,14 +24,32 @@ pub struct WorldData {
     pub last_time: i64,
     pub fields: State,
     /// Which cycle each node runs, by its number: none but a TimeSensor runs one.
-    pub sensors: Items<TimeState>,
+    pub sensors: Watched<TimeState>,
     /// Whose pointers are over each node, and who presses it, by its number: that is a
     /// TouchSensor.
-    pub touches: Items<TouchState>,
+    pub touches: Watched<TouchState>,
     /// Whether each viewer's button is down, by its number.
     pub buttons: [bool; VIEWERS],
     /// All events that were sent, in order.
     pub trace: Trace,
+}
+
+/// A TimeSensor is at rest while it is inactive.
+impl Rests for TimeState {
+    ghost rests = { λ cycle. is_none cycle };
+
+    fn is_at_rest(&self) -> bool {
+        !self.is_active()
+    }
+}
+
+/// A TouchSensor is at rest while no pointer is over it, and nobody presses it.
+impl Rests for TouchState {
+    ghost rests = { λ touch. not (is_over touch) && is_none touch.presser };
+
+    fn is_at_rest(&self) -> bool {
+        self.is_untouched()
+    }
 }
 
 /// The world in the course of one input.

@@ -11,7 +11,7 @@ ghost use Rattle.snapshot_core.specs.WorldCodec.{booted, parts_codec, world_with
 use crate::buttons::{buttons_of, push_buttons};
 use crate::lines::{lines_of, push_lines};
 use crate::nodes::{NodeLists, nodes_of, push_nodes};
-use cascade_core::{State, Trace, WorldData};
+use cascade_core::{State, Trace, Watched, WorldData};
 use scene_core::Scene;
 use sensor_core::VIEWERS;
 use snapshot_codec::{PartFault, Progress, progress_of, push_progress};
@@ -92,8 +92,8 @@ fn found_with(progress: Progress, parts: WorldParts) -> Found
         applied: progress.applied,
         last_time: progress.last_time,
         fields: State::from_vec(nodes.fields.into_vec()),
-        sensors: nodes.sensors,
-        touches: nodes.touches,
+        sensors: Watched::from_vec(nodes.sensors.into_vec()),
+        touches: Watched::from_vec(nodes.touches.into_vec()),
         buttons,
         trace,
     };

@@ -3,7 +3,7 @@
 
 use super::worlds::untold;
 use super::{Row, all_hold};
-use cascade_core::{State, WorldData};
+use cascade_core::{State, Watched, WorldData};
 use scene_core::{End, Scene};
 use sensor_core::{TimeState, TouchParts, TouchState};
 use share_program::{Opened, open_scene};
@@ -145,8 +145,8 @@ fn world_with(alloc: Global, scene: &Scene, change: Change) -> Option<WorldData>
             }
         }
         Change::FewerFields => world.fields = State::from_vec(Vec::new(alloc)),
-        Change::FewerSensors => world.sensors = Items::new(alloc),
-        Change::FewerTouches => world.touches = Items::new(alloc),
+        Change::FewerSensors => world.sensors = Watched::from_vec(Vec::new(alloc)),
+        Change::FewerTouches => world.touches = Watched::from_vec(Vec::new(alloc)),
         Change::Sent(input, time, node, name, held) => {
             if let Some(value) = value_of(alloc, held) {
                 let field = match scene.field_named(node, name) {

@@ -5,12 +5,12 @@ ghost use Rattle.cascade_core.specs.Apply.{opening};
 ghost use Rattle.cascade_core.specs.Held.{Running};
 
 use super::probe::{Log, Made, Probe, boxes_made};
-use cascade_core::{LoadFault, Stage, State, Trace, WorldData};
+use cascade_core::{LoadFault, Stage, State, Trace, Watched, WorldData};
 use scene_core::Scene;
 use sensor_core::{TimeState, TouchState};
 use share_program::{Opened, attach, open_scene};
 use std::alloc::Global;
-use x3d_values::{Event, Items, Stamped, is_input_number, is_input_time};
+use x3d_values::{Event, Stamped, is_input_number, is_input_time};
 
 /// Two counters from 5 by steps of 2, which a clock drives each two seconds; and a box.
 pub(super) const COUNTERS: &str = "#X3D V3.0 utf8
@@ -77,8 +77,8 @@ pub(super) fn untold(alloc: Global, scene: &Scene) -> Option<WorldData> {
         applied: 0,
         last_time: 0,
         fields: State::from_vec(fields),
-        sensors: Items::from_vec(sensors),
-        touches: Items::from_vec(touches),
+        sensors: Watched::from_vec(sensors),
+        touches: Watched::from_vec(touches),
         buttons: [false; 16],
         trace: Trace::new(alloc),
     })

@@ -1,0 +1,32 @@
+use Rattle.std.proofs.Common.{◌∙◌}
+use Rattle.x3d_values.specs.declared.node_type.NodeType.TheVariants.{TouchSensor}
+use Rattle.cascade_core.specs.Apply.{point_node}
+use Rattle.cascade_core.specs.Course.{plan_at, seen}
+use Rattle.cascade_core.proofs.SoundLemmas.{cast_stands}
+use Rattle.cascade_core.proofs.Walks.{block_next, blocks_ended, by-type}
+use Rattle.cascade_core.proofs.pointer.point_each.Goals as goal
+
+pub point_block-requires-clause-cast : goal.point_block-requires-clause-cast
+point_block-requires-clause-cast g c =
+    cast_stands (plan_at c.args.fixed.now) (seen c.args.course.now) (seen c.loop-block.course) c.loop-block.invariant.kinds c.loop-block.invariant.count c.requires.cast
+
+pub loop-block-preserved : goal.loop-block-preserved
+loop-block-preserved g c = record {
+  empty = c.in_ok-point_block.ensures.empty;
+  none = c.in_ok-point_block.ensures.none;
+  boxes = c.in_ok-point_block.ensures.boxes;
+  kinds = c.in_ok-point_block.ensures.kinds ∙ c.loop-block.invariant.kinds;
+  count = c.in_ok-point_block.ensures.count ∙ c.loop-block.invariant.count;
+  done = block_next _ _ _ c.loop-block.block _ _ c.in_ok-point_block.ensures.course c.loop-block.invariant.done;
+}
+
+pub returns-clause-course : goal.returns-clause-course
+returns-clause-course g c =
+    blocks_ended _ _ c.loop-block.block _ c.loop-block-test.false ∙ c.loop-block.invariant.done
+    ∙ by-type TouchSensor c.args.fixed.now.scene.nodes (point_node c.args.fixed.now.scene (plan_at c.args.fixed.now) c.args.aim.now.pointer c.args.aim.now.before c.args.aim.now.inside.items) (seen c.args.course.now) _ c.in_ok-count.ensures.ok
+
+pub returns-in_err-point_block-clause-kinds : goal.returns-in_err-point_block-clause-kinds
+returns-in_err-point_block-clause-kinds g c = c.point_block.ensures.kinds ∙ c.loop-block.invariant.kinds
+
+pub returns-in_err-point_block-clause-count : goal.returns-in_err-point_block-clause-count
+returns-in_err-point_block-clause-count g c = c.point_block.ensures.count ∙ c.loop-block.invariant.count

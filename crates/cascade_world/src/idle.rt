@@ -1,0 +1,113 @@
+//! When TimeSensors that wait start next: before that a tick does nothing.
+
+ghost use Rattle.std.specs.Prelude.{◌≡◌, ◌/◌, ◌≤ℤ◌, ◌<ℤ◌, ℕ, ℤ, IfSome, IsTrue, Some, false, slice_get, slice_set};
+ghost use Rattle.x3d_values.specs.declared.fields.Fields.{Fields as FieldsView};
+ghost use Rattle.sensor_core.specs.Ticks.{is_started};
+ghost use Rattle.cascade_world.specs.Idle.{IsIdle, no_time, starts_at};
+
+use sensor_core::TimeFields;
+use x3d_values::Fields;
+
+/// From the first of these times on, and before the second, a TimeSensor that is inactive doesn't
+/// start; in microseconds.
+#[derive(Clone, Copy)]
+pub struct Idle {
+    pub from: i64,
+    pub until: i64,
+}
+
+/// At no time.
+pub(crate) fn no_time() -> Idle
+    ensures { result ≡ no_time }
+{
+    Idle { from: 0, until: 0 }
+}
+
+/// From when on a TimeSensor doesn't start again: its only cycle is over, or it is stopped.
+fn last_start(timing: &TimeFields) -> Option<i64>
+    ensures { IfSome result (λ end. (t : ℤ) → end ≤ℤ t → is_started timing.now t ≡ false) }
+{
+    let start = timing.start_time();
+    if !timing.is_looping() {
+        return Some(start + timing.cycle_interval());
+    }
+    let stop = timing.stop_time();
+    if start < stop {
+        return Some(stop);
+    }
+    None
+}
+
+/// Until when a TimeSensor doesn't start, from a time on.
+fn wait_of(timing: &TimeFields, now: i64) -> i64
+    ensures { (t : ℤ) → now ≤ℤ t → t <ℤ result → is_started timing.now t ≡ false }
+{
+    if !timing.is_enabled() {
+        return i64::MAX;
+    }
+    let start = timing.start_time();
+    if now < start {
+        return start;
+    }
+    match last_start(timing) {
+        Some(end) if end <= now => i64::MAX,
+        _ => now,
+    }
+}
+
+/// Until when a node with these fields doesn't start, from a time on, if it is a TimeSensor.
+fn start_of(fields: &Fields, now: i64) -> i64
+    ensures { (t : ℤ) → now ≤ℤ t → t <ℤ result → starts_at fields.now t ≡ false }
+{
+    match TimeFields::from_fields(fields) {
+        Some(timing) => wait_of(&timing, now),
+        None => i64::MAX,
+    }
+}
+
+/// The earlier of two times.
+fn earlier(one: i64, other: i64) -> i64
+    ensures first { result ≤ℤ one }
+    ensures second { result ≤ℤ other }
+{
+    if one < other { one } else { other }
+}
+
+/// Until when none of some nodes starts, from a time on.
+fn first_start(nodes: &[Fields], now: i64) -> i64
+    ensures { (i : ℕ) (fields : FieldsView) → slice_get nodes.now i ≡ Some fields → (t : ℤ)
+        → now ≤ℤ t → t <ℤ result → starts_at fields t ≡ false }
+{
+    match nodes {
+        [] => i64::MAX,
+        [first, others @ ..] => earlier(start_of(first, now), first_start(others, now)),
+    }
+}
+
+/// When none of some nodes starts, from a time on.
+pub(crate) fn idle_of(nodes: &[Fields], now: i64) -> Idle
+    ensures { (i : ℕ) (fields : FieldsView) → slice_get nodes.now i ≡ Some fields
+        → IsIdle fields result }
+{
+    Idle {
+        from: now,
+        until: first_start(nodes, now),
+    }
+}
+
+/// Whether a time is one of these.
+pub(crate) fn is_among(idle: Idle, time: i64) -> bool
+    ensures { (fields : FieldsView) → IsIdle fields idle → IsTrue result
+        → starts_at fields time ≡ false }
+{
+    idle.from <= time && time < idle.until
+}
+
+/// Nothing is known of a block any more.
+pub(crate) fn wake(idles: &mut Vec<Idle>, block: usize)
+    ensures { idles.new.items ≡ slice_set idles.old.items block no_time }
+{
+    if block < idles.len() {
+        idles[block] = no_time();
+    }
+}
