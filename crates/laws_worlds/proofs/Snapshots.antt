@@ -19,7 +19,10 @@ use Rattle.scene_core.specs.Shape.{Shape, rows_of}
 use Rattle.cascade_trace.specs.declared.trace.TraceLine.{TraceLine}
 use Rattle.cascade_core.specs.Course.{Scripted}
 use Rattle.cascade_core.specs.Installing.{StatesFit}
+use Rattle.snapshot_core.specs.Loading.{newest}
+use Rattle.snapshot_core.proofs.NodeLaws.{newest_touch}
 use Rattle.snapshot_core.proofs.StateSizes.{states_have}
+use Rattle.snapshot_core.proofs.WorldLaws.{newest_set}
 use Rattle.snapshot_core.specs.Nodes.{kept_from, kept_fields, time_part, touch_part, pointers_codec, position_part, beside_codec, state_codec, node_codec, nodes_from, lists_fit, nodes_codec}
 use Rattle.snapshot_core.specs.WorldCodec.{output_type, entry_of, lines_codec, buttons_codec, parts_codec, lists_in, world_codec}
 use Rattle.laws_worlds.specs.Ranges.{values_fit, position_fits, fields_fit}
@@ -45,12 +48,12 @@ unfolding time_part cycle_codec
 time_has TimeSensor c f = f
 time_has _ c f = f
 
-touch_has : (t : NodeType) (u : Touch) → pointers_fit t u ≡ true → (touch_part t).fits u ≡ true
+touch_has : (t : NodeType) (u : Touch) → pointers_fit t u ≡ true → (touch_part newest t).fits u ≡ true
 unfolding touch_part pointers_codec
-touch_has TouchSensor u f = f
+touch_has TouchSensor u f = newest_touch u f
 touch_has _ u f = f
 
-node_has : (s : Shape) (x : Fields) (c : Option ℕ) (u : Touch) → node_fits s x c u ≡ true → (node_codec s).fits (record { fields = x; time = c; touch = u }) ≡ true
+node_has : (s : Shape) (x : Fields) (c : Option ℕ) (u : Touch) → node_fits s x c u ≡ true → (node_codec newest s).fits (record { fields = x; time = c; touch = u }) ≡ true
 unfolding node_codec state_codec beside_codec kept_fields
 node_has s x c u f =
     let t : NodeType = s.node_type in
@@ -59,7 +62,7 @@ node_has s x c u f =
     let d = both (time_fits t c) (pointers_fit t u) a.1 in
     and_true _ _ (values_have t 0 (rows_of s) x.values b.0) (and_true _ _ (time_has t c d.0) (and_true _ _ (touch_has t u d.1) (position_has t x.position b.1)))
 
-nodes_have : (shapes : List Shape) (fs : List Fields) (cs : List (Option ℕ)) (us : List Touch) → nodes_fit shapes fs cs us ≡ true → (length cs ≡ length fs) × (length us ≡ length fs) × (rows_fit node_codec shapes (nodes_from fs cs us) ≡ true)
+nodes_have : (shapes : List Shape) (fs : List Fields) (cs : List (Option ℕ)) (us : List Touch) → nodes_fit shapes fs cs us ≡ true → (length cs ≡ length fs) × (length us ≡ length fs) × (rows_fit (node_codec newest) shapes (nodes_from fs cs us) ≡ true)
 nodes_have [] fs cs us f =
     let a = both (length fs == 0) ((length cs == 0) && (length us == 0)) f in
     let b = both (length cs == 0) (length us == 0) a.1 in
@@ -67,7 +70,7 @@ nodes_have [] fs cs us f =
     let y : length cs ≡ 0 = eqb-true (length cs) 0 b.0 in
     let z : length us ≡ 0 = eqb-true (length us) 0 b.1 in
     let none : fs ≡ [] = nil_from_length fs x in
-    (y ∙ sym x, z ∙ sym x, subst (λ (l : List Fields). rows_fit node_codec [] (nodes_from l cs us) ≡ true) (sym none) refl)
+    (y ∙ sym x, z ∙ sym x, subst (λ (l : List Fields). rows_fit (node_codec newest) [] (nodes_from l cs us) ≡ true) (sym none) refl)
 nodes_have (s ∷ shapes) [] cs us f = absurd cc
 nodes_have (s ∷ shapes) (x ∷ fs) [] us f = absurd cc
 nodes_have (s ∷ shapes) (x ∷ fs) (c ∷ cs) [] f = absurd cc
@@ -96,16 +99,16 @@ lines_have shapes (line ∷ lines) f =
 
 -- ---- a world
 
-world_has : (scene : SceneView) (w : Scripted) → length w.world.trace < 2 ^ 64 → WorldFits (shapes_of scene) w.world → StatesFit scene w.states → (world_codec scene).fits w ≡ true
+world_has : (scene : SceneView) (w : Scripted) → length w.world.trace < 2 ^ 64 → WorldFits (shapes_of scene) w.world → StatesFit scene w.states → (world_codec newest scene).fits w ≡ true
 unfolding world_codec parts_codec nodes_codec buttons_codec lines_codec
 world_has scene w few f states =
     let n = nodes_have (shapes_of scene) w.world.fields w.world.sensors w.world.touches f.nodes in
     let short : length (map entry_of w.world.trace) < 2 ^ 64 = subst (λ (k : ℕ). k < 2 ^ 64) (sym (length-map w.world.trace entry_of)) few in
-    let nodes : lists_fit (shapes_of scene) (lists_in w.world) ≡ true = and_true _ _ (and_true _ _ (eq-eqb _ _ n.0) (eq-eqb _ _ n.1)) n.2 in
+    let nodes : lists_fit newest (shapes_of scene) (lists_in w.world) ≡ true = and_true _ _ (and_true _ _ (eq-eqb _ _ n.0) (eq-eqb _ _ n.1)) n.2 in
     and_true _ _ (le-leb w.world.applied (2 ^ 20) f.count)
     (and_true _ _ f.last
     (and_true _ _ nodes
-    (and_true _ _ (eq-eqb _ _ f.buttons)
+    (and_true _ _ (newest_set w.world.buttons f.buttons)
     (and_true _ _ (states_have scene w.states states)
     (and_true _ _ (lt-ltb (length (map entry_of w.world.trace)) (2 ^ 64) short) (lines_have (shapes_of scene) w.world.trace f.lines))))))
 

@@ -11,6 +11,7 @@ use Rattle.sensor_plane.specs.declared.drag.Drag.{Drag}
 use Rattle.sensor_plane.specs.declared.fields.PlaneFields.{PlaneFields}
 use Rattle.sensor_plane.specs.declared.pointer.Contact.{Contact}
 use Rattle.sensor_plane.specs.declared.pointer.PlanePointer.{PlanePointer}
+use Rattle.sensor_plane.specs.declared.pointer.TheConstants.{MOST_VIEWERS}
 use Rattle.sensor_plane.specs.PlaneParts.{AreFitting, DraggedPlanesFit, PartsArePlanes, PlanesHaveOneParts, contact_fits, drag_fits, over_of, parts_of_plane, plane_of_parts}
 use Rattle.sensor_plane.specs.Planes.{Dragged, Plane, begun, clamped, drag_at, drag_from, dragged, ended, gone_on, is_viewer, point, presses, shifted, translation}
 use Rattle.sensor_plane.proofs.Sets.{number_back, over_back}
@@ -23,7 +24,7 @@ are_planes plane f =
     cond-true (drag_fits plane.drag) (Some (record { over = over_of (number_of plane.over); drag = plane.drag })) None f.drag
     ∙ ap (λ o. Some (record { over = o; drag = plane.drag })) (over_back plane.over f.viewers)
 
-one_parts : (over : ℕ) (drag : Option Drag) (fits : Bool) (plane : Plane) → over < 2 ^ 64 → (if fits then Some (record { over = over_of over; drag = drag }) else None) ≡ Some plane → parts_of_plane plane ≡ record { over = over; drag = drag }
+one_parts : (over : ℕ) (drag : Option Drag) (fits : Bool) (plane : Plane) → over < 2 ^ MOST_VIEWERS → (if fits then Some (record { over = over_of over; drag = drag }) else None) ≡ Some plane → parts_of_plane plane ≡ record { over = over; drag = drag }
 unfolding parts_of_plane
 one_parts over drag true plane small is =
     let one : record { over = over_of over; drag = drag } ≡ plane = cc in

@@ -7,6 +7,7 @@ use Rattle.std.proofs.Math.Nat.{pow-suc}
 use Rattle.std.proofs.lemmas.Bool.{eqb-true, eqb-false}
 use Rattle.std.proofs.lemmas.Nat.Bits.{bit_at_lowest, bit_at-suc}
 use Rattle.sensor_core.specs.Parts.{bit_of, number_of}
+use Rattle.sensor_plane.specs.declared.pointer.TheConstants.{MOST_VIEWERS}
 use Rattle.sensor_plane.specs.PlaneParts.{over_of}
 
 -- the bits of a number from a place on
@@ -54,18 +55,18 @@ bits_back (b ∷ set) =
     let others : bits n 1 (length set) ≡ set = halved n 0 (length set) ∙ ap (λ k. bits k 0 (length set)) (half_of b (number_of set)) ∙ bits_back set in
     rw (first, others) refl
 
--- ---- of 64 viewers
+-- ---- of all viewers
 
-pub number_back : (n : ℕ) → n < 2 ^ 64 → number_of (over_of n) ≡ n
+pub number_back : (n : ℕ) → n < 2 ^ MOST_VIEWERS → number_of (over_of n) ≡ n
 unfolding over_of bits
-number_back n small = numbered 64 n small
+number_back n small = numbered MOST_VIEWERS n small
 
-pub over_back : (set : List Bool) → length set ≡ 64 → over_of (number_of set) ≡ set
+pub over_back : (set : List Bool) → length set ≡ MOST_VIEWERS → over_of (number_of set) ≡ set
 unfolding over_of bits
 over_back set len = ap (λ k. bits (number_of set) 0 k) (sym len) ∙ bits_back set
 
 -- a number has one bit more
-pub one_more_bit : (number bit left : ℕ) → 0 < left → left ≤ 64 → bit ≤ 1 → number + 1 ≤ 2 ^ (64 - left) → 2 * number + bit + 1 ≤ 2 ^ (64 - (left - 1))
+pub one_more_bit : (number bit left : ℕ) → 0 < left → left ≤ MOST_VIEWERS → bit ≤ 1 → number + 1 ≤ 2 ^ (MOST_VIEWERS - left) → 2 * number + bit + 1 ≤ 2 ^ (MOST_VIEWERS - (left - 1))
 one_more_bit number bit left some most small below =
-    let size : 64 - (left - 1) ≡ suc (64 - left) = omega (arith, some, most) in
-    rw (size, pow-suc 2 (64 - left)) (omega (arith, small, below))
+    let size : MOST_VIEWERS - (left - 1) ≡ suc (MOST_VIEWERS - left) = omega (arith, some, most) in
+    rw (size, pow-suc 2 (MOST_VIEWERS - left)) (omega (arith, small, below))

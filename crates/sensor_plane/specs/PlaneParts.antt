@@ -10,6 +10,7 @@ use Rattle.sensor_plane.specs.declared.fields.PlaneFields.{PlaneFields}
 use Rattle.sensor_plane.specs.declared.parts.PlaneParts.{PlaneParts}
 use Rattle.sensor_plane.specs.declared.pointer.Contact.{Contact}
 use Rattle.sensor_plane.specs.declared.pointer.PlanePointer.{PlanePointer}
+use Rattle.sensor_plane.specs.declared.pointer.TheConstants.{MOST_VIEWERS}
 use Rattle.sensor_plane.specs.Planes.{Plane, Pointed, is_viewer, point}
 
 -- a number whose bit v says whether viewer v's pointer is over the sensor
@@ -17,7 +18,7 @@ unfoldable pub parts_of_plane : Plane → PlaneParts
 parts_of_plane plane = record { over = number_of plane.over; drag = plane.drag }
 
 unfoldable pub over_of : ℕ → List Bool
-over_of number = map (λ viewer. bit_at number viewer == 1) (range_with_len 0 64)
+over_of number = map (λ viewer. bit_at number viewer == 1) (range_with_len 0 MOST_VIEWERS)
 
 -- the presser is a viewer, and both points are in their range
 abbrev pub drag_fits : Option Drag → Bool
@@ -36,7 +37,7 @@ plane_of_parts parts =
 
 -- a state in its ranges
 pub record IsFitting (plane : Plane) : Type 0 where
-  pub viewers : length plane.over ≡ 64
+  pub viewers : length plane.over ≡ MOST_VIEWERS
   pub drag : IsTrue (drag_fits plane.drag)
 
 -- the parts of a state in its ranges stand for that state
@@ -46,7 +47,7 @@ PartsArePlanes = (plane : Plane) → IsFitting plane
 
 -- and a state that parts stand for has no other parts
 abbrev pub PlanesHaveOneParts : Type 0
-PlanesHaveOneParts = (parts : PlaneParts) (plane : Plane) → parts.over < 2 ^ 64
+PlanesHaveOneParts = (parts : PlaneParts) (plane : Plane) → parts.over < 2 ^ MOST_VIEWERS
     → plane_of_parts parts ≡ Some plane → parts_of_plane plane ≡ parts
 
 abbrev pub contact_fits : Option Contact → Bool

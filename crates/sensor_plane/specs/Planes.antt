@@ -12,6 +12,7 @@ use Rattle.sensor_plane.specs.declared.drag.Drag.{Drag}
 use Rattle.sensor_plane.specs.declared.fields.PlaneFields.{PlaneFields}
 use Rattle.sensor_plane.specs.declared.pointer.Contact.{Contact}
 use Rattle.sensor_plane.specs.declared.pointer.PlanePointer.{PlanePointer}
+use Rattle.sensor_plane.specs.declared.pointer.TheConstants.{MOST_VIEWERS}
 use Rattle.sensor_plane.specs.declared.numbers.TheConstants.{IS_ACTIVE, IS_OVER, OFFSET, TRACK_POINT_CHANGED, TRANSLATION_CHANGED}
 
 -- whether each viewer's pointer is over the sensor, by the viewer's number, and the drag, if a
@@ -28,7 +29,7 @@ pub record Pointed : Type 0 where
 
 -- viewers are numbered from 0
 abbrev pub is_viewer : ℕ → Bool
-is_viewer who = nat_lt who 64
+is_viewer who = nat_lt who MOST_VIEWERS
 
 -- a viewer presses
 abbrev pub is_drag : Option Drag → Bool
@@ -37,7 +38,7 @@ is_drag (Some drag) = is_viewer drag.presser
 
 -- no pointer is over it, and nobody presses it
 abbrev pub untouched : Plane
-untouched = record { over = replicate 64 false; drag = None }
+untouched = record { over = replicate MOST_VIEWERS false; drag = None }
 
 abbrev pub is_over : Plane → Bool
 is_over plane = list_any (λ over. over) plane.over

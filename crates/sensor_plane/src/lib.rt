@@ -28,5 +28,5 @@ pub use laws::{
 pub use numbers::{OFFSET, PLANE_ENABLED};
 pub use parts::PlaneParts;
 pub use path::{ListPath, MAX_POSITIONS};
-pub use plane::{MOST_VIEWERS, PlaneState};
-pub use pointer::{Contact, PlanePointer};
+pub use plane::PlaneState;
+pub use pointer::{Contact, MOST_VIEWERS, PlanePointer};

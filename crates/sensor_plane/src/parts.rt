@@ -5,6 +5,7 @@ ghost use Rattle.sensor_core.specs.Parts.{number_of};
 ghost use Rattle.sensor_plane.specs.PlaneParts.{over_of};
 
 use crate::drag::Drag;
+use crate::pointer::VIEWERS;
 
 /// Of a PlaneSensor: which viewers' pointers are over it, and the drag, if a viewer presses.
 #[derive(Clone, Copy, PartialEq, Eq)]
@@ -15,11 +16,11 @@ pub struct PlaneParts {
 }
 
 /// A number whose bit v says whether viewer v is in a set.
-pub(crate) fn number_of(set: &[bool; 64]) -> u64
+pub(crate) fn number_of(set: &[bool; VIEWERS]) -> u64
     ensures { result ≡ number_of set.now }
 {
     let mut number = 0_u64;
-    let mut left = 64;
+    let mut left = VIEWERS;
     while left > 0 {
         left -= 1;
         number = 2 * number + u64::from(set[left]);
@@ -29,11 +30,11 @@ pub(crate) fn number_of(set: &[bool; 64]) -> u64
 
 /// Which viewers are in the set that a number stands for.
 #[tactic(auto, unfolding(crate::specs::PlaneParts::over_of))]
-pub(crate) fn over_of(number: u64) -> [bool; 64]
+pub(crate) fn over_of(number: u64) -> [bool; VIEWERS]
     ensures { result ≡ over_of number }
 {
-    let mut set = [false; 64];
-    for viewer in 0..64 {
+    let mut set = [false; VIEWERS];
+    for viewer in 0..VIEWERS {
         set[viewer] = (number >> viewer) & 1 == 1;
     }
     set

@@ -10,18 +10,15 @@ use crate::drag::{Drag, drag_on, send};
 use crate::fields::PlaneFields;
 use crate::numbers::{IS_ACTIVE, IS_OVER};
 use crate::parts::{PlaneParts, number_of, over_of};
-use crate::pointer::PlanePointer;
+use crate::pointer::{MOST_VIEWERS, PlanePointer, VIEWERS};
 use react_core::Outbox;
 use std::marker::Model;
 use x3d_values::Value;
 
-/// How many viewers have pointers.
-pub const MOST_VIEWERS: u8 = 64;
-
 /// Which viewers' pointers are over a PlaneSensor, and the drag, if a viewer presses.
 #[derive(Clone, Copy, PartialEq, Eq)]
 pub struct PlaneState {
-    over: [bool; 64],
+    over: [bool; VIEWERS],
     drag: Option<Drag>,
 }
 
@@ -49,7 +46,7 @@ impl PlaneState {
         ensures { result ≡ untouched }
     {
         PlaneState {
-            over: [false; 64],
+            over: [false; VIEWERS],
             drag: None,
         }
     }
@@ -138,7 +135,7 @@ impl PlaneState {
         })
     }
 
-    fn over_after(&self, pointer: &PlanePointer) -> [bool; 64]
+    fn over_after(&self, pointer: &PlanePointer) -> [bool; VIEWERS]
         requires { IsTrue (is_viewer pointer.now.who) }
         ensures { result ≡ over_after self.now pointer.now }
     {
@@ -148,7 +145,7 @@ impl PlaneState {
     }
 }
 
-fn is_any(over: &[bool; 64]) -> bool
+fn is_any(over: &[bool; VIEWERS]) -> bool
     ensures { result ≡ list_any (λ o. o) over.now }
 {
     over.iter().any(|over| *over)

@@ -16,6 +16,21 @@ patience_for trip = max 4_000 (min (min (2 * trip) (2 ^ 64 - 1)) 1_000_000)
 abbrev pub longer : (patience : ℕ) → ℕ
 longer patience = min (min (2 * patience) (2 ^ 64 - 1)) 1_000_000
 
+-- nothing was sent, and a round trip may take 50 milliseconds
+abbrev pub unsent : Pace
+unsent = record {
+  awaited = 0;
+  since = 0;
+  patience = patience_for 50_000;
+  trip = 50_000;
+  next = 0;
+  asked = 0;
+  begun = 0;
+  measuring = false;
+  number = 0;
+  offered = 0;
+}
+
 -- for how long an answer is awaited still, since something was sent or came, and at most a second
 -- behind the last ask
 abbrev pub left : Pace → (now : ℕ) → ℕ
@@ -80,6 +95,10 @@ measured p number now =
     then record p { measuring = false; trip = measure p (now - p.begun) }
     else p
 
+-- how long the first rest is, in milliseconds
+abbrev pub first_rest : ℕ
+first_rest = 1
+
 -- the next rest after one of so many milliseconds
 abbrev pub next_rest : (rest : ℕ) → (is_new : Bool) → ℕ
-next_rest rest is_new = if is_new then 1 else min (min (2 * rest) (2 ^ 32 - 1)) 50
+next_rest rest is_new = if is_new then first_rest else min (min (2 * rest) (2 ^ 32 - 1)) 50

@@ -7,8 +7,8 @@ ghost use Rattle.share_commands.specs.Beyond.{body_is_beyond, count_of, is_beyon
 use share_port::{Port, PortFault};
 use share_wire::{Body, decode};
 
-/// Whether the bytes are the datagram of an input beyond the last one that is wanted, or of a piece of
-/// a snapshot with more inputs applied than that.
+/// Whether the bytes are the datagram of an input beyond the last one that is wanted, or of a piece
+/// of a snapshot with more inputs applied than that.
 fn is_beyond(bytes: &[u8], last: u32) -> bool
     ensures { result ≡ is_beyond last (decoded bytes.now) }
 {
@@ -28,8 +28,9 @@ fn body_is_beyond(body: Body, last: u32) -> bool
     }
 }
 
-/// A port that passes over inputs beyond a last one, if there is a last one, and pieces of a snapshot
-/// in which more are applied: of such a datagram no byte is received. It tells nothing of what passes.
+/// A port that passes over inputs beyond a last one, if there is a last one, and pieces of a
+/// snapshot in which more are applied: of such a datagram no byte is received. It tells nothing of
+/// what passes.
 #[derive(Drop)]
 pub struct ExactPort<P> {
     port: P,

@@ -4,16 +4,16 @@ ghost use Rattle.std.specs.Prelude.{◌≡◌, if◌then◌else◌, not};
 ghost use Rattle.share_commands.specs.Pace.{answered, asked, come, is_again, is_due, is_early};
 ghost use Rattle.share_commands.specs.Pace.{left, longer, measure, measured, offered, patience_for};
 
-/// The shortest and the longest time for which an answer is awaited, and a round trip before one was
-/// measured, all in microseconds.
+/// The shortest and the longest time for which an answer is awaited, and a round trip before one
+/// was measured, all in microseconds.
 const LEAST: u64 = 4_000;
 
 const MOST: u64 = 1_000_000;
 
 const UNKNOWN: u64 = 50_000;
 
-/// What is known of the asks and offers that a viewer sent. Times are microseconds of some clock, up
-/// to 2^64 - 1.
+/// What is known of the asks and offers that a viewer sent. Times are microseconds of some clock,
+/// up to 2^64 - 1.
 #[derive(Clone, Copy)]
 pub struct Pace {
     /// How many acks are under way: one for each ask or offer.
@@ -27,7 +27,8 @@ pub struct Pace {
     /// From which number on was asked last, and when.
     next: u32,
     asked: u64,
-    /// When that was asked first since an answer came, and whether its first input is still to come.
+    /// When that was asked first since an answer came, and whether its first input is still to
+    /// come.
     begun: u64,
     measuring: bool,
     /// Which offer was sent last, and when.
@@ -51,10 +52,12 @@ fn longer(patience: u64) -> u64
 impl Pace {
     ghost use Rattle.std.specs.Prelude.{◌≡◌, if◌then◌else◌, not};
     ghost use Rattle.share_commands.specs.Pace.{answered, asked, come, is_again, is_due, is_early};
-    ghost use Rattle.share_commands.specs.Pace.{left, measure, measured, offered};
+    ghost use Rattle.share_commands.specs.Pace.{left, measure, measured, offered, unsent};
 
     /// Nothing was sent.
-    pub fn new() -> Pace {
+    pub fn new() -> Pace
+        ensures { result ≡ unsent }
+    {
         Pace {
             awaited: 0,
             since: 0,
@@ -99,8 +102,8 @@ impl Pace {
         self.awaited > 0 || !self.is_again(next, now, pause)
     }
 
-    /// Whether an ask from this number on is sent now. Where the last one had no answer in time, this
-    /// one is given more.
+    /// Whether an ask from this number on is sent now. Where the last one had no answer in time,
+    /// this one is given more.
     pub fn asks(&mut self, next: u32, now: u64, pause: u64) -> bool
         ensures due { result ≡ is_due self.old next now pause }
         ensures state { self.new
@@ -155,8 +158,8 @@ impl Pace {
     }
 
     /// An input came: the first that was asked for tells how long a round trip takes. Where it was
-    /// asked for more than once nobody knows which ask it answers, and the measure grows by an eighth
-    /// at most.
+    /// asked for more than once nobody knows which ask it answers, and the measure grows by an
+    /// eighth at most.
     pub fn measures(&mut self, number: u32, now: u64)
         ensures { self.new ≡ measured self.old number now }
     {

@@ -1,7 +1,7 @@
 //! A port that waits where nothing comes, and sends nothing again whose answer may be under way.
 
-ghost use Rattle.std.specs.Prelude.{◌≡◌};
-ghost use Rattle.share_commands.specs.Pace.{next_rest};
+ghost use Rattle.std.specs.Prelude.{◌≡◌, false};
+ghost use Rattle.share_commands.specs.Pace.{first_rest, next_rest, unsent};
 
 use crate::brief::{Brief, brief_of};
 use crate::pace::Pace;
@@ -17,8 +17,8 @@ const LONGEST: u32 = 50;
 /// A port that rests between two turns: not at all where the turn before brought something new and
 /// datagrams came in it, a millisecond where they didn't, and else until a datagram comes, at most
 /// twice as long as the last time and at most 50 milliseconds. An ask or an offer is held back, as
-/// if it were lost, while the answers to those before may be under way, and so is an ask that is the
-/// last one again until it has rested; while answers are under way a receive waits for them, 50
+/// if it were lost, while the answers to those before may be under way, and so is an ask that is
+/// the last one again until it has rested; while answers are under way a receive waits for them, 50
 /// milliseconds at most. It tells nothing of what passes.
 #[derive(Drop)]
 pub struct PatientPort<P, C> {
@@ -30,8 +30,12 @@ pub struct PatientPort<P, C> {
 }
 
 impl<P, C> PatientPort<P, C> {
+    /// A port that hasn't sent anything, nor rested.
     pub fn new(port: P, clock: C) -> PatientPort<P, C>
-        ensures { result.port ≡ port }
+        ensures port { result.port ≡ port }
+        ensures pace { result.pace ≡ unsent }
+        ensures rest { result.rest ≡ first_rest }
+        ensures came { result.came ≡ false }
     {
         PatientPort {
             port,
@@ -47,6 +51,18 @@ impl<P, C> PatientPort<P, C> {
         ensures { result.now ≡ self.now.port }
     {
         &self.port
+    }
+
+    /// Another turn ends: how long its rest is, and whether datagrams came in it.
+    fn end_turn(&mut self, is_new: bool) -> bool
+        ensures came { result ≡ self.old.came }
+        ensures state { self.new
+            ≡ record self.old { came = false; rest = next_rest self.old.rest is_new } }
+    {
+        let came = self.came;
+        self.came = false;
+        self.rest = next_rest(self.rest, is_new);
+        came
     }
 }
 
@@ -159,9 +175,7 @@ impl<P: Port, C: Clock> Port for PatientPort<P, C> {
     }
 
     fn rest(&mut self, is_new: bool) {
-        let came = self.came;
-        self.came = false;
-        self.rest = next_rest(self.rest, is_new);
+        let came = self.end_turn(is_new);
         self.port.rest(is_new);
         if !is_new {
             self.port.wait(self.rest);

@@ -96,8 +96,8 @@ pub struct Watch {
     mark: [u8; 32],
     node: Node,
     heard: [bool; PLACES],
-    /// The highest boot of an offer of each viewer, and how many offers of its boot are numbered, as
-    /// the host's acks say.
+    /// The highest boot of an offer of each viewer, and how many offers of its boot are numbered,
+    /// as the host's acks say.
     boots: [u32; PLACES],
     acked: [(u32, u32); PLACES],
     told: [bool; 4],

@@ -10,7 +10,7 @@ use Rattle.snapshot_codec.specs.Trace.{is_moment}
 use Rattle.snapshot_core.specs.declared.fault.SnapFault.{SnapFault}
 use Rattle.snapshot_core.specs.declared.fault.SnapFault.TheVariants.{BootNotNew, NotCanonical}
 use Rattle.snapshot_core.specs.declared.loading.Saved.{Saved}
-use Rattle.snapshot_core.specs.Loading.{HasSnapshot, loaded, load_outcome}
+use Rattle.snapshot_core.specs.Loading.{HasSnapshot, loaded, load_outcome, newest}
 use Rattle.snapshot_core.specs.Shot.{shot}
 use Rattle.snapshot_core.specs.WorldCodec.{parts_codec, parts_in, world_codec}
 use Rattle.snapshot_core.proofs.ShotLaws.{found, loads, refuses}
@@ -21,11 +21,11 @@ use Rattle.share_core.specs.Rewinds.{IsRewound, rewound_to}
 use Rattle.share_core.specs.Viewer.{ViewerView, machine_of}
 
 -- a world that has a snapshot has had 2^20 inputs at most, and fits for the law
-fits-both : (scene : SceneView) (w : Scripted) → (world_codec scene).fits w ≡ true → (w.world.applied ≤ 2 ^ 20) × (world_fits w ≡ true)
+fits-both : (scene : SceneView) (w : Scripted) → (world_codec newest scene).fits w ≡ true → (w.world.applied ≤ 2 ^ 20) × (world_fits w ≡ true)
 unfolding world_codec
 fits-both scene w fits =
-    let parts = and_parts (nat_le w.world.applied (2 ^ 20)) (is_moment w.world.last_time && (parts_codec scene).fits (parts_in w)) fits in
-    let rest = and_parts (is_moment w.world.last_time) ((parts_codec scene).fits (parts_in w)) parts.1 in
+    let parts = and_parts (nat_le w.world.applied (2 ^ 20)) (is_moment w.world.last_time && (parts_codec newest scene).fits (parts_in w)) fits in
+    let rest = and_parts (is_moment w.world.last_time) ((parts_codec newest scene).fits (parts_in w)) parts.1 in
     (leb-true w.world.applied (2 ^ 20) parts.0, and_from (nat_le w.world.applied (2 ^ 20)) (is_moment w.world.last_time) parts.0 rest.0)
 
 -- ---- what was loaded

@@ -8,7 +8,8 @@ use share_law::agreement_law;
 
 /// What holds of the nodes that a rehearsal leaves, by the law of shared worlds, and of its log.
 pub fn rehearsal_law()
-    // A running viewer holds the world of as many of the inputs that the host numbered as it applied.
+    // A running viewer holds the world of as many of the inputs that the host numbered as it
+    // applied.
     ensures equality { OfRehearsals ViewersHold }
     // Two running viewers that have applied as many inputs hold the same world and write its texts.
     ensures two_viewers { OfRehearsals ViewersAgree }

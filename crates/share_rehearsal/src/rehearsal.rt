@@ -123,9 +123,9 @@ fn begun<B: Behaviour>(
 /// scene, or a line that it is spoiled.
 ///
 /// A refusal of memory inside a step is the step's answer, and the steps go on. The rehearsal is
-/// refused in this order: `NoViewers`; `TooManyViewers`, more than `MAX_VIEWERS` stages; `Memory`, where
-/// it was refused to the log, or to the lists of viewers, packets and snapshots. The buffer is then
-/// as it was.
+/// refused in this order: `NoViewers`; `TooManyViewers`, more than `MAX_VIEWERS` stages; `Memory`,
+/// where it was refused to the log, or to the lists of viewers, packets and snapshots. The buffer
+/// is then as it was.
 pub fn rehearse<B: Behaviour>(
     alloc: Global,
     stages: Vec<Stage<B>>,

@@ -122,7 +122,7 @@ asked_range (Host asked) p h = record {
 }
 asked_range (View asked) p h = record {
   port_low = h.1.port.low_end;
-  who_high = h.1.who.high_end;
+  who_high = omega (arith, h.1.who.high_end);
   boot_low = h.1.boot.low_end;
   end_high = end_range p.1 asked.end h.1.end;
   turns_low = h.1.turns.low_end;

@@ -1,13 +1,18 @@
--- The options of the commands, as `clap` has them: each has a name, and a range with a default, or is
--- required, or may be left out; or it is given or not.
-use Rattle.std.specs.Prelude.{ℕ, [], ◌∷◌, Some, codes, pos, true}
+-- The options of the commands, as `clap` has them: each has a name, and a range with a default, or
+-- is required, or may be left out; or it is given or not.
+use Rattle.std.specs.Prelude.{ℕ, ◌-◌, [], ◌∷◌, Some, codes, pos, true}
 use Rattle.clap.specs.Words.{Rule, Text, new_rule}
 use Rattle.clap.specs.declared.builder.action.ArgAction.TheVariants.{SetTrue}
 use Rattle.clap.specs.declared.builder.value_parser.ValueParser.TheVariants.{Signed}
+use Rattle.x3d_values.specs.Ranges.{max_viewers}
 use Rattle.share_words.specs.declared.options.FlagOption.{FlagOption}
 use Rattle.share_words.specs.declared.options.NumberOption.{NumberOption}
 use Rattle.share_words.specs.declared.options.Unless.{Unless}
 use Rattle.share_words.specs.declared.options.Unless.TheVariants.{Refused, Has, Nothing}
+
+-- the highest number of a viewer
+abbrev pub max_who : ℕ
+max_who = max_viewers - 1
 
 -- `--NAME VALUE`
 abbrev pub option : Text → Rule
@@ -17,9 +22,9 @@ option name = record (new_rule name) { long = Some name; value_names = 1 }
 abbrev pub ranged : Text → (low high : ℕ) → Rule
 ranged name low high = record (option name) { parser = Some (Signed (pos low) (pos high)) }
 
--- `--viewers K`, from 1 to 16, by default 2
+-- `--viewers K`, from 1 to the most that a world may have, by default 2
 abbrev pub viewers_rule : Rule
-viewers_rule = record (ranged (codes "viewers") 1 16) { defaults = codes "2" ∷ [] }
+viewers_rule = record (ranged (codes "viewers") 1 max_viewers) { defaults = codes "2" ∷ [] }
 
 -- `--turns T`, from 1 to 10000000, by default 1000000
 abbrev pub turns_rule : Rule
@@ -29,9 +34,9 @@ turns_rule = record (ranged (codes "turns") 1 10000000) { defaults = codes "1000
 abbrev pub port_rule : Rule
 port_rule = record (ranged (codes "port") 1 65535) { required = true }
 
--- `--who V`, from 0 to 15, required
+-- `--who V`, the number of a viewer, required
 abbrev pub who_rule : Rule
-who_rule = record (ranged (codes "who") 0 15) { required = true }
+who_rule = record (ranged (codes "who") 0 max_who) { required = true }
 
 -- `--boot B`, from 1 to 2^32 - 1, required
 abbrev pub boot_rule : Rule

@@ -1,5 +1,5 @@
 -- What the command words mean, by what `clap` makes of them.
-use Rattle.std.specs.Prelude.{◌≡◌, ◌≢◌, ◌⊎◌, ◌≤◌, ℕ, Bool, List, [], ◌∷◌, Option, Some, None, codes, ⊤}
+use Rattle.std.specs.Prelude.{◌≡◌, ◌≢◌, ◌⊎◌, ◌<◌, ◌≤◌, ℕ, Bool, List, [], ◌∷◌, Option, Some, None, codes, ⊤}
 use Rattle.std.specs.Prelude.{IsSomeAnd, IfSome, false}
 use Rattle.std.specs.Option.{option_map_or}
 use Rattle.std.specs.Str.{bytes_eq}
@@ -7,7 +7,9 @@ use Rattle.std.specs.Str.Parse.{IsNumeral, digits_value, without_leading_plus}
 use Rattle.clap.specs.Words.{Row, Text, one_of, subcommand_of, fault_of, IsAmong}
 use Rattle.clap.specs.declared.error.kind.ErrorKind.{ErrorKind}
 use Rattle.clap.specs.declared.error.kind.ErrorKind.TheVariants as kind
+use Rattle.x3d_values.specs.Ranges.{max_viewers}
 use Rattle.share_words.specs.Commands.{program}
+use Rattle.share_words.specs.Options.{max_who}
 use Rattle.share_words.specs.declared.order.HostOrder.{HostOrder}
 use Rattle.share_words.specs.declared.order.Order.{Order}
 use Rattle.share_words.specs.declared.order.Order.TheVariants.{Run, Format, Check, Rehearse, Agree, Host, View}
@@ -46,7 +48,7 @@ abbrev pub is_given : Text → List Row → Bool
 is_given id rows = option_map_or (λ text. bytes_eq text (codes "true")) (one_of id rows) false
 
 abbrev pub IsViewers : List Row → ℕ → Type 0
-IsViewers rows viewers = HasNumberIn (codes "viewers") rows 1 16 viewers
+IsViewers rows viewers = HasNumberIn (codes "viewers") rows 1 max_viewers viewers
 
 abbrev pub IsTurns : List Row → ℕ → Type 0
 IsTurns rows turns = HasNumberIn (codes "turns") rows 1 10000000 turns
@@ -55,7 +57,7 @@ abbrev pub IsPort : List Row → ℕ → Type 0
 IsPort rows port = HasNumberIn (codes "port") rows 1 65535 port
 
 abbrev pub IsWho : List Row → ℕ → Type 0
-IsWho rows who = HasNumberIn (codes "who") rows 0 15 who
+IsWho rows who = HasNumberIn (codes "who") rows 0 max_who who
 
 abbrev pub IsBoot : List Row → ℕ → Type 0
 IsBoot rows boot = HasNumberIn (codes "boot") rows 1 4294967295 boot
@@ -80,7 +82,8 @@ abbrev pub IsEnd : List Row → ViewEnd → Type 0
 IsEnd rows (Until n) = MayHaveUntil rows (Some n) × MayHaveExactly rows None
 IsEnd rows (Exactly n) = MayHaveUntil rows None × MayHaveExactly rows (Some n)
 
--- the end that the numbers of the two options ask for, if one of them was left out and one was given
+-- the end that the numbers of the two options ask for, if one of them was left out and one was
+-- given
 abbrev pub end_of : (until exactly : Option ℕ) → Option ViewEnd
 end_of (Some n) None = Some (Until n)
 end_of None (Some n) = Some (Exactly n)
@@ -134,7 +137,7 @@ end_count (Exactly n) = n
 pub record HostInRange (o : HostOrder) : Type 0 where
   pub port_low : 1 ≤ o.port
   pub viewers_low : 1 ≤ o.viewers
-  pub viewers_high : o.viewers ≤ 16
+  pub viewers_high : o.viewers ≤ max_viewers
   pub until_high : IfSome o.until (λ n. n ≤ 1048576)
   pub keep_high : IfSome o.keep (λ n. n ≤ 1048576)
   pub turns_low : 1 ≤ o.turns
@@ -143,7 +146,7 @@ pub record HostInRange (o : HostOrder) : Type 0 where
 -- the numbers of a viewer are those that it takes
 pub record ViewInRange (o : ViewOrder) : Type 0 where
   pub port_low : 1 ≤ o.port
-  pub who_high : o.who ≤ 15
+  pub who_high : o.who < max_viewers
   pub boot_low : 1 ≤ o.boot
   pub end_high : end_count o.end ≤ 1048576
   pub turns_low : 1 ≤ o.turns
@@ -153,8 +156,8 @@ pub record ViewInRange (o : ViewOrder) : Type 0 where
 
 -- the numbers of an order are those that hosts and viewers take
 abbrev pub IsInRange : Order → Type 0
-IsInRange (Rehearse viewers) = (1 ≤ viewers) × (viewers ≤ 16)
-IsInRange (Agree viewers turns) = (1 ≤ viewers) × (viewers ≤ 16)
+IsInRange (Rehearse viewers) = (1 ≤ viewers) × (viewers ≤ max_viewers)
+IsInRange (Agree viewers turns) = (1 ≤ viewers) × (viewers ≤ max_viewers)
 IsInRange (Host o) = HostInRange o
 IsInRange (View o) = ViewInRange o
 IsInRange _ = ⊤

@@ -12,14 +12,16 @@ ghost use Rattle.share_words.specs.declared.order.ViewEnd.{ViewEnd as EndOf};
 ghost use Rattle.share_words.specs.declared.order.ViewOrder.{ViewOrder as ViewOf};
 
 use crate::numbers::{is_named, number_in, optional_in};
+use crate::options::MAX_WHO;
 use crate::order::{HostOrder, Order, ViewEnd, ViewOrder};
 use clap::ArgMatches;
+use x3d_values::MAX_VIEWERS;
 
 fn viewers_in(found: &ArgMatches<'_>) -> Option<u8>
     ensures some { IfSome result (λ n. IsViewers (rows_of (found_of found.now)) n) }
     ensures none { IfNone result ((n : ℕ) → ¬ IsViewers (rows_of (found_of found.now)) n) }
 {
-    let viewers = number_in(found, "viewers", 1, 16)?;
+    let viewers = number_in(found, "viewers", 1, MAX_VIEWERS as u32)?;
     Some(viewers as u8)
 }
 
@@ -42,7 +44,7 @@ fn who_in(found: &ArgMatches<'_>) -> Option<u8>
     ensures some { IfSome result (λ n. IsWho (rows_of (found_of found.now)) n) }
     ensures none { IfNone result ((n : ℕ) → ¬ IsWho (rows_of (found_of found.now)) n) }
 {
-    let who = number_in(found, "who", 0, 15)?;
+    let who = number_in(found, "who", 0, MAX_WHO)?;
     Some(who as u8)
 }
 

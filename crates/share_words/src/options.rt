@@ -8,6 +8,7 @@ ghost use Rattle.share_words.specs.Options.{flag_rule, number_rule, ranged_rule}
 use clap::builder::ValueParser;
 use clap::{Arg, ArgAction};
 use std::alloc::Global;
+use x3d_values::MAX_VIEWERS;
 
 /// What an option has where it is not given.
 #[derive(Clone, Copy)]
@@ -41,10 +42,16 @@ pub struct FlagOption {
     pub help: &'static str,
 }
 
+/// The highest number of a viewer.
+pub const MAX_WHO: u32 = MAX_VIEWERS as u32 - 1;
+
+// The help of `VIEWERS` and of `WHO` says these numbers.
+const _: () = prove!(MAX_VIEWERS == 16 && MAX_WHO == 15);
+
 pub const VIEWERS: NumberOption = NumberOption {
     name: "viewers",
     low: 1,
-    high: 16,
+    high: MAX_VIEWERS as u32,
     unless: Unless::Has("2"),
     value: "K",
     help: "How many viewers, 1 to 16",
@@ -90,7 +97,7 @@ pub const HOST_UNTIL: NumberOption = NumberOption {
 pub const WHO: NumberOption = NumberOption {
     name: "who",
     low: 0,
-    high: 15,
+    high: MAX_WHO,
     unless: Unless::Refused,
     value: "V",
     help: "Which viewer this is, 0 to 15",

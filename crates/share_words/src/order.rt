@@ -14,7 +14,7 @@ use thiserror::Error;
 pub struct HostOrder {
     /// The UDP port of 127.0.0.1 that is bound, 1 to 65,535.
     pub port: u16,
-    /// How many viewers there may be, 1 to 16.
+    /// How many viewers there may be, 1 to `MAX_VIEWERS` of x3d_values.
     pub viewers: u8,
     /// How many turns at most, 1 to 10,000,000.
     pub turns: u32,
@@ -40,7 +40,7 @@ pub enum ViewEnd {
 pub struct ViewOrder {
     /// The host's UDP port on 127.0.0.1, 1 to 65,535.
     pub port: u16,
-    /// The viewer, 0 to 15.
+    /// The viewer, below `MAX_VIEWERS` of x3d_values.
     pub who: u8,
     /// How often it has been started, this time too, 1 to 2^32 - 1.
     pub boot: u32,
@@ -66,9 +66,9 @@ pub enum Order {
     Format,
     /// `check`: the input is a scene.
     Check,
-    /// `rehearse`: the input is a schedule; 1 to 16 viewers.
+    /// `rehearse`: the input is a schedule; 1 to `MAX_VIEWERS` viewers.
     Rehearse { viewers: u8 },
-    /// `agree`: the input is a job; 1 to 16 viewers, 1 to 10,000,000 rounds.
+    /// `agree`: the input is a job; 1 to `MAX_VIEWERS` viewers, 1 to 10,000,000 rounds.
     Agree { viewers: u8, turns: u32 },
     Host(HostOrder),
     View(ViewOrder),

@@ -11,6 +11,7 @@ use Rattle.scene_core.specs.declared.scene.SceneNode.{SceneNode}
 use Rattle.byte_codec.specs.Codec.{Codec}
 use Rattle.snapshot_codec.specs.declared.kept.KeptField.{KeptField}
 use Rattle.snapshot_codec.specs.Fields.{kept_field}
+use Rattle.snapshot_rules.specs.declared.version.Version.{Version}
 use Rattle.snapshot_core.specs.declared.nodes.NodeState.{NodeState}
 use Rattle.snapshot_core.specs.Nodes.{kept_fields, kept_from, node_codec, shape_in, state_codec}
 
@@ -76,18 +77,18 @@ kept-done scene node t number count kept lt h le all so_far =
     sym last ∙ so_far ∙ ap (λ (k : NodeType). kept_from k 0 rows) (type_in scene node t lt h)
 
 -- the bytes of a node go by its type and those fields
-pub codec_in : (scene : SceneView) (node : ℕ) (t : NodeType) → node < length scene.nodes → slice_get (types_of scene) node ≡ Some t →
-    state_codec (kept_fields (shape_in scene node)) t ≡ node_codec (shape_in scene node)
+pub codec_in : (version : Version) (scene : SceneView) (node : ℕ) (t : NodeType) → node < length scene.nodes → slice_get (types_of scene) node ≡ Some t →
+    state_codec version (kept_fields (shape_in scene node)) t ≡ node_codec version (shape_in scene node)
 unfolding node_codec
-codec_in scene node t lt h = ap (λ (k : NodeType). state_codec (kept_fields (shape_in scene node)) k) (type_in scene node t lt h)
+codec_in version scene node t lt h = ap (λ (k : NodeType). state_codec version (kept_fields (shape_in scene node)) k) (type_in scene node t lt h)
 
 -- what is written of a node
-pub text_in : (scene : SceneView) (node : ℕ) (t : NodeType) (state : NodeState) (old new : List ℕ) → node < length scene.nodes → slice_get (types_of scene) node ≡ Some t →
-    new ≡ old ++ (state_codec (kept_fields (shape_in scene node)) t).write state → new ≡ old ++ (node_codec (shape_in scene node)).write state
-text_in scene node t state old new lt h more = more ∙ ap (λ (c : Codec NodeState). old ++ c.write state) (codec_in scene node t lt h)
+pub text_in : (version : Version) (scene : SceneView) (node : ℕ) (t : NodeType) (state : NodeState) (old new : List ℕ) → node < length scene.nodes → slice_get (types_of scene) node ≡ Some t →
+    new ≡ old ++ (state_codec version (kept_fields (shape_in scene node)) t).write state → new ≡ old ++ (node_codec version (shape_in scene node)).write state
+text_in version scene node t state old new lt h more = more ∙ ap (λ (c : Codec NodeState). old ++ c.write state) (codec_in version scene node t lt h)
 
 -- what is read of a node
-pub read_in : (P : Codec NodeState → Type 0) (scene : SceneView) (node : ℕ) (t : NodeType) (kept : List KeptField) → node < length scene.nodes → slice_get (types_of scene) node ≡ Some t →
-    kept ≡ kept_fields (shape_in scene node) → P (state_codec kept t) → P (node_codec (shape_in scene node))
-read_in P scene node t kept lt h is p =
-    subst P (ap (λ (k : List KeptField). state_codec k t) is ∙ codec_in scene node t lt h) p
+pub read_in : (version : Version) (P : Codec NodeState → Type 0) (scene : SceneView) (node : ℕ) (t : NodeType) (kept : List KeptField) → node < length scene.nodes → slice_get (types_of scene) node ≡ Some t →
+    kept ≡ kept_fields (shape_in scene node) → P (state_codec version kept t) → P (node_codec version (shape_in scene node))
+read_in version P scene node t kept lt h is p =
+    subst P (ap (λ (k : List KeptField). state_codec version k t) is ∙ codec_in version scene node t lt h) p

@@ -1,7 +1,7 @@
 mod Heads
 mod KeptRows
 mod LineLaws
-mod NodeLaws
+pub mod NodeLaws
 mod NodeLoops
 mod Saves
 mod SetLaws

@@ -16,16 +16,17 @@ use Rattle.x3d_values.specs.declared.node_type.NodeType.TheVariants.{TimeSensor,
 use Rattle.x3d_values.specs.Ranges.{is_viewer, max_viewers}
 use Rattle.scene_core.specs.Shape.{Shape}
 use Rattle.snapshot_codec.specs.declared.viewers.Touch.{Touch as TouchBytes}
-use Rattle.snapshot_codec.specs.declared.viewers.Viewers.TheVariants.{Sixteen}
-use Rattle.snapshot_codec.specs.Parts.{touch_codec, viewer_set_codec, presser_codec, presser_fits}
+use Rattle.snapshot_codec.specs.Parts.{touch_codec, viewer_count, viewer_set_codec, presser_codec, presser_fits}
 use Rattle.snapshot_codec.proofs.KeptLaws.{fields_exact}
 use Rattle.snapshot_codec.proofs.PartLaws.{cycle_exact, touch_exact, position_exact}
+use Rattle.snapshot_rules.specs.declared.version.Version.{Version}
+use Rattle.snapshot_rules.specs.Opening.{newest, viewers_of}
 use Rattle.sensor_core.specs.Parts.{number_of, over_of, touch_of_parts}
 use Rattle.sensor_core.specs.Touches.{Touch, untouched, is_over}
 use Rattle.snapshot_core.specs.declared.nodes.NodeLists.{NodeLists}
 use Rattle.snapshot_core.specs.declared.nodes.NodeState.{NodeState}
 use Rattle.snapshot_core.specs.Nodes as n
-use Rattle.snapshot_core.proofs.SetLaws.{number_back, over_back, over_length, number_small}
+use Rattle.snapshot_core.proofs.SetLaws.{few_bits, few_viewers, number_back, over_back, over_length, number_small}
 
 -- ---- what has no bytes
 
@@ -54,42 +55,48 @@ time_exact _ = always_exact None is_none refl is_nothing
 abbrev touched : List Bool → Option ℕ → Touch
 touched over presser = record { over = over; presser = presser }
 
-pressers : (presser : Option ℕ) → option_map_or is_viewer presser true ≡ presser_fits max_viewers presser
-pressers None = refl
-pressers (Some viewer) = refl
+-- a presser that a version has a number for is a viewer
+viewer_presses : (version : Version) (presser : Option ℕ) → presser_fits (viewer_count (viewers_of version)) presser ≡ true → option_map_or is_viewer presser true ≡ true
+viewer_presses version None fits = refl
+viewer_presses version (Some viewer) fits = lt-ltb viewer max_viewers (omega (arith, ltb-true viewer (viewer_count (viewers_of version)) fits, few_viewers version))
 
-touch_parts : (a : TouchBytes) → (touch_codec Sixteen).fits a ≡ true → (a.over < 2 ^ max_viewers) × (presser_fits max_viewers a.presser ≡ true)
-unfolding touch_codec viewer_set_codec presser_codec
-touch_parts a fits =
-    let f = both ((viewer_set_codec Sixteen).fits a.over) ((presser_codec Sixteen).fits a.presser) fits in
-    (ltb-true _ _ f.0, f.1)
+touch_parts : (version : Version) (a : TouchBytes) → (touch_codec (viewers_of version)).fits a ≡ true → (a.over < 2 ^ max_viewers) × (option_map_or is_viewer a.presser true ≡ true)
+unfolding touch_codec presser_codec
+touch_parts version a fits =
+    let f = both ((viewer_set_codec (viewers_of version)).fits a.over) ((presser_codec (viewers_of version)).fits a.presser) fits in
+    (few_bits version a.over f.0, viewer_presses version a.presser f.1)
 
-touch_whole : (a : TouchBytes) → a.over < 2 ^ max_viewers → presser_fits max_viewers a.presser ≡ true → (touch_codec Sixteen).fits a ≡ true
-unfolding touch_codec viewer_set_codec presser_codec
-touch_whole a small ok = and_true ((viewer_set_codec Sixteen).fits a.over) ((presser_codec Sixteen).fits a.presser) (lt-ltb _ _ small) ok
-
-touch_in_is : (a : TouchBytes) → presser_fits max_viewers a.presser ≡ true → n.touch_in a ≡ Some (touched (over_of a.over) a.presser)
+touch_in_is : (a : TouchBytes) → option_map_or is_viewer a.presser true ≡ true → n.touch_in a ≡ Some (touched (over_of a.over) a.presser)
 unfolding touch_of_parts
-touch_in_is a ok = rw (pressers a.presser, ok) refl
+touch_in_is a ok = rw ok refl
 
-touch_fits_is : (n0 : ℕ) (presser : Option ℕ) → presser_fits max_viewers presser ≡ true → n.touch_fits (touched (over_of n0) presser) ≡ true
-touch_fits_is n0 presser ok = and_true _ _ (eq-eqb _ _ (over_length n0)) (pressers presser ∙ ok)
-
-pub pointers_exact : IsExact n.pointers_codec
+pub pointers_exact : (version : Version) → IsExact (n.pointers_codec version)
 unfolding n.pointers_codec
-pointers_exact = refined_exact n.touch_in n.touch_bytes n.touch_fits (touch_codec Sixteen) (record {
+pointers_exact version = refined_exact n.touch_in n.touch_bytes (n.touch_has_bytes version) (touch_codec (viewers_of version)) (record {
   back = λ a b fits e.
-      let f = touch_parts a fits in
-      let P : Touch → Type 0 = λ t. (n.touch_bytes t ≡ a) × (n.touch_fits t ≡ true) in
-      let number : number_of (over_of a.over) ≡ a.over = number_back a.over f.0 in
+      let f = touch_parts version a fits in
+      let P : Touch → Type 0 = λ t. (n.touch_bytes t ≡ a) × (n.touch_has_bytes version t ≡ true) in
+      let same : n.touch_bytes (touched (over_of a.over) a.presser) ≡ a = ap (λ k. let t : TouchBytes = record { over = k; presser = a.presser } in t) (number_back a.over f.0) in
+      let whole : n.touch_fits (touched (over_of a.over) a.presser) ≡ true = and_true _ _ (eq-eqb _ _ (over_length a.over)) f.1 in
       subst P (some_is (touched (over_of a.over) a.presser) b (sym (touch_in_is a f.1) ∙ e))
-      (ap (λ k. let t : TouchBytes = record { over = k; presser = a.presser } in t) number, touch_fits_is a.over a.presser f.1);
+      (same, and_true _ _ whole (ap (λ (t : TouchBytes). (touch_codec (viewers_of version)).fits t) same ∙ fits));
   forth = λ b ok.
-      let f = both (eqb (length b.over) max_viewers) (option_map_or is_viewer b.presser true) ok in
-      let len : length b.over ≡ max_viewers = eqb-true _ _ f.0 in
-      let viewer : presser_fits max_viewers b.presser ≡ true = sym (pressers b.presser) ∙ f.1 in
-      (touch_whole (n.touch_bytes b) (number_small b.over len) viewer, touch_in_is (n.touch_bytes b) viewer ∙ ap (λ (set : List Bool). Some (touched set b.presser)) (over_back b.over len));
-}) (touch_exact Sixteen)
+      let f = both (n.touch_fits b) ((touch_codec (viewers_of version)).fits (n.touch_bytes b)) ok in
+      let g = both (eqb (length b.over) max_viewers) (option_map_or is_viewer b.presser true) f.0 in
+      (f.1, touch_in_is (n.touch_bytes b) g.1 ∙ ap (λ (set : List Bool). Some (touched set b.presser)) (over_back b.over (eqb-true _ _ g.0)));
+}) (touch_exact (viewers_of version))
+
+-- the newest version has bits for all viewers
+all_press : (presser : Option ℕ) → option_map_or is_viewer presser true ≡ true → presser_fits (viewer_count (viewers_of newest)) presser ≡ true
+all_press None fits = refl
+all_press (Some viewer) fits = fits
+
+pub newest_touch : (touch : Touch) → n.touch_fits touch ≡ true → n.touch_has_bytes newest touch ≡ true
+unfolding touch_codec viewer_set_codec presser_codec
+newest_touch touch fits =
+    let f = both (eqb (length touch.over) max_viewers) (option_map_or is_viewer touch.presser true) fits in
+    let small : number_of touch.over < 2 ^ max_viewers = number_small touch.over (eqb-true _ _ f.0) in
+    and_true _ _ fits (and_true _ _ (lt-ltb _ _ small) (all_press touch.presser f.1))
 
 nobody : (set : List Bool) → list_any (λ over. over) set ≡ false → set ≡ replicate (length set) false
 nobody [] e = refl
@@ -108,10 +115,10 @@ only_untouched t e =
     let none : t.over ≡ replicate max_viewers false = nobody t.over (not_true (is_over t) g.0) ∙ ap (λ k. replicate k false) len in
     rw (none, is_nothing t.presser g.1) refl
 
-touch_part_exact : (t : NodeType) → IsExact (n.touch_part t)
+touch_part_exact : (version : Version) (t : NodeType) → IsExact (n.touch_part version t)
 unfolding n.touch_part
-touch_part_exact TouchSensor = pointers_exact
-touch_part_exact _ = always_exact untouched n.is_untouched refl only_untouched
+touch_part_exact version TouchSensor = pointers_exact version
+touch_part_exact version _ = always_exact untouched n.is_untouched refl only_untouched
 
 -- ---- a sequencer
 
@@ -129,13 +136,13 @@ position_part_exact _ = always_exact (at None) (λ position. is_none position.at
 
 -- ---- one node
 
-beside_exact : (t : NodeType) → IsExact (n.beside_codec t)
+beside_exact : (version : Version) (t : NodeType) → IsExact (n.beside_codec version t)
 unfolding n.beside_codec
-beside_exact t = named_exact _ _ _ (λ a. refl) (λ b. refl) (pair_exact _ _ (time_exact t) (pair_exact _ _ (touch_part_exact t) (position_part_exact t)))
+beside_exact version t = named_exact _ _ _ (λ a. refl) (λ b. refl) (pair_exact _ _ (time_exact t) (pair_exact _ _ (touch_part_exact version t) (position_part_exact t)))
 
-pub node_exact : (s : Shape) → IsExact (n.node_codec s)
+pub node_exact : (version : Version) (s : Shape) → IsExact (n.node_codec version s)
 unfolding n.node_codec n.state_codec
-node_exact s = named_exact n.node_of n.node_parts _ (λ a. refl) (λ b. refl) (pair_exact _ _ (fields_exact (n.kept_fields s)) (beside_exact s.node_type))
+node_exact version s = named_exact n.node_of n.node_parts _ (λ a. refl) (λ b. refl) (pair_exact _ _ (fields_exact (n.kept_fields s)) (beside_exact version s.node_type))
 
 -- ---- all nodes
 
@@ -167,15 +174,15 @@ long_lists nodes =
     let u = length-map nodes (λ (node : NodeState). node.touch) in
     and_true _ _ (eq-eqb _ _ (s ∙ sym f)) (eq-eqb _ _ (u ∙ sym f))
 
-pub nodes_exact : (shapes : List Shape) → IsExact (n.nodes_codec shapes)
+pub nodes_exact : (version : Version) (shapes : List Shape) → IsExact (n.nodes_codec version shapes)
 unfolding n.nodes_codec
-nodes_exact shapes = refined_exact (λ nodes. Some (n.by_lists nodes)) n.by_nodes (n.lists_fit shapes) (rows n.node_codec shapes) (record {
+nodes_exact version shapes = refined_exact (λ nodes. Some (n.by_lists nodes)) n.by_nodes (n.lists_fit version shapes) (rows (n.node_codec version) shapes) (record {
   back = λ a b fits e.
-      let P : NodeLists → Type 0 = λ ls. (n.by_nodes ls ≡ a) × (n.lists_fit shapes ls ≡ true) in
+      let P : NodeLists → Type 0 = λ ls. (n.by_nodes ls ≡ a) × (n.lists_fit version shapes ls ≡ true) in
       subst P (some_is (n.by_lists a) b e)
-      (nodes_back a, and_true _ _ (long_lists a) (ap (λ (ns : List NodeState). (rows n.node_codec shapes).fits ns) (nodes_back a) ∙ fits));
+      (nodes_back a, and_true _ _ (long_lists a) (ap (λ (ns : List NodeState). (rows (n.node_codec version) shapes).fits ns) (nodes_back a) ∙ fits));
   forth = λ b ok.
-      let f = both (as_long b) ((rows n.node_codec shapes).fits (n.by_nodes b)) ok in
+      let f = both (as_long b) ((rows (n.node_codec version) shapes).fits (n.by_nodes b)) ok in
       let g = both (eqb (length b.sensors) (length b.fields)) (eqb (length b.touches) (length b.fields)) f.0 in
       (f.1, ap (λ (ls : NodeLists). Some ls) (lists_back b.fields b.sensors b.touches (eqb-true _ _ g.0) (eqb-true _ _ g.1)));
-}) (rows_exact n.node_codec node_exact shapes)
+}) (rows_exact (n.node_codec version) (node_exact version) shapes)

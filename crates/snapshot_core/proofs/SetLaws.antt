@@ -1,13 +1,17 @@
--- A set of viewers is the bits of its number.
-use Rattle.std.proofs.Common.{◌≡◌, ℕ, zero, suc, ◌+◌, ◌*◌, ◌/◌, ◌%◌, ◌^◌, ◌<◌, Bool, true, false, eqb, List, [], ◌∷◌, length, map, refl, sym, ap, subst, ◌∙◌, arith}
+-- A set of viewers is the bits of its number, and each version of snapshots has bits for some.
+use Rattle.std.proofs.Common.{◌≡◌, ℕ, zero, suc, ◌+◌, ◌*◌, ◌/◌, ◌%◌, ◌^◌, ◌<◌, ◌≤◌, Bool, true, false, eqb, List, [], ◌∷◌, length, map, refl, sym, ap, subst, ◌∙◌, arith}
 use Rattle.std.specs.Prelude.{◌≢◌}
 use Rattle.std.specs.Int.{bit_at}
 use Rattle.std.specs.List.{range_with_len}
 use Rattle.std.proofs.Math.Nat.{pow-suc}
-use Rattle.std.proofs.lemmas.Bool.{eqb-true, eqb-false}
+use Rattle.std.proofs.lemmas.Bool.{eqb-true, eqb-false, ltb-true}
 use Rattle.std.proofs.lemmas.Nat.Bits.{bit_at_lowest, bit_at-suc}
 use Rattle.std.proofs.lemmas.List.FromFn.{length-map-range_with_len}
 use Rattle.x3d_values.specs.Ranges.{max_viewers}
+use Rattle.snapshot_codec.specs.Parts.{viewer_count, viewer_set_codec}
+use Rattle.snapshot_rules.specs.declared.version.Version.{Version}
+use Rattle.snapshot_rules.specs.declared.version.Version.TheVariants.{One}
+use Rattle.snapshot_rules.specs.Opening.{viewers_of}
 use Rattle.sensor_core.specs.Parts.{bit_of, number_of, over_of}
 
 -- the bits of a number from a place on
@@ -76,3 +80,13 @@ over_length n = length-map-range_with_len (λ viewer. eqb (bit_at n viewer) 1) 0
 
 pub number_small : (set : List Bool) → length set ≡ max_viewers → number_of set < 2 ^ max_viewers
 number_small set len = subst (λ k. number_of set < 2 ^ k) len (below set)
+
+-- ---- of the viewers that a version has bits for
+
+-- they are viewers
+pub few_viewers : (version : Version) → viewer_count (viewers_of version) ≤ max_viewers
+few_viewers One = omega arith
+
+pub few_bits : (version : Version) (n : ℕ) → (viewer_set_codec (viewers_of version)).fits n ≡ true → n < 2 ^ max_viewers
+unfolding viewer_set_codec
+few_bits One n fits = omega (arith, ltb-true n (2 ^ 16) fits)

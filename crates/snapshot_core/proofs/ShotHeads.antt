@@ -119,7 +119,7 @@ pub head_of_shot : (mark : List ℕ) (boot : ℕ) (scene : SceneView) (w : Scrip
 unfolding world_codec
 head_of_shot mark boot scene w len b has =
     let few : leb w.world.applied (2 ^ 20) ≡ true = (both (leb w.world.applied (2 ^ 20)) _ has.fits).0 in
-    let more : List ℕ = moment_codec.write w.world.last_time ++ (parts_codec scene).write (parts_in w) in
+    let more : List ℕ = moment_codec.write w.world.last_time ++ (parts_codec newest scene).write (parts_in w) in
     let moment : length (moment_codec.write w.world.last_time) ≡ 8 = length8 _ in
     head_of-numbered newest mark boot w.world.applied more len b (omega (arith, leb-true w.world.applied (2 ^ 20) few))
-    (omega (arith, moment, length-append (moment_codec.write w.world.last_time) ((parts_codec scene).write (parts_in w))))
+    (omega (arith, moment, length-append (moment_codec.write w.world.last_time) ((parts_codec newest scene).write (parts_in w))))

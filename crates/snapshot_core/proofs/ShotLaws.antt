@@ -39,12 +39,12 @@ length8 n = wide64.len n
 long : (boot : ℕ) (applied moment rest : List ℕ) → length applied ≡ 4 → length moment ≡ 8 → 16 ≤ length (number_text w32 boot ++ (applied ++ (moment ++ rest)))
 long boot applied moment rest a m = omega (arith, a, m, length4 boot, length-append (number_text w32 boot) (applied ++ (moment ++ rest)), length-append applied (moment ++ rest), length-append moment rest)
 
-some_body : (scene : SceneView) (boot : ℕ) (w : Scripted) → 16 ≤ length ((body_codec scene).write (boot, w))
+some_body : (version : Version) (scene : SceneView) (boot : ℕ) (w : Scripted) → 16 ≤ length ((body_codec version scene).write (boot, w))
 unfolding world_codec
-some_body scene boot w = long boot (applied_codec.write w.world.applied) (moment_codec.write w.world.last_time) ((parts_codec scene).write (parts_in w)) (length4 w.world.applied) (length8 _)
+some_body version scene boot w = long boot (applied_codec.write w.world.applied) (moment_codec.write w.world.last_time) ((parts_codec version scene).write (parts_in w)) (length4 w.world.applied) (length8 _)
 
-read_again : (scene : SceneView) (boot : ℕ) (w : Scripted) → boot < 2 ^ 32 → (world_codec scene).fits w ≡ true → whole ((body_codec scene).read ((body_codec scene).write (boot, w))) ≡ Some (boot, w)
-read_again scene boot w small fits = whole_again (body_codec scene) (body_exact scene) (boot, w) (and_true _ _ (lt-ltb boot (2 ^ 32) small) fits)
+read_again : (version : Version) (scene : SceneView) (boot : ℕ) (w : Scripted) → boot < 2 ^ 32 → (world_codec version scene).fits w ≡ true → whole ((body_codec version scene).read ((body_codec version scene).write (boot, w))) ≡ Some (boot, w)
+read_again version scene boot w small fits = whole_again (body_codec version scene) (body_exact version scene) (boot, w) (and_true _ _ (lt-ltb boot (2 ^ 32) small) fits)
 
 -- a snapshot names its version, and so is opened to its body
 pub named-front : (version : Version) (rest : List ℕ) → version_in (codes "X3DW" ++ version_number version ∷ rest) ≡ version
@@ -58,22 +58,29 @@ body_again version mark body len some =
     ap (λ (v : Version). opened (version_number v) mark (snapshot (version_number version) mark body)) (named version mark body)
     ∙ snapshot-opened (version_number version) mark body len some
 
-shot_read : (mark : List ℕ) (scene : SceneView) (boot new : ℕ) (w : Scripted) → length mark ≡ 32 → boot < 2 ^ 32 → (world_codec scene).fits w ≡ true → behind_head scene new (found_body mark (shot mark boot scene w)) ≡ newer new (Some (boot, w))
-shot_read mark scene boot new w len small fits =
-    ap (behind_head scene new) (body_again newest mark ((body_codec scene).write (boot, w)) len (some_body scene boot w))
-    ∙ ap (newer new) (read_again scene boot w small fits)
+-- what is read of bytes, by the version that they name
+abbrev read_of : List ℕ → SceneView → ℕ → List ℕ → Result (ℕ × Scripted) SnapFault
+read_of mark scene new bytes = behind_head (version_in bytes) scene new (found_body mark bytes)
+
+shot_read : (version : Version) (mark : List ℕ) (scene : SceneView) (boot new : ℕ) (w : Scripted) → length mark ≡ 32 → boot < 2 ^ 32 → (world_codec version scene).fits w ≡ true → read_of mark scene new (shot_as version mark boot scene w) ≡ newer new (Some (boot, w))
+shot_read version mark scene boot new w len small fits =
+    let body : List ℕ = (body_codec version scene).write (boot, w) in
+    let bytes : List ℕ = shot_as version mark boot scene w in
+    ap (λ (v : Version). behind_head v scene new (found_body mark bytes)) (named version mark body)
+    ∙ ap (behind_head version scene new) (body_again version mark body len (some_body version scene boot w))
+    ∙ ap (newer new) (read_again version scene boot w small fits)
 
 pub loads : (mark : List ℕ) (scene : SceneView) (boot new : ℕ) (w : Scripted) → length mark ≡ 32 → boot < 2 ^ 32 → HasSnapshot scene w → boot < new → loaded mark scene new (shot mark boot scene w) ≡ Ok (boot, w)
 unfolding loaded
 loads mark scene boot new w len small has above =
     let is_new : newer new (Some (boot, w)) ≡ Ok (boot, w) = (let k : ltb boot new ≡ true = lt-ltb boot new above in rw k refl) in
-    ap (with_states scene) (shot_read mark scene boot new w len small has.fits ∙ is_new) ∙ stated scene (boot, w) (all_fit scene w.states has.states)
+    ap (with_states scene) (shot_read newest mark scene boot new w len small has.fits ∙ is_new) ∙ stated scene (boot, w) (all_fit scene w.states has.states)
 
 pub refuses : (mark : List ℕ) (scene : SceneView) (boot new : ℕ) (w : Scripted) → length mark ≡ 32 → boot < 2 ^ 32 → HasSnapshot scene w → new ≤ boot → loaded mark scene new (shot mark boot scene w) ≡ Err BootNotNew
 unfolding loaded
 refuses mark scene boot new w len small has above =
     let not_new : newer new (Some (boot, w)) ≡ Err BootNotNew = (let k : ltb boot new ≡ false = le-ltb boot new above in rw k refl) in
-    ap (with_states scene) (shot_read mark scene boot new w len small has.fits ∙ not_new)
+    ap (with_states scene) (shot_read newest mark scene boot new w len small has.fits ∙ not_new)
 
 -- ---- from bytes
 
@@ -87,9 +94,13 @@ body_bytes version mark bytes body h e =
     let all : IsBytes (snapshot version mark body) = subst IsBytes e h in
     IsBytes-rest (front version mark) body (IsBytes-front (front version mark ++ body) _ all)
 
+-- a world that has bytes in a version has bytes in the newest
+newest_fits : (version : Version) (scene : SceneView) (w : Scripted) → (world_codec version scene).fits w ≡ true → (world_codec newest scene).fits w ≡ true
+newest_fits One scene w fits = fits
+
 -- what it comes to that this is read of these bytes
 abbrev Found : List ℕ → SceneView → ℕ → List ℕ → ℕ × Scripted → Type 0
-Found mark scene new bytes x = (bytes ≡ shot_as (version_in bytes) mark x.0 scene x.1) × ((world_codec scene).fits x.1 ≡ true) × (x.0 < new)
+Found mark scene new bytes x = (bytes ≡ shot_as (version_in bytes) mark x.0 scene x.1) × ((world_codec newest scene).fits x.1 ≡ true) × (x.0 < new)
 
 abbrev fault : SnapFault → Result (ℕ × Scripted) SnapFault
 fault f = Err f
@@ -101,19 +112,20 @@ by_boot : (new : ℕ) (y x : ℕ × Scripted) (t : Bool) → ltb y.0 new ≡ t �
 by_boot new y x true lt e = (ok_is y x e, ltb-true y.0 new lt)
 by_boot new y x false lt e = absurd cc
 
-by_body : (mark : List ℕ) (scene : SceneView) (new : ℕ) (bytes body : List ℕ) (x : ℕ × Scripted) (r : Option (ℕ × Scripted)) → IsBytes body → bytes ≡ snapshot (version_number (version_in bytes)) mark body → whole ((body_codec scene).read body) ≡ r → newer new r ≡ Ok x → Found mark scene new bytes x
+by_body : (mark : List ℕ) (scene : SceneView) (new : ℕ) (bytes body : List ℕ) (x : ℕ × Scripted) (r : Option (ℕ × Scripted)) → IsBytes body → bytes ≡ snapshot (version_number (version_in bytes)) mark body → whole ((body_codec (version_in bytes) scene).read body) ≡ r → newer new r ≡ Ok x → Found mark scene new bytes x
 by_body mark scene new bytes body x None h is read e = absurd cc
 by_body mark scene new bytes body x (Some y) h is read e =
+    let version : Version = version_in bytes in
     let b = by_boot new y x (ltb y.0 new) refl e in
-    let t = whole_takes (body_codec scene) (body_exact scene) body y h read in
-    let f = both ((number w32).fits y.0) ((world_codec scene).fits y.1) t.1 in
-    subst (Found mark scene new bytes) b.0 (is ∙ ap (snapshot (version_number (version_in bytes)) mark) t.0, f.1, b.1)
+    let t = whole_takes (body_codec version scene) (body_exact version scene) body y h read in
+    let f = both ((number w32).fits y.0) ((world_codec version scene).fits y.1) t.1 in
+    subst (Found mark scene new bytes) b.0 (is ∙ ap (snapshot (version_number version) mark) t.0, newest_fits version scene y.1 f.1, b.1)
 
-by_head : (mark : List ℕ) (scene : SceneView) (new : ℕ) (bytes : List ℕ) (x : ℕ × Scripted) (r : Result (List ℕ) HeadFault) → IsBytes bytes → found_body mark bytes ≡ r → behind_head scene new r ≡ Ok x → Found mark scene new bytes x
+by_head : (mark : List ℕ) (scene : SceneView) (new : ℕ) (bytes : List ℕ) (x : ℕ × Scripted) (r : Result (List ℕ) HeadFault) → IsBytes bytes → found_body mark bytes ≡ r → behind_head (version_in bytes) scene new r ≡ Ok x → Found mark scene new bytes x
 by_head mark scene new bytes x (Ok body) h is e =
     let version : ℕ = version_number (version_in bytes) in
     let found : bytes ≡ snapshot version mark body = opened-found (λ b. b) (Ok body) version mark bytes (sym is) in
-    by_body mark scene new bytes body x (whole ((body_codec scene).read body)) (body_bytes version mark bytes body h found) found refl e
+    by_body mark scene new bytes body x (whole ((body_codec (version_in bytes) scene).read body)) (body_bytes version mark bytes body h found) found refl e
 by_head mark scene new bytes x (Err f) h is e = absurd cc
 
 by_states : (scene : SceneView) (y x : ℕ × Scripted) (t : Bool) → states_fit (kinds_in scene) y.1.states ≡ t → cond t (Ok y) (fault ScriptState) ≡ Ok x → (y ≡ x) × (states_fit (kinds_in scene) y.1.states ≡ true)
@@ -131,6 +143,6 @@ pub found : (mark : List ℕ) (scene : SceneView) (new : ℕ) (bytes : List ℕ)
     → (bytes ≡ shot_as (version_in bytes) mark x.0 scene x.1) × HasSnapshot scene x.1 × (x.0 < new)
 unfolding loaded
 found mark scene new bytes x h e =
-    let s = by_loaded scene x (behind_head scene new (found_body mark bytes)) e in
+    let s = by_loaded scene x (read_of mark scene new bytes) e in
     let f = by_head mark scene new bytes x (found_body mark bytes) h refl s.0 in
     (f.0, record { fits = f.1; states = s.1 }, f.2)

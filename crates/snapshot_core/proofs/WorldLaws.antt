@@ -1,11 +1,11 @@
 -- A world with its boot, as bytes.
 use Rattle.std.proofs.Common.{◌≡◌, ℕ, Bool, true, eqb, List, ◌++◌, length, Option, Some, None, refl, sym, ap, subst, ◌∙◌, append_assoc, eq-eqb}
 use Rattle.std.specs.Prelude.{ℤ}
-use Rattle.std.specs.Int.{w16, w32}
-use Rattle.std.proofs.lemmas.Bool.{eqb-true, lt-ltb, ltb-true}
+use Rattle.std.specs.Int.{w32}
+use Rattle.std.proofs.lemmas.Bool.{eqb-true, lt-ltb}
 use Rattle.byte_codec.specs.Codec.{◌>>?◌, number, number_text}
 use Rattle.byte_codec.specs.Exact.{IsExact}
-use Rattle.byte_codec.proofs.Laws.{some_is, refined_exact, named_exact, pair_exact, number_exact, wide16, wide32}
+use Rattle.byte_codec.proofs.Laws.{and_true, both, some_is, refined_exact, named_exact, pair_exact, number_exact, wide32}
 use Rattle.scene_core.specs.Scene.{SceneView, shapes_of}
 use Rattle.snapshot_codec.specs.declared.fault.PartFault.{PartFault}
 use Rattle.snapshot_codec.specs.declared.fault.PartFault.TheVariants as faults
@@ -15,19 +15,21 @@ use Rattle.snapshot_codec.specs.Reads.{Fails}
 use Rattle.snapshot_codec.specs.Parts.{states_codec, viewer_set_codec}
 use Rattle.snapshot_codec.specs.Trace.{moment_codec}
 use Rattle.snapshot_codec.proofs.HeadLaws.{applied_exact}
-use Rattle.snapshot_codec.proofs.PartLaws.{states_exact}
+use Rattle.snapshot_codec.proofs.PartLaws.{states_exact, viewer_set_exact}
 use Rattle.snapshot_codec.proofs.TraceLaws.{moment_exact}
 use Rattle.x3d_values.specs.Ranges.{max_viewers}
+use Rattle.snapshot_rules.specs.declared.version.Version.{Version}
+use Rattle.snapshot_rules.specs.Opening.{newest, viewers_of}
 use Rattle.sensor_core.specs.Parts.{number_of, over_of}
 use Rattle.cascade_core.specs.Course.{Scripted}
 use Rattle.cascade_core.specs.Scripts.{kinds_in}
 use Rattle.snapshot_core.specs.declared.world.WorldParts.{WorldParts}
 use Rattle.snapshot_core.specs.Nodes.{nodes_codec}
 use Rattle.snapshot_core.specs.Shot.{body_codec}
-use Rattle.snapshot_core.specs.WorldCodec.{buttons_codec, lines_codec, lists_in, parts_in, parts_codec, world_codec, world_of, world_with}
+use Rattle.snapshot_core.specs.WorldCodec.{buttons_codec, lines_codec, lists_in, parts_in, parts_codec, set_has_bytes, world_codec, world_of, world_with}
 use Rattle.snapshot_core.proofs.LineLaws.{lines_exact}
 use Rattle.snapshot_core.proofs.NodeLaws.{nodes_exact}
-use Rattle.snapshot_core.proofs.SetLaws.{number_back, over_back, over_length, number_small}
+use Rattle.snapshot_core.proofs.SetLaws.{few_bits, number_back, over_back, over_length, number_small}
 
 -- ---- reading: how far it had come, and then its parts
 
@@ -82,54 +84,60 @@ module _ (f : List ℕ → Option (ℕ × List ℕ)) (g : List ℕ → Option (�
   at_boot None = refl
   at_boot (Some b) = at_applied b.0 (f b.1)
 
-body_read : (scene : SceneView) (bytes : List ℕ) → (body_codec scene).read bytes ≡ (progress_codec.read bytes >>? λ p. (parts_codec scene).read p.1 >>? found_with p.0)
+body_read : (version : Version) (scene : SceneView) (bytes : List ℕ) → (body_codec version scene).read bytes ≡ (progress_codec.read bytes >>? λ p. (parts_codec version scene).read p.1 >>? found_with p.0)
 unfolding world_codec progress_codec
-body_read scene bytes = at_boot applied_codec.read moment_codec.read (parts_codec scene).read ((number w32).read bytes)
+body_read version scene bytes = at_boot applied_codec.read moment_codec.read (parts_codec version scene).read ((number w32).read bytes)
 
-pub no_progress : (scene : SceneView) (bytes : List ℕ) → None ≡ progress_codec.read bytes → (body_codec scene).read bytes ≡ None
-no_progress scene bytes e = body_read scene bytes ∙ rw (sym e) refl
+pub no_progress : (version : Version) (scene : SceneView) (bytes : List ℕ) → None ≡ progress_codec.read bytes → (body_codec version scene).read bytes ≡ None
+no_progress version scene bytes e = body_read version scene bytes ∙ rw (sym e) refl
 
-pub no_parts : (scene : SceneView) (bytes : List ℕ) (p : Progress) (rest : List ℕ) (e : PartFault) → Some (p, rest) ≡ progress_codec.read bytes → Fails e ((parts_codec scene).read rest) → Fails e ((body_codec scene).read bytes)
-no_parts scene bytes p rest faults.Memory front h = tt
-no_parts scene bytes p rest faults.NotCanonical front h = body_read scene bytes ∙ rw (sym front, h) refl
+pub no_parts : (version : Version) (scene : SceneView) (bytes : List ℕ) (p : Progress) (rest : List ℕ) (e : PartFault) → Some (p, rest) ≡ progress_codec.read bytes → Fails e ((parts_codec version scene).read rest) → Fails e ((body_codec version scene).read bytes)
+no_parts version scene bytes p rest faults.Memory front h = tt
+no_parts version scene bytes p rest faults.NotCanonical front h = body_read version scene bytes ∙ rw (sym front, h) refl
 
-pub whole_body : (scene : SceneView) (bytes : List ℕ) (p : Progress) (rest : List ℕ) (parts : WorldParts) (after : List ℕ) → Some (p, rest) ≡ progress_codec.read bytes → (parts_codec scene).read rest ≡ Some (parts, after) → (body_codec scene).read bytes ≡ Some ((p.boot, world_with p parts), after)
-whole_body scene bytes p rest parts after front h = body_read scene bytes ∙ rw (sym front, h) refl
+pub whole_body : (version : Version) (scene : SceneView) (bytes : List ℕ) (p : Progress) (rest : List ℕ) (parts : WorldParts) (after : List ℕ) → Some (p, rest) ≡ progress_codec.read bytes → (parts_codec version scene).read rest ≡ Some (parts, after) → (body_codec version scene).read bytes ≡ Some ((p.boot, world_with p parts), after)
+whole_body version scene bytes p rest parts after front h = body_read version scene bytes ∙ rw (sym front, h) refl
 
 -- ---- writing
 
 regroup : (old b a t n u s l : List ℕ) → ((((old ++ (b ++ (a ++ t))) ++ n) ++ u) ++ s) ++ l ≡ old ++ (b ++ (a ++ (t ++ (n ++ (u ++ (s ++ l))))))
 regroup old b a t n u s l = simp append_assoc refl
 
-pub body_written : (scene : SceneView) (boot : ℕ) (w : Scripted) (old o1 o2 o3 o4 new : List ℕ) → o1 ≡ old ++ progress_codec.write (record { boot = boot; applied = w.world.applied; last_time = w.world.last_time })
-    → o2 ≡ o1 ++ (nodes_codec (shapes_of scene)).write (lists_in w.world) → o3 ≡ o2 ++ buttons_codec.write w.world.buttons
+pub body_written : (version : Version) (scene : SceneView) (boot : ℕ) (w : Scripted) (old o1 o2 o3 o4 new : List ℕ) → o1 ≡ old ++ progress_codec.write (record { boot = boot; applied = w.world.applied; last_time = w.world.last_time })
+    → o2 ≡ o1 ++ (nodes_codec version (shapes_of scene)).write (lists_in w.world) → o3 ≡ o2 ++ (buttons_codec version).write w.world.buttons
     → o4 ≡ o3 ++ (states_codec (length (kinds_in scene))).write w.states → new ≡ o4 ++ (lines_codec (shapes_of scene)).write w.world.trace
-    → new ≡ old ++ (body_codec scene).write (boot, w)
+    → new ≡ old ++ (body_codec version scene).write (boot, w)
 unfolding world_codec parts_codec progress_codec
-body_written scene boot w old o1 o2 o3 o4 new p n u s l =
+body_written version scene boot w old o1 o2 o3 o4 new p n u s l =
     let shapes = shapes_of scene in
-    rw (l, s, u, n, p) (regroup old (number_text w32 boot) (applied_codec.write w.world.applied) (moment_codec.write w.world.last_time) ((nodes_codec shapes).write (lists_in w.world)) (buttons_codec.write w.world.buttons) ((states_codec (length (kinds_in scene))).write w.states) ((lines_codec shapes).write w.world.trace))
+    rw (l, s, u, n, p) (regroup old (number_text w32 boot) (applied_codec.write w.world.applied) (moment_codec.write w.world.last_time) ((nodes_codec version shapes).write (lists_in w.world)) ((buttons_codec version).write w.world.buttons) ((states_codec (length (kinds_in scene))).write w.states) ((lines_codec shapes).write w.world.trace))
 
 -- ---- exactness
 
-buttons_exact : IsExact buttons_codec
-unfolding buttons_codec viewer_set_codec
-buttons_exact = refined_exact (λ n. Some (over_of n)) number_of (λ set. eqb (length set) max_viewers) (number w16) (record {
+buttons_exact : (version : Version) → IsExact (buttons_codec version)
+unfolding buttons_codec
+buttons_exact version = refined_exact (λ n. Some (over_of n)) number_of (set_has_bytes version) (viewer_set_codec (viewers_of version)) (record {
   back = λ a b fits e.
-      let P : List Bool → Type 0 = λ set. (number_of set ≡ a) × (eqb (length set) max_viewers ≡ true) in
-      subst P (some_is (over_of a) b e) (number_back a (ltb-true _ _ fits), eq-eqb _ _ (over_length a));
+      let P : List Bool → Type 0 = λ set. (number_of set ≡ a) × (set_has_bytes version set ≡ true) in
+      let same : number_of (over_of a) ≡ a = number_back a (few_bits version a fits) in
+      subst P (some_is (over_of a) b e) (same, and_true _ _ (eq-eqb _ _ (over_length a)) (ap (λ (n : ℕ). (viewer_set_codec (viewers_of version)).fits n) same ∙ fits));
   forth = λ b ok.
-      let len : length b ≡ max_viewers = eqb-true _ _ ok in
-      (lt-ltb _ _ (number_small b len), ap (λ (set : List Bool). Some set) (over_back b len));
-}) (number_exact w16 wide16)
+      let f = both (eqb (length b) max_viewers) ((viewer_set_codec (viewers_of version)).fits (number_of b)) ok in
+      (f.1, ap (λ (set : List Bool). Some set) (over_back b (eqb-true _ _ f.0)));
+}) (viewer_set_exact (viewers_of version))
 
-parts_exact : (scene : SceneView) → IsExact (parts_codec scene)
+-- the newest version has bits for all viewers
+pub newest_set : (set : List Bool) → length set ≡ max_viewers → set_has_bytes newest set ≡ true
+unfolding viewer_set_codec
+newest_set set len = and_true _ _ (eq-eqb _ _ len) (lt-ltb _ _ (number_small set len))
+
+parts_exact : (version : Version) (scene : SceneView) → IsExact (parts_codec version scene)
 unfolding parts_codec
-parts_exact scene = named_exact _ _ _ (λ a. refl) (λ b. refl) (pair_exact _ _ (nodes_exact (shapes_of scene)) (pair_exact _ _ buttons_exact (pair_exact _ _ (states_exact (length (kinds_in scene))) (lines_exact (shapes_of scene)))))
+parts_exact version scene = named_exact _ _ _ (λ a. refl) (λ b. refl) (pair_exact _ _ (nodes_exact version (shapes_of scene)) (pair_exact _ _ (buttons_exact version) (pair_exact _ _ (states_exact (length (kinds_in scene))) (lines_exact (shapes_of scene)))))
 
-pub world_exact : (scene : SceneView) → IsExact (world_codec scene)
+pub world_exact : (version : Version) (scene : SceneView) → IsExact (world_codec version scene)
 unfolding world_codec
-world_exact scene = named_exact world_of (λ w. (w.world.applied, (w.world.last_time, parts_in w))) _ (λ a. refl) (λ b. refl) (pair_exact _ _ applied_exact (pair_exact _ _ moment_exact (parts_exact scene)))
+world_exact version scene = named_exact world_of (λ w. (w.world.applied, (w.world.last_time, parts_in w))) _ (λ a. refl) (λ b. refl) (pair_exact _ _ applied_exact (pair_exact _ _ moment_exact (parts_exact version scene)))
 
-pub body_exact : (scene : SceneView) → IsExact (body_codec scene)
-body_exact scene = pair_exact _ _ (number_exact w32 wide32) (world_exact scene)
+pub body_exact : (version : Version) (scene : SceneView) → IsExact (body_codec version scene)
+body_exact version scene = pair_exact _ _ (number_exact w32 wide32) (world_exact version scene)

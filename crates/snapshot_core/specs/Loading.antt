@@ -10,8 +10,9 @@ use Rattle.cascade_core.specs.Installing.{StatesFit}
 use Rattle.cascade_core.specs.Scripts.{kinds_in}
 use Rattle.script_host.specs.States.{state_fault}
 use Rattle.x3d_values.specs.declared.script.Kind.{Kind}
-use Rattle.snapshot_rules.specs.Opening.{found_body}
-pub use Rattle.snapshot_rules.specs.Opening.{fault_before}
+use Rattle.snapshot_rules.specs.declared.version.Version.{Version}
+use Rattle.snapshot_rules.specs.Opening.{found_body, version_in}
+pub use Rattle.snapshot_rules.specs.Opening.{fault_before, newest}
 use Rattle.snapshot_core.specs.declared.fault.SnapFault.{SnapFault}
 use Rattle.snapshot_core.specs.declared.fault.SnapFault.TheVariants.{Short, BadMagic, BadVersion, WrongScene, BadDigest, NotCanonical, BootNotNew, ScriptState}
 use Rattle.snapshot_core.specs.declared.loading.Saved.{Saved}
@@ -30,14 +31,15 @@ abbrev pub newer : (boot : ℕ) → Option (ℕ × Scripted) → Result (ℕ × 
 newer boot None = Err NotCanonical
 newer boot (Some x) = if nat_lt x.0 boot then Ok x else Err BootNotNew
 
--- the world of a body, with the boot that it was taken as
-abbrev pub loaded_body : SceneView → (boot : ℕ) → List ℕ → Result (ℕ × Scripted) SnapFault
-loaded_body scene boot body = newer boot (whole ((body_codec scene).read body))
-
-abbrev pub behind_head : SceneView → (boot : ℕ) → Result (List ℕ) HeadFault
+-- the world of a body in a snapshot of a version, with the boot that it was taken as
+abbrev pub loaded_body : Version → SceneView → (boot : ℕ) → List ℕ
     → Result (ℕ × Scripted) SnapFault
-behind_head scene boot (Ok body) = loaded_body scene boot body
-behind_head scene boot (Err fault) = Err (fault_of fault)
+loaded_body version scene boot body = newer boot (whole ((body_codec version scene).read body))
+
+abbrev pub behind_head : Version → SceneView → (boot : ℕ) → Result (List ℕ) HeadFault
+    → Result (ℕ × Scripted) SnapFault
+behind_head version scene boot (Ok body) = loaded_body version scene boot body
+behind_head version scene boot (Err fault) = Err (fault_of fault)
 
 -- ---- the states of scripts
 
@@ -57,16 +59,17 @@ with_states scene (Err fault) = Err fault
 
 -- ---- a snapshot
 
--- the boot and the world of a snapshot, for one that starts again as `boot`; else the first of
--- these that holds: Short, BadMagic, BadVersion, WrongScene, BadDigest, NotCanonical, BootNotNew,
--- ScriptState
+-- the boot and the world of a snapshot, by the version that it names, for one that starts again as
+-- `boot`; else the first of these that holds: Short, BadMagic, BadVersion, WrongScene, BadDigest,
+-- NotCanonical, BootNotNew, ScriptState
 unfoldable pub loaded : (mark : List ℕ) → SceneView → (boot : ℕ) → (bytes : List ℕ)
     → Result (ℕ × Scripted) SnapFault
-loaded mark scene boot bytes = with_states scene (behind_head scene boot (found_body mark bytes))
+loaded mark scene boot bytes =
+    with_states scene (behind_head (version_in bytes) scene boot (found_body mark bytes))
 
 -- the world has a snapshot that can be loaded
 pub record HasSnapshot (scene : SceneView) (w : Scripted) : Type 0 where
-  pub fits : (world_codec scene).fits w ≡ true
+  pub fits : (world_codec newest scene).fits w ≡ true
   pub states : StatesFit scene w.states
 
 -- ---- a stage

@@ -13,7 +13,9 @@ use Rattle.snapshot_codec.specs.declared.kept.KeptField.{KeptField}
 use Rattle.snapshot_codec.specs.Fields.{kept_field, fields_codec}
 use Rattle.sensor_core.specs.Touches.{Touch}
 use Rattle.snapshot_rules.specs.declared.beside.Beside.{Beside}
+use Rattle.snapshot_rules.specs.declared.version.Version.{Version}
 pub use Rattle.snapshot_rules.specs.Beside.{always, touch_in, touch_bytes, touch_fits, is_untouched}
+pub use Rattle.snapshot_rules.specs.Beside.{touch_has_bytes}
 unfoldable pub use Rattle.snapshot_rules.specs.Beside.{time_part, pointers_codec, touch_part}
 unfoldable pub use Rattle.snapshot_rules.specs.Beside.{position_part, beside_codec}
 use Rattle.snapshot_core.specs.declared.nodes.NodeLists.{NodeLists}
@@ -51,13 +53,13 @@ node_parts node = (
   record { time = node.time; touch = node.touch; position = node.fields.position },
 )
 
--- the values of these fields, and what stands behind them
-unfoldable pub state_codec : List KeptField → NodeType → Codec NodeState
-state_codec kept node_type =
-    named node_of node_parts (pair (fields_codec kept) (beside_codec node_type))
+-- the values of these fields, and what stands behind them in snapshots of a version
+unfoldable pub state_codec : Version → List KeptField → NodeType → Codec NodeState
+state_codec version kept node_type =
+    named node_of node_parts (pair (fields_codec kept) (beside_codec version node_type))
 
-unfoldable pub node_codec : Shape → Codec NodeState
-node_codec shape = state_codec (kept_fields shape) shape.node_type
+unfoldable pub node_codec : Version → Shape → Codec NodeState
+node_codec version shape = state_codec version (kept_fields shape) shape.node_type
 
 -- ---- all nodes
 
@@ -80,12 +82,13 @@ by_lists nodes = record {
 }
 
 -- the lists are as long, and each node has bytes
-abbrev pub lists_fit : List Shape → NodeLists → Bool
-lists_fit shapes lists =
+abbrev pub lists_fit : Version → List Shape → NodeLists → Bool
+lists_fit version shapes lists =
     ((length lists.sensors == length lists.fields) && (length lists.touches == length lists.fields))
-    && (rows node_codec shapes).fits (by_nodes lists)
+    && (rows (node_codec version) shapes).fits (by_nodes lists)
 
 -- the nodes one after the other
-unfoldable pub nodes_codec : List Shape → Codec NodeLists
-nodes_codec shapes =
-    refined (λ nodes. Some (by_lists nodes)) by_nodes (lists_fit shapes) (rows node_codec shapes)
+unfoldable pub nodes_codec : Version → List Shape → Codec NodeLists
+nodes_codec version shapes =
+    refined (λ nodes. Some (by_lists nodes)) by_nodes (lists_fit version shapes)
+    (rows (node_codec version) shapes)

@@ -1,13 +1,14 @@
 -- The state of a scene as bytes (our choice).
-use Rattle.std.specs.Prelude.{ℕ, ◌==◌, ℤ, Bool, List, length, map, Some}
+use Rattle.std.specs.Prelude.{ℕ, ◌==◌, ◌&&◌, ℤ, Bool, List, length, map, Some}
 use Rattle.byte_codec.specs.Codec.{Codec, refined, named, pair}
 use Rattle.x3d_values.specs.declared.ranges.TheConstants.{MAX_VIEWERS}
 use Rattle.snapshot_codec.specs.declared.head.Progress.{Progress}
 use Rattle.snapshot_codec.specs.declared.trace.TraceEntry.{TraceEntry}
-use Rattle.snapshot_codec.specs.declared.viewers.Viewers.TheVariants.{Sixteen}
 use Rattle.snapshot_codec.specs.Head.{applied_codec}
 use Rattle.snapshot_codec.specs.Parts.{states_codec, viewer_set_codec}
 use Rattle.snapshot_codec.specs.Trace.{moment_codec, trace_codec, entry_text}
+use Rattle.snapshot_rules.specs.declared.version.Version.{Version}
+use Rattle.snapshot_rules.specs.Opening.{viewers_of}
 use Rattle.sensor_core.specs.Parts.{number_of, over_of}
 use Rattle.scene_core.specs.Scene.{SceneView, shapes_of}
 use Rattle.scene_core.specs.Shape.{Shape}
@@ -23,10 +24,15 @@ use Rattle.snapshot_core.specs.Nodes.{nodes_codec}
 
 -- ---- whose buttons are down
 
-unfoldable pub buttons_codec : Codec (List Bool)
-buttons_codec =
-    refined (λ number. Some (over_of number)) number_of (λ set. length set == MAX_VIEWERS)
-    (viewer_set_codec Sixteen)
+-- of as many viewers as a world may have, and of those that a version has bits for
+abbrev pub set_has_bytes : Version → List Bool → Bool
+set_has_bytes version set =
+    (length set == MAX_VIEWERS) && (viewer_set_codec (viewers_of version)).fits (number_of set)
+
+unfoldable pub buttons_codec : Version → Codec (List Bool)
+buttons_codec version =
+    refined (λ number. Some (over_of number)) number_of (set_has_bytes version)
+    (viewer_set_codec (viewers_of version))
 
 -- ---- the trace
 
@@ -59,12 +65,12 @@ lines_codec shapes = named (map line_of) (map entry_of) (trace_codec (output_typ
 -- ---- a world
 
 -- nodes, buttons, the states of the scripts by their numbers, trace
-unfoldable pub parts_codec : SceneView → Codec WorldParts
-parts_codec scene =
+unfoldable pub parts_codec : Version → SceneView → Codec WorldParts
+parts_codec version scene =
     named (λ t. record { nodes = t.0; buttons = t.1.0; states = t.1.1.0; trace = t.1.1.1 })
     (λ p. (p.nodes, (p.buttons, (p.states, p.trace))))
-    (pair (nodes_codec (shapes_of scene))
-    (pair buttons_codec
+    (pair (nodes_codec version (shapes_of scene))
+    (pair (buttons_codec version)
     (pair (states_codec (length (kinds_in scene))) (lines_codec (shapes_of scene)))))
 
 -- inputs applied, time of the last, and the parts
@@ -93,12 +99,13 @@ parts_in w = record {
   trace = w.world.trace;
 }
 
--- the worlds of a scene, by the shapes of its nodes and the number of its scripts: those that fit
--- have bytes. Whether the numbers of a script are a state of it doesn't show in them.
-unfoldable pub world_codec : SceneView → Codec Scripted
-world_codec scene =
+-- the worlds of a scene in snapshots of a version, by the shapes of its nodes and the number of its
+-- scripts: those that fit have bytes. Whether the numbers of a script are a state of it doesn't
+-- show in them.
+unfoldable pub world_codec : Version → SceneView → Codec Scripted
+world_codec version scene =
     named world_of (λ w. (w.world.applied, (w.world.last_time, parts_in w)))
-    (pair applied_codec (pair moment_codec (parts_codec scene)))
+    (pair applied_codec (pair moment_codec (parts_codec version scene)))
 
 -- a world that had come so far, of these parts
 abbrev pub world_with : Progress → WorldParts → Scripted

@@ -5,15 +5,16 @@ ghost use Rattle.std.specs.Option.{option_map};
 ghost use Rattle.snapshot_core.specs.WorldCodec.{buttons_codec};
 
 use sensor_core::{VIEWERS, number_of, over_of};
-use snapshot_codec::{Viewers, push_viewer_set, viewer_set_of};
+use snapshot_codec::{push_viewer_set, viewer_set_of};
+use snapshot_rules::Version;
 use std::alloc::AllocError;
 
 /// Whose buttons are down, at the front of the bytes, and the bytes behind it.
 #[tactic(auto, unfolding(crate::specs::WorldCodec::buttons_codec))]
-pub(crate) fn buttons_of(bytes: &[u8]) -> Option<([bool; VIEWERS], &[u8])>
-    ensures { option_map (λ x. (x.0, x.1.now)) result ≡ buttons_codec.read bytes.now }
+pub(crate) fn buttons_of(version: Version, bytes: &[u8]) -> Option<([bool; VIEWERS], &[u8])>
+    ensures { option_map (λ x. (x.0, x.1.now)) result ≡ (buttons_codec version).read bytes.now }
 {
-    let Some((number, rest)) = viewer_set_of(Viewers::Sixteen, bytes) else {
+    let Some((number, rest)) = viewer_set_of(version.viewers(), bytes) else {
         return None;
     };
     Some((over_of(number), rest))
@@ -21,9 +22,14 @@ pub(crate) fn buttons_of(bytes: &[u8]) -> Option<([bool; VIEWERS], &[u8])>
 
 /// Appends whose buttons are down. On a refusal the buffer is as it was.
 #[tactic(auto, unfolding(crate::specs::WorldCodec::buttons_codec))]
-pub(crate) fn push_buttons(buttons: &[bool; VIEWERS], out: &mut Vec<u8>) -> Result<(), AllocError>
-    ensures ok { OnOk result (out.new.items ≡ out.old.items ++ buttons_codec.write buttons.now) }
+pub(crate) fn push_buttons(
+    version: Version,
+    buttons: &[bool; VIEWERS],
+    out: &mut Vec<u8>,
+) -> Result<(), AllocError>
+    ensures ok { OnOk result
+        (out.new.items ≡ out.old.items ++ (buttons_codec version).write buttons.now) }
     ensures err { OnErr result (out.new.items ≡ out.old.items) }
 {
-    push_viewer_set(Viewers::Sixteen, number_of(buttons), out)
+    push_viewer_set(version.viewers(), number_of(buttons), out)
 }

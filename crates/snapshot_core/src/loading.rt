@@ -4,7 +4,7 @@ ghost use Rattle.std.specs.Prelude.{◌≡◌, ◌⊎◌, Err, None, Ok, Result,
 ghost use Rattle.std.specs.Result.{result_map_both};
 ghost use Rattle.cascade_core.specs.Held.{spoiled};
 ghost use Rattle.cascade_core.specs.Scripts.{kinds_in};
-ghost use Rattle.snapshot_rules.specs.Opening.{fault_before, found_body};
+ghost use Rattle.snapshot_rules.specs.Opening.{fault_before, found_body, version_in};
 ghost use Rattle.snapshot_core.specs.Loading.{behind_head, load_outcome, loaded, loaded_body, with_states};
 ghost use Rattle.snapshot_core.specs.WorldCodec.{booted};
 
@@ -14,7 +14,7 @@ use cascade_core::Stage;
 use scene_core::Scene;
 use script_host::{Behaviour, StateFault};
 use snapshot_codec::PartFault;
-use snapshot_rules::{body_in, is_older};
+use snapshot_rules::{Version, body_in, is_older, version_in};
 use std::alloc::Global;
 
 /// Of which boot a snapshot was, and how many inputs its world had applied.
@@ -25,21 +25,22 @@ pub struct Saved {
     pub applied: u32,
 }
 
-/// The boot and the world of a body, for one that starts again as `boot`, of a scene that runs so
-/// many scripts.
+/// The boot and the world of a body in a snapshot of this version, for one that starts again as
+/// `boot`, of a scene that runs so many scripts.
 fn loaded_body(
     alloc: Global,
+    version: Version,
     scene: &Scene,
     scripts: usize,
     boot: u32,
     body: &[u8],
 ) -> Result<Found, SnapFault>
     requires { scripts ≡ length (kinds_in scene.now) }
-    ensures { (loaded_body scene.now boot body.now
+    ensures { (loaded_body version scene.now boot body.now
         ≡ result_map_both booted (λ fault. fault) result)
         ⊎ (result ≡ Err SnapFault.Memory) }
 {
-    match body_of(alloc, scene, scripts, body) {
+    match body_of(alloc, version, scene, scripts, body) {
         Ok(found) => {
             if is_older(found.boot, boot) {
                 Ok(found)
@@ -53,8 +54,8 @@ fn loaded_body(
     }
 }
 
-/// The boot and the world of a snapshot, for one that starts again as `boot`, of a scene that runs
-/// so many scripts. The states of the scripts aren't looked at.
+/// The boot and the world of a snapshot, by the version that it names, for one that starts again as
+/// `boot`, of a scene that runs so many scripts. The states of the scripts aren't looked at.
 fn behind_head(
     alloc: Global,
     scene: &Scene,
@@ -64,12 +65,12 @@ fn behind_head(
     bytes: &[u8],
 ) -> Result<Found, SnapFault>
     requires { scripts ≡ length (kinds_in scene.now) }
-    ensures { (behind_head scene.now boot (found_body mark.now bytes.now)
+    ensures { (behind_head (version_in bytes.now) scene.now boot (found_body mark.now bytes.now)
         ≡ result_map_both booted (λ fault. fault) result)
         ⊎ ((result ≡ Err SnapFault.Memory) × (fault_before mark.now bytes.now ≡ None)) }
 {
     match body_in(mark, bytes) {
-        Ok(body) => loaded_body(alloc, scene, scripts, boot, body),
+        Ok(body) => loaded_body(alloc, version_in(bytes), scene, scripts, boot, body),
         Err(fault) => Err(fault_of(fault)),
     }
 }
@@ -107,11 +108,11 @@ fn put<B: Behaviour>(stage: &mut Stage<B>, found: Found) -> Result<Saved, SnapFa
 }
 
 /// Puts the world of a snapshot into a stage, also a spoiled one: a snapshot of the scene with this
-/// mark, of a boot below `boot`. The answer is the first of these that holds: `Short`, `BadMagic`,
-/// `BadVersion`, `WrongScene`, `BadDigest`, `NotCanonical` (also where bytes are left over),
-/// `BootNotNew`, `ScriptState` (there is no state for each script); each leaves the stage as it
-/// was. `Memory`, where a growth was refused, comes only behind a good head and digest, and spoils
-/// the stage.
+/// mark, of a version that is read and of a boot below `boot`. The answer is the first of these
+/// that holds: `Short`, `BadMagic`, `BadVersion`, `WrongScene`, `BadDigest`, `NotCanonical` (also
+/// where bytes are left over), `BootNotNew`, `ScriptState` (there is no state for each script);
+/// each leaves the stage as it was. `Memory`, where a growth was refused, comes only behind a good
+/// head and digest, and spoils the stage.
 #[tactic(auto, unfolding(crate::specs::Loading::loaded))]
 pub fn load_into<B: Behaviour>(
     stage: &mut Stage<B>,

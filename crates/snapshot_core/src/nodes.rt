@@ -14,7 +14,7 @@ use cascade_core::WorldData;
 use scene_core::Scene;
 use sensor_core::{TimeState, TouchState};
 use snapshot_codec::{KeptField, PartFault, kept_fields_of, push_kept_fields};
-use snapshot_rules::{Beside, beside_of, push_beside};
+use snapshot_rules::{Beside, Version, beside_of, push_beside};
 use std::alloc::{AllocError, Global};
 use x3d_values::{Fields, Items, NodeType, Value};
 
@@ -86,20 +86,21 @@ fn node_with(values: Items<Option<Value>>, beside: Beside) -> NodeState
     }
 }
 
-/// What a node of this type keeps of these fields, at the front of the bytes, and the bytes behind
-/// it.
+/// What a node of this type keeps of these fields, in a snapshot of this version, at the front of
+/// the bytes, and the bytes behind it.
 #[tactic(auto, unfolding(crate::specs::Nodes::state_codec))]
 fn state_of<'a>(
     alloc: Global,
+    version: Version,
     kept: &[KeptField],
     node_type: NodeType,
     bytes: &'a [u8],
 ) -> Result<(NodeState, &'a [u8]), PartFault>
     ensures { Reads (λ x. (x.0, x.1.now)) result
-        ((state_codec kept.now node_type).read bytes.now) }
+        ((state_codec version kept.now node_type).read bytes.now) }
 {
     let (values, rest) = kept_fields_of(alloc, kept, bytes)?;
-    let Some((beside, rest)) = beside_of(node_type, rest) else {
+    let Some((beside, rest)) = beside_of(version, node_type, rest) else {
         drop(values);
         return Err(PartFault::NotCanonical);
     };
@@ -109,6 +110,7 @@ fn state_of<'a>(
 /// What the node of that number keeps, at the front of the bytes, and the bytes behind it.
 fn node_of<'a>(
     alloc: Global,
+    version: Version,
     kept: &mut Vec<KeptField>,
     scene: &Scene,
     node: u32,
@@ -116,28 +118,29 @@ fn node_of<'a>(
 ) -> Result<(NodeState, &'a [u8]), PartFault>
     requires { node < length scene.now.nodes }
     ensures { Reads (λ x. (x.0, x.1.now)) result
-        ((node_codec (shape_in scene.now node)).read bytes.now) }
+        ((node_codec version (shape_in scene.now node)).read bytes.now) }
 {
     list_kept(scene, node, kept)?;
-    state_of(alloc, kept, scene.node_type(node), bytes)
+    state_of(alloc, version, kept, scene.node_type(node), bytes)
 }
 
 /// What the nodes of the scene keep, at the front of the bytes, and the bytes behind it.
 #[tactic(auto, unfolding(crate::specs::Nodes::nodes_codec))]
 pub(crate) fn nodes_of<'a>(
     alloc: Global,
+    version: Version,
     scene: &Scene,
     bytes: &'a [u8],
 ) -> Result<(NodeLists, &'a [u8]), PartFault>
     ensures { Reads (λ x. (x.0, x.1.now)) result
-        ((nodes_codec (shapes_of scene.now)).read bytes.now) }
+        ((nodes_codec version (shapes_of scene.now)).read bytes.now) }
 {
     let count = scene.count()?;
     let mut lists = NodeLists::new(alloc);
     let mut kept = Vec::new(alloc);
     let mut rest = bytes;
     for node in 0..count {
-        let (state, after) = match node_of(alloc, &mut kept, scene, node, rest) {
+        let (state, after) = match node_of(alloc, version, &mut kept, scene, node, rest) {
             Ok(read) => read,
             Err(fault) => {
                 drop(lists);
@@ -153,9 +156,11 @@ pub(crate) fn nodes_of<'a>(
     Ok((lists, rest))
 }
 
-/// Appends what a node of this type keeps; on a refusal perhaps a part of it.
+/// Appends what a node of this type keeps, as a snapshot of this version has it; on a refusal
+/// perhaps a part of it.
 #[tactic(auto, unfolding(crate::specs::Nodes::state_codec))]
 fn push_node(
+    version: Version,
     node_type: NodeType,
     fields: &Fields,
     time: TimeState,
@@ -165,7 +170,7 @@ fn push_node(
     ensures ok { (kept : List Kept)
         → OnOk result (out.new.items
         ≡ out.old.items
-        ++ (state_codec kept node_type).write
+        ++ (state_codec version kept node_type).write
         (record { fields = fields.now; time = time; touch = touch })) }
     ensures kept { Extends out.old.items out.new.items }
 {
@@ -175,7 +180,7 @@ fn push_node(
         touch,
         position: fields.position,
     };
-    push_beside(node_type, &beside, out)
+    push_beside(version, node_type, &beside, out)
 }
 
 /// How many nodes the scene has, as far as the world has all that they keep.
@@ -194,12 +199,13 @@ fn shared_count(scene: &Scene, world: &WorldData) -> Result<u32, AllocError>
 /// Appends what the nodes of the scene keep; on a refusal perhaps a part of it.
 #[tactic(auto, unfolding(crate::specs::Nodes::nodes_codec))]
 pub(crate) fn push_nodes(
+    version: Version,
     scene: &Scene,
     world: &WorldData,
     out: &mut Vec<u8>,
 ) -> Result<(), AllocError>
     ensures ok { OnOk result (out.new.items
-        ≡ out.old.items ++ (nodes_codec (shapes_of scene.now)).write (lists_in world.now)) }
+        ≡ out.old.items ++ (nodes_codec version (shapes_of scene.now)).write (lists_in world.now)) }
     ensures kept { Extends out.old.items out.new.items }
 {
     let count = shared_count(scene, world)?;
@@ -209,6 +215,7 @@ pub(crate) fn push_nodes(
     for node in 0..count {
         let at = node as usize;
         push_node(
+            version,
             scene.node_type(node),
             &fields[at],
             sensors[at],

@@ -15,8 +15,8 @@ use snapshot_rules::newest;
 use std::alloc::AllocError;
 use x3d_values::Items;
 
-/// Appends the snapshot of a world, with the states of its scripts; on a refusal perhaps a part of
-/// it.
+/// Appends the snapshot of a world, with the states of its scripts, of the newest version; on a
+/// refusal perhaps a part of it.
 fn push_shot(
     scene: &Scene,
     world: &WorldData,
@@ -31,14 +31,15 @@ fn push_shot(
     ensures kept { Extends out.old.items out.new.items }
 {
     let from = out.len();
-    push_front(newest().number(), mark, out)?;
-    push_body(scene, world, states, boot, out)?;
+    let version = newest();
+    push_front(version.number(), mark, out)?;
+    push_body(version, scene, world, states, boot, out)?;
     push_digest(from, out)
 }
 
-/// Appends the snapshot of a stage's world, by the mark of its scene and as a boot. The answer is
-/// `Spoiled` where the stage is, else `Memory` where a growth was refused; the buffer is then as it
-/// was.
+/// Appends the snapshot of a stage's world, of the newest version, by the mark of its scene and as
+/// a boot. The answer is `Spoiled` where the stage is, else `Memory` where a growth was refused;
+/// the buffer is then as it was.
 pub fn save<B: Behaviour>(
     stage: &Stage<B>,
     mark: &[u8; 32],

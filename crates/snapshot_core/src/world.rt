@@ -15,7 +15,7 @@ use cascade_core::{State, Trace, Watched, WorldData};
 use scene_core::Scene;
 use sensor_core::VIEWERS;
 use snapshot_codec::{PartFault, Progress, progress_of, push_progress};
-use snapshot_rules::{none_left, push_states, states_of};
+use snapshot_rules::{Version, none_left, push_states, states_of};
 use std::alloc::{AllocError, Global};
 use x3d_values::Items;
 
@@ -36,20 +36,21 @@ pub(crate) struct Found {
     pub states: Items<Items<i64>>,
 }
 
-/// The parts of a world of the scene, which runs so many scripts, at the front of the bytes, and
-/// the bytes behind them.
+/// The parts of a world of the scene, which runs so many scripts, in a snapshot of this version, at
+/// the front of the bytes, and the bytes behind them.
 #[tactic(auto, unfolding(crate::specs::WorldCodec::parts_codec))]
 fn parts_of<'a>(
     alloc: Global,
+    version: Version,
     scene: &Scene,
     scripts: usize,
     bytes: &'a [u8],
 ) -> Result<(WorldParts, &'a [u8]), PartFault>
     requires { scripts ≡ length (kinds_in scene.now) }
-    ensures { Reads (λ x. (x.0, x.1.now)) result ((parts_codec scene.now).read bytes.now) }
+    ensures { Reads (λ x. (x.0, x.1.now)) result ((parts_codec version scene.now).read bytes.now) }
 {
-    let (nodes, rest) = nodes_of(alloc, scene, bytes)?;
-    let Some(read) = buttons_of(rest) else {
+    let (nodes, rest) = nodes_of(alloc, version, scene, bytes)?;
+    let Some(read) = buttons_of(version, rest) else {
         drop(nodes);
         return Err(PartFault::NotCanonical);
     };
@@ -107,32 +108,35 @@ fn found_with(progress: Progress, parts: WorldParts) -> Found
 /// A boot and a world of the scene at the front of the bytes, and the bytes behind it.
 fn world_of<'a>(
     alloc: Global,
+    version: Version,
     scene: &Scene,
     scripts: usize,
     bytes: &'a [u8],
 ) -> Result<(Found, &'a [u8]), PartFault>
     requires { scripts ≡ length (kinds_in scene.now) }
-    ensures { Reads (λ x. (booted x.0, x.1.now)) result ((body_codec scene.now).read bytes.now) }
+    ensures { Reads (λ x. (booted x.0, x.1.now)) result
+        ((body_codec version scene.now).read bytes.now) }
 {
     let Some((progress, rest)) = progress_of(bytes) else {
         return Err(PartFault::NotCanonical);
     };
-    let (parts, rest) = parts_of(alloc, scene, scripts, rest)?;
+    let (parts, rest) = parts_of(alloc, version, scene, scripts, rest)?;
     Ok((found_with(progress, parts), rest))
 }
 
 /// The boot and the world of the scene, which runs so many scripts, that all these bytes are those
-/// of.
+/// of in a snapshot of this version.
 pub(crate) fn body_of(
     alloc: Global,
+    version: Version,
     scene: &Scene,
     scripts: usize,
     bytes: &[u8],
 ) -> Result<Found, PartFault>
     requires { scripts ≡ length (kinds_in scene.now) }
-    ensures { Reads booted result (whole ((body_codec scene.now).read bytes.now)) }
+    ensures { Reads booted result (whole ((body_codec version scene.now).read bytes.now)) }
 {
-    let (found, rest) = world_of(alloc, scene, scripts, bytes)?;
+    let (found, rest) = world_of(alloc, version, scene, scripts, bytes)?;
     if let Err(fault) = none_left(rest) {
         drop(found);
         return Err(fault);
@@ -140,9 +144,10 @@ pub(crate) fn body_of(
     Ok(found)
 }
 
-/// Appends a boot and a world of the scene, with the states of its scripts; on a refusal perhaps a
-/// part of it.
+/// Appends a boot and a world of the scene, with the states of its scripts, as a snapshot of this
+/// version has them; on a refusal perhaps a part of it.
 pub(crate) fn push_body(
+    version: Version,
     scene: &Scene,
     world: &WorldData,
     states: &[Items<i64>],
@@ -151,7 +156,7 @@ pub(crate) fn push_body(
 ) -> Result<(), AllocError>
     ensures ok { OnOk result (out.new.items
         ≡ out.old.items
-        ++ (body_codec scene.now).write
+        ++ (body_codec version scene.now).write
         (boot, record { world = world.now; states = states.now })) }
     ensures kept { Extends out.old.items out.new.items }
 {
@@ -161,8 +166,8 @@ pub(crate) fn push_body(
         last_time: world.last_time,
     };
     push_progress(progress, out)?;
-    push_nodes(scene, world, out)?;
-    push_buttons(&world.buttons, out)?;
+    push_nodes(version, scene, world, out)?;
+    push_buttons(version, &world.buttons, out)?;
     push_states(states, out)?;
     push_lines(&world.trace, out)?;
     Ok(())

@@ -1,4 +1,5 @@
--- Values in the ranges of their own types (ISO/IEC 19775-1, field types; the ranges are our choice).
+-- Values in the ranges of their own types (ISO/IEC 19775-1, field types; the ranges are our
+-- choice).
 use Rattle.std.specs.Prelude.{Bool}
 use Rattle.x3d_values.specs.declared.value.Value.{Value}
 use Rattle.x3d_values.specs.Values.{type_of}

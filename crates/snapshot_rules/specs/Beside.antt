@@ -8,11 +8,12 @@ use Rattle.x3d_values.specs.declared.node_type.NodeType.TheVariants.{TimeSensor,
 use Rattle.x3d_values.specs.declared.ranges.TheConstants.{MAX_VIEWERS}
 use Rattle.x3d_values.specs.Ranges.{is_viewer}
 use Rattle.snapshot_codec.specs.declared.viewers.Touch.{Touch as TouchBytes}
-use Rattle.snapshot_codec.specs.declared.viewers.Viewers.TheVariants.{Sixteen}
 use Rattle.snapshot_codec.specs.Parts.{cycle_codec, touch_codec, position_codec}
 use Rattle.sensor_core.specs.Parts.{number_of, touch_of_parts}
 use Rattle.sensor_core.specs.Touches.{Touch, untouched, is_over}
 use Rattle.snapshot_rules.specs.declared.beside.Beside.{Beside}
+use Rattle.snapshot_rules.specs.declared.version.Version.{Version}
+use Rattle.snapshot_rules.specs.Opening.{viewers_of}
 
 -- what has no bytes: x and no other value
 abbrev pub always : {A : Type 0} → A → (A → Bool) → Codec A
@@ -33,16 +34,22 @@ abbrev pub touch_fits : Touch → Bool
 touch_fits touch =
     (length touch.over == MAX_VIEWERS) && option_map_or is_viewer touch.presser true
 
+-- and of viewers that a version has bits for
+abbrev pub touch_has_bytes : Version → Touch → Bool
+touch_has_bytes version touch =
+    touch_fits touch && (touch_codec (viewers_of version)).fits (touch_bytes touch)
+
 -- who is over a TouchSensor, and who presses it
-unfoldable pub pointers_codec : Codec Touch
-pointers_codec = refined touch_in touch_bytes touch_fits (touch_codec Sixteen)
+unfoldable pub pointers_codec : Version → Codec Touch
+pointers_codec version =
+    refined touch_in touch_bytes (touch_has_bytes version) (touch_codec (viewers_of version))
 
 abbrev pub is_untouched : Touch → Bool
 is_untouched touch = touch_fits touch && (not (is_over touch) && is_none touch.presser)
 
-unfoldable pub touch_part : NodeType → Codec Touch
-touch_part TouchSensor = pointers_codec
-touch_part _ = always untouched is_untouched
+unfoldable pub touch_part : Version → NodeType → Codec Touch
+touch_part version TouchSensor = pointers_codec version
+touch_part version _ = always untouched is_untouched
 
 -- a sequencer's position
 unfoldable pub position_part : NodeType → Codec Position
@@ -50,8 +57,9 @@ position_part BooleanSequencer = position_codec
 position_part IntegerSequencer = position_codec
 position_part _ = always (record { at = None }) (λ position. is_none position.at)
 
-unfoldable pub beside_codec : NodeType → Codec Beside
-beside_codec node_type =
+-- in snapshots of a version
+unfoldable pub beside_codec : Version → NodeType → Codec Beside
+beside_codec version node_type =
     named (λ t. record { time = t.0; touch = t.1.0; position = t.1.1 })
     (λ b. (b.time, (b.touch, b.position)))
-    (pair (time_part node_type) (pair (touch_part node_type) (position_part node_type)))
+    (pair (time_part node_type) (pair (touch_part version node_type) (position_part node_type)))

@@ -6,9 +6,10 @@ ghost use Rattle.x3d_lists.specs.Extends.{Extends};
 ghost use Rattle.snapshot_codec.specs.Parts.{cycle_fits, cycle_codec};
 ghost use Rattle.snapshot_rules.specs.Beside.{time_part, touch_bytes, pointers_codec, touch_part, position_part, beside_codec};
 
+use crate::version::Version;
 use sensor_core::{TimeState, TouchParts, TouchState};
 use snapshot_codec::{
-    Touch, Viewers, cycle_of, position_of, push_cycle, push_position, push_touch, touch_of,
+    Touch, cycle_of, position_of, push_cycle, push_position, push_touch, touch_of,
 };
 use std::alloc::AllocError;
 use x3d_values::{NodeType, Position};
@@ -66,10 +67,10 @@ fn push_time(node_type: NodeType, time: TimeState, out: &mut Vec<u8>) -> Result<
 
 /// Who is over a TouchSensor, and who presses it, at the front of the bytes.
 #[tactic(auto, unfolding(crate::specs::Beside::pointers_codec))]
-fn pointers_of(bytes: &[u8]) -> Option<(TouchState, &[u8])>
-    ensures { option_map (λ x. (x.0, x.1.now)) result ≡ pointers_codec.read bytes.now }
+fn pointers_of(version: Version, bytes: &[u8]) -> Option<(TouchState, &[u8])>
+    ensures { option_map (λ x. (x.0, x.1.now)) result ≡ (pointers_codec version).read bytes.now }
 {
-    let Some((touch, rest)) = touch_of(Viewers::Sixteen, bytes) else {
+    let Some((touch, rest)) = touch_of(version.viewers(), bytes) else {
         return None;
     };
     let state = TouchState::from_parts(TouchParts {
@@ -80,11 +81,16 @@ fn pointers_of(bytes: &[u8]) -> Option<(TouchState, &[u8])>
 }
 
 #[tactic(auto, unfolding(crate::specs::Beside::touch_part))]
-fn touch_state_of(node_type: NodeType, bytes: &[u8]) -> Option<(TouchState, &[u8])>
-    ensures { option_map (λ x. (x.0, x.1.now)) result ≡ (touch_part node_type).read bytes.now }
+fn touch_state_of(
+    version: Version,
+    node_type: NodeType,
+    bytes: &[u8],
+) -> Option<(TouchState, &[u8])>
+    ensures { option_map (λ x. (x.0, x.1.now)) result
+        ≡ (touch_part version node_type).read bytes.now }
 {
     match node_type {
-        NodeType::TouchSensor => pointers_of(bytes),
+        NodeType::TouchSensor => pointers_of(version, bytes),
         _ => Some((TouchState::untouched(), bytes)),
     }
 }
@@ -101,25 +107,27 @@ fn touch_bytes(touch: &TouchState) -> Touch
 }
 
 #[tactic(auto, unfolding(crate::specs::Beside::pointers_codec))]
-fn push_pointers(touch: &TouchState, out: &mut Vec<u8>) -> Result<(), AllocError>
-    ensures ok { OnOk result (out.new.items ≡ out.old.items ++ pointers_codec.write touch.now) }
+fn push_pointers(version: Version, touch: &TouchState, out: &mut Vec<u8>) -> Result<(), AllocError>
+    ensures ok { OnOk result
+        (out.new.items ≡ out.old.items ++ (pointers_codec version).write touch.now) }
     ensures err { OnErr result (out.new.items ≡ out.old.items) }
 {
-    push_touch(Viewers::Sixteen, touch_bytes(touch), out)
+    push_touch(version.viewers(), touch_bytes(touch), out)
 }
 
 #[tactic(auto, unfolding(crate::specs::Beside::touch_part))]
 fn push_touch_state(
+    version: Version,
     node_type: NodeType,
     touch: &TouchState,
     out: &mut Vec<u8>,
 ) -> Result<(), AllocError>
     ensures ok { OnOk result
-        (out.new.items ≡ out.old.items ++ (touch_part node_type).write touch.now) }
+        (out.new.items ≡ out.old.items ++ (touch_part version node_type).write touch.now) }
     ensures err { OnErr result (out.new.items ≡ out.old.items) }
 {
     match node_type {
-        NodeType::TouchSensor => push_pointers(touch, out),
+        NodeType::TouchSensor => push_pointers(version, touch, out),
         _ => Ok(()),
     }
 }
@@ -148,16 +156,17 @@ fn push_place(node_type: NodeType, position: Position, out: &mut Vec<u8>) -> Res
     }
 }
 
-/// What stands behind the fields of a node of this type, at the front of the bytes, and the bytes
-/// behind it.
+/// What stands behind the fields of a node of this type, in a snapshot of this version, at the
+/// front of the bytes, and the bytes behind it.
 #[tactic(auto, unfolding(crate::specs::Beside::beside_codec))]
-pub fn beside_of(node_type: NodeType, bytes: &[u8]) -> Option<(Beside, &[u8])>
-    ensures { option_map (λ x. (x.0, x.1.now)) result ≡ (beside_codec node_type).read bytes.now }
+pub fn beside_of(version: Version, node_type: NodeType, bytes: &[u8]) -> Option<(Beside, &[u8])>
+    ensures { option_map (λ x. (x.0, x.1.now)) result
+        ≡ (beside_codec version node_type).read bytes.now }
 {
     let Some((time, rest)) = time_of(node_type, bytes) else {
         return None;
     };
-    let Some((touch, rest)) = touch_state_of(node_type, rest) else {
+    let Some((touch, rest)) = touch_state_of(version, node_type, rest) else {
         return None;
     };
     let Some((position, rest)) = place_of(node_type, rest) else {
@@ -171,19 +180,21 @@ pub fn beside_of(node_type: NodeType, bytes: &[u8]) -> Option<(Beside, &[u8])>
     Some((beside, rest))
 }
 
-/// Appends what stands behind the fields of a node of this type; on a refusal perhaps a part of it.
+/// Appends what stands behind the fields of a node of this type, as a snapshot of this version has
+/// it; on a refusal perhaps a part of it.
 #[tactic(auto, unfolding(crate::specs::Beside::beside_codec))]
 pub fn push_beside(
+    version: Version,
     node_type: NodeType,
     beside: &Beside,
     out: &mut Vec<u8>,
 ) -> Result<(), AllocError>
     ensures ok { OnOk result
-        (out.new.items ≡ out.old.items ++ (beside_codec node_type).write beside.now) }
+        (out.new.items ≡ out.old.items ++ (beside_codec version node_type).write beside.now) }
     ensures kept { Extends out.old.items out.new.items }
 {
     push_time(node_type, beside.time, out)?;
-    push_touch_state(node_type, &beside.touch, out)?;
+    push_touch_state(version, node_type, &beside.touch, out)?;
     push_place(node_type, beside.position, out)?;
     Ok(())
 }

@@ -2,6 +2,7 @@ use Rattle.std.proofs.Common.{◌≡◌, ◌∙◌, sym, ap, ◌+◌, ◌-◌, �
 use Rattle.std.proofs.lemmas.List.{drop_all}
 use Rattle.sensor_core.specs.Parts.{bit_of, number_of}
 use Rattle.sensor_core.proofs.PartLemmas.{byte_bit, bit_small, number_of-drop}
+use Rattle.sensor_plane.specs.declared.pointer.TheConstants.{MOST_VIEWERS}
 use Rattle.sensor_plane.proofs.Sets.{one_more_bit}
 use Rattle.sensor_plane.proofs.parts.number_of.Goals as goal
 
@@ -23,9 +24,9 @@ loop-left-preserved c =
 
 pub loop-left-init : goal.loop-left-init
 loop-left-init c =
-    let long : length c.args.set.now ≤ 64 = omega (arith, c.told-set) in
+    let long : length c.args.set.now ≤ MOST_VIEWERS = omega (arith, c.told-set) in
     record {
       left = omega arith;
-      number = ap number_of (sym (drop_all 64 c.args.set.now long));
+      number = ap number_of (sym (drop_all MOST_VIEWERS c.args.set.now long));
       small = omega arith;
     }

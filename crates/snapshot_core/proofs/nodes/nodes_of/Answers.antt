@@ -9,13 +9,13 @@ pub returns-in-Err : goal.returns-in-Err
 returns-in-Err c =
     let scene = c.args.scene.now in
     let within : c.loop-node.node < length scene.nodes = omega (arith, c.loop-node-test.true, c.in_ok-count.ensures.ok) in
-    nodes_end_at _ c.loop-node.lists (shapes_of scene) c.loop-node.node (shape_in scene c.loop-node.node) c.loop-node.rest.now ((nodes_codec (shapes_of scene)).read c.args.bytes.now) (shape_in-is scene c.loop-node.node within) c.in-Err.ensures c.loop-node.invariant
+    nodes_end_at c.args.version _ c.loop-node.lists (shapes_of scene) c.loop-node.node (shape_in scene c.loop-node.node) c.loop-node.rest.now ((nodes_codec c.args.version (shapes_of scene)).read c.args.bytes.now) (shape_in-is scene c.loop-node.node within) c.in-Err.ensures c.loop-node.invariant
 
 pub loop-node-preserved : goal.loop-node-preserved
 loop-node-preserved c =
     let scene = c.args.scene.now in
     let within : c.loop-node.node < length scene.nodes = omega (arith, c.loop-node-test.true, c.in_ok-count.ensures.ok) in
-    rw c.in-Ok-push.ensures (nodes_go_on_at c.loop-node.lists (shapes_of scene) c.loop-node.node (shape_in scene c.loop-node.node) c.loop-node.rest.now _ _ ((nodes_codec (shapes_of scene)).read c.args.bytes.now) (shape_in-is scene c.loop-node.node within) c.in-Ok.ensures c.loop-node.invariant)
+    rw c.in-Ok-push.ensures (nodes_go_on_at c.args.version c.loop-node.lists (shapes_of scene) c.loop-node.node (shape_in scene c.loop-node.node) c.loop-node.rest.now _ _ ((nodes_codec c.args.version (shapes_of scene)).read c.args.bytes.now) (shape_in-is scene c.loop-node.node within) c.in-Ok.ensures c.loop-node.invariant)
 
 pub returns : goal.returns
-returns c = nodes_done_at c.loop-node.lists c.args.scene.now c.loop-node.node c.loop-node.rest.now ((nodes_codec (shapes_of c.args.scene.now)).read c.args.bytes.now) c.loop-node-test.false c.in_ok-count.ensures.ok c.loop-node.invariant
+returns c = nodes_done_at c.args.version c.loop-node.lists c.args.scene.now c.loop-node.node c.loop-node.rest.now ((nodes_codec c.args.version (shapes_of c.args.scene.now)).read c.args.bytes.now) c.loop-node-test.false c.in_ok-count.ensures.ok c.loop-node.invariant

@@ -6,4 +6,4 @@ use Rattle.snapshot_core.proofs.NodeLoops.{behind_lists}
 use Rattle.snapshot_core.proofs.nodes.nodes_of.Given as goal
 
 abbrev pub invariant-loop-node : goal.invariant-loop-node
-invariant-loop-node l = behind_lists l.lists (rows_at node_codec (drop l.node (shapes_of l.scene)) l.rest) ≡ (nodes_codec (shapes_of l.scene)).read l.bytes
+invariant-loop-node l = behind_lists l.lists (rows_at (node_codec l.version) (drop l.node (shapes_of l.scene)) l.rest) ≡ (nodes_codec l.version (shapes_of l.scene)).read l.bytes

@@ -8,7 +8,7 @@ use Rattle.snapshot_core.proofs.world.push_body.Goals as goal
 pub returns-clause-ok : goal.returns-clause-ok
 returns-clause-ok c =
     let scene = c.args.scene.now in
-    body_written scene c.args.boot (record { world = c.args.world.now; states = c.args.states.now }) c.args.out.now.items c.push_progress.new.out.items c.push_nodes.new.out.items c.push_buttons.new.out.items c.push_states.new.out.items c.push_lines.new.out.items
+    body_written c.args.version scene c.args.boot (record { world = c.args.world.now; states = c.args.states.now }) c.args.out.now.items c.push_progress.new.out.items c.push_nodes.new.out.items c.push_buttons.new.out.items c.push_states.new.out.items c.push_lines.new.out.items
     (search rules) c.in_ok-push_nodes.ensures.ok (search rules) (c.in_ok-push_states.ensures.ok (length (kinds_in scene))) (c.in_ok-push_lines.ensures.ok (shapes_of scene))
 
 pub returns-in_err-push_nodes-clause-kept : goal.returns-in_err-push_nodes-clause-kept
