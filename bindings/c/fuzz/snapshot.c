@@ -64,8 +64,10 @@ size_t LLVMFuzzerCustomMutator(uint8_t *data, size_t size, size_t most, unsigned
 }
 
 int LLVMFuzzerTestOneInput(const uint8_t *data, size_t size) {
+  end_if_enough();
   begin_all();
   if (size == 0) return 0;
+  count_try();
   size_t i = data[0] % SCENES;
   struct bytes given = data[0] & 128 ? (struct bytes){NULL, size - 1} : sealed(i, data + 1, size - 1);
   if (!given.at) {
