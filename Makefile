@@ -78,7 +78,7 @@ test: definitions
 	scripts/fuzz 1000 --seed 1; \
 	scripts/share; \
 	scripts/hosts; \
-	scripts/soak 0.3 --seed 48; \
+	scripts/soak 1 --seed 48; \
 	if [ -e out/libx3d.so ]; then scripts/bindings --quick; \
 	else echo "bindings: skipped: no library (make library)"; fi; \
 	tail -n 1 "$$log"
