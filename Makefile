@@ -66,7 +66,8 @@ fuzz:
 
 # The gate: every proof from nothing, the must-fail edits, the tests; and then, by the program that
 # was proved, the cases, the examples, prefixes of their scenes, each growth of memory refused in turn,
-# a thousand changed texts, a shared world over UDP, and one with killed viewers and malicious datagrams;
+# a thousand changed texts, a shared world over UDP, how hosts and viewers end and what they tell, and a world
+# with killed viewers and malicious datagrams;
 # and by the library of `make library`, where it was built, the jobs from C, Rust and Python.
 test: definitions
 	@log=$$(mktemp); trap 'rm -f "$$log"' EXIT; \
@@ -76,7 +77,8 @@ test: definitions
 	scripts/refusals; \
 	scripts/fuzz 1000 --seed 1; \
 	scripts/share; \
-	scripts/soak 0.3 --seed 48; \
+	scripts/hosts; \
+	scripts/soak 1 --seed 48; \
 	if [ -e out/libx3d.so ]; then scripts/bindings --quick; \
 	else echo "bindings: skipped: no library (make library)"; fi; \
 	tail -n 1 "$$log"
@@ -126,10 +128,10 @@ library:
 bindings: library
 	@scripts/bindings
 
-# Fuzzes that library: RUNS altered inputs each of a scene, datagrams, a snapshot and a schedule of calls. Wants clang with
+# Fuzzes that library: TRIES altered scenes, datagrams, snapshots and calls. Wants clang with
 # libFuzzer.
 fuzz-library: library
-	@scripts/fuzz_library --runs $(or $(RUNS),10000)
+	@scripts/fuzz_library --tries $(or $(TRIES),10000)
 
 # Puts the proved program on the path, and the library with its header and its pkg-config file beside it.
 install: library

@@ -96,6 +96,7 @@ static void carry(struct x3d_world both[2], struct schedule *s) {
 }
 
 int LLVMFuzzerTestOneInput(const uint8_t *data, size_t size) {
+  end_if_enough();
   struct schedule s = {data, size};
   struct x3d_world both[2] = {X3D_NONE, X3D_NONE};
   const char *scene = scenes[taken(&s, 1) % SCENES];
@@ -103,6 +104,7 @@ int LLVMFuzzerTestOneInput(const uint8_t *data, size_t size) {
   for (int i = 0; i < 2; i++) must(opened(&both[i], (const uint8_t *)scene, strlen(scene)) == X3D_DONE);
   for (int calls = 0; s.left && calls < 200; calls++) {
     uint8_t what = (uint8_t)taken(&s, 1);
+    count_try();
     if (what < 160) input(both, &s, &time);
     else if (what < 230) ask(&both[what & 1], &s);
     else carry(both, &s);

@@ -7,6 +7,7 @@
 #include <stdio.h>
 #include <stdlib.h>
 #include <string.h>
+#include <unistd.h>
 
 #define must(holds) \
   do { \
@@ -15,6 +16,33 @@
       abort(); \
     } \
   } while (0)
+
+/* How many scenes, snapshots, datagrams or calls were tried; one input of libFuzzer's has many datagrams or calls. The
+ * last process of a run tells it at its end, and ends well once they are as many as $TRIES says. */
+static uint64_t tries, most_tries = UINT64_MAX;
+
+static inline void tell_tries(void) {
+  fprintf(stderr, "tries: %llu\n", (unsigned long long)tries);
+  fflush(stderr);
+}
+
+static inline void begin_tries(void) {
+  const char *most = getenv("TRIES");
+  if (most) most_tries = strtoull(most, NULL, 10);
+  atexit(tell_tries);
+}
+
+static inline void count_try(void) {
+  if (tries == 0) begin_tries();
+  tries++;
+}
+
+/* Called between two inputs. What libFuzzer found is in its folder by then, and it takes `exit` for a fault. */
+static inline void end_if_enough(void) {
+  if (tries < most_tries) return;
+  tell_tries();
+  _exit(0);
+}
 
 /* Bytes on the heap. */
 struct bytes {

@@ -107,6 +107,7 @@ static void goes_through(struct shared *s, const uint8_t *data, size_t size) {
     memcpy(packet + HEAD, data, length);
     const uint8_t *sent = how & 128 ? packet + HEAD : packet;
     size_t sent_length = how & 128 ? length : HEAD + length;
+    count_try();
     host_takes(s, sent, sent_length);
     all_take(s, sent, sent_length);
     data += length, size -= length;
@@ -114,6 +115,7 @@ static void goes_through(struct shared *s, const uint8_t *data, size_t size) {
 }
 
 int LLVMFuzzerTestOneInput(const uint8_t *data, size_t size) {
+  end_if_enough();
   if (size == 0) return 0;
   struct shared s = {X3D_NONE, {X3D_NONE, X3D_NONE}, 0};
   begin(&s, scenes[data[0] % SCENES]);

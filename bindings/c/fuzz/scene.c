@@ -26,6 +26,8 @@ static void goes_on(struct x3d_world *world) {
 }
 
 int LLVMFuzzerTestOneInput(const uint8_t *data, size_t size) {
+  end_if_enough();
+  count_try();
   struct x3d_world world = X3D_NONE, second = X3D_NONE;
   if (opened(&world, data ? data : (const uint8_t *)"", size) == X3D_DONE) {
     is_read_again(&world, &second);

@@ -28,7 +28,16 @@ static struct bytes sealed(size_t i, const uint8_t *data, size_t size) {
   return b;
 }
 
+/* The world is looked at behind each that is loaded, and behind every 16th that is refused: what one of those changed is
+ * still there by then. */
+static void is_as_ever(size_t i) {
+  struct bytes now = shot_of(&worlds[i], 1);
+  must(are_same(now, shots[i]));
+  let_go(now);
+}
+
 static void try_load(size_t i, struct bytes given) {
+  static size_t refused;
   struct x3d_saved saved;
   uint8_t status = x3d_world_load(&worlds[i], UINT32_MAX, given.at, given.length, &saved);
   if (status == X3D_DONE) {
@@ -36,12 +45,12 @@ static void try_load(size_t i, struct bytes given) {
     must(are_same(given, again));
     let_go(again);
     must(x3d_world_load(&worlds[i], 2, shots[i].at, shots[i].length, &saved) == X3D_DONE);
+    is_as_ever(i);
   } else {
     must(status == X3D_MEMORY || (status >= X3D_SHORT && status <= X3D_SCRIPT_STATE));
+    if (++refused % 16 == 0)
+      for (size_t k = 0; k < SCENES; k++) is_as_ever(k);
   }
-  struct bytes now = shot_of(&worlds[i], 1);
-  must(are_same(now, shots[i]));
-  let_go(now);
 }
 
 static void begin_all(void) {
@@ -64,8 +73,10 @@ size_t LLVMFuzzerCustomMutator(uint8_t *data, size_t size, size_t most, unsigned
 }
 
 int LLVMFuzzerTestOneInput(const uint8_t *data, size_t size) {
+  end_if_enough();
   begin_all();
   if (size == 0) return 0;
+  count_try();
   size_t i = data[0] % SCENES;
   struct bytes given = data[0] & 128 ? (struct bytes){NULL, size - 1} : sealed(i, data + 1, size - 1);
   if (!given.at) {

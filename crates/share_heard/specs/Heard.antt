@@ -1,15 +1,16 @@
 -- What a host has heard of its viewers: the highest number that each asked from.
 use Rattle.std.specs.Prelude.{ℕ, ◌==◌, List, [], ◌∷◌, get_or, max, min, nat_lt, replicate, slice_set}
 use Rattle.std.specs.Prelude.{if◌then◌else◌, Option, Some, None}
+use Rattle.x3d_values.specs.Ranges.{max_viewers}
 
 -- of no viewer: a viewer that has not asked is 0
 abbrev pub nobody : List ℕ
-nobody = replicate 64 0
+nobody = replicate max_viewers 0
 
 -- a viewer asks for the inputs from number `next` on
 abbrev pub hear : List ℕ → (who next : ℕ) → List ℕ
 hear heard who next =
-    if nat_lt who 64 then slice_set heard who (max (get_or heard who 0) next) else heard
+    if nat_lt who max_viewers then slice_set heard who (max (get_or heard who 0) next) else heard
 
 abbrev pub min_with : (next : ℕ) → Option ℕ → ℕ
 min_with next None = next

@@ -4,25 +4,27 @@ ghost use Rattle.std.specs.Prelude.{◌≡◌};
 ghost use Rattle.share_heard.specs.Heard.{hear, lower, lowest, nobody};
 
 use std::marker::Model;
+use x3d_values::MAX_VIEWERS;
 
-/// How many viewers there may be at most.
-const PLACES: usize = 64;
+/// A place for each viewer that there may be.
+const PLACES: usize = MAX_VIEWERS as usize;
 
 /// What a host has heard of its viewers: place v is the highest number that viewer v asked from,
 /// and 0 where it hasn't asked.
 #[derive(Drop)]
 pub struct Heard {
-    nexts: [u32; 64],
+    nexts: [u32; PLACES],
 }
 
 impl Model for Heard {
     ghost use Rattle.std.specs.Prelude.{◌≡◌, List, ℕ, length};
+    ghost use Rattle.x3d_values.specs.Ranges.{max_viewers};
 
     ghost Value = { List ℕ };
 
     ghost view = { λ h. h.nexts };
 
-    ghost invariant = { λ h. length h.nexts ≡ 64 };
+    ghost invariant = { λ h. length h.nexts ≡ max_viewers };
 }
 
 /// The lower of a number and others, where 0 isn't one.
@@ -52,7 +54,7 @@ impl Heard {
     pub fn nobody() -> Heard
         ensures { result ≡ nobody }
     {
-        Heard { nexts: [0; 64] }
+        Heard { nexts: [0; PLACES] }
     }
 
     /// A viewer asks for the inputs from a number, from 1, on.
