@@ -1,4 +1,5 @@
-/* Opens the scene of examples/touched-door by a click: make library && cc -Iinclude bindings/c/door.c out/libx3d.a -o door */
+/* Opens a door by a click: make library && cc -Iinclude bindings/c/door.c out/libx3d.a -o out/door
+ * && out/door */
 #include "x3d.h"
 #include <stdio.h>
 #include <stdlib.h>
@@ -22,7 +23,8 @@ static void print_text(struct x3d_world *world) {
   size_t wanted = 0;
   x3d_world_copy_text(world, (uint8_t[1]){0}, 0, &wanted);
   uint8_t *text = malloc(wanted + 1);
-  if (text && x3d_world_copy_text(world, text, wanted, &wanted) == X3D_DONE) fwrite(text, 1, wanted, stdout);
+  if (text && x3d_world_copy_text(world, text, wanted, &wanted) == X3D_DONE)
+    fwrite(text, 1, wanted, stdout);
   free(text);
 }
 
@@ -32,16 +34,16 @@ int main(void) {
   struct x3d_work work;
   uint8_t refusal[64];
   size_t wanted;
-  if (x3d_world_open(&world, (const uint8_t *)scene, sizeof scene - 1, refusal, sizeof refusal, &wanted) != X3D_DONE) {
+  if (x3d_world_open(&world, (const uint8_t *)scene, sizeof scene - 1, refusal, sizeof refusal,
+                     &wanted) != X3D_DONE) {
     fprintf(stderr, "%.*s\n", (int)wanted, refusal);
     return 1;
   }
-  x3d_world_clock(&world, 1, 10000000, &work);
-  x3d_world_point(&world, 2, 10000001, 0, true, &aim, &work);
-  x3d_world_point(&world, 3, 10000002, 0, false, &aim, &work);
-  x3d_world_clock(&world, 4, 11000002, &work);
-  x3d_world_clock(&world, 5, 12000002, &work);
-  if (x3d_world_make_trace(&world, 3) == X3D_DONE) print_text(&world);
+  x3d_world_point(&world, 1, 10000000, 0, true, &aim, &work);
+  x3d_world_point(&world, 2, 10000001, 0, false, &aim, &work);
+  x3d_world_clock(&world, 3, 11000001, &work);
+  x3d_world_clock(&world, 4, 12000001, &work);
+  if (x3d_world_make_trace(&world, 2) == X3D_DONE) print_text(&world);
   x3d_world_close(&world);
   return 0;
 }

@@ -1,5 +1,6 @@
-/* A world is opened, moved on, read, saved and loaded, once for each call of malloc and realloc: that one fails. Every
- * answer is then done, refused memory or spoiled, nothing is lost, and closing frees all. */
+/* A world is opened, moved on, read, saved and loaded, once for each call of malloc and realloc:
+ * that one fails. Every answer is then done, refused memory or spoiled, nothing is lost, and
+ * closing frees all. */
 #include "x3d.h"
 #include <stdio.h>
 #include <stdlib.h>
@@ -11,10 +12,12 @@ static long fail_at = -1, calls;
 void *malloc(size_t n) { return ++calls == fail_at ? NULL : __libc_malloc(n); }
 void *realloc(void *p, size_t n) { return ++calls == fail_at ? NULL : __libc_realloc(p, n); }
 
-static const char scene[] =
-    "#X3D V3.0 utf8\nDEF Motor TimeSensor { cycleInterval 2 }\nDEF Slide PositionInterpolator { key [ 0, 1 ] keyValue [ 0 0 0, 1 0 0 ] }\n"
-    "DEF Door Transform { children [ DEF Knob TouchSensor {} Shape { geometry Box { size 1 2 0.1 } } ] }\nROUTE Knob.touchTime TO "
-    "Motor.startTime\nROUTE Motor.fraction_changed TO Slide.set_fraction\nROUTE Slide.value_changed TO Door.translation\n";
+static const char scene[] = "#X3D V3.0 utf8\nDEF Motor TimeSensor { cycleInterval 2 }\nDEF Slide "
+                            "PositionInterpolator { key [ 0, 1 ] keyValue [ 0 0 0, 1 0 0 ] }\n"
+                            "DEF Door Transform { children [ DEF Knob TouchSensor {} Shape { "
+                            "geometry Box { size 1 2 0.1 } } ] }\nROUTE Knob.touchTime TO "
+                            "Motor.startTime\nROUTE Motor.fraction_changed TO "
+                            "Slide.set_fraction\nROUTE Slide.value_changed TO Door.translation\n";
 
 static int refused;
 
@@ -34,7 +37,8 @@ static int run(void) {
   size_t wanted = 0;
   uint32_t applied = 0;
   refused = 0;
-  int status = x3d_world_open(&world, (const uint8_t *)scene, sizeof scene - 1, line, sizeof line, &wanted);
+  int status =
+      x3d_world_open(&world, (const uint8_t *)scene, sizeof scene - 1, line, sizeof line, &wanted);
   if (!told(status)) return 1;
   if (status != X3D_DONE) {
     if (world.at || x3d_world_clock(&world, 1, 1, &work) != X3D_CLOSED) return 2;
@@ -47,7 +51,8 @@ static int run(void) {
   x3d_world_applied(&world, &applied);
   if (applied == 2 && !told(x3d_world_point(&world, 3, 10000002, 0, false, &aim, &work))) return 6;
   if (!told(x3d_world_make_trace(&world, 0)) || !told(x3d_world_make_scene(&world))) return 7;
-  if (!told(x3d_world_make_changes(&world, 2)) || !told(x3d_world_make_value(&world, 0, 0))) return 8;
+  if (!told(x3d_world_make_changes(&world, 2)) || !told(x3d_world_make_value(&world, 0, 0)))
+    return 8;
   if (!told(x3d_world_make_label(&world, 2)) || !told(x3d_world_make_type(&world, 2))) return 9;
   if (!told(x3d_world_list_roots(&world)) || !told(x3d_world_list_children(&world, 2))) return 10;
   if (!told(x3d_world_meet(&world, &aim, &met))) return 11;
@@ -59,7 +64,9 @@ static int run(void) {
     if (!told(status)) return 14;
     /* A spoiled world comes back by its snapshot. */
     fail_at = -1;
-    if (status == X3D_MEMORY && x3d_world_clock(&world, applied + 1, 20000000, &work) != X3D_SPOILED) return 15;
+    if (status == X3D_MEMORY &&
+        x3d_world_clock(&world, applied + 1, 20000000, &work) != X3D_SPOILED)
+      return 15;
     if (x3d_world_load(&world, 2, shot, wanted, &saved) != X3D_DONE) return 16;
     if (x3d_world_clock(&world, saved.applied + 1, 20000000, &work) != X3D_DONE) return 17;
   }

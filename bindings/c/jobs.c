@@ -1,6 +1,7 @@
-/* Runs a plain job from standard input, and prints the trace and then the scene: what `x3d_share run` prints. A plain
- * job is lines of whole numbers, `clock NUMBER TIME` or `point NUMBER TIME VIEWER DOWN OX OY OZ DX DY DZ`, a line
- * `scene`, and the scene. Between the inputs it goes back and forth by a snapshot where the word `again` is given. */
+/* Runs a plain job from standard input, and prints the trace and then the scene: what `x3d_share
+ * run` prints. A plain job is lines of whole numbers, `clock NUMBER TIME` or `point NUMBER TIME
+ * VIEWER DOWN OX OY OZ DX DY DZ`, a line `scene`, and the scene. Between the inputs it goes back
+ * and forth by a snapshot where the word `again` is given. */
 #include "x3d.h"
 #include <inttypes.h>
 #include <stdio.h>
@@ -48,9 +49,13 @@ static int apply(struct x3d_world *world, const char *line) {
   uint32_t number;
   int64_t time;
   unsigned viewer, down;
-  if (sscanf(line, "clock %" SCNu32 " %" SCNd64, &number, &time) == 2) return x3d_world_clock(world, number, time, &work);
-  if (sscanf(line, "point %" SCNu32 " %" SCNd64 " %u %u %" SCNd64 " %" SCNd64 " %" SCNd64 " %" SCNd64 " %" SCNd64 " %" SCNd64, &number,
-             &time, &viewer, &down, &a.origin_x, &a.origin_y, &a.origin_z, &a.direction_x, &a.direction_y, &a.direction_z) == 10)
+  if (sscanf(line, "clock %" SCNu32 " %" SCNd64, &number, &time) == 2)
+    return x3d_world_clock(world, number, time, &work);
+  if (sscanf(line,
+             "point %" SCNu32 " %" SCNd64 " %u %u %" SCNd64 " %" SCNd64 " %" SCNd64 " %" SCNd64
+             " %" SCNd64 " %" SCNd64,
+             &number, &time, &viewer, &down, &a.origin_x, &a.origin_y, &a.origin_z, &a.direction_x,
+             &a.direction_y, &a.direction_z) == 10)
     return x3d_world_point(world, number, time, (uint8_t)viewer, down == 1, &a, &work);
   return -1;
 }
@@ -76,9 +81,11 @@ int main(int count, char **words) {
   uint8_t *job = read_all(&length);
   if (!job) return 5;
   uint8_t *scene = job;
-  while (scene < job + length && memcmp(scene, "scene\n", 6) != 0) scene = (uint8_t *)memchr(scene, '\n', job + length - scene) + 1;
+  while (scene < job + length && memcmp(scene, "scene\n", 6) != 0)
+    scene = (uint8_t *)memchr(scene, '\n', job + length - scene) + 1;
   scene += 6;
-  int status = x3d_world_open(&world, scene, job + length - scene, refusal, sizeof refusal, &wanted);
+  int status =
+      x3d_world_open(&world, scene, job + length - scene, refusal, sizeof refusal, &wanted);
   if (status != X3D_DONE) {
     fprintf(stderr, "%.*s\n", (int)wanted, refusal);
     free(job);

@@ -1,15 +1,19 @@
-/* Calls the library at random: 100,000 calls in any order on four handles, open or closed, with random numbers and
- * bytes. Ends with 0; a sanitizer or valgrind tells what else went wrong. */
+/* Calls the library at random: 100,000 calls in any order on four handles, open or closed, with
+ * random numbers and bytes. Ends with 0; a sanitizer or valgrind tells what else went wrong. */
 #include "x3d.h"
 #include <stdio.h>
 #include <stdlib.h>
 #include <string.h>
 
 static const char *scenes[] = {
-    "#X3D V3.0 utf8\nDEF Motor TimeSensor { cycleInterval 2 loop TRUE }\nDEF Slide PositionInterpolator { key [ 0, 1 ] keyValue [ 0 0 0, 1 "
-    "0 0 ] }\nDEF Door Transform { children [ DEF Knob TouchSensor {} Shape { geometry Box { size 1 2 0.1 } } ] }\nROUTE Knob.touchTime TO "
-    "Motor.startTime\nROUTE Motor.fraction_changed TO Slide.set_fraction\nROUTE Slide.value_changed TO Door.translation\n",
-    "#X3D V3.0 utf8\nGroup { children [ Shape { geometry Box {} } Switch { whichChoice 0 children [ TouchSensor {} ] } ] }\n",
+    "#X3D V3.0 utf8\nDEF Motor TimeSensor { cycleInterval 2 loop TRUE }\nDEF Slide "
+    "PositionInterpolator { key [ 0, 1 ] keyValue [ 0 0 0, 1 "
+    "0 0 ] }\nDEF Door Transform { children [ DEF Knob TouchSensor {} Shape { geometry Box { size "
+    "1 2 0.1 } } ] }\nROUTE Knob.touchTime TO "
+    "Motor.startTime\nROUTE Motor.fraction_changed TO Slide.set_fraction\nROUTE "
+    "Slide.value_changed TO Door.translation\n",
+    "#X3D V3.0 utf8\nGroup { children [ Shape { geometry Box {} } Switch { whichChoice 0 children "
+    "[ TouchSensor {} ] } ] }\n",
     "#X3D V3.0 utf8\n",
     "#X3D V3.0 utf8\nGrup {}\n",
     "",
@@ -29,7 +33,9 @@ static uint64_t below(uint64_t limit) { return any() % limit; }
 /* Mostly small, and sometimes any number. */
 static uint64_t number(void) { return below(4) ? below(12) : any(); }
 
-static int64_t coordinate(void) { return below(8) ? (int64_t)below(4000001) - 2000000 : (int64_t)any(); }
+static int64_t coordinate(void) {
+  return below(8) ? (int64_t)below(4000001) - 2000000 : (int64_t)any();
+}
 
 int main(int count, char **words) {
   struct x3d_world worlds[4] = {X3D_NONE, X3D_NONE, X3D_NONE, X3D_NONE};
@@ -44,57 +50,72 @@ int main(int count, char **words) {
     struct x3d_work work;
     struct x3d_met met;
     struct x3d_saved saved;
-    struct x3d_aim aim = {coordinate(), coordinate(), coordinate(), coordinate(), coordinate(), coordinate()};
+    struct x3d_aim aim = {coordinate(), coordinate(), coordinate(),
+                          coordinate(), coordinate(), coordinate()};
     uint32_t ordinal, applied;
     int status = 0;
     /* The next input mostly has the next number and a later time. */
     uint32_t n = below(4) ? next[w] : (uint32_t)number();
     int64_t t = below(8) ? (int64_t)n * 400000 : (int64_t)any();
     switch (below(24)) {
-      case 0:
-      case 1: {
-        const char *text = scenes[below(5)];
-        size_t length = below(16) ? strlen(text) : below(strlen(text) + 1);
-        status = x3d_world_open(world, (const uint8_t *)text, length, bytes, below(65), &wanted);
-        if (status == X3D_DONE) next[w] = 1;
-        break;
-      }
-      case 2: if (!below(4)) x3d_world_close(world); break;
-      case 3: status = x3d_world_applied(world, &applied); break;
-      case 4:
-      case 5:
-      case 6: status = x3d_world_clock(world, n, t, &work); next[w] += status == X3D_DONE; break;
-      case 7:
-      case 8:
-      case 9:
-        status = x3d_world_point(world, n, t, (uint8_t)number(), below(2), &aim, &work);
-        next[w] += status == X3D_DONE;
-        break;
-      case 10: status = x3d_world_meet(world, &aim, &met); break;
-      case 11: status = x3d_world_make_trace(world, (uint32_t)number()); break;
-      case 12: status = x3d_world_make_changes(world, (uint32_t)number()); break;
-      case 13: status = x3d_world_make_scene(world); break;
-      case 14: status = x3d_world_make_type(world, (uint32_t)number()); break;
-      case 15: status = x3d_world_make_label(world, (uint32_t)number()); break;
-      case 16: status = x3d_world_make_field_name(world, (uint32_t)number(), (uint16_t)number()); break;
-      case 17: status = x3d_world_make_value(world, (uint32_t)number(), (uint16_t)number()); break;
-      case 18:
-        status = x3d_world_make_snapshot(world, (uint32_t)number());
-        if (status == X3D_DONE && x3d_world_copy_text(world, shots[w], sizeof shots[w], &wanted) == X3D_DONE) lengths[w] = wanted;
-        break;
-      case 19: status = x3d_world_copy_text(world, bytes, below(sizeof bytes), &wanted); break;
-      case 20: status = x3d_world_list_roots(world) + x3d_world_list_children(world, (uint32_t)number()); break;
-      case 21: status = x3d_world_list_value(world, (uint32_t)number(), (uint16_t)number()); break;
-      case 22: status = x3d_world_copy_numbers(world, numbers, below(64), &wanted) + x3d_world_field_count(world, (uint32_t)number(), &ordinal); break;
-      case 23: {
-        int from = (int)below(4);
-        memcpy(bytes, shots[from], lengths[from]);
-        if (lengths[from] && !below(3)) bytes[below(lengths[from])] ^= (uint8_t)(1 << below(8));
-        size_t length = below(4) ? lengths[from] : below(lengths[from] + 1);
-        status = x3d_world_load(world, (uint32_t)number(), bytes, length, &saved);
-        if (status == X3D_DONE) next[w] = saved.applied + 1;
-        break;
-      }
+    case 0:
+    case 1: {
+      const char *text = scenes[below(5)];
+      size_t length = below(16) ? strlen(text) : below(strlen(text) + 1);
+      status = x3d_world_open(world, (const uint8_t *)text, length, bytes, below(65), &wanted);
+      if (status == X3D_DONE) next[w] = 1;
+      break;
+    }
+    case 2:
+      if (!below(4)) x3d_world_close(world);
+      break;
+    case 3: status = x3d_world_applied(world, &applied); break;
+    case 4:
+    case 5:
+    case 6:
+      status = x3d_world_clock(world, n, t, &work);
+      next[w] += status == X3D_DONE;
+      break;
+    case 7:
+    case 8:
+    case 9:
+      status = x3d_world_point(world, n, t, (uint8_t)number(), below(2), &aim, &work);
+      next[w] += status == X3D_DONE;
+      break;
+    case 10: status = x3d_world_meet(world, &aim, &met); break;
+    case 11: status = x3d_world_make_trace(world, (uint32_t)number()); break;
+    case 12: status = x3d_world_make_changes(world, (uint32_t)number()); break;
+    case 13: status = x3d_world_make_scene(world); break;
+    case 14: status = x3d_world_make_type(world, (uint32_t)number()); break;
+    case 15: status = x3d_world_make_label(world, (uint32_t)number()); break;
+    case 16:
+      status = x3d_world_make_field_name(world, (uint32_t)number(), (uint16_t)number());
+      break;
+    case 17: status = x3d_world_make_value(world, (uint32_t)number(), (uint16_t)number()); break;
+    case 18:
+      status = x3d_world_make_snapshot(world, (uint32_t)number());
+      if (status == X3D_DONE &&
+          x3d_world_copy_text(world, shots[w], sizeof shots[w], &wanted) == X3D_DONE)
+        lengths[w] = wanted;
+      break;
+    case 19: status = x3d_world_copy_text(world, bytes, below(sizeof bytes), &wanted); break;
+    case 20:
+      status = x3d_world_list_roots(world) + x3d_world_list_children(world, (uint32_t)number());
+      break;
+    case 21: status = x3d_world_list_value(world, (uint32_t)number(), (uint16_t)number()); break;
+    case 22:
+      status = x3d_world_copy_numbers(world, numbers, below(64), &wanted) +
+               x3d_world_field_count(world, (uint32_t)number(), &ordinal);
+      break;
+    case 23: {
+      int from = (int)below(4);
+      memcpy(bytes, shots[from], lengths[from]);
+      if (lengths[from] && !below(3)) bytes[below(lengths[from])] ^= (uint8_t)(1 << below(8));
+      size_t length = below(4) ? lengths[from] : below(lengths[from] + 1);
+      status = x3d_world_load(world, (uint32_t)number(), bytes, length, &saved);
+      if (status == X3D_DONE) next[w] = saved.applied + 1;
+      break;
+    }
     }
     done += status == X3D_DONE;
   }

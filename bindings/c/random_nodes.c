@@ -1,15 +1,18 @@
-/* Calls hosts and viewers at random: 100,000 calls in any order on two hosts and four viewers, open or closed, with random
- * numbers, and with datagrams that were made before, some of them altered. Ends with 0; a sanitizer or valgrind tells what
- * else went wrong. */
+/* Calls hosts and viewers at random: 100,000 calls in any order on two hosts and four viewers, open
+ * or closed, with random numbers, and with datagrams that were made before, some of them altered.
+ * Ends with 0; a sanitizer or valgrind tells what else went wrong. */
 #include "x3d.h"
 #include <stdio.h>
 #include <stdlib.h>
 #include <string.h>
 
 static const char *scenes[] = {
-    "#X3D V3.0 utf8\nDEF Motor TimeSensor { cycleInterval 2 loop TRUE }\nDEF Slide PositionInterpolator { key [ 0, 1 ] keyValue [ 0 0 0, 1 "
-    "0 0 ] }\nDEF Door Transform { children [ DEF Knob TouchSensor {} Shape { geometry Box { size 1 2 0.1 } } ] }\nROUTE Knob.touchTime TO "
-    "Motor.startTime\nROUTE Motor.fraction_changed TO Slide.set_fraction\nROUTE Slide.value_changed TO Door.translation\n",
+    "#X3D V3.0 utf8\nDEF Motor TimeSensor { cycleInterval 2 loop TRUE }\nDEF Slide "
+    "PositionInterpolator { key [ 0, 1 ] keyValue [ 0 0 0, 1 "
+    "0 0 ] }\nDEF Door Transform { children [ DEF Knob TouchSensor {} Shape { geometry Box { size "
+    "1 2 0.1 } } ] }\nROUTE Knob.touchTime TO "
+    "Motor.startTime\nROUTE Motor.fraction_changed TO Slide.set_fraction\nROUTE "
+    "Slide.value_changed TO Door.translation\n",
     "#X3D V3.0 utf8\n",
     "#X3D V3.0 utf8\nGrup {}\n",
 };
@@ -28,7 +31,9 @@ static uint64_t below(uint64_t limit) { return any() % limit; }
 /* Mostly small, and sometimes any number. */
 static uint64_t number(void) { return below(4) ? below(12) : any(); }
 
-static int64_t coordinate(void) { return below(8) ? (int64_t)below(4000001) - 2000000 : (int64_t)any(); }
+static int64_t coordinate(void) {
+  return below(8) ? (int64_t)below(4000001) - 2000000 : (int64_t)any();
+}
 
 enum { KEPT = 64 };
 
@@ -72,66 +77,131 @@ int main(int count, char **words) {
     struct x3d_reply reply;
     struct x3d_taken taken;
     struct x3d_met met;
-    struct x3d_aim aim = {coordinate(), coordinate(), coordinate(), coordinate(), coordinate(), coordinate()};
+    struct x3d_aim aim = {coordinate(), coordinate(), coordinate(),
+                          coordinate(), coordinate(), coordinate()};
     /* Mostly there is room for all. */
     size_t room = below(8) ? sizeof out : below(sizeof out);
     const char *scene = scenes[below(12) ? 0 : below(3)];
     int status = 0;
     switch (below(34)) {
-      case 0: if (!below(8)) status = x3d_host_open(host, (const uint8_t *)scene, strlen(scene), (uint8_t)below(18)); break;
-      case 1: if (!below(64)) x3d_host_close(host); break;
-      case 2:
-      case 3: time += below(8) ? (int64_t)below(100000) : -5; status = x3d_host_clock(host, below(16) ? time : (int64_t)any(), &told); break;
-      case 4:
-      case 5:
-      case 6:
-        length = some(bytes);
-        status = x3d_host_take(host, bytes, length, &reply);
-        if (status == X3D_DONE && reply.kind == X3D_REPLY_ASKED)
-          for (uint32_t i = 0; i < reply.count; i++) keep(x3d_host_packet(host, reply.number + i, out, sizeof out, &wanted), out, wanted);
-        break;
-      case 7: status = x3d_host_packet(host, (uint32_t)number(), out, room, &wanted); keep(status, out, wanted); break;
-      case 8: status = x3d_host_ack(host, (uint8_t)number(), out, room, &wanted); keep(status, out, wanted); break;
-      case 9: status = x3d_host_floor(host, &told) + x3d_host_count(host, &told) + x3d_host_viewers(host, &told); break;
-      case 10: status = x3d_host_floor_packet(host, out, room, &wanted); keep(status, out, wanted); break;
-      case 11: if (!below(16)) status = x3d_host_drop_below(host, (uint32_t)number()); break;
-      case 12: if (!below(4) || !viewer->at) status = x3d_viewer_open(viewer, (const uint8_t *)scene, strlen(scene), (uint8_t)number(), (uint32_t)number(), text, below(65), &wanted); break;
-      case 13: if (!below(64)) x3d_viewer_close(viewer); break;
-      case 14: status = x3d_viewer_applied(viewer, &told) + x3d_viewer_boot(viewer, &told) + x3d_viewer_waiting(viewer, &told); break;
-      case 15:
-      case 16:
-      case 17:
-      case 18: length = some(bytes); status = x3d_viewer_take(viewer, bytes, length, &taken); break;
-      case 19:
-      case 20: status = x3d_viewer_offer(viewer, below(2), &aim, &told); break;
-      case 21: status = x3d_viewer_resend(viewer, (uint32_t)number(), out, room, &wanted); keep(status, out, wanted); break;
-      case 22:
-      case 23: status = x3d_viewer_ask(viewer, out, room, &wanted); keep(status, out, wanted); break;
-      case 24:
-        status = x3d_viewer_make_snapshot(viewer);
-        if (status == X3D_DONE && x3d_viewer_copy_text(viewer, shot, sizeof shot, &wanted) == X3D_DONE) shot_length = wanted;
-        break;
-      case 25: status = x3d_viewer_rewind(viewer, (uint32_t)number(), shot, below(4) ? shot_length : below(shot_length + 1), &told); break;
-      case 26:
-        status = x3d_viewer_piece_count(viewer, shot, shot_length, &told);
-        for (uint32_t i = 0; status == X3D_DONE && i < told; i++) keep(x3d_viewer_piece(viewer, shot, shot_length, i, out, sizeof out, &wanted), out, wanted);
-        break;
-      case 27: status = x3d_viewer_piece(viewer, shot, below(shot_length + 1), (uint32_t)number(), out, room, &wanted); keep(status, out, wanted); break;
-      case 28: length = some(bytes); status = x3d_viewer_gather(viewer, bytes, length, &told); break;
-      case 29: status = x3d_viewer_join(viewer, (uint32_t)number(), &told); break;
-      case 30: if (!below(8)) status = x3d_viewer_forget(viewer); break;
-      case 31:
-        status = x3d_viewer_make_trace(viewer, (uint32_t)number()) + x3d_viewer_make_changes(viewer, (uint32_t)number()) + x3d_viewer_make_scene(viewer);
-        status += x3d_viewer_make_type(viewer, (uint32_t)number()) + x3d_viewer_make_label(viewer, (uint32_t)number());
-        break;
-      case 32:
-        status = x3d_viewer_make_value(viewer, (uint32_t)number(), (uint16_t)number()) + x3d_viewer_make_field_name(viewer, (uint32_t)number(), (uint16_t)number());
-        status += x3d_viewer_copy_text(viewer, text, below(sizeof text), &wanted) + x3d_viewer_field_count(viewer, (uint32_t)number(), &told);
-        break;
-      case 33:
-        status = x3d_viewer_list_roots(viewer) + x3d_viewer_list_children(viewer, (uint32_t)number()) + x3d_viewer_list_value(viewer, (uint32_t)number(), (uint16_t)number());
-        status += x3d_viewer_meet(viewer, &aim, &met) + x3d_viewer_copy_numbers(viewer, numbers, below(64), &wanted) + x3d_viewer_node_count(viewer, &n);
-        break;
+    case 0:
+      if (!below(8))
+        status = x3d_host_open(host, (const uint8_t *)scene, strlen(scene), (uint8_t)below(18));
+      break;
+    case 1:
+      if (!below(64)) x3d_host_close(host);
+      break;
+    case 2:
+    case 3:
+      time += below(8) ? (int64_t)below(100000) : -5;
+      status = x3d_host_clock(host, below(16) ? time : (int64_t)any(), &told);
+      break;
+    case 4:
+    case 5:
+    case 6:
+      length = some(bytes);
+      status = x3d_host_take(host, bytes, length, &reply);
+      if (status == X3D_DONE && reply.kind == X3D_REPLY_ASKED)
+        for (uint32_t i = 0; i < reply.count; i++)
+          keep(x3d_host_packet(host, reply.number + i, out, sizeof out, &wanted), out, wanted);
+      break;
+    case 7:
+      status = x3d_host_packet(host, (uint32_t)number(), out, room, &wanted);
+      keep(status, out, wanted);
+      break;
+    case 8:
+      status = x3d_host_ack(host, (uint8_t)number(), out, room, &wanted);
+      keep(status, out, wanted);
+      break;
+    case 9:
+      status =
+          x3d_host_floor(host, &told) + x3d_host_count(host, &told) + x3d_host_viewers(host, &told);
+      break;
+    case 10:
+      status = x3d_host_floor_packet(host, out, room, &wanted);
+      keep(status, out, wanted);
+      break;
+    case 11:
+      if (!below(16)) status = x3d_host_drop_below(host, (uint32_t)number());
+      break;
+    case 12:
+      if (!below(4) || !viewer->at)
+        status = x3d_viewer_open(viewer, (const uint8_t *)scene, strlen(scene), (uint8_t)number(),
+                                 (uint32_t)number(), text, below(65), &wanted);
+      break;
+    case 13:
+      if (!below(64)) x3d_viewer_close(viewer);
+      break;
+    case 14:
+      status = x3d_viewer_applied(viewer, &told) + x3d_viewer_boot(viewer, &told) +
+               x3d_viewer_waiting(viewer, &told);
+      break;
+    case 15:
+    case 16:
+    case 17:
+    case 18:
+      length = some(bytes);
+      status = x3d_viewer_take(viewer, bytes, length, &taken);
+      break;
+    case 19:
+    case 20: status = x3d_viewer_offer(viewer, below(2), &aim, &told); break;
+    case 21:
+      status = x3d_viewer_resend(viewer, (uint32_t)number(), out, room, &wanted);
+      keep(status, out, wanted);
+      break;
+    case 22:
+    case 23:
+      status = x3d_viewer_ask(viewer, out, room, &wanted);
+      keep(status, out, wanted);
+      break;
+    case 24:
+      status = x3d_viewer_make_snapshot(viewer);
+      if (status == X3D_DONE &&
+          x3d_viewer_copy_text(viewer, shot, sizeof shot, &wanted) == X3D_DONE)
+        shot_length = wanted;
+      break;
+    case 25:
+      status = x3d_viewer_rewind(viewer, (uint32_t)number(), shot,
+                                 below(4) ? shot_length : below(shot_length + 1), &told);
+      break;
+    case 26:
+      status = x3d_viewer_piece_count(viewer, shot, shot_length, &told);
+      for (uint32_t i = 0; status == X3D_DONE && i < told; i++)
+        keep(x3d_viewer_piece(viewer, shot, shot_length, i, out, sizeof out, &wanted), out, wanted);
+      break;
+    case 27:
+      status = x3d_viewer_piece(viewer, shot, below(shot_length + 1), (uint32_t)number(), out, room,
+                                &wanted);
+      keep(status, out, wanted);
+      break;
+    case 28:
+      length = some(bytes);
+      status = x3d_viewer_gather(viewer, bytes, length, &told);
+      break;
+    case 29: status = x3d_viewer_join(viewer, (uint32_t)number(), &told); break;
+    case 30:
+      if (!below(8)) status = x3d_viewer_forget(viewer);
+      break;
+    case 31:
+      status = x3d_viewer_make_trace(viewer, (uint32_t)number()) +
+               x3d_viewer_make_changes(viewer, (uint32_t)number()) + x3d_viewer_make_scene(viewer);
+      status += x3d_viewer_make_type(viewer, (uint32_t)number()) +
+                x3d_viewer_make_label(viewer, (uint32_t)number());
+      break;
+    case 32:
+      status = x3d_viewer_make_value(viewer, (uint32_t)number(), (uint16_t)number()) +
+               x3d_viewer_make_field_name(viewer, (uint32_t)number(), (uint16_t)number());
+      status += x3d_viewer_copy_text(viewer, text, below(sizeof text), &wanted) +
+                x3d_viewer_field_count(viewer, (uint32_t)number(), &told);
+      break;
+    case 33:
+      status = x3d_viewer_list_roots(viewer) +
+               x3d_viewer_list_children(viewer, (uint32_t)number()) +
+               x3d_viewer_list_value(viewer, (uint32_t)number(), (uint16_t)number());
+      status += x3d_viewer_meet(viewer, &aim, &met) +
+                x3d_viewer_copy_numbers(viewer, numbers, below(64), &wanted) +
+                x3d_viewer_node_count(viewer, &n);
+      break;
     }
     done += status == X3D_DONE;
   }

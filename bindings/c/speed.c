@@ -1,5 +1,6 @@
-/* Measures calls, in processor time: clocks with nothing to do on a world without nodes and on one of 50,000, the lines of the last
- * input behind few lines and behind many, and what 1,000 small worlds take of time and memory. */
+/* Measures calls, in processor time: clocks with nothing to do on a world without nodes and on one
+ * of 50,000, the lines of the last input behind few lines and behind many, and what 1,000 small
+ * worlds take of time and memory. */
 #include "x3d.h"
 #include <stdio.h>
 #include <stdlib.h>
@@ -23,17 +24,22 @@ static long pages(void) {
 static int opened(struct x3d_world *world, const char *text) {
   uint8_t line[64];
   size_t wanted;
-  return x3d_world_open(world, (const uint8_t *)text, strlen(text), line, sizeof line, &wanted) == X3D_DONE;
+  return x3d_world_open(world, (const uint8_t *)text, strlen(text), line, sizeof line, &wanted) ==
+         X3D_DONE;
 }
 
-static const char door[] =
-    "#X3D V3.0 utf8\nDEF Motor TimeSensor { cycleInterval 2 }\nDEF Slide PositionInterpolator { key [ 0, 1 ] keyValue [ 0 0 0, 1 0 0 ] }\n"
-    "DEF Door Transform { children [ DEF Knob TouchSensor {} Shape { geometry Box { size 1 2 0.1 } } ] }\nROUTE Knob.touchTime TO "
-    "Motor.startTime\nROUTE Motor.fraction_changed TO Slide.set_fraction\nROUTE Slide.value_changed TO Door.translation\n";
+static const char door[] = "#X3D V3.0 utf8\nDEF Motor TimeSensor { cycleInterval 2 }\nDEF Slide "
+                           "PositionInterpolator { key [ 0, 1 ] keyValue [ 0 0 0, 1 0 0 ] }\n"
+                           "DEF Door Transform { children [ DEF Knob TouchSensor {} Shape { "
+                           "geometry Box { size 1 2 0.1 } } ] }\nROUTE Knob.touchTime TO "
+                           "Motor.startTime\nROUTE Motor.fraction_changed TO "
+                           "Slide.set_fraction\nROUTE Slide.value_changed TO Door.translation\n";
 
 static const char running[] =
-    "#X3D V3.0 utf8\nDEF Motor TimeSensor { cycleInterval 2 loop TRUE }\nDEF Slide PositionInterpolator { key [ 0, 1 ] keyValue [ 0 0 0, 1 0 "
-    "0 ] }\nDEF Door Transform {}\nROUTE Motor.fraction_changed TO Slide.set_fraction\nROUTE Slide.value_changed TO Door.translation\n";
+    "#X3D V3.0 utf8\nDEF Motor TimeSensor { cycleInterval 2 loop TRUE }\nDEF Slide "
+    "PositionInterpolator { key [ 0, 1 ] keyValue [ 0 0 0, 1 0 "
+    "0 ] }\nDEF Door Transform {}\nROUTE Motor.fraction_changed TO Slide.set_fraction\nROUTE "
+    "Slide.value_changed TO Door.translation\n";
 
 static void stop(const char *why) {
   fprintf(stderr, "speed: %s\n", why);
@@ -49,7 +55,8 @@ static double clocks(struct x3d_world *world, uint32_t many) {
   return (now() - begun) / many;
 }
 
-/* A world whose every clock gives six lines: how long a clock takes, and then to read the lines of the last one. */
+/* A world whose every clock gives six lines: how long a clock takes, and then to read the lines of
+ * the last one. */
 static void frames(uint32_t many) {
   struct x3d_world world = X3D_NONE;
   uint8_t out[1024];
@@ -58,8 +65,12 @@ static void frames(uint32_t many) {
   double clock = clocks(&world, many), begun = now();
   int reads = 1000;
   for (int k = 0; k < reads; k++)
-    if (x3d_world_make_changes(&world, many) != X3D_DONE || x3d_world_copy_text(&world, out, sizeof out, &wanted) != X3D_DONE) stop("no lines");
-  printf("%u clocks of six lines each: %.0f ns a clock, %.0f ns to read the lines of the last (%zu bytes)\n", many, clock, (now() - begun) / reads, wanted);
+    if (x3d_world_make_changes(&world, many) != X3D_DONE ||
+        x3d_world_copy_text(&world, out, sizeof out, &wanted) != X3D_DONE)
+      stop("no lines");
+  printf("%u clocks of six lines each: %.0f ns a clock, %.0f ns to read the lines of the last (%zu "
+         "bytes)\n",
+         many, clock, (now() - begun) / reads, wanted);
   begun = now();
   for (int k = 0; k < reads; k++)
     if (x3d_world_make_changes(&world, many + 1) != X3D_DONE) stop("no lines");
@@ -74,7 +85,8 @@ static void many_worlds(void) {
   double begun = now();
   for (int k = 0; k < 1000; k++)
     if (!opened(&worlds[k], door)) stop("no world");
-  printf("1,000 worlds of a door: %.0f us and %.1f KB each to open, ", (now() - begun) / 1e6, (double)(pages() - before) * 4 / 1000);
+  printf("1,000 worlds of a door: %.0f us and %.1f KB each to open, ", (now() - begun) / 1e6,
+         (double)(pages() - before) * 4 / 1000);
   begun = now();
   for (uint32_t n = 1; n <= 100; n++)
     for (int k = 0; k < 1000; k++)

@@ -1,5 +1,5 @@
-"""Makes the wheel of this folder, so that `pip install .` needs nothing but Python: the package `x3d`, and in it libx3d.so where
-there is one (that of X3D_SO, or of `make library`)."""
+"""Makes the wheel of this folder, so that `pip install .` needs nothing but Python: the package
+`x3d`, and in it libx3d.so where there is one (that of X3D_SO, or of `make library`)."""
 
 import base64
 import hashlib

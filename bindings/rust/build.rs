@@ -1,4 +1,5 @@
-//! Links the static library that `make library` made: in the folder that X3D_LIB names, or in out/ of this checkout.
+//! Links the static library that `make library` made: in the folder that X3D_LIB names, or in out/
+//! of this checkout.
 use std::path::{Path, PathBuf};
 
 fn main() {

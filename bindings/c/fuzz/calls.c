@@ -1,5 +1,6 @@
-/* A schedule of calls, some bytes each, on two worlds of one scene. Inputs go to both worlds, which answer the same; so what
- * they show is the same at the end, whatever was asked, saved and loaded between. */
+/* A schedule of calls, some bytes each, on two worlds of one scene. Inputs go to both worlds, which
+ * answer the same; so what they show is the same at the end, whatever was asked, saved and loaded
+ * between. */
 #include "common.h"
 
 struct schedule {
@@ -49,7 +50,8 @@ static void input(struct x3d_world both[2], struct schedule *s, int64_t *time) {
     one = x3d_world_point(&both[0], number, t, viewer, how & 8, &aim, &a);
     other = x3d_world_point(&both[1], number, t, viewer, how & 8, &aim, &b);
   }
-  must(one == other && a.sends == b.sends && a.deliveries == b.deliveries && a.settles == b.settles);
+  must(one == other && a.sends == b.sends && a.deliveries == b.deliveries &&
+       a.settles == b.settles);
   if (one == X3D_DONE) *time = t;
 }
 
@@ -63,18 +65,24 @@ static void ask(struct x3d_world *world, struct schedule *s) {
   struct x3d_met met;
   struct x3d_aim aim;
   switch (taken(s, 1) % 12) {
-    case 0: x3d_world_make_trace(world, node); break;
-    case 1: x3d_world_make_changes(world, node); break;
-    case 2: x3d_world_make_scene(world); break;
-    case 3: x3d_world_make_type(world, node); break;
-    case 4: x3d_world_make_label(world, node); break;
-    case 5: x3d_world_make_field_name(world, node, field); break;
-    case 6: x3d_world_make_value(world, node, field); break;
-    case 7: x3d_world_list_roots(world); break;
-    case 8: x3d_world_list_children(world, node); break;
-    case 9: x3d_world_list_value(world, node, field); break;
-    case 10: aim = aimed(s); x3d_world_meet(world, &aim, &met); break;
-    default: x3d_world_field_count(world, node, &count); x3d_world_node_count(world, &wanted); break;
+  case 0: x3d_world_make_trace(world, node); break;
+  case 1: x3d_world_make_changes(world, node); break;
+  case 2: x3d_world_make_scene(world); break;
+  case 3: x3d_world_make_type(world, node); break;
+  case 4: x3d_world_make_label(world, node); break;
+  case 5: x3d_world_make_field_name(world, node, field); break;
+  case 6: x3d_world_make_value(world, node, field); break;
+  case 7: x3d_world_list_roots(world); break;
+  case 8: x3d_world_list_children(world, node); break;
+  case 9: x3d_world_list_value(world, node, field); break;
+  case 10:
+    aim = aimed(s);
+    x3d_world_meet(world, &aim, &met);
+    break;
+  default:
+    x3d_world_field_count(world, node, &count);
+    x3d_world_node_count(world, &wanted);
+    break;
   }
   x3d_world_copy_text(world, out, taken(s, 1) % sizeof out, &wanted);
   x3d_world_copy_numbers(world, numbers, taken(s, 1) % 32, &wanted);
@@ -101,15 +109,20 @@ int LLVMFuzzerTestOneInput(const uint8_t *data, size_t size) {
   struct x3d_world both[2] = {X3D_NONE, X3D_NONE};
   const char *scene = scenes[taken(&s, 1) % SCENES];
   int64_t time = 0;
-  for (int i = 0; i < 2; i++) must(opened(&both[i], (const uint8_t *)scene, strlen(scene)) == X3D_DONE);
+  for (int i = 0; i < 2; i++)
+    must(opened(&both[i], (const uint8_t *)scene, strlen(scene)) == X3D_DONE);
   for (int calls = 0; s.left && calls < 200; calls++) {
     uint8_t what = (uint8_t)taken(&s, 1);
     count_try();
-    if (what < 160) input(both, &s, &time);
-    else if (what < 230) ask(&both[what & 1], &s);
-    else carry(both, &s);
+    if (what < 160)
+      input(both, &s, &time);
+    else if (what < 230)
+      ask(&both[what & 1], &s);
+    else
+      carry(both, &s);
   }
-  struct bytes trace = trace_of(&both[0]), other = trace_of(&both[1]), shot = shot_of(&both[0], 1), same = shot_of(&both[1], 1);
+  struct bytes trace = trace_of(&both[0]), other = trace_of(&both[1]), shot = shot_of(&both[0], 1),
+               same = shot_of(&both[1], 1);
   must(are_same(trace, other) && are_same(shot, same));
   let_go(trace);
   let_go(other);

@@ -1,5 +1,6 @@
-/* What the harnesses share. Each is a LLVMFuzzerTestOneInput over the static library: scripts/fuzz_library builds and runs
- * them. What must hold is asked by `must`, which ends the process where it doesn't. */
+/* What the harnesses share. Each is a LLVMFuzzerTestOneInput over the static library:
+ * scripts/fuzz_library builds and runs them. What must hold is asked by `must`, which ends the
+ * process where it doesn't. */
 #ifndef COMMON_H
 #define COMMON_H
 
@@ -9,12 +10,12 @@
 #include <string.h>
 #include <unistd.h>
 
-#define must(holds) \
-  do { \
-    if (!(holds)) { \
-      fprintf(stderr, "%s:%d: does not hold: %s\n", __FILE__, __LINE__, #holds); \
-      abort(); \
-    } \
+#define must(holds)                                                                                \
+  do {                                                                                             \
+    if (!(holds)) {                                                                                \
+      fprintf(stderr, "%s:%d: does not hold: %s\n", __FILE__, __LINE__, #holds);                   \
+      abort();                                                                                     \
+    }                                                                                              \
   } while (0)
 
 /* How many scenes, snapshots, datagrams or calls were tried; one input of libFuzzer's has many datagrams or calls. The
@@ -97,18 +98,26 @@ static inline struct bytes shot_of(struct x3d_world *world, uint32_t boot) {
 
 /* Scenes with sensors, prototypes, helpers, scripts that are run, and labels of every kind. */
 static const char door[] =
-    "#X3D V3.0 utf8\nDEF Motor TimeSensor { cycleInterval 2 loop TRUE }\nDEF Slide PositionInterpolator { key [ 0 1 ] "
-    "keyValue [ 0 0 0 1 0 0 ] }\nDEF Door Transform { children [ DEF Knob TouchSensor {} Shape { geometry Box { size 1 2 0.1 } } ] "
-    "}\nROUTE Knob.touchTime TO Motor.startTime\nROUTE Motor.fraction_changed TO Slide.set_fraction\nROUTE Slide.value_changed TO "
+    "#X3D V3.0 utf8\nDEF Motor TimeSensor { cycleInterval 2 loop TRUE }\nDEF Slide "
+    "PositionInterpolator { key [ 0 1 ] "
+    "keyValue [ 0 0 0 1 0 0 ] }\nDEF Door Transform { children [ DEF Knob TouchSensor {} Shape { "
+    "geometry Box { size 1 2 0.1 } } ] "
+    "}\nROUTE Knob.touchTime TO Motor.startTime\nROUTE Motor.fraction_changed TO "
+    "Slide.set_fraction\nROUTE Slide.value_changed TO "
     "Door.translation\n";
-static const char scripts[] =
-    "#X3D V3.0 utf8\nDEF T TouchSensor {}\nShape { geometry Box { size 4 4 4 } }\nDEF C Script { url \"x3dshare:counter\" inputOnly "
-    "SFBool tick initializeOnly SFInt32 start 5 initializeOnly SFInt32 step 2 outputOnly SFInt32 count }\nDEF M Script { url "
-    "\"x3dshare:meter\" inputOnly SFFloat reading outputOnly SFFloat mean }\nDEF L TimeSensor { loop TRUE }\nDEF Q IntegerSequencer { "
-    "key [ 0 0.5 ] keyValue [ 3 4 ] }\nDEF W Switch { children [ Group {} ] }\nROUTE T.isActive TO C.tick\nROUTE C.count TO "
-    "W.whichChoice\nROUTE L.fraction_changed TO M.reading\nROUTE L.fraction_changed TO Q.set_fraction\n";
+static const char scripts[] = "#X3D V3.0 utf8\nDEF T TouchSensor {}\nShape { geometry Box { size 4 "
+                              "4 4 } }\nDEF C Script { url \"x3dshare:counter\" inputOnly "
+                              "SFBool tick initializeOnly SFInt32 start 5 initializeOnly SFInt32 "
+                              "step 2 outputOnly SFInt32 count }\nDEF M Script { url "
+                              "\"x3dshare:meter\" inputOnly SFFloat reading outputOnly SFFloat "
+                              "mean }\nDEF L TimeSensor { loop TRUE }\nDEF Q IntegerSequencer { "
+                              "key [ 0 0.5 ] keyValue [ 3 4 ] }\nDEF W Switch { children [ Group "
+                              "{} ] }\nROUTE T.isActive TO C.tick\nROUTE C.count TO "
+                              "W.whichChoice\nROUTE L.fraction_changed TO M.reading\nROUTE "
+                              "L.fraction_changed TO Q.set_fraction\n";
 static const char instances[] =
-    "#X3D V3.0 utf8\nPROTO P [ initializeOnly MFNode more [] ] { Group { children IS more } DEF N3 TimeSensor { loop TRUE } }\nP { more "
+    "#X3D V3.0 utf8\nPROTO P [ initializeOnly MFNode more [] ] { Group { children IS more } DEF N3 "
+    "TimeSensor { loop TRUE } }\nP { more "
     "[ DEF N0 Group {} DEF S Shape { geometry Sphere {} } USE S ] }\nDEF N1 BooleanToggle {}\n";
 static const char *const scenes[] = {door, scripts, instances};
 #define SCENES (sizeof scenes / sizeof scenes[0])

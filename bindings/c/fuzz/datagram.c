@@ -1,6 +1,7 @@
-/* Datagrams come to a host and to two viewers of one scene, both of number 0: some bytes as they are, or behind the head that
- * a datagram of the scene has, and the inputs that the host has numbered. One viewer gets each twice, and is the same at the
- * end. What the host refuses changes nothing. */
+/* Datagrams come to a host and to two viewers of one scene, both of number 0: some bytes as they
+ * are, or behind the head that a datagram of the scene has, and the inputs that the host has
+ * numbered. One viewer gets each twice, and is the same at the end. What the host refuses changes
+ * nothing. */
 #include "common.h"
 
 enum { HEAD = 38, TAG = 5 };
@@ -16,7 +17,8 @@ static void begin(struct shared *s, const char *scene) {
   size_t wanted;
   must(x3d_host_open(&s->host, text, strlen(scene), 2) == X3D_DONE);
   for (int k = 0; k < 2; k++)
-    must(x3d_viewer_open(&s->viewers[k], text, strlen(scene), 0, 1, refusal, sizeof refusal, &wanted) == X3D_DONE);
+    must(x3d_viewer_open(&s->viewers[k], text, strlen(scene), 0, 1, refusal, sizeof refusal,
+                         &wanted) == X3D_DONE);
 }
 
 /* What a viewer makes of a datagram. A snapshot whose pieces are whole is joined, if it is one. */
@@ -30,7 +32,8 @@ static void take(struct x3d_viewer *viewer, const uint8_t *bytes, size_t length)
   if (status == X3D_DONE && taken.kind == X3D_TOOK_APPLIED) must(after == before + taken.count);
   if (status != X3D_NOT_FOR_ME) return;
   must(after == before);
-  if (x3d_viewer_gather(viewer, bytes, length, &gathered) == X3D_DONE && gathered == X3D_GATHERED_WHOLE) {
+  if (x3d_viewer_gather(viewer, bytes, length, &gathered) == X3D_DONE &&
+      gathered == X3D_GATHERED_WHOLE) {
     must(x3d_viewer_boot(viewer, &boot) == X3D_DONE);
     status = x3d_viewer_join(viewer, boot + 1, &applied);
     if (status != X3D_DONE) must(x3d_viewer_forget(viewer) == X3D_DONE);
@@ -49,10 +52,13 @@ static void host_takes(struct shared *s, const uint8_t *bytes, size_t length) {
   size_t wanted;
   uint32_t count, floor, new_count, new_floor;
   struct x3d_reply reply;
-  must(x3d_host_count(&s->host, &count) == X3D_DONE && x3d_host_floor(&s->host, &floor) == X3D_DONE);
+  must(x3d_host_count(&s->host, &count) == X3D_DONE &&
+       x3d_host_floor(&s->host, &floor) == X3D_DONE);
   uint8_t status = x3d_host_take(&s->host, bytes, length, &reply);
-  must(x3d_host_count(&s->host, &new_count) == X3D_DONE && x3d_host_floor(&s->host, &new_floor) == X3D_DONE);
-  must(new_floor == floor && new_count == count + (status == X3D_DONE && reply.kind == X3D_REPLY_NUMBERED));
+  must(x3d_host_count(&s->host, &new_count) == X3D_DONE &&
+       x3d_host_floor(&s->host, &new_floor) == X3D_DONE);
+  must(new_floor == floor &&
+       new_count == count + (status == X3D_DONE && reply.kind == X3D_REPLY_NUMBERED));
   if (status != X3D_DONE) return;
   if (reply.kind == X3D_REPLY_ASKED) must(reply.count <= 64);
   for (uint32_t k = 0; reply.kind == X3D_REPLY_ASKED && k < reply.count; k++) {

@@ -1,5 +1,6 @@
-/* A text is opened as a scene. Where it is one, what is written of it is read again and written the same, clocks and pointers
- * are applied, and a snapshot of that loads into a second world, which is the same. */
+/* A text is opened as a scene. Where it is one, what is written of it is read again and written the
+ * same, clocks and pointers are applied, and a snapshot of that loads into a second world, which is
+ * the same. */
 #include "common.h"
 
 /* What is written is refused for its size alone. */

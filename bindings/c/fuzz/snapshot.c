@@ -1,5 +1,6 @@
-/* Bytes are loaded as a snapshot. The first byte says of which scene, and whether they are taken as they are, or get the head
- * and the digest that a snapshot of that scene has. What is refused changes nothing, and what is loaded is written the same. */
+/* Bytes are loaded as a snapshot. The first byte says of which scene, and whether they are taken as
+ * they are, or get the head and the digest that a snapshot of that scene has. What is refused
+ * changes nothing, and what is loaded is written the same. */
 #include "common.h"
 #include "sha256.h"
 
@@ -78,7 +79,8 @@ int LLVMFuzzerTestOneInput(const uint8_t *data, size_t size) {
   if (size == 0) return 0;
   count_try();
   size_t i = data[0] % SCENES;
-  struct bytes given = data[0] & 128 ? (struct bytes){NULL, size - 1} : sealed(i, data + 1, size - 1);
+  struct bytes given =
+      data[0] & 128 ? (struct bytes){NULL, size - 1} : sealed(i, data + 1, size - 1);
   if (!given.at) {
     given.at = malloc(size);
     must(given.at != NULL);

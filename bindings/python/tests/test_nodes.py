@@ -19,8 +19,8 @@ AIM = Aim((0, 0, 10_000_000), (0, 0, -1_000_000))
 
 
 class Carrier:
-    """Carries datagrams between a host and its viewers; where it is lossy about four of five, by a rule without a period
-    that a turn could be in step with."""
+    """Carries datagrams between a host and its viewers; where it is lossy about four of five, by a
+    rule without a period that a turn could be in step with."""
 
     def __init__(self, host, lossy=False):
         self.host, self.lossy, self.dice = host, lossy, 1

@@ -14,8 +14,9 @@ or a shared world, whose datagrams the program carries between them:
     for packet in host.packets(host.take(viewer.ask())):
         viewer.take(packet)
 
-Coordinates are whole millionths of a unit, times whole microseconds. The shared object is the one that the variable
-X3D_SO names, or libx3d.so beside this file, or in out/ of the checkout, or on the system's path of libraries.
+Coordinates are whole millionths of a unit, times whole microseconds. The shared object is the one
+that the variable X3D_SO names, or libx3d.so beside this file, or in out/ of the checkout, or on the
+system's path of libraries.
 """
 
 from ._faults import Fault, Refusal

@@ -4,14 +4,15 @@ from typing import Dict
 
 
 class Refusal(Exception):
-    """Why a scene's text is no world: the line that the program prints, as `refused UnknownNode line 3`."""
+    """Why a scene's text is no world: the line that the program prints, such as
+    `refused UnknownNode line 3`."""
 
 
 class Fault(Exception):
     """Why a call on a world is refused: its `name` and its `status`.
 
-    Nothing has then changed, but that after `Memory` at an input, or while a snapshot is loaded, the world is spoiled:
-    only a snapshot brings one back."""
+    Nothing has then changed, but that after `Memory` at an input, or while a snapshot is loaded,
+    the world is spoiled: only a snapshot brings one back."""
 
     NAMES: Dict[int, str] = {
         5: "Memory",

@@ -127,8 +127,6 @@ def _path() -> str:
 
 library = ctypes.CDLL(_path())
 for _name, _passed in CALLS.items():
-    _call = getattr(library, _name, None)
-    if _call is None:
-        continue  # a library from before hosts and viewers
+    _call = getattr(library, _name)
     _call.argtypes = _passed
     _call.restype = None if _name.endswith("_close") else c_uint8

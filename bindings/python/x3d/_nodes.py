@@ -18,8 +18,8 @@ class Reply(NamedTuple):
 
     - `Asked`: `count` inputs were asked for, from `number` on (`Host.packets` has them);
     - `Numbered`: the offer is the input `number`;
-    - `Repeat`, `Ahead`, `OldBoot`: the offer has been numbered before; one before it has not come yet; it is of a boot that
-      is over;
+    - `Repeat`, `Ahead`, `OldBoot`: the offer has been numbered before; one before it has not come
+      yet; it is of a boot that is over;
     - `Below`: inputs were asked for that the host has no more; it has those from `number` on;
     - `NothingToDo`."""
 
@@ -35,7 +35,8 @@ class Taken(NamedTuple):
     - `Kept`: the input is kept until those before it have come;
     - `Old`, `Beyond`: the input has been applied before; it is more than 64 ahead;
     - `Noted`: what the host tells of offers, or of its floor, was noted;
-    - `Behind`: the host has the next input no more: only a snapshot helps (`Viewer.gather` and `Viewer.join`)."""
+    - `Behind`: the host has the next input no more: only a snapshot helps (`Viewer.gather` and
+      `Viewer.join`)."""
 
     kind: str
     count: int
@@ -61,11 +62,13 @@ class _Node(Held):
 
 
 class Host(_Node):
-    """The host of a scene, for viewers that are numbered from 0, 1 to 16 of them: it numbers what happens, and hands it out.
+    """The host of a scene, for viewers that are numbered from 0, 1 to 16 of them: it numbers what
+    happens, and hands it out.
 
-    Of the scene it keeps the SHA-256 of its text alone, so that it takes datagrams of no other; it does not look at it.
-    Its life is: `take` each datagram that comes, send back `packets(reply)` and, for who offered or asked, `ack(who)`; and
-    number a `clock` as often as the world should move on. Another number of viewers raises Fault `Range`."""
+    Of the scene it keeps the SHA-256 of its text alone, so that it takes datagrams of no other; it
+    does not look at it. Its life is: `take` each datagram that comes, send back `packets(reply)`
+    and, for who offered or asked, `ack(who)`; and number a `clock` as often as the world should
+    move on. Another number of viewers raises Fault `Range`."""
 
     _KIND = "host"
 
@@ -75,16 +78,19 @@ class Host(_Node):
         self._call("open", text, len(text), fits(viewers, 8))
 
     def clock(self, time: int) -> int:
-        """Numbers a clock at a time of 1 to 10^18 microseconds, above that of the last input, and tells its number.
+        """Numbers a clock at a time of 1 to 10^18 microseconds, above that of the last input, and
+        tells its number.
 
-        Faults: `WorldFull` (2^20 inputs are numbered), `TimeNotLater`, `TimeRange`, `Memory`; nothing has then changed."""
+        Faults: `WorldFull` (2^20 inputs are numbered), `TimeNotLater`, `TimeRange`, `Memory`;
+        nothing has then changed."""
         return self._number("clock", signed(time))
 
     def take(self, datagram: bytes) -> Reply:
         """Takes a datagram of a viewer: an offer is numbered 1 microsecond after the last input.
 
-        Faults: `BadPacket`, `BadVersion`, `BadTag`, `BadRange`, `ZeroRay` (these bytes are no datagram), `WrongScene`,
-        `BadViewer`, and for an offer those of `clock`; nothing has then changed."""
+        Faults: `BadPacket`, `BadVersion`, `BadTag`, `BadRange`, `ZeroRay` (these bytes are no
+        datagram), `WrongScene`, `BadViewer`, and for an offer those of `clock`; nothing has then
+        changed."""
         reply = RawReply()
         self._call("take", datagram, len(datagram), reply)
         return Reply(_REPLIES[reply.kind], reply.number, reply.count)
@@ -94,7 +100,8 @@ class Host(_Node):
         return self._packet("packet", fits(number, 32))
 
     def packets(self, reply: Reply) -> List[bytes]:
-        """What belongs to a reply: the inputs that were asked for, at most 64, or the floor where they are below it."""
+        """What belongs to a reply: the inputs that were asked for, at most 64, or the floor where
+        they are below it."""
         if reply.kind == "Below":
             return [self.floor_packet()]
         if reply.kind != "Asked":
@@ -103,7 +110,8 @@ class Host(_Node):
         return [packet for packet in found if packet is not None]
 
     def ack(self, who: int) -> bytes:
-        """The datagram that tells a viewer how many of its offers are numbered. A viewer that there isn't: Fault `Range`."""
+        """The datagram that tells a viewer how many of its offers are numbered. A viewer that there
+        isn't: Fault `Range`."""
         return self._sure("ack", fits(who, 8))
 
     def floor(self) -> int:
@@ -136,13 +144,15 @@ class Host(_Node):
 
 
 class Viewer(_Node, Readable):
-    """A viewer of a scene, as boot `boot` (1 to 2^32 - 1) of viewer `who` (0 to 15): it holds the world, offers what it
-    points at, and applies the host's inputs in turn. All that is read of a World is read of it: `changes`, `value`, `meet`, ..
+    """A viewer of a scene, as boot `boot` (1 to 2^32 - 1) of viewer `who` (0 to 15): it holds the
+    world, offers what it points at, and applies the host's inputs in turn. All that is read of a
+    World is read of it: `changes`, `value`, `meet`, ..
 
-    Its life is: `offer` what is pointed at; send `resend()` and `ask()` to the host again and again, as datagrams may be
-    lost; `take` each datagram that comes. A text that is refused raises Refusal, numbers out of range Fault `Range`. Where
-    memory was refused at an input the viewer is spoiled: `take`, `offer`, `snapshot` and what is read of its world raise
-    Fault `Spoiled`, and `rewind` or `join` brings it back."""
+    Its life is: `offer` what is pointed at; send `resend()` and `ask()` to the host again and
+    again, as datagrams may be lost; `take` each datagram that comes. A text that is refused raises
+    Refusal, numbers out of range Fault `Range`. Where memory was refused at an input the viewer is
+    spoiled: `take`, `offer`, `snapshot` and what is read of its world raise Fault `Spoiled`, and
+    `rewind` or `join` brings it back."""
 
     _KIND = "viewer"
 
@@ -157,19 +167,19 @@ class Viewer(_Node, Readable):
     def take(self, datagram: bytes) -> Taken:
         """Takes a datagram of the host.
 
-        Faults: `Spoiled`; `BadPacket`, `BadVersion`, `BadTag`, `BadRange`, `ZeroRay` (these bytes are no datagram);
-        `WrongScene`; `NotForMe`: nothing has then changed. `TimeNotLater`: that input is dropped. `Memory`: the viewer is
-        spoiled."""
+        Faults: `Spoiled`; `BadPacket`, `BadVersion`, `BadTag`, `BadRange`, `ZeroRay` (these bytes
+        are no datagram); `WrongScene`; `NotForMe`: nothing has then changed. `TimeNotLater`: that
+        input is dropped. `Memory`: the viewer is spoiled."""
         taken = RawTaken()
         self._call("take", datagram, len(datagram), taken)
         return Taken(_TAKEN[taken.kind], taken.count)
 
     def offer(self, down: bool, aim: Aim) -> int:
-        """Offers a point, with the button down or not, and tells the offer's number in this boot, from 1. It waits, for
-        `resend`, until the host numbered it.
+        """Offers a point, with the button down or not, and tells the offer's number in this boot,
+        from 1. It waits, for `resend`, until the host numbered it.
 
-        Faults: `Spoiled`, `ZeroRay`, `PointRange` (a coordinate of a size above 10^15 millionths), `OfferFull` (64 wait),
-        `OffersSpent`."""
+        Faults: `Spoiled`, `ZeroRay`, `PointRange` (a coordinate of a size above 10^15 millionths),
+        `OfferFull` (64 wait), `OffersSpent`."""
         return self._number("offer", down, raw_aim(aim))
 
     def waiting(self) -> int:
@@ -182,7 +192,8 @@ class Viewer(_Node, Readable):
         return [packet for packet in found if packet is not None]
 
     def ask(self) -> bytes:
-        """The datagram that asks for the inputs from the first that the viewer lacks, at most 64 of them."""
+        """The datagram that asks for the inputs from the first that the viewer lacks, at most 64 of
+        them."""
         return self._sure("ask")
 
     def snapshot(self) -> bytes:
@@ -191,30 +202,34 @@ class Viewer(_Node, Readable):
         return self._bytes()
 
     def rewind(self, snapshot: bytes, boot: int) -> int:
-        """Begins again in the world of a snapshot, as another boot, above its own and the snapshot's, and tells how many inputs
-        that world has had. No offer waits then, and offers are numbered from 1.
+        """Begins again in the world of a snapshot, as another boot, above its own and the
+        snapshot's, and tells how many inputs that world has had. No offer waits then, and offers
+        are numbered from 1.
 
-        Faults: `BootNotNew` (not above its own); then as `World.load`; nothing has then changed, but `Memory` spoils it."""
+        Faults: `BootNotNew` (not above its own); then as `World.load`; nothing has then changed,
+        but `Memory` spoils it."""
         return self._number("rewind", fits(boot, 32), snapshot, len(snapshot))
 
     def pieces(self, snapshot: Optional[bytes] = None) -> List[bytes]:
-        """The datagrams of a snapshot, or else of its own as it is now, for another viewer that is `Behind`; none where the bytes
-        do not begin as a snapshot, or are more than 2^26."""
+        """The datagrams of a snapshot, or else of its own as it is now, for another viewer that is
+        `Behind`; none where the bytes do not begin as a snapshot, or are more than 2^26."""
         whole = self.snapshot() if snapshot is None else bytes(snapshot)
         count = self._number("piece_count", whole, len(whole))
         found = (self._packet("piece", whole, len(whole), index) for index in range(count))
         return [packet for packet in found if packet is not None]
 
     def gather(self, datagram: bytes) -> str:
-        """Gathers a piece of a snapshot: `New`, `Again` (it has come before), `Whole` (none is missing: `join`), or `Other` (it
-        is of another snapshot than the one that was begun: `forget` lets that go).
+        """Gathers a piece of a snapshot: `New`, `Again` (it has come before), `Whole` (none is
+        missing: `join`), or `Other` (it is of another snapshot than the one that was begun:
+        `forget` lets that go).
 
-        Faults: those of a datagram, `WrongScene`, `NotPiece`, `Memory`; nothing has then changed."""
+        Faults: those of a datagram, `WrongScene`, `NotPiece`, `Memory`; nothing has then
+        changed."""
         return _GATHERED[self._number("gather", datagram, len(datagram))]
 
     def join(self, boot: int) -> int:
-        """Begins again in the snapshot that was gathered, as `rewind` does. Faults: `NotWhole`, then as `rewind`; what was
-        gathered is then kept."""
+        """Begins again in the snapshot that was gathered, as `rewind` does. Faults: `NotWhole`,
+        then as `rewind`; what was gathered is then kept."""
         return self._number("join", fits(boot, 32))
 
     def forget(self) -> None:

@@ -18,14 +18,16 @@ class Aim(NamedTuple):
 
 
 class Meeting(NamedTuple):
-    """What a ray would hit: where it enters, at n / m of the way along its direction, and the sensors that this concerns."""
+    """What a ray would hit: where it enters, at n / m of the way along its direction, and the
+    sensors that this concerns."""
 
     entry: Tuple[int, int]
     sensors: List[int]
 
 
 class Change(NamedTuple):
-    """An event that was sent: what a node's field became, at which input, at which time in microseconds."""
+    """An event that was sent: what a node's field became, at which input, at which time in
+    microseconds."""
 
     input: int
     time: int
@@ -78,8 +80,9 @@ def _change(line: str) -> Change:
 
 
 class Held:
-    """What a handle holds. It is closed by `close`, at the end of a `with`, or when it is no longer used; each call after that
-    raises Fault `Closed`. It is not for two threads at once: ctypes lets other threads run during a call."""
+    """What a handle holds. It is closed by `close`, at the end of a `with`, or when it is no longer
+    used; each call after that raises Fault `Closed`. It is not for two threads at once: ctypes lets
+    other threads run during a call."""
 
     _KIND = ""
 
@@ -125,8 +128,8 @@ class Held:
 
 
 class Readable(Held):
-    """What is read of a world, of a World and of a Viewer alike. Where memory was refused at an input all of it raises Fault
-    `Spoiled`, but what a scene says by itself."""
+    """What is read of a world, of a World and of a Viewer alike. Where memory was refused at an
+    input all of it raises Fault `Spoiled`, but what a scene says by itself."""
 
     def _bytes(self) -> bytes:
         """The bytes that were made last."""
@@ -159,7 +162,8 @@ class Readable(Held):
         return Meeting((met.n, met.m), self._numbers()) if met.m else None
 
     def trace(self, first: int = 0) -> str:
-        """The lines of the trace that are of inputs from a number on; from 0 on it is the whole trace."""
+        """The lines of the trace that are of inputs from a number on; from 0 on it is the whole
+        trace."""
         return self._text("make_trace", fits(first, 32))
 
     def changes(self, first: int = 0) -> List[Change]:
@@ -191,7 +195,8 @@ class Readable(Held):
         return self._text("make_type", fits(node, 32))
 
     def label(self, node: int) -> str:
-        """The name of a node that no other node has: its DEF name, where it is alone, or else `N` and its number."""
+        """The name of a node that no other node has: its DEF name, where it is alone, or else `N`
+        and its number."""
         return self._text("make_label", fits(node, 32))
 
     def field_count(self, node: int) -> int:
@@ -214,7 +219,7 @@ class Readable(Held):
         return self._text("make_value", fits(node, 32), fits(field, 16))
 
     def numbers(self, node: int, field: int) -> List[int]:
-        """The numbers of that value: truths as 1 and 0, integers, millionths and microseconds as they are, vectors and colors
-        part by part, nodes as their numbers; a text has none."""
+        """The numbers of that value: truths as 1 and 0, integers, millionths and microseconds as
+        they are, vectors and colors part by part, nodes as their numbers; a text has none."""
         self._call("list_value", fits(node, 32), fits(field, 16))
         return self._numbers()

@@ -22,7 +22,8 @@ class Saved(NamedTuple):
 
 
 class World(Readable):
-    """The world of a scene's text in the Classic encoding, before any input. Refused text raises Refusal."""
+    """The world of a scene's text in the Classic encoding, before any input. Refused text raises
+    Refusal."""
 
     _KIND = "world"
 
@@ -31,7 +32,8 @@ class World(Readable):
         self._open(text.encode() if isinstance(text, str) else bytes(text))
 
     def clock(self, number: int, time: int) -> Work:
-        """Applies a clock: number 1 to 2^20, time 1 to 10^18 microseconds, above that of the last input."""
+        """Applies a clock: number 1 to 2^20, time 1 to 10^18 microseconds, above that of the last
+        input."""
         work = RawWork()
         self._call("clock", fits(number, 32), signed(time), work)
         return Work(work.sends, work.deliveries, work.settles)
@@ -48,8 +50,8 @@ class World(Readable):
         return self._bytes()
 
     def load(self, boot: int, snapshot: bytes) -> Saved:
-        """Puts the world of a snapshot in place of what there was, a spoiled one too: a snapshot of this scene, of a boot below
-        `boot`."""
+        """Puts the world of a snapshot in place of what there was, a spoiled one too: a snapshot of
+        this scene, of a boot below `boot`."""
         saved = RawSaved()
         self._call("load", fits(boot, 32), snapshot, len(snapshot), saved)
         return Saved(saved.boot, saved.applied)

@@ -20,8 +20,8 @@ impl fmt::Display for Refusal {
 
 impl Error for Refusal {}
 
-/// Why a call is refused. Nothing has then changed, but that after `Memory` at an input, or while a snapshot
-/// is loaded, the world is spoiled: only a snapshot brings one back.
+/// Why a call is refused. Nothing has then changed, but that after `Memory` at an input, or while a
+/// snapshot is loaded, the world is spoiled: only a snapshot brings one back.
 #[derive(Clone, Copy, Debug, PartialEq, Eq)]
 pub enum Fault {
     /// Memory was refused.

@@ -42,8 +42,8 @@ fn reply_of(raw: &RawReply) -> Reply {
     }
 }
 
-/// The host of a scene: it numbers what happens, and hands it out. Of the scene it keeps the mark of its text alone, and
-/// does not look at it.
+/// The host of a scene: it numbers what happens, and hands it out. Of the scene it keeps the mark
+/// of its text alone, and does not look at it.
 pub struct Host {
     handle: RawHost,
     // Nothing is proved of threads, so a host stays on its own.
@@ -59,15 +59,16 @@ impl Host {
             },
             stays: PhantomData,
         };
-        // SAFETY: the handle is null, and the bytes are lent for the call. So it is in each call below, where the handle
-        // is as the last call left it.
+        // SAFETY: the handle is null, and the bytes are lent for the call. So it is in each call
+        // below, where the handle is as the last call left it.
         let status =
             unsafe { raw::x3d_host_open(&mut host.handle, text.as_ptr(), text.len(), viewers) };
         Fault::told(status)?;
         Ok(host)
     }
 
-    /// Numbers a clock at a time of 1 to 10^18 microseconds, above that of the last input, and gives its number.
+    /// Numbers a clock at a time of 1 to 10^18 microseconds, above that of the last input, and
+    /// gives its number.
     pub fn clock(&mut self, time: i64) -> Result<u32, Fault> {
         let mut number = 0;
         Fault::told(unsafe { raw::x3d_host_clock(&mut self.handle, time, &mut number) })?;
@@ -96,7 +97,8 @@ impl Host {
         })
     }
 
-    /// What belongs to a reply: the inputs that were asked for, or the floor where they are below it.
+    /// What belongs to a reply: the inputs that were asked for, or the floor where they are below
+    /// it.
     pub fn packets(&mut self, reply: Reply) -> Vec<Packet> {
         match reply {
             Reply::Asked { first, count } => {
@@ -111,7 +113,8 @@ impl Host {
         }
     }
 
-    /// The datagram that tells a viewer how many of its offers are numbered, if there is such a viewer.
+    /// The datagram that tells a viewer how many of its offers are numbered, if there is such a
+    /// viewer.
     pub fn ack(&mut self, who: u8) -> Option<Packet> {
         packet(|out, room, wanted| unsafe {
             raw::x3d_host_ack(&mut self.handle, who, out, room, wanted)

@@ -1,4 +1,5 @@
-//! A shared X3D world inside another program: safe Rust over the library `x3d`, whose calls `include/x3d.h` declares.
+//! A shared X3D world inside another program: safe Rust over the library `x3d`, whose calls
+//! `include/x3d.h` declares.
 //!
 //! ```
 //! use x3d::{Aim, World};
@@ -7,7 +8,9 @@
 //! let mut world = World::open(scene)?;
 //! world.point(1, 1, 0, true, &Aim::new([0, 0, 10_000_000], [0, 0, -1_000_000]))?;
 //! for change in &world.changes(1)? {
-//!     println!("{}.{} is {}", world.label(change.node)?, world.field_name(change.node, change.field)?, change.value);
+//!     let node = world.label(change.node)?;
+//!     let field = world.field_name(change.node, change.field)?;
+//!     println!("{node}.{field} is {}", change.value);
 //! }
 //! # Ok::<(), Box<dyn std::error::Error>>(())
 //! ```

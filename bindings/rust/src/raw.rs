@@ -1,5 +1,5 @@
-//! The calls as C sees them. scripts/header compares include/x3d.h with the library, and `scripts/bindings` this file with
-//! the header.
+//! The calls as C sees them. scripts/header compares include/x3d.h with the library, and
+//! `scripts/bindings` this file with the header.
 
 use std::ffi::c_void;
 
@@ -65,13 +65,27 @@ pub struct RawTaken {
     pub count: u32,
 }
 
-#[rustfmt::skip]
 unsafe extern "C" {
-    pub fn x3d_world_open(world: *mut RawWorld, text: *const u8, length: usize, refusal: *mut u8, room: usize, wanted: *mut usize) -> u8;
+    pub fn x3d_world_open(
+        world: *mut RawWorld,
+        text: *const u8,
+        length: usize,
+        refusal: *mut u8,
+        room: usize,
+        wanted: *mut usize,
+    ) -> u8;
     pub fn x3d_world_close(world: *mut RawWorld);
     pub fn x3d_world_applied(world: *mut RawWorld, count: *mut u32) -> u8;
     pub fn x3d_world_clock(world: *mut RawWorld, number: u32, time: i64, work: *mut RawWork) -> u8;
-    pub fn x3d_world_point(world: *mut RawWorld, number: u32, time: i64, viewer: u8, down: bool, aim: *const RawAim, work: *mut RawWork) -> u8;
+    pub fn x3d_world_point(
+        world: *mut RawWorld,
+        number: u32,
+        time: i64,
+        viewer: u8,
+        down: bool,
+        aim: *const RawAim,
+        work: *mut RawWork,
+    ) -> u8;
     pub fn x3d_world_meet(world: *mut RawWorld, aim: *const RawAim, met: *mut RawMet) -> u8;
     pub fn x3d_world_make_trace(world: *mut RawWorld, first: u32) -> u8;
     pub fn x3d_world_make_changes(world: *mut RawWorld, first: u32) -> u8;
@@ -81,41 +95,133 @@ unsafe extern "C" {
     pub fn x3d_world_make_field_name(world: *mut RawWorld, node: u32, field: u16) -> u8;
     pub fn x3d_world_make_value(world: *mut RawWorld, node: u32, field: u16) -> u8;
     pub fn x3d_world_make_snapshot(world: *mut RawWorld, boot: u32) -> u8;
-    pub fn x3d_world_copy_text(world: *mut RawWorld, out: *mut u8, room: usize, wanted: *mut usize) -> u8;
+    pub fn x3d_world_copy_text(
+        world: *mut RawWorld,
+        out: *mut u8,
+        room: usize,
+        wanted: *mut usize,
+    ) -> u8;
     pub fn x3d_world_node_count(world: *mut RawWorld, count: *mut usize) -> u8;
     pub fn x3d_world_field_count(world: *mut RawWorld, node: u32, count: *mut u32) -> u8;
     pub fn x3d_world_list_roots(world: *mut RawWorld) -> u8;
     pub fn x3d_world_list_children(world: *mut RawWorld, node: u32) -> u8;
     pub fn x3d_world_list_value(world: *mut RawWorld, node: u32, field: u16) -> u8;
-    pub fn x3d_world_copy_numbers(world: *mut RawWorld, out: *mut i64, room: usize, wanted: *mut usize) -> u8;
-    pub fn x3d_world_load(world: *mut RawWorld, boot: u32, bytes: *const u8, length: usize, saved: *mut RawSaved) -> u8;
+    pub fn x3d_world_copy_numbers(
+        world: *mut RawWorld,
+        out: *mut i64,
+        room: usize,
+        wanted: *mut usize,
+    ) -> u8;
+    pub fn x3d_world_load(
+        world: *mut RawWorld,
+        boot: u32,
+        bytes: *const u8,
+        length: usize,
+        saved: *mut RawSaved,
+    ) -> u8;
     pub fn x3d_world_script_count(world: *mut RawWorld, count: *mut usize) -> u8;
     pub fn x3d_world_replace_script(world: *mut RawWorld, k: usize, kind: u8) -> u8;
     pub fn x3d_host_open(host: *mut RawHost, text: *const u8, length: usize, viewers: u8) -> u8;
     pub fn x3d_host_close(host: *mut RawHost);
     pub fn x3d_host_clock(host: *mut RawHost, time: i64, number: *mut u32) -> u8;
-    pub fn x3d_host_take(host: *mut RawHost, bytes: *const u8, length: usize, reply: *mut RawReply) -> u8;
-    pub fn x3d_host_packet(host: *mut RawHost, number: u32, out: *mut u8, room: usize, wanted: *mut usize) -> u8;
-    pub fn x3d_host_ack(host: *mut RawHost, who: u8, out: *mut u8, room: usize, wanted: *mut usize) -> u8;
+    pub fn x3d_host_take(
+        host: *mut RawHost,
+        bytes: *const u8,
+        length: usize,
+        reply: *mut RawReply,
+    ) -> u8;
+    pub fn x3d_host_packet(
+        host: *mut RawHost,
+        number: u32,
+        out: *mut u8,
+        room: usize,
+        wanted: *mut usize,
+    ) -> u8;
+    pub fn x3d_host_ack(
+        host: *mut RawHost,
+        who: u8,
+        out: *mut u8,
+        room: usize,
+        wanted: *mut usize,
+    ) -> u8;
     pub fn x3d_host_floor(host: *mut RawHost, number: *mut u32) -> u8;
-    pub fn x3d_host_floor_packet(host: *mut RawHost, out: *mut u8, room: usize, wanted: *mut usize) -> u8;
+    pub fn x3d_host_floor_packet(
+        host: *mut RawHost,
+        out: *mut u8,
+        room: usize,
+        wanted: *mut usize,
+    ) -> u8;
     pub fn x3d_host_drop_below(host: *mut RawHost, number: u32) -> u8;
     pub fn x3d_host_count(host: *mut RawHost, count: *mut u32) -> u8;
     pub fn x3d_host_viewers(host: *mut RawHost, count: *mut u32) -> u8;
-    pub fn x3d_viewer_open(viewer: *mut RawViewer, text: *const u8, length: usize, who: u8, boot: u32, refusal: *mut u8, room: usize, wanted: *mut usize) -> u8;
+    pub fn x3d_viewer_open(
+        viewer: *mut RawViewer,
+        text: *const u8,
+        length: usize,
+        who: u8,
+        boot: u32,
+        refusal: *mut u8,
+        room: usize,
+        wanted: *mut usize,
+    ) -> u8;
     pub fn x3d_viewer_close(viewer: *mut RawViewer);
     pub fn x3d_viewer_applied(viewer: *mut RawViewer, count: *mut u32) -> u8;
     pub fn x3d_viewer_boot(viewer: *mut RawViewer, boot: *mut u32) -> u8;
     pub fn x3d_viewer_waiting(viewer: *mut RawViewer, count: *mut u32) -> u8;
-    pub fn x3d_viewer_take(viewer: *mut RawViewer, bytes: *const u8, length: usize, taken: *mut RawTaken) -> u8;
-    pub fn x3d_viewer_offer(viewer: *mut RawViewer, down: bool, aim: *const RawAim, number: *mut u32) -> u8;
-    pub fn x3d_viewer_resend(viewer: *mut RawViewer, place: u32, out: *mut u8, room: usize, wanted: *mut usize) -> u8;
-    pub fn x3d_viewer_ask(viewer: *mut RawViewer, out: *mut u8, room: usize, wanted: *mut usize) -> u8;
+    pub fn x3d_viewer_take(
+        viewer: *mut RawViewer,
+        bytes: *const u8,
+        length: usize,
+        taken: *mut RawTaken,
+    ) -> u8;
+    pub fn x3d_viewer_offer(
+        viewer: *mut RawViewer,
+        down: bool,
+        aim: *const RawAim,
+        number: *mut u32,
+    ) -> u8;
+    pub fn x3d_viewer_resend(
+        viewer: *mut RawViewer,
+        place: u32,
+        out: *mut u8,
+        room: usize,
+        wanted: *mut usize,
+    ) -> u8;
+    pub fn x3d_viewer_ask(
+        viewer: *mut RawViewer,
+        out: *mut u8,
+        room: usize,
+        wanted: *mut usize,
+    ) -> u8;
     pub fn x3d_viewer_make_snapshot(viewer: *mut RawViewer) -> u8;
-    pub fn x3d_viewer_rewind(viewer: *mut RawViewer, boot: u32, bytes: *const u8, length: usize, applied: *mut u32) -> u8;
-    pub fn x3d_viewer_piece_count(viewer: *mut RawViewer, bytes: *const u8, length: usize, count: *mut u32) -> u8;
-    pub fn x3d_viewer_piece(viewer: *mut RawViewer, bytes: *const u8, length: usize, index: u32, out: *mut u8, room: usize, wanted: *mut usize) -> u8;
-    pub fn x3d_viewer_gather(viewer: *mut RawViewer, bytes: *const u8, length: usize, gathered: *mut u32) -> u8;
+    pub fn x3d_viewer_rewind(
+        viewer: *mut RawViewer,
+        boot: u32,
+        bytes: *const u8,
+        length: usize,
+        applied: *mut u32,
+    ) -> u8;
+    pub fn x3d_viewer_piece_count(
+        viewer: *mut RawViewer,
+        bytes: *const u8,
+        length: usize,
+        count: *mut u32,
+    ) -> u8;
+    pub fn x3d_viewer_piece(
+        viewer: *mut RawViewer,
+        bytes: *const u8,
+        length: usize,
+        index: u32,
+        out: *mut u8,
+        room: usize,
+        wanted: *mut usize,
+    ) -> u8;
+    pub fn x3d_viewer_gather(
+        viewer: *mut RawViewer,
+        bytes: *const u8,
+        length: usize,
+        gathered: *mut u32,
+    ) -> u8;
     pub fn x3d_viewer_join(viewer: *mut RawViewer, boot: u32, applied: *mut u32) -> u8;
     pub fn x3d_viewer_forget(viewer: *mut RawViewer) -> u8;
     pub fn x3d_viewer_make_trace(viewer: *mut RawViewer, first: u32) -> u8;
@@ -125,12 +231,22 @@ unsafe extern "C" {
     pub fn x3d_viewer_make_label(viewer: *mut RawViewer, node: u32) -> u8;
     pub fn x3d_viewer_make_field_name(viewer: *mut RawViewer, node: u32, field: u16) -> u8;
     pub fn x3d_viewer_make_value(viewer: *mut RawViewer, node: u32, field: u16) -> u8;
-    pub fn x3d_viewer_copy_text(viewer: *mut RawViewer, out: *mut u8, room: usize, wanted: *mut usize) -> u8;
+    pub fn x3d_viewer_copy_text(
+        viewer: *mut RawViewer,
+        out: *mut u8,
+        room: usize,
+        wanted: *mut usize,
+    ) -> u8;
     pub fn x3d_viewer_node_count(viewer: *mut RawViewer, count: *mut usize) -> u8;
     pub fn x3d_viewer_field_count(viewer: *mut RawViewer, node: u32, count: *mut u32) -> u8;
     pub fn x3d_viewer_list_roots(viewer: *mut RawViewer) -> u8;
     pub fn x3d_viewer_list_children(viewer: *mut RawViewer, node: u32) -> u8;
     pub fn x3d_viewer_list_value(viewer: *mut RawViewer, node: u32, field: u16) -> u8;
-    pub fn x3d_viewer_copy_numbers(viewer: *mut RawViewer, out: *mut i64, room: usize, wanted: *mut usize) -> u8;
+    pub fn x3d_viewer_copy_numbers(
+        viewer: *mut RawViewer,
+        out: *mut i64,
+        room: usize,
+        wanted: *mut usize,
+    ) -> u8;
     pub fn x3d_viewer_meet(viewer: *mut RawViewer, aim: *const RawAim, met: *mut RawMet) -> u8;
 }

@@ -42,7 +42,24 @@ pub struct Meeting {
 
 /// The methods that read, by the calls of one of the two.
 macro_rules! readable {
-    ($object:ty, $copy_numbers:ident, $copy_text:ident, $field_count:ident, $list_children:ident, $list_roots:ident, $list_value:ident, $make_changes:ident, $make_field_name:ident, $make_label:ident, $make_scene:ident, $make_trace:ident, $make_type:ident, $make_value:ident, $meet:ident, $node_count:ident) => {
+    (
+        $object:ty,
+        $copy_numbers:ident,
+        $copy_text:ident,
+        $field_count:ident,
+        $list_children:ident,
+        $list_roots:ident,
+        $list_value:ident,
+        $make_changes:ident,
+        $make_field_name:ident,
+        $make_label:ident,
+        $make_scene:ident,
+        $make_trace:ident,
+        $make_type:ident,
+        $make_value:ident,
+        $meet:ident,
+        $node_count:ident
+    ) => {
         impl $object {
             /// What a ray would hit; the world stays as it is.
             pub fn meet(&mut self, aim: &Aim) -> Result<Option<Meeting>, Fault> {
@@ -55,7 +72,8 @@ macro_rules! readable {
                 }))
             }
 
-            /// The lines of the trace that are of inputs from a number on; from 0 on it is the whole trace.
+            /// The lines of the trace that are of inputs from a number on; from 0 on it is the
+            /// whole trace.
             pub fn trace(&mut self, first: u32) -> Result<String, Fault> {
                 Fault::told(unsafe { raw::$make_trace(&mut self.handle, first) })?;
                 Ok(self.string())
@@ -106,7 +124,8 @@ macro_rules! readable {
                 Ok(self.string())
             }
 
-            /// How many fields a node has, which are numbered from 0; 0 where there is no such node.
+            /// How many fields a node has, which are numbered from 0; 0 where there is no such
+            /// node.
             pub fn field_count(&mut self, node: u32) -> u32 {
                 let mut count = 0;
                 unsafe { raw::$field_count(&mut self.handle, node, &mut count) };
@@ -136,8 +155,9 @@ macro_rules! readable {
                 Ok(self.string())
             }
 
-            /// The numbers of that value: truths as 1 and 0, integers, millionths and microseconds as they are, vectors and colors
-            /// part by part, nodes as their numbers; a text has none.
+            /// The numbers of that value: truths as 1 and 0, integers, millionths and microseconds
+            /// as they are, vectors and colors part by part, nodes as their numbers; a text has
+            /// none.
             pub fn numbers(&mut self, node: u32, field: u16) -> Result<Vec<i64>, Fault> {
                 Fault::told(unsafe { raw::$list_value(&mut self.handle, node, field) })?;
                 Ok(self.listed())

@@ -38,8 +38,9 @@ pub enum Gathered {
     Other,
 }
 
-/// A viewer of a scene: it holds the world, offers what it points at, and applies the host's inputs in turn. Methods that
-/// only read take `&mut self` too: each call takes the viewer out of its handle.
+/// A viewer of a scene: it holds the world, offers what it points at, and applies the host's inputs
+/// in turn. Methods that only read take `&mut self` too: each call takes the viewer out of its
+/// handle.
 pub struct Viewer {
     handle: RawViewer,
     // Nothing is proved of threads, so a viewer stays on its own.
@@ -47,8 +48,8 @@ pub struct Viewer {
 }
 
 impl Viewer {
-    /// The viewer of a scene's text (Classic encoding), as a boot, 1 to 2^32 - 1, of viewer `who`, 0 to 15. Where these
-    /// are out of range the refusal's line is empty.
+    /// The viewer of a scene's text (Classic encoding), as a boot, 1 to 2^32 - 1, of viewer `who`,
+    /// 0 to 15. Where these are out of range the refusal's line is empty.
     pub fn open(text: &[u8], who: u8, boot: u32) -> Result<Viewer, Refusal> {
         let mut viewer = Viewer {
             handle: RawViewer {
@@ -57,8 +58,8 @@ impl Viewer {
             stays: PhantomData,
         };
         let (mut line, mut wanted) = ([0; 64], 0);
-        // SAFETY: the handle is null, and the bytes are lent for the call. So it is in each call below, where the handle
-        // is as the last call left it.
+        // SAFETY: the handle is null, and the bytes are lent for the call. So it is in each call
+        // below, where the handle is as the last call left it.
         let status = unsafe {
             raw::x3d_viewer_open(
                 &mut viewer.handle,
@@ -123,7 +124,8 @@ impl Viewer {
         })
     }
 
-    /// Offers what is pointed at, with the button down or not, and gives the offer's number in this boot.
+    /// Offers what is pointed at, with the button down or not, and gives the offer's number in this
+    /// boot.
     pub fn offer(&mut self, down: bool, aim: &Aim) -> Result<u32, Fault> {
         let mut number = 0;
         let status =
@@ -160,8 +162,8 @@ impl Viewer {
         Ok(self.text())
     }
 
-    /// Begins again in the world of a snapshot, as another boot, above its own and the snapshot's, and gives how many inputs
-    /// that has had. No offer waits then.
+    /// Begins again in the world of a snapshot, as another boot, above its own and the snapshot's,
+    /// and gives how many inputs that has had. No offer waits then.
     pub fn rewind(&mut self, snapshot: &[u8], boot: u32) -> Result<u32, Fault> {
         let mut applied = 0;
         let status = unsafe {
@@ -177,8 +179,8 @@ impl Viewer {
         Ok(applied)
     }
 
-    /// The datagrams of a snapshot for another viewer of the scene: none where the bytes do not begin as one, or are more
-    /// than 2^26.
+    /// The datagrams of a snapshot for another viewer of the scene: none where the bytes do not
+    /// begin as one, or are more than 2^26.
     pub fn pieces(&mut self, snapshot: &[u8]) -> Vec<Packet> {
         let mut count = 0;
         unsafe {
@@ -226,7 +228,8 @@ impl Viewer {
         })
     }
 
-    /// Begins again in the snapshot that was gathered, as `rewind` does. What was gathered is kept where that is refused.
+    /// Begins again in the snapshot that was gathered, as `rewind` does. What was gathered is kept
+    /// where that is refused.
     pub fn join(&mut self, boot: u32) -> Result<u32, Fault> {
         let mut applied = 0;
         Fault::told(unsafe { raw::x3d_viewer_join(&mut self.handle, boot, &mut applied) })?;

@@ -37,7 +37,8 @@ pub enum Kind {
     Meter = 5,
 }
 
-/// The world of a scene. Methods that only read take `&mut self` too: each call takes the world out of its handle.
+/// The world of a scene. Methods that only read take `&mut self` too: each call takes the world out
+/// of its handle.
 pub struct World {
     handle: RawWorld,
     // Nothing is proved of threads, so a world stays on its own.
@@ -54,8 +55,8 @@ impl World {
             stays: PhantomData,
         };
         let (mut line, mut wanted) = ([0; 64], 0);
-        // SAFETY: the handle is null, and the bytes are lent for the call. So it is in each call below, where the handle
-        // is as the last call left it.
+        // SAFETY: the handle is null, and the bytes are lent for the call. So it is in each call
+        // below, where the handle is as the last call left it.
         let status = unsafe {
             raw::x3d_world_open(
                 &mut world.handle,
@@ -82,7 +83,8 @@ impl World {
         count
     }
 
-    /// Puts a new box of a kind in the place of the k-th script, which goes on in its state: the world stays as it is.
+    /// Puts a new box of a kind in the place of the k-th script, which goes on in its state: the
+    /// world stays as it is.
     pub fn replace_script(&mut self, k: usize, kind: Kind) -> Result<(), Fault> {
         Fault::told(unsafe { raw::x3d_world_replace_script(&mut self.handle, k, kind as u8) })
     }
@@ -132,8 +134,8 @@ impl World {
         Ok(self.text())
     }
 
-    /// Puts the world of a snapshot in place of what there was, a spoiled one too: a snapshot of this scene, of a boot
-    /// below `boot`.
+    /// Puts the world of a snapshot in place of what there was, a spoiled one too: a snapshot of
+    /// this scene, of a boot below `boot`.
     pub fn load(&mut self, boot: u32, bytes: &[u8]) -> Result<Saved, Fault> {
         let mut saved = RawSaved::default();
         let status = unsafe {

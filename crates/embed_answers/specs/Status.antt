@@ -77,7 +77,8 @@ IsCopied all old status wanted new =
 
 -- ---- calls
 
--- what a handle has is called, and the handle has what the call leaves; without it nothing is called
+-- what a handle has is called, and the handle has what the call leaves; without it nothing is
+-- called
 abbrev pub Calls : {H A : Type 0} → (H → A → H → Type 0) → (A → ℕ) → Option H → ℕ → Option H
     → Type 0
 Calls {H} {A} does status_of None status after = (status ≡ closed) × (after ≡ None)
@@ -114,7 +115,8 @@ abbrev pub IsHandedOut : (none : ℕ) → Option (List ℕ) → (old : List ℕ)
     → (wanted_old wanted : ℕ) → (new : List ℕ) → Type 0
 IsHandedOut none None old status wanted_old wanted new =
     (status ≡ none) × (wanted ≡ wanted_old) × (new ≡ old)
-IsHandedOut none (Some bytes) old status wanted_old wanted new = IsCopied bytes old status wanted new
+IsHandedOut none (Some bytes) old status wanted_old wanted new =
+    IsCopied bytes old status wanted new
 
 -- a datagram of what a handle has is copied
 abbrev pub HandsOut : {H : Type 0} → (none : ℕ) → (H → Option (List ℕ)) → Option H → ℕ

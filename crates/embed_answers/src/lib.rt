@@ -1,5 +1,5 @@
-//! What C sees of answers: `status` and `node_status` have their numbers, `tell` what else is told, and
-//! `room` what is copied out.
+//! What C sees of answers: `status` and `node_status` have their numbers, `tell` what else is told,
+//! and `room` what is copied out.
 #![tactic(auto)]
 
 mod node_status;

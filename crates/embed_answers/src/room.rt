@@ -30,8 +30,8 @@ pub fn copy_numbers(out: &mut [i64], numbers: &[i64], wanted: &mut usize) -> u8
     DONE
 }
 
-/// Copies a datagram, where there is one and `out` has room for it, and tells how many bytes it has;
-/// `none` is answered where there is none.
+/// Copies a datagram, where there is one and `out` has room for it, and tells how many bytes it
+/// has; `none` is answered where there is none.
 pub fn hand_out(packet: Option<Packet>, none: u8, out: &mut [u8], wanted: &mut usize) -> u8
     ensures { IsHandedOut none (option_map (λ p. p.items) packet) out.old result wanted.old
         wanted.new out.new }

@@ -16,8 +16,8 @@ use share_law::{
 use snapshot_core::SnapFault;
 
 /// What a host made of a datagram: `count` inputs from `number` on were asked for (kind 0), the
-/// offer is input `number` (1), a repeat (2), ahead (3), of an old boot (4), below the floor `number`
-/// (5), or there is nothing to do (6).
+/// offer is input `number` (1), a repeat (2), ahead (3), of an old boot (4), below the floor
+/// `number` (5), or there is nothing to do (6).
 #[derive(Clone, Copy)]
 #[repr(C)]
 pub struct ReplyAs {
@@ -26,8 +26,8 @@ pub struct ReplyAs {
     pub count: u32,
 }
 
-/// What a viewer made of a datagram: an old input (kind 0), one beyond (1), kept (2), `count` inputs
-/// applied (3), noted (4), behind (5).
+/// What a viewer made of a datagram: an old input (kind 0), one beyond (1), kept (2), `count`
+/// inputs applied (3), noted (4), behind (5).
 #[derive(Clone, Copy)]
 #[repr(C)]
 pub struct TakenAs {

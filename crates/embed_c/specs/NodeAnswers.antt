@@ -16,8 +16,8 @@ use Rattle.embed_c.specs.declared.lists.Met.{Met}
 
 -- ---- opening
 
--- the handle has this host, or none where memory was refused; a host that there can't be isn't asked
--- for
+-- the handle has this host, or none where memory was refused; a host that there can't be isn't
+-- asked for
 abbrev pub HostOpens : Option EmbeddedHost → Option EmbeddedHost → ℕ → Option EmbeddedHost → Type 0
 HostOpens None before status after = (status ≡ out_of_range) × (after ≡ before)
 HostOpens (Some h) before status after =

@@ -28,7 +28,8 @@ pub extern "C" fn x3d_viewer_make_snapshot(alloc: Global, handle: &mut ViewerHan
     status_of_save(answer)
 }
 
-/// Begins again in the world of a snapshot, as another boot, and tells how many inputs that has had.
+/// Begins again in the world of a snapshot, as another boot, and tells how many inputs that has
+/// had.
 #[unsafe(no_mangle)]
 pub extern "C" fn x3d_viewer_rewind(
     alloc: Global,

@@ -1,4 +1,5 @@
-//! Handles for C: each is a struct of one pointer, to a world, a host or a viewer on the heap, or null.
+//! Handles for C: each is a struct of one pointer, to a world, a host or a viewer on the heap, or
+//! null.
 #![tactic(auto)]
 
 pub mod host_handle;

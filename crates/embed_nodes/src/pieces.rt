@@ -20,8 +20,8 @@ impl EmbeddedViewer {
         }
     }
 
-    /// The datagram of the piece of this number, from 0, of a snapshot's bytes, for other viewers of
-    /// the scene, if there is such a piece: `piece_packet` of share_core.
+    /// The datagram of the piece of this number, from 0, of a snapshot's bytes, for other viewers
+    /// of the scene, if there is such a piece: `piece_packet` of share_core.
     pub fn piece(&self, bytes: &[u8], index: u32) -> Option<Packet>
         ensures { option_map (λ p. p.items) result ≡ spec.piece_bytes self.now bytes.now index }
     {

@@ -1,7 +1,7 @@
 //! A world for a program that embeds it: `world` is a stage with scripts of the stock, and what was
 //! read of it last. It is made by `opening` a scene's text, moves on by an `input`, gets `scripts`
-//! in the place of others, is kept in `shots`, and read as `texts` and as `lists` of numbers; `fault`
-//! is why it could not be read.
+//! in the place of others, is kept in `shots`, and read as `texts` and as `lists` of numbers;
+//! `fault` is why it could not be read.
 #![tactic(auto)]
 
 mod fault;
