@@ -2,7 +2,7 @@
 SHELL := bash
 .SHELLFLAGS := -eu -o pipefail -c
 .PHONY: run try quick picture room test-room room-library share soak fuzz test cases prefixes refusals check definitions calls \
-        bench format install library bindings fuzz-library
+        bench growth format install library bindings fuzz-library
 
 JOB ?= examples/two-clocks.job
 ROOM ?= examples/rooms/door.job
@@ -142,7 +142,12 @@ install: library
 	@install -D out/libx3d.so $(DESTDIR)$(PREFIX)/lib/libx3d.so
 	@install -D -m 644 out/x3d.pc $(DESTDIR)$(PREFIX)/lib/pkgconfig/x3d.pc
 
-# Measures the proved program beside plain C kernels of the same work; wants a C compiler.
+# Measures the proved program beside C kernels of the same work; wants a C compiler.
 bench:
 	@cd crates/x3d_share && rt run -- --version > /dev/null
 	@bench/run
+
+# Whether its time grows with the input: doubles each job three times, and fails where time grows by more than 2.6 times.
+growth:
+	@cd crates/x3d_share && rt run -- --version > /dev/null
+	@bench/run --growth
