@@ -1,0 +1,81 @@
+//! A text whose words are resolved.
+
+use classic_tree::{Declaration, NodeText, ProtoText, RawValue, RouteText};
+use proto_flat::ExpandFault;
+use x3d_lists::{Items, Text};
+use x3d_values::NodeType;
+
+/// What the word before braces means.
+#[derive(Clone, Copy)]
+pub enum Word {
+    Unknown,
+    /// The braces of a node of that type.
+    Node(NodeType),
+    /// Those of an instance of the prototype of that number.
+    Instance(usize),
+}
+
+/// What a field is given; `N` is a node in it.
+#[derive(Drop)]
+pub enum GivenTree<'a, N> {
+    Nothing,
+    Is(&'a Text),
+    /// A value without nodes.
+    Plain(&'a RawValue<NodeText>),
+    One(N),
+    /// How many nodes the text has there, and those up to the first with a wrong declaration.
+    Many(usize, Items<N>),
+    /// A value that goes nowhere, and the first wrong declaration in it.
+    LeftOut(Option<ExpandFault>),
+}
+
+/// A node where it stands.
+#[cycle(resolved)]
+#[derive(Drop)]
+pub enum NodeTree<'a> {
+    Use(u32, &'a Text),
+    /// The line, the name given by DEF, what the word before the braces means, and what stands
+    /// between them, up to the first wrong declaration.
+    Full(u32, &'a Option<Text>, Word, Items<ItemTree<'a>>),
+}
+
+/// What stands between braces. A PROTO is left out, unless it is wrong.
+#[cycle(resolved)]
+#[derive(Drop)]
+pub enum ItemTree<'a> {
+    Field(u32, &'a Text, GivenTree<'a, NodeTree<'a>>),
+    Declaration(&'a Declaration<NodeText>, GivenTree<'a, NodeTree<'a>>),
+    Route(&'a RouteText),
+    Wrong(ExpandFault),
+}
+
+/// A statement of a text or of a body. A PROTO is left out, unless it is wrong.
+#[derive(Drop)]
+pub enum BodyTree<'a> {
+    Node(NodeTree<'a>),
+    Route(&'a RouteText),
+    Wrong(ExpandFault),
+}
+
+/// A default value that some IS takes.
+#[derive(Drop)]
+pub struct DefaultTree<'a> {
+    pub declaration: &'a Declaration<NodeText>,
+    pub value: GivenTree<'a, NodeTree<'a>>,
+}
+
+/// A prototype. Words in it mean prototypes before it.
+#[derive(Drop)]
+pub struct ProtoTree<'a> {
+    pub text: &'a ProtoText,
+    pub defaults: Items<DefaultTree<'a>>,
+    pub body: Items<BodyTree<'a>>,
+}
+
+/// A whole text: its prototypes in the order of their closing braces, and its statements up to the
+/// first wrong declaration.
+#[derive(Drop)]
+pub struct TextTree<'a> {
+    pub protos: Items<ProtoTree<'a>>,
+    pub statements: Items<BodyTree<'a>>,
+}
