@@ -1,6 +1,7 @@
 //! The work of a host.
 
 ghost use Rattle.std.specs.Prelude.{◌≡◌, ◌≤◌, IfOk, IfErr, OnOk};
+ghost use Rattle.x3d_values.specs.Ranges.{max_viewers};
 ghost use Rattle.share_commands.specs.Hosting.{times, share_fault, failures_after};
 ghost use Rattle.share_commands.specs.Hosting.{join_fault, series_fault};
 ghost use Rattle.share_commands.specs.Hosting.{IsHosted, IsHostedInPart};
@@ -54,8 +55,8 @@ pub(crate) fn series_fault(fault: SeriesFault) -> ShareFault
 }
 
 /// Turns of the host of a job's scene, so many at most, for viewers that are numbered from 0: 1 to
-/// 16 of them. Each numbers the next of the job's clocks. The plan says what it keeps of its inputs,
-/// and when it is done. `count` is then how many inputs are numbered.
+/// `MAX_VIEWERS` of them. Each numbers the next of the job's clocks. The plan says what it keeps of
+/// its inputs, and when it is done. `count` is then how many inputs are numbered.
 ///
 /// `TurnsUsedUp` where it isn't done after so many turns, `Port` where a send or a receive failed,
 /// `Memory` where memory was refused.
@@ -69,7 +70,7 @@ pub fn host_job<P: Port>(
     count: &mut u32,
 ) -> Result<(), ShareFault>
     requires some { 1 ≤ viewers }
-    requires most { viewers ≤ 16 }
+    requires most { viewers ≤ max_viewers }
     ensures done { OnOk result (IsHosted job.now viewers plan.now turns (P.told port.old)
         (P.told port.new) count.new) }
     ensures ended { IfErr result (IsHostedInPart job.now viewers plan.now turns (P.told port.old)

@@ -1,6 +1,7 @@
 //! The work of a host and its viewers, each at a port of its own.
 
 ghost use Rattle.std.specs.Prelude.{◌≡◌, ◌≤◌, ◌⊎◌, IfOk, IfErr, Err, length};
+ghost use Rattle.x3d_values.specs.Ranges.{max_viewers};
 ghost use Rattle.share_commands.specs.Jobs.{staffed};
 ghost use Rattle.share_commands.specs.Joining.{IsAgreed, IsAgreedInPart, IsJoint, IsStaged};
 ghost use Rattle.share_rehearsal.specs.Calls.{viewers_from};
@@ -84,7 +85,7 @@ fn staged_job(
 /// The same with a viewer for each stage.
 fn with_viewers(alloc: Global, job: StagedJob) -> Result<JointJob, AllocError>
     requires fresh { AreFresh job.stages.items }
-    requires most { length job.stages.items ≤ 16 }
+    requires most { length job.stages.items ≤ max_viewers }
     ensures inputs { IfOk result (λ j. j.inputs ≡ job.inputs) }
     ensures mark { IfOk result (λ j. j.mark ≡ job.mark) }
     ensures viewers { IfOk result
@@ -103,8 +104,9 @@ fn with_viewers(alloc: Global, job: StagedJob) -> Result<JointJob, AllocError>
     })
 }
 
-/// The job of these bytes, with so many viewers of its scene, 1 to 16, in their first boots: first
-/// its lines, then its scene, then whether a command takes its steps, then its scripts.
+/// The job of these bytes, with so many viewers of its scene, 1 to `MAX_VIEWERS`, in their first
+/// boots: first its lines, then its scene, then whether a command takes its steps, then its
+/// scripts.
 pub fn joint_job(
     alloc: Global,
     bytes: &[u8],
@@ -112,7 +114,7 @@ pub fn joint_job(
     viewers: u8,
 ) -> Result<JointJob, JobFault>
     requires some { 1 ≤ viewers }
-    requires most { viewers ≤ 16 }
+    requires most { viewers ≤ max_viewers }
     ensures ok { IfOk result (λ j. IsJoint order.now viewers bytes.now
         (record { inputs = j.inputs; mark = j.mark; viewers = j.viewers.items })) }
     ensures count { IfOk result (λ j. length j.viewers.items ≡ viewers) }
@@ -123,7 +125,7 @@ pub fn joint_job(
 }
 
 fn count_of(viewers: &[Viewer<StockScript>]) -> u8
-    requires { length viewers.now ≤ 16 }
+    requires { length viewers.now ≤ max_viewers }
     ensures { result ≡ length viewers.now }
 {
     viewers.len() as u8
@@ -145,7 +147,7 @@ pub fn agree_job<P: Port>(
     ports: &mut [P],
 ) -> Result<Vec<u8>, ShareFault>
     requires some { 1 ≤ length job.old.viewers.items }
-    requires most { length job.old.viewers.items ≤ 16 }
+    requires most { length job.old.viewers.items ≤ max_viewers }
     requires ports { length ports.old ≡ length job.old.viewers.items }
     ensures done { IfOk result (λ text.
         IsAgreed (ways_of P.told P.failure_count)

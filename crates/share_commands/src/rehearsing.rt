@@ -1,6 +1,7 @@
 //! The work of a host and its viewers in memory.
 
 ghost use Rattle.std.specs.Prelude.{◌≡◌, ◌≤◌, ◌⊎◌, IfOk, IfErr, Err, length};
+ghost use Rattle.x3d_values.specs.Ranges.{max_viewers};
 ghost use Rattle.share_commands.specs.Rehearsing.{IsLogOf, IsRehearsedLog, IsScheduleLog};
 ghost use Rattle.share_commands.specs.Rehearsing.{schedule_scene};
 ghost use Rattle.share_commands.specs.Stages.{staged};
@@ -25,7 +26,7 @@ fn log_of(
 ) -> Result<Vec<u8>, AllocError>
     requires fresh { AreFresh stages.items }
     requires some { 1 ≤ length stages.items }
-    requires most { length stages.items ≤ 16 }
+    requires most { length stages.items ≤ max_viewers }
     ensures { IfOk result (λ text. IsLogOf mark stages.items steps.now text.items) }
 {
     let mut log = Vec::new(alloc);
@@ -42,7 +43,7 @@ fn log_of(
 /// The log of a schedule.
 fn schedule_log(alloc: Global, schedule: &Schedule, viewers: u8) -> Result<Vec<u8>, JobFault>
     requires some { 1 ≤ viewers }
-    requires most { viewers ≤ 16 }
+    requires most { viewers ≤ max_viewers }
     ensures done { IfOk result (λ text. IsScheduleLog viewers schedule.now text.items) }
     ensures refused { IfErr result
         (λ f. (f ≡ Memory) ⊎ (staged schedule.now.scene ≡ Err f)) }
@@ -52,14 +53,14 @@ fn schedule_log(alloc: Global, schedule: &Schedule, viewers: u8) -> Result<Vec<u
     Ok(log_of(alloc, stages, scene_mark(text), schedule.steps.as_slice())?)
 }
 
-/// A host and so many viewers of a schedule's scene, 1 to 16, in memory go through its steps: a
-/// line of each step's number and its answer, and then what each viewer is left with.
+/// A host and so many viewers of a schedule's scene, 1 to `MAX_VIEWERS`, in memory go through its
+/// steps: a line of each step's number and its answer, and then what each viewer is left with.
 ///
 /// First the schedule's lines are read, then its scene, then its scripts; what a host or a viewer
 /// refuses is logged.
 pub fn rehearse_job(alloc: Global, bytes: &[u8], viewers: u8) -> Result<Vec<u8>, JobFault>
     requires some { 1 ≤ viewers }
-    requires most { viewers ≤ 16 }
+    requires most { viewers ≤ max_viewers }
     ensures done { IfOk result (λ text. IsRehearsedLog viewers bytes.now text.items) }
     ensures refused { IfErr result
         (λ f. (f ≡ Memory) ⊎ (schedule_scene bytes.now ≡ Err f)) }

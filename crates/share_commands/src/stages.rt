@@ -45,7 +45,7 @@ pub(crate) fn with_others(
     Ok(stages)
 }
 
-/// So many stages of a text's scene, 1 to 16 of them, before any input.
+/// So many stages of a text's scene, one at least, before any input.
 pub(crate) fn stages_of(
     alloc: Global,
     text: &[u8],

@@ -1,6 +1,7 @@
 //! The work of a viewer.
 
-ghost use Rattle.std.specs.Prelude.{◌≡◌, ◌≤◌, ◌⊎◌, ◌++◌, IfOk, IfErr, OnOk, Err, None, Some};
+ghost use Rattle.std.specs.Prelude.{◌≡◌, ◌<◌, ◌≤◌, ◌⊎◌, ◌++◌, IfOk, IfErr, OnOk, Err, None, Some};
+ghost use Rattle.x3d_values.specs.Ranges.{max_viewers};
 ghost use Rattle.share_commands.specs.Viewing.{first_boot, pointed, points, viewer_of};
 ghost use Rattle.share_commands.specs.Hosting.{failures_after};
 ghost use Rattle.share_commands.specs.Jobs.{staffed};
@@ -50,7 +51,7 @@ fn viewer_of(
     who: u8,
     boot: u32,
 ) -> Result<Viewer<StockScript>, JobFault>
-    requires who { who ≤ 15 }
+    requires who { who < max_viewers }
     requires boot { 1 ≤ boot }
     ensures ok { IfOk result (λ v. v ≡ viewer_of job who boot) }
     ensures taken { OnOk result (scripts_refusal job.scene ≡ None) }
@@ -91,7 +92,7 @@ impl Seat {
 }
 
 fn seat_of(alloc: Global, job: SharedJob, who: u8, boot: u32) -> Result<Seat, JobFault>
-    requires who { who ≤ 15 }
+    requires who { who < max_viewers }
     requires boot { 1 ≤ boot }
     ensures viewer { IfOk result (λ s. s.viewer ≡ viewer_of job who boot) }
     ensures points { IfOk result (λ s. s.points.items ≡ points job.inputs) }
@@ -117,7 +118,7 @@ pub fn seated_job(
     who: u8,
     boot: u32,
 ) -> Result<Seat, JobFault>
-    requires who { who ≤ 15 }
+    requires who { who < max_viewers }
     requires boot { 1 ≤ boot }
     ensures ok { IfOk result
         (λ s. IsSeated order.now bytes.now who boot s.viewer s.points.items) }

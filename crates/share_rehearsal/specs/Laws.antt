@@ -23,8 +23,8 @@ use Rattle.share_rehearsal.specs.Calls.{Seen}
 use Rattle.share_rehearsal.specs.Log.{answer_text}
 use Rattle.share_rehearsal.specs.Rehearsed.{IsRehearsal, law_answer, shot_at}
 
--- of whatever a rehearsal of a scene leaves, whichever its steps, and of the list of all inputs that
--- its host numbered, of which it holds a part
+-- of whatever a rehearsal of a scene leaves, whichever its steps, and of the list of all inputs
+-- that its host numbered, of which it holds a part
 abbrev pub OfRehearsals : (SceneView → List Route → List Stamp → Seen → Type 0) → Type 0
 OfRehearsals Law =
     (mark : List ℕ) (scene : SceneView) (routes : List Route) (viewers : ℕ) (steps : List Step)

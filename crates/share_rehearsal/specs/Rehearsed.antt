@@ -80,8 +80,8 @@ pub record StandFor (mark : List ℕ) (scene : SceneView) (routes : List Route) 
 pub record IsRehearsal (mark : List ℕ) (scene : SceneView) (routes : List Route) (viewers : ℕ)
     (steps : List Step) (answers : List Answer) (new : Seen) : Type 0 where
   pub net : Network Scripted
-  pub run : ToldRun (cascade mark scene routes) (start (cascade mark scene routes) (replicate viewers 1))
-      steps (map law_answer answers) net
+  pub run : ToldRun (cascade mark scene routes)
+      (start (cascade mark scene routes) (replicate viewers 1)) steps (map law_answer answers) net
   pub reached : Reached (cascade mark scene routes) net
   pub stand : StandFor mark scene routes new net
 

@@ -2,6 +2,7 @@
 //! in a process of its own.
 
 ghost use Rattle.std.specs.Prelude.{◌≡◌, ◌≤◌, IfOk, length};
+ghost use Rattle.x3d_values.specs.Ranges.{max_viewers};
 ghost use Rattle.share_words.specs.Words.{HostInRange, ViewInRange};
 
 use crate::ends::{tell_host_end, tell_port, tell_view_end};
@@ -31,7 +32,7 @@ fn print<R: Print>(rt: &R, text: &[u8]) -> Result<(), RunFault> {
 /// The log of a schedule that is read.
 fn read_log<R: AllocGlobal + Input>(rt: &R, viewers: u8) -> Result<Vec<u8>, JobFault>
     requires some { 1 ≤ viewers }
-    requires most { viewers ≤ 16 }
+    requires most { viewers ≤ max_viewers }
 {
     let bytes = read_whole(rt.alloc(), &mut rt.reader())?;
     rehearse_job(rt.alloc(), bytes.as_slice(), viewers)
@@ -40,7 +41,7 @@ fn read_log<R: AllocGlobal + Input>(rt: &R, viewers: u8) -> Result<Vec<u8>, JobF
 /// Reads a schedule, has a host and viewers in memory go through it, and prints its log.
 pub fn rehearse<R: AllocGlobal + Input + Print>(rt: &R, viewers: u8) -> Result<(), Failure>
     requires some { 1 ≤ viewers }
-    requires most { viewers ≤ 16 }
+    requires most { viewers ≤ max_viewers }
 {
     let log = read_log(rt, viewers)?;
     print(rt, log.as_slice())?;
@@ -54,7 +55,7 @@ fn read_joint<R: AllocGlobal + Input>(
     viewers: u8,
 ) -> Result<JointJob, JobFault>
     requires some { 1 ≤ viewers }
-    requires most { viewers ≤ 16 }
+    requires most { viewers ≤ max_viewers }
     ensures { IfOk result (λ j. length j.viewers.items ≡ viewers) }
 {
     let bytes = read_whole(rt.alloc(), &mut rt.reader())?;
@@ -68,7 +69,7 @@ fn agreed<R: AllocGlobal + Net>(
     turns: u32,
 ) -> Result<Vec<u8>, ShareFault>
     requires some { 1 ≤ length job.old.viewers.items }
-    requires most { length job.old.viewers.items ≤ 16 }
+    requires most { length job.old.viewers.items ≤ max_viewers }
 {
     let mut port = bound(rt, 0)?;
     let own = number_of(&port)?;
@@ -84,7 +85,7 @@ pub fn agree<R: AllocGlobal + Input + Print + Net>(
     turns: u32,
 ) -> Result<(), Failure>
     requires some { 1 ≤ viewers }
-    requires most { viewers ≤ 16 }
+    requires most { viewers ≤ max_viewers }
 {
     let mut job = read_joint(rt, order, viewers)?;
     let text = agreed(rt, &mut job, turns);
