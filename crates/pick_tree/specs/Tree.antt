@@ -56,7 +56,8 @@ pub record IsTreeBut (first last : ℕ) (tree : Tree) (boxes : List (Option Boun
   pub groups : IsOver tree.groups.items tree.runs.items
 
 -- what stands at a place, a box or none, a ray doesn't enter before the best so far
-pub record IsPassed (boxes : List (Option Bounds)) (at : ℕ) (ray : Sight) (best : Option Fraction) : Type 0 where
+pub record IsPassed (boxes : List (Option Bounds)) (at : ℕ) (ray : Sight)
+    (best : Option Fraction) : Type 0 where
   pub outer : Option Bounds
   pub there : slice_get boxes at ≡ Some outer
   pub late : enters_before outer ray best ≡ false

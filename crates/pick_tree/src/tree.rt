@@ -94,7 +94,8 @@ fn is_passed(boxes: &[Option<Bounds>], at: usize, ray: Ray, best: Option<Fractio
 
 /// Whether a group begins at a place that the ray doesn't enter in time.
 fn is_group_passed(groups: &[Option<Bounds>], at: usize, ray: Ray, best: Option<Fraction>) -> bool
-    ensures { result ≡ true → (at ≡ 256 * (at / 256)) × spec.IsPassed groups.now (at / 256) ray best }
+    ensures { result ≡ true → (at ≡ 256 * (at / 256))
+        × spec.IsPassed groups.now (at / 256) ray best }
 {
     if at % GROUP != 0 {
         return false;
