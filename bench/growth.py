@@ -25,7 +25,7 @@ JOBS = [
     ("run", "active N 10", 4_000),
     ("run", "touches N N", 2_000),
     ("run", "over N N", 500),
-    ("run", "boxes N N", 500),
+    ("run", "boxes N N", 1_000),
     ("run", "keys N 20", 10_000),
     # Texts: names, lists, levels, prototypes.
     ("run", "nodes N 0", 8_000),
