@@ -1,12 +1,14 @@
 # `make run` shows the program at work, `make test` is the gate.
 SHELL := bash
 .SHELLFLAGS := -eu -o pipefail -c
-.PHONY: run try quick picture room test-room room-library share soak fuzz test cases prefixes refusals check definitions calls \
+.PHONY: run try quick picture room test-room test-room-quick room-library \
+        share soak fuzz test cases prefixes refusals check definitions calls \
         bench growth format install library bindings fuzz-library
 
 JOB ?= examples/two-clocks.job
 ROOM ?= examples/rooms/door.job
 PREFIX ?= /usr/local
+THREE ?= /usr/share/javascript/three/three.min.js
 
 # How many checks the gate runs side by side, a process each: as many as there are processors, four at
 # most for their memory. (A check that is shared by four processes takes a seventh more of them.)
@@ -32,12 +34,20 @@ picture:
 	@scripts/picture $(JOB) $(basename $(notdir $(JOB))).svg
 
 # Shows a shared world in browser windows: prints the address. Wants Debian's package libjs-three.
-room: room-library
-	@room/server.py $(ROOM)
+room:
+	@[ -e $(THREE) ] || { echo "room: there is no $(THREE): Debian's package libjs-three has it" >&2; exit 1; }
+	@$(MAKE) --no-print-directory room-library
+	@room/server.py --three $(THREE) $(ROOM)
 
 # Tests that, in a real browser where chromium is installed. No part of `make test`.
 test-room: room-library
 	@room/test_room.py
+
+# Some of these, in less than a minute, for a gate: nothing is built for them, and what is missing is said.
+test-room-quick:
+	@if [ ! -e "$(or $(X3D_SO),out/libx3d.so)" ]; then echo "room: skipped: no library (make library)"; \
+	elif [ ! -e $(THREE) ]; then echo "room: skipped: no $(THREE) (Debian's package libjs-three)"; \
+	else room/test_room.py --quick; fi
 
 # What it stands on: the library, proved and built where it is missing or older than its source; or what X3D_SO names.
 room-library:

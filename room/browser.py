@@ -18,7 +18,14 @@ ARROWS = ("ArrowLeft", "ArrowUp", "ArrowRight", "ArrowDown")
 KEYS = {" ": ("Space", 32, " "), "Tab": ("Tab", 9, ""), "Enter": ("Enter", 13, "\r")}
 KEYS.update({name: (name, number, "") for number, name in enumerate(ARROWS, 37)})
 NAMES = ("chromium", "chromium-browser", "google-chrome")
-SECONDS = 60
+
+
+def busy():
+    """How many times longer all takes, as more wants to run than there are processors."""
+    return max(1.0, os.getloadavg()[0] / os.cpu_count())
+
+
+SECONDS = 60 * busy()
 
 
 def installed():
@@ -51,8 +58,8 @@ def unfiltered(kind, row, above, parts):
         left, up = (row[k - parts] if k >= parts else 0), above[k]
         corner = above[k - parts] if k >= parts else 0
         if kind == 4:
-            guess = left + up - corner
-            near = min((left, up, corner), key=lambda each: abs(guess - each))
+            far = abs(up - corner), abs(left - corner), abs(left + up - 2 * corner)
+            near = left if far[0] == min(far) else up if far[1] <= far[2] else corner
             row[k] = (stored + near) & 255
         else:
             row[k] = (stored + (0, left, up, (left + up) // 2)[kind]) & 255
@@ -134,14 +141,16 @@ class Page:
         begun = time.monotonic()
         while not self.value(expression):
             if time.monotonic() - begun > seconds:
-                raise AssertionError(f"not within {seconds} s: {expression}")
+                told = self.value("window.room ? room.told() : 'no page'")
+                raise AssertionError(f"not within {seconds:.0f} s: {expression}; {told}")
             time.sleep(0.05)
         return time.monotonic() - begun
 
     def mouse(self, kind, spot, buttons=0):
+        """The mouse moves or is pressed; buttons are 1 for the left one and 2 for the right."""
         given = {"type": kind, "x": spot[0], "y": spot[1], "button": "left" if buttons else "none"}
         if kind != "mouseMoved":
-            given.update(button="left", clickCount=1)
+            given.update(button="right" if buttons == 2 else "left", clickCount=1)
         self.call("Input.dispatchMouseEvent", buttons=buttons, **given)
 
     def click(self, spot):
@@ -171,7 +180,7 @@ class Page:
 class Browser:
     """A browser with a folder of its own, which ends with it."""
 
-    def __init__(self):
+    def __init__(self, size=(900, 1000), more=()):
         # Its processes may write a moment longer than it runs.
         named = {"prefix": "room-browser-", "ignore_cleanup_errors": True}
         self.folder = tempfile.TemporaryDirectory(**named)
@@ -180,13 +189,16 @@ class Browser:
             "--headless=new",
             "--remote-debugging-port=0",
             f"--user-data-dir={self.folder.name}",
-            "--window-size=900,1000",
+            f"--window-size={size[0]},{size[1]}",
             "--disable-dev-shm-usage",
             "--disable-background-timer-throttling",
             "--disable-renderer-backgrounding",
             "--disable-backgrounding-occluded-windows",
             "--enable-unsafe-swiftshader",
+            # Else what is clicked before a page was seen for the first time is dropped.
+            "--allow-pre-commit-input",
             "--no-first-run",
+            *more,
             *(["--no-sandbox"] if os.geteuid() == 0 else []),
             "about:blank",
         ]

@@ -1,9 +1,12 @@
 #!/usr/bin/env python3
 """Measures the room: a scene of 1,000 nodes, and 16 windows whose pointers move 11 times a second.
 
-usage: room/measure.py [SECONDS] [SHOWN]
-SHOWN (1) of the windows are chromium's; the others post and listen as a page does. It tells what
-the server took of a processor, and how many frames a second each window of chromium had."""
+usage: room/measure.py [SECONDS] [SHOWN] [FLAG..]
+SHOWN (1) of the windows are chromium's, of 1280 by 720 pixels and with these flags of it; the
+others post and listen as a page does. It tells what the server took of a processor, how many
+frames a second each window of chromium had, and what a frame takes of a processor: in its page's
+own thread, in the process that stands for graphics hardware, and in all others. So once where
+frames are drawn anew as the world changes, and once where each is."""
 import contextlib
 import http.client
 import json
@@ -116,50 +119,99 @@ def clients(port, count):
 
 
 def counts_of(page):
-    """How many frames a window had, how many were drawn anew, and its seconds of script."""
-    page.call("Performance.enable")
-    known = {each["name"]: each["value"] for each in page.call("Performance.getMetrics")["metrics"]}
-    return [*page.value("[window.counted, room.three.draws]"), known["ScriptDuration"]]
+    """How many frames a window had, and how many were drawn anew."""
+    return page.value("[window.counted, room.three.draws]")
 
 
-def measure(served, pages, others, seconds):
-    for page in pages:
-        page.wait("window.room && room.three.content && room.state.status")
-        page.value(MOVE)
-    for _ in range(4):
-        others.stdout.readline()
+def on_processor(task):
+    """The seconds of a processor that a thread has had."""
+    try:
+        return int(Path(task, "schedstat").read_text().split()[0]) / 1e9
+    except OSError:
+        return 0
+
+
+def spent(process):
+    """The same of a browser: of the threads of its pages, of its process for graphics, of the
+    rest."""
+    parts = {"page": 0, "graphics": 0, "rest": 0}
+    below = {process.pid}
+    for folder in sorted(Path("/proc").glob("[0-9]*"), key=lambda each: int(each.name)):
+        try:
+            above = int(Path(folder, "stat").read_text().rpartition(") ")[2].split()[1])
+            words = Path(folder, "cmdline").read_bytes()
+        except OSError:
+            continue
+        if above not in below and int(folder.name) != process.pid:
+            continue
+        below.add(int(folder.name))
+        for task in Path(folder, "task").glob("*"):
+            page = b"--type=renderer" in words and task.name == folder.name
+            graphics = b"--type=gpu-process" in words
+            name = "page" if page else "graphics" if graphics else "rest"
+            parts[name] += on_processor(task)
+    return parts
+
+
+def measured(served, window, pages, others, seconds):
+    """Counts for so many seconds, and tells of them."""
     begun, before = time.monotonic(), used(served.process)
-    counts, first = [counts_of(page) for page in pages], int(others.stdout.readline())
+    old, first = window and spent(window.process), int(others.stdout.readline())
+    counts = [counts_of(page) for page in pages]
     for _ in range(seconds):
         last = int(others.stdout.readline())
     took, share = time.monotonic() - begun, used(served.process) - before
     print(f"{WINDOWS} windows, {(last - first) / took:.0f} inputs a second, {took:.1f} s")
     print(f"server: {100 * share / took:.1f} % of a processor")
-    for page, old in zip(pages, counts):
-        frames, draws, script = ((now - then) / took for now, then in zip(counts_of(page), old))
-        badge = page.value("document.getElementById('badge').textContent")
-        print(f"window: {frames:.1f} frames a second, {draws:.1f} of them drawn anew; {badge}")
-        print(f"        {1000 * script / max(frames, 1):.1f} ms of script a frame")
+    drawn = 0
+    for page, then in zip(pages, counts):
+        frames, draws = (now - past for now, past in zip(counts_of(page), then))
+        badge, drawn = page.value("document.getElementById('badge').textContent"), drawn + draws
+        told = f"{frames / took:.1f} frames a second, {draws / took:.1f} of them drawn anew"
+        print(f"window: {told}; {badge}")
+    if pages:
+        new = spent(window.process)
+        each = {name: 1000 * (new[name] - old[name]) / max(drawn, 1) for name in new}
+        told = ", ".join(f"{name} {part:.1f}" for name, part in each.items())
+        print(f"        ms of a processor for one drawn anew: {told}")
+
+
+def measure(served, window, pages, others, seconds):
+    for page in pages:
+        page.wait("window.room && room.three.content && room.state.status && room.three.draws")
+        page.value(MOVE)
+    for _ in range(4):
+        others.stdout.readline()
+    wants = lambda: f"load {os.getloadavg()[0]:.0f} on {os.cpu_count()} processors"
+    print(f"as the world changes ({wants()}):")
+    measured(served, window, pages, others, seconds)
+    if pages:
+        for page in pages:
+            page.value("room.three.always = room.three.dirty = true")
+        print(f"each frame drawn anew ({wants()}):")
+        measured(served, window, pages, others, seconds)
 
 
 def main():
     if sys.argv[1:2] == ["--clients"]:
         return clients(int(sys.argv[2]), int(sys.argv[3]))
-    given = [int(word) for word in sys.argv[1:]]
+    flags = [word for word in sys.argv[1:] if word.startswith("--")]
+    given = [int(word) for word in sys.argv[1:] if word not in flags]
     seconds, shown = [*given, *[20, 1][len(given) :]]
     with contextlib.ExitStack() as ends:
         file = ends.enter_context(tempfile.NamedTemporaryFile("w", suffix=".x3dv"))
         file.write(scene())
         file.flush()
-        served, pages = ends.enter_context(Served(file.name)), []
+        served, window, pages = ends.enter_context(Served(file.name)), None, []
         if shown and browser.installed():
-            window = ends.enter_context(contextlib.closing(browser.Browser()))
+            window = browser.Browser((1280, 720), flags)
+            ends.enter_context(contextlib.closing(window))
             pages = [window.open(served.address) for _ in range(shown)]
         count = str(WINDOWS - len(pages))
         words = [sys.executable, __file__, "--clients", str(served.port), count]
         others = ends.enter_context(subprocess.Popen(words, stdout=subprocess.PIPE, text=True))
         ends.callback(others.terminate)
-        measure(served, pages, others, seconds)
+        measure(served, window, pages, others, seconds)
 
 
 if __name__ == "__main__":

@@ -2,7 +2,7 @@
 "use strict";
 
 const COLORS = ["#0b63a5", "#b4560b", "#00795b", "#8a3d85", "#5b5b12", "#a3263a", "#2f4b7c", "#7a5200"];
-const STOPS = 120, LANE = 18, STRIP = 222, SPAN = 90, PACE = 90;
+const STOPS = 120, LANE = 18, STRIP = 222, SPAN = 90, PACE = 90, DOTS = 16;
 const byId = (id) => document.getElementById(id);
 const colorOf = (who) => COLORS[who % COLORS.length];
 const state = { who: null, token: null, n: 0, status: null, nodes: [], labels: new Map(), lanes: new Map() };
@@ -30,9 +30,13 @@ const color = (node, name) => new THREE.Color(...field(node, name, [0, 0, 0]));
 
 const three = {
   renderer: null, scene: new THREE.Scene(), camera: new THREE.PerspectiveCamera(45, 1, 0.05, 5000),
-  head: new THREE.DirectionalLight(0xffffff, 0.65), content: null, dirty: true, draws: 0,
-  things: new Map(), users: new Map(), stale: new Set(), dots: new Map(), moved: new Map(),
+  head: new THREE.DirectionalLight(0xffffff, 0.65), content: null, dirty: true, draws: 0, size: [0, 0], software: false,
+  always: false, // whether each frame is drawn anew, to measure how long that takes
+  things: new Map(), users: new Map(), stale: new Set(), dots: null, places: new Map(), moved: new Map(),
+  batches: new Map(), shapes: new Map(),
 };
+// What the renderer goes by, and rays: solids that batches draw are seen by rays alone.
+const DRAWN_ITSELF = 0, IN_BATCH = 1;
 
 function materialOf(shape) {
   const material = nodeIn(nodeIn(shape, "appearance"), "material");
@@ -99,15 +103,21 @@ function textMesh(node, ink) {
 }
 
 const GEOMETRY = {
-  Box: (node) => new THREE.BoxGeometry(...field(node, "size")),
+  Box: (node) => new THREE.BoxBufferGeometry(...field(node, "size")),
   Sphere: (node) => new THREE.SphereBufferGeometry(field(node, "radius"), 24, 16),
-  Cone: (node) => new THREE.ConeGeometry(field(node, "bottomRadius"), field(node, "height"), 24),
+  Cone: (node) => new THREE.ConeBufferGeometry(field(node, "bottomRadius"), field(node, "height"), 24),
   Cylinder(node) {
     const radius = field(node, "radius");
-    return new THREE.CylinderGeometry(radius, radius, field(node, "height"), 24);
+    return new THREE.CylinderBufferGeometry(radius, radius, field(node, "height"), 24);
   },
-  IndexedFaceSet: faceSet,
 };
+
+/* The geometry of a node; equal ones are one. */
+function geometryOf(node, key) {
+  if (node.kind === "IndexedFaceSet") return faceSet(node);
+  if (!three.shapes.has(key)) three.shapes.set(key, GEOMETRY[node.kind](node));
+  return three.shapes.get(key);
+}
 
 function meshOf(shape) {
   const node = nodeIn(shape, "geometry");
@@ -116,24 +126,93 @@ function meshOf(shape) {
   if (node.kind === "Text") return textMesh(node, look.color);
   look.side = field(node, "solid", true) ? THREE.FrontSide : THREE.DoubleSide;
   // A cone and a cylinder have a side, a top and a bottom, any of which may be left out.
-  const none = Object.assign(look.clone(), { visible: false });
-  const parts = ["side", "top", "bottom"].map((name) => (field(node, name, true) ? look : none));
-  const mesh = new THREE.Mesh(GEOMETRY[node.kind](node), ["Cone", "Cylinder"].includes(node.kind) ? parts : look);
+  const has = ["side", "top", "bottom"].map((name) => field(node, name, true)), whole = has.every((part) => part);
+  const parts = () => has.map((part) => (part ? look : Object.assign(look.clone(), { visible: false })));
+  const key = JSON.stringify([node.kind, node.fields]);
+  const mesh = new THREE.Mesh(geometryOf(node, key), whole ? look : parts());
   mesh.userData.solid = true;
+  if (whole && !look.transparent && node.kind !== "IndexedFaceSet") {
+    batchOf(`${key} ${look.emissive.getHex()}`, mesh).solids.add(mesh);
+  }
   return mesh;
 }
 
-/* Draws a Shape anew: what it was drawn of is let go. */
+/* Draws a Shape anew: what it was drawn of is let go, but geometries that others have too. */
 function rebuild(thing, shape) {
   for (const mesh of [...thing.children]) {
+    const { batch } = mesh.userData;
     thing.remove(mesh);
-    if (mesh.geometry) mesh.geometry.dispose();
+    if (batch) batch.solids.delete(mesh);
+    if (batch) batch.stale = true;
+    else if (mesh.geometry && ![...three.shapes.values()].includes(mesh.geometry)) mesh.geometry.dispose();
     for (const look of [mesh.material].flat().filter((each) => each)) {
       if (look.map) look.map.dispose();
       look.dispose();
     }
   }
   thing.add(meshOf(shape));
+}
+
+/* Solids of the same form and the same glow are a batch, which the renderer draws at once: `mesh` has of each its place
+   and its color. */
+
+function batchOf(key, mesh) {
+  if (!three.batches.has(key)) {
+    const { emissive, side } = mesh.material, look = { emissive, side, vertexColors: THREE.VertexColors };
+    const batch = { solids: new Set(), stale: true, room: 0, mesh: null, look: new THREE.MeshLambertMaterial(look) };
+    three.batches.set(key, batch);
+  }
+  return (mesh.userData.batch = three.batches.get(key));
+}
+
+function letGo(batch) {
+  if (!batch.mesh) return;
+  three.scene.remove(batch.mesh);
+  batch.mesh.geometry.dispose();
+  batch.mesh = null;
+}
+
+/* A mesh with room for so many solids of a batch. */
+function makeRoom(batch, room) {
+  letGo(batch);
+  const [{ geometry }] = batch.solids, own = new THREE.BufferGeometry();
+  own.setIndex(geometry.index.clone());
+  for (const name of ["position", "normal"]) own.setAttribute(name, geometry.attributes[name].clone());
+  own.setAttribute("color", new THREE.InstancedBufferAttribute(new Float32Array(3 * room), 3));
+  batch.mesh = Object.assign(new THREE.InstancedMesh(own, batch.look, room), { frustumCulled: false });
+  batch.room = room;
+  three.scene.add(batch.mesh);
+}
+
+/* The normals of a batch are turned as its solids are. Where one is stretched that isn't enough, but for a box. */
+function isStretched(mesh) {
+  const size = new THREE.Vector3().setFromMatrixScale(mesh.matrixWorld), most = Math.max(size.x, size.y, size.z);
+  return mesh.geometry.type !== "BoxBufferGeometry" && Math.min(size.x, size.y, size.z) < 0.999 * most;
+}
+
+function fill(batch) {
+  batch.stale = false;
+  if (batch.solids.size > batch.room) makeRoom(batch, Math.max(4, 2 * batch.solids.size));
+  if (!batch.mesh) return;
+  const { mesh: { instanceMatrix, geometry: { attributes: { color } } } } = batch;
+  let count = 0;
+  for (const solid of batch.solids) {
+    const own = isStretched(solid) || solid.matrixWorld.determinant() < 0;
+    solid.layers.set(own ? DRAWN_ITSELF : IN_BATCH);
+    if (own || !shown(solid)) continue;
+    solid.matrixWorld.toArray(instanceMatrix.array, 16 * count);
+    solid.material.color.toArray(color.array, 3 * count);
+    count += 1;
+  }
+  instanceMatrix.needsUpdate = color.needsUpdate = true;
+  batch.mesh.count = count;
+  batch.mesh.visible = count > 0;
+}
+
+/* What is below a thing stands elsewhere, or is shown or not, from now on. */
+function place(thing) {
+  thing.updateMatrixWorld(true);
+  thing.traverse((each) => { if (each.userData.batch) each.userData.batch.stale = true; });
 }
 
 /* What each kind of node is drawn by, at first (`make`) and whenever a field of it changed (`set`). */
@@ -210,10 +289,14 @@ function uses(shape, node) {
 function refresh() {
   for (const number of three.stale) {
     const node = state.nodes[number];
-    for (const thing of three.things.get(number) || []) KINDS[node.kind].set(thing, node);
+    for (const thing of three.things.get(number) || []) {
+      KINDS[node.kind].set(thing, node);
+      place(thing);
+    }
     if (node.kind === "Viewpoint" || node.kind === "NavigationInfo") look();
   }
   three.stale.clear();
+  for (const batch of three.batches.values()) if (batch.stale) fill(batch);
 }
 
 /* The camera stands at the first Viewpoint; without one before all that there is, above on the right. */
@@ -233,20 +316,24 @@ function look() {
     camera.lookAt(ball.center);
   }
   three.head.visible = field(state.nodes.find((node) => node.kind === "NavigationInfo"), "headlight", true);
+  camera.updateMatrixWorld(true);
 }
 
 function showScene(scene) {
   if (three.content) three.scene.remove(three.content);
+  three.batches.forEach(letGo);
+  for (const shape of three.shapes.values()) shape.dispose();
   const labels = new Map(scene.nodes.map((node, k) => [node.label, k]));
   Object.assign(state, { n: scene.n, nodes: scene.nodes, labels });
   for (const node of state.nodes) {
     for (const [name, text] of Object.entries(node.fields)) node.fields[name] = valueOf(text);
   }
   for (const [name, lane] of state.lanes) state.lanes.set(name, lane.filter((stop) => stop.number <= scene.n));
-  for (const each of [three.things, three.users, three.stale]) each.clear();
+  for (const each of [three.things, three.users, three.stale, three.batches, three.shapes]) each.clear();
   three.content = new THREE.Group();
   for (const root of scene.roots) three.content.add(thingOf(root));
   three.scene.add(three.content);
+  place(three.content);
   look();
   showPoints(scene.points);
   three.dirty = true;
@@ -277,28 +364,35 @@ function showPoints(points) {
   for (const [who, down, ray] of points) if (who !== state.who) three.moved.set(who, [down, ray]);
 }
 
+/* Dots are one mesh: of each its place, its size and its color. */
 function showDots() {
   for (const [who, [down, ray]] of three.moved) {
     const origin = new THREE.Vector3(...ray.slice(0, 3)).divideScalar(1e6);
     const way = new THREE.Vector3(...ray.slice(3)).normalize();
     const hit = new THREE.Raycaster(origin, way).intersectObject(three.content, true)
-      .find((item) => item.object.userData.solid && shown(item.object));
-    const dot = dotOf(who), place = hit ? hit.point : origin.addScaledVector(way, 8);
-    dot.position.copy(place);
-    dot.scale.setScalar(three.camera.position.distanceTo(place) * (down ? 0.016 : 0.01));
+      .find((item) => item.object.userData.solid);
+    three.places.set(who, [down, hit ? hit.point : origin.addScaledVector(way, 8)]);
   }
   three.moved.clear();
+  const { viewers } = state.status || { viewers: [] };
+  const here = [...three.places].filter(([who]) => viewers.some((viewer) => viewer.who === who && viewer.runs));
+  here.slice(0, DOTS).forEach(([who, [down, place]], k) => {
+    const size = three.camera.position.distanceTo(place) * (down ? 0.016 : 0.01);
+    new THREE.Matrix4().makeScale(size, size, size).setPosition(place).toArray(three.dots.instanceMatrix.array, 16 * k);
+    new THREE.Color(colorOf(who)).toArray(three.dots.geometry.attributes.color.array, 3 * k);
+  });
+  three.dots.instanceMatrix.needsUpdate = three.dots.geometry.attributes.color.needsUpdate = true;
+  three.dots.count = Math.min(DOTS, here.length);
+  three.dots.visible = here.length > 0;
 }
 
-function dotOf(who) {
-  if (!three.dots.has(who)) {
-    const look = new THREE.MeshBasicMaterial({ color: colorOf(who), depthTest: false, transparent: true });
-    const dot = new THREE.Mesh(new THREE.SphereBufferGeometry(1, 16, 12), look);
-    dot.renderOrder = 10;
-    three.dots.set(who, dot);
-    three.scene.add(dot);
-  }
-  return three.dots.get(who);
+function makeDots() {
+  const form = new THREE.SphereBufferGeometry(1, 12, 8);
+  form.setAttribute("color", new THREE.InstancedBufferAttribute(new Float32Array(3 * DOTS), 3));
+  const look = { vertexColors: THREE.VertexColors, depthTest: false, transparent: true };
+  three.dots = new THREE.InstancedMesh(form, new THREE.MeshBasicMaterial(look), DOTS);
+  Object.assign(three.dots, { renderOrder: 10, frustumCulled: false, visible: false });
+  three.scene.add(three.dots);
 }
 
 function shown(object) {
@@ -308,37 +402,50 @@ function shown(object) {
 
 /* What is said of the viewers. */
 
+/* A row of the table. Rows stay, and what differs in them is written. */
 function rowOf(viewer) {
   const row = document.createElement("tr"), name = document.createElement("th"), dot = document.createElement("span");
   name.scope = "row";
   dot.className = "dot";
   dot.style.background = colorOf(viewer.who);
   name.append(dot, `${viewer.who}${viewer.who === state.who ? " (this window)" : ""}`);
-  row.append(name);
-  const { runs, n, waiting, lost, digest, at } = viewer;
-  for (const text of runs ? [n, waiting, lost, `${digest} at ${at}`] : ["not running", "", lost, ""]) {
-    row.append(Object.assign(document.createElement("td"), { textContent: text }));
-  }
+  row.append(name, ...[0, 1, 2, 3].map(() => document.createElement("td")));
+  row.dataset.who = viewer.who;
   return row;
 }
 
+function write(place, text) {
+  if (place.textContent !== text) place.textContent = text;
+}
+
+function showViewers(viewers) {
+  const table = byId("viewers"), known = [...table.children].map((row) => Number(row.dataset.who));
+  if (String(known) !== String(viewers.map((viewer) => viewer.who))) table.replaceChildren(...viewers.map(rowOf));
+  viewers.forEach(({ runs, n, waiting, lost, digest, at }, k) => {
+    const told = runs ? [n, waiting, lost, `${digest} at ${at}`] : ["not running", "", lost, ""];
+    told.forEach((each, column) => write(table.children[k].children[column + 1], String(each)));
+  });
+}
+
 function showStatus(status) {
+  const running = ({ viewers }) => String(viewers.filter((viewer) => viewer.runs).map((viewer) => viewer.who));
+  // Whose viewer stops has no dot.
+  three.dirty = three.dirty || !state.status || running(state.status) !== running(status);
   state.status = status;
   const badge = byId("badge"), equal = status.equal_at !== null;
   badge.textContent = status.different ? "different!" : equal ? `equal at ${status.equal_at}` : "catching up";
   badge.className = status.different ? "different" : equal ? "equal" : "";
   byId("full").hidden = !status.full;
-  byId("viewers").replaceChildren(...status.viewers.map(rowOf));
-  byId("made").textContent = `${status.numbered} inputs numbered. Worlds are compared by their snapshots.`;
+  showViewers(status.viewers);
+  write(byId("made"), `${status.numbered} inputs numbered. Worlds are compared by their snapshots.`);
   for (const [name, share] of Object.entries(status.channel)) {
     const slider = byId(name);
     if (document.activeElement !== slider) slider.value = Math.round(100 * share);
-    slider.nextElementSibling.textContent = `${slider.value} %`;
+    write(slider.nextElementSibling, `${slider.value} %`);
   }
   const mine = status.viewers.find((viewer) => viewer.who === state.who);
   byId("kill").disabled = !(mine && mine.runs);
   byId("start").disabled = !mine || mine.runs;
-  for (const [who, dot] of three.dots) dot.visible = status.viewers.some((viewer) => viewer.who === who && viewer.runs);
 }
 
 /* The strip of lanes; `marks` are those that are drawn, by lane, `chosen` is which one the keyboard is at. */
@@ -354,8 +461,9 @@ function drawLanes() {
   const top = byId("strip").scrollTop;
   canvas.style.height = `${high}px`;
   byId("rest").style.height = `${all - high}px`;
-  Object.assign(canvas, { width: wide, height: high });
+  if (canvas.width !== wide || canvas.height !== high) Object.assign(canvas, { width: wide, height: high });
   const draw = canvas.getContext("2d"), x = (number) => right - (right - left) * (state.n - number) / SPAN;
+  draw.clearRect(0, 0, wide, high);
   draw.font = '12px "DejaVu Sans", sans-serif';
   marks = [];
   for (let k = Math.floor(top / LANE); k < names.length && LANE * k < top + high; k++) {
@@ -407,7 +515,7 @@ byId("strip").addEventListener("scroll", drawLanes);
 
 /* The pointer, of a mouse or of the keyboard: a move is offered so often at most, a press at once. */
 
-const pointer = { x: 0, y: 0, down: false, sent: 0, due: null, waits: [], busy: false };
+const pointer = { x: 0, y: 0, down: false, sent: 0, due: null, waits: [], busy: false, answers: {} };
 const pause = (time) => new Promise((resolve) => { setTimeout(resolve, time); });
 
 async function send(path, body) {
@@ -423,7 +531,7 @@ async function send(path, body) {
 }
 
 function aim() {
-  three.camera.updateMatrixWorld();
+  fit();
   const way = new THREE.Vector3(pointer.x, pointer.y, 0.5).unproject(three.camera);
   way.sub(three.camera.position).normalize();
   const whole = (vector) => vector.toArray().map((part) => Math.round(part * 1e6));
@@ -440,6 +548,7 @@ async function offer(moves) {
   pointer.busy = true;
   while (waits.length) {
     const first = waits.shift(), { status } = await send("/point", first.body);
+    pointer.answers[status] = (pointer.answers[status] || 0) + 1;
     if (status === 429 || (status === 0 && byId("gone").hidden)) {
       waits.unshift(first);
       await pause(200);
@@ -469,16 +578,28 @@ function press(down) {
   offer(false);
 }
 
+/* A press begins with the button up, even where the end of another one never came here. */
+function begin() {
+  press(false);
+  offer(false);
+  press(true);
+}
+
 const view = byId("view");
 view.addEventListener("pointermove", (event) => { follow(event); moved(); });
 view.addEventListener("pointerdown", (event) => {
+  // The others have menus, whose end isn't told here.
+  if (event.button !== 0) return;
   follow(event);
   view.focus();
-  view.setPointerCapture(event.pointerId);
-  offer(false);
-  press(true);
+  begin();
+  if (event.isTrusted) view.setPointerCapture(event.pointerId);
 });
-view.addEventListener("pointerup", (event) => { follow(event); press(false); });
+view.addEventListener("pointerup", (event) => {
+  if (event.button !== 0) return;
+  follow(event);
+  press(false);
+});
 view.addEventListener("pointercancel", () => press(false));
 view.addEventListener("blur", () => press(false));
 view.addEventListener("keydown", (event) => {
@@ -489,10 +610,7 @@ view.addEventListener("keydown", (event) => {
     pointer.x = within(pointer.x + step[0] * size, -1, 1);
     pointer.y = within(pointer.y + step[1] * size, -1, 1);
     moved();
-  } else if (!event.repeat) {
-    offer(false);
-    press(true);
-  }
+  } else if (!event.repeat) begin();
 });
 view.addEventListener("keyup", (event) => { if (event.key === " ") press(false); });
 
@@ -507,23 +625,46 @@ byId("start").addEventListener("click", () => send("/start", {}));
 
 /* Drawing, and the stream of events. */
 
+/* Whether a processor draws, without graphics hardware: then edges aren't smoothed, nor pixels finer than CSS has. */
+function drawsBySoftware() {
+  const probe = document.createElement("canvas").getContext("webgl");
+  const about = probe && probe.getExtension("WEBGL_debug_renderer_info");
+  const name = about ? probe.getParameter(about.UNMASKED_RENDERER_WEBGL) : "";
+  const lose = probe && probe.getExtension("WEBGL_lose_context");
+  if (lose) lose.loseContext();
+  return /swiftshader|llvmpipe|softpipe|software|basic render/i.test(name);
+}
+
 function begin3d() {
-  three.renderer = new THREE.WebGLRenderer({ canvas: view, antialias: true, alpha: true });
+  three.software = drawsBySoftware();
+  three.renderer = new THREE.WebGLRenderer({ canvas: view, antialias: !three.software, alpha: false, stencil: false });
+  three.renderer.setClearColor(0xf4f7fa);
   three.scene.add(new THREE.AmbientLight(0xffffff, 0.45), three.camera);
   three.head.position.set(-0.3, 0.52, 0.8);
   three.camera.add(three.head, three.head.target);
+  // What moves is placed where it moves, and nothing else in each frame.
+  three.scene.autoUpdate = false;
+  makeDots();
 }
 
+/* The picture is as large as its place. That is looked at when it changed alone. */
 function fit() {
-  const wide = view.clientWidth, high = view.clientHeight, fine = window.devicePixelRatio;
-  if (view.width !== Math.floor(wide * fine) || view.height !== Math.floor(high * fine)) {
+  const [wide, high] = three.size, scale = window.devicePixelRatio, fine = three.software ? Math.min(1, scale) : scale;
+  const now = [wide, high, fine].join();
+  if (!wide || !high || three.fits === now) return;
+  three.fits = now;
+  if (three.renderer) {
     three.renderer.setPixelRatio(fine);
     three.renderer.setSize(wide, high, false);
-    three.dirty = true;
   }
   three.camera.aspect = wide / high;
   three.camera.updateProjectionMatrix();
+  three.dirty = true;
 }
+
+const measured = new ResizeObserver(() => { three.size = [view.clientWidth, view.clientHeight]; });
+measured.observe(view);
+three.size = [view.clientWidth, view.clientHeight];
 
 function frame() {
   requestAnimationFrame(frame);
@@ -532,7 +673,7 @@ function frame() {
   if (!(three.dirty || three.stale.size || three.moved.size)) return;
   refresh();
   showDots();
-  three.dirty = false;
+  three.dirty = three.always;
   three.renderer.render(three.scene, three.camera);
   three.draws += 1;
 }
@@ -577,17 +718,21 @@ async function join() {
 
 /* What the tests look at. */
 window.room = {
-  state, three,
+  state, three, pointer,
+  // What a test that failed tells: how far this window is, and what became of its pointers.
+  told: () => JSON.stringify({
+    n: state.n, numbered: state.status && state.status.numbered, drawn: three.draws, gone: !byId("gone").hidden,
+    answers: pointer.answers, waits: pointer.waits.length, down: pointer.down, who: state.who,
+  }),
   marks: () => marks,
   value: (label, name) => field(state.nodes[state.labels.get(label)], name),
   placeOf(label) {
     refresh();
-    three.scene.updateMatrixWorld();
     const thing = (three.things.get(state.labels.get(label)) || [])[0];
     return thing ? new THREE.Box3().setFromObject(thing).getCenter(new THREE.Vector3()).toArray() : null;
   },
   spotOf(place) {
-    three.camera.updateMatrixWorld();
+    fit();
     const at = new THREE.Vector3(...place).project(three.camera), box = view.getBoundingClientRect();
     return [box.left + (at.x + 1) / 2 * box.width, box.top + (1 - at.y) / 2 * box.height];
   },

@@ -163,15 +163,18 @@ class Service:
             raise Wrong(400, "a pointer has down and six numbers")
         if any(type(part) is not int or abs(part) > COORDINATE for part in aim) or not any(aim[3:]):
             raise Wrong(400, "whole millionths, and a direction")
-        viewer = self.room.seats[window.who].viewer
-        if not viewer:
+        seat = self.room.seats[window.who]
+        if not seat.viewer:
             raise Wrong(409, "the viewer isn't running")
+        if seat.joins:
+            # It will begin anew in a snapshot, and what it offered by then is lost.
+            raise Wrong(429, "the viewer is joining")
         if not window.may_offer():
             raise Wrong(429, "too many offers a second")
         try:
-            viewer.offer(down, x3d.Aim(aim[:3], aim[3:]))
+            seat.viewer.offer(down, x3d.Aim(aim[:3], aim[3:]))
         except x3d.Fault as fault:
-            raise Wrong(429, fault.name) from None
+            raise Wrong(429 if fault.name == "OfferFull" else 409, fault.name) from None
         return {}
 
     def set_channel(self, body):
