@@ -6,3 +6,4 @@ mod Statements
 mod Whole
 mod Defaults
 mod Prototypes
+mod Worked
