@@ -40,7 +40,7 @@ enum x3d_status {
   X3D_NOT_NEXT = 21,       /* the input's number is not the next one */
   X3D_TIME_NOT_LATER = 22, /* the input's time is not above that of the last one */
   X3D_NO_SUCH_NODE = 23,   /* there is no node of that number */
-  X3D_NO_SUCH_FIELD = 24,  /* the node has no field of that number, or it holds no value */
+  X3D_NO_SUCH_FIELD = 24,  /* the node has no field of that number or name, or it has no value */
   X3D_NO_PACKET = 25,      /* there is no such datagram: of an input, an offer, a piece */
   X3D_NO_SUCH_SCRIPT = 26, /* there is no script of that number */
   X3D_KIND_DIFFERS = 27,   /* the script is of another kind */
@@ -207,6 +207,11 @@ uint8_t x3d_world_copy_text(struct x3d_world *world, uint8_t *out, size_t room, 
 uint8_t x3d_world_node_count(struct x3d_world *world, size_t *count);
 /* How many fields a node has, which are numbered from 0; 0 where there is no such node. */
 uint8_t x3d_world_field_count(struct x3d_world *world, uint32_t node, uint32_t *count);
+/* The number of the field of that name of a node, as `translation`: of its type, or one that a
+ * Script declares. By it the calls below and above find its value. X3D_NO_SUCH_FIELD where there
+ * is none. */
+uint8_t x3d_world_field_named(struct x3d_world *world, uint32_t node, const uint8_t *name,
+                              size_t length, uint16_t *field);
 /* The roots of the scene. */
 uint8_t x3d_world_list_roots(struct x3d_world *world);
 /* The nodes in the field `children` of a node; none where it has no such field. */
@@ -330,6 +335,8 @@ uint8_t x3d_viewer_make_value(struct x3d_viewer *viewer, uint32_t node, uint16_t
 uint8_t x3d_viewer_copy_text(struct x3d_viewer *viewer, uint8_t *out, size_t room, size_t *wanted);
 uint8_t x3d_viewer_node_count(struct x3d_viewer *viewer, size_t *count);
 uint8_t x3d_viewer_field_count(struct x3d_viewer *viewer, uint32_t node, uint32_t *count);
+uint8_t x3d_viewer_field_named(struct x3d_viewer *viewer, uint32_t node, const uint8_t *name,
+                               size_t length, uint16_t *field);
 uint8_t x3d_viewer_list_roots(struct x3d_viewer *viewer);
 uint8_t x3d_viewer_list_children(struct x3d_viewer *viewer, uint32_t node);
 uint8_t x3d_viewer_list_value(struct x3d_viewer *viewer, uint32_t node, uint16_t field);

@@ -36,6 +36,7 @@ static int run(void) {
   uint8_t line[64], shot[4096];
   size_t wanted = 0;
   uint32_t applied = 0;
+  uint16_t field;
   refused = 0;
   int status =
       x3d_world_open(&world, (const uint8_t *)scene, sizeof scene - 1, line, sizeof line, &wanted);
@@ -55,6 +56,9 @@ static int run(void) {
     return 8;
   if (!told(x3d_world_make_label(&world, 2)) || !told(x3d_world_make_type(&world, 2))) return 9;
   if (!told(x3d_world_list_roots(&world)) || !told(x3d_world_list_children(&world, 2))) return 10;
+  /* It takes no memory. */
+  if (x3d_world_field_named(&world, 2, (const uint8_t *)"isActive", 8, &field) != X3D_DONE)
+    return 19;
   if (!told(x3d_world_meet(&world, &aim, &met))) return 11;
   status = x3d_world_make_snapshot(&world, 1);
   if (!told(status)) return 12;

@@ -19,6 +19,8 @@ static const char *scenes[] = {
     "",
 };
 
+static const char *names[] = {"translation", "children", "set_fraction", "\xc3\xa9\xff", ""};
+
 static uint64_t state = 88172645463325252u;
 
 static uint64_t any(void) {
@@ -53,11 +55,12 @@ int main(int count, char **words) {
     struct x3d_aim aim = {coordinate(), coordinate(), coordinate(),
                           coordinate(), coordinate(), coordinate()};
     uint32_t ordinal, applied;
+    uint16_t field;
     int status = 0;
     /* The next input mostly has the next number and a later time. */
     uint32_t n = below(4) ? next[w] : (uint32_t)number();
     int64_t t = below(8) ? (int64_t)n * 400000 : (int64_t)any();
-    switch (below(24)) {
+    switch (below(25)) {
     case 0:
     case 1: {
       const char *text = scenes[below(5)];
@@ -107,6 +110,13 @@ int main(int count, char **words) {
       status = x3d_world_copy_numbers(world, numbers, below(64), &wanted) +
                x3d_world_field_count(world, (uint32_t)number(), &ordinal);
       break;
+    case 24: {
+      const char *name = names[below(5)];
+      size_t length = below(4) ? strlen(name) : below(strlen(name) + 1);
+      status =
+          x3d_world_field_named(world, (uint32_t)number(), (const uint8_t *)name, length, &field);
+      break;
+    }
     case 23: {
       int from = (int)below(4);
       memcpy(bytes, shots[from], lengths[from]);

@@ -68,6 +68,7 @@ int main(int count, char **words) {
   int64_t numbers[64];
   size_t wanted, shot_length = 0, length, n;
   uint32_t told;
+  uint16_t field;
   int64_t time = 0;
   long calls = count > 1 ? atol(words[1]) : 100000, done = 0;
   for (long k = 0; k < calls; k++) {
@@ -193,6 +194,8 @@ int main(int count, char **words) {
                x3d_viewer_make_field_name(viewer, (uint32_t)number(), (uint16_t)number());
       status += x3d_viewer_copy_text(viewer, text, below(sizeof text), &wanted) +
                 x3d_viewer_field_count(viewer, (uint32_t)number(), &told);
+      status += x3d_viewer_field_named(viewer, (uint32_t)number(),
+                                       (const uint8_t *)"fraction_changed", below(17), &field);
       break;
     case 33:
       status = x3d_viewer_list_roots(viewer) +

@@ -1,6 +1,6 @@
 /* Measures calls, in processor time: clocks with nothing to do on a world without nodes and on one
- * of 50,000, the lines of the last input behind few lines and behind many, and what 1,000 small
- * worlds take of time and memory. */
+ * of 50,000, a field by its name, the lines of the last input behind few lines and behind many, and
+ * what 1,000 small worlds take of time and memory. */
 #include "x3d.h"
 #include <stdio.h>
 #include <stdlib.h>
@@ -78,6 +78,30 @@ static void frames(uint32_t many) {
   x3d_world_close(&world);
 }
 
+/* How long it takes to find a field by its name, and to read the numbers of its value. */
+static void fields(void) {
+  struct x3d_world world = X3D_NONE;
+  const uint8_t name[] = "translation";
+  int64_t numbers[3];
+  size_t wanted;
+  uint16_t field;
+  const uint32_t node = 2;
+  const int reads = 1000000;
+  if (!opened(&world, running)) stop("no world");
+  double begun = now();
+  for (int k = 0; k < reads; k++)
+    if (x3d_world_field_named(&world, node, name, sizeof name - 1, &field) != X3D_DONE)
+      stop("no field");
+  printf("a field by its name: %.0f ns, ", (now() - begun) / reads);
+  begun = now();
+  for (int k = 0; k < reads; k++)
+    if (x3d_world_list_value(&world, node, field) != X3D_DONE ||
+        x3d_world_copy_numbers(&world, numbers, 3, &wanted) != X3D_DONE)
+      stop("no value");
+  printf("the numbers of its value: %.0f ns\n", (now() - begun) / reads);
+  x3d_world_close(&world);
+}
+
 static void many_worlds(void) {
   static struct x3d_world worlds[1000];
   struct x3d_work work;
@@ -117,6 +141,7 @@ int main(void) {
   for (uint32_t n = 1; n <= many; n++)
     if (x3d_world_applied(&big, &count) != X3D_DONE) stop("no number");
   printf("one that asks for a number: %.0f ns\n", (now() - begun) / many);
+  fields();
   frames(1000);
   frames(200000);
   x3d_world_close(&big);

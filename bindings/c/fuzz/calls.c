@@ -58,13 +58,13 @@ static void input(struct x3d_world both[2], struct schedule *s, int64_t *time) {
 /* What asks changes nothing; what it answers is copied into too little room, and into enough. */
 static void ask(struct x3d_world *world, struct schedule *s) {
   uint32_t node = (uint32_t)few(s), count = 0;
-  uint16_t field = (uint16_t)few(s);
+  uint16_t field = (uint16_t)few(s), found = 0;
   int64_t numbers[32];
   uint8_t out[64];
   size_t wanted = 0;
   struct x3d_met met;
   struct x3d_aim aim;
-  switch (taken(s, 1) % 12) {
+  switch (taken(s, 1) % 13) {
   case 0: x3d_world_make_trace(world, node); break;
   case 1: x3d_world_make_changes(world, node); break;
   case 2: x3d_world_make_scene(world); break;
@@ -78,6 +78,9 @@ static void ask(struct x3d_world *world, struct schedule *s) {
   case 10:
     aim = aimed(s);
     x3d_world_meet(world, &aim, &met);
+    break;
+  case 11:
+    x3d_world_field_named(world, node, (const uint8_t *)"children", field % 9, &found);
     break;
   default:
     x3d_world_field_count(world, node, &count);

@@ -72,6 +72,7 @@ class Nodes(unittest.TestCase):
             self.assertIn("Door.translation 1 0 0\n", one.trace())
             door = next(n for n in range(one.node_count()) if one.label(n) == "Door")
             self.assertEqual(other.value(door, other.field_named(door, "translation")), "1 0 0")
+            self.refused("NoSuchField", other.field_named, door, "isOpen")
             # A world of its own comes to the same by the same inputs.
             self.assertEqual(World(DOOR).scene(), Viewer(DOOR, 0, 1).scene())
 

@@ -15,6 +15,16 @@ ROUTE Knob.touchTime TO Motor.startTime
 ROUTE Motor.fraction_changed TO Slide.set_fraction
 ROUTE Slide.value_changed TO Door.translation
 """
+COUNT = """#X3D V3.0 utf8
+DEF Door Transform { translation 0 1.5 0 }
+DEF Count Script {
+  url "x3dshare:counter"
+  inputOnly SFBool tick
+  initializeOnly SFInt32 start 5
+  initializeOnly SFInt32 step 2
+  outputOnly SFInt32 count
+}
+"""
 AIM = Aim((0, 0, 10_000_000), (0, 0, -1_000_000))
 
 
@@ -65,6 +75,20 @@ class Worlds(unittest.TestCase):
         self.assertEqual(world.numbers(box, world.field_named(box, "size")), [1_000_000, 2_000_000, 100_000])
         self.refused("NoSuchNode", world.label, world.node_count())
         self.refused("NoSuchField", world.value, box, 65535)
+
+    def test_fields_are_found_by_their_names(self):
+        world = World(COUNT)
+        door, count = node(world, "Door"), node(world, "Count")
+        for of in (door, count):
+            names = [world.field_name(of, field) for field in range(world.field_count(of))]
+            self.assertEqual([world.field_named(of, name) for name in names], list(range(len(names))))
+        # A Script has metadata, url, directOutput and mustEvaluate, and behind them what it declares.
+        self.assertEqual([world.field_named(count, name) for name in ("tick", "start", "step", "count")], [4, 5, 6, 7])
+        self.assertEqual(world.value(count, world.field_named(count, "start")), "5")
+        self.assertEqual(world.value(door, world.field_named(door, "translation")), "0 1.5 0")
+        for name in ("count", "set_translation", "translation\0", "", "\udcff"):
+            self.refused("NoSuchField", world.field_named, door, name)
+        self.refused("NoSuchField", world.field_named, world.node_count(), "url")
 
     def test_a_snapshot_goes_back(self):
         world = clicked()

@@ -208,11 +208,11 @@ class Readable(Held):
         return self._text("make_field_name", fits(node, 32), fits(field, 16))
 
     def field_named(self, node: int, name: str) -> int:
-        """The number of the field of that name."""
-        for field in range(self.field_count(node)):
-            if self.field_name(node, field) == name:
-                return field
-        raise Fault(24)
+        """The number of the field of that name of a node: of its type, or one that a Script
+        declares."""
+        text, field = name.encode(errors="surrogatepass"), ctypes.c_uint16()
+        self._call("field_named", fits(node, 32), text, len(text), field)
+        return field.value
 
     def value(self, node: int, field: int) -> str:
         """The text of the value that a field has now, as `0 1.5 0`; nodes have none."""

@@ -36,7 +36,7 @@ pub enum Fault {
     TimeNotLater,
     /// There is no node of that number.
     NoSuchNode,
-    /// The node has no field of that number, or it holds no value.
+    /// The node has no field of that number or name, or it holds no value.
     NoSuchField,
     /// A snapshot of fewer than 85 bytes.
     Short,
@@ -141,7 +141,9 @@ impl fmt::Display for Fault {
             Fault::NotNext => "the input's number is not the next one",
             Fault::TimeNotLater => "the input's time is not later than that of the last one",
             Fault::NoSuchNode => "there is no node of that number",
-            Fault::NoSuchField => "the node has no field of that number, or it holds no value",
+            Fault::NoSuchField => {
+                "the node has no field of that number or name, or it holds no value"
+            }
             Fault::Short => "the snapshot is not whole",
             Fault::BadMagic => "this is no snapshot",
             Fault::BadVersion => "the version is not 1",

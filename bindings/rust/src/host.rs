@@ -3,7 +3,6 @@
 use crate::fault::Fault;
 use crate::packet::{Packet, packet};
 use crate::raw::{self, RawHost, RawReply};
-use std::marker::PhantomData;
 use std::ptr;
 
 /// What a host made of a datagram.
@@ -46,9 +45,12 @@ fn reply_of(raw: &RawReply) -> Reply {
 /// of its text alone, and does not look at it.
 pub struct Host {
     handle: RawHost,
-    // Nothing is proved of threads, so a host stays on its own.
-    stays: PhantomData<*mut ()>,
 }
+
+// SAFETY: what a handle owns may go to another thread: this is proved of `HostHandle` (its `Send`, in
+// crates/embed_handles). The library keeps nothing beside its handles but what malloc keeps, which
+// is for all threads. (Not `Sync`: calls on one handle come one at a time, as `&mut` has it.)
+unsafe impl Send for Host {}
 
 impl Host {
     /// The host of a scene's text for 1 to 16 viewers, which are numbered from 0.
@@ -57,7 +59,6 @@ impl Host {
             handle: RawHost {
                 at: ptr::null_mut(),
             },
-            stays: PhantomData,
         };
         // SAFETY: the handle is null, and the bytes are lent for the call. So it is in each call
         // below, where the handle is as the last call left it.

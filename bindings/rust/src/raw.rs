@@ -103,6 +103,13 @@ unsafe extern "C" {
     ) -> u8;
     pub fn x3d_world_node_count(world: *mut RawWorld, count: *mut usize) -> u8;
     pub fn x3d_world_field_count(world: *mut RawWorld, node: u32, count: *mut u32) -> u8;
+    pub fn x3d_world_field_named(
+        world: *mut RawWorld,
+        node: u32,
+        name: *const u8,
+        length: usize,
+        field: *mut u16,
+    ) -> u8;
     pub fn x3d_world_list_roots(world: *mut RawWorld) -> u8;
     pub fn x3d_world_list_children(world: *mut RawWorld, node: u32) -> u8;
     pub fn x3d_world_list_value(world: *mut RawWorld, node: u32, field: u16) -> u8;
@@ -239,6 +246,13 @@ unsafe extern "C" {
     ) -> u8;
     pub fn x3d_viewer_node_count(viewer: *mut RawViewer, count: *mut usize) -> u8;
     pub fn x3d_viewer_field_count(viewer: *mut RawViewer, node: u32, count: *mut u32) -> u8;
+    pub fn x3d_viewer_field_named(
+        viewer: *mut RawViewer,
+        node: u32,
+        name: *const u8,
+        length: usize,
+        field: *mut u16,
+    ) -> u8;
     pub fn x3d_viewer_list_roots(viewer: *mut RawViewer) -> u8;
     pub fn x3d_viewer_list_children(viewer: *mut RawViewer, node: u32) -> u8;
     pub fn x3d_viewer_list_value(viewer: *mut RawViewer, node: u32, field: u16) -> u8;

@@ -47,6 +47,7 @@ macro_rules! readable {
         $copy_numbers:ident,
         $copy_text:ident,
         $field_count:ident,
+        $field_named:ident,
         $list_children:ident,
         $list_roots:ident,
         $list_value:ident,
@@ -138,15 +139,21 @@ macro_rules! readable {
                 Ok(self.string())
             }
 
-            /// The number of the field of that name.
+            /// The number of the field of that name of a node: of its type, or one that a Script
+            /// declares.
             pub fn field_named(&mut self, node: u32, name: &str) -> Result<u16, Fault> {
-                for field in 0..self.field_count(node) {
-                    let field = u16::try_from(field).map_err(|_| Fault::NoSuchField)?;
-                    if self.field_name(node, field)? == name {
-                        return Ok(field);
-                    }
-                }
-                Err(Fault::NoSuchField)
+                let mut field = 0;
+                let status = unsafe {
+                    raw::$field_named(
+                        &mut self.handle,
+                        node,
+                        name.as_ptr(),
+                        name.len(),
+                        &mut field,
+                    )
+                };
+                Fault::told(status)?;
+                Ok(field)
             }
 
             /// The text of the value that a field has now, as `0 1.5 0`; nodes have none.

@@ -5,7 +5,6 @@ use crate::fault::{Fault, Refusal};
 use crate::packet::{Packet, packet};
 use crate::raw::{self, RawMet, RawTaken, RawViewer};
 use crate::reading::{Aim, Meeting, readable};
-use std::marker::PhantomData;
 use std::ptr;
 
 /// What a viewer made of a datagram.
@@ -43,9 +42,12 @@ pub enum Gathered {
 /// handle.
 pub struct Viewer {
     handle: RawViewer,
-    // Nothing is proved of threads, so a viewer stays on its own.
-    stays: PhantomData<*mut ()>,
 }
+
+// SAFETY: what a handle owns may go to another thread: this is proved of `ViewerHandle` (its `Send`, in
+// crates/embed_handles). The library keeps nothing beside its handles but what malloc keeps, which
+// is for all threads. (Not `Sync`: calls on one handle come one at a time, as `&mut` has it.)
+unsafe impl Send for Viewer {}
 
 impl Viewer {
     /// The viewer of a scene's text (Classic encoding), as a boot, 1 to 2^32 - 1, of viewer `who`,
@@ -55,7 +57,6 @@ impl Viewer {
             handle: RawViewer {
                 at: ptr::null_mut(),
             },
-            stays: PhantomData,
         };
         let (mut line, mut wanted) = ([0; 64], 0);
         // SAFETY: the handle is null, and the bytes are lent for the call. So it is in each call
@@ -253,6 +254,7 @@ readable!(
     x3d_viewer_copy_numbers,
     x3d_viewer_copy_text,
     x3d_viewer_field_count,
+    x3d_viewer_field_named,
     x3d_viewer_list_children,
     x3d_viewer_list_roots,
     x3d_viewer_list_value,

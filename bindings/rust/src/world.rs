@@ -4,7 +4,6 @@ use crate::changes::Changes;
 use crate::fault::{Fault, Refusal};
 use crate::raw::{self, RawMet, RawSaved, RawWork, RawWorld};
 use crate::reading::{Aim, Meeting, readable};
-use std::marker::PhantomData;
 use std::ptr;
 
 /// What an input gave rise to.
@@ -41,9 +40,12 @@ pub enum Kind {
 /// of its handle.
 pub struct World {
     handle: RawWorld,
-    // Nothing is proved of threads, so a world stays on its own.
-    stays: PhantomData<*mut ()>,
 }
+
+// SAFETY: what a handle owns may go to another thread: this is proved of `WorldHandle` (its `Send`, in
+// crates/embed_handles). The library keeps nothing beside its handles but what malloc keeps, which
+// is for all threads. (Not `Sync`: calls on one handle come one at a time, as `&mut` has it.)
+unsafe impl Send for World {}
 
 impl World {
     /// The world of a scene's text (Classic encoding) before any input.
@@ -52,7 +54,6 @@ impl World {
             handle: RawWorld {
                 at: ptr::null_mut(),
             },
-            stays: PhantomData,
         };
         let (mut line, mut wanted) = ([0; 64], 0);
         // SAFETY: the handle is null, and the bytes are lent for the call. So it is in each call
@@ -174,6 +175,7 @@ readable!(
     x3d_world_copy_numbers,
     x3d_world_copy_text,
     x3d_world_field_count,
+    x3d_world_field_named,
     x3d_world_list_children,
     x3d_world_list_roots,
     x3d_world_list_value,

@@ -69,6 +69,11 @@ fn two_viewers_end_equal() {
     assert_eq!(one.trace(0), other.trace(0));
     assert_eq!(one.scene(), other.scene());
     assert!(one.trace(0).unwrap().contains("Door.translation 1 0 0\n"));
+    let door = one.roots().unwrap()[2];
+    assert_eq!(one.label(door).unwrap(), "Door");
+    let translation = one.field_named(door, "translation").unwrap();
+    assert_eq!(one.value(door, translation).unwrap(), "1 0 0");
+    assert_eq!(one.field_named(door, "isOpen"), Err(Fault::NoSuchField));
 }
 
 #[test]

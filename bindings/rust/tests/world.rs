@@ -1,3 +1,4 @@
+use std::thread;
 use x3d::{Aim, Fault, World};
 
 const DOOR: &[u8] = b"#X3D V3.0 utf8
@@ -37,7 +38,8 @@ fn clicked() -> World {
 fn a_click_opens_the_door() {
     let mut world = clicked();
     let work = world.clock(4, 11_000_002).unwrap();
-    // The motor sends isActive, cycleTime, fraction_changed, elapsedTime and time, the slide and the door one each.
+    // The motor sends isActive, cycleTime, fraction_changed, elapsedTime and time, the slide and
+    // the door one each.
     assert_eq!((work.sends, work.deliveries, work.settles), (7, 2, 0));
     let door = node(&mut world, "Door");
     let translation = world.field_named(door, "translation").unwrap();
@@ -110,6 +112,62 @@ fn nodes_stand_as_in_the_text() {
     let many = u32::try_from(world.node_count()).unwrap();
     assert_eq!(world.label(many), Err(Fault::NoSuchNode));
     assert_eq!(world.value(door, u16::MAX), Err(Fault::NoSuchField));
+}
+
+const COUNT: &[u8] = b"#X3D V3.0 utf8
+DEF Door Transform { translation 0 1.5 0 }
+DEF Count Script {
+  url \"x3dshare:counter\"
+  inputOnly SFBool tick
+  initializeOnly SFInt32 start 5
+  initializeOnly SFInt32 step 2
+  outputOnly SFInt32 count
+}
+";
+
+#[test]
+fn fields_are_found_by_their_names() {
+    let mut world = World::open(COUNT).unwrap();
+    let (door, count) = (0, 1);
+    for node in [door, count] {
+        for field in 0..u16::try_from(world.field_count(node)).unwrap() {
+            let name = world.field_name(node, field).unwrap();
+            assert_eq!(world.field_named(node, &name), Ok(field));
+        }
+    }
+    // A Script has metadata, url, directOutput and mustEvaluate, and behind them what it declares.
+    assert_eq!(world.field_named(count, "tick"), Ok(4));
+    assert_eq!(world.field_named(count, "count"), Ok(7));
+    let start = world.field_named(count, "start").unwrap();
+    assert_eq!(world.value(count, start).unwrap(), "5");
+    let translation = world.field_named(door, "translation").unwrap();
+    assert_eq!(world.value(door, translation).unwrap(), "0 1.5 0");
+    for name in ["count", "set_translation", "translation\0", ""] {
+        assert_eq!(world.field_named(door, name), Err(Fault::NoSuchField));
+    }
+    assert_eq!(world.field_named(2, "url"), Err(Fault::NoSuchField));
+}
+
+#[test]
+fn worlds_go_to_other_threads() {
+    let mut threads = Vec::new();
+    for _world in 0..4 {
+        let mut world = clicked();
+        threads.push(thread::spawn(move || {
+            for number in 4..200 {
+                let time = 7_000_000 + i64::from(number) * 1_000_000;
+                world.clock(number, time).unwrap();
+            }
+            world
+        }));
+    }
+    let mut ends = Vec::new();
+    for thread in threads {
+        let mut world = thread.join().unwrap();
+        ends.push((world.trace(0).unwrap(), world.scene().unwrap()));
+    }
+    assert!(ends[0].0.contains(" Door.translation 1 0 0\n"));
+    assert!(ends.iter().all(|end| *end == ends[0]));
 }
 
 #[test]

@@ -21,6 +21,10 @@ closed = 10
 abbrev pub out_of_range : ℕ
 out_of_range = 11
 
+-- the node has no such field
+abbrev pub no_such_field : ℕ
+no_such_field = 24
+
 -- there is no such datagram
 abbrev pub no_packet : ℕ
 no_packet = 25
@@ -100,6 +104,16 @@ CallsOut {H} {A} does status_of told (Some w) status after old new =
 abbrev pub Asks : {H A : Type 0} → (H → A) → Option H → ℕ → (old new : A) → Type 0
 Asks asked None status old new = (status ≡ closed) × (new ≡ old)
 Asks asked (Some w) status old new = (status ≡ 0) × (new ≡ asked w)
+
+-- the number of a field is told, if there is one
+abbrev pub IsFound : Option ℕ → (old status new : ℕ) → Type 0
+IsFound None old status new = (status ≡ no_such_field) × (new ≡ old)
+IsFound (Some field) old status new = (status ≡ 0) × (new ≡ field)
+
+-- a field is looked for in what a handle has, which stays as it is
+abbrev pub Finds : {H : Type 0} → (H → Option ℕ) → Option H → ℕ → (old new : ℕ) → Type 0
+Finds found None status old new = (status ≡ closed) × (new ≡ old)
+Finds found (Some h) status old new = IsFound (found h) old status new
 
 -- bytes or numbers of what a handle has are copied
 abbrev pub Copies : {H A : Type 0} → (H → List A) → Option H → ℕ → (old : List A)

@@ -31,7 +31,7 @@ pub const TIME_NOT_LATER: u8 = 22;
 
 const NO_SUCH_NODE: u8 = 23;
 
-const NO_SUCH_FIELD: u8 = 24;
+pub const NO_SUCH_FIELD: u8 = 24;
 
 const NO_SUCH_SCRIPT: u8 = 26;
 

@@ -2,13 +2,14 @@
 
 ghost use Rattle.std.specs.Prelude.{◌≡◌};
 ghost use Rattle.embed_answers.specs.Status as answers;
+ghost use Rattle.embed_answers.specs.Status.{IsFound};
 ghost use Rattle.embed_answers.specs.NodeStatus as spec;
 
 use crate::node_status::{
     status_of_gather, status_of_host, status_of_join, status_of_number, status_of_offer,
     status_of_take,
 };
-use crate::status::{DONE, status_of_snap};
+use crate::status::{DONE, NO_SUCH_FIELD, status_of_snap};
 use share_law::{
     GatherFault, Gathered, HostFault, HostReply, JoinFault, NumberFault, OfferFault, TakeFault,
     Taken,
@@ -158,6 +159,17 @@ pub fn tell_offer(answer: Result<u32, OfferFault>, told: &mut u32) -> u8
         }
         Err(fault) => status_of_offer(fault),
     }
+}
+
+/// The number of a field, where there is one.
+pub fn tell_field(found: Option<u16>, told: &mut u16) -> u8
+    ensures { IsFound found told.old result told.new }
+{
+    let Some(field) = found else {
+        return NO_SUCH_FIELD;
+    };
+    *told = field;
+    DONE
 }
 
 /// How many inputs the world of a snapshot has had.

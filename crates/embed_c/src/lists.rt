@@ -3,16 +3,17 @@
 ghost use Rattle.std.specs.Prelude.{◌≡◌, length};
 ghost use Rattle.cascade_core.specs.Held.{applied_of};
 ghost use Rattle.scene_core.specs.Scene.{rows_at};
+ghost use Rattle.embed_reading.specs.Names.{number_named};
 ghost use Rattle.embed_world.specs.Calls.{Lists};
 ghost use Rattle.embed_world.specs.Looks as look;
-ghost use Rattle.embed_answers.specs.Status.{Asks, Calls, Copies, status_of_look};
+ghost use Rattle.embed_answers.specs.Status.{Asks, Calls, Copies, Finds, status_of_look};
 ghost use Rattle.embed_c.specs.Answers.{Meeting, met_of, status_of_meet, told};
 ghost use Rattle.embed_c.specs.Points.{direction_of, origin_of};
 ghost use Rattle.embed_world.specs.Pointing.{ray_of};
 ghost use Rattle.embed_world.specs.declared.world.EmbeddedWorld.{EmbeddedWorld as Embedded};
 
 use crate::inputs::{Aim, direction_of, origin_of};
-use embed_answers::{CLOSED, DONE, RANGE, copy_numbers, status_of_look};
+use embed_answers::{CLOSED, DONE, RANGE, copy_numbers, status_of_look, tell_field};
 use embed_handles::WorldHandle;
 use embed_handles::world_handle::{put, take};
 use embed_world::{Entry, LookFault, ray_of};
@@ -117,6 +118,27 @@ pub extern "C" fn x3d_world_field_count(
     *count = world.field_count(node);
     put(handle, alloc, world);
     DONE
+}
+
+/// Tells the number of the field of that name of a node.
+#[unsafe(no_mangle)]
+pub extern "C" fn x3d_world_field_named(
+    alloc: Global,
+    handle: &mut WorldHandle,
+    node: u32,
+    name: &[u8],
+    field: &mut u16,
+) -> u8
+    ensures kept { handle.new.world ≡ handle.old.world }
+    ensures field { Finds (λ (w : Embedded). number_named w.stage.scene node name.now)
+        handle.old.world result field.old field.new }
+{
+    let Some(world) = take(handle, alloc) else {
+        return CLOSED;
+    };
+    let found = world.field_named(node, name);
+    put(handle, alloc, world);
+    tell_field(found, field)
 }
 
 /// Copies the numbers that were listed last, where `out` has room for them, and tells how many

@@ -3,9 +3,10 @@
 ghost use Rattle.std.specs.Prelude.{◌≡◌, length};
 ghost use Rattle.scene_core.specs.Scene.{rows_at};
 ghost use Rattle.share_core.specs.Viewer.{stage_in};
+ghost use Rattle.embed_reading.specs.Names.{number_named};
 ghost use Rattle.embed_nodes.specs.Viewers.{Lists, Meets};
 ghost use Rattle.embed_world.specs.Looks as look;
-ghost use Rattle.embed_answers.specs.Status.{Asks, Calls, CallsOut, Copies, status_of_look};
+ghost use Rattle.embed_answers.specs.Status.{Asks, Calls, CallsOut, Copies, Finds, status_of_look};
 ghost use Rattle.embed_c.specs.Answers.{status_of_meet, told};
 ghost use Rattle.embed_c.specs.NodeAnswers.{ViewerMeets};
 ghost use Rattle.embed_c.specs.Points.{aimed};
@@ -13,7 +14,7 @@ ghost use Rattle.embed_nodes.specs.declared.viewer.EmbeddedViewer.{EmbeddedViewe
 
 use crate::inputs::{Aim, aimed};
 use crate::lists::{Met, tell_met};
-use embed_answers::{CLOSED, DONE, RANGE, copy_numbers, status_of_look};
+use embed_answers::{CLOSED, DONE, RANGE, copy_numbers, status_of_look, tell_field};
 use embed_handles::ViewerHandle;
 use embed_handles::viewer_handle::{put, take};
 use std::alloc::Global;
@@ -107,6 +108,27 @@ pub extern "C" fn x3d_viewer_field_count(
     *count = viewer.field_count(node);
     put(handle, alloc, viewer);
     DONE
+}
+
+/// Tells the number of the field of that name of a node.
+#[unsafe(no_mangle)]
+pub extern "C" fn x3d_viewer_field_named(
+    alloc: Global,
+    handle: &mut ViewerHandle,
+    node: u32,
+    name: &[u8],
+    field: &mut u16,
+) -> u8
+    ensures kept { handle.new.viewer ≡ handle.old.viewer }
+    ensures field { Finds (λ (v : Embedded). number_named v.viewer.scene node name.now)
+        handle.old.viewer result field.old field.new }
+{
+    let Some(viewer) = take(handle, alloc) else {
+        return CLOSED;
+    };
+    let found = viewer.field_named(node, name);
+    put(handle, alloc, viewer);
+    tell_field(found, field)
 }
 
 /// Copies the numbers that were listed last, where `out` has room for them, and tells how many

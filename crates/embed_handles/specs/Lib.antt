@@ -1,3 +1,4 @@
+pub mod Heap
 pub mod HostHeld
 pub mod ViewerHeld
 pub mod WorldHeld

@@ -1,17 +1,13 @@
--- What a handle owns: nothing at null, and else the viewer behind its pointer with the right to free
--- its block.
+-- What a handle owns: nothing at null, and else the viewer behind its pointer with the right to
+-- free its block.
 use Rattle.std.specs.Prelude.{Option, Some, None}
 use base.Fml.{Fml, feq}
 use denote.RawPtr.{Ptr, null_ptr}
 use Rattle.std.specs.Box.Ownership.{box_owns}
-use Rattle.std.specs.declared.alloc.Global.{Global}
 use Rattle.std.specs.contracts.impls.GlobalAllocator.TheImpl.{ghosts}
 use Rattle.embed_nodes.specs.declared.viewer.EmbeddedViewer.{EmbeddedViewer}
 use Rattle.embed_nodes.specs.contracts.viewer.EmbeddedViewer.{the_row}
-
--- the heap, of which there is one
-abbrev pub heap : Global
-heap = record { memory = record { seal = tt } }
+use Rattle.embed_handles.specs.Heap.{heap}
 
 abbrev pub held : Ptr → Option EmbeddedViewer → Fml
 held p None = feq Ptr p null_ptr

@@ -1,17 +1,13 @@
--- What a handle owns: nothing at null, and else the world behind its pointer with the right to free
--- its block.
+-- What a handle owns: nothing at null, and else the world behind its pointer with the right to
+-- free its block.
 use Rattle.std.specs.Prelude.{Option, Some, None}
 use base.Fml.{Fml, feq}
 use denote.RawPtr.{Ptr, null_ptr}
 use Rattle.std.specs.Box.Ownership.{box_owns}
-use Rattle.std.specs.declared.alloc.Global.{Global}
 use Rattle.std.specs.contracts.impls.GlobalAllocator.TheImpl.{ghosts}
 use Rattle.embed_world.specs.declared.world.EmbeddedWorld.{EmbeddedWorld}
 use Rattle.embed_world.specs.contracts.world.EmbeddedWorld.{the_row}
-
--- the heap, of which there is one
-abbrev pub heap : Global
-heap = record { memory = record { seal = tt } }
+use Rattle.embed_handles.specs.Heap.{heap}
 
 abbrev pub held : Ptr → Option EmbeddedWorld → Fml
 held p None = feq Ptr p null_ptr

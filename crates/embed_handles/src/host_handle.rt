@@ -22,6 +22,9 @@ impl Model for HostHandle {
     ghost also_owns = { λ h. held h.at h.host };
 }
 
+// Its host may go to another thread, and so may the right to free its block.
+unsafe impl Send for HostHandle {}
+
 impl HostHandle {
     /// No host.
     pub fn none() -> HostHandle

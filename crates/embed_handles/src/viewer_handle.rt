@@ -22,6 +22,9 @@ impl Model for ViewerHandle {
     ghost also_owns = { λ h. held h.at h.viewer };
 }
 
+// Its viewer may go to another thread, and so may the right to free its block.
+unsafe impl Send for ViewerHandle {}
+
 impl ViewerHandle {
     /// No viewer.
     pub fn none() -> ViewerHandle

@@ -22,6 +22,9 @@ impl Model for WorldHandle {
     ghost also_owns = { λ h. held h.at h.world };
 }
 
+// Its world may go to another thread, and so may the right to free its block.
+unsafe impl Send for WorldHandle {}
+
 impl WorldHandle {
     /// No world.
     pub fn none() -> WorldHandle

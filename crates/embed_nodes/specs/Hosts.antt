@@ -2,6 +2,7 @@
 use Rattle.std.specs.Prelude.{◌≡◌, ℕ, ℤ, List, slice_get, nat_lt, if◌then◌else◌, Option, None, Some, Result}
 use Rattle.std.specs.Option.{option_map}
 use Rattle.sha2.specs.Sha256.{sha256}
+use Rattle.x3d_values.specs.Ranges.{max_viewers}
 use Rattle.share_wire.specs.Datagram.{datagram}
 use Rattle.share_wire.specs.Decoding.{decoded}
 use Rattle.share_wire.specs.declared.message.Body.{Body}
@@ -19,7 +20,7 @@ use Rattle.embed_nodes.specs.declared.host.EmbeddedHost.{EmbeddedHost}
 abbrev pub started : List ℕ → ℕ → Option EmbeddedHost
 started text viewers =
     if nat_lt viewers 1 then None
-    else if nat_lt 16 viewers then None
+    else if nat_lt max_viewers viewers then None
     else Some (record { host = record { mark = sha256 text; part = new_part viewers } })
 
 abbrev pub with_part : EmbeddedHost → HostPart → EmbeddedHost

@@ -5,6 +5,7 @@ use share_law::{FloorFault, HostFault, HostReply, NumberFault};
 use share_wire::Packet;
 use snapshot_core::scene_mark;
 use std::alloc::Global;
+use x3d_values::MAX_VIEWERS;
 
 /// The host of a scene, of which it knows the mark.
 #[derive(Drop)]
@@ -18,15 +19,15 @@ impl EmbeddedHost {
     ghost use Rattle.embed_nodes.specs.Hosts as spec;
     ghost use Rattle.embed_nodes.specs.Hosts.{Clocks, Drops, HostTakes};
 
-    /// The host of a scene's text, for 1 to 16 viewers, which are numbered from 0. It does not look
-    /// at the scene.
+    /// The host of a scene's text, for 1 to `MAX_VIEWERS` viewers, which are numbered from 0. It
+    /// does not look at the scene.
     pub fn start(alloc: Global, text: &[u8], viewers: u8) -> Option<EmbeddedHost>
         ensures { result ≡ spec.started text.now viewers }
     {
         if viewers < 1 {
             return None;
         }
-        if viewers > 16 {
+        if viewers > MAX_VIEWERS {
             return None;
         }
         Some(EmbeddedHost {

@@ -2,6 +2,7 @@
 
 ghost use Rattle.std.specs.Prelude.{◌≡◌, IsTrue};
 
+use embed_reading::number_named;
 use script_boxes::StockScript;
 use share_core::Viewer;
 use share_jobs::JobFault;
@@ -28,6 +29,7 @@ impl EmbeddedViewer {
     ghost use Rattle.share_wire.specs.Messages.{is_ordinal};
     ghost use Rattle.share_law.specs.Viewer.{applied_in};
     ghost use Rattle.share_core.specs.Viewer.{machine_of};
+    ghost use Rattle.embed_reading.specs.Names.{number_named};
     ghost use Rattle.embed_nodes.specs.Viewers as spec;
     ghost use Rattle.embed_nodes.specs.Viewers.{Gathers, IsStarted, Joins, Offers, Rewinds, Takes};
 
@@ -137,6 +139,13 @@ impl EmbeddedViewer {
         ensures { result ≡ length (rows_at self.now.viewer.scene node) }
     {
         self.viewer.stage().scene().field_count(node)
+    }
+
+    /// The number of the field of that name of a node, as in a world.
+    pub fn field_named(&self, node: u32, name: &[u8]) -> Option<u16>
+        ensures { result ≡ number_named self.now.viewer.scene node name.now }
+    {
+        number_named(self.viewer.stage().scene(), node, name)
     }
 
     /// The text that was made last.

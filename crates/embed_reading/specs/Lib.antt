@@ -1,4 +1,5 @@
 pub mod Lines
 pub mod Meeting
+pub mod Names
 pub mod Numbers
 pub mod Values

@@ -1,0 +1,20 @@
+//! The field of a name.
+
+ghost use Rattle.std.specs.Prelude.{◌≡◌};
+ghost use Rattle.embed_reading.specs.Names as spec;
+
+use scene_core::Scene;
+
+/// The number of the field of that name of a node: of its type, or declared by it as a Script does.
+/// None where the node has no such field, there is no such node, or the bytes are not UTF-8.
+pub fn number_named(scene: &Scene, node: u32, name: &[u8]) -> Option<u16>
+    ensures { result ≡ spec.number_named scene.now node name.now }
+{
+    let Ok(name) = str::from_utf8(name) else {
+        return None;
+    };
+    let Some(row) = scene.field_named(node, name) else {
+        return None;
+    };
+    Some(row.number)
+}
