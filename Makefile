@@ -76,7 +76,8 @@ fuzz:
 
 # The gate: every proof from nothing, the must-fail edits, the tests; and then, by the program that
 # was proved, the cases, the examples, prefixes of their scenes, each growth of memory refused in turn,
-# a thousand changed texts, a shared world over UDP, how hosts and viewers end and what they tell, and a world
+# a thousand changed texts, a shared world over UDP, how hosts and viewers end and what they tell, stacks
+# that are too small, and a world
 # with killed viewers and malicious datagrams;
 # and by the library of `make library`, where it was built, the jobs from C, Rust and Python.
 test: definitions
@@ -88,6 +89,7 @@ test: definitions
 	scripts/fuzz 1000 --seed 1; \
 	scripts/share; \
 	scripts/hosts; \
+	scripts/stack; \
 	scripts/soak 1 --seed 48; \
 	if [ -e out/libx3d.so ]; then scripts/bindings --quick; \
 	else echo "bindings: skipped: no library (make library)"; fi; \
