@@ -3,7 +3,7 @@ SHELL := bash
 .SHELLFLAGS := -eu -o pipefail -c
 .PHONY: run try quick picture room test-room test-room-quick room-library \
         share soak fuzz test cases prefixes refusals check definitions calls \
-        bench growth format install library bindings fuzz-library
+        bench growth format install library library-unproved bindings fuzz-library
 
 JOB ?= examples/two-clocks.job
 ROOM ?= examples/rooms/door.job
@@ -13,6 +13,10 @@ THREE ?= /usr/share/javascript/three/three.min.js
 # How many checks the gate runs side by side, a process each: as many as there are processors, four at
 # most for their memory. (A check that is shared by four processes takes a seventh more of them.)
 export RT_JOBS ?= $(shell nproc | awk '{ print ($$1 < 4 ? $$1 : 4) }')
+
+# Whether a library stands, and no source is newer.
+fresh = { [ -e $(1) ] && [ -z "$$(find crates -path '*/out' -prune -o \
+  \( -name '*.rt' -o -name '*.antt' \) -newer $(1) -print -quit)" ]; }
 
 # Proves and builds the program, and runs a job: its trace, and then its scene.
 run:
@@ -43,17 +47,17 @@ room:
 test-room: room-library
 	@room/test_room.py
 
-# Some of these, in less than a minute, for a gate: nothing is built for them, and what is missing is said.
+# Some of these, in less than a minute, for a gate: nothing is built for them, and what is missing is said. They take the
+# library that X3D_SO names, or the proved one, or the one that the gate built without a proof.
 test-room-quick:
-	@if [ ! -e "$(or $(X3D_SO),out/libx3d.so)" ]; then echo "room: skipped: no library (make library)"; \
+	@so="$(X3D_SO)"; [ -n "$$so" ] || for so in out/libx3d.so out/quick/libx3d.so ""; do ! $(call fresh,"$$so") || break; done; \
+	if [ ! -e "$$so" ]; then echo "room: skipped: no library (make library, or make library-unproved)"; \
 	elif [ ! -e $(THREE) ]; then echo "room: skipped: no $(THREE) (Debian's package libjs-three)"; \
-	else room/test_room.py --quick; fi
+	else echo "room: by $$so"; X3D_SO=$$(realpath "$$so") room/test_room.py --quick; fi
 
 # What it stands on: the library, proved and built where it is missing or older than its source; or what X3D_SO names.
 room-library:
-	@[ -n "$(X3D_SO)" ] || { [ -e out/libx3d.so ] && [ -z "$$(find crates -path '*/out' -prune -o \
-	  \( -name '*.rt' -o -name '*.antt' \) -newer out/libx3d.so -print -quit)" ]; } || \
-	  $(MAKE) --no-print-directory library >&2
+	@[ -n "$(X3D_SO)" ] || $(call fresh,out/libx3d.so) || $(MAKE) --no-print-directory library >&2
 
 # Proves and builds the program, and has a host and two viewers do a job over UDP, twice: the second
 # time through a proxy that loses, repeats and reorders datagrams.
@@ -79,7 +83,8 @@ fuzz:
 # a thousand changed texts, a shared world over UDP, how hosts and viewers end and what they tell, stacks
 # that are too small, and a world
 # with killed viewers and malicious datagrams;
-# and by the library of `make library`, where it was built, the jobs from C, Rust and Python.
+# and jobs from C, Rust and Python, by the library of `make library`, or where it isn't built or is older than a
+# source by one that is built of the same sources without a proof.
 test: definitions
 	@log=$$(mktemp); trap 'rm -f "$$log"' EXIT; \
 	rt ci 2>&1 | tee "$$log"; \
@@ -91,8 +96,11 @@ test: definitions
 	scripts/hosts; \
 	scripts/stack; \
 	scripts/soak 1 --seed 48; \
-	if [ -e out/libx3d.so ]; then scripts/bindings --quick; \
-	else echo "bindings: skipped: no library (make library)"; fi; \
+	if $(call fresh,out/libx3d.so); then scripts/bindings --quick; \
+	elif ! command -v "$${CC:-cc}" > /dev/null; then echo "bindings: skipped: no C compiler"; \
+	else $(call fresh,out/quick/libx3d.so) || scripts/unproved_library out/quick; \
+	  echo "bindings: by a library that is built without a proof of the sources that the gate has proved"; \
+	  scripts/bindings --quick out/quick; fi; \
 	tail -n 1 "$$log"
 
 # Proves and builds the program, and runs it on the cases of cases/ and the examples.
@@ -131,12 +139,16 @@ format:
 	@for crate in crates/*; do (cd $$crate && rt fmt) || exit 1; done
 
 # Proves the library for programs that embed a world, and builds out/libx3d.a and out/libx3d.so. Wants a C
-# compiler and binutils.
+# compiler.
 library:
 	@cd crates/embed_c && rt lib
 	@PREFIX=$(PREFIX) scripts/library
 
-# Tests that library from C, Rust and Python, as far as their tools are there. `make test` does so with fewer jobs, where it was built.
+# The same in out/quick/ without a proof, with checks at run time, in some two minutes.
+library-unproved:
+	@scripts/unproved_library out/quick
+
+# Tests the proved library from C, Rust and Python, as far as their tools are there. `make test` does so with fewer jobs.
 bindings: library
 	@scripts/bindings
 

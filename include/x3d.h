@@ -170,7 +170,7 @@ uint8_t x3d_world_applied(struct x3d_world *world, uint32_t *count);
 /* Applies a clock. */
 uint8_t x3d_world_clock(struct x3d_world *world, uint32_t number, int64_t time,
                         struct x3d_work *work);
-/* Applies the pointer of a viewer, 0 to 15, whose button is down or not. */
+/* Applies the pointer of a viewer, 0 to 63, whose button is down or not. */
 uint8_t x3d_world_point(struct x3d_world *world, uint32_t number, int64_t time, uint8_t viewer,
                         bool down, const struct x3d_aim *aim, struct x3d_work *work);
 /* Tells what a ray would hit, and lists the sensors that this concerns; the world stays as it
@@ -243,7 +243,7 @@ uint8_t x3d_world_replace_script(struct x3d_world *world, size_t k, uint8_t kind
  * repeated and come in any order, but come unaltered, and only those of this run. The calls that
  * copy a datagram answer X3D_NO_PACKET where there is none. */
 
-/* Opens the host of a scene's text for 1 to 16 viewers, numbered from 0, in place of one that the
+/* Opens the host of a scene's text for 1 to 64 viewers, numbered from 0, in place of one that the
  * handle had. It keeps the mark of the text alone, and does not look at the scene. Where memory is
  * refused the handle has none. */
 uint8_t x3d_host_open(struct x3d_host *host, const uint8_t *text, size_t length, uint8_t viewers);
@@ -275,7 +275,7 @@ uint8_t x3d_host_viewers(struct x3d_host *host, uint32_t *count);
 /* ---- a viewer of a shared world: it holds the world, offers what it points at, and applies the
  * host's inputs in turn */
 
-/* Opens the viewer of a scene's text, as a boot, 1 to 2^32 - 1, of viewer `who`, 0 to 15, in place
+/* Opens the viewer of a scene's text, as a boot, 1 to 2^32 - 1, of viewer `who`, 0 to 63, in place
  * of one that the handle had. Where it is refused the handle has none, and the line `refused NAME
  * line N` is copied to `refusal`, which has at most 64 bytes; at X3D_RANGE it has what it had. */
 uint8_t x3d_viewer_open(struct x3d_viewer *viewer, const uint8_t *text, size_t length, uint8_t who,

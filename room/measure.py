@@ -155,9 +155,10 @@ def spent(process):
 
 def measured(served, window, pages, others, seconds):
     """Counts for so many seconds, and tells of them."""
+    # Their line comes as a second ends: all is counted from there.
+    first = int(others.stdout.readline())
     begun, before = time.monotonic(), used(served.process)
-    old, first = window and spent(window.process), int(others.stdout.readline())
-    counts = [counts_of(page) for page in pages]
+    old, counts = window and spent(window.process), [counts_of(page) for page in pages]
     for _ in range(seconds):
         last = int(others.stdout.readline())
     took, share = time.monotonic() - begun, used(served.process) - before

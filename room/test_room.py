@@ -2,9 +2,9 @@
 """Tests of the room: its core, its server under hostile requests, two windows of a real browser.
 
 usage: room/test_room.py [--quick] [NAME..]
-Where no browser is installed its tests say "skipped". $SECONDS is how long windows are clicked
-at random (60), $HOSTILE how many hostile bodies there are (10,000), $SHOTS a folder for
-screenshots. --quick is for a gate: some tests, with 500 hostile bodies, of which none begins after
+Where no browser is installed its tests say "skipped". $THREE names another three.js, $SECONDS is
+how long windows are clicked at random (60), $HOSTILE how many hostile bodies there are (10,000),
+$SHOTS a folder for screenshots. --quick is for a gate: some tests, with 500 hostile bodies, of which none begins after
 40 seconds, and all end after 55. Where more than twice as much wants to run as can, they then say
 "skipped", and else they fail."""
 import contextlib
@@ -29,7 +29,7 @@ from scene import scene_of
 from server import Service, Wrong
 
 HERE = Path(__file__).resolve().parent
-DOOR = HERE.parent / "examples/rooms/door.job"
+DOOR, PANEL = (HERE.parent / f"examples/rooms/{name}.job" for name in ("door", "panel"))
 SECONDS = int(os.environ.get("SECONDS", "60"))
 # A door moves in both windows so soon, in seconds, where the machine has nothing else to do; where
 # another thing is tested it may take longer.
@@ -214,7 +214,8 @@ class Served:
         self.job, self.port = job, port
 
     def __enter__(self):
-        words = [sys.executable, HERE / "server.py", "--port", str(self.port), self.job]
+        three = ["--three", os.environ["THREE"]] if os.environ.get("THREE") else []
+        words = [sys.executable, HERE / "server.py", "--port", str(self.port), *three, self.job]
         self.process = subprocess.Popen(words, stdout=subprocess.PIPE, text=True)
         self.address = self.process.stdout.readline().strip()
         if not self.address:
@@ -543,6 +544,48 @@ def test_sixteen_windows_show_one_world():
         windows.shoot("sixteen")
 
 
+def drag(page, start, end, edge=False):
+    """The mouse presses where one place of the scene is seen, goes to another, and beyond the view if so."""
+    spots = [page.value(f"room.spotOf({place})") for place in (start, end)]
+    page.mouse("mouseMoved", spots[0])
+    page.mouse("mousePressed", spots[0], 1)
+    page.mouse("mouseMoved", spots[1], 1)
+    if edge:
+        left, _, width, _ = view_of(page)
+        page.wait(HANDLE_AT.format(1), LATER)
+        page.mouse("mouseMoved", [left + width + 8, spots[1][1]], 1)
+        page.wait(HANDLE_AT.format(2), LATER)
+    return spots[1]
+
+
+# Whether the handle of the panel's slider stands so far along its groove.
+HANDLE_AT = """(([x, y, z]) => Math.abs(x - {}) < 0.03 && !y && !z)(room.value('Handle', 'translation'))"""
+
+
+def test_a_slider_is_dragged_outside_of_its_box():
+    """One window drags it with the pointer far above, and out of the view; the other takes it from there."""
+    ended = "room.value('Slider', 'isActive') === false && room.value('Slider', 'offset')[0]"
+    with Windows(2, PANEL) as windows:
+        one, other = windows.pages
+        drag(one, [-1, -1, 0.2], [0, 0.9, 0.2], True)
+        windows.shoot("dragged")
+        left, top, width, _ = view_of(one)
+        one.mouse("mouseReleased", [left + width + 8, top + 20])
+        for page in windows.pages:
+            page.wait(f"{ended} === 2 && {HANDLE_AT.format(2)}", LATER)
+        # It was pressed beside the middle, and goes as far as the pointer does.
+        spot = drag(other, [1.1, -0.95, 0.2], [-0.4, -0.2, 0.2])
+        other.wait(HANDLE_AT.format(0.5), LATER)
+        other.mouse("mouseReleased", spot)
+        for page in windows.pages:
+            page.wait(f"Math.abs({ended} - 0.5) < 0.03 && {HANDLE_AT.format(0.5)}", LATER)
+        last = one.value("room.state.status.numbered")
+        for page in windows.pages:
+            page.wait(f"room.state.status.equal_at >= {last}")
+        assert not one.value("room.state.status.different")
+        windows.shoot("slider")
+
+
 def test_the_keyboard_opens_the_door():
     with Windows() as windows:
         one, other = windows.pages
@@ -660,6 +703,7 @@ def test_it_says_when_the_server_is_gone():
 GATE = (
     "what_isnt_its_own_is_refused",
     "a_click_in_one_window_opens_the_door_in_both",
+    "a_slider_is_dragged_outside_of_its_box",
     "a_killed_viewer_comes_back",
     "hostile_bodies_never_stop_it",
 )

@@ -87,7 +87,7 @@ int main(int count, char **words) {
     switch (below(34)) {
     case 0:
       if (!below(8))
-        status = x3d_host_open(host, (const uint8_t *)scene, strlen(scene), (uint8_t)below(18));
+        status = x3d_host_open(host, (const uint8_t *)scene, strlen(scene), (uint8_t)below(66));
       break;
     case 1:
       if (!below(64)) x3d_host_close(host);

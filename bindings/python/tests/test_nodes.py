@@ -119,8 +119,8 @@ class Nodes(unittest.TestCase):
 
     def test_what_is_refused_changes_nothing(self):
         self.refused("Range", Host, DOOR, 0)
-        self.refused("Range", Host, DOOR, 17)
-        self.refused("Range", Viewer, DOOR, 16, 1)
+        self.refused("Range", Host, DOOR, 65)
+        self.refused("Range", Viewer, DOOR, 64, 1)
         self.refused("Range", Viewer, DOOR, 0, 0)
         with self.assertRaises(Refusal) as told:
             Viewer("#X3D V3.0 utf8\nGrup {}\n", 0, 1)

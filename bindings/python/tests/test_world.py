@@ -107,7 +107,7 @@ class Worlds(unittest.TestCase):
         self.refused("NotNext", world.clock, 2, 5)
         self.refused("Range", world.clock, 0, 5)
         self.refused("Range", world.clock, 1, 1 << 64)
-        self.refused("Range", world.point, 1, 5, 16, False, AIM)
+        self.refused("Range", world.point, 1, 5, 64, False, AIM)
         world.clock(1, 5)
         self.refused("TimeNotLater", world.clock, 2, 5)
         world.close()

@@ -62,7 +62,7 @@ class _Node(Held):
 
 
 class Host(_Node):
-    """The host of a scene, for viewers that are numbered from 0, 1 to 16 of them: it numbers what
+    """The host of a scene, for viewers that are numbered from 0, 1 to 64 of them: it numbers what
     happens, and hands it out.
 
     Of the scene it keeps the SHA-256 of its text alone, so that it takes datagrams of no other; it
@@ -144,7 +144,7 @@ class Host(_Node):
 
 
 class Viewer(_Node, Readable):
-    """A viewer of a scene, as boot `boot` (1 to 2^32 - 1) of viewer `who` (0 to 15): it holds the
+    """A viewer of a scene, as boot `boot` (1 to 2^32 - 1) of viewer `who` (0 to 63): it holds the
     world, offers what it points at, and applies the host's inputs in turn. All that is read of a
     World is read of it: `changes`, `value`, `meet`, ..
 

@@ -39,7 +39,7 @@ class World(Readable):
         return Work(work.sends, work.deliveries, work.settles)
 
     def point(self, number: int, time: int, viewer: int, down: bool, aim: Aim) -> Work:
-        """Applies the pointer of a viewer, 0 to 15, whose button is down or not."""
+        """Applies the pointer of a viewer, 0 to 63, whose button is down or not."""
         work = RawWork()
         self._call("point", fits(number, 32), signed(time), fits(viewer, 8), down, raw_aim(aim), work)
         return Work(work.sends, work.deliveries, work.settles)

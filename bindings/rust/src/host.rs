@@ -53,7 +53,7 @@ pub struct Host {
 unsafe impl Send for Host {}
 
 impl Host {
-    /// The host of a scene's text for 1 to 16 viewers, which are numbered from 0.
+    /// The host of a scene's text for 1 to 64 viewers, which are numbered from 0.
     pub fn new(text: &[u8], viewers: u8) -> Result<Host, Fault> {
         let mut host = Host {
             handle: RawHost {

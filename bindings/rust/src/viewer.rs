@@ -51,7 +51,7 @@ unsafe impl Send for Viewer {}
 
 impl Viewer {
     /// The viewer of a scene's text (Classic encoding), as a boot, 1 to 2^32 - 1, of viewer `who`,
-    /// 0 to 15. Where these are out of range the refusal's line is empty.
+    /// 0 to 63. Where these are out of range the refusal's line is empty.
     pub fn open(text: &[u8], who: u8, boot: u32) -> Result<Viewer, Refusal> {
         let mut viewer = Viewer {
             handle: RawViewer {

@@ -104,7 +104,7 @@ impl World {
         Ok(work_of(&work))
     }
 
-    /// Applies the pointer of a viewer, 0 to 15, whose button is down or not.
+    /// Applies the pointer of a viewer, 0 to 63, whose button is down or not.
     pub fn point(
         &mut self,
         number: u32,

@@ -118,7 +118,7 @@ fn a_late_viewer_joins_by_pieces() {
 #[test]
 fn what_is_refused_changes_nothing() {
     assert!(matches!(Host::new(DOOR, 0), Err(Fault::Range)));
-    assert!(matches!(Viewer::open(DOOR, 16, 1), Err(refusal) if refusal.line.is_empty()));
+    assert!(matches!(Viewer::open(DOOR, 64, 1), Err(refusal) if refusal.line.is_empty()));
     let refusal = Viewer::open(b"#X3D V3.0 utf8\nGrup {}\n", 0, 1)
         .err()
         .unwrap();

@@ -197,7 +197,7 @@ fn what_is_refused_changes_nothing() {
     assert_eq!(world.clock(2, 5), Err(Fault::NotNext));
     assert_eq!(world.clock(0, 5), Err(Fault::Range));
     assert_eq!(world.clock(1, 0), Err(Fault::Range));
-    assert_eq!(world.point(1, 5, 16, false, &aim()), Err(Fault::Range));
+    assert_eq!(world.point(1, 5, 64, false, &aim()), Err(Fault::Range));
     world.clock(1, 5).unwrap();
     assert_eq!(world.clock(2, 5), Err(Fault::TimeNotLater));
     assert_eq!(world.applied(), 1);

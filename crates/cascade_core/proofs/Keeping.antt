@@ -11,13 +11,14 @@ use Rattle.scene_core.specs.Scene.{SceneView, types_of}
 use Rattle.script_host.specs.Behaviour.{Call}
 use Rattle.script_turn.specs.Acting.{act}
 use Rattle.script_due.specs.Settling.{with_received}
-use Rattle.cascade_world.specs.Answers.{Answer, answer, met, ticked, with_answer}
+use Rattle.cascade_world.specs.Answers.{Answer, answer, met, pointer_at, ticked, with_answer}
 use Rattle.cascade_core.specs.Apply.{with_button}
 use Rattle.cascade_trace.specs.Ends.{has_sent, targets_of}
 use Rattle.cascade_world.specs.Nodes.{clocks_of}
 use Rattle.cascade_core.specs.Outputs.{outputs_of}
-use Rattle.cascade_world.specs.Pointer.{concerned, insides, is_down, place_in}
-use Rattle.cascade_world.specs.declared.aim.Inside.{Inside}
+use Rattle.cascade_world.specs.Insides.{Insides, insides}
+use Rattle.cascade_world.specs.Pointer.{concerned, is_down}
+use Rattle.cascade_world.specs.declared.aim.Concerned.{Concerned}
 use Rattle.cascade_core.specs.Course.{Course, Plan, ports_of, with_turn}
 use Rattle.cascade_core.specs.Cascade.{Arrival, Reached, arrival, deliver, reached, reached_by, recorded, send, send_all, send_replies}
 use Rattle.cascade_core.specs.Apply.{happen, point, point_node, tick_node}
@@ -73,19 +74,19 @@ module _ (plan : Plan) (P : Course → Type 0)
   unfolding tick_node
   tick-of now c node p = let t = ticked c.turn.world node now in replies-of node (with_turn c (with_answer c.turn t)) t.replies (answers c t p)
 
-  point_node-of : (scene : SceneView) (p : Pointing) (before : Bool) (is : List Inside) (c : Course) (sensor : ℕ) → P c → P (point_node scene plan p before is c sensor)
+  point_node-of : (scene : SceneView) (p : Pointing) (before : Bool) (is : Insides) (c : Course) (x : Concerned) → P c → P (point_node scene plan p before is c x)
   unfolding point_node
-  point_node-of scene p before is c sensor q =
-      let a = met scene c.turn.world sensor p before (place_in is sensor) in
-      replies-of sensor (with_turn c (with_answer c.turn a)) a.replies (answers c a q)
+  point_node-of scene p before is c x q =
+      let a = met scene c.turn.world x.sensor (pointer_at p before is x.tracked x.sensor) in
+      replies-of x.sensor (with_turn c (with_answer c.turn a)) a.replies (answers c a q)
 
   point-of : (scene : SceneView) (c : Course) (p : Pointing) → P c → P (point scene plan c p)
   unfolding point
   point-of scene c p q =
-      let is : List Inside = insides scene c.turn.world.fields p.ray in
+      let is : Insides = insides scene c.turn.world.fields p.ray in
       let before : Bool = is_down c.turn.world p.who in
       fold-of (point_node scene plan p before is) (λ d n r. point_node-of scene p before is d n r)
-      (with_turn c (with_button c.turn p)) (concerned (types_of scene) c.turn.world p.who) (buttons c p q)
+      (with_turn c (with_button c.turn p)) (concerned scene c.turn.world p) (buttons c p q)
 
   pub happen-of : (scene : SceneView) (now : ℤ) (c : Course) (event : Event) → P c → P (happen scene plan now c event)
   happen-of scene now c Clock p = fold-of (tick_node plan now) (λ d n q. tick-of now d n q) c (clocks_of (types_of scene)) p

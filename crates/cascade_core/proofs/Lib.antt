@@ -22,3 +22,4 @@ mod Places
 pub mod RunFaults
 mod Skipped
 mod Walks
+mod Beginnings

@@ -9,7 +9,7 @@ use denote.Enum.Bare.{same_true}
 use Rattle.x3d_values.specs.contracts.node_type.NodeType.{the_type}
 use Rattle.x3d_values.specs.declared.fields.Fields.{Fields}
 use Rattle.x3d_values.specs.declared.node_type.NodeType.{NodeType}
-use Rattle.x3d_values.specs.declared.node_type.NodeType.TheVariants.{TimeSensor, TouchSensor}
+use Rattle.x3d_values.specs.declared.node_type.NodeType.TheVariants.{TimeSensor}
 use Rattle.x3d_values.specs.declared.value.Value.{Value}
 use Rattle.x3d_values.specs.Tables.{Entry, numbered, rows}
 use Rattle.x3d_values.specs.declared.table.FieldRow.{FieldRow}
@@ -22,17 +22,19 @@ use Rattle.scene_core.specs.declared.scene.End.{End}
 use Rattle.cascade_trace.specs.Ends.{has_sent, same_end}
 use Rattle.cascade_world.specs.Access.{is_set, is_output}
 use Rattle.cascade_core.specs.Outputs.{output_fields, ends_from, is_scene_output}
-use Rattle.x3d_values.specs.Pointing.{Pointing}
-use Rattle.x3d_values.specs.declared.vector.Vec3.{Vec3}
-use Rattle.scene_core.specs.Scene.{SceneView, shapes_of, types_of}
+use Rattle.scene_core.specs.Scene.{SceneView, shapes_of, type_at, types_of}
 use Rattle.scene_core.specs.Shape.{Shape, rows_of}
-use Rattle.pick_core.specs.Sensors.{is_enabled, is_enabled_as}
-use Rattle.cascade_world.specs.Answers.{answer, answer_as, is_script, is_touch_sensor, keeping, meeting, met, not_run, nothing, reacting, setting, setting_at, ticked, ticking, ticking_at, touching}
+use Rattle.pick_core.specs.Sensors.{is_enabled}
+use Rattle.scene_core.specs.Places.{is_pointing}
+use Rattle.sensor_plane.specs.declared.meeting.SensorPointer.{SensorPointer}
+use Rattle.sensor_plane.specs.declared.pointing.PointingState.{PointingState}
+use Rattle.sensor_plane.specs.Pointing.{is_state_of}
+use Rattle.cascade_world.specs.Answers.{answer, answer_as, is_met, is_script, keeping, meeting, met, met_as, not_run, nothing, reacting, setting, setting_at, ticked, ticking, ticking_at, touching}
 use Rattle.cascade_world.specs.Nodes.{is_clock}
 use Rattle.cascade_world.proofs.Shapes.{HasShape, shape_at}
 use Rattle.cascade_world.proofs.Senders.{kept-sends, reaction-leaves}
 use Rattle.cascade_world.proofs.SensorReplies.{set-leaves, tick-leaves}
-use Rattle.cascade_world.proofs.TouchReplies.{meeting-leaves, touching-leaves}
+use Rattle.cascade_world.proofs.PointingReplies.{meeting-leaves, touching-leaves}
 use Rattle.cascade_world.specs.declared.world.WorldData.{WorldData}
 
 -- all of these are sent by outputs of the scene
@@ -135,9 +137,6 @@ all_by shapes node shape kind h is replies all = all_outputs shapes node shape h
 sensor_is : (kind : NodeType) → is_time_sensor kind ≡ true → kind ≡ TimeSensor
 sensor_is kind h = same_true the_type (search rules) _ _ h
 
-touch_is : (kind : NodeType) → is_touch_sensor kind ≡ true → kind ≡ TouchSensor
-touch_is kind h = same_true the_type (search rules) _ _ h
-
 -- ---- an event
 
 reacting-sends : (shapes : List Shape) (w : WorldData) (target : End) (v : Value) (shape : Shape) (fields : Option Fields) → slice_get shapes target.node ≡ Some shape →
@@ -179,26 +178,25 @@ answer-sends shapes w target v = by_shape (slice_get shapes target.node) refl
     other shape h true = not_run-sends shapes w target v shape (slice_get w.fields target.node) h
     other shape h false = reacting-sends shapes w target v shape (slice_get w.fields target.node) h
 
-    by_touch : (shape : Shape) → slice_get shapes target.node ≡ Some shape → (b : Bool) → is_touch_sensor shape.node_type ≡ b →
+    by_touch : (shape : Shape) → slice_get shapes target.node ≡ Some shape → (b : Bool) →
         AllOutputs shapes target.node (if b
-        then touching w target v (slice_get w.fields target.node)
+        then touching w target v shape.node_type (slice_get w.fields target.node)
         else (if is_script shape.node_type
         then not_run w target v (slice_get (rows_of shape) target.field) (slice_get w.fields target.node)
         else reacting w target v shape.node_type (slice_get w.fields target.node))).replies
-    by_touch shape h true is =
-        all_by shapes target.node shape TouchSensor h (touch_is shape.node_type is) _ (touching-leaves w target v (slice_get w.fields target.node))
-    by_touch shape h false is = other shape h (is_script shape.node_type)
+    by_touch shape h true = all_outputs shapes target.node shape h _ (touching-leaves w target v shape.node_type (slice_get w.fields target.node))
+    by_touch shape h false = other shape h (is_script shape.node_type)
 
     by_time : (shape : Shape) → slice_get shapes target.node ≡ Some shape → (b : Bool) → is_time_sensor shape.node_type ≡ b →
         AllOutputs shapes target.node (if b
         then setting_at w target v (slice_get w.fields target.node)
-        else (if is_touch_sensor shape.node_type
-        then touching w target v (slice_get w.fields target.node)
+        else (if is_pointing shape.node_type
+        then touching w target v shape.node_type (slice_get w.fields target.node)
         else (if is_script shape.node_type
         then not_run w target v (slice_get (rows_of shape) target.field) (slice_get w.fields target.node)
         else reacting w target v shape.node_type (slice_get w.fields target.node)))).replies
     by_time shape h true is = setting_at-sends shapes w target v shape (slice_get w.fields target.node) h (sensor_is shape.node_type is)
-    by_time shape h false is = by_touch shape h (is_touch_sensor shape.node_type) refl
+    by_time shape h false is = by_touch shape h (is_pointing shape.node_type)
 
     by_shape : (shape : Option Shape) → slice_get shapes target.node ≡ shape → AllOutputs shapes target.node (answer_as w target v shape).replies
     by_shape None h = tt
@@ -231,20 +229,27 @@ ticked-sends scene w node now h =
 
 -- ---- a pointer
 
-enabled_is : (kind : Option NodeType) (own : Option Fields) → is_enabled_as kind own ≡ true → kind ≡ Some TouchSensor
-enabled_is (Some TouchSensor) own h = refl
-enabled_is _ own h = cc
+suited : (a b : Bool) → (a && b) ≡ true → b ≡ true
+suited true b h = h
+suited false b h = absurd cc
 
--- what a touch sensor sends at a pointer is sent by outputs of the scene
-pub met-sends : (scene : SceneView) (w : WorldData) (node : ℕ) (p : Pointing) (before : Bool) (place : Option Vec3) →
-    AllOutputs (shapes_of scene) node (met scene w node p before place).replies
-unfolding met is_enabled
-met-sends scene w node p before place = cases (is_enabled scene w.fields node) refl
+-- what a pointing sensor sends at a pointer is sent by outputs of the scene
+pub met-sends : (scene : SceneView) (w : WorldData) (node : ℕ) (at : SensorPointer) → AllOutputs (shapes_of scene) node (met scene w node at).replies
+unfolding met
+met-sends scene w node at = by_state (slice_get w.pointing node)
   where
-    touch : HasShape scene node TouchSensor → AllOutputs (shapes_of scene) node (meeting w node p before place (slice_get w.touches node)).replies
-    touch h = all_by (shapes_of scene) node h.shape TouchSensor h.at h.is _ (meeting-leaves w node p before place (slice_get w.touches node))
+    by_kind : (state : PointingState) (kind : Option NodeType) → type_at scene node ≡ kind → option_map_or (λ k. is_state_of k state) kind false ≡ true →
+        AllOutputs (shapes_of scene) node (meeting w node at state (slice_get w.fields node)).replies
+    by_kind state None here is = absurd cc
+    by_kind state (Some kind) here is =
+        let h = shape_at scene node kind here in
+        all_by (shapes_of scene) node h.shape kind h.at h.is _ (meeting-leaves w node at kind state (slice_get w.fields node) is)
 
-    cases : (b : Bool) → is_enabled_as (slice_get (types_of scene) node) (slice_get w.fields node) ≡ b →
-        AllOutputs (shapes_of scene) node (if b then meeting w node p before place (slice_get w.touches node) else nothing w).replies
-    cases true is = touch (shape_at scene node TouchSensor (enabled_is (slice_get (types_of scene) node) (slice_get w.fields node) is))
-    cases false is = tt
+    cases : (state : PointingState) (b : Bool) → is_met scene w node state ≡ b →
+        AllOutputs (shapes_of scene) node (if b then meeting w node at state (slice_get w.fields node) else nothing w).replies
+    cases state true on = by_kind state (type_at scene node) refl (suited (is_enabled scene w.fields node) _ on)
+    cases state false off = tt
+
+    by_state : (o : Option PointingState) → AllOutputs (shapes_of scene) node (met_as scene w node at o).replies
+    by_state None = tt
+    by_state (Some state) = cases state (is_met scene w node state) refl

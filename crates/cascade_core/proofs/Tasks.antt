@@ -1,5 +1,5 @@
 -- Each step of the work stack keeps what the tasks come to, and leaves less to do.
-use Rattle.std.proofs.Common.{◌≡◌, Bool, ℕ, ℤ, ◌+◌, ◌*◌, ◌<◌, ◌≤◌, true, false, List, [], ◌∷◌, ◌++◌, ◌∙◌, ap, sym, refl, arith, mul-le-mul_right, map, reverse, length, Option, Some, None}
+use Rattle.std.proofs.Common.{◌≡◌, ℕ, ℤ, ◌+◌, ◌*◌, ◌<◌, ◌≤◌, true, false, List, [], ◌∷◌, ◌++◌, ◌∙◌, ap, sym, refl, arith, mul-le-mul_right, map, reverse, length, Some, None}
 use Rattle.std.specs.Prelude.{slice_get}
 use Rattle.std.specs.List.{fold, AllByRecursion}
 use Rattle.cascade_trace.proofs.RoutePlaces.{drop-none, drop-some}
@@ -12,6 +12,7 @@ use Rattle.script_turn.specs.Acting.{act, kinds_of}
 use Rattle.cascade_core.specs.Course.{Course, Plan, node_of, ports_of}
 use Rattle.cascade_core.specs.Cascade.{deliver, reached, recorded, send_all, send_full}
 use Rattle.cascade_core.specs.Sound.{IsSound}
+use Rattle.sensor_plane.specs.declared.meeting.SensorPointer.{SensorPointer}
 use Rattle.cascade_world.specs.Answers.{met, ticked}
 use Rattle.cascade_core.specs.Outputs.{is_scene_output, ends_from}
 use Rattle.cascade_core.specs.Stack.{do_task, finish, IsReady, weight, weights, unsent, work_left}
@@ -29,8 +30,6 @@ use Rattle.cascade_rules.specs.declared.tasks.Task.TheVariants.{Send, Follow}
 use Rattle.cascade_world.specs.declared.world.WorldData.{WorldData}
 use Rattle.cascade_world.specs.Nodes.{is_clock}
 use Rattle.scene_core.specs.Scene.{SceneView, shapes_of, types_of}
-use Rattle.x3d_values.specs.Pointing.{Pointing}
-use Rattle.x3d_values.specs.declared.vector.Vec3.{Vec3}
 
 reverse-push : {X : Type 0} (xs : List X) (x : X) → reverse (xs ++ x ∷ []) ≡ x ∷ reverse xs
 reverse-push xs x = rw reverse-append refl
@@ -198,13 +197,13 @@ ticked-ready scene w node now h =
     all-map (shapes_of scene) node (reverse rs)
     (all-reverse (λ (r : Reply). is_scene_output (shapes_of scene) (record { node = node; field = r.field }) ≡ true) rs (ticked-sends scene w node now h))
 
--- what a touch sensor sends at a pointer is sent by outputs
-pub met-ready : (scene : SceneView) (w : WorldData) (node : ℕ) (p : Pointing) (before : Bool) (place : Option Vec3) →
-    AllByRecursion (IsReady (shapes_of scene)) (map (send_by node) (reverse (met scene w node p before place).replies))
-met-ready scene w node p before place =
-    let rs = (met scene w node p before place).replies in
+-- what a pointing sensor sends at a pointer is sent by outputs
+pub met-ready : (scene : SceneView) (w : WorldData) (node : ℕ) (at : SensorPointer) →
+    AllByRecursion (IsReady (shapes_of scene)) (map (send_by node) (reverse (met scene w node at).replies))
+met-ready scene w node at =
+    let rs = (met scene w node at).replies in
     all-map (shapes_of scene) node (reverse rs)
-    (all-reverse (λ (r : Reply). is_scene_output (shapes_of scene) (record { node = node; field = r.field }) ≡ true) rs (met-sends scene w node p before place))
+    (all-reverse (λ (r : Reply). is_scene_output (shapes_of scene) (record { node = node; field = r.field }) ≡ true) rs (met-sends scene w node at))
 
 -- what the node of a script sends is sent by outputs
 pub act-ready : (plan : Plan) (scripts : List ScriptRecord) → IsSound plan (kinds_of scripts) → (k : ℕ) (call : Call) →

@@ -5,12 +5,11 @@ use Rattle.std.specs.List.{filter, fold, range_with_len}
 use Rattle.std.proofs.lemmas.List.{length-map}
 use Rattle.x3d_values.specs.declared.node_type.NodeType.{NodeType}
 use Rattle.scene_core.specs.declared.scene.SceneNode.{SceneNode}
-use Rattle.cascade_world.specs.Nodes.{is_of, numbers_of}
-use Rattle.cascade_world.specs.Nodes.{touch_sensors_of}
-use Rattle.cascade_world.specs.Pointer.{is_pressed}
+use Rattle.cascade_world.specs.Nodes.{is_of, is_sensor, numbers_of, pointing_sensors_of}
+use Rattle.cascade_world.specs.Pointer.{is_pressed, untracked}
+use Rattle.cascade_world.specs.declared.aim.Concerned.{Concerned}
 use Rattle.cascade_world.specs.declared.world.WorldData.{WorldData}
-use Rattle.x3d_values.specs.declared.node_type.NodeType.TheVariants.{TouchSensor}
-use Rattle.cascade_core.specs.Walks.{appended, over_block, presses, where_passes}
+use Rattle.cascade_core.specs.Walks.{appended, over_block, presses, untracked_by, where_passes}
 
 filter-one : {S : Type 0} (p : ℕ → Bool) (f : S → ℕ → S) (s : S) (x : ℕ) (xs : List ℕ) (b : Bool) → p x ≡ b →
     ((t : S) → fold f t (filter p xs) ≡ fold (where_passes p f) t xs) → fold f s (filter p (x ∷ xs)) ≡ fold (where_passes p f) s (x ∷ xs)
@@ -91,8 +90,8 @@ pub passed-still : {S : Type 0} (b : Bool) (x s : S) → s ≡ x → (if b then 
 passed-still true x s h = sym h
 passed-still false x s h = refl
 
--- the nodes of a type are those that pass
-pub by-type : {S : Type 0} (wanted : NodeType) (nodes : List SceneNode) (f : S → ℕ → S) (s : S) (count : ℕ) → count ≡ length nodes →
+-- the nodes of some types are those that pass
+pub by-type : {S : Type 0} (wanted : NodeType → Bool) (nodes : List SceneNode) (f : S → ℕ → S) (s : S) (count : ℕ) → count ≡ length nodes →
     fold (where_passes (is_of wanted (map (λ (n : SceneNode). n.node_type) nodes)) f) s (range_with_len (0 * 32) (count - 0 * 32))
     ≡ fold f s (numbers_of wanted (map (λ (n : SceneNode). n.node_type) nodes))
 unfolding numbers_of
@@ -104,13 +103,13 @@ by-type {S} wanted nodes f s count many =
 
 -- ---- the sensors that a viewer presses
 
-listed : (taken xs : List ℕ) → fold appended taken xs ≡ taken ++ xs
-listed taken [] = sym (append-none taken)
+listed : (track : ℕ → Concerned) (taken : List Concerned) (xs : List ℕ) → fold (appended track) taken xs ≡ taken ++ map track xs
+listed track taken [] = sym (append-none taken)
   where
-    append-none : (ys : List ℕ) → ys ++ [] ≡ ys
+    append-none : (ys : List Concerned) → ys ++ [] ≡ ys
     append-none [] = refl
-    append-none (y ∷ ys) = ap (λ (zs : List ℕ). y ∷ zs) (append-none ys)
-listed taken (x ∷ xs) = listed (taken ++ x ∷ []) xs ∙ append_assoc taken (x ∷ []) xs
+    append-none (y ∷ ys) = ap (λ (zs : List Concerned). y ∷ zs) (append-none ys)
+listed track taken (x ∷ xs) = listed track (taken ++ track x ∷ []) xs ∙ append_assoc taken (track x ∷ []) (map track xs)
 
 both-one : (p q : ℕ → Bool) (x : ℕ) (xs : List ℕ) (a b : Bool) → p x ≡ a → q x ≡ b → filter (λ i. p i && q i) xs ≡ filter p (filter q xs) →
     filter (λ i. p i && q i) (x ∷ xs) ≡ filter p (filter q (x ∷ xs))
@@ -123,22 +122,29 @@ both : (p q : ℕ → Bool) (xs : List ℕ) → filter (λ i. p i && q i) xs ≡
 both p q [] = refl
 both p q (x ∷ xs) = both-one p q x xs (p x) (q x) refl refl (both p q xs)
 
-pub pressed-are : (w : WorldData) (nodes : List SceneNode) (who count : ℕ) → count ≡ length nodes →
-    fold (where_passes (presses w (map (λ (n : SceneNode). n.node_type) nodes) who) appended) [] (range_with_len (0 * 32) (count - 0 * 32))
-    ≡ filter (is_pressed w who) (touch_sensors_of (map (λ (n : SceneNode). n.node_type) nodes))
+pub pressed-are : (track : ℕ → Concerned) (w : WorldData) (nodes : List SceneNode) (who count : ℕ) → count ≡ length nodes →
+    fold (where_passes (presses w (map (λ (n : SceneNode). n.node_type) nodes) who) (appended track)) [] (range_with_len (0 * 32) (count - 0 * 32))
+    ≡ map track (filter (is_pressed w who) (pointing_sensors_of (map (λ (n : SceneNode). n.node_type) nodes)))
 unfolding numbers_of
-pressed-are w nodes who count many =
+pressed-are track w nodes who count many =
     let kinds : List NodeType = map (λ (n : SceneNode). n.node_type) nodes in
     let all : count - 0 * 32 ≡ length kinds = omega (arith, many, length-map nodes (λ (n : SceneNode). n.node_type)) in
-    ap (λ (n : ℕ). fold (where_passes (presses w kinds who) appended) [] (range_with_len 0 n)) all
-    ∙ sym (by-filter (presses w kinds who) appended [] (range_with_len 0 (length kinds)))
-    ∙ listed [] (filter (presses w kinds who) (range_with_len 0 (length kinds)))
-    ∙ both (is_pressed w who) (is_of TouchSensor kinds) (range_with_len 0 (length kinds))
+    ap (λ (n : ℕ). fold (where_passes (presses w kinds who) (appended track)) [] (range_with_len 0 n)) all
+    ∙ sym (by-filter (presses w kinds who) (appended track) [] (range_with_len 0 (length kinds)))
+    ∙ listed track [] (filter (presses w kinds who) (range_with_len 0 (length kinds)))
+    ∙ ap (map track) (both (is_pressed w who) (is_sensor kinds) (range_with_len 0 (length kinds)))
 
-unpressed : (w : WorldData) (kinds : List NodeType) (who node : ℕ) (s : List ℕ) → is_pressed w who node ≡ false → where_passes (presses w kinds who) appended s node ≡ s
-unpressed w kinds who node s h = rw h refl
+unpressed : (track : ℕ → Concerned) (w : WorldData) (kinds : List NodeType) (who node : ℕ) (s : List Concerned) → is_pressed w who node ≡ false →
+    where_passes (presses w kinds who) (appended track) s node ≡ s
+unpressed track w kinds who node s h = rw h refl
 
-pub untouched-block : (w : WorldData) (kinds : List NodeType) (who : ℕ) (s : List ℕ) (block count : ℕ) → ((node : ℕ) → node / 32 ≡ block → is_pressed w who node ≡ false) →
-    s ≡ over_block (where_passes (presses w kinds who) appended) s block count
-untouched-block w kinds who s block count h =
-    block_still (where_passes (presses w kinds who) appended) s block count (λ i within. unpressed w kinds who i s (h i within))
+pub untouched-block : (track : ℕ → Concerned) (w : WorldData) (kinds : List NodeType) (who : ℕ) (s : List Concerned) (block count : ℕ) →
+    ((node : ℕ) → node / 32 ≡ block → is_pressed w who node ≡ false) → s ≡ over_block (where_passes (presses w kinds who) (appended track)) s block count
+untouched-block track w kinds who s block count h =
+    block_still (where_passes (presses w kinds who) (appended track)) s block count (λ i within. unpressed track w kinds who i s (h i within))
+
+-- ---- sensors that their viewers don't drag
+
+pub untracked-all : {S : Type 0} (f : S → Concerned → S) (s : S) (xs : List ℕ) → fold (untracked_by f) s xs ≡ fold f s (map untracked xs)
+untracked-all f s [] = refl
+untracked-all f s (x ∷ xs) = untracked-all f (f s (untracked x)) xs

@@ -1,28 +1,29 @@
 -- What an input does, and the world of a scene and its inputs (ISO/IEC 19775-1, event model:
--- execution model; that the clock goes to the time sensors, and a pointer to the touch sensors, in
--- number order, and the order of scripts, is our choice).
-use Rattle.std.specs.Prelude.{ℕ, ℤ, pos, Bool, false, ◌++◌, List, [], ◌∷◌, None, length, replicate}
+-- execution model; that the clock goes to the time sensors, and a pointer to the pointing sensors,
+-- in number order, and the order of scripts, is our choice).
+use Rattle.std.specs.Prelude.{ℕ, ℤ, pos, Bool, false, ◌++◌, List, [], ◌∷◌, None, length, map, replicate}
 use Rattle.std.specs.List.{fold, range_with_len}
 use Rattle.x3d_values.specs.declared.ranges.TheConstants.{MAX_VIEWERS}
 use Rattle.x3d_values.specs.declared.stamped.Event.{Event}
 use Rattle.x3d_values.specs.declared.stamped.Event.TheVariants.{Clock, Pointer}
 use Rattle.x3d_values.specs.Pointing.{Pointing}
 use Rattle.x3d_values.specs.Stamp.{Stamp}
-use Rattle.sensor_core.specs.Touches.{untouched}
+use Rattle.sensor_plane.specs.Pointing.{start_of}
 use Rattle.react_core.specs.declared.outbox.Reply.{Reply}
 use Rattle.scene_core.specs.declared.scene.Route.{Route}
 use Rattle.scene_core.specs.Scene.{SceneView, state_of, types_of}
 use Rattle.script_host.specs.Behaviour.{Initialize}
 use Rattle.script_host.specs.Hosting.{ScriptRecord}
 use Rattle.script_turn.specs.Acting.{act}
-use Rattle.cascade_world.specs.Answers.{met, ticked, with_answer}
+use Rattle.cascade_world.specs.Answers.{met, pointer_at, ticked, with_answer}
+use Rattle.cascade_world.specs.Insides.{Insides, insides}
 use Rattle.cascade_core.specs.Cascade.{send_replies}
 use Rattle.cascade_core.specs.Course.{Course, Plan, Scripted, course, ended, node_of, plan_of, ports_of, with_turn}
 use Rattle.cascade_world.specs.Nodes.{clocks_of}
-use Rattle.cascade_world.specs.Pointer.{concerned, insides, is_down, place_in}
+use Rattle.cascade_world.specs.Pointer.{concerned, is_down}
 use Rattle.cascade_core.specs.Scripts.{kinds_in, running, scripts_in}
 use Rattle.cascade_core.specs.Settles.{settle}
-use Rattle.cascade_world.specs.declared.aim.Inside.{Inside}
+use Rattle.cascade_world.specs.declared.aim.Concerned.{Concerned}
 use Rattle.cascade_world.specs.declared.world.WorldData.{WorldData}
 pub use Rattle.cascade_world.specs.World.{begin, with_button}
 
@@ -34,21 +35,22 @@ tick_node plan now c node =
     let t = ticked c.turn.world node now in
     send_replies plan node (with_turn c (with_answer c.turn t)) t.replies
 
--- a touch sensor meets a viewer's pointer, and what it sends is followed
-unfoldable pub point_node : SceneView → Plan → Pointing → Bool → List Inside → Course → ℕ → Course
-point_node scene plan p before is c sensor =
-    let a = met scene c.turn.world sensor p before (place_in is sensor) in
-    send_replies plan sensor (with_turn c (with_answer c.turn a)) a.replies
+-- a pointing sensor meets a viewer's pointer, and what it sends is followed
+unfoldable pub point_node : SceneView → Plan → Pointing → Bool → Insides → Course → Concerned
+    → Course
+point_node scene plan p before is c x =
+    let a = met scene c.turn.world x.sensor (pointer_at p before is x.tracked x.sensor) in
+    send_replies plan x.sensor (with_turn c (with_answer c.turn a)) a.replies
 
--- a viewer points: where its ray hits, which sensors that is inside of, which of them it presses
--- and whether its button was down are fixed first; then each sensor that is concerned meets the
--- pointer at its turn
+-- a viewer points: where its ray hits, which sensors that is inside of, which of them it presses,
+-- where its ray meets the planes of its drags and whether its button was down are fixed first; then
+-- each sensor that is concerned meets the pointer at its turn
 unfoldable pub point : SceneView → Plan → Course → Pointing → Course
 point scene plan c p =
     let is = insides scene c.turn.world.fields p.ray in
     let before = is_down c.turn.world p.who in
     fold (point_node scene plan p before is) (with_turn c (with_button c.turn p))
-    (concerned (types_of scene) c.turn.world p.who)
+    (concerned scene c.turn.world p)
 
 -- each time sensor ticks at its turn, or a viewer points
 abbrev pub happen : SceneView → Plan → ℤ → Course → Event → Course
@@ -87,7 +89,7 @@ untold scene =
       last_time = pos 0;
       fields = state_of scene;
       sensors = replicate (length (state_of scene)) None;
-      touches = replicate (length (state_of scene)) untouched;
+      pointing = map start_of (types_of scene);
       buttons = replicate MAX_VIEWERS false;
       trace = [];
     }

@@ -2,9 +2,9 @@
 use Rattle.std.specs.Prelude.{ℕ, ◌*◌, ◌-◌, ◌&&◌, ◌++◌, Bool, List, [], ◌∷◌, min, if◌then◌else◌}
 use Rattle.std.specs.List.{fold, range_with_len}
 use Rattle.x3d_values.specs.declared.node_type.NodeType.{NodeType}
-use Rattle.x3d_values.specs.declared.node_type.NodeType.TheVariants.{TouchSensor}
-use Rattle.cascade_world.specs.Nodes.{is_of}
-use Rattle.cascade_world.specs.Pointer.{is_pressed}
+use Rattle.cascade_world.specs.Nodes.{is_sensor}
+use Rattle.cascade_world.specs.Pointer.{is_pressed, untracked}
+use Rattle.cascade_world.specs.declared.aim.Concerned.{Concerned}
 use Rattle.cascade_world.specs.declared.world.WorldData.{WorldData}
 
 -- what is done at a number that passes; nothing happens at another
@@ -16,9 +16,13 @@ abbrev pub over_block : {S : Type 0} → (S → ℕ → S) → S → ℕ → ℕ
 over_block g s block count =
     fold g s (range_with_len (block * 32) (min (count - block * 32) 32))
 
--- a viewer presses the node of that number, a touch sensor
-abbrev pub presses : WorldData → List NodeType → ℕ → ℕ → Bool
-presses w kinds who node = is_pressed w who node && is_of TouchSensor kinds node
+-- what is done at a sensor that a pointer concerns, at one that its viewer doesn't drag
+abbrev pub untracked_by : {S : Type 0} → (S → Concerned → S) → S → ℕ → S
+untracked_by f s node = f s (untracked node)
 
-abbrev pub appended : List ℕ → ℕ → List ℕ
-appended numbers node = numbers ++ node ∷ []
+-- a viewer presses the node of that number, a pointing sensor
+abbrev pub presses : WorldData → List NodeType → ℕ → ℕ → Bool
+presses w kinds who node = is_pressed w who node && is_sensor kinds node
+
+abbrev pub appended : (ℕ → Concerned) → List Concerned → ℕ → List Concerned
+appended track all node = all ++ track node ∷ []

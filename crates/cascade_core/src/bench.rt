@@ -1,6 +1,7 @@
 //! What a stage works with beside its world.
 
 use cascade_rules::Task;
+use cascade_world::Concerned;
 use pick_core::BoxCache;
 
 /// What a stage works with beside its world; no world depends on it.
@@ -9,7 +10,7 @@ pub struct Bench {
     /// What is still to be done.
     pub tasks: Vec<Task>,
     /// The sensors that a viewer presses, while it points.
-    pub pressed: Vec<u32>,
+    pub pressed: Vec<Concerned>,
     /// The boxes of the scene as its nodes are now.
     pub boxes: BoxCache,
 }

@@ -15,13 +15,13 @@ ghost use Rattle.cascade_core.specs.Walks.{over_block, where_passes};
 use crate::course::Course;
 use crate::fixed::Fixed;
 use crate::stack::send_replies;
-use cascade_rules::{Task, is_of};
+use cascade_rules::{Task, is_clock};
 use cascade_world::BLOCK;
 use pick_core::BoxCache;
 use react_core::Outbox;
 use script_host::Behaviour;
 use std::alloc::AllocError;
-use x3d_values::{NodeType, Stamped};
+use x3d_values::Stamped;
 
 /// A TimeSensor ticks, and what it sends is followed.
 fn tick_node<B: Behaviour>(
@@ -75,7 +75,7 @@ fn tick_any<B: Behaviour>(
     ensures kinds { kinds_of course.new.scripts ≡ kinds_of course.old.scripts }
     ensures count { course.new.settling.count ≡ course.old.settling.count }
 {
-    if !is_of(&fixed.scene, node, NodeType::TimeSensor) {
+    if !is_clock(&fixed.scene, node) {
         return Ok(());
     }
     tick_node(fixed, tasks, course, replies, boxes, node, input)

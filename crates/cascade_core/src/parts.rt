@@ -1,6 +1,6 @@
 //! What a stage makes of its scene.
 
-ghost use Rattle.std.specs.Prelude.{◌≡◌, [], IfOk, List, None, replicate};
+ghost use Rattle.std.specs.Prelude.{◌≡◌, [], IfOk, List, None, map, replicate};
 ghost use Rattle.script_turn.specs.Acting.{kinds_of};
 ghost use Rattle.script_host.specs.Attaching.{Fits};
 ghost use Rattle.script_host.specs.Hosting.{ScriptRecord};
@@ -10,7 +10,8 @@ ghost use Rattle.cascade_core.specs.Course.{plan_at};
 ghost use Rattle.cascade_core.specs.Sound.{IsFixed, IsSound};
 ghost use Rattle.cascade_core.specs.Apply.{untold};
 ghost use Rattle.pick_core.specs.Sites.{rows_of};
-ghost use Rattle.sensor_core.specs.Touches.{untouched};
+ghost use Rattle.scene_core.specs.Scene.{types_of};
+ghost use Rattle.sensor_plane.specs.Pointing.{start_of};
 
 use crate::bench::Bench;
 use crate::fixed::Fixed;
@@ -20,7 +21,8 @@ use pick_core::BoxCache;
 use route_core::Routes;
 use scene_core::Scene;
 use script_running::Runs;
-use sensor_core::{TimeState, TouchState};
+use sensor_core::TimeState;
+use sensor_plane::PointingState;
 use std::alloc::{AllocError, Global};
 
 /// No node runs a cycle.
@@ -31,12 +33,16 @@ fn idle_sensors(alloc: Global, nodes: usize) -> Result<Watched<TimeState>, Alloc
     Ok(Watched::from_vec(sensors))
 }
 
-/// No pointer is over a node.
-fn untouched_sensors(alloc: Global, nodes: usize) -> Result<Watched<TouchState>, AllocError>
-    ensures { IfOk result (λ touches. touches ≡ replicate nodes untouched) }
+/// What is kept of each node where viewers point, before any does.
+fn pointing_of(alloc: Global, scene: &Scene) -> Result<Watched<PointingState>, AllocError>
+    ensures { IfOk result (λ pointing. pointing ≡ map start_of (types_of scene.now)) }
 {
-    let touches = vec![in alloc; TouchState::untouched(); nodes]?;
-    Ok(Watched::from_vec(touches))
+    let count = scene.count()?;
+    let mut states = Vec::with_capacity(alloc, scene.node_count())?;
+    for node in 0..count {
+        states.push(PointingState::of(scene.node_type(node)))?;
+    }
+    Ok(Watched::from_vec(states))
 }
 
 /// The world of a scene in which nothing has happened.
@@ -49,7 +55,7 @@ fn untold(alloc: Global, scene: &Scene) -> Result<WorldData, AllocError>
         drop(fields);
         return Err(AllocError);
     };
-    let Ok(touches) = untouched_sensors(alloc, fields.len()) else {
+    let Ok(pointing) = pointing_of(alloc, scene) else {
         drop(sensors);
         drop(fields);
         return Err(AllocError);
@@ -59,7 +65,7 @@ fn untold(alloc: Global, scene: &Scene) -> Result<WorldData, AllocError>
         last_time: 0,
         fields: State::from_vec(fields),
         sensors,
-        touches,
+        pointing,
         buttons: [false; VIEWERS],
         trace: Trace::new(alloc),
     })

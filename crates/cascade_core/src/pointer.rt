@@ -1,7 +1,7 @@
 //! A viewer points: what that concerns is fixed first, and then each sensor meets the pointer at
 //! its turn (ISO/IEC 19775-1, pointing device sensor component).
 
-ghost use Rattle.std.specs.Prelude.{◌≡◌, ◌*◌, ◌-◌, ◌≤◌, [], OnOk};
+ghost use Rattle.std.specs.Prelude.{◌≡◌, ◌*◌, ◌-◌, ◌≤◌, [], OnOk, map};
 ghost use Rattle.std.specs.List.{fold, range_with_len};
 ghost use Rattle.scene_core.specs.Scene.{types_of};
 ghost use Rattle.pick_core.specs.Sites.{rows_of};
@@ -9,32 +9,32 @@ ghost use Rattle.script_turn.specs.Acting.{kinds_of};
 ghost use Rattle.cascade_core.specs.Course.{plan_at, seen};
 ghost use Rattle.cascade_core.specs.Sound.{IsCast};
 ghost use Rattle.cascade_core.specs.Apply.{point as point_of, point_node as point_node_of};
-ghost use Rattle.cascade_world.specs.Nodes.{is_of, touch_sensors_of};
-ghost use Rattle.cascade_world.specs.Pointer.{or_all};
-ghost use Rattle.cascade_core.specs.Walks.{over_block, where_passes};
-ghost use Rattle.x3d_values.specs.declared.node_type.NodeType.TheVariants.{TouchSensor};
+ghost use Rattle.cascade_world.specs.Insides.{seen as insides_seen};
+ghost use Rattle.cascade_world.specs.Nodes.{is_sensor, pointing_sensors_of};
+ghost use Rattle.cascade_world.specs.Pointer.{or_all, untracked};
+ghost use Rattle.cascade_core.specs.Walks.{over_block, untracked_by, where_passes};
 
 use crate::bench::Bench;
 use crate::course::Course;
 use crate::fixed::Fixed;
 use crate::pressed::list_pressed;
 use crate::stack::send_replies;
-use cascade_rules::{Task, is_of};
-use cascade_world::{Aim, BLOCK, insides};
+use cascade_rules::{Task, is_sensor};
+use cascade_world::{Aim, BLOCK, Concerned, insides};
 use pick_core::BoxCache;
 use react_core::Outbox;
 use script_host::Behaviour;
 use std::alloc::AllocError;
-use x3d_values::{NodeType, Pointer};
+use x3d_values::Pointer;
 
-/// A TouchSensor meets a pointer, and what it sends is followed.
+/// A pointing sensor meets a pointer, and what it sends is followed.
 fn point_node<B: Behaviour>(
     fixed: &Fixed,
     tasks: &mut Vec<Task>,
     course: &mut Course<B>,
     replies: &mut Outbox,
     boxes: &mut BoxCache,
-    sensor: u32,
+    concerned: Concerned,
     aim: &Aim,
 ) -> Result<(), AllocError>
     requires empty { tasks.old.items ≡ [] }
@@ -44,7 +44,7 @@ fn point_node<B: Behaviour>(
     ensures course { OnOk result
         (seen course.new
         ≡ point_node_of fixed.now.scene (plan_at fixed.now) aim.now.pointer aim.now.before
-        aim.now.inside.items (seen course.old) sensor) }
+        (insides_seen aim.now.inside) (seen course.old) concerned) }
     ensures empty { OnOk result (tasks.new.items ≡ []) }
     ensures none { OnOk result (replies.new.items ≡ []) }
     ensures boxes { OnOk result
@@ -52,17 +52,20 @@ fn point_node<B: Behaviour>(
     ensures kinds { kinds_of course.new.scripts ≡ kinds_of course.old.scripts }
     ensures count { course.new.settling.count ≡ course.old.settling.count }
 {
-    if course.turn.world.passes(sensor, aim) {
+    if course.turn.world.passes(concerned, aim) {
         return Ok(());
     }
-    course.turn.world.meet(&fixed.scene, sensor, aim, replies);
-    send_replies(fixed, tasks, course, replies, boxes, sensor)
+    course
+        .turn
+        .world
+        .meet(&fixed.scene, concerned, aim, replies);
+    send_replies(fixed, tasks, course, replies, boxes, concerned.sensor)
 }
 
 /// Each of these sensors meets a pointer at its turn.
 fn point_all<B: Behaviour>(
     fixed: &Fixed,
-    sensors: &[u32],
+    sensors: &[Concerned],
     tasks: &mut Vec<Task>,
     course: &mut Course<B>,
     boxes: &mut BoxCache,
@@ -75,7 +78,7 @@ fn point_all<B: Behaviour>(
         (seen course.new
         ≡ fold
         (point_node_of fixed.now.scene (plan_at fixed.now) aim.now.pointer aim.now.before
-        aim.now.inside.items)
+        (insides_seen aim.now.inside))
         (seen course.old) sensors.now) }
     ensures empty { OnOk result (tasks.new.items ≡ []) }
     ensures boxes { OnOk result
@@ -90,7 +93,7 @@ fn point_all<B: Behaviour>(
     Ok(())
 }
 
-/// The node of that number meets a pointer, where it is a TouchSensor.
+/// The node of that number meets a pointer, where it is a pointing sensor.
 fn point_any<B: Behaviour>(
     fixed: &Fixed,
     tasks: &mut Vec<Task>,
@@ -105,9 +108,9 @@ fn point_any<B: Behaviour>(
     requires boxes { boxes.old ≡ rows_of fixed.now.scene course.old.turn.world.fields }
     requires cast { IsCast (plan_at fixed.now) (seen course.old) }
     ensures course { OnOk result (seen course.new
-        ≡ where_passes (is_of TouchSensor (types_of fixed.now.scene))
-        (point_node_of fixed.now.scene (plan_at fixed.now) aim.now.pointer aim.now.before
-        aim.now.inside.items) (seen course.old) node) }
+        ≡ where_passes (is_sensor (types_of fixed.now.scene))
+        (untracked_by (point_node_of fixed.now.scene (plan_at fixed.now) aim.now.pointer
+        aim.now.before (insides_seen aim.now.inside))) (seen course.old) node) }
     ensures empty { OnOk result (tasks.new.items ≡ []) }
     ensures none { OnOk result (replies.new.items ≡ []) }
     ensures boxes { OnOk result
@@ -115,13 +118,17 @@ fn point_any<B: Behaviour>(
     ensures kinds { kinds_of course.new.scripts ≡ kinds_of course.old.scripts }
     ensures count { course.new.settling.count ≡ course.old.settling.count }
 {
-    if !is_of(&fixed.scene, node, NodeType::TouchSensor) {
+    if !is_sensor(&fixed.scene, node) {
         return Ok(());
     }
-    point_node(fixed, tasks, course, replies, boxes, node, aim)
+    let concerned = Concerned {
+        sensor: node,
+        tracked: None,
+    };
+    point_node(fixed, tasks, course, replies, boxes, concerned, aim)
 }
 
-/// Each TouchSensor of some nodes meets a pointer at its turn.
+/// Each pointing sensor of some nodes meets a pointer at its turn.
 fn point_some<B: Behaviour>(
     fixed: &Fixed,
     tasks: &mut Vec<Task>,
@@ -137,9 +144,9 @@ fn point_some<B: Behaviour>(
     requires boxes { boxes.old ≡ rows_of fixed.now.scene course.old.turn.world.fields }
     requires cast { IsCast (plan_at fixed.now) (seen course.old) }
     ensures course { OnOk result (seen course.new
-        ≡ fold (where_passes (is_of TouchSensor (types_of fixed.now.scene))
-        (point_node_of fixed.now.scene (plan_at fixed.now) aim.now.pointer aim.now.before
-        aim.now.inside.items)) (seen course.old)
+        ≡ fold (where_passes (is_sensor (types_of fixed.now.scene))
+        (untracked_by (point_node_of fixed.now.scene (plan_at fixed.now) aim.now.pointer
+        aim.now.before (insides_seen aim.now.inside)))) (seen course.old)
         (range_with_len start (end - start))) }
     ensures empty { OnOk result (tasks.new.items ≡ []) }
     ensures none { OnOk result (replies.new.items ≡ []) }
@@ -154,7 +161,7 @@ fn point_some<B: Behaviour>(
     Ok(())
 }
 
-/// The TouchSensors of a block of nodes meet a pointer, of so many nodes in all. A block is passed
+/// The pointing sensors of a block of nodes meet a pointer, of so many nodes in all. A block is passed
 /// where it is known that nothing happens there.
 fn point_block<B: Behaviour>(
     fixed: &Fixed,
@@ -172,9 +179,9 @@ fn point_block<B: Behaviour>(
     requires boxes { boxes.old ≡ rows_of fixed.now.scene course.old.turn.world.fields }
     requires cast { IsCast (plan_at fixed.now) (seen course.old) }
     ensures course { OnOk result (seen course.new
-        ≡ over_block (where_passes (is_of TouchSensor (types_of fixed.now.scene))
-        (point_node_of fixed.now.scene (plan_at fixed.now) aim.now.pointer aim.now.before
-        aim.now.inside.items)) (seen course.old) block count) }
+        ≡ over_block (where_passes (is_sensor (types_of fixed.now.scene))
+        (untracked_by (point_node_of fixed.now.scene (plan_at fixed.now) aim.now.pointer
+        aim.now.before (insides_seen aim.now.inside)))) (seen course.old) block count) }
     ensures empty { OnOk result (tasks.new.items ≡ []) }
     ensures none { OnOk result (replies.new.items ≡ []) }
     ensures boxes { OnOk result
@@ -197,11 +204,11 @@ fn point_block<B: Behaviour>(
         start + many,
         aim,
     )?;
-    course.turn.world.remember_touches(block);
+    course.turn.world.remember_pointing(block);
     Ok(())
 }
 
-/// Each TouchSensor meets a pointer at its turn.
+/// Each pointing sensor meets a pointer at its turn.
 fn point_each<B: Behaviour>(
     fixed: &Fixed,
     tasks: &mut Vec<Task>,
@@ -216,8 +223,9 @@ fn point_each<B: Behaviour>(
         (seen course.new
         ≡ fold
         (point_node_of fixed.now.scene (plan_at fixed.now) aim.now.pointer aim.now.before
-        aim.now.inside.items)
-        (seen course.old) (touch_sensors_of (types_of fixed.now.scene))) }
+        (insides_seen aim.now.inside))
+        (seen course.old)
+        (map untracked (pointing_sensors_of (types_of fixed.now.scene)))) }
     ensures empty { OnOk result (tasks.new.items ≡ []) }
     ensures boxes { OnOk result
         (boxes.new ≡ rows_of fixed.now.scene course.new.turn.world.fields) }
@@ -232,10 +240,10 @@ fn point_each<B: Behaviour>(
     Ok(())
 }
 
-/// Each of those that are pressed meets a pointer at its turn, or each TouchSensor where none is.
+/// Each of those that are pressed meets a pointer at its turn, or each pointing sensor where none is.
 fn point_concerned<B: Behaviour>(
     fixed: &Fixed,
-    pressed: &[u32],
+    pressed: &[Concerned],
     tasks: &mut Vec<Task>,
     course: &mut Course<B>,
     boxes: &mut BoxCache,
@@ -248,8 +256,9 @@ fn point_concerned<B: Behaviour>(
         (seen course.new
         ≡ fold
         (point_node_of fixed.now.scene (plan_at fixed.now) aim.now.pointer aim.now.before
-        aim.now.inside.items)
-        (seen course.old) (or_all pressed.now (touch_sensors_of (types_of fixed.now.scene)))) }
+        (insides_seen aim.now.inside))
+        (seen course.old)
+        (or_all pressed.now (map untracked (pointing_sensors_of (types_of fixed.now.scene))))) }
     ensures empty { OnOk result (tasks.new.items ≡ []) }
     ensures boxes { OnOk result
         (boxes.new ≡ rows_of fixed.now.scene course.new.turn.world.fields) }
@@ -282,7 +291,7 @@ pub fn point<B: Behaviour>(
     ensures count { course.new.settling.count ≡ course.old.settling.count }
 {
     let world = &course.turn.world;
-    list_pressed(world, &fixed.scene, pointer.who(), &mut bench.pressed)?;
+    list_pressed(world, &fixed.scene, pointer, &mut bench.pressed)?;
     let aim = Aim {
         pointer,
         before: world.is_down(pointer.who()),

@@ -1,6 +1,6 @@
 -- What answers do to the boxes that rays hit.
 use Rattle.std.proofs.Common.{◌≡◌, ℕ, ℤ, Bool, true, false, List, [], ◌∷◌, ◌∙◌, ap, sym, refl, zero, suc, Option, Some, None}
-use Rattle.std.specs.Prelude.{slice_get, slice_set, if◌then◌else◌}
+use Rattle.std.specs.Prelude.{◌&&◌, slice_get, slice_set, if◌then◌else◌}
 use Rattle.x3d_values.specs.declared.fields.Fields.{Fields}
 use Rattle.x3d_values.specs.declared.node_type.NodeType.{NodeType}
 use Rattle.x3d_values.specs.declared.node_type.NodeType.TheVariants as type
@@ -8,17 +8,17 @@ use Rattle.x3d_values.specs.declared.value.Value.{Value}
 use Rattle.x3d_values.specs.Tables.{Entry}
 use Rattle.react_core.specs.Reaction.{is_time_sensor}
 use Rattle.sensor_core.specs.Timing.{Timing, timing_of}
-use Rattle.sensor_core.specs.Touches.{Touch}
-use Rattle.x3d_values.specs.Pointing.{Pointing}
-use Rattle.x3d_values.specs.declared.vector.Vec3.{Vec3}
-use Rattle.scene_core.specs.Scene.{SceneView, shapes_of, types_of}
+use Rattle.sensor_plane.specs.declared.meeting.SensorPointer.{SensorPointer}
+use Rattle.sensor_plane.specs.declared.pointing.PointingState.{PointingState}
+use Rattle.scene_core.specs.Places.{is_pointing}
+use Rattle.scene_core.specs.Scene.{SceneView, shapes_of, type_at, types_of}
 use Rattle.scene_core.specs.Shape.{Shape, rows_of as shape_rows}
 use Rattle.scene_core.specs.declared.scene.End.{End}
-use Rattle.pick_core.specs.Sensors.{is_enabled}
+use Rattle.pick_core.specs.Sensors.{is_enabled, is_enabled_as}
 use Rattle.pick_core.specs.Sites.{IsSameBut, rows_of}
 use Rattle.pick_core.proofs.Alike.{alike_but, alike_rows}
 use Rattle.cascade_world.specs.Access.{is_set}
-use Rattle.cascade_world.specs.Answers.{Answer, answer, answer_as, answer_by, forgetting, is_script, is_touch_sensor, keeping, meeting, met, not_run, nothing, reacting, setting, setting_at, ticked, ticking, ticking_at, touching, turns_off}
+use Rattle.cascade_world.specs.Answers.{Answer, answer, answer_as, answer_by, forgetting, is_script, is_met, keeping, meeting, met, met_as, not_run, nothing, reacting, setting, setting_at, ticked, ticking, ticking_at, touching, turns_off}
 use Rattle.cascade_world.specs.Nodes.{moves_boxes}
 use Rattle.cascade_world.specs.declared.world.WorldData.{WorldData}
 
@@ -45,20 +45,16 @@ setting_at-same : (w : WorldData) (target : End) (v : Value) (fields : Option Fi
 setting_at-same w target v None k n = refl
 setting_at-same w target v (Some fields) k n = setting-same w target v fields (timing_of fields) (slice_get w.sensors target.node) k n
 
-forgetting-fields : (w : WorldData) (node : ℕ) (a : Answer) (touch : Option Touch) → (forgetting w node a touch).fields ≡ a.fields
-forgetting-fields w node a None = refl
-forgetting-fields w node a (Some touch) = refl
-
-touching-fields : (w : WorldData) (target : End) (v : Value) (fields : Option Fields) → (touching w target v fields).fields ≡ (reacting w target v type.TouchSensor fields).fields
-touching-fields w target v fields = off (turns_off target.field v) (reacting w target v type.TouchSensor fields)
+touching-fields : (w : WorldData) (target : End) (v : Value) (kind : NodeType) (fields : Option Fields) → (touching w target v kind fields).fields ≡ (reacting w target v kind fields).fields
+touching-fields w target v kind fields = off (turns_off kind target.field v) (reacting w target v kind fields)
   where
-    off : (b : Bool) (a : Answer) → (if b then forgetting w target.node a (slice_get w.touches target.node) else a).fields ≡ a.fields
-    off true a = forgetting-fields w target.node a (slice_get w.touches target.node)
+    off : (b : Bool) (a : Answer) → (if b then forgetting w target.node kind a (slice_get w.pointing target.node) else a).fields ≡ a.fields
+    off true a = refl
     off false a = refl
 
-touching-same : (w : WorldData) (target : End) (v : Value) (fields : Option Fields) → IsSameBut target.node w.fields (touching w target v fields).fields
-touching-same w target v fields k n =
-    reacting-same w target v type.TouchSensor fields k n ∙ ap (λ (fs : List Fields). slice_get fs k) (sym (touching-fields w target v fields))
+touching-same : (w : WorldData) (target : End) (v : Value) (kind : NodeType) (fields : Option Fields) → IsSameBut target.node w.fields (touching w target v kind fields).fields
+touching-same w target v kind fields k n =
+    reacting-same w target v kind fields k n ∙ ap (λ (fs : List Fields). slice_get fs k) (sym (touching-fields w target v kind fields))
 
 not_run-same : (w : WorldData) (target : End) (v : Value) (field : Option Entry) (fields : Option Fields) → IsSameBut target.node w.fields (not_run w target v field fields).fields
 not_run-same w target v field None k n = refl
@@ -69,17 +65,17 @@ not_run-same w target v field (Some fields) k n = kept (is_set v field)
     kept false = refl
 
 answer_by-same : (w : WorldData) (target : End) (v : Value) (kind : NodeType) (field : Option Entry) → IsSameBut target.node w.fields (answer_by w target v kind field).fields
-answer_by-same w target v kind field k n = by_time (is_time_sensor kind) (is_touch_sensor kind) (is_script kind)
+answer_by-same w target v kind field k n = by_time (is_time_sensor kind) (is_pointing kind) (is_script kind)
   where
     by_time : (time touch script : Bool) → slice_get w.fields k ≡ slice_get (if time
         then setting_at w target v (slice_get w.fields target.node)
         else (if touch
-        then touching w target v (slice_get w.fields target.node)
+        then touching w target v kind (slice_get w.fields target.node)
         else (if script
         then not_run w target v field (slice_get w.fields target.node)
         else reacting w target v kind (slice_get w.fields target.node)))).fields k
     by_time true touch script = setting_at-same w target v (slice_get w.fields target.node) k n
-    by_time false true script = touching-same w target v (slice_get w.fields target.node) k n
+    by_time false true script = touching-same w target v kind (slice_get w.fields target.node) k n
     by_time false false true = not_run-same w target v field (slice_get w.fields target.node) k n
     by_time false false false = reacting-same w target v kind (slice_get w.fields target.node) k n
 
@@ -106,7 +102,7 @@ answer-rows scene w target v h =
     alike_rows scene w.fields (answer (shapes_of scene) w target v).fields
     (alike_but scene target.node w.fields (answer (shapes_of scene) w target v).fields u.0 u.1 (answer-same (shapes_of scene) w target v))
 
--- ---- ticks and pointers change no field
+-- ---- ticks change no field
 
 ticking-fields : (w : WorldData) (node : ℕ) (now : ℤ) (timing : Option Timing) (cycle : Option (Option ℕ)) → (ticking w node now timing cycle).fields ≡ w.fields
 ticking-fields w node now None cycle = refl
@@ -121,16 +117,39 @@ pub ticked-fields : (w : WorldData) (node : ℕ) (now : ℤ) → (ticked w node 
 unfolding ticked
 ticked-fields w node now = ticking_at-fields w node now (slice_get w.fields node)
 
-meeting-fields : (w : WorldData) (node : ℕ) (p : Pointing) (before : Bool) (place : Option Vec3) (touch : Option Touch) →
-    (meeting w node p before place touch).fields ≡ w.fields
-meeting-fields w node p before place None = refl
-meeting-fields w node p before place (Some touch) = refl
+-- ---- a pointer changes the offset of a PlaneSensor alone, which moves no box
 
-pub met-fields : (scene : SceneView) (w : WorldData) (node : ℕ) (p : Pointing) (before : Bool) (place : Option Vec3) →
-    (met scene w node p before place).fields ≡ w.fields
-unfolding met
-met-fields scene w node p before place = cases (is_enabled scene w.fields node)
+meeting-same : (w : WorldData) (node : ℕ) (at : SensorPointer) (state : PointingState) (own : Option Fields) → IsSameBut node w.fields (meeting w node at state own).fields
+meeting-same w node at state None k n = refl
+meeting-same w node at state (Some fields) k n = set_other w.fields node _ k n
+
+sensor-still : (kind : Option NodeType) (own : Option Fields) → is_enabled_as kind own ≡ true → moves_boxes kind ≡ false
+sensor-still (Some type.TouchSensor) own h = refl
+sensor-still (Some type.PlaneSensor) own h = refl
+sensor-still _ own h = absurd cc
+
+first : (a b : Bool) → (a && b) ≡ true → a ≡ true
+first true b h = refl
+first false b h = absurd cc
+
+pub met-rows : (scene : SceneView) (w : WorldData) (node : ℕ) (at : SensorPointer) → rows_of scene w.fields ≡ rows_of scene (met scene w node at).fields
+unfolding met is_enabled
+met-rows scene w node at = by-state (slice_get w.pointing node)
   where
-    cases : (b : Bool) → (if b then meeting w node p before place (slice_get w.touches node) else nothing w).fields ≡ w.fields
-    cases true = meeting-fields w node p before place (slice_get w.touches node)
-    cases false = refl
+    still : (state : PointingState) → is_met scene w node state ≡ true → moves_boxes (type_at scene node) ≡ false
+    still state on = sensor-still (type_at scene node) (slice_get w.fields node) (first (is_enabled scene w.fields node) _ on)
+
+    on-met : (state : PointingState) → is_met scene w node state ≡ true → rows_of scene w.fields ≡ rows_of scene (meeting w node at state (slice_get w.fields node)).fields
+    on-met state on =
+        let u = unmoved (type_at scene node) (still state on) in
+        let new = (meeting w node at state (slice_get w.fields node)).fields in
+        alike_rows scene w.fields new (alike_but scene node w.fields new u.0 u.1 (meeting-same w node at state (slice_get w.fields node)))
+
+    cases : (state : PointingState) (b : Bool) → is_met scene w node state ≡ b →
+        rows_of scene w.fields ≡ rows_of scene (if b then meeting w node at state (slice_get w.fields node) else nothing w).fields
+    cases state true on = on-met state on
+    cases state false on = refl
+
+    by-state : (o : Option PointingState) → rows_of scene w.fields ≡ rows_of scene (met_as scene w node at o).fields
+    by-state None = refl
+    by-state (Some state) = cases state (is_met scene w node state) refl

@@ -9,6 +9,6 @@ mod sending;
 mod tasks;
 
 pub use boxes::{deliver, put_boxes};
-pub use nodes::is_of;
+pub use nodes::{is_clock, is_sensor};
 pub use sending::send;
 pub use tasks::{Task, push_before, push_replies};

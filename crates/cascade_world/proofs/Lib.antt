@@ -3,6 +3,6 @@ pub mod Shapes
 pub mod Senders
 pub mod Sensing
 pub mod SensorReplies
-pub mod TouchReplies
+pub mod PointingReplies
 mod Blocks
 mod Waiting

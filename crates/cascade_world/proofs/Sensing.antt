@@ -1,23 +1,24 @@
--- What time sensors and touch sensors do in a world, by what is found of them.
-use Rattle.std.proofs.Common.{◌≡◌, ◌∙◌, ap, sym, refl, ℕ, ℤ, Bool, true, false, List, ◌++◌, [], Option, Some, None, arith}
+-- What time sensors and pointing sensors do in a world, by what is found of them.
+use Rattle.std.proofs.Common.{◌≡◌, ◌∙◌, ap, sym, refl, ℕ, ℤ, Bool, true, false, List, [], Option, Some, None, arith}
 use Rattle.std.proofs.lemmas.Int.{ints}
+use Rattle.std.proofs.lemmas.List.{set-get_or}
+use Rattle.std.proofs.lemmas.Option.{get_or_from_slice_get}
 use Rattle.std.specs.Prelude.{◌≤ℤ◌, ◌^◌, ◌&&◌, FitsSigned, IsTrue, int_le, negsuc, pos, slice_get, slice_set}
 use mir.Syntax.{w64}
 use Rattle.std.specs.Option.{option_map_or}
 use Rattle.x3d_values.specs.declared.fields.Fields.{Fields}
 use Rattle.x3d_values.specs.declared.value.Value.{Value}
-use Rattle.x3d_values.specs.declared.vector.Vec3.{Vec3}
-use Rattle.x3d_values.specs.Pointing.{Pointing}
 use Rattle.x3d_values.specs.Ranges.{is_input_time, max_time}
 use Rattle.react_core.specs.declared.outbox.Reply.{Reply}
 use Rattle.sensor_core.specs.Timing.{Timing, timing_of, with_timing}
 use Rattle.sensor_core.specs.Events.{set}
 use Rattle.sensor_core.specs.Ticks.{tick}
-use Rattle.sensor_core.specs.Touches.{Touch, disable, point, pointer}
+use Rattle.sensor_plane.specs.declared.meeting.SensorPointer.{SensorPointer}
+use Rattle.sensor_plane.specs.declared.pointing.PointingState.{PointingState}
+use Rattle.sensor_plane.specs.Meeting.{pointed}
 use Rattle.scene_core.specs.Scene.{SceneView}
 use Rattle.scene_core.specs.declared.scene.End.{End}
-use Rattle.pick_core.specs.Sensors.{is_enabled}
-use Rattle.cascade_world.specs.Answers.{Answer, answered, meeting, met, nothing, setting, setting_at, ticked, ticking, ticking_at}
+use Rattle.cascade_world.specs.Answers.{Answer, answered, is_met, meeting, met, met_as, nothing, setting, setting_at, ticked, ticking, ticking_at}
 use Rattle.cascade_world.specs.declared.world.WorldData.{WorldData}
 
 -- ---- the clock ticks
@@ -129,57 +130,55 @@ module _ (w : WorldData) (target : End) (v : Value) where
             replies ≡ (setting_at w target v (slice_get w.fields target.node)).replies
         set-replies replies is = is ∙ ap (λ (a : Answer). a.replies) sets
 
--- ---- a touch sensor forgets its pointers
+-- ---- a pointing sensor meets a pointer
 
--- the touch sensors after one of them has forgotten, and what it sends
-abbrev pub forgets : WorldData → ℕ → Option Touch → List Touch
-forgets w node touch = option_map_or (λ (t : Touch). slice_set w.touches node (disable t).touch) touch w.touches
+-- what stands at a place stands there again
+pub same-set : {A : Type 0} (xs : List A) (i : ℕ) (x : A) → slice_get xs i ≡ Some x → slice_set xs i x ≡ xs
+same-set xs i x h = ap (λ y. slice_set xs i y) (sym (get_or_from_slice_get xs i x x h)) ∙ set-get_or xs i x
 
-abbrev pub forgotten : Option Touch → List Reply
-forgotten touch = option_map_or (λ (t : Touch). (disable t).replies) touch []
+-- the fields of the nodes, what is kept of the sensor, and what it sends, where it is there
+abbrev fields_met : WorldData → ℕ → SensorPointer → PointingState → Option Fields → List Fields
+fields_met w node at state own = option_map_or (λ (f : Fields). slice_set w.fields node (pointed state f at w.last_time).fields) own w.fields
 
-module _ (w : WorldData) (node : ℕ) where
-  pub forget-world : (touch : Option Touch) → slice_get w.touches node ≡ touch → (touches : List Touch) → touches ≡ forgets w node touch →
-      record w { touches = touches } ≡ record w { touches = forgets w node (slice_get w.touches node) }
-  forget-world touch here touches is = ap (λ (ts : List Touch). record w { touches = ts }) (is ∙ ap (forgets w node) (sym here))
+abbrev state_met : WorldData → SensorPointer → PointingState → Option Fields → PointingState
+state_met w at state own = option_map_or (λ (f : Fields). (pointed state f at w.last_time).state) own state
 
-  pub forget-replies : (touch : Option Touch) → slice_get w.touches node ≡ touch → (old new : List Reply) → new ≡ old ++ forgotten touch →
-      new ≡ old ++ forgotten (slice_get w.touches node)
-  forget-replies touch here old new is = is ∙ ap (λ (t : Option Touch). old ++ forgotten t) (sym here)
+abbrev replies_met : WorldData → SensorPointer → PointingState → Option Fields → List Reply
+replies_met w at state own = option_map_or (λ (f : Fields). (pointed state f at w.last_time).replies) own []
 
--- ---- a touch sensor meets a pointer
-
-module _ (scene : SceneView) (w : WorldData) (node : ℕ) (p : Pointing) (before : Bool) (place : Option Vec3) where
-  pub met-off : is_enabled scene w.fields node ≡ false → nothing w ≡ met scene w node p before place
+module _ (scene : SceneView) (w : WorldData) (node : ℕ) (at : SensorPointer) where
+  pub met-nowhere : slice_get w.pointing node ≡ None → nothing w ≡ met scene w node at
   unfolding met
-  met-off off = rw off refl
+  met-nowhere none = rw none refl
 
-  module _ (on : is_enabled scene w.fields node ≡ true) where
-    pub met-nowhere : slice_get w.touches node ≡ None → nothing w ≡ met scene w node p before place
+  module _ (state : PointingState) (here : slice_get w.pointing node ≡ Some state) where
+    pub met-off : is_met scene w node state ≡ false → nothing w ≡ met scene w node at
     unfolding met
-    met-nowhere none = rw (on, none) refl
+    met-off off = sym (ap (met_as scene w node at) here ∙ rw off refl)
 
-    module _ (touch : Touch) (here : slice_get w.touches node ≡ Some touch) (who : ℕ) (down : Bool) (inside : Option Vec3)
-        (by : who ≡ p.who) (pressing : down ≡ p.down) (there : inside ≡ place) where
-      meets : meeting w node p before place (Some touch) ≡ met scene w node p before place
+    module _ (on : is_met scene w node state ≡ true) where
+      pub meets : meeting w node at state (slice_get w.fields node) ≡ met scene w node at
       unfolding met
-      meets = rw (on, here) refl
+      meets = sym (ap (met_as scene w node at) here ∙ rw on refl)
 
-      -- the world and the replies of a touch sensor that meets a pointer
-      pub met-world : (new : Touch) (touches : List Touch) → new ≡ (point touch (pointer who before down inside) w.last_time).touch → touches ≡ slice_set w.touches node new →
-          record w { touches = touches } ≡ answered w (met scene w node p before place)
-      met-world new touches is all =
-          ap (λ (ts : List Touch). record w { touches = ts }) (all ∙ ap (slice_set w.touches node) (is
-          ∙ ap (λ (n : ℕ). (point touch (pointer n before down inside) w.last_time).touch) by
-          ∙ ap (λ (b : Bool). (point touch (pointer p.who before b inside) w.last_time).touch) pressing
-          ∙ ap (λ (o : Option Vec3). (point touch (pointer p.who before p.down o) w.last_time).touch) there))
+      met-by : (own : Option Fields) →
+          record w { fields = fields_met w node at state own; pointing = slice_set w.pointing node (state_met w at state own) } ≡ answered w (meeting w node at state own)
+      met-by None = ap (λ (ps : List PointingState). record w { pointing = ps }) (same-set w.pointing node state here)
+      met-by (Some fields) = refl
+
+      replies-by : (own : Option Fields) → replies_met w at state own ≡ (meeting w node at state own).replies
+      replies-by None = refl
+      replies-by (Some fields) = refl
+
+      -- the world and the replies of a sensor that meets a pointer
+      pub met-world : (new : PointingState) (fields : List Fields) (pointing : List PointingState) → fields ≡ fields_met w node at state (slice_get w.fields node) →
+          new ≡ state_met w at state (slice_get w.fields node) → pointing ≡ slice_set w.pointing node new →
+          record w { fields = fields; pointing = pointing } ≡ answered w (met scene w node at)
+      met-world new fields pointing all is put =
+          ap (λ (fs : List Fields). record w { fields = fs; pointing = pointing }) all
+          ∙ ap (λ (ps : List PointingState). record w { fields = fields_met w node at state (slice_get w.fields node); pointing = ps }) (put ∙ ap (slice_set w.pointing node) is)
+          ∙ met-by (slice_get w.fields node)
           ∙ ap (answered w) meets
 
-      pub met-replies : (replies : List Reply) → replies ≡ (point touch (pointer who before down inside) w.last_time).replies →
-          replies ≡ (met scene w node p before place).replies
-      met-replies replies is =
-          is
-          ∙ ap (λ (n : ℕ). (point touch (pointer n before down inside) w.last_time).replies) by
-          ∙ ap (λ (b : Bool). (point touch (pointer p.who before b inside) w.last_time).replies) pressing
-          ∙ ap (λ (o : Option Vec3). (point touch (pointer p.who before p.down o) w.last_time).replies) there
-          ∙ ap (λ (a : Answer). a.replies) meets
+      pub met-replies : (replies : List Reply) → replies ≡ replies_met w at state (slice_get w.fields node) → replies ≡ (met scene w node at).replies
+      met-replies replies is = is ∙ replies-by (slice_get w.fields node) ∙ ap (λ (a : Answer). a.replies) meets

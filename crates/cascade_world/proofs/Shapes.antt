@@ -10,7 +10,8 @@ use Rattle.scene_core.specs.Scene.{SceneView, rows_at, shape_of, shapes_of, type
 use Rattle.scene_core.specs.Shape.{Shape, rows_of}
 use Rattle.scene_core.specs.declared.scene.End.{End}
 use Rattle.scene_core.specs.declared.scene.SceneNode.{SceneNode}
-use Rattle.cascade_world.specs.Answers.{answer, answer_as, answer_by, is_script, is_touch_sensor, not_run, nothing, setting_at, touching}
+use Rattle.scene_core.specs.Places.{is_pointing}
+use Rattle.cascade_world.specs.Answers.{answer, answer_as, answer_by, is_script, not_run, nothing, setting_at, touching}
 use Rattle.cascade_world.specs.declared.world.WorldData.{WorldData}
 
 -- a node of a scene with its type has a shape of that type
@@ -60,8 +61,8 @@ module _ (w : WorldData) (target : End) (v : Value) (kind : NodeType) (field : O
   by-time is = rw is refl
 
   module _ (timeless : is_time_sensor kind ≡ false) where
-    pub by-touch : is_touch_sensor kind ≡ true → touching w target v (slice_get w.fields target.node) ≡ answer_by w target v kind field
+    pub by-touch : is_pointing kind ≡ true → touching w target v kind (slice_get w.fields target.node) ≡ answer_by w target v kind field
     by-touch is = rw (timeless, is) refl
 
-    pub by-script : is_touch_sensor kind ≡ false → is_script kind ≡ true → not_run w target v field (slice_get w.fields target.node) ≡ answer_by w target v kind field
+    pub by-script : is_pointing kind ≡ false → is_script kind ≡ true → not_run w target v field (slice_get w.fields target.node) ≡ answer_by w target v kind field
     by-script untouched is = rw (timeless, untouched, is) refl

@@ -1,8 +1,6 @@
--- TimeSensors that wait, and pointers that pass a TouchSensor: nothing happens.
-use Rattle.std.proofs.Common.{arith, ◌≡◌, ◌∙◌, ap, sym, subst, refl, eq-eqb, eqb-true, get_or, ℕ, zero, suc, ℤ, Bool, true, false, List, [], ◌∷◌, ◌++◌, ◌/◌, Option, Some, None}
+-- TimeSensors that wait, and pointers that pass a pointing sensor: nothing happens.
+use Rattle.std.proofs.Common.{arith, ◌≡◌, ◌∙◌, ap, sym, subst, refl, eq-eqb, eqb-true, ℕ, ℤ, Bool, true, false, List, [], ◌∷◌, ◌/◌, Option, Some, None}
 use Rattle.std.proofs.lemmas.Int.{ints}
-use Rattle.std.proofs.lemmas.List.{set-get_or}
-use Rattle.std.proofs.lemmas.Option.{get_or_from_slice_get}
 use Rattle.std.specs.Prelude.{◌&&◌, ◌||◌, ◌==◌, is_none, is_some, not, slice_get, slice_set}
 use Rattle.std.specs.List.{list_any}
 use Rattle.std.specs.Option.{option_map_or}
@@ -12,19 +10,27 @@ use Rattle.x3d_values.specs.Pointing.{Pointing}
 use Rattle.react_core.specs.declared.outbox.Reply.{Reply}
 use Rattle.sensor_core.specs.Ticks.{Tick, is_started, tick}
 use Rattle.sensor_core.specs.Timing.{Timing, timing_of}
-use Rattle.sensor_core.specs.Touches.{Touch, Touched, is_over, is_pressed_by, over_replies, point, pointer}
+use Rattle.sensor_core.specs.Touches as touches
+use Rattle.sensor_plane.specs.Planes as planes
+use Rattle.sensor_plane.specs.declared.pointing.PointingState.{PointingState}
+use Rattle.sensor_plane.specs.declared.pointing.PointingState.TheVariants.{NoSensor, Touch, Plane}
+use Rattle.sensor_plane.specs.declared.drag.Drag.{Drag}
+use Rattle.sensor_plane.specs.declared.meeting.SensorPointer.{SensorPointer}
+use Rattle.sensor_plane.specs.declared.pointer.Contact.{Contact}
+use Rattle.sensor_plane.specs.Meeting.{Met, pointed}
+use Rattle.sensor_plane.specs.Pointing.{is_pressed_by, is_resting}
+use Rattle.sensor_plane.proofs.Resting.{rests}
 use Rattle.scene_core.specs.Scene.{SceneView}
-use Rattle.pick_core.specs.Sensors.{is_enabled}
-use Rattle.cascade_world.specs.Answers.{Answer, meeting, met, nothing, ticked, ticking}
+use Rattle.cascade_world.specs.Answers.{Answer, is_met, meeting, met, nothing, pointer_at, ticked, ticking}
 use Rattle.cascade_world.specs.Blocks.{AreOthers}
 use Rattle.cascade_world.specs.Idle.{AreIdle, IsIdle, no_time, starts_at}
 use Rattle.cascade_world.specs.declared.idle.Idle.{Idle}
 use Rattle.cascade_world.proofs.Blocks.{others}
 use Rattle.cascade_world.specs.Near.{is_near}
-use Rattle.cascade_world.specs.Pointer.{place_in}
+use Rattle.cascade_world.specs.Insides.{Insides, contact_in, inside_at, place_in}
 use Rattle.cascade_world.specs.declared.aim.Inside.{Inside}
 use Rattle.cascade_world.specs.declared.world.WorldData.{WorldData}
-use Rattle.cascade_world.proofs.Sensing.{met-off, tick-nowhere, tick-unlisted, tick-untimed, ticks}
+use Rattle.cascade_world.proofs.Sensing.{meets, met-nowhere, met-off, same-set, tick-nowhere, tick-unlisted, tick-untimed, ticks}
 
 -- ---- when nodes wait
 
@@ -43,15 +49,12 @@ pub none-of : (o : Option ℕ) → is_some o ≡ false → o ≡ None
 none-of None h = refl
 none-of (Some x) h = cc
 
-same-set : {A : Type 0} (xs : List A) (i : ℕ) (x : A) → slice_get xs i ≡ Some x → slice_set xs i x ≡ xs
-same-set xs i x h = ap (λ y. slice_set xs i y) (sym (get_or_from_slice_get xs i x x h)) ∙ set-get_or xs i x
-
 calm : (timing : Timing) (t : ℤ) → is_started timing t ≡ false → tick None timing t ≡ record { cycle = None; replies = [] }
 unfolding tick
 calm timing t h = rw h refl
 
 abbrev with-sensors : WorldData → List (Option ℕ) → List Reply → Answer
-with-sensors w sensors replies = record { fields = w.fields; sensors = sensors; touches = w.touches; replies = replies }
+with-sensors w sensors replies = record { fields = w.fields; sensors = sensors; pointing = w.pointing; replies = replies }
 
 module _ (w : WorldData) (node : ℕ) (t : ℤ) (listed : slice_get w.sensors node ≡ Some None) where
   still : (timing : Timing) → is_started timing t ≡ false → ticking w node t (Some timing) (Some None) ≡ nothing w
@@ -95,102 +98,68 @@ module _ (w : WorldData) (node : ℕ) (t : ℤ) where
 
 -- ---- a pointer that passes
 
-none-over : (over : List Bool) (i : ℕ) → list_any (λ (o : Bool). o) over ≡ false → get_or over i false ≡ false
-none-over [] i h = refl
-none-over (true ∷ over) i h = cc
-none-over (false ∷ over) zero h = refl
-none-over (false ∷ over) (suc i) h = none-over over i h
+not-inside : (is : Insides) (o : Option Inside) (sensor : ℕ) → inside_at is.sensors sensor ≡ o → is_none o ≡ true → (place_in is sensor ≡ None) × (contact_in is sensor ≡ None)
+not-inside is None sensor here h = (rw here refl, rw here refl)
+not-inside is (Some i) sensor here h = cc
 
-over-same : (over : List Bool) (who : ℕ) → list_any (λ (o : Bool). o) over ≡ false → slice_set over who false ≡ over
-over-same over who h = ap (λ (b : Bool). slice_set over who b) (sym (none-over over who h)) ∙ set-get_or over who false
+module _ (scene : SceneView) (w : WorldData) (node : ℕ) (p : Pointing) (before : Bool) (is : Insides) (tracked : Option Vec3)
+    (outside : is_none (inside_at is.sensors node) ≡ true) where
+  abbrev at : SensorPointer
+  at = pointer_at p before is tracked node
 
-abbrev free : List Bool → Touch
-free over = record { over = over; presser = None }
+  -- the pointer of a sensor that it isn't inside of
+  abbrev passing : Option Vec3 → Option Contact → SensorPointer
+  passing place contact = record { who = p.who; before = before; down = p.down; place = place; contact = contact; tracked = tracked }
 
-abbrev touched : List Bool → Bool → Touched
-touched over was = record { touch = free over; replies = over_replies was (list_any (λ (o : Bool). o) over) ++ [] ++ [] }
+  module _ (state : PointingState) (here : slice_get w.pointing node ≡ Some state) (rest : is_resting state ≡ true) where
+    leaves : (fields : Fields) → pointed state fields at w.last_time ≡ record { state = state; fields = fields; replies = [] }
+    leaves fields =
+        let none = not-inside is (inside_at is.sensors node) node refl outside in
+        ap (λ (o : Option Vec3). pointed state fields (passing o (contact_in is node)) w.last_time) none.0
+        ∙ ap (λ (o : Option Contact). pointed state fields (passing None o) w.last_time) none.1
+        ∙ rests state fields p.who before p.down tracked w.last_time rest
 
-passing : (over : List Bool) (who : ℕ) (before down : Bool) (t : ℤ) →
-    point (free over) (pointer who before down None) t ≡ touched (slice_set over who false) (list_any (λ (o : Bool). o) over)
-unfolding point
-passing over who true true t = refl
-passing over who true false t = refl
-passing over who false true t = refl
-passing over who false false t = refl
+    abbrev with_both : List Fields → List PointingState → List Reply → Answer
+    with_both fields pointing replies = record { fields = fields; sensors = w.sensors; pointing = pointing; replies = replies }
 
-passing-by : (over : List Bool) (who : ℕ) (before down : Bool) (t : ℤ) → list_any (λ (o : Bool). o) over ≡ false →
-    point (free over) (pointer who before down None) t ≡ record { touch = free over; replies = [] }
-passing-by over who before down t h =
-    passing over who before down t
-    ∙ ap (λ (o : List Bool). touched o (list_any (λ (b : Bool). b) over)) (over-same over who h)
-    ∙ ap (λ (b : Bool). record { touch = free over; replies = over_replies b b ++ [] ++ [] }) h
+    meets-none : (own : Option Fields) → slice_get w.fields node ≡ own → meeting w node at state own ≡ nothing w
+    meets-none None own = refl
+    meets-none (Some fields) own =
+        ap (λ (x : Met). with_both (slice_set w.fields node x.fields) (slice_set w.pointing node x.state) x.replies) (leaves fields)
+        ∙ ap (λ (fs : List Fields). with_both fs (slice_set w.pointing node state) []) (same-set w.fields node fields own)
+        ∙ ap (λ (ps : List PointingState). with_both w.fields ps []) (same-set w.pointing node state here)
 
-untouched-parts : (a : Bool) (presser : Option ℕ) → (not a && is_none presser) ≡ true → (a ≡ false) × (presser ≡ None)
-untouched-parts true presser h = cc
-untouched-parts false None h = (refl, refl)
-untouched-parts false (Some p) h = cc
+    by-met : (b : Bool) → is_met scene w node state ≡ b → met scene w node at ≡ nothing w
+    by-met true on = sym (meets scene w node at state here on) ∙ meets-none (slice_get w.fields node) refl
+    by-met false off = sym (met-off scene w node at state here off)
 
-abbrev with-touches : WorldData → List Touch → List Reply → Answer
-with-touches w touches replies = record { fields = w.fields; sensors = w.sensors; touches = touches; replies = replies }
+    pub passes-there : met scene w node at ≡ nothing w
+    passes-there = by-met (is_met scene w node state) refl
 
-module _ (scene : SceneView) (w : WorldData) (node : ℕ) (p : Pointing) (before : Bool) (touch : Touch) (here : slice_get w.touches node ≡ Some touch) where
-  leaves : (not (is_over touch) && is_none touch.presser) ≡ true → point touch (pointer p.who before p.down None) w.last_time ≡ record { touch = touch; replies = [] }
-  leaves alone =
-      let parts = untouched-parts (is_over touch) touch.presser alone in
-      let shown : touch ≡ record { over = touch.over; presser = None } = ap (λ (o : Option ℕ). record touch { presser = o }) parts.1 in
-      ap (λ (x : Touch). point x (pointer p.who before p.down None) w.last_time) shown
-      ∙ passing-by touch.over p.who before p.down w.last_time parts.0
-      ∙ ap (λ (x : Touch). record { touch = x; replies = [] }) (sym shown)
+  module _ (rest : (state : PointingState) → slice_get w.pointing node ≡ Some state → is_resting state ≡ true) where
+    by-state : (o : Option PointingState) → slice_get w.pointing node ≡ o → met scene w node at ≡ nothing w
+    by-state None none = sym (met-nowhere scene w node at none)
+    by-state (Some state) here = passes-there state here (rest state here)
 
-  meets-none : (not (is_over touch) && is_none touch.presser) ≡ true → meeting w node p before None (Some touch) ≡ nothing w
-  meets-none alone =
-      ap (λ (x : Touched). with-touches w (slice_set w.touches node x.touch) x.replies) (leaves alone)
-      ∙ ap (λ (ts : List Touch). with-touches w ts []) (same-set w.touches node touch here)
-
-  met-here : (place : Option Vec3) → is_enabled scene w.fields node ≡ true → met scene w node p before place ≡ meeting w node p before place (Some touch)
-  unfolding met
-  met-here place on = rw (on, here) refl
-
-  by-enabled : (b : Bool) → is_enabled scene w.fields node ≡ b → (not (is_over touch) && is_none touch.presser) ≡ true → met scene w node p before None ≡ nothing w
-  by-enabled true on alone = met-here None on ∙ meets-none alone
-  by-enabled false off alone = sym (met-off scene w node p before None off)
-
-  pub by-place : (place : Option Vec3) → is_none place ≡ true → (not (is_over touch) && is_none touch.presser) ≡ true → met scene w node p before place ≡ nothing w
-  by-place None h alone = by-enabled (is_enabled scene w.fields node) refl alone
-  by-place (Some x) h alone = cc
-
--- ---- a pointer beside all sensors of a block
-
-module _ (scene : SceneView) (w : WorldData) (node : ℕ) (p : Pointing) (before : Bool) (place : Option Vec3) (beside : is_none place ≡ true) where
-  met-nowhere : slice_get w.touches node ≡ None → (b : Bool) → is_enabled scene w.fields node ≡ b → met scene w node p before place ≡ nothing w
-  unfolding met
-  met-nowhere none true on = rw (on, none) refl
-  met-nowhere none false off = rw off refl
-
-  module _ (rests : (touch : Touch) → slice_get w.touches node ≡ Some touch → (not (is_over touch) && is_none touch.presser) ≡ true) where
-    by-touch : (o : Option Touch) → slice_get w.touches node ≡ o → met scene w node p before place ≡ nothing w
-    by-touch None none = met-nowhere none (is_enabled scene w.fields node) refl
-    by-touch (Some touch) here = by-place scene w node p before touch here place beside (rests touch here)
-
-    pub passes-at : met scene w node p before place ≡ nothing w
-    passes-at = by-touch (slice_get w.touches node) refl
+    pub passes-at : met scene w node at ≡ nothing w
+    passes-at = by-state (slice_get w.pointing node) refl
 
 -- a pointer inside a sensor of another block
 beside-by : (i : Inside) (is : List Inside) (block sensor : ℕ) (b : Bool) → (i.sensor == sensor) ≡ b → ((i.sensor / 32) == block) ≡ false → sensor / 32 ≡ block →
-    is_none (place_in is sensor) ≡ true → is_none (place_in (i ∷ is) sensor) ≡ true
-unfolding place_in
+    is_none (inside_at is sensor) ≡ true → is_none (inside_at (i ∷ is) sensor) ≡ true
+unfolding inside_at
 beside-by i is block sensor true same other within rest =
     let e : i.sensor / 32 ≡ block = ap (λ (k : ℕ). k / 32) (eqb-true i.sensor sensor same) ∙ within in
     let f : ((i.sensor / 32) == block) ≡ true = eq-eqb (i.sensor / 32) block e in cc
 beside-by i is block sensor false apart other within rest = rw apart rest
 
 beside-one : (i : Inside) (is : List Inside) (block sensor : ℕ) (a b : Bool) → is_near block i ≡ a → (a || b) ≡ false → sensor / 32 ≡ block →
-    (b ≡ false → is_none (place_in is sensor) ≡ true) → is_none (place_in (i ∷ is) sensor) ≡ true
+    (b ≡ false → is_none (inside_at is sensor) ≡ true) → is_none (inside_at (i ∷ is) sensor) ≡ true
 beside-one i is block sensor true b here other within rest = cc
 beside-one i is block sensor false b here other within rest = beside-by i is block sensor (i.sensor == sensor) refl here within (rest other)
 
-pub beside-all : (is : List Inside) (block sensor : ℕ) → list_any (is_near block) is ≡ false → sensor / 32 ≡ block → is_none (place_in is sensor) ≡ true
-unfolding place_in
+pub beside-all : (is : List Inside) (block sensor : ℕ) → list_any (is_near block) is ≡ false → sensor / 32 ≡ block → is_none (inside_at is sensor) ≡ true
+unfolding inside_at
 beside-all [] block sensor other within = refl
 beside-all (i ∷ is) block sensor other within =
     beside-one i is block sensor (is_near block i) (list_any (is_near block) is) refl other within (λ none. beside-all is block sensor none within)
@@ -200,14 +169,26 @@ not-so true h = cc
 not-so false h = refl
 
 -- nobody presses a sensor that is at rest
-by-rest : (touch : Touch) (who : ℕ) → (not (is_over touch) && is_none touch.presser) ≡ true → is_pressed_by touch who ≡ false
-by-rest touch who alone = rw (untouched-parts (is_over touch) touch.presser alone).1 refl
+by-rest : (state : PointingState) (who : ℕ) → is_resting state ≡ true → is_pressed_by state who ≡ false
+by-rest NoSensor who alone = refl
+by-rest (Touch touch) who alone = free (touches.is_over touch) touch.presser alone
+  where
+    free : (over : Bool) (presser : Option ℕ) → (not over && is_none presser) ≡ true → option_map_or (λ presser. presser == who) presser false ≡ false
+    free true presser h = cc
+    free false None h = refl
+    free false (Some p) h = cc
+by-rest (Plane plane) who alone = free (planes.is_over plane) plane.drag alone
+  where
+    free : (over : Bool) (drag : Option Drag) → (not over && is_none drag) ≡ true → planes.pressed_by drag who ≡ false
+    free true drag h = cc
+    free false None h = refl
+    free false (Some d) h = cc
 
-unpressed-at : (o : Option Touch) (who : ℕ) → ((touch : Touch) → o ≡ Some touch → (not (is_over touch) && is_none touch.presser) ≡ true) →
-    option_map_or (λ (touch : Touch). is_pressed_by touch who) o false ≡ false
-unpressed-at None who rests = refl
-unpressed-at (Some touch) who rests = by-rest touch who (rests touch refl)
+unpressed-at : (o : Option PointingState) (who : ℕ) → ((state : PointingState) → o ≡ Some state → is_resting state ≡ true) →
+    option_map_or (λ (state : PointingState). is_pressed_by state who) o false ≡ false
+unpressed-at None who rest = refl
+unpressed-at (Some state) who rest = by-rest state who (rest state refl)
 
-pub unpressed : (touches : List Touch) (who sensor : ℕ) → ((touch : Touch) → slice_get touches sensor ≡ Some touch → (not (is_over touch) && is_none touch.presser) ≡ true) →
-    option_map_or (λ (touch : Touch). is_pressed_by touch who) (slice_get touches sensor) false ≡ false
-unpressed touches who sensor rests = unpressed-at (slice_get touches sensor) who rests
+pub unpressed : (pointing : List PointingState) (who sensor : ℕ) → ((state : PointingState) → slice_get pointing sensor ≡ Some state → is_resting state ≡ true) →
+    option_map_or (λ (state : PointingState). is_pressed_by state who) (slice_get pointing sensor) false ≡ false
+unpressed pointing who sensor rest = unpressed-at (slice_get pointing sensor) who rest

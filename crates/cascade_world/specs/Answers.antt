@@ -1,9 +1,10 @@
 -- What one node does in a world, when an event comes to it, the clock ticks or a viewer points
 -- (ISO/IEC 19775-1, event model; time and pointing device sensor components).
+use Rattle.std.specs.Option.{option_map_or}
 use Rattle.std.specs.Prelude.{ℕ, ℤ, Bool, false, not, ◌&&◌, ◌==◌, ◌++◌, List, [], Option, Some, None, slice_get, slice_set, if◌then◌else◌}
 use Rattle.x3d_values.specs.declared.fields.Fields.{Fields}
 use Rattle.x3d_values.specs.declared.node_type.NodeType.{NodeType}
-use Rattle.x3d_values.specs.declared.node_type.NodeType.TheVariants.{Script, TouchSensor}
+use Rattle.x3d_values.specs.declared.node_type.NodeType.TheVariants.{PlaneSensor, Script}
 use Rattle.x3d_values.specs.declared.value.Value.{Value}
 use Rattle.x3d_values.specs.declared.value.Value.TheVariants.{SFBool}
 use Rattle.react_core.specs.declared.outbox.Reply.{Reply}
@@ -13,34 +14,41 @@ use Rattle.react_core.specs.Reaction.{reaction, keeps, is_time_sensor}
 use Rattle.sensor_core.specs.Timing.{Timing, timing_of, with_timing}
 use Rattle.sensor_core.specs.Events.{set}
 use Rattle.sensor_core.specs.Ticks.{tick}
-use Rattle.sensor_core.specs.Touches.{Touch, disable, point, pointer}
+use Rattle.sensor_plane.specs.declared.numbers.TheConstants.{PLANE_ENABLED}
+use Rattle.sensor_plane.specs.declared.pointing.PointingState.{PointingState}
+use Rattle.sensor_plane.specs.declared.meeting.SensorPointer.{SensorPointer}
+use Rattle.sensor_plane.specs.Meeting.{pointed}
+use Rattle.sensor_plane.specs.Pointing.{forgotten, is_state_of}
 use Rattle.x3d_values.specs.Pointing.{Pointing}
 use Rattle.x3d_values.specs.declared.vector.Vec3.{Vec3}
 use Rattle.x3d_values.specs.Tables.{Entry}
 use Rattle.sensor_core.specs.declared.touch_numbers.TheConstants.{TOUCH_ENABLED}
 use Rattle.scene_core.specs.declared.scene.End.{End}
-use Rattle.scene_core.specs.Scene.{SceneView}
+use Rattle.scene_core.specs.Places.{is_pointing}
+use Rattle.scene_core.specs.Scene.{SceneView, type_at}
 use Rattle.scene_core.specs.Shape.{Shape, rows_of}
 use Rattle.pick_core.specs.Sensors.{is_enabled}
 use Rattle.cascade_world.specs.Access.{is_set}
+use Rattle.cascade_world.specs.Insides.{Insides, contact_in, place_in}
 use Rattle.cascade_world.specs.declared.world.WorldData.{WorldData}
 use Rattle.cascade_world.specs.declared.world.Turn.{Turn}
 
--- what the nodes keep, and the time sensors and the touch sensors beside, after an answer, and what
--- is sent, in order
+-- what the nodes keep, and the time sensors and the pointing sensors beside, after an answer, and
+-- what is sent, in order
 pub record Answer : Type 0 where
   pub fields : List Fields
   pub sensors : List (Option ℕ)
-  pub touches : List Touch
+  pub pointing : List PointingState
   pub replies : List Reply
 
 -- nothing happens
 abbrev pub nothing : WorldData → Answer
-nothing w = record { fields = w.fields; sensors = w.sensors; touches = w.touches; replies = [] }
+nothing w =
+    record { fields = w.fields; sensors = w.sensors; pointing = w.pointing; replies = [] }
 
 -- the world after an answer
 abbrev pub answered : WorldData → Answer → WorldData
-answered w a = record w { fields = a.fields; sensors = a.sensors; touches = a.touches }
+answered w a = record w { fields = a.fields; sensors = a.sensors; pointing = a.pointing }
 
 abbrev pub with_answer : Turn → Answer → Turn
 with_answer turn a = record turn { world = answered turn.world a }
@@ -54,7 +62,7 @@ reacting w target v kind (Some fields) =
     record {
       fields = slice_set w.fields target.node r.fields;
       sensors = w.sensors;
-      touches = w.touches;
+      pointing = w.pointing;
       replies = r.replies;
     }
 reacting w target v kind None = nothing w
@@ -66,7 +74,7 @@ setting w target v fields (Some timing) (Some cycle) =
     record {
       fields = slice_set w.fields target.node (with_timing fields a.timing);
       sensors = slice_set w.sensors target.node a.cycle;
-      touches = w.touches;
+      pointing = w.pointing;
       replies = a.replies;
     }
 setting w target v fields (Some timing) None = nothing w
@@ -77,34 +85,43 @@ setting_at w target v (Some fields) =
     setting w target v fields (timing_of fields) (slice_get w.sensors target.node)
 setting_at w target v None = nothing w
 
--- a touch sensor goes by a rule of its own where it is turned off
-abbrev pub is_touch_sensor : NodeType → Bool
-is_touch_sensor kind = sameb the_type kind TouchSensor
+-- the number of the field `enabled` of a pointing sensor
+abbrev pub enabled_field : NodeType → ℕ
+enabled_field PlaneSensor = PLANE_ENABLED
+enabled_field _ = TOUCH_ENABLED
 
--- the event turns a touch sensor off
-abbrev pub turns_off : ℕ → Value → Bool
-turns_off field (SFBool on) = (field == TOUCH_ENABLED) && not on
-turns_off field _ = false
+-- the event turns a pointing sensor of this type off
+abbrev pub turns_off : NodeType → ℕ → Value → Bool
+turns_off kind field (SFBool on) = (field == enabled_field kind) && not on
+turns_off kind field _ = false
 
--- a touch sensor forgets its pointers, behind what it has answered
-abbrev pub forgetting : WorldData → ℕ → Answer → Option Touch → Answer
-forgetting w node a (Some touch) =
-    let d = disable touch in
-    record {
-      fields = a.fields;
-      sensors = a.sensors;
-      touches = slice_set w.touches node d.touch;
-      replies = a.replies ++ d.replies;
-    }
-forgetting w node a None = a
+-- what is kept of the pointing sensors after one of this type has forgotten its pointers, and what
+-- that sends; what is kept of a sensor is of its type
+abbrev pub forgets : WorldData → ℕ → NodeType → Option PointingState → List PointingState
+forgets w node kind (Some state) =
+    if is_state_of kind state then slice_set w.pointing node (forgotten state).state else w.pointing
+forgets w node kind None = w.pointing
 
--- a touch sensor reacts as any node, and forgets its pointers where it is turned off, even if it
+abbrev pub forgotten_by : NodeType → Option PointingState → List Reply
+forgotten_by kind (Some state) = if is_state_of kind state then (forgotten state).replies else []
+forgotten_by kind None = []
+
+-- a pointing sensor forgets its pointers, behind what it has answered
+abbrev pub forgetting : WorldData → ℕ → NodeType → Answer → Option PointingState → Answer
+forgetting w node kind a state = record {
+  fields = a.fields;
+  sensors = a.sensors;
+  pointing = forgets w node kind state;
+  replies = a.replies ++ forgotten_by kind state;
+}
+
+-- a pointing sensor reacts as any node, and forgets its pointers where it is turned off, even if it
 -- was off before
-abbrev pub touching : WorldData → End → Value → Option Fields → Answer
-touching w target v fields =
-    let a = reacting w target v TouchSensor fields in
-    if turns_off target.field v
-    then forgetting w target.node a (slice_get w.touches target.node)
+abbrev pub touching : WorldData → End → Value → NodeType → Option Fields → Answer
+touching w target v kind fields =
+    let a = reacting w target v kind fields in
+    if turns_off kind target.field v
+    then forgetting w target.node kind a (slice_get w.pointing target.node)
     else a
 
 -- a Script goes by the fields that it declares, beside those of its type
@@ -118,7 +135,7 @@ keeping w target v fields =
     record {
       fields = slice_set w.fields target.node r.fields;
       sensors = w.sensors;
-      touches = w.touches;
+      pointing = w.pointing;
       replies = r.replies;
     }
 
@@ -134,8 +151,8 @@ abbrev pub answer_by : WorldData → End → Value → NodeType → Option Entry
 answer_by w target v kind field =
     if is_time_sensor kind
     then setting_at w target v (slice_get w.fields target.node)
-    else (if is_touch_sensor kind
-    then touching w target v (slice_get w.fields target.node)
+    else (if is_pointing kind
+    then touching w target v kind (slice_get w.fields target.node)
     else (if is_script kind
     then not_run w target v field (slice_get w.fields target.node)
     else reacting w target v kind (slice_get w.fields target.node)))
@@ -158,7 +175,7 @@ ticking w node now (Some timing) (Some cycle) =
     record {
       fields = w.fields;
       sensors = slice_set w.sensors node t.cycle;
-      touches = w.touches;
+      pointing = w.pointing;
       replies = t.replies;
     }
 ticking w node now (Some timing) None = nothing w
@@ -175,23 +192,42 @@ ticked w node now = ticking_at w node now (slice_get w.fields node)
 
 -- ---- a viewer points
 
--- a touch sensor meets a viewer's pointer, whose button was down until now or not, and which is
--- inside the sensor at a place or not
-abbrev pub meeting : WorldData → ℕ → Pointing → Bool → Option Vec3 → Option Touch → Answer
-meeting w node p before place (Some touch) =
-    let t = point touch (pointer p.who before p.down place) w.last_time in
+-- a pointing sensor with these fields meets a viewer's pointer
+abbrev pub meeting : WorldData → ℕ → SensorPointer → PointingState → Option Fields → Answer
+meeting w node at state (Some fields) =
+    let p = pointed state fields at w.last_time in
     record {
-      fields = w.fields;
+      fields = slice_set w.fields node p.fields;
       sensors = w.sensors;
-      touches = slice_set w.touches node t.touch;
-      replies = t.replies;
+      pointing = slice_set w.pointing node p.state;
+      replies = p.replies;
     }
-meeting w node p before place None = nothing w
+meeting w node at state None = nothing w
 
--- what a touch sensor does at a pointer; one that isn't enabled by the fields that it has then is
--- skipped
-unfoldable pub met : SceneView → WorldData → ℕ → Pointing → Bool → Option Vec3 → Answer
-met scene w node p before place =
-    if is_enabled scene w.fields node
-    then meeting w node p before place (slice_get w.touches node)
+-- a viewer's pointer as a sensor meets it: whether its button was down until now, where it is
+-- inside the sensor, and where its ray meets the plane of a drag, which was fixed before
+abbrev pub pointer_at : Pointing → Bool → Insides → Option Vec3 → ℕ → SensorPointer
+pointer_at p before is tracked node = record {
+  who = p.who;
+  before = before;
+  down = p.down;
+  place = place_in is node;
+  contact = contact_in is node;
+  tracked = tracked;
+}
+
+-- the sensor is enabled by the fields that it has then, and what is kept of it is of its type
+abbrev pub is_met : SceneView → WorldData → ℕ → PointingState → Bool
+is_met scene w node state =
+    is_enabled scene w.fields node
+    && option_map_or (λ kind. is_state_of kind state) (type_at scene node) false
+
+abbrev pub met_as : SceneView → WorldData → ℕ → SensorPointer → Option PointingState → Answer
+met_as scene w node at None = nothing w
+met_as scene w node at (Some state) =
+    if is_met scene w node state then meeting w node at state (slice_get w.fields node)
     else nothing w
+
+-- what a pointing sensor does at a pointer; one that isn't enabled is skipped
+unfoldable pub met : SceneView → WorldData → ℕ → SensorPointer → Answer
+met scene w node at = met_as scene w node at (slice_get w.pointing node)

@@ -7,7 +7,7 @@ use Rattle.x3d_values.specs.declared.field_type.FieldType.{FieldType}
 use Rattle.x3d_values.specs.declared.fields.Fields.{Fields}
 use Rattle.x3d_values.specs.declared.fields.Position.{Position}
 use Rattle.x3d_values.specs.declared.node_type.NodeType.{NodeType}
-use Rattle.x3d_values.specs.declared.node_type.NodeType.TheVariants.{BooleanSequencer, IntegerSequencer, TimeSensor, TouchSensor}
+use Rattle.x3d_values.specs.declared.node_type.NodeType.TheVariants.{BooleanSequencer, IntegerSequencer, TimeSensor}
 use Rattle.x3d_values.specs.declared.ranges.TheConstants.{MAX_VIEWERS}
 use Rattle.x3d_values.specs.declared.value.Value.{Value}
 use Rattle.x3d_values.specs.Access.{sends}
@@ -15,8 +15,11 @@ use Rattle.x3d_values.specs.Tables.{Entry, rows}
 use Rattle.snapshot_codec.specs.Fields.{kept_field, kept_fits}
 use Rattle.snapshot_codec.specs.Parts.{cycle_fits, place_fits}
 use Rattle.snapshot_codec.specs.Trace.{is_moment, typed_fits}
-use Rattle.snapshot_rules.specs.Beside.{touch_fits, is_untouched}
-use Rattle.sensor_core.specs.Touches.{Touch}
+use Rattle.sensor_plane.specs.declared.drag.Drag.{Drag}
+use Rattle.sensor_plane.specs.declared.pointing.PointingState.{PointingState}
+use Rattle.sensor_plane.specs.declared.pointing.PointingState.TheVariants.{Plane}
+use Rattle.sensor_plane.specs.Pointing.{pointing_fits}
+use Rattle.pick_track.specs.Paths.{leads_to}
 use Rattle.scene_core.specs.Scene.{SceneView, shapes_of}
 use Rattle.scene_core.specs.Shape.{Shape, rows_of}
 use Rattle.cascade_trace.specs.declared.trace.TraceLine.{TraceLine}
@@ -54,25 +57,37 @@ abbrev pub time_fits : NodeType → Option ℕ → Bool
 time_fits TimeSensor cycle = cycle_fits cycle
 time_fits _ cycle = is_none cycle
 
--- pointers are over TouchSensors alone, and they alone are pressed
-abbrev pub pointers_fit : NodeType → Touch → Bool
-pointers_fit TouchSensor touch = touch_fits touch
-pointers_fit _ touch = is_untouched touch
-
-abbrev pub node_fits : Shape → Fields → Option ℕ → Touch → Bool
-node_fits s fields cycle touch =
+-- and what is kept of it where viewers point is what a node of its type may keep
+abbrev pub node_fits : Shape → Fields → Option ℕ → PointingState → Bool
+node_fits s fields cycle state =
     fields_fit s.node_type s.declared fields
-    && (time_fits s.node_type cycle && pointers_fit s.node_type touch)
+    && (time_fits s.node_type cycle && pointing_fits s.node_type state)
 
 -- node by node; each of the lists is as long
-abbrev pub nodes_fit : List Shape → List Fields → List (Option ℕ) → List Touch → Bool
-nodes_fit [] fields cycles touches =
-    (length fields == 0) && ((length cycles == 0) && (length touches == 0))
-nodes_fit (s ∷ shapes) [] cycles touches = false
-nodes_fit (s ∷ shapes) (f ∷ fields) [] touches = false
+abbrev pub nodes_fit : List Shape → List Fields → List (Option ℕ) → List PointingState → Bool
+nodes_fit [] fields cycles pointing =
+    (length fields == 0) && ((length cycles == 0) && (length pointing == 0))
+nodes_fit (s ∷ shapes) [] cycles pointing = false
+nodes_fit (s ∷ shapes) (f ∷ fields) [] pointing = false
 nodes_fit (s ∷ shapes) (f ∷ fields) (c ∷ cycles) [] = false
-nodes_fit (s ∷ shapes) (f ∷ fields) (c ∷ cycles) (u ∷ touches) =
-    node_fits s f c u && nodes_fit shapes fields cycles touches
+nodes_fit (s ∷ shapes) (f ∷ fields) (c ∷ cycles) (u ∷ pointing) =
+    node_fits s f c u && nodes_fit shapes fields cycles pointing
+
+-- ---- the drags
+
+-- the way that is kept of a drag leads to a list that holds the sensor
+abbrev pub drag_leads : SceneView → ℕ → Option Drag → Bool
+drag_leads scene node None = true
+drag_leads scene node (Some drag) = leads_to scene None drag.path node
+
+abbrev pub leads : SceneView → ℕ → PointingState → Bool
+leads scene node (Plane plane) = drag_leads scene node plane.drag
+leads scene node _ = true
+
+-- node by node; the first of these has number n
+abbrev pub all_lead : SceneView → ℕ → List PointingState → Bool
+all_lead scene n [] = true
+all_lead scene n (state ∷ states) = leads scene n state && all_lead scene (n + 1) states
 
 -- ---- the trace
 
@@ -99,11 +114,13 @@ line_fits shapes line =
 pub record WorldFits (shapes : List Shape) (w : WorldData) : Type 0 where
   pub count : w.applied ≤ 2 ^ 20
   pub last : is_moment w.last_time ≡ true
-  pub nodes : nodes_fit shapes w.fields w.sensors w.touches ≡ true
+  pub nodes : nodes_fit shapes w.fields w.sensors w.pointing ≡ true
   pub buttons : length w.buttons ≡ MAX_VIEWERS
   pub lines : list_all (line_fits shapes) w.trace ≡ true
 
--- a snapshot of the scene can be of this world; the nodes of the scene have numbers of 32 bits
+-- a snapshot of the scene can be of this world; the nodes of the scene have numbers of 32 bits, and
+-- drags lead to their sensors
 pub record FitsScene (scene : SceneView) (w : WorldData) : Type 0 where
   pub few : length scene.nodes < 2 ^ 32
   pub world : WorldFits (shapes_of scene) w
+  pub paths : all_lead scene 0 w.pointing ≡ true

@@ -3,6 +3,7 @@ pub mod Answers
 pub mod Blocks
 pub mod Fits
 pub mod Idle
+pub mod Insides
 pub mod Near
 pub mod Nodes
 pub mod Pointer

@@ -1,56 +1,59 @@
--- What a pointer concerns (ISO/IEC 19775-1, pointing device sensor component; what concerns more
--- than one viewer is our choice).
-use Rattle.std.specs.Prelude.{ℕ, ◌==◌, Bool, false, List, [], ◌∷◌, map, Option, Some, None, slice_get, if◌then◌else◌}
+-- Which sensors a pointer concerns (ISO/IEC 19775-1, pointing device sensor component; what concerns
+-- more than one viewer is our choice).
+use Rattle.std.specs.Prelude.{ℕ, Bool, false, List, [], ◌∷◌, map, Option, Some, None, slice_get}
 use Rattle.std.specs.List.{filter}
-use Rattle.std.specs.Option.{option_map_or}
-use Rattle.x3d_values.specs.Pointing.{Sight}
+use Rattle.std.specs.Option.{option_and_then, option_map_or}
+use Rattle.x3d_values.specs.Pointing.{Pointing, Sight}
 use Rattle.x3d_values.specs.declared.fields.Fields.{Fields}
-use Rattle.x3d_values.specs.declared.node_type.NodeType.{NodeType}
 use Rattle.x3d_values.specs.declared.vector.Vec3.{Vec3}
-use Rattle.scene_core.specs.Scene.{SceneView}
-use Rattle.sensor_core.specs.Touches.{is_pressed_by}
-use Rattle.pick_core.specs.Boxes.{boxes}
-use Rattle.pick_core.specs.Local.{local_of}
-use Rattle.pick_core.specs.Picked.{picked}
-use Rattle.pick_core.specs.Sensors.{sensors_of}
-use Rattle.pick_core.specs.declared.hit.Hit.{Hit}
-use Rattle.cascade_world.specs.Nodes.{touch_sensors_of}
-use Rattle.cascade_world.specs.declared.aim.Inside.{Inside}
+use Rattle.scene_core.specs.Scene.{SceneView, types_of}
+use Rattle.pick_track.specs.Track.{track_of}
+use Rattle.sensor_plane.specs.declared.drag.Drag.{Drag}
+use Rattle.sensor_plane.specs.declared.pointing.PointingState.{PointingState}
+use Rattle.sensor_plane.specs.Pointing.{drag_by, is_pressed_by}
+use Rattle.cascade_world.specs.Nodes.{pointing_sensors_of}
+use Rattle.cascade_world.specs.declared.aim.Concerned.{Concerned}
 use Rattle.cascade_world.specs.declared.world.WorldData.{WorldData}
-
--- ---- where a pointer is inside
-
--- the sensors of a hit, each with the hit's place in its coordinates
-abbrev pub inside_of : SceneView → List Fields → Sight → Option Hit → List Inside
-inside_of scene state ray None = []
-inside_of scene state ray (Some hit) =
-    map (λ sensor. record { sensor = sensor; point = local_of scene state hit ray sensor })
-    (sensors_of scene state hit.path)
-
--- the sensors that a ray is inside of, by the box that it hits first in a state, and where
-unfoldable pub insides : SceneView → List Fields → Sight → List Inside
-insides scene state ray = inside_of scene state ray (picked ray (boxes scene state))
-
--- where a pointer is inside a sensor, if it is
-unfoldable pub place_in : List Inside → ℕ → Option Vec3
-place_in [] sensor = None
-place_in (i ∷ is) sensor = if i.sensor == sensor then Some i.point else place_in is sensor
-
--- ---- which sensors it concerns
 
 -- a viewer presses the sensor of that number
 abbrev pub is_pressed : WorldData → ℕ → ℕ → Bool
 is_pressed w who sensor =
-    option_map_or (λ touch. is_pressed_by touch who) (slice_get w.touches sensor) false
+    option_map_or (λ (state : PointingState). is_pressed_by state who) (slice_get w.pointing sensor)
+    false
 
-abbrev pub or_all : List ℕ → List ℕ → List ℕ
+-- where a ray meets the plane of a drag, if there is one
+abbrev pub tracked_by : SceneView → List Fields → Sight → Option Drag → Option Vec3
+tracked_by scene fields ray None = None
+tracked_by scene fields ray (Some drag) = track_of scene fields drag.path drag.start ray
+
+-- where a viewer's ray meets the plane in which it drags the sensor of that number, if it does
+unfoldable pub tracked_at : SceneView → WorldData → Pointing → ℕ → Option Vec3
+tracked_at scene w p sensor =
+    tracked_by scene w.fields p.ray
+    (option_and_then (λ (state : PointingState). drag_by state p.who)
+    (slice_get w.pointing sensor))
+
+-- a sensor that the viewer presses
+abbrev pub tracking : SceneView → WorldData → Pointing → ℕ → Concerned
+tracking scene w p sensor = record { sensor = sensor; tracked = tracked_at scene w p sensor }
+
+-- one that it doesn't
+abbrev pub untracked : ℕ → Concerned
+untracked sensor = record { sensor = sensor; tracked = None }
+
+abbrev pub or_all : List Concerned → List Concerned → List Concerned
 or_all [] all = all
 or_all (sensor ∷ some) all = sensor ∷ some
 
--- those that a viewer presses; where it presses none, all
-unfoldable pub concerned : List NodeType → WorldData → ℕ → List ℕ
-concerned kinds w who =
-    or_all (filter (is_pressed w who) (touch_sensors_of kinds)) (touch_sensors_of kinds)
+abbrev pub pressed : SceneView → WorldData → Pointing → List Concerned
+pressed scene w p =
+    map (tracking scene w p) (filter (is_pressed w p.who) (pointing_sensors_of (types_of scene)))
+
+-- those that a viewer presses, each with where its ray meets the plane of a drag; where it presses
+-- none, all
+unfoldable pub concerned : SceneView → WorldData → Pointing → List Concerned
+concerned scene w p =
+    or_all (pressed scene w p) (map untracked (pointing_sensors_of (types_of scene)))
 
 -- ---- the pointer itself
 

@@ -1,35 +1,52 @@
 //! Where a viewer points: the sensors that its ray is inside of, and its button.
 
-ghost use Rattle.std.specs.Prelude.{◌≡◌, ◌<◌, ◌≤◌, pos, map, length};
-ghost use Rattle.pick_core.specs.Local.{local_of};
+ghost use Rattle.std.specs.Prelude.{◌≡◌, ◌<◌, ◌≤◌, pos, map, length, take, None};
+ghost use Rattle.std.specs.Option.{option_copied, option_map};
+ghost use Rattle.sensor_plane.specs.Paths.{list_path};
 ghost use Rattle.pick_core.specs.Sites.{rows_of};
-ghost use Rattle.cascade_world.specs.Pointer.{insides as insides_of, place_in};
+ghost use Rattle.cascade_world.specs.Answers.{pointer_at};
+ghost use Rattle.cascade_world.specs.Insides.{contact_by, contact_in, contact_of, inside_at, inside_by, insides as insides_of, place_in, seen};
 
 use crate::world::{Turn, WorldData};
 use arrayvec::ArrayVec;
-use pick_core::{BoxCache, Hit, MAX_SENSORS, local_point, sensors_of};
+use pick_core::{BoxCache, Hit, MAX_SENSORS, Path, local_point, sensors_of};
+use pick_track::sensor_depth;
 use scene_core::Scene;
+use sensor_plane::{Contact, ListPath, SensorPointer};
 use x3d_values::{Fields, Pointer, Ray, Vec3};
 
-/// A sensor that a pointer is inside of, and the place of its hit in the sensor's coordinates, in
-/// millionths.
+/// A sensor that a pointer is inside of, the place of its hit in the sensor's coordinates, in
+/// millionths, and how many positions of the hit's path lead to the list that holds the sensor.
 #[derive(Clone, Copy)]
 pub struct Inside {
     pub sensor: u32,
     pub point: Vec3,
+    pub depth: Option<usize>,
 }
 
 /// What stands in an unused place.
 impl Default for Inside {
     ghost is_default = { λ inside. inside
-        ≡ record { sensor = 0; point = record { x = pos 0; y = pos 0; z = pos 0 } } };
+        ≡ record {
+          sensor = 0;
+          point = record { x = pos 0; y = pos 0; z = pos 0 };
+          depth = None;
+        } };
 
     fn default() -> Inside {
         Inside {
             sensor: 0,
             point: Vec3 { x: 0, y: 0, z: 0 },
+            depth: None,
         }
     }
+}
+
+/// The sensors that a ray is inside of, in number order, and the path of its hit, if it hits a box.
+#[derive(Drop)]
+pub struct SensorsHit {
+    pub path: Option<Path>,
+    pub sensors: ArrayVec<Inside, MAX_SENSORS>,
 }
 
 /// What is fixed where a viewer points.
@@ -39,27 +56,119 @@ pub struct Aim {
     /// Whether the viewer's button was down until now.
     pub before: bool,
     /// The sensors that its ray is inside of.
-    pub inside: ArrayVec<Inside, MAX_SENSORS>,
+    pub inside: SensorsHit,
 }
 
-/// Where a pointer is inside a sensor, if it is.
-#[tactic(auto, unfolding(crate::specs::Pointer::place_in))]
-pub fn place_in(inside: &[Inside], sensor: u32) -> Option<Vec3>
-    ensures { result ≡ place_in inside.now sensor }
+/// A sensor that a pointer concerns, and where the viewer's ray meets the plane in which it drags
+/// that sensor, in the sensor's coordinates in millionths, if it does.
+#[derive(Clone, Copy)]
+pub struct Concerned {
+    pub sensor: u32,
+    pub tracked: Option<Vec3>,
+}
+
+/// How a pointer is inside a sensor, if it is.
+#[tactic(auto, unfolding(crate::specs::Insides::inside_at))]
+pub fn inside_at(inside: &[Inside], sensor: u32) -> Option<&Inside>
+    ensures { option_copied result ≡ inside_at inside.now sensor }
 {
     match inside {
         [] => None,
         [first, others @ ..] => {
             if first.sensor == sensor {
-                return Some(first.point);
+                return Some(first);
             }
-            place_in(others, sensor)
+            inside_at(others, sensor)
         }
     }
 }
 
-/// The places of a hit in the coordinates of its sensors.
-fn places_of(
+/// The way that a hit's first positions lead, where it can be kept.
+fn way_of(path: &Path, depth: usize) -> Option<ListPath>
+    ensures { result ≡ list_path (take depth path.now) }
+{
+    let positions = path.as_slice();
+    ListPath::new(&positions[..depth.min(positions.len())])
+}
+
+/// The place of a hit inside a sensor, with the way to the list that holds it, that many positions
+/// down.
+fn contact_by(path: &Path, inside: &Inside, depth: usize) -> Option<Contact>
+    ensures { result ≡ contact_by path.now inside.now depth }
+{
+    let Some(way) = way_of(path, depth) else {
+        return None;
+    };
+    Some(Contact {
+        point: inside.point,
+        path: way,
+    })
+}
+
+/// The same, where there is such a list.
+fn contact_of(path: &Path, inside: &Inside) -> Option<Contact>
+    ensures { result ≡ contact_of (Some path.now) inside.now }
+{
+    let Some(depth) = inside.depth else {
+        return None;
+    };
+    contact_by(path, inside, depth)
+}
+
+impl SensorsHit {
+    ghost use Rattle.std.specs.Prelude.{◌≡◌};
+    ghost use Rattle.cascade_world.specs.Insides.{contact_in, place_in, seen};
+
+    /// The place of a pointer inside a sensor, in the sensor's coordinates, if it is inside.
+    pub fn place(&self, sensor: u32) -> Option<Vec3>
+        ensures { result ≡ place_in (seen self.now) sensor }
+    {
+        let Some(inside) = inside_at(self.sensors.as_slice(), sensor) else {
+            return None;
+        };
+        Some(inside.point)
+    }
+
+    /// The same, with the way to the list that holds the sensor, where that can be kept.
+    pub fn contact(&self, sensor: u32) -> Option<Contact>
+        ensures { result ≡ contact_in (seen self.now) sensor }
+    {
+        let Some(inside) = inside_at(self.sensors.as_slice(), sensor) else {
+            return None;
+        };
+        let Some(path) = &self.path else {
+            return None;
+        };
+        contact_of(path, inside)
+    }
+}
+
+impl Aim {
+    ghost use Rattle.std.specs.Prelude.{◌≡◌, IsTrue};
+    ghost use Rattle.x3d_values.specs.Ranges.{is_viewer};
+    ghost use Rattle.cascade_world.specs.Answers.{pointer_at};
+    ghost use Rattle.cascade_world.specs.Insides.{seen};
+
+    /// The pointer as a sensor meets it.
+    pub fn at(&self, concerned: Concerned) -> SensorPointer
+        ensures viewer { IsTrue (is_viewer result.who) }
+        ensures value { result
+            ≡ pointer_at self.now.pointer self.now.before (seen self.now.inside) concerned.tracked
+            concerned.sensor }
+    {
+        SensorPointer {
+            who: self.pointer.who(),
+            before: self.before,
+            down: self.pointer.is_down(),
+            place: self.inside.place(concerned.sensor),
+            contact: self.inside.contact(concerned.sensor),
+            tracked: concerned.tracked,
+        }
+    }
+}
+
+/// How a hit is inside its sensors.
+fn sensors_inside(
     scene: &Scene,
     state: &[Fields],
     hit: &Hit,
@@ -68,37 +177,37 @@ fn places_of(
 ) -> ArrayVec<Inside, MAX_SENSORS>
     requires within { 0 < hit.now.m }
     requires few { length sensors.now ≤ 64 }
-    ensures { result.items
-        ≡ map (λ sensor.
-        record { sensor = sensor; point = local_of scene.now state.now hit.now ray sensor })
-        sensors.now }
+    ensures { result.items ≡ map (inside_by scene.now state.now ray hit.now) sensors.now }
 {
-    let mut places = ArrayVec::new();
+    let mut inside = ArrayVec::new();
     for sensor in sensors {
-        places.push(Inside {
+        inside.push(Inside {
             sensor: *sensor,
             point: local_point(scene, state, hit, ray, *sensor),
+            depth: sensor_depth(scene, hit.path.as_slice(), *sensor),
         });
     }
-    places
+    inside
 }
 
 /// The sensors that a ray is inside of, and where.
-#[tactic(auto, unfolding(crate::specs::Pointer::insides))]
-pub fn insides(
-    scene: &Scene,
-    state: &[Fields],
-    boxes: &BoxCache,
-    ray: Ray,
-) -> ArrayVec<Inside, MAX_SENSORS>
+#[tactic(auto, unfolding(crate::specs::Insides::insides))]
+pub fn insides(scene: &Scene, state: &[Fields], boxes: &BoxCache, ray: Ray) -> SensorsHit
     requires boxes { boxes.now ≡ rows_of scene.now state.now }
-    ensures { result.items ≡ insides_of scene.now state.now ray }
+    ensures { seen result ≡ insides_of scene.now state.now ray }
 {
     let Some(hit) = boxes.pick(ray) else {
-        return ArrayVec::new();
+        return SensorsHit {
+            path: None,
+            sensors: ArrayVec::new(),
+        };
     };
     let sensors = sensors_of(scene, state, &hit);
-    places_of(scene, state, &hit, ray, sensors.as_slice())
+    let sensors = sensors_inside(scene, state, &hit, ray, sensors.as_slice());
+    SensorsHit {
+        path: Some(hit.path),
+        sensors,
+    }
 }
 
 impl WorldData {

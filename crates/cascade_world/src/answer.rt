@@ -6,7 +6,7 @@ ghost use Rattle.cascade_world.specs.Answers.{answer, answer_by, answered, setti
 
 use crate::world::WorldData;
 use react_core::Outbox;
-use scene_core::{End, Scene};
+use scene_core::{End, Scene, is_pointing};
 use sensor_core::TimeFields;
 use std::alloc::{AllocError, Global};
 use x3d_values::{NodeType, Stamped, Value};
@@ -60,8 +60,8 @@ impl WorldData {
             self.set_sensor(target, value, out);
             return Ok(());
         }
-        if node_type == NodeType::TouchSensor {
-            return self.touch(alloc, target, value, out);
+        if is_pointing(node_type) {
+            return self.touch(alloc, node_type, target, value, out);
         }
         if node_type == NodeType::Script {
             return self.set_script(alloc, scene, target, value, out);

@@ -8,12 +8,15 @@ ghost use Rattle.snapshot_codec.specs.Fields.{kept_field, kept_fits};
 ghost use Rattle.snapshot_codec.specs.Trace.{is_moment};
 ghost use Rattle.scene_core.specs.Scene.{rows_at, shapes_of};
 ghost use Rattle.scene_core.specs.Shape.{row_entry};
-ghost use Rattle.cascade_world.specs.Fits.{line_fits, node_fits, nodes_fit, output_type, pointers_fit, position_fits, sent_type, time_fits, values_fit};
+ghost use Rattle.sensor_plane.specs.Pointing.{pointing_fits};
+ghost use Rattle.cascade_world.specs.Fits.{all_lead, drag_leads, leads, line_fits, node_fits, nodes_fit, output_type, position_fits, sent_type, time_fits, values_fit};
 
 use crate::world::{VIEWERS, WorldData};
 use cascade_trace::{LineHead, TestsLines};
+use pick_track::leads_to;
 use scene_core::{Row, Scene};
-use sensor_core::{TimeState, TouchState};
+use sensor_core::TimeState;
+use sensor_plane::{Drag, PointingState};
 use snapshot_codec::kept_field;
 use snapshot_ranges::{is_moment, kept_fits, place_fits, typed_fits};
 use x3d_values::{FieldType, Fields, MAX_INPUTS, NodeType, Position, Value};
@@ -86,17 +89,6 @@ fn time_fits(node_type: NodeType, time: TimeState) -> bool
     }
 }
 
-/// Whether these pointers may be over a node of this type, and press it.
-fn pointers_fit(node_type: NodeType, touch: &TouchState) -> bool
-    ensures { result ≡ pointers_fit node_type touch.now }
-{
-    let untouched = touch.is_untouched();
-    match node_type {
-        NodeType::TouchSensor => true,
-        _ => untouched,
-    }
-}
-
 /// Whether a node may keep these fields.
 fn fields_fit(scene: &Scene, node: u32, node_type: NodeType, fields: &Fields) -> bool
     ensures { result
@@ -108,10 +100,10 @@ fn fields_fit(scene: &Scene, node: u32, node_type: NodeType, fields: &Fields) ->
 }
 
 /// Whether a node of this type may keep this beside its fields.
-fn beside_fits(node_type: NodeType, time: TimeState, touch: &TouchState) -> bool
-    ensures { result ≡ (time_fits node_type time && pointers_fit node_type touch.now) }
+fn beside_fits(node_type: NodeType, time: TimeState, state: &PointingState) -> bool
+    ensures { result ≡ (time_fits node_type time && pointing_fits node_type state.now) }
 {
-    time_fits(node_type, time) && pointers_fit(node_type, touch)
+    time_fits(node_type, time) && state.fits(node_type)
 }
 
 /// Whether the node of that number, which is of this type, may keep this.
@@ -121,24 +113,30 @@ fn typed_node_fits(
     node_type: NodeType,
     fields: &Fields,
     time: TimeState,
-    touch: &TouchState,
+    state: &PointingState,
 ) -> bool
     ensures { result
         ≡ ((values_fit node_type 0 (rows_at scene.now node) fields.now.values
         && position_fits node_type fields.now.position)
-        && (time_fits node_type time && pointers_fit node_type touch.now)) }
+        && (time_fits node_type time && pointing_fits node_type state.now)) }
 {
-    fields_fit(scene, node, node_type, fields) && beside_fits(node_type, time, touch)
+    fields_fit(scene, node, node_type, fields) && beside_fits(node_type, time, state)
 }
 
 /// Whether the node of that number may keep this.
-fn node_fits(scene: &Scene, node: u32, fields: &Fields, time: TimeState, touch: &TouchState) -> bool
+fn node_fits(
+    scene: &Scene,
+    node: u32,
+    fields: &Fields,
+    time: TimeState,
+    state: &PointingState,
+) -> bool
     ensures { result
-        ≡ option_map_or (λ shape. node_fits shape fields.now time touch.now)
+        ≡ option_map_or (λ shape. node_fits shape fields.now time state.now)
         (slice_get (shapes_of scene.now) node) false }
 {
     match scene.type_at(node) {
-        Some(node_type) => typed_node_fits(scene, node, node_type, fields, time, touch),
+        Some(node_type) => typed_node_fits(scene, node, node_type, fields, time, state),
         None => false,
     }
 }
@@ -147,28 +145,61 @@ fn node_fits(scene: &Scene, node: u32, fields: &Fields, time: TimeState, touch: 
 fn has_nodes(world: &WorldData, count: usize) -> bool
     ensures { result
         ≡ ((length world.now.fields == count)
-        && ((length world.now.sensors == count) && (length world.now.touches == count))) }
+        && ((length world.now.sensors == count) && (length world.now.pointing == count))) }
 {
     world.fields.as_slice().len() == count
         && world.sensors.len() == count
-        && world.touches.len() == count
+        && world.pointing.len() == count
 }
 
 /// Whether the nodes of a scene, so many, may keep what they keep in a world.
 fn nodes_fit(scene: &Scene, count: u32, world: &WorldData) -> bool
     requires { count ≡ length scene.now.nodes }
     ensures { result
-        ≡ nodes_fit (shapes_of scene.now) world.now.fields world.now.sensors world.now.touches }
+        ≡ nodes_fit (shapes_of scene.now) world.now.fields world.now.sensors world.now.pointing }
 {
     if !has_nodes(world, count as usize) {
         return false;
     }
     let fields = world.fields.as_slice();
     let sensors = world.sensors.as_slice();
-    let touches = world.touches.as_slice();
+    let pointing = world.pointing.as_slice();
     for node in 0..count {
         let at = node as usize;
-        if !node_fits(scene, node, &fields[at], sensors[at], &touches[at]) {
+        if !node_fits(scene, node, &fields[at], sensors[at], &pointing[at]) {
+            return false;
+        }
+    }
+    true
+}
+
+/// Whether the way that is kept of a drag leads to a list that holds the sensor.
+fn drag_leads(scene: &Scene, node: u32, drag: Option<Drag>) -> bool
+    ensures { result ≡ drag_leads scene.now node drag }
+{
+    let Some(drag) = drag else {
+        return true;
+    };
+    leads_to(scene, drag.path.as_slice(), node)
+}
+
+fn leads(scene: &Scene, node: u32, state: &PointingState) -> bool
+    ensures { result ≡ leads scene.now node state.now }
+{
+    match state {
+        PointingState::Plane(plane) => drag_leads(scene, node, plane.drag()),
+        PointingState::Touch(_) => true,
+        PointingState::NoSensor => true,
+    }
+}
+
+/// Whether the drags at the nodes of a scene, so many, lead to their sensors.
+pub fn all_lead(scene: &Scene, count: u32, pointing: &[PointingState]) -> bool
+    requires { length pointing.now ≡ count }
+    ensures { result ≡ all_lead scene.now 0 pointing.now }
+{
+    for node in 0..count {
+        if !leads(scene, node, &pointing[node as usize]) {
             return false;
         }
     }
@@ -231,9 +262,9 @@ impl WorldData {
 
     /// Whether a snapshot of the scene can be of this world: there is something for each node, each
     /// value is one of its field, in the range of the field's type, TimeSensors alone run cycles,
-    /// pointers are over TouchSensors alone, and each event of the trace can have left by its
-    /// output. It takes no memory, and time in proportion to the scene and the world. No memory
-    /// holds a scene of 2^32 nodes; no world would fit it.
+    /// pointers are over pointing sensors alone and drags lead to theirs, and each event of the
+    /// trace can have left by its output. It takes no memory, and time in proportion to the scene
+    /// and the world. No memory holds a scene of 2^32 nodes; no world would fit it.
     pub fn fits_scene(&self, scene: &Scene) -> bool
         ensures { IsTrue result ↔ FitsScene scene.now self.now }
     {
@@ -252,6 +283,9 @@ impl WorldData {
             return false;
         }
         if !nodes_fit(scene, count, self) {
+            return false;
+        }
+        if !all_lead(scene, count, self.pointing.as_slice()) {
             return false;
         }
         let lines = SceneLines { scene };

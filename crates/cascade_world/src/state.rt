@@ -3,8 +3,10 @@
 ghost use Rattle.std.specs.Prelude.{◌≡◌, ◌/◌, ℕ, [], IsTrue, OnOk, Some, None, false, option_copied, slice_get, slice_set};
 ghost use Rattle.std.specs.Option.{option_map_or};
 ghost use Rattle.x3d_values.specs.Kept.{field_value};
+ghost use Rattle.x3d_values.specs.Ranges.{is_viewer};
 ghost use Rattle.react_core.specs.Reaction.{keeps, reaction};
 ghost use Rattle.sensor_core.specs.Timing.{with_timing};
+ghost use Rattle.sensor_plane.specs.Meeting.{pointed};
 ghost use Rattle.x3d_values.specs.declared.fields.Fields.{Fields as FieldsView};
 ghost use Rattle.cascade_world.specs.Blocks.{AreOthers};
 ghost use Rattle.cascade_world.specs.Idle.{starts_at};
@@ -14,6 +16,7 @@ use crate::watched::WIDTH;
 use react_core::{Outbox, Reply, copy_of, react};
 use scene_core::End;
 use sensor_core::TimeFields;
+use sensor_plane::{PointingState, SensorPointer};
 use std::alloc::{AllocError, Global};
 use std::marker::Model;
 use x3d_values::{Fields, NodeType, Value};
@@ -116,6 +119,37 @@ fn time_at(items: &mut Vec<Fields>, node: u32, timing: &TimeFields)
     timing.write_to(&mut items[node]);
 }
 
+/// A pointing sensor that is enabled meets a viewer's pointer, where there is such a node; the others
+/// are as they were.
+fn point_at(
+    items: &mut Vec<Fields>,
+    node: u32,
+    state: &mut PointingState,
+    pointer: &SensorPointer,
+    time: i64,
+    out: &mut Outbox,
+)
+    requires viewer { IsTrue (is_viewer pointer.now.who) }
+    requires empty { out.old.items ≡ [] }
+    ensures fields { items.new.items
+        ≡ option_map_or (λ fields.
+        slice_set items.old.items node (pointed state.old fields pointer.now time).fields)
+        (slice_get items.old.items node) items.old.items }
+    ensures state { state.new
+        ≡ option_map_or (λ fields. (pointed state.old fields pointer.now time).state)
+        (slice_get items.old.items node) state.old }
+    ensures replies { out.new.items
+        ≡ option_map_or (λ fields. (pointed state.old fields pointer.now time).replies)
+        (slice_get items.old.items node) [] }
+    ensures others { AreOthers node items.old.items items.new.items }
+{
+    let node = node as usize;
+    if node >= items.len() {
+        return;
+    }
+    state.point(&mut items[node], pointer, time, out);
+}
+
 impl State {
     pub fn from_vec(items: Vec<Fields>) -> State
         ensures { result ≡ items.items }
@@ -199,6 +233,33 @@ impl State {
     {
         wake(&mut self.idles, node as usize / WIDTH);
         time_at(&mut self.items, node, timing);
+    }
+
+    /// A pointing sensor that is enabled meets a viewer's pointer, at a time in microseconds, where
+    /// there is such a node, and puts what it sends into the outbox.
+    pub fn point(
+        &mut self,
+        node: u32,
+        state: &mut PointingState,
+        pointer: &SensorPointer,
+        time: i64,
+        out: &mut Outbox,
+    )
+        requires viewer { IsTrue (is_viewer pointer.now.who) }
+        requires empty { out.old.items ≡ [] }
+        ensures fields { self.new
+            ≡ option_map_or (λ fields.
+            slice_set self.old node (pointed state.old fields pointer.now time).fields)
+            (slice_get self.old node) self.old }
+        ensures state { state.new
+            ≡ option_map_or (λ fields. (pointed state.old fields pointer.now time).state)
+            (slice_get self.old node) state.old }
+        ensures replies { out.new.items
+            ≡ option_map_or (λ fields. (pointed state.old fields pointer.now time).replies)
+            (slice_get self.old node) [] }
+    {
+        wake(&mut self.idles, node as usize / WIDTH);
+        point_at(&mut self.items, node, state, pointer, time, out);
     }
 
     /// Takes room to remember of each block when none of it starts; nothing is known of any then.

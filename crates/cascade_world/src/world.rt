@@ -1,14 +1,15 @@
 //! The state of a scene after some inputs, and in the course of one.
 
-ghost use Rattle.std.specs.Prelude.{◌≡◌, ◌+◌, ◌&&◌, OnOk, is_none, not};
-ghost use Rattle.sensor_core.specs.Touches.{is_over};
+ghost use Rattle.std.specs.Prelude.{◌≡◌, ◌+◌, OnOk, is_none};
+ghost use Rattle.sensor_plane.specs.Pointing.{is_resting};
 ghost use Rattle.cascade_world.specs.World.{begin as begin_of, record_event};
 
 use crate::state::State;
 use crate::watched::{Rests, Watched};
 use cascade_trace::{SentBits, Trace};
 use scene_core::End;
-use sensor_core::{TimeState, TouchState};
+use sensor_core::TimeState;
+use sensor_plane::PointingState;
 use std::alloc::{AllocError, Global};
 use x3d_values::{MAX_VIEWERS, Stamped, Value};
 
@@ -25,9 +26,9 @@ pub struct WorldData {
     pub fields: State,
     /// Which cycle each node runs, by its number: none but a TimeSensor runs one.
     pub sensors: Watched<TimeState>,
-    /// Whose pointers are over each node, and who presses it, by its number: that is a
-    /// TouchSensor.
-    pub touches: Watched<TouchState>,
+    /// Whose pointers are over each node, and who presses it, by its number: nothing is kept of a
+    /// node that is no pointing sensor.
+    pub pointing: Watched<PointingState>,
     /// Whether each viewer's button is down, by its number.
     pub buttons: [bool; VIEWERS],
     /// All events that were sent, in order.
@@ -43,12 +44,12 @@ impl Rests for TimeState {
     }
 }
 
-/// A TouchSensor is at rest while no pointer is over it, and nobody presses it.
-impl Rests for TouchState {
-    ghost rests = { λ touch. not (is_over touch) && is_none touch.presser };
+/// A pointing sensor is at rest while no pointer is over it, and nobody presses it.
+impl Rests for PointingState {
+    ghost rests = { is_resting };
 
     fn is_at_rest(&self) -> bool {
-        self.is_untouched()
+        self.is_resting()
     }
 }
 

@@ -42,7 +42,7 @@ fn hold(alloc: Global, handle: &mut HostHandle, host: EmbeddedHost) -> u8
     DONE
 }
 
-/// Opens the host of a scene's text for so many viewers, 1 to 16, in place of one that the handle
+/// Opens the host of a scene's text for so many viewers, 1 to 64, in place of one that the handle
 /// had.
 #[unsafe(no_mangle)]
 pub extern "C" fn x3d_host_open(

@@ -73,7 +73,7 @@ fn open(
     }
 }
 
-/// Opens the viewer of a scene's text as this boot, 1 to 2^32 - 1, of viewer `who`, 0 to 15, in
+/// Opens the viewer of a scene's text as this boot, 1 to 2^32 - 1, of viewer `who`, 0 to 63, in
 /// place of one that the handle had. Where it is refused the handle has none, and the line of the
 /// refusal is copied.
 #[unsafe(no_mangle)]

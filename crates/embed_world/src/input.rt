@@ -21,7 +21,7 @@ pub fn ray_of(origin: Vec3, dir: Vec3) -> Option<Ray>
     Some(Ray::new(origin, dir))
 }
 
-/// The pointer of a viewer, 0 to 15, with such a ray.
+/// The pointer of a viewer, 0 to 63, with such a ray.
 pub fn pointer_of(who: u8, down: bool, origin: Vec3, dir: Vec3) -> Option<Pointer>
     ensures { result ≡ spec.pointer_of who down (spec.ray_of origin dir) }
 {

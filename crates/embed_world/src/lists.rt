@@ -130,7 +130,7 @@ impl EmbeddedWorld {
     }
 
     /// Tells where a ray would enter the box that it hits first, if it hits one, and lists the
-    /// sensors that this concerns: the enabled TouchSensors beside it, or else above it.
+    /// sensors that this concerns: the enabled pointing sensors beside it, or else above it.
     pub fn list_sensors(&mut self, ray: Ray) -> Result<Option<Entry>, LookFault>
         ensures { Meets (spec.meeting_in self.old.stage ray) self.old result self.new }
     {

@@ -10,12 +10,12 @@ use Rattle.scene_core.specs.Shape.{Shape}
 use Rattle.scene_core.specs.declared.scene.End.{End}
 use Rattle.scene_core.specs.declared.scene.Route.{Route}
 use Rattle.laws_worlds.specs.Nodes.{RunsAll}
-use Rattle.cascade_world.specs.Answers.{answer, met, ticked}
+use Rattle.cascade_world.specs.Answers.{answer, met, pointer_at, ticked}
 use Rattle.cascade_core.specs.Apply.{after_input, apply, begin, begun, untold}
 use Rattle.cascade_core.specs.Course.{Course, Scripted, plan_of}
 use Rattle.cascade_trace.specs.Ends.{has_sent, targets_of}
 use Rattle.cascade_core.specs.Outputs.{ends_from, is_scene_output, outputs_of}
-use Rattle.cascade_world.specs.Pointer.{insides, place_in}
+use Rattle.cascade_world.specs.Insides.{insides}
 use Rattle.cascade_core.specs.Stack.{unsent_among}
 use Rattle.cascade_world.specs.World.{record_event}
 use Rattle.cascade_trace.specs.declared.trace.TraceLine.{TraceLine}
@@ -68,9 +68,9 @@ module _ (scene : SceneView) (routes : List Route) (all : RunsAll scene) (start 
       (record { gain = gain-state start turn (ticked turn.world node input.time) f.gain; bound = f.bound }, ticked-sends scene turn.world node input.time is)
   event_keeps input (Pointer p) = (
     λ turn f. record { gain = gain-button start turn p f.gain; bound = f.bound },
-    λ fields before turn node is f.
-        let place = place_in (insides scene fields p.ray) node in
-        (record { gain = gain-state start turn (met scene turn.world node p before place) f.gain; bound = f.bound }, met-sends scene turn.world node p before place),
+    λ first before turn x t aims f.
+        let at = pointer_at p before (insides scene first.world.fields p.ray) x.tracked x.sensor in
+        (record { gain = gain-state start turn (met scene turn.world x.sensor at) f.gain; bound = f.bound }, met-sends scene turn.world x.sensor at),
   )
 
 pub sends_few : InputsSendFew

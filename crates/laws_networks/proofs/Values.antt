@@ -182,6 +182,7 @@ default_short t default.True = tt
 default_short t (default.Int32 n) = tt
 default_short t (default.Float n) = tt
 default_short t (default.Time n) = tt
+default_short t (default.Vec2f v) = tt
 default_short t (default.Vec3f v) = tt
 default_short t (default.Color c) = tt
 default_short t default.PlainStyle = plain (codes "PLAIN") refl (omega arith)

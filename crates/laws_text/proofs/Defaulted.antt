@@ -25,6 +25,7 @@ abbrev pub numbers_fit : FieldDefault → Bool
 numbers_fit (default.Int32 n) = is_int32 n
 numbers_fit (default.Float n) = is_number n
 numbers_fit (default.Time n) = is_time n
+numbers_fit (default.Vec2f v) = is_sound (value.SFVec2f v)
 numbers_fit (default.Vec3f v) = is_sound (value.SFVec3f v)
 numbers_fit (default.Color c) = is_sound (value.SFColor c)
 numbers_fit _ = true
@@ -43,6 +44,7 @@ default_sound t default.True h = refl
 default_sound t (default.Int32 n) h = h
 default_sound t (default.Float n) h = h
 default_sound t (default.Time n) h = h
+default_sound t (default.Vec2f v) h = h
 default_sound t (default.Vec3f v) h = h
 default_sound t (default.Color c) h = h
 default_sound t default.PlainStyle h = word_sound (codes "PLAIN") refl

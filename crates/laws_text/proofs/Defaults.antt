@@ -16,7 +16,7 @@ use Rattle.x3d_values.specs.declared.vector.Vec3.{Vec3}
 use Rattle.x3d_values.specs.declared.vector.Color.{Color}
 use Rattle.x3d_values.specs.Defaults.{default_value}
 use Rattle.x3d_values.specs.Values.{empty_value, type_of}
-use Rattle.scene_text.specs.Defaulted.{is_zero, is_black, says_nothing, is_true, is_integer, is_number, is_time, is_vector, is_color, is_string, is_word, is_examine_any, are_standard_sizes, is_one_black, is_default}
+use Rattle.scene_text.specs.Defaulted.{is_zero, is_black, says_nothing, is_true, is_integer, is_number, is_time, is_pair, is_vector, is_color, is_string, is_word, is_examine_any, are_standard_sizes, is_one_black, is_default}
 use Rattle.laws_text.specs.Defaults.{LeftOutAreDefaults, DefaultsAreLeftOut}
 use Rattle.laws_text.proofs.Tests.{both, and_true}
 
@@ -108,6 +108,12 @@ time_is : (n : ℤ) (v : Value) → is_time n v ≡ true → Some (value.SFTime 
 time_is n (value.SFTime m) h = ap (λ k. Some (value.SFTime k)) (same_number m n h)
 time_is n _ h = absurd cc
 
+pair_held : (w : Vec2) (v : Value) → is_pair w v ≡ true → Some (value.SFVec2f w) ≡ Some v
+pair_held w (value.SFVec2f u) h =
+    let a = both (int_eq u.x w.x) (int_eq u.y w.y) h in
+    ap (λ k. Some (value.SFVec2f k)) (pair_is u w.x w.y (same_number u.x w.x a.0) (same_number u.y w.y a.1))
+pair_held w _ h = absurd cc
+
 vector3_is : (w : Vec3) (v : Value) → is_vector w v ≡ true → Some (value.SFVec3f w) ≡ Some v
 vector3_is w (value.SFVec3f u) h =
     let a = both (int_eq u.x w.x) (int_eq u.y w.y && int_eq u.z w.z) h in
@@ -168,6 +174,7 @@ left_out_are_defaults default.True v h = true_is v h
 left_out_are_defaults (default.Int32 n) v h = integer_is n v h
 left_out_are_defaults (default.Float n) v h = number_is n v h
 left_out_are_defaults (default.Time n) v h = time_is n v h
+left_out_are_defaults (default.Vec2f w) v h = pair_held w v h
 left_out_are_defaults (default.Vec3f w) v h = vector3_is w v h
 left_out_are_defaults (default.Color w) v h = colored_is w v h
 left_out_are_defaults default.PlainStyle v h = string_is (codes "PLAIN") v h
@@ -215,6 +222,8 @@ defaults_are_left_out t default.True v e = left_out default.True (value.SFBool t
 defaults_are_left_out t (default.Int32 n) v e = left_out (default.Int32 n) (value.SFInt32 n) v (itself n) e
 defaults_are_left_out t (default.Float n) v e = left_out (default.Float n) (value.SFFloat n) v (itself n) e
 defaults_are_left_out t (default.Time n) v e = left_out (default.Time n) (value.SFTime n) v (itself n) e
+defaults_are_left_out t (default.Vec2f w) v e =
+    left_out (default.Vec2f w) (value.SFVec2f w) v (and_true _ _ (itself w.x) (itself w.y)) e
 defaults_are_left_out t (default.Vec3f w) v e =
     left_out (default.Vec3f w) (value.SFVec3f w) v (and_true _ _ (itself w.x) (and_true _ _ (itself w.y) (itself w.z))) e
 defaults_are_left_out t (default.Color w) v e =

@@ -35,7 +35,7 @@ use Rattle.laws_worlds.proofs.Running.{one_of}
 use Rattle.cascade_core.specs.Course.{no_ports, node_of, plan_of, ports_of}
 use Rattle.cascade_core.specs.Installing.{StatesFit}
 use Rattle.cascade_core.specs.Scripts.{kinds_in, running, scripts_in, states_of}
-use Rattle.snapshot_core.specs.WorldCodec.{sent_type, output_type}
+use Rattle.cascade_world.specs.Fits.{sent_type, output_type}
 use Rattle.laws_worlds.specs.Fits.{StartsFit}
 use Rattle.laws_worlds.proofs.Casts.{Asked, are_of, asked_at, run_at}
 use Rattle.laws_worlds.proofs.Sending.{Leaves}

@@ -17,7 +17,7 @@ use Rattle.x3d_values.specs.declared.field_type.FieldType.{FieldType}
 use Rattle.x3d_values.specs.declared.field_type.FieldType.TheVariants.{SFTime, SFString, SFNode, MFNode, SFRotation}
 use Rattle.x3d_values.specs.declared.node_type.NodeKind.{NodeKind}
 use Rattle.x3d_values.specs.declared.node_type.NodeType.{NodeType}
-use Rattle.x3d_values.specs.declared.node_type.NodeType.TheVariants.{WorldInfo, Viewpoint, NavigationInfo, MetadataString, MetadataInteger, MetadataFloat, MetadataSet, TimeSensor, TouchSensor, BooleanSequencer, IntegerSequencer}
+use Rattle.x3d_values.specs.declared.node_type.NodeType.TheVariants.{WorldInfo, Viewpoint, NavigationInfo, MetadataString, MetadataInteger, MetadataFloat, MetadataSet, TimeSensor, TouchSensor, PlaneSensor, BooleanSequencer, IntegerSequencer}
 use Rattle.x3d_values.specs.declared.value.Value.{Value}
 use Rattle.x3d_values.specs.declared.value.Value.TheVariants as value
 use Rattle.x3d_values.specs.Access.{is_kept, is_initial, holds_nodes}
@@ -85,6 +85,7 @@ all_right MetadataInteger = rw (plain [] refl) refl
 all_right MetadataFloat = rw (plain [] refl) refl
 all_right MetadataSet = rw (plain [] refl) refl
 all_right TouchSensor = rw (plain [] refl) refl
+all_right PlaneSensor = rw (plain [] refl) refl
 all_right _ = refl
 
 interval_is : (i p q : Bool) → (if i then p && q else true) ≡ true → i ≡ true → (p ≡ true) × (q ≡ true)

@@ -2,6 +2,8 @@ mod Between
 pub mod Times
 pub mod Clocks
 pub mod Pointers
+pub mod Planes
+mod Meets
 pub mod Reactions
 pub mod Rows
 mod Ways
@@ -12,6 +14,7 @@ pub mod Calls
 pub mod Casts
 mod Places
 mod Sending
+mod Drags
 pub mod Snapshots
 mod States
 pub mod Steps

@@ -6,11 +6,13 @@ use Rattle.std.proofs.lemmas.List.{length-map, length-replicate}
 use Rattle.std.proofs.lemmas.List.Elements.{All-cons, All-nil, All-push, All-head, All-tail, All-replicate}
 use Rattle.byte_codec.proofs.Laws.{both, and_true}
 use Rattle.x3d_values.specs.declared.node_type.NodeType.{NodeType}
-use Rattle.x3d_values.specs.declared.node_type.NodeType.TheVariants.{TimeSensor, TouchSensor}
+use Rattle.x3d_values.specs.declared.node_type.NodeType.TheVariants.{TimeSensor}
 use Rattle.x3d_values.specs.declared.ranges.TheConstants.{MAX_VIEWERS}
 use Rattle.x3d_values.specs.declared.value.Value.{Value}
 use Rattle.x3d_values.specs.Tables.{Entry, rows}
-use Rattle.sensor_core.specs.Touches.{Touch, untouched}
+use Rattle.sensor_plane.specs.declared.pointing.PointingState.{PointingState}
+use Rattle.sensor_plane.specs.Pointing.{start_of}
+use Rattle.sensor_plane.proofs.Pointings.{starts_fit as states_fit}
 use Rattle.classic_tree.specs.declared.tree.Declaration.{Declaration}
 use Rattle.proto_flat.specs.declared.flat.Flat.{Flat}
 use Rattle.proto_flat.specs.declared.flat.FlatNode.{FlatNode}
@@ -26,7 +28,7 @@ use Rattle.scene_core.specs.Shape.{declared_by, declared_entry, declaration_entr
 use Rattle.scene_core.specs.Typed.{values_from, declared_from, values_of, all_children}
 use Rattle.laws_worlds.specs.Ranges.{values_fit, fields_fit}
 use Rattle.laws_worlds.proofs.Pointers.{all_append}
-use Rattle.laws_worlds.specs.Fits.{time_fits, pointers_fit, nodes_fit}
+use Rattle.laws_worlds.specs.Fits.{time_fits, nodes_fit}
 use Rattle.laws_worlds.specs.Openings.{OpeningsFit, StartsAreStates, is_countable_node}
 use Rattle.laws_worlds.proofs.Routes.{ok_is}
 use Rattle.laws_worlds.proofs.Kept.{bind_is, AreValues, are_values, AreDeclared, are_declared, all_kept_fit, no_position}
@@ -160,29 +162,25 @@ no_cycle : (t : NodeType) → time_fits t None ≡ true
 no_cycle TimeSensor = refl
 no_cycle _ = refl
 
-no_pointers : (t : NodeType) → pointers_fit t untouched ≡ true
-no_pointers TouchSensor = refl
-no_pointers _ = refl
-
 one_less : (m n : ℕ) → suc m ≡ suc n → m ≡ n
 one_less m n e = omega (arith, e)
 
-all_begin : (ns : List SceneNode) (cs : List (Option ℕ)) (us : List Touch) → length cs ≡ length ns → length us ≡ length ns → All (λ c. c ≡ None) cs → All (λ u. u ≡ untouched) us → All Begins ns → list_all is_countable_node ns ≡ true
-    → nodes_fit (map shape_of ns) (map fields_of ns) cs us ≡ true
-all_begin [] [] [] k l p q b c = refl
-all_begin [] (x ∷ cs) us k l p q b c = absurd cc
-all_begin [] [] (y ∷ us) k l p q b c = absurd cc
-all_begin (n ∷ ns) [] us k l p q b c = absurd cc
-all_begin (n ∷ ns) (x ∷ cs) [] k l p q b c = absurd cc
-all_begin (n ∷ ns) (x ∷ cs) (y ∷ us) k l p q b c =
+-- what is kept where viewers point, node by node
+abbrev pub begins_at : List SceneNode → List PointingState
+begins_at ns = map start_of (map (λ (n : SceneNode). n.node_type) ns)
+
+all_begin : (ns : List SceneNode) (cs : List (Option ℕ)) → length cs ≡ length ns → All (λ c. c ≡ None) cs → All Begins ns → list_all is_countable_node ns ≡ true
+    → nodes_fit (map shape_of ns) (map fields_of ns) cs (begins_at ns) ≡ true
+all_begin [] [] k p b c = refl
+all_begin [] (x ∷ cs) k p b c = absurd cc
+all_begin (n ∷ ns) [] k p b c = absurd cc
+all_begin (n ∷ ns) (x ∷ cs) k p b c =
     let d = both (is_countable_node n) (list_all is_countable_node ns) c in
     let cycle = All-head (λ (o : Option ℕ). o ≡ None) x cs p in
-    let touch = All-head (λ (u : Touch). u ≡ untouched) y us q in
     and_true _ _
     (and_true _ _ ((All-head Begins n ns b).0 d.0)
-    (and_true _ _ (subst (λ (o : Option ℕ). time_fits n.node_type o ≡ true) (sym cycle) (no_cycle n.node_type))
-    (subst (λ (u : Touch). pointers_fit n.node_type u ≡ true) (sym touch) (no_pointers n.node_type))))
-    (all_begin ns cs us (one_less (length cs) (length ns) k) (one_less (length us) (length ns) l) (All-tail (λ (o : Option ℕ). o ≡ None) x cs p) (All-tail (λ (u : Touch). u ≡ untouched) y us q) (All-tail Begins n ns b) d.1)
+    (and_true _ _ (subst (λ (o : Option ℕ). time_fits n.node_type o ≡ true) (sym cycle) (no_cycle n.node_type)) (states_fit n.node_type)))
+    (all_begin ns cs (one_less (length cs) (length ns) k) (All-tail (λ (o : Option ℕ). o ≡ None) x cs p) (All-tail Begins n ns b) d.1)
 
 none_yet : 0 ≤ 2 ^ 20
 none_yet = omega arith
@@ -195,10 +193,8 @@ all_openings_fit flat scene h c =
     record {
       count = none_yet;
       last = refl;
-      nodes = all_begin scene.nodes (replicate count None) (replicate count untouched)
-          (length-replicate count None ∙ as_many) (length-replicate count untouched ∙ as_many)
-          (All-replicate (λ (o : Option ℕ). o ≡ None) count None refl) (All-replicate (λ (u : Touch). u ≡ untouched) count untouched refl)
-          (scene_begins flat scene h) c;
+      nodes = all_begin scene.nodes (replicate count None) (length-replicate count None ∙ as_many)
+          (All-replicate (λ (o : Option ℕ). o ≡ None) count None refl) (scene_begins flat scene h) c;
       buttons = length-replicate MAX_VIEWERS false;
       lines = refl;
     }

@@ -1,5 +1,5 @@
 -- The routes of a document join outputs and inputs of one type.
-use Rattle.std.proofs.Common.{◌≡◌, ℕ, zero, suc, ◌+◌, ◌-◌, Bool, true, false, if◌then◌else◌, List, [], ◌∷◌, ◌++◌, length, take, drop, codes, nat_eq, Option, Some, None, Result, Ok, Err, slice_get, option_map, refl, sym, ap, subst, ◌∙◌, arith, rules, inl, inr, ⊎_elim}
+use Rattle.std.proofs.Common.{◌≡◌, ℕ, suc, ◌+◌, ◌-◌, Bool, true, false, if◌then◌else◌, List, [], ◌∷◌, ◌++◌, length, take, drop, codes, nat_eq, Option, Some, None, Result, Ok, Err, slice_get, option_map, refl, sym, ap, subst, ◌∙◌, arith, rules, inl, inr, ⊎_elim}
 use Rattle.std.specs.Prelude.{◌⊎◌}
 use Rattle.std.specs.Option.{option_and_then, option_or}
 use Rattle.std.specs.List.{starts_with, ends_with, list_any, fold}
@@ -28,7 +28,7 @@ use Rattle.route_core.proofs.Repeats.{limited_is}
 use Rattle.route_core.specs.Ends.{node_of, field_at, usable, output_named, input_named, source_of, target_of, joined, joined_ends, route_of}
 use Rattle.route_core.specs.Names.{exact, exposed, set_alias, changed_alias, source_field, target_field}
 use Rattle.route_core.specs.Resolved.{at_line, before_others, each_of, same_route, added, firsts, firsts_of, resolved}
-use Rattle.snapshot_core.specs.WorldCodec.{sent_type, output_type}
+use Rattle.cascade_world.specs.Fits.{sent_type, output_type}
 use Rattle.laws_worlds.proofs.Rows.{some_is}
 use Rattle.laws_worlds.specs.Fits.{input_type, Joins, AllJoin}
 

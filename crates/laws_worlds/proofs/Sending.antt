@@ -11,16 +11,17 @@ use Rattle.react_core.specs.declared.outbox.Reply.{Reply}
 use Rattle.snapshot_codec.specs.Trace.{typed_fits}
 use Rattle.scene_core.specs.declared.scene.End.{End}
 use Rattle.scene_core.specs.declared.scene.Route.{Route}
+use Rattle.scene_core.specs.Scene.{SceneView, shapes_of}
 use Rattle.scene_core.specs.Shape.{Shape, rows_of}
 use Rattle.cascade_world.specs.Answers.{Answer}
 use Rattle.cascade_trace.specs.Ends.{same_end, targets_of}
 use Rattle.cascade_world.specs.World.{record_event}
 use Rattle.cascade_trace.specs.declared.trace.TraceLine.{TraceLine}
 use Rattle.cascade_world.specs.declared.world.Turn.{Turn}
-use Rattle.snapshot_core.specs.WorldCodec.{sent_type, output_type}
+use Rattle.cascade_world.specs.Fits.{sent_type, output_type}
 use Rattle.laws_worlds.proofs.Pointers.{all_append}
 use Rattle.laws_worlds.proofs.Rows.{then_some}
-use Rattle.laws_worlds.specs.Fits.{input_type, line_fits, WorldFits, Joins, AllJoin}
+use Rattle.laws_worlds.specs.Fits.{all_lead, input_type, line_fits, WorldFits, Joins, AllJoin}
 use Rattle.laws_worlds.proofs.States.{leave, Answered}
 use Rattle.laws_worlds.proofs.Walks.{AllSent, AnswerKeeps}
 
@@ -82,21 +83,30 @@ pub all_leave : (shapes : List Shape) (node : ℕ) (rs : List Reply) → list_al
 all_leave shapes node [] a = tt
 all_leave shapes node (r ∷ rs) a = let b = both (leave shapes node r) (list_all (leave shapes node) rs) a in (b.0, all_leave shapes node rs b.1)
 
-abbrev pub Fit : List Shape → Turn → Type 0
-Fit shapes turn = WorldFits shapes turn.world
+-- the world fits, and its drags lead to their sensors
+pub record Fit (scene : SceneView) (turn : Turn) : Type 0 where
+  pub world : WorldFits (shapes_of scene) turn.world
+  pub paths : all_lead scene 0 turn.world.pointing ≡ true
 
-pub answered_fits : (shapes : List Shape) (turn : Turn) (node : ℕ) (a : Answer) → Fit shapes turn → Answered shapes node a → AnswerKeeps (Fit shapes) (Leaves shapes) node turn a
-answered_fits shapes turn node a p k =
-    (record { count = p.count; last = p.last; nodes = k.nodes; buttons = p.buttons; lines = p.lines }, all_leave shapes node a.replies k.replies)
+pub answered_fits : (scene : SceneView) (turn : Turn) (node : ℕ) (a : Answer) → Fit scene turn → Answered (shapes_of scene) node a → all_lead scene 0 a.pointing ≡ true → AnswerKeeps (Fit scene) (Leaves (shapes_of scene)) node turn a
+answered_fits scene turn node a f k l =
+    let p = f.world in (
+      record { world = record { count = p.count; last = p.last; nodes = k.nodes; buttons = p.buttons; lines = p.lines }; paths = l },
+      all_leave (shapes_of scene) node a.replies k.replies,
+    )
 
-pub record_fits : (shapes : List Shape) → length shapes ≤ 2 ^ 32 → AreShort shapes → (turn : Turn) (source : End) (v : Value) → Leaves shapes source v → Fit shapes turn → Fit shapes (record_event turn source v)
-record_fits shapes few short turn source v l p =
+pub record_fits : (scene : SceneView) → length (shapes_of scene) ≤ 2 ^ 32 → AreShort (shapes_of scene) → (turn : Turn) (source : End) (v : Value) → Leaves (shapes_of scene) source v → Fit scene turn → Fit scene (record_event turn source v)
+record_fits scene few short turn source v l f =
+    let p = f.world in
     let line : TraceLine = record { input = turn.world.applied; time = turn.world.last_time; source = source; value = v } in
-    let fits : line_fits shapes line ≡ true = and_true _ _ (le-leb _ _ p.count) (and_true _ _ p.last (and_true _ _ (numbers_fit shapes source v few short l) l)) in
+    let fits : line_fits (shapes_of scene) line ≡ true = and_true _ _ (le-leb _ _ p.count) (and_true _ _ p.last (and_true _ _ (numbers_fit (shapes_of scene) source v few short l) l)) in
     record {
-      count = p.count;
-      last = p.last;
-      nodes = p.nodes;
-      buttons = p.buttons;
-      lines = all_append (line_fits shapes) turn.world.trace (line ∷ []) p.lines (and_true _ _ fits refl);
+      world = record {
+        count = p.count;
+        last = p.last;
+        nodes = p.nodes;
+        buttons = p.buttons;
+        lines = all_append (line_fits (shapes_of scene)) turn.world.trace (line ∷ []) p.lines (and_true _ _ fits refl);
+      };
+      paths = f.paths;
     }

@@ -7,26 +7,28 @@ use Rattle.byte_codec.proofs.Laws.{both, and_true}
 use Rattle.x3d_values.specs.declared.fields.Fields.{Fields}
 use Rattle.x3d_values.specs.declared.fields.Position.{Position}
 use Rattle.x3d_values.specs.declared.node_type.NodeType.{NodeType}
-use Rattle.x3d_values.specs.declared.node_type.NodeType.TheVariants.{TimeSensor, TouchSensor, BooleanSequencer, IntegerSequencer}
+use Rattle.x3d_values.specs.declared.node_type.NodeType.TheVariants.{TimeSensor, BooleanSequencer, IntegerSequencer}
 use Rattle.x3d_values.specs.declared.value.Value.{Value}
 use Rattle.x3d_values.specs.Tables.{Entry}
-use Rattle.sensor_core.specs.Touches.{Touch}
+use Rattle.sensor_plane.specs.declared.pointing.PointingState.{PointingState}
+use Rattle.sensor_plane.specs.Pointing.{pointing_fits}
 use Rattle.snapshot_codec.specs.Fields.{kept_codec}
 use Rattle.snapshot_codec.specs.Parts.{cycle_codec, position_codec}
 use Rattle.snapshot_codec.specs.Trace.{typed_fits, is_moment, sent_at_codec, entry_codec}
 use Rattle.scene_core.specs.Scene.{SceneView, shapes_of}
 use Rattle.scene_core.specs.Shape.{Shape, rows_of}
+use Rattle.cascade_world.specs.Fits.{all_lead}
 use Rattle.cascade_trace.specs.declared.trace.TraceLine.{TraceLine}
 use Rattle.cascade_core.specs.Course.{Scripted}
 use Rattle.cascade_core.specs.Installing.{StatesFit}
 use Rattle.snapshot_core.specs.Loading.{newest}
-use Rattle.snapshot_core.proofs.NodeLaws.{newest_touch}
+use Rattle.snapshot_core.proofs.NodeLaws.{pointing_has}
 use Rattle.snapshot_core.proofs.StateSizes.{states_have}
 use Rattle.snapshot_core.proofs.WorldLaws.{newest_set}
-use Rattle.snapshot_core.specs.Nodes.{kept_from, kept_fields, time_part, touch_part, pointers_codec, position_part, beside_codec, state_codec, node_codec, nodes_from, lists_fit, nodes_codec}
+use Rattle.snapshot_core.specs.Nodes.{kept_from, kept_fields, time_part, position_part, beside_codec, state_codec, node_codec, nodes_from, lists_codec, lists_fit, nodes_codec}
 use Rattle.snapshot_core.specs.WorldCodec.{output_type, entry_of, lines_codec, buttons_codec, parts_codec, lists_in, world_codec}
 use Rattle.laws_worlds.specs.Ranges.{values_fit, position_fits, fields_fit}
-use Rattle.laws_worlds.specs.Fits.{time_fits, pointers_fit, node_fits, nodes_fit, line_fits, WorldFits}
+use Rattle.laws_worlds.specs.Fits.{time_fits, node_fits, nodes_fit, line_fits, WorldFits}
 use Rattle.laws_worlds.specs.Snapshots.{FittingHaveSnapshots}
 
 -- ---- a node
@@ -48,21 +50,16 @@ unfolding time_part cycle_codec
 time_has TimeSensor c f = f
 time_has _ c f = f
 
-touch_has : (t : NodeType) (u : Touch) → pointers_fit t u ≡ true → (touch_part newest t).fits u ≡ true
-unfolding touch_part pointers_codec
-touch_has TouchSensor u f = newest_touch u f
-touch_has _ u f = f
-
-node_has : (s : Shape) (x : Fields) (c : Option ℕ) (u : Touch) → node_fits s x c u ≡ true → (node_codec newest s).fits (record { fields = x; time = c; touch = u }) ≡ true
+node_has : (s : Shape) (x : Fields) (c : Option ℕ) (u : PointingState) → node_fits s x c u ≡ true → (node_codec newest s).fits (record { fields = x; time = c; pointing = u }) ≡ true
 unfolding node_codec state_codec beside_codec kept_fields
 node_has s x c u f =
     let t : NodeType = s.node_type in
-    let a = both (fields_fit t s.declared x) (time_fits t c && pointers_fit t u) f in
+    let a = both (fields_fit t s.declared x) (time_fits t c && pointing_fits t u) f in
     let b = both (values_fit t 0 (rows_of s) x.values) (position_fits t x.position) a.0 in
-    let d = both (time_fits t c) (pointers_fit t u) a.1 in
-    and_true _ _ (values_have t 0 (rows_of s) x.values b.0) (and_true _ _ (time_has t c d.0) (and_true _ _ (touch_has t u d.1) (position_has t x.position b.1)))
+    let d = both (time_fits t c) (pointing_fits t u) a.1 in
+    and_true _ _ (values_have t 0 (rows_of s) x.values b.0) (and_true _ _ (time_has t c d.0) (and_true _ _ (pointing_has t u d.1) (position_has t x.position b.1)))
 
-nodes_have : (shapes : List Shape) (fs : List Fields) (cs : List (Option ℕ)) (us : List Touch) → nodes_fit shapes fs cs us ≡ true → (length cs ≡ length fs) × (length us ≡ length fs) × (rows_fit (node_codec newest) shapes (nodes_from fs cs us) ≡ true)
+nodes_have : (shapes : List Shape) (fs : List Fields) (cs : List (Option ℕ)) (us : List PointingState) → nodes_fit shapes fs cs us ≡ true → (length cs ≡ length fs) × (length us ≡ length fs) × (rows_fit (node_codec newest) shapes (nodes_from fs cs us) ≡ true)
 nodes_have [] fs cs us f =
     let a = both (length fs == 0) ((length cs == 0) && (length us == 0)) f in
     let b = both (length cs == 0) (length us == 0) a.1 in
@@ -99,18 +96,18 @@ lines_have shapes (line ∷ lines) f =
 
 -- ---- a world
 
-world_has : (scene : SceneView) (w : Scripted) → length w.world.trace < 2 ^ 64 → WorldFits (shapes_of scene) w.world → StatesFit scene w.states → (world_codec newest scene).fits w ≡ true
-unfolding world_codec parts_codec nodes_codec buttons_codec lines_codec
-world_has scene w few f states =
-    let n = nodes_have (shapes_of scene) w.world.fields w.world.sensors w.world.touches f.nodes in
+world_has : (scene : SceneView) (w : Scripted) → length w.world.trace < 2 ^ 64 → WorldFits (shapes_of scene) w.world → all_lead scene 0 w.world.pointing ≡ true → StatesFit scene w.states → (world_codec newest scene).fits w ≡ true
+unfolding world_codec parts_codec nodes_codec lists_codec buttons_codec lines_codec
+world_has scene w few f paths states =
+    let n = nodes_have (shapes_of scene) w.world.fields w.world.sensors w.world.pointing f.nodes in
     let short : length (map entry_of w.world.trace) < 2 ^ 64 = subst (λ (k : ℕ). k < 2 ^ 64) (sym (length-map w.world.trace entry_of)) few in
     let nodes : lists_fit newest (shapes_of scene) (lists_in w.world) ≡ true = and_true _ _ (and_true _ _ (eq-eqb _ _ n.0) (eq-eqb _ _ n.1)) n.2 in
     and_true _ _ (le-leb w.world.applied (2 ^ 20) f.count)
     (and_true _ _ f.last
-    (and_true _ _ nodes
+    (and_true _ _ (and_true _ _ paths nodes)
     (and_true _ _ (newest_set w.world.buttons f.buttons)
     (and_true _ _ (states_have scene w.states states)
     (and_true _ _ (lt-ltb (length (map entry_of w.world.trace)) (2 ^ 64) short) (lines_have (shapes_of scene) w.world.trace f.lines))))))
 
 pub fitting_have : FittingHaveSnapshots
-fitting_have scene w few f = record { fits = world_has scene w few f.world f.states; states = f.states }
+fitting_have scene w few f = record { fits = world_has scene w few f.world f.paths f.states; states = f.states }

@@ -1,66 +1,75 @@
 -- One node among all, and what it does in a world.
-use Rattle.std.proofs.Common.{◌≡◌, ◌==◌, ℕ, zero, suc, ℤ, Bool, true, false, ◌&&◌, if◌then◌else◌, List, [], ◌∷◌, length, Option, Some, None, slice_get, slice_set, option_map, refl, sym, ap, subst, ◌∙◌, eq-eqb, eqb-true}
+use Rattle.std.proofs.Common.{◌≡◌, ◌==◌, ℕ, zero, suc, ℤ, Bool, true, false, ◌&&◌, ◌++◌, if◌then◌else◌, List, [], ◌∷◌, length, Option, Some, None, slice_get, slice_set, option_map, refl, sym, ap, subst, ◌∙◌}
 use Rattle.std.specs.List.{list_all}
 use Rattle.std.specs.Option.{option_and_then, option_map_or}
 use Rattle.byte_codec.proofs.Laws.{both, and_true}
 use Rattle.x3d_values.specs.declared.fields.Fields.{Fields}
 use Rattle.x3d_values.specs.declared.node_type.NodeType.{NodeType}
-use Rattle.x3d_values.specs.declared.node_type.NodeType.TheVariants.{TimeSensor, TouchSensor}
+use Rattle.x3d_values.specs.declared.node_type.NodeType.TheVariants.{PlaneSensor, TimeSensor, TouchSensor}
 use Rattle.x3d_values.specs.declared.value.Value.{Value}
 use Rattle.x3d_values.specs.Pointing.{Pointing}
-use Rattle.x3d_values.specs.declared.vector.Vec3.{Vec3}
 use Rattle.x3d_values.specs.Access.{sends}
 use Rattle.x3d_values.specs.declared.ranges.TheConstants.{MAX_VIEWERS}
-use Rattle.x3d_values.specs.Ranges.{is_viewer}
+use Rattle.x3d_values.specs.Ranges.{coordinates_fit, is_viewer}
 use Rattle.x3d_values.specs.Tables.{Entry}
 use Rattle.react_core.specs.declared.outbox.Reply.{Reply}
 use Rattle.react_core.specs.Access.{is_exposed}
 use Rattle.react_core.specs.Reaction.{is_time_sensor, keeps, reaction}
 use Rattle.sensor_core.specs.Timing.{Timing, timing_of}
-use Rattle.sensor_core.specs.Touches.{Touch, Touched, disable, point, pointer}
+use Rattle.sensor_plane.specs.declared.drag.Drag.{Drag}
+use Rattle.sensor_plane.specs.declared.meeting.SensorPointer.{SensorPointer}
+use Rattle.sensor_plane.specs.declared.pointing.PointingState.{PointingState}
+use Rattle.sensor_plane.specs.declared.pointing.PointingState.TheVariants as state
+use Rattle.sensor_plane.specs.Meeting.{pointed}
+use Rattle.sensor_plane.specs.PlaneParts.{contact_fits, drag_fits}
+use Rattle.sensor_plane.specs.Planes.{is_pressed_by}
+use Rattle.sensor_plane.specs.Pointing.{drag_by, forgotten, is_state_of, pointing_fits}
+use Rattle.sensor_plane.specs.Paths.{path_fits}
 use Rattle.snapshot_codec.specs.Trace.{is_moment, typed_fits}
-use Rattle.snapshot_codec.specs.Values.{value_fits, vector3}
+use Rattle.snapshot_codec.specs.Values.{value_fits}
 use Rattle.scene_core.specs.declared.scene.End.{End}
+use Rattle.scene_core.specs.Places.{is_pointing}
 use Rattle.scene_core.specs.Scene.{SceneView}
 use Rattle.scene_core.specs.Shape.{Shape, rows_of}
-use Rattle.pick_core.specs.Sensors.{is_enabled}
 use Rattle.cascade_world.specs.Access.{is_set}
-use Rattle.cascade_world.specs.Answers.{Answer, nothing, reacting, setting, setting_at, is_touch_sensor, is_script, turns_off, forgetting, touching, keeping, not_run, answer_as, answer, ticking, ticking_at, ticked, meeting, met}
+use Rattle.cascade_world.specs.Answers.{Answer, nothing, reacting, setting, setting_at, is_script, turns_off, forgets, forgotten_by, forgetting, touching, keeping, not_run, answer_as, answer, ticking, ticking_at, ticked, is_met, meeting, met, met_as}
+use Rattle.cascade_world.specs.Fits.{sent_type, output_type}
+use Rattle.cascade_world.specs.Pointer.{tracked_at, tracked_by}
 use Rattle.cascade_world.specs.declared.world.WorldData.{WorldData}
-use Rattle.snapshot_core.specs.Nodes.{touch_fits}
-use Rattle.snapshot_core.specs.WorldCodec.{sent_type, output_type}
 use Rattle.laws_worlds.specs.Ranges.{fields_fit, event_fits, sent_fits, replies_fit}
 use Rattle.laws_worlds.proofs.Clocks.{all_sets_fit, all_ticks_fit, timing_is}
-use Rattle.laws_worlds.proofs.Pointers.{all_append, all_points_fit, all_disables_fit}
+use Rattle.laws_worlds.proofs.Places.{IfInRange, track_fits}
+use Rattle.laws_worlds.proofs.Pointers.{all_append}
+use Rattle.laws_worlds.proofs.Meets.{all_forget_fit, all_meet_fit}
 use Rattle.laws_worlds.proofs.Reactions.{all_reactions_fit, set_field_fits}
 use Rattle.laws_worlds.proofs.Rows.{some_is}
-use Rattle.laws_worlds.specs.Fits.{input_type, time_fits, pointers_fit, node_fits, nodes_fit}
+use Rattle.laws_worlds.specs.Fits.{input_type, time_fits, node_fits, nodes_fit}
 
 -- ---- a node among all
 
-pub record At (s : Shape) (fs : List Fields) (cs : List (Option ℕ)) (us : List Touch) (n : ℕ) : Type 0 where
+pub record At (s : Shape) (fs : List Fields) (cs : List (Option ℕ)) (us : List PointingState) (n : ℕ) : Type 0 where
   pub fields : Fields
   pub cycle : Option ℕ
-  pub touch : Touch
+  pub pointing : PointingState
   pub fields_is : slice_get fs n ≡ Some fields
   pub cycle_is : slice_get cs n ≡ Some cycle
-  pub touch_is : slice_get us n ≡ Some touch
-  pub fit : node_fits s fields cycle touch ≡ true
+  pub pointing_is : slice_get us n ≡ Some pointing
+  pub fit : node_fits s fields cycle pointing ≡ true
 
-pub nodes_at : (shapes : List Shape) (fs : List Fields) (cs : List (Option ℕ)) (us : List Touch) (n : ℕ) (s : Shape) → nodes_fit shapes fs cs us ≡ true → slice_get shapes n ≡ Some s → At s fs cs us n
+pub nodes_at : (shapes : List Shape) (fs : List Fields) (cs : List (Option ℕ)) (us : List PointingState) (n : ℕ) (s : Shape) → nodes_fit shapes fs cs us ≡ true → slice_get shapes n ≡ Some s → At s fs cs us n
 nodes_at [] fs cs us n s f e = absurd cc
 nodes_at (k ∷ shapes) [] cs us n s f e = absurd cc
 nodes_at (k ∷ shapes) (x ∷ fs) [] us n s f e = absurd cc
 nodes_at (k ∷ shapes) (x ∷ fs) (y ∷ cs) [] n s f e = absurd cc
 nodes_at (k ∷ shapes) (x ∷ fs) (y ∷ cs) (z ∷ us) zero s f e =
     let b = both (node_fits k x y z) (nodes_fit shapes fs cs us) f in
-    record { fields = x; cycle = y; touch = z; fields_is = refl; cycle_is = refl; touch_is = refl; fit = subst (λ (q : Shape). node_fits q x y z ≡ true) (some_is k s e) b.0 }
+    record { fields = x; cycle = y; pointing = z; fields_is = refl; cycle_is = refl; pointing_is = refl; fit = subst (λ (q : Shape). node_fits q x y z ≡ true) (some_is k s e) b.0 }
 nodes_at (k ∷ shapes) (x ∷ fs) (y ∷ cs) (z ∷ us) (suc n) s f e =
     let b = both (node_fits k x y z) (nodes_fit shapes fs cs us) f in
     let r = nodes_at shapes fs cs us n s b.1 e in
-    record { fields = r.fields; cycle = r.cycle; touch = r.touch; fields_is = r.fields_is; cycle_is = r.cycle_is; touch_is = r.touch_is; fit = r.fit }
+    record { fields = r.fields; cycle = r.cycle; pointing = r.pointing; fields_is = r.fields_is; cycle_is = r.cycle_is; pointing_is = r.pointing_is; fit = r.fit }
 
-put : (shapes : List Shape) (fs : List Fields) (cs : List (Option ℕ)) (us : List Touch) (n : ℕ) (s : Shape) (x : Fields) (y : Option ℕ) (z : Touch) → nodes_fit shapes fs cs us ≡ true → slice_get shapes n ≡ Some s → node_fits s x y z ≡ true → nodes_fit shapes (slice_set fs n x) (slice_set cs n y) (slice_set us n z) ≡ true
+put : (shapes : List Shape) (fs : List Fields) (cs : List (Option ℕ)) (us : List PointingState) (n : ℕ) (s : Shape) (x : Fields) (y : Option ℕ) (z : PointingState) → nodes_fit shapes fs cs us ≡ true → slice_get shapes n ≡ Some s → node_fits s x y z ≡ true → nodes_fit shapes (slice_set fs n x) (slice_set cs n y) (slice_set us n z) ≡ true
 put [] fs cs us n s x y z f e g = absurd cc
 put (k ∷ shapes) [] cs us n s x y z f e g = absurd cc
 put (k ∷ shapes) (p ∷ fs) [] us n s x y z f e g = absurd cc
@@ -84,7 +93,7 @@ abbrev pub leave : List Shape → ℕ → Reply → Bool
 leave shapes node r = typed_fits (output_type shapes node r.field) r.value
 
 pub record Answered (shapes : List Shape) (node : ℕ) (a : Answer) : Type 0 where
-  pub nodes : nodes_fit shapes a.fields a.sensors a.touches ≡ true
+  pub nodes : nodes_fit shapes a.fields a.sensors a.pointing ≡ true
   pub replies : list_all (leave shapes node) a.replies ≡ true
 
 -- what a row lets out is of the type that leaves by it
@@ -106,9 +115,6 @@ leaving shapes node s rs e h =
     (λ r f. subst (λ (o : Option Shape). typed_fits (option_and_then sent_type (slice_get (option_map_or rows_of o []) r.field)) r.value ≡ true) (sym e) (sent_leaves (slice_get (rows_of s) r.field) r.value f))
     rs h
 
-touch_right : (u : Touch) → length u.over ≡ MAX_VIEWERS → option_map_or is_viewer u.presser true ≡ true → touch_fits u ≡ true
-touch_right u f g = and_true _ _ (eq-eqb _ _ f) g
-
 -- a node of this type that declares these fields
 abbrev pub with_type : NodeType → List Entry → Shape
 with_type t declared = record { node_type = t; declared = declared }
@@ -117,50 +123,55 @@ pub time_is : (t : NodeType) → is_time_sensor t ≡ true → t ≡ TimeSensor
 time_is TimeSensor e = refl
 time_is _ e = absurd cc
 
-pub touch_is : (t : NodeType) → is_touch_sensor t ≡ true → t ≡ TouchSensor
-touch_is TouchSensor e = refl
-touch_is _ e = absurd cc
+-- the drag of what is kept of a node, in its range
+drag_in_range : (t : NodeType) (s : PointingState) (who : ℕ) → pointing_fits t s ≡ true → drag_fits (drag_by s who) ≡ true
+drag_in_range t state.NoSensor who f = refl
+drag_in_range t (state.Touch touch) who f = refl
+drag_in_range PlaneSensor (state.Plane plane) who f = given (is_pressed_by plane who)
+  where
+    given : (b : Bool) → drag_fits (if b then plane.drag else None) ≡ true
+    given true = (both (length plane.over == MAX_VIEWERS) (drag_fits plane.drag) f).1
+    given false = refl
+drag_in_range TouchSensor (state.Plane plane) who f = absurd cc
+drag_in_range _ (state.Plane plane) who f = absurd cc
 
 -- a field that an event sets is there
 set_row : (v : Value) (field : Option Entry) → is_set v field ≡ true → (row : Entry) × (field ≡ Some row) × (is_exposed row.access ≡ true)
 set_row v None e = absurd cc
 set_row v (Some row) e = (row, refl, (both (is_exposed row.access) _ e).0)
 
-module _ (shapes : List Shape) (w : WorldData) (fit : nodes_fit shapes w.fields w.sensors w.touches ≡ true) (now : is_moment w.last_time ≡ true) where
+module _ (shapes : List Shape) (w : WorldData) (fit : nodes_fit shapes w.fields w.sensors w.pointing ≡ true) (now : is_moment w.last_time ≡ true) where
   pub still : (node : ℕ) → Answered shapes node (nothing w)
   still node = record { nodes = fit; replies = refl }
 
   module _ (n : ℕ) (s : Shape) (is : slice_get shapes n ≡ Some s) where
-    here : At s w.fields w.sensors w.touches n
-    here = nodes_at shapes w.fields w.sensors w.touches n s fit is
+    here : At s w.fields w.sensors w.pointing n
+    here = nodes_at shapes w.fields w.sensors w.pointing n s fit is
 
-    parts : (fields_fit s.node_type s.declared here.fields ≡ true) × ((time_fits s.node_type here.cycle && pointers_fit s.node_type here.touch) ≡ true)
-    parts = both (fields_fit s.node_type s.declared here.fields) (time_fits s.node_type here.cycle && pointers_fit s.node_type here.touch) here.fit
+    parts : (fields_fit s.node_type s.declared here.fields ≡ true) × ((time_fits s.node_type here.cycle && pointing_fits s.node_type here.pointing) ≡ true)
+    parts = both (fields_fit s.node_type s.declared here.fields) (time_fits s.node_type here.cycle && pointing_fits s.node_type here.pointing) here.fit
 
-    beside : (time_fits s.node_type here.cycle ≡ true) × (pointers_fit s.node_type here.touch ≡ true)
-    beside = both (time_fits s.node_type here.cycle) (pointers_fit s.node_type here.touch) parts.1
+    beside : (time_fits s.node_type here.cycle ≡ true) × (pointing_fits s.node_type here.pointing ≡ true)
+    beside = both (time_fits s.node_type here.cycle) (pointing_fits s.node_type here.pointing) parts.1
 
-    put_fields : (x : Fields) → fields_fit s.node_type s.declared x ≡ true → nodes_fit shapes (slice_set w.fields n x) w.sensors w.touches ≡ true
+    put_fields : (x : Fields) → fields_fit s.node_type s.declared x ≡ true → nodes_fit shapes (slice_set w.fields n x) w.sensors w.pointing ≡ true
     put_fields x f =
-        let all = put shapes w.fields w.sensors w.touches n s x here.cycle here.touch fit is (and_true _ _ f parts.1) in
-        subst (λ (us : List Touch). nodes_fit shapes (slice_set w.fields n x) w.sensors us ≡ true) (set_same w.touches n here.touch here.touch_is)
-        (subst (λ (cs : List (Option ℕ)). nodes_fit shapes (slice_set w.fields n x) cs (slice_set w.touches n here.touch) ≡ true) (set_same w.sensors n here.cycle here.cycle_is) all)
+        let all = put shapes w.fields w.sensors w.pointing n s x here.cycle here.pointing fit is (and_true _ _ f parts.1) in
+        subst (λ (us : List PointingState). nodes_fit shapes (slice_set w.fields n x) w.sensors us ≡ true) (set_same w.pointing n here.pointing here.pointing_is)
+        (subst (λ (cs : List (Option ℕ)). nodes_fit shapes (slice_set w.fields n x) cs (slice_set w.pointing n here.pointing) ≡ true) (set_same w.sensors n here.cycle here.cycle_is) all)
 
-    put_cycle : (x : Fields) (c : Option ℕ) → fields_fit s.node_type s.declared x ≡ true → time_fits s.node_type c ≡ true → nodes_fit shapes (slice_set w.fields n x) (slice_set w.sensors n c) w.touches ≡ true
+    put_cycle : (x : Fields) (c : Option ℕ) → fields_fit s.node_type s.declared x ≡ true → time_fits s.node_type c ≡ true → nodes_fit shapes (slice_set w.fields n x) (slice_set w.sensors n c) w.pointing ≡ true
     put_cycle x c f g =
-        let all = put shapes w.fields w.sensors w.touches n s x c here.touch fit is (and_true _ _ f (and_true _ _ g beside.1)) in
-        subst (λ (us : List Touch). nodes_fit shapes (slice_set w.fields n x) (slice_set w.sensors n c) us ≡ true) (set_same w.touches n here.touch here.touch_is) all
+        let all = put shapes w.fields w.sensors w.pointing n s x c here.pointing fit is (and_true _ _ f (and_true _ _ g beside.1)) in
+        subst (λ (us : List PointingState). nodes_fit shapes (slice_set w.fields n x) (slice_set w.sensors n c) us ≡ true) (set_same w.pointing n here.pointing here.pointing_is) all
 
-    put_touch : (x : Fields) (u : Touch) → fields_fit s.node_type s.declared x ≡ true → pointers_fit s.node_type u ≡ true → nodes_fit shapes (slice_set w.fields n x) w.sensors (slice_set w.touches n u) ≡ true
-    put_touch x u f g =
-        let all = put shapes w.fields w.sensors w.touches n s x here.cycle u fit is (and_true _ _ f (and_true _ _ beside.0 g)) in
-        subst (λ (cs : List (Option ℕ)). nodes_fit shapes (slice_set w.fields n x) cs (slice_set w.touches n u) ≡ true) (set_same w.sensors n here.cycle here.cycle_is) all
+    put_pointing : (x : Fields) (u : PointingState) → fields_fit s.node_type s.declared x ≡ true → pointing_fits s.node_type u ≡ true → nodes_fit shapes (slice_set w.fields n x) w.sensors (slice_set w.pointing n u) ≡ true
+    put_pointing x u f g =
+        let all = put shapes w.fields w.sensors w.pointing n s x here.cycle u fit is (and_true _ _ f (and_true _ _ beside.0 g)) in
+        subst (λ (cs : List (Option ℕ)). nodes_fit shapes (slice_set w.fields n x) cs (slice_set w.pointing n u) ≡ true) (set_same w.sensors n here.cycle here.cycle_is) all
 
-    only_cycle : (c : Option ℕ) → time_fits s.node_type c ≡ true → nodes_fit shapes w.fields (slice_set w.sensors n c) w.touches ≡ true
-    only_cycle c g = subst (λ (fs : List Fields). nodes_fit shapes fs (slice_set w.sensors n c) w.touches ≡ true) (set_same w.fields n here.fields here.fields_is) (put_cycle here.fields c parts.0 g)
-
-    only_touch : (u : Touch) → pointers_fit s.node_type u ≡ true → nodes_fit shapes w.fields w.sensors (slice_set w.touches n u) ≡ true
-    only_touch u g = subst (λ (fs : List Fields). nodes_fit shapes fs w.sensors (slice_set w.touches n u) ≡ true) (set_same w.fields n here.fields here.fields_is) (put_touch here.fields u parts.0 g)
+    only_cycle : (c : Option ℕ) → time_fits s.node_type c ≡ true → nodes_fit shapes w.fields (slice_set w.sensors n c) w.pointing ≡ true
+    only_cycle c g = subst (λ (fs : List Fields). nodes_fit shapes fs (slice_set w.sensors n c) w.pointing ≡ true) (set_same w.fields n here.fields here.fields_is) (put_cycle here.fields c parts.0 g)
 
   -- ---- an event
 
@@ -199,23 +210,44 @@ module _ (shapes : List Shape) (w : WorldData) (fit : nodes_fit shapes w.fields 
           let r = all_sets_fit ds at.fields timing at.cycle target.field v (parts target.node (with_type TimeSensor ds) is).0 e (beside target.node (with_type TimeSensor ds) is).0 in
           record { nodes = put_cycle target.node (with_type TimeSensor ds) is _ _ r.in_fields r.in_cycle; replies = leaving shapes target.node (with_type TimeSensor ds) _ is r.in_replies }
 
-  touches : (target : End) (v : Value) (ds : List Entry) → slice_get shapes target.node ≡ Some (with_type TouchSensor ds) → event_fits TouchSensor ds target.field v ≡ true → Answered shapes target.node (touching w target v (slice_get w.fields target.node))
-  touches target v ds is ev = given (turns_off target.field v)
+  -- a sensor that forgets its pointers behind what it has answered
+  forgets_fit : (target : End) (s : Shape) (x : Fields) (rs : List Reply) → slice_get shapes target.node ≡ Some s → fields_fit s.node_type s.declared x ≡ true → replies_fit s.node_type s.declared rs ≡ true → (u : Option PointingState) → slice_get w.pointing target.node ≡ u
+      → (nodes_fit shapes (slice_set w.fields target.node x) w.sensors (forgets w target.node s.node_type u) ≡ true) × (list_all (leave shapes target.node) (rs ++ forgotten_by s.node_type u) ≡ true)
+  forgets_fit target s x rs is f r None e = absurd (nowhere (here target.node s is).pointing_is e)
     where
-      forgets : Answered shapes target.node (forgetting w target.node (reacting w target v TouchSensor (slice_get w.fields target.node)) (slice_get w.touches target.node))
-      forgets =
-          let at = here target.node (with_type TouchSensor ds) is in
-          let r = all_reactions_fit ds TouchSensor at.fields target.field v w.last_time (parts target.node (with_type TouchSensor ds) is).0 ev now in
-          let d = all_disables_fit ds at.touch in
-          subst (λ (o : Option Fields). Answered shapes target.node (forgetting w target.node (reacting w target v TouchSensor o) (slice_get w.touches target.node))) (sym at.fields_is)
-          (subst (λ (u : Option Touch). Answered shapes target.node (forgetting w target.node (reacting w target v TouchSensor (Some at.fields)) u)) (sym at.touch_is) (record {
-            nodes = put_touch target.node (with_type TouchSensor ds) is (reaction TouchSensor at.fields target.field v w.last_time).fields (disable at.touch).touch r.in_fields (touch_right (disable at.touch).touch d.in_over d.in_presser);
-            replies = all_append (leave shapes target.node) (reaction TouchSensor at.fields target.field v w.last_time).replies (disable at.touch).replies (leaving shapes target.node (with_type TouchSensor ds) _ is r.in_replies) (leaving shapes target.node (with_type TouchSensor ds) _ is d.in_replies);
-          }))
+      nowhere : {o : Option PointingState} {u : PointingState} → o ≡ Some u → o ≡ None → ⊥
+      nowhere p q = cc
+  forgets_fit target s x rs is f r (Some u) e = given (is_state_of s.node_type u)
+    where
+      same : (here target.node s is).pointing ≡ u
+      same = some_is (here target.node s is).pointing u (sym (here target.node s is).pointing_is ∙ e)
 
-      given : (b : Bool) → Answered shapes target.node (if b then forgetting w target.node (reacting w target v TouchSensor (slice_get w.fields target.node)) (slice_get w.touches target.node) else reacting w target v TouchSensor (slice_get w.fields target.node))
-      given true = forgets
-      given false = reacts target v (with_type TouchSensor ds) is ev
+      fits : pointing_fits s.node_type u ≡ true
+      fits = subst (λ (z : PointingState). pointing_fits s.node_type z ≡ true) same (beside target.node s is).1
+
+      given : (b : Bool) → (nodes_fit shapes (slice_set w.fields target.node x) w.sensors (if b then slice_set w.pointing target.node (forgotten u).state else w.pointing) ≡ true)
+          × (list_all (leave shapes target.node) (rs ++ (if b then (forgotten u).replies else [])) ≡ true)
+      given true =
+          let d = all_forget_fit s.declared s.node_type u fits in (
+            put_pointing target.node s is x (forgotten u).state f d.in_state,
+            all_append (leave shapes target.node) rs (forgotten u).replies (leaving shapes target.node s rs is r) (leaving shapes target.node s (forgotten u).replies is d.in_replies),
+          )
+      given false = (put_fields target.node s is x f, all_append (leave shapes target.node) rs [] (leaving shapes target.node s rs is r) refl)
+
+  touches : (target : End) (v : Value) (s : Shape) → slice_get shapes target.node ≡ Some s → event_fits s.node_type s.declared target.field v ≡ true → Answered shapes target.node (touching w target v s.node_type (slice_get w.fields target.node))
+  touches target v s is ev = given (turns_off s.node_type target.field v)
+    where
+      off : Answered shapes target.node (forgetting w target.node s.node_type (reacting w target v s.node_type (slice_get w.fields target.node)) (slice_get w.pointing target.node))
+      off =
+          let at = here target.node s is in
+          let r = all_reactions_fit s.declared s.node_type at.fields target.field v w.last_time (parts target.node s is).0 ev now in
+          let d = forgets_fit target s (reaction s.node_type at.fields target.field v w.last_time).fields (reaction s.node_type at.fields target.field v w.last_time).replies is r.in_fields r.in_replies (slice_get w.pointing target.node) refl in
+          subst (λ (o : Option Fields). Answered shapes target.node (forgetting w target.node s.node_type (reacting w target v s.node_type o) (slice_get w.pointing target.node))) (sym at.fields_is)
+          (record { nodes = d.0; replies = d.1 })
+
+      given : (b : Bool) → Answered shapes target.node (if b then forgetting w target.node s.node_type (reacting w target v s.node_type (slice_get w.fields target.node)) (slice_get w.pointing target.node) else reacting w target v s.node_type (slice_get w.fields target.node))
+      given true = off
+      given false = reacts target v s is ev
 
   typed : (target : End) (v : Value) (s : Shape) → slice_get shapes target.node ≡ Some s → event_fits s.node_type s.declared target.field v ≡ true → Answered shapes target.node (answer_as w target v (Some s))
   typed target v s is ev = sensor (is_time_sensor s.node_type) refl
@@ -226,25 +258,23 @@ module _ (shapes : List Shape) (w : WorldData) (fit : nodes_fit shapes w.fields 
       script no_clock true = sets_field target v s is ev no_clock
       script no_clock false = reacts target v s is ev
 
-      touch : is_time_sensor s.node_type ≡ false → (b : Bool) → is_touch_sensor s.node_type ≡ b → Answered shapes target.node (if b
-          then touching w target v (slice_get w.fields target.node)
+      sensing : is_time_sensor s.node_type ≡ false → (b : Bool) → Answered shapes target.node (if b
+          then touching w target v s.node_type (slice_get w.fields target.node)
           else (if is_script s.node_type
           then not_run w target v (slice_get (rows_of s) target.field) (slice_get w.fields target.node)
           else reacting w target v s.node_type (slice_get w.fields target.node)))
-      touch no_clock true e =
-          let same = touch_is s.node_type e in
-          touches target v s.declared (is ∙ ap (λ (k : NodeType). Some (with_type k s.declared)) same) (subst (λ (k : NodeType). event_fits k s.declared target.field v ≡ true) same ev)
-      touch no_clock false e = script no_clock (is_script s.node_type)
+      sensing no_clock true = touches target v s is ev
+      sensing no_clock false = script no_clock (is_script s.node_type)
 
       sensor : (b : Bool) → is_time_sensor s.node_type ≡ b → Answered shapes target.node (if b
           then setting_at w target v (slice_get w.fields target.node)
-          else (if is_touch_sensor s.node_type
-          then touching w target v (slice_get w.fields target.node)
+          else (if is_pointing s.node_type
+          then touching w target v s.node_type (slice_get w.fields target.node)
           else (if is_script s.node_type
           then not_run w target v (slice_get (rows_of s) target.field) (slice_get w.fields target.node)
           else reacting w target v s.node_type (slice_get w.fields target.node))))
       sensor true e = sets target v s.declared (is ∙ ap (λ (k : NodeType). Some (with_type k s.declared)) (time_is s.node_type e))
-      sensor false e = touch e (is_touch_sensor s.node_type) refl
+      sensor false e = sensing e (is_pointing s.node_type)
 
   -- the target of an event that may come to it
   pub answers : (target : End) (v : Value) → typed_fits (input_type shapes target.node target.field) v ≡ true → Answered shapes target.node (answer shapes w target v)
@@ -271,19 +301,35 @@ module _ (shapes : List Shape) (w : WorldData) (fit : nodes_fit shapes w.fields 
           let r = all_ticks_fit ds timing at.cycle time (timing_is at.fields timing e) (beside n (with_type TimeSensor ds) is).0 moment in
           record { nodes = only_cycle n (with_type TimeSensor ds) is _ r.in_cycle; replies = leaving shapes n (with_type TimeSensor ds) _ is r.in_replies }
 
-  pub meets : (scene : SceneView) (n : ℕ) (ds : List Entry) (p : Pointing) (before : Bool) (place : Option Vec3) → slice_get shapes n ≡ Some (with_type TouchSensor ds) → is_viewer p.who ≡ true → option_map_or vector3.fits place true ≡ true → Answered shapes n (met scene w n p before place)
+  pub meets : (scene : SceneView) (n : ℕ) (s : Shape) (at : SensorPointer) → slice_get shapes n ≡ Some s → is_viewer at.who ≡ true → IfInRange at.place → contact_fits at.contact ≡ true → option_map_or coordinates_fit at.tracked true ≡ true
+      → Answered shapes n (met scene w n at)
   unfolding met
-  meets scene n ds p before place is viewer inside = given (is_enabled scene w.fields n)
+  meets scene n s at is viewer inside contact near =
+      let node = here n s is in
+      subst (λ (u : Option PointingState). Answered shapes n (met_as scene w n at u)) (sym node.pointing_is) (given (is_met scene w n node.pointing))
     where
-      meeting_fits : Answered shapes n (meeting w n p before place (slice_get w.touches n))
+      meeting_fits : Answered shapes n (meeting w n at (here n s is).pointing (slice_get w.fields n))
       meeting_fits =
-          let at = here n (with_type TouchSensor ds) is in
-          let u = both (length at.touch.over == MAX_VIEWERS) (option_map_or is_viewer at.touch.presser true) (beside n (with_type TouchSensor ds) is).1 in
-          let r = all_points_fit ds at.touch p.who before p.down place w.last_time (eqb-true _ _ u.0) u.1 viewer inside now in
-          let made : Touched = point at.touch (pointer p.who before p.down place) w.last_time in
-          subst (λ (u : Option Touch). Answered shapes n (meeting w n p before place u)) (sym at.touch_is)
-          (record { nodes = only_touch n (with_type TouchSensor ds) is made.touch (touch_right made.touch r.in_over r.in_presser); replies = leaving shapes n (with_type TouchSensor ds) _ is r.in_replies })
+          let node = here n s is in
+          let r = all_meet_fit s.declared s.node_type node.pointing node.fields at w.last_time (beside n s is).1 (parts n s is).0 viewer inside contact near now in
+          subst (λ (o : Option Fields). Answered shapes n (meeting w n at node.pointing o)) (sym node.fields_is)
+          (record {
+            nodes = put_pointing n s is (pointed node.pointing node.fields at w.last_time).fields (pointed node.pointing node.fields at w.last_time).state r.in_fields r.in_state;
+            replies = leaving shapes n s (pointed node.pointing node.fields at w.last_time).replies is r.in_replies;
+          })
 
-      given : (b : Bool) → Answered shapes n (if b then meeting w n p before place (slice_get w.touches n) else nothing w)
+      given : (b : Bool) → Answered shapes n (if b then meeting w n at (here n s is).pointing (slice_get w.fields n) else nothing w)
       given true = meeting_fits
       given false = still n
+
+  -- where a ray meets the plane of a drag
+  pub tracks : (scene : SceneView) (n : ℕ) (s : Shape) (p : Pointing) → slice_get shapes n ≡ Some s → option_map_or coordinates_fit (tracked_at scene w p n) true ≡ true
+  unfolding tracked_at
+  tracks scene n s p is =
+      let node = here n s is in
+      subst (λ (u : Option PointingState). option_map_or coordinates_fit (tracked_by scene w.fields p.ray (option_and_then (λ (x : PointingState). drag_by x p.who) u)) true ≡ true) (sym node.pointing_is)
+      (given (drag_by node.pointing p.who) (drag_in_range s.node_type node.pointing p.who (beside n s is).1))
+    where
+      given : (o : Option Drag) → drag_fits o ≡ true → option_map_or coordinates_fit (tracked_by scene w.fields p.ray o) true ≡ true
+      given None f = refl
+      given (Some drag) f = track_fits scene w.fields drag.path drag.start p.ray (both (coordinates_fit drag.start) (coordinates_fit drag.last) (both (is_viewer drag.presser && path_fits drag.path) (coordinates_fit drag.start && coordinates_fit drag.last) f).1).0

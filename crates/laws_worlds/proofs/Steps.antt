@@ -1,39 +1,44 @@
 -- An input keeps a world that fits.
-use Rattle.std.proofs.Common.{◌≡◌, ℕ, zero, suc, ◌<◌, ◌≤◌, ◌^◌, ℤ, pos, int_le, true, false, nat_lt, nat_le, List, [], ◌∷◌, length, map, Option, Some, None, slice_get, refl, sym, ap, subst, ◌∙◌, arith, leb-true, ltb-true, length-append, length-set, length-take}
+use Rattle.std.proofs.Common.{◌≡◌, ℕ, zero, suc, ◌<◌, ◌≤◌, ◌^◌, ℤ, pos, int_le, Bool, true, false, if◌then◌else◌, nat_lt, nat_le, List, [], ◌∷◌, length, map, Option, Some, None, slice_get, refl, sym, ap, subst, ◌∙◌, arith, leb-true, ltb-true, length-append, length-set, length-take}
 use Rattle.std.specs.Option.{option_map_or}
 use Rattle.std.proofs.lemmas.Int.{ints}
 use Rattle.std.proofs.lemmas.List.{length-map}
-use denote.Enum.Bare.{sameb}
 use Rattle.byte_codec.proofs.Laws.{both, and_true}
-use Rattle.x3d_values.specs.contracts.node_type.NodeType.{the_type}
 use Rattle.x3d_values.specs.declared.node_type.NodeType.{NodeType}
-use Rattle.x3d_values.specs.declared.node_type.NodeType.TheVariants.{Group, TimeSensor, TouchSensor}
+use Rattle.x3d_values.specs.declared.node_type.NodeType.TheVariants.{Group, TimeSensor}
 use Rattle.x3d_values.specs.declared.stamped.Event.{Event}
 use Rattle.x3d_values.specs.declared.stamped.Event.TheVariants.{Clock, Pointer}
 use Rattle.x3d_values.specs.Pointing.{Pointing}
-use Rattle.x3d_values.specs.Ranges.{is_viewer, is_input_time}
+use Rattle.x3d_values.specs.Ranges.{coordinates_fit, is_viewer, is_input_time}
 use Rattle.x3d_values.specs.Tables.{Entry, rows}
+use Rattle.x3d_values.specs.declared.vector.Vec3.{Vec3}
+use Rattle.react_core.specs.Reaction.{is_time_sensor}
+use Rattle.sensor_plane.specs.declared.meeting.SensorPointer.{SensorPointer}
 use Rattle.snapshot_codec.specs.Trace.{is_moment}
+use Rattle.scene_core.specs.Places.{is_pointing}
 use Rattle.scene_core.specs.declared.row.DeclaredField.{DeclaredField}
 use Rattle.scene_core.specs.declared.scene.Route.{Route}
 use Rattle.scene_core.specs.declared.scene.SceneNode.{SceneNode}
 use Rattle.scene_core.specs.Scene.{SceneView, shape_of, shapes_of, types_of}
 use Rattle.scene_core.specs.Shape.{Shape, rows_of, declared_entry, most_declared, numbered_fields, shape_by}
-use Rattle.cascade_world.specs.Answers.{answer, met, ticked}
+use Rattle.cascade_world.specs.Answers.{answer, met, pointer_at, ticked}
 use Rattle.cascade_core.specs.Apply.{after_input, apply, begun, with_button}
 use Rattle.cascade_core.specs.Course.{Course, Scripted, ended, plan_of}
-use Rattle.cascade_world.specs.Nodes.{is_of}
-use Rattle.cascade_world.specs.Pointer.{insides, place_in}
+use Rattle.cascade_world.specs.Insides.{Insides, insides}
+use Rattle.cascade_world.specs.Nodes.{is_clock, is_sensor}
+use Rattle.cascade_world.specs.Pointer.{tracked_at}
+use Rattle.cascade_world.specs.declared.aim.Concerned.{Concerned}
 use Rattle.cascade_core.specs.Scripts.{scripts_in}
 use Rattle.cascade_world.specs.declared.world.Turn.{Turn}
 use Rattle.cascade_world.proofs.Shapes.{shape_at}
 use Rattle.laws_worlds.proofs.Rows.{some_is}
 use Rattle.laws_worlds.specs.Fits.{IsStaged, OpeningsFit, ScriptedFits, StepsFit, WorldFits, is_event}
 use Rattle.laws_worlds.proofs.Calls.{InStates, calls_fit, running_in, starts_in, states_are}
-use Rattle.laws_worlds.proofs.Places.{place_fits, insides_fit}
+use Rattle.laws_worlds.proofs.Drags.{answers_lead, meets_lead, starts_lead, ticks_lead}
+use Rattle.laws_worlds.proofs.Places.{contact_right, insides_lead, place_fits}
 use Rattle.laws_worlds.proofs.Sending.{AreShort, Comes, Fit, Leaves, answered_fits, record_fits, targets_fit}
-use Rattle.laws_worlds.proofs.States.{answers, meets, ticks, time_is, touch_is, with_type}
-use Rattle.laws_worlds.proofs.Walks.{EventKeeps, Holds, PointKeeps, Rules, TickKeeps, first_course, input_keeps, opening_is, opening_keeps}
+use Rattle.laws_worlds.proofs.States.{answers, meets, ticks, time_is, tracks, with_type}
+use Rattle.laws_worlds.proofs.Walks.{Aims, EventKeeps, Holds, PointKeeps, Rules, TickKeeps, first_course, input_keeps, opening_is, opening_keeps}
 
 -- ---- the sensors
 
@@ -46,19 +51,20 @@ shaped scene n t e =
     let h = shape_at scene n t e in
     (h.shape.declared, h.at ∙ ap (λ (k : NodeType). Some (with_type k h.shape.declared)) h.is)
 
-is_clock : (scene : SceneView) (n : ℕ) → is_of TimeSensor (types_of scene) n ≡ true → Typed scene n TimeSensor
-is_clock scene n e = shaped scene n TimeSensor (given (slice_get (types_of scene) n) e)
+clock_at : (scene : SceneView) (n : ℕ) → is_clock (types_of scene) n ≡ true → Typed scene n TimeSensor
+clock_at scene n e = shaped scene n TimeSensor (given (slice_get (types_of scene) n) e)
   where
-    given : (o : Option NodeType) → option_map_or (λ (kind : NodeType). sameb the_type kind TimeSensor) o false ≡ true → o ≡ Some TimeSensor
+    given : (o : Option NodeType) → option_map_or is_time_sensor o false ≡ true → o ≡ Some TimeSensor
     given None h = absurd cc
     given (Some k) h = ap (λ (t : NodeType). Some t) (time_is k h)
 
-is_touched : (scene : SceneView) (n : ℕ) → is_of TouchSensor (types_of scene) n ≡ true → Typed scene n TouchSensor
-is_touched scene n e = shaped scene n TouchSensor (given (slice_get (types_of scene) n) e)
+-- a pointing sensor is a node of the scene
+sensor_at : (scene : SceneView) (n : ℕ) → is_sensor (types_of scene) n ≡ true → (s : Shape) × (slice_get (shapes_of scene) n ≡ Some s)
+sensor_at scene n e = given (slice_get (types_of scene) n) refl e
   where
-    given : (o : Option NodeType) → option_map_or (λ (kind : NodeType). sameb the_type kind TouchSensor) o false ≡ true → o ≡ Some TouchSensor
-    given None h = absurd cc
-    given (Some k) h = ap (λ (t : NodeType). Some t) (touch_is k h)
+    given : (o : Option NodeType) → slice_get (types_of scene) n ≡ o → option_map_or is_pointing o false ≡ true → (s : Shape) × (slice_get (shapes_of scene) n ≡ Some s)
+    given None is h = absurd cc
+    given (Some t) is h = let s = shaped scene n t is in (with_type t s.0, s.1)
 
 -- ---- the fields of a scene's nodes
 
@@ -81,42 +87,59 @@ short_nodes (node ∷ ns) (suc n) s e = short_nodes ns n s e
 -- ---- an input
 
 module _ (scene : SceneView) (routes : List Route) (staged : IsStaged scene routes) where
-  abbrev Fits : Turn → Type 0
-  Fits turn = Fit (shapes_of scene) turn
+  abbrev shapes : List Shape
+  shapes = shapes_of scene
 
-  fitting : Rules scene routes (Fit (shapes_of scene)) (InStates scene) (Leaves (shapes_of scene)) (Comes (shapes_of scene))
+  fitting : Rules scene routes (Fit scene) (InStates scene) (Leaves (shapes_of scene)) (Comes (shapes_of scene))
   fitting = record {
-    comes = λ source v l. targets_fit (shapes_of scene) routes source v staged.joined l;
-    records = λ turn source v new l p. record_fits (shapes_of scene) staged.few (short_nodes scene.nodes) turn source v l p;
+    comes = λ source v l. targets_fit shapes routes source v staged.joined l;
+    records = λ turn source v new l p. record_fits scene staged.few (short_nodes scene.nodes) turn source v l p;
     answers = λ turn target v come p.
-        answered_fits (shapes_of scene) turn target.node (answer (shapes_of scene) turn.world target v) p
-        (answers (shapes_of scene) turn.world p.nodes p.last target v come);
+        answered_fits scene turn target.node (answer shapes turn.world target v) p
+        (answers shapes turn.world p.world.nodes p.world.last target v come) (answers_lead scene turn.world p.paths shapes target v);
     calls = λ scripts k call takes s. calls_fit scene routes staged.run scripts k call takes s;
   }
 
-  tick_fits : (now : ℤ) → is_moment now ≡ true → TickKeeps scene (Fit (shapes_of scene)) (Leaves (shapes_of scene)) now
+  tick_fits : (now : ℤ) → is_moment now ≡ true → TickKeeps scene (Fit scene) (Leaves (shapes_of scene)) now
   tick_fits now m turn n q p =
-      let is = is_clock scene n q in
-      answered_fits (shapes_of scene) turn n (ticked turn.world n now) p (ticks (shapes_of scene) turn.world p.nodes p.last now m n is.0 is.1)
+      let is = clock_at scene n q in
+      answered_fits scene turn n (ticked turn.world n now) p (ticks shapes turn.world p.world.nodes p.world.last now m n is.0 is.1)
+      (ticks_lead scene turn.world p.paths n now)
 
-  meet_fits : (p : Pointing) → is_viewer p.who ≡ true → PointKeeps scene (Fit (shapes_of scene)) (Leaves (shapes_of scene)) p
-  meet_fits p v fields before turn n q f =
-      let place = place_in (insides scene fields p.ray) n in
-      let is = is_touched scene n q in
-      answered_fits (shapes_of scene) turn n (met scene turn.world n p before place) f
-      (meets (shapes_of scene) turn.world f.nodes f.last scene n is.0 p before place is.1 v
-      (place_fits (insides scene fields p.ray) n (insides_fit scene fields p.ray)))
+  -- where the ray of a viewer meets the plane of a drag
+  aim_fits : (p : Pointing) (first : Turn) (x : Concerned) → Fit scene first → Aims scene first.world p x → option_map_or coordinates_fit x.tracked true ≡ true
+  aim_fits p first x f aims =
+      let is = sensor_at scene x.sensor aims.sensor in
+      subst (λ (o : Option Vec3). option_map_or coordinates_fit o true ≡ true) (sym aims.tracked)
+      (given aims.drags (tracks shapes first.world f.world.nodes f.world.last scene x.sensor is.0 p is.1))
+    where
+      given : (b : Bool) → option_map_or coordinates_fit (tracked_at scene first.world p x.sensor) true ≡ true → option_map_or coordinates_fit (if b then tracked_at scene first.world p x.sensor else None) true ≡ true
+      given true fits = fits
+      given false fits = refl
 
-  button_fits : (p : Pointing) (turn : Turn) → Fits turn → Fits (with_button turn p)
-  button_fits p turn f = record { count = f.count; last = f.last; nodes = f.nodes; buttons = length-set turn.world.buttons p.who p.down ∙ f.buttons; lines = f.lines }
+  meet_fits : (p : Pointing) → is_viewer p.who ≡ true → PointKeeps scene (Fit scene) (Leaves (shapes_of scene)) p
+  meet_fits p v first before turn x t aims f =
+      let inside : Insides = insides scene first.world.fields p.ray in
+      let at : SensorPointer = pointer_at p before inside x.tracked x.sensor in
+      let all = insides_lead scene first.world.fields p.ray in
+      let right = contact_right scene inside x.sensor all in
+      let is = sensor_at scene x.sensor aims.sensor in
+      answered_fits scene turn x.sensor (met scene turn.world x.sensor at) f
+      (meets shapes turn.world f.world.nodes f.world.last scene x.sensor is.0 at is.1 v (place_fits scene inside x.sensor all) right.0 (aim_fits p first x t aims))
+      (meets_lead scene turn.world f.paths x.sensor at right.1)
 
-  event_fits : (now : ℤ) → is_moment now ≡ true → (event : Event) → is_event event ≡ true → EventKeeps scene (Fit (shapes_of scene)) (Leaves (shapes_of scene)) now event
+  button_fits : (p : Pointing) (turn : Turn) → Fit scene turn → Fit scene (with_button turn p)
+  button_fits p turn f =
+      let w = f.world in
+      record { world = record { count = w.count; last = w.last; nodes = w.nodes; buttons = length-set turn.world.buttons p.who p.down ∙ w.buttons; lines = w.lines }; paths = f.paths }
+
+  event_fits : (now : ℤ) → is_moment now ≡ true → (event : Event) → is_event event ≡ true → EventKeeps scene (Fit scene) (Leaves (shapes_of scene)) now event
   event_fits now m Clock v = tick_fits now m
   event_fits now m (Pointer p) v = (button_fits p, meet_fits p v)
 
   -- the world that a course ends with
-  ended_fits : (c : Course) → Holds (Fit (shapes_of scene)) (InStates scene) c → ScriptedFits scene (ended c)
-  ended_fits c h = record { world = h.turn; states = states_are (scripts_in scene) c.scripts h.scripts.kinds h.scripts.states }
+  ended_fits : (c : Course) → Holds (Fit scene) (InStates scene) c → ScriptedFits scene (ended c)
+  ended_fits c h = record { world = h.turn.world; paths = h.turn.paths; states = states_are (scripts_in scene) c.scripts h.scripts.kinds h.scripts.states }
 
 moment_of : (t : ℤ) → is_input_time t ≡ true → is_moment t ≡ true
 moment_of t e = let b = both (int_le (pos 1) t) (int_le t (pos (10 ^ 18))) e in and_true _ _ (later t b.0) b.1
@@ -133,9 +156,9 @@ all_steps_fit scene routes w input staged is f =
     let m = moment_of input.time is.time in
     let old : WorldFits (shapes_of scene) w.world = f.world in
     ended_fits scene routes staged (after_input scene (plan_of scene routes) (begun scene w input) input)
-    (input_keeps scene routes (Fit (shapes_of scene)) (InStates scene) (Leaves (shapes_of scene)) (Comes (shapes_of scene)) (fitting scene routes staged) w input
+    (input_keeps scene routes (Fit scene) (InStates scene) (Leaves (shapes_of scene)) (Comes (shapes_of scene)) (fitting scene routes staged) w input
     (event_fits scene routes staged input.time m input.event is.event)
-    (record { count = omega (arith, most, number); last = m; nodes = old.nodes; buttons = old.buttons; lines = old.lines })
+    (record { world = record { count = omega (arith, most, number); last = m; nodes = old.nodes; buttons = old.buttons; lines = old.lines }; paths = f.paths })
     (running_in scene w.states f.states))
 
 pub all_openings_fit : OpeningsFit
@@ -143,4 +166,5 @@ all_openings_fit scene routes staged world starts =
     let c : Course = first_course scene routes in
     subst (λ (w : Scripted). ScriptedFits scene w) (sym (opening_is scene routes))
     (ended_fits scene routes staged c
-    (opening_keeps scene routes (Fit (shapes_of scene)) (InStates scene) (Leaves (shapes_of scene)) (Comes (shapes_of scene)) (fitting scene routes staged) world (starts_in scene starts)))
+    (opening_keeps scene routes (Fit scene) (InStates scene) (Leaves (shapes_of scene)) (Comes (shapes_of scene)) (fitting scene routes staged)
+    (record { world = world; paths = starts_lead scene 0 (types_of scene) }) (starts_in scene starts)))

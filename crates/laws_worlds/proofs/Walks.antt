@@ -1,34 +1,36 @@
 -- What each event, each answer and each call of a script keep, all inputs and openings keep.
-use Rattle.std.proofs.Common.{◌≡◌, ℕ, zero, suc, ◌+◌, ℤ, Bool, true, false, if◌then◌else◌, List, [], ◌∷◌, ◌++◌, length, Option, Some, None, slice_get, refl, subst}
+use Rattle.std.proofs.Common.{◌≡◌, ℕ, zero, suc, ◌+◌, ℤ, Bool, true, false, if◌then◌else◌, List, [], ◌∷◌, ◌++◌, length, map, Option, Some, None, slice_get, refl, subst}
 use Rattle.std.specs.List.{AllByRecursion, filter, range_with_len}
-use Rattle.x3d_values.specs.declared.fields.Fields.{Fields}
 use Rattle.x3d_values.specs.declared.node_type.NodeType.{NodeType}
-use Rattle.x3d_values.specs.declared.node_type.NodeType.TheVariants.{TimeSensor, TouchSensor}
 use Rattle.x3d_values.specs.declared.stamped.Event.{Event}
 use Rattle.x3d_values.specs.declared.stamped.Event.TheVariants.{Clock, Pointer}
 use Rattle.x3d_values.specs.declared.value.Value.{Value}
 use Rattle.x3d_values.specs.Pointing.{Pointing}
 use Rattle.x3d_values.specs.Stamp.{Stamp}
 use Rattle.react_core.specs.declared.outbox.Reply.{Reply}
+use Rattle.react_core.specs.Reaction.{is_time_sensor}
 use Rattle.scene_core.specs.declared.scene.End.{End}
 use Rattle.scene_core.specs.declared.scene.Route.{Route}
+use Rattle.scene_core.specs.Places.{is_pointing}
 use Rattle.scene_core.specs.Scene.{SceneView, shapes_of, types_of}
 use Rattle.script_host.specs.Behaviour.{Call, Initialize, Settle}
 use Rattle.script_host.specs.Hosting.{ScriptRecord}
 use Rattle.script_turn.specs.Acting.{Acted, act}
 use Rattle.script_due.specs.Settling.{with_settled}
 use Rattle.laws_worlds.specs.Calls.{call_fits}
-use Rattle.cascade_world.specs.Answers.{Answer, answer, met, ticked, with_answer}
+use Rattle.cascade_world.specs.Answers.{Answer, answer, met, pointer_at, ticked, with_answer}
 use Rattle.cascade_core.specs.Apply.{Sending, Started, after_input, begin, begun, happen, opening, opening_course, point, point_node, sent_by_all, start_one, started, tick_node, untold, with_button}
 use Rattle.cascade_core.specs.Cascade.{Arrival, arrival, deliver, reached, reached_by, recorded, send, send_all, send_replies}
 use Rattle.cascade_core.specs.Course.{Course, Plan, Scripted, ended, node_of, plan_of, ports_of, with_turn}
 use Rattle.cascade_trace.specs.Ends.{has_sent, targets_of}
-use Rattle.cascade_world.specs.Nodes.{clocks_of, is_of, numbers_of, touch_sensors_of}
+use Rattle.cascade_world.specs.Insides.{insides}
+use Rattle.cascade_world.specs.Nodes.{clocks_of, is_clock, is_of, is_sensor, numbers_of, pointing_sensors_of}
 use Rattle.cascade_core.specs.Outputs.{outputs_of}
-use Rattle.cascade_world.specs.Pointer.{concerned, insides, is_down, is_pressed, or_all, place_in}
+use Rattle.cascade_world.specs.Pointer.{concerned, is_down, is_pressed, or_all, pressed, tracked_at, tracking, untracked}
 use Rattle.cascade_core.specs.Scripts.{kinds_in, running, scripts_in}
 use Rattle.cascade_core.specs.Settles.{next_due, settle, settle_one, settle_up_to}
 use Rattle.cascade_world.specs.World.{record_event}
+use Rattle.cascade_world.specs.declared.aim.Concerned.{Concerned}
 use Rattle.cascade_world.specs.declared.world.Turn.{Turn}
 use Rattle.cascade_world.specs.declared.world.WorldData.{WorldData}
 use Rattle.cascade_core.proofs.Folds.{all_free, fold-keeps}
@@ -65,15 +67,23 @@ pub record Holds (T : Turn → Type 0) (S : List ScriptRecord → Type 0) (c : C
   pub turn : T c.turn
   pub scripts : S c.scripts
 
--- where the clock ticks, and where a viewer points
+-- where the clock ticks
 abbrev pub TickKeeps : SceneView → (Turn → Type 0) → (End → Value → Type 0) → ℤ → Type 0
 TickKeeps scene T Q now =
-    (turn : Turn) (node : ℕ) → is_of TimeSensor (types_of scene) node ≡ true → T turn → AnswerKeeps T Q node turn (ticked turn.world node now)
+    (turn : Turn) (node : ℕ) → is_clock (types_of scene) node ≡ true → T turn → AnswerKeeps T Q node turn (ticked turn.world node now)
 
+-- a pointing sensor that a viewer's pointer concerns in a world, and where its ray meets the plane of a
+-- drag, if it drags the sensor
+pub record Aims (scene : SceneView) (w : WorldData) (p : Pointing) (x : Concerned) : Type 0 where
+  pub sensor : is_sensor (types_of scene) x.sensor ≡ true
+  pub drags : Bool
+  pub tracked : x.tracked ≡ (if drags then tracked_at scene w p x.sensor else None)
+
+-- where a viewer points: what is fixed before, of the first turn, and what the sensor does at its turn
 abbrev pub PointKeeps : SceneView → (Turn → Type 0) → (End → Value → Type 0) → Pointing → Type 0
 PointKeeps scene T Q p =
-    (fields : List Fields) (before : Bool) (turn : Turn) (node : ℕ) → is_of TouchSensor (types_of scene) node ≡ true → T turn
-    → AnswerKeeps T Q node turn (met scene turn.world node p before (place_in (insides scene fields p.ray) node))
+    (first : Turn) (before : Bool) (turn : Turn) (x : Concerned) → T first → Aims scene first.world p x → T turn
+    → AnswerKeeps T Q x.sensor turn (met scene turn.world x.sensor (pointer_at p before (insides scene first.world.fields p.ray) x.tracked x.sensor))
 
 abbrev pub EventKeeps : SceneView → (Turn → Type 0) → (End → Value → Type 0) → ℤ → Event → Type 0
 EventKeeps scene T Q now Clock = TickKeeps scene T Q now
@@ -97,19 +107,36 @@ still_all P p (x ∷ xs) a = by (p x) (still_all P p xs a.1)
     by true h = (a.0, h)
     by false h = h
 
-either_all : (P : ℕ → Type 0) (some all : List ℕ) → AllByRecursion P some → AllByRecursion P all → AllByRecursion P (or_all some all)
-either_all P [] all a b = b
-either_all P (x ∷ some) all a b = a
-
-all_of : (wanted : NodeType) (types : List NodeType) → AllByRecursion (λ n. is_of wanted types n ≡ true) (numbers_of wanted types)
+all_of : (wanted : NodeType → Bool) (types : List NodeType) → AllByRecursion (λ n. is_of wanted types n ≡ true) (numbers_of wanted types)
 unfolding numbers_of
 all_of wanted types = passing (is_of wanted types) (range_with_len 0 (length types))
 
-all_concerned : (types : List NodeType) (w : WorldData) (who : ℕ) → AllByRecursion (λ n. is_of TouchSensor types n ≡ true) (concerned types w who)
-unfolding concerned
-all_concerned types w who =
-    either_all (λ n. is_of TouchSensor types n ≡ true) (filter (is_pressed w who) (touch_sensors_of types)) (touch_sensors_of types)
-    (still_all (λ n. is_of TouchSensor types n ≡ true) (is_pressed w who) (touch_sensors_of types) (all_of TouchSensor types)) (all_of TouchSensor types)
+module _ (scene : SceneView) (w : WorldData) (p : Pointing) where
+  abbrev AllAim : List Concerned → Type 0
+  AllAim xs = AllByRecursion (Aims scene w p) xs
+
+  abbrev AllSensors : List ℕ → Type 0
+  AllSensors ns = AllByRecursion (λ n. is_sensor (types_of scene) n ≡ true) ns
+
+  either_aim : (some all : List Concerned) → AllAim some → AllAim all → AllAim (or_all some all)
+  either_aim [] all a b = b
+  either_aim (x ∷ some) all a b = a
+
+  tracking_aim : (ns : List ℕ) → AllSensors ns → AllAim (map (tracking scene w p) ns)
+  tracking_aim [] a = tt
+  tracking_aim (n ∷ ns) a = (record { sensor = a.0; drags = true; tracked = refl }, tracking_aim ns a.1)
+
+  untracked_aim : (ns : List ℕ) → AllSensors ns → AllAim (map untracked ns)
+  untracked_aim [] a = tt
+  untracked_aim (n ∷ ns) a = (record { sensor = a.0; drags = false; tracked = refl }, untracked_aim ns a.1)
+
+  all_concerned : AllAim (concerned scene w p)
+  unfolding concerned
+  all_concerned =
+      let sensors : List ℕ = pointing_sensors_of (types_of scene) in
+      let all = all_of is_pointing (types_of scene) in
+      either_aim (pressed scene w p) (map untracked sensors)
+      (tracking_aim (filter (is_pressed w p.who) sensors) (still_all (λ n. is_sensor (types_of scene) n ≡ true) (is_pressed w p.who) sensors all)) (untracked_aim sensors all)
 
 all_push : {X : Type 0} (P : X → Type 0) (xs : List X) (x : X) → AllByRecursion P xs → P x → AllByRecursion P (xs ++ x ∷ [])
 all_push P [] x a p = (p, tt)
@@ -177,27 +204,27 @@ module _ (scene : SceneView) (routes : List Route) (T : Turn → Type 0) (S : Li
   answered_keeps : (node : ℕ) (c : Course) (a : Answer) → AnswerKeeps T Q node c.turn a → P c → P (send_replies plan node (with_turn c (with_answer c.turn a)) a.replies)
   answered_keeps node c a g p = replies_keep node (with_turn c (with_answer c.turn a)) a.replies g.1 (record { turn = g.0; scripts = p.scripts })
 
-  ticks : (now : ℤ) → TickKeeps scene T Q now → (c : Course) (node : ℕ) → is_of TimeSensor (types_of scene) node ≡ true → P c → P (tick_node plan now c node)
+  ticks : (now : ℤ) → TickKeeps scene T Q now → (c : Course) (node : ℕ) → is_clock (types_of scene) node ≡ true → P c → P (tick_node plan now c node)
   unfolding tick_node
   ticks now keeps c node is p = answered_keeps node c (ticked c.turn.world node now) (keeps c.turn node is p.turn) p
 
-  touches : (p : Pointing) → PointKeeps scene T Q p → (fields : List Fields) (before : Bool) (c : Course) (node : ℕ) → is_of TouchSensor (types_of scene) node ≡ true → P c
-      → P (point_node scene plan p before (insides scene fields p.ray) c node)
+  meets : (p : Pointing) → PointKeeps scene T Q p → (first : Turn) (before : Bool) (c : Course) (x : Concerned) → T first → Aims scene first.world p x → P c
+      → P (point_node scene plan p before (insides scene first.world.fields p.ray) c x)
   unfolding point_node
-  touches p keeps fields before c node is k =
-      answered_keeps node c (met scene c.turn.world node p before (place_in (insides scene fields p.ray) node)) (keeps fields before c.turn node is k.turn) k
+  meets p keeps first before c x t aims k =
+      answered_keeps x.sensor c (met scene c.turn.world x.sensor (pointer_at p before (insides scene first.world.fields p.ray) x.tracked x.sensor)) (keeps first before c.turn x t aims k.turn) k
 
   points : (p : Pointing) → ((turn : Turn) → T turn → T (with_button turn p)) → PointKeeps scene T Q p → (c : Course) → P c → P (point scene plan c p)
   unfolding point
   points p buttons keeps c k =
       let before : Bool = is_down c.turn.world p.who in
-      fold-keeps P (λ (n : ℕ). is_of TouchSensor (types_of scene) n ≡ true) (point_node scene plan p before (insides scene c.turn.world.fields p.ray))
-      (λ d n is h. touches p keeps c.turn.world.fields before d n is h) (with_turn c (with_button c.turn p)) (concerned (types_of scene) c.turn.world p.who)
-      (all_concerned (types_of scene) c.turn.world p.who) (record { turn = buttons c.turn k.turn; scripts = k.scripts })
+      fold-keeps P (Aims scene c.turn.world p) (point_node scene plan p before (insides scene c.turn.world.fields p.ray))
+      (λ d x aims h. meets p keeps c.turn before d x k.turn aims h) (with_turn c (with_button c.turn p)) (concerned scene c.turn.world p)
+      (all_concerned scene c.turn.world p) (record { turn = buttons c.turn k.turn; scripts = k.scripts })
 
   happens : (now : ℤ) (event : Event) → EventKeeps scene T Q now event → (c : Course) → P c → P (happen scene plan now c event)
   happens now Clock keeps c p =
-      fold-keeps P (λ (n : ℕ). is_of TimeSensor (types_of scene) n ≡ true) (tick_node plan now) (λ d n is h. ticks now keeps d n is h) c (clocks_of (types_of scene)) (all_of TimeSensor (types_of scene)) p
+      fold-keeps P (λ (n : ℕ). is_clock (types_of scene) n ≡ true) (tick_node plan now) (λ d n is h. ticks now keeps d n is h) c (clocks_of (types_of scene)) (all_of is_time_sensor (types_of scene)) p
   happens now (Pointer p) keeps c k = points p keeps.0 keeps.1 c k
 
   -- ---- scripts settle

@@ -3,17 +3,23 @@ use Rattle.std.specs.Prelude.{◌≡◌, ℕ, ℤ, Bool, true, List, length, Opt
 use Rattle.std.specs.Option.{option_map_or}
 use Rattle.x3d_values.specs.declared.fields.Fields.{Fields}
 use Rattle.x3d_values.specs.declared.node_type.NodeType.{NodeType}
-use Rattle.x3d_values.specs.declared.node_type.NodeType.TheVariants.{TimeSensor, TouchSensor}
+use Rattle.x3d_values.specs.declared.node_type.NodeType.TheVariants.{PlaneSensor, TimeSensor, TouchSensor}
 use Rattle.x3d_values.specs.declared.ranges.TheConstants.{MAX_VIEWERS}
 use Rattle.x3d_values.specs.declared.value.Value.{Value}
 use Rattle.x3d_values.specs.declared.vector.Vec3.{Vec3}
-use Rattle.x3d_values.specs.Ranges.{is_viewer}
+use Rattle.x3d_values.specs.Ranges.{coordinates_fit, is_viewer}
 use Rattle.x3d_values.specs.Tables.{Entry}
 use Rattle.react_core.specs.Reaction.{Reaction, reaction}
 use Rattle.sensor_core.specs.Events.{Answer, set}
 use Rattle.sensor_core.specs.Ticks.{Tick, tick}
 use Rattle.sensor_core.specs.Timing.{Timing, timing_of, with_timing, is_timing}
 use Rattle.sensor_core.specs.Touches.{Touch, Touched, pointer, point, disable}
+use Rattle.sensor_plane.specs.declared.meeting.SensorPointer.{SensorPointer}
+use Rattle.sensor_plane.specs.declared.pointing.PointingState.TheVariants as state
+use Rattle.sensor_plane.specs.Meeting.{Met, pointed}
+use Rattle.sensor_plane.specs.PlaneParts.{contact_fits}
+use Rattle.sensor_plane.specs.Planes.{Plane}
+use Rattle.sensor_plane.specs.Pointing.{Forgotten, forgotten, plane_fits}
 use Rattle.snapshot_codec.specs.Parts.{cycle_fits}
 use Rattle.snapshot_codec.specs.Trace.{is_moment}
 use Rattle.snapshot_codec.specs.Values.{vector3}
@@ -84,3 +90,31 @@ PointsFit =
 -- it is turned off
 abbrev pub DisablesFit : Type 0
 DisablesFit = (declared : List Entry) (touch : Touch) → TouchFit declared (disable touch)
+
+-- ---- a PlaneSensor
+
+-- what is kept of it is in its ranges, so are its fields, and it sends what fits
+pub record PlaneFit (declared : List Entry) (m : Met) : Type 0 where
+  pub in_state : plane_fits m.state ≡ true
+  pub in_fields : fields_fit PlaneSensor declared m.fields ≡ true
+  pub in_replies : replies_fit PlaneSensor declared m.replies ≡ true
+
+-- a viewer points, over the sensor at a place of its range and by a way that may be kept, or not
+-- over it; where it drags, its ray meets the plane at a place of its range, or nowhere
+abbrev pub PlanePointsFit : Type 0
+PlanePointsFit =
+    (declared : List Entry) (plane : Plane) (fields : Fields) (at : SensorPointer) (now : ℤ)
+    → plane_fits (state.Plane plane) ≡ true → fields_fit PlaneSensor declared fields ≡ true
+    → is_viewer at.who ≡ true → contact_fits at.contact ≡ true
+    → option_map_or coordinates_fit at.tracked true ≡ true
+    → PlaneFit declared (pointed (state.Plane plane) fields at now)
+
+pub record PlaneForgets (declared : List Entry) (f : Forgotten) : Type 0 where
+  pub in_state : plane_fits f.state ≡ true
+  pub in_replies : replies_fit PlaneSensor declared f.replies ≡ true
+
+-- it is turned off
+abbrev pub PlaneDisablesFit : Type 0
+PlaneDisablesFit =
+    (declared : List Entry) (plane : Plane)
+    → PlaneForgets declared (forgotten (state.Plane plane))

@@ -17,7 +17,8 @@ use Rattle.cascade_core.specs.Course.{Scripted}
 use Rattle.cascade_core.specs.Installing.{StatesFit}
 use Rattle.cascade_core.specs.Scripts.{scripts_in, states_of}
 use Rattle.cascade_world.specs.declared.world.WorldData.{WorldData}
-pub use Rattle.cascade_world.specs.Fits.{time_fits, pointers_fit, node_fits, nodes_fit, line_fits, WorldFits}
+pub use Rattle.cascade_world.specs.Fits.{time_fits, node_fits, nodes_fit, line_fits, all_lead}
+pub use Rattle.cascade_world.specs.Fits.{WorldFits}
 use Rattle.cascade_world.specs.Fits.{output_type}
 
 -- ---- what may come to a field; what leaves by one is cascade_world's `output_type`
@@ -30,9 +31,11 @@ input_type shapes node field =
 
 -- ---- a world
 
--- with its scripts: there is a state for each of them, and it is one of the script's kind
+-- with its scripts: there is a state for each of them, and it is one of the script's kind. The way
+-- that is kept of a drag leads to a list that holds the sensor.
 pub record ScriptedFits (scene : SceneView) (w : Scripted) : Type 0 where
   pub world : WorldFits (shapes_of scene) w.world
+  pub paths : all_lead scene 0 w.world.pointing ≡ true
   pub states : StatesFit scene w.states
 
 -- the states in which the scene's scripts start are states of their kinds

@@ -1,5 +1,6 @@
--- The sensors that a hit concerns are all enabled TouchSensors of the lowest list along its path that
--- has one, each once, in the order of their numbers (ISO/IEC 19775-1, pointing device sensor component).
+-- The sensors that a hit concerns are all enabled pointing sensors, TouchSensors and PlaneSensors,
+-- of the lowest list along its path that has one, each once, in the order of their numbers (ISO/IEC
+-- 19775-1, pointing device sensor component).
 use Rattle.std.specs.Prelude.{◌≡◌, ◌↔◌, ℕ, ◌==◌, ◌≤◌, ◌&&◌, ◌++◌, nat_lt, Bool, true, false, List, [], ◌∷◌, length, Option, Some, None, Ok, slice_get}
 use Rattle.std.specs.List.{list_all, list_any}
 use Rattle.std.specs.Option.{option_map_or}
@@ -27,11 +28,11 @@ lists_along scene owner (p ∷ ps) =
     siblings_in scene owner
     ∷ option_map_or (λ child. lists_along scene (Some child) ps) (slice_get (list_of scene owner) p) []
 
--- the number is that of an enabled TouchSensor in the list
+-- the number is that of an enabled pointing sensor in the list
 abbrev pub is_listed : SceneView → List Fields → ℕ → List ℕ → Bool
 is_listed scene state n list = has n list && is_enabled scene state n
 
--- it is that of an enabled TouchSensor in one of the lists, and no list below that has any
+-- it is that of an enabled pointing sensor in one of the lists, and no list below that has any
 pub record IsLowest (scene : SceneView) (state : List Fields) (lists : List (List ℕ)) (n : ℕ) : Type 0 where
   pub above : List (List ℕ)
   pub list : List ℕ

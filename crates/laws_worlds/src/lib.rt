@@ -9,7 +9,7 @@ mod scripts;
 mod sensors;
 mod worlds;
 
-pub use answers::{reactions_fit, time_sensors_fit, touch_sensors_fit};
+pub use answers::{plane_sensors_fit, reactions_fit, time_sensors_fit, touch_sensors_fit};
 pub use documents::{document_hits_are_on_rays, document_openings_fit, routes_join, worlds_fit};
 pub use scripts::{attached_run, calls_fit, outputs_typed};
 pub use sensors::sensors_are_all;

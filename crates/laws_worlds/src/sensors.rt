@@ -2,9 +2,9 @@
 
 ghost use Rattle.laws_worlds.specs.Sensors.{SensorsAreFew, SensorsAreLowest, SensorsRise};
 
-/// The sensors that a hit concerns are exactly the enabled TouchSensors of the lowest list along its
-/// path that has one, in the order of their numbers, each once. In the scene of a document they are
-/// 64 at most: it has no list with more.
+/// The sensors that a hit concerns are exactly the enabled pointing sensors of the lowest list
+/// along its path that has one, in the order of their numbers, each once. In the scene of a
+/// document they are 64 at most: it has no list with more.
 pub fn sensors_are_all()
     ensures lowest { SensorsAreLowest }
     ensures rising { SensorsRise }

@@ -22,11 +22,12 @@ use Rattle.snapshot_codec.specs.declared.kept.KeptField.{KeptField}
 use Rattle.snapshot_codec.specs.declared.kept.KeptField.TheVariants.{Absent, Interval, Typed}
 use Rattle.snapshot_codec.specs.Fields.{is_positive, kept_field, kept_fits}
 use Rattle.snapshot_codec.specs.Values.{color, list_of, number, text, time, value_fits, vector2, vector3}
-use Rattle.sensor_core.specs.Touches.{Touch}
+use Rattle.sensor_plane.specs.declared.pointing.PointingState.{PointingState}
+use Rattle.sensor_plane.specs.Pointing.{pointing_fits}
 use Rattle.scene_core.specs.Shape.{Shape}
 use Rattle.scene_text.specs.Raw.{color_run, pair_run, vector_run}
 use Rattle.laws_worlds.specs.Ranges.{fields_fit, position_fits, values_fit}
-use Rattle.laws_worlds.specs.Fits.{node_fits, nodes_fit, pointers_fit, time_fits}
+use Rattle.laws_worlds.specs.Fits.{node_fits, nodes_fit, time_fits}
 use Rattle.laws_text.specs.Values.{is_int32, is_number, is_time}
 use Rattle.laws_text.specs.Writable.{AreKeepable, IsKeepable}
 use Rattle.laws_written_worlds.specs.Kept.{FittingAreKeepable}
@@ -159,10 +160,10 @@ values_keepable t n (row ∷ es) (o ∷ vs) (suc number) v f e =
 
 -- ---- nodes
 
-node_keepable : (s : Shape) (fields : Fields) (cycle : Option ℕ) (touch : Touch) (number : ℕ) (v : Value)
-    → node_fits s fields cycle touch ≡ true → field_value fields number ≡ Some v → IsKeepable v
-node_keepable s fields cycle touch number v f e =
-    let b = both (fields_fit s.node_type s.declared fields) (time_fits s.node_type cycle && pointers_fit s.node_type touch) f in
+node_keepable : (s : Shape) (fields : Fields) (cycle : Option ℕ) (state : PointingState) (number : ℕ) (v : Value)
+    → node_fits s fields cycle state ≡ true → field_value fields number ≡ Some v → IsKeepable v
+node_keepable s fields cycle state number v f e =
+    let b = both (fields_fit s.node_type s.declared fields) (time_fits s.node_type cycle && pointing_fits s.node_type state) f in
     let c = both (values_fit s.node_type 0 (rows s.node_type ++ s.declared) fields.values) (position_fits s.node_type fields.position) b.0 in
     values_keepable s.node_type 0 (rows s.node_type ++ s.declared) fields.values number v c.0 e
 
@@ -172,7 +173,7 @@ some x = Some x
 some_is : {A : Type 0} (x y : A) → some x ≡ some y → x ≡ y
 some_is x y e = cc
 
-nodes_keepable : (shapes : List Shape) (fs : List Fields) (cs : List (Option ℕ)) (us : List Touch) → nodes_fit shapes fs cs us ≡ true → AreKeepable fs
+nodes_keepable : (shapes : List Shape) (fs : List Fields) (cs : List (Option ℕ)) (us : List PointingState) → nodes_fit shapes fs cs us ≡ true → AreKeepable fs
 nodes_keepable shapes [] cs us f n number fields v at e = absurd cc
 nodes_keepable [] (x ∷ fs) cs us f n number fields v at e =
     let none = eqb-true (length (x ∷ fs)) 0 (both (length (x ∷ fs) == 0) ((length cs == 0) && (length us == 0)) f).0 in
@@ -187,4 +188,4 @@ nodes_keepable (s ∷ shapes) (x ∷ fs) (c ∷ cs) (u ∷ us) f (suc n) number 
     nodes_keepable shapes fs cs us b.1 n number fields v at e
 
 pub fitting_are_keepable : FittingAreKeepable
-fitting_are_keepable shapes w fits = nodes_keepable shapes w.fields w.sensors w.touches fits.nodes
+fitting_are_keepable shapes w fits = nodes_keepable shapes w.fields w.sensors w.pointing fits.nodes

@@ -18,13 +18,14 @@ use Rattle.snapshot_codec.specs.declared.kept.KeptField.{KeptField}
 use Rattle.snapshot_codec.specs.declared.kept.KeptField.TheVariants.{Absent, Interval, Typed}
 use Rattle.snapshot_codec.specs.Fields.{is_positive, kept_field, kept_fits}
 use Rattle.snapshot_codec.specs.Values.{value_fits}
-use Rattle.sensor_core.specs.Touches.{Touch}
+use Rattle.sensor_plane.specs.declared.pointing.PointingState.{PointingState}
+use Rattle.sensor_plane.specs.Pointing.{pointing_fits}
 use Rattle.scene_core.specs.declared.scene.SceneNode.{SceneNode}
 use Rattle.scene_core.specs.Scene.{shape_of}
 use Rattle.scene_core.specs.Shape.{Shape}
 use Rattle.scene_core.specs.Typed.{in_range, is_negative}
 use Rattle.laws_worlds.specs.Ranges.{fields_fit, position_fits, values_fit}
-use Rattle.laws_worlds.specs.Fits.{node_fits, nodes_fit, pointers_fit, time_fits}
+use Rattle.laws_worlds.specs.Fits.{node_fits, nodes_fit, time_fits}
 use Rattle.laws_written_worlds.specs.Ranged.{FittingAreInRange}
 
 -- ---- values
@@ -120,11 +121,11 @@ keeps_at t n (row ∷ es) (o ∷ vs) (suc number) e v f at held =
     let b = both (kept_fits (kept_field t n row.access row.field_type) o) (values_fit t (n + 1) es vs) f in
     subst (λ (m : ℕ). Keeps t m e v) (next_place n number) (keeps_at t (n + 1) es vs number e v b.1 at held)
 
-node_ranged : (s : Shape) (fields : Fields) (cycle : Option ℕ) (touch : Touch) (t : NodeType) (number : ℕ) (e : Entry) (v : Value)
-    → node_fits s fields cycle touch ≡ true → s.node_type ≡ t → slice_get (rows t) number ≡ Some e → field_value fields number ≡ Some v → in_range e.name v ≡ true
-node_ranged s fields cycle touch t number e v f is row held =
+node_ranged : (s : Shape) (fields : Fields) (cycle : Option ℕ) (state : PointingState) (t : NodeType) (number : ℕ) (e : Entry) (v : Value)
+    → node_fits s fields cycle state ≡ true → s.node_type ≡ t → slice_get (rows t) number ≡ Some e → field_value fields number ≡ Some v → in_range e.name v ≡ true
+node_ranged s fields cycle state t number e v f is row held =
     let own : slice_get (rows s.node_type) number ≡ Some e = ap (λ (u : NodeType). slice_get (rows u) number) is ∙ row in
-    let b = both (fields_fit s.node_type s.declared fields) (time_fits s.node_type cycle && pointers_fit s.node_type touch) f in
+    let b = both (fields_fit s.node_type s.declared fields) (time_fits s.node_type cycle && pointing_fits s.node_type state) f in
     let c = both (values_fit s.node_type 0 (rows s.node_type ++ s.declared) fields.values) (position_fits s.node_type fields.position) b.0 in
     kept_ranged (kept_field s.node_type (0 + number) e.access e.field_type) e.name v
     (take_at s.node_type 0 (rows s.node_type) number e (table_takes s.node_type) own)
@@ -132,7 +133,7 @@ node_ranged s fields cycle touch t number e v f is row held =
 
 -- ---- nodes
 
-nodes_ranged : (nodes : List SceneNode) (fs : List Fields) (cs : List (Option ℕ)) (us : List Touch) → nodes_fit (map shape_of nodes) fs cs us ≡ true
+nodes_ranged : (nodes : List SceneNode) (fs : List Fields) (cs : List (Option ℕ)) (us : List PointingState) → nodes_fit (map shape_of nodes) fs cs us ≡ true
     → (n number : ℕ) (t : NodeType) (e : Entry) (fields : Fields) (v : Value) → slice_get (map (λ (m : SceneNode). m.node_type) nodes) n ≡ Some t
     → slice_get (rows t) number ≡ Some e → slice_get fs n ≡ Some fields → field_value fields number ≡ Some v → in_range e.name v ≡ true
 nodes_ranged nodes [] cs us f n number t e fields v typed row at held = absurd cc
@@ -148,4 +149,4 @@ nodes_ranged (s ∷ nodes) (x ∷ fs) (c ∷ cs) (u ∷ us) f (suc n) number t e
     nodes_ranged nodes fs cs us b.1 n number t e fields v typed row at held
 
 pub fitting_in_range : FittingAreInRange
-fitting_in_range scene w fits = λ n field t e fields v typed row at held. nodes_ranged scene.nodes w.fields w.sensors w.touches fits.nodes n field t e fields v typed row at held
+fitting_in_range scene w fits = λ n field t e fields v typed row at held. nodes_ranged scene.nodes w.fields w.sensors w.pointing fits.nodes n field t e fields v typed row at held

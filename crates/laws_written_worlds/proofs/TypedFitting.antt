@@ -18,12 +18,13 @@ use Rattle.x3d_values.specs.Values.{type_of}
 use Rattle.snapshot_codec.specs.declared.kept.KeptField.TheVariants.{Absent, Interval, Typed}
 use Rattle.snapshot_codec.specs.Fields.{has_bytes, is_interval, is_positive, kept_field, kept_fits}
 use Rattle.snapshot_codec.specs.Values.{value_fits}
-use Rattle.sensor_core.specs.Touches.{Touch}
+use Rattle.sensor_plane.specs.declared.pointing.PointingState.{PointingState}
+use Rattle.sensor_plane.specs.Pointing.{pointing_fits}
 use Rattle.scene_core.specs.Scene.{SceneView, rows_at, shapes_of}
 use Rattle.scene_core.specs.Shape.{Shape, rows_of}
 use Rattle.cascade_world.specs.declared.world.WorldData.{WorldData}
 use Rattle.laws_worlds.specs.Ranges.{fields_fit, position_fits, values_fit}
-use Rattle.laws_worlds.specs.Fits.{WorldFits, node_fits, nodes_fit, pointers_fit, time_fits}
+use Rattle.laws_worlds.specs.Fits.{WorldFits, node_fits, nodes_fit, time_fits}
 use Rattle.laws_written_worlds.specs.Typed.{FittingAreOfType}
 
 -- ---- values
@@ -141,10 +142,10 @@ has_row t n (row ∷ es) (o ∷ vs) (suc number) v f held =
 abbrev pub IsHeld : List Entry → ℕ → Value → Type 0
 IsHeld es number v = (e : Entry) × (slice_get es number ≡ Some e) × (type_of v ≡ e.field_type) × (is_kept e.access e.field_type ≡ true)
 
-node_held : (s : Shape) (fields : Fields) (cycle : Option ℕ) (touch : Touch) (number : ℕ) (v : Value)
-    → node_fits s fields cycle touch ≡ true → field_value fields number ≡ Some v → IsHeld (rows_of s) number v
-node_held s fields cycle touch number v f held =
-    let b = both (fields_fit s.node_type s.declared fields) (time_fits s.node_type cycle && pointers_fit s.node_type touch) f in
+node_held : (s : Shape) (fields : Fields) (cycle : Option ℕ) (state : PointingState) (number : ℕ) (v : Value)
+    → node_fits s fields cycle state ≡ true → field_value fields number ≡ Some v → IsHeld (rows_of s) number v
+node_held s fields cycle state number v f held =
+    let b = both (fields_fit s.node_type s.declared fields) (time_fits s.node_type cycle && pointing_fits s.node_type state) f in
     let c = both (values_fit s.node_type 0 (rows s.node_type ++ s.declared) fields.values) (position_fits s.node_type fields.position) b.0 in
     let r : HasRow s.node_type 0 (rows s.node_type ++ s.declared) number v = has_row s.node_type 0 (rows s.node_type ++ s.declared) fields.values number v c.0 held in
     let h = field_held s.node_type number r.0.access r.0.field_type v (interval_is s.node_type s.declared number r.0 r.1)
@@ -153,7 +154,7 @@ node_held s fields cycle touch number v f held =
 
 -- ---- nodes
 
-nodes_held : (shapes : List Shape) (fs : List Fields) (cs : List (Option ℕ)) (us : List Touch) → nodes_fit shapes fs cs us ≡ true
+nodes_held : (shapes : List Shape) (fs : List Fields) (cs : List (Option ℕ)) (us : List PointingState) → nodes_fit shapes fs cs us ≡ true
     → (n number : ℕ) (fields : Fields) (v : Value) → slice_get fs n ≡ Some fields → field_value fields number ≡ Some v
     → IsHeld (option_map_or rows_of (slice_get shapes n) []) number v
 nodes_held shapes [] cs us f n number fields v at held = absurd cc
@@ -171,7 +172,7 @@ nodes_held (s ∷ shapes) (x ∷ fs) (c ∷ cs) (u ∷ us) f (suc n) number fiel
 
 pub fitting_held : (scene : SceneView) (w : WorldData) → WorldFits (shapes_of scene) w → (n number : ℕ) (fields : Fields) (v : Value)
     → slice_get w.fields n ≡ Some fields → field_value fields number ≡ Some v → IsHeld (rows_at scene n) number v
-fitting_held scene w fits = nodes_held (shapes_of scene) w.fields w.sensors w.touches fits.nodes
+fitting_held scene w fits = nodes_held (shapes_of scene) w.fields w.sensors w.pointing fits.nodes
 
 pub fitting_typed : FittingAreOfType
 fitting_typed scene w fits n number e fields v at here held =

@@ -60,17 +60,17 @@ module _ (known : Known) where
     fields_distinct : HaveDistinctFields scene
     fields_distinct = known.distinct o.document f scene o.put_in o.is_scene
 
-    stands : WorldFits (shapes_of scene) (standing state)
+    stands : WorldFits (shapes_of scene) (standing (shapes_of scene) state)
     stands = standing_fits (shapes_of scene) state fits
 
     kept : AreKeepable state
-    kept = known.keepable (shapes_of scene) (standing state) stands
+    kept = known.keepable (shapes_of scene) (standing (shapes_of scene) state) stands
 
     typed : AreOfType scene state
-    typed = known.typed scene (standing state) stands
+    typed = known.typed scene (standing (shapes_of scene) state) stands
 
     ranged : AreInRange scene state
-    ranged = known.ranged scene (standing state) stands
+    ranged = known.ranged scene (standing (shapes_of scene) state) stands
 
     names : IsNamed f
     names = known.named text o.document f (but_lines text o.document (is_spelled text o.document o.read)) o.put_in

@@ -1,5 +1,5 @@
 -- Rows depend on what a ray sees of the nodes alone.
-use Rattle.std.proofs.Common.{◌≡◌, ◌∙◌, ℕ, ℤ, List, [], ◌∷◌, map, Bool, ◌&&◌, Option, refl, sym, ap}
+use Rattle.std.proofs.Common.{◌≡◌, ◌∙◌, ℕ, List, [], ◌∷◌, map, Bool, ◌&&◌, Option, refl, ap}
 use Rattle.std.proofs.Common.{Some, None, inl, inr, eqb-true}
 use Rattle.std.proofs.lemmas.Bool.{cases_Bool, eqb-false}
 use Rattle.std.specs.Prelude.{◌==◌, slice_get}
@@ -8,7 +8,7 @@ use Rattle.x3d_values.specs.declared.node_type.NodeType.TheVariants as type
 use Rattle.x3d_values.specs.declared.fields.Fields.{Fields}
 use Rattle.x3d_values.specs.declared.vector.Vec3.{Vec3}
 use Rattle.scene_core.specs.Scene.{SceneView, type_at}
-use Rattle.pick_core.specs.Looks.{kind_as, kind_of, motion_of, choice_of}
+use Rattle.pick_core.specs.Looks.{kind_as, kind_of, choice_of}
 use Rattle.pick_core.specs.Motion.{box_of, moved_at, moved_by, moved_box}
 use Rattle.pick_core.specs.Sites.{Site, IsAlike, AreAlike, IsSameBut, allows, allows_as, is_shown, is_shown_from_roots, row_of, rows_of, shows, sites}
 use Rattle.pick_core.specs.Trail.{carried}

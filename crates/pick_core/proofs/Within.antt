@@ -1,5 +1,5 @@
 -- Where a box of a scene is hit lies within the limit of size.
-use Rattle.std.proofs.Common.{◌≡◌, ℕ, zero, suc, ◌+◌, ◌*◌, ◌/◌, ◌%◌, ◌<◌, ◌≤◌, ℤ, pos, negsuc, neg_ℤ, ◌+ℤ◌, ◌-ℤ◌, ◌*ℤ◌, ◌≤ℤ◌, ◌<ℤ◌, Bool, true, false, ◌&&◌, List, [], ◌∷◌, ◌++◌, Option, Some, None, map, slice_get, unsigned_abs, inl, inr, refl, sym, ap, subst, ◌∙◌, arith, leb-true}
+use Rattle.std.proofs.Common.{◌≡◌, ℕ, zero, suc, ◌+◌, ◌*◌, ◌/◌, ◌%◌, ◌<◌, ◌≤◌, ℤ, pos, negsuc, neg_ℤ, ◌+ℤ◌, ◌-ℤ◌, ◌*ℤ◌, ◌≤ℤ◌, ◌<ℤ◌, Bool, true, false, ◌&&◌, List, [], ◌∷◌, Option, Some, None, map, slice_get, inl, inr, refl, ap, ◌∙◌, arith, leb-true}
 use Rattle.std.specs.Int.{int_div_euclid, int_max, int_min}
 use Rattle.std.specs.List.{AllByRecursion}
 use Rattle.std.proofs.Math.Nat.{mul-le-mul_right}
@@ -15,9 +15,9 @@ use Rattle.pick_rules.specs.Hits.{IsCrossed, IsHit}
 use Rattle.pick_rules.specs.declared.bounds.Bounds.{Bounds}
 use Rattle.pick_rules.proofs.Fractions.{mul_parts}
 use Rattle.pick_core.specs.Boxes.{Placed, boxes, inside, layer, shown, shown_child, under}
-use Rattle.pick_core.specs.Local.{on_axis, on_ray, point_of, reached}
+use Rattle.pick_core.specs.Local.{on_axis, point_of, reached}
 use Rattle.pick_core.specs.Looks.{choice_of, kind_of, listed, motion_of}
-use Rattle.pick_core.specs.Motion.{along_of, box_of, clamped, half, moved, moved_at, moved_box, moved_by}
+use Rattle.pick_core.specs.Motion.{box_of, clamped, half, moved_at, moved_box, moved_by}
 use Rattle.pick_core.specs.Nearest.{IsReached}
 use Rattle.pick_core.specs.Spread.{spread}
 use Rattle.pick_core.specs.Within.{AreSized, HitsAreOnRays}

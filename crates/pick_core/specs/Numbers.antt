@@ -2,10 +2,10 @@
 use Rattle.std.specs.Prelude.{◌≡◌, ℕ, List, Some, codes}
 use Rattle.std.specs.Option.{option_map}
 use Rattle.x3d_values.specs.declared.node_type.NodeType.{NodeType}
-use Rattle.x3d_values.specs.declared.node_type.NodeType.TheVariants.{Box, Shape, Switch, TouchSensor, Transform}
+use Rattle.x3d_values.specs.declared.node_type.NodeType.TheVariants.{Box, PlaneSensor, Shape, Switch, TouchSensor, Transform}
 use Rattle.x3d_values.specs.declared.table.FieldRow.{FieldRow}
 use Rattle.x3d_values.specs.Tables.{rows, row_named}
-use Rattle.pick_core.specs.declared.numbers.TheConstants.{CENTER, SCALE, TRANSLATION, WHICH_CHOICE, GEOMETRY, SIZE, ENABLED}
+use Rattle.pick_core.specs.declared.numbers.TheConstants.{CENTER, SCALE, TRANSLATION, WHICH_CHOICE, GEOMETRY, SIZE, ENABLED, PLANE_ENABLED}
 
 -- the field of that name has that number
 abbrev pub IsNumbered : NodeType → List ℕ → ℕ → Type 0
@@ -20,3 +20,4 @@ pub record Numbers : Type 0 where
   pub geometry : IsNumbered Shape (codes "geometry") GEOMETRY
   pub size : IsNumbered Box (codes "size") SIZE
   pub enabled : IsNumbered TouchSensor (codes "enabled") ENABLED
+  pub plane_enabled : IsNumbered PlaneSensor (codes "enabled") PLANE_ENABLED

@@ -21,3 +21,6 @@ pub(crate) const SIZE: u16 = 1;
 
 /// Of a TouchSensor.
 pub(crate) const ENABLED: u16 = 2;
+
+/// `enabled` of a PlaneSensor.
+pub(crate) const PLANE_ENABLED: u16 = 3;

@@ -19,7 +19,7 @@ use x3d_values::{Fields, NodeType, Value};
 /// its fields, and puts what it sends into the outbox.
 ///
 /// A TimeSensor and an input or a value that the node doesn't take do nothing here; of a
-/// TouchSensor only its fields are set and sent.
+/// TouchSensor and a PlaneSensor only the fields are set and sent.
 #[tactic(auto, unfolding(crate::specs::Reaction::reaction))]
 pub fn react(
     alloc: Global,

@@ -1,11 +1,10 @@
 -- Places and sensors (the limits of their numbers are our choice). A place is a root, or a child of
 -- a place by a list `children`: one node has as many places as there are paths to it.
-use Rattle.std.specs.Prelude.{ℕ, ◌+◌, ◌++◌, ◌==◌, zero, suc, Bool, false, ◌||◌, nat_lt, min, List, [], ◌∷◌, length, map, Option, Some, None, codes, slice_get, slice_index_or, if◌then◌else◌}
+use Rattle.std.specs.Prelude.{ℕ, ◌+◌, ◌++◌, ◌==◌, zero, suc, Bool, true, false, ◌||◌, nat_lt, min, List, [], ◌∷◌, length, map, Option, Some, None, codes, slice_get, slice_index_or, if◌then◌else◌}
 use Rattle.std.specs.List.{list_any, fold, sum_by}
 use Rattle.std.specs.Option.{option_and_then, option_map_or}
-use denote.Enum.Bare.{sameb}
-use Rattle.x3d_values.specs.contracts.node_type.NodeType as node_types
-use Rattle.x3d_values.specs.declared.node_type.NodeType.TheVariants.{TouchSensor}
+use Rattle.x3d_values.specs.declared.node_type.NodeType.{NodeType}
+use Rattle.x3d_values.specs.declared.node_type.NodeType.TheVariants.{PlaneSensor, TouchSensor}
 use Rattle.x3d_values.specs.declared.table.FieldRow.{FieldRow}
 use Rattle.x3d_values.specs.Tables.{rows, row_named}
 use Rattle.scene_core.specs.declared.scene.SceneNode.{SceneNode}
@@ -44,13 +43,18 @@ counted counts node =
 
 -- ---- sensors in one list
 
+-- a pointing device sensor
+abbrev pub is_pointing : NodeType → Bool
+is_pointing TouchSensor = true
+is_pointing PlaneSensor = true
+is_pointing _ = false
+
 abbrev pub max_sensors : ℕ
 max_sensors = 64
 
 abbrev pub is_sensor : List SceneNode → ℕ → Bool
 is_sensor nodes n =
-    option_map_or (λ (node : SceneNode). sameb node_types.the_type node.node_type TouchSensor)
-    (slice_get nodes n) false
+    option_map_or (λ (node : SceneNode). is_pointing node.node_type) (slice_get nodes n) false
 
 -- the node behind the sensors so far, if it is a sensor that is not among them
 abbrev pub with_sensor : List SceneNode → List ℕ → ℕ → List ℕ

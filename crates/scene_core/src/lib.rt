@@ -24,5 +24,6 @@ mod values;
 mod wide;
 
 pub use fault::{SceneFault, SceneFaultKind};
+pub use places::is_pointing;
 pub use row::{DeclaredField, Row};
 pub use scene::{End, Route, Scene, SceneNode};

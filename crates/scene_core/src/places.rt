@@ -131,11 +131,22 @@ fn counts_of(alloc: Global, nodes: &[SceneNode]) -> Result<Vec<u32>, AllocError>
     Ok(counts)
 }
 
+/// Whether nodes of this type are pointing device sensors (ISO/IEC 19775-1, pointing device sensor
+/// component).
+pub fn is_pointing(node_type: NodeType) -> bool
+    ensures { result ≡ spec.is_pointing node_type }
+{
+    match node_type {
+        NodeType::TouchSensor | NodeType::PlaneSensor => true,
+        _ => false,
+    }
+}
+
 fn is_sensor(nodes: &[SceneNode], n: u32) -> bool
     ensures { result ≡ spec.is_sensor nodes.now n }
 {
     match nodes.get(n as usize) {
-        Some(node) => node.node_type == NodeType::TouchSensor,
+        Some(node) => is_pointing(node.node_type),
         None => false,
     }
 }

@@ -5,6 +5,7 @@ use Rattle.std.specs.Ordering.{int_eq}
 use Rattle.std.specs.Cmp.Lexicographic.{pointwise}
 use Rattle.x3d_values.specs.declared.default.FieldDefault.{FieldDefault}
 use Rattle.x3d_values.specs.declared.default.FieldDefault.TheVariants as default
+use Rattle.x3d_values.specs.declared.vector.Vec2.{Vec2}
 use Rattle.x3d_values.specs.declared.vector.Vec3.{Vec3}
 use Rattle.x3d_values.specs.declared.vector.Color.{Color}
 use Rattle.x3d_values.specs.declared.value.Value.{Value}
@@ -55,6 +56,10 @@ abbrev pub is_time : ℤ → Value → Bool
 is_time wanted (SFTime time) = int_eq time wanted
 is_time wanted _ = false
 
+abbrev pub is_pair : Vec2 → Value → Bool
+is_pair wanted (SFVec2f v) = int_eq v.x wanted.x && int_eq v.y wanted.y
+is_pair wanted _ = false
+
 abbrev pub is_vector : Vec3 → Value → Bool
 is_vector wanted (SFVec3f v) = int_eq v.x wanted.x && (int_eq v.y wanted.y && int_eq v.z wanted.z)
 is_vector wanted _ = false
@@ -97,6 +102,7 @@ is_default default.True value = is_true value
 is_default (default.Int32 number) value = is_integer number value
 is_default (default.Float number) value = is_number number value
 is_default (default.Time time) value = is_time time value
+is_default (default.Vec2f pair) value = is_pair pair value
 is_default (default.Vec3f vector) value = is_vector vector value
 is_default (default.Color color) value = is_color color value
 is_default default.PlainStyle value = is_string (codes "PLAIN") value

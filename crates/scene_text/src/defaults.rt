@@ -1,9 +1,9 @@
 //! Whether a value is the one that a field has where a scene gives none.
 
 ghost use Rattle.std.specs.Prelude.{◌≡◌};
-ghost use Rattle.scene_text.specs.Defaulted.{is_black, says_nothing, is_true, is_integer, is_number, is_time, is_vector, is_color, is_string, is_word, are_standard_sizes, is_examine_any, is_one_black, is_default};
+ghost use Rattle.scene_text.specs.Defaulted.{is_black, says_nothing, is_true, is_integer, is_number, is_time, is_pair, is_vector, is_color, is_string, is_word, are_standard_sizes, is_examine_any, is_one_black, is_default};
 
-use x3d_values::{Color, FieldDefault, Value, Vec3};
+use x3d_values::{Color, FieldDefault, Value, Vec2, Vec3};
 
 /// The value is that default. It takes no memory.
 pub(crate) fn is_default(default: &FieldDefault, value: &Value) -> bool
@@ -15,6 +15,7 @@ pub(crate) fn is_default(default: &FieldDefault, value: &Value) -> bool
         FieldDefault::Int32(number) => is_integer(number, value),
         FieldDefault::Float(number) => is_number(number, value),
         FieldDefault::Time(time) => is_time(time, value),
+        FieldDefault::Vec2f(pair) => is_pair(pair, value),
         FieldDefault::Vec3f(vector) => is_vector(vector, value),
         FieldDefault::Color(color) => is_color(color, value),
         FieldDefault::PlainStyle => is_string("PLAIN", value),
@@ -90,6 +91,15 @@ fn is_time(wanted: &i64, value: &Value) -> bool
 {
     match value {
         Value::SFTime(time) => *time == *wanted,
+        _ => false,
+    }
+}
+
+fn is_pair(wanted: &Vec2, value: &Value) -> bool
+    ensures { result ≡ is_pair wanted.now value.now }
+{
+    match value {
+        Value::SFVec2f(pair) => pair.x == wanted.x && pair.y == wanted.y,
         _ => false,
     }
 }

@@ -4,16 +4,16 @@ use Rattle.std.proofs.lemmas.Bool.{cond-true, and_from, and_parts, leb-true, le-
 use Rattle.std.proofs.lemmas.Int.{ints, clamps}
 use Rattle.std.specs.Int.{int_min, int_max}
 use Rattle.std.specs.Prelude.{is_some}
+use Rattle.x3d_values.specs.declared.ranges.TheConstants.{MAX_VIEWERS}
 use Rattle.x3d_values.specs.declared.vector.Vec3.{Vec3}
-use Rattle.x3d_values.specs.Ranges.{coordinate_fits, coordinates_fit}
-use Rattle.sensor_core.specs.Parts.{number_of}
+use Rattle.x3d_values.specs.Ranges.{coordinate_fits, coordinates_fit, is_viewer}
+use Rattle.sensor_core.specs.Parts.{number_of, over_of}
 use Rattle.sensor_plane.specs.declared.drag.Drag.{Drag}
 use Rattle.sensor_plane.specs.declared.fields.PlaneFields.{PlaneFields}
 use Rattle.sensor_plane.specs.declared.pointer.Contact.{Contact}
 use Rattle.sensor_plane.specs.declared.pointer.PlanePointer.{PlanePointer}
-use Rattle.sensor_plane.specs.declared.pointer.TheConstants.{MOST_VIEWERS}
-use Rattle.sensor_plane.specs.PlaneParts.{AreFitting, DraggedPlanesFit, PartsArePlanes, PlanesHaveOneParts, contact_fits, drag_fits, over_of, parts_of_plane, plane_of_parts}
-use Rattle.sensor_plane.specs.Planes.{Dragged, Plane, begun, clamped, drag_at, drag_from, dragged, ended, gone_on, is_viewer, point, presses, shifted, translation}
+use Rattle.sensor_plane.specs.PlaneParts.{AreFitting, DraggedPlanesFit, PartsArePlanes, PlanesHaveOneParts, contact_fits, drag_fits, parts_of_plane, plane_of_parts}
+use Rattle.sensor_plane.specs.Planes.{Dragged, Plane, begun, clamped, drag_at, drag_from, dragged, ended, gone_on, point, presses, shifted, translation}
 use Rattle.sensor_plane.proofs.Sets.{number_back, over_back}
 
 -- ---- parts
@@ -24,7 +24,7 @@ are_planes plane f =
     cond-true (drag_fits plane.drag) (Some (record { over = over_of (number_of plane.over); drag = plane.drag })) None f.drag
     ∙ ap (λ o. Some (record { over = o; drag = plane.drag })) (over_back plane.over f.viewers)
 
-one_parts : (over : ℕ) (drag : Option Drag) (fits : Bool) (plane : Plane) → over < 2 ^ MOST_VIEWERS → (if fits then Some (record { over = over_of over; drag = drag }) else None) ≡ Some plane → parts_of_plane plane ≡ record { over = over; drag = drag }
+one_parts : (over : ℕ) (drag : Option Drag) (fits : Bool) (plane : Plane) → over < 2 ^ MAX_VIEWERS → (if fits then Some (record { over = over_of over; drag = drag }) else None) ≡ Some plane → parts_of_plane plane ≡ record { over = over; drag = drag }
 unfolding parts_of_plane
 one_parts over drag true plane small is =
     let one : record { over = over_of over; drag = drag } ≡ plane = cc in
@@ -68,7 +68,7 @@ axis_fits low high offset start at l h =
     let n = clamped_near low high (shifted offset start at) (int_le low high) (near_from low l) (near_from high h) (shifted_near offset start at) in
     near (clamped low high (shifted offset start at)) n.low n.high
 
-translation_fits : (fields : PlaneFields) (start at : Vec3) → AreFitting fields → coordinates_fit (translation fields start at) ≡ true
+pub translation_fits : (fields : PlaneFields) (start at : Vec3) → AreFitting fields → coordinates_fit (translation fields start at) ≡ true
 unfolding translation
 translation_fits fields start at f =
     let min = and_parts _ _ f.min in
@@ -89,7 +89,7 @@ begun_fits : (fields : PlaneFields) (pointer : PlanePointer) (contact : Option C
 begun_fits fields pointer None f v c = record { drag = refl; fields = f }
 begun_fits fields pointer (Some contact) f v c =
     either (presses pointer) (record { drag = Some (drag_from fields pointer.who contact); fields = fields; replies = _ }) (record { drag = None; fields = fields; replies = _ })
-    (record { drag = and_from _ _ v (and_from _ _ c f.offset); fields = f })
+    (let parts = and_parts _ _ c in record { drag = and_from _ _ (and_from _ _ v parts.1) (and_from _ _ parts.0 f.offset); fields = f })
     (record { drag = refl; fields = f })
 
 kept_fits : (fields : PlaneFields) (drag : Drag) (tracked : Option Vec3) → AreFitting fields → drag_fits (Some drag) ≡ true → drag_fits (Some (drag_at fields drag tracked)) ≡ true

@@ -1,14 +1,13 @@
 -- A set of viewers is the bits of its number.
-use Rattle.std.proofs.Common.{◌≡◌, ℕ, zero, suc, ◌+◌, ◌-◌, ◌*◌, ◌/◌, ◌%◌, ◌^◌, ◌<◌, ◌≤◌, Bool, true, false, eqb, List, [], ◌∷◌, length, map, refl, sym, ap, ◌∙◌, arith}
+use Rattle.std.proofs.Common.{◌≡◌, ℕ, zero, suc, ◌+◌, ◌*◌, ◌/◌, ◌%◌, ◌^◌, ◌<◌, Bool, true, false, eqb, List, [], ◌∷◌, length, map, refl, sym, ap, ◌∙◌, arith}
 use Rattle.std.specs.Prelude.{◌≢◌}
 use Rattle.std.specs.Int.{bit_at}
 use Rattle.std.specs.List.{range_with_len}
 use Rattle.std.proofs.Math.Nat.{pow-suc}
 use Rattle.std.proofs.lemmas.Bool.{eqb-true, eqb-false}
 use Rattle.std.proofs.lemmas.Nat.Bits.{bit_at_lowest, bit_at-suc}
-use Rattle.sensor_core.specs.Parts.{bit_of, number_of}
-use Rattle.sensor_plane.specs.declared.pointer.TheConstants.{MOST_VIEWERS}
-use Rattle.sensor_plane.specs.PlaneParts.{over_of}
+use Rattle.x3d_values.specs.declared.ranges.TheConstants.{MAX_VIEWERS}
+use Rattle.sensor_core.specs.Parts.{bit_of, number_of, over_of}
 
 -- the bits of a number from a place on
 bits : ℕ → ℕ → ℕ → List Bool
@@ -57,16 +56,10 @@ bits_back (b ∷ set) =
 
 -- ---- of all viewers
 
-pub number_back : (n : ℕ) → n < 2 ^ MOST_VIEWERS → number_of (over_of n) ≡ n
+pub number_back : (n : ℕ) → n < 2 ^ MAX_VIEWERS → number_of (over_of n) ≡ n
 unfolding over_of bits
-number_back n small = numbered MOST_VIEWERS n small
+number_back n small = numbered MAX_VIEWERS n small
 
-pub over_back : (set : List Bool) → length set ≡ MOST_VIEWERS → over_of (number_of set) ≡ set
+pub over_back : (set : List Bool) → length set ≡ MAX_VIEWERS → over_of (number_of set) ≡ set
 unfolding over_of bits
 over_back set len = ap (λ k. bits (number_of set) 0 k) (sym len) ∙ bits_back set
-
--- a number has one bit more
-pub one_more_bit : (number bit left : ℕ) → 0 < left → left ≤ MOST_VIEWERS → bit ≤ 1 → number + 1 ≤ 2 ^ (MOST_VIEWERS - left) → 2 * number + bit + 1 ≤ 2 ^ (MOST_VIEWERS - (left - 1))
-one_more_bit number bit left some most small below =
-    let size : MOST_VIEWERS - (left - 1) ≡ suc (MOST_VIEWERS - left) = omega (arith, some, most) in
-    rw (size, pow-suc 2 (MOST_VIEWERS - left)) (omega (arith, small, below))

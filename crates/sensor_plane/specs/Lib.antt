@@ -1,5 +1,8 @@
+pub mod Examples
+pub mod Numbers
 pub mod Paths
 pub mod PlaneFields
-pub mod Planes
 pub mod PlaneParts
-pub mod Examples
+pub mod Planes
+pub mod Pointing
+pub mod Meeting

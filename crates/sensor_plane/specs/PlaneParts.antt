@@ -1,30 +1,35 @@
 -- What is kept of a PlaneSensor beside its fields, in plain numbers (our choice).
-use Rattle.std.specs.Prelude.{◌≡◌, ℕ, ◌==◌, ◌^◌, ◌<◌, IsTrue, Bool, true, ◌&&◌, List, length, map, Option, Some, None, if◌then◌else◌}
-use Rattle.std.specs.Int.{bit_at}
-use Rattle.std.specs.List.{range_with_len}
+use Rattle.std.specs.Prelude.{◌≡◌, ◌^◌, ◌<◌, IsTrue, Bool, true, false, ◌&&◌, length, Option, Some, None, if◌then◌else◌}
+use Rattle.std.specs.List.{list_all}
+use Rattle.std.specs.Option.{option_map_or}
+use Rattle.x3d_values.specs.declared.node_type.NodeType.TheVariants.{PlaneSensor}
+use Rattle.x3d_values.specs.declared.ranges.TheConstants.{MAX_VIEWERS}
+use Rattle.x3d_values.specs.declared.table.FieldRow.{FieldRow}
 use Rattle.x3d_values.specs.declared.vector.Vec2.{Vec2}
-use Rattle.x3d_values.specs.Ranges.{coordinate_fits, coordinates_fit}
-use Rattle.sensor_core.specs.Parts.{number_of}
+use Rattle.x3d_values.specs.Ranges.{coordinate_fits, coordinates_fit, is_viewer}
+use Rattle.x3d_values.specs.Values.{type_of}
+use Rattle.react_core.specs.declared.outbox.Reply.{Reply}
+use Rattle.react_core.specs.Access.{are_same, row_at}
+use Rattle.sensor_core.specs.Parts.{number_of, over_of}
 use Rattle.sensor_plane.specs.declared.drag.Drag.{Drag}
 use Rattle.sensor_plane.specs.declared.fields.PlaneFields.{PlaneFields}
 use Rattle.sensor_plane.specs.declared.parts.PlaneParts.{PlaneParts}
 use Rattle.sensor_plane.specs.declared.pointer.Contact.{Contact}
 use Rattle.sensor_plane.specs.declared.pointer.PlanePointer.{PlanePointer}
-use Rattle.sensor_plane.specs.declared.pointer.TheConstants.{MOST_VIEWERS}
-use Rattle.sensor_plane.specs.Planes.{Plane, Pointed, is_viewer, point}
+use Rattle.sensor_plane.specs.Paths.{path_fits}
+use Rattle.sensor_plane.specs.PlaneFields.{triple_of}
+use Rattle.sensor_plane.specs.Planes.{Plane, Pointed, point}
 
 -- a number whose bit v says whether viewer v's pointer is over the sensor
 unfoldable pub parts_of_plane : Plane → PlaneParts
 parts_of_plane plane = record { over = number_of plane.over; drag = plane.drag }
 
-unfoldable pub over_of : ℕ → List Bool
-over_of number = map (λ viewer. bit_at number viewer == 1) (range_with_len 0 MOST_VIEWERS)
-
--- the presser is a viewer, and both points are in their range
+-- the presser is a viewer, both points are in their range, and the path may be kept
 abbrev pub drag_fits : Option Drag → Bool
 drag_fits None = true
 drag_fits (Some drag) =
-    is_viewer drag.presser && (coordinates_fit drag.start && coordinates_fit drag.last)
+    (is_viewer drag.presser && path_fits drag.path)
+    && (coordinates_fit drag.start && coordinates_fit drag.last)
 
 -- none where the drag is out of its ranges
 unfoldable pub plane_of_parts : PlaneParts → Option Plane
@@ -37,7 +42,7 @@ plane_of_parts parts =
 
 -- a state in its ranges
 pub record IsFitting (plane : Plane) : Type 0 where
-  pub viewers : length plane.over ≡ MOST_VIEWERS
+  pub viewers : length plane.over ≡ MAX_VIEWERS
   pub drag : IsTrue (drag_fits plane.drag)
 
 -- the parts of a state in its ranges stand for that state
@@ -47,12 +52,12 @@ PartsArePlanes = (plane : Plane) → IsFitting plane
 
 -- and a state that parts stand for has no other parts
 abbrev pub PlanesHaveOneParts : Type 0
-PlanesHaveOneParts = (parts : PlaneParts) (plane : Plane) → parts.over < 2 ^ MOST_VIEWERS
+PlanesHaveOneParts = (parts : PlaneParts) (plane : Plane) → parts.over < 2 ^ MAX_VIEWERS
     → plane_of_parts parts ≡ Some plane → parts_of_plane plane ≡ parts
 
 abbrev pub contact_fits : Option Contact → Bool
 contact_fits None = true
-contact_fits (Some contact) = coordinates_fit contact.point
+contact_fits (Some contact) = coordinates_fit contact.point && path_fits contact.path
 
 abbrev pub pair_fits : Vec2 → Bool
 pair_fits pair = coordinate_fits pair.x && coordinate_fits pair.y
@@ -73,3 +78,20 @@ abbrev pub DraggedPlanesFit : Type 0
 DraggedPlanesFit = (plane : Plane) (fields : PlaneFields) (pointer : PlanePointer)
     → IsFitting plane → AreFitting fields → IsTrue (is_viewer pointer.who)
     → IsTrue (contact_fits pointer.contact) → LeavesFitting (point plane fields pointer)
+
+-- ---- what is sent
+
+-- a value of the type of the field by which it leaves; a point lies within its range
+abbrev pub reply_fits : Reply → Bool
+reply_fits reply =
+    option_map_or (λ (row : FieldRow). are_same row.field_type (type_of reply.value))
+    (row_at PlaneSensor reply.field)
+    false
+    && option_map_or coordinates_fit (triple_of reply.value) true
+
+-- where the ray meets the plane inside the limit, all that is sent is so
+abbrev pub SentValuesFit : Type 0
+SentValuesFit = (plane : Plane) (fields : PlaneFields) (pointer : PlanePointer)
+    → IsFitting plane → AreFitting fields
+    → IsTrue (option_map_or coordinates_fit pointer.tracked true)
+    → IsTrue (list_all reply_fits (point plane fields pointer).replies)

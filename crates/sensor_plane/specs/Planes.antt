@@ -1,18 +1,19 @@
 -- What a PlaneSensor does with the pointers of several viewers (ISO/IEC 19775-1, pointing device
 -- sensor component: PlaneSensor; what concerns more than one viewer, the limit of size, and that a
 -- press sends `isActive` alone, are our choice).
-use Rattle.std.specs.Prelude.{◌≡◌, ℕ, ◌==◌, nat_lt, IsFalse, ℤ, pos, neg_ℤ, ◌+ℤ◌, ◌-ℤ◌, ◌≤ℤ◌, int_le, Bool, true, false, not, is_some, ◌&&◌, List, [], ◌∷◌, ◌++◌, slice_set, replicate, Option, Some, None, if◌then◌else◌}
+use Rattle.std.specs.Prelude.{◌≡◌, ℕ, ◌==◌, IsFalse, ℤ, pos, neg_ℤ, ◌+ℤ◌, ◌-ℤ◌, ◌≤ℤ◌, int_le, Bool, true, false, not, is_some, ◌&&◌, List, [], ◌∷◌, ◌++◌, slice_set, replicate, Option, Some, None, if◌then◌else◌}
 use Rattle.std.specs.Int.{int_min, int_max}
 use Rattle.std.specs.List.{list_any}
+use Rattle.x3d_values.specs.declared.ranges.TheConstants.{MAX_VIEWERS}
 use Rattle.x3d_values.specs.declared.value.Value.TheVariants.{SFBool, SFVec3f}
 use Rattle.x3d_values.specs.declared.vector.Vec3.{Vec3}
+use Rattle.x3d_values.specs.Ranges.{is_viewer}
 use Rattle.react_core.specs.declared.outbox.Reply.{Reply}
 use Rattle.react_core.specs.Reaction.{reply}
 use Rattle.sensor_plane.specs.declared.drag.Drag.{Drag}
 use Rattle.sensor_plane.specs.declared.fields.PlaneFields.{PlaneFields}
 use Rattle.sensor_plane.specs.declared.pointer.Contact.{Contact}
 use Rattle.sensor_plane.specs.declared.pointer.PlanePointer.{PlanePointer}
-use Rattle.sensor_plane.specs.declared.pointer.TheConstants.{MOST_VIEWERS}
 use Rattle.sensor_plane.specs.declared.numbers.TheConstants.{IS_ACTIVE, IS_OVER, OFFSET, TRACK_POINT_CHANGED, TRANSLATION_CHANGED}
 
 -- whether each viewer's pointer is over the sensor, by the viewer's number, and the drag, if a
@@ -27,10 +28,6 @@ pub record Pointed : Type 0 where
   pub fields : PlaneFields
   pub replies : List Reply
 
--- viewers are numbered from 0
-abbrev pub is_viewer : ℕ → Bool
-is_viewer who = nat_lt who MOST_VIEWERS
-
 -- a viewer presses
 abbrev pub is_drag : Option Drag → Bool
 is_drag None = true
@@ -38,7 +35,7 @@ is_drag (Some drag) = is_viewer drag.presser
 
 -- no pointer is over it, and nobody presses it
 abbrev pub untouched : Plane
-untouched = record { over = replicate MOST_VIEWERS false; drag = None }
+untouched = record { over = replicate MAX_VIEWERS false; drag = None }
 
 abbrev pub is_over : Plane → Bool
 is_over plane = list_any (λ over. over) plane.over

@@ -4,8 +4,9 @@ ghost use Rattle.std.specs.Prelude.{◌≡◌, ◌+◌, ◌≤◌, IsTrue, [], �
 ghost use Rattle.arrayvec.specs.ArrayVec.{array_vec_len};
 ghost use Rattle.react_core.specs.Reaction.{reply};
 ghost use Rattle.x3d_values.specs.declared.value.Value.TheVariants.{SFVec3f};
+ghost use Rattle.x3d_values.specs.Ranges.{is_viewer};
 ghost use Rattle.sensor_plane.specs.Planes as spec;
-ghost use Rattle.sensor_plane.specs.Planes.{is_drag, is_viewer};
+ghost use Rattle.sensor_plane.specs.Planes.{is_drag};
 
 use crate::fields::PlaneFields;
 use crate::numbers::{IS_ACTIVE, OFFSET, TRACK_POINT_CHANGED, TRANSLATION_CHANGED};

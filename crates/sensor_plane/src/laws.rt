@@ -2,7 +2,13 @@
 
 ghost use Rattle.sensor_plane.specs.Examples.{Dragging, KeptDrags};
 ghost use Rattle.sensor_plane.specs.Planes.{DragsGoByTheirPresser, TranslationsAreWithin, Unmoved};
-ghost use Rattle.sensor_plane.specs.PlaneParts.{DraggedPlanesFit, PartsArePlanes, PlanesHaveOneParts};
+ghost use Rattle.sensor_plane.specs.Numbers.{PlaneNumbers};
+ghost use Rattle.sensor_plane.specs.PlaneParts.{DraggedPlanesFit, PartsArePlanes, PlanesHaveOneParts, SentValuesFit};
+
+/// The numbers of a PlaneSensor's fields are those of their names in the table of fields.
+pub fn numbers_law()
+    ensures { PlaneNumbers }
+{}
 
 /// A sensor inside a Transform is pressed, dragged off its geometry and past its limit, and let go.
 #[tactic(auto, unfolding(crate::specs::Planes::point, crate::specs::Planes::translation, crate::specs::Examples::sent_at_each))]
@@ -42,7 +48,12 @@ pub fn planes_have_one_parts_law()
     ensures { PlanesHaveOneParts }
 {}
 
-/// A state in its ranges is in them after each pointer of a viewer, and so is what it sends.
+/// A state in its ranges is in them after each pointer of a viewer.
 pub fn dragged_planes_fit_law()
     ensures { DraggedPlanesFit }
+{}
+
+/// What it sends then is of the types of its fields, and in its ranges.
+pub fn sent_values_fit_law()
+    ensures { SentValuesFit }
 {}

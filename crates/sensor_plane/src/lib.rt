@@ -1,7 +1,9 @@
-//! A PlaneSensor: how it answers the pointers of several viewers, and what it keeps of a drag.
+//! A PlaneSensor: how it answers the pointers of several viewers, and what it keeps of a drag; and
+//! what is kept of any node where viewers point.
 //!
 //! | Module | Has |
 //! |---|---|
+//! | `pointing` | what is kept of a TouchSensor, a PlaneSensor and of other nodes |
 //! | `plane` | what a PlaneSensor does with a pointer, and when it is disabled |
 //! | `drag` | a drag: how it begins, goes on and ends, and how far it translates |
 //! | `pointer`, `path` | a viewer's pointer, and the way to the list that holds the sensor |
@@ -13,20 +15,25 @@
 mod drag;
 mod fields;
 mod laws;
+mod meeting;
 mod numbers;
 mod parts;
 mod path;
 mod plane;
 mod pointer;
+mod pointing;
 
 pub use drag::Drag;
 pub use fields::PlaneFields;
 pub use laws::{
     dragged_planes_fit_law, dragging_law, drags_go_by_their_presser_law, kept_drags_law,
-    parts_are_planes_law, planes_have_one_parts_law, translations_are_within_law, unmoved_law,
+    numbers_law, parts_are_planes_law, planes_have_one_parts_law, sent_values_fit_law,
+    translations_are_within_law, unmoved_law,
 };
+pub use meeting::SensorPointer;
 pub use numbers::{OFFSET, PLANE_ENABLED};
 pub use parts::PlaneParts;
 pub use path::{ListPath, MAX_POSITIONS};
 pub use plane::PlaneState;
-pub use pointer::{Contact, MOST_VIEWERS, PlanePointer};
+pub use pointer::{Contact, PlanePointer};
+pub use pointing::PointingState;

@@ -1,4 +1,5 @@
-//! The numbers of a PlaneSensor's fields, which are their places in its row of the table of fields.
+//! The numbers of a PlaneSensor's fields, which are their places in the table of fields.
+//! `numbers_law` ties each to its name.
 
 pub const AUTO_OFFSET: u16 = 1;
 

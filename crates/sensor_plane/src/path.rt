@@ -1,7 +1,8 @@
 //! The way from the roots of a scene down to one of its lists.
 
-ghost use Rattle.std.specs.Prelude.{◌≡◌, ◌≤◌, ◌++◌, drop, length, nat_le, Some, None, if◌then◌else◌};
-ghost use Rattle.sensor_plane.specs.Paths.{padded};
+ghost use Rattle.std.specs.Prelude.{◌≡◌, ◌≤◌, ◌^◌, ◌++◌, drop, length, nat_lt, true};
+ghost use Rattle.std.specs.List.{list_all};
+ghost use Rattle.sensor_plane.specs.Paths.{padded, path_fits};
 
 use std::marker::Model;
 
@@ -37,12 +38,25 @@ impl Model for ListPath {
 }
 
 impl ListPath {
-    ghost use Rattle.std.specs.Prelude.{◌≡◌, ◌≤◌, length, nat_le, Some, None, if◌then◌else◌};
+    ghost use Rattle.std.specs.Prelude.{◌≡◌, ◌≤◌, length, true};
+    ghost use Rattle.sensor_plane.specs.Paths.{list_path, path_fits};
+
+    /// None where there are more than 64 positions, or one of them takes more than 32 bits.
+    pub fn new(positions: &[usize]) -> Option<ListPath>
+        ensures { result ≡ list_path positions.now }
+    {
+        if !path_fits(positions) {
+            return None;
+        }
+        Some(ListPath {
+            positions: narrowed(positions),
+            len: positions.len() as u8,
+        })
+    }
 
     /// None where there are more than 64 positions.
-    pub fn new(positions: &[u32]) -> Option<ListPath>
-        ensures { result
-            ≡ (if nat_le (length positions.now) 64 then Some positions.now else None) }
+    pub fn from_u32(positions: &[u32]) -> Option<ListPath>
+        ensures { result ≡ list_path positions.now }
     {
         if positions.len() > MAX_POSITIONS {
             return None;
@@ -55,10 +69,44 @@ impl ListPath {
 
     pub fn as_slice(&self) -> &[u32]
         ensures value { result.now ≡ self.now }
-        ensures fits { length result.now ≤ 64 }
+        ensures few { length result.now ≤ 64 }
+        ensures fits { path_fits result.now ≡ true }
     {
-        &self.positions[..self.len as usize]
+        may_be_kept(&self.positions[..self.len as usize])
     }
+}
+
+/// At most 64 positions of 32 bits.
+fn may_be_kept(positions: &[u32]) -> &[u32]
+    requires { length positions.now ≤ 64 }
+    ensures value { result.now ≡ positions.now }
+    ensures fits { path_fits result.now ≡ true }
+{
+    positions
+}
+
+fn are_short(positions: &[usize]) -> bool
+    ensures { result ≡ list_all (λ p. nat_lt p (2 ^ 32)) positions.now }
+{
+    positions.iter().all(|position| *position < 1 << 32)
+}
+
+fn path_fits(positions: &[usize]) -> bool
+    ensures { result ≡ path_fits positions.now }
+{
+    positions.len() <= MAX_POSITIONS && are_short(positions)
+}
+
+/// The positions with zeros behind them, 64 in all.
+fn narrowed(positions: &[usize]) -> [u32; 64]
+    requires { path_fits positions.now ≡ true }
+    ensures { result ≡ padded positions.now }
+{
+    let mut all = [0; 64];
+    for at in 0..positions.len() {
+        all[at] = positions[at] as u32;
+    }
+    all
 }
 
 /// These positions are put in front.

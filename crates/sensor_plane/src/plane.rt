@@ -1,19 +1,24 @@
 //! What a PlaneSensor does with the pointers of several viewers.
 
-ghost use Rattle.std.specs.Prelude.{◌≡◌, ◌+◌, ◌≤◌, [], ◌∷◌, ◌++◌};
+ghost use Rattle.std.specs.Prelude.{◌≡◌, ◌+◌, ◌≤◌, ◌==◌, ◌&&◌, [], ◌∷◌, ◌++◌, length};
 ghost use Rattle.arrayvec.specs.ArrayVec.{array_vec_len};
 ghost use Rattle.std.specs.List.{list_any};
+ghost use Rattle.x3d_values.specs.declared.ranges.TheConstants.{MAX_VIEWERS};
+ghost use Rattle.x3d_values.specs.Ranges.{coordinates_fit, is_viewer};
+ghost use Rattle.sensor_plane.specs.Paths.{path_fits};
 ghost use Rattle.sensor_plane.specs.PlaneParts.{drag_fits};
 ghost use Rattle.sensor_plane.specs.Planes.{over_replies};
 
 use crate::drag::{Drag, drag_on, send};
 use crate::fields::PlaneFields;
 use crate::numbers::{IS_ACTIVE, IS_OVER};
-use crate::parts::{PlaneParts, number_of, over_of};
-use crate::pointer::{MOST_VIEWERS, PlanePointer, VIEWERS};
+use crate::parts::PlaneParts;
+use crate::path::MAX_POSITIONS;
+use crate::pointer::PlanePointer;
 use react_core::Outbox;
+use sensor_core::{VIEWERS, number_of, over_of};
 use std::marker::Model;
-use x3d_values::Value;
+use x3d_values::{MAX_VIEWERS, Value};
 
 /// Which viewers' pointers are over a PlaneSensor, and the drag, if a viewer presses.
 #[derive(Clone, Copy, PartialEq, Eq)]
@@ -36,10 +41,14 @@ impl Model for PlaneState {
 }
 
 impl PlaneState {
-    ghost use Rattle.std.specs.Prelude.{◌≡◌, ◌+◌, ◌≤◌, ◌&&◌, [], ◌++◌, is_none, is_some, length, not, IsTrue, Some, true};
+    ghost use Rattle.std.specs.Prelude.{◌≡◌, ◌+◌, ◌≤◌, ◌==◌, ◌&&◌, [], ◌++◌, is_none, is_some, length, not, IsTrue, None, if◌then◌else◌};
     ghost use Rattle.arrayvec.specs.ArrayVec.{array_vec_len};
-    ghost use Rattle.sensor_plane.specs.Planes.{is_viewer, is_drag, untouched, is_over, is_pressed_by, over_after, point, disable};
-    ghost use Rattle.sensor_plane.specs.PlaneParts.{parts_of_plane, plane_of_parts};
+    ghost use Rattle.x3d_values.specs.declared.node_type.NodeType.TheVariants.{PlaneSensor};
+    ghost use Rattle.x3d_values.specs.declared.ranges.TheConstants.{MAX_VIEWERS};
+    ghost use Rattle.x3d_values.specs.Ranges.{is_viewer};
+    ghost use Rattle.react_core.specs.Access.{leave_by_outputs};
+    ghost use Rattle.sensor_plane.specs.Planes.{is_drag, untouched, is_over, is_pressed_by, over_after, point, disable};
+    ghost use Rattle.sensor_plane.specs.PlaneParts.{drag_fits, parts_of_plane, plane_of_parts};
 
     /// No pointer is over it, and nobody presses it.
     pub fn untouched() -> PlaneState
@@ -60,6 +69,8 @@ impl PlaneState {
         ensures plane { self.new ≡ (point self.old fields.old pointer.now).plane }
         ensures fields { fields.new ≡ (point self.old fields.old pointer.now).fields }
         ensures replies { out.new.items ≡ (point self.old fields.old pointer.now).replies }
+        // All leaves by outputs of a PlaneSensor.
+        ensures outputs { IsTrue (leave_by_outputs PlaneSensor out.new.items) }
     {
         let was = self.is_over();
         let over = self.over_after(pointer);
@@ -75,6 +86,8 @@ impl PlaneState {
         requires room { array_vec_len out.old + 2 ≤ 5 }
         ensures plane { self.new ≡ (disable self.old).plane }
         ensures replies { out.new.items ≡ out.old.items ++ (disable self.old).replies }
+        // All leaves by outputs of a PlaneSensor.
+        ensures outputs { IsTrue (leave_by_outputs PlaneSensor (disable self.old).replies) }
     {
         let plane = *self;
         *self = PlaneState::untouched();
@@ -89,6 +102,13 @@ impl PlaneState {
         ensures { result ≡ is_over self.now }
     {
         is_any(&self.over)
+    }
+
+    /// Whether no pointer is over it, and nobody presses it.
+    pub fn is_untouched(&self) -> bool
+        ensures { result ≡ (not (is_over self.now) && is_none self.now.drag) }
+    {
+        !self.is_over() && self.drag.is_none()
     }
 
     /// Whether a viewer presses it.
@@ -107,6 +127,23 @@ impl PlaneState {
         ensures viewer { IsTrue (is_drag result) }
     {
         self.drag
+    }
+
+    /// The drag of this viewer, if it presses.
+    pub fn drag_by(&self, who: u8) -> Option<Drag>
+        ensures { result ≡ (if is_pressed_by self.now who then self.now.drag else None) }
+    {
+        if !self.is_pressed_by(who) {
+            return None;
+        }
+        self.drag
+    }
+
+    /// Whether it is in its ranges: there is a place for each viewer always.
+    pub fn fits(&self) -> bool
+        ensures { result ≡ ((length self.now.over == MAX_VIEWERS) && drag_fits self.now.drag) }
+    {
+        has_places(&self.over) && fits(&self.drag)
     }
 
     /// What a snapshot has of it.
@@ -151,6 +188,13 @@ fn is_any(over: &[bool; VIEWERS]) -> bool
     over.iter().any(|over| *over)
 }
 
+/// Whether there is a place for each viewer, as there always is.
+fn has_places(over: &[bool; VIEWERS]) -> bool
+    ensures { result ≡ (length over.now == MAX_VIEWERS) }
+{
+    over.len() == VIEWERS
+}
+
 /// Whether a drag's presser is a viewer, and its points are in their range.
 fn fits(drag: &Option<Drag>) -> bool
     ensures { result ≡ drag_fits drag.now }
@@ -158,7 +202,20 @@ fn fits(drag: &Option<Drag>) -> bool
     let Some(drag) = drag else {
         return true;
     };
-    drag.presser < MOST_VIEWERS && drag.start.fits() && drag.last.fits()
+    is_known(drag) && are_near(drag)
+}
+
+/// Whether the presser is a viewer; a path is always one that may be kept.
+fn is_known(drag: &Drag) -> bool
+    ensures { result ≡ (is_viewer drag.now.presser && path_fits drag.now.path) }
+{
+    drag.presser < MAX_VIEWERS && drag.path.as_slice().len() <= MAX_POSITIONS
+}
+
+fn are_near(drag: &Drag) -> bool
+    ensures { result ≡ (coordinates_fit drag.now.start && coordinates_fit drag.now.last) }
+{
+    drag.start.fits() && drag.last.fits()
 }
 
 /// Sends `isOver` where it changes.

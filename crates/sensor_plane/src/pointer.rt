@@ -3,11 +3,6 @@
 use crate::path::ListPath;
 use x3d_values::Vec3;
 
-/// How many viewers have pointers.
-pub const MOST_VIEWERS: u8 = 64;
-
-pub(crate) const VIEWERS: usize = MOST_VIEWERS as usize;
-
 /// Where a pointer is over a sensor's geometry, in the sensor's coordinates in millionths, and the
 /// way to the list that holds the sensor.
 #[derive(Clone, Copy)]
@@ -21,7 +16,7 @@ pub struct Contact {
 /// meets the plane of the drag, in the sensor's coordinates, if it does.
 #[derive(Clone, Copy)]
 pub struct PlanePointer {
-    /// Below `MOST_VIEWERS`.
+    /// Below `MAX_VIEWERS`.
     pub who: u8,
     pub before: bool,
     pub down: bool,

@@ -46,7 +46,7 @@ pub struct FlagOption {
 pub const MAX_WHO: u32 = MAX_VIEWERS as u32 - 1;
 
 // The help of `VIEWERS` and of `WHO` says these numbers.
-const _: () = prove!(MAX_VIEWERS == 16 && MAX_WHO == 15);
+const _: () = prove!(MAX_VIEWERS == 64 && MAX_WHO == 63);
 
 pub const VIEWERS: NumberOption = NumberOption {
     name: "viewers",
@@ -54,7 +54,7 @@ pub const VIEWERS: NumberOption = NumberOption {
     high: MAX_VIEWERS as u32,
     unless: Unless::Has("2"),
     value: "K",
-    help: "How many viewers, 1 to 16",
+    help: "How many viewers, 1 to 64",
 };
 
 pub const TURNS: NumberOption = NumberOption {
@@ -100,7 +100,7 @@ pub const WHO: NumberOption = NumberOption {
     high: MAX_WHO,
     unless: Unless::Refused,
     value: "V",
-    help: "Which viewer this is, 0 to 15",
+    help: "Which viewer this is, 0 to 63",
 };
 
 pub const BOOT: NumberOption = NumberOption {

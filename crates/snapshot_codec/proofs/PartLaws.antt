@@ -1,18 +1,21 @@
 -- What is read of a node's parts and of scripts was written so, and what is written so is read.
-use Rattle.std.proofs.Common.{◌≡◌, ℕ, zero, suc, ◌^◌, ◌<◌, ◌≤◌, ◌-◌, Bool, true, false, cond, eqb, ltb, Option, Some, None, refl, sym, subst, ◌∙◌, arith}
-use Rattle.std.specs.Prelude.{◌≢◌, ℤ, pos, negsuc, int_lt}
+use Rattle.std.proofs.Common.{◌≡◌, ℕ, zero, suc, ◌^◌, ◌<◌, ◌≤◌, ◌-◌, Bool, true, false, cond, eqb, ltb, List, ◌++◌, length, Option, Some, None, refl, sym, ap, subst, ◌∙◌, append_assoc, arith}
+use Rattle.std.specs.Prelude.{◌≢◌, ℤ, pos, negsuc, int_lt, nat_le}
 use Rattle.std.specs.Int.{w16, w32, w64}
-use Rattle.std.proofs.lemmas.Bool.{eqb-true, eqb-false, le-ltb, lt-ltb, ltb-true, ne_eqb, cond-false, cond-true}
-use Rattle.byte_codec.specs.Codec.{refined, byte, number, signed, truth, fits_signed, pair}
-use Rattle.byte_codec.specs.Exact.{IsExact}
-use Rattle.byte_codec.proofs.Laws.{some_is, both, refined_exact, named_exact, pair_exact, byte_exact, number_exact, wide16, wide32, wide64, truth_exact, signed64_exact}
-use Rattle.byte_codec.proofs.LawsOfLists.{times_exact}
+use Rattle.std.specs.List.{flat_map}
+use Rattle.std.proofs.lemmas.Bool.{eqb-true, eqb-false, leb-true, le-ltb, lt-ltb, ltb-true, ne_eqb, cond-false, cond-true}
+use Rattle.byte_codec.specs.Codec.{Codec, all_fit, many_at, refined, byte, number, signed, truth, fits_signed, pair}
+use Rattle.byte_codec.specs.Exact.{IsBytes, IsExact, Took}
+use Rattle.byte_codec.proofs.Laws.{after, and_true, bind_some, joined, some_is, both, refined_exact, named_exact, pair_exact, byte_exact, number_exact, wide16, wide32, wide64, truth_exact, signed64_exact}
+use Rattle.byte_codec.proofs.LawsOfLists.{many_again, many_takes, times_exact}
 use Rattle.x3d_values.specs.declared.fields.Position.{Position}
+use Rattle.snapshot_codec.specs.declared.plane.Drag.{Drag}
+use Rattle.snapshot_codec.specs.declared.plane.Plane.{Plane}
 use Rattle.snapshot_codec.specs.declared.viewers.Viewers.{Viewers}
 use Rattle.snapshot_codec.specs.declared.viewers.Viewers.TheVariants.{Sixteen, SixtyFour}
 use Rattle.snapshot_codec.specs.declared.viewers.Touch.{Touch}
-use Rattle.snapshot_codec.specs.Parts.{cycle_in, cycle_parts, cycle_fits, cycle_codec, viewer_set_codec, presser_in, presser_byte, presser_fits, presser_codec, touch_codec, position_in, place_number, place_fits, position_codec, state_codec, states_codec}
-use Rattle.snapshot_codec.proofs.ValueLaws.{list_exact}
+use Rattle.snapshot_codec.specs.Parts.{cycle_in, cycle_parts, cycle_fits, cycle_codec, viewer_set_codec, presser_in, presser_byte, presser_fits, presser_codec, touch_codec, path_length, path_codec, held_codec, held_of, drag_with, drag_behind, drag_codec, plane_codec, position_in, place_number, place_fits, position_codec, state_codec, states_codec}
+use Rattle.snapshot_codec.proofs.ValueLaws.{list_exact, restricted_exact, vector3_exact}
 
 abbrev some : {A : Type 0} → A → Option A
 some x = Some x
@@ -79,6 +82,77 @@ presser_exact SixtyFour = presser_among 64 (omega arith)
 pub touch_exact : (viewers : Viewers) → IsExact (touch_codec viewers)
 unfolding touch_codec
 touch_exact viewers = named_exact (λ (t : ℕ × Option ℕ). let s : Touch = record { over = t.0; presser = t.1 } in s) (λ s. (s.over, s.presser)) _ (λ a. refl) (λ b. refl) (pair_exact _ _ (viewer_set_exact viewers) (presser_exact viewers))
+
+-- ---- PlaneSensors
+
+path_length_exact : IsExact path_length
+path_length_exact = restricted_exact (λ n. nat_le n 64) byte (λ n e. lt-ltb n 256 (omega (arith, leb-true n 64 e))) byte_exact
+
+path_exact : IsExact path_codec
+unfolding path_codec
+path_exact = record {
+  takes = λ bytes xs rest h e.
+      let a = bind_some (path_length.read bytes) (λ n. many_at (number w32) n.0 n.1) (xs, rest) e in
+      let t = path_length_exact.takes bytes a.0.0 a.0.1 h a.1 in
+      let u = many_takes (number w32) (number_exact w32 wide32) a.0.0 a.0.1 xs rest (after path_length bytes a.0.0 a.0.1 h t) a.2 in
+      record {
+        parts = joined bytes (path_length.write (length xs)) a.0.1 (flat_map (number w32).write xs) rest (t.parts ∙ ap (λ (n : ℕ). path_length.write n ++ a.0.1) (sym u.1)) u.0;
+        valid = and_true _ _ (rw u.1 t.valid) u.2;
+      };
+  again = λ xs rest fits.
+      let f = both (path_length.fits (length xs)) (all_fit (number w32) xs) fits in
+      ap path_codec.read (append_assoc (path_length.write (length xs)) (flat_map (number w32).write xs) rest)
+      ∙ rw (path_length_exact.again (length xs) (flat_map (number w32).write xs ++ rest) f.0) (many_again (number w32) (number_exact w32 wide32) xs rest f.1);
+}
+
+held_exact : IsExact held_codec
+unfolding held_codec
+held_exact = pair_exact _ _ vector3_exact (pair_exact _ _ vector3_exact path_exact)
+
+abbrev among : Codec (Option ℕ)
+among = presser_codec SixtyFour
+
+drag_takes : (bytes : List ℕ) (presser : Option ℕ) (middle : List ℕ) (drag : Option Drag) (rest : List ℕ) → IsBytes middle → bytes ≡ among.write presser ++ middle → among.fits presser ≡ true → drag_behind presser middle ≡ Some (drag, rest) → Took drag_codec bytes drag rest
+unfolding drag_codec
+drag_takes bytes None middle drag rest h front fits e =
+    let made : Option Drag × List ℕ = (None, middle) in
+    let P : Option Drag × List ℕ → Type 0 = λ z. Took drag_codec bytes z.0 z.1 in
+    subst P {x = made} (some_is made (drag, rest) e) (record { parts = front; valid = refl })
+drag_takes bytes (Some presser) middle drag rest h front fits e =
+    let a = bind_some (held_codec.read middle) (λ x. Some (Some (drag_with presser x.0), x.1)) (drag, rest) e in
+    let t = held_exact.takes middle a.0.0 a.0.1 h a.1 in
+    let made : Option Drag × List ℕ = (Some (drag_with presser a.0.0), a.0.1) in
+    let P : Option Drag × List ℕ → Type 0 = λ z. Took drag_codec bytes z.0 z.1 in
+    subst P {x = made} (some_is made (drag, rest) a.2) (record {
+      parts = joined bytes (among.write (Some presser)) middle (held_codec.write a.0.0) a.0.1 front t.parts;
+      valid = and_true _ _ fits t.valid;
+    })
+
+nobody_fits : among.fits None ≡ true
+unfolding presser_codec
+nobody_fits = refl
+
+drag_again : (drag : Option Drag) (rest : List ℕ) → drag_codec.fits drag ≡ true → drag_codec.read (drag_codec.write drag ++ rest) ≡ some (drag, rest)
+unfolding drag_codec
+drag_again None rest fits = rw ((presser_exact SixtyFour).again None rest nobody_fits) refl
+drag_again (Some drag) rest fits =
+    let f = both (among.fits (Some drag.presser)) (held_codec.fits (held_of drag)) fits in
+    ap drag_codec.read (append_assoc (among.write (Some drag.presser)) (held_codec.write (held_of drag)) rest)
+    ∙ rw ((presser_exact SixtyFour).again (Some drag.presser) (held_codec.write (held_of drag) ++ rest) f.0, held_exact.again (held_of drag) rest f.1) refl
+
+drag_exact : IsExact drag_codec
+unfolding drag_codec
+drag_exact = record {
+  takes = λ bytes drag rest h e.
+      let a = bind_some (among.read bytes) (λ x. drag_behind x.0 x.1) (drag, rest) e in
+      let t = (presser_exact SixtyFour).takes bytes a.0.0 a.0.1 h a.1 in
+      drag_takes bytes a.0.0 a.0.1 drag rest (after among bytes a.0.0 a.0.1 h t) t.parts t.valid a.2;
+  again = drag_again;
+}
+
+pub plane_exact : IsExact plane_codec
+unfolding plane_codec
+plane_exact = named_exact (λ (t : ℕ × Option Drag). let p : Plane = record { over = t.0; drag = t.1 } in p) (λ p. (p.over, p.drag)) _ (λ a. refl) (λ b. refl) (pair_exact _ _ (viewer_set_exact SixtyFour) drag_exact)
 
 -- ---- positions
 

@@ -1,12 +1,16 @@
 -- What stands behind a node's fields, and what a world has beside its nodes, as bytes (our choice).
-use Rattle.std.specs.Prelude.{ℕ, ◌-◌, ◌^◌, ◌==◌, ℤ, pos, Bool, true, false, List, Option, Some, None, nat_lt, int_lt, unsigned_abs, if◌then◌else◌}
+use Rattle.std.specs.Prelude.{ℕ, ◌-◌, ◌^◌, ◌++◌, ◌==◌, ◌&&◌, ℤ, pos, Bool, true, false, List, length, Option, Some, None, nat_le, nat_lt, int_lt, unsigned_abs, if◌then◌else◌}
 use Rattle.std.specs.Int.{Width, w16, w32, w64}
-use Rattle.byte_codec.specs.Codec.{Codec, refined, named, pair, times, byte, number, signed, truth}
+use Rattle.std.specs.List.{flat_map}
+use Rattle.byte_codec.specs.Codec.{Codec, ◌>>?◌, all_fit, many_at, refined, named, pair, times, byte, number, signed, truth}
 use Rattle.x3d_values.specs.declared.fields.Position.{Position}
+use Rattle.x3d_values.specs.declared.vector.Vec3.{Vec3}
+use Rattle.snapshot_codec.specs.declared.plane.Drag.{Drag}
+use Rattle.snapshot_codec.specs.declared.plane.Plane.{Plane}
 use Rattle.snapshot_codec.specs.declared.viewers.Viewers.{Viewers}
 use Rattle.snapshot_codec.specs.declared.viewers.Viewers.TheVariants.{Sixteen, SixtyFour}
 use Rattle.snapshot_codec.specs.declared.viewers.Touch.{Touch}
-use Rattle.snapshot_codec.specs.Values.{list_of}
+use Rattle.snapshot_codec.specs.Values.{list_of, restricted, vector3}
 
 -- ---- a TimeSensor: whether it is active, and the number of its cycle, which is 0 where it isn't
 
@@ -65,6 +69,61 @@ presser_codec viewers =
 unfoldable pub touch_codec : Viewers → Codec Touch
 touch_codec viewers = named (λ t. record { over = t.0; presser = t.1 }) (λ t. (t.over, t.presser))
     (pair (viewer_set_codec viewers) (presser_codec viewers))
+
+-- ---- a PlaneSensor: the viewers over it, and the drag
+
+-- up to 64 positions
+abbrev pub path_length : Codec ℕ
+path_length = restricted (λ n. nat_le n 64) byte
+
+-- a count of one byte, and that many positions
+unfoldable pub path_codec : Codec (List ℕ)
+path_codec = record {
+  write = λ path. path_length.write (length path) ++ flat_map (number w32).write path;
+  read = λ bytes. path_length.read bytes >>? λ n. many_at (number w32) n.0 n.1;
+  fits = λ path. path_length.fits (length path) && all_fit (number w32) path;
+}
+
+-- where a viewer pressed, the last translation, and the way to the list with the sensor
+abbrev pub Held : Type 0
+Held = Vec3 × (Vec3 × List ℕ)
+
+unfoldable pub held_codec : Codec Held
+held_codec = pair vector3 (pair vector3 path_codec)
+
+abbrev pub held_of : Drag → Held
+held_of drag = (drag.start, (drag.last, drag.path))
+
+abbrev pub drag_with : ℕ → Held → Drag
+drag_with presser held =
+    record { presser = presser; start = held.0; last = held.1.0; path = held.1.1 }
+
+-- the viewer that presses, which is 255 where none does, and what is kept of its drag
+abbrev pub drag_text : Option Drag → List ℕ
+drag_text None = (presser_codec SixtyFour).write None
+drag_text (Some drag) =
+    (presser_codec SixtyFour).write (Some drag.presser) ++ held_codec.write (held_of drag)
+
+abbrev pub drag_behind : Option ℕ → List ℕ → Option (Option Drag × List ℕ)
+drag_behind None bytes = Some (None, bytes)
+drag_behind (Some presser) bytes =
+    held_codec.read bytes >>? λ x. Some (Some (drag_with presser x.0), x.1)
+
+abbrev pub drag_fits : Option Drag → Bool
+drag_fits None = true
+drag_fits (Some drag) =
+    (presser_codec SixtyFour).fits (Some drag.presser) && held_codec.fits (held_of drag)
+
+unfoldable pub drag_codec : Codec (Option Drag)
+drag_codec = record {
+  write = drag_text;
+  read = λ bytes. (presser_codec SixtyFour).read bytes >>? λ x. drag_behind x.0 x.1;
+  fits = drag_fits;
+}
+
+unfoldable pub plane_codec : Codec Plane
+plane_codec = named (λ t. record { over = t.0; drag = t.1 }) (λ p. (p.over, p.drag))
+    (pair (viewer_set_codec SixtyFour) drag_codec)
 
 -- ---- a sequencer: the position of the value that it sent last, which is 2^32 - 1 where it sent
 -- none

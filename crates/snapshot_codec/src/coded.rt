@@ -4,12 +4,12 @@ ghost use Rattle.std.specs.Prelude.{◌≡◌, ◌++◌, OnOk};
 ghost use Rattle.std.specs.Int.{w32, w64};
 ghost use Rattle.std.specs.List.{flat_map};
 ghost use Rattle.x3d_lists.specs.Extends.{Extends};
-ghost use Rattle.byte_codec.specs.Codec.{Codec, signed, truth, many_at};
+ghost use Rattle.byte_codec.specs.Codec.{Codec, number, signed, truth, many_at};
 ghost use Rattle.snapshot_codec.specs.Reads.{Reads};
 ghost use Rattle.snapshot_codec.specs.Values.{text, vector2, vector3, color, list_of, within};
 
 use crate::fault::PartFault;
-use crate::numbers::{push_count, push_i32, push_i64, within_of};
+use crate::numbers::{push_count, push_i32, push_i64, push_u32, within_of};
 use byte_codec::{flag_of, i32_of, i64_of, string_of, u32_of};
 use std::alloc::{AllocError, Global};
 use x3d_lists::{Items, Text};
@@ -143,6 +143,18 @@ impl Coded for i32 {
 
     fn push_to(&self, out: &mut Vec<u8>) -> Result<(), AllocError> {
         push_i32(*self, out)
+    }
+}
+
+impl Coded for u32 {
+    ghost codec = { number w32 };
+
+    fn read(_alloc: Global, bytes: &[u8]) -> Result<(u32, &[u8]), PartFault> {
+        u32_of(bytes).ok_or(PartFault::NotCanonical)
+    }
+
+    fn push_to(&self, out: &mut Vec<u8>) -> Result<(), AllocError> {
+        push_u32(*self, out)
     }
 }
 

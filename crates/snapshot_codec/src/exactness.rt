@@ -7,7 +7,7 @@ ghost use Rattle.snapshot_codec.specs.declared.kept.KeptField.{KeptField};
 ghost use Rattle.snapshot_codec.specs.declared.viewers.Viewers.{Viewers};
 ghost use Rattle.snapshot_codec.specs.Fields.{fields_codec};
 ghost use Rattle.snapshot_codec.specs.Head.{progress_codec};
-ghost use Rattle.snapshot_codec.specs.Parts.{cycle_codec, position_codec, state_codec, states_codec, touch_codec, viewer_set_codec};
+ghost use Rattle.snapshot_codec.specs.Parts.{cycle_codec, plane_codec, position_codec, state_codec, states_codec, touch_codec, viewer_set_codec};
 ghost use Rattle.snapshot_codec.specs.Trace.{entry_codec, trace_codec};
 ghost use Rattle.snapshot_codec.specs.Values.{value_codec};
 
@@ -17,6 +17,7 @@ pub fn nodes_are_exact()
     ensures fields { (fields : List KeptField) → IsExact (fields_codec fields) }
     ensures cycle { IsExact cycle_codec }
     ensures touch { (viewers : Viewers) → IsExact (touch_codec viewers) }
+    ensures plane { IsExact plane_codec }
     ensures position { IsExact position_codec }
     ensures state { IsExact state_codec }
     ensures states { (count : ℕ) → IsExact (states_codec count) }

@@ -14,6 +14,7 @@ mod head;
 mod kept;
 mod numbers;
 mod parts;
+mod plane;
 mod rest;
 mod trace;
 mod value;
@@ -27,6 +28,7 @@ pub use head::{
 };
 pub use kept::{KeptField, kept_field, kept_fields_of, push_kept_fields};
 pub use parts::{cycle_of, position_of, push_cycle, push_position, push_state, states_of};
+pub use plane::{Drag, Path, Plane, plane_of, push_plane};
 pub use rest::all_read;
 pub use trace::{
     Outputs, SentAt, TakesEntries, TraceEntry, entry_of, push_entry, push_entry_count, trace_of,

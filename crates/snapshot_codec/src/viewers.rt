@@ -65,7 +65,7 @@ pub fn push_viewer_set(viewers: Viewers, set: u64, out: &mut Vec<u8>) -> Result<
 }
 
 #[tactic(auto, unfolding(crate::specs::Parts::presser_codec))]
-fn presser_of(viewers: Viewers, bytes: &[u8]) -> Option<(Option<u8>, &[u8])>
+pub(crate) fn presser_of(viewers: Viewers, bytes: &[u8]) -> Option<(Option<u8>, &[u8])>
     ensures { option_map (λ x. (x.0, x.1.now)) result ≡ (presser_codec viewers).read bytes.now }
 {
     let Some((number, rest)) = byte_of(bytes) else {

@@ -4,7 +4,6 @@ mod LineLaws
 pub mod NodeLaws
 mod NodeLoops
 mod Saves
-mod SetLaws
 pub mod ShotHeads
 pub mod ShotLaws
 pub mod StateLaws

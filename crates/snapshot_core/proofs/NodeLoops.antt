@@ -10,11 +10,11 @@ use Rattle.scene_core.specs.Scene.{SceneView, shape_of, shapes_of}
 use Rattle.snapshot_codec.specs.Reads.{Fails}
 use Rattle.snapshot_codec.specs.declared.fault.PartFault.{PartFault}
 use Rattle.snapshot_codec.specs.declared.fault.PartFault.TheVariants as faults
-use Rattle.sensor_core.specs.Touches.{Touch}
+use Rattle.sensor_plane.specs.declared.pointing.PointingState.{PointingState}
 use Rattle.snapshot_rules.specs.declared.version.Version.{Version}
 use Rattle.snapshot_core.specs.declared.nodes.NodeLists.{NodeLists}
 use Rattle.snapshot_core.specs.declared.nodes.NodeState.{NodeState}
-use Rattle.snapshot_core.specs.Nodes.{node_codec, by_lists, nodes_from, nodes_codec}
+use Rattle.snapshot_core.specs.Nodes.{node_codec, by_lists, nodes_from, lists_codec}
 
 -- ---- reading
 
@@ -22,7 +22,7 @@ abbrev pub beyond : NodeLists → NodeLists → NodeLists
 beyond front more = record {
   fields = front.fields ++ more.fields;
   sensors = front.sensors ++ more.sensors;
-  touches = front.touches ++ more.touches;
+  pointing = front.pointing ++ more.pointing;
 }
 
 -- the nodes that were read, and those that are still read
@@ -33,20 +33,20 @@ abbrev pub with_node : NodeLists → NodeState → NodeLists
 with_node front node = record {
   fields = front.fields ++ node.fields ∷ [];
   sensors = front.sensors ++ node.time ∷ [];
-  touches = front.touches ++ node.touch ∷ [];
+  pointing = front.pointing ++ node.pointing ∷ [];
 }
 
 abbrev pub no_lists : NodeLists
-no_lists = record { fields = []; sensors = []; touches = [] }
+no_lists = record { fields = []; sensors = []; pointing = [] }
 
 regroup : (front : NodeLists) (node : NodeState) (r : Option (List NodeState × List ℕ)) → behind_lists front (r >>? λ x. Some (node ∷ x.0, x.1)) ≡ behind_lists (with_node front node) r
 regroup front node None = refl
 regroup front node (Some x) =
     let rest = by_lists x.0 in
-    rw (append_assoc front.fields (node.fields ∷ []) rest.fields, append_assoc front.sensors (node.time ∷ []) rest.sensors, append_assoc front.touches (node.touch ∷ []) rest.touches) refl
+    rw (append_assoc front.fields (node.fields ∷ []) rest.fields, append_assoc front.sensors (node.time ∷ []) rest.sensors, append_assoc front.pointing (node.pointing ∷ []) rest.pointing) refl
 
-pub nodes_begin : (version : Version) (shapes : List Shape) (bytes : List ℕ) → behind_lists no_lists (rows_at (node_codec version) shapes bytes) ≡ (nodes_codec version shapes).read bytes
-unfolding nodes_codec
+pub nodes_begin : (version : Version) (shapes : List Shape) (bytes : List ℕ) → behind_lists no_lists (rows_at (node_codec version) shapes bytes) ≡ (lists_codec version shapes).read bytes
+unfolding lists_codec
 nodes_begin version shapes bytes = begun (rows_at (node_codec version) shapes bytes)
   where
     begun : (r : Option (List NodeState × List ℕ)) → behind_lists no_lists r ≡ (r >>? at_front (λ nodes. Some (by_lists nodes)))
@@ -75,7 +75,7 @@ nodes_done : (version : Version) (front : NodeLists) (shapes : List Shape) (i : 
 unfolding rows_at
 nodes_done version front shapes i bytes total le so_far =
     let e : drop i shapes ≡ [] = nil_from_length (drop i shapes) (omega (arith, length-drop i shapes)) in
-    let one : behind_lists front (rows_at (node_codec version) (drop i shapes) bytes) ≡ Some (front, bytes) = rw (e, append-nil front.fields, append-nil front.sensors, append-nil front.touches) refl in
+    let one : behind_lists front (rows_at (node_codec version) (drop i shapes) bytes) ≡ Some (front, bytes) = rw (e, append-nil front.fields, append-nil front.sensors, append-nil front.pointing) refl in
     sym so_far ∙ one
 
 -- ---- the same, where the shape of the node is known by its number
@@ -100,8 +100,8 @@ nodes_done_at version front scene i bytes total le all so_far =
 -- ---- writing
 
 -- the nodes from a place on
-abbrev pub text_from : Version → List Shape → List Fields → List (Option ℕ) → List Touch → ℕ → List ℕ
-text_from version shapes fields sensors touches i = rows_text (node_codec version) (drop i shapes) (nodes_from (drop i fields) (drop i sensors) (drop i touches))
+abbrev pub text_from : Version → List Shape → List Fields → List (Option ℕ) → List PointingState → ℕ → List ℕ
+text_from version shapes fields sensors pointing i = rows_text (node_codec version) (drop i shapes) (nodes_from (drop i fields) (drop i sensors) (drop i pointing))
 
 split_at : {A : Type 0} (xs : List A) (i : ℕ) (x : A) → i < length xs → x ≡ get_or xs i x → drop i xs ≡ x ∷ drop (i + 1) xs
 split_at {A} xs i x lt is =
@@ -109,31 +109,31 @@ split_at {A} xs i x lt is =
     e ∙ ap (λ (y : A). y ∷ drop (i + 1) xs) (sym is)
 
 -- a node more, of those that all lists have
-pub text_goes_on : (version : Version) (shapes : List Shape) (fields : List Fields) (sensors : List (Option ℕ)) (touches : List Touch) (i count : ℕ) (t : Shape) (f : Fields) (s : Option ℕ) (u : Touch) (out new total : List ℕ) → i < count → count ≡ min (length shapes) (min (length fields) (min (length sensors) (length touches)))
-    → slice_get shapes i ≡ Some t → f ≡ get_or fields i f → s ≡ get_or sensors i s → u ≡ get_or touches i u → new ≡ out ++ (node_codec version t).write (record { fields = f; time = s; touch = u })
-    → out ++ text_from version shapes fields sensors touches i ≡ total → new ++ text_from version shapes fields sensors touches (i + 1) ≡ total
-text_goes_on version shapes fields sensors touches i count t f s u out new total lt all t-is f-is s-is u-is more so_far =
+pub text_goes_on : (version : Version) (shapes : List Shape) (fields : List Fields) (sensors : List (Option ℕ)) (pointing : List PointingState) (i count : ℕ) (t : Shape) (f : Fields) (s : Option ℕ) (u : PointingState) (out new total : List ℕ) → i < count → count ≡ min (length shapes) (min (length fields) (min (length sensors) (length pointing)))
+    → slice_get shapes i ≡ Some t → f ≡ get_or fields i f → s ≡ get_or sensors i s → u ≡ get_or pointing i u → new ≡ out ++ (node_codec version t).write (record { fields = f; time = s; pointing = u })
+    → out ++ text_from version shapes fields sensors pointing i ≡ total → new ++ text_from version shapes fields sensors pointing (i + 1) ≡ total
+text_goes_on version shapes fields sensors pointing i count t f s u out new total lt all t-is f-is s-is u-is more so_far =
     let a = split_at shapes i t (omega (arith, lt, all)) (sym (get_or_from_slice_get shapes i t t t-is)) in
     let b = split_at fields i f (omega (arith, lt, all)) f-is in
     let c = split_at sensors i s (omega (arith, lt, all)) s-is in
-    let d = split_at touches i u (omega (arith, lt, all)) u-is in
-    let node : NodeState = record { fields = f; time = s; touch = u } in
-    let here : text_from version shapes fields sensors touches i ≡ (node_codec version t).write node ++ text_from version shapes fields sensors touches (i + 1) = rw (a, b, c, d) refl in
-    ap (λ (z : List ℕ). z ++ text_from version shapes fields sensors touches (i + 1)) more ∙ append_assoc out ((node_codec version t).write node) (text_from version shapes fields sensors touches (i + 1)) ∙ ap (λ (z : List ℕ). out ++ z) (sym here) ∙ so_far
+    let d = split_at pointing i u (omega (arith, lt, all)) u-is in
+    let node : NodeState = record { fields = f; time = s; pointing = u } in
+    let here : text_from version shapes fields sensors pointing i ≡ (node_codec version t).write node ++ text_from version shapes fields sensors pointing (i + 1) = rw (a, b, c, d) refl in
+    ap (λ (z : List ℕ). z ++ text_from version shapes fields sensors pointing (i + 1)) more ∙ append_assoc out ((node_codec version t).write node) (text_from version shapes fields sensors pointing (i + 1)) ∙ ap (λ (z : List ℕ). out ++ z) (sym here) ∙ so_far
 
-none_left : (version : Version) (shapes : List Shape) (fields : List Fields) (sensors : List (Option ℕ)) (touches : List Touch) → min (length shapes) (min (length fields) (min (length sensors) (length touches))) ≡ 0 → rows_text (node_codec version) shapes (nodes_from fields sensors touches) ≡ []
-none_left version [] fields sensors touches h = refl
-none_left version (t ∷ shapes) [] sensors touches h = refl
-none_left version (t ∷ shapes) (f ∷ fields) [] touches h = refl
+none_left : (version : Version) (shapes : List Shape) (fields : List Fields) (sensors : List (Option ℕ)) (pointing : List PointingState) → min (length shapes) (min (length fields) (min (length sensors) (length pointing))) ≡ 0 → rows_text (node_codec version) shapes (nodes_from fields sensors pointing) ≡ []
+none_left version [] fields sensors pointing h = refl
+none_left version (t ∷ shapes) [] sensors pointing h = refl
+none_left version (t ∷ shapes) (f ∷ fields) [] pointing h = refl
 none_left version (t ∷ shapes) (f ∷ fields) (s ∷ sensors) [] h = refl
-none_left version (t ∷ shapes) (f ∷ fields) (s ∷ sensors) (u ∷ touches) h = absurd (omega (arith, h))
+none_left version (t ∷ shapes) (f ∷ fields) (s ∷ sensors) (u ∷ pointing) h = absurd (omega (arith, h))
 
-pub text_done : (version : Version) (shapes : List Shape) (fields : List Fields) (sensors : List (Option ℕ)) (touches : List Touch) (i count : ℕ) (out total : List ℕ) → count ≤ i → count ≡ min (length shapes) (min (length fields) (min (length sensors) (length touches)))
-    → out ++ text_from version shapes fields sensors touches i ≡ total → out ≡ total
-text_done version shapes fields sensors touches i count out total le all so_far =
-    let none = none_left version (drop i shapes) (drop i fields) (drop i sensors) (drop i touches) (omega (arith, le, all, length-drop i shapes, length-drop i fields, length-drop i sensors, length-drop i touches)) in
+pub text_done : (version : Version) (shapes : List Shape) (fields : List Fields) (sensors : List (Option ℕ)) (pointing : List PointingState) (i count : ℕ) (out total : List ℕ) → count ≤ i → count ≡ min (length shapes) (min (length fields) (min (length sensors) (length pointing)))
+    → out ++ text_from version shapes fields sensors pointing i ≡ total → out ≡ total
+text_done version shapes fields sensors pointing i count out total le all so_far =
+    let none = none_left version (drop i shapes) (drop i fields) (drop i sensors) (drop i pointing) (omega (arith, le, all, length-drop i shapes, length-drop i fields, length-drop i sensors, length-drop i pointing)) in
     sym (append-nil out) ∙ ap (λ (z : List ℕ). out ++ z) (sym none) ∙ so_far
 
 -- the shapes of a scene's nodes are as many as its nodes
-pub counted : (scene : SceneView) (count fields sensors touches : ℕ) → count ≡ min (length scene.nodes) (min fields (min sensors touches)) → count ≡ min (length (shapes_of scene)) (min fields (min sensors touches))
-counted scene count fields sensors touches e = omega (arith, e, length-map scene.nodes shape_of)
+pub counted : (scene : SceneView) (count fields sensors pointing : ℕ) → count ≡ min (length scene.nodes) (min fields (min sensors pointing)) → count ≡ min (length (shapes_of scene)) (min fields (min sensors pointing))
+counted scene count fields sensors pointing e = omega (arith, e, length-map scene.nodes shape_of)

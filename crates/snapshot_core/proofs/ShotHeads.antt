@@ -14,7 +14,7 @@ use Rattle.snapshot_codec.specs.declared.head.HeadFault.TheVariants.{Short}
 use Rattle.snapshot_codec.specs.Head.{front, sealed, snapshot}
 use Rattle.snapshot_codec.specs.Trace.{moment_codec}
 use Rattle.snapshot_rules.specs.declared.version.Version.{Version}
-use Rattle.snapshot_rules.specs.declared.version.Version.TheVariants.{One}
+use Rattle.snapshot_rules.specs.declared.version.Version.TheVariants.{One, Two}
 use Rattle.snapshot_rules.specs.Opening.{fault_before, newest, version_in, version_number}
 use Rattle.snapshot_core.specs.declared.head.ShotHead.{ShotHead}
 use Rattle.snapshot_core.specs.Loading.{HasSnapshot}
@@ -67,6 +67,7 @@ numbers-again boot applied more b a =
 -- a front begins as a snapshot does, whatever stands behind it
 begins-front : (version : Version) (rest : List ℕ) → (let bytes : List ℕ = codes "X3DW" ++ version_number version ∷ rest in (pointwise nat_eq (slice_range bytes 0 4) (codes "X3DW") && slice_index bytes 4 == version_number (version_in bytes))) ≡ true
 begins-front One rest = refl
+begins-front Two rest = refl
 
 -- behind the digest nothing is asked of the bytes but that they are enough
 told : (version : Version) (mark : List ℕ) (boot applied : ℕ) (more digest : List ℕ) → length mark ≡ 32 → boot < 2 ^ 32 → applied < 2 ^ 32 → 85 ≤ length ((front (version_number version) mark ++ numbered boot applied more) ++ digest)

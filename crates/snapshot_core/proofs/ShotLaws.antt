@@ -1,30 +1,34 @@
 -- A snapshot is loaded to its world, and what is loaded is a snapshot.
-use Rattle.std.proofs.Common.{◌≡◌, ℕ, zero, suc, ◌^◌, ◌<◌, ◌≤◌, Bool, true, false, cond, ltb, List, [], ◌∷◌, ◌++◌, length, Option, Some, None, Result, Ok, Err, refl, sym, ap, subst, ◌∙◌, arith}
-use Rattle.std.specs.Prelude.{codes}
+use Rattle.std.proofs.Common.{◌≡◌, ℕ, zero, suc, ◌^◌, ◌<◌, ◌≤◌, Bool, true, false, cond, eqb, ltb, List, [], ◌∷◌, ◌++◌, length, Option, Some, None, Result, Ok, Err, refl, sym, ap, subst, ◌∙◌, arith}
+use Rattle.std.specs.Prelude.{◌&&◌, codes}
 use Rattle.std.specs.Int.{w32, w64}
-use Rattle.std.proofs.lemmas.Bool.{le-ltb, lt-ltb, ltb-true}
+use Rattle.std.proofs.lemmas.Bool.{eqb-true, le-ltb, lt-ltb, ltb-true}
 use Rattle.std.proofs.lemmas.List.{length-append}
 use Rattle.byte_codec.specs.Codec.{number, number_text, whole}
 use Rattle.byte_codec.specs.Exact.{IsBytes}
 use Rattle.byte_codec.proofs.Laws.{IsBytes-rest, both, and_true, whole_again, whole_takes, wide32, wide64}
-use Rattle.scene_core.specs.Scene.{SceneView}
+use Rattle.scene_core.specs.Scene.{SceneView, shapes_of}
+use Rattle.x3d_values.specs.Ranges.{max_viewers}
 use Rattle.snapshot_codec.specs.declared.head.HeadFault.{HeadFault}
 use Rattle.snapshot_codec.specs.Head.{applied_codec, front, opened, snapshot}
 use Rattle.snapshot_rules.specs.declared.version.Version.{Version}
-use Rattle.snapshot_rules.specs.declared.version.Version.TheVariants.{One}
+use Rattle.snapshot_rules.specs.declared.version.Version.TheVariants.{One, Two}
 use Rattle.snapshot_rules.specs.Opening.{found_body, newest, version_in, version_number}
 use Rattle.snapshot_codec.specs.Trace.{moment_codec}
 use Rattle.snapshot_codec.proofs.HeadLaws.{opened-found, snapshot-opened}
 use Rattle.cascade_core.specs.Course.{Scripted}
+use Rattle.cascade_world.specs.Fits.{all_lead}
 use Rattle.cascade_core.specs.Installing.{StatesFit}
 use Rattle.cascade_core.specs.Scripts.{kinds_in}
 use Rattle.snapshot_core.specs.declared.fault.SnapFault.{SnapFault}
 use Rattle.snapshot_core.specs.declared.fault.SnapFault.TheVariants.{BootNotNew, ScriptState}
 use Rattle.snapshot_core.specs.Loading.{HasSnapshot, behind_head, loaded, newer, states_fit, with_states}
 use Rattle.snapshot_core.specs.Shot.{body_codec, shot, shot_as}
-use Rattle.snapshot_core.specs.WorldCodec.{parts_codec, parts_in, world_codec}
+use Rattle.snapshot_core.specs.Nodes.{lists_codec, lists_fit, nodes_codec}
+use Rattle.snapshot_core.specs.WorldCodec.{buttons_codec, lists_in, parts_codec, parts_in, set_has_bytes, world_codec}
+use Rattle.snapshot_core.proofs.NodeLaws.{newest_lists}
 use Rattle.snapshot_core.proofs.StateLaws.{all_fit, fitting_all, stated}
-use Rattle.snapshot_core.proofs.WorldLaws.{body_exact}
+use Rattle.snapshot_core.proofs.WorldLaws.{body_exact, newest_set}
 
 -- ---- from a world
 
@@ -49,9 +53,11 @@ read_again version scene boot w small fits = whole_again (body_codec version sce
 -- a snapshot names its version, and so is opened to its body
 pub named-front : (version : Version) (rest : List ℕ) → version_in (codes "X3DW" ++ version_number version ∷ rest) ≡ version
 named-front One rest = refl
+named-front Two rest = refl
 
 named : (version : Version) (mark body : List ℕ) → version_in (snapshot (version_number version) mark body) ≡ version
 named One mark body = refl
+named Two mark body = refl
 
 pub body_again : (version : Version) (mark body : List ℕ) → length mark ≡ 32 → 16 ≤ length body → found_body mark (snapshot (version_number version) mark body) ≡ Ok body
 body_again version mark body len some =
@@ -96,7 +102,18 @@ body_bytes version mark bytes body h e =
 
 -- a world that has bytes in a version has bytes in the newest
 newest_fits : (version : Version) (scene : SceneView) (w : Scripted) → (world_codec version scene).fits w ≡ true → (world_codec newest scene).fits w ≡ true
-newest_fits One scene w fits = fits
+unfolding world_codec parts_codec nodes_codec lists_codec buttons_codec
+newest_fits version scene w fits =
+    let a = both (applied_codec.fits w.world.applied) _ fits in
+    let b = both (moment_codec.fits w.world.last_time) _ a.1 in
+    let c = both (all_lead scene 0 w.world.pointing && lists_fit version (shapes_of scene) (lists_in w.world)) _ b.1 in
+    let n = both (all_lead scene 0 w.world.pointing) (lists_fit version (shapes_of scene) (lists_in w.world)) c.0 in
+    let d = both (set_has_bytes version w.world.buttons) _ c.1 in
+    let e = both (eqb (length w.world.buttons) max_viewers) _ d.0 in
+    and_true _ _ a.0
+    (and_true _ _ b.0
+    (and_true _ _ (and_true _ _ n.0 (newest_lists version (shapes_of scene) (lists_in w.world) n.1))
+    (and_true _ _ (newest_set w.world.buttons (eqb-true _ _ e.0)) d.1)))
 
 -- what it comes to that this is read of these bytes
 abbrev Found : List ℕ → SceneView → ℕ → List ℕ → ℕ × Scripted → Type 0

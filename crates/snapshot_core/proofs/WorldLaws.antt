@@ -29,7 +29,7 @@ use Rattle.snapshot_core.specs.Shot.{body_codec}
 use Rattle.snapshot_core.specs.WorldCodec.{buttons_codec, lines_codec, lists_in, parts_in, parts_codec, set_has_bytes, world_codec, world_of, world_with}
 use Rattle.snapshot_core.proofs.LineLaws.{lines_exact}
 use Rattle.snapshot_core.proofs.NodeLaws.{nodes_exact}
-use Rattle.snapshot_core.proofs.SetLaws.{few_bits, number_back, over_back, over_length, number_small}
+use Rattle.snapshot_rules.proofs.SetLaws.{few_bits, number_back, over_back, over_length, number_small}
 
 -- ---- reading: how far it had come, and then its parts
 
@@ -104,13 +104,13 @@ regroup : (old b a t n u s l : List ℕ) → ((((old ++ (b ++ (a ++ t))) ++ n) +
 regroup old b a t n u s l = simp append_assoc refl
 
 pub body_written : (version : Version) (scene : SceneView) (boot : ℕ) (w : Scripted) (old o1 o2 o3 o4 new : List ℕ) → o1 ≡ old ++ progress_codec.write (record { boot = boot; applied = w.world.applied; last_time = w.world.last_time })
-    → o2 ≡ o1 ++ (nodes_codec version (shapes_of scene)).write (lists_in w.world) → o3 ≡ o2 ++ (buttons_codec version).write w.world.buttons
+    → o2 ≡ o1 ++ (nodes_codec version scene).write (lists_in w.world) → o3 ≡ o2 ++ (buttons_codec version).write w.world.buttons
     → o4 ≡ o3 ++ (states_codec (length (kinds_in scene))).write w.states → new ≡ o4 ++ (lines_codec (shapes_of scene)).write w.world.trace
     → new ≡ old ++ (body_codec version scene).write (boot, w)
 unfolding world_codec parts_codec progress_codec
 body_written version scene boot w old o1 o2 o3 o4 new p n u s l =
     let shapes = shapes_of scene in
-    rw (l, s, u, n, p) (regroup old (number_text w32 boot) (applied_codec.write w.world.applied) (moment_codec.write w.world.last_time) ((nodes_codec version shapes).write (lists_in w.world)) ((buttons_codec version).write w.world.buttons) ((states_codec (length (kinds_in scene))).write w.states) ((lines_codec shapes).write w.world.trace))
+    rw (l, s, u, n, p) (regroup old (number_text w32 boot) (applied_codec.write w.world.applied) (moment_codec.write w.world.last_time) ((nodes_codec version scene).write (lists_in w.world)) ((buttons_codec version).write w.world.buttons) ((states_codec (length (kinds_in scene))).write w.states) ((lines_codec shapes).write w.world.trace))
 
 -- ---- exactness
 
@@ -133,7 +133,7 @@ newest_set set len = and_true _ _ (eq-eqb _ _ len) (lt-ltb _ _ (number_small set
 
 parts_exact : (version : Version) (scene : SceneView) → IsExact (parts_codec version scene)
 unfolding parts_codec
-parts_exact version scene = named_exact _ _ _ (λ a. refl) (λ b. refl) (pair_exact _ _ (nodes_exact version (shapes_of scene)) (pair_exact _ _ (buttons_exact version) (pair_exact _ _ (states_exact (length (kinds_in scene))) (lines_exact (shapes_of scene)))))
+parts_exact version scene = named_exact _ _ _ (λ a. refl) (λ b. refl) (pair_exact _ _ (nodes_exact version scene) (pair_exact _ _ (buttons_exact version) (pair_exact _ _ (states_exact (length (kinds_in scene))) (lines_exact (shapes_of scene)))))
 
 pub world_exact : (version : Version) (scene : SceneView) → IsExact (world_codec version scene)
 unfolding world_codec

@@ -1,7 +1,7 @@
 -- What a snapshot has of the nodes of a scene, by their types and what Scripts declare (our
 -- choice).
 use Rattle.std.specs.Prelude.{ℕ, ◌+◌, ◌==◌, ◌&&◌, Bool, List, [], ◌∷◌, length, map, Option, Some, slice_index_or}
-use Rattle.byte_codec.specs.Codec.{Codec, refined, named, pair, rows}
+use Rattle.byte_codec.specs.Codec.{Codec, checked, refined, named, pair, rows}
 use Rattle.x3d_values.specs.declared.fields.Fields.{Fields}
 use Rattle.x3d_values.specs.declared.node_type.NodeType.{NodeType}
 use Rattle.x3d_values.specs.declared.node_type.NodeType.TheVariants.{Group}
@@ -11,13 +11,12 @@ use Rattle.scene_core.specs.Scene.{SceneView, shapes_of}
 use Rattle.scene_core.specs.Shape.{Shape, rows_of}
 use Rattle.snapshot_codec.specs.declared.kept.KeptField.{KeptField}
 use Rattle.snapshot_codec.specs.Fields.{kept_field, fields_codec}
-use Rattle.sensor_core.specs.Touches.{Touch}
+use Rattle.sensor_plane.specs.declared.pointing.PointingState.{PointingState}
 use Rattle.snapshot_rules.specs.declared.beside.Beside.{Beside}
 use Rattle.snapshot_rules.specs.declared.version.Version.{Version}
-pub use Rattle.snapshot_rules.specs.Beside.{always, touch_in, touch_bytes, touch_fits, is_untouched}
-pub use Rattle.snapshot_rules.specs.Beside.{touch_has_bytes}
-unfoldable pub use Rattle.snapshot_rules.specs.Beside.{time_part, pointers_codec, touch_part}
-unfoldable pub use Rattle.snapshot_rules.specs.Beside.{position_part, beside_codec}
+unfoldable pub use Rattle.snapshot_rules.specs.Beside.{time_part, pointing_part, position_part}
+unfoldable pub use Rattle.snapshot_rules.specs.Beside.{beside_codec}
+use Rattle.cascade_world.specs.Fits.{all_lead}
 use Rattle.snapshot_core.specs.declared.nodes.NodeLists.{NodeLists}
 use Rattle.snapshot_core.specs.declared.nodes.NodeState.{NodeState}
 
@@ -44,13 +43,13 @@ abbrev pub node_of : List (Option Value) × Beside → NodeState
 node_of parts = record {
   fields = record { values = parts.0; position = parts.1.position };
   time = parts.1.time;
-  touch = parts.1.touch;
+  pointing = parts.1.pointing;
 }
 
 abbrev pub node_parts : NodeState → List (Option Value) × Beside
 node_parts node = (
   node.fields.values,
-  record { time = node.time; touch = node.touch; position = node.fields.position },
+  record { time = node.time; pointing = node.pointing; position = node.fields.position },
 )
 
 -- the values of these fields, and what stands behind them in snapshots of a version
@@ -64,31 +63,38 @@ node_codec version shape = state_codec version (kept_fields shape) shape.node_ty
 -- ---- all nodes
 
 -- node by node, up to the end of the shortest list
-abbrev pub nodes_from : List Fields → List (Option ℕ) → List Touch → List NodeState
-nodes_from [] sensors touches = []
-nodes_from (fields ∷ others) [] touches = []
+abbrev pub nodes_from : List Fields → List (Option ℕ) → List PointingState → List NodeState
+nodes_from [] sensors pointing = []
+nodes_from (fields ∷ others) [] pointing = []
 nodes_from (fields ∷ others) (time ∷ sensors) [] = []
-nodes_from (fields ∷ others) (time ∷ sensors) (touch ∷ touches) =
-    record { fields = fields; time = time; touch = touch } ∷ nodes_from others sensors touches
+nodes_from (fields ∷ others) (time ∷ sensors) (state ∷ pointing) =
+    record { fields = fields; time = time; pointing = state }
+    ∷ nodes_from others sensors pointing
 
 abbrev pub by_nodes : NodeLists → List NodeState
-by_nodes lists = nodes_from lists.fields lists.sensors lists.touches
+by_nodes lists = nodes_from lists.fields lists.sensors lists.pointing
 
 abbrev pub by_lists : List NodeState → NodeLists
 by_lists nodes = record {
   fields = map (λ (node : NodeState). node.fields) nodes;
   sensors = map (λ (node : NodeState). node.time) nodes;
-  touches = map (λ (node : NodeState). node.touch) nodes;
+  pointing = map (λ (node : NodeState). node.pointing) nodes;
 }
 
 -- the lists are as long, and each node has bytes
 abbrev pub lists_fit : Version → List Shape → NodeLists → Bool
 lists_fit version shapes lists =
-    ((length lists.sensors == length lists.fields) && (length lists.touches == length lists.fields))
+    ((length lists.sensors == length lists.fields)
+    && (length lists.pointing == length lists.fields))
     && (rows (node_codec version) shapes).fits (by_nodes lists)
 
 -- the nodes one after the other
-unfoldable pub nodes_codec : Version → List Shape → Codec NodeLists
-nodes_codec version shapes =
+unfoldable pub lists_codec : Version → List Shape → Codec NodeLists
+lists_codec version shapes =
     refined (λ nodes. Some (by_lists nodes)) by_nodes (lists_fit version shapes)
     (rows (node_codec version) shapes)
+
+-- where the drags lead to their sensors
+unfoldable pub nodes_codec : Version → SceneView → Codec NodeLists
+nodes_codec version scene =
+    checked (λ lists. all_lead scene 0 lists.pointing) (lists_codec version (shapes_of scene))

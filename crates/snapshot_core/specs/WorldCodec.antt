@@ -69,7 +69,7 @@ unfoldable pub parts_codec : Version → SceneView → Codec WorldParts
 parts_codec version scene =
     named (λ t. record { nodes = t.0; buttons = t.1.0; states = t.1.1.0; trace = t.1.1.1 })
     (λ p. (p.nodes, (p.buttons, (p.states, p.trace))))
-    (pair (nodes_codec version (shapes_of scene))
+    (pair (nodes_codec version scene)
     (pair (buttons_codec version)
     (pair (states_codec (length (kinds_in scene))) (lines_codec (shapes_of scene)))))
 
@@ -81,7 +81,7 @@ world_of x = record {
     last_time = x.1.0;
     fields = x.1.1.nodes.fields;
     sensors = x.1.1.nodes.sensors;
-    touches = x.1.1.nodes.touches;
+    pointing = x.1.1.nodes.pointing;
     buttons = x.1.1.buttons;
     trace = x.1.1.trace;
   };
@@ -89,7 +89,7 @@ world_of x = record {
 }
 
 abbrev pub lists_in : WorldData → NodeLists
-lists_in w = record { fields = w.fields; sensors = w.sensors; touches = w.touches }
+lists_in w = record { fields = w.fields; sensors = w.sensors; pointing = w.pointing }
 
 abbrev pub parts_in : Scripted → WorldParts
 parts_in w = record {

@@ -1,18 +1,22 @@
 //! The nodes of a world, one after the other.
 
-ghost use Rattle.std.specs.Prelude.{◌≡◌, ◌<◌, ◌++◌, [], ◌∷◌, List, IfOk, OnErr, OnOk, length, min};
+ghost use Rattle.std.specs.Prelude.{◌≡◌, ◌<◌, ◌++◌, [], ◌∷◌, List, IfErr, IfOk, OnErr, OnOk, false, length, min, true};
 ghost use Rattle.std.specs.Option.{option_map};
 ghost use Rattle.x3d_lists.specs.Extends.{Extends};
 ghost use Rattle.scene_core.specs.Scene.{shapes_of};
 ghost use Rattle.snapshot_codec.specs.Reads.{Reads};
+ghost use Rattle.snapshot_codec.specs.declared.fault.PartFault.TheVariants.{NotCanonical};
+ghost use Rattle.cascade_world.specs.Fits.{all_lead};
 ghost use Rattle.snapshot_codec.specs.declared.kept.KeptField.{KeptField as Kept};
-ghost use Rattle.snapshot_core.specs.Nodes.{node_of, node_codec, nodes_codec, shape_in, state_codec};
+ghost use Rattle.snapshot_core.specs.Nodes.{lists_codec, node_of, node_codec, nodes_codec, shape_in, state_codec};
 ghost use Rattle.snapshot_core.specs.WorldCodec.{lists_in};
 
 use crate::kept::list_kept;
 use cascade_core::WorldData;
+use cascade_world::all_lead;
 use scene_core::Scene;
-use sensor_core::{TimeState, TouchState};
+use sensor_core::TimeState;
+use sensor_plane::PointingState;
 use snapshot_codec::{KeptField, PartFault, kept_fields_of, push_kept_fields};
 use snapshot_rules::{Beside, Version, beside_of, push_beside};
 use std::alloc::{AllocError, Global};
@@ -23,7 +27,7 @@ use x3d_values::{Fields, Items, NodeType, Value};
 pub(crate) struct NodeState {
     pub fields: Fields,
     pub time: TimeState,
-    pub touch: TouchState,
+    pub pointing: PointingState,
 }
 
 /// What the nodes of a world keep, by their numbers.
@@ -31,19 +35,19 @@ pub(crate) struct NodeState {
 pub(crate) struct NodeLists {
     pub fields: Items<Fields>,
     pub sensors: Items<TimeState>,
-    pub touches: Items<TouchState>,
+    pub pointing: Items<PointingState>,
 }
 
 impl NodeLists {
     ghost use Rattle.std.specs.Prelude.{◌≡◌, ◌++◌, [], ◌∷◌, OnOk};
 
     fn new(alloc: Global) -> NodeLists
-        ensures { result ≡ record { fields = []; sensors = []; touches = [] } }
+        ensures { result ≡ record { fields = []; sensors = []; pointing = [] } }
     {
         NodeLists {
             fields: Items::new(alloc),
             sensors: Items::new(alloc),
-            touches: Items::new(alloc),
+            pointing: Items::new(alloc),
         }
     }
 
@@ -52,19 +56,19 @@ impl NodeLists {
         ensures { OnOk result (self.new ≡ record {
           fields = self.old.fields ++ node.fields ∷ [];
           sensors = self.old.sensors ++ node.time ∷ [];
-          touches = self.old.touches ++ node.touch ∷ [];
+          pointing = self.old.pointing ++ node.pointing ∷ [];
         }) }
     {
         let NodeState {
             fields,
             time,
-            touch,
+            pointing,
         } = node;
         if let Err(refused) = self.sensors.push(time) {
             drop(fields);
             return Err(refused);
         }
-        if let Err(refused) = self.touches.push(touch) {
+        if let Err(refused) = self.pointing.push(pointing) {
             drop(fields);
             return Err(refused);
         }
@@ -82,7 +86,7 @@ fn node_with(values: Items<Option<Value>>, beside: Beside) -> NodeState
             position: beside.position,
         },
         time: beside.time,
-        touch: beside.touch,
+        pointing: beside.pointing,
     }
 }
 
@@ -125,15 +129,15 @@ fn node_of<'a>(
 }
 
 /// What the nodes of the scene keep, at the front of the bytes, and the bytes behind it.
-#[tactic(auto, unfolding(crate::specs::Nodes::nodes_codec))]
-pub(crate) fn nodes_of<'a>(
+#[tactic(auto, unfolding(crate::specs::Nodes::lists_codec))]
+fn lists_of<'a>(
     alloc: Global,
     version: Version,
     scene: &Scene,
     bytes: &'a [u8],
 ) -> Result<(NodeLists, &'a [u8]), PartFault>
     ensures { Reads (λ x. (x.0, x.1.now)) result
-        ((nodes_codec version (shapes_of scene.now)).read bytes.now) }
+        ((lists_codec version (shapes_of scene.now)).read bytes.now) }
 {
     let count = scene.count()?;
     let mut lists = NodeLists::new(alloc);
@@ -156,6 +160,43 @@ pub(crate) fn nodes_of<'a>(
     Ok((lists, rest))
 }
 
+/// Whether the drags at these nodes lead to their sensors; one that doesn't is `NotCanonical`. No
+/// memory holds 2^32 nodes.
+fn check_drags(scene: &Scene, pointing: &[PointingState]) -> Result<(), PartFault>
+    ensures ok { OnOk result (all_lead scene.now 0 pointing.now ≡ true) }
+    ensures err { IfErr result (λ fault. fault ≡ NotCanonical
+        → all_lead scene.now 0 pointing.now ≡ false) }
+{
+    let Ok(count) = u32::try_from(pointing.len()) else {
+        return Err(PartFault::Memory);
+    };
+    if all_lead(scene, count, pointing) {
+        Ok(())
+    } else {
+        Err(PartFault::NotCanonical)
+    }
+}
+
+/// What the nodes of the scene keep, at the front of the bytes, and the bytes behind it, where the
+/// drags lead to their sensors.
+#[tactic(auto, unfolding(crate::specs::Nodes::nodes_codec))]
+pub(crate) fn nodes_of<'a>(
+    alloc: Global,
+    version: Version,
+    scene: &Scene,
+    bytes: &'a [u8],
+) -> Result<(NodeLists, &'a [u8]), PartFault>
+    ensures { Reads (λ x. (x.0, x.1.now)) result
+        ((nodes_codec version scene.now).read bytes.now) }
+{
+    let (lists, rest) = lists_of(alloc, version, scene, bytes)?;
+    if let Err(fault) = check_drags(scene, lists.pointing.as_slice()) {
+        drop(lists);
+        return Err(fault);
+    }
+    Ok((lists, rest))
+}
+
 /// Appends what a node of this type keeps, as a snapshot of this version has it; on a refusal
 /// perhaps a part of it.
 #[tactic(auto, unfolding(crate::specs::Nodes::state_codec))]
@@ -164,20 +205,20 @@ fn push_node(
     node_type: NodeType,
     fields: &Fields,
     time: TimeState,
-    touch: TouchState,
+    pointing: PointingState,
     out: &mut Vec<u8>,
 ) -> Result<(), AllocError>
     ensures ok { (kept : List Kept)
         → OnOk result (out.new.items
         ≡ out.old.items
         ++ (state_codec version kept node_type).write
-        (record { fields = fields.now; time = time; touch = touch })) }
+        (record { fields = fields.now; time = time; pointing = pointing })) }
     ensures kept { Extends out.old.items out.new.items }
 {
     push_kept_fields(fields.values.as_slice(), out)?;
     let beside = Beside {
         time,
-        touch,
+        pointing,
         position: fields.position,
     };
     push_beside(version, node_type, &beside, out)
@@ -188,16 +229,16 @@ fn shared_count(scene: &Scene, world: &WorldData) -> Result<u32, AllocError>
     ensures { IfOk result (λ count. count
         ≡ min (length scene.now.nodes)
         (min (length world.now.fields)
-        (min (length world.now.sensors) (length world.now.touches)))) }
+        (min (length world.now.sensors) (length world.now.pointing)))) }
 {
     let count = scene.count()? as usize;
-    let sensors = world.sensors.len().min(world.touches.len());
+    let sensors = world.sensors.len().min(world.pointing.len());
     let lists = world.fields.as_slice().len().min(sensors);
     Ok(count.min(lists) as u32)
 }
 
 /// Appends what the nodes of the scene keep; on a refusal perhaps a part of it.
-#[tactic(auto, unfolding(crate::specs::Nodes::nodes_codec))]
+#[tactic(auto, unfolding(crate::specs::Nodes::nodes_codec, crate::specs::Nodes::lists_codec))]
 pub(crate) fn push_nodes(
     version: Version,
     scene: &Scene,
@@ -205,13 +246,13 @@ pub(crate) fn push_nodes(
     out: &mut Vec<u8>,
 ) -> Result<(), AllocError>
     ensures ok { OnOk result (out.new.items
-        ≡ out.old.items ++ (nodes_codec version (shapes_of scene.now)).write (lists_in world.now)) }
+        ≡ out.old.items ++ (nodes_codec version scene.now).write (lists_in world.now)) }
     ensures kept { Extends out.old.items out.new.items }
 {
     let count = shared_count(scene, world)?;
     let fields = world.fields.as_slice();
     let sensors = world.sensors.as_slice();
-    let touches = world.touches.as_slice();
+    let pointing = world.pointing.as_slice();
     for node in 0..count {
         let at = node as usize;
         push_node(
@@ -219,7 +260,7 @@ pub(crate) fn push_nodes(
             scene.node_type(node),
             &fields[at],
             sensors[at],
-            touches[at],
+            pointing[at],
             out,
         )?;
     }

@@ -94,7 +94,7 @@ fn found_with(progress: Progress, parts: WorldParts) -> Found
         last_time: progress.last_time,
         fields: State::from_vec(nodes.fields.into_vec()),
         sensors: Watched::from_vec(nodes.sensors.into_vec()),
-        touches: Watched::from_vec(nodes.touches.into_vec()),
+        pointing: Watched::from_vec(nodes.pointing.into_vec()),
         buttons,
         trace,
     };

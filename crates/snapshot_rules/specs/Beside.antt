@@ -1,28 +1,43 @@
 -- What a snapshot has of a node behind its fields, by the node's type (our choice).
-use Rattle.std.specs.Prelude.{ℕ, ◌==◌, ◌&&◌, Bool, not, is_none, [], length, Option, Some, None, true}
-use Rattle.std.specs.Option.{option_map_or}
-use Rattle.byte_codec.specs.Codec.{Codec, refined, named, pair}
+use Rattle.std.specs.Prelude.{ℕ, ◌==◌, ◌&&◌, Bool, true, false, is_none, List, [], length, Option, Some, None}
+use Rattle.std.specs.Option.{option_map, option_map_or}
+use Rattle.byte_codec.specs.Codec.{Codec, refined, worded, named, pair}
 use Rattle.x3d_values.specs.declared.fields.Position.{Position}
 use Rattle.x3d_values.specs.declared.node_type.NodeType.{NodeType}
-use Rattle.x3d_values.specs.declared.node_type.NodeType.TheVariants.{TimeSensor, TouchSensor, BooleanSequencer, IntegerSequencer}
+use Rattle.x3d_values.specs.declared.node_type.NodeType.TheVariants.{TimeSensor, TouchSensor, PlaneSensor, BooleanSequencer, IntegerSequencer}
 use Rattle.x3d_values.specs.declared.ranges.TheConstants.{MAX_VIEWERS}
 use Rattle.x3d_values.specs.Ranges.{is_viewer}
+use Rattle.snapshot_codec.specs.declared.plane.Drag.{Drag as DragBytes}
+use Rattle.snapshot_codec.specs.declared.plane.Plane.{Plane as PlaneBytes}
 use Rattle.snapshot_codec.specs.declared.viewers.Touch.{Touch as TouchBytes}
-use Rattle.snapshot_codec.specs.Parts.{cycle_codec, touch_codec, position_codec}
+use Rattle.snapshot_codec.specs.Parts.{cycle_codec, touch_codec, plane_codec, position_codec}
 use Rattle.sensor_core.specs.Parts.{number_of, touch_of_parts}
-use Rattle.sensor_core.specs.Touches.{Touch, untouched, is_over}
+use Rattle.sensor_core.specs.Touches.{Touch}
+use Rattle.sensor_plane.specs.declared.drag.Drag.{Drag}
+use Rattle.sensor_plane.specs.declared.pointing.PointingState.{PointingState}
+use Rattle.sensor_plane.specs.declared.pointing.PointingState.TheVariants as state
+use Rattle.sensor_plane.specs.PlaneParts.{plane_of_parts}
+use Rattle.sensor_plane.specs.Planes.{Plane}
+use Rattle.sensor_plane.specs.Pointing.{is_no_sensor, plane_fits}
 use Rattle.snapshot_rules.specs.declared.beside.Beside.{Beside}
 use Rattle.snapshot_rules.specs.declared.version.Version.{Version}
+use Rattle.snapshot_rules.specs.declared.version.Version.TheVariants.{One, Two}
 use Rattle.snapshot_rules.specs.Opening.{viewers_of}
 
 -- what has no bytes: x and no other value
 abbrev pub always : {A : Type 0} → A → (A → Bool) → Codec A
 always x is_x = record { write = λ _. []; read = λ bytes. Some (x, bytes); fits = is_x }
 
+-- no value, and no bytes that are read
+abbrev pub never : {A : Type 0} → Codec A
+never = record { write = λ _. []; read = λ _. None; fits = λ _. false }
+
 -- a TimeSensor's cycle
 unfoldable pub time_part : NodeType → Codec (Option ℕ)
 time_part TimeSensor = cycle_codec
 time_part _ = always None is_none
+
+-- ---- a TouchSensor
 
 abbrev pub touch_in : TouchBytes → Option Touch
 touch_in bytes = touch_of_parts (record { over = bytes.over; presser = bytes.presser })
@@ -44,12 +59,69 @@ unfoldable pub pointers_codec : Version → Codec Touch
 pointers_codec version =
     refined touch_in touch_bytes (touch_has_bytes version) (touch_codec (viewers_of version))
 
-abbrev pub is_untouched : Touch → Bool
-is_untouched touch = touch_fits touch && (not (is_over touch) && is_none touch.presser)
+-- ---- a PlaneSensor
 
-unfoldable pub touch_part : Version → NodeType → Codec Touch
-touch_part version TouchSensor = pointers_codec version
-touch_part version _ = always untouched is_untouched
+abbrev pub drag_in : DragBytes → Drag
+drag_in drag = record {
+  presser = drag.presser;
+  start = drag.start;
+  last = drag.last;
+  path = drag.path;
+}
+
+abbrev pub drag_bytes : Drag → DragBytes
+drag_bytes drag = record {
+  presser = drag.presser;
+  start = drag.start;
+  last = drag.last;
+  path = drag.path;
+}
+
+abbrev pub plane_in : PlaneBytes → Option Plane
+plane_in bytes =
+    plane_of_parts (record { over = bytes.over; drag = option_map drag_in bytes.drag })
+
+abbrev pub plane_bytes : Plane → PlaneBytes
+plane_bytes plane =
+    record { over = number_of plane.over; drag = option_map drag_bytes plane.drag }
+
+-- who is over a PlaneSensor, and its drag
+unfoldable pub drags_codec : Codec Plane
+drags_codec = refined plane_in plane_bytes (λ plane. plane_fits (state.Plane plane)) plane_codec
+
+-- ---- where viewers point
+
+-- a state has bytes as what is kept of a TouchSensor
+abbrev pub touch_text : Version → PointingState → List ℕ
+touch_text version (state.Touch touch) = (pointers_codec version).write touch
+touch_text version _ = []
+
+abbrev pub is_touch : Version → PointingState → Bool
+is_touch version (state.Touch touch) = touch_has_bytes version touch
+is_touch version _ = false
+
+unfoldable pub touch_part : Version → Codec PointingState
+touch_part version =
+    worded (touch_text version) (λ touch. Some (state.Touch touch)) (is_touch version)
+    (pointers_codec version)
+
+-- and as what is kept of a PlaneSensor
+abbrev pub plane_text : PointingState → List ℕ
+plane_text (state.Plane plane) = drags_codec.write plane
+plane_text _ = []
+
+-- version 1 has none
+unfoldable pub plane_part : Version → Codec PointingState
+plane_part One = never
+plane_part Two = worded plane_text (λ plane. Some (state.Plane plane)) plane_fits drags_codec
+
+-- what is kept of a node where viewers point
+unfoldable pub pointing_part : Version → NodeType → Codec PointingState
+pointing_part version TouchSensor = touch_part version
+pointing_part version PlaneSensor = plane_part version
+pointing_part version _ = always state.NoSensor is_no_sensor
+
+-- ---- a node
 
 -- a sequencer's position
 unfoldable pub position_part : NodeType → Codec Position
@@ -60,6 +132,7 @@ position_part _ = always (record { at = None }) (λ position. is_none position.a
 -- in snapshots of a version
 unfoldable pub beside_codec : Version → NodeType → Codec Beside
 beside_codec version node_type =
-    named (λ t. record { time = t.0; touch = t.1.0; position = t.1.1 })
-    (λ b. (b.time, (b.touch, b.position)))
-    (pair (time_part node_type) (pair (touch_part version node_type) (position_part node_type)))
+    named (λ t. record { time = t.0; pointing = t.1.0; position = t.1.1 })
+    (λ b. (b.time, (b.pointing, b.position)))
+    (pair (time_part node_type)
+    (pair (pointing_part version node_type) (position_part node_type)))

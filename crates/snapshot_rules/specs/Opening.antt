@@ -3,28 +3,32 @@ use Rattle.std.specs.Prelude.{ℕ, ◌==◌, List, Option, Some, None, Result, i
 use Rattle.std.specs.Option.{option_and_then, unwrap_or}
 use Rattle.snapshot_codec.specs.declared.head.HeadFault.{HeadFault}
 use Rattle.snapshot_codec.specs.declared.viewers.Viewers.{Viewers}
-use Rattle.snapshot_codec.specs.declared.viewers.Viewers.TheVariants.{Sixteen}
+use Rattle.snapshot_codec.specs.declared.viewers.Viewers.TheVariants.{Sixteen, SixtyFour}
 use Rattle.snapshot_codec.specs.Head.{head_fault, opened}
 use Rattle.snapshot_rules.specs.declared.version.Version.{Version}
-use Rattle.snapshot_rules.specs.declared.version.Version.TheVariants.{One}
+use Rattle.snapshot_rules.specs.declared.version.Version.TheVariants.{One, Two}
 
 -- ---- the versions that are read
 
 -- the number of a version: the fifth byte of its snapshots
 abbrev pub version_number : Version → ℕ
 version_number One = 1
+version_number Two = 2
 
 -- the version of this number, where there is one
 abbrev pub version_of : ℕ → Option Version
-version_of n = if n == version_number One then Some One else None
+version_of n =
+    if n == version_number One then Some One
+    else (if n == version_number Two then Some Two else None)
 
 -- the version of the snapshots that are written
 abbrev pub newest : Version
-newest = One
+newest = Two
 
 -- how many viewers a world has in snapshots of a version
 abbrev pub viewers_of : Version → Viewers
 viewers_of One = Sixteen
+viewers_of Two = SixtyFour
 
 -- ---- the version of a snapshot
 

@@ -4,23 +4,23 @@ ghost use Rattle.std.specs.Prelude.{◌≡◌, ◌++◌, IsTrue, OnErr, OnOk};
 ghost use Rattle.std.specs.Option.{option_map};
 ghost use Rattle.x3d_lists.specs.Extends.{Extends};
 ghost use Rattle.snapshot_codec.specs.Parts.{cycle_fits, cycle_codec};
-ghost use Rattle.snapshot_rules.specs.Beside.{time_part, touch_bytes, pointers_codec, touch_part, position_part, beside_codec};
+ghost use Rattle.snapshot_rules.specs.Beside.{time_part, position_part, beside_codec};
 
+use crate::pointing::{pointing_of, push_pointing};
 use crate::version::Version;
-use sensor_core::{TimeState, TouchParts, TouchState};
-use snapshot_codec::{
-    Touch, cycle_of, position_of, push_cycle, push_position, push_touch, touch_of,
-};
+use sensor_core::TimeState;
+use sensor_plane::PointingState;
+use snapshot_codec::{cycle_of, position_of, push_cycle, push_position};
 use std::alloc::AllocError;
 use x3d_values::{NodeType, Position};
 
-/// What a node keeps beside the values of its fields: which cycle a TimeSensor runs, whose pointers
-/// are over a TouchSensor and who presses it, and which value a sequencer sent last. A node of
-/// another type keeps none of it.
+/// What a node keeps beside the values of its fields: which cycle a TimeSensor runs, what a
+/// TouchSensor or a PlaneSensor keeps of the viewers that point, and which value a sequencer sent
+/// last. A node of another type keeps none of it.
 #[derive(Clone, Copy)]
 pub struct Beside {
     pub time: TimeState,
-    pub touch: TouchState,
+    pub pointing: PointingState,
     pub position: Position,
 }
 
@@ -65,73 +65,6 @@ fn push_time(node_type: NodeType, time: TimeState, out: &mut Vec<u8>) -> Result<
     }
 }
 
-/// Who is over a TouchSensor, and who presses it, at the front of the bytes.
-#[tactic(auto, unfolding(crate::specs::Beside::pointers_codec))]
-fn pointers_of(version: Version, bytes: &[u8]) -> Option<(TouchState, &[u8])>
-    ensures { option_map (λ x. (x.0, x.1.now)) result ≡ (pointers_codec version).read bytes.now }
-{
-    let Some((touch, rest)) = touch_of(version.viewers(), bytes) else {
-        return None;
-    };
-    let state = TouchState::from_parts(TouchParts {
-        over: touch.over,
-        presser: touch.presser,
-    })?;
-    Some((state, rest))
-}
-
-#[tactic(auto, unfolding(crate::specs::Beside::touch_part))]
-fn touch_state_of(
-    version: Version,
-    node_type: NodeType,
-    bytes: &[u8],
-) -> Option<(TouchState, &[u8])>
-    ensures { option_map (λ x. (x.0, x.1.now)) result
-        ≡ (touch_part version node_type).read bytes.now }
-{
-    match node_type {
-        NodeType::TouchSensor => pointers_of(version, bytes),
-        _ => Some((TouchState::untouched(), bytes)),
-    }
-}
-
-#[tactic(auto, unfolding(sensor_core::specs::Parts::parts_of_touch))]
-fn touch_bytes(touch: &TouchState) -> Touch
-    ensures { result ≡ touch_bytes touch.now }
-{
-    let parts = touch.parts();
-    Touch {
-        over: parts.over,
-        presser: parts.presser,
-    }
-}
-
-#[tactic(auto, unfolding(crate::specs::Beside::pointers_codec))]
-fn push_pointers(version: Version, touch: &TouchState, out: &mut Vec<u8>) -> Result<(), AllocError>
-    ensures ok { OnOk result
-        (out.new.items ≡ out.old.items ++ (pointers_codec version).write touch.now) }
-    ensures err { OnErr result (out.new.items ≡ out.old.items) }
-{
-    push_touch(version.viewers(), touch_bytes(touch), out)
-}
-
-#[tactic(auto, unfolding(crate::specs::Beside::touch_part))]
-fn push_touch_state(
-    version: Version,
-    node_type: NodeType,
-    touch: &TouchState,
-    out: &mut Vec<u8>,
-) -> Result<(), AllocError>
-    ensures ok { OnOk result
-        (out.new.items ≡ out.old.items ++ (touch_part version node_type).write touch.now) }
-    ensures err { OnErr result (out.new.items ≡ out.old.items) }
-{
-    match node_type {
-        NodeType::TouchSensor => push_pointers(version, touch, out),
-        _ => Ok(()),
-    }
-}
-
 #[tactic(auto, unfolding(crate::specs::Beside::position_part))]
 fn place_of(node_type: NodeType, bytes: &[u8]) -> Option<(Position, &[u8])>
     ensures { option_map (λ x. (x.0, x.1.now)) result ≡ (position_part node_type).read bytes.now }
@@ -166,7 +99,7 @@ pub fn beside_of(version: Version, node_type: NodeType, bytes: &[u8]) -> Option<
     let Some((time, rest)) = time_of(node_type, bytes) else {
         return None;
     };
-    let Some((touch, rest)) = touch_state_of(version, node_type, rest) else {
+    let Some((pointing, rest)) = pointing_of(version, node_type, rest) else {
         return None;
     };
     let Some((position, rest)) = place_of(node_type, rest) else {
@@ -174,7 +107,7 @@ pub fn beside_of(version: Version, node_type: NodeType, bytes: &[u8]) -> Option<
     };
     let beside = Beside {
         time,
-        touch,
+        pointing,
         position,
     };
     Some((beside, rest))
@@ -194,7 +127,7 @@ pub fn push_beside(
     ensures kept { Extends out.old.items out.new.items }
 {
     push_time(node_type, beside.time, out)?;
-    push_touch_state(version, node_type, &beside.touch, out)?;
+    push_pointing(version, node_type, &beside.pointing, out)?;
     push_place(node_type, beside.position, out)?;
     Ok(())
 }

@@ -3,7 +3,9 @@
 #![tactic(auto)]
 
 mod beside;
+mod dragging;
 mod opening;
+mod pointing;
 mod states;
 mod version;
 

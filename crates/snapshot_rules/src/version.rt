@@ -8,8 +8,10 @@ use snapshot_codec::Viewers;
 /// A version of the snapshots that are read.
 #[derive(Clone, Copy, PartialEq, Eq)]
 pub enum Version {
-    /// Of 16 viewers.
+    /// Of 16 viewers, and of scenes without PlaneSensors.
     One,
+    /// Of 64 viewers.
+    Two,
 }
 
 impl Version {
@@ -22,6 +24,7 @@ impl Version {
     {
         match self {
             Version::One => 1,
+            Version::Two => 2,
         }
     }
 
@@ -31,6 +34,7 @@ impl Version {
     {
         match number {
             1 => Some(Version::One),
+            2 => Some(Version::Two),
             _ => None,
         }
     }
@@ -41,6 +45,7 @@ impl Version {
     {
         match self {
             Version::One => Viewers::Sixteen,
+            Version::Two => Viewers::SixtyFour,
         }
     }
 }
@@ -49,7 +54,7 @@ impl Version {
 pub fn newest() -> Version
     ensures { result ≡ newest }
 {
-    Version::One
+    Version::Two
 }
 
 /// The version that bytes name, by their fifth; bytes that name none are held against the newest.

@@ -1,4 +1,4 @@
-//! Snapshots of version 1 by their bytes: today's `save` makes them, and they are loaded again.
+//! Snapshots by their bytes: `save` makes those of version 2, and those of both versions are loaded.
 
 ghost use Rattle.std.specs.Prelude.{◌≡◌, IfOk};
 ghost use Rattle.cascade_core.specs.Scripts.{scripts_in};
@@ -16,10 +16,10 @@ use share_commands::{SharedJob, shared_job};
 use share_jobs::Inputs;
 use share_program::{RunFault, attach};
 use share_words::Order;
-use snapshot_core::{Saved, load_into, save};
+use snapshot_core::{Saved, SnapFault, load_into, save};
 use std::alloc::Global;
 use std::process::Abort;
-use stored::{CLOCKED, EMPTY, EVERYTHING, OPENING, Stored};
+use stored::{CLOCKED, DRAGGING, EMPTY, EVERYTHING, OPENING, Stored};
 
 /// Boxes of the stock for the scripts of a scene.
 fn scripts_of(alloc: Global, scene: &Scene) -> Result<Scripts<StockScript>, RunFault>
@@ -104,18 +104,33 @@ fn are_alike(alloc: Global, one: &Stage<StockScript>, other: &Stage<StockScript>
     pushed && same
 }
 
-/// Whether a stage that applies all inputs is saved as these bytes, and one that loads them is left
-/// as that one, and saved as the same bytes again.
-fn are_exact(alloc: Global, one: &mut Begun, other: &mut Begun, stored: &Stored) -> bool {
+/// Whether a stage loads a snapshot of boot 1, as boot 2, and is then left as one that applied all
+/// inputs, and saved as the same bytes.
+fn is_loaded(alloc: Global, one: &Begun, other: &mut Begun, stored: &Stored, shot: &[u8]) -> bool {
     let saved = Saved {
         boot: 1,
         applied: stored.applied,
     };
-    applies_all(&mut one.stage, &one.inputs)
-        && is_saved(alloc, &one.stage, &one.mark, stored.shot)
-        && load_into(&mut other.stage, &other.mark, 2, stored.shot) == Ok(saved)
+    load_into(&mut other.stage, &other.mark, 2, shot) == Ok(saved)
         && are_alike(alloc, &one.stage, &other.stage)
         && is_saved(alloc, &other.stage, &other.mark, stored.shot)
+}
+
+/// Whether it is so of the snapshot of version 1, if there is one.
+fn is_old_loaded(alloc: Global, one: &Begun, other: &mut Begun, stored: &Stored) -> bool {
+    match stored.old {
+        Some(old) => is_loaded(alloc, one, other, stored, old),
+        None => true,
+    }
+}
+
+/// Whether a stage that applies all inputs is saved as the snapshot of version 2; and it is so of
+/// that as well.
+fn are_exact(alloc: Global, one: &mut Begun, other: &mut Begun, stored: &Stored) -> bool {
+    applies_all(&mut one.stage, &one.inputs)
+        && is_saved(alloc, &one.stage, &one.mark, stored.shot)
+        && is_old_loaded(alloc, one, other, stored)
+        && is_loaded(alloc, one, other, stored, stored.shot)
 }
 
 fn end(begun: Begun) {
@@ -143,7 +158,7 @@ fn a_scene_without_nodes(rt: HostRuntime) {
 }
 
 #[test]
-fn a_scene_before_and_after_a_clock(rt: HostRuntime) {
+fn old_snapshot_loads(rt: HostRuntime) {
     holds(&rt, rt.alloc(), &OPENING);
     holds(&rt, rt.alloc(), &CLOCKED);
 }
@@ -151,4 +166,91 @@ fn a_scene_before_and_after_a_clock(rt: HostRuntime) {
 #[test]
 fn each_kind_of_state_and_field(rt: HostRuntime) {
     holds(&rt, rt.alloc(), &EVERYTHING);
+}
+
+#[test]
+fn a_drag_in_progress(rt: HostRuntime) {
+    holds(&rt, rt.alloc(), &DRAGGING);
+}
+
+/// Whether the snapshots of version 1 and of version 2 have so many bytes.
+fn have_sizes(stored: &Stored, old: usize, new: usize) -> bool {
+    match stored.old {
+        Some(shot) => shot.len() == old && stored.shot.len() == new,
+        None => false,
+    }
+}
+
+#[test]
+fn sizes(rt: HostRuntime) {
+    assert!(&rt; have_sizes(&EMPTY, 95, 101));
+    assert!(&rt; have_sizes(&OPENING, 147, 153));
+    assert!(&rt; have_sizes(&CLOCKED, 308, 314));
+}
+
+/// What the flipping of a bit of that byte is refused as.
+fn flip_fault(at: usize) -> SnapFault {
+    match at {
+        0..=3 => SnapFault::BadMagic,
+        4 => SnapFault::BadVersion,
+        5..=36 => SnapFault::WrongScene,
+        _ => SnapFault::BadDigest,
+    }
+}
+
+fn flip(bytes: &mut [u8], at: usize, bits: u8) {
+    if let Some(byte) = bytes.get_mut(at) {
+        *byte ^= bits;
+    }
+}
+
+/// Whether no bit of one byte can be flipped.
+fn refuses_byte(begun: &mut Begun, shot: &mut [u8], at: usize) -> bool {
+    for bits in [1, 2, 4, 8, 16, 32, 64, 128] {
+        flip(shot, at, bits);
+        let answer = load_into(&mut begun.stage, &begun.mark, 2, shot);
+        flip(shot, at, bits);
+        if answer != Err(flip_fault(at)) {
+            return false;
+        }
+    }
+    true
+}
+
+/// Whether no bit of a snapshot can be flipped; as it is it is then loaded.
+fn refuses_flips(begun: &mut Begun, shot: &mut [u8]) -> bool {
+    for at in 0..shot.len() {
+        if !refuses_byte(begun, shot, at) {
+            return false;
+        }
+    }
+    load_into(&mut begun.stage, &begun.mark, 2, shot).is_ok()
+}
+
+/// Whether that is so of the snapshot of version 1.
+fn is_unflipped(alloc: Global, begun: &mut Begun, stored: &Stored) -> bool {
+    let Some(old) = stored.old else {
+        return false;
+    };
+    let Ok(mut shot) = old.to_vec(alloc) else {
+        return false;
+    };
+    let refused = refuses_flips(begun, shot.as_mut_slice());
+    drop(shot);
+    refused
+}
+
+fn flips(rt: &impl Abort, alloc: Global, stored: &Stored) {
+    let Some(mut begun) = begin(alloc, stored.job) else {
+        panic!(rt; "there is no stage");
+    };
+    let refused = is_unflipped(alloc, &mut begun, stored);
+    end(begun);
+    assert!(rt; refused);
+}
+
+#[test]
+fn flipped_snapshot_bit(rt: HostRuntime) {
+    flips(&rt, rt.alloc(), &OPENING);
+    flips(&rt, rt.alloc(), &CLOCKED);
 }

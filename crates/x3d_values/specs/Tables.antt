@@ -4,16 +4,17 @@ use Rattle.std.specs.Prelude.{◌≡◌, ⊤, MatchOption, ℕ, ◌+◌, ◌&&�
 use Rattle.std.specs.Option.{option_map}
 use Rattle.std.specs.Cmp.Lexicographic.{pointwise}
 use Rattle.x3d_values.specs.declared.default.FieldDefault.{FieldDefault}
-use Rattle.x3d_values.specs.declared.default.FieldDefault.TheVariants.{Empty, True, Int32, Float, Time, Vec3f, Color, PlainStyle, SerifFamily, BeginJustify, StandardAvatar, ExamineAny, BlackSky}
+use Rattle.x3d_values.specs.declared.default.FieldDefault.TheVariants.{Empty, True, Int32, Float, Time, Vec2f, Vec3f, Color, PlainStyle, SerifFamily, BeginJustify, StandardAvatar, ExamineAny, BlackSky}
 use Rattle.x3d_values.specs.declared.field_type.Access.{Access}
 use Rattle.x3d_values.specs.declared.field_type.Access.TheVariants.{InputOnly, OutputOnly, InputOutput, InitializeOnly}
 use Rattle.x3d_values.specs.declared.field_type.FieldType.{FieldType}
 use Rattle.x3d_values.specs.declared.field_type.FieldType.TheVariants.{SFBool, SFInt32, SFFloat, SFTime, SFString, SFVec2f, SFVec3f, SFColor, SFNode, MFBool, MFInt32, MFFloat, MFString, MFVec2f, MFVec3f, MFColor, MFNode, SFRotation}
 use Rattle.x3d_values.specs.declared.node_type.NodeType.{NodeType}
-use Rattle.x3d_values.specs.declared.node_type.NodeType.TheVariants.{Group, Transform, Switch, WorldInfo, Shape, Appearance, Material, ImageTexture, Box, Sphere, Cone, Cylinder, IndexedFaceSet, Text, Coordinate, Color, Normal, TextureCoordinate, FontStyle, Viewpoint, NavigationInfo, Background, DirectionalLight, PointLight, MetadataString, MetadataInteger, MetadataFloat, MetadataSet, TimeSensor, TouchSensor, ScalarInterpolator, PositionInterpolator, PositionInterpolator2D, CoordinateInterpolator, BooleanSequencer, IntegerSequencer, BooleanFilter, BooleanToggle, BooleanTrigger, IntegerTrigger, TimeTrigger, Script}
+use Rattle.x3d_values.specs.declared.node_type.NodeType.TheVariants.{Group, Transform, Switch, WorldInfo, Shape, Appearance, Material, ImageTexture, Box, Sphere, Cone, Cylinder, IndexedFaceSet, Text, Coordinate, Color, Normal, TextureCoordinate, FontStyle, Viewpoint, NavigationInfo, Background, DirectionalLight, PointLight, MetadataString, MetadataInteger, MetadataFloat, MetadataSet, TimeSensor, TouchSensor, PlaneSensor, ScalarInterpolator, PositionInterpolator, PositionInterpolator2D, CoordinateInterpolator, BooleanSequencer, IntegerSequencer, BooleanFilter, BooleanToggle, BooleanTrigger, IntegerTrigger, TimeTrigger, Script}
 use Rattle.x3d_values.specs.declared.node_type.NodeKind.{NodeKind}
 use Rattle.x3d_values.specs.declared.node_type.NodeKind.TheVariants as kind
 use Rattle.x3d_values.specs.declared.rows.Field.{Field}
+use Rattle.x3d_values.specs.declared.vector.Vec2.{Vec2}
 use Rattle.x3d_values.specs.declared.vector.Vec3.{Vec3}
 use Rattle.x3d_values.specs.declared.vector.Color as colors
 use Rattle.x3d_values.specs.declared.table.FieldRow.{FieldRow}
@@ -103,6 +104,9 @@ nodes name k = record {
   default = Some Empty;
   kind = Some k;
 }
+
+abbrev pub pair : ℤ → ℤ → Vec2
+pair x y = record { x = x; y = y }
 
 abbrev pub vector : ℤ → ℤ → ℤ → Vec3
 vector x y z = record { x = x; y = y; z = z }
@@ -363,6 +367,19 @@ rows TouchSensor =
     ∷ output (codes "hitPoint_changed") SFVec3f
     ∷ output (codes "isActive") SFBool
     ∷ output (codes "touchTime") SFTime
+    ∷ []
+rows PlaneSensor =
+    metadata
+    ∷ exposed (codes "autoOffset") SFBool True
+    ∷ exposed (codes "description") SFString Empty
+    ∷ exposed (codes "enabled") SFBool True
+    ∷ exposed (codes "maxPosition") SFVec2f (Vec2f (pair (negsuc 999999) (negsuc 999999)))
+    ∷ exposed (codes "minPosition") SFVec2f Empty
+    ∷ exposed (codes "offset") SFVec3f Empty
+    ∷ output (codes "isOver") SFBool
+    ∷ output (codes "isActive") SFBool
+    ∷ output (codes "trackPoint_changed") SFVec3f
+    ∷ output (codes "translation_changed") SFVec3f
     ∷ []
 rows ScalarInterpolator =
     metadata

@@ -38,6 +38,7 @@ pub enum NodeType {
     MetadataSet,
     TimeSensor,
     TouchSensor,
+    PlaneSensor,
     ScalarInterpolator,
     PositionInterpolator,
     PositionInterpolator2D,
@@ -105,6 +106,7 @@ impl NodeType {
             | NodeType::PointLight
             | NodeType::TimeSensor
             | NodeType::TouchSensor
+            | NodeType::PlaneSensor
             | NodeType::ScalarInterpolator
             | NodeType::PositionInterpolator
             | NodeType::PositionInterpolator2D

@@ -7,7 +7,7 @@ ghost use Rattle.x3d_values.specs.Tables.{entry, rows};
 use crate::default::FieldDefault;
 use crate::field_type::{Access, FieldType};
 use crate::node_type::{NodeKind, NodeType};
-use crate::vector::{Color, Vec3};
+use crate::vector::{Color, Vec2, Vec3};
 
 /// A field of a node type.
 #[derive(Clone, Copy)]
@@ -435,6 +435,27 @@ static TOUCH_SENSOR: [Field; 7] = [
     output!("touchTime", SFTime),
 ];
 
+static PLANE_SENSOR: [Field; 11] = [
+    METADATA,
+    exposed!("autoOffset", SFBool, FieldDefault::True),
+    exposed!("description", SFString, FieldDefault::Empty),
+    exposed!("enabled", SFBool, FieldDefault::True),
+    exposed!(
+        "maxPosition",
+        SFVec2f,
+        FieldDefault::Vec2f(Vec2 {
+            x: -1_000_000,
+            y: -1_000_000
+        })
+    ),
+    exposed!("minPosition", SFVec2f, FieldDefault::Empty),
+    exposed!("offset", SFVec3f, FieldDefault::Empty),
+    output!("isOver", SFBool),
+    output!("isActive", SFBool),
+    output!("trackPoint_changed", SFVec3f),
+    output!("translation_changed", SFVec3f),
+];
+
 static SCALAR_INTERPOLATOR: [Field; 5] = [
     METADATA,
     exposed!("key", MFFloat, FieldDefault::Empty),
@@ -562,6 +583,7 @@ pub fn fields_of(node_type: NodeType) -> &'static [Field]
         NodeType::MetadataSet => &METADATA_SET,
         NodeType::TimeSensor => &TIME_SENSOR,
         NodeType::TouchSensor => &TOUCH_SENSOR,
+        NodeType::PlaneSensor => &PLANE_SENSOR,
         NodeType::ScalarInterpolator => &SCALAR_INTERPOLATOR,
         NodeType::PositionInterpolator => &POSITION_INTERPOLATOR,
         NodeType::PositionInterpolator2D => &POSITION_INTERPOLATOR_2D,

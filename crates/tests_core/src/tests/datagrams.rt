@@ -35,9 +35,9 @@ const OFFER: &[u8] = b"X3DS\x01\x02abcdefghijklmnopqrstuvwxyzABCDEF\
 /// Viewer 1 asks for the inputs from 4 on.
 const ASK: &[u8] = b"X3DS\x01\x03abcdefghijklmnopqrstuvwxyzABCDEF\x01\x00\x00\x00\x04";
 
-/// Viewer 15 had 16909060 of its offers numbered in its boot 4294967295.
+/// Viewer 63 had 16909060 of its offers numbered in its boot 4294967295.
 const ACK: &[u8] = b"X3DS\x01\x04abcdefghijklmnopqrstuvwxyzABCDEF\
-    \x0f\xff\xff\xff\xff\x01\x02\x03\x04";
+    \x3f\xff\xff\xff\xff\x01\x02\x03\x04";
 
 /// The host has the inputs from 3 on.
 const FLOOR: &[u8] = b"X3DS\x01\x05abcdefghijklmnopqrstuvwxyzABCDEF\x00\x00\x00\x03";
@@ -105,7 +105,7 @@ fn each_message_has_its_bytes(rt: HostRuntime) {
     let offer = Offer::new(258, 7, Pointer::new(3, false, ray()));
     holds(&rt, is_both_ways(Body::Offer(offer), OFFER));
     holds(&rt, is_both_ways(Body::Ask(Ask::new(1, 4)), ASK));
-    let ack = Ack::new(15, u32::MAX, 0x0102_0304);
+    let ack = Ack::new(63, u32::MAX, 0x0102_0304);
     holds(&rt, is_both_ways(Body::Ack(ack), ACK));
     holds(&rt, is_both_ways(Body::Floor(Floor::new(3)), FLOOR));
     holds(&rt, is_piece_both_ways(2, b"snapshot", LAST));
@@ -264,9 +264,9 @@ static CHANGED: [Changed; 88] = [
     Changed(Of::Pointer, 77, NO_DIRECTION, Some(WireFault::ZeroRay)),
     // what a pointer of an input has
     Changed(Of::Pointer, 51, b"\x00", None),
-    Changed(Of::Pointer, 51, b"\x0f", None),
-    Changed(Of::Pointer, 51, b"\x10", Some(WireFault::BadRange)),
-    Changed(Of::Pointer, 51, b"\x10\x03", Some(WireFault::BadRange)),
+    Changed(Of::Pointer, 51, b"\x3f", None),
+    Changed(Of::Pointer, 51, b"\x40", Some(WireFault::BadRange)),
+    Changed(Of::Pointer, 51, b"\x40\x03", Some(WireFault::BadRange)),
     Changed(Of::Pointer, 52, b"\x00", None),
     Changed(Of::Pointer, 52, b"\x02", Some(WireFault::BadRange)),
     Changed(Of::Pointer, 53, FAR, None),
@@ -283,8 +283,8 @@ static CHANGED: [Changed; 88] = [
     Changed(Of::Pointer, 93, b"\x00\x00\x00\x00\x00\x00\x00\x01", None),
     Changed(Of::Pointer, 93, &[0; 8], Some(WireFault::ZeroRay)),
     // offers
-    Changed(Of::Offer, 38, b"\x0f", None),
-    Changed(Of::Offer, 38, b"\x10", Some(WireFault::BadRange)),
+    Changed(Of::Offer, 38, b"\x3f", None),
+    Changed(Of::Offer, 38, b"\x40", Some(WireFault::BadRange)),
     Changed(Of::Offer, 39, ZERO, Some(WireFault::BadRange)),
     Changed(Of::Offer, 39, b"\x00\x00\x00\x01", None),
     Changed(Of::Offer, 39, LARGEST, None),
@@ -295,14 +295,14 @@ static CHANGED: [Changed; 88] = [
     Changed(Of::Offer, 88, FAR_BACK, None),
     Changed(Of::Offer, 72, NO_DIRECTION, Some(WireFault::ZeroRay)),
     // asks and acks
-    Changed(Of::Ask, 38, b"\x0f", None),
-    Changed(Of::Ask, 38, b"\x10", Some(WireFault::BadRange)),
+    Changed(Of::Ask, 38, b"\x3f", None),
+    Changed(Of::Ask, 38, b"\x40", Some(WireFault::BadRange)),
     Changed(Of::Ask, 39, ZERO, Some(WireFault::BadRange)),
     Changed(Of::Ask, 39, b"\x00\x00\x00\x01", None),
     Changed(Of::Ask, 39, b"\x00\x10\x00\x01", None),
     Changed(Of::Ask, 39, b"\x00\x10\x00\x02", Some(WireFault::BadRange)),
     Changed(Of::Ack, 38, b"\x00\x00\x00\x00\x00\x00\x00\x00\x00", None),
-    Changed(Of::Ack, 38, b"\x10", Some(WireFault::BadRange)),
+    Changed(Of::Ack, 38, b"\x40", Some(WireFault::BadRange)),
     Changed(Of::Ack, 39, &[255; 8], None),
     // floors
     Changed(Of::Floor, 38, ZERO, Some(WireFault::BadRange)),

@@ -1,51 +1,77 @@
 //! Parts of a world with their bytes by hand.
 
-use super::holds;
+use super::{Row, all_hold, holds};
+use arrayvec::ArrayVec;
 use snapshot_codec::{
-    KeptField, Outputs, Progress, SentAt, Touch, TraceEntry, Viewers, kept_fields_of, open,
-    push_cycle, push_digest, push_entry, push_entry_count, push_front, push_kept_fields,
-    push_position, push_progress, push_state, push_touch, push_viewer_set, scene_mark, states_of,
-    trace_of,
+    Drag, HeadFault, KeptField, Outputs, Path, Plane, Progress, SentAt, Touch, TraceEntry, Viewers,
+    kept_fields_of, open, plane_of, push_cycle, push_digest, push_entry, push_entry_count,
+    push_front, push_kept_fields, push_plane, push_position, push_progress, push_state, push_touch,
+    push_viewer_set, scene_mark, states_of, touch_of, trace_of, viewer_set_of,
 };
 use std::alloc::Global;
 use std::process::Abort;
-use x3d_values::{FieldType, Items, Position, Value};
+use x3d_values::{FieldType, Items, Position, Value, Vec3};
 
 const MARK: [u8; 32] = *b"abcdefghijklmnopqrstuvwxyzABCDEF";
 
-/// The body of the snapshot of an empty world: boot 1, nothing applied, time 0, no buttons, no
-/// events.
+/// The body of the snapshot of an empty world: boot 1, nothing applied, time 0, no buttons of 16
+/// viewers, no events.
 const EMPTY: &[u8] = b"\x00\x00\x00\x01\x00\x00\x00\x00\x00\x00\x00\x00\x00\x00\x00\x00\
     \x00\x00\x00\x00\x00\x00\x00\x00\x00\x00";
 
+/// The same of 64 viewers: 6 bytes more.
+const EMPTY_OF_64: &[u8] = b"\x00\x00\x00\x01\x00\x00\x00\x00\
+    \x00\x00\x00\x00\x00\x00\x00\x00\x00\x00\x00\x00\x00\x00\x00\x00\
+    \x00\x00\x00\x00\x00\x00\x00\x00";
+
 /// Whether memory is given for it.
-fn push_empty(out: &mut Vec<u8>) -> bool {
+fn push_empty(version: u8, of: Viewers, out: &mut Vec<u8>) -> bool {
     let progress = Progress {
         boot: 1,
         applied: 0,
         last_time: 0,
     };
-    let front = push_front(1, &MARK, out).is_ok();
+    let front = push_front(version, &MARK, out).is_ok();
     let middle = push_progress(progress, out).is_ok();
-    let viewers = push_viewer_set(Viewers::Sixteen, 0, out).is_ok();
+    let viewers = push_viewer_set(of, 0, out).is_ok();
     let count = push_entry_count(0, out).is_ok();
     let digest = push_digest(0, out).is_ok();
     front & middle & viewers & count & digest
 }
 
-/// Whether the snapshot of an empty world is opened to that body.
-fn is_opened(alloc: Global) -> bool {
-    let mut out = Vec::new(alloc);
-    let pushed = push_empty(&mut out);
-    let len = out.len();
-    let opened = open(1, &MARK, out.as_slice()) == Ok(EMPTY);
-    drop(out);
-    pushed && len == 95 && opened
+/// Why bytes are no snapshot of a version with this body; another body has another digest.
+fn opened(version: u8, shot: &[u8], body: &[u8]) -> Option<HeadFault> {
+    match open(version, &MARK, shot) {
+        Ok(found) if found == body => None,
+        Ok(_) => Some(HeadFault::BadDigest),
+        Err(fault) => Some(fault),
+    }
 }
 
+/// A version and its viewers, the body of the snapshot of an empty world, and the length of that.
+struct Empty(u8, Viewers, &'static [u8], usize);
+
+/// Whether it is opened to that body by its own version, and by no other.
+impl Row for Empty {
+    fn holds(&self, alloc: Global) -> bool {
+        let mut out = Vec::new(alloc);
+        let pushed = push_empty(self.0, self.1, &mut out);
+        let len = out.len();
+        let is_opened = opened(self.0, out.as_slice(), self.2) == None;
+        let other = opened(3, out.as_slice(), self.2) == Some(HeadFault::BadVersion);
+        drop(out);
+        pushed && len == self.3 && is_opened && other
+    }
+}
+
+static EMPTIES: [Empty; 2] = [
+    Empty(1, Viewers::Sixteen, EMPTY, 95),
+    Empty(2, Viewers::SixtyFour, EMPTY_OF_64, 101),
+];
+
 #[test]
-fn an_empty_world_has_95_bytes(rt: HostRuntime) {
-    holds(&rt, is_opened(rt.alloc()));
+fn an_empty_world_has_95_bytes_or_101(rt: HostRuntime) {
+    all_hold(&rt, rt.alloc(), &EMPTIES);
 }
 
 #[test]
@@ -179,4 +205,142 @@ fn are_as_sent(alloc: Global) -> bool {
 fn parts_have_their_bytes(rt: HostRuntime) {
     holds(&rt, are_written(rt.alloc()));
     holds(&rt, are_as_sent(rt.alloc()));
+}
+
+/// A touch of two of 64 viewers, the last of whom presses.
+const TOUCH_OF_64: &[u8] = b"\x80\x00\x00\x00\x00\x00\x00\x01\x3f";
+
+/// Whether it has these bytes, and is read from them.
+fn is_touch_of_64(alloc: Global) -> bool {
+    let touch = Touch {
+        over: 1 << 63 | 1,
+        presser: Some(63),
+    };
+    let mut out = Vec::new(alloc);
+    let pushed = push_touch(Viewers::SixtyFour, touch, &mut out).is_ok();
+    let same = out.as_slice() == TOUCH_OF_64;
+    let read = touch_of(Viewers::SixtyFour, out.as_slice()) == Some((touch, &[]));
+    drop(out);
+    pushed && same && read
+}
+
+#[test]
+fn a_touch_has_its_bytes(rt: HostRuntime) {
+    holds(&rt, is_touch_of_64(rt.alloc()));
+    let below = b"\x00\x00\x00\x00\x00\x00\x00\x00\x40";
+    holds(&rt, touch_of(Viewers::SixtyFour, below).is_none());
+    holds(&rt, touch_of(Viewers::Sixteen, b"\x00\x00\x10").is_none());
+    holds(&rt, viewer_set_of(Viewers::SixtyFour, &[255; 7]).is_none());
+}
+
+/// A PlaneSensor that viewer 63 is over and presses, from 1 -0.000001 0 on, translated by 2 0 0, by
+/// the way down to the second root and its first child; and one that nobody is over.
+const PLANES: &[u8] = b"\x80\x00\x00\x00\x00\x00\x00\x00\x3f\
+    \x00\x00\x00\x00\x00\x0f\x42\x40\xff\xff\xff\xff\xff\xff\xff\xff\
+    \x00\x00\x00\x00\x00\x00\x00\x00\x00\x00\x00\x00\x00\x1e\x84\x80\
+    \x00\x00\x00\x00\x00\x00\x00\x00\x00\x00\x00\x00\x00\x00\x00\x00\
+    \x02\x00\x00\x00\x01\x00\x00\x00\x00\
+    \x00\x00\x00\x00\x00\x00\x00\x00\xff";
+
+fn pressed() -> Plane {
+    Plane {
+        over: 1 << 63,
+        drag: Some(Drag {
+            presser: 63,
+            start: Vec3 {
+                x: 1_000_000,
+                y: -1,
+                z: 0,
+            },
+            last: Vec3 {
+                x: 2_000_000,
+                y: 0,
+                z: 0,
+            },
+            path: Path::new(&[1, 0]),
+        }),
+    }
+}
+
+/// Whether the two are written so.
+fn are_planes(alloc: Global) -> bool {
+    let mut out = Vec::new(alloc);
+    let pressed = push_plane(&pressed(), &mut out).is_ok();
+    let nobody = Plane {
+        over: 0,
+        drag: None,
+    };
+    let none = push_plane(&nobody, &mut out).is_ok();
+    let same = out.as_slice() == PLANES;
+    drop(out);
+    pressed && none && same
+}
+
+/// The way down, where a viewer presses.
+fn is_way(drag: &Option<Drag>, way: &[u32]) -> bool {
+    match drag {
+        Some(drag) => drag.path.as_slice() == way,
+        None => false,
+    }
+}
+
+/// Whether one is read that is pressed, with these bytes behind it.
+fn is_pressed(bytes: &[u8], behind: usize) -> bool {
+    match plane_of(bytes) {
+        Some((plane, rest)) => is_way(&plane.drag, &[1, 0]) && rest.len() == behind,
+        None => false,
+    }
+}
+
+#[test]
+fn drags_have_their_bytes(rt: HostRuntime) {
+    holds(&rt, are_planes(rt.alloc()));
+    holds(&rt, is_pressed(PLANES, 9));
+    holds(&rt, plane_of(&PLANES[..65]).is_none());
+}
+
+/// A PlaneSensor that nobody is over, with that byte for who presses it, this height of where it was
+/// pressed, and that many positions; behind it come as many bytes as 64 positions have.
+fn drag_bytes(presser: u8, height: &[u8], count: u8) -> ArrayVec<u8, 320> {
+    let mut out = ArrayVec::new();
+    let _over = out.try_extend_from_slice(&[0; 8]);
+    let _presser = out.try_push(presser);
+    let _before = out.try_extend_from_slice(&[0; 16]);
+    let _height = out.try_extend_from_slice(height);
+    let _last = out.try_extend_from_slice(&[0; 24]);
+    let _count = out.try_push(count);
+    let _positions = out.try_extend_from_slice(&[0; 256]);
+    out
+}
+
+/// Such bytes, and how many of them are left where a PlaneSensor is read.
+struct Left(u8, &'static [u8], u8, Option<usize>);
+
+impl Row for Left {
+    fn holds(&self, _alloc: Global) -> bool {
+        match plane_of(drag_bytes(self.0, self.1, self.2).as_slice()) {
+            Some((_plane, rest)) => self.3 == Some(rest.len()),
+            None => self.3 == None,
+        }
+    }
+}
+
+/// 10^15, and one more.
+const FAR: &[u8] = b"\x00\x03\x8d\x7e\xa4\xc6\x80\x00";
+
+const TOO_FAR: &[u8] = b"\x00\x03\x8d\x7e\xa4\xc6\x80\x01";
+
+static LEFT: [Left; 7] = [
+    Left(255, FAR, 0, Some(305)),
+    Left(63, FAR, 0, Some(256)),
+    Left(64, FAR, 0, None),
+    Left(254, FAR, 0, None),
+    Left(0, TOO_FAR, 0, None),
+    Left(0, FAR, 64, Some(0)),
+    Left(0, FAR, 65, None),
+];
+
+#[test]
+fn drags_are_read_in_their_ranges(rt: HostRuntime) {
+    all_hold(&rt, rt.alloc(), &LEFT);
 }

@@ -130,7 +130,7 @@ fn are_found(alloc: Global) -> bool {
     for text in TABLE.lines() {
         find(alloc, text, &mut found);
     }
-    found.lines == 233 && found.rows == 233
+    found.lines == 244 && found.rows == 244
 }
 
 #[test]
@@ -150,7 +150,7 @@ impl Row for Kind {
     }
 }
 
-static KINDS: [Kind; 22] = [
+static KINDS: [Kind; 24] = [
     Kind("Appearance", "A"),
     Kind("Material", "M"),
     Kind("ImageTexture", "T"),
@@ -172,6 +172,8 @@ static KINDS: [Kind; 22] = [
     Kind("Group", "C"),
     Kind("Shape", "C"),
     Kind("TimeSensor", "C"),
+    Kind("TouchSensor", "C"),
+    Kind("PlaneSensor", "C"),
     Kind("Script", "C"),
 ];
 

@@ -178,6 +178,17 @@ TouchSensor isOver SFBool out\n\
 TouchSensor hitPoint_changed SFVec3f out\n\
 TouchSensor isActive SFBool out\n\
 TouchSensor touchTime SFTime out\n\
+PlaneSensor metadata SFNode io NULL of D\n\
+PlaneSensor autoOffset SFBool io TRUE\n\
+PlaneSensor description SFString io \"\"\n\
+PlaneSensor enabled SFBool io TRUE\n\
+PlaneSensor maxPosition SFVec2f io -1 -1\n\
+PlaneSensor minPosition SFVec2f io 0 0\n\
+PlaneSensor offset SFVec3f io 0 0 0\n\
+PlaneSensor isOver SFBool out\n\
+PlaneSensor isActive SFBool out\n\
+PlaneSensor trackPoint_changed SFVec3f out\n\
+PlaneSensor translation_changed SFVec3f out\n\
 ScalarInterpolator metadata SFNode io NULL of D\n\
 ScalarInterpolator key MFFloat io []\n\
 ScalarInterpolator keyValue MFFloat io []\n\

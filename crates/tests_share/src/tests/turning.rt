@@ -145,7 +145,7 @@ fn hosts(alloc: Global, bytes: &[u8], port: &mut Between<'_>) -> bool {
 
 /// Whether a viewer comes to its end by its command, with a job's bytes.
 fn views(alloc: Global, bytes: &[u8], who: u8, port: &mut Between<'_>) -> bool
-    requires { who ≤ 15 }
+    requires { who ≤ 63 }
 {
     let until = port.others.job.inputs;
     let order = Order::View(ViewOrder {

@@ -2,6 +2,7 @@
 //! a port that fails.
 
 mod damaged;
+mod drags;
 mod gathering;
 mod given;
 mod hosting;

@@ -3,6 +3,7 @@ use Rattle.std.specs.List.{fold}
 use Rattle.pick_core.specs.Sites.{rows_of}
 use Rattle.script_turn.specs.Acting.{kinds_of}
 use Rattle.cascade_core.specs.Course.{plan_at, seen}
+use Rattle.cascade_world.specs.Insides.{seen as insides_seen}
 use Rattle.cascade_core.specs.Apply.{point_node as point_node_of}
 use Rattle.cascade_core.proofs.pointer.point_all.Given as goal
 
@@ -15,6 +16,6 @@ invariant-loop-sensor g l = record {
   kinds : kinds_of l.course.scripts ≡ kinds_of l.fn.course.scripts;
   count : l.course.settling.count ≡ l.fn.course.settling.count;
   done :
-      fold (point_node_of l.fixed.scene (plan_at l.fixed) l.aim.pointer l.aim.before l.aim.inside.items) (seen l.course) (drop l.sensor-index l.sensors)
-      ≡ fold (point_node_of l.fixed.scene (plan_at l.fixed) l.aim.pointer l.aim.before l.aim.inside.items) (seen l.fn.course) l.sensors;
+      fold (point_node_of l.fixed.scene (plan_at l.fixed) l.aim.pointer l.aim.before (insides_seen l.aim.inside)) (seen l.course) (drop l.sensor-index l.sensors)
+      ≡ fold (point_node_of l.fixed.scene (plan_at l.fixed) l.aim.pointer l.aim.before (insides_seen l.aim.inside)) (seen l.fn.course) l.sensors;
 }

@@ -1,6 +1,8 @@
-use Rattle.cascade_world.specs.Pointer.{place_in}
+use Rattle.std.proofs.Common.{◌∙◌}
+use Rattle.cascade_world.specs.Answers.{pointer_at}
+use Rattle.cascade_world.specs.Insides.{seen as insides_seen}
 use Rattle.cascade_core.specs.Apply.{point_node}
-use Rattle.cascade_rules.proofs.Shown.{met-fields}
+use Rattle.cascade_rules.proofs.Shown.{met-rows}
 use Rattle.cascade_core.proofs.Tasks.{met-ready}
 use Rattle.cascade_core.specs.Course.{plan_at, seen}
 use Rattle.cascade_core.proofs.Skipped.{passed-course}
@@ -8,18 +10,19 @@ use Rattle.cascade_core.proofs.pointer.point_node.Goals as goal
 
 pub returns-then-passes-clause-course : goal.returns-then-passes-clause-course
 returns-then-passes-clause-course g c =
-    passed-course c.args.fixed.now.scene (plan_at c.args.fixed.now) c.args.aim.now.pointer c.args.aim.now.before c.args.aim.now.inside.items (seen c.args.course.now) c.args.sensor
+    passed-course c.args.fixed.now.scene (plan_at c.args.fixed.now) c.args.aim.now.pointer c.args.aim.now.before (insides_seen c.args.aim.now.inside) (seen c.args.course.now) c.args.concerned
     (c.passes.ensures c.args.fixed.now.scene c.if-passes.true)
 
 pub send_replies-requires : goal.send_replies-requires
 send_replies-requires g c =
-    let place = place_in c.args.aim.now.inside.items c.args.sensor in
+    let scene = c.args.fixed.now.scene in
+    let w = c.args.course.now.turn.world in
+    let x = c.args.concerned in
+    let at = pointer_at c.args.aim.now.pointer c.args.aim.now.before (insides_seen c.args.aim.now.inside) x.tracked x.sensor in
     record {
       empty = c.requires.empty;
-      ready =
-          rw c.meet.ensures.replies
-          (met-ready c.args.fixed.now.scene c.args.course.now.turn.world c.args.sensor c.args.aim.now.pointer c.args.aim.now.before place);
-      boxes = rw (c.meet.ensures.world, met-fields c.args.fixed.now.scene c.args.course.now.turn.world c.args.sensor c.args.aim.now.pointer c.args.aim.now.before place) c.requires.boxes;
+      ready = rw c.meet.ensures.replies (met-ready scene w x.sensor at);
+      boxes = rw c.meet.ensures.world (c.requires.boxes ∙ met-rows scene w x.sensor at);
       cast = record { sound = c.requires.cast.sound; counted = c.requires.cast.counted };
     }
 

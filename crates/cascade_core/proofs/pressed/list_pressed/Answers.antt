@@ -1,4 +1,5 @@
 use Rattle.std.proofs.Common.{◌∙◌}
+use Rattle.cascade_world.specs.Pointer.{tracking}
 use Rattle.cascade_core.proofs.Walks.{block_next, blocks_ended, pressed-are}
 use Rattle.cascade_core.proofs.pressed.list_pressed.Goals as goal
 
@@ -8,4 +9,4 @@ loop-block-preserved c = block_next _ _ _ c.loop-block.block _ _ c.in_ok-push_bl
 pub returns : goal.returns
 returns c =
     blocks_ended _ _ c.loop-block.block _ c.loop-block-test.false ∙ c.loop-block.invariant
-    ∙ pressed-are c.args.world.now c.args.scene.now.nodes c.args.who _ c.in_ok-count.ensures.ok
+    ∙ pressed-are (tracking c.args.scene.now c.args.world.now c.args.pointer) c.args.world.now c.args.scene.now.nodes c.args.pointer.who _ c.in_ok-count.ensures.ok

@@ -1,5 +1,5 @@
 use Rattle.snapshot_codec.proofs.KeptLaws.{fields_exact}
-use Rattle.snapshot_codec.proofs.PartLaws.{cycle_exact, touch_exact, position_exact, state_exact, states_exact}
+use Rattle.snapshot_codec.proofs.PartLaws.{cycle_exact, touch_exact, plane_exact, position_exact, state_exact, states_exact}
 use Rattle.snapshot_codec.proofs.ValueLaws.{value_exact}
 use Rattle.snapshot_codec.proofs.exactness.nodes_are_exact.Goals as goal
 
@@ -14,6 +14,9 @@ returns-clause-cycle c = cycle_exact
 
 pub returns-clause-touch : goal.returns-clause-touch
 returns-clause-touch c = touch_exact
+
+pub returns-clause-plane : goal.returns-clause-plane
+returns-clause-plane c = plane_exact
 
 pub returns-clause-position : goal.returns-clause-position
 returns-clause-position c = position_exact

@@ -10,7 +10,7 @@ use Rattle.snapshot_core.proofs.nodes.push_nodes.Given as goal
 abbrev pub invariant-loop-node : goal.invariant-loop-node
 invariant-loop-node l = record {
   told :
-      l.out.items ++ rows_text (node_codec l.version) (drop l.node (shapes_of l.scene)) (nodes_from (drop l.node l.world.fields) (drop l.node l.world.sensors) (drop l.node l.world.touches))
-      ≡ l.fn.out.items ++ (nodes_codec l.version (shapes_of l.scene)).write (lists_in l.world);
+      l.out.items ++ rows_text (node_codec l.version) (drop l.node (shapes_of l.scene)) (nodes_from (drop l.node l.world.fields) (drop l.node l.world.sensors) (drop l.node l.world.pointing))
+      ≡ l.fn.out.items ++ (nodes_codec l.version l.scene).write (lists_in l.world);
   kept : Extends l.fn.out.items l.out.items;
 }

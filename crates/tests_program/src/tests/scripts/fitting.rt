@@ -6,14 +6,17 @@ use super::{Row, all_hold};
 use cascade_core::{State, Watched, WorldData};
 use scene_core::{End, Scene};
 use sensor_core::{TimeState, TouchParts, TouchState};
+use sensor_plane::{Drag, ListPath, PlaneParts, PlaneState, PointingState};
 use share_program::{Opened, open_scene};
 use std::alloc::Global;
-use x3d_values::{Items, Position, Value};
+use x3d_values::{Items, Position, Value, Vec3};
 
-/// A node of each kind that keeps more than its fields, and one that declares fields: 0 to 3.
+/// A node of each kind that keeps more than its fields, and one that declares fields: 0 to 3; then a
+/// PlaneSensor below a Group, which are 4 and 5, and one beside it, 6.
 const SCENE: &[u8] = b"#X3D V3.0 utf8
 DEF T TimeSensor { cycleInterval 2 } DEF S TouchSensor {} DEF I IntegerSequencer {}
-DEF A Script { inputOutput SFFloat level 1 inputOutput MFFloat levels [1] inputOnly SFBool mute }";
+DEF A Script { inputOutput SFFloat level 1 inputOutput MFFloat levels [1] inputOnly SFBool mute }
+Group { children [ DEF D PlaneSensor {} ] } DEF E PlaneSensor {}";
 
 /// A value of a field.
 #[derive(Clone, Copy)]
@@ -24,6 +27,18 @@ enum Held {
     Time(i64),
     /// A list of one number.
     Numbers(i64),
+}
+
+/// What is kept of a node where viewers point.
+#[derive(Clone, Copy)]
+enum Kept {
+    Nothing,
+    /// Of a TouchSensor: a pointer is over it; a viewer presses it.
+    Over,
+    Pressed,
+    /// Of a PlaneSensor: a pointer is over it; a viewer drags it, by this way down.
+    OverPlane,
+    Dragged(&'static [u32]),
 }
 
 /// How a world differs from that in which nothing has happened.
@@ -43,13 +58,12 @@ enum Change {
     Position(u32, u32),
     /// A node runs a cycle.
     Runs(u32),
-    /// A pointer is over a node; a viewer presses it.
-    Over(u32),
-    Pressed(u32),
+    /// Of a node this is kept where viewers point.
+    Pointing(u32, Kept),
     /// There is nothing for the last node.
     FewerFields,
     FewerSensors,
-    FewerTouches,
+    FewerPointing,
     /// An event was sent by a node's field of that name, by an input of that number at that time.
     Sent(u32, i64, u32, &'static str, Held),
 }
@@ -104,6 +118,45 @@ fn state_with(alloc: Global, scene: &Scene, node: u32, change: Change) -> Option
     Some(State::from_vec(fields))
 }
 
+fn touch_of(over: u64, presser: Option<u8>) -> Option<PointingState> {
+    match TouchState::from_parts(TouchParts { over, presser }) {
+        Some(touch) => Some(PointingState::Touch(touch)),
+        None => None,
+    }
+}
+
+fn plane_of(over: u64, drag: Option<Drag>) -> Option<PointingState> {
+    match PlaneState::from_parts(PlaneParts { over, drag }) {
+        Some(plane) => Some(PointingState::Plane(plane)),
+        None => None,
+    }
+}
+
+/// Viewer 63 drags, as far as coordinates go.
+fn drag_along(way: &[u32]) -> Option<Drag> {
+    let far = Vec3 {
+        x: GREATEST,
+        y: -GREATEST,
+        z: 0,
+    };
+    Some(Drag {
+        presser: 63,
+        start: far,
+        last: far,
+        path: ListPath::from_u32(way)?,
+    })
+}
+
+fn kept_of(kept: Kept) -> Option<PointingState> {
+    match kept {
+        Kept::Nothing => Some(PointingState::NoSensor),
+        Kept::Over => touch_of(1 << 63, None),
+        Kept::Pressed => touch_of(0, Some(63)),
+        Kept::OverPlane => plane_of(1 << 63, None),
+        Kept::Dragged(way) => plane_of(0, Some(drag_along(way)?)),
+    }
+}
+
 /// The world in which nothing has happened, with a change.
 fn world_with(alloc: Global, scene: &Scene, change: Change) -> Option<WorldData> {
     let mut world = untold(alloc, scene)?;
@@ -124,29 +177,16 @@ fn world_with(alloc: Global, scene: &Scene, change: Change) -> Option<WorldData>
                 world.sensors.set(node as usize, TimeState::active(0));
             }
         }
-        Change::Over(node) => {
-            if let Some(touch) = TouchState::from_parts(TouchParts {
-                over: 4,
-                presser: None,
-            })
-                && (node as usize) < world.touches.len()
+        Change::Pointing(node, kept) => {
+            if let Some(state) = kept_of(kept)
+                && (node as usize) < world.pointing.len()
             {
-                world.touches.set(node as usize, touch);
-            }
-        }
-        Change::Pressed(node) => {
-            if let Some(touch) = TouchState::from_parts(TouchParts {
-                over: 0,
-                presser: Some(2),
-            })
-                && (node as usize) < world.touches.len()
-            {
-                world.touches.set(node as usize, touch);
+                world.pointing.set(node as usize, state);
             }
         }
         Change::FewerFields => world.fields = State::from_vec(Vec::new(alloc)),
         Change::FewerSensors => world.sensors = Watched::from_vec(Vec::new(alloc)),
-        Change::FewerTouches => world.touches = Watched::from_vec(Vec::new(alloc)),
+        Change::FewerPointing => world.pointing = Watched::from_vec(Vec::new(alloc)),
         Change::Sent(input, time, node, name, held) => {
             if let Some(value) = value_of(alloc, held) {
                 let field = match scene.field_named(node, name) {
@@ -189,7 +229,7 @@ const LATEST: i64 = 1_000_000_000_000_000_000;
 
 const GREATEST: i64 = 1_000_000_000_000_000;
 
-const ROWS: [Changed; 44] = [
+const ROWS: [Changed; 60] = [
     Changed(Change::Nothing, true),
     // Counts and times.
     Changed(Change::Applied(1 << 20), true),
@@ -223,20 +263,36 @@ const ROWS: [Changed; 44] = [
     Changed(Change::Field(0, "isActive", Held::Truth(false)), false),
     Changed(Change::Shorter(1), false),
     Changed(Change::Longer(1), false),
-    // A sequencer's place, the cycle of a TimeSensor, the pointers of a TouchSensor.
+    // A sequencer's place, the cycle of a TimeSensor.
     Changed(Change::Position(2, 4_294_967_294), true),
     Changed(Change::Position(2, 4_294_967_295), false),
     Changed(Change::Position(0, 0), false),
     Changed(Change::Runs(0), true),
     Changed(Change::Runs(1), false),
-    Changed(Change::Over(1), true),
-    Changed(Change::Over(0), false),
-    Changed(Change::Pressed(1), true),
-    Changed(Change::Pressed(3), false),
+    // Where viewers point: what a node of its type may keep.
+    Changed(Change::Pointing(0, Kept::Nothing), true),
+    Changed(Change::Pointing(0, Kept::Over), false),
+    Changed(Change::Pointing(1, Kept::Over), true),
+    Changed(Change::Pointing(1, Kept::Pressed), true),
+    Changed(Change::Pointing(1, Kept::Nothing), false),
+    Changed(Change::Pointing(1, Kept::OverPlane), false),
+    Changed(Change::Pointing(3, Kept::Pressed), false),
+    Changed(Change::Pointing(4, Kept::OverPlane), true),
+    Changed(Change::Pointing(4, Kept::Nothing), false),
+    Changed(Change::Pointing(4, Kept::Pressed), false),
+    Changed(Change::Pointing(5, Kept::OverPlane), false),
+    // A drag's way down leads to a list with the sensor.
+    Changed(Change::Pointing(4, Kept::Dragged(&[4])), true),
+    Changed(Change::Pointing(4, Kept::Dragged(&[])), false),
+    Changed(Change::Pointing(4, Kept::Dragged(&[3])), false),
+    Changed(Change::Pointing(4, Kept::Dragged(&[6])), false),
+    Changed(Change::Pointing(4, Kept::Dragged(&[4, 0])), false),
+    Changed(Change::Pointing(6, Kept::Dragged(&[])), true),
+    Changed(Change::Pointing(6, Kept::Dragged(&[4])), false),
     // Each list is as long as the scene.
     Changed(Change::FewerFields, false),
     Changed(Change::FewerSensors, false),
-    Changed(Change::FewerTouches, false),
+    Changed(Change::FewerPointing, false),
     // The trace: events that can have left by an output.
     Changed(Change::Sent(1, 1, 0, "isActive", Held::Truth(true)), true),
     Changed(Change::Sent(0, 0, 3, "levels", Held::Numbers(7)), true),
@@ -259,7 +315,9 @@ const ROWS: [Changed; 44] = [
         false,
     ),
     Changed(Change::Sent(1, 1, 3, "mute", Held::Truth(true)), false),
-    Changed(Change::Sent(1, 1, 4, "isActive", Held::Truth(true)), false),
+    Changed(Change::Sent(1, 1, 4, "isActive", Held::Truth(true)), true),
+    Changed(Change::Sent(1, 1, 4, "offset", Held::Number(1)), false),
+    Changed(Change::Sent(1, 1, 7, "isActive", Held::Truth(true)), false),
 ];
 
 #[test]

@@ -7,10 +7,11 @@ ghost use Rattle.cascade_core.specs.Held.{Running};
 use super::probe::{Log, Made, Probe, boxes_made};
 use cascade_core::{LoadFault, Stage, State, Trace, Watched, WorldData};
 use scene_core::Scene;
-use sensor_core::{TimeState, TouchState};
+use sensor_core::TimeState;
+use sensor_plane::PointingState;
 use share_program::{Opened, attach, open_scene};
 use std::alloc::Global;
-use x3d_values::{Event, Stamped, is_input_number, is_input_time};
+use x3d_values::{Event, MAX_VIEWERS, Stamped, is_input_number, is_input_time};
 
 /// Two counters from 5 by steps of 2, which a clock drives each two seconds; and a box.
 pub(super) const COUNTERS: &str = "#X3D V3.0 utf8
@@ -58,6 +59,27 @@ pub(super) fn clock(number: u32, seconds: u32) -> Option<Stamped> {
     Some(Stamped::new(number, time, Event::Clock))
 }
 
+/// What is kept of each node where viewers point, before any does; none where memory is refused.
+fn pointing_of(alloc: Global, scene: &Scene) -> Option<Watched<PointingState>> {
+    let Ok(count) = scene.count() else {
+        return None;
+    };
+    let mut states = Vec::new(alloc);
+    let mut pushed = true;
+    for node in 0..count {
+        pushed &= states
+            .push(PointingState::of(scene.node_type(node)))
+            .is_ok();
+    }
+    let pointing = Watched::from_vec(states);
+    if pushed {
+        Some(pointing)
+    } else {
+        drop(pointing);
+        None
+    }
+}
+
 /// The world of a scene in which nothing has happened, and no node sent anything.
 pub(super) fn untold(alloc: Global, scene: &Scene) -> Option<WorldData> {
     let Ok(fields) = scene.state(alloc) else {
@@ -68,7 +90,7 @@ pub(super) fn untold(alloc: Global, scene: &Scene) -> Option<WorldData> {
         drop(fields);
         return None;
     };
-    let Ok(touches) = vec![in alloc; TouchState::untouched(); count] else {
+    let Some(pointing) = pointing_of(alloc, scene) else {
         drop(sensors);
         drop(fields);
         return None;
@@ -78,8 +100,8 @@ pub(super) fn untold(alloc: Global, scene: &Scene) -> Option<WorldData> {
         last_time: 0,
         fields: State::from_vec(fields),
         sensors: Watched::from_vec(sensors),
-        touches: Watched::from_vec(touches),
-        buttons: [false; 16],
+        pointing,
+        buttons: [false; MAX_VIEWERS as usize],
         trace: Trace::new(alloc),
     })
 }

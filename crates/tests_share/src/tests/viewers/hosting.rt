@@ -20,7 +20,7 @@ fn number_clocks(host: &mut Host, first: u32, last: u32) -> Result<(), NumberFau
 
 #[test]
 fn a_world_has_2_to_the_20_inputs(rt: HostRuntime) {
-    let mut host = Host::new(rt.alloc(), MARK, 16);
+    let mut host = Host::new(rt.alloc(), MARK, 64);
     let numbered = number_clocks(&mut host, 1, MAX_INPUTS);
     let count = host.len();
     let more = host.clock(i64::from(MAX_INPUTS) + 1);

@@ -10,7 +10,7 @@ use std::alloc::{AllocError, Global};
 use std::process::Abort;
 
 /// A snapshot has so many bytes.
-struct Size(usize);
+pub(super) struct Size(pub(super) usize);
 
 impl Trial for Size {
     fn holds(&self, _alloc: Global, _viewer: &mut Viewer<StockScript>, shot: &[u8]) -> bool {
@@ -20,10 +20,10 @@ impl Trial for Size {
 
 /// Texts, clocks, and the sizes of their snapshots.
 static SIZES: [(&str, u32, Size); 4] = [
-    (EMPTY, 0, Size(95)),
-    (CLOCKED, 0, Size(147)),
-    (CLOCKED, 1, Size(308)),
-    (COUNTED, 0, Size(190)),
+    (EMPTY, 0, Size(101)),
+    (CLOCKED, 0, Size(153)),
+    (CLOCKED, 1, Size(314)),
+    (COUNTED, 0, Size(196)),
 ];
 
 #[test]
@@ -34,7 +34,7 @@ fn snapshot_sizes(rt: HostRuntime) {
 }
 
 /// Why a viewer doesn't begin again from these bytes, as its next boot.
-fn fault_of(viewer: &mut Viewer<StockScript>, bytes: &[u8]) -> Option<SnapFault> {
+pub(super) fn fault_of(viewer: &mut Viewer<StockScript>, bytes: &[u8]) -> Option<SnapFault> {
     let boot = viewer.boot().saturating_add(1);
     viewer.rewind(bytes, boot).err()
 }
@@ -122,13 +122,13 @@ fn each_prefix_is_refused(rt: HostRuntime) {
 }
 
 /// How many bytes the digest has.
-const DIGEST: usize = 32;
+pub(super) const DIGEST: usize = 32;
 
 /// A byte of a snapshot, what stands there in place of it, and what that is refused as, or loaded.
-type Alteration = (usize, u8, Option<SnapFault>);
+pub(super) type Alteration = (usize, u8, Option<SnapFault>);
 
 /// Writes a snapshot with another byte there, or one more behind all, and the digest of that.
-fn alter(shot: &[u8], at: usize, new: u8, out: &mut Vec<u8>) -> Result<(), AllocError> {
+pub(super) fn alter(shot: &[u8], at: usize, new: u8, out: &mut Vec<u8>) -> Result<(), AllocError> {
     out.clear();
     out.extend_from_slice(shot)?;
     out.truncate(shot.len().saturating_sub(DIGEST));
@@ -160,7 +160,7 @@ fn answers_each(
 }
 
 /// A snapshot is altered in these ways, each with a digest that is right.
-struct Alterations(&'static [Alteration]);
+pub(super) struct Alterations(pub(super) &'static [Alteration]);
 
 impl Trial for Alterations {
     fn holds(&self, alloc: Global, viewer: &mut Viewer<StockScript>, shot: &[u8]) -> bool {
@@ -171,7 +171,7 @@ impl Trial for Alterations {
     }
 }
 
-const NOT_CANONICAL: Option<SnapFault> = Some(SnapFault::NotCanonical);
+pub(super) const NOT_CANONICAL: Option<SnapFault> = Some(SnapFault::NotCanonical);
 
 const NO_STATE: Option<SnapFault> = Some(SnapFault::ScriptState);
 
@@ -192,39 +192,44 @@ static WORLDS: Alterations = Alterations(&[
     // the toggle is 2
     (104, 2, NOT_CANONICAL),
     // there is an event
-    (114, 1, NOT_CANONICAL),
+    (120, 1, NOT_CANONICAL),
     // there are 2^56 events
-    (107, 1, NOT_CANONICAL),
+    (113, 1, NOT_CANONICAL),
     // a byte is left over behind the trace
-    (115, 0, NOT_CANONICAL),
+    (121, 0, NOT_CANONICAL),
     // the boot is the one that is to begin
     (40, 2, Some(SnapFault::BootNotNew)),
     // the boot is another one
     (40, 0, None),
-    // a button is down
-    (105, 1, None),
+    // the first viewer's button is down, or the last one's
+    (112, 1, None),
+    (105, 128, None),
+    // it is of version 1, of 16 viewers
+    (4, 1, NOT_CANONICAL),
+    // and there is no version 3
+    (4, 3, Some(SnapFault::BadVersion)),
 ]);
 
 /// Of the snapshot after a clock: another node, field and value of its first event.
 static EVENTS: Alterations = Alterations(&[
-    (130, 3, NOT_CANONICAL),
-    (132, 0, NOT_CANONICAL),
-    (133, 2, NOT_CANONICAL),
+    (136, 3, NOT_CANONICAL),
+    (138, 0, NOT_CANONICAL),
+    (139, 2, NOT_CANONICAL),
 ]);
 
 /// Of the snapshot of a counter's world before any clock.
 static STATES: Alterations = Alterations(&[
     // the count is above those of an SFInt32, or below
-    (134, 1, NO_STATE),
-    (134, 255, NO_STATE),
+    (140, 1, NO_STATE),
+    (140, 255, NO_STATE),
     // the step is above
-    (145, 1, NO_STATE),
+    (151, 1, NO_STATE),
     // it has one number, or three
-    (133, 1, NOT_CANONICAL),
-    (133, 3, NOT_CANONICAL),
+    (139, 1, NOT_CANONICAL),
+    (139, 3, NOT_CANONICAL),
     // the count and the step are others
-    (141, 9, None),
-    (149, 3, None),
+    (147, 9, None),
+    (155, 3, None),
 ]);
 
 /// Each of these alterations of a snapshot is refused, and the viewer is as it was: it has 84

@@ -1,0 +1,256 @@
+//! What a pointing sensor does when an event comes to it, and when a viewer points.
+
+ghost use Rattle.std.specs.Prelude.{◌≡◌, ◌+◌, ◌/◌, ◌≤◌, ℕ, true, false, [], ◌++◌, IsTrue, OnOk, is_none, not, option_copied, slice_get, slice_set};
+ghost use Rattle.std.specs.Option.{option_and_then, option_map_or};
+ghost use Rattle.std.specs.List.{list_any};
+ghost use Rattle.arrayvec.specs.ArrayVec.{array_vec_len};
+ghost use Rattle.scene_core.specs.Places.{is_pointing};
+ghost use Rattle.scene_core.specs.Scene.{SceneView, type_at};
+ghost use Rattle.sensor_plane.specs.Pointing.{drag_by, is_state_of};
+ghost use Rattle.cascade_world.specs.Near.{is_near};
+ghost use Rattle.cascade_world.specs.Answers.{answered, enabled_field, forgets, forgotten_by, is_met, met, nothing, pointer_at, touching, turns_off};
+ghost use Rattle.cascade_world.specs.Insides.{inside_at, seen};
+ghost use Rattle.cascade_world.specs.Pointer.{is_pressed, tracked_at, tracked_by};
+
+use crate::aim::{Aim, Concerned, Inside, inside_at};
+use crate::watched::BLOCK;
+use crate::world::WorldData;
+use pick_core::is_enabled;
+use pick_track::track_point;
+use react_core::Outbox;
+use scene_core::{End, Scene};
+use sensor_core::TOUCH_ENABLED;
+use sensor_plane::{Drag, PLANE_ENABLED, PointingState};
+use std::alloc::{AllocError, Global};
+use x3d_values::{Fields, NodeType, Pointer, Ray, Value, Vec3};
+
+/// The number of the field `enabled` of a pointing sensor.
+fn enabled_field(node_type: NodeType) -> u16
+    ensures { result ≡ enabled_field node_type }
+{
+    match node_type {
+        NodeType::PlaneSensor => PLANE_ENABLED,
+        _ => TOUCH_ENABLED,
+    }
+}
+
+/// Whether an event turns a pointing sensor of this type off.
+fn turns_off(node_type: NodeType, field: u16, value: &Value) -> bool
+    ensures { result ≡ turns_off node_type field value.now }
+{
+    match value {
+        Value::SFBool(on) => field == enabled_field(node_type) && !*on,
+        _ => false,
+    }
+}
+
+/// Whether a pointer isn't inside a sensor.
+fn is_outside(aim: &Aim, sensor: u32) -> bool
+    ensures { result ≡ is_none (inside_at aim.now.inside.sensors.items sensor) }
+{
+    inside_at(aim.inside.sensors.as_slice(), sensor).is_none()
+}
+
+/// Whether a pointer is inside a sensor of a block.
+fn is_near(inside: &[Inside], block: u32) -> bool
+    ensures { result ≡ list_any (is_near block) inside.now }
+{
+    inside.iter().any(|i| i.sensor / BLOCK == block)
+}
+
+/// Whether a pointer is inside no sensor of a block.
+fn is_beside(aim: &Aim, block: u32) -> bool
+    ensures { result ≡ not (list_any (is_near block) aim.now.inside.sensors.items) }
+{
+    !is_near(aim.inside.sensors.as_slice(), block)
+}
+
+/// Where a ray meets the plane of a drag, if there is one.
+fn tracked_by(scene: &Scene, fields: &[Fields], ray: Ray, drag: Option<Drag>) -> Option<Vec3>
+    ensures { result ≡ tracked_by scene.now fields.now ray drag }
+{
+    let Some(drag) = drag else {
+        return None;
+    };
+    track_point(scene, fields, drag.path.as_slice(), drag.start, ray)
+}
+
+/// Whether this is what is kept of a node of the type of that node.
+fn is_suited(scene: &Scene, node: u32, state: &PointingState) -> bool
+    ensures { result
+        ≡ option_map_or (λ kind. is_state_of kind state.now) (type_at scene.now node) false }
+{
+    match scene.type_at(node) {
+        Some(node_type) => state.is_of(node_type),
+        None => false,
+    }
+}
+
+impl WorldData {
+    /// A pointing sensor of this type forgets its pointers.
+    fn forget(&mut self, node_type: NodeType, node: u32, out: &mut Outbox)
+        requires room { array_vec_len out.old + 2 ≤ 5 }
+        ensures world { self.new ≡ record self.old {
+          pointing = forgets self.old node node_type (slice_get self.old.pointing node);
+        } }
+        ensures replies { out.new.items
+            ≡ out.old.items ++ forgotten_by node_type (slice_get self.old.pointing node) }
+    {
+        let Some(state) = self.pointing.get(node as usize) else {
+            return;
+        };
+        if !state.is_of(node_type) {
+            return;
+        }
+        let mut state = *state;
+        state.forget(out);
+        self.pointing.set(node as usize, state);
+    }
+
+    /// An event comes to a pointing sensor of this type.
+    pub(crate) fn touch(
+        &mut self,
+        alloc: Global,
+        node_type: NodeType,
+        target: End,
+        value: &Value,
+        out: &mut Outbox,
+    ) -> Result<(), AllocError>
+        requires sensor { is_pointing node_type ≡ true }
+        requires empty { out.old.items ≡ [] }
+        ensures world { OnOk result
+            (self.new
+            ≡ answered self.old
+            (touching self.old target value.now node_type
+            (slice_get self.old.fields target.node))) }
+        ensures replies { OnOk result
+            (out.new.items
+            ≡ (touching self.old target value.now node_type
+            (slice_get self.old.fields target.node)).replies) }
+    {
+        self.fields.react(
+            alloc,
+            target.node,
+            node_type,
+            target.field,
+            value,
+            self.last_time,
+            out,
+        )?;
+        if turns_off(node_type, target.field, value) {
+            self.forget(node_type, target.node, out);
+        }
+        Ok(())
+    }
+
+    /// A pointing sensor meets a pointer; one that isn't enabled is skipped.
+    #[tactic(auto, unfolding(crate::specs::Answers::met))]
+    pub fn meet(&mut self, scene: &Scene, concerned: Concerned, aim: &Aim, out: &mut Outbox)
+        requires empty { out.old.items ≡ [] }
+        ensures world { self.new
+            ≡ answered self.old
+            (met scene.now self.old concerned.sensor
+            (pointer_at aim.now.pointer aim.now.before (seen aim.now.inside) concerned.tracked
+            concerned.sensor)) }
+        ensures replies { out.new.items
+            ≡ (met scene.now self.old concerned.sensor
+            (pointer_at aim.now.pointer aim.now.before (seen aim.now.inside) concerned.tracked
+            concerned.sensor)).replies }
+    {
+        let node = concerned.sensor;
+        let Some(state) = self.pointing.get(node as usize) else {
+            return;
+        };
+        let mut state = *state;
+        if !self.is_met(scene, node, &state) {
+            return;
+        }
+        let pointer = aim.at(concerned);
+        self.fields
+            .point(node, &mut state, &pointer, self.last_time, out);
+        self.pointing.set(node as usize, state);
+    }
+
+    /// Whether a sensor of which this is kept is enabled, and is of its type.
+    fn is_met(&self, scene: &Scene, node: u32, state: &PointingState) -> bool
+        ensures { result ≡ is_met scene.now self.now node state.now }
+    {
+        is_enabled(scene, self.fields.as_slice(), node) && is_suited(scene, node, state)
+    }
+
+    /// Whether a pointer passes a pointing sensor, so that nothing happens: it isn't inside, and no
+    /// pointer is over the sensor or presses it.
+    pub fn passes(&self, concerned: Concerned, aim: &Aim) -> bool
+        ensures { (scene : SceneView) → IsTrue result
+            → met scene self.now concerned.sensor
+            (pointer_at aim.now.pointer aim.now.before (seen aim.now.inside) concerned.tracked
+            concerned.sensor)
+            ≡ nothing self.now }
+    {
+        match self.pointing.get(concerned.sensor as usize) {
+            Some(state) => state.is_resting() && is_outside(aim, concerned.sensor),
+            None => false,
+        }
+    }
+
+    /// Whether a pointer passes a block of nodes, so that nothing happens at any pointing sensor of
+    /// it.
+    pub fn passes_block(&self, block: u32, aim: &Aim) -> bool
+        ensures { (scene : SceneView) (sensor : ℕ) → IsTrue result → sensor / 32 ≡ block
+            → met scene self.now sensor
+            (pointer_at aim.now.pointer aim.now.before (seen aim.now.inside) None sensor)
+            ≡ nothing self.now }
+    {
+        if !self.pointing.is_resting(block) {
+            return false;
+        }
+        is_beside(aim, block)
+    }
+
+    /// Whether it is known of a block of nodes that nobody presses any of its pointing sensors.
+    pub fn is_untouched(&self, block: u32) -> bool
+        ensures { (who : ℕ) (sensor : ℕ) → IsTrue result → sensor / 32 ≡ block
+            → is_pressed self.now who sensor ≡ false }
+    {
+        self.pointing.is_resting(block)
+    }
+
+    /// Remembers of a block of nodes whether no pointer is over any of its pointing sensors, and
+    /// nobody presses one.
+    pub fn remember_pointing(&mut self, block: u32)
+        ensures { self.new ≡ self.old }
+    {
+        self.pointing.look_at(block);
+    }
+
+    /// Whether a viewer presses the sensor of that number.
+    pub fn is_pressed(&self, who: u8, sensor: u32) -> bool
+        ensures { result ≡ is_pressed self.now who sensor }
+    {
+        match self.pointing.get(sensor as usize) {
+            Some(state) => state.is_pressed_by(who),
+            None => false,
+        }
+    }
+
+    /// The drag of a viewer at the sensor of that number, if there is one.
+    fn drag_at(&self, who: u8, sensor: u32) -> Option<Drag>
+        ensures { result
+            ≡ option_and_then (λ state. drag_by state who) (slice_get self.now.pointing sensor) }
+    {
+        let Some(state) = self.pointing.get(sensor as usize) else {
+            return None;
+        };
+        state.drag_by(who)
+    }
+
+    /// Where a viewer's ray meets the plane in which it drags the sensor of that number, in the
+    /// sensor's coordinates in millionths, if it does.
+    #[tactic(auto, unfolding(crate::specs::Pointer::tracked_at))]
+    pub fn tracked_at(&self, scene: &Scene, pointer: Pointer, sensor: u32) -> Option<Vec3>
+        ensures { result ≡ tracked_at scene.now self.now pointer sensor }
+    {
+        let drag = self.drag_at(pointer.who(), sensor);
+        tracked_by(scene, self.fields.as_slice(), pointer.ray(), drag)
+    }
+}
