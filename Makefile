@@ -87,7 +87,7 @@ fuzz:
 # source by one that is built of the same sources without a proof.
 test: definitions
 	@log=$$(mktemp); trap 'rm -f "$$log"' EXIT; \
-	rt ci 2>&1 | tee "$$log"; \
+	scripts/gate 2>&1 | tee "$$log"; \
 	scripts/cases; \
 	scripts/prefixes; \
 	scripts/refusals; \

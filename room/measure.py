@@ -89,7 +89,7 @@ class Client(threading.Thread):
     def listen(self):
         answer = self.events.getresponse()
         while part := answer.read1(1 << 16):
-            for found in re.finditer(rb'"numbered": (\d+)', part):
+            for found in re.finditer(rb'"numbered":(\d+)', part):
                 self.numbered = int(found[1])
 
     def run(self):

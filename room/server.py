@@ -63,6 +63,15 @@ class Wrong(Exception):
         self.status, self.why = status, why
 
 
+# Without blanks, since each event goes to each window.
+ENCODED = json.JSONEncoder(separators=(",", ":")).encode
+
+
+def event(kind, data):
+    """An event of a window as it is sent."""
+    return f"event: {kind}\ndata: {ENCODED(data)}\n\n".encode()
+
+
 class Window:
     """A window: its viewer's number, its token, and what waits to be sent to it."""
 
@@ -76,13 +85,12 @@ class Window:
         self.budget -= self.budget >= 1
         return self.budget >= 1
 
-    def tell(self, kind, data):
+    def tell(self, told):
         """Puts an event into its queue; a window that doesn't read is cut off."""
-        if self.news:
-            try:
-                self.news.put_nowait((kind, data))
-            except queue.Full:
-                self.news = None
+        if self.news and self.news.qsize() < WAITING:
+            self.news.put(told)
+        else:
+            self.news = None
 
 
 class Service:
@@ -114,12 +122,13 @@ class Service:
 
     def turn(self, now, turn):
         self.room.turn(now)
-        status = {**self.room.status(), "channel": self.channel()} if turn % 6 == 0 else None
+        # One for all windows.
+        status = turn % 6 == 0 and event("status", {**self.room.status(), "channel": self.channel()})
         for window in [*self.windows.values()]:
             if window.news and (news := self.room.news(window.who)):
-                window.tell(*news)
+                window.tell(event(*news))
             if status:
-                window.tell("status", status)
+                window.tell(status)
             if window.news:
                 window.seen = time.monotonic()
             elif time.monotonic() - window.seen > AWAY:
@@ -206,7 +215,7 @@ class Service:
         """Begins to send a window its events, the scene first; an earlier stream of it ends."""
         window = self.window(token)
         self.room.seats[window.who].told = None
-        window.news = news = queue.Queue(WAITING)
+        window.news = news = queue.SimpleQueue()
         return window, news
 
 
@@ -315,15 +324,15 @@ class Handler(BaseHTTPRequestHandler):
         self.send_header("Access-Control-Allow-Origin", f"http://{name}:{self.server.page_port}")
         self.send_header("Connection", "close")
         self.end_headers()
+        self.wfile.flush()
         self.close_connection = True
         try:
             while window.news is news:
                 try:
-                    kind, data = news.get(timeout=1)
+                    told = news.get(timeout=1)
                 except queue.Empty:
                     continue
-                self.wfile.write(f"event: {kind}\ndata: {json.dumps(data)}\n\n".encode())
-                self.wfile.flush()
+                self.connection.sendall(told)
         finally:
             if window.news is news:
                 window.news = None

@@ -22,7 +22,7 @@ use route_core::Routes;
 use scene_core::Scene;
 use script_running::Runs;
 use sensor_core::TimeState;
-use sensor_plane::PointingState;
+use sensor_plane::PointingSlot;
 use std::alloc::{AllocError, Global};
 
 /// No node runs a cycle.
@@ -34,15 +34,19 @@ fn idle_sensors(alloc: Global, nodes: usize) -> Result<Watched<TimeState>, Alloc
 }
 
 /// What is kept of each node where viewers point, before any does.
-fn pointing_of(alloc: Global, scene: &Scene) -> Result<Watched<PointingState>, AllocError>
+fn pointing_of(alloc: Global, scene: &Scene) -> Result<Watched<PointingSlot>, AllocError>
     ensures { IfOk result (λ pointing. pointing ≡ map start_of (types_of scene.now)) }
 {
     let count = scene.count()?;
-    let mut states = Vec::with_capacity(alloc, scene.node_count())?;
+    let mut slots = Vec::with_capacity(alloc, scene.node_count())?;
     for node in 0..count {
-        states.push(PointingState::of(scene.node_type(node)))?;
+        let Ok(slot) = PointingSlot::of(alloc, scene.node_type(node)) else {
+            drop(slots);
+            return Err(AllocError);
+        };
+        slots.push(slot)?;
     }
-    Ok(Watched::from_vec(states))
+    Ok(Watched::from_vec(slots))
 }
 
 /// The world of a scene in which nothing has happened.

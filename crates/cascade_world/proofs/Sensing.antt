@@ -15,7 +15,9 @@ use Rattle.sensor_core.specs.Events.{set}
 use Rattle.sensor_core.specs.Ticks.{tick}
 use Rattle.sensor_plane.specs.declared.meeting.SensorPointer.{SensorPointer}
 use Rattle.sensor_plane.specs.declared.pointing.PointingState.{PointingState}
+use Rattle.sensor_plane.specs.declared.pointing.PointingState.TheVariants.{NoSensor, Plane, Touch}
 use Rattle.sensor_plane.specs.Meeting.{pointed}
+use Rattle.sensor_plane.specs.Pointing.{is_no_sensor}
 use Rattle.scene_core.specs.Scene.{SceneView}
 use Rattle.scene_core.specs.declared.scene.End.{End}
 use Rattle.cascade_world.specs.Answers.{Answer, answered, is_met, meeting, met, met_as, nothing, setting, setting_at, ticked, ticking, ticking_at}
@@ -182,3 +184,24 @@ module _ (scene : SceneView) (w : WorldData) (node : ℕ) (at : SensorPointer) w
 
       pub met-replies : (replies : List Reply) → replies ≡ replies_met w at state (slice_get w.fields node) → replies ≡ (met scene w node at).replies
       met-replies replies is = is ∙ replies-by (slice_get w.fields node) ∙ ap (λ (a : Answer). a.replies) meets
+
+-- ---- a node that is no sensor stays one
+
+abbrev after : PointingState → SensorPointer → ℤ → Option Fields → PointingState
+after state p t fields = option_map_or (λ (f : Fields). (pointed state f p t).state) fields state
+
+unmet-stays : (fields : Option Fields) (p : SensorPointer) (t : ℤ) → is_no_sensor (after NoSensor p t fields) ≡ true
+unfolding pointed
+unmet-stays None p t = refl
+unmet-stays (Some f) p t = refl
+
+stays : (state new : PointingState) (fields : Option Fields) (p : SensorPointer) (t : ℤ) → new ≡ after state p t fields → is_no_sensor state ≡ true → is_no_sensor new ≡ true
+stays NoSensor new fields p t is h = ap is_no_sensor is ∙ unmet-stays fields p t
+stays (Touch touch) new fields p t is h = cc
+stays (Plane plane) new fields p t is h = cc
+
+pub no_sensor_stays : (found : Option PointingState) (state kept new : PointingState) (fields : Option Fields) (p : SensorPointer) (t : ℤ) → found ≡ Some state → found ≡ Some kept
+    → new ≡ option_map_or (λ (f : Fields). (pointed state f p t).state) fields state → is_no_sensor kept ≡ true → is_no_sensor new ≡ true
+no_sensor_stays found state kept new fields p t here there is none =
+    let same : kept ≡ state = cc in
+    stays state new fields p t is (ap is_no_sensor (sym same) ∙ none)

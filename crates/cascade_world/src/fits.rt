@@ -16,7 +16,7 @@ use cascade_trace::{LineHead, TestsLines};
 use pick_track::leads_to;
 use scene_core::{Row, Scene};
 use sensor_core::TimeState;
-use sensor_plane::{Drag, PointingState};
+use sensor_plane::{Drag, PointingSlot, PointingState};
 use snapshot_codec::kept_field;
 use snapshot_ranges::{is_moment, kept_fits, place_fits, typed_fits};
 use x3d_values::{FieldType, Fields, MAX_INPUTS, NodeType, Position, Value};
@@ -100,10 +100,10 @@ fn fields_fit(scene: &Scene, node: u32, node_type: NodeType, fields: &Fields) ->
 }
 
 /// Whether a node of this type may keep this beside its fields.
-fn beside_fits(node_type: NodeType, time: TimeState, state: &PointingState) -> bool
-    ensures { result ≡ (time_fits node_type time && pointing_fits node_type state.now) }
+fn beside_fits(node_type: NodeType, time: TimeState, slot: &PointingSlot) -> bool
+    ensures { result ≡ (time_fits node_type time && pointing_fits node_type slot.now) }
 {
-    time_fits(node_type, time) && state.fits(node_type)
+    time_fits(node_type, time) && slot.fits(node_type)
 }
 
 /// Whether the node of that number, which is of this type, may keep this.
@@ -113,14 +113,14 @@ fn typed_node_fits(
     node_type: NodeType,
     fields: &Fields,
     time: TimeState,
-    state: &PointingState,
+    slot: &PointingSlot,
 ) -> bool
     ensures { result
         ≡ ((values_fit node_type 0 (rows_at scene.now node) fields.now.values
         && position_fits node_type fields.now.position)
-        && (time_fits node_type time && pointing_fits node_type state.now)) }
+        && (time_fits node_type time && pointing_fits node_type slot.now)) }
 {
-    fields_fit(scene, node, node_type, fields) && beside_fits(node_type, time, state)
+    fields_fit(scene, node, node_type, fields) && beside_fits(node_type, time, slot)
 }
 
 /// Whether the node of that number may keep this.
@@ -129,14 +129,14 @@ fn node_fits(
     node: u32,
     fields: &Fields,
     time: TimeState,
-    state: &PointingState,
+    slot: &PointingSlot,
 ) -> bool
     ensures { result
-        ≡ option_map_or (λ shape. node_fits shape fields.now time state.now)
+        ≡ option_map_or (λ shape. node_fits shape fields.now time slot.now)
         (slice_get (shapes_of scene.now) node) false }
 {
     match scene.type_at(node) {
-        Some(node_type) => typed_node_fits(scene, node, node_type, fields, time, state),
+        Some(node_type) => typed_node_fits(scene, node, node_type, fields, time, slot),
         None => false,
     }
 }
@@ -194,12 +194,12 @@ fn leads(scene: &Scene, node: u32, state: &PointingState) -> bool
 }
 
 /// Whether the drags at the nodes of a scene, so many, lead to their sensors.
-pub fn all_lead(scene: &Scene, count: u32, pointing: &[PointingState]) -> bool
+pub fn all_lead(scene: &Scene, count: u32, pointing: &[PointingSlot]) -> bool
     requires { length pointing.now ≡ count }
     ensures { result ≡ all_lead scene.now 0 pointing.now }
 {
     for node in 0..count {
-        if !leads(scene, node, &pointing[node as usize]) {
+        if !leads(scene, node, &pointing[node as usize].state()) {
             return false;
         }
     }

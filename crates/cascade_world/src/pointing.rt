@@ -1,26 +1,27 @@
 //! What a pointing sensor does when an event comes to it, and when a viewer points.
 
-ghost use Rattle.std.specs.Prelude.{◌≡◌, ◌+◌, ◌/◌, ◌≤◌, ℕ, true, false, [], ◌++◌, IsTrue, OnOk, is_none, not, option_copied, slice_get, slice_set};
+ghost use Rattle.std.specs.Prelude.{◌≡◌, ◌+◌, ◌/◌, ◌<◌, ◌≤◌, ℕ, true, false, [], ◌++◌, IsTrue, OnOk, Some, is_none, length, not, option_copied, slice_get, slice_set};
 ghost use Rattle.std.specs.Option.{option_and_then, option_map_or};
 ghost use Rattle.std.specs.List.{list_any};
 ghost use Rattle.arrayvec.specs.ArrayVec.{array_vec_len};
 ghost use Rattle.scene_core.specs.Places.{is_pointing};
 ghost use Rattle.scene_core.specs.Scene.{SceneView, type_at};
-ghost use Rattle.sensor_plane.specs.Pointing.{drag_by, is_state_of};
+ghost use Rattle.sensor_plane.specs.declared.pointing.PointingState.{PointingState as StateView};
+ghost use Rattle.sensor_plane.specs.Pointing.{drag_by, is_no_sensor, is_state_of};
 ghost use Rattle.cascade_world.specs.Near.{is_near};
 ghost use Rattle.cascade_world.specs.Answers.{answered, enabled_field, forgets, forgotten_by, is_met, met, nothing, pointer_at, touching, turns_off};
 ghost use Rattle.cascade_world.specs.Insides.{inside_at, seen};
 ghost use Rattle.cascade_world.specs.Pointer.{is_pressed, tracked_at, tracked_by};
 
 use crate::aim::{Aim, Concerned, Inside, inside_at};
-use crate::watched::BLOCK;
+use crate::watched::{BLOCK, Watched};
 use crate::world::WorldData;
 use pick_core::is_enabled;
 use pick_track::track_point;
 use react_core::Outbox;
 use scene_core::{End, Scene};
 use sensor_core::TOUCH_ENABLED;
-use sensor_plane::{Drag, PLANE_ENABLED, PointingState};
+use sensor_plane::{Drag, PLANE_ENABLED, PointingSlot, PointingState};
 use std::alloc::{AllocError, Global};
 use x3d_values::{Fields, NodeType, Pointer, Ray, Value, Vec3};
 
@@ -86,6 +87,18 @@ fn is_suited(scene: &Scene, node: u32, state: &PointingState) -> bool
     }
 }
 
+/// Keeps this state of the node of that number from now on; that of a sensor only where one is kept.
+fn keep(pointing: &mut Watched<PointingSlot>, node: usize, state: PointingState)
+    requires place { node < length pointing.old }
+    requires sensor { (kept : StateView) → slice_get pointing.old node ≡ Some kept
+        → IsTrue (is_no_sensor kept) → IsTrue (is_no_sensor state) }
+    ensures { pointing.new ≡ slice_set pointing.old node state }
+{
+    let mut slot = pointing.replace(node, PointingSlot::empty());
+    slot.keep(state);
+    pointing.set(node, slot);
+}
+
 impl WorldData {
     /// A pointing sensor of this type forgets its pointers.
     fn forget(&mut self, node_type: NodeType, node: u32, out: &mut Outbox)
@@ -96,15 +109,15 @@ impl WorldData {
         ensures replies { out.new.items
             ≡ out.old.items ++ forgotten_by node_type (slice_get self.old.pointing node) }
     {
-        let Some(state) = self.pointing.get(node as usize) else {
+        let Some(slot) = self.pointing.get(node as usize) else {
             return;
         };
-        if !state.is_of(node_type) {
+        if !slot.is_of(node_type) {
             return;
         }
-        let mut state = *state;
+        let mut state = slot.state();
         state.forget(out);
-        self.pointing.set(node as usize, state);
+        keep(&mut self.pointing, node as usize, state);
     }
 
     /// An event comes to a pointing sensor of this type.
@@ -158,17 +171,17 @@ impl WorldData {
             concerned.sensor)).replies }
     {
         let node = concerned.sensor;
-        let Some(state) = self.pointing.get(node as usize) else {
+        let Some(slot) = self.pointing.get(node as usize) else {
             return;
         };
-        let mut state = *state;
+        let mut state = slot.state();
         if !self.is_met(scene, node, &state) {
             return;
         }
         let pointer = aim.at(concerned);
         self.fields
             .point(node, &mut state, &pointer, self.last_time, out);
-        self.pointing.set(node as usize, state);
+        keep(&mut self.pointing, node as usize, state);
     }
 
     /// Whether a sensor of which this is kept is enabled, and is of its type.
@@ -188,7 +201,7 @@ impl WorldData {
             ≡ nothing self.now }
     {
         match self.pointing.get(concerned.sensor as usize) {
-            Some(state) => state.is_resting() && is_outside(aim, concerned.sensor),
+            Some(slot) => slot.is_resting() && is_outside(aim, concerned.sensor),
             None => false,
         }
     }
@@ -228,7 +241,7 @@ impl WorldData {
         ensures { result ≡ is_pressed self.now who sensor }
     {
         match self.pointing.get(sensor as usize) {
-            Some(state) => state.is_pressed_by(who),
+            Some(slot) => slot.is_pressed_by(who),
             None => false,
         }
     }
@@ -238,10 +251,10 @@ impl WorldData {
         ensures { result
             ≡ option_and_then (λ state. drag_by state who) (slice_get self.now.pointing sensor) }
     {
-        let Some(state) = self.pointing.get(sensor as usize) else {
+        let Some(slot) = self.pointing.get(sensor as usize) else {
             return None;
         };
-        state.drag_by(who)
+        slot.drag_by(who)
     }
 
     /// Where a viewer's ray meets the plane in which it drags the sensor of that number, in the

@@ -5,6 +5,7 @@ ghost use Rattle.std.specs.List.{list_all};
 
 use std::alloc::AllocError;
 use std::marker::Model;
+use std::mem;
 
 /// How many items one mark stands for.
 pub const BLOCK: u32 = 32;
@@ -97,8 +98,17 @@ impl<T: Rests> Watched<T> {
         requires { at < length self.old }
         ensures { self.new ≡ slice_set self.old at item }
     {
+        drop(self.replace(at, item));
+    }
+
+    /// Puts the item in place of the one at that place, and gives that back.
+    pub fn replace(&mut self, at: usize, item: T) -> T
+        requires { at < length self.old }
+        ensures before { Some result ≡ slice_get self.old at }
+        ensures after { self.new ≡ slice_set self.old at item }
+    {
         unmark(&mut self.resting, at / WIDTH);
-        self.items[at] = item;
+        mem::replace(&mut self.items[at], item)
     }
 
     /// Whether each item of a block is known to be at rest.

@@ -9,7 +9,7 @@ use crate::watched::{Rests, Watched};
 use cascade_trace::{SentBits, Trace};
 use scene_core::End;
 use sensor_core::TimeState;
-use sensor_plane::PointingState;
+use sensor_plane::PointingSlot;
 use std::alloc::{AllocError, Global};
 use x3d_values::{MAX_VIEWERS, Stamped, Value};
 
@@ -28,7 +28,7 @@ pub struct WorldData {
     pub sensors: Watched<TimeState>,
     /// Whose pointers are over each node, and who presses it, by its number: nothing is kept of a
     /// node that is no pointing sensor.
-    pub pointing: Watched<PointingState>,
+    pub pointing: Watched<PointingSlot>,
     /// Whether each viewer's button is down, by its number.
     pub buttons: [bool; VIEWERS],
     /// All events that were sent, in order.
@@ -45,7 +45,7 @@ impl Rests for TimeState {
 }
 
 /// A pointing sensor is at rest while no pointer is over it, and nobody presses it.
-impl Rests for PointingState {
+impl Rests for PointingSlot {
     ghost rests = { is_resting };
 
     fn is_at_rest(&self) -> bool {

@@ -3,7 +3,7 @@
 //!
 //! | Module | Has |
 //! |---|---|
-//! | `pointing` | what is kept of a TouchSensor, a PlaneSensor and of other nodes |
+//! | `pointing`, `slot` | what is kept of a TouchSensor, a PlaneSensor and of other nodes, and where |
 //! | `plane` | what a PlaneSensor does with a pointer, and when it is disabled |
 //! | `drag` | a drag: how it begins, goes on and ends, and how far it translates |
 //! | `pointer`, `path` | a viewer's pointer, and the way to the list that holds the sensor |
@@ -22,6 +22,7 @@ mod path;
 mod plane;
 mod pointer;
 mod pointing;
+mod slot;
 
 pub use drag::Drag;
 pub use fields::PlaneFields;
@@ -37,3 +38,4 @@ pub use path::{ListPath, MAX_POSITIONS};
 pub use plane::PlaneState;
 pub use pointer::{Contact, PlanePointer};
 pub use pointing::PointingState;
+pub use slot::PointingSlot;

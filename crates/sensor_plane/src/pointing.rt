@@ -55,7 +55,7 @@ impl PointingState {
         }
     }
 
-    fn is_no_sensor(&self) -> bool
+    pub(crate) fn is_no_sensor(&self) -> bool
         ensures { result ≡ spec.is_no_sensor self.now }
     {
         match self {

@@ -16,7 +16,7 @@ use cascade_core::WorldData;
 use cascade_world::all_lead;
 use scene_core::Scene;
 use sensor_core::TimeState;
-use sensor_plane::PointingState;
+use sensor_plane::{PointingSlot, PointingState};
 use snapshot_codec::{KeptField, PartFault, kept_fields_of, push_kept_fields};
 use snapshot_rules::{Beside, Version, beside_of, push_beside};
 use std::alloc::{AllocError, Global};
@@ -35,7 +35,18 @@ pub(crate) struct NodeState {
 pub(crate) struct NodeLists {
     pub fields: Items<Fields>,
     pub sensors: Items<TimeState>,
-    pub pointing: Items<PointingState>,
+    pub pointing: Items<PointingSlot>,
+}
+
+/// Puts what is kept of a node where viewers point behind the others.
+fn push_slot(
+    alloc: Global,
+    slots: &mut Items<PointingSlot>,
+    state: PointingState,
+) -> Result<(), AllocError>
+    ensures { OnOk result (slots.new ≡ slots.old ++ state ∷ []) }
+{
+    slots.push(PointingSlot::new(alloc, state)?)
 }
 
 impl NodeLists {
@@ -52,7 +63,7 @@ impl NodeLists {
     }
 
     /// Puts a node behind those that are there.
-    fn push(&mut self, node: NodeState) -> Result<(), AllocError>
+    fn push(&mut self, alloc: Global, node: NodeState) -> Result<(), AllocError>
         ensures { OnOk result (self.new ≡ record {
           fields = self.old.fields ++ node.fields ∷ [];
           sensors = self.old.sensors ++ node.time ∷ [];
@@ -68,7 +79,7 @@ impl NodeLists {
             drop(fields);
             return Err(refused);
         }
-        if let Err(refused) = self.pointing.push(pointing) {
+        if let Err(refused) = push_slot(alloc, &mut self.pointing, pointing) {
             drop(fields);
             return Err(refused);
         }
@@ -151,7 +162,7 @@ fn lists_of<'a>(
                 return Err(fault);
             }
         };
-        let Ok(()) = lists.push(state) else {
+        let Ok(()) = lists.push(alloc, state) else {
             drop(lists);
             return Err(PartFault::Memory);
         };
@@ -162,7 +173,7 @@ fn lists_of<'a>(
 
 /// Whether the drags at these nodes lead to their sensors; one that doesn't is `NotCanonical`. No
 /// memory holds 2^32 nodes.
-fn check_drags(scene: &Scene, pointing: &[PointingState]) -> Result<(), PartFault>
+fn check_drags(scene: &Scene, pointing: &[PointingSlot]) -> Result<(), PartFault>
     ensures ok { OnOk result (all_lead scene.now 0 pointing.now ≡ true) }
     ensures err { IfErr result (λ fault. fault ≡ NotCanonical
         → all_lead scene.now 0 pointing.now ≡ false) }
@@ -260,7 +271,7 @@ pub(crate) fn push_nodes(
             scene.node_type(node),
             &fields[at],
             sensors[at],
-            pointing[at],
+            pointing[at].state(),
             out,
         )?;
     }

@@ -30,7 +30,7 @@ use Rattle.sensor_plane.specs.Paths.{path_fits}
 use Rattle.sensor_plane.specs.PlaneParts.{drag_fits, plane_of_parts}
 use Rattle.sensor_plane.specs.Planes as planes
 use Rattle.sensor_plane.specs.Planes.{Plane}
-use Rattle.sensor_plane.specs.Pointing.{is_no_sensor, plane_fits, pointing_fits}
+use Rattle.sensor_plane.specs.Pointing.{is_no_sensor, plane_fits, pointing_fits, touch_fits}
 use Rattle.snapshot_rules.specs.declared.version.Version.{Version}
 use Rattle.snapshot_rules.specs.declared.version.Version.TheVariants.{One, Two}
 use Rattle.snapshot_rules.specs.Opening.{newest, viewers_of}
@@ -89,11 +89,11 @@ pointers_exact version = refined_exact n.touch_in n.touch_bytes (n.touch_has_byt
       let f = touch_parts version a fits in
       let P : Touch → Type 0 = λ t. (n.touch_bytes t ≡ a) × (n.touch_has_bytes version t ≡ true) in
       let same : n.touch_bytes (touched (over_of a.over) a.presser) ≡ a = ap (λ k. let t : TouchBytes = record { over = k; presser = a.presser } in t) (number_back a.over f.0) in
-      let whole : n.touch_fits (touched (over_of a.over) a.presser) ≡ true = and_true _ _ (eq-eqb _ _ (over_length a.over)) f.1 in
+      let whole : touch_fits (state.Touch (touched (over_of a.over) a.presser)) ≡ true = and_true _ _ (eq-eqb _ _ (over_length a.over)) f.1 in
       subst P (some_is (touched (over_of a.over) a.presser) b (sym (touch_in_is a f.1) ∙ e))
       (same, and_true _ _ whole (ap (λ (t : TouchBytes). (touch_codec (viewers_of version)).fits t) same ∙ fits));
   forth = λ b ok.
-      let f = both (n.touch_fits b) ((touch_codec (viewers_of version)).fits (n.touch_bytes b)) ok in
+      let f = both (touch_fits (state.Touch b)) ((touch_codec (viewers_of version)).fits (n.touch_bytes b)) ok in
       let g = both (eqb (length b.over) max_viewers) (option_map_or is_viewer b.presser true) f.0 in
       (f.1, touch_in_is (n.touch_bytes b) g.1 ∙ ap (λ (set : List Bool). Some (touched set b.presser)) (over_back b.over (eqb-true _ _ g.0)));
 }) (touch_exact (viewers_of version))
@@ -189,17 +189,17 @@ abbrev plane_in_it : PointingState → Plane
 plane_in_it (state.Plane plane) = plane
 plane_in_it _ = planes.untouched
 
-touch_again : (version : Version) (s : PointingState) → n.is_touch version s ≡ true → (n.touch_has_bytes version (touch_in_it s) ≡ true) × (some (state.Touch (touch_in_it s)) ≡ some s) × (n.touch_text version s ≡ (n.pointers_codec version).write (touch_in_it s))
+touch_again : (version : Version) (s : PointingState) → n.has_touch_text version s ≡ true → (n.touch_has_bytes version (touch_in_it s) ≡ true) × (some (state.Touch (touch_in_it s)) ≡ some s) × (n.touch_text version s ≡ (n.pointers_codec version).write (touch_in_it s))
 touch_again version state.NoSensor ok = absurd cc
 touch_again version (state.Touch touch) ok = (ok, refl, refl)
 touch_again version (state.Plane plane) ok = absurd cc
 
 touch_part_exact : (version : Version) → IsExact (n.touch_part version)
 unfolding n.touch_part n.pointers_codec
-touch_part_exact version = worded_exact (n.touch_text version) (λ touch. Some (state.Touch touch)) touch_in_it (n.is_touch version) (n.pointers_codec version) (record {
+touch_part_exact version = worded_exact (n.touch_text version) (λ touch. Some (state.Touch touch)) touch_in_it (n.has_touch_text version) (n.pointers_codec version) (record {
   back = λ a b fits e.
       let made : PointingState = state.Touch a in
-      let P : PointingState → Type 0 = λ s. (touch_in_it s ≡ a) × (n.is_touch version s ≡ true) in
+      let P : PointingState → Type 0 = λ s. (touch_in_it s ≡ a) × (n.has_touch_text version s ≡ true) in
       subst P (some_is made b e) (refl, fits);
   forth = λ b ok. let f = touch_again version b ok in (f.0, f.1);
 }) (λ b ok. (touch_again version b ok).2) (pointers_exact version)
@@ -257,14 +257,14 @@ all_press : (presser : Option ℕ) → option_map_or is_viewer presser true ≡ 
 all_press None fits = refl
 all_press (Some viewer) fits = fits
 
-newest_touch : (touch : Touch) → n.touch_fits touch ≡ true → n.touch_has_bytes newest touch ≡ true
+newest_touch : (touch : Touch) → touch_fits (state.Touch touch) ≡ true → n.touch_has_bytes newest touch ≡ true
 unfolding touch_codec viewer_set_codec presser_codec
 newest_touch touch fits =
     let f = both (eqb (length touch.over) max_viewers) (option_map_or is_viewer touch.presser true) fits in
     let small : number_of touch.over < 2 ^ max_viewers = number_small touch.over (eqb-true _ _ f.0) in
     and_true _ _ fits (and_true _ _ (lt-ltb _ _ small) (all_press touch.presser f.1))
 
-touch_newest : (s : PointingState) → pointing_fits TouchSensor s ≡ true → n.is_touch newest s ≡ true
+touch_newest : (s : PointingState) → pointing_fits TouchSensor s ≡ true → n.has_touch_text newest s ≡ true
 touch_newest state.NoSensor fits = absurd cc
 touch_newest (state.Touch touch) fits = newest_touch touch fits
 touch_newest (state.Plane plane) fits = absurd cc
@@ -277,9 +277,9 @@ newest_pointing _ s fits = fits
 
 -- and what has bytes in a version is such
 
-touch_fitting : (version : Version) (s : PointingState) → n.is_touch version s ≡ true → pointing_fits TouchSensor s ≡ true
+touch_fitting : (version : Version) (s : PointingState) → n.has_touch_text version s ≡ true → pointing_fits TouchSensor s ≡ true
 touch_fitting version state.NoSensor fits = absurd cc
-touch_fitting version (state.Touch touch) fits = (both (n.touch_fits touch) _ fits).0
+touch_fitting version (state.Touch touch) fits = (both (touch_fits (state.Touch touch)) _ fits).0
 touch_fitting version (state.Plane plane) fits = absurd cc
 
 plane_fitting : (version : Version) (s : PointingState) → (n.plane_part version).fits s ≡ true → plane_fits s ≡ true

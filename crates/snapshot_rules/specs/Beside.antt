@@ -1,12 +1,10 @@
 -- What a snapshot has of a node behind its fields, by the node's type (our choice).
-use Rattle.std.specs.Prelude.{ℕ, ◌==◌, ◌&&◌, Bool, true, false, is_none, List, [], length, Option, Some, None}
-use Rattle.std.specs.Option.{option_map, option_map_or}
+use Rattle.std.specs.Prelude.{ℕ, ◌&&◌, Bool, true, false, is_none, List, [], Option, Some, None}
+use Rattle.std.specs.Option.{option_map}
 use Rattle.byte_codec.specs.Codec.{Codec, refined, worded, named, pair}
 use Rattle.x3d_values.specs.declared.fields.Position.{Position}
 use Rattle.x3d_values.specs.declared.node_type.NodeType.{NodeType}
 use Rattle.x3d_values.specs.declared.node_type.NodeType.TheVariants.{TimeSensor, TouchSensor, PlaneSensor, BooleanSequencer, IntegerSequencer}
-use Rattle.x3d_values.specs.declared.ranges.TheConstants.{MAX_VIEWERS}
-use Rattle.x3d_values.specs.Ranges.{is_viewer}
 use Rattle.snapshot_codec.specs.declared.plane.Drag.{Drag as DragBytes}
 use Rattle.snapshot_codec.specs.declared.plane.Plane.{Plane as PlaneBytes}
 use Rattle.snapshot_codec.specs.declared.viewers.Touch.{Touch as TouchBytes}
@@ -18,7 +16,7 @@ use Rattle.sensor_plane.specs.declared.pointing.PointingState.{PointingState}
 use Rattle.sensor_plane.specs.declared.pointing.PointingState.TheVariants as state
 use Rattle.sensor_plane.specs.PlaneParts.{plane_of_parts}
 use Rattle.sensor_plane.specs.Planes.{Plane}
-use Rattle.sensor_plane.specs.Pointing.{is_no_sensor, plane_fits}
+use Rattle.sensor_plane.specs.Pointing.{is_no_sensor, plane_fits, touch_fits}
 use Rattle.snapshot_rules.specs.declared.beside.Beside.{Beside}
 use Rattle.snapshot_rules.specs.declared.version.Version.{Version}
 use Rattle.snapshot_rules.specs.declared.version.Version.TheVariants.{One, Two}
@@ -45,14 +43,10 @@ touch_in bytes = touch_of_parts (record { over = bytes.over; presser = bytes.pre
 abbrev pub touch_bytes : Touch → TouchBytes
 touch_bytes touch = record { over = number_of touch.over; presser = touch.presser }
 
-abbrev pub touch_fits : Touch → Bool
-touch_fits touch =
-    (length touch.over == MAX_VIEWERS) && option_map_or is_viewer touch.presser true
-
--- and of viewers that a version has bits for
+-- in its ranges, and of viewers that a version has bits for
 abbrev pub touch_has_bytes : Version → Touch → Bool
 touch_has_bytes version touch =
-    touch_fits touch && (touch_codec (viewers_of version)).fits (touch_bytes touch)
+    touch_fits (state.Touch touch) && (touch_codec (viewers_of version)).fits (touch_bytes touch)
 
 -- who is over a TouchSensor, and who presses it
 unfoldable pub pointers_codec : Version → Codec Touch
@@ -96,13 +90,13 @@ abbrev pub touch_text : Version → PointingState → List ℕ
 touch_text version (state.Touch touch) = (pointers_codec version).write touch
 touch_text version _ = []
 
-abbrev pub is_touch : Version → PointingState → Bool
-is_touch version (state.Touch touch) = touch_has_bytes version touch
-is_touch version _ = false
+abbrev pub has_touch_text : Version → PointingState → Bool
+has_touch_text version (state.Touch touch) = touch_has_bytes version touch
+has_touch_text version _ = false
 
 unfoldable pub touch_part : Version → Codec PointingState
 touch_part version =
-    worded (touch_text version) (λ touch. Some (state.Touch touch)) (is_touch version)
+    worded (touch_text version) (λ touch. Some (state.Touch touch)) (has_touch_text version)
     (pointers_codec version)
 
 -- and as what is kept of a PlaneSensor

@@ -5,4 +5,4 @@ use Rattle.cascade_core.proofs.parts.pointing_of.Given as goal
 
 -- of the nodes so far
 abbrev pub invariant-loop-node : goal.invariant-loop-node
-invariant-loop-node l = l.states.items ≡ map start_of (take l.node (types_of l.scene))
+invariant-loop-node l = l.slots.items ≡ map start_of (take l.node (types_of l.scene))

@@ -27,7 +27,7 @@ loop-node-preserved c = record {
       let all = counted c.args.scene.now c.in_ok-count.count (length w.fields) (length w.sensors) (length w.pointing) c.in_ok-count.ensures in
       let scene = c.args.scene.now in
       let within : c.loop-node.node < length scene.nodes = omega (arith, c.loop-node-test.true, c.in_ok-count.ensures) in
-      text_goes_on c.args.version (shapes_of scene) w.fields w.sensors w.pointing c.loop-node.node c.in_ok-count.count (shape_in scene c.loop-node.node) c.index-fields-at.result c.index-sensors-at.result c.index-pointing-at.result c.loop-node.out.items c.push_node.new.out.items _ c.loop-node-test.true all (shape_in-is scene c.loop-node.node within) (search rules) (search rules) (search rules)
+      text_goes_on c.args.version (shapes_of scene) w.fields w.sensors w.pointing c.loop-node.node c.in_ok-count.count (shape_in scene c.loop-node.node) c.index-fields-at.result c.index-sensors-at.result c.state.result c.loop-node.out.items c.push_node.new.out.items _ c.loop-node-test.true all (shape_in-is scene c.loop-node.node within) (search rules) (search rules) (rw c.state.ensures (search rules))
       (text_in c.args.version scene c.loop-node.node c.node_type.result _ c.loop-node.out.items c.push_node.new.out.items within c.node_type.ensures (c.in_ok-push_node.ensures.ok (kept_fields (shape_in scene c.loop-node.node))))
       c.loop-node.invariant.told;
   kept = extends_on c.args.out.now.items c.loop-node.out.items c.push_node.new.out.items c.loop-node.invariant.kept c.in_ok-push_node.ensures.kept;

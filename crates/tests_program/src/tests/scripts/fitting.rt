@@ -6,7 +6,7 @@ use super::{Row, all_hold};
 use cascade_core::{State, Watched, WorldData};
 use scene_core::{End, Scene};
 use sensor_core::{TimeState, TouchParts, TouchState};
-use sensor_plane::{Drag, ListPath, PlaneParts, PlaneState, PointingState};
+use sensor_plane::{Drag, ListPath, PlaneParts, PlaneState, PointingSlot, PointingState};
 use share_program::{Opened, open_scene};
 use std::alloc::Global;
 use x3d_values::{Items, Position, Value, Vec3};
@@ -179,9 +179,10 @@ fn world_with(alloc: Global, scene: &Scene, change: Change) -> Option<WorldData>
         }
         Change::Pointing(node, kept) => {
             if let Some(state) = kept_of(kept)
+                && let Ok(slot) = PointingSlot::new(alloc, state)
                 && (node as usize) < world.pointing.len()
             {
-                world.pointing.set(node as usize, state);
+                world.pointing.set(node as usize, slot);
             }
         }
         Change::FewerFields => world.fields = State::from_vec(Vec::new(alloc)),

@@ -8,7 +8,7 @@ use super::probe::{Log, Made, Probe, boxes_made};
 use cascade_core::{LoadFault, Stage, State, Trace, Watched, WorldData};
 use scene_core::Scene;
 use sensor_core::TimeState;
-use sensor_plane::PointingState;
+use sensor_plane::PointingSlot;
 use share_program::{Opened, attach, open_scene};
 use std::alloc::Global;
 use x3d_values::{Event, MAX_VIEWERS, Stamped, is_input_number, is_input_time};
@@ -60,18 +60,19 @@ pub(super) fn clock(number: u32, seconds: u32) -> Option<Stamped> {
 }
 
 /// What is kept of each node where viewers point, before any does; none where memory is refused.
-fn pointing_of(alloc: Global, scene: &Scene) -> Option<Watched<PointingState>> {
+fn pointing_of(alloc: Global, scene: &Scene) -> Option<Watched<PointingSlot>> {
     let Ok(count) = scene.count() else {
         return None;
     };
-    let mut states = Vec::new(alloc);
+    let mut slots = Vec::new(alloc);
     let mut pushed = true;
     for node in 0..count {
-        pushed &= states
-            .push(PointingState::of(scene.node_type(node)))
-            .is_ok();
+        pushed &= match PointingSlot::of(alloc, scene.node_type(node)) {
+            Ok(slot) => slots.push(slot).is_ok(),
+            Err(_) => false,
+        };
     }
-    let pointing = Watched::from_vec(states);
+    let pointing = Watched::from_vec(slots);
     if pushed {
         Some(pointing)
     } else {

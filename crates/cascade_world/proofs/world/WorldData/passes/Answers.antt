@@ -7,7 +7,7 @@ use Rattle.cascade_world.proofs.world.WorldData.passes.Goals as goal
 
 pub returns-then-is_resting : goal.returns-then-is_resting
 returns-then-is_resting c scene outside =
-    let state = c.in-Some.state.now in
+    let state = c.in-Some.slot.now in
     let aim = c.args.aim.now in
     let sensor = c.args.concerned.sensor in
     let here : slice_get c.args.self.now.pointing sensor ≡ Some state = sym c.get.ensures ∙ ap option_copied c.in-Some.is in
