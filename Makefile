@@ -14,13 +14,16 @@ THREE ?= /usr/share/javascript/three/three.min.js
 # most for their memory. (A check that is shared by four processes takes a seventh more of them.)
 export RT_JOBS ?= $(shell nproc | awk '{ print ($$1 < 4 ? $$1 : 4) }')
 
+# The kit's rt, by which a workspace of many crates needn't be walked again for each of them.
+RT := "$(CURDIR)/scripts/rt"
+
 # Whether a library stands, and no source is newer.
 fresh = { [ -e $(1) ] && [ -z "$$(find crates -path '*/out' -prune -o \
   \( -name '*.rt' -o -name '*.antt' \) -newer $(1) -print -quit)" ]; }
 
 # Proves and builds the program, and runs a job: its trace, and then its scene.
 run:
-	@job=$$(realpath $(JOB)); cd crates/x3d_share && rt run -- run < "$$job"
+	@job=$$(realpath $(JOB)); cd crates/x3d_share && $(RT) run -- run < "$$job"
 
 # The same without a proof, in half a minute.
 try:
@@ -34,7 +37,7 @@ quick:
 
 # Proves and builds the program, and draws a job: out of examples/door.job comes door.svg, here.
 picture:
-	@cd crates/x3d_share && rt run -- --version > /dev/null
+	@cd crates/x3d_share && $(RT) run -- --version > /dev/null
 	@scripts/picture $(JOB) $(basename $(notdir $(JOB))).svg
 
 # Shows a shared world in browser windows: prints the address. Wants Debian's package libjs-three.
@@ -62,20 +65,20 @@ room-library:
 # Proves and builds the program, and has a host and two viewers do a job over UDP, twice: the second
 # time through a proxy that loses, repeats and reorders datagrams.
 share:
-	@cd crates/x3d_share && rt run -- --version > /dev/null
+	@cd crates/x3d_share && $(RT) run -- --version > /dev/null
 	@scripts/share
 
 # Proves and builds the program, and soaks shared worlds for MINUTES: lost datagrams, killed viewers, late
 # ones and malicious datagrams. It prints a seed, by which it is done again.
 MINUTES ?= 5
 soak:
-	@cd crates/x3d_share && rt run -- --version > /dev/null
+	@cd crates/x3d_share && $(RT) run -- --version > /dev/null
 	@scripts/soak $(MINUTES)
 
 # Proves and builds the program, and gives each of its commands TEXTS changed scenes, jobs and schedules.
 TEXTS ?= 10000
 fuzz:
-	@cd crates/x3d_share && rt run -- --version > /dev/null
+	@cd crates/x3d_share && $(RT) run -- --version > /dev/null
 	@scripts/fuzz $(TEXTS)
 
 # The gate: every proof from nothing, the must-fail edits, the tests; and then, by the program that
@@ -87,7 +90,7 @@ fuzz:
 # source by one that is built of the same sources without a proof.
 test: definitions
 	@log=$$(mktemp); trap 'rm -f "$$log"' EXIT; \
-	scripts/gate 2>&1 | tee "$$log"; \
+	$(RT) ci 2>&1 | tee "$$log"; \
 	scripts/cases; \
 	scripts/prefixes; \
 	scripts/refusals; \
@@ -105,23 +108,23 @@ test: definitions
 
 # Proves and builds the program, and runs it on the cases of cases/ and the examples.
 cases:
-	@cd crates/x3d_share && rt run -- --version > /dev/null
+	@cd crates/x3d_share && $(RT) run -- --version > /dev/null
 	@scripts/cases
 
 # Proves and builds the program, and runs it on every prefix of the scenes of cases/ and examples/.
 prefixes:
-	@cd crates/x3d_share && rt run -- --version > /dev/null
+	@cd crates/x3d_share && $(RT) run -- --version > /dev/null
 	@scripts/prefixes
 
 # Proves and builds the program, and refuses it memory at each place in turn. Wants a C compiler, as do
 # the prefixes.
 refusals:
-	@cd crates/x3d_share && rt run -- --version > /dev/null
+	@cd crates/x3d_share && $(RT) run -- --version > /dev/null
 	@scripts/refusals
 
 # While you edit: every crate, over what earlier checks kept.
 check: definitions
-	@rt all check
+	@$(RT) all check
 
 # Whether docs/DEFINITIONS.md lists every file that a definition to believe uses, and the test of the
 # stored snapshots has their bytes.
@@ -141,7 +144,7 @@ format:
 # Proves the library for programs that embed a world, and builds out/libx3d.a and out/libx3d.so. Wants a C
 # compiler.
 library:
-	@cd crates/embed_c && rt lib
+	@cd crates/embed_c && $(RT) lib
 	@PREFIX=$(PREFIX) scripts/library
 
 # The same in out/quick/ without a proof, with checks at run time, in some two minutes.
@@ -159,7 +162,7 @@ fuzz-library: library
 
 # Puts the proved program on the path, and the library with its header and its pkg-config file beside it.
 install: library
-	@cd crates/x3d_share && rt run -- --version
+	@cd crates/x3d_share && $(RT) run -- --version
 	@install -D crates/x3d_share/out/x3d_share $(DESTDIR)$(PREFIX)/bin/x3d_share
 	@install -D -m 644 include/x3d.h $(DESTDIR)$(PREFIX)/include/x3d.h
 	@install -D -m 644 out/libx3d.a $(DESTDIR)$(PREFIX)/lib/libx3d.a
@@ -168,10 +171,10 @@ install: library
 
 # Measures the proved program beside C kernels of the same work; wants a C compiler.
 bench:
-	@cd crates/x3d_share && rt run -- --version > /dev/null
+	@cd crates/x3d_share && $(RT) run -- --version > /dev/null
 	@bench/run
 
 # Whether its time grows with the input: doubles each job three times, and fails where time grows by more than 2.6 times.
 growth:
-	@cd crates/x3d_share && rt run -- --version > /dev/null
+	@cd crates/x3d_share && $(RT) run -- --version > /dev/null
 	@bench/run --growth
