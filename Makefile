@@ -40,27 +40,33 @@ picture:
 	@cd crates/x3d_share && $(RT) run -- --version > /dev/null
 	@scripts/picture $(JOB) $(basename $(notdir $(JOB))).svg
 
+# The library that X3D_SO names, or the proved one, or one that was built without a proof, if it is no older than a source.
+found_so = so="$(X3D_SO)"; [ -n "$$so" ] || \
+  for so in out/libx3d.so out/quick/libx3d.so ""; do ! $(call fresh,"$$so") || break; done
+
 # Shows a shared world in browser windows: prints the address. Wants Debian's package libjs-three.
 room:
 	@[ -e $(THREE) ] || { echo "room: there is no $(THREE): Debian's package libjs-three has it" >&2; exit 1; }
 	@$(MAKE) --no-print-directory room-library
-	@room/server.py --three $(THREE) $(ROOM)
+	@$(found_so); X3D_SO=$$(realpath "$$so") room/server.py --three $(THREE) $(ROOM)
 
 # Tests that, in a real browser where chromium is installed. No part of `make test`.
 test-room: room-library
-	@room/test_room.py
+	@$(found_so); echo "room: by $$so"; X3D_SO=$$(realpath "$$so") room/test_room.py
 
-# Some of these, in less than a minute, for a gate: nothing is built for them, and what is missing is said. They take the
-# library that X3D_SO names, or the proved one, or the one that the gate built without a proof.
+# Some of these, in less than a minute, for a gate: nothing is built for them, and what is missing is said.
 test-room-quick:
-	@so="$(X3D_SO)"; [ -n "$$so" ] || for so in out/libx3d.so out/quick/libx3d.so ""; do ! $(call fresh,"$$so") || break; done; \
+	@$(found_so); \
 	if [ ! -e "$$so" ]; then echo "room: skipped: no library (make library, or make library-unproved)"; \
 	elif [ ! -e $(THREE) ]; then echo "room: skipped: no $(THREE) (Debian's package libjs-three)"; \
 	else echo "room: by $$so"; X3D_SO=$$(realpath "$$so") room/test_room.py --quick; fi
 
-# What it stands on: the library, proved and built where it is missing or older than its source; or what X3D_SO names.
+# What it stands on. Where there is none it is built without a proof, in some two minutes: what it answers is what the
+# proved one answers, which `make library` proves and builds in an hour.
 room-library:
-	@[ -n "$(X3D_SO)" ] || $(call fresh,out/libx3d.so) || $(MAKE) --no-print-directory library >&2
+	@$(found_so); [ -e "$$so" ] || { \
+	  echo "room: builds the library without a proof, in some two minutes (make library proves it)" >&2; \
+	  scripts/unproved_library out/quick >&2; }
 
 # Proves and builds the program, and has a host and two viewers do a job over UDP, twice: the second
 # time through a proxy that loses, repeats and reorders datagrams.
