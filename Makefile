@@ -132,13 +132,14 @@ refusals:
 check: definitions
 	@$(RT) all check
 
-# Whether docs/DEFINITIONS.md lists every file that a definition to believe uses, and the test of the
-# stored snapshots has their bytes.
+# Whether docs/DEFINITIONS.md lists every file that a definition to believe uses, the test of the
+# stored snapshots has their bytes, and scripts/rt has the sums that the kit's rt has.
 definitions:
 	@scripts/definitions
 	@scripts/pages
 	@scripts/calls
 	@scripts/snapshots
+	@scripts/sums
 
 # Which public functions no other crate, no test and not the program calls.
 calls:
