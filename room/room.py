@@ -16,7 +16,7 @@ from wire import PIECE, read_input
 
 VIEWERS = 16
 # Viewers are saved, and their worlds compared, every so many turns: as many more for so many bytes.
-CHECK, GROWTH = 60, 1 << 18
+CHECK, GROWTH = 90, 1 << 18
 # How many inputs the host keeps below those that a late window lacks.
 KEPT = 600
 # How many offers a viewer sends in a turn, and pieces, unless all would then take so many turns.

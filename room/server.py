@@ -9,6 +9,7 @@ It answers its own paths alone. A window speaks for its own viewer, by the token
 bodies are JSON of 1,024 bytes at most."""
 import argparse
 import base64
+import functools
 import hashlib
 import hmac
 import json
@@ -65,11 +66,16 @@ class Wrong(Exception):
 
 # Without blanks, since each event goes to each window.
 ENCODED = json.JSONEncoder(separators=(",", ":")).encode
+# The trace of an input is one text for all viewers, and is encoded once for all that tell it alike.
+ENCODED_TEXT = functools.lru_cache(256)(ENCODED)
 
 
 def event(kind, data):
     """An event of a window as it is sent."""
-    return f"event: {kind}\ndata: {ENCODED(data)}\n\n".encode()
+    if "trace" not in data:
+        return f"event: {kind}\ndata: {ENCODED(data)}\n\n".encode()
+    rest = {name: part for name, part in data.items() if name != "trace"}
+    return f'event: {kind}\ndata: {{"trace":{ENCODED_TEXT(data["trace"])},{ENCODED(rest)[1:]}\n\n'.encode()
 
 
 class Window:

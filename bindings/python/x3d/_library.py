@@ -5,6 +5,7 @@ import ctypes.util
 import os
 from ctypes import POINTER, Structure, c_bool, c_char_p, c_int64, c_size_t, c_uint8, c_uint16, c_uint32, c_uint64, c_void_p
 from pathlib import Path
+from typing import Any, Callable, Dict
 
 
 class Handle(Structure):
@@ -127,8 +128,38 @@ def _path() -> str:
     return found
 
 
+# Calls that are over in a microsecond or two, whatever the world: to let other threads run meanwhile takes longer.
+_SHORT = {
+    "x3d_world_applied",
+    "x3d_world_node_count",
+    "x3d_world_field_count",
+    "x3d_host_take",
+    "x3d_host_packet",
+    "x3d_host_ack",
+    "x3d_host_floor",
+    "x3d_host_floor_packet",
+    "x3d_host_count",
+    "x3d_host_viewers",
+    "x3d_viewer_applied",
+    "x3d_viewer_boot",
+    "x3d_viewer_waiting",
+    "x3d_viewer_offer",
+    "x3d_viewer_resend",
+    "x3d_viewer_ask",
+    "x3d_viewer_node_count",
+    "x3d_viewer_field_count",
+}
 library = ctypes.CDLL(_path())
-for _name, _passed in CALLS.items():
-    _call = getattr(library, _name)
-    _call.argtypes = _passed
-    _call.restype = None if _name.endswith("_close") else c_uint8
+_alone = ctypes.PyDLL(_path())
+
+
+def calls_of(kind: str) -> Dict[str, Callable[..., Any]]:
+    """The calls on a world, a host or a viewer, by what their names have behind `x3d_KIND_`."""
+    found, before = {}, f"x3d_{kind}_"
+    for name, passed in CALLS.items():
+        if name.startswith(before):
+            call = getattr(_alone if name in _SHORT else library, name)
+            call.argtypes = passed
+            call.restype = None if name.endswith("_close") else c_uint8
+            found[name[len(before) :]] = call
+    return found

@@ -45,14 +45,17 @@ class Taken(NamedTuple):
 class _Node(Held):
     """What sends datagrams."""
 
+    def __init__(self) -> None:
+        super().__init__()
+        self._sent = ctypes.create_string_buffer(_PACKET)
+
     def _packet(self, name: str, *passed: Any) -> Optional[bytes]:
         """A datagram, if there is one: at most 256 bytes."""
-        out, wanted = ctypes.create_string_buffer(_PACKET), ctypes.c_size_t()
-        status = self._status(name, *passed, out, _PACKET, wanted)
+        status = self._status(name, *passed, self._sent, _PACKET, self._wanted)
         if status == _NO_PACKET:
             return None
         self._good(status)
-        return out.raw[: wanted.value]
+        return ctypes.string_at(self._sent, self._wanted.value)
 
     def _sure(self, name: str, *passed: Any) -> bytes:
         """A datagram that there always is."""
@@ -74,6 +77,7 @@ class Host(_Node):
 
     def __init__(self, scene: Union[bytes, str], viewers: int) -> None:
         super().__init__()
+        self._reply = RawReply()
         text = scene.encode() if isinstance(scene, str) else bytes(scene)
         self._call("open", text, len(text), fits(viewers, 8))
 
@@ -91,7 +95,7 @@ class Host(_Node):
         Faults: `BadPacket`, `BadVersion`, `BadTag`, `BadRange`, `ZeroRay` (these bytes are no
         datagram), `WrongScene`, `BadViewer`, and for an offer those of `clock`; nothing has then
         changed."""
-        reply = RawReply()
+        reply = self._reply
         self._call("take", datagram, len(datagram), reply)
         return Reply(_REPLIES[reply.kind], reply.number, reply.count)
 
@@ -158,6 +162,7 @@ class Viewer(_Node, Readable):
 
     def __init__(self, scene: Union[bytes, str], who: int, boot: int) -> None:
         super().__init__()
+        self._taken = RawTaken()
         self._open(scene.encode() if isinstance(scene, str) else bytes(scene), fits(who, 8), fits(boot, 32))
 
     def boot(self) -> int:
@@ -170,7 +175,7 @@ class Viewer(_Node, Readable):
         Faults: `Spoiled`; `BadPacket`, `BadVersion`, `BadTag`, `BadRange`, `ZeroRay` (these bytes
         are no datagram); `WrongScene`; `NotForMe`: nothing has then changed. `TimeNotLater`: that
         input is dropped. `Memory`: the viewer is spoiled."""
-        taken = RawTaken()
+        taken = self._taken
         self._call("take", datagram, len(datagram), taken)
         return Taken(_TAKEN[taken.kind], taken.count)
 

@@ -1,10 +1,10 @@
 """What a library's object holds, and what is read of a world."""
 
 import ctypes
-from typing import Any, Iterator, List, NamedTuple, Optional, Tuple
+from typing import Any, Callable, Dict, Iterator, List, NamedTuple, Optional, Tuple
 
 from ._faults import Fault, Refusal
-from ._library import Handle, RawAim, RawMet, library
+from ._library import Handle, RawAim, RawMet, calls_of
 
 DONE = 0
 _MEMORY = 5
@@ -85,9 +85,15 @@ class Held:
     other threads run during a call."""
 
     _KIND = ""
+    _CALLS: Dict[str, Callable[..., Any]] = {}
+
+    def __init_subclass__(cls) -> None:
+        cls._CALLS = calls_of(cls._KIND)
 
     def __init__(self) -> None:
         self._handle = Handle()
+        # What calls tell is written here: a place for each call anew takes longer than most calls.
+        self._told, self._wanted = ctypes.c_uint32(), ctypes.c_size_t()
 
     def _open(self, text: bytes, *numbers: int) -> None:
         """Opens what a scene's text and numbers give, or raises the refusal's line."""
@@ -100,24 +106,24 @@ class Held:
         self._good(status)
 
     def _status(self, name: str, *passed: Any) -> int:
-        return int(getattr(library, f"x3d_{self._KIND}_{name}")(self._handle, *passed))
+        return int(self._CALLS[name](self._handle, *passed))
 
     def _good(self, status: int) -> None:
         if status != DONE:
             raise Fault(status)
 
     def _call(self, name: str, *passed: Any) -> None:
-        self._good(self._status(name, *passed))
+        if status := self._CALLS[name](self._handle, *passed):
+            raise Fault(status)
 
     def _number(self, name: str, *passed: Any) -> int:
         """What a call that tells one number of 32 bits tells."""
-        number = ctypes.c_uint32()
-        self._call(name, *passed, number)
-        return number.value
+        self._call(name, *passed, self._told)
+        return self._told.value
 
     def close(self) -> None:
         """Frees it. Closing twice is allowed."""
-        getattr(library, f"x3d_{self._KIND}_close")(self._handle)
+        self._CALLS["close"](self._handle)
 
     def __exit__(self, *_: object) -> None:
         self.close()
@@ -133,19 +139,19 @@ class Readable(Held):
 
     def _bytes(self) -> bytes:
         """The bytes that were made last."""
-        wanted = ctypes.c_size_t()
-        self._status("copy_text", ctypes.create_string_buffer(1), 0, wanted)
-        out = ctypes.create_string_buffer(wanted.value + 1)
-        self._call("copy_text", out, wanted.value, wanted)
-        return out.raw[: wanted.value]
+        self._status("copy_text", ctypes.create_string_buffer(1), 0, self._wanted)
+        size = self._wanted.value
+        out = ctypes.create_string_buffer(size + 1)
+        self._call("copy_text", out, size, self._wanted)
+        return out.raw[:size]
 
     def _numbers(self) -> List[int]:
         """The numbers that were listed last."""
-        wanted = ctypes.c_size_t()
-        self._status("copy_numbers", (ctypes.c_int64 * 1)(), 0, wanted)
-        out = (ctypes.c_int64 * (wanted.value + 1))()
-        self._call("copy_numbers", out, wanted.value, wanted)
-        return list(out[: wanted.value])
+        self._status("copy_numbers", (ctypes.c_int64 * 1)(), 0, self._wanted)
+        size = self._wanted.value
+        out = (ctypes.c_int64 * (size + 1))()
+        self._call("copy_numbers", out, size, self._wanted)
+        return list(out[:size])
 
     def _text(self, name: str, *passed: Any) -> str:
         self._call(name, *passed)
