@@ -129,8 +129,8 @@ A viewer that comes late needn't ask for all inputs. With --join --at Q it begin
 that another viewer sends to port Q in pieces, and asks for those behind it; its --boot has to be
 above the other's. With --give Q a viewer that has applied its N inputs sends its snapshot to
 port Q, a piece of 192 bytes a turn, round and round, in all turns that are left.
-A turn takes up to 64 datagrams. While nothing comes the viewer waits 50 milliseconds in a turn, and
-rests 50 more behind it: 1000000 turns then last up to 28 hours.
+A turn takes up to 64 datagrams. While nothing comes it waits 50 milliseconds, and up to 50 more
+pass before the next: 1000000 turns then last up to 28 hours.
 
 Example:
   x3d_share view --port 4000 --who 0 --boot 1 --until 2 < examples/view.job
