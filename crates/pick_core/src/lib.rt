@@ -27,6 +27,6 @@ pub use laws::{
 pub use local::local_point;
 pub use pick_rules::{Bounds, Fraction};
 pub use row::Row;
-pub use sensors::{MAX_SENSORS, is_enabled, sensors_of};
+pub use sensors::{MAX_SENSORS, is_enabled, is_held, sensors_of};
 pub use trail::Place;
 pub use walk::pick;

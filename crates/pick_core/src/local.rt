@@ -9,7 +9,7 @@ ghost use Rattle.pick_core.specs.Sensors.{siblings_in as siblings_of};
 use crate::hit::Hit;
 use crate::look::{Kind, Motion, kind_of, motion_of};
 use crate::motion::clamped;
-use crate::sensors::{contains, list_of, siblings_in};
+use crate::sensors::{is_held, list_of};
 use scene_core::Scene;
 use x3d_values::{Fields, Ray, Vec3};
 
@@ -119,7 +119,7 @@ fn if_held(scene: &Scene, owner: Option<u32>, sensor: u32, at: Vec3) -> Option<V
     ensures { result
         ≡ (if list_any (λ n. n == sensor) (siblings_of scene.now owner) then Some at else None) }
 {
-    if contains(siblings_in(scene, owner), sensor) {
+    if is_held(scene, owner, sensor) {
         return Some(at);
     }
     None

@@ -19,7 +19,7 @@ held_by_type scene node sensor nodes None = refl
 held_by_type scene node sensor nodes (Some Switch) = refl
 held_by_type scene node sensor nodes (Some _) = refl
 
-held_is : (scene : SceneView) (owner : Option ℕ) (sensor : ℕ) → list_any (λ n. n == sensor) (siblings_in scene owner) ≡ holds scene owner sensor
+pub held_is : (scene : SceneView) (owner : Option ℕ) (sensor : ℕ) → list_any (λ n. n == sensor) (siblings_in scene owner) ≡ holds scene owner sensor
 unfolding siblings_in kind_of
 held_is scene None sensor = refl
 held_is scene (Some node) sensor = held_by_type scene node sensor (listed scene node) (type_at scene node)

@@ -1,14 +1,14 @@
 //! The way down a scene to one of its lists.
 
-ghost use Rattle.std.specs.Prelude.{◌≡◌, ◌+◌, ◌<◌, ◌==◌, None, IfSome};
-ghost use Rattle.std.specs.List.{list_any};
+ghost use Rattle.std.specs.Prelude.{◌≡◌, ◌+◌, ◌<◌, None, IfSome};
 ghost use Rattle.std.specs.Option.{option_map};
 ghost use Rattle.pick_core.specs.Sensors as sensors;
 ghost use Rattle.pick_track.specs.Paths as spec;
 
 use crate::motion::{inside, outside};
+use pick_core::is_held;
 use scene_core::Scene;
-use x3d_values::{Fields, NodeType, Vec3};
+use x3d_values::{Fields, Vec3};
 
 /// The list of the roots, or the children of a node.
 #[tactic(auto, unfolding(pick_core::specs::Looks::listed))]
@@ -21,37 +21,11 @@ fn list_of(scene: &Scene, owner: Option<u32>) -> &[u32]
     }
 }
 
-/// Whether a node is a Switch, which counts as having no sensors.
-fn is_switch(scene: &Scene, node: u32) -> bool
-    ensures { result ≡ spec.is_switch scene.now node }
-{
-    match scene.type_at(node) {
-        Some(NodeType::Switch) => true,
-        _ => false,
-    }
-}
-
-fn contains(nodes: &[u32], node: u32) -> bool
-    ensures { result ≡ list_any (λ n. n == node) nodes.now }
-{
-    nodes.iter().any(|n| *n == node)
-}
-
-/// Whether a list may have sensors: the children of a Switch count as none.
-fn has_sensors(scene: &Scene, owner: Option<u32>) -> bool
-    ensures { result ≡ spec.has_sensors scene.now owner }
-{
-    match owner {
-        Some(node) => !is_switch(scene, node),
-        None => true,
-    }
-}
-
 /// Whether a list holds a sensor.
 fn holds(scene: &Scene, owner: Option<u32>, sensor: u32) -> bool
     ensures { result ≡ spec.holds scene.now owner sensor }
 {
-    has_sensors(scene, owner) && contains(list_of(scene, owner), sensor)
+    is_held(scene, owner, sensor)
 }
 
 /// A point in the coordinates of a list, as far as the path leads, in those of the list that the

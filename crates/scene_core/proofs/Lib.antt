@@ -11,4 +11,5 @@ pub mod DeclaredSteps
 pub mod GivenFields
 pub mod KeptFields
 pub mod RowLemmas
+pub mod SensorLemmas
 pub mod ShapeLemmas

@@ -1,13 +1,13 @@
 -- What is known of a name after some names: whether it was alone among them.
 use Rattle.std.proofs.Common.{◌≡◌, ℕ, ◌+◌, Bool, true, false, List, [], ◌∷◌, Option, Some, None, ◌∙◌, ap, sym, zero, suc, refl, arith}
-use Rattle.std.specs.Prelude.{is_none, cond, ◌==◌}
+use Rattle.std.specs.Prelude.{is_none, cond, if◌then◌else◌, ◌==◌}
 use Rattle.std.specs.Str.{bytes_eq}
 use Rattle.std.specs.List.{fold, count_by}
 use Rattle.std.proofs.Math.Path.{fun_ext}
 use Rattle.std.proofs.lemmas.List.Sums.{sum_by-cons}
 use Rattle.std.proofs.lemmas.Bool.{cond-true, cond-false}
 use Rattle.std.proofs.lemmas.Slice.Eq.{bytes_eq-Decides}
-use Rattle.scene_core.specs.Labels.{Known, unknown, mark, known_alone, is_alone}
+use Rattle.scene_core.specs.Labels.{Known, unknown, mark, marked, known_alone, is_alone}
 
 -- after so many more of the name
 abbrev after : Option Bool → ℕ → Option Bool
@@ -77,3 +77,21 @@ pub marks-alone : (known : Known) (names : List (List ℕ)) → known ≡ fold m
 marks-alone known names e =
     let alone_by : Known → List ℕ → Bool = λ k q. known_alone (k q) in
     ap alone_by e ∙ fun_ext (λ q. alone-is names q)
+
+-- ---- a name that is put down twice
+
+twice : (k : Known) (given : List ℕ) → marked given false (marked given true k) ≡ marked given false k
+twice k given = fun_ext (λ name. by (bytes_eq given name) (k name)) where
+  by : (same : Bool) (o : Option Bool) → (if same then Some false else (if same then Some true else o)) ≡ (if same then Some false else o)
+  by true o = refl
+  by false o = refl
+
+pub mark-first : (old new : Known) (given : List ℕ) (before : Option Bool) → before ≡ old given → new ≡ marked given true old → is_none before ≡ true → new ≡ mark old given
+mark-first old new given before is made none = made ∙ ap (λ alone. marked given alone old) (sym none ∙ ap is_none is)
+
+pub mark-again : (old middle new : Known) (given : List ℕ) (before : Option Bool) → before ≡ old given → middle ≡ marked given true old → new ≡ marked given false middle
+    → is_none before ≡ false → new ≡ mark old given
+mark-again old middle new given before is between made some =
+    made ∙ (ap (marked given false) between ∙ (twice old given ∙ ap (λ alone. marked given alone old) (sym some ∙ ap is_none is)))
+
+pub ruleset marks = (mark-first, mark-again)

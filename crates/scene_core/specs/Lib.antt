@@ -7,6 +7,7 @@ pub mod Numbers
 pub mod Parts
 pub mod Places
 pub mod Scene
+pub mod SensorLists
 pub mod Shape
 pub mod Tasks
 pub mod Typed

@@ -113,15 +113,32 @@ fn no_marks<'a>(alloc: Global) -> Marks<'a>
     }
 }
 
+/// Puts down whether one node alone has the name; what was known of it before.
+#[tactic(auto, unfolding(crate::specs::Labels::known_of))]
 fn mark_as<'a>(
     marks: &mut Marks<'a>,
     name: &'a Text,
     alone: bool,
-) -> Result<(), AllocFailed<(&'a str, bool)>>
-    ensures { IfOk result
+) -> Result<Option<bool>, AllocFailed<(&'a str, bool)>>
+    ensures before { IfOk result (λ before. before ≡ known_of marks.old name.now) }
+    ensures marked { IfOk result
         (λ _. known_of marks.new ≡ spec.marked name.now alone (known_of marks.old)) }
 {
-    marks.alone.insert(name.as_str(), alone)?;
+    let before = marks.alone.insert(name.as_str(), alone)?;
+    Ok(before)
+}
+
+/// One more node has the name. Most names are new: they are looked up once.
+#[tactic(auto, using(crate::proofs::NameLemmas::marks))]
+fn mark<'a>(marks: &mut Marks<'a>, name: &'a Text) -> Result<(), AllocFailed<(&'a str, bool)>>
+    ensures { IfOk result
+        (λ _. known_of marks.new ≡ spec.mark (known_of marks.old) name.now) }
+{
+    let before = mark_as(marks, name, true)?;
+    if before.is_none() {
+        return Ok(());
+    }
+    mark_as(marks, name, false)?;
     Ok(())
 }
 
@@ -132,8 +149,7 @@ fn mark_at<'a>(marks: &mut Marks<'a>, nodes: &'a [FlatNode], n: u32) -> Result<(
     let Some(name) = name_at(nodes, n) else {
         return Ok(());
     };
-    let alone = known(marks, name).is_none();
-    mark_as(marks, name, alone)?;
+    mark(marks, name)?;
     Ok(())
 }
 

@@ -142,7 +142,8 @@ pub fn is_pointing(node_type: NodeType) -> bool
     }
 }
 
-fn is_sensor(nodes: &[SceneNode], n: u32) -> bool
+/// Whether the node of that number is a pointing sensor.
+pub(crate) fn is_sensor(nodes: &[SceneNode], n: u32) -> bool
     ensures { result ≡ spec.is_sensor nodes.now n }
 {
     match nodes.get(n as usize) {

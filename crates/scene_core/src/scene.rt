@@ -17,6 +17,7 @@ use crate::labels::push_label;
 use crate::numbering::numbered;
 use crate::places::own_children;
 use crate::row::{DeclaredField, Row, count_by, named_by, numbered_fields, row_by};
+use crate::sensor_lists::{SensorLists, sensor_lists};
 use crate::state::state_of;
 use proto_flat::{Flat, Header};
 use std::alloc::{AllocError, Global};
@@ -63,11 +64,15 @@ pub struct Scene {
     /// Which nodes of the document the scene has, and the number of each.
     opened: Items<bool>,
     numbers: Items<u32>,
+    /// The pointing sensors in the list of the roots and in each list `children`.
+    sensors: SensorLists,
 }
 
 impl Model for Scene {
     ghost use Rattle.scene_core.specs.Scene.{SceneView};
+    ghost use Rattle.std.specs.Prelude.{◌≡◌};
     ghost use Rattle.scene_core.specs.Building.{IsLimited};
+    ghost use Rattle.scene_core.specs.SensorLists.{sensor_lists};
 
     ghost Value = { SceneView };
 
@@ -80,7 +85,8 @@ impl Model for Scene {
       numbers = s.numbers;
     } };
 
-    ghost invariant = { λ s. IsLimited s.nodes s.roots };
+    ghost invariant = { λ s. IsLimited s.nodes s.roots
+        × (s.sensors ≡ sensor_lists s.nodes s.roots) };
 }
 
 impl Scene {
@@ -91,6 +97,7 @@ impl Scene {
     ghost use Rattle.scene_core.specs.Faults.{memory};
     ghost use Rattle.scene_core.specs.Scene.{type_at, types_of, rows_at, declared_at, number_of, value_at, children_of, state_of, label_of, name_at};
     ghost use Rattle.scene_core.specs.Places.{any_crowded};
+    ghost use Rattle.scene_core.specs.SensorLists.{sensors_below};
     ghost use Rattle.scene_core.specs.Shape.{row_entry};
     ghost use Rattle.scene_core.specs.Wide.{any_wide};
     ghost use Rattle.x3d_values.specs.declared.node_type.NodeType.{NodeType};
@@ -277,6 +284,14 @@ impl Scene {
         }
     }
 
+    /// The pointing sensors in the list of the roots, or in the list `children` of a node: kept, so
+    /// that no long list is gone through for them.
+    pub fn sensors_below(&self, owner: Option<u32>) -> &[u32]
+        ensures { result.now ≡ sensors_below self.now owner }
+    {
+        self.sensors.below(owner)
+    }
+
     /// No list of a scene has more than 64 sensors, and no node more fields than there are numbers.
     pub fn keeps_limits(&self)
         ensures uncrowded { any_crowded self.now.nodes self.now.roots ≡ false }
@@ -297,14 +312,24 @@ impl Scene {
             return Err(fault(SceneFaultKind::Memory, 0));
         };
         match checked_nodes(alloc, flat, &numbering, frame.roots.as_slice()) {
-            Ok(nodes) => Ok(Scene {
-                header: frame.header,
-                nodes,
-                roots: frame.roots,
-                helpers: frame.helpers,
-                opened: numbering.opened,
-                numbers: numbering.numbers,
-            }),
+            Ok(nodes) => {
+                let roots = frame.roots.as_slice();
+                let Ok(sensors) = sensor_lists(alloc, nodes.as_slice(), roots) else {
+                    drop(numbering);
+                    drop(frame);
+                    drop(nodes);
+                    return Err(fault(SceneFaultKind::Memory, 0));
+                };
+                Ok(Scene {
+                    header: frame.header,
+                    nodes,
+                    roots: frame.roots,
+                    helpers: frame.helpers,
+                    opened: numbering.opened,
+                    numbers: numbering.numbers,
+                    sensors,
+                })
+            }
             Err(refused) => {
                 drop(numbering);
                 drop(frame);

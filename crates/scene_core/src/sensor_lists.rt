@@ -1,0 +1,94 @@
+//! The pointing sensors in the lists of a scene.
+
+ghost use Rattle.std.specs.Prelude.{◌≡◌, ◌++◌, ◌∷◌, [], IfOk, OnOk, cond, map};
+ghost use Rattle.scene_core.specs.Places.{is_sensor};
+ghost use Rattle.scene_core.specs.SensorLists as spec;
+
+use crate::places::{is_sensor, own_children};
+use crate::scene::SceneNode;
+use std::alloc::{AllocError, Global};
+use x3d_lists::Items;
+
+/// Which nodes of the list of the roots, and of each node's list `children`, are pointing sensors:
+/// lists may be long, and few have any.
+#[derive(Drop)]
+pub struct SensorLists {
+    pub roots: Items<u32>,
+    /// By the nodes' numbers.
+    pub children: Items<Items<u32>>,
+}
+
+impl SensorLists {
+    ghost use Rattle.std.specs.Prelude.{◌≡◌};
+    ghost use Rattle.scene_core.specs.SensorLists.{kept_below};
+
+    /// Those in the list of the roots, or in the list `children` of a node.
+    pub fn below(&self, owner: Option<u32>) -> &[u32]
+        ensures { result.now ≡ kept_below self.now owner }
+    {
+        let Some(node) = owner else {
+            return self.roots.as_slice();
+        };
+        match self.children.get(node as usize) {
+            Some(sensors) => sensors.as_slice(),
+            None => &[],
+        }
+    }
+}
+
+/// The sensors in the lists of a scene.
+pub(crate) fn sensor_lists(
+    alloc: Global,
+    nodes: &[SceneNode],
+    roots: &[u32],
+) -> Result<SensorLists, AllocError>
+    ensures { IfOk result (λ lists. lists ≡ spec.sensor_lists nodes.now roots.now) }
+{
+    let among_roots = sensors_among(alloc, nodes, roots)?;
+    let Ok(children) = sensors_among_children(alloc, nodes) else {
+        drop(among_roots);
+        return Err(AllocError);
+    };
+    Ok(SensorLists {
+        roots: among_roots,
+        children: Items::from_vec(children),
+    })
+}
+
+/// Of each node the sensors among its children.
+fn sensors_among_children(alloc: Global, nodes: &[SceneNode]) -> Result<Vec<Items<u32>>, AllocError>
+    ensures { IfOk result
+        (λ all. all.items ≡ map (spec.sensors_among_children nodes.now) nodes.now) }
+{
+    let mut all = Vec::with_capacity(alloc, nodes.len())?;
+    for node in nodes {
+        all.push(sensors_among(alloc, nodes, own_children(node))?)?;
+    }
+    Ok(all)
+}
+
+/// The sensors in a list, in its order.
+fn sensors_among(alloc: Global, nodes: &[SceneNode], list: &[u32]) -> Result<Items<u32>, AllocError>
+    ensures { IfOk result (λ sensors. sensors ≡ spec.sensors_among nodes.now list.now) }
+{
+    let mut sensors = Items::new(alloc);
+    for n in list {
+        if push_sensor(nodes, &mut sensors, *n).is_err() {
+            drop(sensors);
+            return Err(AllocError);
+        }
+    }
+    Ok(sensors)
+}
+
+/// Appends a node that is a sensor.
+fn push_sensor(nodes: &[SceneNode], sensors: &mut Items<u32>, n: u32) -> Result<(), AllocError>
+    ensures { OnOk result
+        (sensors.new ≡ sensors.old ++ cond (is_sensor nodes.now n) (n ∷ []) []) }
+{
+    if is_sensor(nodes, n) {
+        sensors.push(n)
+    } else {
+        Ok(())
+    }
+}
