@@ -1,6 +1,7 @@
 //! What a TouchSensor does with the pointers of several viewers.
 
 ghost use Rattle.std.specs.Prelude.{◌≡◌, ◌+◌, ◌≤◌, [], ◌∷◌, ◌++◌};
+ghost use Rattle.std.specs.List.{list_any};
 ghost use Rattle.arrayvec.specs.ArrayVec.{array_vec_len};
 ghost use Rattle.react_core.specs.Reaction.{reply};
 ghost use Rattle.sensor_core.specs.Touches.{over_replies};
@@ -41,6 +42,17 @@ pub(crate) struct Pointed {
     pub before: bool,
     pub down: bool,
     pub inside: Option<Vec3>,
+}
+
+/// Whether one of them is. All are looked at, which takes a processor less than to stop at the first.
+pub fn is_any(over: &[bool; VIEWERS]) -> bool
+    ensures { result ≡ list_any (λ over. over) over.now }
+{
+    let mut any = false;
+    for one in over {
+        any = any | *one;
+    }
+    any
 }
 
 impl TouchState {
@@ -120,7 +132,7 @@ impl TouchState {
     pub fn is_over(&self) -> bool
         ensures { result ≡ is_over self.now }
     {
-        self.over.iter().any(|over| *over)
+        is_any(&self.over)
     }
 
     /// Whether no pointer is over it, and nobody presses it.

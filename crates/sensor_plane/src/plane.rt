@@ -2,7 +2,6 @@
 
 ghost use Rattle.std.specs.Prelude.{◌≡◌, ◌+◌, ◌≤◌, ◌==◌, ◌&&◌, [], ◌∷◌, ◌++◌, length};
 ghost use Rattle.arrayvec.specs.ArrayVec.{array_vec_len};
-ghost use Rattle.std.specs.List.{list_any};
 ghost use Rattle.x3d_values.specs.declared.ranges.TheConstants.{MAX_VIEWERS};
 ghost use Rattle.x3d_values.specs.Ranges.{coordinates_fit, is_viewer};
 ghost use Rattle.sensor_plane.specs.Paths.{path_fits};
@@ -16,7 +15,7 @@ use crate::parts::PlaneParts;
 use crate::path::MAX_POSITIONS;
 use crate::pointer::PlanePointer;
 use react_core::Outbox;
-use sensor_core::{VIEWERS, number_of, over_of};
+use sensor_core::{VIEWERS, is_any, number_of, over_of};
 use std::marker::Model;
 use x3d_values::{MAX_VIEWERS, Value};
 
@@ -180,12 +179,6 @@ impl PlaneState {
         over[pointer.who as usize] = pointer.contact.is_some();
         over
     }
-}
-
-fn is_any(over: &[bool; VIEWERS]) -> bool
-    ensures { result ≡ list_any (λ o. o) over.now }
-{
-    over.iter().any(|over| *over)
 }
 
 /// Whether there is a place for each viewer, as there always is.
