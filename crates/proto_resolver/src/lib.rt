@@ -1,0 +1,5 @@
+//! Resolves the words of a text (ISO/IEC 19775-1, 4.4.4, prototype scoping rules).
+#![tactic(auto)]
+
+mod resolver;
+mod scopes;
