@@ -1,2 +1,6 @@
 pub mod Names
 pub mod Standing
+pub mod Rows
+pub mod Steps
+pub mod Declared
+pub mod Entered

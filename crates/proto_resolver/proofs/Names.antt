@@ -1,7 +1,6 @@
 -- What names mean by the tables, and the faults of a declaration itself.
-use Rattle.std.proofs.Common.{◌≡◌, ℕ, Bool, true, false, List, [], ◌∷◌, ◌++◌, cond, Option, Some, None, Result, Ok, Err, refl, ap, sym, ◌∙◌, subst, ◌||◌}
+use Rattle.std.proofs.Common.{◌≡◌, ℕ, Bool, true, false, List, ◌++◌, cond, Option, Some, None, Result, Ok, Err, refl, ap, sym, ◌∙◌, subst, ◌||◌}
 use Rattle.std.specs.Prelude.{option_map, is_some, if◌then◌else◌, slice_get}
-use Rattle.std.specs.List.{find}
 use Rattle.std.specs.Option.{option_or}
 use Rattle.std.specs.Str.{bytes_eq}
 use Rattle.std.proofs.lemmas.List.Folds.{find-append}
@@ -9,9 +8,9 @@ use Rattle.classic_tree.specs.declared.tree.ProtoText.{ProtoText, out-ProtoText}
 use Rattle.x3d_values.specs.Names.{node_type_named}
 use Rattle.x3d_values.specs.declared.node_type.NodeType.{NodeType}
 use Rattle.proto_flat.specs.Fault.{fault}
-use Rattle.proto_flat.specs.declared.fault.ExpandFaultKind.TheVariants.{ProtoTwice, ProtoItself, EmptyBody}
+use Rattle.proto_flat.specs.declared.fault.ExpandFaultKind.TheVariants.{ProtoTwice, EmptyBody}
 use Rattle.proto_meaning.specs.Names.{Name}
-use Rattle.proto_meaning.specs.Sight.{Names, Owner, OfType, OfProto, Prototype, Sight, declared, meant, taken_by}
+use Rattle.proto_meaning.specs.Sight.{OfType, OfProto, Prototype, Sight, declared, meant, taken_by}
 use Rattle.proto_sight.specs.Texts.{is_known, finds_inside, has_node, unless_found, checked}
 use Rattle.proto_resolver.specs.declared.scopes.Declared.{Declared}
 use Rattle.proto_resolver.specs.declared.scopes.Scopes.{Scopes}

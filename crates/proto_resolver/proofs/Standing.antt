@@ -1,10 +1,8 @@
 -- Prototypes by number, as they become more; and what calls resolve, one after the other.
-use Rattle.std.proofs.Common.{◌≡◌, ℕ, suc, ◌<◌, ◌+◌, Bool, true, false, List, [], ◌∷◌, ◌++◌, length, cond, Option, Some, None, Result, Ok, Err, refl, ap, sym, ◌∙◌, subst, true≢false}
+use Rattle.std.proofs.Common.{◌≡◌, ℕ, suc, List, [], ◌∷◌, ◌++◌, cond, Option, Some, None, Ok, Err, refl, ap, sym, ◌∙◌, subst}
 use Rattle.std.specs.Prelude.{is_some, slice_get}
 use Prim.Native.Nat.{zero}
-use Rattle.std.proofs.lemmas.List.{append-nil, append_assoc}
 use Rattle.proto_flat.specs.declared.fault.ExpandFault.{ExpandFault}
-use Rattle.proto_meaning.specs.Names.{Name}
 use Rattle.proto_meaning.specs.Sight.{Names, Prototype, Sight, declared}
 use Rattle.proto_tree.specs.declared.tree.ProtoTree.{ProtoTree}
 use Rattle.proto_tree.specs.Resolved.{Seen, wrong_in}
@@ -12,8 +10,8 @@ use Rattle.proto_resolver.specs.declared.scopes.Declared.{Declared}
 use Rattle.proto_resolver.specs.declared.scopes.Scopes.{Scopes}
 use Rattle.proto_resolver.specs.declared.scopes.Table.{Table}
 use Rattle.proto_resolver.specs.declared.resolver.Resolver.{Resolver}
-use Rattle.proto_resolver.specs.Held.{Entries, names_of, takes_of, found, seen}
-use Rattle.proto_resolver.specs.Standing.{Extends, IsOf, Stands, Means, Shows, Ends, Resolved, Resolves}
+use Rattle.proto_resolver.specs.Held.{Entries, names_of, found, seen}
+use Rattle.proto_resolver.specs.Standing.{Extends, Stands, Means, Shows, Ends, Resolved, Resolves}
 
 -- ---- more prototypes
 

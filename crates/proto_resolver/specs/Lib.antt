@@ -1,3 +1,4 @@
 pub mod Held
 pub mod Standing
 pub mod Steps
+pub mod Parts

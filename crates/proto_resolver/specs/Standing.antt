@@ -1,6 +1,6 @@
 -- What the program holds, by the prototypes of the numbers, and what a call of it resolves.
-use Rattle.std.specs.Prelude.{◌≡◌, ℕ, List, [], ◌++◌, length, map, Option, None, Some, Result, Ok, Err, slice_get}
-use Rattle.classic_tree.specs.declared.tree.ProtoText.{ProtoText, out-ProtoText}
+use Rattle.std.specs.Prelude.{◌≡◌, ℕ, List, length, map, Option, None, Some, Ok, Err, slice_get}
+use Rattle.classic_tree.specs.declared.tree.ProtoText.{out-ProtoText}
 use Rattle.proto_flat.specs.declared.fault.ExpandFault.{ExpandFault}
 use Rattle.proto_meaning.specs.Flat.{field}
 use Rattle.proto_meaning.specs.Names.{Name, Filled}

@@ -3,7 +3,8 @@ use Rattle.std.specs.Prelude.{◌≡◌, List, [], ◌∷◌, ◌++◌, length}
 use Rattle.std.specs.Borrow.{Bor}
 use Rattle.std.specs.List.{filter}
 use Rattle.classic_tree.specs.declared.tree.ProtoText.{ProtoText, out-ProtoText}
-use Rattle.proto_meaning.specs.Sight.{Names, no_names}
+use Rattle.proto_meaning.specs.Names.{Name}
+use Rattle.proto_meaning.specs.Sight.{Names, no_names, with_name}
 use Rattle.proto_tree.specs.declared.tree.BodyTree.{BodyTree}
 use Rattle.proto_tree.specs.declared.tree.DefaultTree.{DefaultTree}
 use Rattle.proto_resolver.specs.declared.scopes.Declared.{Declared}
@@ -25,6 +26,13 @@ pub record IsBack (old : Resolver) (before : Taken) (new : Resolver) : Type 0 wh
   pub here : found new.scopes.here ≡ found old.scopes.here
   pub outside : new.scopes.outside.items ≡ old.scopes.outside.items
   pub takes : names_of new.scopes.takes ≡ names_of before
+  pub protos : new.protos ≡ old.protos
+
+-- an IS takes the name
+pub record IsTaking (name : Name) (old new : Resolver) : Type 0 where
+  pub here : found new.scopes.here ≡ found old.scopes.here
+  pub outside : new.scopes.outside.items ≡ old.scopes.outside.items
+  pub takes : names_of new.scopes.takes ≡ with_name name (names_of old.scopes.takes)
   pub protos : new.protos ≡ old.protos
 
 -- a scope was opened; before is what the body around takes so far

@@ -3,3 +3,7 @@
 
 mod resolver;
 mod scopes;
+mod walk;
+mod whole;
+
+pub use whole::resolve;

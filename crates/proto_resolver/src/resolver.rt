@@ -8,7 +8,7 @@ ghost use Rattle.proto_resolver.specs.declared.scopes.Table.{Table};
 ghost use Rattle.proto_resolver.specs.Held.{names_of, taken_names};
 ghost use Rattle.proto_resolver.specs.Standing.{Extends, Shows};
 ghost use Rattle.proto_resolver.specs.Steps.{IsAside, IsBack, IsClosed, IsDeclared, IsOpened};
-ghost use Rattle.proto_resolver.specs.Steps.{kept};
+ghost use Rattle.proto_resolver.specs.Steps.{IsTaking, kept};
 
 use crate::scopes::{Declared, Scopes, Table, Taken, Taker};
 use classic_tree::ProtoText;
@@ -100,6 +100,14 @@ impl<'a> Resolver<'a> {
         ensures { IsBack self.old before.entry self.new }
     {
         drop(mem::replace(&mut self.scopes.takes, before));
+    }
+
+    /// An IS takes the name.
+    pub fn take(&mut self, name: &'a Text) -> Result<(), AllocError>
+        ensures { IfOk result (λ _. IsTaking name.now self.old self.new) }
+    {
+        self.scopes.takes.take(name)?;
+        Ok(())
     }
 
     /// Opens a scope. Gives what the body around takes so far.

@@ -1,4 +1,4 @@
-use Rattle.std.proofs.Common.{◌∙◌, Bool, true, false, Result, Ok, Err, refl, ap, sym, ℕ}
+use Rattle.std.proofs.Common.{◌∙◌, true, false, Ok, Err, refl, ap, sym}
 use Rattle.classic_tree.specs.declared.tree.ProtoText.{out-ProtoText}
 use Rattle.proto_sight.specs.Texts.{finds_inside, has_node}
 use Rattle.proto_resolver.proofs.Names.{checked_as}
