@@ -35,14 +35,14 @@ abbrev is_there : {X : Type 0} → Option X → Type 0
 is_there None = ⊥
 is_there (Some x) = Unit {0}
 
-none_some : {X : Type 0} (x : X) → None ≡ Some x → ⊥
+pub none_some : {X : Type 0} (x : X) → None ≡ Some x → ⊥
 none_some {X} x e = subst (λ (o : Option X). is_there o) (sym e) tt
 
 abbrev or_this : {X : Type 0} → X → Option X → X
 or_this x None = x
 or_this x (Some y) = y
 
-same_some : {X : Type 0} (x y : X) → Some x ≡ Some y → x ≡ y
+pub same_some : {X : Type 0} (x y : X) → Some x ≡ Some y → x ≡ y
 same_some x y e = ap (or_this x) e
 
 one_more : {X : Type 0} (xs : List X) (x : X) (n : ℕ) (y : X) → slice_get (xs ++ x ∷ []) n ≡ Some y → (slice_get xs n ≡ Some y) ⊎ ((n ≡ length xs) × (x ≡ y))

@@ -4,3 +4,4 @@ pub mod Rows
 pub mod Steps
 pub mod Declared
 pub mod Entered
+pub mod Numbers

@@ -59,5 +59,5 @@ pub record IsResolved (text : List Statement) (protos : List ProtoTree) (trees :
   pub prototypes : List Prototype
   pub seen : Seen
   pub stand : Stands prototypes protos
-  pub are : AreStatements prototypes text trees (record { here = []; outside = []; taken = no_names })
-      seen
+  pub are : AreStatements prototypes text trees
+      (record { here = []; outside = []; taken = no_names }) seen

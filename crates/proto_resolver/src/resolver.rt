@@ -173,7 +173,8 @@ pub fn declare<'a>(
     taken: Taken<'a>,
 ) -> Result<(), AllocError>
     ensures { IfOk result (λ _.
-        IsDeclared proto.entry defaults.entry body.entry (names_of taken.entry) resolver.old resolver.new) }
+        IsDeclared proto.entry defaults.entry body.entry (names_of taken.entry) resolver.old
+        resolver.new) }
 {
     let defaults = taken_defaults(alloc, defaults, &taken)?;
     let takes = Rc::new(alloc, taken)?;

@@ -152,7 +152,8 @@ fn resolve_item<'a>(
 ) -> Result<Part<Option<ItemTree<'a>>>, AllocError>
     ensures { IfOk result (λ part. (rest : List BodyItem)
         → Resolves resolver.old resolver.new part.wrong (λ ps s r.
-        Before (AreItems ps (taken_names taker.now)) (item.now ∷ rest) rest (one_or_none part.tree) s r)) }
+        Before (AreItems ps (taken_names taker.now)) (item.now ∷ rest) rest
+        (one_or_none part.tree) s r)) }
 {
     match item {
         BodyItem::Field(line, name, given) => {
