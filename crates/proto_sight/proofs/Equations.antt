@@ -33,7 +33,7 @@ and_see-congr f g h (Ok x) = h x
 and_see-congr f g h (Err e) = refl
 
 -- a step of what the parts are made of, and a step of the parts
-each-map : {A B X E : Type 0} (f : B → X → Result X E) (k : A → X → Result X E) (g : A → B) → ((a : A) (x : X) → f (g a) x ≡ k a x) → (xs : List A) (x : X) → each f (map g xs) x ≡ each k xs x
+pub each-map : {A B X E : Type 0} (f : B → X → Result X E) (k : A → X → Result X E) (g : A → B) → ((a : A) (x : X) → f (g a) x ≡ k a x) → (xs : List A) (x : X) → each f (map g xs) x ≡ each k xs x
 each-map f k g h [] x = refl
 each-map f k g h (a ∷ rest) x = ap (λ r. and_see r (each f (map g rest))) (h a x) ∙ and_see-congr (each f (map g rest)) (each k rest) (λ y. each-map f k g h rest y) (k a x)
 
@@ -57,7 +57,7 @@ given-finds own (given.Value (value.NumberList numbers)) hidden = refl
 given-finds own (given.Value (value.NodeList nodes)) hidden = each-map (λ (p : Node). p.finds own) (λ n. (node n).finds own) node (λ n h. refl) nodes hidden
 given-finds own (given.Is name) hidden = refl
 
-given-sees : (g : Given NodeText) (s : Sight) → given_sees (given_mapped node g) s ≡ sees_given g s
+pub given-sees : (g : Given NodeText) (s : Sight) → given_sees (given_mapped node g) s ≡ sees_given g s
 given-sees given.Nothing s = refl
 given-sees (given.Value value.Null) s = refl
 given-sees (given.Value (value.Truth truth)) s = refl

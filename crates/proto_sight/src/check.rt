@@ -220,7 +220,8 @@ fn is_node(statement: &Statement) -> bool
     }
 }
 
-fn has_node(body: &[Statement]) -> bool
+/// Whether a statement of the body is a node.
+pub fn has_node(body: &[Statement]) -> bool
     ensures { result ≡ spec.has_node body.now }
 {
     body.iter().any(|statement| is_node(statement))

@@ -8,5 +8,7 @@ mod search;
 mod sight;
 mod whole;
 
+pub use check::has_node;
+pub use search::find_inside;
 pub use sight::{Declarations, Prototype, Table, Taken, Taker};
 pub use whole::declarations;

@@ -18,7 +18,7 @@ use Rattle.proto_meaning.specs.Flat as flat
 use Rattle.proto_meaning.specs.Flat.{Walk, Does, ◌>>=◌, pure, see, through, put_in, leave_out, Node}
 use Rattle.proto_meaning.proofs.SightLaw.{Any, After, Free, Follows, GoodNode, bare, bared, each_free, then_follows, then_still, see_follows, aside_free}
 use Rattle.proto_tree.specs.declared.tree.DefaultTree.{DefaultTree}
-use Rattle.proto_tree.specs.declared.tree.GivenTree.{GivenTree}
+use Rattle.proto_tree.specs.Given.{GivenTree}
 use Rattle.proto_tree.specs.declared.tree.GivenTree.TheVariants as tree
 use Rattle.proto_tree.specs.declared.tree.NodeTree.{NodeTree}
 use Rattle.proto_tree.specs.Meaning.{node, plain, value_in, with_given, default}

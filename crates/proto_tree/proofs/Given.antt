@@ -21,7 +21,7 @@ use Rattle.proto_meaning.specs.Sight.{Sight, Step, Prototype, Owner, OfType, OfP
 use Rattle.proto_meaning.specs.Flat as flat
 use Rattle.proto_meaning.specs.Flat.{Walk, Does, ◌>>=◌, pure, refuse, see, through, put_in, leave_out, Node, Inside, give, give_is, join, fits, fill, met_field, is_node}
 use Rattle.proto_meaning.proofs.SightLaw.{Any, Free, GoodNode, Follows, bared, each_free, aside_free, then_still}
-use Rattle.proto_tree.specs.declared.tree.GivenTree.{GivenTree}
+use Rattle.proto_tree.specs.Given.{GivenTree}
 use Rattle.proto_tree.specs.declared.tree.GivenTree.TheVariants as tree
 use Rattle.proto_tree.specs.Meaning.{plain, stands, holds, left_by, gives}
 use Rattle.proto_tree.specs.Resolved.{Seen, given_sees, wrong_in, is_plain, taking}

@@ -1,9 +1,9 @@
-mod Same
-mod Good
-mod Given
-mod Parts
-mod Statements
-mod Whole
-mod Defaults
-mod Prototypes
-mod Worked
+pub mod Same
+pub mod Good
+pub mod Given
+pub mod Parts
+pub mod Statements
+pub mod Whole
+pub mod Defaults
+pub mod Prototypes
+pub mod Worked

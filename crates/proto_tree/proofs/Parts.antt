@@ -24,7 +24,7 @@ use Rattle.proto_meaning.specs.Flat as flat
 use Rattle.proto_meaning.specs.Flat.{Walk, Does, ◌>>=◌, pure, refuse, meet, note, see, through, close, renamed, Node, Item, Inside, is_one, unless_twice, inside, fields_of, flat_node, close_node, close_instance, full_node, note_route, numbered_from, is_filled, is_script, field, give}
 use Rattle.proto_meaning.proofs.SightLaw.{Any, Owned, After, Follows, GoodItem, bared, still}
 use Rattle.proto_meaning.proofs.Trees.{item-field, item-declaration, item-route, item-proto, node-use, node-full}
-use Rattle.proto_tree.specs.declared.tree.GivenTree.{GivenTree}
+use Rattle.proto_tree.specs.Given.{GivenTree}
 use Rattle.proto_tree.specs.declared.tree.GivenTree.TheVariants as tree
 use Rattle.proto_tree.specs.declared.tree.ItemTree.{ItemTree, fold-roll-ItemTree}
 use Rattle.proto_tree.specs.declared.tree.ItemTree.TheVariants as tree_item

@@ -21,7 +21,7 @@ use Rattle.proto_meaning.proofs.SightLaw.{GoodItem}
 use Rattle.proto_meaning.proofs.SightWhole.{every_good}
 use Rattle.proto_meaning.proofs.Trees.{statement-node, statement-route}
 use Rattle.proto_tree.specs.declared.tree.BodyTree.{BodyTree}
-use Rattle.proto_tree.specs.declared.tree.GivenTree.{GivenTree}
+use Rattle.proto_tree.specs.Given.{GivenTree}
 use Rattle.proto_tree.specs.declared.tree.ItemTree.{ItemTree}
 use Rattle.proto_tree.specs.declared.tree.NodeTree.{NodeTree}
 use Rattle.proto_tree.specs.Meaning.{item, node, statement}

@@ -1,3 +1,4 @@
+pub mod Given
 pub mod Meaning
 pub mod Resolved
 pub mod Laws

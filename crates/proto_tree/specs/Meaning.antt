@@ -23,7 +23,7 @@ use Rattle.proto_meaning.specs.Flat.{Does, ◌>>=◌, comes, pure, refuse, note,
 use Rattle.proto_tree.specs.declared.tree.BodyTree.{BodyTree}
 use Rattle.proto_tree.specs.declared.tree.BodyTree.TheVariants as body
 use Rattle.proto_tree.specs.declared.tree.DefaultTree.{DefaultTree}
-use Rattle.proto_tree.specs.declared.tree.GivenTree.{GivenTree}
+use Rattle.proto_tree.specs.Given.{GivenTree}
 use Rattle.proto_tree.specs.declared.tree.GivenTree.TheVariants.{Nothing, Is, Plain, One, Many, LeftOut}
 use Rattle.proto_tree.specs.declared.tree.ItemTree.{ItemTree, fold-ItemTree}
 use Rattle.proto_tree.specs.declared.tree.ItemTree.TheOpen.{ItemTree-F, NodeTree-F}

@@ -24,7 +24,7 @@ use Rattle.proto_meaning.specs.Flat as flat
 use Rattle.proto_tree.specs.declared.tree.BodyTree.{BodyTree}
 use Rattle.proto_tree.specs.declared.tree.BodyTree.TheVariants as body
 use Rattle.proto_tree.specs.declared.tree.DefaultTree.{DefaultTree}
-use Rattle.proto_tree.specs.declared.tree.GivenTree.{GivenTree}
+use Rattle.proto_tree.specs.Given.{GivenTree}
 use Rattle.proto_tree.specs.declared.tree.GivenTree.TheVariants as tree_given
 use Rattle.proto_tree.specs.declared.tree.ItemTree.{ItemTree}
 use Rattle.proto_tree.specs.declared.tree.ItemTree.TheVariants as tree_item

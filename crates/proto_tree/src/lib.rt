@@ -6,4 +6,6 @@ mod laws;
 mod tree;
 
 pub use laws::{prototypes_are_the_same, texts_stand_for_the_same};
-pub use tree::{BodyTree, DefaultTree, GivenTree, ItemTree, NodeTree, ProtoTree, TextTree, Word};
+pub use tree::{
+    BodyTree, DefaultTree, FieldTree, GivenTree, ItemTree, NodeTree, ProtoTree, TextTree, Word,
+};

@@ -15,19 +15,21 @@ pub enum Word {
     Instance(usize),
 }
 
-/// What a field is given; `N` is a node in it.
+/// What a field is given; `I` is the name behind IS, `V` a value without nodes, `N` a node.
 #[derive(Drop)]
-pub enum GivenTree<'a, N> {
+pub enum GivenTree<I, V, N> {
     Nothing,
-    Is(&'a Text),
-    /// A value without nodes.
-    Plain(&'a RawValue<NodeText>),
+    Is(I),
+    Plain(V),
     One(N),
     /// How many nodes the text has there, and those up to the first with a wrong declaration.
     Many(usize, Items<N>),
     /// A value that goes nowhere, and the first wrong declaration in it.
     LeftOut(Option<ExpandFault>),
 }
+
+/// What a field is given, with names and values of the text.
+pub type FieldTree<'a> = GivenTree<&'a Text, &'a RawValue<NodeText>, NodeTree<'a>>;
 
 /// A node where it stands.
 #[cycle(resolved)]
@@ -43,8 +45,8 @@ pub enum NodeTree<'a> {
 #[cycle(resolved)]
 #[derive(Drop)]
 pub enum ItemTree<'a> {
-    Field(u32, &'a Text, GivenTree<'a, NodeTree<'a>>),
-    Declaration(&'a Declaration<NodeText>, GivenTree<'a, NodeTree<'a>>),
+    Field(u32, &'a Text, FieldTree<'a>),
+    Declaration(&'a Declaration<NodeText>, FieldTree<'a>),
     Route(&'a RouteText),
     Wrong(ExpandFault),
 }
@@ -61,7 +63,7 @@ pub enum BodyTree<'a> {
 #[derive(Drop)]
 pub struct DefaultTree<'a> {
     pub declaration: &'a Declaration<NodeText>,
-    pub value: GivenTree<'a, NodeTree<'a>>,
+    pub value: FieldTree<'a>,
 }
 
 /// A prototype. Words in it mean prototypes before it.

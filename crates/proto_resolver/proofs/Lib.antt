@@ -1,0 +1,7 @@
+pub mod Names
+pub mod Standing
+pub mod Rows
+pub mod Steps
+pub mod Declared
+pub mod Entered
+pub mod Numbers

@@ -1,0 +1,193 @@
+//! The scopes and the prototypes so far, and single steps on them.
+
+ghost use Rattle.std.specs.Prelude.{◌≡◌, ◌∷◌, ◌++◌, [], List, IfOk, if◌then◌else◌};
+ghost use Rattle.proto_meaning.specs.Sight.{Prototype, Sight, meant, taken_by};
+ghost use Rattle.proto_sight.specs.Texts as spec;
+ghost use Rattle.proto_tree.specs.Meaning.{owner};
+ghost use Rattle.proto_resolver.specs.declared.scopes.Table.{Table};
+ghost use Rattle.proto_resolver.specs.Held.{names_of, taken_names};
+ghost use Rattle.proto_resolver.specs.Standing.{Extends, Shows};
+ghost use Rattle.proto_resolver.specs.Steps.{IsAside, IsBack, IsClosed, IsDeclared, IsOpened};
+ghost use Rattle.proto_resolver.specs.Steps.{IsTaking, kept};
+
+use crate::scopes::{Declared, Scopes, Table, Taken, Taker};
+use classic_tree::ProtoText;
+use proto_flat::{ExpandFault, ExpandFaultKind};
+use proto_sight::{find_inside, has_node};
+use proto_tree::{BodyTree, DefaultTree, ProtoTree, Word};
+use std::alloc::{AllocError, Global};
+use std::mem;
+use std::rc::Rc;
+use x3d_lists::{Items, Text};
+use x3d_values::NodeType;
+
+/// The prototypes in sight, and all that are closed.
+#[derive(Drop)]
+pub struct Resolver<'a> {
+    pub scopes: Scopes<'a>,
+    /// In the order of their closing braces.
+    pub protos: Items<ProtoTree<'a>>,
+}
+
+/// What a word before braces means, and who takes what stands between these.
+#[derive(Drop)]
+pub struct Meaning<'a> {
+    pub word: Word,
+    pub taker: Taker<'a>,
+}
+
+/// What a word means.
+pub fn meaning_of<'a>(scopes: &Scopes<'a>, word: &Text) -> Result<Meaning<'a>, AllocError>
+    ensures { IfOk result (λ made. (ps : List Prototype) (s : Sight) → Shows ps scopes.now s
+        → ((all : List Prototype) → Extends ps all → meant word.now s ≡ owner all made.word)
+        × (taken_names made.taker ≡ taken_by (meant word.now s))) }
+{
+    if let Some(node_type) = NodeType::named(word.as_str()) {
+        return Ok(Meaning {
+            word: Word::Node(node_type),
+            taker: Taker { taken: None },
+        });
+    }
+    match scopes.get(word) {
+        None => Ok(Meaning {
+            word: Word::Unknown,
+            taker: Taker { taken: None },
+        }),
+        Some(declared) => Ok(Meaning {
+            word: Word::Instance(declared.number),
+            taker: Taker {
+                taken: Some(declared.takes.clone()?),
+            },
+        }),
+    }
+}
+
+/// Whether a node type or a prototype of the scope has that name.
+fn is_known(scopes: &Scopes<'_>, name: &Text) -> bool
+    ensures { (ps : List Prototype) (s : Sight) → Shows ps scopes.now s
+        → result ≡ spec.is_known name.now s }
+{
+    NodeType::named(name.as_str()).is_some() || scopes.here.get(name).is_some()
+}
+
+/// The faults of a declaration itself.
+pub fn check_declaration(scopes: &Scopes<'_>, proto: &ProtoText) -> Result<(), ExpandFault>
+    ensures { (ps : List Prototype) (s : Sight) → Shows ps scopes.now s
+        → result ≡ spec.checked proto.now s }
+{
+    if is_known(scopes, &proto.name) {
+        return Err(ExpandFaultKind::ProtoTwice.on_line(proto.line));
+    }
+    if let Err(line) = find_inside(&proto.name, proto, false) {
+        return Err(ExpandFaultKind::ProtoItself.on_line(line));
+    }
+    if !has_node(proto.body.as_slice()) {
+        return Err(ExpandFaultKind::EmptyBody.on_line(proto.line));
+    }
+    Ok(())
+}
+
+impl<'a> Resolver<'a> {
+    /// Nothing is taken so far. Gives what was.
+    pub fn set_aside(&mut self, alloc: Global) -> Taken<'a>
+        ensures { IsAside self.old result self.new }
+    {
+        mem::replace(&mut self.scopes.takes, Taken::new(alloc))
+    }
+
+    /// That is taken again.
+    pub fn put_back(&mut self, before: Taken<'a>)
+        ensures { IsBack self.old before.entry self.new }
+    {
+        drop(mem::replace(&mut self.scopes.takes, before));
+    }
+
+    /// An IS takes the name.
+    pub fn take(&mut self, name: &'a Text) -> Result<(), AllocError>
+        ensures { IfOk result (λ _. IsTaking name.now self.old self.new) }
+    {
+        self.scopes.takes.take(name)?;
+        Ok(())
+    }
+
+    /// Opens a scope. Gives what the body around takes so far.
+    pub fn open(&mut self, alloc: Global) -> Result<Taken<'a>, AllocError>
+        ensures { IfOk result (λ before. IsOpened self.old before self.new) }
+    {
+        let here = mem::replace(&mut self.scopes.here, Table::new(alloc));
+        self.scopes.outside.push(here)?;
+        Ok(mem::replace(&mut self.scopes.takes, Taken::new(alloc)))
+    }
+
+    /// The scope around is open again. Gives what the body took.
+    pub fn close(&mut self, before: Taken<'a>) -> Taken<'a>
+        ensures { (outer : List Table) (around : Table)
+            → self.old.scopes.outside.items ≡ outer ++ around ∷ []
+            → IsClosed outer around before.entry result self.old self.new }
+    {
+        if let Some(around) = self.scopes.outside.pop() {
+            drop(mem::replace(&mut self.scopes.here, around));
+        }
+        mem::replace(&mut self.scopes.takes, before)
+    }
+}
+
+fn keep<'a>(
+    trees: &mut Items<DefaultTree<'a>>,
+    default: DefaultTree<'a>,
+    kept: bool,
+) -> Result<(), AllocError>
+    ensures { IfOk result (λ _. trees.new
+        ≡ trees.old ++ (if kept then default.entry ∷ [] else [])) }
+{
+    if kept {
+        return trees.push(default);
+    }
+    drop(default);
+    Ok(())
+}
+
+/// Those that some IS takes.
+fn taken_defaults<'a>(
+    alloc: Global,
+    defaults: Items<DefaultTree<'a>>,
+    taken: &Taken<'a>,
+) -> Result<Items<DefaultTree<'a>>, AllocError>
+    ensures { IfOk result (λ trees. trees ≡ kept (names_of taken.now) defaults.entry) }
+{
+    let mut trees = Items::new(alloc);
+    for default in defaults.into_vec() {
+        let kept = taken.has(&default.declaration.name);
+        keep(&mut trees, default, kept)?;
+    }
+    Ok(trees)
+}
+
+/// The prototype has the next number, and takes what was taken.
+pub fn declare<'a>(
+    alloc: Global,
+    resolver: &mut Resolver<'a>,
+    proto: &'a ProtoText,
+    defaults: Items<DefaultTree<'a>>,
+    body: Items<BodyTree<'a>>,
+    taken: Taken<'a>,
+) -> Result<(), AllocError>
+    ensures { IfOk result (λ _.
+        IsDeclared proto.entry defaults.entry body.entry (names_of taken.entry) resolver.old
+        resolver.new) }
+{
+    let defaults = taken_defaults(alloc, defaults, &taken)?;
+    let takes = Rc::new(alloc, taken)?;
+    let number = resolver.protos.len();
+    let text = proto;
+    resolver.protos.push(ProtoTree {
+        text,
+        defaults,
+        body,
+    })?;
+    resolver
+        .scopes
+        .here
+        .declare(&proto.name, Declared { number, takes })?;
+    Ok(())
+}

@@ -1,0 +1,28 @@
+//! A whole text.
+
+ghost use Rattle.std.specs.Prelude.{IfOk};
+ghost use Rattle.proto_resolver.specs.Parts.{IsResolved};
+
+use crate::resolver::Resolver;
+use crate::scopes::Scopes;
+use crate::walk::{Part, resolve_body};
+use classic_tree::Document;
+use proto_tree::TextTree;
+use std::alloc::{AllocError, Global};
+use x3d_lists::Items;
+
+/// The tree of a text. A declaration that is wrong stands in it as such.
+pub fn resolve<'a>(alloc: Global, document: &'a Document) -> Result<TextTree<'a>, AllocError>
+    ensures { IfOk result (λ text.
+        IsResolved document.now.statements text.protos text.statements) }
+{
+    let mut resolver = Resolver {
+        scopes: Scopes::new(alloc),
+        protos: Items::new(alloc),
+    };
+    let Part { tree, .. } = resolve_body(alloc, &mut resolver, document.statements.as_slice())?;
+    let Resolver { scopes, protos } = resolver;
+    drop(scopes);
+    let statements = tree;
+    Ok(TextTree { protos, statements })
+}
