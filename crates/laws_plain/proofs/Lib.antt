@@ -13,6 +13,7 @@ pub mod Numbers
 pub mod FieldParts
 pub mod FieldWhole
 pub mod Shapes
+pub mod Sights
 pub mod OrderGood
 pub mod OrderSteps
 pub mod OrderParts
@@ -25,3 +26,10 @@ pub mod LineParts
 pub mod LineNodes
 pub mod LineProtos
 pub mod Lines
+pub mod HeldGood
+pub mod HeldParts
+pub mod HeldNodes
+pub mod HeldProtos
+pub mod HeldWhole
+pub mod WrittenTexts
+pub mod WrittenWhole

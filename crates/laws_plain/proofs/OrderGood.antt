@@ -13,6 +13,7 @@ use Rattle.proto_meaning.specs.Flat.{Walk, Does, through}
 use Rattle.laws_flat.specs.Order.{AreBelow, AreFieldsBelow, IsEndBelow, IsRouteBelow, IsValueBelow, nodes_in}
 use Rattle.laws_flat.proofs.Lists.{IfSome, all_weaker}
 use Rattle.classic_tree.specs.declared.tree.RawValue.{RawValue}
+use Rattle.laws_plain.proofs.Sights as sights
 
 -- ---- what names nodes
 
@@ -130,9 +131,8 @@ Makes least (Err e) = Unit {0}
 abbrev pub IsGoodPrototype : Prototype → Type 0
 IsGoodPrototype p = (given : List Filled) (put : Put) → IsGoodPut put → AreFilledBelow (length put.nodes) given → Makes (length put.nodes) (p.instance given put).comes
 
-pub record IsGoodSight (s : Sight) : Type 0 where
-  pub here : AllByRecursion IsGoodPrototype s.here
-  pub outside : AllByRecursion IsGoodPrototype s.outside
+abbrev pub IsGoodSight : Sight → Type 0
+IsGoodSight s = sights.IsGoodSight IsGoodPrototype s
 
 abbrev pub count : Walk → ℕ
 count w = length w.put.nodes
@@ -142,14 +142,11 @@ pub record IsGoodWalk (w : Walk) : Type 0 where
   pub scope : IsGoodScope (count w) w.scope
   pub sight : IsGoodSight w.sight
 
--- ---- steps of what is in sight
-
 abbrev pub Sees : Result Sight ExpandFault → Type 0
-Sees (Ok s) = IsGoodSight s
-Sees (Err e) = Unit {0}
+Sees r = sights.Sees IsGoodPrototype r
 
 abbrev pub KeepsSight : Step → Type 0
-KeepsSight step = (s : Sight) → IsGoodSight s → Sees (step s)
+KeepsSight step = sights.KeepsSight IsGoodPrototype step
 
 -- ---- outcomes
 

@@ -1,9 +1,6 @@
 -- The parts of a text keep the order, where what stands in them does: nodes, statements and prototypes.
-use Rattle.std.proofs.Common.{◌≡◌, ℕ, ◌≤◌, Bool, true, false, if◌then◌else◌, List, [], ◌∷◌, ◌++◌, length, option_map, Option, Some, None, Result, Ok, Err, bytes_eq, sym, subst, arith}
+use Rattle.std.proofs.Common.{◌≡◌, ℕ, ◌≤◌, List, [], ◌∷◌, ◌++◌, length, option_map, Option, Some, None, Result, Ok, Err, sym, subst, arith}
 use Rattle.std.specs.List.{AllByRecursion, cons_option, filter_map}
-use Rattle.std.specs.Option.{option_or}
-use Rattle.x3d_values.specs.Names.{node_type_named}
-use Rattle.x3d_values.specs.declared.node_type.NodeType.{NodeType}
 use Rattle.classic_tree.specs.declared.tree.BodyItem.TheOpen.{NodeText-F, Statement-F}
 use Rattle.classic_tree.specs.declared.tree.RawValue.{RawValue}
 use Rattle.classic_tree.specs.declared.tree.RouteText.{RouteText}
@@ -12,13 +9,14 @@ use Rattle.proto_flat.specs.declared.fault.ExpandFaultKind.TheVariants.{FieldTwi
 use Rattle.proto_flat.specs.declared.flat.FlatField.{FlatField}
 use Rattle.proto_meaning.specs.Limits.{Met, ANode, AnInstance, follow}
 use Rattle.proto_meaning.specs.Names.{Name, Field, Filled, Scope, Stands}
-use Rattle.proto_meaning.specs.Sight.{Instance, Prototype, Sight, Names, Owner, OfType, OfProto, declared, meant, taken_by}
+use Rattle.proto_meaning.specs.Sight.{Instance, Prototype, Names, Owner, OfType, OfProto, meant, taken_by}
 use Rattle.proto_meaning.specs.Flat.{Walk, ◌>>=◌, Node, Item, Proto, Inside, close, close_instance, close_node, fields_of, flat_node, full_node, inside, is_one, meet, node_step, note, note_route, pure, refuse, renamed, statement_step, through, unless_twice}
 use Rattle.laws_flat.specs.Order.{AreBelow, AreFieldsBelow, IsRouteBelow, IsValueBelow}
 use Rattle.laws_flat.proofs.Lists.{IfSome, all_append, all_push}
-use Rattle.laws_plain.proofs.OrderGood.{Any, AreFilledBelow, DoesWell, Ends, IsBelow, IsBracesBelow, IsGoodPrototype, IsGoodSight, IsGoodWalk, IsStandsBelow, Keeps, KeepsSight, Makes, count, done, ends_if, ends_then, ends_through, raise_routes, raise_scope}
-use Rattle.laws_plain.proofs.OrderSteps.{close_does, close_node_does, each_keeps, meet_keeps, note_does, renamed_length, renamed_ordered, route_keeps, use_does}
+use Rattle.laws_plain.proofs.OrderGood.{Any, AreFilledBelow, DoesWell, Ends, IsBelow, IsBracesBelow, IsGoodPrototype, IsGoodWalk, IsStandsBelow, Keeps, KeepsSight, Makes, count, done, ends_if, ends_then, ends_through, raise_routes, raise_scope}
+use Rattle.laws_plain.proofs.OrderSteps.{close_does, close_node_does, meet_keeps, note_does, renamed_length, renamed_ordered, route_keeps, use_does}
 use Rattle.laws_plain.proofs.OrderParts.{GoodItem, GoodNode, GoodProto, GoodStated, IsInsideBelow}
+use Rattle.laws_plain.proofs.Sights.{IsGoodOwner, each_keeps, meant_good}
 
 -- ---- nodes
 
@@ -83,11 +81,7 @@ unless_twice_keeps : (seen : List Name) (fs : List Field) → Keeps (unless_twic
 unless_twice_keeps seen [] w g = done Any tt w g tt
 unless_twice_keeps seen (f ∷ fs) w g = ends_if Any (count w) (is_one f.name seen) (refuse FieldTwice f.line) (unless_twice (f.name ∷ seen) fs) w tt (unless_twice_keeps (f.name ∷ seen) fs w g)
 
-abbrev IsGoodOwner : Owner → Type 0
-IsGoodOwner (OfType t) = Unit {0}
-IsGoodOwner (OfProto p) = IsGoodPrototype p
-
-full_does : (line : ℕ) (name : Option Name) (items : List Item) → AllByRecursion GoodItem items → (o : Option Owner) → IfSome IsGoodOwner o → DoesWell IsBelow (full_node line name items o)
+full_does : (line : ℕ) (name : Option Name) (items : List Item) → AllByRecursion GoodItem items → (o : Option Owner) → IfSome (IsGoodOwner IsGoodPrototype) o → DoesWell IsBelow (full_node line name items o)
 full_does line name items h None k w g = tt
 full_does line name items h (Some (OfType t)) k w g =
     ends_then Any IsBelow (λ _. inside name (OfType t) (fields_of t) items >>= λ i. close_node name i.at (flat_node line name t i)) (count w) (meet ANode w) (meet_keeps ANode w g)
@@ -99,22 +93,6 @@ full_does line name items h (Some (OfProto p)) k w g =
     (λ _ v m n r. ends_then IsInsideBelow IsBelow (close_instance name p) (count v) (inside name (OfProto p) p.interface items v) (inside_does name (OfProto p) p.interface items h v m)
     (λ i x a b c. close_instance_does name p k i x a c)))
 
-found_by : (b : Bool) (p : Prototype) (o : Option Prototype) → IsGoodPrototype p → IfSome IsGoodPrototype o → IfSome IsGoodPrototype (if b then Some p else o)
-found_by true p o h k = h
-found_by false p o h k = k
-
-found : (word : Name) (ps : List Prototype) → AllByRecursion IsGoodPrototype ps → IfSome IsGoodPrototype (declared word ps)
-found word [] h = tt
-found word (p ∷ ps) h = found_by (bytes_eq word p.name) p (declared word ps) h.0 (found word ps h.1)
-
-owner_good : (t : Option NodeType) (p : Option Prototype) → IfSome IsGoodPrototype p → IfSome IsGoodOwner (option_or (option_map OfType t) (option_map OfProto p))
-owner_good (Some t) p h = tt
-owner_good None None h = tt
-owner_good None (Some p) h = h
-
-meant_good : (word : Name) (s : Sight) → IsGoodSight s → IfSome IsGoodOwner (meant word s)
-meant_good word s g = owner_good (node_type_named word) (declared word (s.here ++ s.outside)) (found word (s.here ++ s.outside) (all_append IsGoodPrototype s.here s.outside g.here g.outside))
-
 items_see : (o : Option Names) (items : List Item) → AllByRecursion GoodItem items → AllByRecursion (λ (i : Item). KeepsSight (i.sees o)) items
 items_see o [] h = tt
 items_see o (i ∷ is) h = (h.0.sees o, items_see o is h.1)
@@ -122,8 +100,8 @@ items_see o (i ∷ is) h = (h.0.sees o, items_see o is h.1)
 pub full_good : (line : ℕ) (name : Option Name) (word : Name) (items : List Item) → AllByRecursion GoodItem items → GoodNode (node_step (NodeText-F.Full line name word items))
 unfolding node_step
 full_good line name word items h = record {
-  sees = λ s g. each_keeps (λ (i : Item). i.sees (taken_by (meant word s))) items (items_see (taken_by (meant word s)) items h) s g;
-  does = λ w g. full_does line name items h (meant word w.sight) (meant_good word w.sight g.sight) w g;
+  sees = λ s g. each_keeps IsGoodPrototype (λ (i : Item). i.sees (taken_by (meant word s))) items (items_see (taken_by (meant word s)) items h) s g;
+  does = λ w g. full_does line name items h (meant word w.sight) (meant_good IsGoodPrototype word w.sight g.sight) w g;
 }
 
 pub use_good : (line : ℕ) (name : Name) → GoodNode (node_step (NodeText-F.Use line name))

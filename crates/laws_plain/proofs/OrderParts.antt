@@ -19,8 +19,9 @@ use Rattle.proto_meaning.specs.Flat.{Walk, Does, ◌>>=◌, Node, Item, Stated, 
 use Rattle.x3d_values.specs.Access.{is_initial}
 use Rattle.laws_flat.specs.Order.{AreBelow, IsEndBelow, IsValueBelow}
 use Rattle.laws_flat.proofs.Lists.{IfSome, all_append, all_push}
-use Rattle.laws_plain.proofs.OrderGood.{Any, AreBracesBelow, AreEndsBelow, AreFilledBelow, DoesWell, Ends, IsBelow, IsFilledBelow, IsGoodWalk, IsStandsBelow, Keeps, KeepsSight, count, done, ends_if, ends_then, ends_through, raise_all, raise_filled, same}
-use Rattle.laws_plain.proofs.OrderSteps.{aside_keeps, each_keeps, if_keeps, meet_keeps, route_keeps, see_keeps, stands_below, value_below}
+use Rattle.laws_plain.proofs.OrderGood.{Any, IsGoodPrototype, AreBracesBelow, AreEndsBelow, AreFilledBelow, DoesWell, Ends, IsBelow, IsFilledBelow, IsGoodWalk, IsStandsBelow, Keeps, KeepsSight, count, done, ends_if, ends_then, ends_through, raise_all, raise_filled, same}
+use Rattle.laws_plain.proofs.OrderSteps.{meet_keeps, route_keeps, see_keeps, stands_below, value_below}
+use Rattle.laws_plain.proofs.Sights.{aside_keeps, each_keeps, if_keeps}
 
 -- ---- parts that keep it
 
@@ -54,10 +55,10 @@ nodes_see [] h = tt
 nodes_see (n ∷ ns) h = (h.0.sees, nodes_see ns h.1)
 
 pub given_keeps : (g : Given Node) → GoodGiven g → KeepsSight (given_sees g)
-given_keeps g h s i = each_keeps (λ (n : Node). n.sees) (nodes_in g) (nodes_see (nodes_in g) h) _ (record { here = i.here; outside = i.outside })
+given_keeps g h s i = each_keeps IsGoodPrototype (λ (n : Node). n.sees) (nodes_in g) (nodes_see (nodes_in g) h) _ (record { here = i.here; outside = i.outside })
 
 pub leave_out_keeps : (g : Given Node) → GoodGiven g → Keeps (leave_out g)
-leave_out_keeps g h = see_keeps (aside (given_sees g)) (aside_keeps (given_sees g) (given_keeps g h))
+leave_out_keeps g h = see_keeps (aside (given_sees g)) (aside_keeps IsGoodPrototype (given_sees g) (given_keeps g h))
 
 put_next : (node : Node) (ns : List ℕ) (w : Walk) → GoodNode node → IsGoodWalk w → AreBelow (count w) ns → Ends AreBelow (count w) ((node.does >>= λ n. pure (ns ++ n ∷ [])) w)
 put_next node ns w h g k =
@@ -171,7 +172,7 @@ found_does line name x h b w g k (Some f) = give_does line f b (is_filled name b
 pub field_good : (line : ℕ) (name : Name) (x : Given Node) → GoodGiven x → GoodItem (item_step (BodyItem-F.Field line name x))
 unfolding item_step
 field_good line name x h = record {
-  sees = λ o. if_keeps (is_kept o name) (given_sees x) (aside (given_sees x)) (given_keeps x h) (aside_keeps (given_sees x) (given_keeps x h));
+  sees = λ o. if_keeps IsGoodPrototype (is_kept o name) (given_sees x) (aside (given_sees x)) (given_keeps x h) (aside_keeps IsGoodPrototype (given_sees x) (given_keeps x h));
   does = λ b w g k. found_does line name x h b w g k (numbered_from 0 name b.fields);
 }
 

@@ -1,5 +1,5 @@
 -- Instances keep the order, where the parts of their prototypes do.
-use Rattle.std.proofs.Common.{ℕ, Bool, true, false, if◌then◌else◌, List, [], ◌∷◌, ◌++◌, length, map, Some, Result, Ok, Err}
+use Rattle.std.proofs.Common.{ℕ, Bool, false, List, [], ◌∷◌, ◌++◌, length, map, Some, Result, Ok, Err}
 use Rattle.std.specs.Prelude.{◌&&◌, ◌||◌, is_none, is_some}
 use Rattle.std.specs.List.{AllByRecursion, list_any}
 use Rattle.x3d_values.specs.Names.{node_type_named}
@@ -19,6 +19,7 @@ use Rattle.laws_flat.proofs.Lists.{all_append, all_push}
 use Rattle.laws_plain.proofs.OrderGood.{Any, AreFilledBelow, Comes, Ends, IsBelow, IsDone, IsFilledBelow, IsGoodPrototype, IsGoodPut, IsGoodSight, IsGoodWalk, KeepsSight, Makes, Sees, count, done, ends_if, ends_then, ends_through, raise_all, raise_filled, same}
 use Rattle.laws_plain.proofs.OrderSteps.{note_does, see_keeps}
 use Rattle.laws_plain.proofs.OrderParts.{GoodGiven, GoodProto, GoodStated, leave_out_keeps, put_in_does}
+use Rattle.laws_plain.proofs.Sights.{if_sees}
 
 abbrev pub GoodDeclaration : Declaration Node → Type 0
 GoodDeclaration d = GoodGiven d.given
@@ -105,18 +106,14 @@ module _ (line : ℕ) (name : Name) (interface : List (Declaration Node)) (body 
   }
   with_prototype s g (Err e) = tt
 
-  if_sees : (b : Bool) (r q : Result Sight ExpandFault) → Sees r → Sees q → Sees (if b then r else q)
-  if_sees true r q h k = h
-  if_sees false r q h k = k
-
   body_declared : (r : Result Bool ℕ) → KeepsSight (declare_body line name interface body r)
   body_declared (Err itself) s g = tt
   body_declared (Ok hidden) s g =
-      if_sees (list_any (λ (x : Stated). x.0) body) _ (Err (fault EmptyBody line)) (with_prototype s g (body_sees line name interface body (record { here = []; outside = s.here ++ s.outside; taken = no_names }))) tt
+      if_sees IsGoodPrototype (list_any (λ (x : Stated). x.0) body) _ (Err (fault EmptyBody line)) (with_prototype s g (body_sees line name interface body (record { here = []; outside = s.here ++ s.outside; taken = no_names }))) tt
 
   pub declare_keeps : KeepsSight (declare line name interface body)
   declare_keeps s g =
-      if_sees (is_some (node_type_named name) || is_some (declared name s.here)) (Err (fault ProtoTwice line)) (declare_body line name interface body (body_finds line name interface body name false) s) tt
+      if_sees IsGoodPrototype (is_some (node_type_named name) || is_some (declared name s.here)) (Err (fault ProtoTwice line)) (declare_body line name interface body (body_finds line name interface body name false) s) tt
       (body_declared (body_finds line name interface body name false) s g)
 
 pub proto_good : (p : ProtoText-F Item Node Stated Proto) → AllByRecursion GoodDeclaration p.interface → AllByRecursion GoodStated p.body → GoodProto (proto_step p)

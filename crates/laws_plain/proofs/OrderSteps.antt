@@ -1,6 +1,6 @@
 -- What every step of the walk keeps: whatever it names was put in before.
 use Rattle.std.proofs.Common.{◌≡◌, ℕ, zero, suc, ◌<◌, ◌≤◌, Bool, true, false, if◌then◌else◌, List, [], ◌∷◌, ◌++◌, codes, length, map, option_map, Option, Some, None, Result, Ok, Err, bytes_eq, slice_get, slice_set, arith, length-append, length-set, refl}
-use Rattle.std.specs.List.{AllByRecursion, fold}
+use Rattle.std.specs.List.{fold}
 use Rattle.std.specs.Option.{option_and_then, option_map_or, option_or}
 use Rattle.x3d_values.specs.declared.field_type.Access.{Access}
 use Rattle.x3d_values.specs.Access.{receives, sends}
@@ -14,7 +14,7 @@ use Rattle.proto_flat.specs.declared.flat.FlatNode.{FlatNode}
 use Rattle.proto_flat.specs.declared.flat.FlatRoute.{FlatRoute}
 use Rattle.proto_meaning.specs.Limits.{Met, AnItem}
 use Rattle.proto_meaning.specs.Names.{Name, Field, Filled, Stands, Braces, Scope, ends_at, ends_by, field_by, has_name, pairs, sources, stands_at, targets, used, value_of}
-use Rattle.proto_meaning.specs.Sight.{Put, Sight, Step, and_see, aside, each, no_names}
+use Rattle.proto_meaning.specs.Sight.{Put, Sight, Step}
 use Rattle.proto_meaning.specs.Flat.{Walk, Does, ◌>>=◌, close, close_node, meet, note, note_route, pure, refuse, renamed, see}
 use Rattle.laws_flat.specs.Order.{AreFieldsBelow, IsEndBelow, IsRouteBelow, IsValueBelow}
 use Rattle.laws_flat.proofs.Lists.{IfSome, all_append, all_flat, all_map, all_set, at_all}
@@ -42,25 +42,6 @@ seen w g (Err e) h = tt
 
 pub see_keeps : (step : Step) → KeepsSight step → Keeps (see step)
 see_keeps step h w g = seen w g (step w.sight) (h w.sight g.sight)
-
-pub sees_then : (r : Result Sight ExpandFault) (f : Step) → Sees r → KeepsSight f → Sees (and_see r f)
-sees_then (Ok s) f h k = k s h
-sees_then (Err e) f h k = tt
-
-aside_sees : (s : Sight) (r : Result Sight ExpandFault) → Sees r → Sees (and_see r (λ t. Ok (record t { taken = s.taken })))
-aside_sees s (Ok t) h = record { here = h.here; outside = h.outside }
-aside_sees s (Err e) h = tt
-
-pub aside_keeps : (step : Step) → KeepsSight step → KeepsSight (aside step)
-aside_keeps step h s g = aside_sees s (step (record s { taken = no_names })) (h (record s { taken = no_names }) (record { here = g.here; outside = g.outside }))
-
-pub each_keeps : {A : Type 0} (f : A → Step) (xs : List A) → AllByRecursion (λ x. KeepsSight (f x)) xs → KeepsSight (each f xs)
-each_keeps f [] h s g = g
-each_keeps f (x ∷ xs) h s g = sees_then (f x s) (each f xs) (h.0 s g) (each_keeps f xs h.1)
-
-pub if_keeps : (b : Bool) (m n : Step) → KeepsSight m → KeepsSight n → KeepsSight (if b then m else n)
-if_keeps true m n h k = h
-if_keeps false m n h k = k
 
 -- ---- names
 

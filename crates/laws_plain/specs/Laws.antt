@@ -1,6 +1,6 @@
 -- Laws of the flat form of a document, for a reader who does not want to follow the walk. That of a
 -- document without instances is read from its text.
-use Rattle.std.specs.Prelude.{◌≡◌, map, Ok}
+use Rattle.std.specs.Prelude.{◌≡◌, ◌≤◌, length, map, Ok}
 use Rattle.std.specs.List.{AllByRecursion}
 use Rattle.classic_tree.specs.declared.tree.Document.{Document}
 use Rattle.proto_flat.specs.declared.flat.Flat.{Flat}
@@ -14,6 +14,7 @@ use Rattle.laws_flat.specs.Fields.{node_read}
 use Rattle.laws_flat.specs.Fields as fields
 use Rattle.laws_flat.specs.Shapes.{node_shape, shapes}
 use Rattle.laws_meaning.specs.Plain.{plain}
+use Rattle.laws_plain.specs.Written.{IsWritten, written}
 
 -- each pair of braces outside declarations is that of a node type
 abbrev pub HasNoInstances : Document → Type 0
@@ -64,3 +65,15 @@ FlatsAreOrdered = (d : Document) (f : Flat) → flat d ≡ Ok f → IsOrdered f
 -- of documents that differ in lines alone: the same but for lines, or faults of one kind
 abbrev pub LinesAreForFaults : Type 0
 LinesAreForFaults = (d e : Document) → unlined d ≡ unlined e → AreAlike (flat d) (flat e)
+
+-- each node has the name of a DEF of the text, or none, declares fields that are declared there, if it
+-- is a Script, and holds values that stand there
+abbrev pub FlatsAreWritten : Type 0
+FlatsAreWritten =
+    (d : Document) (f : Flat) → flat d ≡ Ok f → AllByRecursion (IsWritten (written d)) f.nodes
+
+-- no more than 65,536 nodes and routes
+abbrev pub FlatsAreLimited : Type 0
+FlatsAreLimited =
+    (d : Document) (f : Flat) → flat d ≡ Ok f
+    → (length f.nodes ≤ 65536) × (length f.routes ≤ 65536)
