@@ -38,4 +38,5 @@ pub mod FieldsNodes
 pub mod FieldsWhole
 pub mod ShapeParts
 pub mod ShapeTrees
+pub mod ShapeWhole
 pub mod FieldsFilled

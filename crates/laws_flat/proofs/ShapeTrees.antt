@@ -1,5 +1,5 @@
 -- What is read has the shapes that stand in the tree.
-use Rattle.std.proofs.Common.{◌≡◌, ℕ, List, [], ◌∷◌, ◌++◌, map, Option, Some, Ok, refl, ap, sym, ◌∙◌, fold}
+use Rattle.std.proofs.Common.{◌≡◌, ℕ, List, [], ◌∷◌, ◌++◌, map, Option, Some, refl, ap, sym, ◌∙◌, fold}
 use Rattle.std.specs.List.{AllByRecursion, flat_map}
 use Rattle.std.proofs.lemmas.List.{append-nil, append_assoc, map-append}
 use Rattle.x3d_values.specs.Names.{node_type_named}
@@ -17,24 +17,20 @@ use Rattle.classic_tree.specs.declared.tree.RawValue.TheVariants as value
 use Rattle.classic_tree.specs.declared.tree.RouteText.{RouteText}
 use Rattle.classic_tree.specs.declared.tree.Statement.{Statement}
 use Rattle.classic_tree.specs.declared.tree.Statement.TheVariants as statement
-use Rattle.proto_flat.specs.declared.flat.Flat.{Flat}
 use Rattle.proto_flat.specs.declared.flat.FlatField.{FlatField}
 use Rattle.proto_flat.specs.declared.flat.FlatNode.{FlatNode}
 use Rattle.proto_fields.specs.Fields.{Signature, signatures}
-use Rattle.proto_walk.specs.Whole.{flat}
-use Rattle.laws_flat.specs.Closings.{IsOfNode, closings}
 use Rattle.laws_flat.specs.Uses.{some}
 use Rattle.laws_flat.proofs.Trees.{Layers, OfGiven, OfValue, every}
-use Rattle.laws_flat.specs.Fields.{FieldRead, Got, NodeRead, Numbering, Reading, as_read, declares, each, field_read, interface_of, node_read, nothing_read, numbering, opens, read_full, read_given, read_item, read_node, read_on, read_one, read_statement, read_value}
+use Rattle.laws_flat.specs.Fields.{FieldRead, Got, NodeRead, Numbering, Reading, as_read, declares, each, field_read, interface_of, node_read, nothing_read, numbering, opens, read, read_full, read_given, read_item, read_node, read_on, read_one, read_statement, read_value}
 use Rattle.laws_flat.specs.Shapes.{FieldShape, ItemShape, NodeShape, Shapes, blank, field_shape, given_shape, in_given, in_node, in_statement, in_value, item_shape, no_node, node_of, node_shape, shapes}
 use Rattle.laws_flat.proofs.FieldsParts.{all_declared, declares-declaration, declares-field, declares-proto, declares-route, read-declaration, read-field, read-full, read-item-proto, read-item-route, read-node-statement, read-proto, read-route, read-use}
 use Rattle.laws_flat.proofs.ShapeParts.{all_fields, declared_shapes, in_full, in_node_statement, in_proto, in_route, in_use, insides, shape-declaration, shape-field, shape-item-proto, shape-item-route}
-use Rattle.laws_flat.proofs.FieldsWhole.{fields_are_read}
 
-abbrev given_as : FieldRead → FieldShape
+abbrev pub given_as : FieldRead → FieldShape
 given_as field = record { line = field.line; number = field.number; value = blank field.value }
 
-abbrev closed_as : NodeRead → NodeShape
+abbrev pub closed_as : NodeRead → NodeShape
 closed_as node = record { fields = map given_as node.fields; interface = node.interface }
 
 abbrev closed : Reading → Shapes
@@ -224,7 +220,7 @@ statements_are : (ss : List Statement) → AllByRecursion StatementIs ss → (r 
 statements_are [] h r = adds_none r
 statements_are (s ∷ ss) h r = adds_then r (read_statement s r) (fold read_on (read_statement s r) ss) (in_statement s) (flat_map in_statement ss) (h.0 r) (statements_are ss h.1 (read_statement s r))
 
--- ---- the document
+-- ---- a document, and the nodes that it is
 
 blank_nodes : (ns : List ℕ) → map no_node (map some ns) ≡ map no_node ns
 blank_nodes [] = refl
@@ -248,13 +244,11 @@ fields_as (f ∷ fields) =
     ap (λ (v : RawValue (Unit {0})). record { line = f.line; number = Some f.number; value = v } ∷ given_all (map field_read fields)) (blank_read f.value)
     ∙ ap (λ fs. field_shape f ∷ fs) (fields_as fields)
 
-nodes_as : (nodes : List FlatNode) → map closed_as (map node_read nodes) ≡ map node_shape nodes
+pub nodes_as : (nodes : List FlatNode) → map closed_as (map node_read nodes) ≡ map node_shape nodes
 nodes_as [] = refl
 nodes_as (n ∷ nodes) =
     ap (λ (fs : List FieldShape). record { fields = fs; interface = signatures n.interface } ∷ map closed_as (map node_read nodes)) (fields_as n.fields)
     ∙ ap (λ ns. node_shape n ∷ ns) (nodes_as nodes)
 
-pub shapes_stay : (d : Document) (f : Flat) → AllByRecursion IsOfNode (closings d) → flat d ≡ Ok f → map node_shape f.nodes ≡ shapes d
-shapes_stay d f t e =
-    sym (nodes_as f.nodes) ∙ ap (map closed_as) (fields_are_read d f t e)
-    ∙ statements_are d.statements (every ItemIs NodeIs StatementIs (λ p. Unit {0}) layers d.statements) nothing_read
+pub texts_have_shapes : (d : Document) → map closed_as (read d).closed ≡ shapes d
+texts_have_shapes d = statements_are d.statements (every ItemIs NodeIs StatementIs (λ p. Unit {0}) layers d.statements) nothing_read

@@ -52,18 +52,18 @@ same a = a
 
 -- ---- a reading as a walk
 
-abbrev stands_for : ℕ → Stands
+abbrev pub stands_for : ℕ → Stands
 stands_for n = record { node = n; interface = None; ends = λ f. At n f ∷ [] }
 
-abbrev braces_of : Pair → Braces
+abbrev pub braces_of : Pair → Braces
 braces_of p = record { name = p.name; stands = option_map stands_for p.node }
 
-abbrev wire_pairs : List Braces → Wire → List FlatRoute
+abbrev pub wire_pairs : List Braces → Wire → List FlatRoute
 wire_pairs all w =
     pairs w.route.line (ends_at sends (λ name. name ++ codes "_changed") w.route.source.field (stands_at all w.source))
     (ends_at receives (λ name. codes "set_" ++ name) w.route.target.field (stands_at all w.target))
 
-abbrev wired : List Braces → List Wire → List FlatRoute
+abbrev pub wired : List Braces → List Wire → List FlatRoute
 wired all [] = []
 wired all (w ∷ ws) = wire_pairs all w ++ wired all ws
 
@@ -89,7 +89,7 @@ Walks = Maps walk_of
 
 -- ---- names
 
-last_same : (at : ℕ) (name : Name) (ps : List Pair) → names.last_from at name (map braces_of ps) ≡ last_from at name ps
+pub last_same : (at : ℕ) (name : Name) (ps : List Pair) → names.last_from at name (map braces_of ps) ≡ last_from at name ps
 last_same at name [] = refl
 last_same at name (p ∷ ps) = ap (λ o. option_or o (if has_name name p then Some at else None)) (last_same (at + 1) name ps)
 
@@ -116,12 +116,12 @@ used_from name a (p ∷ ps) =
     ∙ ap (option_or (last_closed name ps)) (one_used (has_name name p) a p.node)
     ∙ or_assoc (last_closed name ps) (if has_name name p then p.node else None) a
 
-used_same : (name : Name) (ps : List Pair) → used name (map braces_of ps) ≡ last_closed name ps
+pub used_same : (name : Name) (ps : List Pair) → used name (map braces_of ps) ≡ last_closed name ps
 used_same name ps = used_from name None ps ∙ or_none (last_closed name ps)
 
 -- ---- routes
 
-wired_more : (all : List Braces) (ws : List Wire) (w : Wire) → wired all ws ++ wire_pairs all w ≡ wired all (ws ++ w ∷ [])
+pub wired_more : (all : List Braces) (ws : List Wire) (w : Wire) → wired all ws ++ wire_pairs all w ≡ wired all (ws ++ w ∷ [])
 wired_more all [] w = sym (append-nil (wire_pairs all w))
 wired_more all (v ∷ ws) w = append_assoc (wire_pairs all v) (wired all ws) (wire_pairs all w) ∙ ap (λ rs. wire_pairs all v ++ rs) (wired_more all ws w)
 

@@ -1,4 +1,4 @@
-use Rattle.laws_flat.proofs.ShapeTrees.{shapes_stay}
+use Rattle.laws_flat.proofs.ShapeWhole.{shapes_stay}
 use Rattle.laws_flat.proofs.fields.shapes_stay.Goals as goal
 
 pub returns : goal.returns

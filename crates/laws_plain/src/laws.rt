@@ -1,0 +1,39 @@
+//! Laws of flat forms, each the contract of a function that does nothing.
+
+ghost use Rattle.laws_plain.specs.Laws.{DocumentsAreReadPlainly, FlatsAreOrdered};
+ghost use Rattle.laws_plain.specs.Laws.{LinesAreForFaults, NodesClose};
+ghost use Rattle.laws_plain.specs.Laws.{RoutesAreRead, UsesAreNamed};
+
+/// A document without instances is read plainly, each PROTO passed over.
+pub fn documents_are_read_plainly()
+    ensures { DocumentsAreReadPlainly }
+{}
+
+/// The flat form of a document without instances has a node for each pair of braces, in the order
+/// in which these close, with the type that the word before the braces names, and the name of its
+/// DEF.
+pub fn nodes_close()
+    ensures { NodesClose }
+{}
+
+/// The flat form of a document without instances has each node in its place: between its braces or
+/// as a root, where each USE is the nearest node before it of that name whose braces are closed.
+pub fn uses_are_named()
+    ensures { UsesAreNamed }
+{}
+
+/// The flat form of a document without instances has a route for each ROUTE, in the order of the
+/// text, where an end is the nearest DEF of its name before the ROUTE.
+pub fn routes_are_read()
+    ensures { RoutesAreRead }
+{}
+
+/// What a flat document names stands in it, and what a node holds has a lower number.
+pub fn flats_are_ordered()
+    ensures { FlatsAreOrdered }
+{}
+
+/// Documents that differ in lines alone have flat forms that do, or faults of one kind.
+pub fn lines_are_for_faults()
+    ensures { LinesAreForFaults }
+{}
