@@ -3,13 +3,12 @@ use Rattle.std.proofs.Common.{◌≡◌, ℕ, Bool, true, false, ◌||◌, if◌
 use Rattle.std.specs.Prelude.{◌⊎◌, option_map, is_some}
 use Rattle.x3d_values.specs.Access.{is_initial}
 use Rattle.classic_tree.specs.declared.tree.Declaration.{Declaration}
-use Rattle.classic_tree.specs.declared.tree.Given as givens
 use Rattle.classic_tree.specs.declared.tree.NodeText.{NodeText}
 use Rattle.proto_flat.specs.Fault.{fault, memory}
 use Rattle.proto_flat.specs.declared.fault.ExpandFault.{ExpandFault}
 use Rattle.proto_flat.specs.declared.fault.ExpandFaultKind.TheVariants.{FieldTwice, UnknownField}
 use Rattle.proto_meaning.specs.Flat as flat
-use Rattle.proto_meaning.specs.Flat.{◌>>=◌, met_field, refuse, fill, field, give, numbered_from}
+use Rattle.proto_meaning.specs.Flat.{◌>>=◌, met_field, refuse, fill, field, numbered_from}
 use Rattle.proto_meaning.specs.Names.{Name, Field}
 use Rattle.proto_meaning.specs.Sight.{Owner, and_see}
 use Rattle.proto_inside.specs.Held.{fields_in, filled_in}
@@ -20,7 +19,7 @@ use Rattle.proto_limits.specs.Settled.{State, settle, onward, doing}
 use Rattle.proto_walker.specs.declared.walker.Walker.{Walker}
 use Rattle.proto_walker.specs.Shown.{Steps, shown}
 use Rattle.proto_walker.proofs.Stepping.{in-turn}
-use Rattle.proto_giving.specs.Scripts.{with_given}
+use Rattle.proto_giving.specs.Scripts.{declares}
 use Rattle.proto_giving.specs.Giving.{MayHold, aside, inside_of, is_type, value_at}
 use Rattle.proto_giving.proofs.Given.{any-owner, stops}
 
@@ -81,26 +80,26 @@ pub mapped : {A B : Type 0} (f : A → B) (o : Option A) (p : Option B) → opti
 mapped f None p is = ap is_some is
 mapped f (Some a) p is = ap is_some is
 
-module _ (d : Declaration NodeText) (at : ℕ) (o : Owner) (old : Inside) (g : givens.Given flat.Node) (s : State) where
+module _ (d : Declaration NodeText) (at : ℕ) (o : Owner) (old : Inside) (rest : ℕ × Field → Bool → flat.Inside → flat.Does flat.Inside) (s : State) where
   abbrev longer : flat.Inside
   longer = record (inside_of at o old) { fields = fields_in old ++ field d ∷ [] }
 
   abbrev declare_comes : Bool → Result (flat.Inside × State) ExpandFault
   declare_comes script = and_see (settle ((if script
-      then give d.line (length (fields_in old), field d) (is_some (numbered_from 0 d.name (fields_in old))) g longer
+      then rest (length (fields_in old), field d) (is_some (numbered_from 0 d.name (fields_in old))) longer
       else refuse UnknownField d.line) s.walk) s.room) onward
 
   abbrev declare_whole : Result (flat.Inside × State) ExpandFault
-  declare_whole = doing (flat.declare_field (with_given d g) (inside_of at o old)) s
+  declare_whole = doing (declares d rest (inside_of at o old)) s
 
   pub no-script : flat.is_script o ≡ false → declare_whole ≡ Err (fault UnknownField d.line)
   no-script is = ap declare_comes is
 
-  pub declares : (new : Inside) (k : KnownField) (twice : Bool) → flat.is_script o ≡ true → twice ≡ is_some (numbered_from 0 d.name (fields_in old)) → k ≡ known (length (fields_in old)) d →
-      fields_in new ≡ fields_in old ++ field d ∷ [] → filled_in new ≡ filled_in old → declare_whole ≡ doing (give d.line (numbered d.name k) twice g (inside_of at o new)) s
-  declares new k twice script again is fields filled =
+  pub declared : (new : Inside) (k : KnownField) (twice : Bool) → flat.is_script o ≡ true → twice ≡ is_some (numbered_from 0 d.name (fields_in old)) → k ≡ known (length (fields_in old)) d →
+      fields_in new ≡ fields_in old ++ field d ∷ [] → filled_in new ≡ filled_in old → declare_whole ≡ doing (rest (numbered d.name k) twice (inside_of at o new)) s
+  declared new k twice script again is fields filled =
       ap declare_comes script
-      ∙ ap (λ b. doing (give d.line (length (fields_in old), field d) b g longer) s) (sym again)
-      ∙ ap (λ n. doing (give d.line (numbered d.name n) twice g longer) s) (sym is)
-      ∙ ap (λ fs. doing (give d.line (numbered d.name k) twice g (record (inside_of at o old) { fields = fs })) s) (sym fields)
-      ∙ ap (λ fs. doing (give d.line (numbered d.name k) twice g (record (inside_of at o new) { filled = fs })) s) (sym filled)
+      ∙ ap (λ b. doing (rest (length (fields_in old), field d) b longer) s) (sym again)
+      ∙ ap (λ n. doing (rest (numbered d.name n) twice longer) s) (sym is)
+      ∙ ap (λ fs. doing (rest (numbered d.name k) twice (record (inside_of at o old) { fields = fs })) s) (sym fields)
+      ∙ ap (λ fs. doing (rest (numbered d.name k) twice (record (inside_of at o new) { filled = fs })) s) (sym filled)

@@ -73,6 +73,7 @@ impl<'a> Inside<'a> {
     pub fn new(alloc: Global, owner: Owner<'a>) -> Inside<'a>
         ensures fields { fields_in result ≡ fields_of_owner owner.entry }
         ensures filled { filled_in result ≡ [] }
+        ensures owner { result.owner ≡ owner.entry }
         ensures sound { Sound result }
     {
         Inside {
