@@ -5,6 +5,7 @@ pub mod BesideWhole
 pub mod Reading
 pub mod Keeping
 pub mod ReadWhole
+pub mod Heads
 pub mod Closing
 pub mod Names
 pub mod Uses

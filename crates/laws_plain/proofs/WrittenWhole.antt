@@ -27,7 +27,7 @@ use Rattle.proto_meaning.proofs.Trees.{item-field, item-declaration, item-route,
 use Rattle.proto_meaning.proofs.Induction.{OfDeclaration, OfGiven, Layers, every}
 use Rattle.laws_flat.proofs.Lists.{all_split, all_weaker}
 use Rattle.laws_flat.specs.Shapes.{blank, no_node}
-use Rattle.laws_plain.specs.Laws.{FlatsAreLimited, FlatsAreWritten}
+use Rattle.laws_plain.specs.Laws.{FlatsAreLimited, FlatsAreWritten, HasNamesApart, NamesAreApart}
 use Rattle.laws_plain.specs.Written.{IsWritten, Written, all_of, and_also, in_given, in_item, in_node, in_proto, in_statement, written}
 use Rattle.laws_plain.proofs.HeldGood.{Asked, IsHeld}
 use Rattle.laws_plain.proofs.HeldParts.{GoodGiven, GoodItem, GoodNode, GoodProto, GoodStated, declaration_good, field_good, proto_item_good, route_good}
@@ -194,3 +194,6 @@ flats_are_written d f e = all_weaker (IsHeld (asked (written d))) (IsWritten (wr
 
 pub flats_are_limited : FlatsAreLimited
 flats_are_limited d f e = let h = flat_within (written d) d f (own_within (written d)) e in (h.count, h.routes)
+
+pub names_are_apart : NamesAreApart
+names_are_apart d f e = all_weaker (IsHeld (asked (written d))) HasNamesApart (λ node h. h.apart) f.nodes (flat_within (written d) d f (own_within (written d)) e).nodes

@@ -10,4 +10,6 @@ pub use laws::{
     documents_are_read_plainly, flats_are_ordered, lines_are_for_faults, nodes_close,
     routes_are_read, uses_are_named,
 };
-pub use written::{flats_are_limited, flats_are_written};
+pub use written::{
+    flats_are_limited, flats_are_written, headers_stay, helpers_are_of_instances, names_are_apart,
+};
