@@ -34,3 +34,9 @@ pub mod HeldProtos
 pub mod HeldWhole
 pub mod WrittenTexts
 pub mod WrittenWhole
+pub mod PartTexts
+pub mod PlainFaults
+pub mod SoundNames
+pub mod SoundFields
+pub mod SoundParts
+pub mod SoundWhole

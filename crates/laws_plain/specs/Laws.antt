@@ -77,8 +77,8 @@ FlatsAreOrdered = (d : Document) (f : Flat) → flat d ≡ Ok f → IsOrdered f
 abbrev pub LinesAreForFaults : Type 0
 LinesAreForFaults = (d e : Document) → unlined d ≡ unlined e → AreAlike (flat d) (flat e)
 
--- each node has the name of a DEF of the text, or none, declares fields that are declared there, if it
--- is a Script, and holds values that stand there
+-- each node has the name of a DEF of the text, or none, declares fields that are declared there, if
+-- it is a Script, and holds values that stand there
 abbrev pub FlatsAreWritten : Type 0
 FlatsAreWritten =
     (d : Document) (f : Flat) → flat d ≡ Ok f → AllByRecursion (IsWritten (written d)) f.nodes
