@@ -32,6 +32,7 @@ pub mod HeldParts
 pub mod HeldNodes
 pub mod HeldProtos
 pub mod HeldWhole
+pub mod HeldTexts
 pub mod WrittenTexts
 pub mod WrittenWhole
 pub mod PartTexts
