@@ -13,6 +13,7 @@ use Rattle.proto_meaning.specs.Sight.{Put, Instance, Prototype, Owner, OfType, O
 use Rattle.proto_meaning.specs.Flat.{Walk, Does, Inside, fields_of, through}
 use Rattle.x3d_values.specs.declared.node_type.NodeType.{NodeType}
 use Rattle.laws_flat.proofs.Lists.{IfSome}
+use Rattle.laws_plain.specs.Laws.{AreApart}
 use Rattle.laws_plain.proofs.Numbers.{Owns}
 use Rattle.laws_plain.proofs.Sights.{IsGoodSight}
 
@@ -27,6 +28,7 @@ module _ (asked : Asked) where
     pub named : asked.name node.name
     pub own : Owns node.node_type node.interface
     pub declared : AllByRecursion asked.field node.interface
+    pub apart : AreApart (fields_of node.node_type) node.interface
     pub values : AllByRecursion (λ (f : FlatField). asked.value f.value) node.fields
 
   abbrev pub AreHeld : Put → Type 0
@@ -117,6 +119,7 @@ module _ (asked : Asked) where
     pub known : fields ≡ fields_of t ++ more
     pub own : Owns t more
     pub declared : AllByRecursion asked.field more
+    pub apart : AreApart (fields_of t) more
 
   abbrev pub FieldsOf : Owner → List Field → Type 0
   FieldsOf (OfType t) fields = HasFields t fields

@@ -18,6 +18,7 @@ use Rattle.proto_meaning.specs.Names.{Name, Field, Filled, Scope, used}
 use Rattle.proto_meaning.specs.Sight.{Instance, Prototype, Names, Owner, OfType, OfProto, meant, taken_by}
 use Rattle.proto_meaning.specs.Flat.{Walk, Does, ◌>>=◌, Node, Item, Proto, Inside, close, close_instance, close_node, fields_of, flat_node, full_node, inside, is_one, meet, node_step, note, note_route, pure, refuse, renamed, statement_step, through, unless_twice}
 use Rattle.laws_flat.proofs.Lists.{IfSome, all_push}
+use Rattle.laws_plain.specs.Laws.{AreApart}
 use Rattle.laws_plain.proofs.HeldGood.{Any, AreFilled, Asked, DoesWell, Ends, FieldsOf, HasFields, IsAmid, IsGoodPrototype, IsGoodWalk, IsHeld, MakesBy, count, done, ends_behind, ends_if, ends_then, ends_then_more, ends_through}
 use Rattle.laws_plain.proofs.HeldParts.{GoodItem, GoodNode, GoodProto, GoodStated, Keeps, route_keeps}
 use Rattle.laws_plain.proofs.Numbers.{Owns, OwnsBy, is_script}
@@ -72,6 +73,7 @@ module _ (asked : Asked) where
         named = h;
         own = subst (Owns t) (sym rest) k.fields.own;
         declared = subst (AllByRecursion asked.field) (sym rest) k.fields.declared;
+        apart = subst (AreApart (fields_of t)) (sym rest) k.fields.apart;
         values = values_held i.filled k.filled;
       }
 
@@ -94,7 +96,7 @@ module _ (asked : Asked) where
 
   named_held : (name : Option Name) (n : ℕ) (nodes : List FlatNode) → asked.name name → AllByRecursion (IsHeld asked) nodes → AllByRecursion (IsHeld asked) (named_at name n nodes (slice_get nodes n))
   named_held name n [] k h = tt
-  named_held name zero (x ∷ xs) k h = (record { named = k; own = h.0.own; declared = h.0.declared; values = h.0.values }, h.1)
+  named_held name zero (x ∷ xs) k h = (record { named = k; own = h.0.own; declared = h.0.declared; apart = h.0.apart; values = h.0.values }, h.1)
   named_held name (suc n) (x ∷ xs) k h = next_held name n x xs (slice_get xs n) h.0 (named_held name n xs k h.1)
 
   renamed_held : (name : Option Name) (n : ℕ) (nodes : List FlatNode) → asked.name name → AllByRecursion (IsHeld asked) nodes → AllByRecursion (IsHeld asked) (renamed name n nodes)
@@ -132,7 +134,7 @@ module _ (asked : Asked) where
         none k = omega arith
 
   type_fields : (t : NodeType) → HasFields asked t (fields_of t)
-  type_fields t = record { more = []; known = sym (append-nil (fields_of t)); own = none_owned t; declared = tt }
+  type_fields t = record { more = []; known = sym (append-nil (fields_of t)); own = none_owned t; declared = tt; apart = tt }
 
   full_does : (line : ℕ) (name : Option Name) (items : List Item) → asked.name name → AllByRecursion (GoodItem asked) items → (o : Option Owner) → IfSome (IsGoodOwner (IsGoodPrototype asked)) o → DoesWell asked (Any asked {A = ℕ}) (full_node line name items o)
   full_does line name items q h None k w g = tt

@@ -3,7 +3,7 @@ use Rattle.std.proofs.Common.{◌≡◌, ℕ, ◌+◌, length-append, arith, Boo
 use Rattle.std.specs.Prelude.{◌||◌, is_some}
 use Rattle.std.specs.List.{AllByRecursion, find}
 use Rattle.std.specs.Option.{option_map_or, option_or}
-use Rattle.std.proofs.lemmas.List.{append_assoc}
+use Rattle.std.proofs.lemmas.List.{append-nil, append_assoc}
 use Rattle.x3d_values.specs.Access.{is_initial}
 use Rattle.classic_tree.specs.declared.tree.BodyItem.TheOpen.{BodyItem-F}
 use Rattle.classic_tree.specs.declared.tree.Declaration.{Declaration}
@@ -18,9 +18,19 @@ use Rattle.proto_meaning.specs.Names.{Name, Field, Filled, value_of}
 use Rattle.proto_meaning.specs.Sight.{Step, Names, Owner, OfType, OfProto, aside, is_kept, nodes_in, taken_by}
 use Rattle.proto_meaning.specs.Flat.{Walk, Does, ◌>>=◌, Node, Item, Stated, Proto, Inside, declare_field, field, fields_of, fill, fits, give, give_is, give_value, given_sees, is_filled, is_node, is_script, item_step, join, leave_out, met_field, note_route, numbered_from, pure, put_in, refuse, see, through}
 use Rattle.laws_flat.proofs.Lists.{IfSome, all_push}
+use Rattle.laws_plain.specs.Laws.{AreApart}
 use Rattle.laws_plain.proofs.HeldGood.{Any, AreFilled, Asked, DoesWell, Ends, FieldsOf, IsAmid, IsFilled, IsGoodPrototype, IsGoodWalk, count, done, ends_if, ends_then}
 use Rattle.laws_plain.proofs.Numbers.{OwnsBy}
 use Rattle.laws_plain.proofs.Sights.{KeepsSight, Sees, aside_keeps, each_keeps, if_keeps}
+
+none_is : (o : Option (ℕ × Field)) → is_some o ≡ false → o ≡ None
+none_is None e = refl
+none_is (Some f) e = absurd cc
+
+-- a new name behind those
+apart_push : (fields ds : List Field) (d : Field) → numbered_from 0 d.name (fields ++ ds) ≡ None → AreApart fields ds → AreApart fields (ds ++ d ∷ [])
+apart_push fields [] d e h = (ap (numbered_from 0 d.name) (sym (append-nil fields)) ∙ e, tt)
+apart_push fields (x ∷ ds) d e h = (h.0, apart_push (fields ++ x ∷ []) ds d (ap (numbered_from 0 d.name) (append_assoc fields (x ∷ []) ds) ∙ e) h.1)
 
 module _ (asked : Asked) where
   abbrev pub Keeps : Step → Type 0
@@ -187,25 +197,41 @@ module _ (asked : Asked) where
     does = λ owner b w g k. found_does line name x h owner b k (numbered_from 0 name b.fields) w g;
   }
 
-  wider_fields : (owner : Owner) (fields : List Field) (d : Field) → is_script owner ≡ true → asked.field d → FieldsOf asked owner fields → FieldsOf asked owner (fields ++ d ∷ [])
-  wider_fields (OfType t) fields d e h k = record {
+  wider_fields : (owner : Owner) (fields : List Field) (d : Field) → is_script owner ≡ true → is_some (numbered_from 0 d.name fields) ≡ false → asked.field d → FieldsOf asked owner fields → FieldsOf asked owner (fields ++ d ∷ [])
+  wider_fields (OfType t) fields d e new h k = record {
     more = k.more ++ d ∷ [];
     known = ap (λ fs. fs ++ d ∷ []) k.known ∙ append_assoc (fields_of t) k.more (d ∷ []);
     own = subst (λ s. OwnsBy s (k.more ++ d ∷ [])) (sym e) tt;
     declared = all_push asked.field k.more d k.declared h;
+    apart = apart_push (fields_of t) k.more d (none_is (numbered_from 0 d.name (fields_of t ++ k.more)) (ap (λ fs. is_some (numbered_from 0 d.name fs)) (sym k.known) ∙ new)) k.apart;
   }
-  wider_fields (OfProto p) fields d e h k = tt
+  wider_fields (OfProto p) fields d e new h k = tt
+
+  -- a name that stands there already is refused
+  is_twice : (P : Inside → Type 0) (line : ℕ) (f : ℕ × Field) (i : Inside) (w : Walk) (outer : Option Field) → Ends asked P (count asked w) (give_is line f true i outer w)
+  is_twice P line f i w None = tt
+  is_twice P line f i w (Some outer) =
+      ends_if asked P (count asked w) (fits outer f.1) (if true then refuse FieldTwice line else (λ w. join line f i outer.name (value_of outer.name w.scope.given) w)) (refuse BadIs line) w tt tt
+
+  given_twice : (P : Inside → Type 0) (line : ℕ) (f : ℕ × Field) (x : Given Node) (i : Inside) (w : Walk) → Ends asked P (count asked w) (give line f true x i w)
+  given_twice P line f given.Nothing i w = tt
+  given_twice P line f (given.Is outer) i w = is_twice P line f i w (find (λ (o : Field). bytes_eq o.name outer) w.scope.interface)
+  given_twice P line f (given.Value v) i w =
+      ends_if asked P (count asked w) (is_node i.owner || is_initial f.1.access) (if true then refuse FieldTwice line else give_value line f i v) (refuse UnknownField line) w tt tt
 
   declared_does : (d : Declaration Node) → asked.field (field d) → GoodGiven d.given → (owner : Owner) (b : Inside) (w : Walk) → IsGoodWalk asked w → IsAmid asked owner b → Ends asked (IsAmid asked owner) (count asked w) (declare_field d b w)
   declared_does d h x owner b w g k = by_script (is_script b.owner) refl where
     wider : Inside
     wider = record b { fields = b.fields ++ field d ∷ [] }
 
-    by_script : (s : Bool) → is_script b.owner ≡ s → Ends asked (IsAmid asked owner) (count asked w) ((if s then give d.line (length b.fields, field d) (is_some (numbered_from 0 d.name b.fields)) d.given wider else refuse UnknownField d.line) w)
-    by_script true e =
+    by_name : is_script b.owner ≡ true → (twice : Bool) → is_some (numbered_from 0 d.name b.fields) ≡ twice → Ends asked (IsAmid asked owner) (count asked w) (give d.line (length b.fields, field d) twice d.given wider w)
+    by_name e true new = given_twice (IsAmid asked owner) d.line (length b.fields, field d) d.given wider w
+    by_name e false new =
         give_does d.line (length b.fields, field d) owner wider
-        (record { owned = k.owned; filled = k.filled; fields = wider_fields owner b.fields (field d) (ap is_script (sym k.owned) ∙ e) h k.fields })
-        (is_some (numbered_from 0 d.name b.fields)) d.given x w g
+        (record { owned = k.owned; filled = k.filled; fields = wider_fields owner b.fields (field d) (ap is_script (sym k.owned) ∙ e) new h k.fields }) false d.given x w g
+
+    by_script : (s : Bool) → is_script b.owner ≡ s → Ends asked (IsAmid asked owner) (count asked w) ((if s then give d.line (length b.fields, field d) (is_some (numbered_from 0 d.name b.fields)) d.given wider else refuse UnknownField d.line) w)
+    by_script true e = by_name e (is_some (numbered_from 0 d.name b.fields)) refl
     by_script false e = tt
 
   pub declaration_good : (d : Declaration Node) → asked.field (field d) → GoodGiven d.given → GoodItem (item_step (BodyItem-F.Declaration d))

@@ -115,10 +115,10 @@ pub record Law {X : Type 0} (Inv : List ℕ → Reading → X → Type 0) : Type
 
 module _ {X : Type 0} (Inv : List ℕ → Reading → X → Type 0) (l : Law Inv) where
   -- the nodes that a part gives stand behind those before
-  abbrev Then : List ℕ → X → List ℕ → Reading → Type 0
+  abbrev pub Then : List ℕ → X → List ℕ → Reading → Type 0
   Then here x more r = Inv (here ++ more) r x
 
-  abbrev Amid : X → Between → Reading → Type 0
+  abbrev pub Amid : X → Between → Reading → Type 0
   Amid x b r = Inv (held_in b.filled) r x
 
   abbrev pub NodeKeeps : NodeText → Type 0
@@ -269,7 +269,7 @@ module _ {X : Type 0} (Inv : List ℕ → Reading → X → Type 0) (l : Law Inv
   unfolding statement_step
   proto_statement p = statement_by (statement_text.Proto p) (statement_step (Statement-F.Statement::Proto (tt {0}))) (λ x. x) (texts.read-proto p) (l.at_proto p) no_nodes
 
-  layers : Layers ItemKeeps NodeKeeps StatementKeeps (λ p. Unit {0})
+  pub layers : Layers ItemKeeps NodeKeeps StatementKeeps (λ p. Unit {0})
   unfolding item_step
   layers = record {
     field = λ line name g h. item_by (item_text.Field line name g) (item_step (BodyItem-F.Field line name (given_mapped read_text g))) (steps.read_given l.node g) (texts.read-field line name g) (l.at_field line name g)

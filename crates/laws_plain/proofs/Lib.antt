@@ -5,6 +5,7 @@ pub mod BesideWhole
 pub mod Reading
 pub mod Keeping
 pub mod ReadWhole
+pub mod Heads
 pub mod Closing
 pub mod Names
 pub mod Uses
@@ -31,5 +32,12 @@ pub mod HeldParts
 pub mod HeldNodes
 pub mod HeldProtos
 pub mod HeldWhole
+pub mod HeldTexts
 pub mod WrittenTexts
 pub mod WrittenWhole
+pub mod PartTexts
+pub mod PlainFaults
+pub mod SoundNames
+pub mod SoundFields
+pub mod SoundParts
+pub mod SoundWhole

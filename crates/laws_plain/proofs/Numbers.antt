@@ -31,7 +31,7 @@ Owns t ds = OwnsBy (is_script t) ds
 
 -- ---- numbers in lists
 
-abbrev first : ℕ × Field → ℕ
+abbrev pub first : ℕ × Field → ℕ
 first f = f.0
 
 or_assoc : {X : Type 0} (a b c : Option X) → option_or a (option_or b c) ≡ option_or (option_or a b) c
@@ -50,7 +50,7 @@ if_mapped : {X Y Z : Type 0} (f : X → Z) (g : Y → Z) (b : Bool) (x : X) (y :
 if_mapped f g true x y m n e k = ap (λ z. Some z) e
 if_mapped f g false x y m n e k = k
 
-numbered_append : (n : ℕ) (name : Name) (xs ys : List Field) → numbered_from n name (xs ++ ys) ≡ option_or (numbered_from n name xs) (numbered_from (n + length xs) name ys)
+pub numbered_append : (n : ℕ) (name : Name) (xs ys : List Field) → numbered_from n name (xs ++ ys) ≡ option_or (numbered_from n name xs) (numbered_from (n + length xs) name ys)
 numbered_append n name [] ys =
     let here : n ≡ n + 0 = omega arith in
     ap (λ k. numbered_from k name ys) here
@@ -78,7 +78,7 @@ row_mapped true row m = refl
 row_mapped false row m = refl
 
 -- a field of the type has the number of its row
-rows_number : (n : ℕ) (name : Name) (es : List Entry) → option_map number_of (option_map of_row (row_named n name es)) ≡ option_map first (numbered_from n name (map row_field es))
+pub rows_number : (n : ℕ) (name : Name) (es : List Entry) → option_map number_of (option_map of_row (row_named n name es)) ≡ option_map first (numbered_from n name (map row_field es))
 rows_number n name [] = refl
 rows_number n name (e ∷ es) =
     ap (λ b. option_map number_of (option_map of_row (if b then Some (numbered n e) else row_named (n + 1) name es))) (turned name e.name)
@@ -97,7 +97,7 @@ or_told : (a b c : Option ℕ) (k : ℕ) → ((j : ℕ) → b ≡ Some j → c �
 or_told (Some x) b c k h e = e
 or_told None b c k h e = h k e
 
-or_first : (a b : Option ℕ) (j : ℕ) → a ≡ Some j → option_or a b ≡ Some j
+pub or_first : (a b : Option ℕ) (j : ℕ) → a ≡ Some j → option_or a b ≡ Some j
 or_first (Some x) b j e = e
 or_first None b j e = absurd (none-some j e)
 

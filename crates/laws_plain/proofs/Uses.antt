@@ -14,23 +14,23 @@ use Rattle.laws_plain.proofs.Keeping.{Law, all_keep, closed, nodes_held, opened}
 use Rattle.laws_plain.proofs.Names.{named_same, opened_of}
 use Rattle.laws_plain.proofs.ReadWhole.{flat_is_read}
 
-abbrev read_as : List ℕ → Reading → uses.Reading
+abbrev pub read_as : List ℕ → Reading → uses.Reading
 read_as here r = record { opened = map opened_of r.pairs; closed = map held r.nodes; here = map some here }
 
-abbrev Reads : List ℕ → Reading → uses.Reading → Type 0
+abbrev pub Reads : List ℕ → Reading → uses.Reading → Type 0
 Reads here r x = x ≡ read_as here r
 
-used : (name : Name) (here : List ℕ) (r : Reading) (x : uses.Reading) (k : ℕ) → Reads here r x → last_closed name r.pairs ≡ Some k → Reads (here ++ k ∷ []) r (stands (named name x.opened) x)
+pub used : (name : Name) (here : List ℕ) (r : Reading) (x : uses.Reading) (k : ℕ) → Reads here r x → last_closed name r.pairs ≡ Some k → Reads (here ++ k ∷ []) r (stands (named name x.opened) x)
 used name here r x k i e =
     ap (λ (y : uses.Reading). stands (named name y.opened) y) i
     ∙ ap (λ o. stands o (read_as here r)) (named_same name r.pairs ∙ e)
     ∙ ap (λ ns. record (read_as here r) { here = ns }) (sym (map-append some here (k ∷ [])))
 
-opened_as : (name : Option Name) (here : List ℕ) (r : Reading) (x : uses.Reading) → Reads here r x → Reads [] (opened name r) (opens name x)
+pub opened_as : (name : Option Name) (here : List ℕ) (r : Reading) (x : uses.Reading) → Reads here r x → Reads [] (opened name r) (opens name x)
 opened_as name here r x i =
     ap (opens name) i ∙ ap (λ os. record { opened = os; closed = map held r.nodes; here = [] }) (sym (map-append opened_of r.pairs (record { name = name; node = None } ∷ [])))
 
-closed_as : (name : Option Name) (node : FlatNode) (here inner : List ℕ) (r q : Reading) (x y : uses.Reading) → flat_map nodes_held node.fields ≡ inner → Reads here r x → Reads inner q y
+pub closed_as : (name : Option Name) (node : FlatNode) (here inner : List ℕ) (r q : Reading) (x y : uses.Reading) → flat_map nodes_held node.fields ≡ inner → Reads here r x → Reads inner q y
     → Reads (here ++ length q.nodes ∷ []) (closed name (length r.pairs) node q) (closes name x y)
 closed_as name node here inner r q x y n i j =
     ap (λ (z : uses.Reading). closes name z y) i
@@ -51,7 +51,7 @@ closed_as name node here inner r q x y n i j =
       pairs : List Opened
       pairs = map opened_of (slice_set q.pairs (length r.pairs) (record { name = name; node = Some (length q.nodes) }))
 
-law : Law Reads
+abbrev pub law : Law Reads
 law = record {
   node = read_node steps;
   item = read_item steps;
@@ -76,7 +76,6 @@ law = record {
 }
 
 pub uses_are_named : UsesAreNamed
-unfolding law
 uses_are_named d f k e =
     let told = flat_is_read _ d f k e (all_keep Reads law d.statements (record { nodes = []; pairs = []; wires = [] }) uses.nothing_read refl) in (
       ap (λ g. map held g.nodes) (sym told.is) ∙ sym (ap (λ (x : uses.Reading). x.closed) told.told),

@@ -1,10 +1,12 @@
 -- Laws of the flat form of a document, for a reader who does not want to follow the walk. That of a
 -- document without instances is read from its text.
-use Rattle.std.specs.Prelude.{◌≡◌, ◌≤◌, length, map, Ok}
+use Rattle.std.specs.Prelude.{◌≡◌, ◌≤◌, List, [], ◌∷◌, ◌++◌, length, map, None, Ok}
 use Rattle.std.specs.List.{AllByRecursion}
 use Rattle.classic_tree.specs.declared.tree.Document.{Document}
 use Rattle.proto_flat.specs.declared.flat.Flat.{Flat}
-use Rattle.proto_meaning.specs.Flat.{flat}
+use Rattle.proto_flat.specs.declared.flat.FlatNode.{FlatNode}
+use Rattle.proto_meaning.specs.Names.{Field}
+use Rattle.proto_meaning.specs.Flat.{fields_of, flat, header_of, numbered_from}
 use Rattle.laws_flat.specs.Lines.{AreAlike, unlined}
 use Rattle.laws_flat.specs.Order.{IsOrdered}
 use Rattle.laws_flat.specs.Closings.{IsOfNode, closings, expected, shown}
@@ -56,7 +58,16 @@ abbrev pub ShapesStay : Type 0
 ShapesStay =
     (d : Document) (f : Flat) → HasNoInstances d → flat d ≡ Ok f → map node_shape f.nodes ≡ shapes d
 
+-- it has no helpers: these are of instances
+abbrev pub HelpersAreOfInstances : Type 0
+HelpersAreOfInstances =
+    (d : Document) (f : Flat) → HasNoInstances d → flat d ≡ Ok f → f.helpers ≡ []
+
 -- ---- of all documents, also with instances
+
+-- the head of the document
+abbrev pub HeadersStay : Type 0
+HeadersStay = (d : Document) (f : Flat) → flat d ≡ Ok f → f.header ≡ header_of d
 
 -- what it names stands in it, and what a node holds has a lower number
 abbrev pub FlatsAreOrdered : Type 0
@@ -66,8 +77,8 @@ FlatsAreOrdered = (d : Document) (f : Flat) → flat d ≡ Ok f → IsOrdered f
 abbrev pub LinesAreForFaults : Type 0
 LinesAreForFaults = (d e : Document) → unlined d ≡ unlined e → AreAlike (flat d) (flat e)
 
--- each node has the name of a DEF of the text, or none, declares fields that are declared there, if it
--- is a Script, and holds values that stand there
+-- each node has the name of a DEF of the text, or none, declares fields that are declared there, if
+-- it is a Script, and holds values that stand there
 abbrev pub FlatsAreWritten : Type 0
 FlatsAreWritten =
     (d : Document) (f : Flat) → flat d ≡ Ok f → AllByRecursion (IsWritten (written d)) f.nodes
@@ -77,3 +88,17 @@ abbrev pub FlatsAreLimited : Type 0
 FlatsAreLimited =
     (d : Document) (f : Flat) → flat d ≡ Ok f
     → (length f.nodes ≤ 65536) × (length f.routes ≤ 65536)
+
+-- none of these fields has the name of one before it, or of these
+abbrev pub AreApart : List Field → List Field → Type 0
+AreApart fields [] = Unit {0}
+AreApart fields (d ∷ ds) =
+    (numbered_from 0 d.name fields ≡ None) × AreApart (fields ++ d ∷ []) ds
+
+abbrev pub HasNamesApart : FlatNode → Type 0
+HasNamesApart node = AreApart (fields_of node.node_type) node.interface
+
+-- no two fields of a node, those of its type and those that it declares, have one name
+abbrev pub NamesAreApart : Type 0
+NamesAreApart =
+    (d : Document) (f : Flat) → flat d ≡ Ok f → AllByRecursion HasNamesApart f.nodes

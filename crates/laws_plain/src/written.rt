@@ -1,6 +1,7 @@
 //! Laws of what stands in flat forms, each the contract of a function that does nothing.
 
 ghost use Rattle.laws_plain.specs.Laws.{FlatsAreLimited, FlatsAreWritten};
+ghost use Rattle.laws_plain.specs.Laws.{HeadersStay, HelpersAreOfInstances, NamesAreApart};
 
 /// The nodes of a flat form have names, declared fields and values that stand in the text.
 pub fn flats_are_written()
@@ -10,4 +11,19 @@ pub fn flats_are_written()
 /// A flat form has at most 65,536 nodes and routes.
 pub fn flats_are_limited()
     ensures { FlatsAreLimited }
+{}
+
+/// No two fields of a node of a flat form have one name.
+pub fn names_are_apart()
+    ensures { NamesAreApart }
+{}
+
+/// A flat form has the head of its document.
+pub fn headers_stay()
+    ensures { HeadersStay }
+{}
+
+/// The flat form of a document without instances has no helpers.
+pub fn helpers_are_of_instances()
+    ensures { HelpersAreOfInstances }
 {}
