@@ -1,4 +1,4 @@
--- The pointing sensors in the lists of a scene, kept beside it: lists may be long, and few have any.
+-- The pointing sensors in the lists of a scene, kept beside it: lists may be long, few have any.
 use Rattle.std.specs.Prelude.{ℕ, List, [], map, Option, Some, None, slice_get}
 use Rattle.std.specs.List.{filter}
 use Rattle.std.specs.Option.{option_map_or}
