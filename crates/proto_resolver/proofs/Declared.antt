@@ -19,12 +19,12 @@ use Rattle.proto_sight.specs.Texts.{opened, closed, has_node, finds_inside, unle
 use Rattle.proto_sight.proofs.Equations.{proto-sees}
 use Rattle.proto_tree.specs.declared.tree.ProtoTree.{ProtoTree}
 use Rattle.proto_tree.specs.Resolved.{Seen}
-use Rattle.proto_resolver.specs.declared.scopes.Declared.{Declared}
+use Rattle.proto_resolver.specs.declared.scopes.KnownProto.{KnownProto}
 use Rattle.proto_resolver.specs.declared.scopes.Table.{Table}
 use Rattle.proto_resolver.specs.declared.scopes.Taken.{Taken}
 use Rattle.proto_resolver.specs.declared.resolver.Resolver.{Resolver}
 use Rattle.proto_resolver.specs.Held.{Entries, with_entry, found, seen}
-use Rattle.proto_resolver.specs.Standing.{Extends, IsOf, Stands, Means, Shows}
+use Rattle.proto_resolver.specs.Standing.{Extends, IsOf, TreesStand, Means, Shows}
 use Rattle.proto_resolver.specs.Steps.{IsOpened}
 use Rattle.proto_resolver.proofs.Names.{or_means}
 use Rattle.proto_resolver.proofs.Standing.{extends_then, extends_one}
@@ -67,7 +67,7 @@ is_of_more ps all t p x h = record {
   instance = λ more y given put. h.instance more (extends_then ps all more x y) given put;
 }
 
-pub stands_one : (ps : List Prototype) (trees : List ProtoTree) (p : Prototype) (t : ProtoTree) → Stands ps trees → IsOf (ps ++ p ∷ []) t p → Stands (ps ++ p ∷ []) (trees ++ t ∷ [])
+pub stands_one : (ps : List Prototype) (trees : List ProtoTree) (p : Prototype) (t : ProtoTree) → TreesStand ps trees → IsOf (ps ++ p ∷ []) t p → TreesStand (ps ++ p ∷ []) (trees ++ t ∷ [])
 stands_one ps trees p t h is = record {
   count = length-append ps (p ∷ []) ∙ ap (λ n. n + 1) h.count ∙ sym (length-append trees (t ∷ []));
   each = λ n x e. by_place n x (one_more trees t n x e);
@@ -95,14 +95,14 @@ turned a b =
     same_truth (bytes_eq a b) (bytes_eq b a) (λ h. (bytes_eq-Decides b a).1 (sym ((bytes_eq-Decides a b).0 h)))
     (λ h. (bytes_eq-Decides a b).1 (sym ((bytes_eq-Decides b a).0 h)))
 
-one_name : (ps : List Prototype) (own name : Name) (e : Declared) (old : Option Declared) (here : Option Prototype) (p : Prototype) (b : Bool) → bytes_eq own name ≡ b
+one_name : (ps : List Prototype) (own name : Name) (e : KnownProto) (old : Option KnownProto) (here : Option Prototype) (p : Prototype) (b : Bool) → bytes_eq own name ≡ b
     → (bytes_eq own name ≡ true → here ≡ None) → Means ps old here → Means ps (Some e) (Some p)
     → Means ps (if b then Some e else old) (option_or here (cond b (Some p) None))
 one_name ps own name e old here p true is fresh h k = subst (λ o. Means ps (Some e) (option_or o (Some p))) (sym (fresh is)) k
 one_name ps own name e old here p false is fresh h k = subst (Means ps old) (sym (or_none here)) h
 
 -- the entry of a new name
-pub means_one : (ps : List Prototype) (own name : Name) (e : Declared) (entries : Entries) (here : List Prototype) (p : Prototype) → p.name ≡ own → declared own here ≡ None → Means ps (entries name) (declared name here) → Means ps (Some e) (Some p)
+pub means_one : (ps : List Prototype) (own name : Name) (e : KnownProto) (entries : Entries) (here : List Prototype) (p : Prototype) → p.name ≡ own → declared own here ≡ None → Means ps (entries name) (declared name here) → Means ps (Some e) (Some p)
     → Means ps (with_entry own e entries name) (declared name (here ++ p ∷ []))
 means_one ps own name e entries here p named fresh h k =
     subst (Means ps (with_entry own e entries name))
@@ -114,7 +114,7 @@ means_one ps own name e entries here p named fresh h k =
 seen_one : (outer : List Table) (here : Table) (name : Name) → seen (outer ++ here ∷ []) name ≡ option_or (found here name) (seen outer name)
 seen_one [] here name = sym (or_none (found here name))
 seen_one (t ∷ ts) here name = ap (λ o. option_or o (found t name)) (seen_one ts here name) ∙ or_assoc (found here name) (seen ts name) (found t name) where
-  or_assoc : (a b c : Option Declared) → option_or (option_or a b) c ≡ option_or a (option_or b c)
+  or_assoc : (a b c : Option KnownProto) → option_or (option_or a b) c ≡ option_or a (option_or b c)
   or_assoc None b c = refl
   or_assoc (Some x) b c = refl
 

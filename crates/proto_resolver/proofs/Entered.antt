@@ -15,15 +15,15 @@ use Rattle.proto_tree.specs.declared.tree.ProtoTree.{ProtoTree}
 use Rattle.proto_tree.specs.Meaning.{instance}
 use Rattle.proto_tree.specs.Resolved.{Seen, AreDefaults, IsProto}
 use Rattle.proto_tree.proofs.Prototypes.{prototypes_are_the_same}
-use Rattle.proto_resolver.specs.declared.scopes.Declared.{Declared}
+use Rattle.proto_resolver.specs.declared.scopes.KnownProto.{KnownProto}
 use Rattle.proto_resolver.specs.declared.scopes.Scopes.{Scopes}
 use Rattle.proto_resolver.specs.declared.scopes.Table.{Table}
 use Rattle.proto_resolver.specs.declared.scopes.Taken.{Taken}
 use Rattle.proto_resolver.specs.declared.resolver.Resolver.{Resolver}
 use Rattle.proto_resolver.specs.Held.{Entries, with_entry, names_of, takes_of, found, seen}
-use Rattle.proto_resolver.specs.Standing.{Extends, IsOf, Stands, Means, Shows, Ends, Resolved, Resolves}
-use Rattle.proto_resolver.specs.Steps.{IsOpened, IsClosed, IsDeclared, kept}
-use Rattle.proto_resolver.specs.Parts.{IsInside}
+use Rattle.proto_resolver.specs.Standing.{Extends, IsOf, TreesStand, Means, Shows, Ends, LeadsTo, Resolves}
+use Rattle.proto_resolver.specs.Steps.{IsOpened, IsClosed, IsDeclared, defaults_taken}
+use Rattle.proto_resolver.specs.Parts.{IsInterior}
 use Rattle.proto_resolver.proofs.Standing.{extends_none, extends_then, extends_one, means_more, shows_more, stands_moved}
 use Rattle.proto_resolver.proofs.Declared.{last_one, stands_one, means_one, shows_opened, sees_right, unknown}
 
@@ -31,13 +31,13 @@ use Rattle.proto_resolver.proofs.Declared.{last_one, stands_one, means_one, show
 
 wrong_entered : (p : ProtoText) (old start new : Resolver) (before : Taken) (x : ExpandFault) (defaults : List DefaultTree) (body : List BodyTree)
     → ((ps : List Prototype) (s : Sight) → Shows ps old.scopes s → checked p s ≡ Ok tt) → IsOpened old before start
-    → Resolves start new (Some x) (λ ps s r. IsInside ps p defaults body s r) → Resolves old new (Some x) (λ ps s r. (flat.proto p).sees s ≡ r)
+    → Resolves start new (Some x) (λ ps s r. IsInterior ps p defaults body s r) → Resolves old new (Some x) (λ ps s r. (flat.proto p).sees s ≡ r)
 wrong_entered p old start new before x defaults body right o does ps s stands shows =
     let e = does ps (opened s) (stands_moved ps old.protos start.protos o.protos stands) (shows_opened ps old before start s o shows) in
     by_seen e.more e.extends e.stands e.seen e.ends e.is where
-      by_seen : (more : List Prototype) → Extends ps more → Stands more new.protos → (r : Seen) → Ends more start new (Some x) r
-          → ((all : List Prototype) → Extends more all → IsInside all p defaults body (opened s) r)
-          → Resolved ps s old new (Some x) (λ ps s r. (flat.proto p).sees s ≡ r)
+      by_seen : (more : List Prototype) → Extends ps more → TreesStand more new.protos → (r : Seen) → Ends more start new (Some x) r
+          → ((all : List Prototype) → Extends more all → IsInterior all p defaults body (opened s) r)
+          → LeadsTo ps s old new (Some x) (λ ps s r. (flat.proto p).sees s ≡ r)
       by_seen more y f (Ok u) e inside = absurd e
       by_seen more y f (Err z) e inside = record {
         more = more;
@@ -50,7 +50,7 @@ wrong_entered p old start new before x defaults body right o does ps s stands sh
 
 pub stopped : (p : ProtoText) (old start new : Resolver) (before : Taken) (wrong : Option ExpandFault) (defaults : List DefaultTree) (body : List BodyTree) → is_some wrong ≡ true
     → ((ps : List Prototype) (s : Sight) → Shows ps old.scopes s → checked p s ≡ Ok tt) → IsOpened old before start
-    → Resolves start new wrong (λ ps s r. IsInside ps p defaults body s r) → Resolves old new wrong (λ ps s r. (flat.proto p).sees s ≡ r)
+    → Resolves start new wrong (λ ps s r. IsInterior ps p defaults body s r) → Resolves old new wrong (λ ps s r. (flat.proto p).sees s ≡ r)
 stopped p old start new before None defaults body e right o does = absurd (true≢false (sym e))
 stopped p old start new before (Some x) defaults body e right o does = wrong_entered p old start new before x defaults body right o does
 
@@ -58,15 +58,15 @@ stopped p old start new before (Some x) defaults body e right o does = wrong_ent
 
 -- its tree
 abbrev tree_of : Bor ProtoText → List DefaultTree → List BodyTree → Names → ProtoTree
-tree_of p defaults body takes = record { text = p; defaults = kept takes defaults; body = body }
+tree_of p defaults body takes = record { text = p; defaults = defaults_taken takes defaults; body = body }
 
-is_proto : (ps : List Prototype) (p : Bor ProtoText) (defaults : List DefaultTree) (body : List BodyTree) (s u : Sight) (takes : Names) → takes ≡ u.taken → IsInside ps p.now defaults body (opened s) (Ok u)
+is_proto : (ps : List Prototype) (p : Bor ProtoText) (defaults : List DefaultTree) (body : List BodyTree) (s u : Sight) (takes : Names) → takes ≡ u.taken → IsInterior ps p.now defaults body (opened s) (Ok u)
     → IsProto ps (tree_of p defaults body takes) s u
 is_proto ps p defaults body s u takes e h =
     let inside = h.are u refl in
     record {
       behind = inside.0;
-      defaults = subst (λ names. AreDefaults ps u.taken (out-ProtoText p.now).interface (kept names defaults) (record { here = []; outside = s.here ++ s.outside; taken = no_names }) inside.0) (sym e) inside.1;
+      defaults = subst (λ names. AreDefaults ps u.taken (out-ProtoText p.now).interface (defaults_taken names defaults) (record { here = []; outside = s.here ++ s.outside; taken = no_names }) inside.0) (sym e) inside.1;
       body = inside.2;
     }
 
@@ -80,7 +80,7 @@ record Says (all : List Prototype) (t : ProtoTree) (q : Prototype) (taken : Name
   takes : q.takes ≡ taken
   instance : (given : List Filled) (put : Put) → q.instance given put ≡ instance all t given put
 
-says : (all : List Prototype) (p : Bor ProtoText) (defaults : List DefaultTree) (body : List BodyTree) (s u : Sight) (takes : Names) → takes ≡ u.taken → checked p.now s ≡ Ok tt → IsInside all p.now defaults body (opened s) (Ok u)
+says : (all : List Prototype) (p : Bor ProtoText) (defaults : List DefaultTree) (body : List BodyTree) (s u : Sight) (takes : Names) → takes ≡ u.taken → checked p.now s ≡ Ok tt → IsInterior all p.now defaults body (opened s) (Ok u)
     → Says all (tree_of p defaults body takes) (proto_of p.now s u) takes
 says all p defaults body s u takes e right h =
     let law = prototypes_are_the_same all (tree_of p defaults body takes) s u (closed p.now s u) (is_proto all p defaults body s u takes e h) (sees_right p.now s (Ok u) right h.sees) in
@@ -93,7 +93,7 @@ says all p defaults body s u takes e right h =
     }
 
 -- where one prototype more is declared
-shows_one : (ps : List Prototype) (own : Name) (entry : Declared) (old new : Scopes) (s : Sight) (q : Prototype) → q.name ≡ own → declared own s.here ≡ None → entry.number ≡ length ps → q.takes ≡ takes_of entry
+shows_one : (ps : List Prototype) (own : Name) (entry : KnownProto) (old new : Scopes) (s : Sight) (q : Prototype) → q.name ≡ own → declared own s.here ≡ None → entry.number ≡ length ps → q.takes ≡ takes_of entry
     → found new.here ≡ with_entry own entry (found old.here) → new.outside.items ≡ old.outside.items → names_of new.takes ≡ s.taken → Shows ps old s
     → Shows (ps ++ q ∷ []) new (record s { here = s.here ++ q ∷ [] })
 shows_one ps own entry old new s q named fresh number takes here outside taken h = record {
@@ -107,11 +107,11 @@ shows_one ps own entry old new s q named fresh number takes here outside taken h
 }
 
 module _ (p : Bor ProtoText) (old start inner mid new : Resolver) (before taken : Taken) (defaults : List DefaultTree) (body : List BodyTree) where
-  declared_one : (ps more : List Prototype) (s u : Sight) → Shows ps old.scopes s → Extends ps more → Stands more inner.protos → checked p.now s ≡ Ok tt
+  declared_one : (ps more : List Prototype) (s u : Sight) → Shows ps old.scopes s → Extends ps more → TreesStand more inner.protos → checked p.now s ≡ Ok tt
       → IsOpened old before start → IsClosed old.scopes.outside.items old.scopes.here before taken inner mid → IsDeclared p defaults body (names_of taken) mid new
       → names_of inner.scopes.takes ≡ u.taken
-      → ((all : List Prototype) → Extends more all → IsInside all p.now defaults body (opened s) (Ok u))
-      → Resolved ps s old new None (λ ps s r. (flat.proto p.now).sees s ≡ r)
+      → ((all : List Prototype) → Extends more all → IsInterior all p.now defaults body (opened s) (Ok u))
+      → LeadsTo ps s old new None (λ ps s r. (flat.proto p.now).sees s ≡ r)
   declared_one ps more s u shows x stands right o k d taken_is inside =
       let q = proto_of p.now s u in
       let t = tree_of p defaults body (names_of taken) in
@@ -136,16 +136,16 @@ module _ (p : Bor ProtoText) (old start inner mid new : Resolver) (before taken 
       }
 
   pub entered : ((ps : List Prototype) (s : Sight) → Shows ps old.scopes s → checked p.now s ≡ Ok tt) → IsOpened old before start
-      → Resolves start inner None (λ ps s r. IsInside ps p.now defaults body s r)
+      → Resolves start inner None (λ ps s r. IsInterior ps p.now defaults body s r)
       → ((outer : List Table) (around : Table) → inner.scopes.outside.items ≡ outer ++ around ∷ [] → IsClosed outer around before taken inner mid)
       → IsDeclared p defaults body (names_of taken) mid new
       → Resolves old new None (λ ps s r. (flat.proto p.now).sees s ≡ r)
   entered right o does closes d ps s stands shows =
       let e = does ps (opened s) (stands_moved ps old.protos start.protos o.protos stands) (shows_opened ps old before start s o shows) in
       by_seen e.more e.extends e.stands e.seen e.ends e.is where
-        by_seen : (more : List Prototype) → Extends ps more → Stands more inner.protos → (r : Seen) → Ends more start inner None r
-            → ((all : List Prototype) → Extends more all → IsInside all p.now defaults body (opened s) r)
-            → Resolved ps s old new None (λ ps s r. (flat.proto p.now).sees s ≡ r)
+        by_seen : (more : List Prototype) → Extends ps more → TreesStand more inner.protos → (r : Seen) → Ends more start inner None r
+            → ((all : List Prototype) → Extends more all → IsInterior all p.now defaults body (opened s) r)
+            → LeadsTo ps s old new None (λ ps s r. (flat.proto p.now).sees s ≡ r)
         by_seen more x f (Err y) e inside = absurd e
         by_seen more x f (Ok u) e inside =
             declared_one ps more s u shows x f (right ps s shows) o (closes old.scopes.outside.items old.scopes.here (e.1 ∙ o.outside)) d e.0.taken inside

@@ -12,12 +12,12 @@ use Rattle.proto_flat.specs.declared.fault.ExpandFaultKind.TheVariants.{ProtoTwi
 use Rattle.proto_meaning.specs.Names.{Name}
 use Rattle.proto_meaning.specs.Sight.{OfType, OfProto, Prototype, Sight, declared, meant, taken_by}
 use Rattle.proto_sight.specs.Texts.{is_known, finds_inside, has_node, unless_found, checked}
-use Rattle.proto_resolver.specs.declared.scopes.Declared.{Declared}
+use Rattle.proto_resolver.specs.declared.scopes.KnownProto.{KnownProto}
 use Rattle.proto_resolver.specs.declared.scopes.Scopes.{Scopes}
 use Rattle.proto_resolver.specs.Held.{takes_of, found, seen, in_sight}
 use Rattle.proto_resolver.specs.Standing.{Extends, Means, Shows}
 
-pub or_means : (ps : List Prototype) (a b : Option Declared) (c d : Option Prototype) → Means ps a c → Means ps b d → Means ps (option_or a b) (option_or c d)
+pub or_means : (ps : List Prototype) (a b : Option KnownProto) (c d : Option Prototype) → Means ps a c → Means ps b d → Means ps (option_or a b) (option_or c d)
 or_means ps None b None d h k = k
 or_means ps None b (Some p) d h k = absurd h
 or_means ps (Some e) b None d h k = absurd h
@@ -31,7 +31,7 @@ sight_means ps scopes s name h =
 
 -- ---- names of a scope
 
-means_some : (ps : List Prototype) (e : Option Declared) (p : Option Prototype) → Means ps e p → is_some e ≡ is_some p
+means_some : (ps : List Prototype) (e : Option KnownProto) (p : Option Prototype) → Means ps e p → is_some e ≡ is_some p
 means_some ps None None h = refl
 means_some ps None (Some p) h = absurd h
 means_some ps (Some e) None h = absurd h
@@ -44,7 +44,7 @@ some_mapped (Some x) f = refl
 pub known_type : (name : Name) (s : Sight) → is_some (node_type_named name) ≡ true → true ≡ is_known name s
 known_type name s e = sym (ap (λ b. b || is_some (declared name s.here)) e)
 
-pub known_proto : {X : Type 0} (ps : List Prototype) (scopes : Scopes) (s : Sight) (name : Name) (o : Option X) (f : X → Declared) → is_some (node_type_named name) ≡ false → option_map f o ≡ found scopes.here name → Shows ps scopes s
+pub known_proto : {X : Type 0} (ps : List Prototype) (scopes : Scopes) (s : Sight) (name : Name) (o : Option X) (f : X → KnownProto) → is_some (node_type_named name) ≡ false → option_map f o ≡ found scopes.here name → Shows ps scopes s
     → is_some o ≡ is_known name s
 known_proto ps scopes s name o f e is h =
     sym (some_mapped o f) ∙ ap is_some is ∙ means_some ps (found scopes.here name) (declared name s.here) (h.here name)
@@ -58,19 +58,19 @@ type_meant word s t e = ap (λ o. option_or (option_map OfType o) (option_map Of
 proto_meant : (word : Name) (s : Sight) → node_type_named word ≡ None → meant word s ≡ option_map OfProto (declared word (s.here ++ s.outside))
 proto_meant word s e = ap (λ o. option_or (option_map OfType o) (option_map OfProto (declared word (s.here ++ s.outside)))) e
 
-none_means : (ps : List Prototype) (e : Option Declared) (p : Option Prototype) → Means ps e p → e ≡ None → option_map OfProto p ≡ None
+none_means : (ps : List Prototype) (e : Option KnownProto) (p : Option Prototype) → Means ps e p → e ≡ None → option_map OfProto p ≡ None
 none_means ps None None h is = refl
 none_means ps None (Some p) h is = absurd h
 none_means ps (Some e) p h is = absurd (some_none e is) where
-  some_none : (e : Declared) → Some e ≡ None → ⊥
-  some_none e is = subst (λ (o : Option Declared). cond (is_some o) (Unit {0}) ⊥) is tt
+  some_none : (e : KnownProto) → Some e ≡ None → ⊥
+  some_none e is = subst (λ (o : Option KnownProto). cond (is_some o) (Unit {0}) ⊥) is tt
 
-pub nothing_meant : {X : Type 0} (ps : List Prototype) (scopes : Scopes) (s : Sight) (word : Name) (o : Option X) (f : X → Declared) → node_type_named word ≡ None → option_map f o ≡ in_sight scopes word → o ≡ None → Shows ps scopes s
+pub nothing_meant : {X : Type 0} (ps : List Prototype) (scopes : Scopes) (s : Sight) (word : Name) (o : Option X) (f : X → KnownProto) → node_type_named word ≡ None → option_map f o ≡ in_sight scopes word → o ≡ None → Shows ps scopes s
     → meant word s ≡ None
 nothing_meant ps scopes s word o f typed e is h =
     proto_meant word s typed ∙ none_means ps (in_sight scopes word) (declared word (s.here ++ s.outside)) (sight_means ps scopes s word h) (sym e ∙ ap (option_map f) is)
 
-some_means : (ps : List Prototype) (e : Declared) (o : Option Declared) (p : Option Prototype) → Means ps o p → o ≡ Some e →
+some_means : (ps : List Prototype) (e : KnownProto) (o : Option KnownProto) (p : Option Prototype) → Means ps o p → o ≡ Some e →
     ((all : List Prototype) → Extends ps all → option_map OfProto p ≡ option_map OfProto (slice_get all e.number)) × (Some (takes_of e) ≡ taken_by (option_map OfProto p))
 some_means ps e o p h is = by_cases p (subst (λ x. Means ps x p) is h) where
   by_cases : (q : Option Prototype) → Means ps (Some e) q →
@@ -78,7 +78,7 @@ some_means ps e o p h is = by_cases p (subst (λ x. Means ps x p) is h) where
   by_cases None k = absurd k
   by_cases (Some q) k = (λ all x. sym (ap (option_map OfProto) (x e.number q k.0)), ap Some (sym k.1))
 
-pub instance_meant : {X : Type 0} (ps : List Prototype) (scopes : Scopes) (s : Sight) (word : Name) (o : Option X) (f : X → Declared) (x : X) → node_type_named word ≡ None → option_map f o ≡ in_sight scopes word → o ≡ Some x → Shows ps scopes s →
+pub instance_meant : {X : Type 0} (ps : List Prototype) (scopes : Scopes) (s : Sight) (word : Name) (o : Option X) (f : X → KnownProto) (x : X) → node_type_named word ≡ None → option_map f o ≡ in_sight scopes word → o ≡ Some x → Shows ps scopes s →
     ((all : List Prototype) → Extends ps all → meant word s ≡ option_map OfProto (slice_get all (f x).number)) × (Some (takes_of (f x)) ≡ taken_by (meant word s))
 instance_meant ps scopes s word o f x typed e is h =
     let k = some_means ps (f x) (in_sight scopes word) (declared word (s.here ++ s.outside)) (sight_means ps scopes s word h) (sym e ∙ ap (option_map f) is) in

@@ -1,11 +1,11 @@
 -- The laws, by what is known of a resolved text.
-use Rattle.std.proofs.Common.{◌≡◌, ℕ, suc, List, [], ◌∷◌, length, Option, Some, None, refl, ap, sym, ◌∙◌, subst, arith}
+use Rattle.std.proofs.Common.{◌≡◌, ℕ, suc, List, [], ◌∷◌, length, Option, Some, None, refl, sym, ◌∙◌, subst, arith}
 use Prim.Native.Nat.{zero}
 use Rattle.std.specs.Prelude.{slice_get}
 use Rattle.proto_meaning.specs.Sight.{Prototype}
 use Rattle.proto_tree.specs.declared.tree.ProtoTree.{ProtoTree}
 use Rattle.proto_tree.proofs.Whole.{texts_stand_for_the_same}
-use Rattle.proto_resolver.specs.Standing.{IsOf, Stands}
+use Rattle.proto_resolver.specs.Standing.{IsOf, TreesStand}
 use Rattle.proto_resolver.specs.Laws.{IsTreeOf, NumbersMeanTheirTrees, ResolvedTextsStandForTheSame}
 use Rattle.proto_resolver.proofs.Standing.{extends_none}
 use Rattle.proto_resolver.proofs.Declared.{none_some, same_some}
@@ -26,7 +26,7 @@ there (z ∷ zs) [] n x e same none = suc≢zero same
 there (z ∷ zs) (y ∷ ys) zero x e same none = none_some y (sym none)
 there (z ∷ zs) (y ∷ ys) (suc n) x e same none = there zs ys n x e (one_less same) none
 
-tree_of : (ps : List Prototype) (protos : List ProtoTree) (n : ℕ) (t : Option ProtoTree) (p : Option Prototype) → Stands ps protos → slice_get protos n ≡ t → slice_get ps n ≡ p → IsTreeOf ps t p
+tree_of : (ps : List Prototype) (protos : List ProtoTree) (n : ℕ) (t : Option ProtoTree) (p : Option Prototype) → TreesStand ps protos → slice_get protos n ≡ t → slice_get ps n ≡ p → IsTreeOf ps t p
 tree_of ps protos n None None h e f = tt
 tree_of ps protos n None (Some p) h e f = absurd (there ps protos n p f h.count e)
 tree_of ps protos n (Some t) None h e f = absurd (none_some (h.each n t e).0 (sym f ∙ (h.each n t e).1))

@@ -6,12 +6,12 @@ use Rattle.proto_flat.specs.declared.fault.ExpandFault.{ExpandFault}
 use Rattle.proto_meaning.specs.Sight.{Names, Prototype, Sight, declared}
 use Rattle.proto_tree.specs.declared.tree.ProtoTree.{ProtoTree}
 use Rattle.proto_tree.specs.Resolved.{Seen, wrong_in}
-use Rattle.proto_resolver.specs.declared.scopes.Declared.{Declared}
+use Rattle.proto_resolver.specs.declared.scopes.KnownProto.{KnownProto}
 use Rattle.proto_resolver.specs.declared.scopes.Scopes.{Scopes}
 use Rattle.proto_resolver.specs.declared.scopes.Table.{Table}
 use Rattle.proto_resolver.specs.declared.resolver.Resolver.{Resolver}
 use Rattle.proto_resolver.specs.Held.{Entries, names_of, found, seen}
-use Rattle.proto_resolver.specs.Standing.{Extends, Stands, Means, Shows, Ends, Resolved, Resolves}
+use Rattle.proto_resolver.specs.Standing.{Extends, TreesStand, Means, Shows, Ends, LeadsTo, Resolves}
 
 -- ---- more prototypes
 
@@ -26,7 +26,7 @@ extends_one {X} [] more n p e = absurd (subst (λ (o : Option X). cond (is_some 
 extends_one (x ∷ ps) more zero p e = e
 extends_one (x ∷ ps) more (suc n) p e = extends_one ps more n p e
 
-pub means_more : (ps all : List Prototype) (e : Option Declared) (p : Option Prototype) → Extends ps all → Means ps e p → Means all e p
+pub means_more : (ps all : List Prototype) (e : Option KnownProto) (p : Option Prototype) → Extends ps all → Means ps e p → Means all e p
 means_more ps all None None x h = tt
 means_more ps all None (Some p) x h = absurd h
 means_more ps all (Some e) None x h = absurd h
@@ -48,8 +48,8 @@ shows_moved ps old new s taken here outside takes h = record {
   taken = takes;
 }
 
-pub stands_moved : (ps : List Prototype) (old new : List ProtoTree) → new ≡ old → Stands ps old → Stands ps new
-stands_moved ps old new e h = subst (Stands ps) (sym e) h
+pub stands_moved : (ps : List Prototype) (old new : List ProtoTree) → new ≡ old → TreesStand ps old → TreesStand ps new
+stands_moved ps old new e h = subst (TreesStand ps) (sym e) h
 
 -- ---- ends
 
@@ -96,7 +96,7 @@ pub behind : (old mid new : Resolver) (wrong : Option ExpandFault) (h k l : List
     → ((all : List Prototype) (s u : Sight) (r : Seen) → h all s (Ok u) → k all u r → l all s r)
     → Resolves old mid None h → Resolves mid new wrong k → Resolves old new wrong l
 behind old mid new wrong h k l w first second ps s stands shows = by_seen (first ps s stands shows).seen refl where
-  by_seen : (q : Seen) → (first ps s stands shows).seen ≡ q → Resolved ps s old new wrong l
+  by_seen : (q : Seen) → (first ps s stands shows).seen ≡ q → LeadsTo ps s old new wrong l
   by_seen (Err e) is = absurd (subst (Ends (first ps s stands shows).more old mid None) is (first ps s stands shows).ends)
   by_seen (Ok u) is =
       let d = first ps s stands shows in

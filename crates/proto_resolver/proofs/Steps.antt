@@ -47,8 +47,8 @@ use Rattle.proto_resolver.specs.declared.scopes.Table.{Table}
 use Rattle.proto_tree.specs.declared.tree.ProtoTree.{ProtoTree}
 use Rattle.proto_resolver.specs.Held.{Entries, no_entries, names_of, found, seen, taken_names}
 use Rattle.proto_resolver.specs.Standing.{Extends, Means, Shows, Ends, Resolves}
-use Rattle.proto_resolver.specs.Steps.{IsAside, IsBack, IsTaking, kept}
-use Rattle.proto_resolver.specs.Parts.{Before, one_or_none, AreAllDefaults, AreDefaultsAside, IsInside, IsResolved}
+use Rattle.proto_resolver.specs.Steps.{IsAside, IsBack, IsTaking, defaults_taken}
+use Rattle.proto_resolver.specs.Parts.{Before, one_or_none, AreAllDefaults, AreDefaultsAside, IsInterior, IsResolved}
 use Rattle.proto_resolver.proofs.Standing.{weaker, stays, behind, stands_moved, shows_moved, shows_more, extends_none, wrong_is}
 
 -- ---- what a part sees, by its rule
@@ -260,11 +260,11 @@ no_defaults ps s = record {
 }
 
 one_default : (ps : List Prototype) (takes : Names) (d : Bor (Declaration NodeText)) (t : GivenTree NodeTree) (rest : List (Declaration NodeText)) (trees : List DefaultTree) (s u v : Sight) (b : Bool) → takes d.now.name ≡ b
-    → IsGiven ps true d.now.given t s (Ok u) → AreDefaults ps takes rest (kept takes trees) u v
-    → AreDefaults ps takes (d.now ∷ rest) (cond b (record { declaration = d; value = t } ∷ kept takes trees) (kept takes trees)) s v
-one_default ps takes d t rest trees s u v true e g h = rule.kept d t rest (kept takes trees) s u v e g h
+    → IsGiven ps true d.now.given t s (Ok u) → AreDefaults ps takes rest (defaults_taken takes trees) u v
+    → AreDefaults ps takes (d.now ∷ rest) (cond b (record { declaration = d; value = t } ∷ defaults_taken takes trees) (defaults_taken takes trees)) s v
+one_default ps takes d t rest trees s u v true e g h = rule.kept d t rest (defaults_taken takes trees) s u v e g h
 one_default ps takes d t rest trees s u v false e g h =
-    rule.left d.now rest (kept takes trees) s u v (ap (λ b. b && is_value d.now.given) e) (given_left ps d.now.given t s (Ok u) g) h
+    rule.left d.now rest (defaults_taken takes trees) s u v (ap (λ b. b && is_value d.now.given) e) (given_left ps d.now.given t s (Ok u) g) h
 
 before_default : (ps : List Prototype) (d : Bor (Declaration NodeText)) (t : GivenTree NodeTree) (rest : List (Declaration NodeText)) (s : Sight) (r : Seen) → IsGiven ps true d.now.given t s r
     → Before (AreAllDefaults ps) (d.now ∷ rest) rest (record { declaration = d; value = t } ∷ []) s r
@@ -303,7 +303,7 @@ interface_aside old start inner new before wrong ds ts =
 
 -- ---- what stands between the brackets and the braces of a prototype
 
-inside_wrong : (ps : List Prototype) (p : ProtoText) (defaults : List DefaultTree) (s : Sight) (r : Seen) → is_some (wrong_in r) ≡ true → AreDefaultsAside ps (out-ProtoText p).interface defaults s r → IsInside ps p defaults [] s r
+inside_wrong : (ps : List Prototype) (p : ProtoText) (defaults : List DefaultTree) (s : Sight) (r : Seen) → is_some (wrong_in r) ≡ true → AreDefaultsAside ps (out-ProtoText p).interface defaults s r → IsInterior ps p defaults [] s r
 unfolding sees_inside
 inside_wrong ps p defaults s (Ok u) is h = absurd (true≢false (sym is))
 inside_wrong ps p defaults s (Err e) is h = record {
@@ -313,13 +313,13 @@ inside_wrong ps p defaults s (Err e) is h = record {
 
 pub wrong_inside : (old new : Resolver) (wrong : Option ExpandFault) (p : ProtoText) (defaults : List DefaultTree) → is_some wrong ≡ true
     → Resolves old new wrong (λ ps s r. AreDefaultsAside ps (out-ProtoText p).interface defaults s r)
-    → Resolves old new wrong (λ ps s r. IsInside ps p defaults [] s r)
+    → Resolves old new wrong (λ ps s r. IsInterior ps p defaults [] s r)
 wrong_inside old new wrong p defaults is =
-    weaker old new wrong (λ ps s r. AreDefaultsAside ps (out-ProtoText p).interface defaults s r) (λ ps s r. IsInside ps p defaults [] s r)
+    weaker old new wrong (λ ps s r. AreDefaultsAside ps (out-ProtoText p).interface defaults s r) (λ ps s r. IsInterior ps p defaults [] s r)
     (λ ps all s r shows x e h. inside_wrong all p defaults s r (sym (ap is_some e) ∙ is) h)
 
 inside_both : (ps : List Prototype) (p : ProtoText) (defaults : List DefaultTree) (trees : List BodyTree) (s u : Sight) (r : Seen) → AreDefaultsAside ps (out-ProtoText p).interface defaults s (Ok u)
-    → AreStatements ps (out-ProtoText p).body trees u r → IsInside ps p defaults trees s r
+    → AreStatements ps (out-ProtoText p).body trees u r → IsInterior ps p defaults trees s r
 unfolding sees_inside
 inside_both ps p defaults trees s u r h k = record {
   sees = ap (λ x. and_see x (each (λ x. (flat.statement x).1.sees) (out-ProtoText p).body)) h.sees ∙ statements_seen ps (out-ProtoText p).body trees u r k;
@@ -333,9 +333,9 @@ inside_both ps p defaults trees s u r h k = record {
 pub whole_inside : (old mid new : Resolver) (wrong : Option ExpandFault) (p : ProtoText) (defaults : List DefaultTree) (trees : List BodyTree)
     → Resolves old mid None (λ ps s r. AreDefaultsAside ps (out-ProtoText p).interface defaults s r)
     → Resolves mid new wrong (λ ps s r. AreStatements ps (out-ProtoText p).body trees s r)
-    → Resolves old new wrong (λ ps s r. IsInside ps p defaults trees s r)
+    → Resolves old new wrong (λ ps s r. IsInterior ps p defaults trees s r)
 whole_inside old mid new wrong p defaults trees =
-    behind old mid new wrong (λ ps s r. AreDefaultsAside ps (out-ProtoText p).interface defaults s r) (λ ps s r. AreStatements ps (out-ProtoText p).body trees s r) (λ ps s r. IsInside ps p defaults trees s r)
+    behind old mid new wrong (λ ps s r. AreDefaultsAside ps (out-ProtoText p).interface defaults s r) (λ ps s r. AreStatements ps (out-ProtoText p).body trees s r) (λ ps s r. IsInterior ps p defaults trees s r)
     (λ all s u r h k. inside_both all p defaults trees s u r h k)
 
 -- ---- a whole text

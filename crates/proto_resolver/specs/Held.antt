@@ -10,7 +10,7 @@ use Rattle.proto_meaning.specs.Names.{Name}
 use Rattle.proto_meaning.specs.Sight.{Names}
 use Rattle.proto_resolver.specs.declared.scopes.Taken.{Taken}
 use Rattle.proto_resolver.specs.declared.scopes.Taker.{Taker}
-use Rattle.proto_resolver.specs.declared.scopes.Declared.{Declared}
+use Rattle.proto_resolver.specs.declared.scopes.KnownProto.{KnownProto}
 use Rattle.proto_resolver.specs.declared.scopes.Table.{Table}
 use Rattle.proto_resolver.specs.declared.scopes.Scopes.{Scopes}
 
@@ -21,18 +21,18 @@ names_of taken name = contains_by (λ k. slice_cmp nat_cmp name k.now) taken.nam
 abbrev pub taken_names : Taker → Option Names
 taken_names taker = option_map (λ t. names_of t.value) taker.taken
 
-abbrev pub takes_of : Declared → Names
+abbrev pub takes_of : KnownProto → Names
 takes_of declared = names_of declared.takes.value
 
 -- ---- prototypes by name
 
 abbrev pub Entries : Type 0
-Entries = Name → Option Declared
+Entries = Name → Option KnownProto
 
 abbrev pub no_entries : Entries
 no_entries name = None
 
-abbrev pub with_entry : Name → Declared → Entries → Entries
+abbrev pub with_entry : Name → KnownProto → Entries → Entries
 with_entry given declared entries name =
     if bytes_eq given name then Some declared else entries name
 

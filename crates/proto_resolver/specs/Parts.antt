@@ -10,8 +10,8 @@ use Rattle.proto_tree.specs.declared.tree.BodyTree.{BodyTree}
 use Rattle.proto_tree.specs.declared.tree.DefaultTree.{DefaultTree}
 use Rattle.proto_tree.specs.declared.tree.ProtoTree.{ProtoTree}
 use Rattle.proto_tree.specs.Resolved.{Seen, AreDefaults, AreStatements}
-use Rattle.proto_resolver.specs.Standing.{Stands}
-use Rattle.proto_resolver.specs.Steps.{kept}
+use Rattle.proto_resolver.specs.Standing.{TreesStand}
+use Rattle.proto_resolver.specs.Steps.{defaults_taken}
 
 -- what is left behind a part: nothing, once something is wrong
 abbrev pub Left : {X T : Type 0} → (List X → List T → Sight → Seen → Type 0) → List X → Seen
@@ -34,7 +34,8 @@ one_or_none (Some t) = t ∷ []
 pub record AreAllDefaults (ps : List Prototype) (ds : List (Declaration NodeText))
     (ts : List DefaultTree) (s : Sight) (r : Seen) : Type 0 where
   pub sees : each (λ (d : Declaration NodeText). sees_given d.given) ds s ≡ r
-  pub are : (u : Sight) → r ≡ Ok u → (takes : Names) → AreDefaults ps takes ds (kept takes ts) s u
+  pub are : (u : Sight) → r ≡ Ok u → (takes : Names)
+      → AreDefaults ps takes ds (defaults_taken takes ts) s u
 
 -- the same, where an IS in them takes nothing
 pub record AreDefaultsAside (ps : List Prototype) (ds : List (Declaration NodeText))
@@ -42,14 +43,14 @@ pub record AreDefaultsAside (ps : List Prototype) (ds : List (Declaration NodeTe
   pub sees : aside (sees_interface ds) s ≡ r
   pub are : (u : Sight) → r ≡ Ok u → (behind : Sight) × (u ≡ record behind { taken = s.taken })
       × ((takes : Names)
-      → AreDefaults ps takes ds (kept takes ts) (record s { taken = no_names }) behind)
+      → AreDefaults ps takes ds (defaults_taken takes ts) (record s { taken = no_names }) behind)
 
 -- what stands between the brackets and the braces of a prototype
-pub record IsInside (ps : List Prototype) (p : ProtoText) (defaults : List DefaultTree)
+pub record IsInterior (ps : List Prototype) (p : ProtoText) (defaults : List DefaultTree)
     (body : List BodyTree) (s : Sight) (r : Seen) : Type 0 where
   pub sees : sees_inside (out-ProtoText p).interface (out-ProtoText p).body s ≡ r
   pub are : (u : Sight) → r ≡ Ok u → (behind : Sight)
-      × AreDefaults ps u.taken (out-ProtoText p).interface (kept u.taken defaults)
+      × AreDefaults ps u.taken (out-ProtoText p).interface (defaults_taken u.taken defaults)
       (record s { taken = no_names }) behind
       × AreStatements ps (out-ProtoText p).body body (record behind { taken = s.taken }) (Ok u)
 
@@ -58,6 +59,6 @@ pub record IsResolved (text : List Statement) (protos : List ProtoTree) (trees :
     : Type 0 where
   pub prototypes : List Prototype
   pub seen : Seen
-  pub stand : Stands prototypes protos
+  pub stand : TreesStand prototypes protos
   pub are : AreStatements prototypes text trees
       (record { here = []; outside = []; taken = no_names }) seen

@@ -8,7 +8,7 @@ use Rattle.proto_meaning.specs.Sight.{Put, Prototype, Sight, declared}
 use Rattle.proto_tree.specs.declared.tree.ProtoTree.{ProtoTree}
 use Rattle.proto_tree.specs.Meaning.{instance}
 use Rattle.proto_tree.specs.Resolved.{Seen}
-use Rattle.proto_resolver.specs.declared.scopes.Declared.{Declared}
+use Rattle.proto_resolver.specs.declared.scopes.KnownProto.{KnownProto}
 use Rattle.proto_resolver.specs.declared.scopes.Scopes.{Scopes}
 use Rattle.proto_resolver.specs.declared.resolver.Resolver.{Resolver}
 use Rattle.proto_resolver.specs.Held.{names_of, takes_of, found, seen}
@@ -27,7 +27,7 @@ pub record IsOf (ps : List Prototype) (t : ProtoTree) (p : Prototype) : Type 0 w
       → p.instance given put ≡ instance all t given put
 
 -- each tree stands for the prototype of its number
-pub record Stands (ps : List Prototype) (trees : List ProtoTree) : Type 0 where
+pub record TreesStand (ps : List Prototype) (trees : List ProtoTree) : Type 0 where
   pub count : length ps ≡ length trees
   pub each : (n : ℕ) (t : ProtoTree) → slice_get trees n ≡ Some t
       → (p : Prototype) × (slice_get ps n ≡ Some p) × IsOf ps t p
@@ -35,7 +35,7 @@ pub record Stands (ps : List Prototype) (trees : List ProtoTree) : Type 0 where
 -- ---- prototypes by name
 
 -- the entry has the number of the prototype, and takes what that takes
-abbrev pub Means : List Prototype → Option Declared → Option Prototype → Type 0
+abbrev pub Means : List Prototype → Option KnownProto → Option Prototype → Type 0
 Means ps None None = Unit {0}
 Means ps None (Some p) = ⊥
 Means ps (Some e) None = ⊥
@@ -59,17 +59,17 @@ Ends ps old new (Some wrong) (Err e) = wrong ≡ e
 
 -- where s is in sight, by prototypes that may be more than before: what is seen behind, and what
 -- holds of that, whatever prototypes are more still
-pub record Resolved (ps : List Prototype) (s : Sight) (old new : Resolver)
+pub record LeadsTo (ps : List Prototype) (s : Sight) (old new : Resolver)
     (wrong : Option ExpandFault) (holds : List Prototype → Sight → Seen → Type 0) : Type 0 where
   pub more : List Prototype
   pub seen : Seen
   pub extends : Extends ps more
-  pub stands : Stands more new.protos
+  pub stands : TreesStand more new.protos
   pub ends : Ends more old new wrong seen
   pub is : (all : List Prototype) → Extends more all → holds all s seen
 
 abbrev pub Resolves : Resolver → Resolver → Option ExpandFault
     → (List Prototype → Sight → Seen → Type 0) → Type 0
 Resolves old new wrong holds =
-    (ps : List Prototype) (s : Sight) → Stands ps old.protos → Shows ps old.scopes s
-    → Resolved ps s old new wrong holds
+    (ps : List Prototype) (s : Sight) → TreesStand ps old.protos → Shows ps old.scopes s
+    → LeadsTo ps s old new wrong holds

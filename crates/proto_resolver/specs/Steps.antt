@@ -7,7 +7,7 @@ use Rattle.proto_meaning.specs.Names.{Name}
 use Rattle.proto_meaning.specs.Sight.{Names, no_names, with_name}
 use Rattle.proto_tree.specs.declared.tree.BodyTree.{BodyTree}
 use Rattle.proto_tree.specs.declared.tree.DefaultTree.{DefaultTree}
-use Rattle.proto_resolver.specs.declared.scopes.Declared.{Declared}
+use Rattle.proto_resolver.specs.declared.scopes.KnownProto.{KnownProto}
 use Rattle.proto_resolver.specs.declared.scopes.Table.{Table}
 use Rattle.proto_resolver.specs.declared.scopes.Taken.{Taken}
 use Rattle.proto_resolver.specs.declared.resolver.Resolver.{Resolver}
@@ -53,18 +53,18 @@ pub record IsClosed (outer : List Table) (around : Table) (before taken : Taken)
   pub protos : new.protos ≡ old.protos
 
 -- default values that those names take
-abbrev pub kept : Names → List DefaultTree → List DefaultTree
-kept takes = filter (λ d. takes d.declaration.now.name)
+abbrev pub defaults_taken : Names → List DefaultTree → List DefaultTree
+defaults_taken takes = filter (λ d. takes d.declaration.now.name)
 
 -- the prototype has the next number
 pub record IsDeclared (text : Bor ProtoText) (defaults : List DefaultTree) (body : List BodyTree)
     (taken : Names) (old new : Resolver) : Type 0 where
-  pub entry : Declared
+  pub entry : KnownProto
   pub number : entry.number ≡ length old.protos
   pub takes_those : takes_of entry ≡ taken
   pub here : found new.scopes.here
       ≡ with_entry (out-ProtoText text.now).name entry (found old.scopes.here)
   pub outside : new.scopes.outside.items ≡ old.scopes.outside.items
   pub takes : names_of new.scopes.takes ≡ names_of old.scopes.takes
-  pub protos : new.protos
-      ≡ old.protos ++ record { text = text; defaults = kept taken defaults; body = body } ∷ []
+  pub protos : new.protos ≡ old.protos
+      ++ record { text = text; defaults = defaults_taken taken defaults; body = body } ∷ []

@@ -8,9 +8,9 @@ ghost use Rattle.proto_resolver.specs.declared.scopes.Table.{Table};
 ghost use Rattle.proto_resolver.specs.Held.{names_of, taken_names};
 ghost use Rattle.proto_resolver.specs.Standing.{Extends, Shows};
 ghost use Rattle.proto_resolver.specs.Steps.{IsAside, IsBack, IsClosed, IsDeclared, IsOpened};
-ghost use Rattle.proto_resolver.specs.Steps.{IsTaking, kept};
+ghost use Rattle.proto_resolver.specs.Steps.{IsTaking, defaults_taken};
 
-use crate::scopes::{Declared, Scopes, Table, Taken, Taker};
+use crate::scopes::{KnownProto, Scopes, Table, Taken, Taker};
 use classic_tree::ProtoText;
 use proto_flat::{ExpandFault, ExpandFaultKind};
 use proto_sight::{find_inside, has_node};
@@ -153,7 +153,7 @@ fn taken_defaults<'a>(
     defaults: Items<DefaultTree<'a>>,
     taken: &Taken<'a>,
 ) -> Result<Items<DefaultTree<'a>>, AllocError>
-    ensures { IfOk result (λ trees. trees ≡ kept (names_of taken.now) defaults.entry) }
+    ensures { IfOk result (λ trees. trees ≡ defaults_taken (names_of taken.now) defaults.entry) }
 {
     let mut trees = Items::new(alloc);
     for default in defaults.into_vec() {
@@ -188,6 +188,6 @@ pub fn declare<'a>(
     resolver
         .scopes
         .here
-        .declare(&proto.name, Declared { number, takes })?;
+        .declare(&proto.name, KnownProto { number, takes })?;
     Ok(())
 }

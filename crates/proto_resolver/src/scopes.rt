@@ -27,7 +27,7 @@ pub struct Taker<'a> {
 
 /// A prototype that was declared, by its number.
 #[derive(Drop)]
-pub struct Declared<'a> {
+pub struct KnownProto<'a> {
     pub number: usize,
     pub takes: Rc<Taken<'a>>,
 }
@@ -35,7 +35,7 @@ pub struct Declared<'a> {
 /// The prototypes declared in one scope, by name.
 #[derive(Drop)]
 pub struct Table<'a> {
-    pub prototypes: BTreeMap<&'a str, Declared<'a>>,
+    pub prototypes: BTreeMap<&'a str, KnownProto<'a>>,
 }
 
 /// The prototypes in sight at some place of a text.
@@ -95,7 +95,7 @@ impl<'a> Table<'a> {
     }
 
     #[tactic(auto, unfolding(crate::specs::Held::found))]
-    pub fn get(&self, name: &Text) -> Option<&Declared<'a>>
+    pub fn get(&self, name: &Text) -> Option<&KnownProto<'a>>
         ensures { option_map (λ e. e.now) result ≡ found self.now name.now }
     {
         self.prototypes.get(name.as_str())
@@ -104,8 +104,8 @@ impl<'a> Table<'a> {
     pub fn declare(
         &mut self,
         name: &'a Text,
-        declared: Declared<'a>,
-    ) -> Result<(), AllocFailed<(&'a str, Declared<'a>)>>
+        declared: KnownProto<'a>,
+    ) -> Result<(), AllocFailed<(&'a str, KnownProto<'a>)>>
         ensures { IfOk result (λ _. found self.new
             ≡ with_entry name.now declared.entry (found self.old)) }
     {
@@ -115,7 +115,7 @@ impl<'a> Table<'a> {
 }
 
 /// The prototype of that name in these scopes, the nearest last.
-fn seen<'a, 'b>(scopes: &'b [Table<'a>], name: &Text) -> Option<&'b Declared<'a>>
+fn seen<'a, 'b>(scopes: &'b [Table<'a>], name: &Text) -> Option<&'b KnownProto<'a>>
     ensures { option_map (λ e. e.now) result ≡ seen scopes.now name.now }
 {
     match scopes {
@@ -142,7 +142,7 @@ impl<'a> Scopes<'a> {
     }
 
     /// The prototype of that name that is in sight.
-    pub fn get(&self, name: &Text) -> Option<&Declared<'a>>
+    pub fn get(&self, name: &Text) -> Option<&KnownProto<'a>>
         ensures { option_map (λ e. e.now) result ≡ in_sight self.now name.now }
     {
         match self.here.get(name) {

@@ -10,7 +10,7 @@ ghost use Rattle.proto_tree.specs.Resolved.{AreItems, AreNodes, AreStatements, I
 ghost use Rattle.proto_resolver.specs.Held.{taken_names};
 ghost use Rattle.proto_resolver.specs.Standing.{Resolves, Shows};
 ghost use Rattle.proto_resolver.specs.Parts.{AreAllDefaults, AreDefaultsAside, Before};
-ghost use Rattle.proto_resolver.specs.Parts.{IsInside};
+ghost use Rattle.proto_resolver.specs.Parts.{IsInterior};
 ghost use Rattle.proto_resolver.specs.Parts.{one_or_none};
 
 use crate::resolver::{Meaning, Resolver, check_declaration, declare, meaning_of};
@@ -23,14 +23,14 @@ use x3d_lists::{Items, Text};
 
 /// What was resolved, and the first wrong declaration in it, behind which nothing is.
 #[derive(Drop)]
-pub struct Part<T> {
+pub struct Resolved<T> {
     pub tree: T,
     pub wrong: Option<ExpandFault>,
 }
 
 /// What stands between the brackets and the braces of a prototype.
 #[derive(Drop)]
-pub struct Inside<'a> {
+pub struct Interior<'a> {
     pub defaults: Items<DefaultTree<'a>>,
     pub body: Items<BodyTree<'a>>,
 }
@@ -70,14 +70,14 @@ fn resolve_node<'a>(
     alloc: Global,
     resolver: &mut Resolver<'a>,
     node: &'a NodeText,
-) -> Result<Part<NodeTree<'a>>, AllocError>
+) -> Result<Resolved<NodeTree<'a>>, AllocError>
     ensures { IfOk result (λ part. Resolves resolver.old resolver.new part.wrong (λ ps s r.
         IsNode ps node.now part.tree s r)) }
 {
     match node {
         NodeText::Use(line, name) => {
             let tree = NodeTree::Use(*line, name);
-            Ok(Part { tree, wrong: None })
+            Ok(Resolved { tree, wrong: None })
         }
         NodeText::Full(line, name, word, items) => {
             resolve_full(alloc, resolver, *line, name, word, items.as_slice())
@@ -93,15 +93,15 @@ fn resolve_full<'a>(
     name: &'a Option<Text>,
     word: &Text,
     items: &'a [BodyItem],
-) -> Result<Part<NodeTree<'a>>, AllocError>
+) -> Result<Resolved<NodeTree<'a>>, AllocError>
     ensures { IfOk result (λ part. Resolves resolver.old resolver.new part.wrong (λ ps s r.
         IsNode ps (NodeText.Full line name.now word.now items.now) part.tree s r)) }
 {
     let meaning = meaning_of(&resolver.scopes, word)?;
     let word = meaning.word;
-    let Part { tree, wrong } = resolve_between(alloc, resolver, meaning, items)?;
+    let Resolved { tree, wrong } = resolve_between(alloc, resolver, meaning, items)?;
     let tree = NodeTree::Full(line, name, word, tree);
-    Ok(Part { tree, wrong })
+    Ok(Resolved { tree, wrong })
 }
 
 /// What stands between braces.
@@ -111,7 +111,7 @@ fn resolve_between<'a>(
     resolver: &mut Resolver<'a>,
     meaning: Meaning<'a>,
     items: &'a [BodyItem],
-) -> Result<Part<Items<ItemTree<'a>>>, AllocError>
+) -> Result<Resolved<Items<ItemTree<'a>>>, AllocError>
     ensures { IfOk result (λ part. Resolves resolver.old resolver.new part.wrong (λ ps s r.
         AreItems ps (taken_names meaning.entry.taker) items.now part.tree s r)) }
 {
@@ -126,21 +126,21 @@ fn resolve_items<'a>(
     resolver: &mut Resolver<'a>,
     taker: &Taker<'a>,
     items: &'a [BodyItem],
-) -> Result<Part<Items<ItemTree<'a>>>, AllocError>
+) -> Result<Resolved<Items<ItemTree<'a>>>, AllocError>
     ensures { IfOk result (λ part. Resolves resolver.old resolver.new part.wrong (λ ps s r.
         AreItems ps (taken_names taker.now) items.now part.tree s r)) }
 {
     let mut trees = Items::new(alloc);
     for item in items {
-        let Part { tree, wrong } = resolve_item(alloc, resolver, taker, item)?;
+        let Resolved { tree, wrong } = resolve_item(alloc, resolver, taker, item)?;
         append(&mut trees, tree)?;
         if wrong.is_some() {
             let tree = trees;
-            return Ok(Part { tree, wrong });
+            return Ok(Resolved { tree, wrong });
         }
     }
     let tree = trees;
-    Ok(Part { tree, wrong: None })
+    Ok(Resolved { tree, wrong: None })
 }
 
 #[cycle(resolve)]
@@ -149,7 +149,7 @@ fn resolve_item<'a>(
     resolver: &mut Resolver<'a>,
     taker: &Taker<'a>,
     item: &'a BodyItem,
-) -> Result<Part<Option<ItemTree<'a>>>, AllocError>
+) -> Result<Resolved<Option<ItemTree<'a>>>, AllocError>
     ensures { IfOk result (λ part. (rest : List BodyItem)
         → Resolves resolver.old resolver.new part.wrong (λ ps s r.
         Before (AreItems ps (taken_names taker.now)) (item.now ∷ rest) rest
@@ -157,25 +157,30 @@ fn resolve_item<'a>(
 {
     match item {
         BodyItem::Field(line, name, given) => {
-            let Part { tree, wrong } = resolve_field(alloc, resolver, taker.keeps(name), given)?;
+            let Resolved { tree, wrong } = resolve_field(
+                alloc,
+                resolver,
+                taker.keeps(name),
+                given,
+            )?;
             let tree = ItemTree::Field(*line, name, tree);
             let tree = Some(tree);
-            Ok(Part { tree, wrong })
+            Ok(Resolved { tree, wrong })
         }
         BodyItem::Declaration(declaration) => {
-            let Part { tree, wrong } = resolve_given(alloc, resolver, &declaration.given)?;
+            let Resolved { tree, wrong } = resolve_given(alloc, resolver, &declaration.given)?;
             let tree = ItemTree::Declaration(declaration, tree);
             let tree = Some(tree);
-            Ok(Part { tree, wrong })
+            Ok(Resolved { tree, wrong })
         }
         BodyItem::Route(route) => {
             let tree = Some(ItemTree::Route(route));
-            Ok(Part { tree, wrong: None })
+            Ok(Resolved { tree, wrong: None })
         }
         BodyItem::Proto(proto) => {
             let wrong = resolve_proto(alloc, resolver, proto)?;
             let tree = wrong_item(wrong);
-            Ok(Part { tree, wrong })
+            Ok(Resolved { tree, wrong })
         }
     }
 }
@@ -187,7 +192,7 @@ fn resolve_field<'a>(
     resolver: &mut Resolver<'a>,
     kept: bool,
     given: &'a Given<NodeText>,
-) -> Result<Part<FieldTree<'a>>, AllocError>
+) -> Result<Resolved<FieldTree<'a>>, AllocError>
     ensures { IfOk result (λ part. Resolves resolver.old resolver.new part.wrong (λ ps s r.
         IsGiven ps kept given.now part.tree s r)) }
 {
@@ -197,12 +202,12 @@ fn resolve_field<'a>(
     match given {
         Given::Nothing => {
             let tree = GivenTree::Nothing;
-            Ok(Part { tree, wrong: None })
+            Ok(Resolved { tree, wrong: None })
         }
         Given::Value(value) => leave_out(alloc, resolver, value),
         Given::Is(name) => {
             let tree = GivenTree::Is(name);
-            Ok(Part { tree, wrong: None })
+            Ok(Resolved { tree, wrong: None })
         }
     }
 }
@@ -213,16 +218,16 @@ fn leave_out<'a>(
     alloc: Global,
     resolver: &mut Resolver<'a>,
     value: &'a RawValue<NodeText>,
-) -> Result<Part<FieldTree<'a>>, AllocError>
+) -> Result<Resolved<FieldTree<'a>>, AllocError>
     ensures { IfOk result (λ part. Resolves resolver.old resolver.new part.wrong (λ ps s r.
         IsGiven ps false (Given.Value value.now) part.tree s r)) }
 {
     let before = resolver.set_aside(alloc);
-    let Part { tree, wrong } = resolve_value(alloc, resolver, value)?;
+    let Resolved { tree, wrong } = resolve_value(alloc, resolver, value)?;
     drop(tree);
     resolver.put_back(before);
     let tree = GivenTree::LeftOut(wrong);
-    Ok(Part { tree, wrong })
+    Ok(Resolved { tree, wrong })
 }
 
 #[cycle(resolve)]
@@ -230,20 +235,20 @@ fn resolve_given<'a>(
     alloc: Global,
     resolver: &mut Resolver<'a>,
     given: &'a Given<NodeText>,
-) -> Result<Part<FieldTree<'a>>, AllocError>
+) -> Result<Resolved<FieldTree<'a>>, AllocError>
     ensures { IfOk result (λ part. Resolves resolver.old resolver.new part.wrong (λ ps s r.
         IsGiven ps true given.now part.tree s r)) }
 {
     match given {
         Given::Nothing => {
             let tree = GivenTree::Nothing;
-            Ok(Part { tree, wrong: None })
+            Ok(Resolved { tree, wrong: None })
         }
         Given::Value(value) => resolve_value(alloc, resolver, value),
         Given::Is(name) => {
             resolver.take(name)?;
             let tree = GivenTree::Is(name);
-            Ok(Part { tree, wrong: None })
+            Ok(Resolved { tree, wrong: None })
         }
     }
 }
@@ -253,24 +258,24 @@ fn resolve_value<'a>(
     alloc: Global,
     resolver: &mut Resolver<'a>,
     value: &'a RawValue<NodeText>,
-) -> Result<Part<FieldTree<'a>>, AllocError>
+) -> Result<Resolved<FieldTree<'a>>, AllocError>
     ensures { IfOk result (λ part. Resolves resolver.old resolver.new part.wrong (λ ps s r.
         IsGiven ps true (Given.Value value.now) part.tree s r)) }
 {
     match value {
         RawValue::Node(node) => {
-            let Part { tree, wrong } = resolve_node(alloc, resolver, node)?;
+            let Resolved { tree, wrong } = resolve_node(alloc, resolver, node)?;
             let tree = GivenTree::One(tree);
-            Ok(Part { tree, wrong })
+            Ok(Resolved { tree, wrong })
         }
         RawValue::NodeList(nodes) => {
-            let Part { tree, wrong } = resolve_nodes(alloc, resolver, nodes.as_slice())?;
+            let Resolved { tree, wrong } = resolve_nodes(alloc, resolver, nodes.as_slice())?;
             let tree = GivenTree::Many(nodes.len(), tree);
-            Ok(Part { tree, wrong })
+            Ok(Resolved { tree, wrong })
         }
         _ => {
             let tree = GivenTree::Plain(value);
-            Ok(Part { tree, wrong: None })
+            Ok(Resolved { tree, wrong: None })
         }
     }
 }
@@ -280,21 +285,21 @@ fn resolve_nodes<'a>(
     alloc: Global,
     resolver: &mut Resolver<'a>,
     nodes: &'a [NodeText],
-) -> Result<Part<Items<NodeTree<'a>>>, AllocError>
+) -> Result<Resolved<Items<NodeTree<'a>>>, AllocError>
     ensures { IfOk result (λ part. Resolves resolver.old resolver.new part.wrong (λ ps s r.
         AreNodes ps nodes.now part.tree s r)) }
 {
     let mut trees = Items::new(alloc);
     for node in nodes {
-        let Part { tree, wrong } = resolve_node(alloc, resolver, node)?;
+        let Resolved { tree, wrong } = resolve_node(alloc, resolver, node)?;
         trees.push(tree)?;
         if wrong.is_some() {
             let tree = trees;
-            return Ok(Part { tree, wrong });
+            return Ok(Resolved { tree, wrong });
         }
     }
     let tree = trees;
-    Ok(Part { tree, wrong: None })
+    Ok(Resolved { tree, wrong: None })
 }
 
 #[cycle(resolve)]
@@ -324,11 +329,11 @@ fn enter<'a>(
         Resolves resolver.old resolver.new wrong (λ ps s r. (flat.proto proto.now).sees s ≡ r)) }
 {
     let before = resolver.open(alloc)?;
-    let Part { tree, wrong } = resolve_inside(alloc, resolver, proto)?;
+    let Resolved { tree, wrong } = resolve_inside(alloc, resolver, proto)?;
     if wrong.is_some() {
         return Ok(wrong);
     }
-    let Inside { defaults, body } = tree;
+    let Interior { defaults, body } = tree;
     let taken = resolver.close(before);
     declare(alloc, resolver, proto, defaults, body, taken)?;
     Ok(None)
@@ -339,23 +344,23 @@ fn resolve_inside<'a>(
     alloc: Global,
     resolver: &mut Resolver<'a>,
     proto: &'a ProtoText,
-) -> Result<Part<Inside<'a>>, AllocError>
+) -> Result<Resolved<Interior<'a>>, AllocError>
     ensures { IfOk result (λ part. Resolves resolver.old resolver.new part.wrong (λ ps s r.
-        IsInside ps proto.now part.tree.defaults part.tree.body s r)) }
+        IsInterior ps proto.now part.tree.defaults part.tree.body s r)) }
 {
     let defaults = resolve_interface(alloc, resolver, proto.interface.as_slice())?;
-    let Part { tree, wrong } = defaults;
+    let Resolved { tree, wrong } = defaults;
     let defaults = tree;
     if wrong.is_some() {
         let body = Items::new(alloc);
-        let tree = Inside { defaults, body };
-        return Ok(Part { tree, wrong });
+        let tree = Interior { defaults, body };
+        return Ok(Resolved { tree, wrong });
     }
     let body = resolve_body(alloc, resolver, proto.body.as_slice())?;
-    let Part { tree, wrong } = body;
+    let Resolved { tree, wrong } = body;
     let body = tree;
-    let tree = Inside { defaults, body };
-    Ok(Part { tree, wrong })
+    let tree = Interior { defaults, body };
+    Ok(Resolved { tree, wrong })
 }
 
 /// An IS in a default value takes nothing.
@@ -364,7 +369,7 @@ fn resolve_interface<'a>(
     alloc: Global,
     resolver: &mut Resolver<'a>,
     interface: &'a [Declaration<NodeText>],
-) -> Result<Part<Items<DefaultTree<'a>>>, AllocError>
+) -> Result<Resolved<Items<DefaultTree<'a>>>, AllocError>
     ensures { IfOk result (λ part. Resolves resolver.old resolver.new part.wrong (λ ps s r.
         AreDefaultsAside ps interface.now part.tree s r)) }
 {
@@ -379,23 +384,23 @@ fn resolve_defaults<'a>(
     alloc: Global,
     resolver: &mut Resolver<'a>,
     interface: &'a [Declaration<NodeText>],
-) -> Result<Part<Items<DefaultTree<'a>>>, AllocError>
+) -> Result<Resolved<Items<DefaultTree<'a>>>, AllocError>
     ensures { IfOk result (λ part. Resolves resolver.old resolver.new part.wrong (λ ps s r.
         AreAllDefaults ps interface.now part.tree s r)) }
 {
     let mut trees = Items::new(alloc);
     for declaration in interface {
-        let Part { tree, wrong } = resolve_given(alloc, resolver, &declaration.given)?;
+        let Resolved { tree, wrong } = resolve_given(alloc, resolver, &declaration.given)?;
         let value = tree;
         let default = DefaultTree { declaration, value };
         trees.push(default)?;
         if wrong.is_some() {
             let tree = trees;
-            return Ok(Part { tree, wrong });
+            return Ok(Resolved { tree, wrong });
         }
     }
     let tree = trees;
-    Ok(Part { tree, wrong: None })
+    Ok(Resolved { tree, wrong: None })
 }
 
 #[cycle(resolve)]
@@ -403,21 +408,21 @@ pub fn resolve_body<'a>(
     alloc: Global,
     resolver: &mut Resolver<'a>,
     body: &'a [Statement],
-) -> Result<Part<Items<BodyTree<'a>>>, AllocError>
+) -> Result<Resolved<Items<BodyTree<'a>>>, AllocError>
     ensures { IfOk result (λ part. Resolves resolver.old resolver.new part.wrong (λ ps s r.
         AreStatements ps body.now part.tree s r)) }
 {
     let mut trees = Items::new(alloc);
     for statement in body {
-        let Part { tree, wrong } = resolve_statement(alloc, resolver, statement)?;
+        let Resolved { tree, wrong } = resolve_statement(alloc, resolver, statement)?;
         append(&mut trees, tree)?;
         if wrong.is_some() {
             let tree = trees;
-            return Ok(Part { tree, wrong });
+            return Ok(Resolved { tree, wrong });
         }
     }
     let tree = trees;
-    Ok(Part { tree, wrong: None })
+    Ok(Resolved { tree, wrong: None })
 }
 
 #[cycle(resolve)]
@@ -425,25 +430,25 @@ fn resolve_statement<'a>(
     alloc: Global,
     resolver: &mut Resolver<'a>,
     statement: &'a Statement,
-) -> Result<Part<Option<BodyTree<'a>>>, AllocError>
+) -> Result<Resolved<Option<BodyTree<'a>>>, AllocError>
     ensures { IfOk result (λ part. (rest : List Statement)
         → Resolves resolver.old resolver.new part.wrong (λ ps s r.
         Before (AreStatements ps) (statement.now ∷ rest) rest (one_or_none part.tree) s r)) }
 {
     match statement {
         Statement::Node(node) => {
-            let Part { tree, wrong } = resolve_node(alloc, resolver, node)?;
+            let Resolved { tree, wrong } = resolve_node(alloc, resolver, node)?;
             let tree = Some(BodyTree::Node(tree));
-            Ok(Part { tree, wrong })
+            Ok(Resolved { tree, wrong })
         }
         Statement::Route(route) => {
             let tree = Some(BodyTree::Route(route));
-            Ok(Part { tree, wrong: None })
+            Ok(Resolved { tree, wrong: None })
         }
         Statement::Proto(proto) => {
             let wrong = resolve_proto(alloc, resolver, proto)?;
             let tree = wrong_statement(wrong);
-            Ok(Part { tree, wrong })
+            Ok(Resolved { tree, wrong })
         }
     }
 }

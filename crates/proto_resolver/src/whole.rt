@@ -5,7 +5,7 @@ ghost use Rattle.proto_resolver.specs.Parts.{IsResolved};
 
 use crate::resolver::Resolver;
 use crate::scopes::Scopes;
-use crate::walk::{Part, resolve_body};
+use crate::walk::{Resolved, resolve_body};
 use classic_tree::Document;
 use proto_tree::TextTree;
 use std::alloc::{AllocError, Global};
@@ -20,7 +20,7 @@ pub fn resolve<'a>(alloc: Global, document: &'a Document) -> Result<TextTree<'a>
         scopes: Scopes::new(alloc),
         protos: Items::new(alloc),
     };
-    let Part { tree, .. } = resolve_body(alloc, &mut resolver, document.statements.as_slice())?;
+    let Resolved { tree, .. } = resolve_body(alloc, &mut resolver, document.statements.as_slice())?;
     let Resolver { scopes, protos } = resolver;
     drop(scopes);
     let statements = tree;

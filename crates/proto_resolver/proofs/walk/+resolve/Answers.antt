@@ -7,7 +7,7 @@ use Rattle.proto_tree.specs.Resolved as rule
 use Rattle.proto_tree.specs.Resolved.{AreItems, AreNodes, AreStatements, IsGiven, IsNode}
 use Rattle.proto_resolver.specs.Held.{taken_names}
 use Rattle.proto_resolver.specs.Standing.{Resolves}
-use Rattle.proto_resolver.specs.Parts.{Before, one_or_none, AreAllDefaults, AreDefaultsAside, IsInside}
+use Rattle.proto_resolver.specs.Parts.{Before, one_or_none, AreAllDefaults, AreDefaultsAside, IsInterior}
 use Rattle.proto_resolver.proofs.Standing.{fails}
 use Rattle.proto_resolver.proofs.Rows.{none_of, row_first, row_step, row_last, row_wrong}
 use Rattle.proto_resolver.proofs.Steps.{use_node, full_node, node_row, nothing_given, is_untaken, plain_given, one_given, many_given, is_given, left_out, field_row, declaration_row, route_row, proto_row, stated_row, routed_row, declared_row, no_defaults, default_row, interface_aside, wrong_inside, whole_inside}
@@ -127,7 +127,7 @@ enter-returns t c right =
     let none : c.in_ok-tree.field-0.wrong ≡ None = none_of c.in_ok-tree.field-0.wrong (sym c.is_some.ensures ∙ c.if-is_some.false) in
     entered c.args.proto c.args.resolver.now c.open.new.self c.resolve_inside.new.resolver c.close-taken.new.self c.declare.new.resolver c.in_ok-before.before c.close-taken.result c.in_ok-tree.field-0.tree.defaults c.in_ok-tree.field-0.tree.body
     right c.in_ok-before.ensures
-    (subst (λ w. Resolves c.open.new.self c.resolve_inside.new.resolver w (λ ps s r. IsInside ps c.args.proto.now c.in_ok-tree.field-0.tree.defaults c.in_ok-tree.field-0.tree.body s r)) none c.in_ok-tree.ensures)
+    (subst (λ w. Resolves c.open.new.self c.resolve_inside.new.resolver w (λ ps s r. IsInterior ps c.args.proto.now c.in_ok-tree.field-0.tree.defaults c.in_ok-tree.field-0.tree.body s r)) none c.in_ok-tree.ensures)
     c.close-taken.ensures c.in_ok-declare.ensures
 
 pub resolve_inside-returns-then-is_some : goal.resolve_inside-returns-then-is_some
