@@ -35,6 +35,7 @@ pub mod HeldWhole
 pub mod HeldTexts
 pub mod WrittenTexts
 pub mod WrittenWhole
+pub mod Apart
 pub mod PartTexts
 pub mod PlainFaults
 pub mod SoundNames

@@ -63,14 +63,11 @@ ends_any o = any_end o.met o.comes
 
 -- ---- parts of the text
 
-abbrev pub Reads' : List ℕ → Reading → uses.Reading → Type 0
-Reads' here r x = x ≡ read_as here r
-
 abbrev pub AreSound : List Part → Type 0
 AreSound ps = AllByRecursion IsSound ps
 
 abbrev pub NodeOk : NodeText → Type 0
-NodeOk n = AreSound (in_node n) → (here : List ℕ) (r : Reading) (x : uses.Reading) → Reads' here r x → AllNamed (read_node steps n x) → Comes (read_text n r)
+NodeOk n = AreSound (in_node n) → (here : List ℕ) (r : Reading) (x : uses.Reading) → kept.Reads here r x → AllNamed (read_node steps n x) → Comes (read_text n r)
 
 pub record OfNode (n : NodeText) : Type 0 where
   pub keeps : NodeKeeps kept.Reads law n
@@ -85,7 +82,7 @@ pub record After (t : NodeType) (all : List Signature) (rest : List Entry) (b : 
 
 abbrev pub ItemOk : BodyItem → Type 0
 ItemOk i =
-    AreSound (in_item i) → (t : NodeType) (all : List Signature) (rest : List Entry) (b : Between) (r : Reading) (x : uses.Reading) → After t all (entries i ++ rest) b r → Reads' (held_in b.filled) r x → AllNamed (steps_of.read_item steps i x)
+    AreSound (in_item i) → (t : NodeType) (all : List Signature) (rest : List Entry) (b : Between) (r : Reading) (x : uses.Reading) → After t all (entries i ++ rest) b r → kept.Reads (held_in b.filled) r x → AllNamed (steps_of.read_item steps i x)
     → Comes (read_item i t b r) × Ends (After t all rest) (read_item i t b r)
 
 pub record OfItem (i : BodyItem) : Type 0 where
@@ -102,20 +99,20 @@ backs_of : (ns : List NodeText) → AllByRecursion OfNode ns → AllByRecursion 
 backs_of [] h = tt
 backs_of (n ∷ ns) h = (h.0.backs, backs_of ns h.1)
 
-nodes_come : (ns : List NodeText) → AllByRecursion OfNode ns → AreSound (flat_map in_node ns) → (here ks : List ℕ) (r : Reading) (x : uses.Reading) → Reads' (here ++ ks) r x → AllNamed (each (read_node steps) ns x) → Comes (in_turn next_node (map read_text ns) ks r)
+nodes_come : (ns : List NodeText) → AllByRecursion OfNode ns → AreSound (flat_map in_node ns) → (here ks : List ℕ) (r : Reading) (x : uses.Reading) → kept.Reads (here ++ ks) r x → AllNamed (each (read_node steps) ns x) → Comes (in_turn next_node (map read_text ns) ks r)
 nodes_come [] h k here ks r x i a = tt
 nodes_come (n ∷ ns) h k here ks r x i a =
     let sound = all_split IsSound (in_node n) (flat_map in_node ns) k in
     let first = h.0.comes sound.0 (here ++ ks) r x i (each_backs (read_node steps) ns (backs_of ns h.1) (read_node steps n x) a) in
-    comes_then (λ ls q. Reads' (here ++ ls) q (read_node steps n x)) (in_turn next_node (map read_text ns)) (next_node (read_text n) ks r)
+    comes_then (λ ls q. kept.Reads (here ++ ls) q (read_node steps n x)) (in_turn next_node (map read_text ns)) (next_node (read_text n) ks r)
     (comes_then (λ m q. Unit {0}) (λ m. pure (ks ++ m ∷ [])) (read_text n r) first (ends_any (read_text n r)) (λ m q p. tt))
-    (ends_then (λ m q. Reads' ((here ++ ks) ++ m ∷ []) q (read_node steps n x)) (λ ls q. Reads' (here ++ ls) q (read_node steps n x)) (λ m. pure (ks ++ m ∷ [])) (read_text n r) (h.0.keeps (here ++ ks) r x i)
-    (λ m q j. subst (λ ms. Reads' ms q (read_node steps n x)) (append_assoc here ks (m ∷ [])) j))
+    (ends_then (λ m q. kept.Reads ((here ++ ks) ++ m ∷ []) q (read_node steps n x)) (λ ls q. kept.Reads (here ++ ls) q (read_node steps n x)) (λ m. pure (ks ++ m ∷ [])) (read_text n r) (h.0.keeps (here ++ ks) r x i)
+    (λ m q j. subst (λ ms. kept.Reads ms q (read_node steps n x)) (append_assoc here ks (m ∷ [])) j))
     (λ ls q j. nodes_come ns h.1 sound.1 here ls q (read_node steps n x) j a)
 
 abbrev pub GivenComes : Given (Reads ℕ) → Given NodeText → Type 0
 GivenComes given.Nothing given.Nothing = Unit {0}
-GivenComes (given.Value u) (given.Value v) = (here : List ℕ) (r : Reading) (x : uses.Reading) → Reads' here r x → AllNamed (read_given (read_node steps) (given.Value v) x) → Comes (read_value u r)
+GivenComes (given.Value u) (given.Value v) = (here : List ℕ) (r : Reading) (x : uses.Reading) → kept.Reads here r x → AllNamed (read_given (read_node steps) (given.Value v) x) → Comes (read_value u r)
 GivenComes _ _ = ⊥
 
 pub given_comes : (g : Given NodeText) → OfGiven OfNode g → AreSound (in_given in_node g) → GivenComes (given_mapped read_text g) g
@@ -132,24 +129,24 @@ given_comes (given.Value (value.StringList texts)) h k = λ here r x i a. tt
 given_comes (given.Value (value.NumberList numbers)) h k = λ here r x i a. tt
 given_comes (given.Value (value.NodeList ns)) h k = λ here r x i a.
     comes_then (λ ms q. Unit {0}) (λ ms. pure (value.NodeList ms)) (in_turn next_node (map read_text ns) [] r)
-    (nodes_come ns h k here [] r x (subst (λ ms. Reads' ms r x) (sym (append-nil here)) i) a) (ends_any (in_turn next_node (map read_text ns) [] r)) (λ ms q p. tt)
+    (nodes_come ns h k here [] r x (subst (λ ms. kept.Reads ms r x) (sym (append-nil here)) i) a) (ends_any (in_turn next_node (map read_text ns) [] r)) (λ ms q p. tt)
 
 -- ---- a field that is given
 
-abbrev pub Filled' : ℕ → ℕ × Field → Between → Between → Reading → Type 0
-Filled' line f b c q = (v : Option (RawValue ℕ)) × (c ≡ fill line f b v)
+abbrev pub IsFilledBy : ℕ → ℕ × Field → Between → Between → Reading → Type 0
+IsFilledBy line f b c q = (v : Option (RawValue ℕ)) × (c ≡ fill line f b v)
 
-pub filled_ends : (line : ℕ) (f : ℕ × Field) (g : Given (Reads ℕ)) (h : Given NodeText) → GivenComes g h → (b : Between) (r : Reading) → Ends (Filled' line f b) (give line f false g b r)
+pub filled_ends : (line : ℕ) (f : ℕ × Field) (g : Given (Reads ℕ)) (h : Given NodeText) → GivenComes g h → (b : Between) (r : Reading) → Ends (IsFilledBy line f b) (give line f false g b r)
 filled_ends line f given.Nothing given.Nothing k b r = (None, refl)
 filled_ends line f (given.Value u) (given.Value v) k b r =
-    ends_then (λ m q. Unit {0}) (Filled' line f b) (λ m. pure (fill line f b (Some m))) (read_value u r) (ends_any (read_value u r)) (λ m q p. (Some m, refl))
+    ends_then (λ m q. Unit {0}) (IsFilledBy line f b) (λ m. pure (fill line f b (Some m))) (read_value u r) (ends_any (read_value u r)) (λ m q p. (Some m, refl))
 filled_ends line f given.Nothing (given.Is a) k b r = absurd k
 filled_ends line f given.Nothing (given.Value v) k b r = absurd k
 filled_ends line f (given.Is a) h k b r = tt
 filled_ends line f (given.Value u) given.Nothing k b r = absurd k
 filled_ends line f (given.Value u) (given.Is a) k b r = absurd k
 
-pub give_comes : (line : ℕ) (f : ℕ × Field) (g : Given (Reads ℕ)) (h : Given NodeText) → GivenComes g h → (b : Between) (here : List ℕ) (r : Reading) (x : uses.Reading) → Reads' here r x → AllNamed (read_given (read_node steps) h x) → Comes (give line f false g b r)
+pub give_comes : (line : ℕ) (f : ℕ × Field) (g : Given (Reads ℕ)) (h : Given NodeText) → GivenComes g h → (b : Between) (here : List ℕ) (r : Reading) (x : uses.Reading) → kept.Reads here r x → AllNamed (read_given (read_node steps) h x) → Comes (give line f false g b r)
 give_comes line f given.Nothing given.Nothing k b here r x i a = tt
 give_comes line f (given.Value u) (given.Value v) k b here r x i a =
     comes_then (λ m q. Unit {0}) (λ m. pure (fill line f b (Some m))) (read_value u r) (k here r x i a) (ends_any (read_value u r)) (λ m q p. tt)

@@ -54,7 +54,7 @@ use Rattle.laws_plain.proofs.PlainFaults.{plain_is}
 use Rattle.laws_plain.proofs.Reading.{Ends, ends_then, ends_weaker}
 use Rattle.laws_plain.proofs.SoundFields.{State, declared_next, declared_once, declared_own, declared_read, declared_script, declared_state, given_found, given_name, given_once, given_read, given_state, next_number}
 use Rattle.laws_plain.proofs.SoundNames.{ItemBacks, NodeBacks, StatementBacks, backs, each_backs, inner_named, used_named}
-use Rattle.laws_plain.proofs.SoundParts.{After, AreSound, Comes, Filled', IsOk, ItemOk, NodeOk, OfItem, OfNode, Reads', comes_then, ends_any, ends_both, filled_ends, give_comes, given_comes}
+use Rattle.laws_plain.proofs.SoundParts.{After, AreSound, Comes, IsFilledBy, IsOk, ItemOk, NodeOk, OfItem, OfNode, comes_then, ends_any, ends_both, filled_ends, give_comes, given_comes}
 use Rattle.laws_plain.proofs.Uses.{law, opened_as, read_as}
 use Rattle.laws_plain.proofs.Uses as kept
 
@@ -90,7 +90,7 @@ module _ (line : ℕ) (name : Name) (g : Given NodeText) (h : OfGiven OfNode g) 
   abbrev of_field : BodyItem
   of_field = item_text.Field line name g
 
-  field_right : AreSound (in_given in_node g) → (t : NodeType) (all : List Signature) (rest : List Entry) (b : Between) (r : Reading) (x : uses.Reading) (before : List ℕ) → State t all before b → AreOnce t all before (Gives name ∷ rest) → Reads' (held_in b.filled) r x
+  field_right : AreSound (in_given in_node g) → (t : NodeType) (all : List Signature) (rest : List Entry) (b : Between) (r : Reading) (x : uses.Reading) (before : List ℕ) → State t all before b → AreOnce t all before (Gives name ∷ rest) → kept.Reads (held_in b.filled) r x
       → AllNamed (read_given (read_node steps) g x) → Right t all rest (item_step (BodyItem-F.Field line name (given_mapped read_text g)) t b) r
   unfolding item_step
   field_right k t all rest b r x before s once i a =
@@ -100,7 +100,7 @@ module _ (line : ℕ) (name : Name) (g : Given NodeText) (h : OfGiven OfNode g) 
       subst (λ (o : Option (ℕ × Field)). Right t all rest (option_map_or (λ f. give line f (is_filled name b) (given_mapped read_text g) b) o (refuse UnknownField line)) r) (sym f.is)
       (subst (λ (twice : Bool). Right t all rest (give line (n.number, f.field) twice (given_mapped read_text g) b) r) (sym (given_once t all before b s name n)) (
         give_comes line (n.number, f.field) (given_mapped read_text g) g given_now b (held_in b.filled) r x i a,
-        ends_weaker (Filled' line (n.number, f.field) b) (After t all rest) (give line (n.number, f.field) false (given_mapped read_text g) b r) (filled_ends line (n.number, f.field) (given_mapped read_text g) g given_now b r)
+        ends_weaker (IsFilledBy line (n.number, f.field) b) (After t all rest) (give line (n.number, f.field) false (given_mapped read_text g) b r) (filled_ends line (n.number, f.field) (given_mapped read_text g) g given_now b r)
             (λ c q p. record {
               before = before ++ n.number ∷ [];
               state = subst (State t all (before ++ n.number ∷ [])) (sym p.1)
@@ -119,7 +119,7 @@ module _ (d : Declaration NodeText) (h : OfGiven OfNode d.given) where
   abbrev of_declaration : BodyItem
   of_declaration = item_text.Declaration d
 
-  declaration_right : AreSound (in_given in_node d.given) → (t : NodeType) (all : List Signature) (rest : List Entry) (b : Between) (r : Reading) (x : uses.Reading) (before : List ℕ) → State t all before b → AreOnce t all before (Declares (signature d) ∷ rest) → Reads' (held_in b.filled) r x
+  declaration_right : AreSound (in_given in_node d.given) → (t : NodeType) (all : List Signature) (rest : List Entry) (b : Between) (r : Reading) (x : uses.Reading) (before : List ℕ) → State t all before b → AreOnce t all before (Declares (signature d) ∷ rest) → kept.Reads (held_in b.filled) r x
       → AllNamed (read_given (read_node steps) d.given x) → Right t all rest (item_step (BodyItem-F.Declaration (declaration_mapped read_text d)) t b) r
   unfolding item_step
   declaration_right k t all rest b r x before s once i a =
@@ -132,7 +132,7 @@ module _ (d : Declaration NodeText) (h : OfGiven OfNode d.given) where
       subst (λ (script : Bool). Right t all rest (if script then give d.line f (is_some (numbered_from 0 d.name b.fields)) (given_mapped read_text d.given) c else refuse UnknownField d.line) r) (sym (declared_script t all before b s d.name next))
       (subst (λ (twice : Bool). Right t all rest (give d.line f twice (given_mapped read_text d.given) c) r) (sym (declared_once t all before b s d.name next)) (
         give_comes d.line f (given_mapped read_text d.given) d.given given_now c (held_in b.filled) r x i a,
-        ends_weaker (Filled' d.line f c) (After t all rest) (give d.line f false (given_mapped read_text d.given) c r) (filled_ends d.line f (given_mapped read_text d.given) d.given given_now c r)
+        ends_weaker (IsFilledBy d.line f c) (After t all rest) (give d.line f false (given_mapped read_text d.given) c r) (filled_ends d.line f (given_mapped read_text d.given) d.given given_now c r)
             (λ e q p. record {
               before = before ++ n.number ∷ [];
               state = subst (State t all (before ++ n.number ∷ [])) (sym p.1)
@@ -168,17 +168,17 @@ items_back : (is : List BodyItem) → AllByRecursion OfItem is → AllByRecursio
 items_back [] h = tt
 items_back (i ∷ is) h = (h.0.backs, items_back is h.1)
 
-items_come : (is : List BodyItem) → AllByRecursion OfItem is → AreSound (flat_map in_item is) → (t : NodeType) (all : List Signature) (b : Between) (r : Reading) (x : uses.Reading) → After t all (flat_map entries is) b r → Reads' (held_in b.filled) r x
+items_come : (is : List BodyItem) → AllByRecursion OfItem is → AreSound (flat_map in_item is) → (t : NodeType) (all : List Signature) (b : Between) (r : Reading) (x : uses.Reading) → After t all (flat_map entries is) b r → kept.Reads (held_in b.filled) r x
     → AllNamed (each (steps_of.read_item steps) is x) → Comes (in_turn (λ (i : ItemReads). i t) (map read_item is) b r)
 items_come [] h k t all b r x now i a = tt
 items_come (j ∷ is) h k t all b r x now i a =
     let sound = all_split IsSound (in_item j) (flat_map in_item is) k in
     let one = h.0.comes sound.0 t all (flat_map entries is) b r x now i (each_backs (steps_of.read_item steps) is (items_back is h.1) (steps_of.read_item steps j x) a) in
-    comes_then (λ c q. After t all (flat_map entries is) c q × Reads' (held_in c.filled) q (steps_of.read_item steps j x)) (in_turn (λ (i : ItemReads). i t) (map read_item is)) (read_item j t b r) one.0
-    (ends_both (After t all (flat_map entries is)) (λ c q. Reads' (held_in c.filled) q (steps_of.read_item steps j x)) (read_item j t b r) one.1 (h.0.keeps t b r x i))
+    comes_then (λ c q. After t all (flat_map entries is) c q × kept.Reads (held_in c.filled) q (steps_of.read_item steps j x)) (in_turn (λ (i : ItemReads). i t) (map read_item is)) (read_item j t b r) one.0
+    (ends_both (After t all (flat_map entries is)) (λ c q. kept.Reads (held_in c.filled) q (steps_of.read_item steps j x)) (read_item j t b r) one.1 (h.0.keeps t b r x i))
     (λ c q p. items_come is h.1 sound.1 t all c q (steps_of.read_item steps j x) p.0 p.1 a)
 
-full_comes : (line : ℕ) (name : Option Name) (word : Name) (is : List BodyItem) → AllByRecursion OfItem is → AreSound (flat_map in_item is) → (o : Option NodeType) → IsOfType o (flat_map entries is) → (here : List ℕ) (r : Reading) (x : uses.Reading) → Reads' here r x
+full_comes : (line : ℕ) (name : Option Name) (word : Name) (is : List BodyItem) → AllByRecursion OfItem is → AreSound (flat_map in_item is) → (o : Option NodeType) → IsOfType o (flat_map entries is) → (here : List ℕ) (r : Reading) (x : uses.Reading) → kept.Reads here r x
     → AllNamed (closes name x (each (steps_of.read_item steps) is (opens name x))) → Comes (option_map_or (plains.read_node line name (map read_item is)) o (refuse UnknownNode line) r)
 full_comes line name word is h k None once here r x i a = absurd once
 full_comes line name word is h k (Some t) once here r x i a =
@@ -211,7 +211,7 @@ use_ok line name k here r x i a =
 -- ---- statements
 
 abbrev StatementOk : Statement → Type 0
-StatementOk s = AreSound (in_statement s) → (here : List ℕ) (r : Reading) (x : uses.Reading) → Reads' here r x → AllNamed (steps_of.read_statement steps s x) → Comes (read_statement s r)
+StatementOk s = AreSound (in_statement s) → (here : List ℕ) (r : Reading) (x : uses.Reading) → kept.Reads here r x → AllNamed (steps_of.read_statement steps s x) → Comes (read_statement s r)
 
 pub record OfStatement (s : Statement) : Type 0 where
   pub keeps : StatementKeeps kept.Reads law s
@@ -267,16 +267,16 @@ next_root s roots = s >>= λ ns. pure (roots ++ ns)
 statements_back : (ss : List Statement) → AllByRecursion OfStatement ss → AllByRecursion StatementBacks ss
 statements_back ss h = all_weaker OfStatement StatementBacks (λ s k. k.backs) ss h
 
-roots_come : (ss : List Statement) → AllByRecursion OfStatement ss → AreSound (flat_map in_statement ss) → (roots : List ℕ) (r : Reading) (x : uses.Reading) → Reads' roots r x → AllNamed (each (steps_of.read_statement steps) ss x)
+roots_come : (ss : List Statement) → AllByRecursion OfStatement ss → AreSound (flat_map in_statement ss) → (roots : List ℕ) (r : Reading) (x : uses.Reading) → kept.Reads roots r x → AllNamed (each (steps_of.read_statement steps) ss x)
     → Comes (in_turn next_root (map read_statement ss) roots r)
 roots_come [] h k roots r x i a = tt
 roots_come (s ∷ ss) h k roots r x i a =
     let sound = all_split IsSound (in_statement s) (flat_map in_statement ss) k in
     let y = steps_of.read_statement steps s x in
     let first = h.0.comes sound.0 roots r x i (each_backs (steps_of.read_statement steps) ss (statements_back ss h.1) y a) in
-    comes_then (λ all q. Reads' all q y) (in_turn next_root (map read_statement ss)) (next_root (read_statement s) roots r)
+    comes_then (λ all q. kept.Reads all q y) (in_turn next_root (map read_statement ss)) (next_root (read_statement s) roots r)
     (comes_then (λ ns q. Unit {0}) (λ ns. pure (roots ++ ns)) (read_statement s r) first (ends_any (read_statement s r)) (λ ns q p. tt))
-    (ends_then (λ ns q. Reads' (roots ++ ns) q y) (λ all q. Reads' all q y) (λ ns. pure (roots ++ ns)) (read_statement s r) (h.0.keeps roots r x i) (λ ns q j. j))
+    (ends_then (λ ns q. kept.Reads (roots ++ ns) q y) (λ all q. kept.Reads all q y) (λ ns. pure (roots ++ ns)) (read_statement s r) (h.0.keeps roots r x i) (λ ns q j. j))
     (λ all q j. roots_come ss h.1 sound.1 all q y j a)
 
 few_large : (b : Bool) (f : Flat) → IsFlatOrTooLarge (if b then Err (fault TooLarge 0) else Ok f)

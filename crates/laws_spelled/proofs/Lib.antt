@@ -1,0 +1,5 @@
+pub mod Counts
+pub mod Tokens
+pub mod Fine
+pub mod Spelled
+pub mod Named
