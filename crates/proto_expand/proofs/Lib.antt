@@ -1,0 +1,6 @@
+mod Trees
+mod Steps
+mod Given
+mod Begun
+mod Left
+mod Waiting
