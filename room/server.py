@@ -78,8 +78,41 @@ def event(kind, data):
     return f'event: {kind}\ndata: {{"trace":{ENCODED_TEXT(data["trace"])},{ENCODED(rest)[1:]}\n\n'.encode()
 
 
+class Stream:
+    """The events of a window. What its socket takes at once is sent by who tells it; the rest waits for a thread
+    of its own. The socket, which never blocks, is there once the head of the answer is sent, until that thread ends."""
+
+    def __init__(self):
+        self.socket, self.waiting, self.put, self.sent = None, queue.SimpleQueue(), 0, 0
+
+    def tell(self, told):
+        """Sends an event; false where too many wait, since the window doesn't read."""
+        if self.socket and self.put == self.sent:
+            told = self.rest(told)
+        if told:
+            self.put += 1
+            self.waiting.put(told)
+        return self.put - self.sent < WAITING
+
+    def rest(self, told):
+        """What the socket doesn't take now. Where it is closed, the thread finds out."""
+        try:
+            return told[os.write(self.socket.fileno(), told) :]
+        except OSError:
+            return told
+
+    def send_waiting(self, connection):
+        """Sends the next that waits, if one comes within a second."""
+        try:
+            told = self.waiting.get(timeout=1)
+        except queue.Empty:
+            return
+        connection.sendall(told)
+        self.sent += 1
+
+
 class Window:
-    """A window: its viewer's number, its token, and what waits to be sent to it."""
+    """A window: its viewer's number, its token, and its events while it listens to them."""
 
     def __init__(self, who):
         self.who, self.token, self.news = who, secrets.token_urlsafe(24), None
@@ -92,10 +125,8 @@ class Window:
         return self.budget >= 1
 
     def tell(self, told):
-        """Puts an event into its queue; a window that doesn't read is cut off."""
-        if self.news and self.news.qsize() < WAITING:
-            self.news.put(told)
-        else:
+        """Tells it an event; a window that doesn't read is cut off."""
+        if self.news and not self.news.tell(told):
             self.news = None
 
 
@@ -221,7 +252,7 @@ class Service:
         """Begins to send a window its events, the scene first; an earlier stream of it ends."""
         window = self.window(token)
         self.room.seats[window.who].told = None
-        window.news = news = queue.SimpleQueue()
+        window.news = news = Stream()
         return window, news
 
 
@@ -332,16 +363,17 @@ class Handler(BaseHTTPRequestHandler):
         self.end_headers()
         self.wfile.flush()
         self.close_connection = True
+        with self.server.service.lock:
+            news.socket = self.connection
         try:
             while window.news is news:
-                try:
-                    told = news.get(timeout=1)
-                except queue.Empty:
-                    continue
-                self.connection.sendall(told)
+                news.send_waiting(self.connection)
         finally:
-            if window.news is news:
-                window.news = None
+            # The clock's thread, which tells, has the lock meanwhile: so it never writes to a socket that is closed.
+            with self.server.service.lock:
+                news.socket = None
+                if window.news is news:
+                    window.news = None
 
 
 class Server(ThreadingHTTPServer):

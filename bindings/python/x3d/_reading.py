@@ -82,7 +82,7 @@ def _change(line: str) -> Change:
 class Held:
     """What a handle holds. It is closed by `close`, at the end of a `with`, or when it is no longer
     used; each call after that raises Fault `Closed`. It is not for two threads at once: ctypes lets
-    other threads run during a call."""
+    other threads run during all but the shortest calls."""
 
     _KIND = ""
     _CALLS: Dict[str, Callable[..., Any]] = {}

@@ -39,15 +39,9 @@ fn push_end(value: &Value, out: &mut Vec<u8>) -> Result<(), AllocError>
     ensures ok { OnOk result (out.new.items ≡ out.old.items ++ value_text value.now ++ 10 ∷ []) }
     ensures kept { Extends out.old.items out.new.items }
 {
-    match value {
-        Value::SFBool(true) => out.extend_from_slice(b"TRUE\n"),
-        Value::SFBool(false) => out.extend_from_slice(b"FALSE\n"),
-        _ => {
-            show_value(value, out)?;
-            out.push(b'\n')?;
-            Ok(())
-        }
-    }
+    show_value(value, out)?;
+    out.push(b'\n')?;
+    Ok(())
 }
 
 /// Appends the line of an event; on a refusal perhaps a part of it.

@@ -2,6 +2,8 @@ pub mod Limited
 pub mod Beside
 pub mod BesideParts
 pub mod BesideWhole
+pub mod WithoutTexts
+pub mod WithoutWhole
 pub mod Reading
 pub mod Keeping
 pub mod ReadWhole

@@ -3,6 +3,7 @@
 ghost use Rattle.laws_plain.specs.Laws.{DocumentsAreReadPlainly, FlatsAreOrdered};
 ghost use Rattle.laws_plain.specs.Laws.{LinesAreForFaults, NodesClose};
 ghost use Rattle.laws_plain.specs.Laws.{RoutesAreRead, UsesAreNamed};
+ghost use Rattle.laws_plain.specs.Without.{DeclarationsPutNothingIn};
 
 /// A document without instances is read plainly, each PROTO passed over.
 pub fn documents_are_read_plainly()
@@ -36,4 +37,9 @@ pub fn flats_are_ordered()
 /// Documents that differ in lines alone have flat forms that do, or faults of one kind.
 pub fn lines_are_for_faults()
     ensures { LinesAreForFaults }
+{}
+
+/// Prototypes that no braces name put nothing in: without them the flat form is the same.
+pub fn declarations_put_nothing_in()
+    ensures { DeclarationsPutNothingIn }
 {}
