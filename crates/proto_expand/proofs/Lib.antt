@@ -1,6 +1,2 @@
-mod Trees
-mod Steps
-mod Given
-mod Begun
-mod Left
-mod Waiting
+mod Together
+mod Resolved

@@ -1,3 +1,2 @@
-pub mod Protos
-pub mod Does
-pub mod Frames
+pub mod Tied
+pub mod Whole

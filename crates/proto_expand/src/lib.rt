@@ -1,13 +1,9 @@
-//! The nodes that a resolved text stands for, by number (ISO/IEC 19775-1, 4.4.4, prototypes).
+//! A document with prototypes as its nodes by number (ISO/IEC 19775-1, 4.4.4, prototypes; 4.4.3, DEF
+//! and USE).
 #![tactic(auto)]
 
-mod bodies;
-mod braces;
-mod defaults;
-mod fields;
-mod frames;
-mod holders;
-mod nodes;
+mod expand;
+mod whole;
 
-pub use frames::{Frame, Machine, Proto, Task};
-pub use nodes::put_node;
+pub use expand::expand;
+pub use whole::{Content, protos_of, walk};

@@ -19,7 +19,7 @@ pub struct Declared {
     pub twice: bool,
 }
 
-fn is_script(owner: Owner<'_>) -> bool
+fn is_script(owner: Owner<'_, '_>) -> bool
     ensures { result ≡ is_script owner.entry }
 {
     match owner {
@@ -29,7 +29,7 @@ fn is_script(owner: Owner<'_>) -> bool
 }
 
 /// Whether the name is known, or was given nothing.
-fn is_free(inside: &Inside<'_>, name: &Text, twice: bool) -> bool
+fn is_free(inside: &Inside<'_, '_>, name: &Text, twice: bool) -> bool
     requires { braces.Sound inside.now }
     ensures { result ≡ true → twice ≡ false
         → has_name name.now (braces.filled_in inside.now) ≡ false }
@@ -42,8 +42,8 @@ fn is_free(inside: &Inside<'_>, name: &Text, twice: bool) -> bool
 
 /// The field stands behind the others. Where it isn't known, but was given something, memory is said
 /// to be refused.
-fn add<'a>(
-    inside: &mut Inside<'a>,
+fn add<'t, 'a>(
+    inside: &mut Inside<'t, 'a>,
     declaration: &'a Declaration<NodeText>,
 ) -> Result<Declared, ExpandFault>
     requires sound { braces.Sound inside.old }
@@ -60,8 +60,8 @@ fn add<'a>(
 
 /// A Script declares a field, behind those that it has: UnknownField where it is no Script. What
 /// the field is given, is given to it then.
-pub fn declare<'a>(
-    inside: &mut Inside<'a>,
+pub fn declare<'t, 'a>(
+    inside: &mut Inside<'t, 'a>,
     declaration: &'a Declaration<NodeText>,
 ) -> Result<Declared, ExpandFault>
     requires { braces.Sound inside.old }

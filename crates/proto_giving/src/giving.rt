@@ -29,8 +29,8 @@ use x3d_values::Access;
 
 /// A field of a node is met with its number and items, one of an instance without.
 pub fn meet_field(
-    walker: &mut Walker<'_>,
-    owner: Owner<'_>,
+    walker: &mut Walker<'_, '_>,
+    owner: Owner<'_, '_>,
     number: usize,
     items: usize,
 ) -> Result<(), ExpandFault>
@@ -46,9 +46,9 @@ pub fn meet_field(
 }
 
 /// The field is met, and given nothing.
-fn keep_nothing<'a>(
-    walker: &mut Walker<'a>,
-    inside: &mut Inside<'a>,
+fn keep_nothing<'t, 'a>(
+    walker: &mut Walker<'t, 'a>,
+    inside: &mut Inside<'t, 'a>,
     line: u32,
     name: &'a Text,
     field: KnownField,
@@ -75,9 +75,9 @@ fn keep_nothing<'a>(
 
 /// The field is declared without a value: FieldTwice where `twice` says that it was given something
 /// before.
-pub fn put_nothing<'a>(
-    walker: &mut Walker<'a>,
-    inside: &mut Inside<'a>,
+pub fn put_nothing<'t, 'a>(
+    walker: &mut Walker<'t, 'a>,
+    inside: &mut Inside<'t, 'a>,
     line: u32,
     name: &'a Text,
     field: KnownField,
@@ -137,9 +137,9 @@ fn items_of(value: &Option<Rc<RawValue<u32>>>) -> usize
 }
 
 /// The field is joined to that of the interface, and holds what it is given.
-fn join<'a>(
-    walker: &mut Walker<'a>,
-    inside: &mut Inside<'a>,
+fn join<'t, 'a>(
+    walker: &mut Walker<'t, 'a>,
+    inside: &mut Inside<'t, 'a>,
     at: usize,
     line: u32,
     name: &'a Text,
@@ -171,8 +171,8 @@ fn join<'a>(
 /// Whether the field may be joined to the interface field of that name: BadIs where there is none,
 /// or where they don't fit, and then FieldTwice where it was given something before.
 fn check_is(
-    walker: &Walker<'_>,
-    inside: &Inside<'_>,
+    walker: &Walker<'_, '_>,
+    inside: &Inside<'_, '_>,
     line: u32,
     name: &Text,
     field: KnownField,
@@ -195,9 +195,9 @@ fn check_is(
 }
 
 /// IS: the field is an end of the interface field, and has what that is given.
-pub fn put_is<'a>(
-    walker: &mut Walker<'a>,
-    inside: &mut Inside<'a>,
+pub fn put_is<'t, 'a>(
+    walker: &mut Walker<'t, 'a>,
+    inside: &mut Inside<'t, 'a>,
     at: usize,
     line: u32,
     name: &'a Text,

@@ -25,7 +25,7 @@ use std::rc::Rc;
 use x3d_lists::Text;
 
 /// A node may be given a value at each field, an instance at those that hold one.
-fn admits(owner: Owner<'_>, field: KnownField) -> bool
+fn admits(owner: Owner<'_, '_>, field: KnownField) -> bool
     ensures { result ≡ (is_type owner.entry || is_initial field.access) }
 {
     match owner {
@@ -37,7 +37,7 @@ fn admits(owner: Owner<'_>, field: KnownField) -> bool
 /// Whether a value may stand at the field: UnknownField where it holds none, FieldTwice where it
 /// was given something before.
 fn check_value(
-    inside: &Inside<'_>,
+    inside: &Inside<'_, '_>,
     line: u32,
     name: &Text,
     field: KnownField,
@@ -56,8 +56,8 @@ fn check_value(
 
 /// A value of so many items is met, if it may stand at the field.
 pub fn meet_value(
-    walker: &mut Walker<'_>,
-    inside: &Inside<'_>,
+    walker: &mut Walker<'_, '_>,
+    inside: &Inside<'_, '_>,
     line: u32,
     name: &Text,
     field: KnownField,
@@ -73,9 +73,9 @@ pub fn meet_value(
 }
 
 /// The field has the value.
-pub fn keep_value<'a>(
+pub fn keep_value<'t, 'a>(
     alloc: Global,
-    inside: &mut Inside<'a>,
+    inside: &mut Inside<'t, 'a>,
     line: u32,
     name: &'a Text,
     field: KnownField,
@@ -102,8 +102,8 @@ pub fn keep_value<'a>(
 }
 
 /// The field is given something that goes nowhere.
-pub fn keep_none<'a>(
-    inside: &mut Inside<'a>,
+pub fn keep_none<'t, 'a>(
+    inside: &mut Inside<'t, 'a>,
     line: u32,
     name: &'a Text,
     field: KnownField,
@@ -128,10 +128,10 @@ pub fn keep_none<'a>(
 }
 
 /// A value without nodes.
-pub fn put_plain<'a>(
+pub fn put_plain<'t, 'a>(
     alloc: Global,
-    walker: &mut Walker<'a>,
-    inside: &mut Inside<'a>,
+    walker: &mut Walker<'t, 'a>,
+    inside: &mut Inside<'t, 'a>,
     line: u32,
     name: &'a Text,
     field: KnownField,
@@ -155,9 +155,9 @@ pub fn put_plain<'a>(
 }
 
 /// A value that goes nowhere, and the first wrong declaration in it.
-pub fn put_aside<'a>(
-    walker: &mut Walker<'a>,
-    inside: &mut Inside<'a>,
+pub fn put_aside<'t, 'a>(
+    walker: &mut Walker<'t, 'a>,
+    inside: &mut Inside<'t, 'a>,
     line: u32,
     name: &'a Text,
     field: KnownField,

@@ -16,15 +16,15 @@ use x3d_values::{NodeType, field_of, fields_of};
 
 /// Whose braces they are: of a node of a type, or of an instance with an interface.
 #[derive(Clone, Copy)]
-pub enum Owner<'a> {
+pub enum Owner<'t, 'a> {
     Node(NodeType),
-    Instance(&'a Interface<'a>),
+    Instance(&'t Interface<'a>),
 }
 
 /// What stands between braces so far.
 #[derive(Drop)]
-pub struct Inside<'a> {
-    pub owner: Owner<'a>,
+pub struct Inside<'t, 'a> {
+    pub owner: Owner<'t, 'a>,
     /// The fields that a Script declared so far, behind those of its type.
     pub declared: Vec<&'a Declaration<NodeText>>,
     pub named: Fields<'a>,
@@ -48,7 +48,7 @@ fn type_field(node_type: NodeType, name: &Text) -> Option<KnownField>
 }
 
 /// The field of that name of an owner.
-fn owner_field(owner: Owner<'_>, name: &Text) -> Option<KnownField>
+fn owner_field(owner: Owner<'_, '_>, name: &Text) -> Option<KnownField>
     ensures { option_map (numbered name.now) result
         ≡ numbered_from 0 name.now (fields_of_owner owner.entry) }
 {
@@ -59,7 +59,7 @@ fn owner_field(owner: Owner<'_>, name: &Text) -> Option<KnownField>
 }
 
 /// How many fields an owner has.
-fn owner_count(owner: Owner<'_>) -> usize
+fn owner_count(owner: Owner<'_, '_>) -> usize
     ensures { result ≡ length (fields_of_owner owner.entry) }
 {
     match owner {
@@ -68,9 +68,9 @@ fn owner_count(owner: Owner<'_>) -> usize
     }
 }
 
-impl<'a> Inside<'a> {
+impl<'t, 'a> Inside<'t, 'a> {
     /// Nothing is given yet.
-    pub fn new(alloc: Global, owner: Owner<'a>) -> Inside<'a>
+    pub fn new(alloc: Global, owner: Owner<'t, 'a>) -> Inside<'t, 'a>
         ensures fields { fields_in result ≡ fields_of_owner owner.entry }
         ensures filled { filled_in result ≡ [] }
         ensures owner { result.owner ≡ owner.entry }

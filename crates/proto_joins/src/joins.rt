@@ -13,23 +13,23 @@ use x3d_lists::Text;
 
 /// The interface of an instance, and the ends of its fields.
 #[derive(Drop)]
-pub struct InstanceEnds<'a> {
-    pub interface: &'a Interface<'a>,
+pub struct InstanceEnds<'t, 'a> {
+    pub interface: &'t Interface<'a>,
     pub joined: JoinedEnds<'a>,
 }
 
 /// What a node or an instance stands for: the number of a node, and of an instance its ends.
 #[derive(Drop)]
-pub struct Stands<'a> {
+pub struct Stands<'t, 'a> {
     pub node: u32,
-    pub instance: Option<Rc<InstanceEnds<'a>>>,
+    pub instance: Option<Rc<InstanceEnds<'t, 'a>>>,
 }
 
 /// Braces of a scope: the name that DEF gives them, and once they close what they stand for.
 #[derive(Drop)]
-pub struct Braces<'a> {
+pub struct Braces<'t, 'a> {
     pub name: &'a Option<Text>,
-    pub stands: Option<Stands<'a>>,
+    pub stands: Option<Stands<'t, 'a>>,
 }
 
 /// An IS: the field of the interface, and the field that it joins to it, of the braces that
@@ -42,9 +42,9 @@ pub struct Join<'a> {
 }
 
 /// The ends of a field; none where nothing is joined to it.
-pub fn field_ends<'a>(
+pub fn field_ends<'t, 'a>(
     alloc: Global,
-    stands: &Stands<'a>,
+    stands: &Stands<'t, 'a>,
     field: &'a Text,
 ) -> Result<Option<Rc<Ends<'a>>>, AllocError>
     ensures { IfOk result (λ ends. owned ends ≡ (stands_of stands.now).ends field.now) }
@@ -60,9 +60,9 @@ pub fn field_ends<'a>(
 }
 
 /// The ends that an IS joins, by what the braces of the scope stand for.
-fn join_ends<'a>(
+fn join_ends<'t, 'a>(
     alloc: Global,
-    braces: &[Braces<'a>],
+    braces: &[Braces<'t, 'a>],
     join: Join<'a>,
 ) -> Result<Option<Rc<Ends<'a>>>, AllocError>
     ensures { IfOk result (λ ends. owned ends
@@ -78,10 +78,10 @@ fn join_ends<'a>(
 }
 
 /// The ends of the fields of an interface, once all braces of the body are closed.
-pub fn joined_ends<'a>(
+pub fn joined_ends<'t, 'a>(
     alloc: Global,
     kept: &mut Kept<'a>,
-    braces: &[Braces<'a>],
+    braces: &[Braces<'t, 'a>],
     joins: &[Join<'a>],
 ) -> Result<JoinedEnds<'a>, AllocError>
     ensures { IfOk result (λ joined. ends_in joined

@@ -50,8 +50,8 @@ fn alone<'a>(alloc: Global, only: End<'a>) -> Result<Option<Rc<Ends<'a>>>, Alloc
 }
 
 /// The ends that are joined to an interface field of that name.
-fn inner_ends<'a>(
-    instance: &InstanceEnds<'a>,
+fn inner_ends<'t, 'a>(
+    instance: &InstanceEnds<'t, 'a>,
     name: &str,
 ) -> Result<Option<Rc<Ends<'a>>>, AllocError>
     ensures { IfOk result (λ ends. owned ends ≡ ends_in instance.now.joined name.now) }
@@ -63,9 +63,9 @@ fn inner_ends<'a>(
 }
 
 /// The ends of an instance that a source names.
-fn sources_in<'a>(
+fn sources_in<'t, 'a>(
     alloc: Global,
-    instance: &InstanceEnds<'a>,
+    instance: &InstanceEnds<'t, 'a>,
     name: &Text,
 ) -> Result<Option<Rc<Ends<'a>>>, AllocError>
     ensures { (node : ℕ) → IfOk result (λ ends. owned ends
@@ -82,9 +82,9 @@ fn sources_in<'a>(
 }
 
 /// The ends of an instance that a target names.
-fn targets_in<'a>(
+fn targets_in<'t, 'a>(
     alloc: Global,
-    instance: &InstanceEnds<'a>,
+    instance: &InstanceEnds<'t, 'a>,
     name: &Text,
 ) -> Result<Option<Rc<Ends<'a>>>, AllocError>
     ensures { (node : ℕ) → IfOk result (λ ends. owned ends
@@ -101,7 +101,10 @@ fn targets_in<'a>(
 }
 
 /// What the braces stand for, once they are closed.
-fn standing<'a, 'b>(braces: &'b [Braces<'a>], at: Option<usize>) -> Option<&'b Stands<'a>>
+fn standing<'b, 't, 'a>(
+    braces: &'b [Braces<'t, 'a>],
+    at: Option<usize>,
+) -> Option<&'b Stands<'t, 'a>>
     ensures { option_map (λ s. stands_of s.now) result ≡ stands_at (map braces_of braces.now) at }
 {
     let Some(at) = at else {
@@ -117,9 +120,9 @@ fn standing<'a, 'b>(braces: &'b [Braces<'a>], at: Option<usize>) -> Option<&'b S
 }
 
 /// The ends that a source names.
-fn sources<'a>(
+fn sources<'t, 'a>(
     alloc: Global,
-    stands: Option<&Stands<'a>>,
+    stands: Option<&Stands<'t, 'a>>,
     name: &'a Text,
 ) -> Result<Option<Rc<Ends<'a>>>, AllocError>
     ensures { IfOk result (λ ends. owned ends
@@ -135,9 +138,9 @@ fn sources<'a>(
 }
 
 /// The ends that a target names.
-fn targets<'a>(
+fn targets<'t, 'a>(
     alloc: Global,
-    stands: Option<&Stands<'a>>,
+    stands: Option<&Stands<'t, 'a>>,
     name: &'a Text,
 ) -> Result<Option<Rc<Ends<'a>>>, AllocError>
     ensures { IfOk result (λ ends. owned ends
@@ -153,9 +156,9 @@ fn targets<'a>(
 }
 
 /// The ends of a ROUTE, once all braces of the scope are closed.
-fn wire<'a>(
+fn wire<'t, 'a>(
     alloc: Global,
-    braces: &[Braces<'a>],
+    braces: &[Braces<'t, 'a>],
     pending: Pending<'a>,
 ) -> Result<Wire<'a>, AllocError>
     ensures { IfOk result (λ wire. routes_of_wire wire
@@ -178,9 +181,9 @@ fn wire<'a>(
     })
 }
 
-fn wires_of<'a>(
+fn wires_of<'t, 'a>(
     alloc: Global,
-    braces: &[Braces<'a>],
+    braces: &[Braces<'t, 'a>],
     part: &RoutePart<'a>,
 ) -> Result<Rc<Wires<'a>>, AllocError>
     ensures { IfOk result (λ made. means (wires made.value)
@@ -213,10 +216,10 @@ fn behind<'a>(
 
 /// The ROUTEs of a scope and of the instances in it, in the order in which they stand, once all
 /// braces of the scope are closed. None where there are none.
-pub fn routes_made<'a>(
+pub fn routes_made<'t, 'a>(
     alloc: Global,
     kept: &mut Kept<'a>,
-    braces: &[Braces<'a>],
+    braces: &[Braces<'t, 'a>],
     parts: &[RoutePart<'a>],
 ) -> Result<Option<Rc<Wires<'a>>>, AllocError>
     ensures { IfOk result (λ made. made_routes made

@@ -30,13 +30,13 @@ use x3d_lists::Text;
 /// A name scope so far: its braces in the order of the text, the names that DEFs give them, what
 /// ISs join, ROUTEs, and what an IS finds.
 #[derive(Drop)]
-pub struct Scope<'a> {
-    pub braces: Vec<Braces<'a>>,
+pub struct Scope<'t, 'a> {
+    pub braces: Vec<Braces<'t, 'a>>,
     pub names: Names<'a>,
     pub joins: Vec<Join<'a>>,
     pub routes: Vec<RoutePart<'a>>,
     /// Of the prototype whose body this is, once the default values are put in.
-    pub interface: Option<&'a Interface<'a>>,
+    pub interface: Option<&'t Interface<'a>>,
     /// What the instance is given.
     pub given: Given<'a>,
     /// The default values of fields that it gives no value.
@@ -55,9 +55,9 @@ fn is_same(one: &Option<Text>, other: &Option<Text>) -> bool
     }
 }
 
-impl<'a> Scope<'a> {
+impl<'t, 'a> Scope<'t, 'a> {
     /// A scope that begins.
-    pub fn new(alloc: Global) -> Scope<'a>
+    pub fn new(alloc: Global) -> Scope<'t, 'a>
         ensures shown { shown result ≡ spec.nothing }
         ensures sound { Sound result }
     {
@@ -104,7 +104,7 @@ impl<'a> Scope<'a> {
         name: &'a Option<Text>,
         at: usize,
         node: u32,
-        instance: Option<Rc<InstanceEnds<'a>>>,
+        instance: Option<Rc<InstanceEnds<'t, 'a>>>,
     )
         ensures shown { shown self.new
             ≡ spec.closed_at at name.now (stands_by node instance.entry) (shown self.old) }
@@ -130,7 +130,7 @@ impl<'a> Scope<'a> {
         name: &'a Option<Text>,
         at: usize,
         node: u32,
-        instance: Option<Rc<InstanceEnds<'a>>>,
+        instance: Option<Rc<InstanceEnds<'t, 'a>>>,
     ) -> Result<(), AllocError>
         requires { Sound self.old }
         ensures shown { IfOk result (λ _. shown self.new
@@ -232,7 +232,7 @@ impl<'a> Scope<'a> {
     /// then those.
     pub fn begin_body(
         &mut self,
-        interface: &'a Interface<'a>,
+        interface: &'t Interface<'a>,
         values: Given<'a>,
         defaults: Given<'a>,
     )

@@ -26,7 +26,7 @@ use std::mem;
 use std::rc::Rc;
 use x3d_lists::Text;
 
-impl<'a> Walker<'a> {
+impl<'t, 'a> Walker<'t, 'a> {
     /// The first word of a node is met.
     pub fn meet_node(&mut self) -> Result<(), ExpandFault>
         requires { Sound self.old }
@@ -136,7 +136,7 @@ impl<'a> Walker<'a> {
     }
 
     /// A scope of its own begins, for the body of an instance. Gives the scope around it.
-    pub fn enter(&mut self, alloc: Global) -> Scope<'a>
+    pub fn enter(&mut self, alloc: Global) -> Scope<'t, 'a>
         requires { Sound self.old }
         ensures shown { shown self.new ≡ in_scope nothing (shown self.old) }
         ensures sound { Sound self.new }
@@ -147,7 +147,7 @@ impl<'a> Walker<'a> {
     }
 
     /// The scope around goes on.
-    pub fn leave(&mut self, around: Scope<'a>)
+    pub fn leave(&mut self, around: Scope<'t, 'a>)
         requires { scope.Sound around }
         ensures shown { shown self.new ≡ in_scope (scope.shown around.entry) (shown self.old) }
         ensures sound { Sound self.new }
@@ -163,7 +163,7 @@ impl<'a> Walker<'a> {
         name: &'a Option<Text>,
         at: usize,
         node: u32,
-        ends: InstanceEnds<'a>,
+        ends: InstanceEnds<'t, 'a>,
         routes: Option<Rc<Wires<'a>>>,
     ) -> Result<u32, ExpandFault>
         requires { Sound self.old }

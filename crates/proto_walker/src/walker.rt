@@ -12,16 +12,16 @@ use std::alloc::Global;
 /// Where a walk stands: how much more may be met, what was put in, the scope that is open, and the
 /// branches that were made.
 #[derive(Drop)]
-pub struct Walker<'a> {
+pub struct Walker<'t, 'a> {
     pub room: Room,
     pub put: PutIn<'a>,
-    pub scope: Scope<'a>,
+    pub scope: Scope<'t, 'a>,
     pub kept: Kept<'a>,
 }
 
-impl<'a> Walker<'a> {
+impl<'t, 'a> Walker<'t, 'a> {
     /// Before a document.
-    pub fn new(alloc: Global) -> Walker<'a>
+    pub fn new(alloc: Global) -> Walker<'t, 'a>
         ensures shown { shown result ≡ before }
         ensures sound { Sound result }
     {

@@ -1,5 +1,0 @@
-use Rattle.proto_expand.proofs.Left.{help-goes}
-use Rattle.proto_expand.proofs.bodies.help.Goals as goal
-
-pub returns-in-Ok-clause-goes : goal.returns-in-Ok-clause-goes
-returns-in-Ok-clause-goes c = λ ps. help-goes ps c.args.body c.args.first c.args.number c.args.walker.now c.help.new.self c.requires.first c.in-Ok.ensures

@@ -1,8 +1,0 @@
-use Rattle.proto_limits.specs.Settled.{doing}
-use Rattle.proto_walker.specs.Shown.{shown}
-use Rattle.proto_walker.specs.Steps.{using}
-use Rattle.proto_expand.proofs.Begun.{number-goes}
-use Rattle.proto_expand.proofs.braces.begin_use.Goals as goal
-
-pub returns-clause-goes : goal.returns-clause-goes
-returns-clause-goes c = λ ps. number-goes ps (doing (using c.args.line c.args.name.now) (shown c.args.walker.now)) c.in_ok-number.number (shown c.put_use.new.self) c.in_ok-number.ensures.0

@@ -1,0 +1,78 @@
+//! A whole document.
+
+ghost use Rattle.std.specs.Prelude.{◌≡◌};
+ghost use Rattle.x3d_lists.specs.Answers.{Gives};
+ghost use Rattle.proto_flat.specs.Fault.{memory};
+ghost use Rattle.proto_meaning.specs.Flat.{flat};
+ghost use Rattle.proto_meaning.specs.Flat as meaning;
+ghost use Rattle.proto_expand.specs.Whole as whole;
+ghost use Rattle.proto_expand.specs.Whole.{with_content};
+
+use crate::whole::{Content, protos_of, walk};
+use classic_tree::Document;
+use proto_flat::{ExpandFault, Flat, Header};
+use proto_resolver::resolve;
+use std::alloc::Global;
+
+fn content_of(alloc: Global, document: &Document) -> Result<Content, ExpandFault>
+    ensures { Gives memory (with_content (meaning.header_of document.now)) result
+        (flat document.now) }
+{
+    let text = resolve(alloc, document)?;
+    let protos = protos_of(alloc, text.protos.as_slice())?;
+    walk(alloc, protos.as_slice(), text.statements.as_slice())
+}
+
+fn header_of(document: Document) -> Header
+    ensures { result ≡ meaning.header_of document }
+{
+    let Document {
+        version,
+        profile,
+        components,
+        metas,
+        ..
+    } = document;
+    Header {
+        version,
+        profile,
+        components,
+        metas,
+    }
+}
+
+fn with_header(header: Header, content: Result<Content, ExpandFault>) -> Result<Flat, ExpandFault>
+    ensures { result ≡ whole.with_header header content }
+{
+    match content {
+        Ok(content) => {
+            let Content {
+                nodes,
+                roots,
+                helpers,
+                routes,
+            } = content;
+            Ok(Flat {
+                header,
+                nodes,
+                roots,
+                helpers,
+                routes,
+            })
+        }
+        Err(fault) => {
+            drop(header);
+            Err(fault)
+        }
+    }
+}
+
+/// The nodes of the document by number: prototypes' instances are their bodies, each with its own
+/// nodes (ISO/IEC 19775-1, 4.4.4). An error is the first fault of the text, with its line; it is
+/// `Memory` as well where memory is refused, and `TooLarge` where a limit is passed.
+pub fn expand(alloc: Global, document: Document) -> Result<Flat, ExpandFault>
+    ensures { Gives memory (λ f. f) result (flat document) }
+{
+    let content = content_of(alloc, &document);
+    with_header(header_of(document), content)
+}

@@ -1,0 +1,270 @@
+//! A whole text.
+
+ghost use Rattle.std.specs.Prelude.{◌≡◌, [], List, map, IfOk};
+ghost use Rattle.x3d_lists.specs.Answers.{Gives};
+ghost use Rattle.proto_flat.specs.Fault.{memory};
+ghost use Rattle.proto_flat.specs.declared.flat.Header.{Header};
+ghost use Rattle.proto_meaning.specs.Limits.{limited};
+ghost use Rattle.proto_meaning.specs.Sight.{Prototype};
+ghost use Rattle.proto_limits.specs.Settled.{doing};
+ghost use Rattle.proto_put.specs.Held as put;
+ghost use Rattle.proto_routes.specs.Ends.{few};
+ghost use Rattle.proto_scope.specs.Held as scope;
+ghost use Rattle.proto_tree.specs.Meaning.{stand_together};
+ghost use Rattle.proto_walker.specs.Shown as shown;
+ghost use Rattle.proto_nodes.specs.Protos.{Knows};
+ghost use Rattle.proto_nodes.specs.Frames.{Ends as Comes, MachineSound};
+ghost use Rattle.proto_expand.specs.Tied.{Tied, known_of, read_of};
+ghost use Rattle.proto_expand.specs.Whole.{all_of, content_by, content_of, content_or, root_does, roots_do, with_content};
+
+use classic_tree::RouteText;
+use proto_flat::{ExpandFault, FlatNode, FlatRoute};
+use proto_interface::Interface;
+use proto_nodes::{Machine, Proto, put_node};
+use proto_put::{PutIn, flat_nodes};
+use proto_routes::routes_of;
+use proto_tree::{BodyTree, NodeTree, ProtoTree};
+use proto_walker::Walker;
+use std::alloc::{AllocError, Global};
+use x3d_lists::Items;
+
+/// A text without its header, flat.
+#[derive(Drop)]
+pub struct Content {
+    pub nodes: Items<FlatNode>,
+    pub roots: Items<u32>,
+    pub helpers: Items<u32>,
+    pub routes: Items<FlatRoute>,
+}
+
+/// The nodes that are statements, and the routes.
+#[derive(Drop)]
+pub struct Made {
+    pub roots: Items<u32>,
+    pub routes: Items<FlatRoute>,
+}
+
+fn known<'t, 'a>(alloc: Global, tree: &'t ProtoTree<'a>) -> Result<Proto<'t, 'a>, AllocError>
+    ensures { IfOk result (λ p. known_of p ≡ read_of tree.now) }
+{
+    let interface = Interface::read(alloc, tree.text.interface.as_slice())?;
+    Ok(Proto { tree, interface })
+}
+
+/// The prototypes, with their interfaces.
+fn known_protos<'t, 'a>(
+    alloc: Global,
+    trees: &'t [ProtoTree<'a>],
+) -> Result<Vec<Proto<'t, 'a>>, AllocError>
+    ensures { IfOk result (λ ps. map known_of ps.items ≡ map read_of trees.now) }
+{
+    let mut protos = Vec::new(alloc);
+    for tree in trees {
+        protos.push(known(alloc, tree)?)?;
+    }
+    Ok(protos)
+}
+
+/// The prototypes of a text, each with its interface.
+pub fn protos_of<'t, 'a>(
+    alloc: Global,
+    trees: &'t [ProtoTree<'a>],
+) -> Result<Vec<Proto<'t, 'a>>, AllocError>
+    ensures { IfOk result (λ protos. (ps : List Prototype) → Tied ps trees.now
+        → Knows ps protos.items) }
+{
+    let protos = known_protos(alloc, trees)?;
+    Ok(protos)
+}
+
+/// A node that is a statement is a root.
+fn put_root<'t, 'a>(
+    alloc: Global,
+    machine: &mut Machine<'t, 'a>,
+    node: &'t NodeTree<'a>,
+    roots: &mut Items<u32>,
+) -> Result<(), ExpandFault>
+    requires machine { MachineSound machine.old }
+    requires idle { machine.old.frames.items ≡ [] }
+    ensures goes { (ps : List Prototype) → Knows ps machine.old.protos.now → Comes (λ _. roots.new)
+        (doing (root_does ps (BodyTree.Node node.now) roots.old)
+        (shown.shown machine.old.walker)) result (shown.shown machine.new.walker) }
+    ensures machine { IfOk result (λ _. MachineSound machine.new) }
+    ensures frames { IfOk result (λ _. machine.new.frames.items ≡ []) }
+    ensures protos { machine.new.protos ≡ machine.old.protos }
+{
+    let number = put_node(alloc, machine, node)?;
+    roots.push(number)?;
+    Ok(())
+}
+
+/// A ROUTE that is a statement gives no root.
+fn put_route<'t, 'a>(
+    machine: &mut Machine<'t, 'a>,
+    route: &'a RouteText,
+    roots: &Items<u32>,
+) -> Result<(), ExpandFault>
+    requires machine { MachineSound machine.old }
+    requires idle { machine.old.frames.items ≡ [] }
+    ensures goes { (ps : List Prototype) → Comes (λ _. roots.now) (doing (root_does ps
+        (BodyTree.Route route.entry) roots.now) (shown.shown machine.old.walker)) result
+        (shown.shown machine.new.walker) }
+    ensures machine { IfOk result (λ _. MachineSound machine.new) }
+    ensures frames { IfOk result (λ _. machine.new.frames.items ≡ []) }
+    ensures protos { machine.new.protos ≡ machine.old.protos }
+{
+    let _ = roots.len();
+    machine.walker.put_route(route)
+}
+
+/// Puts a statement in.
+fn put_statement<'t, 'a>(
+    alloc: Global,
+    machine: &mut Machine<'t, 'a>,
+    statement: &'t BodyTree<'a>,
+    roots: &mut Items<u32>,
+) -> Result<(), ExpandFault>
+    requires machine { MachineSound machine.old }
+    requires idle { machine.old.frames.items ≡ [] }
+    ensures goes { (ps : List Prototype) → Knows ps machine.old.protos.now → Comes (λ _. roots.new)
+        (doing (root_does ps statement.now roots.old) (shown.shown machine.old.walker)) result
+        (shown.shown machine.new.walker) }
+    ensures machine { IfOk result (λ _. MachineSound machine.new) }
+    ensures frames { IfOk result (λ _. machine.new.frames.items ≡ []) }
+    ensures protos { machine.new.protos ≡ machine.old.protos }
+{
+    match statement {
+        BodyTree::Node(node) => put_root(alloc, machine, node, roots),
+        BodyTree::Route(route) => put_route(machine, route, roots),
+        BodyTree::Wrong(fault) => Err(*fault),
+    }
+}
+
+/// Puts all in, and gives the numbers of the nodes that are statements.
+fn put_roots<'t, 'a>(
+    alloc: Global,
+    machine: &mut Machine<'t, 'a>,
+    statements: &'t [BodyTree<'a>],
+) -> Result<Items<u32>, ExpandFault>
+    requires machine { MachineSound machine.old }
+    requires idle { machine.old.frames.items ≡ [] }
+    ensures { (ps : List Prototype) → Knows ps machine.old.protos.now → Comes (λ rs. rs)
+        (doing (roots_do ps statements.now []) (shown.shown machine.old.walker)) result
+        (shown.shown machine.new.walker) }
+{
+    let mut roots = Items::new(alloc);
+    for statement in statements {
+        put_statement(alloc, machine, statement, &mut roots)?;
+    }
+    Ok(roots)
+}
+
+/// The routes, once all braces are closed.
+fn routes(alloc: Global, walker: &mut Walker<'_, '_>) -> Result<Items<FlatRoute>, ExpandFault>
+    ensures routes { Gives memory (λ rs. rs) result (few ((scope.shown walker.old.scope).routes
+        (scope.shown walker.old.scope).braces)) }
+    ensures put { walker.new.put ≡ walker.old.put }
+{
+    let Some(wires) = walker.scope.wires(alloc, &mut walker.kept)? else {
+        return Ok(Items::new(alloc));
+    };
+    routes_of(alloc, &wires)
+}
+
+fn put_all<'t, 'a>(
+    alloc: Global,
+    machine: &mut Machine<'t, 'a>,
+    statements: &'t [BodyTree<'a>],
+) -> Result<Made, ExpandFault>
+    requires machine { MachineSound machine.old }
+    requires idle { machine.old.frames.items ≡ [] }
+    ensures { (ps : List Prototype) → Knows ps machine.old.protos.now
+        → Gives memory (λ m. (m.roots, m.routes, put.shown machine.new.walker.put)) result
+        (all_of (doing (roots_do ps statements.now []) (shown.shown machine.old.walker))) }
+{
+    let roots = put_roots(alloc, machine, statements)?;
+    let routes = routes(alloc, &mut machine.walker)?;
+    Ok(Made { roots, routes })
+}
+
+/// What was put in. The branches that were made go last, and the last of them first.
+fn put_in<'t, 'a>(machine: Machine<'t, 'a>) -> PutIn<'a>
+    ensures { result ≡ machine.entry.walker.put }
+{
+    let Machine { walker, frames, .. } = machine;
+    drop(frames);
+    let Walker {
+        put,
+        scope,
+        kept,
+        ..
+    } = walker;
+    drop(scope);
+    kept.let_go();
+    put
+}
+
+/// What was put in, with these roots and routes.
+fn gather(alloc: Global, put_in: PutIn<'_>, made: Made) -> Result<Content, AllocError>
+    ensures { IfOk result (λ c. c ≡ content_of made.roots made.routes (put.shown put_in.entry)) }
+{
+    let Made { roots, routes } = made;
+    let PutIn { nodes, helpers } = put_in;
+    let nodes = flat_nodes(alloc, nodes)?;
+    Ok(Content {
+        nodes,
+        roots,
+        helpers,
+        routes,
+    })
+}
+
+/// The content, or memory was refused.
+fn or_memory(content: Result<Content, AllocError>) -> Result<Content, ExpandFault>
+    ensures { result ≡ content_or content }
+{
+    match content {
+        Ok(content) => Ok(content),
+        Err(error) => Err(ExpandFault::from(error)),
+    }
+}
+
+fn put_text<'t, 'a>(
+    alloc: Global,
+    protos: &'t [Proto<'t, 'a>],
+    statements: &'t [BodyTree<'a>],
+) -> Result<Content, ExpandFault>
+    ensures { (ps : List Prototype) → Knows ps protos.now → Gives memory (λ c. c) result
+        (content_by (all_of (doing (roots_do ps statements.now []) shown.before))) }
+{
+    let walker = Walker::new(alloc);
+    let frames = Vec::new(alloc);
+    let mut machine = Machine {
+        protos,
+        walker,
+        frames,
+    };
+    let made = put_all(alloc, &mut machine, statements);
+    let put = put_in(machine);
+    match made {
+        Ok(made) => or_memory(gather(alloc, put, made)),
+        Err(fault) => {
+            drop(put);
+            Err(fault)
+        }
+    }
+}
+
+/// What the text of these statements comes to, whatever its header.
+pub fn walk<'t, 'a>(
+    alloc: Global,
+    protos: &'t [Proto<'t, 'a>],
+    statements: &'t [BodyTree<'a>],
+) -> Result<Content, ExpandFault>
+    ensures { (ps : List Prototype) (header : Header) → Knows ps protos.now
+        → Gives memory (with_content header) result
+        (limited (stand_together ps header statements.now)) }
+{
+    let content = put_text(alloc, protos, statements);
+    content
+}

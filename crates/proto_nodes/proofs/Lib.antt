@@ -1,0 +1,6 @@
+mod Trees
+pub mod Steps
+mod Given
+mod Begun
+mod Left
+pub mod Waiting

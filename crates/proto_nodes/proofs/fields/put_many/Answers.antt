@@ -1,0 +1,26 @@
+use Rattle.std.proofs.Common.{◌≡◌, map, Err, rules}
+use Rattle.proto_interface.specs.Fields.{numbered}
+use Rattle.proto_tree.specs.Meaning.{holds, node}
+use Rattle.classic_tree.specs.declared.tree.RawValue.TheVariants as value
+use Rattle.proto_walker.specs.Shown.{shown}
+use Rattle.proto_nodes.specs.Does.{inside_now}
+use Rattle.proto_nodes.specs.Protos.{owner_by}
+use Rattle.proto_nodes.proofs.Given.{is-node, many-stand, value-stopped}
+use Rattle.proto_nodes.proofs.fields.put_many.Goals as goal
+
+pub returns-in_err-meet_value-clause-goes : goal.returns-in_err-meet_value-clause-goes
+returns-in_err-meet_value-clause-goes c =
+    let failed : c.from_residual.result ≡ Err c.in_err-meet_value.field-0.0 = search rules in
+    λ ps. value-stopped ps c.args.opened.now c.args.opened.now c.args.place c.args.twice c.args.count (holds c.args.place.line (numbered c.args.place.name.now c.args.place.field) (inside_now ps c.args.opened.now) (value.NodeList (map (node ps) c.args.nodes.now)))
+    (shown c.args.walker.now) c.from_residual.result c.meet_value.new.walker c.in_err-meet_value.field-0.0 failed
+    (c.in_err-meet_value.ensures c.args.opened.now.at (owner_by ps c.args.opened.now.word c.args.opened.now.inside.owner) (holds c.args.place.line (numbered c.args.place.name.now c.args.place.field) (inside_now ps c.args.opened.now) (value.NodeList (map (node ps) c.args.nodes.now)))
+    (is-node ps c.args.opened.now.word c.args.opened.now.inside.owner))
+
+pub returns-clause-goes : goal.returns-clause-goes
+returns-clause-goes c =
+    λ ps. many-stand ps c.args.opened.now c.args.place c.args.twice c.args.count c.args.nodes (shown c.args.walker.now) (shown c.meet_value.new.walker)
+    (c.in_ok-meet_value.ensures.2 c.args.opened.now.at (owner_by ps c.args.opened.now.word c.args.opened.now.inside.owner) (holds c.args.place.line (numbered c.args.place.name.now c.args.place.field) (inside_now ps c.args.opened.now) (value.NodeList (map (node ps) c.args.nodes.now)))
+    (is-node ps c.args.opened.now.word c.args.opened.now.inside.owner))
+
+pub returns-clause-sound : goal.returns-clause-sound
+returns-clause-sound c = (c.in_ok-meet_value.ensures.1, c.requires.inside, c.requires.free c.in_ok-meet_value.ensures.0)

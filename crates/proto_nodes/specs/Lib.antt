@@ -1,0 +1,3 @@
+pub mod Protos
+pub mod Does
+pub mod Frames

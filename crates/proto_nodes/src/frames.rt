@@ -1,0 +1,123 @@
+//! What is still to be done, on the heap.
+
+use proto_given::Given;
+use proto_inside::Inside;
+use proto_interface::{Interface, KnownField};
+use proto_scope::Scope;
+use proto_tree::{BodyTree, DefaultTree, ItemTree, NodeTree, ProtoTree, Word};
+use proto_walker::Walker;
+use x3d_lists::{Items, Text};
+
+/// A prototype, and its interface.
+#[derive(Drop)]
+pub struct Proto<'t, 'a> {
+    pub tree: &'t ProtoTree<'a>,
+    pub interface: Interface<'a>,
+}
+
+/// Braces that are open: what stands between them so far, and what is left.
+#[derive(Drop)]
+pub struct Open<'t, 'a> {
+    pub line: u32,
+    pub name: &'a Option<Text>,
+    /// How many braces of the scope opened before them.
+    pub at: usize,
+    /// What the word before them means.
+    pub word: Word,
+    pub rest: &'t [ItemTree<'a>],
+    pub inside: Inside<'t, 'a>,
+}
+
+/// Where an instance stands: its prototype, its name, its braces, and the scope that goes on
+/// behind it.
+#[derive(Drop)]
+pub struct Around<'t, 'a> {
+    pub proto: &'t Proto<'t, 'a>,
+    pub name: &'a Option<Text>,
+    pub at: usize,
+    pub scope: Scope<'t, 'a>,
+}
+
+/// What an instance is given, and its default values, which are put in before its body.
+#[derive(Drop)]
+pub struct Filling<'t, 'a> {
+    pub rest: &'t [DefaultTree<'a>],
+    pub given: Given<'a>,
+    pub defaults: Given<'a>,
+    pub around: Box<Around<'t, 'a>>,
+}
+
+/// The body of an instance: its first node so far, and the statements that are left.
+#[derive(Drop)]
+pub struct Body<'t, 'a> {
+    pub rest: &'t [BodyTree<'a>],
+    pub first: Option<u32>,
+    pub around: Box<Around<'t, 'a>>,
+}
+
+/// The field whose value it is.
+#[derive(Clone, Copy)]
+pub struct Place<'a> {
+    pub line: u32,
+    pub name: &'a Text,
+    pub field: KnownField,
+}
+
+/// What fields are given values in.
+#[derive(Drop)]
+pub enum Holder<'t, 'a> {
+    Braces(Open<'t, 'a>),
+    Defaults(Filling<'t, 'a>),
+}
+
+/// A list of nodes in a field: those that are left, and the numbers of those before.
+#[derive(Drop)]
+pub struct Listing<'t, 'a> {
+    pub place: Place<'a>,
+    pub rest: &'t [NodeTree<'a>],
+    pub numbers: Items<u32>,
+}
+
+/// What is next in a holder.
+#[derive(Clone, Copy)]
+pub enum Next<'t, 'a> {
+    /// The next thing.
+    On,
+    /// A field's value is that node.
+    One(Place<'a>, &'t NodeTree<'a>),
+    /// It is a list of those.
+    List(Place<'a>, &'t [NodeTree<'a>]),
+    /// Nothing is left.
+    Closed,
+}
+
+/// What waits for the number of a node.
+#[derive(Drop)]
+pub enum Frame<'t, 'a> {
+    /// The field that is this node.
+    One(Holder<'t, 'a>, Place<'a>),
+    /// The list in which this node is next.
+    List(Holder<'t, 'a>, Listing<'t, 'a>),
+    /// The body whose statement is this node.
+    Body(Body<'t, 'a>),
+}
+
+/// What is to be done next.
+#[derive(Drop)]
+pub enum Task<'t, 'a> {
+    On(Holder<'t, 'a>),
+    List(Holder<'t, 'a>, Listing<'t, 'a>),
+    Body(Body<'t, 'a>),
+    /// A node whose number this frame waits for.
+    NodeFor(Frame<'t, 'a>, &'t NodeTree<'a>),
+    /// The last frame has the number that it waits for.
+    Number(u32),
+}
+
+/// All that the walk holds.
+#[derive(Drop)]
+pub struct Machine<'t, 'a> {
+    pub protos: &'t [Proto<'t, 'a>],
+    pub walker: Walker<'t, 'a>,
+    pub frames: Vec<Frame<'t, 'a>>,
+}

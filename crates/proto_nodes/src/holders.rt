@@ -1,0 +1,312 @@
+//! What fields are given values in: braces, and the default values of an instance.
+
+ghost use Rattle.std.specs.Prelude.{◌≡◌, ℕ, ◌++◌, ◌∷◌, [], List, option_map, IfOk};
+ghost use Rattle.proto_meaning.specs.Sight.{Prototype};
+ghost use Rattle.proto_limits.specs.Settled.{State};
+ghost use Rattle.proto_walker.specs.Shown as shown;
+ghost use Rattle.proto_nodes.specs.Does.{Comes};
+ghost use Rattle.proto_nodes.specs.Protos.{Knows};
+ghost use Rattle.proto_nodes.specs.Frames.{Goes, HolderFits, HolderGoes, HolderGoesSound, HolderSound, IsFree, IsSplit, TaskSound, holder_comes, holder_next, list_comes, next_or, value_comes};
+
+use crate::bodies::begin_body;
+use crate::braces::close_braces;
+use crate::defaults::{fill, next_default};
+use crate::fields::{next_item, set_value};
+use crate::frames::{Filling, Frame, Holder, Listing, Next, Open, Place, Proto, Task};
+use classic_tree::RawValue;
+use proto_flat::ExpandFault;
+use proto_tree::NodeTree;
+use proto_walker::Walker;
+use std::alloc::{AllocError, Global};
+use x3d_lists::Items;
+
+/// What is next, or memory was refused.
+fn or_memory<'t, 'a>(next: Result<Next<'t, 'a>, AllocError>) -> Result<Next<'t, 'a>, ExpandFault>
+    ensures { result ≡ next_or next.entry }
+{
+    match next {
+        Ok(next) => Ok(next),
+        Err(error) => Err(ExpandFault::from(error)),
+    }
+}
+
+/// Nothing is left in it.
+fn close<'t, 'a>(
+    alloc: Global,
+    walker: &mut Walker<'t, 'a>,
+    protos: &'t [Proto<'t, 'a>],
+    holder: Holder<'t, 'a>,
+) -> Result<Task<'t, 'a>, ExpandFault>
+    requires walker { shown.Sound walker.old }
+    requires holder { HolderSound holder }
+    requires done { HolderFits holder Next.Closed }
+    ensures goes { (ps : List Prototype) → Knows ps protos.now → Goes ps
+        (holder_comes ps holder.entry (shown.shown walker.old)) result (shown.shown walker.new) }
+    ensures sound { IfOk result (λ t. TaskSound t) }
+    ensures walker { IfOk result (λ _. shown.Sound walker.new) }
+{
+    match holder {
+        Holder::Braces(opened) => close_braces(alloc, walker, protos, opened),
+        Holder::Defaults(filling) => Ok(Task::Body(begin_body(walker, filling))),
+    }
+}
+
+/// A list of these nodes begins.
+fn listing<'t, 'a>(alloc: Global, place: Place<'a>, nodes: &'t [NodeTree<'a>]) -> Listing<'t, 'a>
+    ensures place { result.place ≡ place.entry }
+    ensures rest { result.rest ≡ nodes.entry }
+    ensures numbers { result.numbers ≡ [] }
+{
+    Listing {
+        place,
+        rest: nodes,
+        numbers: Items::new(alloc),
+    }
+}
+
+/// What is to be done next, by what is next in the holder.
+fn begin_next<'t, 'a>(
+    alloc: Global,
+    walker: &mut Walker<'t, 'a>,
+    protos: &'t [Proto<'t, 'a>],
+    holder: Holder<'t, 'a>,
+    next: Next<'t, 'a>,
+) -> Result<Task<'t, 'a>, ExpandFault>
+    requires walker { shown.Sound walker.old }
+    requires holder { HolderSound holder }
+    requires fits { HolderFits holder next }
+    ensures goes { (ps : List Prototype) (outcome : Comes ℕ) → Knows ps protos.now
+        → outcome ≡ holder_next ps holder.entry next.entry (shown.shown walker.old)
+        → Goes ps outcome result (shown.shown walker.new) }
+    ensures sound { IfOk result (λ t. TaskSound t) }
+    ensures walker { IfOk result (λ _. shown.Sound walker.new) }
+{
+    match next {
+        Next::On => Ok(Task::On(holder)),
+        Next::One(place, node) => Ok(Task::NodeFor(Frame::One(holder, place), node)),
+        Next::List(place, nodes) => Ok(Task::List(holder, listing(alloc, place, nodes))),
+        Next::Closed => close(alloc, walker, protos, holder),
+    }
+}
+
+/// The same, if what was done went well.
+fn proceed<'t, 'a>(
+    alloc: Global,
+    walker: &mut Walker<'t, 'a>,
+    protos: &'t [Proto<'t, 'a>],
+    holder: Holder<'t, 'a>,
+    next: Result<Next<'t, 'a>, ExpandFault>,
+) -> Result<Task<'t, 'a>, ExpandFault>
+    requires { HolderGoesSound next walker.old holder }
+    ensures goes { (ps : List Prototype) (outcome : Comes ℕ) → Knows ps protos.now
+        → HolderGoes ps outcome next.entry walker.old holder.entry
+        → Goes ps outcome result (shown.shown walker.new) }
+    ensures sound { IfOk result (λ t. TaskSound t) }
+    ensures walker { IfOk result (λ _. shown.Sound walker.new) }
+{
+    match next {
+        Ok(next) => begin_next(alloc, walker, protos, holder, next),
+        Err(fault) => {
+            drop(holder);
+            Err(fault)
+        }
+    }
+}
+
+/// The next step between braces.
+fn go_on_braces<'t, 'a>(
+    alloc: Global,
+    walker: &mut Walker<'t, 'a>,
+    protos: &'t [Proto<'t, 'a>],
+    opened: Open<'t, 'a>,
+) -> Result<Task<'t, 'a>, ExpandFault>
+    requires walker { shown.Sound walker.old }
+    requires holder { HolderSound (Holder.Braces opened) }
+    ensures goes { (ps : List Prototype) → Knows ps protos.now → Goes ps
+        (holder_comes ps (Holder.Braces opened.entry) (shown.shown walker.old)) result
+        (shown.shown walker.new) }
+    ensures sound { IfOk result (λ t. TaskSound t) }
+    ensures walker { IfOk result (λ _. shown.Sound walker.new) }
+{
+    let mut opened = opened;
+    let next = next_item(alloc, walker, &mut opened);
+    proceed(alloc, walker, protos, Holder::Braces(opened), next)
+}
+
+/// The next step on default values.
+fn go_on_defaults<'t, 'a>(
+    alloc: Global,
+    walker: &mut Walker<'t, 'a>,
+    protos: &'t [Proto<'t, 'a>],
+    filling: Filling<'t, 'a>,
+) -> Result<Task<'t, 'a>, ExpandFault>
+    requires walker { shown.Sound walker.old }
+    requires holder { HolderSound (Holder.Defaults filling) }
+    ensures goes { (ps : List Prototype) → Knows ps protos.now → Goes ps
+        (holder_comes ps (Holder.Defaults filling.entry) (shown.shown walker.old)) result
+        (shown.shown walker.new) }
+    ensures sound { IfOk result (λ t. TaskSound t) }
+    ensures walker { IfOk result (λ _. shown.Sound walker.new) }
+{
+    let mut filling = filling;
+    let next = next_default(alloc, &mut filling);
+    proceed(
+        alloc,
+        walker,
+        protos,
+        Holder::Defaults(filling),
+        or_memory(next),
+    )
+}
+
+/// The next step.
+pub fn go_on<'t, 'a>(
+    alloc: Global,
+    walker: &mut Walker<'t, 'a>,
+    protos: &'t [Proto<'t, 'a>],
+    holder: Holder<'t, 'a>,
+) -> Result<Task<'t, 'a>, ExpandFault>
+    requires walker { shown.Sound walker.old }
+    requires holder { HolderSound holder }
+    ensures goes { (ps : List Prototype) → Knows ps protos.now → Goes ps
+        (holder_comes ps holder.entry (shown.shown walker.old)) result (shown.shown walker.new) }
+    ensures sound { IfOk result (λ t. TaskSound t) }
+    ensures walker { IfOk result (λ _. shown.Sound walker.new) }
+{
+    match holder {
+        Holder::Braces(opened) => go_on_braces(alloc, walker, protos, opened),
+        Holder::Defaults(filling) => go_on_defaults(alloc, walker, protos, filling),
+    }
+}
+
+/// A field between braces has the value.
+fn keep_braces<'t, 'a>(
+    alloc: Global,
+    opened: Open<'t, 'a>,
+    place: Place<'a>,
+    value: RawValue<u32>,
+) -> Result<Task<'t, 'a>, ExpandFault>
+    requires holder { HolderSound (Holder.Braces opened) }
+    requires free { IsFree (Holder.Braces opened) place.name.now }
+    ensures goes { (ps : List Prototype) (s : State) → Goes ps
+        (value_comes ps (Holder.Braces opened.entry) place.entry value s) result s }
+    ensures sound { IfOk result (λ t. TaskSound t) }
+{
+    let mut opened = opened;
+    match set_value(alloc, &mut opened, place, value) {
+        Ok(()) => Ok(Task::On(Holder::Braces(opened))),
+        Err(error) => {
+            drop(opened);
+            Err(ExpandFault::from(error))
+        }
+    }
+}
+
+/// A default value is that.
+fn keep_defaults<'t, 'a>(
+    alloc: Global,
+    filling: Filling<'t, 'a>,
+    place: Place<'a>,
+    value: RawValue<u32>,
+) -> Result<Task<'t, 'a>, ExpandFault>
+    requires holder { HolderSound (Holder.Defaults filling) }
+    requires free { IsFree (Holder.Defaults filling) place.name.now }
+    ensures goes { (ps : List Prototype) (s : State) → Goes ps
+        (value_comes ps (Holder.Defaults filling.entry) place.entry value s) result s }
+    ensures sound { IfOk result (λ t. TaskSound t) }
+{
+    let mut filling = filling;
+    match fill(alloc, &mut filling, place, value) {
+        Ok(()) => Ok(Task::On(Holder::Defaults(filling))),
+        Err(error) => {
+            drop(filling);
+            Err(ExpandFault::from(error))
+        }
+    }
+}
+
+/// The field has the value.
+pub fn keep<'t, 'a>(
+    alloc: Global,
+    holder: Holder<'t, 'a>,
+    place: Place<'a>,
+    value: RawValue<u32>,
+) -> Result<Task<'t, 'a>, ExpandFault>
+    requires holder { HolderSound holder }
+    requires free { IsFree holder place.name.now }
+    ensures goes { (ps : List Prototype) (s : State) → Goes ps
+        (value_comes ps holder.entry place.entry value s) result s }
+    ensures sound { IfOk result (λ t. TaskSound t) }
+{
+    match holder {
+        Holder::Braces(opened) => keep_braces(alloc, opened, place, value),
+        Holder::Defaults(filling) => keep_defaults(alloc, filling, place, value),
+    }
+}
+
+/// The first of these, and those behind it.
+fn first_node<'t, 'a>(nodes: &'t [NodeTree<'a>]) -> Option<(&'t NodeTree<'a>, &'t [NodeTree<'a>])>
+    ensures { IsSplit nodes.now (option_map (λ p. (p.0.now, p.1.now)) result) }
+{
+    nodes.split_first()
+}
+
+/// These are left.
+fn set_rest<'t, 'a>(listing: &mut Listing<'t, 'a>, rest: &'t [NodeTree<'a>])
+    ensures { listing.new ≡ record listing.old { rest = rest.entry } }
+{
+    listing.rest = rest;
+}
+
+/// The next node of a list, or the list is whole.
+pub fn next_in_list<'t, 'a>(
+    alloc: Global,
+    holder: Holder<'t, 'a>,
+    listing: Listing<'t, 'a>,
+) -> Result<Task<'t, 'a>, ExpandFault>
+    requires holder { HolderSound holder }
+    requires free { IsFree holder listing.place.name.now }
+    ensures goes { (ps : List Prototype) (s : State) → Goes ps (list_comes ps holder.entry
+        listing.entry.place listing.entry.rest.now listing.entry.numbers s) result s }
+    ensures sound { IfOk result (λ t. TaskSound t) }
+{
+    let Some((node, rest)) = first_node(listing.rest) else {
+        let Listing { place, numbers, .. } = listing;
+        return keep(alloc, holder, place, RawValue::NodeList(numbers));
+    };
+    let mut listing = listing;
+    set_rest(&mut listing, rest);
+    Ok(Task::NodeFor(Frame::List(holder, listing), node))
+}
+
+/// The list has one number more.
+fn longer<'t, 'a>(listing: Listing<'t, 'a>, number: u32) -> Result<Listing<'t, 'a>, AllocError>
+    ensures { IfOk result (λ l. l
+        ≡ record listing.entry { numbers = listing.entry.numbers ++ number ∷ [] }) }
+{
+    let mut listing = listing;
+    listing.numbers.push(number)?;
+    Ok(listing)
+}
+
+/// A node of the list has its number.
+pub fn add_number<'t, 'a>(
+    holder: Holder<'t, 'a>,
+    listing: Listing<'t, 'a>,
+    number: u32,
+) -> Result<Task<'t, 'a>, ExpandFault>
+    requires holder { HolderSound holder }
+    requires free { IsFree holder listing.place.name.now }
+    ensures goes { (ps : List Prototype) (s : State) → Goes ps (list_comes ps holder.entry
+        listing.entry.place listing.entry.rest.now (listing.entry.numbers ++ number ∷ []) s) result
+        s }
+    ensures sound { IfOk result (λ t. TaskSound t) }
+{
+    match longer(listing, number) {
+        Ok(listing) => Ok(Task::List(holder, listing)),
+        Err(error) => {
+            drop(holder);
+            Err(ExpandFault::from(error))
+        }
+    }
+}

@@ -1,0 +1,13 @@
+//! The nodes of a resolved text, put in by number (ISO/IEC 19775-1, 4.4.4, prototypes).
+#![tactic(auto)]
+
+mod bodies;
+mod braces;
+mod defaults;
+mod fields;
+mod frames;
+mod holders;
+mod nodes;
+
+pub use frames::{Frame, Machine, Proto, Task};
+pub use nodes::put_node;

@@ -1,0 +1,163 @@
+//! The walk over a node and all that is inside, instances' bodies too.
+
+ghost use Rattle.std.specs.Prelude.{◌≡◌, [], List, IfOk, IfSome};
+ghost use Rattle.proto_meaning.specs.Sight.{Prototype};
+ghost use Rattle.proto_limits.specs.Settled.{doing};
+ghost use Rattle.proto_tree.specs.Meaning as meaning;
+ghost use Rattle.proto_walker.specs.Shown as shown;
+ghost use Rattle.proto_nodes.specs.Protos.{Knows};
+ghost use Rattle.proto_nodes.specs.Does.{after};
+ghost use Rattle.proto_nodes.specs.Frames.{AllGoes, Ends, FrameSound, Goes, MachineSound, StepsOn, TaskSound, all_comes, frame_comes, frames_come};
+
+use crate::bodies::{hold, next_statement};
+use crate::braces::begin;
+use crate::frames::{Frame, Machine, Task};
+use crate::holders::{add_number, go_on, keep, next_in_list};
+use classic_tree::RawValue;
+use proto_flat::{ExpandFault, ExpandFaultKind};
+use proto_tree::NodeTree;
+use std::alloc::Global;
+use std::mem;
+
+/// The frame has the number that it waits for.
+fn give<'t, 'a>(
+    alloc: Global,
+    machine: &mut Machine<'t, 'a>,
+    frame: Frame<'t, 'a>,
+    number: u32,
+) -> Result<Task<'t, 'a>, ExpandFault>
+    requires machine { MachineSound machine.old }
+    requires frame { FrameSound frame }
+    ensures goes { (ps : List Prototype) → Goes ps
+        (frame_comes ps frame.entry number (shown.shown machine.old.walker)) result
+        (shown.shown machine.new.walker) }
+    ensures sound { IfOk result (λ t. TaskSound t) }
+    ensures machine { IfOk result (λ _. MachineSound machine.new) }
+    ensures frames { machine.new.frames ≡ machine.old.frames }
+    ensures protos { machine.new.protos ≡ machine.old.protos }
+{
+    match frame {
+        Frame::One(holder, place) => keep(alloc, holder, place, RawValue::Node(number)),
+        Frame::List(holder, listing) => add_number(holder, listing, number),
+        Frame::Body(body) => hold(&mut machine.walker, body, number),
+    }
+}
+
+/// The node begins, and the frame waits for its number.
+fn wait<'t, 'a>(
+    alloc: Global,
+    machine: &mut Machine<'t, 'a>,
+    frame: Frame<'t, 'a>,
+    node: &'t NodeTree<'a>,
+) -> Result<Task<'t, 'a>, ExpandFault>
+    requires machine { MachineSound machine.old }
+    requires frame { FrameSound frame }
+    ensures goes { (ps : List Prototype) → Knows ps machine.old.protos.now → AllGoes ps (after (after
+        (doing (meaning.node ps node.now).does (shown.shown machine.old.walker)) (frame_comes ps frame.entry))
+        (frames_come ps machine.old.frames.items)) result machine.new }
+    ensures sound { IfOk result (λ t. TaskSound t) }
+    ensures machine { IfOk result (λ _. MachineSound machine.new) }
+    ensures protos { machine.new.protos ≡ machine.old.protos }
+{
+    machine.frames.push(frame)?;
+    begin(alloc, &mut machine.walker, machine.protos, node)
+}
+
+/// The next step of what is to be done.
+fn step<'t, 'a>(
+    alloc: Global,
+    machine: &mut Machine<'t, 'a>,
+    task: Task<'t, 'a>,
+) -> Result<Task<'t, 'a>, ExpandFault>
+    requires machine { MachineSound machine.old }
+    requires task { TaskSound task }
+    ensures goes { (ps : List Prototype) → Knows ps machine.old.protos.now → AllGoes ps
+        (all_comes ps task.entry machine.old) result machine.new }
+    ensures sound { IfOk result (λ t. TaskSound t) }
+    ensures machine { IfOk result (λ _. MachineSound machine.new) }
+    ensures protos { machine.new.protos ≡ machine.old.protos }
+{
+    match task {
+        Task::On(holder) => go_on(alloc, &mut machine.walker, machine.protos, holder),
+        Task::List(holder, listing) => next_in_list(alloc, holder, listing),
+        Task::Body(body) => next_statement(alloc, &mut machine.walker, body),
+        Task::NodeFor(frame, node) => wait(alloc, machine, frame, node),
+        Task::Number(number) => match machine.frames.pop() {
+            None => Ok(Task::Number(number)),
+            Some(frame) => give(alloc, machine, frame, number),
+        },
+    }
+}
+
+/// The number, if nothing is left to be done.
+fn result_of(machine: &Machine<'_, '_>, task: &Task<'_, '_>) -> Option<u32>
+    ensures { IfSome result (λ n. (task.now ≡ Task.Number n) × (machine.now.frames.items ≡ [])) }
+{
+    match task {
+        Task::Number(number) if machine.frames.is_empty() => Some(*number),
+        _ => None,
+    }
+}
+
+/// One step: what is to be done next stands in the place of the task.
+fn step_on<'t, 'a>(
+    alloc: Global,
+    machine: &mut Machine<'t, 'a>,
+    task: &mut Task<'t, 'a>,
+) -> Result<(), ExpandFault>
+    requires machine { MachineSound machine.old }
+    requires task { TaskSound task.old }
+    ensures goes { (ps : List Prototype) → Knows ps machine.old.protos.now → StepsOn ps
+        (all_comes ps task.old machine.old) result task.new machine.new }
+    ensures sound { IfOk result (λ _. TaskSound task.new) }
+    ensures machine { IfOk result (λ _. MachineSound machine.new) }
+    ensures protos { machine.new.protos ≡ machine.old.protos }
+{
+    let begun = mem::replace(task, Task::Number(0));
+    let next = step(alloc, machine, begun)?;
+    drop(mem::replace(task, next));
+    Ok(())
+}
+
+fn run<'t, 'a>(
+    alloc: Global,
+    machine: &mut Machine<'t, 'a>,
+    task: &mut Task<'t, 'a>,
+) -> Result<u32, ExpandFault>
+    requires machine { MachineSound machine.old }
+    requires task { TaskSound task.old }
+    ensures goes { (ps : List Prototype) → Knows ps machine.old.protos.now → Ends (λ n. n)
+        (all_comes ps task.old machine.old) result (shown.shown machine.new.walker) }
+    ensures machine { IfOk result (λ _. MachineSound machine.new) }
+    ensures frames { IfOk result (λ _. machine.new.frames.items ≡ []) }
+    ensures protos { machine.new.protos ≡ machine.old.protos }
+{
+    for _ in 0..u64::MAX {
+        if let Some(number) = result_of(machine, task) {
+            return Ok(number);
+        }
+        step_on(alloc, machine, task)?;
+    }
+    Err(ExpandFaultKind::Memory.on_line(0))
+}
+
+/// Puts a node in with all that is inside, and gives its number.
+pub fn put_node<'t, 'a>(
+    alloc: Global,
+    machine: &mut Machine<'t, 'a>,
+    node: &'t NodeTree<'a>,
+) -> Result<u32, ExpandFault>
+    requires machine { MachineSound machine.old }
+    requires idle { machine.old.frames.items ≡ [] }
+    ensures goes { (ps : List Prototype) → Knows ps machine.old.protos.now → Ends (λ n. n)
+        (doing (meaning.node ps node.now).does (shown.shown machine.old.walker)) result
+        (shown.shown machine.new.walker) }
+    ensures machine { IfOk result (λ _. MachineSound machine.new) }
+    ensures frames { IfOk result (λ _. machine.new.frames.items ≡ []) }
+    ensures protos { machine.new.protos ≡ machine.old.protos }
+{
+    let mut task = begin(alloc, &mut machine.walker, machine.protos, node)?;
+    let number = run(alloc, machine, &mut task);
+    drop(task);
+    number
+}
