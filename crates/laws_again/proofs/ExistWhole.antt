@@ -35,7 +35,7 @@ use Rattle.laws_written.specs.Nodes.{switch_root}
 use Rattle.laws_written.proofs.Plans.{type_is}
 use Rattle.laws_written.specs.FieldsFlats.{HasFieldsOf, WrittenFieldsStay}
 use Rattle.laws_again.specs.Sound.{AreOfType, AreSound}
-use Rattle.laws_again.proofs.Helpers.{none_helps}
+use Rattle.laws_plain.proofs.Heads.{helpers_are_of_instances}
 use Rattle.laws_again.proofs.Numbered.{last_is, many}
 use Rattle.laws_again.specs.Exist.{AreInRange, IsSceneOrLimit, WrittenScenesExist}
 use Rattle.laws_again.proofs.Nodes.{all_taken_by, each_okay}
@@ -176,4 +176,4 @@ all_exist table values defaults close stay fill from scene routes state again is
     let d : Document = scene_document scene routes state in
     let nodes = of_nodes (closings d) (subst (AllByRecursion HasType) (sym (close from scene routes state is kept)) (written_typed scene routes)) in
     exists from scene routes state again is kept of_type ranged sound table (stay from scene routes state again is few kept e)
-    (fill from scene routes state again is few kept distinct e) (none_helps d again nodes e) values defaults
+    (fill from scene routes state again is few kept distinct e) (helpers_are_of_instances d again nodes e) values defaults

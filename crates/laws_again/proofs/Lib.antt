@@ -1,9 +1,7 @@
 pub mod Beginning
 pub mod Given
-pub mod Helpers
 pub mod Holding
 pub mod InPlace
-pub mod Inserted
 pub mod Labels
 pub mod Made
 pub mod Next
@@ -14,7 +12,6 @@ pub mod Places
 pub mod Present
 pub mod Reading
 pub mod Room
-pub mod Steps
 pub mod Switches
 pub mod Whole
 pub mod Nodes

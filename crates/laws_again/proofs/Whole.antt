@@ -20,7 +20,7 @@ use Rattle.laws_written.proofs.NodesParts.{all_join}
 use Rattle.laws_written.proofs.Plans.{type_is}
 use Rattle.laws_written.specs.FieldsFlats.{WrittenFieldsStay}
 use Rattle.laws_again.specs.Again.{WrittenScenesAreAgain}
-use Rattle.laws_again.proofs.Helpers.{none_helps}
+use Rattle.laws_plain.proofs.Heads.{helpers_are_of_instances}
 use Rattle.laws_again.proofs.Labels.{next_labels, next_names}
 use Rattle.laws_again.proofs.Switches.{next_switch}
 use Rattle.laws_again.proofs.InPlace.{numbers_are}
@@ -62,7 +62,7 @@ pub all_again : ((t : NodeType) → AreTyped (rows t)) → HeadersAreKept → La
 all_again table headers labels values defaults close stay fill from scene routes state again next is few kept of_type sound distinct e h =
     let d : Document = scene_document scene routes state in
     let nodes = of_nodes (closings d) (subst (AllByRecursion HasType) (sym (close from scene routes state is kept)) (written_typed scene routes)) in
-    let none = none_helps d again nodes e in
+    let none = helpers_are_of_instances d again nodes e in
     let same = stay from scene routes state again is few kept e in
     let filled = fill from scene routes state again is few kept distinct e in
     record {

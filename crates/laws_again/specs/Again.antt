@@ -8,7 +8,7 @@ use Rattle.x3d_values.specs.declared.value.Value.{Value}
 use Rattle.x3d_values.specs.declared.value.Value.TheVariants.{MFNode}
 use Rattle.x3d_values.specs.Tables.{Entry, rows}
 use Rattle.proto_flat.specs.declared.flat.Flat.{Flat}
-use Rattle.proto_walk.specs.Whole.{flat}
+use Rattle.proto_meaning.specs.Flat.{flat}
 use Rattle.scene_core.specs.declared.scene.Route.{Route}
 use Rattle.scene_core.specs.Building.{scene_of}
 use Rattle.scene_core.specs.Scene.{SceneView, declared_at, label_of, name_at, number_of, rows_at, types_of, value_at}

@@ -8,7 +8,7 @@ use Rattle.x3d_values.specs.Values.{type_of}
 use Rattle.proto_flat.specs.declared.flat.Flat.{Flat}
 use Rattle.scene_core.specs.Building.{scene_of}
 use Rattle.scene_core.specs.Scene.{SceneView, rows_at, state_of, value_at}
-use Rattle.laws_text.specs.Named.{IsNamed}
+use Rattle.laws_spelled.specs.Named.{IsNamed}
 use Rattle.laws_text.specs.Values.{is_sound}
 
 -- what the scene gives has numbers in the range of its type, and texts in UTF-8

@@ -13,9 +13,9 @@ use Rattle.scene_core.specs.declared.scene.SceneNode.{SceneNode}
 use Rattle.scene_core.specs.Scene.{SceneView}
 use Rattle.laws_worlds.specs.Openings.{is_countable, is_countable_node, is_counted, is_text}
 use Rattle.laws_worlds.specs.Worlds.{IsDocument}
-use Rattle.laws_networks.specs.Lengths.{IsShortText}
+use Rattle.laws_spelled.specs.Lengths.{IsShortText}
 use Rattle.laws_networks.specs.Scenes.{IsShortIfAny, IsShortSceneNode, IsShortValue}
-use Rattle.laws_networks.proofs.Documents.{nodes_few}
+use Rattle.laws_plain.proofs.WrittenWhole.{flats_are_limited}
 use Rattle.laws_networks.proofs.Scenes.{scenes_short}
 use Rattle.laws_networks.specs.Opened.{IsOpened}
 
@@ -58,5 +58,5 @@ is_document text f scene routes o = record {
   is_scene = o.is_scene;
   are_routes = o.are_routes;
   countable = nodes_counted scene.nodes (scenes_short text o.document f scene o.read o.put_in o.is_scene);
-  numbered = omega (arith, nodes_few o.document f o.put_in);
+  numbered = omega (arith, (flats_are_limited o.document f o.put_in).0);
 }

@@ -1,12 +1,3 @@
-pub mod Walks
-pub mod Fields
-pub mod Trees
-pub mod Every
-pub mod Documents
-pub mod Routes
-pub mod Tokens
-pub mod Counts
-pub mod Spelled
 pub mod Values
 pub mod Scenes
 pub mod Counted

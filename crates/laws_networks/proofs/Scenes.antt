@@ -15,7 +15,7 @@ use Rattle.classic_text.specs.Reading.{read_text}
 use Rattle.proto_flat.specs.declared.flat.Flat.{Flat}
 use Rattle.proto_flat.specs.declared.flat.FlatField.{FlatField}
 use Rattle.proto_flat.specs.declared.flat.FlatNode.{FlatNode}
-use Rattle.proto_walk.specs.Whole.{flat}
+use Rattle.proto_meaning.specs.Flat.{flat}
 use Rattle.scene_core.specs.Building.{called, limits, node_of, nodes_by, nodes_of, scene_by, scene_of, with_node}
 use Rattle.scene_core.specs.Faults.{fault, through, ◌>>=◌}
 use Rattle.scene_core.specs.Labels.{is_alone, is_label, label_by, names_of}
@@ -31,11 +31,11 @@ use Rattle.scene_core.specs.declared.scene.SceneNode.{SceneNode}
 use Rattle.scene_values.specs.Rotations.{checked_rotation}
 use Rattle.scene_values.specs.Typing.{typed}
 use Rattle.scene_values.specs.declared.fault.ValueFault.{ValueFault}
-use Rattle.laws_networks.specs.Lengths.{IsShortField, IsShortFlat, IsShortNode}
+use Rattle.laws_spelled.specs.Lengths.{IsShortField, IsShortFlat, IsShortNode}
 use Rattle.laws_networks.specs.Scenes.{IsShortIfAny, IsShortScene, IsShortSceneNode, IsShortValue}
-use Rattle.laws_networks.proofs.Spelled.{flats_within_limit}
+use Rattle.laws_spelled.proofs.Spelled.{flats_within_limit}
 use Rattle.laws_networks.proofs.Values.{IfValue, default_or_none, typed_short}
-use Rattle.laws_networks.proofs.Walks.{all_append}
+use Rattle.laws_flat.proofs.Lists.{all_append}
 
 -- ---- what holds of an answer
 

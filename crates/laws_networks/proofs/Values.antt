@@ -23,7 +23,7 @@ use Rattle.scene_values.specs.Quantities.{is_integer, whole}
 use Rattle.scene_values.specs.Typing.{made, node, nodes, string, strings, truth, truths, typed}
 use Rattle.scene_values.specs.declared.fault.ValueFault.{ValueFault}
 use Rattle.scene_values.specs.declared.fault.ValueFault.TheVariants.{ValueRange, WrongType}
-use Rattle.laws_networks.specs.Lengths.{IsShort, IsShortText}
+use Rattle.laws_spelled.specs.Lengths.{IsShort, IsShortText}
 use Rattle.laws_networks.specs.Scenes.{IsShortIfAny, IsShortValue}
 
 -- ---- what holds of an answer

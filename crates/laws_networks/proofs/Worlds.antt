@@ -26,7 +26,7 @@ use Rattle.laws_worlds.specs.Worlds.{is_input}
 use Rattle.laws_worlds.proofs.Counted.{scene_few}
 use Rattle.laws_worlds.proofs.DocumentWorlds.{all_have_snapshots, all_worlds_fit}
 use Rattle.laws_networks.proofs.Saved.{saved_have as all_saved, running_have as all_running}
-use Rattle.laws_networks.proofs.Documents.{nodes_few}
+use Rattle.laws_plain.proofs.WrittenWhole.{flats_are_limited}
 use Rattle.laws_networks.proofs.Counted.{counted}
 use Rattle.laws_networks.specs.Opened.{IsOpened}
 use Rattle.laws_networks.specs.Worlds.{RunningOfTextsHaveSnapshots, SavedOfTextsHaveSnapshots, WorldsOfTextsFit, WorldsOfTextsHaveSnapshots}
@@ -61,7 +61,7 @@ numbered n (s ∷ inputs) h f i =
 
 module _ (text : List ℕ) (f : Flat) (scene : SceneView) (routes : List Route) (o : IsOpened text f scene routes) where
   pub few_nodes : length scene.nodes ≤ 2 ^ 16
-  few_nodes = omega (arith, scene_few f scene o.is_scene, nodes_few o.document f o.put_in)
+  few_nodes = omega (arith, scene_few f scene o.is_scene, (flats_are_limited o.document f o.put_in).0)
 
   module _ (run : RunsAll scene) (mark : List ℕ) (net : Network Scripted) (reached : Reached (cascade mark scene routes) net) where
     few_inputs : length net.host.list ≤ max_inputs

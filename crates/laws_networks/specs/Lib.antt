@@ -1,5 +1,3 @@
-pub mod Flats
-pub mod Lengths
 pub mod Scenes
 pub mod Traces
 pub mod Networks

@@ -7,11 +7,11 @@ use Rattle.classic_lex.specs.Header.{max_len}
 use Rattle.classic_tree.specs.declared.tree.Document.{Document}
 use Rattle.classic_text.specs.Reading.{read_text}
 use Rattle.proto_flat.specs.declared.flat.Flat.{Flat}
-use Rattle.proto_walk.specs.Whole.{flat}
+use Rattle.proto_meaning.specs.Flat.{flat}
 use Rattle.scene_core.specs.declared.scene.SceneNode.{SceneNode}
 use Rattle.scene_core.specs.Building.{scene_of}
 use Rattle.scene_core.specs.Scene.{SceneView}
-use Rattle.laws_networks.specs.Lengths.{IsShortText}
+use Rattle.laws_spelled.specs.Lengths.{IsShortText}
 
 -- texts are UTF-8, and neither these nor the list has more bytes or items; nodes are no matter
 abbrev pub IsShortValue : ℕ → Value → Type 0

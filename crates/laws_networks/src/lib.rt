@@ -11,7 +11,7 @@ mod traces;
 
 pub use networks::saved_worlds_load_again;
 pub use rewinding::taken_snapshots_rewind;
-pub use sizes::{flats_are_limited, flats_are_short, scenes_are_short};
+pub use sizes::scenes_are_short;
 pub use texts::{
     saved_worlds_of_texts_load_again, taken_snapshots_of_texts_rewind, texts_have_documents,
     worlds_of_texts_fit,

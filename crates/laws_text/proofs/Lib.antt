@@ -2,13 +2,10 @@ pub mod Chains
 mod Defaulted
 pub mod Defaults
 pub mod Documents
-mod Expanded
 mod Fields
 mod Headers
-mod Joined
 mod Labels
 pub mod Lists
-mod Machines
 mod Names
 mod Nodes
 mod Numbered

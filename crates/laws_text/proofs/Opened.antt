@@ -37,7 +37,7 @@ use Rattle.scene_core.specs.Labels.{label_by}
 use Rattle.scene_core.specs.Parts.{given, inner_nodes}
 use Rattle.scene_core.specs.Shape.{is_rotation, declared_by, declared_default, declaration_entry, numbered_fields, most_declared}
 use Rattle.scene_core.specs.Typed.{at_line, dropped_rotation, in_range, all_taken, accepted, accepted_in_range, typed_value, given_value, default_of, field_value, values_from, no_rotation, declared_given, declared_empty, declared_value, declared_from, values_of}
-use Rattle.laws_text.specs.Named.{has_utf8, IsNamedNode}
+use Rattle.laws_spelled.specs.Named.{has_utf8, IsNamedNode}
 use Rattle.laws_text.specs.Writable.{is_sound_or_none, HoldValues, IsWritableNode}
 use Rattle.laws_text.proofs.Chains.{IsClosedNode}
 use Rattle.laws_text.proofs.Defaulted.{fits_or_none, none_given, rows_fit}

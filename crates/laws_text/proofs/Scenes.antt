@@ -19,7 +19,7 @@ use Rattle.scene_core.specs.Labels.{is_alone, is_label, names_of}
 use Rattle.scene_core.specs.Scene.{SceneView}
 use Rattle.scene_core.specs.Typed.{takes, child, all_children}
 use Rattle.route_core.specs.Resolved.{resolved}
-use Rattle.laws_text.specs.Named.{IsNamedNode, IsNamed}
+use Rattle.laws_spelled.specs.Named.{IsNamedNode, IsNamed}
 use Rattle.laws_text.specs.Writable.{IsShallow, IsWritableNode, AreKeepable, IsWritable}
 use Rattle.laws_text.specs.Written.{has_room, ScenesAreWritable}
 use Rattle.laws_text.proofs.Chains.{IsClosedNode, shallow, all_shallow}

@@ -16,7 +16,7 @@ use Rattle.scene_values.specs.Quantities.{is_integer, whole}
 use Rattle.scene_values.specs.Typing.{called, made, truth as truth_in, truths, string, strings, node, nodes, typed}
 use Rattle.scene_text.specs.Raw.{pair_run, vector_run, color_run}
 use Rattle.laws_text.specs.Values.{is_int32, is_number, is_time, is_sound}
-use Rattle.laws_text.specs.Named.{has_utf8}
+use Rattle.laws_spelled.specs.Named.{has_utf8}
 use Rattle.laws_text.proofs.Tests.{both, and_true}
 
 abbrev ok : {A : Type 0} → A → Result A ValueFault

@@ -7,7 +7,7 @@ use Rattle.classic_tree.specs.declared.tree.Document.{Document}
 use Rattle.classic_text.specs.Spells.{SpellsButLines}
 use Rattle.classic_round_trip.specs.AnyLength.{SpellsAtAnyLength}
 use Rattle.proto_flat.specs.declared.flat.Flat.{Flat}
-use Rattle.proto_walk.specs.Whole.{flat}
+use Rattle.proto_meaning.specs.Flat.{flat}
 use Rattle.scene_core.specs.declared.scene.Route.{Route}
 use Rattle.scene_core.specs.Building.{scene_of}
 use Rattle.scene_core.specs.Deep.{deeper_than}
@@ -15,7 +15,7 @@ use Rattle.scene_core.specs.Scene.{SceneView}
 use Rattle.route_core.specs.Resolved.{resolved}
 use Rattle.scene_text.specs.SceneText.{scene_text}
 use Rattle.scene_text.specs.Statements.{scene_document}
-use Rattle.laws_text.specs.Named.{IsNamed}
+use Rattle.laws_spelled.specs.Named.{IsNamed}
 use Rattle.laws_text.specs.Writable.{AreKeepable, IsWritable}
 
 -- the text of a writable scene spells the document that the scene is written as, but for lines and

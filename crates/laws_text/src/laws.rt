@@ -3,7 +3,6 @@
 ghost use Rattle.laws_text.specs.Defaults.{DefaultsAreLeftOut, LeftOutAreDefaults};
 ghost use Rattle.laws_text.specs.Headers.{HeadersAreKept};
 ghost use Rattle.laws_text.specs.Labels.{LabelsAreDistinct};
-ghost use Rattle.laws_text.specs.Named.{ExpandedAreNamed};
 ghost use Rattle.laws_text.specs.Values.{WrittenNodesAreTyped, WrittenValuesAreTyped};
 ghost use Rattle.laws_text.specs.Written.{DocumentScenesSpell, ScenesAreWritable, WrittenScenesSpell};
 
@@ -34,12 +33,6 @@ pub fn written_scenes_spell()
 /// The scene of a document whose names are names and whose texts are UTF-8 is writable.
 pub fn scenes_are_writable()
     ensures { ScenesAreWritable }
-{}
-
-/// The expanded form of a document that some text spells has names that are names, and texts that
-/// are UTF-8.
-pub fn expanded_are_named()
-    ensures { ExpandedAreNamed }
 {}
 
 /// The scene of what is written of a scene has the same header statements.

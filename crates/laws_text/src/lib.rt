@@ -5,7 +5,7 @@ mod laws;
 mod numbering;
 
 pub use laws::{
-    expanded_are_named, fields_are_left_out, headers_are_kept, labels_are_distinct,
-    scenes_are_writable, values_are_typed, written_scenes_spell,
+    fields_are_left_out, headers_are_kept, labels_are_distinct, scenes_are_writable,
+    values_are_typed, written_scenes_spell,
 };
 pub use numbering::{children_are_lower, scenes_are_numbered_again};

@@ -15,7 +15,8 @@ use Rattle.proto_flat.specs.declared.flat.FlatNode.{FlatNode}
 use Rattle.proto_fields.specs.Fields.{Signature, signatures}
 use Rattle.laws_flat.specs.Closings.{Braces, IsOfNode, Shown, closings, expected}
 use Rattle.laws_flat.specs.Uses.{held, some}
-use Rattle.laws_flat.specs.Shapes.{NodeShape, NodesTellTheRest, ShapesStay, field_shape, node_shape}
+use Rattle.laws_flat.specs.Shapes.{NodeShape, NodesTellTheRest, field_shape, node_shape}
+use Rattle.laws_plain.specs.Laws.{ShapesStay}
 use Rattle.scene_core.specs.declared.row.DeclaredField.{DeclaredField}
 use Rattle.scene_core.specs.declared.scene.Route.{Route}
 use Rattle.scene_core.specs.declared.scene.SceneNode.{SceneNode}

@@ -36,12 +36,12 @@ use Rattle.laws_written.specs.Nodes.{IsRead, WrittenNodesAreRead, written_nodes,
 use Rattle.laws_written.proofs.Braces.{type_named}
 use Rattle.laws_written.proofs.Plans.{plan}
 use Rattle.laws_written.specs.Distinct.{HaveDistinctFields}
-use Rattle.laws_written.specs.Parts.{Braces, Entry, Item, entries, in_item, in_node, in_statement, in_value, parts}
-use Rattle.laws_written.specs.Sound.{AllNamed, AreNamed, IsOfType, IsSound, SoundDocumentsAreFlat}
+use Rattle.laws_plain.specs.Parts.{Braces, Entry, Item, entries, in_item, in_node, in_statement, in_value, parts}
+use Rattle.laws_plain.specs.Sound.{AllNamed, AreNamed, IsOfType, IsSound, SoundDocumentsAreFlat}
 use Rattle.laws_written.specs.LimitsWritten.{WrittenScenesAreFlat}
-use Rattle.laws_written.proofs.LimitsParts.{in_full, in_node_statement, in_route, in_use, part_declaration, part_field}
+use Rattle.laws_plain.proofs.PartTexts.{in_full, in_node_statement, in_route, in_use, part_declaration, part_field}
 use Rattle.laws_written.proofs.LimitsShown.{shown_entries, shown_entry, shown_once}
-use Rattle.laws_written.proofs.LimitsWalks.{AreSound}
+use Rattle.laws_plain.proofs.SoundParts.{AreSound}
 
 -- ---- of each in turn
 

@@ -30,9 +30,9 @@ use Rattle.laws_written.specs.Distinct.{HasDistinctFields}
 use Rattle.laws_written.specs.Fields.{declared_signature}
 use Rattle.laws_written.proofs.Naming.{AreNumbered, fields_numbered, owned}
 use Rattle.laws_written.proofs.Naming.{signed as signatures_of}
-use Rattle.laws_written.specs.Parts.{Declares, Entry, Gives}
-use Rattle.laws_written.specs.Sound.{AreOnce, IsNext, IsOfType, entry_number, is_among, signed, with_next}
-use Rattle.laws_written.specs.Sound.{unless_own as unless}
+use Rattle.laws_plain.specs.Parts.{Declares, Entry, Gives}
+use Rattle.laws_plain.specs.Sound.{AreOnce, IsNext, IsOfType, entry_number, is_among, signed, with_next}
+use Rattle.laws_plain.specs.Sound.{unless_own as unless}
 
 -- ---- the numbers of fields
 

@@ -6,8 +6,8 @@ use Rattle.x3d_values.specs.declared.node_type.NodeType.{NodeType}
 use Rattle.classic_tree.specs.declared.tree.Document.{Document}
 use Rattle.laws_flat.specs.Closings.{Braces, IsOfNode, Shown, closings, expected}
 use Rattle.laws_flat.specs.Uses.{some}
-use Rattle.laws_flat.proofs.ClosingFlat.{nodes_close}
-use Rattle.laws_flat.proofs.UsesFlat.{uses_are_named}
+use Rattle.laws_plain.proofs.Closing.{nodes_close}
+use Rattle.laws_plain.proofs.Uses.{uses_are_named}
 use Rattle.scene_core.specs.declared.scene.Route.{Route}
 use Rattle.scene_core.specs.Scene.{SceneView}
 use Rattle.scene_text.specs.Statements.{scene_document}

@@ -11,7 +11,8 @@ use Rattle.x3d_values.specs.Tables.{Entry}
 use Rattle.proto_flat.specs.declared.flat.FlatEnd.{FlatEnd}
 use Rattle.proto_flat.specs.declared.flat.FlatEnd.TheVariants.{At, NoNode, NoField, WrongWay}
 use Rattle.proto_flat.specs.declared.flat.FlatRoute.{FlatRoute}
-use Rattle.laws_flat.specs.Routes.{RoutesAreRead, Shown, route_shown}
+use Rattle.laws_flat.specs.Routes.{Shown, route_shown}
+use Rattle.laws_plain.specs.Laws.{RoutesAreRead}
 use Rattle.scene_core.specs.declared.scene.Route.{Route}
 use Rattle.scene_core.specs.Scene.{SceneView, field_name, number_of, rows_at}
 use Rattle.route_core.specs.Names.{target_field, source_field}

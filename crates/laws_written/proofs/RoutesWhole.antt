@@ -13,8 +13,9 @@ use Rattle.laws_flat.specs.Closings.{Braces, IsOfNode, closings, expected}
 use Rattle.laws_flat.specs.Closings.{Shown as ShownBraces}
 use Rattle.laws_flat.specs.Uses.{Opened}
 use Rattle.laws_flat.specs.Readings.{each, read_document, read_statement}
-use Rattle.laws_flat.specs.Routes.{ReadRoute, Reading, RoutesAreRead, Shown, end_at, end_shown, nothing_read, read_end, read_shown, routes, routes_read, steps}
+use Rattle.laws_flat.specs.Routes.{ReadRoute, Reading, Shown, end_at, end_shown, nothing_read, read_end, read_shown, routes, routes_read, steps}
 use Rattle.laws_flat.proofs.Readings.{read-route}
+use Rattle.laws_plain.specs.Laws.{RoutesAreRead}
 use Rattle.scene_core.specs.declared.scene.End.{End}
 use Rattle.scene_core.specs.declared.scene.Route.{Route}
 use Rattle.scene_core.specs.Scene.{SceneView, field_name, label_of}

@@ -7,7 +7,7 @@ use Rattle.proto_flat.specs.declared.flat.Flat.{Flat}
 use Rattle.proto_flat.specs.declared.flat.FlatField.{FlatField}
 use Rattle.proto_flat.specs.declared.flat.FlatNode.{FlatNode}
 use Rattle.proto_fields.specs.Fields.{Signature, signatures}
-use Rattle.proto_walk.specs.Whole.{flat}
+use Rattle.proto_meaning.specs.Flat.{flat}
 use Rattle.scene_core.specs.declared.scene.Route.{Route}
 use Rattle.scene_core.specs.Building.{scene_of}
 use Rattle.scene_core.specs.Scene.{SceneView}

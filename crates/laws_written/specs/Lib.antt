@@ -8,9 +8,6 @@ pub mod FieldsFlats
 pub mod FieldsWritten
 pub mod Routes
 pub mod Resolved
-pub mod Parts
-pub mod Plain
-pub mod Sound
 pub mod LimitsWritten
 pub mod Interfaces
 pub mod Scenes

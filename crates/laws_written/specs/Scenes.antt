@@ -4,7 +4,7 @@ use Rattle.std.specs.Prelude.{◌≡◌, ◌≤◌, ◌^◌, List, length, Ok}
 use Rattle.x3d_values.specs.declared.fields.Fields.{Fields}
 use Rattle.classic_tree.specs.declared.tree.Document.{Document}
 use Rattle.proto_flat.specs.declared.flat.Flat.{Flat}
-use Rattle.proto_walk.specs.Whole.{flat}
+use Rattle.proto_meaning.specs.Flat.{flat}
 use Rattle.scene_core.specs.declared.scene.Route.{Route}
 use Rattle.scene_core.specs.Building.{scene_of}
 use Rattle.scene_core.specs.Scene.{SceneView}

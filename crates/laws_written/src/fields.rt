@@ -4,7 +4,8 @@ ghost use Rattle.laws_written.specs.FieldsFlats.{WrittenFieldsStay};
 ghost use Rattle.laws_written.specs.FieldsWritten.{WrittenShapes};
 
 use crate::nodes::{written_nodes_close, written_nodes_stay};
-use laws_flat::{nodes_tell_the_rest, shapes_stay};
+use laws_flat::nodes_tell_the_rest;
+use laws_plain::shapes_stay;
 
 /// Between the braces of each node of a written scene stand its fields, by their numbers.
 pub fn written_shapes()

@@ -11,7 +11,7 @@ mod routes;
 
 pub use distinct::{document_fields_stay, fields_are_distinct, interfaces_are_distinct};
 pub use fields::{written_fields_stay, written_shapes};
-pub use limits::{plain_documents_fail, sound_documents_are_flat, written_scenes_are_flat};
+pub use limits::written_scenes_are_flat;
 pub use nodes::{written_nodes_are_read, written_nodes_close, written_nodes_stay};
 pub use order::scenes_are_written_in_order;
 pub use routes::written_routes_stay;

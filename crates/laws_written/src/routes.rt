@@ -4,7 +4,7 @@ ghost use Rattle.laws_written.specs.Resolved.{WrittenRoutesResolve};
 ghost use Rattle.laws_written.specs.Routes.{WrittenRoutesStay};
 
 use crate::nodes::written_nodes_close;
-use laws_flat::routes_are_read;
+use laws_plain::routes_are_read;
 use laws_text::labels_are_distinct;
 
 /// The flat form of a written scene, where there is one, has the scene's routes, in their order,

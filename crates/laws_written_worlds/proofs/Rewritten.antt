@@ -13,7 +13,7 @@ use Rattle.cascade_core.specs.Course.{Scripted}
 use Rattle.laws_worlds.specs.Fits.{ScriptedFits}
 use Rattle.laws_networks.specs.Opened.{IsOpened}
 use Rattle.laws_networks.proofs.Worlds.{few_nodes, worlds_fit}
-use Rattle.laws_text.specs.Named.{ExpandedAreNamed}
+use Rattle.laws_spelled.specs.Named.{SpelledFlatsAreNamed}
 use Rattle.laws_text.specs.Writable.{AreKeepable}
 use Rattle.laws_written_worlds.specs.Kept.{FittingAreKeepable}
 use Rattle.laws_written.specs.Scenes.{FieldsAreDistinct}
@@ -25,7 +25,7 @@ use Rattle.laws_written_worlds.proofs.TypedFitting.{IsHeld, fitting_held, fittin
 use Rattle.laws_written_worlds.proofs.Held.{running_fits}
 use Rattle.laws_written_worlds.proofs.Lines.{but_lines}
 
-module _ (named : ExpandedAreNamed) (keepable : FittingAreKeepable) (distinct : FieldsAreDistinct) (sound : DocumentScenesAreSound) (again : WrittenScenesAreAgain) where
+module _ (named : SpelledFlatsAreNamed) (keepable : FittingAreKeepable) (distinct : FieldsAreDistinct) (sound : DocumentScenesAreSound) (again : WrittenScenesAreAgain) where
   module _ (text : List ℕ) (f : Flat) (scene : SceneView) (routes : List Route) (o : IsOpened text f scene routes) where
     few : length scene.nodes ≤ 2 ^ 64
     few = omega (arith, few_nodes text f scene routes o)

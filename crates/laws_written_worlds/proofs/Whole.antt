@@ -4,7 +4,7 @@ use Rattle.x3d_values.specs.declared.fields.Fields.{Fields}
 use Rattle.classic_text.proofs.Documents.{is_spelled}
 use Rattle.proto_flat.specs.declared.fault.ExpandFault.{ExpandFault}
 use Rattle.proto_flat.specs.declared.flat.Flat.{Flat}
-use Rattle.proto_walk.specs.Whole.{flat}
+use Rattle.proto_meaning.specs.Flat.{flat}
 use Rattle.scene_core.specs.declared.scene.Route.{Route}
 use Rattle.scene_core.specs.Building.{scene_of}
 use Rattle.scene_core.specs.Scene.{SceneView, shapes_of}
@@ -13,12 +13,12 @@ use Rattle.cascade_core.specs.Apply.{world}
 use Rattle.laws_worlds.specs.Fits.{WorldFits}
 use Rattle.laws_networks.specs.Opened.{IsOpened}
 use Rattle.laws_networks.proofs.Worlds.{few_nodes, worlds_fit}
-use Rattle.laws_text.specs.Named.{ExpandedAreNamed, IsNamed}
+use Rattle.laws_spelled.specs.Named.{IsNamed, SpelledFlatsAreNamed}
 use Rattle.laws_text.specs.Writable.{AreKeepable, IsWritable}
 use Rattle.laws_text.specs.Written.{ScenesAreWritable, WrittenScenesSpell, has_room}
 use Rattle.laws_written_worlds.specs.Kept.{FittingAreKeepable}
 use Rattle.laws_written.specs.Distinct.{HaveDistinctFields}
-use Rattle.laws_written.specs.Sound.{IsFlatOrTooLarge}
+use Rattle.laws_plain.specs.Sound.{IsFlatOrTooLarge}
 use Rattle.laws_written.specs.LimitsWritten.{WrittenScenesAreFlat}
 use Rattle.laws_written.specs.Resolved.{WrittenRoutesResolve}
 use Rattle.laws_written.specs.Scenes.{FieldsAreDistinct}
@@ -38,7 +38,7 @@ use Rattle.laws_written_worlds.proofs.SameTrees.{text_same}
 
 -- what crates below prove
 pub record Known : Type 0 where
-  pub named : ExpandedAreNamed
+  pub named : SpelledFlatsAreNamed
   pub writable : ScenesAreWritable
   pub spelled : WrittenScenesSpell
   pub keepable : FittingAreKeepable

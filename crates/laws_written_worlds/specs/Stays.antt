@@ -7,7 +7,7 @@ use Rattle.classic_round_trip.specs.AnyLength.{SpellsAtAnyLength}
 use Rattle.proto_flat.specs.declared.fault.ExpandFault.{ExpandFault}
 use Rattle.proto_flat.specs.declared.fault.ExpandFaultKind.TheVariants.{TooLarge}
 use Rattle.proto_flat.specs.declared.flat.Flat.{Flat}
-use Rattle.proto_walk.specs.Whole.{flat}
+use Rattle.proto_meaning.specs.Flat.{flat}
 use Rattle.route_core.specs.Resolved.{resolved}
 use Rattle.scene_core.specs.declared.scene.Route.{Route}
 use Rattle.scene_core.specs.Building.{scene_of}

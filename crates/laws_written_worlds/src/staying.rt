@@ -9,7 +9,8 @@ use laws_again::{
     document_scenes_are_sound, scenes_again_have_room, written_scenes_are_again,
     written_scenes_exist,
 };
-use laws_text::{expanded_are_named, scenes_are_writable, written_scenes_spell};
+use laws_spelled::spelled_flats_are_named;
+use laws_text::{scenes_are_writable, written_scenes_spell};
 use laws_written::{fields_are_distinct, written_routes_stay, written_scenes_are_flat};
 
 /// What is written of a scene in a state that fits is too large, or is read as the scene, with what
@@ -17,7 +18,7 @@ use laws_written::{fields_are_distinct, written_routes_stay, written_scenes_are_
 pub fn written_scenes_stay()
     ensures { ScenesStay }
 {
-    expanded_are_named();
+    spelled_flats_are_named();
     scenes_are_writable();
     written_scenes_spell();
     fitting_worlds_are_kept();

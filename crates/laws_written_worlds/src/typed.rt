@@ -7,7 +7,7 @@ ghost use Rattle.laws_written_worlds.specs.Typed.{RunningWorldsAreOfType, Worlds
 
 use crate::laws::fitting_worlds_are_kept;
 use laws_again::{document_scenes_are_sound, values_are_kept_again, written_scenes_are_again};
-use laws_text::expanded_are_named;
+use laws_spelled::spelled_flats_are_named;
 use laws_written::fields_are_distinct;
 
 /// In a world where each value is in the range of its field, what a node keeps of a field is of the
@@ -29,7 +29,7 @@ pub fn written_worlds_are_again()
     ensures reached { WrittenWorldsAreAgain }
     ensures running { RunningWorldsAreAgain }
 {
-    expanded_are_named();
+    spelled_flats_are_named();
     fitting_worlds_are_kept();
     fields_are_distinct();
     document_scenes_are_sound();

@@ -15,7 +15,7 @@ use Rattle.classic_text.specs.Reading.{read_text}
 use Rattle.classic_text.specs.declared.fault.ReadFault.{ReadFault}
 use Rattle.proto_flat.specs.declared.flat.Flat.{Flat}
 use Rattle.proto_flat.specs.declared.fault.ExpandFault.{ExpandFault}
-use Rattle.proto_walk.specs.Whole.{flat}
+use Rattle.proto_meaning.specs.Flat.{flat}
 use Rattle.scene_core.specs.Building.{scene_of}
 use Rattle.scene_core.specs.Scene.{SceneView}
 use Rattle.scene_core.specs.declared.scene.Route.{Route}

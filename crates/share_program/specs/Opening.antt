@@ -3,8 +3,8 @@
 use Rattle.std.specs.Prelude.{◌≡◌, ◌⊎◌, Option, ℕ, List, Result, Ok, Err}
 use Rattle.x3d_values.specs.Stamp.{Stamp}
 use Rattle.classic_text.specs.Reading.{read_text}
-use Rattle.proto_walk.specs.Whole.{flat}
 use Rattle.proto_flat.specs.declared.flat.Flat.{Flat}
+use Rattle.proto_meaning.specs.Flat.{flat}
 use Rattle.scene_core.specs.Building.{scene_of}
 use Rattle.scene_core.specs.Scene.{SceneView}
 use Rattle.scene_core.specs.declared.scene.Route.{Route}

@@ -10,8 +10,8 @@ ghost use Rattle.share_program.specs.Opening.{IsNoJob, IsNoSchedule};
 ghost use Rattle.share_jobs.specs.declared.fault.JobFault.TheVariants.{Memory};
 
 use classic_text::read;
+use proto_expand::expand;
 use proto_flat::Flat;
-use proto_walk::expand;
 use route_core::Routes;
 use scene_core::Scene;
 use share_io::read_whole;
