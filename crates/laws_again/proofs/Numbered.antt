@@ -11,7 +11,7 @@ use Rattle.classic_tree.specs.declared.tree.Declaration.{Declaration}
 use Rattle.proto_flat.specs.declared.flat.Flat.{Flat}
 use Rattle.proto_flat.specs.declared.flat.FlatField.{FlatField}
 use Rattle.proto_flat.specs.declared.flat.FlatNode.{FlatNode}
-use Rattle.proto_fields.specs.Fields.{Signature, signature, signatures}
+use Rattle.laws_flat.specs.Signatures.{Signature, signature, signatures}
 use Rattle.laws_flat.specs.Closings.{Shown, shown}
 use Rattle.laws_flat.specs.Uses.{held, some}
 use Rattle.scene_core.specs.declared.row.DeclaredField.{DeclaredField}

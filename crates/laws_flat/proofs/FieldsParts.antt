@@ -16,7 +16,7 @@ use Rattle.classic_tree.specs.declared.tree.RouteText.{RouteText}
 use Rattle.classic_tree.specs.declared.tree.Statement.{fold-roll-Statement}
 use Rattle.classic_tree.specs.declared.tree.Statement.TheVariants as statement
 use Rattle.classic_tree.proofs.Mapped.{given_mapped}
-use Rattle.proto_fields.specs.Fields.{Signature, signature}
+use Rattle.laws_flat.specs.Signatures.{Signature, signature}
 use Rattle.laws_flat.specs.Uses.{named}
 use Rattle.laws_flat.specs.Fields.{FieldRead, Reading, Got, closes, interface_of, numbering, opens, Item, NodeStep, Numbering, StatementStep, each, gives, got_map, read_one, read_full, read_given, read_item, read_node, read_statement, declares, item_step, node_step, proto_step, statement_step}
 use Rattle.laws_flat.specs.Fields.{item as item_read}

@@ -16,7 +16,7 @@ use Rattle.classic_tree.specs.declared.tree.RouteText.{RouteText}
 use Rattle.classic_tree.specs.declared.tree.Statement.{fold-roll-Statement}
 use Rattle.classic_tree.specs.declared.tree.Statement.TheVariants as statement
 use Rattle.classic_tree.proofs.Mapped.{given_mapped}
-use Rattle.proto_fields.specs.Fields.{Signature, signature}
+use Rattle.laws_flat.specs.Signatures.{Signature, signature}
 use Rattle.laws_flat.specs.Fields.{Numbering}
 use Rattle.laws_flat.specs.Shapes.{FieldShape, ItemShape, Shapes, given_shape, in_given, in_node, in_statement, item_shape, item_step, no_node, no_shape, node_of, node_step, proto_step, statement_step}
 

@@ -19,7 +19,7 @@ use Rattle.classic_tree.specs.declared.tree.Statement.{Statement}
 use Rattle.classic_tree.specs.declared.tree.Statement.TheVariants as statement
 use Rattle.proto_flat.specs.declared.flat.FlatField.{FlatField}
 use Rattle.proto_flat.specs.declared.flat.FlatNode.{FlatNode}
-use Rattle.proto_fields.specs.Fields.{Signature, signatures}
+use Rattle.laws_flat.specs.Signatures.{Signature, signatures}
 use Rattle.laws_flat.specs.Uses.{some}
 use Rattle.laws_flat.proofs.Trees.{Layers, OfGiven, OfValue, every}
 use Rattle.laws_flat.specs.Fields.{FieldRead, Got, NodeRead, Numbering, Reading, as_read, declares, each, field_read, interface_of, node_read, nothing_read, numbering, opens, read, read_full, read_given, read_item, read_node, read_on, read_one, read_statement, read_value}

@@ -1,7 +1,7 @@
--- Which nodes a document without instances has: one for each pair of braces, in the order in which
--- they close (ISO/IEC 19776-2, grammar; the order is our choice).
-use Rattle.std.specs.Prelude.{◌≡◌, ℕ, true, List, [], ◌∷◌, ◌++◌, map, Option, Some, Ok, is_some}
-use Rattle.std.specs.List.{AllByRecursion, flat_map}
+-- The pairs of braces of a document outside declarations, in the order in which they close (ISO/IEC
+-- 19776-2, grammar; the order is our choice).
+use Rattle.std.specs.Prelude.{◌≡◌, ℕ, true, List, [], ◌∷◌, ◌++◌, Option, Some, is_some}
+use Rattle.std.specs.List.{flat_map}
 use Rattle.x3d_values.specs.declared.node_type.NodeType.{NodeType}
 use Rattle.x3d_values.specs.Names.{node_type_named}
 use Rattle.classic_tree.specs.declared.tree.BodyItem.{BodyItem, fold-BodyItem}
@@ -13,9 +13,7 @@ use Rattle.classic_tree.specs.declared.tree.NodeText.{NodeText, fold-NodeText}
 use Rattle.classic_tree.specs.declared.tree.RawValue.{RawValue}
 use Rattle.classic_tree.specs.declared.tree.RawValue.TheVariants as value
 use Rattle.classic_tree.specs.declared.tree.Statement.{Statement, fold-Statement}
-use Rattle.proto_flat.specs.declared.flat.Flat.{Flat}
 use Rattle.proto_flat.specs.declared.flat.FlatNode.{FlatNode}
-use Rattle.proto_walk.specs.Whole.{flat}
 
 -- a pair of braces: the word before it, and the name that DEF gives
 pub record Braces : Type 0 where
@@ -72,7 +70,7 @@ in_statement = fold-Statement Step Step Step Step item_step node_step statement_
 abbrev pub closings : Document → List Braces
 closings document = flat_map in_statement document.statements
 
--- ---- the law
+-- ---- nodes
 
 -- the braces are those of a node, not of an instance
 abbrev pub IsOfNode : Braces → Type 0
@@ -87,9 +85,3 @@ shown node = (Some node.node_type, node.name)
 
 abbrev pub expected : Braces → Shown
 expected braces = (node_type_named braces.word, braces.name)
-
--- a document without instances has the node of each pair of braces in the order in which they close
-abbrev pub NodesClose : Type 0
-NodesClose =
-    (d : Document) (f : Flat) → AllByRecursion IsOfNode (closings d) → flat d ≡ Ok f
-    → map shown f.nodes ≡ map expected (closings d)

@@ -1,7 +1,7 @@
 -- Which fields a node has in the flat form of a document without instances, and their values
 -- (ISO/IEC 19775-1, object model, fields): those that stand between its braces.
-use Rattle.std.specs.Prelude.{◌≡◌, ℕ, List, [], ◌∷◌, ◌++◌, length, map, Option, Some, None, option_map, Ok, slice_set}
-use Rattle.std.specs.List.{AllByRecursion, flat_map, fold}
+use Rattle.std.specs.Prelude.{ℕ, List, [], ◌∷◌, ◌++◌, length, map, Option, Some, None, option_map, slice_set}
+use Rattle.std.specs.List.{flat_map, fold}
 use Rattle.std.specs.Option.{option_or}
 use Rattle.x3d_values.specs.declared.node_type.NodeType.{NodeType}
 use Rattle.x3d_values.specs.Names.{node_type_named}
@@ -14,14 +14,10 @@ use Rattle.classic_tree.specs.declared.tree.NodeText.{NodeText, fold-NodeText}
 use Rattle.classic_tree.specs.declared.tree.RawValue.{RawValue}
 use Rattle.classic_tree.specs.declared.tree.RawValue.TheVariants as value
 use Rattle.classic_tree.specs.declared.tree.Statement.{Statement, fold-Statement}
-use Rattle.proto_flat.specs.declared.flat.Flat.{Flat}
 use Rattle.proto_flat.specs.declared.flat.FlatField.{FlatField}
 use Rattle.proto_flat.specs.declared.flat.FlatNode.{FlatNode}
-use Rattle.proto_fields.specs.Fields.{Signature, signature, signatures, of_type, of_declared, own_interface}
-use Rattle.proto_fields.specs.declared.given.KnownField.{KnownField}
-use Rattle.proto_walk.specs.Whole.{flat}
-use Rattle.laws_flat.specs.Closings.{IsOfNode, closings}
 use Rattle.laws_flat.specs.Readings.{Step, same}
+use Rattle.laws_flat.specs.Signatures.{KnownField, Signature, signature, signatures, of_type, of_declared, own_interface}
 use Rattle.laws_flat.specs.Uses.{Opened, named, some}
 
 -- a field between braces: the line of its name, its number among the fields of the node, None
@@ -208,7 +204,7 @@ read_on r s = read_statement s r
 abbrev pub read : Document → Reading
 read document = fold read_on nothing_read document.statements
 
--- ---- the law
+-- ---- a flat document
 
 -- a value of a flat document
 abbrev pub as_read : RawValue ℕ → RawValue (Option ℕ)
@@ -230,11 +226,3 @@ field_read field =
 abbrev pub node_read : FlatNode → NodeRead
 node_read node =
     record { fields = map field_read node.fields; interface = signatures node.interface }
-
--- the n-th node of the flat form of a document without instances has the fields that stand between
--- the n-th braces that close, in the order of the text, each with its number and its value, and
--- declares the fields that are declared there
-abbrev pub FieldsAreRead : Type 0
-FieldsAreRead =
-    (d : Document) (f : Flat) → AllByRecursion IsOfNode (closings d) → flat d ≡ Ok f
-    → map node_read f.nodes ≡ (read d).closed

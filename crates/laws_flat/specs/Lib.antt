@@ -6,3 +6,4 @@ pub mod Uses
 pub mod Routes
 pub mod Fields
 pub mod Shapes
+pub mod Signatures

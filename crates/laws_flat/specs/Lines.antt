@@ -16,7 +16,6 @@ use Rattle.proto_flat.specs.declared.flat.Flat.{Flat}
 use Rattle.proto_flat.specs.declared.flat.FlatField.{FlatField}
 use Rattle.proto_flat.specs.declared.flat.FlatNode.{FlatNode}
 use Rattle.proto_flat.specs.declared.flat.FlatRoute.{FlatRoute}
-use Rattle.proto_walk.specs.Whole.{flat}
 
 -- ---- a tree with 0 in place of each line
 
@@ -91,7 +90,7 @@ unlined_flat f =
       routes = map unlined_flat_route f.routes;
     }
 
--- ---- the law
+-- ---- alike
 
 -- the same but for lines, or faults of one kind
 abbrev pub AreAlike : Result Flat ExpandFault → Result Flat ExpandFault → Type 0
@@ -99,7 +98,3 @@ AreAlike (Ok f) (Ok g) = unlined_flat f ≡ unlined_flat g
 AreAlike (Err a) (Err b) = a.kind ≡ b.kind
 AreAlike (Ok f) (Err b) = ⊥
 AreAlike (Err a) (Ok g) = ⊥
-
--- of documents that differ in lines alone
-abbrev pub LinesAreForFaults : Type 0
-LinesAreForFaults = (d e : Document) → unlined d ≡ unlined e → AreAlike (flat d) (flat e)

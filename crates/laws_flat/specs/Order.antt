@@ -1,7 +1,6 @@
 -- What a flat document names stands in it, and what a node holds stands before the node.
-use Rattle.std.specs.Prelude.{◌≡◌, ℕ, ◌<◌, List, [], ◌∷◌, length, Some, Ok, slice_get}
+use Rattle.std.specs.Prelude.{◌≡◌, ℕ, ◌<◌, List, [], ◌∷◌, length, Some, slice_get}
 use Rattle.std.specs.List.{AllByRecursion}
-use Rattle.classic_tree.specs.declared.tree.Document.{Document}
 use Rattle.classic_tree.specs.declared.tree.RawValue.{RawValue}
 use Rattle.classic_tree.specs.declared.tree.RawValue.TheVariants.{Node, NodeList}
 use Rattle.proto_flat.specs.declared.flat.Flat.{Flat}
@@ -10,7 +9,6 @@ use Rattle.proto_flat.specs.declared.flat.FlatEnd.TheVariants.{At}
 use Rattle.proto_flat.specs.declared.flat.FlatField.{FlatField}
 use Rattle.proto_flat.specs.declared.flat.FlatNode.{FlatNode}
 use Rattle.proto_flat.specs.declared.flat.FlatRoute.{FlatRoute}
-use Rattle.proto_walk.specs.Whole.{flat}
 
 -- ---- numbers below a bound
 
@@ -37,7 +35,7 @@ IsEndBelow bound _ = Unit {0}
 abbrev pub IsRouteBelow : ℕ → FlatRoute → Type 0
 IsRouteBelow bound route = IsEndBelow bound route.source × IsEndBelow bound route.target
 
--- ---- the law
+-- ---- a flat document
 
 pub record IsOrdered (f : Flat) : Type 0 where
   -- the nodes that a node's fields name have lower numbers than the node
@@ -47,6 +45,3 @@ pub record IsOrdered (f : Flat) : Type 0 where
   pub roots : AreBelow (length f.nodes) f.roots
   pub helpers : AreBelow (length f.nodes) f.helpers
   pub routes : AllByRecursion (IsRouteBelow (length f.nodes)) f.routes
-
-abbrev pub FlatsAreOrdered : Type 0
-FlatsAreOrdered = (d : Document) (f : Flat) → flat d ≡ Ok f → IsOrdered f

@@ -1,18 +1,14 @@
 -- Which nodes the ROUTEs of a document without instances join (ISO/IEC 19775-1, ROUTE, and DEF and
 -- USE): each end is the nearest DEF of its name before the ROUTE, whether its braces are closed
 -- there or not.
-use Rattle.std.specs.Prelude.{◌≡◌, ℕ, ◌+◌, if◌then◌else◌, List, [], ◌∷◌, ◌++◌, length, map, Option, Some, None, Ok, slice_get, slice_set}
-use Rattle.std.specs.List.{AllByRecursion}
+use Rattle.std.specs.Prelude.{ℕ, ◌+◌, if◌then◌else◌, List, [], ◌∷◌, ◌++◌, length, map, Option, Some, None, slice_get, slice_set}
 use Rattle.std.specs.Option.{option_or}
 use Rattle.classic_tree.specs.declared.tree.Document.{Document}
 use Rattle.classic_tree.specs.declared.tree.Place.{Place}
 use Rattle.classic_tree.specs.declared.tree.RouteText.{RouteText}
-use Rattle.proto_flat.specs.declared.flat.Flat.{Flat}
 use Rattle.proto_flat.specs.declared.flat.FlatEnd.{FlatEnd}
 use Rattle.proto_flat.specs.declared.flat.FlatEnd.TheVariants.{At, NoNode}
 use Rattle.proto_flat.specs.declared.flat.FlatRoute.{FlatRoute}
-use Rattle.proto_walk.specs.Whole.{flat}
-use Rattle.laws_flat.specs.Closings.{IsOfNode, closings}
 use Rattle.laws_flat.specs.Readings.{Step, Steps, read_document, same}
 use Rattle.laws_flat.specs.Uses.{Opened, has_name}
 
@@ -92,7 +88,7 @@ node_at opened (Some place) = node_of (slice_get opened place)
 abbrev pub end_shown : List Opened → ReadEnd → FlatEnd
 end_shown opened end = end_at end.field (node_at opened end.place)
 
--- ---- the law
+-- ---- both ends
 
 -- both ends of a route
 abbrev pub Shown : Type 0
@@ -110,9 +106,3 @@ shown_of r = map (read_shown r.opened) r.routes
 
 abbrev pub routes_read : Document → List Shown
 routes_read document = shown_of (read_document steps document nothing_read)
-
--- the flat form of a document without instances has these routes
-abbrev pub RoutesAreRead : Type 0
-RoutesAreRead =
-    (d : Document) (f : Flat) → AllByRecursion IsOfNode (closings d) → flat d ≡ Ok f
-    → map route_shown f.routes ≡ routes_read d

@@ -1,7 +1,7 @@
 -- The fields of nodes with their nodes left out (ISO/IEC 19775-1, object model, fields): this much
 -- depends on no name, and on no number of a node.
-use Rattle.std.specs.Prelude.{◌≡◌, ℕ, List, [], ◌∷◌, ◌++◌, map, Option, Some, Ok}
-use Rattle.std.specs.List.{AllByRecursion, flat_map}
+use Rattle.std.specs.Prelude.{◌≡◌, ℕ, List, [], ◌∷◌, ◌++◌, map, Option, Some}
+use Rattle.std.specs.List.{flat_map}
 use Rattle.x3d_values.specs.Names.{node_type_named}
 use Rattle.classic_tree.specs.declared.tree.BodyItem.{BodyItem, fold-BodyItem}
 use Rattle.classic_tree.specs.declared.tree.BodyItem.TheOpen.{BodyItem-F, NodeText-F, Statement-F, ProtoText-F}
@@ -12,14 +12,11 @@ use Rattle.classic_tree.specs.declared.tree.NodeText.{NodeText, fold-NodeText}
 use Rattle.classic_tree.specs.declared.tree.RawValue.{RawValue}
 use Rattle.classic_tree.specs.declared.tree.RawValue.TheVariants as value
 use Rattle.classic_tree.specs.declared.tree.Statement.{Statement, fold-Statement}
-use Rattle.proto_flat.specs.declared.flat.Flat.{Flat}
 use Rattle.proto_flat.specs.declared.flat.FlatField.{FlatField}
 use Rattle.proto_flat.specs.declared.flat.FlatNode.{FlatNode}
-use Rattle.proto_fields.specs.Fields.{Signature, signature, signatures}
-use Rattle.proto_walk.specs.Whole.{flat}
-use Rattle.laws_flat.specs.Closings.{IsOfNode, closings}
 use Rattle.laws_flat.specs.Uses.{held}
 use Rattle.laws_flat.specs.Fields.{Numbering, interface_of, numbering}
+use Rattle.laws_flat.specs.Signatures.{Signature, signature, signatures}
 
 -- a value in which it is left out which nodes stand there
 abbrev pub no_node : {N : Type 0} → N → Unit {0}
@@ -142,14 +139,7 @@ abbrev pub node_shape : FlatNode → NodeShape
 node_shape node =
     record { fields = map field_shape node.fields; interface = signatures node.interface }
 
--- the n-th node of the flat form of a document without instances has the fields that stand between
--- the n-th braces that close, with their values up to which nodes these hold
-abbrev pub ShapesStay : Type 0
-ShapesStay =
-    (d : Document) (f : Flat) → AllByRecursion IsOfNode (closings d) → flat d ≡ Ok f
-    → map node_shape f.nodes ≡ shapes d
-
--- and which nodes these are is all that is left: nodes with the same shape, in which stand the same
+-- which nodes stand in a node is all that is left: nodes with the same shape, in which stand the same
 -- nodes, have the same fields
 abbrev pub NodesTellTheRest : Type 0
 NodesTellTheRest =

@@ -1,14 +1,11 @@
 -- Which node a USE gives in a document without instances (ISO/IEC 19775-1, DEF and USE): the
 -- nearest DEF before it of that name whose braces are closed.
-use Rattle.std.specs.Prelude.{◌≡◌, ℕ, Bool, false, if◌then◌else◌, List, [], ◌∷◌, ◌++◌, length, map, Option, Some, None, Ok, slice_set}
-use Rattle.std.specs.List.{AllByRecursion, flat_map, fold}
+use Rattle.std.specs.Prelude.{ℕ, Bool, false, if◌then◌else◌, List, [], ◌∷◌, ◌++◌, length, map, Option, Some, None, slice_set}
+use Rattle.std.specs.List.{flat_map, fold}
 use Rattle.std.specs.Option.{option_or}
 use Rattle.std.specs.Str.{bytes_eq}
 use Rattle.classic_tree.specs.declared.tree.Document.{Document}
-use Rattle.proto_flat.specs.declared.flat.Flat.{Flat}
 use Rattle.proto_flat.specs.declared.flat.FlatNode.{FlatNode}
-use Rattle.proto_walk.specs.Whole.{flat}
-use Rattle.laws_flat.specs.Closings.{IsOfNode, closings}
 use Rattle.laws_flat.specs.Order.{nodes_in}
 use Rattle.laws_flat.specs.Readings.{Step, Steps, read_document, same}
 
@@ -74,7 +71,7 @@ steps =
 abbrev pub read : Document → Reading
 read document = read_document steps document nothing_read
 
--- ---- the law
+-- ---- nodes
 
 abbrev pub some : ℕ → Option ℕ
 some node = Some node
@@ -82,10 +79,3 @@ some node = Some node
 -- the nodes in the fields of a node
 abbrev pub held : FlatNode → List (Option ℕ)
 held node = map some (flat_map (λ field. nodes_in field.value) node.fields)
-
--- in the flat form of a document without instances stand those nodes that are read, each in its
--- place: between its braces, where each USE is the node that it names, and as roots
-abbrev pub UsesAreNamed : Type 0
-UsesAreNamed =
-    (d : Document) (f : Flat) → AllByRecursion IsOfNode (closings d) → flat d ≡ Ok f
-    → (map held f.nodes ≡ (read d).closed) × (map some f.roots ≡ (read d).here)

@@ -8,8 +8,8 @@ use Rattle.std.proofs.lemmas.Option.{none-some}
 use Rattle.x3d_values.specs.Tables.{Entry, are_distinct, numbered, row_named, rows}
 use Rattle.x3d_values.specs.declared.node_type.NodeType.{NodeType}
 use Rattle.x3d_values.specs.declared.table.FieldRow.{FieldRow}
-use Rattle.proto_fields.specs.Fields.{of_type}
-use Rattle.proto_fields.specs.declared.given.KnownField.{KnownField}
+use Rattle.laws_flat.specs.Signatures.{of_type}
+use Rattle.laws_flat.specs.Signatures.{KnownField}
 use Rattle.proto_meaning.specs.Names.{Name, Field}
 use Rattle.proto_meaning.specs.Flat.{fields_of, numbered_from}
 use Rattle.laws_flat.specs.Fields.{number_of}

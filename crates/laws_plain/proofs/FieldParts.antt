@@ -22,7 +22,7 @@ use Rattle.classic_tree.specs.declared.tree.RawValue.TheVariants as value
 use Rattle.classic_tree.specs.declared.tree.RouteText.{RouteText}
 use Rattle.classic_tree.proofs.Mapped.{given_mapped, declaration_mapped}
 use Rattle.proto_flat.specs.declared.fault.ExpandFaultKind.TheVariants.{UnknownField}
-use Rattle.proto_fields.specs.Fields.{Signature, signature, signatures}
+use Rattle.laws_flat.specs.Signatures.{Signature, signature, signatures}
 use Rattle.proto_meaning.specs.Names.{Name, Field, Filled}
 use Rattle.proto_meaning.specs.Flat.{field, fields_of, numbered_from}
 use Rattle.proto_meaning.proofs.Induction.{OfGiven}

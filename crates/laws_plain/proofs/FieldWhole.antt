@@ -15,7 +15,7 @@ use Rattle.classic_tree.specs.declared.tree.RouteText.{RouteText}
 use Rattle.classic_tree.specs.declared.tree.Statement.{Statement}
 use Rattle.classic_tree.specs.declared.tree.Statement.TheVariants as statement_text
 use Rattle.proto_flat.specs.declared.fault.ExpandFaultKind.TheVariants.{UnknownNode, UseWithoutDef}
-use Rattle.proto_fields.specs.Fields.{Signature, signatures}
+use Rattle.laws_flat.specs.Signatures.{Signature, signatures}
 use Rattle.proto_meaning.specs.Names.{Name, Field}
 use Rattle.proto_meaning.specs.Flat.{field_with, fields_of}
 use Rattle.proto_meaning.proofs.Induction.{Layers, every}

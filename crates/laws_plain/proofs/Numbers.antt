@@ -11,8 +11,8 @@ use Rattle.x3d_values.specs.declared.table.FieldRow.{FieldRow}
 use Rattle.x3d_values.specs.contracts.node_type.NodeType as node_types
 use Rattle.x3d_values.specs.declared.node_type.NodeType.{NodeType}
 use Rattle.x3d_values.specs.declared.node_type.NodeType.TheVariants.{Script}
-use Rattle.proto_fields.specs.Fields.{Signature, of_declared, of_row, of_signature, of_type, signature, signatures}
-use Rattle.proto_fields.specs.Fields as known
+use Rattle.laws_flat.specs.Signatures.{Signature, of_declared, of_row, of_signature, of_type, signature, signatures}
+use Rattle.laws_flat.specs.Signatures as known
 use Rattle.proto_meaning.specs.Names.{Name, Field}
 use Rattle.proto_meaning.specs.Flat.{field_with, fields_of, numbered_from}
 use Rattle.laws_flat.specs.Fields.{interface_of, number_of, numbering}

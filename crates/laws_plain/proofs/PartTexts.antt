@@ -15,7 +15,7 @@ use Rattle.classic_tree.specs.declared.tree.RouteText.{RouteText}
 use Rattle.classic_tree.specs.declared.tree.Statement.{fold-roll-Statement}
 use Rattle.classic_tree.specs.declared.tree.Statement.TheVariants as statement
 use Rattle.classic_tree.proofs.Mapped.{given_mapped}
-use Rattle.proto_fields.specs.Fields.{signature}
+use Rattle.laws_flat.specs.Signatures.{signature}
 use Rattle.laws_plain.specs.Parts.{Braces, Declares, Entry, Gives, Inside, Item, Prototype, entries, in_given, in_item, in_node, in_statement, item_step, node_step, proto_step, statement_step, these}
 use Rattle.laws_plain.specs.Parts.{item as part}
 

@@ -9,9 +9,9 @@ use Rattle.std.proofs.lemmas.Option.{none-some}
 use Rattle.std.proofs.lemmas.Slice.Eq.{bytes_eq-Decides}
 use Rattle.x3d_values.specs.Tables.{rows}
 use Rattle.x3d_values.specs.declared.node_type.NodeType.{NodeType}
-use Rattle.proto_fields.specs.Fields.{Signature, of_declared, of_type, own_interface}
-use Rattle.proto_fields.specs.Fields as known
-use Rattle.proto_fields.specs.declared.given.KnownField.{KnownField}
+use Rattle.laws_flat.specs.Signatures.{Signature, of_declared, of_type, own_interface}
+use Rattle.laws_flat.specs.Signatures as known
+use Rattle.laws_flat.specs.Signatures.{KnownField}
 use Rattle.proto_meaning.specs.Names.{Name, Field, Filled}
 use Rattle.proto_meaning.specs.Flat.{fields_of, numbered_from}
 use Rattle.laws_meaning.specs.Plain.{Between, is_filled}

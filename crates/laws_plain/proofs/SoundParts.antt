@@ -11,7 +11,7 @@ use Rattle.classic_tree.specs.declared.tree.RawValue.{RawValue}
 use Rattle.classic_tree.specs.declared.tree.RawValue.TheVariants as value
 use Rattle.classic_tree.proofs.Mapped.{given_mapped}
 use Rattle.proto_flat.specs.declared.fault.ExpandFault.{ExpandFault}
-use Rattle.proto_fields.specs.Fields.{Signature}
+use Rattle.laws_flat.specs.Signatures.{Signature}
 use Rattle.proto_meaning.specs.Limits.{Met, Outcome, follow, and_then}
 use Rattle.proto_meaning.specs.Names.{Field}
 use Rattle.proto_meaning.proofs.Induction.{OfGiven}

@@ -25,7 +25,7 @@ use Rattle.proto_flat.specs.Fault.{fault}
 use Rattle.proto_flat.specs.declared.fault.ExpandFault.{ExpandFault}
 use Rattle.proto_flat.specs.declared.fault.ExpandFaultKind.TheVariants.{UnknownField, UnknownNode, UseWithoutDef, TooLarge}
 use Rattle.proto_flat.specs.declared.flat.Flat.{Flat}
-use Rattle.proto_fields.specs.Fields.{Signature, of_type, signature}
+use Rattle.laws_flat.specs.Signatures.{Signature, of_type, signature}
 use Rattle.proto_meaning.specs.Limits.{Met, Outcome, follow, and_then, is_within, with_few_routes}
 use Rattle.proto_meaning.specs.Names.{Name, Field}
 use Rattle.proto_meaning.specs.Flat.{field, fields_of, header_of, numbered_from}

@@ -11,7 +11,7 @@ use Rattle.classic_tree.specs.declared.tree.NodeText.{NodeText, fold-NodeText}
 use Rattle.classic_tree.specs.declared.tree.RawValue.{RawValue}
 use Rattle.classic_tree.specs.declared.tree.RawValue.TheVariants as value
 use Rattle.classic_tree.specs.declared.tree.Statement.{Statement, fold-Statement}
-use Rattle.proto_fields.specs.Fields.{Signature, signature}
+use Rattle.laws_flat.specs.Signatures.{Signature, signature}
 
 -- a field between braces that the node is to have, or one that is declared there
 pub data Entry : Type 0 where

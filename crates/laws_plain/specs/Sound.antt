@@ -7,8 +7,8 @@ use Rattle.x3d_values.specs.Names.{node_type_named}
 use Rattle.classic_tree.specs.declared.tree.Document.{Document}
 use Rattle.proto_flat.specs.declared.fault.ExpandFault.{ExpandFault}
 use Rattle.proto_flat.specs.declared.fault.ExpandFaultKind.TheVariants.{TooLarge}
-use Rattle.proto_fields.specs.Fields.{Signature, of_type, of_declared}
-use Rattle.proto_fields.specs.declared.given.KnownField.{KnownField}
+use Rattle.laws_flat.specs.Signatures.{Signature, of_type, of_declared}
+use Rattle.laws_flat.specs.Signatures.{KnownField}
 use Rattle.proto_meaning.specs.Flat.{flat}
 use Rattle.laws_flat.specs.Fields.{number_of}
 use Rattle.laws_flat.specs.Uses.{Reading, read}

@@ -10,7 +10,7 @@ use Rattle.x3d_values.specs.Tables.{Entry, are_distinct, row_named, rows}
 use Rattle.classic_tree.specs.declared.tree.Declaration.{Declaration}
 use Rattle.proto_flat.specs.declared.flat.Flat.{Flat}
 use Rattle.proto_flat.specs.declared.flat.FlatNode.{FlatNode}
-use Rattle.proto_fields.specs.Fields.{of_row}
+use Rattle.laws_flat.specs.Signatures.{of_row}
 use Rattle.scene_core.specs.declared.row.DeclaredField.{DeclaredField}
 use Rattle.scene_core.specs.declared.scene.SceneNode.{SceneNode}
 use Rattle.scene_core.specs.Building.{scene_of}

@@ -16,7 +16,7 @@ use Rattle.classic_tree.specs.declared.tree.Statement.{Statement}
 use Rattle.classic_tree.specs.declared.tree.Statement.TheVariants as statement
 use Rattle.proto_flat.specs.declared.flat.Flat.{Flat}
 use Rattle.proto_flat.specs.declared.flat.FlatNode.{FlatNode}
-use Rattle.proto_fields.specs.Fields.{Signature}
+use Rattle.laws_flat.specs.Signatures.{Signature}
 use Rattle.laws_flat.specs.Fields.{interface_of, numbering}
 use Rattle.laws_flat.specs.Shapes.{FieldShape, NodeShape, Shapes, in_node, in_statement, no_node, node_of, shapes}
 use Rattle.laws_flat.proofs.ShapeParts.{all_fields, declared_shapes, in_full, in_node_statement, in_route, shape-field}

@@ -11,7 +11,7 @@ use Rattle.classic_tree.specs.declared.tree.Given.TheVariants as given
 use Rattle.classic_tree.specs.declared.tree.NodeText.{NodeText}
 use Rattle.classic_tree.specs.declared.tree.RawValue.{RawValue}
 use Rattle.classic_tree.specs.declared.tree.RawValue.TheVariants as raw
-use Rattle.proto_fields.specs.Fields.{Signature, own_interface}
+use Rattle.laws_flat.specs.Signatures.{Signature, own_interface}
 use Rattle.laws_flat.specs.Fields.{Numbering, interface_of, numbering}
 use Rattle.laws_flat.specs.Shapes.{FieldShape, blank, item_shape, no_node, node_of}
 use Rattle.laws_flat.proofs.ShapeParts.{all_fields, declared_shapes, shape-declaration, shape-field}

@@ -9,7 +9,7 @@ use Rattle.x3d_values.specs.declared.fields.Fields.{Fields}
 use Rattle.x3d_values.specs.declared.node_type.NodeType.{NodeType}
 use Rattle.x3d_values.specs.declared.value.Value.{Value}
 use Rattle.x3d_values.specs.Tables.{Entry, are_distinct, rows}
-use Rattle.proto_fields.specs.Fields.{Signature, own_interface}
+use Rattle.laws_flat.specs.Signatures.{Signature, own_interface}
 use Rattle.laws_flat.specs.Fields.{Numbering, numbering}
 use Rattle.laws_flat.specs.Shapes.{FieldShape, NodeShape, blank, field_shape}
 use Rattle.scene_core.specs.declared.row.DeclaredField.{DeclaredField}

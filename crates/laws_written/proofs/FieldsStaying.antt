@@ -12,7 +12,7 @@ use Rattle.classic_tree.specs.declared.tree.Given.TheVariants as given
 use Rattle.proto_flat.specs.declared.flat.Flat.{Flat}
 use Rattle.proto_flat.specs.declared.flat.FlatField.{FlatField}
 use Rattle.proto_flat.specs.declared.flat.FlatNode.{FlatNode}
-use Rattle.proto_fields.specs.Fields.{Signature, signatures}
+use Rattle.laws_flat.specs.Signatures.{Signature, signatures}
 use Rattle.laws_flat.specs.Closings.{Braces, IsOfNode, Shown, closings, expected}
 use Rattle.laws_flat.specs.Uses.{held, some}
 use Rattle.laws_flat.specs.Shapes.{NodeShape, NodesTellTheRest, field_shape, node_shape}

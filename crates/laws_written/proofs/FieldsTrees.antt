@@ -14,7 +14,7 @@ use Rattle.classic_tree.specs.declared.tree.BodyItem.{BodyItem}
 use Rattle.classic_tree.specs.declared.tree.Given.TheVariants as given
 use Rattle.classic_tree.specs.declared.tree.NodeText.{NodeText}
 use Rattle.proto_flat.specs.declared.flat.FlatNode.{FlatNode}
-use Rattle.proto_fields.specs.Fields.{own_interface}
+use Rattle.laws_flat.specs.Signatures.{own_interface}
 use Rattle.laws_flat.specs.Fields.{numbering}
 use Rattle.laws_flat.specs.Shapes.{NodeShape, Shapes, in_node, in_value, item_shape, node_of}
 use Rattle.laws_flat.proofs.ShapeParts.{all_fields, declared_shapes, in_full, in_use, shape-declaration, shape-field}

@@ -14,8 +14,8 @@ use Rattle.x3d_values.specs.declared.node_type.NodeType.TheVariants.{Script}
 use Rattle.x3d_values.specs.declared.table.FieldRow.{FieldRow}
 use Rattle.x3d_values.specs.declared.value.Value.{Value}
 use Rattle.x3d_values.specs.Tables.{Entry as Row, are_distinct, numbered, row_named, rows}
-use Rattle.proto_fields.specs.declared.given.KnownField.{KnownField}
-use Rattle.proto_fields.specs.Fields.{Signature, numbered_from, of_declared, of_row, of_type, own_interface}
+use Rattle.laws_flat.specs.Signatures.{KnownField}
+use Rattle.laws_flat.specs.Signatures.{Signature, numbered_from, of_declared, of_row, of_type, own_interface}
 use Rattle.laws_flat.specs.Fields.{Numbering, number_of, numbering}
 use Rattle.laws_flat.proofs.Lists.{all_push, all_weaker}
 use Rattle.scene_core.specs.declared.row.DeclaredField.{DeclaredField}

@@ -20,10 +20,15 @@ use Rattle.laws_flat.specs.Uses.{Opened, has_name}
 use Rattle.laws_flat.proofs.ClosingParts.{in_declaration, in_field, in_full, in_item_proto, in_item_route, in_node_statement, in_proto, in_route, in_use}
 use Rattle.laws_flat.proofs.Trees.{Layers, OfGiven, OfValue, every}
 use Rattle.laws_flat.proofs.Lists.{all_append, get_middle, set_middle}
-use Rattle.laws_flat.proofs.UsesNames.{closed_braces, open_braces}
 use Rattle.laws_flat.specs.Readings.{Step, each, read_document, read_given, read_item, read_node, read_statement, read_value}
 use Rattle.laws_flat.specs.Routes.{Reading, closes, last_from, node_at, node_of, nothing_read, opens, routes, steps}
 use Rattle.laws_flat.proofs.Readings.{read-declaration, read-field, read-full, read-item-proto, read-item-route, read-node-statement, read-proto, read-route, read-use}
+
+abbrev pub open_braces : Option (List ℕ) → Opened
+open_braces name = record { name = name; node = None }
+
+abbrev pub closed_braces : Option (List ℕ) → ℕ → Opened
+closed_braces name node = record { name = name; node = Some node }
 
 abbrev pub if_one : Bool → ℕ
 if_one true = 1

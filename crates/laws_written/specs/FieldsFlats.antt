@@ -6,7 +6,7 @@ use Rattle.x3d_values.specs.declared.fields.Fields.{Fields}
 use Rattle.proto_flat.specs.declared.flat.Flat.{Flat}
 use Rattle.proto_flat.specs.declared.flat.FlatField.{FlatField}
 use Rattle.proto_flat.specs.declared.flat.FlatNode.{FlatNode}
-use Rattle.proto_fields.specs.Fields.{Signature, signatures}
+use Rattle.laws_flat.specs.Signatures.{Signature, signatures}
 use Rattle.proto_meaning.specs.Flat.{flat}
 use Rattle.scene_core.specs.declared.scene.Route.{Route}
 use Rattle.scene_core.specs.Building.{scene_of}

@@ -1,2 +1,0 @@
-pub mod Equations
-pub mod Scopes

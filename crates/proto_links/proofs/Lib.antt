@@ -1,4 +1,0 @@
-mod Places
-mod Found
-mod Grown
-mod Steps

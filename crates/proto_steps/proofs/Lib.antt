@@ -1,6 +1,0 @@
-pub mod Declared
-pub mod Equations
-pub mod Outcomes
-pub mod Refusals
-pub mod Sights
-pub mod Tables

@@ -1,5 +1,0 @@
-pub mod Chains
-pub mod Moves
-pub mod InstanceMoves
-pub mod Refusals
-pub mod Sights

@@ -1,4 +1,0 @@
-pub mod Content
-pub mod Frames
-pub mod Whole
-pub mod Rows
