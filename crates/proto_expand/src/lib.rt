@@ -2,8 +2,8 @@
 //! and USE).
 #![tactic(auto)]
 
-mod expand;
+mod document;
 mod whole;
 
-pub use expand::expand;
+pub use document::expand;
 pub use whole::{Content, protos_of, walk};

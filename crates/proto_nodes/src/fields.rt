@@ -129,32 +129,20 @@ fn put_given<'t, 'a>(
 {
     let Place { line, name, field } = place;
     let at = opened.at;
+    let inside = &mut opened.inside;
     match given {
-        GivenTree::Nothing => on(put_nothing(walker, &mut opened.inside, line, name, field, twice)),
-        GivenTree::Is(outer) => on(put_is(
-            walker,
-            &mut opened.inside,
-            at,
-            line,
-            name,
-            field,
-            twice,
-            *outer,
+        GivenTree::Nothing => return on(put_nothing(walker, inside, line, name, field, twice)),
+        GivenTree::Is(outer) => return on(put_is(
+            walker, inside, at, line, name, field, twice, outer,
         )),
-        GivenTree::Plain(value) => put_plain(alloc, walker, opened, place, twice, *value),
+        GivenTree::LeftOut(wrong) => return on(put_aside(
+            walker, inside, line, name, field, twice, *wrong,
+        )),
+        GivenTree::Plain(value) => put_plain(alloc, walker, opened, place, twice, value),
         GivenTree::One(node) => put_one(walker, opened, place, twice, node),
         GivenTree::Many(count, nodes) => {
             put_many(walker, opened, place, twice, *count, nodes.as_slice())
         }
-        GivenTree::LeftOut(wrong) => on(put_aside(
-            walker,
-            &mut opened.inside,
-            line,
-            name,
-            field,
-            twice,
-            *wrong,
-        )),
     }
 }
 

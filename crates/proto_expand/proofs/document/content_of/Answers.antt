@@ -1,6 +1,6 @@
 use Rattle.proto_meaning.specs.Flat.{header_of}
 use Rattle.proto_expand.proofs.Resolved.{as-document, resolved-tied}
-use Rattle.proto_expand.proofs.expand.content_of.Goals as goal
+use Rattle.proto_expand.proofs.document.content_of.Goals as goal
 
 pub returns : goal.returns
 returns c =
