@@ -1,5 +1,5 @@
 -- A document, by its resolved text.
-use Rattle.std.proofs.Common.{◌≡◌, List, Option, None, Some, ap, subst}
+use Rattle.std.proofs.Common.{◌≡◌, List, Option, None, Some, ap, subst, sym}
 use Rattle.std.specs.Prelude.{slice_get, Result}
 use Rattle.classic_tree.specs.declared.tree.Document.{Document}
 use Rattle.classic_tree.specs.declared.tree.Statement.{Statement}
@@ -25,6 +25,9 @@ tied-one ps None None k = tt
 tied-one ps None (Some p) k = absurd k
 tied-one ps (Some t) None k = absurd k
 tied-one ps (Some t) (Some p) k = record { interface = k.1; instance = k.2 }
+
+pub in-slices : (text : List Statement) (ps qs : List ProtoTree) (ts us : List BodyTree) → IsResolved text ps ts → qs ≡ ps → us ≡ ts → IsResolved text qs us
+in-slices text ps qs ts us r same all = subst (λ x. IsResolved text x us) (sym same) (subst (λ x. IsResolved text ps x) (sym all) r)
 
 pub resolved-tied : (text : List Statement) (protos : List ProtoTree) (trees : List BodyTree) (r : IsResolved text protos trees) → Tied r.prototypes protos
 resolved-tied text protos trees r number =

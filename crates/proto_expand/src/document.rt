@@ -19,8 +19,10 @@ fn content_of(alloc: Global, document: &Document) -> Result<Content, ExpandFault
         (flat document.now) }
 {
     let text = resolve(alloc, document)?;
-    let protos = protos_of(alloc, text.protos.as_slice())?;
-    walk(alloc, protos.as_slice(), text.statements.as_slice())
+    let trees = text.protos.as_slice();
+    let statements = text.statements.as_slice();
+    let protos = protos_of(alloc, trees)?;
+    walk(alloc, protos.as_slice(), statements)
 }
 
 fn header_of(document: Document) -> Header

@@ -265,6 +265,5 @@ pub fn walk<'t, 'a>(
         → Gives memory (with_content header) result
         (limited (stand_together ps header statements.now)) }
 {
-    let content = put_text(alloc, protos, statements);
-    content
+    put_text(alloc, protos, statements)
 }
