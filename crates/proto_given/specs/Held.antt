@@ -3,30 +3,39 @@ use Rattle.std.specs.Prelude.{◌≡◌, ℕ, Bool, if◌then◌else◌, List, m
 use Rattle.std.specs.List.{list_any}
 use Rattle.std.specs.Option.{option_and_then}
 use Rattle.std.specs.Str.{bytes_eq}
-use Rattle.indexmap.specs.IndexMap.{get_by}
+use Rattle.std.specs.BTreeMap.{get_by}
+use Rattle.std.specs.Cmp.Lexicographic.{slice_cmp}
+use Rattle.std.specs.Ordering.{nat_cmp}
+use Rattle.std.specs.declared.rc.Rc.{Rc}
 use Rattle.classic_tree.specs.declared.tree.RawValue.{RawValue}
 use Rattle.proto_meaning.specs.Names.{Name, Filled, value_of}
 use Rattle.proto_given.specs.declared.given.Given.{Given}
 use Rattle.proto_given.specs.declared.given.GivenField.{GivenField}
 
-abbrev pub value_now : GivenField → Option (RawValue ℕ)
-value_now field = option_map (λ v. v.value) field.value
+abbrev pub Value : Type 0
+Value = Option (RawValue ℕ)
+
+-- the value that is shared
+abbrev pub held : {A : Type 0} → Option (Rc (RawValue ℕ) A) → Value
+held value = option_map (λ v. v.value) value
 
 abbrev pub filled_of : Name → GivenField → Filled
 filled_of name field =
-    record { line = field.line; name = name; number = field.number; value = value_now field }
+    record { line = field.line; name = name; number = field.number; value = held field.value }
 
 abbrev pub shown : Given → List Filled
-shown given = map (λ e. filled_of e.0.now e.1) given.fields.entries
+shown given = map (λ e. filled_of e.0.now e.1) given.fields.items
 
-unfoldable pub entry_of : Given → Name → Option GivenField
-entry_of given name = get_by (λ k. bytes_eq name k.now) given.fields
+-- the value of the field of that name, if it was given something
+unfoldable pub entry_of : Given → Name → Option Value
+entry_of given name =
+    option_map (λ v. held v) (get_by (λ k. slice_cmp nat_cmp name k.now) given.values)
 
-abbrev pub with_entry : Name → GivenField → (Name → Option GivenField) → Name → Option GivenField
-with_entry given field entries name = if bytes_eq given name then Some field else entries name
+abbrev pub with_entry : Name → Value → (Name → Option Value) → Name → Option Value
+with_entry given value entries name = if bytes_eq given name then Some value else entries name
 
-abbrev pub value_held : Option GivenField → Option (RawValue ℕ)
-value_held field = option_and_then value_now field
+abbrev pub value_held : Option Value → Value
+value_held entry = option_and_then (λ v. v) entry
 
 -- as the definition asks whether a field was given something
 abbrev pub has_name : Name → List Filled → Bool

@@ -1,12 +1,12 @@
 //! What fields are given, by their names and in the order of the text.
 
-ghost use Rattle.std.specs.Prelude.{◌≡◌, ◌++◌, ◌∷◌, [], List, None, false, option_map, IfOk};
+ghost use Rattle.std.specs.Prelude.{◌≡◌, ◌++◌, ◌∷◌, [], List, false, option_map, IfOk};
 ghost use Rattle.proto_meaning.specs.Names.{Filled, value_of};
-ghost use Rattle.proto_given.specs.Held.{Holds, entry_of, filled_of, has_name, shown, value_held, with_entry};
+ghost use Rattle.proto_given.specs.Held.{Holds, entry_of, filled_of, has_name, held, shown, with_entry};
 
 use classic_tree::RawValue;
-use indexmap::IndexMap;
 use std::alloc::{AllocError, AllocFailed, Global};
+use std::collections::BTreeMap;
 use std::rc::Rc;
 use x3d_lists::Text;
 
@@ -23,20 +23,20 @@ pub struct GivenField {
 /// What fields are given, no field twice.
 #[derive(Drop)]
 pub struct Given<'a> {
-    pub fields: IndexMap<&'a str, GivenField>,
+    /// In the order of the text.
+    pub fields: Vec<(&'a str, GivenField)>,
+    /// The value of each, if it has one, by its name.
+    pub values: BTreeMap<&'a str, Option<Rc<RawValue<u32>>>>,
 }
 
-/// The value of what a field is given.
-fn value_in(field: Option<&GivenField>) -> Option<&Rc<RawValue<u32>>>
-    ensures { option_map (λ v. v.now.value) result
-        ≡ value_held (option_map (λ f. f.now) field.entry) }
+/// The same value once more.
+fn shared(value: &Option<Rc<RawValue<u32>>>) -> Result<Option<Rc<RawValue<u32>>>, AllocError>
+    ensures { IfOk result (λ made. option_map (λ v. v.value) made
+        ≡ option_map (λ v. v.value) value.now) }
 {
-    match field {
-        None => None,
-        Some(field) => match &field.value {
-            None => None,
-            Some(value) => Some(value),
-        },
+    match value {
+        None => Ok(None),
+        Some(value) => Ok(Some(value.clone()?)),
     }
 }
 
@@ -47,15 +47,16 @@ impl<'a> Given<'a> {
         ensures { Holds result [] }
     {
         Given {
-            fields: IndexMap::new(alloc),
+            fields: Vec::new(alloc),
+            values: BTreeMap::new(alloc),
         }
     }
 
     #[tactic(auto, unfolding(crate::specs::Held::entry_of))]
-    fn entry(&self, name: &Text) -> Option<&GivenField>
-        ensures { option_map (λ f. f.now) result ≡ entry_of self.now name.now }
+    fn entry(&self, name: &Text) -> Option<&Option<Rc<RawValue<u32>>>>
+        ensures { option_map (λ v. held v.now) result ≡ entry_of self.now name.now }
     {
-        self.fields.get(name.as_str())
+        self.values.get(name.as_str())
     }
 
     /// Whether the field of that name was given something.
@@ -63,10 +64,7 @@ impl<'a> Given<'a> {
         ensures { (filled : List Filled) → Holds self.now filled
             → result ≡ has_name name.now filled }
     {
-        match self.entry(name) {
-            None => false,
-            Some(_field) => true,
-        }
+        self.entry(name).is_some()
     }
 
     /// The value that the field of that name was given.
@@ -74,20 +72,38 @@ impl<'a> Given<'a> {
         ensures { (filled : List Filled) → Holds self.now filled
             → option_map (λ v. v.now.value) result ≡ value_of name.now filled }
     {
-        value_in(self.entry(name))
+        match self.entry(name) {
+            None => None,
+            Some(None) => None,
+            Some(Some(value)) => Some(value),
+        }
     }
 
-    fn insert(
+    #[tactic(auto, unfolding(crate::specs::Held::entry_of))]
+    fn know(
+        &mut self,
+        name: &'a Text,
+        value: Option<Rc<RawValue<u32>>>,
+    ) -> Result<(), AllocFailed<(&'a str, Option<Rc<RawValue<u32>>>)>>
+        ensures values { IfOk result (λ _. entry_of self.new
+            ≡ with_entry name.now (held value) (entry_of self.old)) }
+        ensures fields { self.new.fields ≡ self.old.fields }
+    {
+        self.values.insert(name.as_str(), value)?;
+        Ok(())
+    }
+
+    #[tactic(auto, unfolding(crate::specs::Held::entry_of))]
+    fn push(
         &mut self,
         name: &'a Text,
         field: GivenField,
     ) -> Result<(), AllocFailed<(&'a str, GivenField)>>
-        ensures entries { entry_of self.old name.now ≡ None → IfOk result (λ _.
+        ensures fields { IfOk result (λ _.
             shown self.new ≡ shown self.old ++ filled_of name.now field ∷ []) }
-        ensures updates { IfOk result (λ _.
-            entry_of self.new ≡ with_entry name.now field (entry_of self.old)) }
+        ensures values { entry_of self.new ≡ entry_of self.old }
     {
-        self.fields.insert(name.as_str(), field)?;
+        self.fields.push((name.as_str(), field))?;
         Ok(())
     }
 
@@ -97,7 +113,9 @@ impl<'a> Given<'a> {
             → has_name name.now filled ≡ false → IfOk result (λ _.
             Holds self.new (filled ++ filled_of name.now field ∷ [])) }
     {
-        self.insert(name, field)?;
+        let value = shared(&field.value)?;
+        self.know(name, value)?;
+        self.push(name, field)?;
         Ok(())
     }
 }

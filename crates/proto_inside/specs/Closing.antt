@@ -4,7 +4,7 @@ use Rattle.std.specs.List.{filter_map}
 use Rattle.proto_flat.specs.declared.flat.FlatField.{FlatField}
 use Rattle.proto_meaning.specs.Names.{Filled}
 use Rattle.proto_given.specs.declared.given.GivenField.{GivenField}
-use Rattle.proto_given.specs.Held.{value_now}
+use Rattle.proto_given.specs.Held.{held}
 
 -- as `flat_node` has it
 abbrev pub flat_fields : List Filled → List FlatField
@@ -13,4 +13,4 @@ flat_fields filled =
 
 abbrev pub flat_field : GivenField → Option FlatField
 flat_field field =
-    option_map (λ v. record { line = field.line; number = field.number; value = v }) (value_now field)
+    option_map (λ v. record { line = field.line; number = field.number; value = v }) (held field.value)

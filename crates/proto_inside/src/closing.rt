@@ -47,9 +47,14 @@ fn add_field(
 pub fn flat_fields(alloc: Global, values: Given<'_>) -> Result<Items<FlatField>, AllocError>
     ensures { IfOk result (λ fs. fs ≡ flat_fields (given.shown values.entry)) }
 {
+    let Given {
+        fields: in_order,
+        values: by_name,
+    } = values;
+    drop(by_name);
     let mut fields = Items::new(alloc);
-    for field in values.fields.into_values() {
-        fields = add_field(alloc, fields, field)?;
+    for pair in in_order {
+        fields = add_field(alloc, fields, pair.1)?;
     }
     Ok(fields)
 }

@@ -1,2 +1,1 @@
 pub mod Equations
-pub mod Scopes

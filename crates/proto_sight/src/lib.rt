@@ -1,14 +1,9 @@
-//! Prototypes where they are declared (ISO/IEC 19775-1, 4.4.4, prototypes): what is wrong with a
-//! declaration, and which names of its interface ISs take, by the text alone.
+//! Parts of the check of a declaration (ISO/IEC 19775-1, 4.4.4, prototypes): whether a node of its own
+//! name stands in it, and whether its body has a node, by the text alone.
 #![tactic(auto)]
 
-mod bodies;
-mod check;
+mod nodes;
 mod search;
-mod sight;
-mod whole;
 
-pub use check::has_node;
+pub use nodes::has_node;
 pub use search::find_inside;
-pub use sight::{Declarations, Prototype, Table, Taken, Taker};
-pub use whole::declarations;

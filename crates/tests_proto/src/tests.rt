@@ -1,4 +1,3 @@
 //! Texts with prototypes.
 
 mod resolving;
-mod sight;

@@ -1,8 +1,11 @@
-use Rattle.std.proofs.Common.{◌≡◌, ◌++◌}
+use Rattle.std.proofs.Common.{◌≡◌, ◌++◌, List, ℕ, Bor, map}
 use Rattle.std.specs.List.{filter_map}
+use Rattle.std.specs.Vec.Iter.{into_iter_items}
 use Rattle.proto_given.specs.Held as given
+use Rattle.proto_given.specs.declared.given.GivenField.{GivenField}
 use Rattle.proto_inside.specs.Closing.{flat_field, flat_fields}
 use Rattle.proto_inside.proofs.closing.flat_fields.Given as goal
 
-abbrev pub invariant-loop-field : goal.invariant-loop-field
-invariant-loop-field l = flat_fields (given.shown l.fn.values) ≡ l.fields ++ filter_map flat_field l.field-iterator
+abbrev pub invariant-loop-pair : goal.invariant-loop-pair
+invariant-loop-pair l =
+    flat_fields (given.shown l.fn.values) ≡ l.fields ++ filter_map flat_field (map (λ (e : Bor (List ℕ) × GivenField). e.1) (into_iter_items l.pair-iterator))

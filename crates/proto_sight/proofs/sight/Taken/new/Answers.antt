@@ -1,8 +1,0 @@
-use Rattle.std.proofs.Common.{refl}
-use Rattle.std.proofs.Math.Path.{fun_ext}
-use Rattle.proto_sight.specs.Held.{names_of}
-use Rattle.proto_sight.proofs.sight.Taken.new.Goals as goal
-
-pub returns : goal.returns
-unfolding names_of
-returns c = fun_ext (λ name. rw c.new.ensures.empty refl)
