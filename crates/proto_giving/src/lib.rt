@@ -8,4 +8,4 @@ mod values;
 
 pub use declared::{Declared, declare};
 pub use giving::{put_is, put_nothing};
-pub use values::{keep_none, keep_value, meet_value, put_aside, put_plain};
+pub use values::{keep_none, keep_value, meet_value, put_aside};

@@ -3,21 +3,19 @@
 ghost use Rattle.std.specs.Prelude.{◌≡◌, ℕ, ◌||◌, false, None, Some, IfOk};
 ghost use Rattle.x3d_values.specs.Access.{is_initial};
 ghost use Rattle.proto_meaning.specs.Flat as flat;
-ghost use Rattle.proto_meaning.specs.Limits.{item_count};
 ghost use Rattle.proto_meaning.specs.Sight as sight;
 ghost use Rattle.proto_given.specs.Held as table;
 ghost use Rattle.proto_interface.specs.Fields.{numbered};
 ghost use Rattle.proto_inside.specs.Held as braces;
-ghost use Rattle.proto_inside.specs.Values.{plain};
 ghost use Rattle.proto_limits.specs.Settled.{doing};
 ghost use Rattle.proto_walker.specs.Shown as shown;
 ghost use Rattle.proto_giving.specs.Giving.{Gives, MayHold, MayStand, aside, inside_of, is_type, value_at};
 
 use crate::giving::meet_field;
-use classic_tree::{NodeText, RawValue};
+use classic_tree::RawValue;
 use proto_flat::{ExpandFault, ExpandFaultKind};
 use proto_given::GivenField;
-use proto_inside::{Inside, Owner, plain, plain_count};
+use proto_inside::{Inside, Owner};
 use proto_interface::KnownField;
 use proto_walker::Walker;
 use std::alloc::{AllocError, Global};
@@ -124,33 +122,6 @@ pub fn keep_none<'t, 'a>(
             value: None,
         },
     )?;
-    Ok(())
-}
-
-/// A value without nodes.
-pub fn put_plain<'t, 'a>(
-    alloc: Global,
-    walker: &mut Walker<'t, 'a>,
-    inside: &mut Inside<'t, 'a>,
-    line: u32,
-    name: &'a Text,
-    field: KnownField,
-    twice: bool,
-    value: &RawValue<NodeText>,
-) -> Result<(), ExpandFault>
-    requires walker { shown.Sound walker.old }
-    requires inside { braces.Sound inside.old }
-    requires free { twice ≡ false
-        → table.has_name name.now (braces.filled_in inside.old) ≡ false }
-    ensures { (at : ℕ) (o : sight.Owner) → flat.is_node o ≡ is_type inside.old.owner
-        → Gives at o (doing (value_at line (numbered name.now field) twice
-        (item_count (plain {N = ℕ} value.now)) (inside_of at o inside.old) (flat.pure (flat.fill line
-        (numbered name.now field) (inside_of at o inside.old) (Some (plain value.now)))))
-        (shown.shown walker.old)) result walker.new inside.old inside.new }
-{
-    meet_value(walker, inside, line, name, field, twice, plain_count(value))?;
-    let copy = plain(alloc, value)?;
-    keep_value(alloc, inside, line, name, field, copy)?;
     Ok(())
 }
 

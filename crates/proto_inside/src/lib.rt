@@ -8,4 +8,4 @@ mod values;
 
 pub use closing::{declarations, flat_fields};
 pub use inside::{Inside, Owner};
-pub use values::{item_count, plain, plain_count};
+pub use values::{item_count, plain};

@@ -1,6 +1,6 @@
 //! Values: how many items they have, and copies of them.
 
-ghost use Rattle.std.specs.Prelude.{◌≡◌, ℕ, IfOk};
+ghost use Rattle.std.specs.Prelude.{◌≡◌, IfOk};
 ghost use Rattle.proto_meaning.specs.Limits.{item_count};
 ghost use Rattle.proto_inside.specs.Values.{plain};
 
@@ -24,24 +24,6 @@ pub fn item_count<N>(value: &RawValue<N>) -> usize
         RawValue::StringList(texts) => texts.len(),
         RawValue::NumberList(numbers) => numbers.len(),
         RawValue::NodeList(nodes) => nodes.len(),
-    }
-}
-
-/// How many items the value has without its nodes.
-pub fn plain_count(value: &RawValue<NodeText>) -> usize
-    ensures { result ≡ item_count (plain {N = ℕ} value.now) }
-{
-    match value {
-        RawValue::Null => 1,
-        RawValue::Truth(_truth) => 1,
-        RawValue::String(_text) => 1,
-        RawValue::Numbers(numbers) => numbers.len(),
-        RawValue::Node(_node) => 0,
-        RawValue::EmptyList => 0,
-        RawValue::TruthList(truths) => truths.len(),
-        RawValue::StringList(texts) => texts.len(),
-        RawValue::NumberList(numbers) => numbers.len(),
-        RawValue::NodeList(_nodes) => 0,
     }
 }
 
