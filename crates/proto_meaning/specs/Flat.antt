@@ -1,6 +1,6 @@
--- What a document stands for (ISO/IEC 19775-1, 4.4.4, prototypes; 4.4.3, DEF and USE): each instance is
--- its prototype's body, in which `field IS name` holds what the instance gives, or the default. Order,
--- lines and which fault comes first are our choice.
+-- What a document stands for (ISO/IEC 19775-1, 4.4.4, prototypes; 4.4.3, DEF and USE): each
+-- instance is its prototype's body, in which `field IS name` holds what the instance gives, or the
+-- default. Order, lines and which fault comes first are our choice.
 use Rattle.std.specs.Prelude.{ℕ, ◌+◌, Bool, true, false, ◌&&◌, ◌||◌, not, if◌then◌else◌, List, [], ◌∷◌, ◌++◌, drop, length, map, Option, Some, None, option_map, is_none, is_some, Result, Ok, Err, slice_get, slice_set}
 use Rattle.std.specs.List.{filter_map, find, list_any}
 use Rattle.std.specs.Option.{option_map_or}
@@ -42,7 +42,7 @@ use Rattle.proto_meaning.specs.Sight.{Put, Instance, Prototype, Sight, Step, and
 
 -- ---- one thing after the other
 
--- what was put in, what is in sight, and the name scope
+-- what was put in, what is in sight (`taken` stays empty here), and the name scope
 pub record Walk : Type 0 where
   pub put : Put
   pub sight : Sight
@@ -57,9 +57,11 @@ infixl 10 ◌>>=◌
 abbrev pub ◌>>=◌ : {A B : Type 0} → Does A → (A → Does B) → Does B
 m >>= f = λ w. and_then (m w) (λ p. f p.0 p.1)
 
+-- nothing is met on the way
 abbrev pub comes : {A : Type 0} → Result A ExpandFault → Outcome A
 comes result = record { met = []; comes = result }
 
+-- it gives that, and nothing changes
 abbrev pub pure : {A : Type 0} → A → Does A
 pure a = λ w. comes (Ok (a, w))
 
@@ -71,6 +73,7 @@ abbrev pub through : {A X : Type 0} → (A → X → Does X) → List A → X �
 through f [] x = pure x
 through f (a ∷ rest) x = f a x >>= through f rest
 
+-- something is met, and counts
 abbrev pub meet : Met → Does (Unit {0})
 meet m = λ w. record { met = m ∷ []; comes = Ok (tt, w) }
 
@@ -78,14 +81,14 @@ meet m = λ w. record { met = m ∷ []; comes = Ok (tt, w) }
 abbrev pub see : Step → Does (Unit {0})
 see step = λ w. follow [] (step w.sight) (λ s. comes (Ok (tt, record w { sight = s })))
 
--- the name scope changes
+-- the name scope changes, and `a` is given
 abbrev pub note : {A : Type 0} → A → (Scope → Scope) → Does A
 note a f = λ w. comes (Ok (a, record w { scope = f w.scope }))
 
 -- ---- the parts of a tree
 
--- the search for a type in it; what it declares and takes, whether it is put in or not; and what it does
--- where it is put in
+-- what is said of a part of the tree: the search for a type in it; what it declares and takes,
+-- whether it is put in or not; and what it does where it is put in
 pub record Part (S D : Type 0) : Type 0 where
   pub finds : Name → Search
   pub sees : S
@@ -94,6 +97,7 @@ pub record Part (S D : Type 0) : Type 0 where
 abbrev pub part : {S D : Type 0} → (Name → Search) → S → D → Part S D
 part finds sees does = record { finds = finds; sees = sees; does = does }
 
+-- a node as it stands in the text: where it is put in, it gives its number
 abbrev pub Node : Type 0
 Node = Part Step (Does ℕ)
 
@@ -106,7 +110,7 @@ given_finds g own = each (λ n. n.finds own) (nodes_in g)
 abbrev pub given_sees : Given Node → Step
 given_sees g s = each (λ n. n.sees) (nodes_in g) (record s { taken = taking g s.taken })
 
--- a value that goes nowhere is left out with all that is inside
+-- a value that goes nowhere is left out with all that is inside; but its PROTOs come in sight
 abbrev pub leave_out : Given Node → Does (Unit {0})
 leave_out g = see (aside (given_sees g))
 
@@ -139,12 +143,14 @@ abbrev pub field_with : ℕ → Access → FieldType → Name → Field
 field_with line access field_type name =
     record { line = line; access = access; field_type = field_type; name = name; given = given.Nothing }
 
+-- a declaration without its value
 abbrev pub field : {N : Type 0} → Declaration N → Field
 field d = field_with d.line d.access d.field_type d.name
 
 abbrev pub fields_of : NodeType → List Field
 fields_of t = map (λ row. field_with 0 row.access row.field_type row.name) (rows t)
 
+-- the field of that name, with its number
 abbrev pub numbered_from : ℕ → Name → List Field → Option (ℕ × Field)
 numbered_from number name [] = None
 numbered_from number name (f ∷ fs) =
@@ -157,7 +163,8 @@ abbrev pub is_node : Owner → Bool
 is_node (OfType t) = true
 is_node (OfProto p) = false
 
--- an interface field of the first access may be joined to a field of the second
+-- an interface field of the first access may be joined to a field of the second (4.4.4, PROTO
+-- definition semantics)
 abbrev pub joins : Access → Access → Bool
 joins InputOnly access = receives access
 joins OutputOnly access = sends access
@@ -172,6 +179,7 @@ fits outer inner =
 abbrev pub met_field : Owner → ℕ → ℕ → Does (Unit {0})
 met_field owner number items = meet (if is_node owner then AField number items else AnItem)
 
+-- the field f (its number, and the field itself) has that
 abbrev pub fill : ℕ → ℕ × Field → Inside → Option (RawValue ℕ) → Inside
 fill line f i v =
     record i {
@@ -179,14 +187,15 @@ fill line f i v =
           ++ record { line = line; name = f.1.name; number = f.0; value = v } ∷ [];
     }
 
--- the value of a field, unless it goes nowhere
+-- the value of a field is put in, unless it goes nowhere: no IS takes it
 abbrev pub give_value : ℕ → ℕ × Field → Inside → RawValue Node → Does Inside
 give_value line f i v =
     met_field i.owner f.0 (item_count v)
     >>= λ _. if is_kept (taken_by (Some i.owner)) f.1.name then (put_in v >>= λ r. pure (fill line f i (Some r)))
     else leave_out (given.Value v) >>= λ _. pure (fill line f i None)
 
--- IS: the field is an end of the interface field, and holds what that is given
+-- IS: the field is an end of the interface field, and holds what that is given. `all` are the
+-- braces of the scope, once they are closed
 abbrev pub join : ℕ → ℕ × Field → Inside → Name → Option (RawValue ℕ) → Does Inside
 join line f i outer v =
     met_field i.owner f.0 (option_map_or item_count v 0) >>= λ _. note (tt {0}) (λ s. record s {
@@ -194,7 +203,8 @@ join line f i outer v =
           then option_map_or (λ what. what.ends f.1.name) (stands_at all (Some i.at)) [] else []);
     }) >>= λ _. pure (fill line f i v)
 
--- only what stands in the interface and fits can be joined
+-- only what stands in the interface and fits can be joined; `twice`: the field was given something
+-- before
 abbrev pub give_is : ℕ → ℕ × Field → Bool → Inside → Option Field → Does Inside
 give_is line f twice i None = refuse BadIs line
 give_is line f twice i (Some outer) =
@@ -203,8 +213,8 @@ give_is line f twice i (Some outer) =
     else (λ w. join line f i outer.name (value_of outer.name w.scope.given) w))
     else refuse BadIs line
 
--- f is the field with its number; `twice`: it was given something before. A node may be given a value at
--- each field, which the scene judges; an instance only at those that hold a value
+-- a node may be given a value at each field, which the scene judges; an instance only at those that
+-- hold a value. Nothing is what a Script's declaration without a value gives
 abbrev pub give : ℕ → ℕ × Field → Bool → Given Node → Inside → Does Inside
 give line f twice (given.Is outer) i =
     λ w. give_is line f twice i (find (λ o. bytes_eq o.name outer) w.scope.interface) w
@@ -220,7 +230,7 @@ abbrev pub is_script : Owner → Bool
 is_script (OfType t) = sameb node_types.the_type t Script
 is_script (OfProto p) = false
 
--- a Script's declaration is one field more
+-- a Script's declaration is one field more; no other node and no instance has any
 abbrev pub declare_field : Declaration Node → Inside → Does Inside
 declare_field d i =
     if is_script i.owner
@@ -233,7 +243,7 @@ declare_field d i =
 abbrev pub Item : Type 0
 Item = Part (Option Names → Step) (Inside → Does Inside)
 
--- the items between braces, in turn
+-- braces open, and then come the items between them, in turn
 abbrev pub inside : Option Name → Owner → List Field → List Item → Does Inside
 inside name owner fields items =
     (λ w. note (length w.scope.braces) (λ s. record s {
@@ -241,7 +251,7 @@ inside name owner fields items =
     }) w) >>= λ at. through (λ (item : Item). item.does) items
     (record { at = at; owner = owner; fields = fields; filled = [] })
 
--- braces that close stand for that
+-- braces that close stand for `what`, with that put in
 abbrev pub close : Option Name → ℕ → Stands → Put → Walk → Outcome (ℕ × Walk)
 close name at what put w = comes (Ok (
   what.node,
@@ -253,6 +263,7 @@ close name at what put w = comes (Ok (
   },
 ))
 
+-- a node with the values that its fields hold, and a Script's declarations
 abbrev pub flat_node : ℕ → Option Name → NodeType → Inside → FlatNode
 flat_node line name t i =
     record {
@@ -276,6 +287,8 @@ renamed None n nodes = nodes
 renamed name n nodes =
     option_map_or (λ node. slice_set nodes n (record node { name = name })) (slice_get nodes n) nodes
 
+-- when its braces close, an instance's body is put in, behind what it is given; its routes stand
+-- behind those of the scope so far
 abbrev pub close_instance : Option Name → Prototype → Inside → Does ℕ
 close_instance name p i = λ w. and_then (p.instance i.filled w.put) (λ made.
     close name i.at
@@ -287,7 +300,7 @@ close_instance name p i = λ w. and_then (p.instance i.filled w.put) (λ made.
 abbrev pub is_one : Name → List Name → Bool
 is_one name names = list_any (bytes_eq name) names
 
--- no name stands twice in an interface
+-- no name stands twice in an interface; it is asked at each instance (our choice)
 abbrev pub unless_twice : List Name → List Field → Does (Unit {0})
 unless_twice seen [] = pure tt
 unless_twice seen (f ∷ fs) =
@@ -303,7 +316,7 @@ full_node line name items (Some (OfProto p)) =
     meet AnInstance >>= λ _. unless_twice [] p.interface
     >>= λ _. inside name (OfProto p) p.interface items >>= close_instance name p
 
--- a ROUTE names what stands before it
+-- a ROUTE names what stands before it, and is read by what all braces come to stand for
 abbrev pub note_route : RouteText → Does (Unit {0})
 note_route r = meet AnItem >>= λ _. note (tt {0}) (λ s. record s {
   routes = λ all. s.routes all
@@ -312,11 +325,12 @@ note_route r = meet AnItem >>= λ _. note (tt {0}) (λ s. record s {
 
 -- ---- prototypes
 
--- a statement: whether it is a node; it gives the nodes that it puts in its place, one or none
+-- a statement: whether it is a node; put in, it gives the nodes in its place, one or none
 abbrev pub Stated : Type 0
 Stated = Bool × Part Step (Does (List ℕ))
 
--- the first node of a body stands for the instance, the others are helpers
+-- a statement of a body, by the node before it that stands for the instance, if there is one: the
+-- first node does, the others are helpers
 abbrev pub in_body : Stated → List ℕ → Does (List ℕ)
 in_body s [] = s.1.does
 in_body s first = s.1.does >>= λ ns. (λ w. comes (Ok (
@@ -324,13 +338,14 @@ in_body s first = s.1.does >>= λ ns. (λ w. comes (Ok (
   record w { put = record w.put { helpers = w.put.helpers ++ ns } },
 )))
 
--- a default is put in where some IS takes it, and the instance gives nothing
+-- the field's default, if it has one
 abbrev pub put_default : Declaration Node → List Filled → Given Node → Does (List Filled)
 put_default d filled (given.Value v) =
     put_in v >>= λ r. pure (filled
     ++ record { line = d.line; name = d.name; number = 0; value = Some r } ∷ [])
 put_default d filled _ = pure filled
 
+-- a default is put in where some IS takes it, and the instance gives nothing; else it is left out
 abbrev pub default : Names → Declaration Node → List Filled → Does (List Filled)
 default takes d filled =
     if takes d.name && is_none (value_of d.name filled) then put_default d filled d.given
@@ -345,7 +360,7 @@ begin outside put =
       scope = record { braces = []; routes = λ all. []; ends = λ all name. []; interface = []; given = [] };
     }
 
--- where a body ends, whose first node stands for the instance
+-- where a body ends, whose first node stands for the instance (`declare` asks that it has one)
 abbrev pub made : ℕ → List ℕ → Walk → Outcome Instance
 made line [] w = comes (Err (fault EmptyBody line))
 made line (n ∷ ns) w =
@@ -356,8 +371,9 @@ made line (n ∷ ns) w =
       put = w.put;
     }))
 
+-- a PROTO statement, by its parts
 module _ (line : ℕ) (name : Name) (interface : List (Declaration Node)) (body : List Stated) where
-  -- the defaults, in which IS finds nothing, and then the statements
+  -- what an instance is: the defaults, in which IS finds nothing, and then the statements
   abbrev pub instance_of : List Prototype → Names → List Filled → Put → Outcome Instance
   instance_of outside takes given put =
       and_then ((through (default takes) interface given
@@ -386,7 +402,8 @@ module _ (line : ℕ) (name : Name) (interface : List (Declaration Node)) (body 
       and_see (aside (each (λ (d : Declaration Node). given_sees d.given) interface) s)
       (each (λ (s : Stated). s.1.sees) body)
 
-  -- first the declaration itself, and then those inside
+  -- first what is wrong with the declaration itself, and then with those inside; the prototype
+  -- isn't in sight in its own body, but behind it
   abbrev pub declare_body : Result Bool ℕ → Step
   declare_body (Err itself) s = Err (fault ProtoItself itself)
   declare_body (Ok hidden) s =
@@ -397,6 +414,7 @@ module _ (line : ℕ) (name : Name) (interface : List (Declaration Node)) (body 
       }))
       else Err (fault EmptyBody line)
 
+  -- no PROTO has the name of a node type, or of one before it in its scope
   abbrev pub declare : Step
   declare s =
       if is_some (node_type_named name) || is_some (declared name s.here)
@@ -408,6 +426,8 @@ module _ (line : ℕ) (name : Name) (interface : List (Declaration Node)) (body 
 abbrev pub Proto : Type 0
 Proto = Part Step (Does (Unit {0}))
 
+-- an item between braces: what it does to the fields given so far. (A BodyItem-F is a BodyItem that
+-- has, in the place of its parts, what is said of them; NodeText-F and the others as well)
 unfoldable pub item_step : BodyItem-F Item Node Stated Proto → Item
 item_step (BodyItem-F.Field line name g) =
     part (given_finds g)
@@ -421,6 +441,7 @@ item_step (BodyItem-F.BodyItem::Route route) =
 item_step (BodyItem-F.BodyItem::Proto proto) =
     part proto.finds (λ taken. proto.sees) (λ i. proto.does >>= λ _. pure i)
 
+-- a USE, or braces; what the word before them means is settled before they open
 unfoldable pub node_step : NodeText-F Item Node Stated Proto → Node
 node_step (NodeText-F.Use line name) =
     part nothing_found (λ s. Ok s) (meet AnItem >>= λ _ w. option_map_or pure (used name w.scope.braces) (refuse UseWithoutDef line) w)
@@ -439,6 +460,7 @@ statement_step (Statement-F.Statement::Route route) =
 statement_step (Statement-F.Statement::Proto proto) =
     (false, part proto.finds proto.sees (proto.does >>= λ _. pure []))
 
+-- a PROTO hides its own name behind it; it puts nothing in, but comes in sight
 unfoldable pub proto_step : ProtoText-F Item Node Stated Proto → Proto
 proto_step p =
     part
@@ -478,5 +500,6 @@ abbrev pub header_of : Document → Header
 header_of d =
     record { version = d.version; profile = d.profile; components = d.components; metas = d.metas }
 
+-- what a document stands for, or the first thing that is wrong with it
 unfoldable pub flat : Document → Result Flat ExpandFault
 flat d = limited (stand_together (header_of d) (map statement d.statements))

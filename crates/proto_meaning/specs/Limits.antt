@@ -1,6 +1,6 @@
--- The limits of a flat document (our choice). They are no part of what a document stands for: they are
--- asked of what was met on the way, up to the end of the text or to its first fault. So TooLarge is
--- answered exactly where too much was met before anything else was wrong.
+-- What is met on the way, and its limits (our choice). They are no part of what a document stands
+-- for: they are asked of what was met up to the end of the text or to its first fault. So TooLarge
+-- is answered exactly where too much was met before anything else was wrong.
 use Rattle.std.specs.Prelude.{ℕ, ◌&&◌, Bool, true, not, if◌then◌else◌, List, ◌++◌, length, nat_lt, Result, Ok, Err}
 use Rattle.std.specs.List.{list_all, sum_by}
 use Rattle.classic_tree.specs.declared.tree.RawValue.{RawValue}
@@ -11,15 +11,16 @@ use Rattle.proto_flat.specs.declared.fault.ExpandFaultKind.TheVariants.{TooLarge
 use Rattle.proto_flat.specs.declared.flat.Flat.{Flat}
 
 -- what is met, in the order of the work: the first word of a node, and of an instance; a field of a
--- node, by its number there and how many items its value has; and whatever else is put in: a field of
--- an instance, a ROUTE, a USE
+-- node or declaration of a Script, by its number there and how many items its value has; and
+-- AnItem, which is no item of a value: a field of an instance, a ROUTE, a USE
 pub data Met : Type 0 where
   ANode : Met
   AnInstance : Met
   AField : ℕ → ℕ → Met
   AnItem : Met
 
--- a list has as many items as its length, any other value one
+-- numbers are counted one by one, with brackets or without; any other list has as many items as its
+-- length, any other value one
 abbrev pub item_count : {N : Type 0} → RawValue N → ℕ
 item_count value.Null = 1
 item_count (value.Truth truth) = 1
@@ -37,6 +38,7 @@ pub record Outcome (A : Type 0) : Type 0 where
   pub met : List Met
   pub comes : Result A ExpandFault
 
+-- what comes behind what was met before
 abbrev pub behind : {A : Type 0} → List Met → Outcome A → Outcome A
 behind before o = record { met = before ++ o.met; comes = o.comes }
 
@@ -63,24 +65,27 @@ abbrev pub items_met : Met → ℕ
 items_met (AField number items) = items
 items_met _ = 0
 
--- all that is put in counts one
+-- whatever is met counts one
 abbrev pub all_met : Met → ℕ
 all_met met = 1
 
+-- a node has at most 65,536 fields
 abbrev pub has_room : Met → Bool
 has_room (AField number items) = nat_lt number 65536
 has_room _ = true
 
+-- at most 65,536 nodes, 8,388,608 instances, 8,388,608 items of values, and 2^27 of all
 abbrev pub is_within : List Met → Bool
 is_within met =
     not (nat_lt 65536 (sum_by nodes_met met)) && not (nat_lt 8388608 (sum_by instances_met met))
     && not (nat_lt 8388608 (sum_by items_met met)) && not (nat_lt 134217728 (sum_by all_met met))
     && list_all has_room met
 
--- routes are made when all nodes are there
+-- routes are made when all nodes are there, so they are counted last. TooLarge has no line (0)
 abbrev pub with_few_routes : Result Flat ExpandFault → Result Flat ExpandFault
 with_few_routes (Ok f) = if nat_lt 65536 (length f.routes) then Err (fault TooLarge 0) else Ok f
 with_few_routes (Err e) = Err e
 
+-- a fault ends what is met: if that is too much, it was so before the fault
 abbrev pub limited : Outcome Flat → Result Flat ExpandFault
 limited o = if is_within o.met then with_few_routes o.comes else Err (fault TooLarge 0)

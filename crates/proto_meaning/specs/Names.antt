@@ -1,5 +1,5 @@
 -- Names of nodes (ISO/IEC 19775-1, 4.4.3, DEF and USE; 4.4.7, run-time name scope), and the ends of
--- routes (4.4.4, PROTO interface declarations; 4.4.8, ROUTE).
+-- routes (4.4.4, PROTO interface declarations; 4.4.8, event model, routes).
 use Rattle.std.specs.Prelude.{ℕ, ◌+◌, Bool, false, ◌&&◌, if◌then◌else◌, List, [], ◌∷◌, ◌++◌, codes, map, Option, Some, None, option_map, slice_get}
 use Rattle.std.specs.List.{find, flat_map, fold}
 use Rattle.std.specs.Option.{option_or, option_and_then, option_map_or}
@@ -13,30 +13,32 @@ use Rattle.proto_flat.specs.declared.flat.FlatEnd.{FlatEnd}
 use Rattle.proto_flat.specs.declared.flat.FlatEnd.TheVariants.{NoNode, NoField, WrongWay}
 use Rattle.proto_flat.specs.declared.flat.FlatRoute.{FlatRoute}
 
+-- a name, by its bytes
 abbrev pub Name : Type 0
 Name = List ℕ
 
--- a field of a node or of an interface: what its declaration says, but the value
+-- a field of a node or of an interface: its declaration without the value (`given` is Nothing)
 abbrev pub Field : Type 0
 Field = Declaration ℕ
 
--- what a field is given between braces: its name and its number among the fields there, and the value,
--- in which nodes stand by their numbers. There is none where IS hands on nothing, or where the value
--- goes nowhere
+-- what a field is given between braces, or has by default: the line, its name, its number among the
+-- fields there (0 for a default, of which nobody asks it), and the value, in which nodes stand by
+-- their numbers. There is none where IS hands on nothing, or where the value goes nowhere
 pub record Filled : Type 0 where
   pub line : ℕ
   pub name : Name
   pub number : ℕ
   pub value : Option (RawValue ℕ)
 
--- the first that has a value
+-- the first value that the name has
 abbrev pub value_of : Name → List Filled → Option (RawValue ℕ)
 value_of name [] = None
 value_of name (f ∷ fs) =
     option_or (if bytes_eq f.name name then f.value else None) (value_of name fs)
 
--- what a node or an instance stands for: a node, the interface of an instance (None: it is a node), and
--- which ends each field is
+-- what a node or an instance stands for: a node, the interface of an instance (None: it is a node),
+-- and which ends each field is: a node's field is one, a field of an interface is those of the
+-- fields that ISs join to it
 pub record Stands : Type 0 where
   pub node : ℕ
   pub interface : Option (List Field)
@@ -47,10 +49,11 @@ pub record Braces : Type 0 where
   pub name : Option Name
   pub stands : Option Stands
 
--- a name scope, which is the text without its bodies, or one instance's body: its braces so far, in
--- the order of the text; its routes, and the ends that ISs join to each interface field, by what all
--- braces of the scope come to stand for; and what an IS finds: the interface, and what the instance is
--- given or has by default
+-- a name scope, which is the text without its bodies, or one instance's body with its defaults: its
+-- braces so far, in the order in which they open; its routes, and the ends that ISs join to each
+-- interface field, by what all braces of the scope come to stand for, as both may name braces that
+-- are still open; and what an IS finds: the interface, and what the instance is given or has by
+-- default
 pub record Scope : Type 0 where
   pub braces : List Braces
   pub routes : List Braces → List FlatRoute
@@ -63,13 +66,14 @@ pub record Scope : Type 0 where
 abbrev pub has_name : Name → Braces → Bool
 has_name name b = option_map_or (bytes_eq name) b.name false
 
--- USE names the last of that name whose braces are closed
+-- USE names the last of that name whose braces are closed, so no node holds itself
 abbrev pub used : Name → List Braces → Option ℕ
 used name braces =
     fold (λ before b. if has_name name b
     then option_or (option_map (λ s. s.node) b.stands) before else before) None braces
 
--- ROUTE names the last of that name, closed or not; the first of these has that place
+-- ROUTE names the last of that name, closed or not, as it may stand between the braces of what it
+-- names. The first of the list has the place `at`
 abbrev pub last_from : ℕ → Name → List Braces → Option ℕ
 last_from at name [] = None
 last_from at name (b ∷ bs) =
@@ -81,12 +85,14 @@ stands_at all at = option_and_then (λ b. b.stands) (option_and_then (slice_get 
 
 -- ---- the ends of a ROUTE
 
--- a field of an interface goes by its own name first, an inputOutput field also by the other
+-- a field of an interface goes by its own name first, an inputOutput field also by the other (set_
+-- before it, or _changed behind it)
 abbrev pub field_by : (Name → Name) → Name → List Field → Option Field
 field_by other name fields =
     option_or (find (λ f. bytes_eq f.name name) fields)
     (find (λ f. is_exposed f.access && bytes_eq (other f.name) name) fields)
 
+-- no such field, one against its access, or its ends: none where no IS takes it
 abbrev pub ends_by : (Access → Bool) → Stands → Option Field → List FlatEnd
 ends_by allowed s None = NoField ∷ []
 ends_by allowed s (Some f) = if allowed f.access then s.ends f.name else WrongWay ∷ []
@@ -98,7 +104,7 @@ ends_at allowed other field (Some s) =
     option_map_or (λ fields. ends_by allowed s (field_by other field fields)) s.interface
     (s.ends field)
 
--- the ends that a ROUTE names behind these braces, by what all come to stand for
+-- the ends that a ROUTE names behind these braces, by what all of the scope come to stand for
 abbrev pub sources : List Braces → List Braces → Place → List FlatEnd
 sources braces all p =
     ends_at sends (λ name. name ++ codes "_changed") p.field

@@ -1,5 +1,6 @@
--- Which prototypes are in sight (ISO/IEC 19775-1, 4.4.4, prototype scoping rules), by the place in the
--- text alone.
+-- Which prototypes are in sight (ISO/IEC 19775-1, 4.4.4, prototype scoping rules), by the place in
+-- the text alone. That a PROTO in a default value belongs to the body, and that one in a value that
+-- is left out is declared, is our choice.
 use Rattle.std.specs.Prelude.{ℕ, Bool, true, false, if◌then◌else◌, List, [], ◌∷◌, ◌++◌, Option, Some, None, option_map, Result, Ok, Err}
 use Rattle.std.specs.List.{find}
 use Rattle.std.specs.Option.{option_or}
@@ -16,7 +17,9 @@ use Rattle.proto_flat.specs.declared.flat.FlatRoute.{FlatRoute}
 use Rattle.proto_meaning.specs.Limits.{Outcome}
 use Rattle.proto_meaning.specs.Names.{Name, Field, Filled}
 
--- what was put in: the nodes in the order in which they close, and the helpers
+-- ---- what was put in
+
+-- the nodes in the order in which they close, and the helpers: nodes of bodies behind the first
 pub record Put : Type 0 where
   pub nodes : List FlatNode
   pub helpers : List ℕ
@@ -31,6 +34,7 @@ pub record Instance : Type 0 where
 
 -- ---- names that ISs take
 
+-- a set of names of an interface
 abbrev pub Names : Type 0
 Names = Name → Bool
 
@@ -50,18 +54,20 @@ pub record Prototype : Type 0 where
   pub takes : Names
   pub instance : List Filled → Put → Outcome Instance
 
--- the prototypes in sight at a place of the text: those declared in the scope, in the order of the text,
--- and those of the scopes around it, the nearest scope first; and the names that the ISs of the body have
--- taken up to there
+-- the prototypes in sight at a place of the text: those declared in the scope, in the order of the
+-- text, and those of the scopes around it, the nearest scope first; and the names that the ISs of
+-- the body have taken up to there
 pub record Sight : Type 0 where
   pub here : List Prototype
   pub outside : List Prototype
   pub taken : Names
 
--- what a part of the text declares and takes: what is in sight before it, and behind it
+-- what a part of the text declares and takes: by what is in sight before it, what is behind it, or
+-- what is wrong with a declaration
 abbrev pub Step : Type 0
 Step = Sight → Result Sight ExpandFault
 
+-- one after the other, up to the first fault; and so each of a list
 abbrev pub and_see : {X Y E : Type 0} → Result X E → (X → Result Y E) → Result Y E
 and_see (Ok x) f = f x
 and_see (Err e) f = Err e
@@ -70,7 +76,7 @@ abbrev pub each : {A X E : Type 0} → (A → X → Result X E) → List A → X
 each f [] x = Ok x
 each f (a ∷ rest) x = and_see (f a x) (each f rest)
 
--- a part that declares, but takes nothing
+-- a part whose PROTOs are declared, but whose ISs take nothing
 abbrev pub aside : Step → Step
 aside step s =
     and_see (step (record s { taken = no_names })) (λ t. Ok (record t { taken = s.taken }))
@@ -81,7 +87,7 @@ nodes_in (given.Value (value.Node node)) = node ∷ []
 nodes_in (given.Value (value.NodeList nodes)) = nodes
 nodes_in _ = []
 
--- an IS takes a name
+-- `IS name` takes the name
 abbrev pub taking : {N : Type 0} → Given N → Names → Names
 taking (given.Is name) names = with_name name names
 taking _ names = names
@@ -92,7 +98,7 @@ pub data Owner : Type 0 where
   OfType : NodeType → Owner
   OfProto : Prototype → Owner
 
--- no scope has two of one name
+-- the first of that name; no scope has two
 abbrev pub declared : Name → List Prototype → Option Prototype
 declared name prototypes = find (λ (p : Prototype). bytes_eq name p.name) prototypes
 
@@ -102,8 +108,9 @@ meant word s =
     option_or (option_map OfType (node_type_named word))
     (option_map OfProto (declared word (s.here ++ s.outside)))
 
--- a node keeps what it is given; an instance only what some IS of its prototype's body takes. A word
--- that means nothing is no reason to leave out what stands between the braces
+-- which fields keep what they are given (None: all): those of a node, and of an instance those that
+-- some IS of its prototype's body takes. A word that means nothing leaves nothing out: it is
+-- UnknownNode where it is put in
 abbrev pub taken_by : Option Owner → Option Names
 taken_by (Some (OfProto p)) = Some p.takes
 taken_by _ = None
@@ -112,8 +119,10 @@ abbrev pub is_kept : Option Names → Name → Bool
 is_kept None name = true
 is_kept (Some taken) name = taken name
 
--- the search for a node of one type name in a part of the text, by whether a PROTO of that name hides
--- it there: it ends with the line of the first such node, or says whether the name is hidden from
--- there on
+-- ---- whether a prototype holds an instance of itself
+
+-- the search in a part of the text for a node with a PROTO's own name before its braces, by whether
+-- a PROTO of that name further inside hides it there. It ends with the node's line (Err), or says
+-- whether the name is hidden from there on. (In sight is only a PROTO of that name further out)
 abbrev pub Search : Type 0
 Search = Bool → Result Bool ℕ
