@@ -39,6 +39,8 @@ JOBS = [
     ("check", "instances N", 8_000),
     ("check", "joins N", 8_000),
     ("check", "relays N", 8_000),
+    ("check", "handing N 6", 8_000),
+    ("check", "unasked N N", 4_000),
     ("check", "inner N", 8_000),
     ("run", "long_words N", 500_000),
     ("run", "blanks N", 100_000),
