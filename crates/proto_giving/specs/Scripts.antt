@@ -37,7 +37,8 @@ declares d rest i =
     else refuse UnknownField d.line
 
 -- the field was declared, and then it goes on like that; or that comes to a fault
-abbrev pub MayDeclare : Declaration NodeText → Inside → Result Declared ExpandFault → Inside → Type 0
+abbrev pub MayDeclare : Declaration NodeText → Inside → Result Declared ExpandFault → Inside
+    → Type 0
 MayDeclare d old (Ok made) new =
     ((at : ℕ) (o : Owner) (rest : ℕ × Field → Bool → flat.Inside → Does flat.Inside) (s : State)
     → flat.is_script o ≡ is_script old.owner

@@ -40,8 +40,8 @@ fn is_free(inside: &Inside<'_, '_>, name: &Text, twice: bool) -> bool
     !inside.has(name)
 }
 
-/// The field stands behind the others. Where it isn't known, but was given something, memory is said
-/// to be refused.
+/// The field stands behind the others. Where it isn't known, but was given something, memory is
+/// said to be refused.
 fn add<'t, 'a>(
     inside: &mut Inside<'t, 'a>,
     declaration: &'a Declaration<NodeText>,

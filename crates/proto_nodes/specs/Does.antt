@@ -1,5 +1,5 @@
--- What is still to be done of a tree, by what stands between braces so far. None of this is part of the
--- definition of a flat document.
+-- What is still to be done of a tree, by what stands between braces so far. None of this is part
+-- of the definition of a flat document.
 use Rattle.std.specs.Prelude.{ℕ, List, [], ◌∷◌, ◌++◌, map, Option, Some, None, Result, Ok, Err}
 use Rattle.std.specs.Option.{option_map_or}
 use Rattle.classic_tree.specs.declared.tree.ProtoText.{out-ProtoText}
@@ -83,13 +83,15 @@ closes ps line name w (Node t) i = flat.close_node name i.at (flat.flat_node lin
 closes ps line name w (Instance interface) i = flat.close_instance name (proto_by ps w) i
 
 -- braces open, all between them is put in, and they close
-abbrev pub braces_do : List Prototype → ℕ → Option Name → Word → holder.Owner → List ItemTree → Does ℕ
+abbrev pub braces_do : List Prototype → ℕ → Option Name → Word → holder.Owner → List ItemTree
+    → Does ℕ
 braces_do ps line name w o items =
     flat.inside name (owner_by ps w o) (fields_of_owner o) (map (item ps) items)
     >>= closes ps line name w o
 
 -- those of an instance with that interface
-abbrev pub instance_do : List Prototype → Option Name → Prototype → List Field → List ItemTree → Does ℕ
+abbrev pub instance_do : List Prototype → Option Name → Prototype → List Field → List ItemTree
+    → Does ℕ
 instance_do ps name p fields items =
     flat.inside name (OfProto p) fields (map (item ps) items) >>= flat.close_instance name p
 
@@ -161,7 +163,8 @@ defaults_do ps a rest all =
     through (default ps) rest all >>= λ filled. finds a.proto.now.interface filled
     >>= λ _. statements_do ps a.proto.now.tree.now.body []
 
-unfoldable pub filling_comes : List Prototype → Around → List DefaultTree → List Filled → State → Comes ℕ
+unfoldable pub filling_comes : List Prototype → Around → List DefaultTree → List Filled → State
+    → Comes ℕ
 filling_comes ps a rest all s = after (doing (defaults_do ps a rest all) s) (leaves a)
 
 -- what the instance is given, and the default values so far

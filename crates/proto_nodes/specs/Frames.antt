@@ -48,7 +48,8 @@ value_comes ps (Defaults f) p v s =
     filling_comes ps f.around.value f.rest.now
     (filled_now f ++ default_value p v ∷ []) s
 
-unfoldable pub list_comes : List Prototype → Holder → Place → List NodeTree → List ℕ → State → Comes ℕ
+unfoldable pub list_comes : List Prototype → Holder → Place → List NodeTree → List ℕ → State
+    → Comes ℕ
 list_comes ps h p rest numbers s =
     after (doing (nodes_do ps rest numbers) s) (λ ns. value_comes ps h p (value.NodeList ns))
 
@@ -85,9 +86,10 @@ task_comes ps (task.Number n) s = done n s
 abbrev pub all_comes : List Prototype → Task → Machine → Comes ℕ
 all_comes ps t m = after (task_comes ps t (shown.shown m.walker)) (frames_come ps m.frames.items)
 
--- what is next: the next thing, a field's value that is a node or a list of nodes, or nothing; by what
--- comes of the rest as it is, and with one value more
-abbrev pub next_by : List Prototype → (State → Comes ℕ) → (Place → RawValue ℕ → State → Comes ℕ) → Next → State → Comes ℕ
+-- what is next: the next thing, a field's value that is a node or a list of nodes, or nothing; by
+-- what comes of the rest as it is, and with one value more
+abbrev pub next_by : List Prototype → (State → Comes ℕ) → (Place → RawValue ℕ → State → Comes ℕ)
+    → Next → State → Comes ℕ
 next_by ps on more next.On s = on s
 next_by ps on more (next.One p n) s =
     after (doing (node ps n.now).does s) (λ number. more p (value.Node number))
@@ -184,7 +186,8 @@ AllGoes ps outcome (Ok t) m = outcome ≡ all_comes ps t m
 AllGoes ps outcome (Err e) m = (e ≡ memory) ⊎ (outcome ≡ Err e)
 
 -- the same, with what is next in the place of the task
-abbrev pub StepsOn : List Prototype → Comes ℕ → Result (Unit {0}) ExpandFault → Task → Machine → Type 0
+abbrev pub StepsOn : List Prototype → Comes ℕ → Result (Unit {0}) ExpandFault → Task → Machine
+    → Type 0
 StepsOn ps outcome (Ok u) t m = outcome ≡ all_comes ps t m
 StepsOn ps outcome (Err e) t m = (e ≡ memory) ⊎ (outcome ≡ Err e)
 
@@ -209,7 +212,8 @@ abbrev pub OpenSound : Result Next ExpandFault → Walker → Open → Type 0
 OpenSound (Ok n) walker o = shown.Sound walker × inside.Sound o.inside × OpenFits o n
 OpenSound (Err e) walker o = Unit
 
-abbrev pub HolderGoes : List Prototype → Comes ℕ → Result Next ExpandFault → Walker → Holder → Type 0
+abbrev pub HolderGoes : List Prototype → Comes ℕ → Result Next ExpandFault → Walker → Holder
+    → Type 0
 HolderGoes ps outcome (Ok n) walker h = outcome ≡ holder_next ps h n (shown.shown walker)
 HolderGoes ps outcome (Err e) walker h = (e ≡ memory) ⊎ (outcome ≡ Err e)
 
@@ -218,7 +222,8 @@ HolderGoesSound (Ok n) walker h = shown.Sound walker × HolderSound h × HolderF
 HolderGoesSound (Err e) walker h = Unit
 
 -- the same of a step on default values, which leaves the walk where it stands
-abbrev pub DefaultGoes : List Prototype → Comes ℕ → Result Next AllocError → Filling → State → Type 0
+abbrev pub DefaultGoes : List Prototype → Comes ℕ → Result Next AllocError → Filling → State
+    → Type 0
 DefaultGoes ps outcome (Ok n) f s = outcome ≡ filling_next ps f n s
 DefaultGoes ps outcome (Err e) f s = Unit
 

@@ -33,7 +33,12 @@ Knows ps protos = (number : ℕ) → AreKnown ps (slice_get ps number) (slice_ge
 
 abbrev pub no_prototype : Prototype
 no_prototype =
-    record { name = []; interface = []; takes = no_names; instance = λ given put. comes (Err memory) }
+    record {
+      name = [];
+      interface = [];
+      takes = no_names;
+      instance = λ given put. comes (Err memory);
+    }
 
 abbrev pub found : Option Prototype → Prototype
 found None = no_prototype

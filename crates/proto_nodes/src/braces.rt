@@ -129,7 +129,8 @@ fn begin_full<'t, 'a>(
     requires { shown.Sound walker.old }
     ensures goes { (ps : List Prototype) → Knows ps protos.now → Goes ps (doing (flat.full_node
         text.entry.line text.entry.name.now (map (meaning.item ps) text.entry.items.now)
-        (meaning.owner ps text.entry.word)) (shown.shown walker.old)) result (shown.shown walker.new) }
+        (meaning.owner ps text.entry.word)) (shown.shown walker.old)) result
+        (shown.shown walker.new) }
     ensures sound { IfOk result (λ t. TaskSound t) }
     ensures walker { IfOk result (λ _. shown.Sound walker.new) }
 {
@@ -169,7 +170,8 @@ pub fn begin<'t, 'a>(
 ) -> Result<Task<'t, 'a>, ExpandFault>
     requires { shown.Sound walker.old }
     ensures goes { (ps : List Prototype) → Knows ps protos.now → Goes ps
-        (doing (meaning.node ps node.now).does (shown.shown walker.old)) result (shown.shown walker.new) }
+        (doing (meaning.node ps node.now).does (shown.shown walker.old)) result
+        (shown.shown walker.new) }
     ensures sound { IfOk result (λ t. TaskSound t) }
     ensures walker { IfOk result (λ _. shown.Sound walker.new) }
 {

@@ -58,7 +58,8 @@ pub fn fill<'t, 'a>(
 ) -> Result<(), AllocError>
     requires sound { FillingSound filling.old }
     requires free { table.has_name place.name.now (table.shown filling.old.defaults) ≡ false }
-    ensures { IfOk result (λ _. HasFilled filling.old (default_value place.entry value) filling.new) }
+    ensures { IfOk result (λ _.
+        HasFilled filling.old (default_value place.entry value) filling.new) }
 {
     let value = Rc::new(alloc, value)?;
     let Place { line, name, field } = place;

@@ -123,7 +123,8 @@ fn put_given<'t, 'a>(
     requires free { twice ≡ false
         → table.has_name place.name.now (braces.filled_in opened.old.inside) ≡ false }
     ensures goes { (ps : List Prototype) → OpenGoes ps (item_comes ps
-        (given_at place.entry twice (given_by ps given.now)) opened.old (shown.shown walker.old)) result
+        (given_at place.entry twice (given_by ps given.now)) opened.old (shown.shown walker.old))
+        result
         walker.new opened.new }
     ensures sound { OpenSound result walker.new opened.new }
 {
@@ -158,7 +159,8 @@ fn put_field<'t, 'a>(
     requires walker { shown.Sound walker.old }
     requires inside { braces.Sound opened.old.inside }
     ensures goes { (ps : List Prototype) → OpenGoes ps (item_comes ps
-        (field_does line name.now (given_by ps given.now)) opened.old (shown.shown walker.old)) result
+        (field_does line name.now (given_by ps given.now)) opened.old (shown.shown walker.old))
+        result
         walker.new opened.new }
     ensures sound { OpenSound result walker.new opened.new }
 {
@@ -187,7 +189,8 @@ fn put_declaration<'t, 'a>(
     requires walker { shown.Sound walker.old }
     requires inside { braces.Sound opened.old.inside }
     ensures goes { (ps : List Prototype) → OpenGoes ps (item_comes ps
-        (meaning.declares declaration.now (given_by ps given.now)) opened.old (shown.shown walker.old)) result
+        (meaning.declares declaration.now (given_by ps given.now)) opened.old
+        (shown.shown walker.old)) result
         walker.new opened.new }
     ensures sound { OpenSound result walker.new opened.new }
 {
@@ -224,7 +227,8 @@ fn put_item<'t, 'a>(
 ) -> Result<Next<'t, 'a>, ExpandFault>
     requires walker { shown.Sound walker.old }
     requires inside { braces.Sound opened.old.inside }
-    ensures goes { (ps : List Prototype) → OpenGoes ps (item_comes ps (meaning.item ps item.now).does
+    ensures goes { (ps : List Prototype) → OpenGoes ps (item_comes ps
+        (meaning.item ps item.now).does
         opened.old (shown.shown walker.old)) result walker.new opened.new }
     ensures sound { OpenSound result walker.new opened.new }
 {
@@ -261,7 +265,8 @@ pub fn next_item<'t, 'a>(
     requires walker { shown.Sound walker.old }
     requires inside { braces.Sound opened.old.inside }
     ensures goes { (ps : List Prototype) → OpenGoes ps (doing
-        (open_does ps opened.old (inside_now ps opened.old)) (shown.shown walker.old)) result walker.new
+        (open_does ps opened.old (inside_now ps opened.old)) (shown.shown walker.old)) result
+        walker.new
         opened.new }
     ensures sound { OpenSound result walker.new opened.new }
 {

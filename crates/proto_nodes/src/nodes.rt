@@ -52,8 +52,10 @@ fn wait<'t, 'a>(
 ) -> Result<Task<'t, 'a>, ExpandFault>
     requires machine { MachineSound machine.old }
     requires frame { FrameSound frame }
-    ensures goes { (ps : List Prototype) → Knows ps machine.old.protos.now → AllGoes ps (after (after
-        (doing (meaning.node ps node.now).does (shown.shown machine.old.walker)) (frame_comes ps frame.entry))
+    ensures goes { (ps : List Prototype) → Knows ps machine.old.protos.now → AllGoes ps
+        (after (after
+        (doing (meaning.node ps node.now).does (shown.shown machine.old.walker))
+        (frame_comes ps frame.entry))
         (frames_come ps machine.old.frames.items)) result machine.new }
     ensures sound { IfOk result (λ t. TaskSound t) }
     ensures machine { IfOk result (λ _. MachineSound machine.new) }

@@ -77,7 +77,9 @@ impl<'t, 'a> Scope<'t, 'a> {
         requires { Sound self.old }
         ensures at { IfOk result (λ at. at ≡ length (shown self.old).braces) }
         ensures shown { IfOk result (λ _. shown self.new
-            ≡ record (shown self.old) { braces = (shown self.old).braces ++ opened name.now ∷ [] }) }
+            ≡ record (shown self.old) {
+              braces = (shown self.old).braces ++ opened name.now ∷ [];
+            }) }
         ensures sound { IfOk result (λ _. Sound self.new) }
     {
         let at = self.braces.len();
@@ -168,7 +170,8 @@ impl<'t, 'a> Scope<'t, 'a> {
     /// A ROUTE stands behind the others.
     pub fn note_route(&mut self, route: &'a RouteText) -> Result<(), AllocError>
         requires { Sound self.old }
-        ensures shown { IfOk result (λ _. shown self.new ≡ spec.with_route route.now (shown self.old)) }
+        ensures shown { IfOk result (λ _.
+            shown self.new ≡ spec.with_route route.now (shown self.old)) }
         ensures sound { IfOk result (λ _. Sound self.new) }
     {
         let source = self.side(&route.source);

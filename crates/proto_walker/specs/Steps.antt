@@ -10,7 +10,8 @@ use Rattle.proto_meaning.specs.Flat.{Does, ◌>>=◌, pure, refuse, meet, note, 
 
 -- the node of that name
 abbrev pub named_node : ℕ → Name → Does ℕ
-named_node line name = λ w. option_map_or pure (used name w.scope.braces) (refuse UseWithoutDef line) w
+named_node line name = λ w.
+    option_map_or pure (used name w.scope.braces) (refuse UseWithoutDef line) w
 
 -- USE, as `node_step` has it
 abbrev pub using : ℕ → Name → Does ℕ

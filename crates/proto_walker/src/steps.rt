@@ -126,7 +126,8 @@ impl<'t, 'a> Walker<'t, 'a> {
     /// No name stands twice in the interface: FieldTwice where one does.
     pub fn check_interface(&self, interface: &Interface<'_>) -> Result<(), ExpandFault>
         requires { Sound self.now }
-        ensures { Steps (λ a. a) (doing (flat.unless_twice [] interface.now) (shown self.now)) result
+        ensures { Steps (λ a. a) (doing (flat.unless_twice [] interface.now) (shown self.now))
+            result
             self.now }
     {
         let Some(line) = interface.twice() else {
