@@ -46,29 +46,33 @@ impl<'a> Fields<'a> {
         self.table.get(name).copied()
     }
 
+    /// The field has the name, and no longer the one that had it: it is answered.
+    #[tactic(auto, unfolding(crate::specs::Fields::fields_of))]
     fn insert(
         &mut self,
         name: &'a Text,
         field: KnownField,
-    ) -> Result<(), AllocFailed<(&'a str, KnownField)>>
-        ensures { IfOk result (λ _. fields_of self.new
+    ) -> Result<Option<KnownField>, AllocFailed<(&'a str, KnownField)>>
+        ensures before { IfOk result (λ before. before ≡ fields_of self.old name.now) }
+        ensures fields { IfOk result (λ _. fields_of self.new
             ≡ with_entry name.now field (fields_of self.old)) }
     {
-        self.table.insert(name.as_str(), field)?;
-        Ok(())
+        let before = self.table.insert(name.as_str(), field)?;
+        Ok(before)
     }
 
-    /// A field of that name stands behind the others. Says whether none of them has it.
+    /// A field of that name stands behind the others. Says whether none of them has it. Most names
+    /// are new: they are looked up once.
     fn add(&mut self, name: &'a Text, field: KnownField) -> Result<bool, AllocError>
         ensures fields { IfOk result (λ _. fields_of self.new
             ≡ added field name.now (fields_of self.old)) }
         ensures new { IfOk result (λ new. new ≡ is_none (fields_of self.old name.now)) }
     {
-        if self.get(name.as_str()).is_some() {
-            return Ok(false);
-        }
-        self.insert(name, field)?;
-        Ok(true)
+        let Some(first) = self.insert(name, field)? else {
+            return Ok(true);
+        };
+        self.insert(name, first)?;
+        Ok(false)
     }
 }
 
