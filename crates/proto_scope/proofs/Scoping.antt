@@ -22,7 +22,7 @@ use Rattle.proto_joins.specs.declared.sides.RoutePart.{RoutePart}
 use Rattle.proto_joins.specs.declared.sides.RoutePart.TheVariants as part
 use Rattle.proto_joins.specs.Joins.{braces_of, stands_by, stands_of}
 use Rattle.proto_joins.specs.Sides.{sources_of, targets_of, pending_routes, part_routes, parts_routes}
-use Rattle.proto_scope.specs.Held.{with_route}
+use Rattle.proto_scope.specs.Held.{with_route, with_routes}
 
 -- ---- braces that open
 
@@ -103,6 +103,14 @@ route-noted r s old new p was is line sat sfield tat tfield =
     (routes-more old new (part.Pending p) is
     ∙ fun_ext (λ all. ap (λ rs. parts_routes old all ++ rs) (pending-is r s.braces p line sat sfield tat tfield all)
     ∙ ap (λ (f : List meaning.Braces → List FlatRoute). f all ++ pairs r.line (sources s.braces all r.source) (targets s.braces all r.target)) (sym was)))
+
+pub routes-added : (made : List FlatRoute) (s : meaning.Scope) (old new : List RoutePart) (p : RoutePart) → s.routes ≡ parts_routes old → new ≡ old ++ p ∷ [] →
+    ((all : List meaning.Braces) → part_routes p all ≡ made) → record s { routes = parts_routes new } ≡ with_routes made s
+routes-added made s old new p was is same =
+    ap (λ rs. record s { routes = rs })
+    (routes-more old new p is
+    ∙ fun_ext (λ all. ap (λ rs. parts_routes old all ++ rs) (same all)
+    ∙ ap (λ (f : List meaning.Braces → List FlatRoute). f all ++ made) (sym was)))
 
 pub set-shown : (s : meaning.Scope) (items : List Braces) (at : ℕ) (b : Braces) → s.braces ≡ map braces_of items →
     record s { braces = map braces_of (slice_set items at b) } ≡ record s { braces = slice_set s.braces at (braces_of b) }
