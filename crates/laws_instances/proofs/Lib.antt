@@ -1,0 +1,13 @@
+pub mod WithFieldsTexts
+pub mod WithFieldsWalks
+pub mod WithFieldsSeen
+pub mod WithFieldsParts
+pub mod WithFieldsGiven
+pub mod WithFieldsItems
+pub mod WithFieldsSound
+pub mod WithFieldsInstance
+pub mod WithFieldsEnds
+pub mod WithFieldsWhole
+pub mod WithHelpersSteps
+pub mod WithHelpersBody
+pub mod WithHelpersWhole

@@ -1,0 +1,2 @@
+pub mod WithFields
+pub mod WithHelpers
