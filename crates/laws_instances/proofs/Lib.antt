@@ -1,6 +1,7 @@
 pub mod WithFieldsTexts
 pub mod WithFieldsWalks
 pub mod WithFieldsSeen
+pub mod WithFieldsSteps
 pub mod WithFieldsParts
 pub mod WithFieldsGiven
 pub mod WithFieldsItems
@@ -9,5 +10,7 @@ pub mod WithFieldsInstance
 pub mod WithFieldsEnds
 pub mod WithFieldsWhole
 pub mod WithHelpersSteps
+pub mod WorkedWithFields
 pub mod WithHelpersBody
 pub mod WithHelpersWhole
+pub mod WorkedWithHelpers

@@ -6,27 +6,28 @@ use Rattle.proto_flat.specs.Fault.{fault}
 use Rattle.proto_flat.specs.declared.fault.ExpandFault.{ExpandFault}
 use Rattle.proto_flat.specs.declared.fault.ExpandFaultKind.TheVariants.{TooLarge}
 use Rattle.proto_flat.specs.declared.flat.Flat.{Flat}
+use Rattle.proto_flat.specs.declared.flat.FlatNode.{FlatNode}
 use Rattle.proto_meaning.specs.Limits.{Met, Outcome, behind, follow, and_then, nodes_met, instances_met, items_met, all_met, has_room, is_within, with_few_routes, limited}
 use Rattle.proto_meaning.specs.Names.{Field, Filled}
 use Rattle.proto_meaning.specs.Sight.{Sight}
-use Rattle.proto_meaning.specs.Flat.{Walk, comes}
+use Rattle.proto_meaning.specs.Flat.{Walk}
 use Rattle.laws_meaning.proofs.InPlaceParts.{never, both_true}
 use Rattle.laws_instances.proofs.WithFieldsWalks.{Fewer, fewer_behind, EndAlike, ComeAlike}
 use Rattle.laws_instances.proofs.WithFieldsGiven.{EndsIn, Leads}
 
 -- ---- what the first leads to, beside the second
 
-module _ (one two : Sight) (names : List Field) (values : List Filled) (helpers : List ℕ) where
-  pub leads_alike : {A C D : Type 0} (P : A → Type 0) (R : C → D → Type 0) (o : Outcome A) (f : A → Outcome (C × Walk)) (p : Outcome (D × Walk)) → Leads o P → ((a : A) → P a → ComeAlike one two names values helpers R (f a) p) → ComeAlike one two names values helpers R (and_then o f) p
+module _ (one two : Sight) (names : List Field) (values : List Filled) (helpers : List ℕ) (firsts seconds : List FlatNode) where
+  pub leads_alike : {A C D : Type 0} (P : A → Type 0) (R : C → D → Type 0) (o : Outcome A) (f : A → Outcome (C × Walk)) (p : Outcome (D × Walk)) → Leads o P → ((a : A) → P a → ComeAlike one two names values helpers firsts seconds R (f a) p) → ComeAlike one two names values helpers firsts seconds R (and_then o f) p
   leads_alike {A} {C} {D} P R o f p h k = on o.met o.comes h where
-    more : (met : List Met) (q : Outcome (C × Walk)) → ComeAlike one two names values helpers R q p → ComeAlike one two names values helpers R (behind met q) p
+    more : (met : List Met) (q : Outcome (C × Walk)) → ComeAlike one two names values helpers firsts seconds R q p → ComeAlike one two names values helpers firsts seconds R (behind met q) p
     more met q l = put q.met q.comes p.met p.comes l where
-      put : (ms : List Met) (c : Result (C × Walk) ExpandFault) (ns : List Met) (d : Result (D × Walk) ExpandFault) → EndAlike one two names values helpers R ms c ns d → EndAlike one two names values helpers R (met ++ ms) c ns d
+      put : (ms : List Met) (c : Result (C × Walk) ExpandFault) (ns : List Met) (d : Result (D × Walk) ExpandFault) → EndAlike one two names values helpers firsts seconds R ms c ns d → EndAlike one two names values helpers firsts seconds R (met ++ ms) c ns d
       put ms (Err x) ns d l = tt
       put ms (Ok a) ns (Ok b) l = (fewer_behind ns ms met l.0, l.1, l.2)
       put ms (Ok a) ns (Err y) l = absurd l
 
-    on : (met : List Met) (c : Result A ExpandFault) → EndsIn P c → ComeAlike one two names values helpers R (follow met c f) p
+    on : (met : List Met) (c : Result A ExpandFault) → EndsIn P c → ComeAlike one two names values helpers firsts seconds R (follow met c f) p
     on met (Ok a) e = more met (f a) (k a e)
     on met (Err x) e = tt
 
@@ -72,4 +73,3 @@ refused met x f e = on (is_within met) e where
   on : (b : Bool) → (if b then with_few_routes (Err x) else Err (fault TooLarge 0)) ≡ Ok f → ⊥
   on true k = never (ap is_fine k)
   on false k = never (ap is_fine k)
-

@@ -1,37 +1,27 @@
 -- What an instance is given, and its defaults: what ISs of its body find.
-use Rattle.std.proofs.Common.{◌≡◌, ℕ, ◌+◌, Bool, true, false, ◌&&◌, ◌||◌, if◌then◌else◌, List, [], ◌∷◌, ◌++◌, Option, Some, None, Result, Ok, Err, map, refl, ap, sym, ◌∙◌, subst}
+use Rattle.std.proofs.Common.{◌≡◌, ℕ, ◌+◌, Bool, true, false, ◌&&◌, if◌then◌else◌, List, [], ◌∷◌, ◌++◌, Option, Some, None, Result, Ok, Err, map, refl, ap, sym, ◌∙◌, subst}
 use Rattle.std.specs.Prelude.{is_none}
 use Rattle.std.specs.List.{find, list_all}
 use Rattle.std.specs.Option.{option_map_or, option_or}
 use Rattle.std.specs.Str.{bytes_eq}
 use Rattle.std.proofs.lemmas.Slice.Eq.{bytes_eq-Decides}
-use Rattle.x3d_values.specs.Access.{is_initial}
 use Rattle.x3d_values.specs.declared.field_type.Access.{Access}
 use Rattle.x3d_values.specs.declared.field_type.FieldType.{FieldType}
-use Rattle.classic_tree.specs.declared.tree.BodyItem.{BodyItem, out-BodyItem, roll-BodyItem, roll-out-BodyItem, out-roll-BodyItem}
-use Rattle.classic_tree.specs.declared.tree.BodyItem.TheOpen.{BodyItem-F}
-use Rattle.classic_tree.specs.declared.tree.BodyItem.TheVariants as item_text
 use Rattle.classic_tree.specs.declared.tree.Declaration.{Declaration}
 use Rattle.classic_tree.specs.declared.tree.Given.{Given}
 use Rattle.classic_tree.specs.declared.tree.Given.TheVariants as given
 use Rattle.classic_tree.specs.declared.tree.NodeText.{NodeText}
-use Rattle.classic_tree.specs.declared.tree.ProtoText.{ProtoText}
 use Rattle.classic_tree.specs.declared.tree.RawValue.{RawValue}
 use Rattle.classic_tree.specs.declared.tree.RawValue.TheVariants as value
-use Rattle.classic_tree.specs.declared.tree.RouteText.{RouteText}
-use Rattle.classic_tree.specs.declared.tree.Statement.{Statement}
 use Rattle.classic_tree.proofs.Mapped.{given_mapped, interface_mapped}
 use Rattle.proto_flat.specs.declared.fault.ExpandFault.{ExpandFault}
-use Rattle.proto_flat.specs.declared.fault.ExpandFaultKind.TheVariants.{FieldTwice, UnknownField}
 use Rattle.proto_meaning.specs.Limits.{Met, Outcome, and_then, follow}
 use Rattle.proto_meaning.specs.Names.{Name, Field, Filled, value_of}
-use Rattle.proto_meaning.specs.Sight.{Prototype, Names, OfProto}
-use Rattle.proto_meaning.specs.Flat.{Walk, Does, ◌>>=◌, pure, refuse, through, Node, Item, Inside, put_in, leave_out, give, give_value, give_is, fill, numbered_from, is_filled, default, put_default, item_step}
-use Rattle.proto_meaning.specs.Flat.{item as item_part, node as node_part}
-use Rattle.proto_meaning.proofs.Trees.{item-field}
-use Rattle.laws_instances.specs.WithFields.{is_plain, Quiet, quiet_item, is_quiet_node, Finds, Braces, gives, given_by, value_in, default_of, replaced, field_of, those_there, written_item, written_node}
+use Rattle.proto_meaning.specs.Sight.{Names}
+use Rattle.proto_meaning.specs.Flat.{Walk, ◌>>=◌, pure, through, leave_out, numbered_from, default, put_default}
+use Rattle.proto_meaning.specs.Flat.{node as node_part}
+use Rattle.laws_instances.specs.WithFields.{is_plain, Finds, value_in, default_of}
 use Rattle.laws_meaning.proofs.InPlaceParts.{never, both_true}
-use Rattle.laws_instances.proofs.WithFieldsTexts as texts
 use Rattle.laws_instances.proofs.WithFieldsWalks.{FoundAs}
 
 -- ---- what it leads to, unless it is refused
@@ -192,9 +182,9 @@ module _ (takes : Names) where
   know_more filled finds e v h k x t =
       subst (λ o. Found o (option_or (finds x) (if bytes_eq e.name x then v else None))) (sym (value_pushed x filled e))
       (found_or (value_of x filled) (if bytes_eq e.name x then e.value else None) (finds x) (if bytes_eq e.name x then v else None) (h x t) (on (bytes_eq e.name x) refl)) where
-    on : (b : Bool) → bytes_eq e.name x ≡ b → Found (if b then e.value else None) (if b then v else None)
-    on true is = k (ap takes ((bytes_eq-Decides e.name x).0 is) ∙ t)
-    on false is = tt
+        on : (b : Bool) → bytes_eq e.name x ≡ b → Found (if b then e.value else None) (if b then v else None)
+        on true is = k (ap takes ((bytes_eq-Decides e.name x).0 is) ∙ t)
+        on false is = tt
 
   -- nothing is added, where there is a value or no IS takes it
   know_same : (filled : List Filled) (finds : Finds) (name : Name) (v : Option (RawValue NodeText)) → Knows filled finds → (takes name ≡ true → is_none (value_of name filled) ≡ false)
@@ -249,6 +239,6 @@ module _ (takes : Names) where
       (λ q k. subst (λ v. Leads (through (default takes) (map (interface_mapped node_part) ds) q.0 v) (Default filled (λ x. option_or (finds x) (default_of (d ∷ ds) x)) w)) (sym k.0)
       (weaker (through (default takes) (map (interface_mapped node_part) ds) q.0 w).comes
       (defaults_known ds q.0 (λ x. option_or (finds x) (if bytes_eq d.name x then value_in d.given else None)) w both.1 k.1))) where
-    weaker : (c : Result (List Filled × Walk) ExpandFault) → EndsIn (Default filled (λ x. option_or (option_or (finds x) (if bytes_eq d.name x then value_in d.given else None)) (default_of ds x)) w) c → EndsIn (Default filled (λ x. option_or (finds x) (default_of (d ∷ ds) x)) w) c
-    weaker (Ok q) k = (k.0, knows_by q.0 (λ x. option_or (option_or (finds x) (if bytes_eq d.name x then value_in d.given else None)) (default_of ds x)) (λ x. option_or (finds x) (default_of (d ∷ ds) x)) (λ x. or_assoc (finds x) (if bytes_eq d.name x then value_in d.given else None) (default_of ds x)) k.1)
-    weaker (Err f) k = tt
+        weaker : (c : Result (List Filled × Walk) ExpandFault) → EndsIn (Default filled (λ x. option_or (option_or (finds x) (if bytes_eq d.name x then value_in d.given else None)) (default_of ds x)) w) c → EndsIn (Default filled (λ x. option_or (finds x) (default_of (d ∷ ds) x)) w) c
+        weaker (Ok q) k = (k.0, knows_by q.0 (λ x. option_or (option_or (finds x) (if bytes_eq d.name x then value_in d.given else None)) (default_of ds x)) (λ x. option_or (finds x) (default_of (d ∷ ds) x)) (λ x. or_assoc (finds x) (if bytes_eq d.name x then value_in d.given else None) (default_of ds x)) k.1)
+        weaker (Err f) k = tt

@@ -11,12 +11,12 @@ use Rattle.proto_flat.specs.declared.fault.ExpandFaultKind.TheVariants.{FieldTwi
 use Rattle.proto_meaning.specs.Limits.{AnInstance, Outcome, and_then}
 use Rattle.proto_meaning.specs.Names.{Name, Field, Filled, value_of}
 use Rattle.proto_meaning.specs.Sight.{Put, Instance, Prototype, Names, OfProto}
-use Rattle.proto_meaning.specs.Flat.{Walk, Does, ◌>>=◌, comes, refuse, note, through, field, close, close_instance, Inside, inside, is_one, unless_twice, default, in_body, begin, made, renamed, full_node}
+use Rattle.proto_meaning.specs.Flat.{Walk, Does, ◌>>=◌, refuse, note, through, field, close, close_instance, Inside, inside, is_one, unless_twice, default, in_body, begin, made, renamed, full_node}
 use Rattle.proto_meaning.specs.Flat.{item as item_part, node as node_part}
 use Rattle.laws_instances.specs.WithFields.{Braces, is_plain, Quiet, quiet_item, replaced, those_there, written_item, found, given_by, finds_nothing}
 use Rattle.laws_instances.proofs.WithFieldsSound.{parts, one_body, the_prototype, its_names}
 use Rattle.laws_instances.proofs.WithFieldsWalks.{FoundAs}
-use Rattle.laws_instances.proofs.WithFieldsParts.{then_then}
+use Rattle.laws_instances.proofs.WithFieldsSteps.{then_then}
 use Rattle.laws_instances.proofs.WithFieldsGiven.{Leads, Knows, find_name, defaults_known}
 use Rattle.laws_instances.proofs.WithFieldsItems.{within, Holds, items_hold}
 

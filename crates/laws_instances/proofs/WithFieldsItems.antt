@@ -1,5 +1,5 @@
 -- What stands between the braces of an instance: what is known of it is what is written there.
-use Rattle.std.proofs.Common.{◌≡◌, ℕ, Bool, true, false, ◌||◌, if◌then◌else◌, List, [], ◌∷◌, ◌++◌, length, Option, Some, None, Result, Ok, Err, map, refl, ap, sym, ◌∙◌, subst}
+use Rattle.std.proofs.Common.{◌≡◌, ℕ, Bool, true, false, if◌then◌else◌, List, [], ◌∷◌, ◌++◌, Option, Some, None, Result, Ok, Err, map, refl, ap, sym, ◌∙◌, subst}
 use Rattle.std.specs.List.{find, list_all}
 use Rattle.std.specs.Option.{option_map_or, option_or}
 use Rattle.std.specs.Str.{bytes_eq}
@@ -21,14 +21,14 @@ use Rattle.proto_flat.specs.declared.fault.ExpandFaultKind.TheVariants.{FieldTwi
 use Rattle.proto_meaning.specs.Limits.{AnItem, Outcome, behind, and_then}
 use Rattle.proto_meaning.specs.Names.{Name, Field, Filled}
 use Rattle.proto_meaning.specs.Sight.{Prototype, OfProto}
-use Rattle.proto_meaning.specs.Flat.{Walk, ◌>>=◌, pure, refuse, meet, through, Node, Item, Inside, put_in, leave_out, give, give_value, give_is, fill, numbered_from, is_filled, item_step}
+use Rattle.proto_meaning.specs.Flat.{Walk, ◌>>=◌, pure, refuse, meet, through, Node, Item, Inside, put_in, leave_out, give, give_is, fill, numbered_from, is_filled, item_step}
 use Rattle.proto_meaning.specs.Flat.{item as item_part, node as node_part}
 use Rattle.proto_meaning.proofs.Trees.{item-field}
 use Rattle.laws_instances.specs.WithFields.{is_plain, Quiet, quiet_item, is_quiet_node, Finds, Braces, gives, given_by, field_of, replaced, those_there, written_item, written_node}
 use Rattle.laws_meaning.proofs.InPlaceParts.{never, both_true}
 use Rattle.laws_instances.proofs.WithFieldsTexts as texts
 use Rattle.laws_instances.proofs.WithFieldsWalks.{FoundAs}
-use Rattle.laws_instances.proofs.WithFieldsGiven.{EndsIn, Leads, leads_then, Found, plain_of, plain_found, plain_left, plain_stays, plain_mapped, or_assoc, or_none, numbered_name, Knows, knows_by, know_more, know_nothing}
+use Rattle.laws_instances.proofs.WithFieldsGiven.{EndsIn, Leads, leads_then, Found, plain_of, plain_found, plain_left, plain_stays, plain_mapped, or_assoc, or_none, numbered_name, Knows, knows_by, know_more}
 
 -- an item, by its variants
 pub each_item : (P : BodyItem → Type 0) → ((line : ℕ) (name : Name) (g : Given NodeText) → P (item_text.Field line name g)) → ((d : Declaration NodeText) → P (item_text.Declaration d))
@@ -40,7 +40,7 @@ each_item P field declaration route proto i = subst P (roll-out-BodyItem i) (on 
   on (BodyItem-F.BodyItem::Route r) = subst P (sym (item_text.rolls-Route r)) (route r)
   on (BodyItem-F.BodyItem::Proto p) = subst P (sym (item_text.rolls-Proto p)) (proto p)
 
-out_field : (line : ℕ) (name : Name) (g : Given NodeText) → out-BodyItem (item_text.Field line name g) ≡ BodyItem-F.Field line name g
+pub out_field : (line : ℕ) (name : Name) (g : Given NodeText) → out-BodyItem (item_text.Field line name g) ≡ BodyItem-F.Field line name g
 out_field line name g = ap out-BodyItem (sym (item_text.rolls-Field line name g)) ∙ out-roll-BodyItem (BodyItem-F.Field line name g)
 
 abbrev nothing : Option (RawValue NodeText)
@@ -70,27 +70,27 @@ module _ (p : Prototype) (proto : Name) (allowed : Bool) (writes : Finds) (brace
       → Leads (give line f twice (given.Value x) (within at filled) w) (Holds at (λ y. option_or (finds y) (if bytes_eq name y then Some v else None)) w)
   one_value line f name twice v x at filled finds w named found same left h =
       subst (λ n. Leads (give line f twice (given.Value x) (within at filled) w) (Holds at (λ y. option_or (finds y) (if bytes_eq n y then Some v else None)) w)) named (on (is_initial f.1.access) twice (p.takes f.1.name) refl) where
-    on : (a b c : Bool) → p.takes f.1.name ≡ c
-        → Leads ((if a then (if b then refuse FieldTwice line else (meet AnItem >>= λ _. if c then (put_in x >>= λ r. pure (fill line f (within at filled) (Some r))) else leave_out (given.Value x) >>= λ _. pure (fill line f (within at filled) None))) else refuse UnknownField line) w)
-        (Holds at (λ y. option_or (finds y) (if bytes_eq f.1.name y then Some v else None)) w)
-    on false b c e = tt
-    on true true c e = tt
-    on true false true e =
-        subst (λ (o : Outcome (RawValue ℕ × Walk)). Leads (behind (AnItem ∷ []) (and_then o (λ q. pure (fill line f (within at filled) (Some q.0)) q.1))) (Holds at (λ y. option_or (finds y) (if bytes_eq f.1.name y then Some v else None)) w)) (sym (found.1 w))
-        (record {
-          walk = refl;
-          filled = filled ++ record { line = line; name = f.1.name; number = f.0; value = Some (plain_of v) } ∷ [];
-          is = refl;
-          knows = know_more p.takes filled finds (record { line = line; name = f.1.name; number = f.0; value = Some (plain_of v) }) (Some v) h (λ _. same);
-        })
-    on true false false e =
-        subst (λ (o : Outcome (Unit {0} × Walk)). Leads (behind (AnItem ∷ []) (and_then o (λ q. pure (fill line f (within at filled) None) q.1))) (Holds at (λ y. option_or (finds y) (if bytes_eq f.1.name y then Some v else None)) w)) (sym left)
-        (record {
-          walk = refl;
-          filled = filled ++ record { line = line; name = f.1.name; number = f.0; value = None } ∷ [];
-          is = refl;
-          knows = know_more p.takes filled finds (record { line = line; name = f.1.name; number = f.0; value = None }) (Some v) h (λ t. never (sym e ∙ t));
-        })
+        on : (a b c : Bool) → p.takes f.1.name ≡ c
+            → Leads ((if a then (if b then refuse FieldTwice line else (meet AnItem >>= λ _. if c then (put_in x >>= λ r. pure (fill line f (within at filled) (Some r))) else leave_out (given.Value x) >>= λ _. pure (fill line f (within at filled) None))) else refuse UnknownField line) w)
+            (Holds at (λ y. option_or (finds y) (if bytes_eq f.1.name y then Some v else None)) w)
+        on false b c e = tt
+        on true true c e = tt
+        on true false true e =
+            subst (λ (o : Outcome (RawValue ℕ × Walk)). Leads (behind (AnItem ∷ []) (and_then o (λ q. pure (fill line f (within at filled) (Some q.0)) q.1))) (Holds at (λ y. option_or (finds y) (if bytes_eq f.1.name y then Some v else None)) w)) (sym (found.1 w))
+            (record {
+              walk = refl;
+              filled = filled ++ record { line = line; name = f.1.name; number = f.0; value = Some (plain_of v) } ∷ [];
+              is = refl;
+              knows = know_more p.takes filled finds (record { line = line; name = f.1.name; number = f.0; value = Some (plain_of v) }) (Some v) h (λ _. same);
+            })
+        on true false false e =
+            subst (λ (o : Outcome (Unit {0} × Walk)). Leads (behind (AnItem ∷ []) (and_then o (λ q. pure (fill line f (within at filled) None) q.1))) (Holds at (λ y. option_or (finds y) (if bytes_eq f.1.name y then Some v else None)) w)) (sym left)
+            (record {
+              walk = refl;
+              filled = filled ++ record { line = line; name = f.1.name; number = f.0; value = None } ∷ [];
+              is = refl;
+              knows = know_more p.takes filled finds (record { line = line; name = f.1.name; number = f.0; value = None }) (Some v) h (λ t. never (sym e ∙ t));
+            })
 
   one_nothing : (line : ℕ) (f : ℕ × Field) (twice : Bool) (at : ℕ) (filled : List Filled) (finds : Finds) (w : Walk) → Knows p.takes filled finds → Leads (give line f twice given.Nothing (within at filled) w) (Holds at finds w)
   one_nothing line f true at filled finds w h = tt
@@ -103,9 +103,9 @@ module _ (p : Prototype) (proto : Name) (allowed : Bool) (writes : Finds) (brace
             (λ x. ap (option_or (finds x)) (if_same (bytes_eq f.1.name x)) ∙ or_none (finds x))
             (know_more p.takes filled finds (record { line = line; name = f.1.name; number = f.0; value = None }) None h (λ _. tt));
       } where
-    if_same : (b : Bool) → (if b then nothing else nothing) ≡ nothing
-    if_same true = refl
-    if_same false = refl
+        if_same : (b : Bool) → (if b then nothing else nothing) ≡ nothing
+        if_same true = refl
+        if_same false = refl
 
   -- ---- an item
 
@@ -207,13 +207,13 @@ module _ (p : Prototype) (proto : Name) (allowed : Bool) (writes : Finds) (brace
       (λ d e. never (sym (ap (λ (q : Quiet). q.in_instance) (texts.quiet-declaration proto allowed d)) ∙ e))
       (λ r e. never (sym (ap (λ (q : Quiet). q.in_instance) (texts.quiet-item-route proto allowed r)) ∙ e))
       (λ b e. never (sym (ap (λ (q : Quiet). q.in_instance) (texts.quiet-item-proto proto allowed b)) ∙ e)) where
-    field_as_it_is : (line : ℕ) (name : Name) (g : Given NodeText) → is_plain g ≡ true → (x : Name) → in_it (new (item_text.Field line name g)) x ≡ in_it (Some (item_text.Field line name g)) x
-    field_as_it_is line name given.Nothing e x = nothing_there line name x ∙ sym (ap (λ y. option_or (gives x y) None) (out_field line name given.Nothing))
-    field_as_it_is line name (given.Is outer) e x =
-        ap (λ o. in_it o x) (texts.written-field writes braces line name (given.Is outer) ∙ ap (λ o. field_of line name (option_map_or (λ v. given.Value v) o given.Nothing)) (none outer))
-        ∙ sym (ap (λ y. option_or (gives x y) None) (out_field line name (given.Is outer)))
-    field_as_it_is line name (given.Value v) e x =
-        value_there line name v e x ∙ sym (or_none (gives x (out-BodyItem (item_text.Field line name (given.Value v)))) ∙ ap (gives x) (out_field line name (given.Value v)))
+        field_as_it_is : (line : ℕ) (name : Name) (g : Given NodeText) → is_plain g ≡ true → (x : Name) → in_it (new (item_text.Field line name g)) x ≡ in_it (Some (item_text.Field line name g)) x
+        field_as_it_is line name given.Nothing e x = nothing_there line name x ∙ sym (ap (λ y. option_or (gives x y) None) (out_field line name given.Nothing))
+        field_as_it_is line name (given.Is outer) e x =
+            ap (λ o. in_it o x) (texts.written-field writes braces line name (given.Is outer) ∙ ap (λ o. field_of line name (option_map_or (λ v. given.Value v) o given.Nothing)) (none outer))
+            ∙ sym (ap (λ y. option_or (gives x y) None) (out_field line name (given.Is outer)))
+        field_as_it_is line name (given.Value v) e x =
+            value_there line name v e x ∙ sym (or_none (gives x (out-BodyItem (item_text.Field line name (given.Value v)))) ∙ ap (gives x) (out_field line name (given.Value v)))
 
   pub items_same : ((x : Name) → writes x ≡ None) → (is : List BodyItem) → list_all (λ (q : Quiet). q.in_instance) (map (quiet_item proto allowed) is) ≡ true → (x : Name) → given_by (those_there (map new is)) x ≡ given_by is x
   items_same none [] e x = refl

@@ -1,9 +1,9 @@
 -- Each part of a text puts in the same with values in the place of ISs, and the body in the place of each
 -- instance.
-use Rattle.std.proofs.Common.{◌≡◌, ℕ, zero, suc, Bool, true, false, if◌then◌else◌, List, [], ◌∷◌, ◌++◌, length, Option, Some, None, option_map, map, Result, Ok, Err, refl, ap, sym, ◌∙◌, subst}
-use Rattle.std.specs.Prelude.{◌&&◌, is_some, slice_get, slice_set}
-use Rattle.std.specs.List.{AllByRecursion, find, filter_map, list_all}
-use Rattle.std.specs.Option.{option_map_or, option_or}
+use Rattle.std.proofs.Common.{◌≡◌, ℕ, Bool, true, false, if◌then◌else◌, List, [], ◌∷◌, ◌++◌, length, Option, Some, None, option_map, map, refl, ap, sym, ◌∙◌, subst}
+use Rattle.std.specs.Prelude.{◌&&◌}
+use Rattle.std.specs.List.{AllByRecursion, find, list_all}
+use Rattle.std.specs.Option.{option_or}
 use Rattle.std.specs.Str.{bytes_eq}
 use Rattle.std.proofs.lemmas.List.{length-map, append_assoc}
 use Rattle.std.proofs.lemmas.Slice.Eq.{bytes_eq-Decides}
@@ -15,96 +15,42 @@ use Rattle.classic_tree.specs.declared.tree.BodyItem.TheVariants as item_text
 use Rattle.classic_tree.specs.declared.tree.Declaration.{Declaration}
 use Rattle.classic_tree.specs.declared.tree.Given.{Given}
 use Rattle.classic_tree.specs.declared.tree.Given.TheVariants as given
-use Rattle.classic_tree.specs.declared.tree.NodeText.{NodeText, out-NodeText, out-roll-NodeText}
+use Rattle.classic_tree.specs.declared.tree.NodeText.{NodeText}
 use Rattle.classic_tree.specs.declared.tree.NodeText.TheVariants as node_text
 use Rattle.classic_tree.specs.declared.tree.ProtoText.{ProtoText}
 use Rattle.classic_tree.specs.declared.tree.RawValue.TheVariants as value
-use Rattle.classic_tree.specs.declared.tree.RouteText.{RouteText}
-use Rattle.classic_tree.specs.declared.tree.Statement.{Statement, out-Statement, out-roll-Statement}
+use Rattle.classic_tree.specs.declared.tree.Statement.{Statement, out-Statement}
 use Rattle.classic_tree.specs.declared.tree.Statement.TheVariants as statement_text
 use Rattle.classic_tree.proofs.Mapped.{given_mapped, declaration_mapped}
-use Rattle.proto_flat.specs.declared.fault.ExpandFault.{ExpandFault}
-use Rattle.proto_flat.specs.declared.fault.ExpandFaultKind.TheVariants.{UnknownField, UnknownNode}
 use Rattle.proto_flat.specs.declared.flat.FlatField.{FlatField}
 use Rattle.proto_flat.specs.declared.flat.FlatNode.{FlatNode}
-use Rattle.proto_meaning.specs.Limits.{Met, ANode, Outcome, behind, follow, and_then}
+use Rattle.proto_meaning.specs.Limits.{ANode, Outcome, behind}
 use Rattle.proto_meaning.specs.Names.{Name, Field, Filled, value_of}
 use Rattle.proto_meaning.specs.Sight.{Sight, Names, OfType, meant}
-use Rattle.proto_meaning.specs.Flat.{Walk, Does, ◌>>=◌, comes, pure, refuse, through, Node, Item, Stated, Inside, give, numbered_from, is_filled, is_script, field, fields_of, close_node, flat_node, full_node, renamed, item_step, node_step, statement_step}
+use Rattle.proto_meaning.specs.Flat.{Walk, Does, ◌>>=◌, pure, through, Node, Item, Stated, Inside, fields_of, close_node, flat_node, full_node, item_step, node_step, statement_step}
 use Rattle.proto_meaning.specs.Flat.{item as item_part, node as node_part, statement as stated}
 use Rattle.proto_meaning.proofs.Trees.{item-field, item-declaration, node-full, statement-node}
 use Rattle.proto_meaning.proofs.Induction.{OfGiven, Layers, every_statement}
 use Rattle.laws_meaning.specs.InPlace.{is_true, all_in, nothing_in_sight}
-use Rattle.laws_instances.specs.WithFields.{Quiet, quiet_item, is_quiet_node, is_quiet_statement, Finds, Braces, replaced, field_of, those_there, written_item, written_node, written_statement, named_as, named}
+use Rattle.laws_instances.specs.WithFields.{Quiet, quiet_item, is_quiet_node, is_quiet_statement, Finds, Braces, replaced, those_there, written_item, written_node, written_statement, named}
 use Rattle.laws_meaning.proofs.InPlaceParts.{never, both_true}
+use Rattle.laws_instances.proofs.WithFieldsSteps.{longer, named_full, named_last, rename, behind_then, then_then, split_all, IfNode, out_node, out_route, out_proto, field_same, declared_same}
+use Rattle.laws_instances.proofs.WithFieldsSteps.{may_do as may_do_in}
 use Rattle.laws_instances.proofs.WithFieldsTexts as texts
 use Rattle.laws_instances.proofs.WithFieldsTexts.{joined, asked_in, asked_by_item, asked_by, asked_by_statement}
-use Rattle.laws_instances.proofs.WithFieldsWalks.{Fewer, fewer_same, Kept, kept_same, flat_field, has, Equal, FoundAs, Beside, EndAlike, ComeAlike, Alike, behind_alike, then_alike, pure_alike, inside_of, InsideAlike, GivenAs, give_alike, nothing_alike}
+use Rattle.laws_instances.proofs.WithFieldsWalks.{fewer_same, Kept, kept_same, Equal, FoundAs, Beside, ComeAlike, Alike, behind_alike, then_alike, pure_alike, inside_of, InsideAlike, GivenAs}
 
--- ---- the last node takes a name
-
-set_last : (xs : List FlatNode) (x y : FlatNode) → slice_set (xs ++ x ∷ []) (length xs) y ≡ xs ++ y ∷ []
-set_last [] x y = refl
-set_last (z ∷ xs) x y = ap (λ rest. z ∷ rest) (set_last xs x y)
-
-get_last : (xs : List FlatNode) (x : FlatNode) → slice_get (xs ++ x ∷ []) (length xs) ≡ Some x
-get_last [] x = refl
-get_last (z ∷ xs) x = get_last xs x
-
-named_last : (name : Name) (xs : List FlatNode) (x : FlatNode) → renamed (Some name) (length xs) (xs ++ x ∷ []) ≡ xs ++ record x { name = Some name } ∷ []
-named_last name xs x =
-    ap (λ o. option_map_or (λ (n : FlatNode). slice_set (xs ++ x ∷ []) (length xs) (record n { name = Some name })) o (xs ++ x ∷ [])) (get_last xs x)
-    ∙ set_last xs x (record x { name = Some name })
-
-abbrev pub rename : Option Name → ℕ → Does ℕ
-rename name k w = comes (Ok (k, record w { put = record w.put { nodes = renamed name k w.put.nodes } }))
-
--- ---- one step after others
-
-end_assoc : {B C : Type 0} (met ms : List Met) (c : Result B ExpandFault) (g : B → Outcome C) → follow (met ++ ms) c g ≡ behind met (follow ms c g)
-end_assoc met ms (Ok b) g = ap (λ l. record { met = l; comes = (g b).comes }) (append_assoc met ms (g b).met)
-end_assoc met ms (Err x) g = refl
-
-pub behind_then : {A B : Type 0} (met : List Met) (o : Outcome A) (g : A → Outcome B) → and_then (behind met o) g ≡ behind met (and_then o g)
-behind_then met o g = end_assoc met o.met o.comes g
-
-pub then_then : {A B C : Type 0} (o : Outcome A) (f : A → Outcome B) (g : B → Outcome C) → and_then (and_then o f) g ≡ and_then o (λ a. and_then (f a) g)
-then_then {A} {B} {C} o f g = on o.met o.comes where
-  on : (met : List Met) (c : Result A ExpandFault) → and_then (follow met c f) g ≡ follow met c (λ a. and_then (f a) g)
-  on met (Ok a) = behind_then met (f a) g
-  on met (Err x) = refl
-
-pub split_all : (takes : Names) (xs ys : List Name) → list_all takes (xs ++ ys) ≡ true → (list_all takes xs ≡ true) × (list_all takes ys ≡ true)
-split_all takes [] ys e = (refl, e)
-split_all takes (x ∷ xs) ys e =
-    let both = both_true (takes x) (list_all takes (xs ++ ys)) e in
-    let rest = split_all takes xs ys both.1 in (ap (λ b. b && list_all takes xs) both.0 ∙ rest.0, rest.1)
-
--- of a statement that is a node
-abbrev pub IfNode : (NodeText → Type 0) → Statement-F BodyItem NodeText Statement ProtoText → Type 0
-IfNode P (Statement-F.Node n) = P n
-IfNode P _ = Unit {0}
-
-pub out_node : (n : NodeText) → out-Statement (statement_text.Node n) ≡ Statement-F.Node n
-out_node n = ap out-Statement (sym (statement_text.rolls-Node n)) ∙ out-roll-Statement (Statement-F.Node n)
-
-pub out_route : (r : RouteText) → out-Statement (statement_text.Route r) ≡ Statement-F.Statement::Route r
-out_route r = ap out-Statement (sym (statement_text.rolls-Route r)) ∙ out-roll-Statement (Statement-F.Statement::Route r)
-
-pub out_proto : (p : ProtoText) → out-Statement (statement_text.Proto p) ≡ Statement-F.Statement::Proto p
-out_proto p = ap out-Statement (sym (statement_text.rolls-Proto p)) ∙ out-roll-Statement (Statement-F.Statement::Proto p)
-
-module _ (one : Sight) (names : List Field) (values : List Filled) (helpers : List ℕ) (takes : Names) (allowed : Bool) (proto : Name) (finds : Finds) (braces : Braces)
+module _ (one : Sight) (names : List Field) (values : List Filled) (helpers : List ℕ) (firsts seconds : List FlatNode) (same_length : length seconds ≡ length firsts) (takes : Names) (allowed : Bool) (proto : Name) (finds : Finds) (braces : Braces)
     (other_words : (word : Name) → bytes_eq proto word ≡ false → meant word one ≡ option_map OfType (node_type_named word))
     (other_braces : (line : ℕ) (name : Option Name) (word : Name) (is : List BodyItem) → bytes_eq proto word ≡ false → braces line name word is ≡ node_text.Full line name word is)
     (found : (x : Name) → takes x ≡ true → (o : Field) → find (λ (f : Field). bytes_eq f.name x) names ≡ Some o → FoundAs (value_of o.name values) (given_mapped node_part (replaced finds (given.Is x))))
     (an_instance : allowed ≡ true → (line : ℕ) (name : Option Name) (is : List BodyItem) → list_all (λ (q : Quiet). q.in_instance) (map (quiet_item proto allowed) is) ≡ true
-        → Alike one nothing_in_sight names values helpers Equal (full_node line name (map item_part is) (meant proto one)) (node_part (braces line name proto (those_there (map (written_item finds braces) is)))).does) where
+    → Alike one nothing_in_sight names values helpers firsts seconds Equal (full_node line name (map item_part is) (meant proto one)) (node_part (braces line name proto (those_there (map (written_item finds braces) is)))).does) where
   abbrev two : Sight
   two = nothing_in_sight
 
   abbrev Same : {A B : Type 0} → (A → B → Type 0) → Does A → Does B → Type 0
-  Same R m n = Alike one two names values helpers R m n
+  Same R m n = Alike one two names values helpers firsts seconds R m n
 
   abbrev new_node : NodeText → NodeText
   new_node n = written_node finds braces n
@@ -129,14 +75,13 @@ module _ (one : Sight) (names : List Field) (values : List Filled) (helpers : Li
   OfNode n = is_quiet n ≡ true → list_all takes (asked_by n) ≡ true → Same Equal (node_part n).does (node_part (new_node n)).does × (allowed ≡ false → Named (node_part n) (new_node n))
 
   abbrev Between : ℕ → ℕ → NodeType → Inside → Inside → Type 0
-  Between at to t = InsideAlike one two names values helpers at to t
+  Between at to t = InsideAlike one two names values helpers firsts seconds at to t
 
   abbrev before : ℕ → NodeType → List Field → List Filled → Inside
-  before at t fields filled = inside_of one two names values helpers at t fields filled
+  before at t fields filled = inside_of one two names values helpers firsts seconds at t fields filled
 
   abbrev may_do : Option BodyItem → Inside → Does Inside
-  may_do None j = pure j
-  may_do (Some i) j = (item_part i).does j
+  may_do i j = may_do_in one names values helpers firsts seconds i j
 
   abbrev OfItem : BodyItem → Type 0
   OfItem i = (quiet_part i).anywhere ≡ true → list_all takes (asked_by_item i) ≡ true → (at to : ℕ) (t : NodeType) (fields : List Field) (filled others : List Filled) → Kept filled others
@@ -151,16 +96,14 @@ module _ (one : Sight) (names : List Field) (values : List Filled) (helpers : Li
   abbrev OfPrototype : ProtoText → Type 0
   OfPrototype p = Unit {0}
 
-  -- ---- values
-
   abbrev put_next : Node → List ℕ → Does (List ℕ)
   put_next node ns = node.does >>= λ n. pure (ns ++ n ∷ [])
 
   pure_same : {A B : Type 0} (R : A → B → Type 0) (a : A) (b : B) → R a b → Same R (pure a) (pure b)
-  pure_same R a b r = pure_alike one two names values helpers R a b r
+  pure_same R a b r = pure_alike one two names values helpers firsts seconds R a b r
 
   then_same : {A B C D : Type 0} (R : A → B → Type 0) (Q : C → D → Type 0) (m : Does A) (n : Does B) (f : A → Does C) (g : B → Does D) → Same R m n → ((a : A) (b : B) → R a b → Same Q (f a) (g b)) → Same Q (m >>= f) (n >>= g)
-  then_same R Q m n f g h k = then_alike one two names values helpers R Q m n f g h k
+  then_same R Q m n f g h k = then_alike one two names values helpers firsts seconds R Q m n f g h k
 
   nodes_same : (ns : List NodeText) → AllByRecursion OfNode ns → list_all is_true (map is_quiet ns) ≡ true → list_all takes (joined (map asked_by ns)) ≡ true → (ks : List ℕ)
       → Same Equal (through put_next (map node_part ns) ks) (through put_next (map node_part (map new_node ns)) ks)
@@ -173,7 +116,7 @@ module _ (one : Sight) (names : List Field) (values : List Filled) (helpers : Li
       (λ a b r. subst (λ ls. Same Equal (through put_next (map node_part ns) a) (through put_next (map node_part (map new_node ns)) ls)) (sym r) (nodes_same ns h.1 both.1 each.1 a))
 
   given_same : (g : Given NodeText) → OfGiven OfNode g → all_in (given_mapped is_quiet g) ≡ true → list_all takes (asked_in (given_mapped asked_by g)) ≡ true
-      → GivenAs one two names values helpers (given_mapped node_part g) (given_mapped node_part (replaced finds (given_mapped new_node g)))
+      → GivenAs one two names values helpers firsts seconds (given_mapped node_part g) (given_mapped node_part (replaced finds (given_mapped new_node g)))
   given_same given.Nothing h e asks = tt
   given_same (given.Is name) h e asks = found name (both_true (takes name) true asks).0
   given_same (given.Value value.Null) h e asks = (refl, pure_same Equal value.Null value.Null refl)
@@ -198,52 +141,13 @@ module _ (one : Sight) (names : List Field) (values : List Filled) (helpers : Li
   may_by at to t fields filled others l m n o e f h = subst (λ (x : Item). Same (Between at to t) (x.does (before at t fields filled)) (may_do n (before to t fields others))) (sym e)
       (subst (λ (x : Option BodyItem). Same (Between at to t) (m.does (before at t fields filled)) (may_do x (before to t fields others))) (sym f) h)
 
-  kept_once : (name : Name) (filled others : List Filled) → Kept filled others → has name filled ≡ false → has name others ≡ false
-  kept_once name filled others k e = k.names name e
-
-  there_same : (line : ℕ) (name : Name) (g h : Given Node) → GivenAs one two names values helpers g h → (at to : ℕ) (t : NodeType) (fields : List Field) (filled others : List Filled) → Kept filled others
-      → Same (Between at to t) ((item_step (BodyItem-F.Field line name g)).does (before at t fields filled)) ((item_step (BodyItem-F.Field line name h)).does (before to t fields others))
-  unfolding item_step
-  there_same line name g h k at to t fields filled others kept = on (numbered_from 0 name fields) where
-    on : (o : Option (ℕ × Field)) → Same (Between at to t) (option_map_or (λ f. give line f (is_filled name (before at t fields filled)) g (before at t fields filled)) o (refuse UnknownField line))
-        (option_map_or (λ f. give line f (is_filled name (before to t fields others)) h (before to t fields others)) o (refuse UnknownField line))
-    on None = λ w v b. tt
-    on (Some f) = give_alike one two names values helpers line f (has name filled) (has name others) g h at to t fields filled others (kept.names name) k kept
-
-  absent_same : (line : ℕ) (name : Name) (g : Given Node) → GivenAs one two names values helpers g given.Nothing → (at to : ℕ) (t : NodeType) (fields : List Field) (filled others : List Filled) → Kept filled others
-      → Same (Between at to t) ((item_step (BodyItem-F.Field line name g)).does (before at t fields filled)) (pure (before to t fields others))
-  unfolding item_step
-  absent_same line name g k at to t fields filled others kept = on (numbered_from 0 name fields) where
-    on : (o : Option (ℕ × Field)) → Same (Between at to t) (option_map_or (λ f. give line f (is_filled name (before at t fields filled)) g (before at t fields filled)) o (refuse UnknownField line)) (pure (before to t fields others))
-    on None = λ w v b. tt
-    on (Some f) = nothing_alike one two names values helpers line f (has name filled) g at to t fields filled others k kept
-
-  field_same : (line : ℕ) (name : Name) (g : Given Node) (h : Given NodeText) → GivenAs one two names values helpers g (given_mapped node_part h) → (at to : ℕ) (t : NodeType) (fields : List Field) (filled others : List Filled) → Kept filled others
-      → Same (Between at to t) ((item_step (BodyItem-F.Field line name g)).does (before at t fields filled)) (may_do (field_of line name h) (before to t fields others))
-  field_same line name g given.Nothing k at to t fields filled others kept = absent_same line name g k at to t fields filled others kept
-  field_same line name g (given.Is x) k at to t fields filled others kept =
-      subst (λ (y : Item). Same (Between at to t) ((item_step (BodyItem-F.Field line name g)).does (before at t fields filled)) (y.does (before to t fields others))) (sym (item-field line name (given.Is x) refl))
-      (there_same line name g (given_mapped node_part (given.Is x)) k at to t fields filled others kept)
-  field_same line name g (given.Value v) k at to t fields filled others kept =
-      subst (λ (y : Item). Same (Between at to t) ((item_step (BodyItem-F.Field line name g)).does (before at t fields filled)) (y.does (before to t fields others))) (sym (item-field line name (given.Value v) refl))
-      (there_same line name g (given_mapped node_part (given.Value v)) k at to t fields filled others kept)
-
-  declared_same : (line : ℕ) (d e : Declaration Node) → e.line ≡ d.line → field e ≡ field d → e.name ≡ d.name → GivenAs one two names values helpers d.given e.given → (at to : ℕ) (t : NodeType) (fields : List Field) (filled others : List Filled) → Kept filled others
-      → Same (Between at to t) ((item_step (BodyItem-F.Declaration d)).does (before at t fields filled)) ((item_step (BodyItem-F.Declaration (record d { given = e.given }))).does (before to t fields others))
-  unfolding item_step
-  declared_same line d e el ef en k at to t fields filled others kept = on (is_script (OfType t)) where
-    on : (c : Bool) → Same (Between at to t) (if c then give d.line (length fields, field d) (is_some (numbered_from 0 d.name fields)) d.given (before at t (fields ++ field d ∷ []) filled) else refuse UnknownField d.line)
-        (if c then give d.line (length fields, field d) (is_some (numbered_from 0 d.name fields)) e.given (before to t (fields ++ field d ∷ []) others) else refuse UnknownField d.line)
-    on true = give_alike one two names values helpers d.line (length fields, field d) (is_some (numbered_from 0 d.name fields)) (is_some (numbered_from 0 d.name fields)) d.given e.given at to t (fields ++ field d ∷ []) filled others (λ x. x) k kept
-    on false = λ w v b. tt
-
-  declaration_same : (d : Declaration NodeText) → GivenAs one two names values helpers (given_mapped node_part d.given) (given_mapped node_part (replaced finds (given_mapped new_node d.given))) → (at to : ℕ) (t : NodeType) (fields : List Field) (filled others : List Filled) → Kept filled others
+  declaration_same : (d : Declaration NodeText) → GivenAs one two names values helpers firsts seconds (given_mapped node_part d.given) (given_mapped node_part (replaced finds (given_mapped new_node d.given))) → (at to : ℕ) (t : NodeType) (fields : List Field) (filled others : List Filled) → Kept filled others
       → Same (Between at to t) ((item_step (BodyItem-F.Declaration (declaration_mapped node_part d))).does (before at t fields filled))
       (may_do (Some (item_text.Declaration (record (declaration_mapped new_node d) { given = replaced finds (given_mapped new_node d.given) }))) (before to t fields others))
   declaration_same d k at to t fields filled others kept =
       subst (λ (y : Item). Same (Between at to t) ((item_step (BodyItem-F.Declaration (declaration_mapped node_part d))).does (before at t fields filled)) (y.does (before to t fields others)))
       (sym (item-declaration (record (declaration_mapped new_node d) { given = replaced finds (given_mapped new_node d.given) }) refl))
-      (declared_same d.line (declaration_mapped node_part d) (declaration_mapped node_part (record (declaration_mapped new_node d) { given = replaced finds (given_mapped new_node d.given) })) refl refl refl k at to t fields filled others kept)
+      (declared_same one names values helpers firsts seconds (declaration_mapped node_part d) (declaration_mapped node_part (record (declaration_mapped new_node d) { given = replaced finds (given_mapped new_node d.given) })) k at to t fields filled others kept)
 
   -- ---- nodes
 
@@ -260,7 +164,7 @@ module _ (one : Sight) (names : List Field) (values : List Filled) (helpers : Li
   items_same (i ∷ is) h e asks at to t fields filled others kept = λ w v b.
       let both = both_true (quiet_part i).anywhere (all_quiet (map quiet_part is)) e in
       let each = split_all takes (asked_by_item i) (joined (map asked_by_item is)) asks in
-      subst (λ (o : Outcome (Inside × Walk)). ComeAlike one two names values helpers (Between at to t) (all_do (map item_part (i ∷ is)) (before at t fields filled) w) o) (next_is (new_item i) (map new_item is) (before to t fields others) v)
+      subst (λ (o : Outcome (Inside × Walk)). ComeAlike one two names values helpers firsts seconds (Between at to t) (all_do (map item_part (i ∷ is)) (before at t fields filled) w) o) (next_is (new_item i) (map new_item is) (before to t fields others) v)
       (then_same (Between at to t) (Between at to t) ((item_part i).does (before at t fields filled)) (may_do (new_item i) (before to t fields others))
       (all_do (map item_part is)) (all_do (map item_part (those_there (map new_item is))))
       (h.0 both.0 each.0 at to t fields filled others kept)
@@ -272,10 +176,13 @@ module _ (one : Sight) (names : List Field) (values : List Filled) (helpers : Li
       → Same Equal (close_node name at (flat_node line name t (before at t fields filled))) (close_node name to (flat_node line name t (before to t fields others)))
   close_at line name at to t fields filled others kept w v b = (
     fewer_same [],
-    ap (λ (ns : List FlatNode). length ns) b.nodes,
+    ap (λ (ns : List FlatNode). length ns) b.two_nodes ∙ longer seconds firsts b.tail same_length ∙ sym (ap (λ (ns : List FlatNode). length ns) b.one_nodes),
     record {
-      nodes = ap (λ (ns : List FlatNode). ns ++ flat_node line name t (before to t fields others) ∷ []) b.nodes
-          ∙ ap (λ (fs : List FlatField). w.put.nodes ++ record (flat_node line name t (before to t fields others)) { fields = fs } ∷ []) kept.flat;
+      tail = b.tail ++ flat_node line name t (before at t fields filled) ∷ [];
+      one_nodes = ap (λ (ns : List FlatNode). ns ++ flat_node line name t (before at t fields filled) ∷ []) b.one_nodes ∙ append_assoc firsts b.tail (flat_node line name t (before at t fields filled) ∷ []);
+      two_nodes = ap (λ (ns : List FlatNode). ns ++ flat_node line name t (before to t fields others) ∷ []) b.two_nodes
+          ∙ ap (λ (fs : List FlatField). (seconds ++ b.tail) ++ record (flat_node line name t (before to t fields others)) { fields = fs } ∷ []) kept.flat
+          ∙ append_assoc seconds b.tail (flat_node line name t (before at t fields filled) ∷ []);
       one_helpers = b.one_helpers;
       two_helpers = b.two_helpers;
       one_sight = b.one_sight;
@@ -287,16 +194,17 @@ module _ (one : Sight) (names : List Field) (values : List Filled) (helpers : Li
     },
   )
 
-  -- under a new name
   close_named : (line : ℕ) (old : Option Name) (name : Name) (at to : ℕ) (t : NodeType) (fields : List Field) (filled others : List Filled) → Kept filled others
       → Same Equal (close_node old at (flat_node line old t (before at t fields filled)) >>= rename (Some name)) (close_node (Some name) to (flat_node line (Some name) t (before to t fields others)))
   close_named line old name at to t fields filled others kept w v b = (
     fewer_same [],
-    ap (λ (ns : List FlatNode). length ns) b.nodes,
+    ap (λ (ns : List FlatNode). length ns) b.two_nodes ∙ longer seconds firsts b.tail same_length ∙ sym (ap (λ (ns : List FlatNode). length ns) b.one_nodes),
     record {
-      nodes = ap (λ (ns : List FlatNode). ns ++ flat_node line (Some name) t (before to t fields others) ∷ []) b.nodes
-          ∙ ap (λ (fs : List FlatField). w.put.nodes ++ record (flat_node line (Some name) t (before to t fields others)) { fields = fs } ∷ []) kept.flat
-          ∙ sym (named_last name w.put.nodes (flat_node line old t (before at t fields filled)));
+      tail = b.tail ++ flat_node line (Some name) t (before at t fields filled) ∷ [];
+      one_nodes = named_last name w.put.nodes (flat_node line old t (before at t fields filled)) ∙ ap (λ (ns : List FlatNode). ns ++ flat_node line (Some name) t (before at t fields filled) ∷ []) b.one_nodes ∙ append_assoc firsts b.tail (flat_node line (Some name) t (before at t fields filled) ∷ []);
+      two_nodes = ap (λ (ns : List FlatNode). ns ++ flat_node line (Some name) t (before to t fields others) ∷ []) b.two_nodes
+          ∙ ap (λ (fs : List FlatField). (seconds ++ b.tail) ++ record (flat_node line (Some name) t (before to t fields others)) { fields = fs } ∷ []) kept.flat
+          ∙ append_assoc seconds b.tail (flat_node line (Some name) t (before at t fields filled) ∷ []);
       one_helpers = b.one_helpers;
       two_helpers = b.two_helpers;
       one_sight = b.one_sight;
@@ -320,14 +228,14 @@ module _ (one : Sight) (names : List Field) (values : List Filled) (helpers : Li
   abbrev typed : ℕ → Option Name → NodeType → List Item → ℕ → Does ℕ
   typed line name t items at = all_do items (before at t (fields_of t) []) >>= λ i. close_node name i.at (flat_node line name t i)
 
-  begun_beside : (old name : Option Name) (w v : Walk) → Beside one two names values helpers w v → Beside one two names values helpers (begun old w) (begun name v)
-  begun_beside old name w v b = record { nodes = b.nodes; one_helpers = b.one_helpers; two_helpers = b.two_helpers; one_sight = b.one_sight; two_sight = b.two_sight; found = b.found; found_values = b.found_values; one_routes = b.one_routes; two_routes = b.two_routes }
+  begun_beside : (old name : Option Name) (w v : Walk) → Beside one two names values helpers firsts seconds w v → Beside one two names values helpers firsts seconds (begun old w) (begun name v)
+  begun_beside old name w v b = record { tail = b.tail; one_nodes = b.one_nodes; two_nodes = b.two_nodes; one_helpers = b.one_helpers; two_helpers = b.two_helpers; one_sight = b.one_sight; two_sight = b.two_sight; found = b.found; found_values = b.found_values; one_routes = b.one_routes; two_routes = b.two_routes }
 
   typed_same : (line : ℕ) (name : Option Name) (is : List BodyItem) → AllByRecursion OfItem is → all_quiet (map quiet_part is) ≡ true → list_all takes (joined (map asked_by_item is)) ≡ true → (t : NodeType)
       → Same Equal (full_node line name (map item_part is) (Some (OfType t))) (full_node line name (map item_part (those_there (map new_item is))) (Some (OfType t)))
   typed_same line name is h e asks t w v b =
       let at = length w.scope.braces in let to = length v.scope.braces in
-      behind_alike one two names values helpers Equal (ANode ∷ []) (ANode ∷ [])
+      behind_alike one two names values helpers firsts seconds Equal (ANode ∷ []) (ANode ∷ [])
       (typed line name t (map item_part is) at (begun name w)) (typed line name t (map item_part (those_there (map new_item is))) to (begun name v)) (fewer_same (ANode ∷ []))
       (then_same (Between at to t) Equal (all_do (map item_part is) (before at t (fields_of t) [])) (all_do (map item_part (those_there (map new_item is))) (before to t (fields_of t) []))
       (λ i. close_node name i.at (flat_node line name t i)) (λ i. close_node name i.at (flat_node line name t i))
@@ -340,10 +248,10 @@ module _ (one : Sight) (names : List Field) (values : List Filled) (helpers : Li
   typed_named line old name is h e asks t w v b =
       let at = length w.scope.braces in let to = length v.scope.braces in
       let items = all_do (map item_part is) (before at t (fields_of t) []) in
-      subst (λ (o : Outcome (ℕ × Walk)). ComeAlike one two names values helpers Equal o (behind (ANode ∷ []) (typed line (Some name) t (map item_part (those_there (map new_item is))) to (begun (Some name) v))))
+      subst (λ (o : Outcome (ℕ × Walk)). ComeAlike one two names values helpers firsts seconds Equal o (behind (ANode ∷ []) (typed line (Some name) t (map item_part (those_there (map new_item is))) to (begun (Some name) v))))
       (sym (behind_then (ANode ∷ []) (typed line old t (map item_part is) at (begun old w)) (λ q. rename (Some name) q.0 q.1)
       ∙ ap (λ o. behind (ANode ∷ []) o) (then_then (items (begun old w)) (λ q. close_node old q.0.at (flat_node line old t q.0) q.1) (λ q. rename (Some name) q.0 q.1))))
-      (behind_alike one two names values helpers Equal (ANode ∷ []) (ANode ∷ [])
+      (behind_alike one two names values helpers firsts seconds Equal (ANode ∷ []) (ANode ∷ [])
       ((items >>= λ i. (close_node old i.at (flat_node line old t i) >>= rename (Some name))) (begun old w)) (typed line (Some name) t (map item_part (those_there (map new_item is))) to (begun (Some name) v)) (fewer_same (ANode ∷ []))
       (then_same (Between at to t) Equal items (all_do (map item_part (those_there (map new_item is))) (before to t (fields_of t) []))
       (λ i. (close_node old i.at (flat_node line old t i) >>= rename (Some name))) (λ i. close_node (Some name) i.at (flat_node line (Some name) t i))
@@ -351,20 +259,15 @@ module _ (one : Sight) (names : List Field) (values : List Filled) (helpers : Li
       (by_insides Equal at to t (λ i. (close_node old i.at (flat_node line old t i) >>= rename (Some name))) (λ i. close_node (Some name) i.at (flat_node line (Some name) t i)) (close_named line old name at to t))
       (begun old w) (begun (Some name) v) (begun_beside old (Some name) w v b)))
 
-  -- by what the word means, in sight of one and of nothing
-  by_word : {A B : Type 0} (R : A → B → Type 0) (word : Name) (f : Option NodeType → Does A) (g : Option NodeType → Does B)
-      → ((o : Option NodeType) → Same R (f o) (g o)) → Same R (λ w. f (node_type_named word) w) (λ v. g (node_type_named word) v)
-  by_word R word f g h = h (node_type_named word)
-
   other_same : (line : ℕ) (name : Option Name) (word : Name) (is : List BodyItem) → AllByRecursion OfItem is → all_quiet (map quiet_part is) ≡ true → list_all takes (joined (map asked_by_item is)) ≡ true → bytes_eq proto word ≡ false
       → Same Equal (node_step (NodeText-F.Full line name word (map item_part is))).does (node_step (NodeText-F.Full line name word (map item_part (those_there (map new_item is))))).does
   unfolding node_step
   other_same line name word is h e asks miss w v b =
-      subst (λ o. ComeAlike one two names values helpers Equal (full_node line name (map item_part is) o w) (full_node line name (map item_part (those_there (map new_item is))) (meant word v.sight) v)) (sym (ap (meant word) b.one_sight ∙ other_words word miss))
-      (subst (λ s. ComeAlike one two names values helpers Equal (full_node line name (map item_part is) (option_map OfType (node_type_named word)) w) (full_node line name (map item_part (those_there (map new_item is))) (meant word s) v)) (sym b.two_sight)
+      subst (λ o. ComeAlike one two names values helpers firsts seconds Equal (full_node line name (map item_part is) o w) (full_node line name (map item_part (those_there (map new_item is))) (meant word v.sight) v)) (sym (ap (meant word) b.one_sight ∙ other_words word miss))
+      (subst (λ s. ComeAlike one two names values helpers firsts seconds Equal (full_node line name (map item_part is) (option_map OfType (node_type_named word)) w) (full_node line name (map item_part (those_there (map new_item is))) (meant word s) v)) (sym b.two_sight)
       (on (node_type_named word)))
     where
-      on : (t : Option NodeType) → ComeAlike one two names values helpers Equal (full_node line name (map item_part is) (option_map OfType t) w) (full_node line name (map item_part (those_there (map new_item is))) (option_or (option_map OfType t) None) v)
+      on : (t : Option NodeType) → ComeAlike one two names values helpers firsts seconds Equal (full_node line name (map item_part is) (option_map OfType t) w) (full_node line name (map item_part (those_there (map new_item is))) (option_or (option_map OfType t) None) v)
       on None = tt
       on (Some t) = typed_same line name is h e asks t w v b
 
@@ -372,11 +275,11 @@ module _ (one : Sight) (names : List Field) (values : List Filled) (helpers : Li
       → Same Equal ((node_step (NodeText-F.Full line old word (map item_part is))).does >>= rename (Some name)) (node_step (NodeText-F.Full line (Some name) word (map item_part (those_there (map new_item is))))).does
   unfolding node_step
   other_named line old name word is h e asks miss w v b =
-      subst (λ o. ComeAlike one two names values helpers Equal ((full_node line old (map item_part is) o >>= rename (Some name)) w) (full_node line (Some name) (map item_part (those_there (map new_item is))) (meant word v.sight) v)) (sym (ap (meant word) b.one_sight ∙ other_words word miss))
-      (subst (λ s. ComeAlike one two names values helpers Equal ((full_node line old (map item_part is) (option_map OfType (node_type_named word)) >>= rename (Some name)) w) (full_node line (Some name) (map item_part (those_there (map new_item is))) (meant word s) v)) (sym b.two_sight)
+      subst (λ o. ComeAlike one two names values helpers firsts seconds Equal ((full_node line old (map item_part is) o >>= rename (Some name)) w) (full_node line (Some name) (map item_part (those_there (map new_item is))) (meant word v.sight) v)) (sym (ap (meant word) b.one_sight ∙ other_words word miss))
+      (subst (λ s. ComeAlike one two names values helpers firsts seconds Equal ((full_node line old (map item_part is) (option_map OfType (node_type_named word)) >>= rename (Some name)) w) (full_node line (Some name) (map item_part (those_there (map new_item is))) (meant word s) v)) (sym b.two_sight)
       (on (node_type_named word)))
     where
-      on : (t : Option NodeType) → ComeAlike one two names values helpers Equal ((full_node line old (map item_part is) (option_map OfType t) >>= rename (Some name)) w) (full_node line (Some name) (map item_part (those_there (map new_item is))) (option_or (option_map OfType t) None) v)
+      on : (t : Option NodeType) → ComeAlike one two names values helpers firsts seconds Equal ((full_node line old (map item_part is) (option_map OfType t) >>= rename (Some name)) w) (full_node line (Some name) (map item_part (those_there (map new_item is))) (option_or (option_map OfType t) None) v)
       on None = tt
       on (Some t) = typed_named line old name is h e asks t w v b
 
@@ -384,13 +287,10 @@ module _ (one : Sight) (names : List Field) (values : List Filled) (helpers : Li
       → Same Equal (node_step (NodeText-F.Full line name word (map item_part is))).does (node_part (braces line name word (those_there (map new_item is)))).does
   unfolding node_step
   its_same line name word is e may hit w v b =
-      subst (λ x. ComeAlike one two names values helpers Equal (full_node line name (map item_part is) (meant x w.sight) w) ((node_part (braces line name x (those_there (map new_item is)))).does v)) ((bytes_eq-Decides proto word).0 hit)
-      (subst (λ s. ComeAlike one two names values helpers Equal (full_node line name (map item_part is) (meant proto s) w) ((node_part (braces line name proto (those_there (map new_item is)))).does v)) (sym b.one_sight) (an_instance may line name is e w v b))
+      subst (λ x. ComeAlike one two names values helpers firsts seconds Equal (full_node line name (map item_part is) (meant x w.sight) w) ((node_part (braces line name x (those_there (map new_item is)))).does v)) ((bytes_eq-Decides proto word).0 hit)
+      (subst (λ s. ComeAlike one two names values helpers firsts seconds Equal (full_node line name (map item_part is) (meant proto s) w) ((node_part (braces line name proto (those_there (map new_item is)))).does v)) (sym b.one_sight) (an_instance may line name is e w v b))
 
-  named_full : (name : Name) (line : ℕ) (old : Option Name) (word : Name) (is : List BodyItem) → named (Some name) (node_text.Full line old word is) ≡ node_text.Full line (Some name) word is
-  named_full name line old word is = ap (named_as name) (ap out-NodeText (sym (node_text.rolls-Full line old word is)) ∙ out-roll-NodeText (NodeText-F.Full line old word is))
-
-  Full : (line : ℕ) (name : Option Name) (word : Name) (is : List BodyItem) → Type 0
+  abbrev Full : (line : ℕ) (name : Option Name) (word : Name) (is : List BodyItem) → Type 0
   Full line name word is =
       Same Equal (node_step (NodeText-F.Full line name word (map item_part is))).does (node_part (braces line name word (those_there (map new_item is)))).does
       × (allowed ≡ false → Named (node_step (NodeText-F.Full line name word (map item_part is))) (braces line name word (those_there (map new_item is))))
@@ -398,7 +298,6 @@ module _ (one : Sight) (names : List Field) (values : List Filled) (helpers : Li
   full_case : (line : ℕ) (name : Option Name) (word : Name) (is : List BodyItem) → AllByRecursion OfItem is → list_all takes (joined (map asked_by_item is)) ≡ true → (b : Bool) → bytes_eq proto word ≡ b
       → (if b then allowed && list_all (λ (q : Quiet). q.in_instance) (map quiet_part is) else all_quiet (map quiet_part is)) ≡ true
       → Full line name word is
-  unfolding Full
   full_case line name word is h asks true hit e =
       let both = both_true allowed (list_all (λ (q : Quiet). q.in_instance) (map quiet_part is)) e in
       (its_same line name word is both.1 both.0 hit, λ none. never (sym none ∙ both.0))
@@ -414,12 +313,6 @@ module _ (one : Sight) (names : List Field) (values : List Filled) (helpers : Li
   node_by m n x y e f h = subst (λ (k : Node). Same Equal k.does (node_part x).does × (allowed ≡ false → Named k x)) (sym e)
       (subst (λ (z : NodeText). Same Equal n.does (node_part z).does × (allowed ≡ false → Named n z)) (sym f) h)
 
-  full_of : (line : ℕ) (name : Option Name) (word : Name) (is : List BodyItem) → Full line name word is
-      → Same Equal (node_step (NodeText-F.Full line name word (map item_part is))).does (node_part (braces line name word (those_there (map new_item is)))).does
-      × (allowed ≡ false → Named (node_step (NodeText-F.Full line name word (map item_part is))) (braces line name word (those_there (map new_item is))))
-  unfolding Full
-  full_of line name word is h = h
-
   statement_by : (l m n o : Stated) → l ≡ m → n ≡ o → Same Equal m.1.does o.1.does → Same Equal l.1.does n.1.does
   statement_by l m n o e f h = subst (λ (x : Stated). Same Equal x.1.does n.1.does) (sym e) (subst (λ (x : Stated). Same Equal m.1.does x.1.does) (sym f) h)
 
@@ -430,16 +323,19 @@ module _ (one : Sight) (names : List Field) (values : List Filled) (helpers : Li
   layers : Layers OfItem OfNode OfStatement OfPrototype
   layers = record {
     field = λ line name g h e asks at to t fields filled others kept. may_by at to t fields filled others _ _ _ _ (item-field line name g refl) (texts.written-field finds braces line name g)
-        (field_same line name (given_mapped node_part g) (replaced finds (given_mapped new_node g)) (given_same g h (sym (ap (λ (q : Quiet). q.anywhere) (texts.quiet-field proto allowed line name g)) ∙ e) (sym (ap (list_all takes) (texts.asked-field line name g)) ∙ asks)) at to t fields filled others kept);
+        (field_same one names values helpers firsts seconds line name (given_mapped node_part g) (replaced finds (given_mapped new_node g)) (given_same g h (sym (ap (λ (q : Quiet). q.anywhere) (texts.quiet-field proto allowed line name g)) ∙ e) (sym (ap (list_all takes) (texts.asked-field line name g)) ∙ asks)) at to t fields filled others kept);
     declaration = λ d h e asks at to t fields filled others kept. may_by at to t fields filled others _ _ _ _ (item-declaration d refl) (texts.written-declaration finds braces d)
         (declaration_same d (given_same d.given h (sym (ap (λ (q : Quiet). q.anywhere) (texts.quiet-declaration proto allowed d)) ∙ e) (sym (ap (list_all takes) (texts.asked-declaration d)) ∙ asks)) at to t fields filled others kept);
     item_route = λ r e. never (sym (ap (λ (q : Quiet). q.anywhere) (texts.quiet-item-route proto allowed r)) ∙ e);
     item_proto = λ p h e. never (sym (ap (λ (q : Quiet). q.anywhere) (texts.quiet-item-proto proto allowed p)) ∙ e);
     used = λ line name e. never (sym (texts.quiet-use proto allowed line name) ∙ e);
     full = λ line name word is h e asks. node_by _ _ _ _ (node-full line name word is refl) (texts.written-full finds braces line name word is)
-        (full_of line name word is (full_case line name word is h (sym (ap (list_all takes) (texts.asked-full line name word is)) ∙ asks) (bytes_eq proto word) refl (sym (texts.quiet-full proto allowed line name word is) ∙ e)));
-    node = λ n h. (λ e asks. statement_by _ _ _ _ (statement-node n refl) (ap stated (texts.written-node finds braces n) ∙ statement-node (new_node n) refl)
-        (node_statement (node_part n) (node_part (new_node n)) (h (sym (texts.quiet-node proto allowed n) ∙ e) (sym (ap (list_all takes) (texts.asked-node n)) ∙ asks)).0), subst (IfNode OfNode) (sym (out_node n)) h);
+        (full_case line name word is h (sym (ap (list_all takes) (texts.asked-full line name word is)) ∙ asks) (bytes_eq proto word) refl (sym (texts.quiet-full proto allowed line name word is) ∙ e));
+    node = λ n h. (
+      λ e asks. statement_by _ _ _ _ (statement-node n refl) (ap stated (texts.written-node finds braces n) ∙ statement-node (new_node n) refl)
+          (node_statement (node_part n) (node_part (new_node n)) (h (sym (texts.quiet-node proto allowed n) ∙ e) (sym (ap (list_all takes) (texts.asked-node n)) ∙ asks)).0),
+      subst (IfNode OfNode) (sym (out_node n)) h,
+    );
     route = λ r. (λ e asks. never (sym (texts.quiet-route proto allowed r) ∙ e), subst (IfNode OfNode) (sym (out_route r)) tt);
     proto = λ p h. (λ e asks. never (sym (texts.quiet-proto proto allowed p) ∙ e), subst (IfNode OfNode) (sym (out_proto p)) tt);
     prototype = λ p hd hs. tt;

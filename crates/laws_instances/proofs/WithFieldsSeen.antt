@@ -1,5 +1,5 @@
 -- What ISs of a quiet body take: all names that they take stand in what is in sight behind it.
-use Rattle.std.proofs.Common.{◌≡◌, ℕ, Bool, true, false, ◌&&◌, if◌then◌else◌, List, [], ◌∷◌, ◌++◌, Option, Some, None, option_map, Result, Ok, Err, map, refl, ap, sym, ◌∙◌, subst}
+use Rattle.std.proofs.Common.{◌≡◌, ℕ, Bool, true, false, ◌&&◌, if◌then◌else◌, List, [], ◌∷◌, ◌++◌, Option, Some, None, option_map, Ok, map, refl, ap, sym, ◌∙◌, subst}
 use Rattle.std.specs.List.{AllByRecursion, list_all}
 use Rattle.std.specs.Option.{option_or}
 use Rattle.std.specs.Str.{bytes_eq}
@@ -17,7 +17,7 @@ use Rattle.classic_tree.specs.declared.tree.RawValue.TheVariants as value
 use Rattle.classic_tree.specs.declared.tree.Statement.{Statement}
 use Rattle.classic_tree.proofs.Mapped.{given_mapped, declaration_mapped}
 use Rattle.proto_meaning.specs.Names.{Name}
-use Rattle.proto_meaning.specs.Sight.{Sight, Step, Names, with_name, and_see, each, OfType, meant, taken_by}
+use Rattle.proto_meaning.specs.Sight.{Sight, Step, Names, with_name, and_see, each, OfType, taken_by}
 use Rattle.proto_meaning.specs.Flat.{Node, Item, Stated, given_sees, item_step, node_step, statement_step}
 use Rattle.proto_meaning.specs.Flat.{item as item_part, node as node_part, statement as stated}
 use Rattle.proto_meaning.proofs.Trees.{item-field, item-declaration, node-full, statement-node}

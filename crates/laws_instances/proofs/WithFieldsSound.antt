@@ -14,12 +14,10 @@ use Rattle.classic_tree.specs.declared.tree.Given.TheVariants as given
 use Rattle.classic_tree.specs.declared.tree.NodeText.{NodeText}
 use Rattle.classic_tree.specs.declared.tree.ProtoText.{roll-ProtoText}
 use Rattle.classic_tree.specs.declared.tree.RawValue.TheVariants as value
-use Rattle.classic_tree.specs.declared.tree.Statement.{Statement}
 use Rattle.classic_tree.specs.declared.tree.Statement.TheVariants as statement_text
 use Rattle.classic_tree.proofs.Mapped.{given_mapped, interface_mapped}
 use Rattle.proto_flat.specs.Fault.{fault}
 use Rattle.proto_flat.specs.declared.fault.ExpandFaultKind.TheVariants.{EmptyBody, ProtoTwice, ProtoItself}
-use Rattle.proto_meaning.specs.Limits.{behind}
 use Rattle.proto_meaning.specs.Names.{Name}
 use Rattle.proto_meaning.specs.Sight.{Prototype, Sight, Names, no_names, and_see, each, taking, Owner, OfType, OfProto, declared, meant}
 use Rattle.proto_meaning.specs.Flat.{Node, Stated, given_sees, prototype, body_finds, body_sees, declare_body, declare, statement_step}
@@ -137,15 +135,15 @@ module _ (line : ℕ) (proto : Name) (ds : List (Declaration NodeText)) (nodes :
   declare_sound plain quiet =
       subst (λ r. EndsIn Sound (if is_some (node_type_named proto) || false then Err (fault ProtoTwice line) else r)) (sym (declared_is (body_finds line proto parts one_body proto false)))
       (on (is_some (node_type_named proto) || false) (body_finds line proto parts one_body proto false) (list_any (λ (x : Stated). x.0) one_body) refl) where
-    found_in : (c : Bool) → node_type_named proto ≡ None → EndsIn Sound (if c then and_see (body_sees line proto parts one_body nothing_in_sight) (λ (t : Sight). Ok (record nothing_in_sight { here = the_prototype t.taken ∷ [] })) else Err (fault EmptyBody line))
-    found_in true word = subst (λ r. EndsIn Sound (and_see r (λ (t : Sight). Ok (record nothing_in_sight { here = the_prototype t.taken ∷ [] })))) (sym (body_takes plain quiet)) (refl, word)
-    found_in false word = tt
+        found_in : (c : Bool) → node_type_named proto ≡ None → EndsIn Sound (if c then and_see (body_sees line proto parts one_body nothing_in_sight) (λ (t : Sight). Ok (record nothing_in_sight { here = the_prototype t.taken ∷ [] })) else Err (fault EmptyBody line))
+        found_in true word = subst (λ r. EndsIn Sound (and_see r (λ (t : Sight). Ok (record nothing_in_sight { here = the_prototype t.taken ∷ [] })))) (sym (body_takes plain quiet)) (refl, word)
+        found_in false word = tt
 
-    on : (b : Bool) (r : Result Bool ℕ) (c : Bool) → (is_some (node_type_named proto) || false) ≡ b
-        → EndsIn Sound (if b then Err (fault ProtoTwice line) else declared_by r c)
-    on true r c e = tt
-    on false (Err itself) c e = tt
-    on false (Ok hidden) c e = found_in c (none_is (node_type_named proto) e)
+        on : (b : Bool) (r : Result Bool ℕ) (c : Bool) → (is_some (node_type_named proto) || false) ≡ b
+            → EndsIn Sound (if b then Err (fault ProtoTwice line) else declared_by r c)
+        on true r c e = tt
+        on false (Err itself) c e = tt
+        on false (Ok hidden) c e = found_in c (none_is (node_type_named proto) e)
 
   pub all_stated : (ns : List NodeText) → map stated (map (λ n. statement_text.Node n) ns) ≡ map as_stated ns
   all_stated [] = refl
@@ -176,4 +174,3 @@ module _ (line : ℕ) (proto : Name) (ds : List (Declaration NodeText)) (nodes :
 
   pub nothing_meant : (word : Name) → bytes_eq proto word ≡ false → meant word nothing_in_sight ≡ option_map OfType (node_type_named word)
   nothing_meant word e = meant_or_none (option_map OfType (node_type_named word))
-

@@ -1,6 +1,6 @@
 -- The parts of a text with the body in the place of each instance, which texts are quiet, and which names
 -- the ISs of a text take.
-use Rattle.std.proofs.Common.{◌≡◌, ℕ, Bool, true, false, List, [], ◌∷◌, ◌++◌, map, Option, Some, ap, sym, ◌∙◌}
+use Rattle.std.proofs.Common.{◌≡◌, ℕ, Bool, false, List, [], ◌∷◌, ◌++◌, map, Option, Some, ap, sym, ◌∙◌}
 use Rattle.classic_tree.specs.declared.tree.BodyItem.{BodyItem, fold-BodyItem, fold-roll-BodyItem}
 use Rattle.classic_tree.specs.declared.tree.BodyItem.TheOpen.{BodyItem-F, NodeText-F, Statement-F, ProtoText-F}
 use Rattle.classic_tree.specs.declared.tree.BodyItem.TheVariants as item

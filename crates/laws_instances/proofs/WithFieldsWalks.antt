@@ -2,16 +2,15 @@
 -- first goes on, so does the second.
 use Rattle.std.proofs.Common.{◌≡◌, ℕ, ◌+◌, ◌≤◌, Bool, true, false, ◌&&◌, ◌||◌, if◌then◌else◌, List, [], ◌∷◌, ◌++◌, Option, Some, None, option_map, Result, Ok, Err, refl, ap, sym, ◌∙◌, subst, arith}
 use Rattle.std.specs.List.{find, filter_map, cons_option, list_all, list_any, sum_by, fold}
-use Rattle.std.specs.Option.{option_map_or}
 use Rattle.std.specs.Str.{bytes_eq}
 use Rattle.classic_tree.specs.declared.tree.Given.{Given}
 use Rattle.classic_tree.specs.declared.tree.Given.TheVariants as given
 use Rattle.classic_tree.specs.declared.tree.RawValue.{RawValue}
 use Rattle.x3d_values.specs.declared.node_type.NodeType.{NodeType}
 use Rattle.proto_flat.specs.declared.fault.ExpandFault.{ExpandFault}
-use Rattle.proto_flat.specs.declared.fault.ExpandFaultKind.{ExpandFaultKind}
 use Rattle.proto_flat.specs.declared.fault.ExpandFaultKind.TheVariants.{FieldTwice, BadIs}
 use Rattle.proto_flat.specs.declared.flat.FlatField.{FlatField}
+use Rattle.proto_flat.specs.declared.flat.FlatNode.{FlatNode}
 use Rattle.proto_meaning.specs.Limits.{Met, AField, Outcome, item_count, behind, follow, and_then, has_room}
 use Rattle.proto_meaning.specs.Names.{Name, Field, Filled, Braces, value_of}
 use Rattle.proto_meaning.specs.Sight.{Sight, OfType}
@@ -122,10 +121,13 @@ FoundAs None given.Nothing = Unit {0}
 FoundAs (Some r) (given.Value x) = (item_count x ≡ item_count r) × ((w : Walk) → put_in x w ≡ pure r w)
 FoundAs _ _ = ⊥
 
-module _ (one two : Sight) (interface : List Field) (values : List Filled) (helpers : List ℕ) where
-  -- the same was put in, but for helpers, which the first alone has; what ISs of the first find; no ROUTE
+module _ (one two : Sight) (interface : List Field) (values : List Filled) (helpers : List ℕ) (firsts seconds : List FlatNode) where
+  -- the same was put in behind those nodes, but for helpers, which the first alone has; what ISs of the
+  -- first find; no ROUTE
   pub record Beside (w v : Walk) : Type 0 where
-    pub nodes : v.put.nodes ≡ w.put.nodes
+    pub tail : List FlatNode
+    pub one_nodes : w.put.nodes ≡ firsts ++ tail
+    pub two_nodes : v.put.nodes ≡ seconds ++ tail
     pub one_helpers : w.put.helpers ≡ helpers
     pub two_helpers : v.put.helpers ≡ []
     pub one_sight : w.sight ≡ one
@@ -208,15 +210,14 @@ module _ (one two : Sight) (interface : List Field) (values : List Filled) (help
   joined_alike line f at to t fields filled others outer None given.Nothing k kept w v b = (
     fewer_same (AField f.0 0 ∷ []),
     filled_alike line f at to t fields filled others None kept,
-    record { nodes = b.nodes; one_helpers = b.one_helpers; two_helpers = b.two_helpers; one_sight = b.one_sight; two_sight = b.two_sight; found = b.found; found_values = b.found_values; one_routes = b.one_routes; two_routes = b.two_routes },
+    record { tail = b.tail; one_nodes = b.one_nodes; two_nodes = b.two_nodes; one_helpers = b.one_helpers; two_helpers = b.two_helpers; one_sight = b.one_sight; two_sight = b.two_sight; found = b.found; found_values = b.found_values; one_routes = b.one_routes; two_routes = b.two_routes },
   )
   joined_alike line f at to t fields filled others outer (Some r) (given.Value x) k kept w v b =
       subst (λ (o : Outcome (RawValue ℕ × Walk)). ComeAlike (InsideAlike at to t) (join line f (inside_of at t fields filled) outer (Some r) w) (behind (AField f.0 (item_count x) ∷ []) (and_then o (λ q. pure (fill line f (inside_of to t fields others) (Some q.0)) q.1)))) (sym (k.1 v))
-      (subst (λ n. ComeAlike (InsideAlike at to t) (join line f (inside_of at t fields filled) outer (Some r) w) (behind (AField f.0 n ∷ []) (pure (fill line f (inside_of to t fields others) (Some r)) v))) (sym k.0)
-      (
+      (subst (λ n. ComeAlike (InsideAlike at to t) (join line f (inside_of at t fields filled) outer (Some r) w) (behind (AField f.0 n ∷ []) (pure (fill line f (inside_of to t fields others) (Some r)) v))) (sym k.0) (
         fewer_same (AField f.0 (item_count r) ∷ []),
         filled_alike line f at to t fields filled others (Some r) kept,
-        record { nodes = b.nodes; one_helpers = b.one_helpers; two_helpers = b.two_helpers; one_sight = b.one_sight; two_sight = b.two_sight; found = b.found; found_values = b.found_values; one_routes = b.one_routes; two_routes = b.two_routes },
+        record { tail = b.tail; one_nodes = b.one_nodes; two_nodes = b.two_nodes; one_helpers = b.one_helpers; two_helpers = b.two_helpers; one_sight = b.one_sight; two_sight = b.two_sight; found = b.found; found_values = b.found_values; one_routes = b.one_routes; two_routes = b.two_routes },
       ))
   joined_alike line f at to t fields filled others outer None (given.Value x) k kept w v b = absurd k
   joined_alike line f at to t fields filled others outer None (given.Is x) k kept w v b = absurd k
@@ -228,7 +229,7 @@ module _ (one two : Sight) (interface : List Field) (values : List Filled) (help
   dropped_alike line f at to t fields filled others outer None k kept w v b = (
     fewer_none (AField f.0 0 ∷ []),
     left_alike line f at to t fields filled others kept,
-    record { nodes = b.nodes; one_helpers = b.one_helpers; two_helpers = b.two_helpers; one_sight = b.one_sight; two_sight = b.two_sight; found = b.found; found_values = b.found_values; one_routes = b.one_routes; two_routes = b.two_routes },
+    record { tail = b.tail; one_nodes = b.one_nodes; two_nodes = b.two_nodes; one_helpers = b.one_helpers; two_helpers = b.two_helpers; one_sight = b.one_sight; two_sight = b.two_sight; found = b.found; found_values = b.found_values; one_routes = b.one_routes; two_routes = b.two_routes },
   )
   dropped_alike line f at to t fields filled others outer (Some r) k kept w v b = absurd k
 

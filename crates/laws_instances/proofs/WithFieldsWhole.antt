@@ -17,7 +17,7 @@ use Rattle.proto_flat.specs.declared.flat.FlatRoute.{FlatRoute}
 use Rattle.proto_meaning.specs.Limits.{Met, Outcome, follow, and_then, limited}
 use Rattle.proto_meaning.specs.Names.{Name, Field, Filled}
 use Rattle.proto_meaning.specs.Sight.{Put, Sight, no_names, OfProto, meant}
-use Rattle.proto_meaning.specs.Flat.{Walk, Does, ◌>>=◌, comes, pure, through, Stated, begin, made, prototype, declare, full_node, statement_step, proto_step, header_of, flat}
+use Rattle.proto_meaning.specs.Flat.{Walk, Does, ◌>>=◌, comes, pure, through, Stated, begin, made, declare, full_node, statement_step, proto_step, header_of, flat}
 use Rattle.proto_meaning.specs.Flat.{item as item_part, node as node_part, statement as stated}
 use Rattle.proto_meaning.proofs.SightLaw.{Seen}
 use Rattle.laws_meaning.specs.InPlace.{nothing_in_sight}
@@ -29,7 +29,8 @@ use Rattle.laws_meaning.proofs.InPlaceParts.{never, both_true}
 use Rattle.laws_instances.proofs.WithFieldsTexts.{joined, asked_by, asked_by_statement}
 use Rattle.laws_instances.proofs.WithFieldsSeen.{all_taken}
 use Rattle.laws_instances.proofs.WithFieldsWalks.{Fewer, Equal, Beside, EndAlike, ComeAlike, Alike, then_alike, pure_alike}
-use Rattle.laws_instances.proofs.WithFieldsParts.{split_all, rename, every_same, every_node}
+use Rattle.laws_instances.proofs.WithFieldsParts.{every_same, every_node}
+use Rattle.laws_instances.proofs.WithFieldsSteps.{split_all, rename}
 use Rattle.laws_instances.proofs.WithFieldsGiven.{EndsIn, Leads, Knows}
 
 module _ (line : ℕ) (proto : Name) (ds : List (Declaration NodeText)) (body : NodeText) where
@@ -46,7 +47,7 @@ module _ (line : ℕ) (proto : Name) (ds : List (Declaration NodeText)) (body : 
 
   module _ (quiet : is_quiet_node proto false body ≡ true) (helpers : List ℕ) (all : List Filled) (items : List BodyItem) (known : Knows (its line proto ds one) all (found ds items)) where
     abbrev InBody : Outcome (ℕ × Walk) → Outcome (ℕ × Walk) → Type 0
-    InBody o p = ComeAlike nothing_in_sight nothing_in_sight (fields_there line proto ds one) all helpers Equal o p
+    InBody o p = ComeAlike nothing_in_sight nothing_in_sight (fields_there line proto ds one) all helpers [] [] Equal o p
 
     abbrev its_node : NodeText
     its_node = written_node (found ds items) as_written body
@@ -62,14 +63,14 @@ module _ (line : ℕ) (proto : Name) (ds : List (Declaration NodeText)) (body : 
     asked : list_all (its line proto ds one) (asked_by body) ≡ true
     asked = (split_all (its line proto ds one) (asked_by body) [] (all_taken (joined (map asked_by one)) no_names)).0
 
-    named_body : (name : Option Name) (w v : Walk) → Beside nothing_in_sight nothing_in_sight (fields_there line proto ds one) all helpers w v → InBody (((node_part body).does >>= rename name) w) ((node_part (named name its_node)).does v)
+    named_body : (name : Option Name) (w v : Walk) → Beside nothing_in_sight nothing_in_sight (fields_there line proto ds one) all helpers [] [] w v → InBody (((node_part body).does >>= rename name) w) ((node_part (named name its_node)).does v)
     named_body name w v b =
-        let both = every_node nothing_in_sight (fields_there line proto ds one) all helpers (its line proto ds one) false proto (found ds items) as_written (nothing_meant line proto ds one) (λ l n word is e. refl) (found_there line proto ds one all items known) (λ e. never e) body quiet asked in
+        let both = every_node nothing_in_sight (fields_there line proto ds one) all helpers [] [] refl (its line proto ds one) false proto (found ds items) as_written (nothing_meant line proto ds one) (λ l n word is e. refl) (found_there line proto ds one all items known) (λ e. never e) body quiet asked in
         on (both.0 w v b) (λ new. both.1 refl new w v b) name where
-      on : InBody ((node_part body).does w) ((node_part its_node).does v) → ((new : Name) → InBody (((node_part body).does >>= rename (Some new)) w) ((node_part (named (Some new) its_node)).does v)) → (name : Option Name)
-          → InBody (((node_part body).does >>= rename name) w) ((node_part (named name its_node)).does v)
-      on plain under None = unnamed ((node_part body).does w) ((node_part its_node).does v) plain
-      on plain under (Some new) = under new
+          on : InBody ((node_part body).does w) ((node_part its_node).does v) → ((new : Name) → InBody (((node_part body).does >>= rename (Some new)) w) ((node_part (named (Some new) its_node)).does v)) → (name : Option Name)
+              → InBody (((node_part body).does >>= rename name) w) ((node_part (named name its_node)).does v)
+          on plain under None = unnamed ((node_part body).does w) ((node_part its_node).does v) plain
+          on plain under (Some new) = under new
 
   -- what becomes of the body's node
   abbrev closing : Option Name → Walk → Outcome (ℕ × Walk) → Outcome (ℕ × Walk)
@@ -86,23 +87,25 @@ module _ (line : ℕ) (proto : Name) (ds : List (Declaration NodeText)) (body : 
   module _ (plain : list_all (λ (d : Declaration NodeText). is_plain d.given) ds ≡ true) (quiet : is_quiet_node proto false body ≡ true) where
     module _ (helpers : List ℕ) where
       abbrev Outer : Outcome (ℕ × Walk) → Outcome (ℕ × Walk) → Type 0
-      Outer o p = ComeAlike sight nothing_in_sight [] [] helpers Equal o p
+      Outer o p = ComeAlike sight nothing_in_sight [] [] helpers [] [] Equal o p
 
       abbrev OuterBeside : Walk → Walk → Type 0
-      OuterBeside w v = Beside sight nothing_in_sight [] [] helpers w v
+      OuterBeside w v = Beside sight nothing_in_sight [] [] helpers [] [] w v
 
       closed_alike : (name : Option Name) (all : List Filled) (w v : Walk) → OuterBeside w v → (o p : Outcome (ℕ × Walk))
-          → ComeAlike nothing_in_sight nothing_in_sight (fields_there line proto ds one) all helpers Equal (and_then o (λ q. rename name q.0 q.1)) p → Outer (closing name w o) p
+          → ComeAlike nothing_in_sight nothing_in_sight (fields_there line proto ds one) all helpers [] [] Equal (and_then o (λ q. rename name q.0 q.1)) p → Outer (closing name w o) p
       closed_alike name all w v b o p h = on o.met o.comes p.met p.comes h where
         on : (met : List Met) (c : Result (ℕ × Walk) ExpandFault) (more : List Met) (d : Result (ℕ × Walk) ExpandFault)
-            → ComeAlike nothing_in_sight nothing_in_sight (fields_there line proto ds one) all helpers Equal (follow met c (λ q. rename name q.0 q.1)) (record { met = more; comes = d })
+            → ComeAlike nothing_in_sight nothing_in_sight (fields_there line proto ds one) all helpers [] [] Equal (follow met c (λ q. rename name q.0 q.1)) (record { met = more; comes = d })
             → Outer (closing name w (record { met = met; comes = c })) (record { met = more; comes = d })
         on met (Err x) more d k = tt
         on met (Ok q) more (Ok r) k = (
           subst (λ l. Fewer more l) (append-nil met ∙ sym (three_nils met)) k.0,
           k.1,
           record {
-            nodes = k.2.nodes;
+            tail = k.2.tail;
+            one_nodes = k.2.one_nodes;
+            two_nodes = k.2.two_nodes;
             one_helpers = k.2.one_helpers;
             two_helpers = k.2.two_helpers;
             one_sight = b.one_sight;
@@ -119,12 +122,12 @@ module _ (line : ℕ) (proto : Name) (ds : List (Declaration NodeText)) (body : 
           → Outer (full_node l name (map item_part is) (Some (OfProto (the line proto ds one))) w) ((node_part (body_for ds body name (writes line proto ds one bodies is))).does v)
       its_alike l name is e w v b =
           its_instance line proto ds one bodies plain (λ o. Outer o ((node_part (body_for ds body name (writes line proto ds one bodies is))).does v))
-          (λ A P o f lead goal. leads_alike sight nothing_in_sight [] [] helpers P Equal o f ((node_part (body_for ds body name (writes line proto ds one bodies is))).does v) lead goal)
+          (λ A P o f lead goal. leads_alike sight nothing_in_sight [] [] helpers [] [] P Equal o f ((node_part (body_for ds body name (writes line proto ds one bodies is))).does v) lead goal)
           l name is e w b.found
           (λ all known. subst (λ (o : Outcome (ℕ × Walk)). Outer o ((node_part (body_for ds body name (writes line proto ds one bodies is))).does v)) (sym (body_is name all w))
           (closed_alike name all w v b ((node_part body).does (inner line proto ds one w.put all)) ((node_part (body_for ds body name (writes line proto ds one bodies is))).does v)
           (named_body quiet helpers all (writes line proto ds one bodies is) known name (inner line proto ds one w.put all) v
-          (record { nodes = b.nodes; one_helpers = b.one_helpers; two_helpers = b.two_helpers; one_sight = refl; two_sight = b.two_sight; found = refl; found_values = refl; one_routes = λ every. refl; two_routes = b.two_routes }))))
+          (record { tail = b.tail; one_nodes = b.one_nodes; two_nodes = b.two_nodes; one_helpers = b.one_helpers; two_helpers = b.two_helpers; one_sight = refl; two_sight = b.two_sight; found = refl; found_values = refl; one_routes = λ every. refl; two_routes = b.two_routes }))))
 
       written_is : (l : ℕ) (name : Option Name) (is : List BodyItem) → in_place proto ds body l name proto is ≡ body_for ds body name is
       written_is l name is = ap (λ (b : Bool). if b then body_for ds body name is else node_text.Full l name proto is) ((bytes_eq-Decides proto proto).1 refl)
@@ -133,7 +136,7 @@ module _ (line : ℕ) (proto : Name) (ds : List (Declaration NodeText)) (body : 
       other_braces l name word is e = ap (λ (b : Bool). if b then body_for ds body name is else node_text.Full l name word is) e
 
       an_instance : node_type_named proto ≡ None → (l : ℕ) (name : Option Name) (is : List BodyItem) → list_all (λ (q : Quiet). q.in_instance) (map (quiet_item proto true) is) ≡ true
-          → Alike sight nothing_in_sight [] [] helpers Equal (full_node l name (map item_part is) (meant proto sight)) (node_part (in_place proto ds body l name proto (writes line proto ds one bodies is))).does
+          → Alike sight nothing_in_sight [] [] helpers [] [] Equal (full_node l name (map item_part is) (meant proto sight)) (node_part (in_place proto ds body l name proto (writes line proto ds one bodies is))).does
       an_instance word l name is e w v b =
           subst (λ o. Outer (full_node l name (map item_part is) o w) ((node_part (in_place proto ds body l name proto (writes line proto ds one bodies is))).does v)) (sym (its_word line proto ds one (its line proto ds one) word))
           (subst (λ n. Outer (full_node l name (map item_part is) (Some (OfProto (the line proto ds one))) w) ((node_part n).does v)) (sym (written_is l name (writes line proto ds one bodies is)))
@@ -144,26 +147,26 @@ module _ (line : ℕ) (proto : Name) (ds : List (Declaration NodeText)) (body : 
     abbrev new_statement : Statement → Statement
     new_statement s = written_statement finds_nothing (in_place proto ds body) s
 
-    statement_same : node_type_named proto ≡ None → (s : Statement) → is_quiet_statement proto true s ≡ true → Alike sight nothing_in_sight [] [] [] Equal (stated s).1.does (stated (new_statement s)).1.does
+    statement_same : node_type_named proto ≡ None → (s : Statement) → is_quiet_statement proto true s ≡ true → Alike sight nothing_in_sight [] [] [] [] [] Equal (stated s).1.does (stated (new_statement s)).1.does
     statement_same word s e =
-        every_same sight [] [] [] (λ (x : Name). true) true proto finds_nothing (in_place proto ds body) (other_words line proto ds one (its line proto ds one)) (other_braces [])
+        every_same sight [] [] [] [] [] refl (λ (x : Name). true) true proto finds_nothing (in_place proto ds body) (other_words line proto ds one (its line proto ds one)) (other_braces [])
         (λ x t o none. never (ap is_there none)) (λ may. an_instance [] word) s e (all_of_all (asked_by_statement s)) where
-      is_there : Option Field → Bool
-      is_there None = false
-      is_there (Some f) = true
+          is_there : Option Field → Bool
+          is_there None = false
+          is_there (Some f) = true
 
     abbrev root : Stated → List ℕ → Does (List ℕ)
     root s roots = s.1.does >>= λ ns. pure (roots ++ ns)
 
     roots_alike : node_type_named proto ≡ None → (ss : List Statement) → list_all (is_quiet_statement proto true) ss ≡ true → (roots : List ℕ)
-        → Alike sight nothing_in_sight [] [] [] Equal (through root (map stated ss) roots) (through root (map stated (map new_statement ss)) roots)
-    roots_alike word [] e roots = pure_alike sight nothing_in_sight [] [] [] Equal roots roots refl
+        → Alike sight nothing_in_sight [] [] [] [] [] Equal (through root (map stated ss) roots) (through root (map stated (map new_statement ss)) roots)
+    roots_alike word [] e roots = pure_alike sight nothing_in_sight [] [] [] [] [] Equal roots roots refl
     roots_alike word (s ∷ ss) e roots =
         let both = both_true (is_quiet_statement proto true s) (list_all (is_quiet_statement proto true) ss) e in
-        then_alike sight nothing_in_sight [] [] [] Equal Equal (root (stated s) roots) (root (stated (new_statement s)) roots) (through root (map stated ss)) (through root (map stated (map new_statement ss)))
-        (then_alike sight nothing_in_sight [] [] [] Equal Equal (stated s).1.does (stated (new_statement s)).1.does (λ ns. pure (roots ++ ns)) (λ ns. pure (roots ++ ns)) (statement_same word s both.0)
-        (λ a c r. pure_alike sight nothing_in_sight [] [] [] Equal (roots ++ a) (roots ++ c) (ap (λ ns. roots ++ ns) r)))
-        (λ a c r. subst (λ ns. Alike sight nothing_in_sight [] [] [] Equal (through root (map stated ss) a) (through root (map stated (map new_statement ss)) ns)) (sym r) (roots_alike word ss both.1 a))
+        then_alike sight nothing_in_sight [] [] [] [] [] Equal Equal (root (stated s) roots) (root (stated (new_statement s)) roots) (through root (map stated ss)) (through root (map stated (map new_statement ss)))
+        (then_alike sight nothing_in_sight [] [] [] [] [] Equal Equal (stated s).1.does (stated (new_statement s)).1.does (λ ns. pure (roots ++ ns)) (λ ns. pure (roots ++ ns)) (statement_same word s both.0)
+        (λ a c r. pure_alike sight nothing_in_sight [] [] [] [] [] Equal (roots ++ a) (roots ++ c) (ap (λ ns. roots ++ ns) r)))
+        (λ a c r. subst (λ ns. Alike sight nothing_in_sight [] [] [] [] [] Equal (through root (map stated ss) a) (through root (map stated (map new_statement ss)) ns)) (sym r) (roots_alike word ss both.1 a))
 
     abbrev start : Walk
     start = begin [] (record { nodes = []; helpers = [] })
@@ -182,13 +185,13 @@ module _ (line : ℕ) (proto : Name) (ds : List (Declaration NodeText)) (body : 
       on (Err x) h = tt
 
     all_alike : (ss : List Statement) → list_all (is_quiet_statement proto true) ss ≡ true
-        → ComeAlike sight nothing_in_sight [] [] [] Equal (through root ((declares line proto ds one) ∷ map stated ss) [] start) (through root (map stated (map new_statement ss)) [] start)
+        → ComeAlike sight nothing_in_sight [] [] [] [] [] Equal (through root ((declares line proto ds one) ∷ map stated ss) [] start) (through root (map stated (map new_statement ss)) [] start)
     all_alike ss e =
-        leads_alike sight nothing_in_sight [] [] [] Begun Equal (root (declares line proto ds one) [] start) (λ q. through root (map stated ss) q.0 q.1) (through root (map stated (map new_statement ss)) [] start) first_leads
-        (λ q k. subst (λ roots. ComeAlike sight nothing_in_sight [] [] [] Equal (through root (map stated ss) roots q.1) (through root (map stated (map new_statement ss)) [] start)) (sym k.0)
-        (subst (λ u. ComeAlike sight nothing_in_sight [] [] [] Equal (through root (map stated ss) [] u) (through root (map stated (map new_statement ss)) [] start)) (sym k.1)
+        leads_alike sight nothing_in_sight [] [] [] [] [] Begun Equal (root (declares line proto ds one) [] start) (λ q. through root (map stated ss) q.0 q.1) (through root (map stated (map new_statement ss)) [] start) first_leads
+        (λ q k. subst (λ roots. ComeAlike sight nothing_in_sight [] [] [] [] [] Equal (through root (map stated ss) roots q.1) (through root (map stated (map new_statement ss)) [] start)) (sym k.0)
+        (subst (λ u. ComeAlike sight nothing_in_sight [] [] [] [] [] Equal (through root (map stated ss) [] u) (through root (map stated (map new_statement ss)) [] start)) (sym k.1)
         (roots_alike k.2 ss e [] (record start { sight = sight }) start
-        (record { nodes = refl; one_helpers = refl; two_helpers = refl; one_sight = refl; two_sight = refl; found = refl; found_values = refl; one_routes = λ every. refl; two_routes = λ every. refl }))))
+        (record { tail = []; one_nodes = refl; two_nodes = refl; one_helpers = refl; two_helpers = refl; one_sight = refl; two_sight = refl; found = refl; found_values = refl; one_routes = λ every. refl; two_routes = λ every. refl }))))
 
 abbrev finish : Document → List ℕ × Walk → Outcome Flat
 finish d p = comes (Ok (record {
@@ -202,17 +205,17 @@ finish d p = comes (Ok (record {
 abbrev with_flat : Document → Put → List ℕ → List FlatRoute → Result Flat ExpandFault
 with_flat d put roots routes = Ok (record { header = header_of d; nodes = put.nodes; roots = roots; helpers = put.helpers; routes = routes })
 
-ending : (one two : Sight) (names : List Field) (values : List Filled) (d : Document) (f : Flat) (o p : Outcome (List ℕ × Walk)) → ComeAlike one two names values [] Equal o p
+ending : (one two : Sight) (names : List Field) (values : List Filled) (d : Document) (f : Flat) (o p : Outcome (List ℕ × Walk)) → ComeAlike one two names values [] [] [] Equal o p
     → limited (and_then o (finish d)) ≡ Ok f → limited (and_then p (finish d)) ≡ Ok f
 ending one two names values d f o p h e = on o.met o.comes p.met p.comes h e where
-  on : (met : List Met) (c : Result (List ℕ × Walk) ExpandFault) (more : List Met) (g : Result (List ℕ × Walk) ExpandFault) → EndAlike one two names values [] Equal met c more g
+  on : (met : List Met) (c : Result (List ℕ × Walk) ExpandFault) (more : List Met) (g : Result (List ℕ × Walk) ExpandFault) → EndAlike one two names values [] [] [] Equal met c more g
       → limited (follow met c (finish d)) ≡ Ok f → limited (follow more g (finish d)) ≡ Ok f
   on met (Err x) more g k e = absurd (refused met x f e)
   on met (Ok q) more (Err y) k e = absurd k
   on met (Ok q) more (Ok r) k e =
       limits_alike (met ++ []) (more ++ []) (with_flat d q.1.put q.0 (q.1.scope.routes q.1.scope.braces)) (with_flat d r.1.put r.0 (r.1.scope.routes r.1.scope.braces)) f
       (subst (λ l. Fewer l (met ++ [])) (sym (append-nil more)) (subst (λ l. Fewer more l) (sym (append-nil met)) k.0))
-      (ap (λ (p : Put). with_flat d p r.0 (r.1.scope.routes r.1.scope.braces)) (ap (λ ns. record { nodes = ns; helpers = r.1.put.helpers }) k.2.nodes ∙ ap (λ hs. record { nodes = q.1.put.nodes; helpers = hs }) (k.2.two_helpers ∙ sym k.2.one_helpers)) ∙ ap (λ roots. with_flat d q.1.put roots (r.1.scope.routes r.1.scope.braces)) k.1
+      (ap (λ (p : Put). with_flat d p r.0 (r.1.scope.routes r.1.scope.braces)) (ap (λ ns. record { nodes = ns; helpers = r.1.put.helpers }) (k.2.two_nodes ∙ sym k.2.one_nodes) ∙ ap (λ hs. record { nodes = q.1.put.nodes; helpers = hs }) (k.2.two_helpers ∙ sym k.2.one_helpers)) ∙ ap (λ roots. with_flat d q.1.put roots (r.1.scope.routes r.1.scope.braces)) k.1
       ∙ ap (λ routes. with_flat d q.1.put q.0 routes) (k.2.two_routes r.1.scope.braces ∙ sym (k.2.one_routes q.1.scope.braces)))
       e
 

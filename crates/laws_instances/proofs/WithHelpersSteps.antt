@@ -11,10 +11,9 @@ use Rattle.classic_tree.specs.declared.tree.Statement.{Statement, out-Statement,
 use Rattle.classic_tree.specs.declared.tree.Statement.TheVariants as statement_text
 use Rattle.proto_meaning.specs.Limits.{Outcome, and_then}
 use Rattle.proto_meaning.specs.Names.{Name}
-use Rattle.proto_meaning.specs.Flat.{Walk, Does, ◌>>=◌, pure, through, Node, Stated, prototype}
-use Rattle.laws_instances.proofs.WithFieldsInstance.{its, the}
+use Rattle.proto_meaning.specs.Flat.{Walk, Does, ◌>>=◌, pure, through, Stated}
 use Rattle.laws_instances.specs.WithHelpers.{Shuffled}
-use Rattle.laws_instances.proofs.WithFieldsParts.{then_then}
+use Rattle.laws_instances.proofs.WithFieldsSteps.{then_then}
 
 -- ---- shuffled lists
 
@@ -33,15 +32,17 @@ second_alone (y ∷ ys) = inr (ys, refl, second_alone ys)
 
 -- ---- statements, by their variants
 
+pub each_node : (P : NodeText → Type 0) → ((l : ℕ) (name : Option Name) (word : Name) (is : List BodyItem) → P (node_text.Full l name word is)) → ((l : ℕ) (name : Name) → P (node_text.Use l name)) → (n : NodeText) → P n
+each_node P full used n = subst P (roll-out-NodeText n) (on (out-NodeText n)) where
+  on : (x : NodeText-F BodyItem NodeText Statement ProtoText) → P (roll-NodeText x)
+  on (NodeText-F.Full l name word is) = subst P (sym (node_text.rolls-Full l name word is)) (full l name word is)
+  on (NodeText-F.Use l name) = subst P (sym (node_text.rolls-Use l name)) (used l name)
+
 pub each_statement : (P : Statement → Type 0) → ((l : ℕ) (name : Option Name) (word : Name) (is : List BodyItem) → P (statement_text.Node (node_text.Full l name word is))) → ((l : ℕ) (name : Name) → P (statement_text.Node (node_text.Use l name)))
     → ((r : RouteText) → P (statement_text.Route r)) → ((p : ProtoText) → P (statement_text.Proto p)) → (s : Statement) → P s
 each_statement P full used route proto s = subst P (roll-out-Statement s) (on (out-Statement s)) where
-  node : (x : NodeText-F BodyItem NodeText Statement ProtoText) → P (statement_text.Node (roll-NodeText x))
-  node (NodeText-F.Full l name word is) = subst (λ n. P (statement_text.Node n)) (sym (node_text.rolls-Full l name word is)) (full l name word is)
-  node (NodeText-F.Use l name) = subst (λ n. P (statement_text.Node n)) (sym (node_text.rolls-Use l name)) (used l name)
-
   on : (x : Statement-F BodyItem NodeText Statement ProtoText) → P (roll-Statement x)
-  on (Statement-F.Node n) = subst P (sym (statement_text.rolls-Node n)) (subst (λ m. P (statement_text.Node m)) (roll-out-NodeText n) (node (out-NodeText n)))
+  on (Statement-F.Node n) = subst P (sym (statement_text.rolls-Node n)) (each_node (λ m. P (statement_text.Node m)) full used n)
   on (Statement-F.Statement::Route r) = subst P (sym (statement_text.rolls-Route r)) (route r)
   on (Statement-F.Statement::Proto p) = subst P (sym (statement_text.rolls-Proto p)) (proto p)
 

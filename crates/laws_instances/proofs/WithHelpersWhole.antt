@@ -1,6 +1,5 @@
 -- An instance is all nodes of its prototype's body written in its place: whole documents.
 use Rattle.std.proofs.Common.{◌≡◌, inl, ℕ, Bool, true, false, ◌&&◌, if◌then◌else◌, nat_lt, length, List, [], ◌∷◌, ◌++◌, Option, Some, None, Result, Ok, Err, map, refl, ap, sym, ◌∙◌, subst}
-use Rattle.std.specs.Prelude.{is_none}
 use Rattle.std.specs.List.{flat_map, list_all}
 use Rattle.std.specs.Option.{option_or}
 use Rattle.std.specs.Str.{bytes_eq}
@@ -22,7 +21,7 @@ use Rattle.proto_flat.specs.declared.flat.FlatRoute.{FlatRoute}
 use Rattle.proto_meaning.specs.Limits.{Met, Outcome, behind, follow, and_then, is_within, with_few_routes, limited}
 use Rattle.proto_meaning.specs.Names.{Name, Braces as Pair, Field, Filled}
 use Rattle.proto_meaning.specs.Sight.{Sight, Names, no_names, OfProto, meant}
-use Rattle.proto_meaning.specs.Flat.{Walk, comes, pure, through, Node, Stated, in_body, begin, made, prototype, declare, full_node, node_step, statement_step, proto_step, header_of, flat}
+use Rattle.proto_meaning.specs.Flat.{Walk, comes, pure, through, Stated, in_body, begin, made, renamed, declare, full_node, node_step, statement_step, proto_step, header_of, flat}
 use Rattle.proto_meaning.specs.Flat.{item as item_part, statement as stated}
 use Rattle.proto_meaning.proofs.Trees.{node-full, statement-node}
 use Rattle.proto_meaning.proofs.SightLaw.{Seen}
@@ -31,24 +30,22 @@ use Rattle.laws_instances.specs.WithFields.{is_plain, Quiet, quiet_item, is_quie
 use Rattle.laws_instances.proofs.WithFieldsSound.{all_stated, parts, as_stated, one_body, sight_with, Sound, declares, declaration_is, declare_sound, other_words, its_word, all_of_all}
 use Rattle.laws_instances.proofs.WithFieldsInstance.{its, the, inner, closed, body_in, writes, its_instance}
 use Rattle.laws_instances.proofs.WithFieldsEnds.{refused, is_fine, fewer_within}
-use Rattle.laws_instances.proofs.WithHelpersBody.{EndBehind, ComeBehind, body_same}
+use Rattle.laws_instances.proofs.WithHelpersBody.{EndBehind, ComeBehind, renamed_more, body_same}
 use Rattle.laws_instances.proofs.WithHelpersSteps.{shuffled_more, first_alone, second_alone, each_statement, out_full, root, through_more}
-use Rattle.laws_instances.specs.WithHelpers.{is_bare, is_instance, may_be, as_statements, nodes_for, node_out, statement_out, written_statements, Shuffled, HelpersAsRoots, InstancesAreAllNodesOfTheirBodies}
+use Rattle.laws_instances.specs.WithHelpers.{is_of, is_instance, may_be, as_statements, first_named, nodes_for, node_out, statement_out, written_statements, Shuffled, HelpersAsRoots, InstancesAreAllNodesOfTheirBodies}
 use Rattle.laws_meaning.proofs.InPlaceParts.{never, both_true}
 use Rattle.laws_instances.proofs.WithFieldsTexts as texts
 use Rattle.laws_instances.proofs.WithFieldsTexts.{joined, asked_by, asked_by_statement}
 use Rattle.laws_instances.proofs.WithFieldsSeen.{all_taken}
 use Rattle.laws_instances.proofs.WithFieldsWalks.{fewer_append, fewer_none, Fewer, fewer_same, Equal, Beside, EndAlike, ComeAlike}
-use Rattle.laws_instances.proofs.WithFieldsParts.{out_node, then_then, every_same}
+use Rattle.laws_instances.proofs.WithFieldsParts.{every_same}
+use Rattle.laws_instances.proofs.WithFieldsSteps.{then_then, out_node}
 use Rattle.laws_instances.proofs.WithFieldsGiven.{EndsIn, Leads, Knows, knows_by}
-use Rattle.laws_instances.proofs.WithFieldsItems.{items_same, within}
+use Rattle.laws_instances.proofs.WithFieldsItems.{items_same}
 
 -- what comes after is one with what was before
 then_both : {A : Type 0} (o : Outcome A) (f : A → Outcome (ℕ × Walk)) (g : ℕ × Walk → Outcome (List ℕ × Walk)) (k : List ℕ × Walk → Outcome (List ℕ × Walk)) → and_then (and_then (and_then o f) g) k ≡ and_then o (λ a. and_then (and_then (f a) g) k)
 then_both o f g k = ap (λ x. and_then x k) (then_then o f g) ∙ then_then o (λ a. and_then (f a) g) k
-
-if_hit : (b c : Bool) (xs ys : List Statement) → b ≡ c → (if b then xs else ys) ≡ (if c then xs else ys)
-if_hit b c xs ys e = ap (λ x. if x then xs else ys) e
 
 module _ (line : ℕ) (proto : Name) (ds : List (Declaration NodeText)) (body : List NodeText) where
   abbrev its_all : Names
@@ -106,17 +103,17 @@ module _ (line : ℕ) (proto : Name) (ds : List (Declaration NodeText)) (body : 
   two_nils : (ms : List Met) → (ms ++ []) ++ [] ≡ ms
   two_nils ms = append-nil (ms ++ []) ∙ append-nil ms
 
-  staying_come : (roots : List ℕ) (w : Walk) (others : List ℕ) (v : Walk) → Level roots w others v → (o p : Outcome (List ℕ × Walk)) → ComeAlike sight nothing_in_sight [] [] w.put.helpers Equal o p
+  staying_come : (roots : List ℕ) (w : Walk) (others : List ℕ) (v : Walk) → Level roots w others v → (o p : Outcome (List ℕ × Walk)) → ComeAlike sight nothing_in_sight [] [] w.put.helpers w.put.nodes w.put.nodes Equal o p
       → ComeLevel (and_then o (λ q. pure (roots ++ q.0) q.1)) (and_then (and_then p (λ q. pure (others ++ q.0) q.1)) (λ q. pure q.0 q.1))
   staying_come roots w others v k o p h = on o.met o.comes p.met p.comes h where
-    on : (met : List Met) (c : Result (List ℕ × Walk) ExpandFault) (more : List Met) (d : Result (List ℕ × Walk) ExpandFault) → EndAlike sight nothing_in_sight [] [] w.put.helpers Equal met c more d
+    on : (met : List Met) (c : Result (List ℕ × Walk) ExpandFault) (more : List Met) (d : Result (List ℕ × Walk) ExpandFault) → EndAlike sight nothing_in_sight [] [] w.put.helpers w.put.nodes w.put.nodes Equal met c more d
         → ComeLevel (follow met c (λ q. pure (roots ++ q.0) q.1)) (and_then (follow more d (λ q. pure (others ++ q.0) q.1)) (λ q. pure q.0 q.1))
     on met (Err x) more d l = tt
     on met (Ok q) more (Err y) l = absurd l
     on met (Ok q) more (Ok r) l = (
       subst (λ m. Fewer m (met ++ [])) (sym (two_nils more)) (subst (λ m. Fewer more m) (sym (append-nil met)) l.0),
       record {
-        nodes = l.2.nodes;
+        nodes = l.2.two_nodes ∙ sym l.2.one_nodes;
         two_helpers = l.2.two_helpers;
         shuffled = subst (λ ns. Shuffled (roots ++ q.0) q.1.put.helpers (others ++ ns)) (sym l.1)
             (subst (λ hs. Shuffled (roots ++ q.0) hs (others ++ q.0)) (append-nil w.put.helpers ∙ sym l.2.one_helpers) (shuffled_more roots w.put.helpers others q.0 [] q.0 k.shuffled (first_alone q.0)));
@@ -129,18 +126,18 @@ module _ (line : ℕ) (proto : Name) (ds : List (Declaration NodeText)) (body : 
       },
     )
 
-  beside_of : (roots : List ℕ) (w : Walk) (others : List ℕ) (v : Walk) → Level roots w others v → Beside sight nothing_in_sight [] [] w.put.helpers w v
-  beside_of roots w others v k = record { nodes = k.nodes; one_helpers = refl; two_helpers = k.two_helpers; one_sight = k.one_sight; two_sight = k.two_sight; found = k.found_fields; found_values = k.found_values; one_routes = k.one_routes; two_routes = k.two_routes }
+  beside_of : (roots : List ℕ) (w : Walk) (others : List ℕ) (v : Walk) → Level roots w others v → Beside sight nothing_in_sight [] [] w.put.helpers w.put.nodes w.put.nodes w v
+  beside_of roots w others v k = record { tail = []; one_nodes = sym (append-nil w.put.nodes); two_nodes = k.nodes ∙ sym (append-nil w.put.nodes); one_helpers = refl; two_helpers = k.two_helpers; one_sight = k.one_sight; two_sight = k.two_sight; found = k.found_fields; found_values = k.found_values; one_routes = k.one_routes; two_routes = k.two_routes }
 
   staying : (s : Statement) → is_quiet_statement proto false s ≡ true → (roots : List ℕ) (w : Walk) (others : List ℕ) (v : Walk) → Level roots w others v
       → ComeLevel (root (stated s) roots w) (through root (map stated (stays s ∷ [])) others v)
   staying s e roots w others v k =
       staying_come roots w others v k ((stated s).1.does w) ((stated (stays s)).1.does v)
-      (every_same sight [] [] w.put.helpers (λ (x : Name). true) false proto finds_nothing as_written (other_words line proto ds body its_all) (λ l name word is miss. refl)
+      (every_same sight [] [] w.put.helpers w.put.nodes w.put.nodes refl (λ (x : Name). true) false proto finds_nothing as_written (other_words line proto ds body its_all) (λ l name word is miss. refl)
       (λ x t o none. never (ap is_there none)) (λ may. never may) s e (all_of_all (asked_by_statement s)) w v (beside_of roots w others v k)) where
-    is_there : Option Field → Bool
-    is_there None = false
-    is_there (Some f) = true
+        is_there : Option Field → Bool
+        is_there None = false
+        is_there (Some f) = true
 
   -- ---- an instance
 
@@ -153,19 +150,18 @@ module _ (line : ℕ) (proto : Name) (ds : List (Declaration NodeText)) (body : 
   four_nils : (ms : List Met) → ((ms ++ []) ++ []) ++ [] ≡ ms
   four_nils ms = append-nil ((ms ++ []) ++ []) ∙ two_nils ms
 
-  closed_level : (roots : List ℕ) (w : Walk) (others : List ℕ) (v : Walk) → Level roots w others v → (all : List Filled) (items : List BodyItem) (known : Knows its_all all (found ds items)) → (o p : Outcome (List ℕ × Walk))
-      → ComeBehind line proto ds body w.put.helpers others all items known o p → ComeLevel (finishing roots (and_then o (λ r. and_then (made line r.0 r.1) (closed line proto ds body None w)))) p
-  closed_level roots w others v k all items known o p h = on o.met o.comes p.met p.comes h where
-    on : (met : List Met) (c : Result (List ℕ × Walk) ExpandFault) (more : List Met) (d : Result (List ℕ × Walk) ExpandFault) → EndBehind line proto ds body w.put.helpers others all items known met c more d
-        → ComeLevel (finishing roots (follow met c (λ r. and_then (made line r.0 r.1) (closed line proto ds body None w)))) (record { met = more; comes = d })
+  closed_level : (name : Option Name) (roots : List ℕ) (w : Walk) (others : List ℕ) (v : Walk) → Level roots w others v → (all : List Filled) (items : List BodyItem) (known : Knows its_all all (found ds items)) → (o p : Outcome (List ℕ × Walk))
+      → ComeBehind line proto ds body name w.put.helpers others all items known o p → ComeLevel (finishing roots (and_then o (λ r. and_then (made line r.0 r.1) (closed line proto ds body name w)))) p
+  closed_level name roots w others v k all items known o p h = on o.met o.comes p.met p.comes h where
+    on : (met : List Met) (c : Result (List ℕ × Walk) ExpandFault) (more : List Met) (d : Result (List ℕ × Walk) ExpandFault) → EndBehind line proto ds body name w.put.helpers others all items known met c more d
+        → ComeLevel (finishing roots (follow met c (λ r. and_then (made line r.0 r.1) (closed line proto ds body name w)))) (record { met = more; comes = d })
     on met (Err x) more d l = tt
     on met (Ok q) more (Err y) l = absurd l
     on met (Ok q) more (Ok r) l =
-        subst (λ ns. ComeLevel (finishing roots (behind met (and_then (made line ns q.1) (closed line proto ds body None w)))) (record { met = more; comes = Ok r })) (sym l.2)
-        (
+        subst (λ ns. ComeLevel (finishing roots (behind met (and_then (made line ns q.1) (closed line proto ds body name w)))) (record { met = more; comes = Ok r })) (sym l.2) (
           subst (λ m. Fewer more m) (sym (four_nils met)) l.0,
           record {
-            nodes = l.3.nodes;
+            nodes = l.3.two_nodes ∙ sym (ap (renamed name l.1) l.3.one_nodes ∙ renamed_more name l.1 l.3.firsts l.3.tail l.3.below);
             two_helpers = l.3.two_helpers;
             shuffled = subst (λ rs. Shuffled (roots ++ l.1 ∷ []) q.1.put.helpers rs) (sym l.3.roots)
                 (subst (λ hs. Shuffled (roots ++ l.1 ∷ []) hs (others ++ l.1 ∷ l.3.more)) (sym l.3.one_helpers)
@@ -179,37 +175,37 @@ module _ (line : ℕ) (proto : Name) (ds : List (Declaration NodeText)) (body : 
           },
         )
 
-  body_is : (w : Walk) (all : List Filled) → body_in line proto ds body None w all ≡ and_then (through in_body (map (as_stated line proto ds body) body) [] (inner line proto ds body w.put all)) (λ r. and_then (made line r.0 r.1) (closed line proto ds body None w))
-  body_is w all = refl
+  body_is : (name : Option Name) (w : Walk) (all : List Filled) → body_in line proto ds body name w all ≡ and_then (through in_body (map (as_stated line proto ds body) body) [] (inner line proto ds body w.put all)) (λ r. and_then (made line r.0 r.1) (closed line proto ds body name w))
+  body_is name w all = refl
 
   module _ (plain : list_all (λ (d : Declaration NodeText). is_plain d.given) ds ≡ true) (quiet : list_all (is_quiet_node proto false) body ≡ true) where
-    body_level : (roots : List ℕ) (w : Walk) (others : List ℕ) (v : Walk) → Level roots w others v → (all : List Filled) (items : List BodyItem) → Knows its_all all (found ds items)
-        → ComeLevel (finishing roots (body_in line proto ds body None w all)) (through root (map stated (as_statements (map (new items) body))) others v)
-    body_level roots w others v k all items known =
-        subst (λ (o : Outcome (ℕ × Walk)). ComeLevel (finishing roots o) (through root (map stated (as_statements (map (new items) body))) others v)) (sym (body_is w all))
-        (subst (λ ps. ComeLevel (finishing roots (and_then (through in_body (map (as_stated line proto ds body) body) [] (inner line proto ds body w.put all)) (λ r. and_then (made line r.0 r.1) (closed line proto ds body None w)))) (through root ps others v)) (sym (all_stated line proto ds body (map (new items) body)))
+    body_level : (name : Option Name) (roots : List ℕ) (w : Walk) (others : List ℕ) (v : Walk) → Level roots w others v → (all : List Filled) (items : List BodyItem) → Knows its_all all (found ds items)
+        → ComeLevel (finishing roots (body_in line proto ds body name w all)) (through root (map stated (as_statements (first_named name (map (new items) body)))) others v)
+    body_level name roots w others v k all items known =
+        subst (λ (o : Outcome (ℕ × Walk)). ComeLevel (finishing roots o) (through root (map stated (as_statements (first_named name (map (new items) body)))) others v)) (sym (body_is name w all))
+        (subst (λ ps. ComeLevel (finishing roots (and_then (through in_body (map (as_stated line proto ds body) body) [] (inner line proto ds body w.put all)) (λ r. and_then (made line r.0 r.1) (closed line proto ds body name w)))) (through root ps others v)) (sym (all_stated line proto ds body (first_named name (map (new items) body))))
         (on body quiet (all_taken (joined (map asked_by body)) no_names))) where
-      on : (bs : List NodeText) → list_all (is_quiet_node proto false) bs ≡ true → list_all its_all (joined (map asked_by bs)) ≡ true
-          → ComeLevel (finishing roots (and_then (through in_body (map (as_stated line proto ds body) bs) [] (inner line proto ds body w.put all)) (λ r. and_then (made line r.0 r.1) (closed line proto ds body None w)))) (through root (map (as_stated line proto ds body) (map (new items) bs)) others v)
-      on [] e asked = tt
-      on (b ∷ bs) e asked =
-          closed_level roots w others v k all items known (through in_body (map (as_stated line proto ds body) (b ∷ bs)) [] (inner line proto ds body w.put all)) (through root (map (as_stated line proto ds body) (map (new items) (b ∷ bs))) others v)
-          (body_same line proto ds body w.put.helpers others all items known b bs e asked (inner line proto ds body w.put all) v
-          (record { nodes = k.nodes; one_helpers = refl; two_helpers = k.two_helpers; one_sight = refl; two_sight = k.two_sight; found = refl; found_values = refl; one_routes = λ every. refl; two_routes = k.two_routes }))
+          on : (bs : List NodeText) → list_all (is_quiet_node proto false) bs ≡ true → list_all its_all (joined (map asked_by bs)) ≡ true
+              → ComeLevel (finishing roots (and_then (through in_body (map (as_stated line proto ds body) bs) [] (inner line proto ds body w.put all)) (λ r. and_then (made line r.0 r.1) (closed line proto ds body name w)))) (through root (map (as_stated line proto ds body) (first_named name (map (new items) bs))) others v)
+          on [] e asked = tt
+          on (b ∷ bs) e asked =
+              closed_level name roots w others v k all items known (through in_body (map (as_stated line proto ds body) (b ∷ bs)) [] (inner line proto ds body w.put all)) (through root (map (as_stated line proto ds body) (first_named name (map (new items) (b ∷ bs)))) others v)
+              (body_same line proto ds body name w.put.helpers others all items known b bs e asked (inner line proto ds body w.put all) v
+              (record { tail = w.put.nodes; one_nodes = refl; two_nodes = k.nodes; one_helpers = refl; two_helpers = k.two_helpers; one_sight = refl; two_sight = k.two_sight; found = refl; found_values = refl; one_routes = λ every. refl; two_routes = k.two_routes }))
 
-    instance_level : (l : ℕ) (is : List BodyItem) → list_all (λ (q : Quiet). q.in_instance) (map (quiet_item proto true) is) ≡ true → (roots : List ℕ) (w : Walk) (others : List ℕ) (v : Walk) → Level roots w others v
-        → ComeLevel (finishing roots (full_node l None (map item_part is) (Some (OfProto (the line proto ds body))) w)) (through root (map stated (as_statements (map (new is) body))) others v)
-    instance_level l is e roots w others v k =
-        its_instance line proto ds body as_written plain (λ o. ComeLevel (finishing roots o) (through root (map stated (as_statements (map (new is) body))) others v))
-        (λ A P o f lead goal. subst (λ (x : Outcome (List ℕ × Walk)). ComeLevel x (through root (map stated (as_statements (map (new is) body))) others v)) (sym (then_both o f (λ q. pure (q.0 ∷ []) q.1) (λ q. pure (roots ++ q.0) q.1)))
-        (leads_level P o (λ a. finishing roots (f a)) (through root (map stated (as_statements (map (new is) body))) others v) lead goal))
-        l None is e w k.found_fields
-        (λ all known. body_level roots w others v k all is
+    instance_level : (l : ℕ) (name : Option Name) (is : List BodyItem) → list_all (λ (q : Quiet). q.in_instance) (map (quiet_item proto true) is) ≡ true → (roots : List ℕ) (w : Walk) (others : List ℕ) (v : Walk) → Level roots w others v
+        → ComeLevel (finishing roots (full_node l name (map item_part is) (Some (OfProto (the line proto ds body))) w)) (through root (map stated (as_statements (first_named name (map (new is) body)))) others v)
+    instance_level l name is e roots w others v k =
+        its_instance line proto ds body as_written plain (λ o. ComeLevel (finishing roots o) (through root (map stated (as_statements (first_named name (map (new is) body)))) others v))
+        (λ A P o f lead goal. subst (λ (x : Outcome (List ℕ × Walk)). ComeLevel x (through root (map stated (as_statements (first_named name (map (new is) body)))) others v)) (sym (then_both o f (λ q. pure (q.0 ∷ []) q.1) (λ q. pure (roots ++ q.0) q.1)))
+        (leads_level P o (λ a. finishing roots (f a)) (through root (map stated (as_statements (first_named name (map (new is) body)))) others v) lead goal))
+        l name is e w k.found_fields
+        (λ all known. body_level name roots w others v k all is
         (knows_by its_all all (found ds (writes line proto ds body as_written is)) (found ds is) (λ x. ap (λ o. option_or o (default_of ds x)) (items_same (the line proto ds body) proto true finds_nothing as_written (λ y. refl) is e x)) known))
 
     -- ---- a statement
 
-    OfStatement : Statement → Type 0
+    abbrev OfStatement : Statement → Type 0
     OfStatement s = may_be proto s ≡ true → (roots : List ℕ) (w : Walk) (others : List ℕ) (v : Walk) → Level roots w others v → ComeLevel (root (stated s) roots w) (through root (map stated (written_statements proto ds body s)) others v)
 
     root_full : (l : ℕ) (name : Option Name) (word : Name) (is : List BodyItem) (roots : List ℕ) (w : Walk) → root (stated (statement_text.Node (node_text.Full l name word is))) roots w ≡ finishing roots (full_node l name (map item_part is) (meant word w.sight) w)
@@ -217,51 +213,46 @@ module _ (line : ℕ) (proto : Name) (ds : List (Declaration NodeText)) (body : 
     root_full l name word is roots w = ap (λ (s : Stated). root s roots w) (statement-node (node_text.Full l name word is) (node-full l name word is refl))
 
     out_is : (l : ℕ) (name : Option Name) (word : Name) (is : List BodyItem) → written_statements proto ds body (statement_text.Node (node_text.Full l name word is))
-        ≡ (if bytes_eq proto word && is_none name then as_statements (nodes_for ds body is) else stays (statement_text.Node (node_text.Full l name word is)) ∷ [])
+        ≡ (if bytes_eq proto word then as_statements (nodes_for ds body name is) else stays (statement_text.Node (node_text.Full l name word is)) ∷ [])
     out_is l name word is =
         ap (statement_out proto ds body (stays (statement_text.Node (node_text.Full l name word is)))) (out_node (node_text.Full l name word is))
         ∙ ap (node_out proto ds body (stays (statement_text.Node (node_text.Full l name word is)))) (out_full l name word is)
 
-    is_instance_is : (l : ℕ) (name : Option Name) (word : Name) (is : List BodyItem) → is_instance proto (out-Statement (statement_text.Node (node_text.Full l name word is))) ≡ (bytes_eq proto word && is_none name)
-    is_instance_is l name word is = ap (is_instance proto) (out_node (node_text.Full l name word is)) ∙ ap (is_bare proto) (out_full l name word is)
+    is_instance_is : (l : ℕ) (name : Option Name) (word : Name) (is : List BodyItem) → is_instance proto (out-Statement (statement_text.Node (node_text.Full l name word is))) ≡ bytes_eq proto word
+    is_instance_is l name word is = ap (is_instance proto) (out_node (node_text.Full l name word is)) ∙ ap (is_of proto) (out_full l name word is)
 
     holds_plain : (b c : Bool) (x : Bool) → b ≡ true → (if b then true && x else c) ≡ true → x ≡ true
     holds_plain true c x e h = h
     holds_plain false c x e h = never e
 
     module _ (free : node_type_named proto ≡ None) where
-      its_level : (l : ℕ) (name : Option Name) (word : Name) (is : List BodyItem) → bytes_eq proto word ≡ true → is_none name ≡ true → is_quiet_statement proto true (statement_text.Node (node_text.Full l name word is)) ≡ true
+      its_level : (l : ℕ) (name : Option Name) (word : Name) (is : List BodyItem) → bytes_eq proto word ≡ true → is_quiet_statement proto true (statement_text.Node (node_text.Full l name word is)) ≡ true
           → (roots : List ℕ) (w : Walk) (others : List ℕ) (v : Walk) → Level roots w others v
-          → ComeLevel (finishing roots (full_node l name (map item_part is) (meant word w.sight) w)) (through root (map stated (as_statements (nodes_for ds body is))) others v)
-      its_level l (Some name) word is hit none e roots w others v k = never none
-      its_level l None word is hit none e roots w others v k =
-          subst (λ o. ComeLevel (finishing roots (full_node l None (map item_part is) o w)) (through root (map stated (as_statements (nodes_for ds body is))) others v))
+          → ComeLevel (finishing roots (full_node l name (map item_part is) (meant word w.sight) w)) (through root (map stated (as_statements (nodes_for ds body name is))) others v)
+      its_level l name word is hit e roots w others v k =
+          subst (λ o. ComeLevel (finishing roots (full_node l name (map item_part is) o w)) (through root (map stated (as_statements (nodes_for ds body name is))) others v))
           (sym (ap (λ s. meant word s) k.one_sight ∙ ap (λ x. meant x sight) (sym ((bytes_eq-Decides proto word).0 hit)) ∙ its_word line proto ds body its_all free))
-          (instance_level l is (holds_plain (bytes_eq proto word) (list_all (λ (q : Quiet). q.anywhere) (map (quiet_item proto true) is)) (list_all (λ (q : Quiet). q.in_instance) (map (quiet_item proto true) is)) hit
-          (sym (texts.quiet-node proto true (node_text.Full l None word is) ∙ texts.quiet-full proto true l None word is) ∙ e)) roots w others v k)
+          (instance_level l name is (holds_plain (bytes_eq proto word) (list_all (λ (q : Quiet). q.anywhere) (map (quiet_item proto true) is)) (list_all (λ (q : Quiet). q.in_instance) (map (quiet_item proto true) is)) hit
+          (sym (texts.quiet-node proto true (node_text.Full l name word is) ∙ texts.quiet-full proto true l name word is) ∙ e)) roots w others v k)
 
       full_level : (l : ℕ) (name : Option Name) (word : Name) (is : List BodyItem) → OfStatement (statement_text.Node (node_text.Full l name word is))
-      unfolding OfStatement
       full_level l name word is may roots w others v k =
           subst (λ ss. ComeLevel (root (stated (statement_text.Node (node_text.Full l name word is))) roots w) (through root (map stated ss) others v)) (sym (out_is l name word is))
-          (on (bytes_eq proto word && is_none name) refl) where
-        on : (b : Bool) → (bytes_eq proto word && is_none name) ≡ b
-            → ComeLevel (root (stated (statement_text.Node (node_text.Full l name word is))) roots w) (through root (map stated (if b then as_statements (nodes_for ds body is) else stays (statement_text.Node (node_text.Full l name word is)) ∷ [])) others v)
-        on true e =
-            let both = both_true (bytes_eq proto word) (is_none name) e in
-            subst (λ (o : Outcome (List ℕ × Walk)). ComeLevel o (through root (map stated (as_statements (nodes_for ds body is))) others v)) (sym (root_full l name word is roots w))
-            (its_level l name word is both.0 both.1 (sym (ap (λ b. is_quiet_statement proto b (statement_text.Node (node_text.Full l name word is))) (is_instance_is l name word is ∙ e)) ∙ may) roots w others v k)
-        on false e = staying (statement_text.Node (node_text.Full l name word is)) (sym (ap (λ b. is_quiet_statement proto b (statement_text.Node (node_text.Full l name word is))) (is_instance_is l name word is ∙ e)) ∙ may) roots w others v k
+          (on (bytes_eq proto word) refl) where
+            on : (b : Bool) → (bytes_eq proto word) ≡ b
+                → ComeLevel (root (stated (statement_text.Node (node_text.Full l name word is))) roots w) (through root (map stated (if b then as_statements (nodes_for ds body name is) else stays (statement_text.Node (node_text.Full l name word is)) ∷ [])) others v)
+            on true e =
+                subst (λ (o : Outcome (List ℕ × Walk)). ComeLevel o (through root (map stated (as_statements (nodes_for ds body name is))) others v)) (sym (root_full l name word is roots w))
+                (its_level l name word is e (sym (ap (λ b. is_quiet_statement proto b (statement_text.Node (node_text.Full l name word is))) (is_instance_is l name word is ∙ e)) ∙ may) roots w others v k)
+            on false e = staying (statement_text.Node (node_text.Full l name word is)) (sym (ap (λ b. is_quiet_statement proto b (statement_text.Node (node_text.Full l name word is))) (is_instance_is l name word is ∙ e)) ∙ may) roots w others v k
 
       statement_level : (s : Statement) → OfStatement s
-      unfolding OfStatement
       statement_level = each_statement OfStatement full_level
           (λ l name may. never (sym (texts.quiet-node proto _ (node_text.Use l name) ∙ texts.quiet-use proto _ l name) ∙ may))
           (λ r may. never (sym (texts.quiet-route proto _ r) ∙ may)) (λ p may. never (sym (texts.quiet-proto proto _ p) ∙ may))
 
       all_level : (ss : List Statement) → list_all (may_be proto) ss ≡ true → (roots : List ℕ) (w : Walk) (others : List ℕ) (v : Walk) → Level roots w others v
           → ComeLevel (through root (map stated ss) roots w) (through root (map stated (flat_map (written_statements proto ds body) ss)) others v)
-      unfolding OfStatement
       all_level [] e roots w others v k = (fewer_same [], k)
       all_level (s ∷ ss) e roots w others v k =
           let both = both_true (may_be proto s) (list_all (may_be proto) ss) e in
@@ -328,10 +319,11 @@ ending line proto ds body d f o p h e = on o.met o.comes p.met p.comes h e where
     within : (a b : List FlatRoute) → a ≡ [] → b ≡ [] → (if nat_lt 65536 (length a) then Err (fault TooLarge 0) else Ok (record (flat_of d q) { routes = a })) ≡ Ok f
         → ((if nat_lt 65536 (length b) then Err (fault TooLarge 0) else Ok (record (flat_of d r) { routes = b })) ≡ Ok (record (flat_of d r) { routes = b })) × HelpersAsRoots f (record (flat_of d r) { routes = b })
     within a b e g k =
-        let same = ap (λ x. the_flat f x) (sym (ap (λ (rs : List FlatRoute). if nat_lt 65536 (length rs) then Err (fault TooLarge 0) else Ok (record (flat_of d q) { routes = rs })) e) ∙ k) in
-        (ap (λ (rs : List FlatRoute). if nat_lt 65536 (length rs) then Err (fault TooLarge 0) else Ok (record (flat_of d r) { routes = rs })) g ∙ ap (λ (rs : List FlatRoute). Ok (record (flat_of d r) { routes = rs })) (sym g),
-        subst (λ (x : Flat). HelpersAsRoots x (record (flat_of d r) { routes = b })) same
-        (record { header = refl; nodes = l.nodes; routes = g; roots = l.shuffled; helpers = l.two_helpers }))
+        let same = ap (λ x. the_flat f x) (sym (ap (λ (rs : List FlatRoute). if nat_lt 65536 (length rs) then Err (fault TooLarge 0) else Ok (record (flat_of d q) { routes = rs })) e) ∙ k) in (
+          ap (λ (rs : List FlatRoute). if nat_lt 65536 (length rs) then Err (fault TooLarge 0) else Ok (record (flat_of d r) { routes = rs })) g ∙ ap (λ (rs : List FlatRoute). Ok (record (flat_of d r) { routes = rs })) (sym g),
+          subst (λ (x : Flat). HelpersAsRoots x (record (flat_of d r) { routes = b })) same
+              (record { header = refl; nodes = l.nodes; routes = g; roots = l.shuffled; helpers = l.two_helpers }),
+        )
 
   on : (met : List Met) (c : Result (List ℕ × Walk) ExpandFault) (more : List Met) (g : Result (List ℕ × Walk) ExpandFault) → EndLevel line proto ds body met c more g
       → limited (follow met c (finish d)) ≡ Ok f → Stands d f (follow more g (finish d))

@@ -1,6 +1,6 @@
--- An instance is its prototype's body written in its place (ISO/IEC 19775-1, 4.4.4, prototypes): of a
--- prototype with an interface, whose body is one node, where instances stand anywhere in a text without
--- other prototypes, USE and ROUTE.
+-- An instance is its prototype's body written in its place (ISO/IEC 19775-1, 4.4.4, prototypes): of
+-- a prototype with an interface, whose body is one node, where instances stand anywhere in a text
+-- without other prototypes, USE and ROUTE.
 use Rattle.std.specs.Prelude.{◌≡◌, ℕ, Bool, true, false, ◌&&◌, if◌then◌else◌, List, [], ◌∷◌, map, Option, Some, None, Ok}
 use Rattle.std.specs.List.{filter_map, list_all}
 use Rattle.std.specs.Option.{option_map_or, option_or}
@@ -22,7 +22,7 @@ use Rattle.classic_tree.specs.declared.tree.Statement.TheVariants as statement
 use Rattle.proto_flat.specs.declared.flat.Flat.{Flat}
 use Rattle.proto_meaning.specs.Names.{Name}
 use Rattle.proto_meaning.specs.Flat.{flat}
-use Rattle.laws_meaning.specs.InPlace.{is_true, all_in}
+use Rattle.laws_meaning.specs.InPlace.{all_in}
 
 -- ---- texts without PROTO, USE and ROUTE
 
@@ -37,8 +37,8 @@ pub record Quiet : Type 0 where
   pub anywhere : Bool
   pub in_instance : Bool
 
--- braces behind the prototype's name are those of an instance, whose values hold no nodes, if one may
--- stand there
+-- braces behind the prototype's name are those of an instance, whose values hold no nodes, if one
+-- may stand there
 abbrev pub may_stand : Name → Bool → Name → List Quiet → Bool
 may_stand proto allowed word items =
     if bytes_eq proto word then allowed && list_all (λ (i : Quiet). i.in_instance) items
@@ -221,9 +221,9 @@ written_out d proto interface body rest =
       statements = map (written_statement finds_nothing (in_place proto interface body)) rest;
     }
 
--- a document that begins with the declaration, and in which nothing is wrong, stands for the same as
--- that in which the body is written in the place of each instance. No nodes stand in default values and
--- in what instances give
+-- a document that begins with the declaration, and in which nothing is wrong, stands for the same
+-- as that in which the body is written in the place of each instance. No nodes stand in default
+-- values and in what instances give
 abbrev pub InstancesWithFieldsAreTheirBodies : Type 0
 InstancesWithFieldsAreTheirBodies =
     (d : Document) (line : ℕ) (proto : Name) (interface : List (Declaration NodeText))

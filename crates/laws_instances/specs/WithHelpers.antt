@@ -1,7 +1,7 @@
--- An instance is its prototype's body written in its place (ISO/IEC 19775-1, 4.4.4, prototypes): of a
--- prototype whose body is several nodes, of which the first stands for the instance. The others, its
--- helpers, are written behind it: so such instances stand as statements.
-use Rattle.std.specs.Prelude.{◌≡◌, ◌⊎◌, ℕ, Bool, true, false, ◌&&◌, if◌then◌else◌, List, [], ◌∷◌, map, Option, is_none, Ok}
+-- An instance is its prototype's body written in its place (ISO/IEC 19775-1, 4.4.4, prototypes): of
+-- a prototype whose body is several nodes, of which the first stands for the instance. The others,
+-- its helpers, are written behind it: so such instances stand as statements.
+use Rattle.std.specs.Prelude.{◌≡◌, ◌⊎◌, ℕ, Bool, true, false, if◌then◌else◌, List, [], ◌∷◌, map, Option, Ok}
 use Rattle.std.specs.List.{flat_map, list_all}
 use Rattle.std.specs.Str.{bytes_eq}
 use Rattle.classic_tree.specs.declared.tree.BodyItem.{BodyItem}
@@ -15,21 +15,21 @@ use Rattle.classic_tree.specs.declared.tree.Statement.TheVariants as statement
 use Rattle.proto_flat.specs.declared.flat.Flat.{Flat}
 use Rattle.proto_meaning.specs.Names.{Name}
 use Rattle.proto_meaning.specs.Flat.{flat}
-use Rattle.laws_instances.specs.WithFields.{is_plain, is_quiet_node, is_quiet_statement, found, as_written, finds_nothing, written_node, written_statement}
+use Rattle.laws_instances.specs.WithFields.{is_plain, is_quiet_node, is_quiet_statement, found, as_written, named, finds_nothing, written_node, written_statement}
 
 -- ---- which documents
 
--- braces behind the prototype's name, and no DEF before them
-abbrev pub is_bare : Name → NodeText-F BodyItem NodeText Statement ProtoText → Bool
-is_bare proto (NodeText-F.Use line name) = false
-is_bare proto (NodeText-F.Full line name word items) = bytes_eq proto word && is_none name
+-- braces behind the prototype's name
+abbrev pub is_of : Name → NodeText-F BodyItem NodeText Statement ProtoText → Bool
+is_of proto (NodeText-F.Use line name) = false
+is_of proto (NodeText-F.Full line name word items) = bytes_eq proto word
 
--- a statement that is an instance without DEF
+-- a statement that is an instance
 abbrev pub is_instance : Name → Statement-F BodyItem NodeText Statement ProtoText → Bool
-is_instance proto (Statement-F.Node n) = is_bare proto (out-NodeText n)
+is_instance proto (Statement-F.Node n) = is_of proto (out-NodeText n)
 is_instance proto _ = false
 
--- instances stand as statements, without DEF, and nowhere else
+-- instances stand as statements, and nowhere else
 abbrev pub may_be : Name → Statement → Bool
 may_be proto s = is_quiet_statement proto (is_instance proto (out-Statement s)) s
 
@@ -38,17 +38,23 @@ may_be proto s = is_quiet_statement proto (is_instance proto (out-Statement s)) 
 abbrev pub as_statements : List NodeText → List Statement
 as_statements nodes = map (λ n. statement.Node n) nodes
 
--- all nodes of the body for an instance that holds these items
-abbrev pub nodes_for : List (Declaration NodeText) → List NodeText → List BodyItem → List NodeText
-nodes_for interface body items = map (written_node (found interface items) as_written) body
+-- the first node takes the instance's name, if it has one
+abbrev pub first_named : Option Name → List NodeText → List NodeText
+first_named name [] = []
+first_named name (n ∷ ns) = named name n ∷ ns
+
+-- all nodes of the body for an instance of that name that holds these items
+abbrev pub nodes_for : List (Declaration NodeText) → List NodeText → Option Name → List BodyItem
+    → List NodeText
+nodes_for interface body name items =
+    first_named name (map (written_node (found interface items) as_written) body)
 
 -- a statement that is an instance is all nodes of the body, another stays as it is written
 abbrev pub node_out : Name → List (Declaration NodeText) → List NodeText → Statement
     → NodeText-F BodyItem NodeText Statement ProtoText → List Statement
 node_out proto interface body s (NodeText-F.Use line name) = s ∷ []
 node_out proto interface body s (NodeText-F.Full line name word items) =
-    if bytes_eq proto word && is_none name
-    then as_statements (nodes_for interface body items) else s ∷ []
+    if bytes_eq proto word then as_statements (nodes_for interface body name items) else s ∷ []
 
 abbrev pub statement_out : Name → List (Declaration NodeText) → List NodeText → Statement
     → Statement-F BodyItem NodeText Statement ProtoText → List Statement
@@ -91,7 +97,8 @@ Shuffled xs ys (z ∷ zs) =
     ((rest : List ℕ) × (xs ≡ z ∷ rest) × Shuffled rest ys zs)
     ⊎ ((rest : List ℕ) × (ys ≡ z ∷ rest) × Shuffled xs rest zs)
 
--- the same nodes and routes; and what are helpers of the first are roots of the second, among its roots
+-- the same nodes and routes; and what are helpers of the first are roots of the second, among its
+-- roots
 pub record HelpersAsRoots (f g : Flat) : Type 0 where
   pub header : g.header ≡ f.header
   pub nodes : g.nodes ≡ f.nodes
@@ -99,9 +106,9 @@ pub record HelpersAsRoots (f g : Flat) : Type 0 where
   pub roots : Shuffled f.roots f.helpers g.roots
   pub helpers : g.helpers ≡ []
 
--- a document that begins with the declaration, and in which nothing is wrong, stands for the same as
--- that in which the body's nodes are written in the place of each instance, but that helpers are roots.
--- No nodes stand in default values and in what instances give
+-- a document that begins with the declaration, and in which nothing is wrong, stands for the same
+-- as that in which the body's nodes are written in the place of each instance, but that helpers are
+-- roots. No nodes stand in default values and in what instances give
 abbrev pub InstancesAreAllNodesOfTheirBodies : Type 0
 InstancesAreAllNodesOfTheirBodies =
     (d : Document) (line : ℕ) (proto : Name) (interface : List (Declaration NodeText))

@@ -1,11 +1,12 @@
-//! Instances and the bodies of their prototypes, each law the contract of a function that does nothing.
+//! Instances and the bodies of their prototypes: laws, each the contract of a function that does
+//! nothing.
 
 ghost use Rattle.laws_instances.specs.WithFields.{InstancesWithFieldsAreTheirBodies};
 ghost use Rattle.laws_instances.specs.WithHelpers.{InstancesAreAllNodesOfTheirBodies};
 
-/// An instance with fields is its prototype's body written in its place, each IS replaced by what the
-/// instance gives or by the default: of a prototype whose body is one node, where no nodes stand in
-/// these values.
+/// An instance with fields is its prototype's body written in its place, each IS replaced by what
+/// the instance gives or by the default: of a prototype whose body is one node, where no nodes
+/// stand in these values.
 pub fn instances_with_fields_are_their_bodies()
     ensures { InstancesWithFieldsAreTheirBodies }
 {}

@@ -3,4 +3,4 @@
 
 mod laws;
 
-pub use laws::{instances_with_fields_are_their_bodies, instances_are_all_nodes_of_their_bodies};
+pub use laws::{instances_are_all_nodes_of_their_bodies, instances_with_fields_are_their_bodies};
