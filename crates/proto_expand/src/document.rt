@@ -70,8 +70,10 @@ fn with_header(header: Header, content: Result<Content, ExpandFault>) -> Result<
 }
 
 /// The nodes of the document by number: prototypes' instances are their bodies, each with its own
-/// nodes (ISO/IEC 19775-1, 4.4.4). An error is the first fault of the text, with its line; it is
-/// `Memory` as well where memory is refused, and `TooLarge` where a limit is passed.
+/// nodes (ISO/IEC 19775-1, 4.4.4). An error is the first fault of the text, with its line; or
+/// `TooLarge`, without a line, where before it there are more than 65,536 nodes, fields of a node
+/// or routes, 8,388,608 instances or items of values, or 134,217,728 things put in; or `Memory`,
+/// where memory is refused.
 pub fn expand(alloc: Global, document: Document) -> Result<Flat, ExpandFault>
     ensures { Gives memory (λ f. f) result (flat document) }
 {
