@@ -8,7 +8,7 @@ use Rattle.scene_core.specs.declared.scene.Route.{Route}
 use Rattle.script_specs.specs.declared.runs.Run.{Run}
 use Rattle.script_host.specs.Hosting.{ScriptRecord}
 use Rattle.script_turn.specs.Acting.{kinds_of}
-use Rattle.script_due.specs.Settling.{all_differ}
+use Rattle.script_slots.specs.Settling.{all_differ}
 use Rattle.cascade_core.specs.Apply.{after_input, apply, begin, begun, happen}
 use Rattle.cascade_core.specs.Course.{Course, Plan, Scripted, course, ended, plan_at, plan_of}
 use Rattle.cascade_core.specs.Scripts.{kinds_in, running, states_of}

@@ -10,7 +10,7 @@ use Rattle.scene_core.specs.Shape.{Shape}
 use Rattle.script_specs.specs.declared.runs.Run.{Run}
 use Rattle.script_host.specs.Behaviour.{Initialize}
 use Rattle.script_host.specs.Hosting.{ScriptRecord, after_call}
-use Rattle.script_due.specs.Settling.{Settling, unsettled}
+use Rattle.script_slots.specs.Settling.{Settling, unsettled}
 use Rattle.script_turn.specs.Acting.{act, acting, kinds_of}
 use Rattle.script_turn.specs.Ports.{Wiring}
 use Rattle.script_turn.proofs.CallLemmas.{kinds_stand}

@@ -9,7 +9,7 @@ use Rattle.script_turn.specs.Acting.{act}
 use Rattle.cascade_core.specs.Stack.{one_unless}
 use Rattle.cascade_core.specs.Course.{Course, Plan, node_of, ports_of}
 use Rattle.cascade_core.specs.ScriptLaws.{SettlesAll}
-use Rattle.script_due.specs.Settling.{all_differ, is_among, is_due, lowest_due, with_settled}
+use Rattle.script_slots.specs.Settling.{all_differ, is_among, is_due, lowest_due, with_settled}
 use Rattle.cascade_core.specs.Settles.{next_due, settle_one, settle_up_to}
 use Rattle.cascade_core.proofs.Keeping.{replies-of}
 

@@ -4,7 +4,7 @@ use Rattle.x3d_values.specs.declared.script.Kind.{Kind}
 use Rattle.x3d_values.specs.Stamp.{Stamp}
 use Rattle.scene_core.specs.declared.scene.Route.{Route}
 use Rattle.scene_core.specs.Scene.{SceneView}
-use Rattle.script_due.specs.Settling.{all_differ}
+use Rattle.script_slots.specs.Settling.{all_differ}
 use Rattle.script_host.specs.Hosting.{ScriptRecord}
 use Rattle.script_turn.specs.Acting.{kinds_of}
 use Rattle.cascade_core.specs.Apply.{after_input, world}

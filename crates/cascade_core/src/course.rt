@@ -13,9 +13,9 @@ use cascade_world::Turn;
 use pick_core::BoxCache;
 use react_core::Outbox;
 use scene_core::End;
-use script_due::DueScripts;
 use script_host::Behaviour;
 use script_running::BegunScripts;
+use script_slots::DueScripts;
 use std::alloc::{AllocError, Global};
 use x3d_values::Value;
 

@@ -22,9 +22,9 @@ use cascade_rules::Task;
 use cascade_world::Turn;
 use pick_core::BoxCache;
 use react_core::Outbox;
-use script_due::DueScripts;
 use script_host::{Behaviour, Scripts};
 use script_running::BegunScripts;
+use script_slots::DueScripts;
 use std::alloc::{AllocError, Global};
 use std::marker::Model;
 

@@ -16,7 +16,7 @@ use Rattle.scene_core.specs.Scene.{SceneView, shapes_of, types_of}
 use Rattle.script_host.specs.Behaviour.{Call, Initialize, Settle}
 use Rattle.script_host.specs.Hosting.{ScriptRecord}
 use Rattle.script_turn.specs.Acting.{Acted, act}
-use Rattle.script_due.specs.Settling.{with_settled}
+use Rattle.script_slots.specs.Settling.{with_settled}
 use Rattle.laws_worlds.specs.Calls.{call_fits}
 use Rattle.cascade_world.specs.Answers.{Answer, answer, met, pointer_at, ticked, with_answer}
 use Rattle.cascade_core.specs.Apply.{Sending, Started, after_input, begin, begun, happen, opening, opening_course, point, point_node, sent_by_all, start_one, started, tick_node, untold, with_button}

@@ -3,8 +3,8 @@
 ghost use Rattle.std.specs.Prelude.{◌≡◌};
 
 use react_core::Outbox;
-use script_due::DueScripts;
 use script_host::{Behaviour, ReplaceFault, Scripts, StateFault};
+use script_slots::DueScripts;
 use script_turn::Ports;
 use std::alloc::AllocError;
 use std::marker::Model;
@@ -30,7 +30,7 @@ impl<B: Behaviour> Model for BegunScripts<B> {
 
 impl<B: Behaviour> BegunScripts<B> {
     ghost use Rattle.std.specs.Prelude.{◌≡◌, ◌++◌, ◌<◌, [], IfErr, IsSomeAnd, OnErr, OnOk, is_some, length, map, slice_get, true};
-    ghost use Rattle.script_due.specs.Settling.{unsettled};
+    ghost use Rattle.script_slots.specs.Settling.{unsettled};
     ghost use Rattle.script_host.specs.Attaching.{RefusesPlace};
     ghost use Rattle.script_host.specs.Behaviour.{Settle};
     ghost use Rattle.script_host.specs.Restoring.{AreStates, RefusesStates};

@@ -5,3 +5,5 @@ pub mod Faults
 pub mod Hosting
 pub mod Interface
 pub mod States
+pub mod Settling
+pub mod Table

@@ -1,6 +1,6 @@
 use Rattle.std.proofs.Common.{◌∙◌, ap, refl}
 use Rattle.std.specs.List.{list_all}
-use Rattle.script_due.specs.Settling.{Settling}
+use Rattle.script_slots.specs.Settling.{Settling}
 use Rattle.scene_core.specs.Scene.{shapes_of}
 use Rattle.script_turn.specs.Acting.{kinds_of}
 use Rattle.cascade_core.specs.Course.{plan_at}

@@ -1,5 +1,5 @@
 use Rattle.std.proofs.Common.{ap}
-use Rattle.script_due.specs.Settling.{Settling}
+use Rattle.script_slots.specs.Settling.{Settling}
 use Rattle.script_host.specs.Behaviour.{Settle}
 use Rattle.cascade_core.specs.Course.{plan_at, seen}
 use Rattle.cascade_core.specs.Settles.{settle_one}

@@ -9,8 +9,8 @@ use Rattle.std.proofs.lemmas.Bool.Decides.{nat_tests}
 use Rattle.std.proofs.lemmas.Bool.{cases_eq}
 use Rattle.std.proofs.lemmas.List.{drop_more, drop_all, get_or-set_other}
 use Rattle.std.proofs.lemmas.List.Folds.{list_any-append}
-use Rattle.script_due.specs.Settling.{Settling, is_among, is_due, lowest_due}
-use Rattle.script_due.specs.Table.{AreFlags, IsTable}
+use Rattle.script_slots.specs.Settling.{Settling, is_among, is_due, lowest_due}
+use Rattle.script_slots.specs.Table.{AreFlags, IsTable}
 
 -- ---- numbers among others
 

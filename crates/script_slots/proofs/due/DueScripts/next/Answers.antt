@@ -1,7 +1,7 @@
 use Rattle.std.proofs.Common.{◌∙◌, ap, refl}
-use Rattle.script_due.specs.Settling.{lowest_due}
-use Rattle.script_due.proofs.Tables.{first_due}
-use Rattle.script_due.proofs.due.DueScripts.next.Goals as goal
+use Rattle.script_slots.specs.Settling.{lowest_due}
+use Rattle.script_slots.proofs.Tables.{first_due}
+use Rattle.script_slots.proofs.due.DueScripts.next.Goals as goal
 
 pub returns : goal.returns
 returns c =

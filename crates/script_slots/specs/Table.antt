@@ -3,7 +3,7 @@
 use Rattle.std.specs.Prelude.{ℕ, Bool, true, false, ◌≡◌, List, slice_index_or}
 use Rattle.std.specs.BTreeSet.{BTreeSet, contains}
 use Rattle.std.specs.Ordering.{nat_cmp}
-use Rattle.script_due.specs.Settling.{Settling, is_among, is_due}
+use Rattle.script_slots.specs.Settling.{Settling, is_among, is_due}
 
 -- the flag of a script is set where it is among these
 abbrev pub AreFlags : List Bool → List ℕ → Type 0

@@ -1,6 +1,6 @@
 use Rattle.std.proofs.Common.{◌≡◌, ◌∙◌, false, true, get_or, arith}
-use Rattle.script_due.proofs.Tables.{among-at, flag-within, unmark-one}
-use Rattle.script_due.proofs.due.unmark.Goals as goal
+use Rattle.script_slots.proofs.Tables.{among-at, flag-within, unmark-one}
+use Rattle.script_slots.proofs.due.unmark.Goals as goal
 
 pub bounds-flags-script : goal.bounds-flags-script
 bounds-flags-script c =

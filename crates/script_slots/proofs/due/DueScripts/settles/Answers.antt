@@ -1,5 +1,5 @@
 use Rattle.std.proofs.Common.{rules}
-use Rattle.script_due.proofs.due.DueScripts.settles.Goals as goal
+use Rattle.script_slots.proofs.due.DueScripts.settles.Goals as goal
 
 pub returns : goal.returns
 returns c = search rules

@@ -1,7 +1,7 @@
 //! The scripts that have received in a timestamp, and those of them that are still to settle.
 
 ghost use Rattle.std.specs.Prelude.{◌≡◌, ◌≤◌, [], length};
-ghost use Rattle.script_due.specs.Table.{AreFlags};
+ghost use Rattle.script_slots.specs.Table.{AreFlags};
 
 use std::alloc::{AllocError, Global};
 use std::collections::BTreeSet;
@@ -24,8 +24,8 @@ pub struct DueScripts {
 
 impl Model for DueScripts {
     ghost use Rattle.std.specs.Prelude.{length};
-    ghost use Rattle.script_due.specs.Settling.{Settling};
-    ghost use Rattle.script_due.specs.Table.{IsTable};
+    ghost use Rattle.script_slots.specs.Settling.{Settling};
+    ghost use Rattle.script_slots.specs.Table.{IsTable};
 
     ghost Value = { Settling };
 
@@ -47,7 +47,7 @@ impl Model for DueScripts {
 
 impl DueScripts {
     ghost use Rattle.std.specs.Prelude.{◌≡◌, ◌<◌, IfOk, OnOk, OnErr, true, length};
-    ghost use Rattle.script_due.specs.Settling.{is_due, lowest_due, unsettled, with_received, with_settled};
+    ghost use Rattle.script_slots.specs.Settling.{is_due, lowest_due, unsettled, with_received, with_settled};
 
     /// Of so many scripts none has received.
     pub fn new(alloc: Global, count: usize) -> Result<DueScripts, AllocError>
