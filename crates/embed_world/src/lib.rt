@@ -16,7 +16,6 @@ mod world;
 pub use fault::LookFault;
 pub use input::{pointer_of, ray_of, stamped};
 pub use lists::{Entry, write_children, write_numbers, write_roots, write_sensors};
-pub use scripts::stock_box;
 pub use shots::write_snapshot;
 pub use texts::{
     write_changes, write_field, write_label, write_scene, write_trace, write_type, write_value,

@@ -1,30 +1,9 @@
 //! Scripts that take the place of others.
 
-ghost use Rattle.std.specs.Prelude.{◌≡◌, IfOk};
-ghost use Rattle.script_boxes.specs.Boxes.{stock_kind};
-
 use crate::world::EmbeddedWorld;
 use cascade_answers::PlaceFault;
-use script_boxes::StockScript;
-use script_stock::{Adder, Batch, Counter, Gate, Meter, Mover};
-use std::alloc::{AllocError, Global};
-use x3d_values::{Kind, Vec3};
-
-const ORIGIN: Vec3 = Vec3 { x: 0, y: 0, z: 0 };
-
-/// A script of the stock of this kind, in some state.
-pub fn stock_box(alloc: Global, kind: Kind) -> Result<StockScript, AllocError>
-    ensures { IfOk result (λ script. stock_kind script ≡ kind) }
-{
-    match kind {
-        Kind::Counter => Ok(StockScript::Counter(Counter::new(0, 0))),
-        Kind::Gate => Ok(StockScript::Gate(Gate::new(false))),
-        Kind::Adder => Ok(StockScript::Adder(Adder::new())),
-        Kind::Batch => Ok(StockScript::Batch(Batch::new())),
-        Kind::Mover => Ok(StockScript::Mover(Mover::new(ORIGIN, ORIGIN))),
-        Kind::Meter => Ok(StockScript::Meter(Meter::new(alloc)?)),
-    }
-}
+use script_boxes::blank_box;
+use x3d_values::Kind;
 
 impl EmbeddedWorld {
     ghost use Rattle.std.specs.Prelude.{◌≡◌, length};
@@ -49,7 +28,7 @@ impl EmbeddedWorld {
         if self.stage.spoiled() {
             return Err(PlaceFault::Spoiled);
         }
-        let Ok(script) = stock_box(self.stage.allocator(), kind) else {
+        let Ok(script) = blank_box(self.stage.allocator(), kind) else {
             return Err(PlaceFault::Memory);
         };
         self.stage.replace_script(k, script)

@@ -8,16 +8,21 @@ ghost use Rattle.script_boxes.specs.Boxes.{made, made_for, made_of, stock_for, s
 ghost use Rattle.script_boxes.specs.Refused.{scripts_fault};
 ghost use Rattle.script_boxes.specs.declared.stock.StockScript.{StockScript as Stocked};
 
+use crate::adder::Adder;
+use crate::batch::Batch;
+use crate::counter::Counter;
+use crate::gate::Gate;
+use crate::meter::Meter;
+use crate::mover::Mover;
 use crate::stock::StockScript;
 use script_host::{AttachFault, Behaviour, Scripts, StateFault};
-use script_stock::{Adder, Batch, Counter, Gate, Meter, Mover};
 use std::alloc::{AllocError, Global};
 use x3d_values::{Kind, ScriptSpec, Vec3};
 
 const ORIGIN: Vec3 = Vec3 { x: 0, y: 0, z: 0 };
 
 /// A script of the kind that isn't told its start.
-fn blank(alloc: Global, kind: Kind) -> Result<StockScript, AllocError>
+pub fn blank_box(alloc: Global, kind: Kind) -> Result<StockScript, AllocError>
     ensures kind { IfOk result (λ script. stock_kind script ≡ kind) }
     ensures zeros { IfOk result (λ script. stock_state script ≡ zeros kind) }
 {
@@ -35,7 +40,7 @@ fn blank(alloc: Global, kind: Kind) -> Result<StockScript, AllocError>
 fn started(alloc: Global, kind: Kind, start: &[i64]) -> Result<StockScript, AllocError>
     ensures { IfOk result (λ script. made_of script ≡ made kind start.now) }
 {
-    let mut script = blank(alloc, kind)?;
+    let mut script = blank_box(alloc, kind)?;
     match script.restore(start) {
         Ok(()) => Ok(script),
         Err(StateFault::StateLength) => Ok(script),

@@ -1,7 +1,12 @@
 //! A script of the stock, whichever its kind is.
 
+use crate::adder::Adder;
+use crate::batch::Batch;
+use crate::counter::Counter;
+use crate::gate::Gate;
+use crate::meter::Meter;
+use crate::mover::Mover;
 use script_host::{Behaviour, Replies, StateFault};
-use script_stock::{Adder, Batch, Counter, Gate, Meter, Mover};
 use std::alloc::AllocError;
 use x3d_values::Kind;
 

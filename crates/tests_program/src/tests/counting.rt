@@ -7,9 +7,8 @@ ghost use Rattle.cascade_core.specs.Held.{Running};
 ghost use Rattle.share_rehearsal.specs.Rehearsed.{AreFresh};
 
 use cascade_core::{LoadFault, Stage};
-use script_boxes::StockScript;
+use script_boxes::{Counter, StockScript};
 use script_host::{Behaviour, Replies, StateFault};
-use script_stock::Counter;
 use share_core::Viewer;
 use share_law::{Step, Taken};
 use share_program::{Job, Opened, attach, open_job, open_scene, run};

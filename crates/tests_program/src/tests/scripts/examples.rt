@@ -3,8 +3,8 @@
 use super::attaching::counter_specs;
 use super::holds;
 use super::hosting::sends;
+use script_boxes::{Counter, Gate};
 use script_host::{Behaviour, ReplaceFault, Scripts};
-use script_stock::{Counter, Gate};
 use std::alloc::Global;
 use std::process::Abort;
 

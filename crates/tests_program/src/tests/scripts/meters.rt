@@ -1,8 +1,8 @@
 //! Where a meter takes memory, and where not.
 
 use super::holds;
+use script_boxes::Meter;
 use script_host::Behaviour;
-use script_stock::Meter;
 use std::alloc::Global;
 use std::process::Abort;
 use tests_memory::UsedUp;

@@ -1,8 +1,7 @@
 //! A box that counts and tells what is done with it.
 
-use script_boxes::StockScript;
+use script_boxes::{Batch, Counter, Gate, StockScript};
 use script_host::{Behaviour, Replies, StateFault};
-use script_stock::{Batch, Counter, Gate};
 use std::alloc::{AllocError, Global};
 use std::cell::Cell;
 use x3d_values::Kind;

@@ -3,8 +3,7 @@
 
 use super::given::{CLOCKED, COUNTED, POINT, Trial, go_back, take_clock, try_on};
 use cascade_core::{PlaceFault, TextFault};
-use script_boxes::StockScript;
-use script_stock::Counter;
+use script_boxes::{Counter, StockScript};
 use share_core::Viewer;
 use share_law::{OfferFault, SaveFault, SnapFault, TakeFault, Taken};
 use std::alloc::Global;

@@ -1,7 +1,7 @@
 use Rattle.std.proofs.Common.{◌∷◌, ◌∙◌, [], ℤ, ap₂, get_or, pos, rules, arith}
-use Rattle.script_stock.proofs.Narrow.{held}
-use Rattle.script_stock.proofs.NumberLists.{two}
-use Rattle.script_stock.proofs.counter.Counter.from_state.Goals as goal
+use Rattle.script_boxes.proofs.Narrow.{held}
+use Rattle.script_boxes.proofs.NumberLists.{two}
+use Rattle.script_boxes.proofs.counter.Counter.from_state.Goals as goal
 
 pub returns-clause-ok : goal.returns-clause-ok
 returns-clause-ok c =

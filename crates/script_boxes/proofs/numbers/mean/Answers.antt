@@ -1,8 +1,8 @@
 use Rattle.std.proofs.Common.{arith}
 use Rattle.std.proofs.lemmas.Int.{ints, to_z-of_z}
 use Rattle.std.proofs.lemmas.List.Sums.{fold_more}
-use Rattle.script_stock.proofs.ReadingLemmas.{reading_small}
-use Rattle.script_stock.proofs.numbers.mean.Goals as goal
+use Rattle.script_boxes.proofs.ReadingLemmas.{reading_small}
+use Rattle.script_boxes.proofs.numbers.mean.Goals as goal
 
 pub loop-reading-preserved : goal.loop-reading-preserved
 loop-reading-preserved c =

@@ -3,8 +3,8 @@ use Rattle.std.proofs.lemmas.Int.{to_z-of_z}
 use Rattle.script_host.specs.Behaviour.{clamped, part_way}
 use mir.Syntax.{w64, w128}
 use mir.Val.{SFits}
-use Rattle.script_stock.proofs.WayLemmas.{wide, difference_fits, product_fits, sum_fits, quotient_small}
-use Rattle.script_stock.proofs.numbers.part_way.Goals as goal
+use Rattle.script_boxes.proofs.WayLemmas.{wide, difference_fits, product_fits, sum_fits, quotient_small}
+use Rattle.script_boxes.proofs.numbers.part_way.Goals as goal
 
 pub overflow_mul-product : goal.overflow_mul-product
 overflow_mul-product c =

@@ -2,8 +2,8 @@ use Rattle.std.proofs.Common.{rules, pos, arith, slice_index_or}
 use Rattle.std.proofs.lemmas.Int.{to_z-of_z}
 use mir.Syntax.{w64}
 use mir.Val.{SFits}
-use Rattle.script_stock.proofs.NumberLists.{six}
-use Rattle.script_stock.proofs.mover.Mover.from_state.Goals as goal
+use Rattle.script_boxes.proofs.NumberLists.{six}
+use Rattle.script_boxes.proofs.mover.Mover.from_state.Goals as goal
 
 pub returns-clause-ok : goal.returns-clause-ok
 returns-clause-ok c =

@@ -1,4 +1,0 @@
-pub mod ReadingLemmas
-pub mod Narrow
-pub mod NumberLists
-pub mod WayLemmas
