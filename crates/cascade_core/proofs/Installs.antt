@@ -18,7 +18,7 @@ use Rattle.scene_core.specs.Scene.{SceneView}
 use Rattle.cascade_world.specs.declared.world.WorldData.{WorldData}
 use Rattle.cascade_core.specs.Held.{Held, Running, Spoiled, StageView, applied_of, held_of, holding, spoiled}
 use Rattle.cascade_core.specs.Installing.{RefusesBox, RefusesInstall}
-use Rattle.cascade_answers.specs.Placing.{place_fault_of}
+use Rattle.cascade_core.specs.Placing.{place_fault_of}
 use Rattle.cascade_core.specs.Scripts.{kinds_in, running, scripts_in, states_of}
 use Rattle.script_running.proofs.Initialized.{running_states}
 use Rattle.cascade_core.proofs.SoundLemmas.{cast_stands}

@@ -2,8 +2,8 @@
 use Rattle.std.proofs.Common.{◌≡◌, false, refl, Some, None, inl, inr}
 use Rattle.x3d_values.specs.declared.script.Kind.{Kind}
 use Rattle.script_host.specs.Hosting.{ScriptRecord}
-use Rattle.cascade_answers.specs.declared.fault.PlaceFault.{PlaceFault}
-use Rattle.cascade_answers.specs.declared.fault.PlaceFault.TheVariants as fault
+use Rattle.cascade_core.specs.declared.fault.PlaceFault.{PlaceFault}
+use Rattle.cascade_core.specs.declared.fault.PlaceFault.TheVariants as fault
 use Rattle.cascade_core.specs.Held.{Held, is_spoiled}
 use Rattle.cascade_core.specs.Installing.{RefusesBox}
 use Rattle.cascade_core.specs.ScriptLaws.{PlacesOne}

@@ -6,8 +6,8 @@ use Rattle.scene_core.specs.Scene.{SceneView}
 use Rattle.cascade_core.specs.Apply.{opening, world}
 use Rattle.cascade_core.specs.Held.{Running, StageView, after_all, refusal_in}
 use Rattle.cascade_core.specs.InTurn.{AreInTurn, Follow}
-use Rattle.cascade_answers.specs.declared.fault.ApplyFault.{ApplyFault}
-use Rattle.cascade_answers.specs.declared.fault.ApplyFault.TheVariants.{Memory}
+use Rattle.cascade_core.specs.declared.fault.ApplyFault.{ApplyFault}
+use Rattle.cascade_core.specs.declared.fault.ApplyFault.TheVariants.{Memory}
 use Rattle.cascade_core.proofs.Runs.{after_all_running}
 use Rattle.cascade_core.proofs.Turns.{follows_taken, opening-at}
 

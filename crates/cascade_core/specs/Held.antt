@@ -7,8 +7,8 @@ use Rattle.scene_core.specs.declared.scene.Route.{Route}
 use Rattle.scene_core.specs.Scene.{SceneView}
 use Rattle.cascade_core.specs.Course.{Scripted}
 use Rattle.cascade_core.specs.Apply.{apply, course_after}
-use Rattle.cascade_answers.specs.declared.fault.ApplyFault.{ApplyFault}
-use Rattle.cascade_answers.specs.declared.fault.ApplyFault.TheVariants as fault
+use Rattle.cascade_core.specs.declared.fault.ApplyFault.{ApplyFault}
+use Rattle.cascade_core.specs.declared.fault.ApplyFault.TheVariants as fault
 use Rattle.cascade_trace.specs.declared.trace.TraceLine.{TraceLine}
 use Rattle.cascade_world.specs.declared.world.WorldData.{WorldData}
 

@@ -10,8 +10,8 @@ use Rattle.script_slots.specs.declared.fault.StateFault.{StateFault}
 use Rattle.script_slots.specs.declared.fault.StateFault.TheVariants.{StateLength, StateRange, Memory}
 use Rattle.cascade_core.specs.Scripts.{scripts_in}
 use Rattle.cascade_core.specs.Held.{Held, StageView, is_spoiled, spoiled}
-use Rattle.cascade_answers.specs.declared.fault.PlaceFault.{PlaceFault}
-use Rattle.cascade_answers.specs.declared.fault.PlaceFault.TheVariants as fault
+use Rattle.cascade_core.specs.declared.fault.PlaceFault.{PlaceFault}
+use Rattle.cascade_core.specs.declared.fault.PlaceFault.TheVariants as fault
 
 -- there is a state for each script of the scene
 abbrev pub StatesFit : SceneView → List (List ℤ) → Type 0

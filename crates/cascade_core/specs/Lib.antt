@@ -13,3 +13,5 @@ pub mod Settles
 pub mod ScriptLaws
 pub mod Installing
 pub mod Sound
+pub mod FaultNames
+pub mod Placing

@@ -13,8 +13,8 @@ use Rattle.cascade_core.specs.Held.{Held, is_spoiled}
 use Rattle.cascade_core.specs.Installing.{RefusesBox}
 use Rattle.cascade_core.specs.Scripts.{kinds_in}
 use Rattle.cascade_core.specs.Settles.{next_due, settle}
-use Rattle.cascade_answers.specs.declared.fault.PlaceFault.{PlaceFault}
-use Rattle.cascade_answers.specs.declared.fault.PlaceFault.TheVariants.{Memory}
+use Rattle.cascade_core.specs.declared.fault.PlaceFault.{PlaceFault}
+use Rattle.cascade_core.specs.declared.fault.PlaceFault.TheVariants.{Memory}
 
 -- no input changes the kind of a script, or how many there are
 abbrev pub KindsStand : Type 0

@@ -4,7 +4,7 @@ use Rattle.scene_core.specs.declared.scene.End.{End}
 use Rattle.scene_core.specs.declared.scene.Route.{Route}
 use Rattle.cascade_trace.specs.Ends.{all_differ, has_sent}
 use Rattle.script_slots.specs.Settling.{all_differ as scripts_differ}
-use Rattle.cascade_answers.specs.declared.work.Work.{Work}
+use Rattle.cascade_core.specs.declared.work.Work.{Work}
 use Rattle.cascade_trace.specs.declared.trace.TraceLine.{TraceLine}
 
 -- the outputs that sent

@@ -17,7 +17,7 @@ use crate::course::Course;
 use crate::fixed::Fixed;
 use crate::pointer::point;
 use crate::settle::settle;
-use cascade_answers::Work;
+use crate::work::Work;
 use cascade_trace::deliveries;
 use script_host::Behaviour;
 use std::alloc::AllocError;

@@ -5,6 +5,7 @@
 mod bench;
 mod clock;
 mod course;
+mod fault;
 mod fixed;
 mod input;
 mod laws;
@@ -16,10 +17,12 @@ mod series;
 mod settle;
 mod stack;
 mod stage;
+mod work;
 
-pub use cascade_answers::{ApplyFault, LoadFault, PlaceFault, StatesFault, TextFault, Work};
 pub use cascade_trace::{LineHead, Trace, TraceLine, WritesLines};
 pub use cascade_world::{State, Watched, WorldData};
+pub use fault::{ApplyFault, LoadFault, PlaceFault, StatesFault, TextFault};
 pub use laws::{kinds_law, places_law, settling_law, states_law};
 pub use series::run;
 pub use stage::Stage;
+pub use work::Work;

@@ -8,8 +8,8 @@ ghost use Rattle.cascade_core.specs.InTurn.{AreInTurn};
 ghost use Rattle.script_specs.specs.Scripts.{script_list};
 ghost use Rattle.script_host.specs.Attaching.{Fits};
 
+use crate::fault::ApplyFault;
 use crate::stage::Stage;
-use cascade_answers::ApplyFault;
 use route_core::Routes;
 use scene_core::Scene;
 use script_host::{Behaviour, Scripts};

@@ -2,11 +2,12 @@
 
 use crate::bench::Bench;
 use crate::course::Course;
+use crate::fault::{ApplyFault, LoadFault, PlaceFault, StatesFault, TextFault};
 use crate::fixed::Fixed;
 use crate::input::advance;
 use crate::opening::open;
 use crate::parts::{Parts, fixed_of, parts_of};
-use cascade_answers::{ApplyFault, LoadFault, PlaceFault, StatesFault, TextFault, Work};
+use crate::work::Work;
 use cascade_rules::put_boxes;
 use cascade_trace::push_trace;
 use cascade_world::WorldData;

@@ -4,10 +4,10 @@ use Rattle.snapshot_core.specs.declared.fault.SaveFault.{SaveFault}
 use Rattle.snapshot_core.specs.declared.fault.SaveFault.TheVariants as save
 use Rattle.snapshot_core.specs.declared.fault.SnapFault.{SnapFault}
 use Rattle.snapshot_core.specs.declared.fault.SnapFault.TheVariants as snap
-use Rattle.cascade_answers.specs.declared.fault.ApplyFault.{ApplyFault}
-use Rattle.cascade_answers.specs.declared.fault.ApplyFault.TheVariants as apply
-use Rattle.cascade_answers.specs.declared.fault.PlaceFault.{PlaceFault}
-use Rattle.cascade_answers.specs.declared.fault.PlaceFault.TheVariants as place
+use Rattle.cascade_core.specs.declared.fault.ApplyFault.{ApplyFault}
+use Rattle.cascade_core.specs.declared.fault.ApplyFault.TheVariants as apply
+use Rattle.cascade_core.specs.declared.fault.PlaceFault.{PlaceFault}
+use Rattle.cascade_core.specs.declared.fault.PlaceFault.TheVariants as place
 use Rattle.embed_world.specs.declared.fault.LookFault.{LookFault}
 use Rattle.embed_world.specs.declared.fault.LookFault.TheVariants as look
 

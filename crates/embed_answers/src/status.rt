@@ -3,7 +3,7 @@
 ghost use Rattle.std.specs.Prelude.{◌≡◌};
 ghost use Rattle.embed_answers.specs.Status.{status_of_apply, status_of_look, status_of_place, status_of_save, status_of_snap};
 
-use cascade_answers::{ApplyFault, PlaceFault};
+use cascade_core::{ApplyFault, PlaceFault};
 use embed_world::LookFault;
 use snapshot_core::{SaveFault, SnapFault};
 

@@ -6,8 +6,8 @@ use Rattle.share_program.specs.Refusal.{refusal_text, status}
 use Rattle.share_program.specs.declared.refusal.Failure.TheVariants.{Job}
 use Rattle.snapshot_core.specs.declared.fault.SnapFault.{SnapFault}
 use Rattle.snapshot_core.specs.declared.loading.Saved.{Saved}
-use Rattle.cascade_answers.specs.declared.fault.ApplyFault.{ApplyFault}
-use Rattle.cascade_answers.specs.declared.work.Work.{Work}
+use Rattle.cascade_core.specs.declared.fault.ApplyFault.{ApplyFault}
+use Rattle.cascade_core.specs.declared.work.Work.{Work}
 use Rattle.x3d_values.specs.Stamp.{Stamp}
 use Rattle.x3d_values.specs.Pointing.{Sight}
 use Rattle.x3d_values.specs.declared.script.Kind.{Kind}

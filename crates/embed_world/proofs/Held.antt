@@ -3,8 +3,8 @@ use Rattle.std.proofs.Common.{◌≡◌, ◌++◌, ℕ, List, [], Ok, Err, refl,
 use Rattle.std.specs.Prelude.{Result}
 use Rattle.cascade_core.specs.Course.{Scripted}
 use Rattle.cascade_core.specs.Held.{Held, IfRunning, IfSpoiled, Running, Spoiled}
-use Rattle.cascade_answers.specs.declared.fault.TextFault.{TextFault}
-use Rattle.cascade_answers.specs.declared.fault.TextFault.TheVariants as text_fault
+use Rattle.cascade_core.specs.declared.fault.TextFault.{TextFault}
+use Rattle.cascade_core.specs.declared.fault.TextFault.TheVariants as text_fault
 use Rattle.scene_core.specs.Scene.{SceneView}
 use Rattle.snapshot_core.specs.Shot.{shot}
 use Rattle.snapshot_core.specs.declared.fault.SaveFault.{SaveFault}

@@ -13,11 +13,11 @@ use Rattle.snapshot_core.specs.declared.fault.SnapFault.TheVariants as snap
 use Rattle.snapshot_core.specs.declared.loading.Saved.{Saved}
 use Rattle.share_jobs.specs.declared.fault.JobFault.{JobFault}
 use Rattle.share_jobs.specs.declared.fault.JobFault.TheVariants.{Memory}
-use Rattle.cascade_answers.specs.declared.fault.ApplyFault.{ApplyFault}
-use Rattle.cascade_answers.specs.declared.fault.ApplyFault.TheVariants as apply
-use Rattle.cascade_answers.specs.declared.fault.PlaceFault.{PlaceFault}
-use Rattle.cascade_answers.specs.declared.fault.PlaceFault.TheVariants as place
-use Rattle.cascade_answers.specs.declared.work.Work.{Work}
+use Rattle.cascade_core.specs.declared.fault.ApplyFault.{ApplyFault}
+use Rattle.cascade_core.specs.declared.fault.ApplyFault.TheVariants as apply
+use Rattle.cascade_core.specs.declared.fault.PlaceFault.{PlaceFault}
+use Rattle.cascade_core.specs.declared.fault.PlaceFault.TheVariants as place
+use Rattle.cascade_core.specs.declared.work.Work.{Work}
 use Rattle.x3d_lists.specs.Answers.{Gives}
 use Rattle.x3d_values.specs.Stamp.{Stamp}
 use Rattle.x3d_values.specs.declared.script.Kind.{Kind}

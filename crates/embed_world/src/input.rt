@@ -4,7 +4,7 @@ ghost use Rattle.std.specs.Prelude.{◌≡◌};
 ghost use Rattle.embed_world.specs.Pointing as spec;
 
 use crate::world::EmbeddedWorld;
-use cascade_answers::{ApplyFault, Work};
+use cascade_core::{ApplyFault, Work};
 use x3d_values::{Event, Pointer, Ray, Stamped, Vec3, is_input_number, is_input_time, is_viewer};
 
 /// The ray with this origin and this direction: coordinates of a size up to 10^15 millionths, and a

@@ -1,7 +1,7 @@
 //! Scripts that take the place of others.
 
 use crate::world::EmbeddedWorld;
-use cascade_answers::PlaceFault;
+use cascade_core::PlaceFault;
 use script_boxes::blank_box;
 use x3d_values::Kind;
 

@@ -7,8 +7,7 @@ ghost use Rattle.embed_world.specs.declared.fault.LookFault.TheVariants.{Memory}
 
 use crate::fault::LookFault;
 use crate::world::EmbeddedWorld;
-use cascade_answers::TextFault;
-use cascade_core::Stage;
+use cascade_core::{Stage, TextFault};
 use embed_reading::{push_changes, push_lines, value_now};
 use scene_core::{End, Scene};
 use script_boxes::StockScript;

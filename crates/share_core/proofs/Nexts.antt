@@ -7,9 +7,9 @@ use Rattle.x3d_values.specs.Stamp.{Stamp}
 use Rattle.scene_core.specs.declared.scene.Route.{Route}
 use Rattle.scene_core.specs.Scene.{SceneView}
 use Rattle.cascade_core.specs.Apply.{untold}
-use Rattle.cascade_answers.specs.declared.fault.ApplyFault.{ApplyFault}
-use Rattle.cascade_answers.specs.declared.fault.ApplyFault.TheVariants as apply_fault
-use Rattle.cascade_answers.specs.declared.work.Work.{Work}
+use Rattle.cascade_core.specs.declared.fault.ApplyFault.{ApplyFault}
+use Rattle.cascade_core.specs.declared.fault.ApplyFault.TheVariants as apply_fault
+use Rattle.cascade_core.specs.declared.work.Work.{Work}
 use Rattle.cascade_core.specs.Course.{Scripted}
 use Rattle.cascade_core.specs.Held.{Held, StageView, Running, Spoiled, after, after_held, applied_of, is_spoiled, refusal_of}
 use Rattle.cascade_core.proofs.Turns.{apply-at}

@@ -3,7 +3,7 @@
 ghost use Rattle.std.specs.Prelude.{◌≡◌, ◌++◌, Err, OnOk, IfErr, MatchResult};
 ghost use Rattle.std.specs.Io.KnownBytes.{Appends, Keeps};
 ghost use Rattle.cascade_core.specs.Held.{IfRunning, IfSpoiled};
-ghost use Rattle.cascade_answers.specs.declared.fault.TextFault.TheVariants as TextFault;
+ghost use Rattle.cascade_core.specs.declared.fault.TextFault.TheVariants as TextFault;
 ghost use Rattle.share_jobs.specs.declared.fault.JobFault.TheVariants.{Device};
 ghost use Rattle.share_io.specs.Texts.{texts};
 

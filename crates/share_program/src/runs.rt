@@ -5,7 +5,7 @@ ghost use Rattle.std.specs.Io.KnownBytes.{Appends};
 ghost use Rattle.cascade_core.specs.Apply.{world};
 ghost use Rattle.cascade_core.specs.Held.{Running, IfRunning, IfSpoiled};
 ghost use Rattle.cascade_core.specs.Scripts.{scripts_in};
-ghost use Rattle.cascade_answers.specs.declared.fault.ApplyFault.TheVariants as ApplyFault;
+ghost use Rattle.cascade_core.specs.declared.fault.ApplyFault.TheVariants as ApplyFault;
 ghost use Rattle.script_specs.specs.Scripts.{script_list};
 ghost use Rattle.script_boxes.specs.Boxes.{made_of, stock_for};
 ghost use Rattle.script_host.specs.Attaching.{Fits};

@@ -2,8 +2,8 @@
 use Rattle.std.proofs.Common.{◌≡◌, ℕ, suc, ◌+◌, ◌<◌, ◌++◌, Bool, List, refl, ap, ◌∙◌, subst, append_assoc, arith}
 use Rattle.std.specs.Prelude.{Option, Result, Ok, Err, slice_get}
 use Rattle.x3d_values.specs.declared.pointing.Point.{Point}
-use Rattle.cascade_answers.specs.declared.fault.TextFault.{TextFault}
-use Rattle.cascade_answers.specs.declared.fault.TextFault.TheVariants as text_fault
+use Rattle.cascade_core.specs.declared.fault.TextFault.{TextFault}
+use Rattle.cascade_core.specs.declared.fault.TextFault.TheVariants as text_fault
 use Rattle.cascade_core.specs.Course.{Scripted}
 use Rattle.cascade_core.specs.Texts.{scene_text, trace_text}
 use Rattle.share_law.specs.Viewer.{View, Running, Spoiled}

@@ -3,8 +3,8 @@ use Rattle.std.specs.Prelude.{◌≡◌, ℕ, zero, suc, ◌+◌, ◌-◌, ◌�
 use Rattle.std.specs.Prelude.{◌⊎◌, ◌++◌, slice_get, Option, None, Some, Result, Ok, Err}
 use Rattle.x3d_values.specs.declared.pointing.Point.{Point}
 use Rattle.x3d_values.specs.Stamp.{Stamp}
-use Rattle.cascade_answers.specs.declared.fault.TextFault.{TextFault}
-use Rattle.cascade_answers.specs.declared.fault.TextFault.TheVariants as text_fault
+use Rattle.cascade_core.specs.declared.fault.TextFault.{TextFault}
+use Rattle.cascade_core.specs.declared.fault.TextFault.TheVariants as text_fault
 use Rattle.cascade_core.specs.Course.{Scripted}
 use Rattle.cascade_core.specs.Texts.{scene_text, trace_text}
 use Rattle.share_law.specs.Viewer.{View, Running, ViewerState, applied_in}

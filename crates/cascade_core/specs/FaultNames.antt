@@ -1,15 +1,15 @@
 -- The names of faults, as they are printed.
 use Rattle.std.specs.Prelude.{ℕ, List, codes}
-use Rattle.cascade_answers.specs.declared.fault.LoadFault.{LoadFault}
-use Rattle.cascade_answers.specs.declared.fault.LoadFault.TheVariants as load
-use Rattle.cascade_answers.specs.declared.fault.ApplyFault.{ApplyFault}
-use Rattle.cascade_answers.specs.declared.fault.ApplyFault.TheVariants as apply
-use Rattle.cascade_answers.specs.declared.fault.TextFault.{TextFault}
-use Rattle.cascade_answers.specs.declared.fault.TextFault.TheVariants as text
-use Rattle.cascade_answers.specs.declared.fault.StatesFault.{StatesFault}
-use Rattle.cascade_answers.specs.declared.fault.StatesFault.TheVariants as states
-use Rattle.cascade_answers.specs.declared.fault.PlaceFault.{PlaceFault}
-use Rattle.cascade_answers.specs.declared.fault.PlaceFault.TheVariants as place
+use Rattle.cascade_core.specs.declared.fault.LoadFault.{LoadFault}
+use Rattle.cascade_core.specs.declared.fault.LoadFault.TheVariants as load
+use Rattle.cascade_core.specs.declared.fault.ApplyFault.{ApplyFault}
+use Rattle.cascade_core.specs.declared.fault.ApplyFault.TheVariants as apply
+use Rattle.cascade_core.specs.declared.fault.TextFault.{TextFault}
+use Rattle.cascade_core.specs.declared.fault.TextFault.TheVariants as text
+use Rattle.cascade_core.specs.declared.fault.StatesFault.{StatesFault}
+use Rattle.cascade_core.specs.declared.fault.StatesFault.TheVariants as states
+use Rattle.cascade_core.specs.declared.fault.PlaceFault.{PlaceFault}
+use Rattle.cascade_core.specs.declared.fault.PlaceFault.TheVariants as place
 
 abbrev pub load_fault_name : LoadFault → List ℕ
 load_fault_name load.Memory = codes "Memory"

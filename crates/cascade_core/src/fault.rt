@@ -1,11 +1,11 @@
 //! What may be refused.
 
 ghost use Rattle.std.specs.Prelude.{◌≡◌};
-ghost use Rattle.cascade_answers.specs.FaultNames.{load_fault_name, apply_fault_name, text_fault_name, states_fault_name, place_fault_name};
-ghost use Rattle.cascade_answers.specs.declared.fault.LoadFault.TheVariants.{Memory};
-ghost use Rattle.cascade_answers.specs.declared.fault.TextFault.TheVariants as text_fault;
-ghost use Rattle.cascade_answers.specs.declared.fault.StatesFault.TheVariants as states_fault;
-ghost use Rattle.cascade_answers.specs.Placing.{place_fault_of};
+ghost use Rattle.cascade_core.specs.FaultNames.{load_fault_name, apply_fault_name, text_fault_name, states_fault_name, place_fault_name};
+ghost use Rattle.cascade_core.specs.declared.fault.LoadFault.TheVariants.{Memory};
+ghost use Rattle.cascade_core.specs.declared.fault.TextFault.TheVariants as text_fault;
+ghost use Rattle.cascade_core.specs.declared.fault.StatesFault.TheVariants as states_fault;
+ghost use Rattle.cascade_core.specs.Placing.{place_fault_of};
 
 use script_host::ReplaceFault;
 use std::alloc::AllocError;
