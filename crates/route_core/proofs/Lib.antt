@@ -5,3 +5,4 @@ pub mod Repeats
 pub mod RowTables
 pub mod Tables
 pub mod Sources
+mod Seen

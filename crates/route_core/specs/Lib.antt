@@ -5,3 +5,5 @@ pub mod Named
 pub mod Names
 pub mod Outputs
 pub mod Resolved
+pub mod Firsts
+pub mod Seen

@@ -2,7 +2,7 @@
 use Rattle.std.specs.Prelude.{◌≡◌, ℕ, ◌+◌, ◌-◌, ◌<◌, ◌≤◌, List, [], ◌∷◌, Option, Some, None, if◌then◌else◌, nat_lt, length, sum, take, slice_index, slice_range}
 use Rattle.scene_core.specs.declared.scene.End.{End}
 use Rattle.scene_core.specs.declared.scene.Route.{Route}
-pub use Rattle.route_first.specs.Firsts.{same_end}
+pub use Rattle.route_core.specs.Firsts.{same_end}
 
 -- the places of the routes with that source, where the first of these routes has place n
 abbrev pub places_from : ℕ → End → List Route → List ℕ

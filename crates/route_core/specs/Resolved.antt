@@ -4,7 +4,7 @@ use Rattle.proto_flat.specs.declared.flat.Flat.{Flat}
 use Rattle.proto_flat.specs.declared.flat.FlatRoute.{FlatRoute}
 use Rattle.scene_core.specs.Scene.{SceneView}
 use Rattle.scene_core.specs.declared.scene.Route.{Route}
-pub use Rattle.route_first.specs.Firsts.{same_route, added, firsts}
+pub use Rattle.route_core.specs.Firsts.{same_route, added, firsts}
 use Rattle.route_core.specs.Ends.{route_of}
 use Rattle.route_core.specs.declared.resolving.TheConstants.{MOST_ROUTES}
 use Rattle.route_core.specs.declared.fault.RouteFault.{RouteFault}

@@ -3,11 +3,12 @@
 //! `routes` has the routes of a scene. They are made by `resolving` of what their `ends` name, by
 //! the `names` of fields (by the tables of `named` where a node declares many), and found by
 //! `outputs`, the numbers of fields among those of all nodes, in a table of `grouped` numbers;
-//! `fault` says why there are none.
+//! `firsts` leaves out what stood before, and `fault` says why there are none.
 #![tactic(auto)]
 
 mod ends;
 mod fault;
+mod firsts;
 mod grouped;
 mod named;
 mod names;

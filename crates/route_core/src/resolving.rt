@@ -9,9 +9,9 @@ ghost use Rattle.route_core.specs.Resolved.{at_line, each_of, firsts, limited, m
 
 use crate::ends::route_of;
 use crate::fault::{RouteFault, RouteFaultKind};
+use crate::firsts::without_repeats;
 use crate::named::{RowTables, tables_of};
 use proto_flat::FlatRoute;
-use route_first::without_repeats;
 use scene_core::{Route, Scene};
 use std::alloc::{AllocError, Global};
 use x3d_lists::Items;

@@ -5,7 +5,7 @@ use Rattle.std.specs.Ordering.{nat_cmp, ordering_then}
 use Rattle.std.specs.declared.cmp.Ordering.{Ordering}
 use Rattle.std.specs.BTreeSet.{BTreeSet, contains}
 use Rattle.scene_core.specs.declared.scene.Route.{Route}
-use Rattle.route_first.specs.Firsts.{same_route}
+use Rattle.route_core.specs.Firsts.{same_route}
 
 abbrev pub Key : Type 0
 Key = ℕ × ℕ × ℕ × ℕ

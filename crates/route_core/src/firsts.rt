@@ -1,8 +1,8 @@
 //! Each route where it stands first.
 
 ghost use Rattle.std.specs.Prelude.{◌≡◌, IfOk, OnOk};
-ghost use Rattle.route_first.specs.Firsts.{added, firsts};
-ghost use Rattle.route_first.specs.Seen.{Holds, key_of};
+ghost use Rattle.route_core.specs.Firsts.{added, firsts};
+ghost use Rattle.route_core.specs.Seen.{Holds, key_of};
 
 use scene_core::Route;
 use std::alloc::{AllocError, Global};

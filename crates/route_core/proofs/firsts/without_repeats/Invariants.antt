@@ -1,8 +1,8 @@
 use Rattle.std.proofs.Common.{◌≡◌, drop, []}
 use Rattle.std.specs.List.{fold}
-use Rattle.route_first.specs.Firsts.{added}
-use Rattle.route_first.specs.Seen.{Holds}
-use Rattle.route_first.proofs.firsts.without_repeats.Given as goal
+use Rattle.route_core.specs.Firsts.{added}
+use Rattle.route_core.specs.Seen.{Holds}
+use Rattle.route_core.proofs.firsts.without_repeats.Given as goal
 
 -- the routes so far, with the rest added, are all; the set has those so far
 abbrev pub invariant-loop-route : goal.invariant-loop-route

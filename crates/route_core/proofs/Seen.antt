@@ -9,8 +9,8 @@ use Rattle.std.specs.Ordering.{is_eq, nat_cmp, ordering_then}
 use Rattle.std.proofs.lemmas.Bool.Decides.{nat_tests}
 use Rattle.std.proofs.lemmas.List.Folds.{list_any-append}
 use Rattle.scene_core.specs.declared.scene.Route.{Route}
-use Rattle.route_first.specs.Firsts.{same_route}
-use Rattle.route_first.specs.Seen.{Holds, Key, key_cmp, key_of}
+use Rattle.route_core.specs.Firsts.{same_route}
+use Rattle.route_core.specs.Seen.{Holds, Key, key_cmp, key_of}
 
 numbers : (a b : ℕ) → (b == a) ≡ is_eq (nat_cmp a b)
 numbers a b = grind (arith, nat_tests)

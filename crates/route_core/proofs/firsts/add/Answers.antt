@@ -2,10 +2,10 @@ use Rattle.std.proofs.Common.{◌≡◌, true, cond, ◌++◌, ◌∷◌, [], �
 use Rattle.std.specs.BTreeMap.{is_at}
 use Rattle.std.specs.BTreeSet.{contains}
 use Rattle.std.specs.List.{list_any}
-use Rattle.route_first.specs.Firsts.{same_route}
-use Rattle.route_first.specs.Seen.{Holds, Key, key_cmp, key_of}
-use Rattle.route_first.proofs.Seen.{grown}
-use Rattle.route_first.proofs.firsts.add.Goals as goal
+use Rattle.route_core.specs.Firsts.{same_route}
+use Rattle.route_core.specs.Seen.{Holds, Key, key_cmp, key_of}
+use Rattle.route_core.proofs.Seen.{grown}
+use Rattle.route_core.proofs.firsts.add.Goals as goal
 
 pub returns-in_ok-push-clause-holds : goal.returns-in_ok-push-clause-holds
 returns-in_ok-push-clause-holds c =
