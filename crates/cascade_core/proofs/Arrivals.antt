@@ -8,7 +8,7 @@ use Rattle.scene_core.specs.declared.scene.End.{End}
 use Rattle.script_host.specs.Behaviour.{Call}
 use Rattle.script_host.specs.Hosting.{ScriptRecord}
 use Rattle.script_slots.specs.Settling.{Settling, with_received}
-use Rattle.script_turn.specs.Acting.{Acted, call_of, receive, receiving}
+use Rattle.script_running.specs.Acting.{Acted, call_of, receive, receiving}
 use Rattle.cascade_core.specs.Cascade.{Arrival, Reached, arrival, received_by}
 use Rattle.cascade_core.specs.Course.{Course, Plan, ports_of, script_of}
 

@@ -6,8 +6,8 @@ use Rattle.x3d_values.specs.declared.script.Kind.{Kind}
 use Rattle.x3d_values.specs.declared.value.Value.{Value}
 use Rattle.react_core.specs.declared.outbox.Reply.{Reply}
 use Rattle.scene_core.specs.declared.scene.End.{End}
-use Rattle.script_turn.specs.Acting.{kinds_of}
-use Rattle.script_turn.proofs.CallLemmas.{kinds_stand}
+use Rattle.script_running.specs.Acting.{kinds_of}
+use Rattle.script_running.proofs.CallLemmas.{kinds_stand}
 use Rattle.cascade_core.specs.Course.{Course, Plan, ports_of}
 use Rattle.cascade_trace.specs.Ends.{has_sent, targets_of}
 use Rattle.cascade_core.specs.Outputs.{ends_from, is_scene_output, outputs_of}

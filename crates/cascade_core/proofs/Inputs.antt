@@ -5,9 +5,9 @@ use Rattle.x3d_values.specs.declared.stamped.Event.{Event}
 use Rattle.x3d_values.specs.Stamp.{Stamp}
 use Rattle.scene_core.specs.Scene.{SceneView, shapes_of}
 use Rattle.scene_core.specs.declared.scene.Route.{Route}
-use Rattle.script_specs.specs.declared.runs.Run.{Run}
+use Rattle.script_running.specs.declared.run.Run.{Run}
 use Rattle.script_host.specs.Hosting.{ScriptRecord}
-use Rattle.script_turn.specs.Acting.{kinds_of}
+use Rattle.script_running.specs.Acting.{kinds_of}
 use Rattle.script_slots.specs.Settling.{all_differ}
 use Rattle.cascade_core.specs.Apply.{after_input, apply, begin, begun, happen}
 use Rattle.cascade_core.specs.Course.{Course, Plan, Scripted, course, ended, plan_at, plan_of}

@@ -12,7 +12,7 @@ use Rattle.script_host.specs.declared.fault.ReplaceFault.{ReplaceFault}
 use Rattle.script_host.specs.declared.fault.ReplaceFault.TheVariants as place
 use Rattle.script_slots.specs.declared.fault.StateFault.{StateFault}
 use Rattle.script_slots.specs.declared.fault.StateFault.TheVariants.{StateLength, StateRange, Memory}
-use Rattle.script_turn.specs.Acting.{kinds_of}
+use Rattle.script_running.specs.Acting.{kinds_of}
 use Rattle.scene_core.specs.declared.scene.Route.{Route}
 use Rattle.scene_core.specs.Scene.{SceneView}
 use Rattle.cascade_world.specs.declared.world.WorldData.{WorldData}

@@ -9,7 +9,7 @@ use Rattle.react_core.specs.declared.outbox.Reply.{Reply}
 use Rattle.scene_core.specs.declared.scene.End.{End}
 use Rattle.scene_core.specs.Scene.{SceneView, types_of}
 use Rattle.script_host.specs.Behaviour.{Call}
-use Rattle.script_turn.specs.Acting.{act}
+use Rattle.script_running.specs.Acting.{act}
 use Rattle.script_slots.specs.Settling.{with_received}
 use Rattle.cascade_world.specs.Answers.{Answer, answer, met, pointer_at, ticked, with_answer}
 use Rattle.cascade_core.specs.Apply.{with_button}

@@ -7,8 +7,8 @@ use Rattle.scene_core.specs.declared.scene.Route.{Route}
 use Rattle.scene_core.specs.Scene.{SceneView}
 use Rattle.script_host.specs.Behaviour.{Initialize, Settle}
 use Rattle.script_host.specs.Hosting.{ScriptRecord}
-use Rattle.script_turn.specs.Acting.{kinds_of}
-use Rattle.script_turn.proofs.CallLemmas.{kinds_stand}
+use Rattle.script_running.specs.Acting.{kinds_of}
+use Rattle.script_running.proofs.CallLemmas.{kinds_stand}
 use Rattle.cascade_core.specs.Apply.{Sending, Started, after_input, apply, begun, opening, opening_course, sent_by_all, start_one, started, world_after}
 use Rattle.cascade_core.specs.Course.{Course, Plan, Scripted, plan_of, ports_of}
 use Rattle.cascade_core.specs.ScriptLaws.{KindsStand, StatesStand}

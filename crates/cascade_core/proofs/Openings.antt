@@ -7,13 +7,13 @@ use Rattle.x3d_values.specs.declared.script.Kind.{Kind}
 use Rattle.react_core.specs.declared.outbox.Reply.{Reply}
 use Rattle.scene_core.specs.Scene.{SceneView, shapes_of}
 use Rattle.scene_core.specs.Shape.{Shape}
-use Rattle.script_specs.specs.declared.runs.Run.{Run}
+use Rattle.script_running.specs.declared.run.Run.{Run}
 use Rattle.script_host.specs.Behaviour.{Initialize}
 use Rattle.script_host.specs.Hosting.{ScriptRecord, after_call}
 use Rattle.script_slots.specs.Settling.{Settling, unsettled}
-use Rattle.script_turn.specs.Acting.{act, acting, kinds_of}
-use Rattle.script_turn.specs.Ports.{Wiring}
-use Rattle.script_turn.proofs.CallLemmas.{kinds_stand}
+use Rattle.script_running.specs.Acting.{act, acting, kinds_of}
+use Rattle.script_running.specs.Ports.{Wiring}
+use Rattle.script_running.proofs.CallLemmas.{kinds_stand}
 use Rattle.cascade_core.specs.Apply.{Sending, Started, opening, sent_by_all, start_one, started, untold}
 use Rattle.cascade_core.specs.Cascade.{send_replies}
 use Rattle.cascade_core.specs.Course.{Course, Plan, Scripted, course, ended, node_of, plan_at, plan_of, ports_of}

@@ -5,7 +5,7 @@ use Rattle.std.specs.List.{find, range_with_len}
 use Rattle.std.proofs.lemmas.List.Folds.{list_any-append}
 use Rattle.std.proofs.lemmas.List.FromFn.{length-range_with_len}
 use Rattle.script_host.specs.Behaviour.{Settle}
-use Rattle.script_turn.specs.Acting.{act}
+use Rattle.script_running.specs.Acting.{act}
 use Rattle.cascade_core.specs.Stack.{one_unless}
 use Rattle.cascade_core.specs.Course.{Course, Plan, node_of, ports_of}
 use Rattle.cascade_core.specs.ScriptLaws.{SettlesAll}

@@ -6,7 +6,7 @@ use Rattle.x3d_values.specs.Stamp.{Stamp}
 use Rattle.scene_core.specs.declared.scene.End.{End}
 use Rattle.scene_core.specs.Scene.{SceneView}
 use Rattle.script_host.specs.Behaviour.{Call, Settle}
-use Rattle.script_turn.specs.Acting.{act}
+use Rattle.script_running.specs.Acting.{act}
 use Rattle.script_slots.specs.Settling.{with_settled}
 use Rattle.cascade_world.specs.Answers.{Answer, with_answer}
 use Rattle.cascade_core.specs.Apply.{Sending, after_input, happen, sent_by_all, with_button}

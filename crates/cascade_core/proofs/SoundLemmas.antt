@@ -8,16 +8,16 @@ use Rattle.x3d_values.specs.declared.script.Kind.{Kind}
 use Rattle.x3d_values.specs.declared.value.Value.{Value}
 use Rattle.scene_core.specs.declared.scene.End.{End}
 use Rattle.scene_core.specs.Shape.{Shape}
-use Rattle.script_specs.specs.declared.runs.Run.{Run}
+use Rattle.script_running.specs.declared.run.Run.{Run}
 use Rattle.script_host.specs.Behaviour.{Call}
 use Rattle.script_host.specs.Hosting.{ScriptRecord, answer_of}
 use Rattle.script_host.specs.Interface.{outputs}
 use Rattle.script_host.specs.Outputs.{leave_by_outputs}
 use Rattle.script_slots.specs.declared.reply.Reply as host
 use Rattle.script_host.proofs.OutputLemmas.{sends_by_outputs}
-use Rattle.script_turn.specs.Acting.{act, acting, call_of, kinds_of}
-use Rattle.script_turn.specs.Ports.{Wiring, reply_of}
-use Rattle.script_turn.proofs.CallLemmas.{kinds_stand}
+use Rattle.script_running.specs.Acting.{act, acting, call_of, kinds_of}
+use Rattle.script_running.specs.Ports.{Wiring, reply_of}
+use Rattle.script_running.proofs.CallLemmas.{kinds_stand}
 use Rattle.cascade_core.specs.Course.{Course, Plan, node_of, ports_of, script_of}
 use Rattle.cascade_core.specs.Scripts.{script_from}
 use Rattle.cascade_core.specs.Outputs.{is_scene_output}

@@ -9,15 +9,15 @@ use Rattle.x3d_values.specs.declared.script.ScriptSpec.{ScriptSpec}
 use Rattle.scene_core.specs.declared.scene.Route.{Route}
 use Rattle.scene_core.specs.Scene.{SceneView, rows_at, shapes_of}
 use Rattle.scene_core.specs.Shape.{Shape, rows_of}
-use Rattle.script_specs.specs.declared.runs.Run.{Run}
-use Rattle.script_specs.specs.Laws.{is_sent_by}
-use Rattle.script_specs.specs.Runs.{number_in, run_of}
-use Rattle.script_specs.specs.Scripts.{script_list}
-use Rattle.script_specs.proofs.Outputs.{send_by_outputs}
+use Rattle.script_running.specs.declared.run.Run.{Run}
+use Rattle.script_running.specs.Laws.{is_sent_by}
+use Rattle.script_running.specs.Runs.{number_in, run_of}
+use Rattle.script_running.specs.Scripts.{script_list}
+use Rattle.script_running.proofs.Outputs.{send_by_outputs}
 use Rattle.script_host.specs.Attaching.{Fits, Meets}
 use Rattle.script_host.specs.Hosting.{ScriptRecord}
 use Rattle.script_host.specs.Interface.{outputs}
-use Rattle.script_turn.specs.Acting.{kinds_of}
+use Rattle.script_running.specs.Acting.{kinds_of}
 use Rattle.cascade_core.specs.Course.{no_ports}
 use Rattle.cascade_core.specs.Outputs.{is_scene_output}
 use Rattle.cascade_core.specs.Sound.{IsSound, are_outputs}

@@ -8,7 +8,7 @@ use Rattle.cascade_trace.specs.Ends.{has_sent, targets_of}
 use Rattle.x3d_values.specs.declared.script.Kind.{Kind}
 use Rattle.script_host.specs.Behaviour.{Call}
 use Rattle.script_host.specs.Hosting.{ScriptRecord}
-use Rattle.script_turn.specs.Acting.{act, kinds_of}
+use Rattle.script_running.specs.Acting.{act, kinds_of}
 use Rattle.cascade_core.specs.Course.{Course, Plan, node_of, ports_of}
 use Rattle.cascade_core.specs.Cascade.{deliver, reached, recorded, send_all, send_full}
 use Rattle.cascade_core.specs.Sound.{IsSound}

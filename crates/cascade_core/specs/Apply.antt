@@ -14,7 +14,7 @@ use Rattle.scene_core.specs.declared.scene.Route.{Route}
 use Rattle.scene_core.specs.Scene.{SceneView, state_of, types_of}
 use Rattle.script_host.specs.Behaviour.{Initialize}
 use Rattle.script_host.specs.Hosting.{ScriptRecord}
-use Rattle.script_turn.specs.Acting.{act}
+use Rattle.script_running.specs.Acting.{act}
 use Rattle.cascade_world.specs.Answers.{met, pointer_at, ticked, with_answer}
 use Rattle.cascade_world.specs.Insides.{Insides, insides}
 use Rattle.cascade_core.specs.Cascade.{send_replies}

@@ -7,7 +7,7 @@ use Rattle.x3d_values.specs.declared.value.Value.{Value}
 use Rattle.react_core.specs.declared.outbox.Reply.{Reply}
 use Rattle.scene_core.specs.declared.scene.End.{End}
 use Rattle.script_host.specs.Behaviour.{Call}
-use Rattle.script_turn.specs.Acting.{act, call_of}
+use Rattle.script_running.specs.Acting.{act, call_of}
 use Rattle.script_slots.specs.Settling.{with_received}
 use Rattle.cascade_world.specs.Answers.{answer, with_answer}
 use Rattle.cascade_trace.specs.Ends.{has_sent, targets_of}

@@ -6,10 +6,10 @@ use Rattle.scene_core.specs.declared.scene.Route.{Route}
 use Rattle.scene_core.specs.Scene.{SceneView, shapes_of}
 use Rattle.scene_core.specs.Shape.{Shape}
 use Rattle.script_host.specs.Hosting.{ScriptRecord}
-use Rattle.script_turn.specs.Ports.{Wiring}
+use Rattle.script_running.specs.Ports.{Wiring}
 use Rattle.script_slots.specs.Settling.{Settling, unsettled}
-use Rattle.script_specs.specs.Runs.{runs_of}
-use Rattle.script_specs.specs.declared.runs.Run.{Run}
+use Rattle.script_running.specs.Runs.{runs_of}
+use Rattle.script_running.specs.declared.run.Run.{Run}
 use Rattle.cascade_core.specs.Scripts.{script_from, states_of}
 pub use Rattle.script_running.specs.Running.{no_ports}
 use Rattle.cascade_core.specs.declared.course.Course as lent

@@ -6,7 +6,7 @@ use Rattle.scene_core.specs.declared.scene.Route.{Route}
 use Rattle.scene_core.specs.Scene.{SceneView}
 use Rattle.script_slots.specs.Settling.{all_differ}
 use Rattle.script_host.specs.Hosting.{ScriptRecord}
-use Rattle.script_turn.specs.Acting.{kinds_of}
+use Rattle.script_running.specs.Acting.{kinds_of}
 use Rattle.cascade_core.specs.Apply.{after_input, world}
 use Rattle.cascade_core.specs.Course.{Course, Plan}
 use Rattle.cascade_core.specs.Held.{Held, is_spoiled}

@@ -5,9 +5,9 @@ use Rattle.std.specs.Option.{option_map}
 use Rattle.x3d_values.specs.declared.script.Kind.{Kind}
 use Rattle.x3d_values.specs.declared.script.ScriptSpec.{ScriptSpec}
 use Rattle.scene_core.specs.Scene.{SceneView}
-use Rattle.script_specs.specs.Scripts.{script_list}
+use Rattle.script_running.specs.Scripts.{script_list}
 use Rattle.script_host.specs.Hosting.{ScriptRecord}
-use Rattle.script_turn.specs.Acting.{kinds_of}
+use Rattle.script_running.specs.Acting.{kinds_of}
 pub use Rattle.script_running.specs.Running.{are_begun, running, script_from, states_of}
 
 -- a script as the scene asks for it, before it is initialized; none where its kind is unknown

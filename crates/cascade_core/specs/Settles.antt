@@ -3,7 +3,7 @@
 use Rattle.std.specs.Prelude.{ℕ, zero, suc, Option}
 use Rattle.std.specs.Option.{option_map_or}
 use Rattle.script_host.specs.Behaviour.{Settle}
-use Rattle.script_turn.specs.Acting.{act}
+use Rattle.script_running.specs.Acting.{act}
 use Rattle.script_slots.specs.Settling.{lowest_due, with_settled}
 use Rattle.cascade_core.specs.Course.{Course, Plan, node_of, ports_of}
 use Rattle.cascade_core.specs.Cascade.{send_replies}

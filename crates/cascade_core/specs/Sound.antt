@@ -4,9 +4,9 @@ use Rattle.std.specs.List.{list_all}
 use Rattle.x3d_values.specs.declared.script.Kind.{Kind}
 use Rattle.scene_core.specs.Shape.{Shape}
 use Rattle.react_core.specs.declared.outbox.Reply.{Reply}
-use Rattle.script_specs.specs.Runs.{runs_of}
+use Rattle.script_running.specs.Runs.{runs_of}
 use Rattle.script_host.specs.Interface.{outputs}
-use Rattle.script_turn.specs.Acting.{kinds_of}
+use Rattle.script_running.specs.Acting.{kinds_of}
 use Rattle.cascade_core.specs.Apply.{Sending}
 use Rattle.cascade_core.specs.Course.{Course, Plan, node_of, ports_of}
 use Rattle.cascade_core.specs.declared.fixed.Fixed.{Fixed}

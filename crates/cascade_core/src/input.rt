@@ -2,7 +2,7 @@
 
 ghost use Rattle.std.specs.Prelude.{◌≡◌, ◌+◌, [], IfOk, OnOk, true, length};
 ghost use Rattle.pick_core.specs.Sites.{rows_of};
-ghost use Rattle.script_turn.specs.Acting.{kinds_of};
+ghost use Rattle.script_running.specs.Acting.{kinds_of};
 ghost use Rattle.cascade_core.specs.Course.{plan_at, seen};
 ghost use Rattle.cascade_core.specs.Sound.{IsCast, IsFixed};
 ghost use Rattle.cascade_core.specs.Course.{course as course_of, ended};

@@ -5,7 +5,7 @@ ghost use Rattle.std.specs.List.{list_all};
 ghost use Rattle.pick_core.specs.Sites.{rows_of};
 ghost use Rattle.scene_core.specs.Scene.{shapes_of};
 ghost use Rattle.script_host.specs.Behaviour.{Initialize};
-ghost use Rattle.script_turn.specs.Acting.{act, kinds_of};
+ghost use Rattle.script_running.specs.Acting.{act, kinds_of};
 ghost use Rattle.cascade_core.specs.Apply.{opening as opening_of, sent_by_all, started, untold};
 ghost use Rattle.cascade_core.specs.Cascade.{send_replies as send_replies_of};
 ghost use Rattle.cascade_core.specs.Course.{ended, node_of, plan_at, ports_of, seen};
@@ -58,7 +58,7 @@ fn initialize_one<B: Behaviour>(fixed: &Fixed, scripts: &mut Scripts<B>, k: usiz
     ensures kinds { kinds_of scripts.new ≡ kinds_of scripts.old }
 {
     let mut replies = Outbox::new();
-    script_turn::initialize(scripts, k, fixed.runs.ports(k), &mut replies);
+    script_running::initialize(scripts, k, fixed.runs.ports(k), &mut replies);
     Sending {
         node: fixed.runs.node(k),
         replies,

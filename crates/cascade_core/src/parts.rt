@@ -1,11 +1,11 @@
 //! What a stage makes of its scene.
 
 ghost use Rattle.std.specs.Prelude.{◌≡◌, [], IfOk, List, None, map, replicate};
-ghost use Rattle.script_turn.specs.Acting.{kinds_of};
+ghost use Rattle.script_running.specs.Acting.{kinds_of};
 ghost use Rattle.script_host.specs.Attaching.{Fits};
 ghost use Rattle.script_host.specs.Hosting.{ScriptRecord};
-ghost use Rattle.script_specs.specs.Runs.{runs_of};
-ghost use Rattle.script_specs.specs.Scripts.{script_list};
+ghost use Rattle.script_running.specs.Runs.{runs_of};
+ghost use Rattle.script_running.specs.Scripts.{script_list};
 ghost use Rattle.cascade_core.specs.Course.{plan_at};
 ghost use Rattle.cascade_core.specs.Sound.{IsFixed, IsSound};
 ghost use Rattle.cascade_core.specs.Apply.{untold};
@@ -126,8 +126,8 @@ pub(crate) fn parts_of(alloc: Global, scene: &Scene) -> Result<Parts, AllocError
 fn runs_in(alloc: Global, scene: &Scene) -> Result<Runs, AllocError>
     ensures { IfOk result (λ runs. runs ≡ runs_of scene.now) }
 {
-    let asked = script_specs::script_list(alloc, scene)?;
-    let listed = script_specs::runs_of(alloc, scene, &asked);
+    let asked = script_running::script_list(alloc, scene)?;
+    let listed = script_running::runs_of(alloc, scene, &asked);
     drop(asked);
     Runs::new(alloc, listed?, scene)
 }

@@ -5,7 +5,7 @@ ghost use Rattle.cascade_core.specs.Apply.{opening, world};
 ghost use Rattle.cascade_core.specs.Scripts.{scripts_in};
 ghost use Rattle.cascade_core.specs.Held.{Running, after_all, refusal_in};
 ghost use Rattle.cascade_core.specs.InTurn.{AreInTurn};
-ghost use Rattle.script_specs.specs.Scripts.{script_list};
+ghost use Rattle.script_running.specs.Scripts.{script_list};
 ghost use Rattle.script_host.specs.Attaching.{Fits};
 
 use crate::fault::ApplyFault;

@@ -3,7 +3,7 @@
 ghost use Rattle.std.specs.Prelude.{◌≡◌, ◌<◌, [], OnOk, true, length};
 ghost use Rattle.pick_core.specs.Sites.{rows_of};
 ghost use Rattle.script_slots.specs.Settling.{is_due};
-ghost use Rattle.script_turn.specs.Acting.{kinds_of};
+ghost use Rattle.script_running.specs.Acting.{kinds_of};
 ghost use Rattle.cascade_core.specs.Course.{plan_at, seen};
 ghost use Rattle.cascade_core.specs.Sound.{IsCast};
 ghost use Rattle.cascade_core.specs.Settles.{settle as settle_of, settle_one as settle_one_of};

@@ -36,7 +36,7 @@ impl<B: Behaviour> Model for Stage<B> {
     ghost use Rattle.cascade_core.specs.Course.{ended, plan_at, seen};
     ghost use Rattle.cascade_core.specs.Scripts.{kinds_in};
     ghost use Rattle.cascade_core.specs.Sound.{IsCast, IsFixed};
-    ghost use Rattle.script_turn.specs.Acting.{kinds_of};
+    ghost use Rattle.script_running.specs.Acting.{kinds_of};
 
     ghost Value = { StageView };
 
@@ -62,7 +62,7 @@ impl<B: Behaviour> Stage<B> {
     ghost use Rattle.cascade_core.specs.Installing.{RefusesBox, RefusesInstall, StatesFit};
     ghost use Rattle.cascade_core.specs.Texts.{trace_text, scene_text};
     ghost use Rattle.cascade_core.specs.Work.{IsWork};
-    ghost use Rattle.script_specs.specs.Scripts.{script_list};
+    ghost use Rattle.script_running.specs.Scripts.{script_list};
     ghost use Rattle.script_host.specs.Attaching.{Fits};
 
     /// The stage of a scene with its routes and the scripts that were attached for it, none of

@@ -18,12 +18,12 @@ use Rattle.script_host.specs.Interface.{outputs}
 use Rattle.script_host.specs.Outputs.{leave_by_outputs}
 use Rattle.script_slots.specs.declared.reply.Reply as host
 use Rattle.script_host.proofs.OutputLemmas.{sends_by_outputs}
-use Rattle.script_turn.specs.Acting.{act, acting, kinds_of}
-use Rattle.script_turn.specs.Ports.{Wiring, reply_of}
-use Rattle.script_turn.proofs.CallLemmas.{kinds_stand}
-use Rattle.script_specs.specs.Runs.{run_of}
-use Rattle.script_specs.specs.Scripts.{script_list}
-use Rattle.script_specs.specs.declared.runs.Run.{Run}
+use Rattle.script_running.specs.Acting.{act, acting, kinds_of}
+use Rattle.script_running.specs.Ports.{Wiring, reply_of}
+use Rattle.script_running.proofs.CallLemmas.{kinds_stand}
+use Rattle.script_running.specs.Runs.{run_of}
+use Rattle.script_running.specs.Scripts.{script_list}
+use Rattle.script_running.specs.declared.run.Run.{Run}
 use Rattle.laws_worlds.specs.Nodes.{RunsAll, Sends}
 use Rattle.laws_worlds.proofs.Outputs.{all_outputs_typed}
 use Rattle.cascade_world.specs.Access.{is_output}

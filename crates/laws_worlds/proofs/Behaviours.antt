@@ -15,7 +15,7 @@ use Rattle.script_host.specs.Behaviour.{Call, Initialize, Receive, Settle, behav
 use Rattle.script_host.specs.Events.{event_fits, number_fits}
 use Rattle.script_host.specs.States.{integer_fits, pending_fits, range_fault, meter_fault, state_fault}
 use Rattle.script_slots.specs.declared.fault.StateFault.TheVariants.{StateLength}
-use Rattle.script_turn.specs.Values.{as_integer}
+use Rattle.script_running.specs.Values.{as_integer}
 use Rattle.laws_worlds.specs.Calls.{AnswerFits, CallsFit, call_fits}
 
 -- ---- numbers

@@ -20,13 +20,13 @@ use Rattle.script_host.specs.Restoring.{AreStates, IsStateOf}
 use Rattle.script_host.specs.States.{state_fault}
 use Rattle.script_slots.specs.declared.fault.StateFault.{StateFault}
 use Rattle.script_slots.specs.declared.reply.Reply as host
-use Rattle.script_turn.specs.Acting.{act, acting, kinds_of}
-use Rattle.script_turn.specs.Ports.{Wiring, reply_of, value_from}
-use Rattle.script_turn.specs.Values.{value_of}
-use Rattle.script_turn.proofs.CallLemmas.{kinds_stand}
-use Rattle.script_specs.specs.Runs.{run_of}
-use Rattle.script_specs.specs.Scripts.{script_list}
-use Rattle.script_specs.specs.declared.runs.Run.{Run}
+use Rattle.script_running.specs.Acting.{act, acting, kinds_of}
+use Rattle.script_running.specs.Ports.{Wiring, reply_of, value_from}
+use Rattle.script_running.specs.Values.{value_of}
+use Rattle.script_running.proofs.CallLemmas.{kinds_stand}
+use Rattle.script_running.specs.Runs.{run_of}
+use Rattle.script_running.specs.Scripts.{script_list}
+use Rattle.script_running.specs.declared.run.Run.{Run}
 use Rattle.laws_worlds.specs.Calls.{AnswerFits, reply_fits}
 use Rattle.laws_worlds.specs.Nodes.{RunsAll}
 use Rattle.laws_worlds.proofs.Behaviours.{all_calls_fit}

@@ -9,13 +9,13 @@ use Rattle.x3d_values.specs.declared.value.Value.{Value}
 use Rattle.script_host.specs.Behaviour.{Call, Receive}
 use Rattle.script_host.specs.Events.{takes_event}
 use Rattle.script_host.specs.Hosting.{ScriptRecord}
-use Rattle.script_turn.specs.Acting.{call_of, kinds_of}
-use Rattle.script_turn.specs.Ports.{Wiring, call_at, call_by, input_at, is_of_type, takes}
-use Rattle.script_turn.specs.Values.{numbers_of}
+use Rattle.script_running.specs.Acting.{call_of, kinds_of}
+use Rattle.script_running.specs.Ports.{Wiring, call_at, call_by, input_at, is_of_type, takes}
+use Rattle.script_running.specs.Values.{numbers_of}
 use Rattle.scene_core.specs.declared.scene.End.{End}
 use Rattle.scene_core.specs.Scene.{SceneView}
-use Rattle.script_specs.specs.Runs.{run_of, runs_of}
-use Rattle.script_specs.specs.Scripts.{script_list}
+use Rattle.script_running.specs.Runs.{run_of, runs_of}
+use Rattle.script_running.specs.Scripts.{script_list}
 use Rattle.laws_worlds.specs.Calls.{call_fits}
 use Rattle.laws_worlds.specs.Nodes.{RunsAll, runs}
 use Rattle.laws_worlds.proofs.Running.{runs_by}

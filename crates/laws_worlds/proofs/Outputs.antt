@@ -24,8 +24,8 @@ use Rattle.scene_core.specs.declared.row.DeclaredField.{DeclaredField}
 use Rattle.scene_core.specs.declared.scene.SceneNode.{SceneNode}
 use Rattle.scene_core.specs.Scene.{SceneView, declared_at, rows_at, shape_of, type_at}
 use Rattle.scene_core.specs.Shape.{declared_entry, numbered_fields, rows_of}
-use Rattle.script_specs.specs.Runs.{number_in, ports_by, ports_of}
-use Rattle.script_specs.specs.Scripts.{declares, is_field, script_at, script_list, spec_by, word_by, word_of}
+use Rattle.script_running.specs.Runs.{number_in, ports_by, ports_of}
+use Rattle.script_running.specs.Scripts.{declares, is_field, script_at, script_list, spec_by, word_by, word_of}
 use Rattle.laws_worlds.specs.Nodes.{OutputsTyped, Sends}
 
 -- ---- Bools and texts

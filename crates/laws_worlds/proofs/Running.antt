@@ -7,7 +7,7 @@ use Rattle.x3d_values.specs.declared.script.ScriptSpec.{ScriptSpec}
 use Rattle.script_host.specs.Attaching.{Meets}
 use Rattle.script_host.specs.Hosting.{ScriptRecord}
 use Rattle.scene_core.specs.Scene.{SceneView}
-use Rattle.script_specs.specs.Scripts.{script_list}
+use Rattle.script_running.specs.Scripts.{script_list}
 use Rattle.laws_worlds.specs.Nodes.{AttachedRun, RunsAll, runs}
 
 -- what holds at each place holds of all

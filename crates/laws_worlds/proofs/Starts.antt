@@ -19,7 +19,7 @@ use Rattle.script_host.specs.Interface.{kind_named}
 use Rattle.script_host.specs.States.{integer_fits, mover_fault, range_fault, state_fault}
 use Rattle.scene_core.specs.declared.scene.SceneNode.{SceneNode}
 use Rattle.scene_core.specs.Scene.{SceneView, declared_at, rows_at, value_at}
-use Rattle.script_specs.specs.Scripts.{declares, integer_in, known_spec, place_in, script_at, script_list, spec_by, start_of, truth_in, value_named, word_of}
+use Rattle.script_running.specs.Scripts.{declares, integer_in, known_spec, place_in, script_at, script_list, spec_by, start_of, truth_in, value_named, word_of}
 use Rattle.laws_worlds.specs.Nodes.{RunsAll, runs}
 use Rattle.cascade_core.specs.Scripts.{script_for, scripts_in}
 use Rattle.laws_worlds.specs.Fits.{StartsFit}

@@ -15,7 +15,7 @@ use Rattle.scene_core.specs.Places.{is_pointing}
 use Rattle.scene_core.specs.Scene.{SceneView, shapes_of, types_of}
 use Rattle.script_host.specs.Behaviour.{Call, Initialize, Settle}
 use Rattle.script_host.specs.Hosting.{ScriptRecord}
-use Rattle.script_turn.specs.Acting.{Acted, act}
+use Rattle.script_running.specs.Acting.{Acted, act}
 use Rattle.script_slots.specs.Settling.{with_settled}
 use Rattle.laws_worlds.specs.Calls.{call_fits}
 use Rattle.cascade_world.specs.Answers.{Answer, answer, met, pointer_at, ticked, with_answer}

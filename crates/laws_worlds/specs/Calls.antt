@@ -11,7 +11,7 @@ use Rattle.script_host.specs.Events.{takes_event}
 use Rattle.script_host.specs.Interface.{outputs}
 use Rattle.script_host.specs.States.{state_fault}
 use Rattle.script_slots.specs.declared.reply.Reply.{Reply}
-use Rattle.script_turn.specs.Values.{value_of}
+use Rattle.script_running.specs.Values.{value_of}
 
 -- what comes to an input is of its type, and in the range of the type
 abbrev pub call_fits : Kind → Call → Bool

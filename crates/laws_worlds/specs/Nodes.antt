@@ -10,8 +10,8 @@ use Rattle.script_host.specs.Attaching.{Fits}
 use Rattle.script_host.specs.Hosting.{ScriptRecord}
 use Rattle.script_host.specs.Interface.{outputs}
 use Rattle.scene_core.specs.Scene.{SceneView, rows_at}
-use Rattle.script_specs.specs.Runs.{run_of}
-use Rattle.script_specs.specs.Scripts.{script_list}
+use Rattle.script_running.specs.Runs.{run_of}
+use Rattle.script_running.specs.Scripts.{script_list}
 
 -- ---- which scripts run
 

@@ -8,8 +8,8 @@ use Rattle.script_host.specs.Hosting.{ScriptRecord, after_call, counts_after}
 use Rattle.script_host.specs.Restoring.{AreStates, RefusesStates, with_states}
 use Rattle.script_slots.specs.declared.fault.StateFault.{StateFault}
 use Rattle.script_slots.specs.declared.fault.StateFault.TheVariants.{StateLength, StateRange, Memory}
-use Rattle.script_turn.specs.Acting.{act, acting, call_of, kinds_of, receive, receiving}
-use Rattle.script_turn.specs.Ports.{Wiring}
+use Rattle.script_running.specs.Acting.{act, acting, call_of, kinds_of, receive, receiving}
+use Rattle.script_running.specs.Ports.{Wiring}
 use Rattle.script_running.specs.Running.{are_begun, running, states_of}
 
 both : (x y : Bool) → (x && y) ≡ true → (x ≡ true) × (y ≡ true)

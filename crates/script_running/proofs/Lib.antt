@@ -1,3 +1,7 @@
 pub mod Initialized
 pub mod Runnings
 mod Numbers
+pub mod Listing
+pub mod Outputs
+pub mod CallLemmas
+mod EntryLemmas

@@ -1,7 +1,7 @@
 -- A table of the scripts of nodes, script by script.
 use Rattle.std.proofs.Common.{◌≡◌, ℕ, ◌+◌, Bool, true, false, List, [], ◌∷◌, ◌++◌, ◌∙◌, Option, Some, None, ap, sym, zero, suc, refl, arith, length, take}
 use Rattle.std.specs.Prelude.{◌==◌, slice_get, if◌then◌else◌}
-use Rattle.script_specs.specs.declared.runs.Run.{Run}
+use Rattle.script_running.specs.declared.run.Run.{Run}
 use Rattle.script_running.specs.Running.{script_from}
 use Rattle.script_running.specs.Table.{IsNoted, IsTable, number_at, number_or}
 

@@ -3,7 +3,7 @@ use Rattle.std.proofs.Common.{◌≡◌, ℕ, List, [], ◌∷◌, ap, refl, suc
 use Rattle.std.specs.Prelude.{ℤ}
 use Rattle.x3d_values.specs.declared.script.Kind.{Kind}
 use Rattle.script_host.specs.Hosting.{ScriptRecord}
-use Rattle.script_turn.specs.Acting.{kinds_of}
+use Rattle.script_running.specs.Acting.{kinds_of}
 use Rattle.script_running.specs.Running.{running, states_of}
 
 less-one : (m n : ℕ) → suc m ≡ suc n → m ≡ n

@@ -2,9 +2,9 @@
 use Rattle.std.specs.Prelude.{ℕ, ℤ, ◌+◌, ◌==◌, Bool, true, List, [], ◌∷◌, Option, Some, None, map, if◌then◌else◌}
 use Rattle.std.specs.List.{list_all}
 use Rattle.x3d_values.specs.declared.script.Kind.{Kind}
-use Rattle.script_specs.specs.declared.runs.Run.{Run}
+use Rattle.script_running.specs.declared.run.Run.{Run}
 use Rattle.script_host.specs.Hosting.{ScriptRecord}
-use Rattle.script_turn.specs.Ports.{Wiring}
+use Rattle.script_running.specs.Ports.{Wiring}
 
 -- the states of scripts
 abbrev pub states_of : List ScriptRecord → List (List ℤ)

@@ -1,7 +1,7 @@
 -- The scripts of nodes by a table.
 use Rattle.std.specs.Prelude.{ℕ, ◌≡◌, ◌==◌, Bool, true, false, List, Option, Some, None, slice_get}
 use Rattle.std.specs.Option.{option_and_then}
-use Rattle.script_specs.specs.declared.runs.Run.{Run}
+use Rattle.script_running.specs.declared.run.Run.{Run}
 use Rattle.script_running.specs.Running.{script_from}
 
 -- the number at the place of a node

@@ -2,10 +2,11 @@
 
 ghost use Rattle.std.specs.Prelude.{◌≡◌};
 
+use crate::acting;
+use crate::ports::Ports;
 use react_core::Outbox;
 use script_host::{Behaviour, ReplaceFault, Scripts, StateFault};
 use script_slots::DueScripts;
-use script_turn::Ports;
 use std::alloc::AllocError;
 use std::marker::Model;
 use x3d_values::{Items, Value};
@@ -34,7 +35,7 @@ impl<B: Behaviour> BegunScripts<B> {
     ghost use Rattle.script_host.specs.Attaching.{RefusesPlace};
     ghost use Rattle.script_host.specs.Behaviour.{Settle};
     ghost use Rattle.script_host.specs.Restoring.{AreStates, RefusesStates};
-    ghost use Rattle.script_turn.specs.Acting.{act, call_of, kinds_of, receive as received};
+    ghost use Rattle.script_running.specs.Acting.{act, call_of, kinds_of, receive as received};
     ghost use Rattle.script_running.specs.Running.{are_begun, running, states_of};
 
     /// These scripts, which were initialized.
@@ -82,7 +83,7 @@ impl<B: Behaviour> BegunScripts<B> {
             ≡ (received ports.now k field value.now self.old).replies }
         ensures kinds { kinds_of self.new ≡ kinds_of self.old }
     {
-        script_turn::receive(&mut self.scripts, k, ports, field, value, out)
+        acting::receive(&mut self.scripts, k, ports, field, value, out)
     }
 
     /// The events of a timestamp were received by the k-th script.
@@ -94,7 +95,7 @@ impl<B: Behaviour> BegunScripts<B> {
         ensures replies { out.new.items ≡ (act ports.now Settle k self.old).replies }
         ensures kinds { kinds_of self.new ≡ kinds_of self.old }
     {
-        script_turn::settle(&mut self.scripts, k, ports, out);
+        acting::settle(&mut self.scripts, k, ports, out);
     }
 
     /// Appends the states of all scripts, or leaves the buffer as it was.

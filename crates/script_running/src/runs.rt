@@ -3,9 +3,9 @@
 ghost use Rattle.std.specs.Prelude.{◌≡◌, ◌<◌, ℕ, OnOk, length};
 ghost use Rattle.script_running.specs.Table.{IsNoted, number_at};
 
+use crate::ports::Ports;
+use crate::run::Run;
 use scene_core::Scene;
-use script_specs::Run;
-use script_turn::Ports;
 use std::alloc::{AllocError, Global};
 use std::marker::Model;
 
@@ -19,7 +19,7 @@ pub struct Runs {
 
 impl Model for Runs {
     ghost use Rattle.std.specs.Prelude.{List};
-    ghost use Rattle.script_specs.specs.declared.runs.Run.{Run};
+    ghost use Rattle.script_running.specs.declared.run.Run.{Run};
     ghost use Rattle.script_running.specs.Table.{IsTable};
 
     ghost Value = { List Run };

@@ -1,7 +1,7 @@
 -- Why boxes are not those of a scene's scripts.
 use Rattle.std.specs.Prelude.{⊤, List}
 use Rattle.scene_core.specs.Scene.{SceneView}
-use Rattle.script_specs.specs.Scripts.{script_list}
+use Rattle.script_running.specs.Scripts.{script_list}
 use Rattle.script_host.specs.Attaching.{Refuses}
 use Rattle.script_host.specs.Hosting.{ScriptRecord}
 use Rattle.script_host.specs.declared.fault.AttachFault.{AttachFault}

@@ -2,7 +2,7 @@
 
 ghost use Rattle.std.specs.Prelude.{◌≡◌, OnOk, IfOk, IfErr, map};
 ghost use Rattle.cascade_core.specs.Scripts.{scripts_in};
-ghost use Rattle.script_specs.specs.Scripts.{script_list};
+ghost use Rattle.script_running.specs.Scripts.{script_list};
 ghost use Rattle.script_host.specs.Attaching.{Fits};
 ghost use Rattle.script_host.specs.Hosting.{fresh_record};
 ghost use Rattle.share_io.specs.Boxes.{IsRefused};
@@ -11,7 +11,7 @@ ghost use Rattle.share_io.specs.declared.fault.RunFault.TheVariants.{Memory};
 use crate::fault::RunFault;
 use scene_core::Scene;
 use script_host::{Behaviour, Scripts};
-use script_specs::script_list;
+use script_running::script_list;
 use std::alloc::Global;
 
 /// The scripts of a scene with these boxes, none of which is initialized, as a stage of the scene

@@ -3,7 +3,7 @@ use Rattle.std.proofs.Common.{◌≡◌, ◌⊎◌, ◌∙◌, ℕ, List, Option
 use Rattle.std.specs.Prelude.{IfErr, OnOk, Result, Ok, Err}
 use Rattle.std.specs.Io.KnownBytes.{Consumes, IsAtEnd}
 use Rattle.scene_core.specs.Scene.{SceneView}
-use Rattle.script_specs.specs.Scripts.{script_list}
+use Rattle.script_running.specs.Scripts.{script_list}
 use Rattle.script_boxes.specs.Boxes.{stock_for}
 use Rattle.script_boxes.specs.Refused.{scripts_fault}
 use Rattle.script_boxes.proofs.Faults.{fault_of, no_fault}

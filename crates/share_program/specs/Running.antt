@@ -2,7 +2,7 @@
 use Rattle.std.specs.Prelude.{◌≡◌, ◌⊎◌, ℕ, List, Option, Some, None, Result, Ok, Err}
 use Rattle.std.specs.Io.KnownBytes.{Appends, Consumes, IsAtEnd, Keeps}
 use Rattle.cascade_core.specs.Apply.{world}
-use Rattle.script_specs.specs.Scripts.{script_list}
+use Rattle.script_running.specs.Scripts.{script_list}
 use Rattle.script_boxes.specs.Refused.{scripts_fault}
 use Rattle.script_host.specs.Attaching.{Fits}
 use Rattle.script_host.specs.Hosting.{ScriptRecord}

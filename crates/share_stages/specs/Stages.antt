@@ -5,7 +5,7 @@ use Rattle.std.specs.Option.{option_map}
 use Rattle.cascade_core.specs.Apply.{opening}
 use Rattle.cascade_core.specs.Held.{StageView, Running}
 use Rattle.scene_core.specs.Scene.{SceneView}
-use Rattle.script_specs.specs.Scripts.{script_list}
+use Rattle.script_running.specs.Scripts.{script_list}
 use Rattle.script_boxes.specs.Refused.{scripts_fault}
 use Rattle.script_host.specs.declared.fault.AttachFault.{AttachFault}
 use Rattle.share_jobs.specs.declared.fault.JobFault.{JobFault}

@@ -2,7 +2,7 @@
 
 ghost use Rattle.std.specs.Prelude.{◌≡◌, ◌⊎◌, IfOk, IfErr, OnOk, None, Some};
 ghost use Rattle.cascade_core.specs.Scripts.{scripts_in};
-ghost use Rattle.script_specs.specs.Scripts.{script_list};
+ghost use Rattle.script_running.specs.Scripts.{script_list};
 ghost use Rattle.script_host.specs.Attaching.{Fits};
 ghost use Rattle.x3d_lists.specs.Answers.{Gives};
 ghost use Rattle.share_stages.specs.Stages.{IsFresh, fresh, opened_stage, scripts_refusal, staged};
@@ -12,7 +12,7 @@ use cascade_core::Stage;
 use scene_core::Scene;
 use script_boxes::{StockScript, attach_stock};
 use script_host::Scripts;
-use script_specs::script_list;
+use script_running::script_list;
 use share_jobs::JobFault;
 use share_program::{Opened, open_scene};
 use std::alloc::{AllocError, Global};

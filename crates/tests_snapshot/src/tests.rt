@@ -2,7 +2,7 @@
 
 ghost use Rattle.std.specs.Prelude.{◌≡◌, IfOk};
 ghost use Rattle.cascade_core.specs.Scripts.{scripts_in};
-ghost use Rattle.script_specs.specs.Scripts.{script_list};
+ghost use Rattle.script_running.specs.Scripts.{script_list};
 ghost use Rattle.script_host.specs.Attaching.{Fits};
 
 mod stored;
@@ -11,7 +11,7 @@ use cascade_core::{Stage, TextFault};
 use scene_core::Scene;
 use script_boxes::{StockScript, boxes_of};
 use script_host::Scripts;
-use script_specs::script_list;
+use script_running::script_list;
 use share_commands::{SharedJob, shared_job};
 use share_jobs::Inputs;
 use share_program::{RunFault, attach};

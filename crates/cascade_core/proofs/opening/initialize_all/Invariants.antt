@@ -1,6 +1,6 @@
 use Rattle.std.proofs.Common.{◌≡◌, ◌-◌}
 use Rattle.std.specs.List.{fold, range_with_len}
-use Rattle.script_turn.specs.Acting.{kinds_of}
+use Rattle.script_running.specs.Acting.{kinds_of}
 use Rattle.cascade_core.specs.Apply.{start_one, started}
 use Rattle.cascade_core.specs.Course.{plan_at}
 use Rattle.cascade_core.proofs.opening.initialize_all.Given as goal

@@ -2,7 +2,7 @@ use Rattle.std.proofs.Common.{◌∙◌, ap, refl}
 use Rattle.std.specs.List.{list_all}
 use Rattle.script_slots.specs.Settling.{Settling}
 use Rattle.scene_core.specs.Scene.{shapes_of}
-use Rattle.script_turn.specs.Acting.{kinds_of}
+use Rattle.script_running.specs.Acting.{kinds_of}
 use Rattle.cascade_core.specs.Course.{plan_at}
 use Rattle.cascade_core.specs.Scripts.{are_begun}
 use Rattle.cascade_core.specs.Sound.{are_sent}

@@ -3,7 +3,7 @@ use Rattle.std.specs.List.{list_all}
 use Rattle.std.specs.Vec.Iter.{into_iter_items}
 use Rattle.scene_core.specs.Scene.{shapes_of}
 use Rattle.pick_core.specs.Sites.{rows_of}
-use Rattle.script_turn.specs.Acting.{kinds_of}
+use Rattle.script_running.specs.Acting.{kinds_of}
 use Rattle.cascade_core.specs.Apply.{sent_by_all}
 use Rattle.cascade_core.specs.Course.{plan_at, seen}
 use Rattle.cascade_core.specs.Sound.{are_sent}

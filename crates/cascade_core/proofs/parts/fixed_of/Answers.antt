@@ -1,6 +1,6 @@
 use Rattle.std.proofs.Common.{rules, ◌≡◌, map}
-use Rattle.script_specs.specs.Runs.{run_of}
-use Rattle.script_specs.specs.Scripts.{script_list}
+use Rattle.script_running.specs.Runs.{run_of}
+use Rattle.script_running.specs.Scripts.{script_list}
 use Rattle.cascade_core.proofs.SoundPlans.{sound_scene}
 use Rattle.cascade_core.proofs.parts.fixed_of.Goals as goal
 

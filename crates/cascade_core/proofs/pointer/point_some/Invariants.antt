@@ -2,7 +2,7 @@ use Rattle.std.proofs.Common.{◌≡◌, ◌-◌, []}
 use Rattle.std.specs.List.{fold, range_with_len}
 use Rattle.scene_core.specs.Scene.{types_of}
 use Rattle.pick_core.specs.Sites.{rows_of}
-use Rattle.script_turn.specs.Acting.{kinds_of}
+use Rattle.script_running.specs.Acting.{kinds_of}
 use Rattle.cascade_core.specs.Course.{plan_at, seen}
 use Rattle.cascade_world.specs.Nodes.{is_sensor}
 use Rattle.cascade_world.specs.Insides.{seen as insides_seen}

@@ -1,6 +1,6 @@
 use Rattle.std.proofs.Common.{◌≡◌, []}
 use Rattle.pick_core.specs.Sites.{rows_of}
-use Rattle.script_turn.specs.Acting.{kinds_of}
+use Rattle.script_running.specs.Acting.{kinds_of}
 use Rattle.cascade_core.specs.Course.{plan_at, seen}
 use Rattle.cascade_core.specs.Settles.{settle_up_to}
 use Rattle.cascade_core.proofs.SettleLemmas.{due_left}

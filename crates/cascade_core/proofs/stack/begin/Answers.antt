@@ -4,7 +4,7 @@ use Rattle.cascade_core.specs.Course.{Course, plan_at, seen}
 use Rattle.cascade_core.specs.Cascade.{recorded}
 use Rattle.cascade_core.specs.Stack.{finish}
 use Rattle.cascade_rules.specs.declared.tasks.Task.TheVariants.{Follow}
-use Rattle.script_turn.specs.Acting.{kinds_of}
+use Rattle.script_running.specs.Acting.{kinds_of}
 use Rattle.cascade_rules.proofs.Sends.{is_first, moves, stands, was_sent}
 use Rattle.cascade_core.proofs.Depths.{send_full-sent}
 use Rattle.cascade_core.proofs.SoundLemmas.{cast_stands}

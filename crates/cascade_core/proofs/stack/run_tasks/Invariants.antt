@@ -2,7 +2,7 @@ use Rattle.std.proofs.Common.{◌≡◌, []}
 use Rattle.std.specs.List.{AllByRecursion}
 use Rattle.scene_core.specs.Scene.{shapes_of}
 use Rattle.pick_core.specs.Sites.{rows_of}
-use Rattle.script_turn.specs.Acting.{kinds_of}
+use Rattle.script_running.specs.Acting.{kinds_of}
 use Rattle.cascade_core.specs.Course.{plan_at, seen}
 use Rattle.cascade_core.specs.Stack.{finish, IsReady, work_left}
 use Rattle.cascade_core.proofs.stack.run_tasks.Given as goal

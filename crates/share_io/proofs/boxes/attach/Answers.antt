@@ -1,4 +1,4 @@
-use Rattle.script_specs.specs.Scripts.{script_list}
+use Rattle.script_running.specs.Scripts.{script_list}
 use Rattle.share_io.proofs.Attached.{attached}
 use Rattle.share_io.proofs.boxes.attach.Goals as goal
 

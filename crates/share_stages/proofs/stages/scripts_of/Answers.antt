@@ -1,4 +1,4 @@
-use Rattle.script_specs.specs.Scripts.{script_list}
+use Rattle.script_running.specs.Scripts.{script_list}
 use Rattle.script_boxes.specs.Boxes.{stock_kind, stock_state}
 use Rattle.share_io.proofs.Attached.{attached}
 use Rattle.share_stages.proofs.stages.scripts_of.Goals as goal

@@ -9,7 +9,7 @@ use super::worlds::{COUNTERS, clock, stage_of, untold};
 use cascade_core::{ApplyFault, LoadFault, PlaceFault, Stage, StatesFault, TextFault};
 use script_boxes::boxes_of;
 use script_host::{Behaviour, StateFault};
-use script_specs::script_list;
+use script_running::script_list;
 use share_program::{Opened, attach, open_scene};
 use snapshot_core::{SaveFault, SnapFault, load_into, save};
 use std::alloc::Global;

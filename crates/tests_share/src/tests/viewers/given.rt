@@ -4,14 +4,14 @@ ghost use Rattle.std.specs.Prelude.{◌≡◌, IfOk};
 ghost use Rattle.cascade_core.specs.Apply.{opening};
 ghost use Rattle.cascade_core.specs.Held.{Running};
 ghost use Rattle.cascade_core.specs.Scripts.{scripts_in};
-ghost use Rattle.script_specs.specs.Scripts.{script_list};
+ghost use Rattle.script_running.specs.Scripts.{script_list};
 ghost use Rattle.script_host.specs.Attaching.{Fits};
 
 use cascade_core::{LoadFault, Stage};
 use scene_core::Scene;
 use script_boxes::{StockScript, boxes_of};
 use script_host::Scripts;
-use script_specs::script_list;
+use script_running::script_list;
 use share_core::Viewer;
 use share_law::{SnapFault, TakeFault, Taken};
 use share_program::{Opened, RunFault, attach, open_scene};

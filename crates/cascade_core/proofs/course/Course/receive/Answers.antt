@@ -1,6 +1,6 @@
 use Rattle.std.proofs.Common.{rules, ◌≡◌, ◌∙◌, sym, arith, true, false, Some, None}
 use Rattle.std.specs.Prelude.{is_some}
-use Rattle.script_turn.specs.Acting.{call_of, receive}
+use Rattle.script_running.specs.Acting.{call_of, receive}
 use Rattle.cascade_core.specs.Course.{plan_at, ports_of, script_of, seen}
 use Rattle.cascade_core.proofs.Arrivals.{here-received, here-replies, missed-course, nowhere-course, nowhere-received, nowhere-replies, taken-course}
 use Rattle.cascade_core.proofs.SoundLemmas.{cast-counted, cast-many, script-below}

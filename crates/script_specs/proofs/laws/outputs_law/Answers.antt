@@ -1,5 +1,0 @@
-use Rattle.script_specs.proofs.Outputs.{send_by_outputs}
-use Rattle.script_specs.proofs.laws.outputs_law.Goals as goal
-
-pub returns : goal.returns
-returns c = send_by_outputs

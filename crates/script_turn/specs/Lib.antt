@@ -1,4 +1,0 @@
-pub mod Acting
-pub mod Laws
-pub mod Ports
-pub mod Values
