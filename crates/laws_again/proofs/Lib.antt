@@ -21,3 +21,16 @@ pub mod ExistPresent
 pub mod ExistReading
 pub mod Standing
 pub mod ExistWhole
+pub mod Keepable
+pub mod Spelled
+pub mod TypedFitting
+pub mod Held
+pub mod Lines
+pub mod Rewritten
+pub mod StayFitting
+pub mod Kept
+pub mod Ranged
+pub mod WorldsWhole
+pub mod SameSteps
+pub mod SameFields
+pub mod SameTrees

@@ -3,3 +3,10 @@ pub mod Begins
 pub mod Room
 pub mod Sound
 pub mod Exist
+pub mod Kept
+pub mod Written
+pub mod WorldsAgain
+pub mod Typed
+pub mod Fitting
+pub mod Ranged
+pub mod Stays

@@ -1,0 +1,47 @@
+//! Laws of written scenes, each the contract of a function that does nothing.
+
+ghost use Rattle.laws_again.specs.Ranged.{FittingAreInRange};
+ghost use Rattle.laws_again.specs.Stays.{RunningWorldsStay, ScenesStay, WorldsStay};
+
+use crate::existing::written_scenes_exist;
+use crate::laws::{document_scenes_are_sound, scenes_again_have_room, written_scenes_are_again};
+use crate::typed::fitting_worlds_are_typed;
+use crate::worlds::fitting_worlds_are_kept;
+use laws_spelled::spelled_flats_are_named;
+use laws_text::{scenes_are_writable, written_scenes_spell};
+use laws_written::{fields_are_distinct, written_routes_stay, written_scenes_are_flat};
+
+/// What is written of a scene in a state that fits is too large, or is read as the scene, with what
+/// its nodes kept and its routes.
+pub fn written_scenes_stay()
+    ensures { ScenesStay }
+{
+    spelled_flats_are_named();
+    scenes_are_writable();
+    written_scenes_spell();
+    fitting_worlds_are_kept();
+    fitting_worlds_are_typed();
+    fitting_worlds_are_in_range();
+    fields_are_distinct();
+    document_scenes_are_sound();
+    written_scenes_are_flat();
+    written_scenes_exist();
+    written_scenes_are_again();
+    scenes_again_have_room();
+    written_routes_stay();
+}
+
+/// So it is with the scene as it stands in each world that it comes to by inputs in turn, and in
+/// that of each running viewer.
+pub fn written_worlds_stay()
+    ensures reached { WorldsStay }
+    ensures running { RunningWorldsStay }
+{
+    written_scenes_stay();
+}
+
+/// In a world where each value is in the range of its field's type, what a node keeps of a field is
+/// in the range of the field.
+pub fn fitting_worlds_are_in_range()
+    ensures { FittingAreInRange }
+{}

@@ -1,0 +1,46 @@
+//! Laws of what nodes keep in worlds, each the contract of a function that does nothing.
+
+ghost use Rattle.laws_again.specs.WorldsAgain.{RunningWorldsAreAgain, RunningWorldsAreKeptAgain};
+ghost use Rattle.laws_again.specs.WorldsAgain.{WorldsAreKeptAgain, WrittenWorldsAreAgain};
+ghost use Rattle.laws_again.specs.Typed.{FittingAreOfType};
+ghost use Rattle.laws_again.specs.Typed.{RunningWorldsAreOfType, WorldsAreOfType};
+
+use crate::laws::{document_scenes_are_sound, values_are_kept_again, written_scenes_are_again};
+use crate::worlds::fitting_worlds_are_kept;
+use laws_spelled::spelled_flats_are_named;
+use laws_written::fields_are_distinct;
+
+/// In a world where each value is in the range of its field, what a node keeps of a field is of the
+/// field's type.
+pub fn fitting_worlds_are_typed()
+    ensures { FittingAreOfType }
+{}
+
+/// So it is in each world that the scene of a text comes to by inputs in turn, and in that of each
+/// running viewer.
+pub fn worlds_are_typed()
+    ensures reached { WorldsAreOfType }
+    ensures running { RunningWorldsAreOfType }
+{}
+
+/// The scene of what is written of the scene of such a world, where there is one, is that scene,
+/// with what its nodes kept.
+pub fn written_worlds_are_again()
+    ensures reached { WrittenWorldsAreAgain }
+    ensures running { RunningWorldsAreAgain }
+{
+    spelled_flats_are_named();
+    fitting_worlds_are_kept();
+    fields_are_distinct();
+    document_scenes_are_sound();
+    written_scenes_are_again();
+}
+
+/// What the nodes of such a world kept they keep in the scene that is read again, before any event.
+pub fn worlds_are_kept_again()
+    ensures reached { WorldsAreKeptAgain }
+    ensures running { RunningWorldsAreKeptAgain }
+{
+    values_are_kept_again();
+    written_worlds_are_again();
+}
