@@ -21,11 +21,10 @@ mod runs;
 mod start;
 mod values;
 
-pub use acting::{initialize, receive, settle};
+pub use acting::initialize;
 pub use begun::BegunScripts;
 pub use laws::{kinds_law, outputs_law, values_law};
 pub use list::script_list;
-pub use ports::{MAX_PORTS, Ports};
+pub use ports::Ports;
 pub use run::{Run, runs_of};
 pub use runs::Runs;
-pub use values::{numbers_of, value_of};
