@@ -10,6 +10,7 @@ use Rattle.x3d_values.specs.declared.vector.Vec3.{Vec3}
 use Rattle.x3d_values.specs.Ranges.{is_viewer}
 use Rattle.react_core.specs.declared.outbox.Reply.{Reply}
 use Rattle.react_core.specs.Reaction.{reply}
+use Rattle.sensor_core.specs.Touches.{change_replies}
 use Rattle.sensor_plane.specs.declared.drag.Drag.{Drag}
 use Rattle.sensor_plane.specs.declared.fields.PlaneFields.{PlaneFields}
 use Rattle.sensor_plane.specs.declared.pointer.Contact.{Contact}
@@ -155,9 +156,7 @@ over_after plane pointer = slice_set plane.over pointer.who (is_some pointer.con
 
 -- `isOver` where the first pointer comes and where the last one goes
 abbrev pub over_replies : Bool → Bool → List Reply
-over_replies was is =
-    if was then (if is then [] else reply IS_OVER (SFBool false) ∷ [])
-    else (if is then reply IS_OVER (SFBool true) ∷ [] else [])
+over_replies was is = change_replies IS_OVER was is
 
 -- what an enabled sensor does with a pointer
 unfoldable pub point : Plane → PlaneFields → PlanePointer → Pointed
