@@ -8,7 +8,8 @@ use Rattle.x3d_values.specs.declared.vector.Vec2.{Vec2}
 use Rattle.x3d_values.specs.declared.vector.Vec3.{Vec3}
 use Rattle.x3d_values.specs.Kept.{with_value}
 use Rattle.react_core.specs.Reaction.{stored}
-use Rattle.sensor_core.specs.Timing.{◌>>=◌, truth_at}
+use Rattle.sensor_core.specs.Timing.{◌>>=◌}
+unfoldable pub use Rattle.sensor_core.specs.Timing.{truth_at}
 use Rattle.sensor_plane.specs.declared.fields.PlaneFields.{PlaneFields}
 use Rattle.sensor_plane.specs.declared.numbers.TheConstants.{AUTO_OFFSET, MAX_POSITION, MIN_POSITION, OFFSET}
 

@@ -154,11 +154,8 @@ dragged fields pointer (Some drag) =
 abbrev pub over_after : Plane → PlanePointer → List Bool
 over_after plane pointer = slice_set plane.over pointer.who (is_some pointer.contact)
 
--- `isOver` where the first pointer comes and where the last one goes
-abbrev pub over_replies : Bool → Bool → List Reply
-over_replies was is = change_replies IS_OVER was is
-
--- what an enabled sensor does with a pointer
+-- what an enabled sensor does with a pointer: `isOver` is sent where the first pointer comes and
+-- where the last one goes
 unfoldable pub point : Plane → PlaneFields → PlanePointer → Pointed
 point plane fields pointer =
     let over = over_after plane pointer in
@@ -167,7 +164,7 @@ point plane fields pointer =
       plane = record { over = over; drag = after.drag };
       fields = after.fields;
       replies =
-          over_replies (is_over plane) (list_any (λ over. over) over) ++ after.replies;
+          change_replies IS_OVER (is_over plane) (list_any (λ over. over) over) ++ after.replies;
     }
 
 -- ---- `enabled` FALSE
