@@ -9,6 +9,7 @@ mod sending;
 mod tasks;
 
 pub use boxes::{deliver, put_boxes};
-pub use nodes::{is_clock, is_sensor};
+pub use nodes::is_clock;
+pub use pick_core::is_sensor;
 pub use sending::send;
 pub use tasks::{Task, push_before, push_replies};

@@ -22,7 +22,7 @@ pub struct Span {
 
 /// Appends the label of a node and the name of its field; on a refusal perhaps a part of it.
 #[tactic(auto, unfolding(crate::specs::LineText::source_text))]
-fn push_source(scene: &Scene, source: End, out: &mut Vec<u8>) -> Result<(), AllocError>
+pub fn push_source(scene: &Scene, source: End, out: &mut Vec<u8>) -> Result<(), AllocError>
     ensures ok { OnOk result (out.new.items ≡ out.old.items ++ source_text scene.now source) }
     ensures kept { Extends out.old.items out.new.items }
 {

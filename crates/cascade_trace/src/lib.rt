@@ -14,6 +14,7 @@ mod texts;
 mod trace;
 
 pub use followed::deliveries;
+pub use labels::push_source;
 pub use lines::{LineHead, WritesLines};
 pub use passing::TestsLines;
 pub use sent::SentBits;

@@ -3,12 +3,12 @@
 ghost use Rattle.std.specs.Prelude.{◌≡◌, ◌++◌, [], ◌∷◌, OnErr, OnOk};
 ghost use Rattle.std.specs.List.{flat_map};
 ghost use Rattle.x3d_lists.specs.Extends.{Extends};
-ghost use Rattle.cascade_trace.specs.LineText.{line_text, source_text, stamp_text};
+ghost use Rattle.cascade_trace.specs.LineText.{line_text, stamp_text};
 ghost use Rattle.cascade_trace.specs.Trace.{line};
 ghost use Rattle.x3d_values.specs.ValueText.{value_text};
 ghost use Rattle.embed_reading.specs.Lines.{change_text, from_on, place_text};
 
-use cascade_trace::{LineHead, Trace, WritesLines};
+use cascade_trace::{LineHead, Trace, WritesLines, push_source};
 use itoa::Buffer;
 use scene_core::{End, Scene};
 use std::alloc::AllocError;
@@ -27,17 +27,6 @@ fn push_stamp(head: LineHead, out: &mut Vec<u8>) -> Result<(), AllocError>
     push_number(head.time, out)?;
     out.push(b' ')?;
     Ok(())
-}
-
-/// Appends the label of a node and the name of its field; on a refusal perhaps a part of it.
-#[tactic(auto, unfolding(cascade_trace::specs::LineText::source_text))]
-fn push_source(scene: &Scene, source: End, out: &mut Vec<u8>) -> Result<(), AllocError>
-    ensures ok { OnOk result (out.new.items ≡ out.old.items ++ source_text scene.now source) }
-    ensures kept { Extends out.old.items out.new.items }
-{
-    scene.label(source.node, out)?;
-    out.push(b'.')?;
-    out.extend_from_slice(scene.field_name(source).as_bytes())
 }
 
 /// Appends the number of a node and that of its field; on a refusal perhaps a part of them.

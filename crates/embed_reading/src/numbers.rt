@@ -2,6 +2,7 @@
 
 ghost use Rattle.std.specs.Prelude.{◌≡◌, ◌++◌, ℤ, List, OnOk};
 ghost use Rattle.std.specs.List.{flat_map};
+ghost use Rattle.x3d_values.specs.Vectors.{number_run, pair_run, vector_run, color_run};
 ghost use Rattle.embed_reading.specs.Numbers as spec;
 
 use std::alloc::AllocError;
@@ -29,7 +30,7 @@ impl Numbers for bool {
 }
 
 impl Numbers for i32 {
-    ghost numbers = { spec.number_alone };
+    ghost numbers = { number_run };
 
     fn push_to(&self, out: &mut Vec<i64>) -> Result<(), AllocError> {
         out.push(i64::from(*self))?;
@@ -38,7 +39,7 @@ impl Numbers for i32 {
 }
 
 impl Numbers for i64 {
-    ghost numbers = { spec.number_alone };
+    ghost numbers = { number_run };
 
     fn push_to(&self, out: &mut Vec<i64>) -> Result<(), AllocError> {
         out.push(*self)?;
@@ -57,7 +58,7 @@ impl Numbers for u32 {
 }
 
 impl Numbers for Vec2 {
-    ghost numbers = { spec.pair_numbers };
+    ghost numbers = { pair_run };
 
     fn push_to(&self, out: &mut Vec<i64>) -> Result<(), AllocError> {
         out.extend_from_slice(&[self.x, self.y])
@@ -65,7 +66,7 @@ impl Numbers for Vec2 {
 }
 
 impl Numbers for Vec3 {
-    ghost numbers = { spec.vector_numbers };
+    ghost numbers = { vector_run };
 
     fn push_to(&self, out: &mut Vec<i64>) -> Result<(), AllocError> {
         out.extend_from_slice(&[self.x, self.y, self.z])
@@ -73,7 +74,7 @@ impl Numbers for Vec3 {
 }
 
 impl Numbers for Color {
-    ghost numbers = { spec.color_numbers };
+    ghost numbers = { color_run };
 
     fn push_to(&self, out: &mut Vec<i64>) -> Result<(), AllocError> {
         out.extend_from_slice(&[self.red, self.green, self.blue])

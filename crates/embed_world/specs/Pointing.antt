@@ -1,17 +1,10 @@
 -- Inputs by their parts, where these are in their ranges.
 use Rattle.std.specs.Prelude.{ℕ, ℤ, Bool, ◌&&◌, Option, Some, None, if◌then◌else◌}
-use Rattle.x3d_values.specs.Pointing.{Pointing, Sight, is_ray}
+use Rattle.x3d_values.specs.Pointing.{Pointing, Sight}
+pub use Rattle.x3d_values.specs.Pointing.{ray_of}
 use Rattle.x3d_values.specs.Ranges.{is_input_number, is_input_time, is_viewer}
 use Rattle.x3d_values.specs.Stamp.{Stamp}
 use Rattle.x3d_values.specs.declared.stamped.Event.{Event}
-use Rattle.x3d_values.specs.declared.vector.Vec3.{Vec3}
-
-abbrev pub sight : Vec3 → Vec3 → Sight
-sight origin dir = record { origin = origin; dir = dir }
-
--- the ray with this origin and this direction
-abbrev pub ray_of : Vec3 → Vec3 → Option Sight
-ray_of origin dir = if is_ray (sight origin dir) then Some (sight origin dir) else None
 
 -- the pointer of a viewer
 abbrev pub pointer_of : ℕ → Bool → Option Sight → Option Pointing

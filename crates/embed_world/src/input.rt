@@ -5,21 +5,9 @@ ghost use Rattle.embed_world.specs.Pointing as spec;
 
 use crate::world::EmbeddedWorld;
 use cascade_core::{ApplyFault, Work};
-use x3d_values::{Event, Pointer, Ray, Stamped, Vec3, is_input_number, is_input_time, is_viewer};
-
-/// The ray with this origin and this direction: coordinates of a size up to 10^15 millionths, and a
-/// direction other than 0 0 0.
-pub fn ray_of(origin: Vec3, dir: Vec3) -> Option<Ray>
-    ensures { result ≡ spec.ray_of origin dir }
-{
-    if !origin.fits() {
-        return None;
-    }
-    if !dir.fits() || dir.is_zero() {
-        return None;
-    }
-    Some(Ray::new(origin, dir))
-}
+use x3d_values::{
+    Event, Pointer, Stamped, Vec3, is_input_number, is_input_time, is_viewer, ray_of,
+};
 
 /// The pointer of a viewer, 0 to 63, with such a ray.
 pub fn pointer_of(who: u8, down: bool, origin: Vec3, dir: Vec3) -> Option<Pointer>

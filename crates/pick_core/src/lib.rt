@@ -24,9 +24,11 @@ pub use laws::{
     alike_rows_law, hits_are_on_rays_law, numbers_law, one_local_law, one_nearest_law,
     picks_nearest_law,
 };
-pub use local::local_point;
+pub use local::{local_point, moved_back, quotient};
+pub use look::{Motion, motion_of};
+pub use motion::{clamped, move_point};
 pub use pick_rules::{Bounds, Fraction};
 pub use row::Row;
-pub use sensors::{MAX_SENSORS, is_enabled, is_held, sensors_of};
+pub use sensors::{MAX_SENSORS, is_enabled, is_held, is_sensor, sensors_of};
 pub use trail::Place;
 pub use walk::pick;

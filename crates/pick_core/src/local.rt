@@ -57,11 +57,11 @@ fn point_of(ray: Ray, n: u64, m: u64) -> Vec3
     }
 }
 
-/// Rounded down; 0 where the scale is 0.
-fn quotient(z: i128, scale: i64) -> i128
-    requires { unsigned_abs z ≤ 2 ^ 100 }
+/// Rounded down; 0 where the scale is 0. The sum of it and a coordinate fits.
+pub fn quotient(z: i128, scale: i64) -> i128
+    requires { unsigned_abs z ≤ 2 ^ 127 - 2 ^ 63 }
     ensures value { result ≡ spec.quotient z scale }
-    ensures fits { unsigned_abs result ≤ 2 ^ 100 }
+    ensures fits { unsigned_abs result ≤ 2 ^ 127 - 2 ^ 63 }
 {
     let scale = scale as i128;
     if scale < 0 {
@@ -90,9 +90,9 @@ fn back_along(translation: i64, scale: i64, center: i64, at: i64) -> i64
     clamped(center as i128 + quotient(away, scale))
 }
 
-/// A point inside a Transform.
+/// A point round a Transform, in the coordinates inside it.
 #[tactic(auto, using(crate::proofs::Passed::passed), unfolding(crate::specs::Local::moved_back))]
-fn moved_back(motion: Motion, at: Vec3) -> Vec3
+pub fn moved_back(motion: Motion, at: Vec3) -> Vec3
     ensures { result ≡ spec.moved_back motion at }
 {
     let (t, s, c) = (motion.translation, motion.scale, motion.center);

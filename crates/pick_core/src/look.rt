@@ -21,7 +21,7 @@ pub(crate) enum Kind {
 
 /// How a Transform moves what is inside it, in millionths.
 #[derive(Clone, Copy)]
-pub(crate) struct Motion {
+pub struct Motion {
     pub translation: Vec3,
     pub scale: Vec3,
     pub center: Vec3,
@@ -94,7 +94,7 @@ fn vector_at(own: Option<&Fields>, number: u16, default: Vec3) -> Vec3
 
 /// How a Transform with these fields moves what is inside it.
 #[tactic(auto, unfolding(crate::specs::Looks::motion_of))]
-pub(crate) fn motion_of(own: Option<&Fields>) -> Motion
+pub fn motion_of(own: Option<&Fields>) -> Motion
     ensures { result ≡ spec.motion_of (option_copied own.entry) }
 {
     Motion {

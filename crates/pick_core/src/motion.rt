@@ -78,14 +78,14 @@ fn millionth(number: i128) -> i128
 }
 
 /// At most 10^15 in size.
-pub(crate) fn clamped(coordinate: i128) -> i64
+pub fn clamped(coordinate: i128) -> i64
     ensures { result ≡ clamped coordinate }
 {
     coordinate.clamp(-LIMIT, LIMIT) as i64
 }
 
 /// The place of a point in the system round a transform.
-fn move_point(motion: Motion, at: Vec3) -> Vec3
+pub fn move_point(motion: Motion, at: Vec3) -> Vec3
     ensures { result ≡ moved motion at }
 {
     let (t, s, c) = (motion.translation, motion.scale, motion.center);

@@ -1,4 +1,3 @@
 pub mod Back
 pub mod Leading
-pub mod Points
 pub mod Sizes

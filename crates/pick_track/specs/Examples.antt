@@ -2,11 +2,11 @@
 use Rattle.std.specs.Prelude.{◌≡◌, ℕ, ℤ, pos, negsuc, Some, None}
 use Rattle.x3d_values.specs.declared.vector.Vec3.{Vec3}
 use Rattle.x3d_values.specs.Pointing.{Sight}
-use Rattle.pick_track.specs.Paths.{put_in, put_out}
+use Rattle.x3d_values.specs.Vectors.{vector as at}
+use Rattle.pick_core.specs.declared.look.Motion.{Motion}
+use Rattle.pick_core.specs.Local.{moved_back}
+use Rattle.pick_core.specs.Motion.{moved}
 use Rattle.pick_track.specs.Track.{met}
-
-abbrev at : ℤ → ℤ → ℤ → Vec3
-at x y z = record { x = x; y = y; z = z }
 
 abbrev zero : ℤ
 zero = pos 0
@@ -41,21 +41,22 @@ level = record {
 abbrev ten : Vec3
 ten = at (pos 10000000) zero zero
 
-abbrev twos : Vec3
-twos = at (pos 2000000) (pos 2000000) (pos 2000000)
-
-abbrev origin : Vec3
-origin = at zero zero zero
+abbrev twos : Motion
+twos = record {
+  translation = ten;
+  scale = at (pos 2000000) (pos 2000000) (pos 2000000);
+  center = at zero zero zero;
+}
 
 -- a scale of -2 along x, 0 along y, 0.5 along z
-abbrev odd : Vec3
-odd = at (minus 1999999) zero (pos 500000)
+abbrev odd : Motion
+odd = record twos { scale = at (minus 1999999) zero (pos 500000) }
 
 pub record Tracking : Type 0 where
-  pub plane : put_out ten twos origin (at zero zero (pos 1000000))
+  pub plane : moved twos (at zero zero (pos 1000000))
       ≡ at (pos 10000000) zero (pos 2000000)
   pub meets : met down (pos 2000000) ≡ Some (at (pos 14000000) (pos 4000000) (pos 2000000))
-  pub inside : put_in ten twos origin (at (pos 14000000) (pos 4000000) (pos 2000000))
+  pub inside : moved_back twos (at (pos 14000000) (pos 4000000) (pos 2000000))
       ≡ at (pos 2000000) (pos 2000000) (pos 1000000)
   -- 15 down from 20 to 5: 11.25 along x, -7.5 along y
   pub slants : met aslant (pos 5000000) ≡ Some (at (pos 11250000) (minus 7499999) (pos 5000000))
@@ -69,7 +70,7 @@ pub record Tracking : Type 0 where
   pub along : met level (pos 20000000) ≡ None
   pub above : met level (pos 2000000) ≡ None
   -- a scale below 0 turns x round, one of 0 leaves the center alone, one of 0.5 doubles z
-  pub turned : put_in ten odd origin (at (pos 14000000) (pos 4000000) (pos 1000000))
+  pub turned : moved_back odd (at (pos 14000000) (pos 4000000) (pos 1000000))
       ≡ at (minus 1999999) zero (pos 2000000)
-  pub back : put_out ten odd origin (at (minus 1999999) zero (pos 2000000))
+  pub back : moved odd (at (minus 1999999) zero (pos 2000000))
       ≡ at (pos 14000000) zero (pos 1000000)

@@ -1,4 +1,3 @@
-pub mod Numbers
 pub mod Paths
 pub mod Track
 pub mod Again

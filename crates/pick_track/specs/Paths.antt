@@ -8,9 +8,9 @@ use Rattle.x3d_values.specs.declared.node_type.NodeType.{NodeType}
 use Rattle.x3d_values.specs.declared.node_type.NodeType.TheVariants as type
 use Rattle.x3d_values.specs.declared.vector.Vec3.{Vec3}
 use Rattle.scene_core.specs.Scene.{SceneView, type_at}
-use Rattle.pick_core.specs.Local.{back_along, moved_back}
+use Rattle.pick_core.specs.Local.{moved_back}
 use Rattle.pick_core.specs.Looks.{motion_of}
-use Rattle.pick_core.specs.Motion.{along_of, moved}
+use Rattle.pick_core.specs.Motion.{moved}
 use Rattle.pick_core.specs.Sensors.{list_of}
 
 -- ---- the nodes along a path
@@ -28,22 +28,6 @@ nodes_along scene owner (p ∷ ps) =
     then_along (λ child. nodes_along scene (Some child) ps) (slice_get (list_of scene owner) p)
 
 -- ---- points along nodes
-
--- a point inside a Transform of that translation, scale and center, in the system round it
-abbrev pub put_out : Vec3 → Vec3 → Vec3 → Vec3 → Vec3
-put_out translation scale center p = record {
-  x = along_of translation.x scale.x center.x p.x;
-  y = along_of translation.y scale.y center.y p.y;
-  z = along_of translation.z scale.z center.z p.z;
-}
-
--- a point round it, in the system inside it
-abbrev pub put_in : Vec3 → Vec3 → Vec3 → Vec3 → Vec3
-put_in translation scale center p = record {
-  x = back_along translation.x scale.x center.x p.x;
-  y = back_along translation.y scale.y center.y p.y;
-  z = back_along translation.z scale.z center.z p.z;
-}
 
 abbrev pub is_transform_as : Option NodeType → Bool
 is_transform_as (Some type.Transform) = true

@@ -1,14 +1,8 @@
 //! What holds of points along a path, and of the plane of a drag.
 
 ghost use Rattle.pick_track.specs.Examples.{Tracking};
-ghost use Rattle.pick_track.specs.Numbers.{Numbers};
 ghost use Rattle.pick_track.specs.Again.{OutwardsAgain, ScalesDivide, TurnedScalesReturn};
 ghost use Rattle.pick_track.specs.SensorPaths.{SensorsPathsLead, SensorsPointsAreInward};
-
-/// The numbers of a Transform's fields are those of their names in the table of fields.
-pub fn numbers_law()
-    ensures { Numbers }
-{}
 
 /// A point that is taken inwards along a path and outwards again is the point, where each scale on
 /// the way divides.

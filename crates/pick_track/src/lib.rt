@@ -5,19 +5,18 @@
 //! |---|---|
 //! | `track` | where a ray meets the plane of a drag, in the sensor's coordinates |
 //! | `paths` | points along a path, the list that it leads to, and a hit's path to a sensor |
-//! | `motion` | a point inside and outside a Transform |
-//! | `numbers`, `laws` | the numbers of a Transform's fields, and what holds of points |
+//! | `motion` | a point inside and outside a node |
+//! | `laws` | what holds of points |
 #![tactic(auto)]
 
 mod laws;
 mod motion;
-mod numbers;
 mod paths;
 mod track;
 
 pub use laws::{
-    numbers_law, outwards_again_law, scales_divide_law, sensors_paths_lead_law,
-    sensors_points_are_inward_law, tracking_law, turned_scales_return_law,
+    outwards_again_law, scales_divide_law, sensors_paths_lead_law, sensors_points_are_inward_law,
+    tracking_law, turned_scales_return_law,
 };
 pub use paths::{inward, leads_to, outward, sensor_depth};
 pub use track::track_point;

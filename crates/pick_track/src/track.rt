@@ -3,8 +3,8 @@
 ghost use Rattle.std.specs.Prelude.{◌≡◌};
 ghost use Rattle.pick_track.specs.Track as spec;
 
-use crate::motion::{clamped, quotient};
 use crate::paths::{inward, outward};
+use pick_core::{clamped, quotient};
 use scene_core::Scene;
 use x3d_values::{Fields, Ray, Vec3};
 

@@ -2,11 +2,9 @@
 -- field values).
 use Rattle.std.specs.Prelude.{ℕ, ℤ, pos, ◌*ℤ◌, Bool, List, [], ◌∷◌}
 use Rattle.std.specs.List.{flat_map}
-use Rattle.x3d_values.specs.declared.vector.Vec2.{Vec2}
-use Rattle.x3d_values.specs.declared.vector.Vec3.{Vec3}
-use Rattle.x3d_values.specs.declared.vector.Color.{Color}
 use Rattle.x3d_values.specs.declared.value.Value.{Value}
 use Rattle.x3d_values.specs.declared.value.Value.TheVariants.{SFBool, SFInt32, SFFloat, SFTime, SFString, SFVec2f, SFVec3f, SFColor, SFNode, MFBool, MFInt32, MFFloat, MFTime, MFString, MFVec2f, MFVec3f, MFColor, MFNode}
+pub use Rattle.x3d_values.specs.Vectors.{number_run, pair_run, vector_run, color_run}
 use Rattle.classic_tree.specs.declared.tree.RawValue.{RawValue}
 use Rattle.classic_tree.specs.declared.tree.RawValue.TheVariants as raw
 
@@ -16,18 +14,6 @@ in_millionths number = number *ℤ pos 1000000
 
 abbrev pub integer_run : ℤ → List ℤ
 integer_run number = in_millionths number ∷ []
-
-abbrev pub number_run : ℤ → List ℤ
-number_run number = number ∷ []
-
-abbrev pub pair_run : Vec2 → List ℤ
-pair_run v = v.x ∷ v.y ∷ []
-
-abbrev pub vector_run : Vec3 → List ℤ
-vector_run v = v.x ∷ v.y ∷ v.z ∷ []
-
-abbrev pub color_run : Color → List ℤ
-color_run c = c.red ∷ c.green ∷ c.blue ∷ []
 
 abbrev pub truth_list : {N : Type 0} → List Bool → RawValue N
 truth_list [] = raw.EmptyList

@@ -42,7 +42,7 @@ unfoldable pub truth_at : Fields → ℕ → Option Bool
 truth_at fields field = stored truth_of fields field
 
 infixl 10 ◌>>=◌
-abbrev ◌>>=◌ : {A B : Type 0} → Option A → (A → Option B) → Option B
+abbrev pub ◌>>=◌ : {A B : Type 0} → Option A → (A → Option B) → Option B
 o >>= f = option_and_then f o
 
 -- the values in their ranges

@@ -44,11 +44,15 @@ is_pressed_by touch who = option_map_or (λ presser. presser == who) touch.press
 abbrev pub over_after : Touch → Pointed → List Bool
 over_after touch pointed = slice_set touch.over pointed.who (is_some pointed.inside)
 
+-- a field of a truth value, where the value changes
+abbrev pub change_replies : ℕ → Bool → Bool → List Reply
+change_replies field was is =
+    if was then (if is then [] else reply field (SFBool false) ∷ [])
+    else (if is then reply field (SFBool true) ∷ [] else [])
+
 -- `isOver` where the first pointer comes and where the last one goes
 abbrev pub over_replies : Bool → Bool → List Reply
-over_replies was is =
-    if was then (if is then [] else reply IS_OVER (SFBool false) ∷ [])
-    else (if is then reply IS_OVER (SFBool true) ∷ [] else [])
+over_replies was is = change_replies IS_OVER was is
 
 -- `hitPoint_changed` where it is inside and no other viewer presses
 abbrev pub hit_replies : Touch → Pointed → Option Vec3 → List Reply

@@ -67,8 +67,9 @@ fn time_at(fields: &Fields, field: u16) -> Option<i64>
     }
 }
 
+/// The truth value that a field keeps, if it keeps one.
 #[tactic(auto, unfolding(crate::specs::Timing::truth_at))]
-fn truth_at(fields: &Fields, field: u16) -> Option<bool>
+pub fn truth_at(fields: &Fields, field: u16) -> Option<bool>
     ensures { result ≡ truth_at fields.now field }
 {
     match fields.value(field)? {

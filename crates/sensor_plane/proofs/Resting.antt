@@ -9,16 +9,16 @@ use Rattle.x3d_values.specs.declared.fields.Fields.{Fields}
 use Rattle.x3d_values.specs.declared.value.Value.{Value}
 use Rattle.x3d_values.specs.declared.value.Value.TheVariants as value
 use Rattle.x3d_values.specs.declared.vector.Vec3.{Vec3}
-use Rattle.sensor_core.specs.Touches.{Touch as Touches, Touched, is_over as touch_over, point as touch_point, pointer, over_replies}
+use Rattle.sensor_core.specs.Touches.{Touch as Touches, Touched, is_over as touch_over, point as touch_point, pointer, change_replies, over_replies}
 use Rattle.sensor_plane.specs.declared.fields.PlaneFields.{PlaneFields}
 use Rattle.sensor_plane.specs.declared.meeting.SensorPointer.{SensorPointer}
-use Rattle.sensor_plane.specs.declared.numbers.TheConstants.{AUTO_OFFSET, MAX_POSITION, MIN_POSITION, OFFSET}
+use Rattle.sensor_plane.specs.declared.numbers.TheConstants.{AUTO_OFFSET, IS_OVER, MAX_POSITION, MIN_POSITION, OFFSET}
 use Rattle.sensor_plane.specs.declared.pointer.PlanePointer.{PlanePointer}
 use Rattle.sensor_plane.specs.declared.pointing.PointingState.{PointingState}
 use Rattle.sensor_plane.specs.declared.pointing.PointingState.TheVariants.{NoSensor, Touch, Plane}
 use Rattle.sensor_plane.specs.Meeting.{Met, dragged_by, pointed, unmet}
 use Rattle.sensor_plane.specs.PlaneFields.{pair_at, plane_fields_of, triple_at, triple_of, truth_at, with_offset}
-use Rattle.sensor_plane.specs.Planes.{Plane as Planes, Pointed, is_over as plane_over, over_replies as plane_replies, point as plane_point}
+use Rattle.sensor_plane.specs.Planes.{Plane as Planes, Pointed, is_over as plane_over, point as plane_point}
 use Rattle.sensor_plane.specs.Pointing.{is_resting}
 
 -- ---- sets of viewers
@@ -78,7 +78,7 @@ abbrev passes_by : ℕ → Bool → Bool → Option Vec3 → PlanePointer
 passes_by who before down tracked = record { who = who; before = before; down = down; contact = None; tracked = tracked }
 
 abbrev left : List Bool → Bool → PlaneFields → Pointed
-left over was values = record { plane = free_plane over; fields = values; replies = plane_replies was (list_any (λ (o : Bool). o) over) ++ [] }
+left over was values = record { plane = free_plane over; fields = values; replies = change_replies IS_OVER was (list_any (λ (o : Bool). o) over) ++ [] }
 
 plane-passes : (over : List Bool) (values : PlaneFields) (who : ℕ) (before down : Bool) (tracked : Option Vec3) →
     plane_point (free_plane over) values (passes_by who before down tracked) ≡ left (slice_set over who false) (list_any (λ (o : Bool). o) over) values
@@ -98,7 +98,7 @@ plane-rests plane values who before down tracked alone = rest (plane_over plane)
         ap (λ (p : Planes). plane_point p values (passes_by who before down tracked)) shown
         ∙ plane-passes plane.over values who before down tracked
         ∙ ap (λ (o : List Bool). left o (list_any (λ (b : Bool). b) plane.over) values) (over-same plane.over who over)
-        ∙ ap (λ (b : Bool). let r : Pointed = record { plane = free_plane plane.over; fields = values; replies = plane_replies b b ++ [] } in r) over
+        ∙ ap (λ (b : Bool). let r : Pointed = record { plane = free_plane plane.over; fields = values; replies = change_replies IS_OVER b b ++ [] } in r) over
         ∙ ap (λ (p : Planes). let r : Pointed = record { plane = p; fields = values; replies = [] } in r) (sym shown)
 
 -- ---- the offset that is read is written back

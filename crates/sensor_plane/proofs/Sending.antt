@@ -11,13 +11,14 @@ use Rattle.x3d_values.specs.Ranges.{coordinates_fit}
 use Rattle.react_core.specs.declared.outbox.Reply.{Reply}
 use Rattle.react_core.specs.Access.{is_output, leave_by_outputs}
 use Rattle.react_core.specs.Reaction.{reply}
+use Rattle.sensor_core.specs.Touches.{change_replies}
 use Rattle.sensor_plane.specs.declared.drag.Drag.{Drag}
 use Rattle.sensor_plane.specs.declared.fields.PlaneFields.{PlaneFields}
 use Rattle.sensor_plane.specs.declared.numbers.TheConstants.{IS_ACTIVE, IS_OVER, OFFSET, TRACK_POINT_CHANGED, TRANSLATION_CHANGED}
 use Rattle.sensor_plane.specs.declared.pointer.Contact.{Contact}
 use Rattle.sensor_plane.specs.declared.pointer.PlanePointer.{PlanePointer}
 use Rattle.sensor_plane.specs.PlaneParts.{AreFitting, SentValuesFit, drag_fits, reply_fits}
-use Rattle.sensor_plane.specs.Planes.{Dragged, Plane, begun, disable, dragged, ended, gone_on, is_over, over_after, over_replies, point, presses, track_replies, translation}
+use Rattle.sensor_plane.specs.Planes.{Dragged, Plane, begun, disable, dragged, ended, gone_on, is_over, over_after, point, presses, track_replies, translation}
 use Rattle.sensor_plane.proofs.Fitting.{translation_fits}
 
 -- a test that passes what may be sent: truth values, and points for which `is_near` holds
@@ -44,7 +45,7 @@ module _ (is_near : Vec3 → Bool) (test : Reply → Bool) (passes : Passes is_n
   abbrev pub Sent : List Reply → Type 0
   Sent replies = list_all test replies ≡ true
 
-  over_sent : (was is : Bool) → Sent (over_replies was is)
+  over_sent : (was is : Bool) → Sent (change_replies IS_OVER was is)
   over_sent true true = refl
   over_sent true false = and_from _ _ (passes.is_over false) refl
   over_sent false true = and_from _ _ (passes.is_over true) refl
@@ -90,7 +91,7 @@ module _ (is_near : Vec3 → Bool) (test : Reply → Bool) (passes : Passes is_n
     pub point_sent : (plane : Plane) (pointer : PlanePointer) → LastIsNear plane.drag → TrackedIsNear pointer.tracked → Sent (point plane fields pointer).replies
     unfolding point
     point_sent plane pointer last near =
-        all_append test (over_replies (is_over plane) (list_any (λ over. over) (over_after plane pointer))) (dragged fields pointer plane.drag).replies
+        all_append test (change_replies IS_OVER (is_over plane) (list_any (λ over. over) (over_after plane pointer))) (dragged fields pointer plane.drag).replies
         (over_sent (is_over plane) (list_any (λ over. over) (over_after plane pointer))) (dragged_sent pointer plane.drag last near)
 
   pub disable_sent : (plane : Plane) → Sent (disable plane).replies

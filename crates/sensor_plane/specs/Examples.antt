@@ -1,8 +1,8 @@
 -- Drags of a PlaneSensor, step by step, in millionths; the values are by hand.
 use Rattle.std.specs.Prelude.{◌≡◌, ℕ, ℤ, pos, negsuc, Bool, true, false, List, [], ◌∷◌, ◌++◌, Option, Some, None}
 use Rattle.x3d_values.specs.declared.value.Value.TheVariants.{SFBool, SFVec3f}
-use Rattle.x3d_values.specs.declared.vector.Vec2.{Vec2}
 use Rattle.x3d_values.specs.declared.vector.Vec3.{Vec3}
+use Rattle.x3d_values.specs.Vectors.{pair, vector as at}
 use Rattle.react_core.specs.declared.outbox.Reply.{Reply}
 use Rattle.react_core.specs.Reaction.{reply}
 use Rattle.sensor_plane.specs.declared.fields.PlaneFields.{PlaneFields}
@@ -19,12 +19,6 @@ sent_at_each plane fields (pointer ∷ others) =
     ∷ sent_at_each (point plane fields pointer).plane (point plane fields pointer).fields others
 
 -- ---- words
-
-abbrev at : ℤ → ℤ → ℤ → Vec3
-at x y z = record { x = x; y = y; z = z }
-
-abbrev pair : ℤ → ℤ → Vec2
-pair x y = record { x = x; y = y }
 
 abbrev zero : ℤ
 zero = pos 0

@@ -1,7 +1,6 @@
 -- What the fields of a PlaneSensor say of a drag (ISO/IEC 19775-1, pointing device sensor
 -- component: PlaneSensor).
-use Rattle.std.specs.Prelude.{ℕ, Bool, Option, Some, None}
-use Rattle.std.specs.Option.{option_and_then}
+use Rattle.std.specs.Prelude.{ℕ, Option, Some, None}
 use Rattle.x3d_values.specs.declared.fields.Fields.{Fields}
 use Rattle.x3d_values.specs.declared.value.Value.{Value}
 use Rattle.x3d_values.specs.declared.value.Value.TheVariants.{SFVec2f, SFVec3f}
@@ -9,7 +8,8 @@ use Rattle.x3d_values.specs.declared.vector.Vec2.{Vec2}
 use Rattle.x3d_values.specs.declared.vector.Vec3.{Vec3}
 use Rattle.x3d_values.specs.Kept.{with_value}
 use Rattle.react_core.specs.Reaction.{stored}
-use Rattle.react_core.specs.Stored.{truth_of}
+use Rattle.sensor_core.specs.Timing.{◌>>=◌}
+unfoldable pub use Rattle.sensor_core.specs.Timing.{truth_at}
 use Rattle.sensor_plane.specs.declared.fields.PlaneFields.{PlaneFields}
 use Rattle.sensor_plane.specs.declared.numbers.TheConstants.{AUTO_OFFSET, MAX_POSITION, MIN_POSITION, OFFSET}
 
@@ -21,19 +21,12 @@ abbrev pub triple_of : Value → Option Vec3
 triple_of (SFVec3f triple) = Some triple
 triple_of _ = None
 
--- a field that keeps a truth value, two numbers, or three
-unfoldable pub truth_at : Fields → ℕ → Option Bool
-truth_at fields field = stored truth_of fields field
-
+-- a field that keeps two numbers, or three
 unfoldable pub pair_at : Fields → ℕ → Option Vec2
 pair_at fields field = stored pair_of fields field
 
 unfoldable pub triple_at : Fields → ℕ → Option Vec3
 triple_at fields field = stored triple_of fields field
-
-infixl 10 ◌>>=◌
-abbrev ◌>>=◌ : {A B : Type 0} → Option A → (A → Option B) → Option B
-o >>= f = option_and_then f o
 
 -- what these fields keep of a PlaneSensor, if they hold a value of its type for each field
 unfoldable pub plane_fields_of : Fields → Option PlaneFields

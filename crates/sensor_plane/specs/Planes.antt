@@ -10,6 +10,7 @@ use Rattle.x3d_values.specs.declared.vector.Vec3.{Vec3}
 use Rattle.x3d_values.specs.Ranges.{is_viewer}
 use Rattle.react_core.specs.declared.outbox.Reply.{Reply}
 use Rattle.react_core.specs.Reaction.{reply}
+use Rattle.sensor_core.specs.Touches.{change_replies}
 use Rattle.sensor_plane.specs.declared.drag.Drag.{Drag}
 use Rattle.sensor_plane.specs.declared.fields.PlaneFields.{PlaneFields}
 use Rattle.sensor_plane.specs.declared.pointer.Contact.{Contact}
@@ -153,13 +154,8 @@ dragged fields pointer (Some drag) =
 abbrev pub over_after : Plane → PlanePointer → List Bool
 over_after plane pointer = slice_set plane.over pointer.who (is_some pointer.contact)
 
--- `isOver` where the first pointer comes and where the last one goes
-abbrev pub over_replies : Bool → Bool → List Reply
-over_replies was is =
-    if was then (if is then [] else reply IS_OVER (SFBool false) ∷ [])
-    else (if is then reply IS_OVER (SFBool true) ∷ [] else [])
-
--- what an enabled sensor does with a pointer
+-- what an enabled sensor does with a pointer: `isOver` is sent where the first pointer comes and
+-- where the last one goes
 unfoldable pub point : Plane → PlaneFields → PlanePointer → Pointed
 point plane fields pointer =
     let over = over_after plane pointer in
@@ -168,7 +164,7 @@ point plane fields pointer =
       plane = record { over = over; drag = after.drag };
       fields = after.fields;
       replies =
-          over_replies (is_over plane) (list_any (λ over. over) over) ++ after.replies;
+          change_replies IS_OVER (is_over plane) (list_any (λ over. over) over) ++ after.replies;
     }
 
 -- ---- `enabled` FALSE

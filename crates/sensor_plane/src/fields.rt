@@ -1,9 +1,10 @@
 //! What the fields of a PlaneSensor say of a drag.
 
 ghost use Rattle.std.specs.Prelude.{◌≡◌};
-ghost use Rattle.sensor_plane.specs.PlaneFields.{truth_at, pair_at, triple_at};
+ghost use Rattle.sensor_plane.specs.PlaneFields.{pair_at, triple_at};
 
 use crate::numbers::{AUTO_OFFSET, MAX_POSITION, MIN_POSITION, OFFSET};
+use sensor_core::truth_at;
 use x3d_values::{Fields, Value, Vec2, Vec3};
 
 /// The values of a PlaneSensor's inputOutput fields that a drag goes by, in millionths.
@@ -13,16 +14,6 @@ pub struct PlaneFields {
     pub max_position: Vec2,
     pub min_position: Vec2,
     pub offset: Vec3,
-}
-
-#[tactic(auto, unfolding(crate::specs::PlaneFields::truth_at))]
-fn truth_at(fields: &Fields, field: u16) -> Option<bool>
-    ensures { result ≡ truth_at fields.now field }
-{
-    match fields.value(field)? {
-        Value::SFBool(truth) => Some(*truth),
-        _ => None,
-    }
 }
 
 #[tactic(auto, unfolding(crate::specs::PlaneFields::pair_at))]

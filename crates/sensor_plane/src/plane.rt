@@ -6,7 +6,8 @@ ghost use Rattle.x3d_values.specs.declared.ranges.TheConstants.{MAX_VIEWERS};
 ghost use Rattle.x3d_values.specs.Ranges.{coordinates_fit, is_viewer};
 ghost use Rattle.sensor_plane.specs.Paths.{path_fits};
 ghost use Rattle.sensor_plane.specs.PlaneParts.{drag_fits};
-ghost use Rattle.sensor_plane.specs.Planes.{over_replies};
+ghost use Rattle.sensor_core.specs.Touches.{change_replies};
+ghost use Rattle.sensor_plane.specs.declared.numbers.TheConstants.{IS_OVER};
 
 use crate::drag::{Drag, drag_on, send};
 use crate::fields::PlaneFields;
@@ -214,7 +215,7 @@ fn are_near(drag: &Drag) -> bool
 /// Sends `isOver` where it changes.
 fn send_over(was: bool, is: bool, out: &mut Outbox)
     requires { array_vec_len out.old + 1 ≤ 5 }
-    ensures items { out.new.items ≡ out.old.items ++ over_replies was is }
+    ensures items { out.new.items ≡ out.old.items ++ change_replies IS_OVER was is }
     ensures len { array_vec_len out.new ≤ array_vec_len out.old + 1 }
 {
     if was != is {

@@ -29,7 +29,8 @@ use Rattle.share_program.specs.Opening.{next, same, good, built, routed, with_ro
 use Rattle.share_program.specs.declared.open.Opened.{Opened}
 use Rattle.laws_networks.specs.Opened.{IsOpened}
 use Rattle.share_rehearsal.specs.Rehearsed.{AreLoaded}
-use Rattle.share_commands.specs.Stages.{fresh, scripted, staged, unless_refused}
+use Rattle.share_stages.specs.Stages.{staged_scene}
+use Rattle.share_commands.specs.Stages.{fresh, scripted, unless_refused}
 use Rattle.share_commands.proofs.Staging.{are_of, same_ok}
 
 -- ---- scripts that are taken run
@@ -111,11 +112,11 @@ opened_as text (Ok p) o is e =
     )
 opened_as text (Err fault) o is e = absurd cc
 
-was_opened : (text : List ℕ) (o : Opened) → staged text ≡ Ok o → (opened text ≡ Ok o) × (scripts_fault (script_list o.scene) ≡ None)
-unfolding staged
+was_opened : (text : List ℕ) (o : Opened) → staged_scene text ≡ Ok o → (opened text ≡ Ok o) × (scripts_fault (script_list o.scene) ≡ None)
+unfolding staged_scene
 was_opened text o e = opened_as text (opened text) o refl e
 
-pub are_loaded : (n : ℕ) (text : List ℕ) (o : Opened) → staged text ≡ Ok o → AreLoaded text o.scene o.routes (replicate n (fresh o))
+pub are_loaded : (n : ℕ) (text : List ℕ) (o : Opened) → staged_scene text ≡ Ok o → AreLoaded text o.scene o.routes (replicate n (fresh o))
 are_loaded n text o e =
     let was = was_opened text o e in
     let own = is_opened text o was.0 in

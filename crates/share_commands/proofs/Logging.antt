@@ -13,7 +13,8 @@ use Rattle.share_program.specs.Opening.{next, same}
 use Rattle.share_rehearsal.specs.Calls.{Seen, seen_of}
 use Rattle.share_rehearsal.specs.Rehearsed.{IsRehearsal, IsRehearsed}
 use Rattle.share_commands.specs.Rehearsing.{IsLogOf, IsScheduleLog, schedule_scene}
-use Rattle.share_commands.specs.Stages.{AreStages, fresh, staged}
+use Rattle.share_stages.specs.Stages.{staged_scene}
+use Rattle.share_commands.specs.Stages.{AreStages, fresh}
 use Rattle.share_commands.proofs.Loaded.{are_loaded}
 
 is_log : (viewers : ℕ) (schedule : Schedule) (stages : List StageView) (text : List ℕ)
@@ -46,7 +47,7 @@ is_schedule_log viewers schedule bytes mark steps stages text is marked stepped 
 
 -- the scene of a schedule is refused
 pub refused_scene : (bytes : List ℕ) (schedule : Schedule) (f : JobFault) → schedule_lines bytes ≡ Ok schedule
-    → (f ≡ Memory) ⊎ (staged schedule.scene ≡ Err f) → (f ≡ Memory) ⊎ (schedule_scene bytes ≡ Err f)
+    → (f ≡ Memory) ⊎ (staged_scene schedule.scene ≡ Err f) → (f ≡ Memory) ⊎ (schedule_scene bytes ≡ Err f)
 refused_scene bytes schedule f lines (inl e) = inl e
 refused_scene bytes schedule f lines (inr e) =
-    inr (ap (λ (r : Result Schedule JobFault). next same r (λ s. staged s.scene)) lines ∙ e)
+    inr (ap (λ (r : Result Schedule JobFault). next same r (λ s. staged_scene s.scene)) lines ∙ e)

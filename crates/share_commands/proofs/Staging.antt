@@ -9,14 +9,15 @@ use Rattle.share_program.specs.Opening.{next, opened, same}
 use Rattle.share_program.specs.declared.open.Opened.{Opened}
 use Rattle.share_rehearsal.specs.Calls.{viewers_from}
 use Rattle.share_rehearsal.specs.Rehearsed.{AreFresh, AreOf}
-use Rattle.share_commands.specs.Stages.{AreStages, IsStage, fresh, scripted, scripts_refusal, staged, unless_refused}
+use Rattle.share_stages.specs.Stages.{staged_scene}
+use Rattle.share_commands.specs.Stages.{AreStages, IsStage, fresh, scripted, scripts_refusal, unless_refused}
 
 pub same_ok : {A E : Type 0} (x y : A) → ◌≡◌ {A = Result A E} (Ok x) (Ok y) → x ≡ y
 same_ok x y e = cc
 
 -- a scene whose scripts are taken is that of its text
-pub is_staged_scene : (text : List ℕ) (o : Opened) → opened text ≡ Ok o → scripts_refusal o.scene ≡ None → staged text ≡ Ok o
-unfolding staged
+pub is_staged_scene : (text : List ℕ) (o : Opened) → opened text ≡ Ok o → scripts_refusal o.scene ≡ None → staged_scene text ≡ Ok o
+unfolding staged_scene
 is_staged_scene text o is taken =
     ap (λ (r : Result Opened JobFault). next same r scripted) is
     ∙ ap (λ (f : Option JobFault). unless_refused o f) taken
@@ -33,7 +34,7 @@ same_stage text a b p q =
 
 -- a text that has a stage is refused for memory alone
 pub for_memory : (text : List ℕ) (stage : StageView) (f : JobFault) → IsStage text stage
-    → (f ≡ Memory) ⊎ (staged text ≡ Err f) → f ≡ Memory
+    → (f ≡ Memory) ⊎ (staged_scene text ≡ Err f) → f ≡ Memory
 for_memory text stage f s (inl is) = is
 for_memory text stage f s (inr is) = let no = sym s.is_scene ∙ is in absurd (cc)
 

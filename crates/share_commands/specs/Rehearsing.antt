@@ -14,12 +14,13 @@ use Rattle.share_rehearsal.specs.declared.answer.Answer.{Answer}
 use Rattle.share_rehearsal.specs.Calls.{Seen, AreCalls, begun_with}
 use Rattle.share_rehearsal.specs.Log.{log_text}
 use Rattle.share_rehearsal.specs.Rehearsed.{IsRehearsal, IsRehearsed}
-use Rattle.share_commands.specs.Stages.{fresh, staged}
+use Rattle.share_stages.specs.Stages.{staged_scene}
+use Rattle.share_commands.specs.Stages.{fresh}
 
 -- the scene of a schedule, or the first fault of its lines, then of its scene, then of
 -- its scripts
 abbrev pub schedule_scene : List ℕ → Result Opened JobFault
-schedule_scene bytes = next same (schedule_lines bytes) (λ s. staged s.scene)
+schedule_scene bytes = next same (schedule_lines bytes) (λ s. staged_scene s.scene)
 
 -- the log of steps that viewers with these stages and their host went through
 pub record IsLogOf (mark : List ℕ) (stages : List StageView) (steps : List Step) (text : List ℕ) :
@@ -33,7 +34,7 @@ pub record IsLogOf (mark : List ℕ) (stages : List StageView) (steps : List Ste
 -- is left
 pub record IsScheduleLog (viewers : ℕ) (schedule : Schedule) (text : List ℕ) : Type 0 where
   pub scene : Opened
-  pub is_scene : staged schedule.scene ≡ Ok scene
+  pub is_scene : staged_scene schedule.scene ≡ Ok scene
   pub answers : List Answer
   pub left : Seen
   pub calls : AreCalls (begun_with (sha256 schedule.scene) (replicate viewers (fresh scene)))

@@ -4,7 +4,7 @@ ghost use Rattle.std.specs.Prelude.{◌≡◌, ◌≤◌, ◌⊎◌, IfOk, IfErr
 ghost use Rattle.x3d_values.specs.Ranges.{max_viewers};
 ghost use Rattle.share_commands.specs.Rehearsing.{IsLogOf, IsRehearsedLog, IsScheduleLog};
 ghost use Rattle.share_commands.specs.Rehearsing.{schedule_scene};
-ghost use Rattle.share_commands.specs.Stages.{staged};
+ghost use Rattle.share_stages.specs.Stages.{staged_scene};
 ghost use Rattle.share_rehearsal.specs.Rehearsed.{AreFresh};
 ghost use Rattle.share_jobs.specs.declared.fault.JobFault.TheVariants.{Memory};
 
@@ -46,7 +46,7 @@ fn schedule_log(alloc: Global, schedule: &Schedule, viewers: u8) -> Result<Vec<u
     requires most { viewers ≤ max_viewers }
     ensures done { IfOk result (λ text. IsScheduleLog viewers schedule.now text.items) }
     ensures refused { IfErr result
-        (λ f. (f ≡ Memory) ⊎ (staged schedule.now.scene ≡ Err f)) }
+        (λ f. (f ≡ Memory) ⊎ (staged_scene schedule.now.scene ≡ Err f)) }
 {
     let text = schedule.scene.as_slice();
     let stages = stages_of(alloc, text, viewers)?;

@@ -1,26 +1,16 @@
 //! Stages of a text's scene, one for each viewer, with boxes of the stock for its scripts.
 
 ghost use Rattle.std.specs.Prelude.{◌≡◌, ◌≤◌, ◌⊎◌, IfOk, IfErr, Err, length};
-ghost use Rattle.share_commands.specs.Stages.{AreStages, IsStage, staged};
+ghost use Rattle.share_commands.specs.Stages.{AreStages, IsStage};
+ghost use Rattle.share_stages.specs.Stages.{staged_scene};
 ghost use Rattle.share_rehearsal.specs.Rehearsed.{AreFresh};
 ghost use Rattle.share_jobs.specs.declared.fault.JobFault.TheVariants.{Memory};
 
 use cascade_core::Stage;
 use script_boxes::StockScript;
 use share_jobs::JobFault;
-use share_program::open_scene;
-use share_stages::fresh_stage;
+use share_stages::stage_of;
 use std::alloc::Global;
-
-/// A stage of a text's scene before any input.
-#[tactic(auto, unfolding(crate::specs::Stages::staged))]
-fn stage_of(alloc: Global, text: &[u8]) -> Result<Stage<StockScript>, JobFault>
-    ensures ok { IfOk result (IsStage text.now) }
-    ensures err { IfErr result (λ f. (f ≡ Memory) ⊎ (staged text.now ≡ Err f)) }
-{
-    let opened = open_scene(alloc, text)?;
-    fresh_stage(alloc, opened)
-}
 
 /// So many stages of a text's scene, of which the first is given. They are refused for memory
 /// alone.
@@ -55,7 +45,7 @@ pub(crate) fn stages_of(
     ensures stages { IfOk result (λ v. AreStages count text.now v.items) }
     ensures fresh { IfOk result (λ v. AreFresh v.items) }
     ensures count { IfOk result (λ v. length v.items ≡ count) }
-    ensures err { IfErr result (λ f. (f ≡ Memory) ⊎ (staged text.now ≡ Err f)) }
+    ensures err { IfErr result (λ f. (f ≡ Memory) ⊎ (staged_scene text.now ≡ Err f)) }
 {
     let first = stage_of(alloc, text)?;
     with_others(alloc, text, first, count)

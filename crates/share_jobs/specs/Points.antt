@@ -5,7 +5,7 @@ use Rattle.std.specs.Result.{result_ok}
 use Rattle.std.specs.Str.{bytes_eq}
 use Rattle.x3d_numerals.specs.Numeral.{IsNumeral}
 use Rattle.x3d_numerals.specs.Reading.{is_digits, numeral}
-use Rattle.x3d_values.specs.Pointing.{Pointing, Sight, is_ray}
+use Rattle.x3d_values.specs.Pointing.{Pointing, Sight, is_ray, ray_of}
 use Rattle.x3d_values.specs.Ranges.{is_viewer, max_viewers}
 use Rattle.x3d_values.specs.declared.vector.Vec3.{Vec3}
 pub use Rattle.share_rules.specs.Words.{is_space}
@@ -38,9 +38,7 @@ vector_of x y z = vector (result_ok (numeral x)) (result_ok (numeral y)) (result
 
 -- a ray, where its coordinates are in their range and its direction isn't 0 0 0
 abbrev pub sight : Option Vec3 → Option Vec3 → Option Sight
-sight (Some origin) (Some dir) =
-    if is_ray (record { origin = origin; dir = dir })
-    then Some (record { origin = origin; dir = dir }) else None
+sight (Some origin) (Some dir) = ray_of origin dir
 sight (Some origin) None = None
 sight None dir = None
 

@@ -6,7 +6,7 @@ ghost use Rattle.share_jobs.specs.Points as spec;
 use crate::word::number_below;
 use share_rules::cut_word;
 use x3d_numerals::millionths;
-use x3d_values::{MAX_VIEWERS, Pointer, Ray, Vec3};
+use x3d_values::{MAX_VIEWERS, Pointer, Ray, Vec3, ray_of};
 
 /// Three numerals of units, as millionths.
 #[tactic(auto, using(crate::proofs::Passed::passed), unfolding(crate::specs::Points::vector_of))]
@@ -34,19 +34,6 @@ pub fn last_vector(text: &[u8]) -> Option<Vec3>
     let (x, rest) = cut_word(text);
     let (y, z) = cut_word(rest);
     vector_of(x, y, z)
-}
-
-/// A ray with this origin and this direction, if they make one.
-fn ray_of(origin: Vec3, dir: Vec3) -> Option<Ray>
-    ensures { result ≡ spec.sight (Some origin) (Some dir) }
-{
-    if !origin.fits() {
-        return None;
-    }
-    if !dir.fits() || dir.is_zero() {
-        return None;
-    }
-    Some(Ray::new(origin, dir))
 }
 
 /// The origin is three words, and the direction three more.

@@ -34,6 +34,20 @@ unless_refused x (Some fault) = Err fault
 abbrev pub staged : Opened → Result StageView JobFault
 staged o = unless_refused (fresh o) (scripts_refusal o.scene)
 
+-- a scene whose scripts are taken, or why they aren't
+abbrev pub scripted : Opened → Result Opened JobFault
+scripted o = unless_refused o (scripts_refusal o.scene)
+
+-- the scene of a text, and its routes, where its scripts are taken
+unfoldable pub staged_scene : List ℕ → Result Opened JobFault
+staged_scene text = next same (opened text) scripted
+
+-- a stage of the text's scene before any input
+pub record IsStage (text : List ℕ) (stage : StageView) : Type 0 where
+  pub scene : Opened
+  pub is_scene : staged_scene text ≡ Ok scene
+  pub is : stage ≡ fresh scene
+
 -- the stage of a text's scene
 unfoldable pub opened_stage : List ℕ → Result StageView JobFault
 opened_stage text = next same (opened text) staged

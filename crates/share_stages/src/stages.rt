@@ -5,7 +5,7 @@ ghost use Rattle.cascade_core.specs.Scripts.{scripts_in};
 ghost use Rattle.script_running.specs.Scripts.{script_list};
 ghost use Rattle.script_host.specs.Attaching.{Fits};
 ghost use Rattle.x3d_lists.specs.Answers.{Gives};
-ghost use Rattle.share_stages.specs.Stages.{IsFresh, fresh, opened_stage, scripts_refusal, staged};
+ghost use Rattle.share_stages.specs.Stages.{IsFresh, IsStage, fresh, opened_stage, scripts_refusal, staged, staged_scene};
 ghost use Rattle.share_jobs.specs.declared.fault.JobFault.TheVariants.{Memory};
 
 use cascade_core::Stage;
@@ -64,10 +64,12 @@ pub fn fresh_stage(alloc: Global, opened: Opened) -> Result<Stage<StockScript>, 
 
 /// The stage of a text's scene before any input. It is refused for memory, or else for the first
 /// fault of the text or of its scripts.
-#[tactic(auto, unfolding(crate::specs::Stages::opened_stage))]
+#[tactic(auto, unfolding(crate::specs::Stages::opened_stage, crate::specs::Stages::staged_scene))]
 pub fn stage_of(alloc: Global, text: &[u8]) -> Result<Stage<StockScript>, JobFault>
     ensures exact { Gives Memory (λ s. s) result (opened_stage text.now) }
     ensures fresh { IfOk result IsFresh }
+    ensures ok { IfOk result (IsStage text.now) }
+    ensures err { IfErr result (λ f. (f ≡ Memory) ⊎ (staged_scene text.now ≡ Err f)) }
 {
     let opened = open_scene(alloc, text)?;
     fresh_stage(alloc, opened)

@@ -67,7 +67,7 @@ impl Ranged for Vec3 {
 
     #[tactic(auto, unfolding(snapshot_codec::specs::Values::vector3))]
     fn fits(&self) -> bool {
-        coordinate_fits(self.x) && coordinate_fits(self.y) && coordinate_fits(self.z)
+        Vec3::fits(*self)
     }
 }
 

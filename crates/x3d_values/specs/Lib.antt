@@ -10,3 +10,4 @@ pub mod Stamp
 pub mod Tables
 pub mod ValueText
 pub mod Values
+pub mod Vectors

@@ -1,6 +1,6 @@
 -- The table of fields (ISO/IEC 19775-1, the node types of each component; which rows there are
 -- is our choice).
-use Rattle.std.specs.Prelude.{◌≡◌, ⊤, MatchOption, ℕ, ◌+◌, ◌&&◌, ℤ, pos, negsuc, Bool, true, is_none, List, [], ◌∷◌, Option, Some, None, codes, if◌then◌else◌, nat_eq}
+use Rattle.std.specs.Prelude.{◌≡◌, ⊤, MatchOption, ℕ, ◌+◌, ◌&&◌, pos, negsuc, Bool, true, is_none, List, [], ◌∷◌, Option, Some, None, codes, if◌then◌else◌, nat_eq}
 use Rattle.std.specs.Option.{option_map}
 use Rattle.std.specs.Cmp.Lexicographic.{pointwise}
 use Rattle.x3d_values.specs.declared.default.FieldDefault.{FieldDefault}
@@ -14,12 +14,10 @@ use Rattle.x3d_values.specs.declared.node_type.NodeType.TheVariants.{Group, Tran
 use Rattle.x3d_values.specs.declared.node_type.NodeKind.{NodeKind}
 use Rattle.x3d_values.specs.declared.node_type.NodeKind.TheVariants as kind
 use Rattle.x3d_values.specs.declared.rows.Field.{Field}
-use Rattle.x3d_values.specs.declared.vector.Vec2.{Vec2}
-use Rattle.x3d_values.specs.declared.vector.Vec3.{Vec3}
-use Rattle.x3d_values.specs.declared.vector.Color as colors
 use Rattle.x3d_values.specs.declared.table.FieldRow.{FieldRow}
 use Rattle.x3d_values.specs.Defaults.{default_value}
 use Rattle.x3d_values.specs.Values.{type_of}
+use Rattle.x3d_values.specs.Vectors.{pair, vector, color}
 
 -- a row of the table: a field's name, and how it may be used
 pub record Entry : Type 0 where
@@ -104,15 +102,6 @@ nodes name k = record {
   default = Some Empty;
   kind = Some k;
 }
-
-abbrev pub pair : ℤ → ℤ → Vec2
-pair x y = record { x = x; y = y }
-
-abbrev pub vector : ℤ → ℤ → ℤ → Vec3
-vector x y z = record { x = x; y = y; z = z }
-
-abbrev pub color : ℤ → ℤ → ℤ → colors.Color
-color r g b = record { red = r; green = g; blue = b }
 
 abbrev pub metadata : Entry
 metadata = node (codes "metadata") kind.Metadata

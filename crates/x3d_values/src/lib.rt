@@ -34,7 +34,7 @@ pub use fields::{Fields, Position};
 pub use laws::table_law;
 pub use node_type::{NodeKind, NodeType};
 pub use pieces::push_pieces;
-pub use pointing::{Point, Pointer, Ray};
+pub use pointing::{Point, Pointer, Ray, ray_of};
 pub use ranges::{
     MAX_COORDINATE, MAX_DEPTH, MAX_INPUTS, MAX_TIME, MAX_VIEWERS, coordinate_fits, is_input_number,
     is_input_time, is_viewer,

@@ -1,4 +1,4 @@
-use Rattle.std.proofs.Common.{◌∙◌, ◌+ℤ◌, ap, ◌^◌, ◌≤◌, ◌-◌, unsigned_abs, arith}
+use Rattle.std.proofs.Common.{◌∙◌, ◌+ℤ◌, ap}
 use Rattle.std.proofs.lemmas.Int.{to_z-of_z}
 use mir.Syntax.{w64, w128}
 use mir.Val.{SFits}
@@ -18,8 +18,7 @@ returns c =
     let w : SFits w128 c.away-away.result = record { sfits = c.away-away.type_inv } in
     let q : SFits w128 c.quotient.result = record { sfits = c.quotient.type_inv } in
     let r : SFits w64 c.clamped.result = record { sfits = c.clamped.type_inv } in
-    let small : unsigned_abs c.quotient.result ≤ 2 ^ 127 - 2 ^ 63 = omega (arith, c.quotient.ensures.fits) in
-    let sum = way_fits c.args.center c.quotient.result e small in
+    let sum = way_fits c.args.center c.quotient.result e c.quotient.ensures.fits in
     let away = simp to_z-of_z at c.away-away.ensures.value in
     let value = simp to_z-of_z at c.quotient.ensures.value in
     let made = simp to_z-of_z at c.clamped.ensures in
