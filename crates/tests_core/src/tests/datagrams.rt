@@ -412,7 +412,8 @@ fn is_other(changed: &Packet, at: usize, message: &Message) -> bool {
         Err(fault) => match at {
             0..=3 => fault == WireFault::BadPacket,
             4 => fault == WireFault::BadVersion,
-            // An offer's tag is a bit away from a piece's, whose ranges are tested before its length.
+            // An offer's tag is a bit away from a piece's, whose ranges are tested before its
+            // length.
             5 => {
                 fault == WireFault::BadTag
                     || fault == WireFault::BadPacket

@@ -11,8 +11,8 @@ use share_program::{Opened, open_scene};
 use std::alloc::Global;
 use x3d_values::{Items, Position, Value, Vec3};
 
-/// A node of each kind that keeps more than its fields, and one that declares fields: 0 to 3; then a
-/// PlaneSensor below a Group, which are 4 and 5, and one beside it, 6.
+/// A node of each kind that keeps more than its fields, and one that declares fields: 0 to 3; then
+/// a PlaneSensor below a Group, which are 4 and 5, and one beside it, 6.
 const SCENE: &[u8] = b"#X3D V3.0 utf8
 DEF T TimeSensor { cycleInterval 2 } DEF S TouchSensor {} DEF I IntegerSequencer {}
 DEF A Script { inputOutput SFFloat level 1 inputOutput MFFloat levels [1] inputOnly SFBool mute }

@@ -1,5 +1,5 @@
-//! What a stage does with its boxes, the examples of worlds with scripts, and how much work an input
-//! is.
+//! What a stage does with its boxes, the examples of worlds with scripts, and how much work an
+//! input is.
 
 use super::super::texts::{Part, made};
 use super::hosting::{begin, states_of};
@@ -256,8 +256,9 @@ fn script_replaced(rt: HostRuntime) {
 }
 
 /// Boxes are called for what comes to them, each once, and never set: one that can't be restored
-/// shows by nothing. They are asked for their states when they are attached, when a snapshot is taken and
-/// when states are looked at; they are set where the stage goes back, and by a world that is put in.
+/// shows by nothing. They are asked for their states when they are attached, when a snapshot is
+/// taken and when states are looked at; they are set where the stage goes back, and by a world that
+/// is put in.
 static CALLED: [Story; 2] = [
     Story(
         COUNTERS,
@@ -330,8 +331,8 @@ impl Row for Worked {
     }
 }
 
-/// The trigger sends to both filters, and both send to one toggle, which sends once. Then a chain of
-/// 20,000 filters, each of which sends two events, the first of them to the next filter.
+/// The trigger sends to both filters, and both send to one toggle, which sends once. Then a chain
+/// of 20,000 filters, each of which sends two events, the first of them to the next filter.
 static WORKED: [Worked; 2] = [
     Worked(
         &[Part(
