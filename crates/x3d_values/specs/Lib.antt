@@ -1,6 +1,8 @@
 pub mod Access
 pub mod Aliases
 pub mod Defaults
+pub mod Entries
+pub mod Finding
 pub mod Kept
 pub mod Names
 pub mod Nodes
