@@ -1,5 +1,5 @@
-//! The jobs and the snapshots of cases/snapshots, a file for each. `scripts/snapshots --write` wrote
-//! them, and this file.
+//! The jobs and the snapshots of cases/snapshots, a file for each. `scripts/snapshots --write`
+//! wrote them, and this file.
 
 mod clocked;
 mod dragging;
