@@ -161,8 +161,8 @@ fn point_some<B: Behaviour>(
     Ok(())
 }
 
-/// The pointing sensors of a block of nodes meet a pointer, of so many nodes in all. A block is passed
-/// where it is known that nothing happens there.
+/// The pointing sensors of a block of nodes meet a pointer, of so many nodes in all. A block is
+/// passed where it is known that nothing happens there.
 fn point_block<B: Behaviour>(
     fixed: &Fixed,
     tasks: &mut Vec<Task>,
@@ -240,7 +240,8 @@ fn point_each<B: Behaviour>(
     Ok(())
 }
 
-/// Each of those that are pressed meets a pointer at its turn, or each pointing sensor where none is.
+/// Each of those that are pressed meets a pointer at its turn, or each pointing sensor where none
+/// is.
 fn point_concerned<B: Behaviour>(
     fixed: &Fixed,
     pressed: &[Concerned],

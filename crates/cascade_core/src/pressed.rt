@@ -1,5 +1,5 @@
-//! Which sensors a viewer presses, and where it drags them; blocks of nodes of which none is touched
-//! are passed.
+//! Which sensors a viewer presses, and where it drags them; blocks of nodes of which none is
+//! touched are passed.
 
 ghost use Rattle.std.specs.Prelude.{◌≡◌, ◌*◌, ◌-◌, ◌≤◌, OnOk};
 ghost use Rattle.std.specs.List.{fold, range_with_len};

@@ -36,7 +36,8 @@ fn begins_by(entry: &Entry, first: u32) -> bool
     }
 }
 
-/// The place of the last entry that tells an input whose number is at most `first`, if there is one.
+/// The place of the last entry that tells an input whose number is at most `first`, if there is
+/// one.
 pub(crate) fn start_of(entries: &[Entry], first: u32) -> Option<usize>
     ensures { IfSome result
         (λ at. option_map_or (begins_by first) (slice_get entries.now at) false ≡ true) }

@@ -1,5 +1,5 @@
--- Worlds of which a snapshot can be: each value is in the range of its field (ISO/IEC 19775-1, field
--- semantics; the ranges are our choice).
+-- Worlds of which a snapshot can be: each value is in the range of its field (ISO/IEC 19775-1,
+-- field semantics; the ranges are our choice).
 use Rattle.std.specs.Prelude.{◌≡◌, ℕ, ◌+◌, ◌++◌, ◌^◌, ◌<◌, ◌≤◌, ◌==◌, ◌&&◌, is_none, nat_le, nat_lt, Bool, true, false, List, [], ◌∷◌, length, Option, Some, None, slice_get, if◌then◌else◌}
 use Rattle.std.specs.List.{list_all}
 use Rattle.std.specs.Option.{option_and_then, option_map_or}

@@ -1,5 +1,5 @@
--- Where a pointer is inside sensors (ISO/IEC 19775-1, pointing device sensor component; what concerns
--- more than one viewer is our choice).
+-- Where a pointer is inside sensors (ISO/IEC 19775-1, pointing device sensor component; what
+-- concerns more than one viewer is our choice).
 use Rattle.std.specs.Prelude.{ℕ, ◌==◌, List, [], ◌∷◌, map, take, Option, Some, None, if◌then◌else◌}
 use Rattle.std.specs.Option.{option_and_then, option_map}
 use Rattle.x3d_values.specs.Pointing.{Sight}

@@ -1,5 +1,5 @@
--- Which sensors a pointer concerns (ISO/IEC 19775-1, pointing device sensor component; what concerns
--- more than one viewer is our choice).
+-- Which sensors a pointer concerns (ISO/IEC 19775-1, pointing device sensor component; what
+-- concerns more than one viewer is our choice).
 use Rattle.std.specs.Prelude.{ℕ, Bool, false, List, [], ◌∷◌, map, Option, Some, None, slice_get}
 use Rattle.std.specs.List.{filter}
 use Rattle.std.specs.Option.{option_and_then, option_map_or}

@@ -87,7 +87,8 @@ fn is_suited(scene: &Scene, node: u32, state: &PointingState) -> bool
     }
 }
 
-/// Keeps this state of the node of that number from now on; that of a sensor only where one is kept.
+/// Keeps this state of the node of that number from now on; that of a sensor only where one is
+/// kept.
 fn keep(pointing: &mut Watched<PointingSlot>, node: usize, state: PointingState)
     requires place { node < length pointing.old }
     requires sensor { (kept : StateView) → slice_get pointing.old node ≡ Some kept

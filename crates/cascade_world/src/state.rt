@@ -119,8 +119,8 @@ fn time_at(items: &mut Vec<Fields>, node: u32, timing: &TimeFields)
     timing.write_to(&mut items[node]);
 }
 
-/// A pointing sensor that is enabled meets a viewer's pointer, where there is such a node; the others
-/// are as they were.
+/// A pointing sensor that is enabled meets a viewer's pointer, where there is such a node; the
+/// others are as they were.
 fn point_at(
     items: &mut Vec<Fields>,
     node: u32,

@@ -5,6 +5,7 @@ pub mod Head
 pub mod Input
 pub mod Levels
 pub mod Reading
+pub mod TokenRuns
 pub mod Spells
 pub mod Strings
 pub mod Terminal

@@ -15,7 +15,8 @@ impl EmbeddedViewer {
     /// Makes the lines of the trace that are of inputs from a number on, `<input> <seconds>
     /// <label>.<field> <value>` each: from 0 on it is the whole trace.
     pub fn make_trace(&mut self, first: u32) -> Result<(), LookFault>
-        ensures { Makes (look.trace_from (stage_in self.old.viewer) first) self.old result self.new }
+        ensures { Makes (look.trace_from (stage_in self.old.viewer) first) self.old result
+            self.new }
     {
         self.text.clear();
         write_trace(self.viewer.stage(), first, &mut self.text)

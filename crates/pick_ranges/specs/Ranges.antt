@@ -8,7 +8,8 @@ IsInRange range row = (range.first ≤ row) × (row ≤ range.last)
 
 -- the range at a place has the row
 abbrev pub IsAt : List RowRange → ℕ → ℕ → Type 0
-IsAt ranges place row = (range : RowRange) × (slice_get ranges place ≡ Some range) × IsInRange range row
+IsAt ranges place row = (range : RowRange) × (slice_get ranges place ≡ Some range)
+    × IsInRange range row
 
 -- the range at a place has the row, or one of those that follow it, of at most so many
 abbrev pub IsAmong : List RowRange → ℕ → ℕ → ℕ → Type 0

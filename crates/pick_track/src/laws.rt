@@ -32,7 +32,6 @@ pub fn sensors_paths_lead_law()
 {}
 
 /// Rays that meet a plane, go along it, away from it, and begin on it; scales of 2, 0 and below 0.
-#[tactic(auto, unfolding(crate::specs::Track::met_on, crate::specs::Track::met, pick_core::specs::Local::back_along, pick_core::specs::Local::moved_back))]
 pub fn tracking_law()
     ensures { Tracking }
 {}

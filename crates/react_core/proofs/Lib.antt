@@ -2,3 +2,4 @@ pub mod AnswerLemmas
 pub mod KeyLemmas
 pub mod PartLemmas
 pub mod PlaceLemmas
+pub mod Ways

@@ -79,8 +79,5 @@ unfolding between
 between-some way keys values fraction place from to e p f t =
     if-true (length values == length keys) _ _ (eq-eqb _ _ e) ∙ (ap (option_and_then (mixed way values)) (sym p) ∙ (ap (option_and_then (λ one. option_map (λ other. way place one other) (slice_get values place.to))) (sym f) ∙ ap (option_map (λ other. way place from other)) (sym t)))
 
--- a signed number that was handed on is the number
-pub ruleset passed = (to_z-of_z, between-some)
-
--- the same, among values of one type
+-- a signed number that was handed on is the number, among values of one type
 pub ruleset among = (to_z-of_z, length-map, slice_get-map)

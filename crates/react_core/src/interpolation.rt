@@ -80,7 +80,7 @@ impl OnTheWay for Vec3 {
 }
 
 /// The value at a fraction, where there is one for each key.
-#[tactic(auto, using(crate::proofs::PlaceLemmas::passed), unfolding(crate::specs::Interpolation::between))]
+#[tactic(auto, using(crate::proofs::Ways::passed), unfolding(crate::specs::Interpolation::between))]
 fn between<T: OnTheWay>(keys: &[i64], values: &[T], fraction: i64) -> Option<T>
     ensures { result ≡ between T.way keys.now values.now fraction }
 {

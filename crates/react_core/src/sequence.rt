@@ -61,7 +61,7 @@ fn on_true(value: &Value, at: usize) -> Option<usize>
 }
 
 /// Where an event puts a sequencer of these keys.
-#[tactic(auto, using(crate::proofs::PlaceLemmas::passed))]
+#[tactic(auto, using(crate::proofs::Ways::passed))]
 fn stepped(keys: &[i64], position: Position, input: u16, value: &Value) -> Option<usize>
     requires { 0 < length keys.now }
     ensures value { result ≡ stepped keys.now position input value.now }

@@ -14,7 +14,9 @@ abbrev pub key_of : Route → Key
 key_of r = (r.source.node, r.source.field, r.target.node, r.target.field)
 
 abbrev pub key_cmp : Key → Key → Ordering
-key_cmp x y = ordering_then (ordering_then (ordering_then (nat_cmp x.0 y.0) (nat_cmp x.1 y.1)) (nat_cmp x.2 y.2)) (nat_cmp x.3 y.3)
+key_cmp x y =
+    ordering_then (ordering_then (ordering_then (nat_cmp x.0 y.0) (nat_cmp x.1 y.1))
+    (nat_cmp x.2 y.2)) (nat_cmp x.3 y.3)
 
 -- the set has the routes of the list
 abbrev pub Holds : BTreeSet Key → List Route → Type 0

@@ -1,6 +1,6 @@
 -- Cycles of whole microseconds.
-use Rattle.std.proofs.Common.{◌≡◌, ◌∙◌, sym, refl, ap, ℕ, zero, suc, ◌+◌, ◌-◌, ◌*◌, ◌/◌, ◌%◌, ◌<◌, ◌≤◌, ℤ, pos, negsuc, neg_ℤ, ◌+ℤ◌, ◌-ℤ◌, ◌*ℤ◌, ◌≤ℤ◌, ◌<ℤ◌, unsigned_abs, int_lt, int_le, Bool, true, false, ◌&&◌, ◌==◌, ◌≢◌, Option, Some, None, if◌then◌else◌, append_assoc, arith}
-use Rattle.std.proofs.lemmas.Int.{ints, to_z-of_z}
+use Rattle.std.proofs.Common.{◌≡◌, ◌∙◌, sym, refl, ap, ℕ, zero, suc, ◌+◌, ◌-◌, ◌*◌, ◌/◌, ◌%◌, ◌<◌, ◌≤◌, ℤ, pos, negsuc, neg_ℤ, ◌+ℤ◌, ◌-ℤ◌, ◌*ℤ◌, ◌≤ℤ◌, ◌<ℤ◌, unsigned_abs, int_lt, int_le, Bool, true, false, ◌&&◌, ◌==◌, ◌≢◌, Option, Some, None, if◌then◌else◌, arith}
+use Rattle.std.proofs.lemmas.Int.{ints}
 use Rattle.std.specs.Int.{int_div_euclid, int_rem_euclid}
 use Rattle.std.specs.Option.{option_map}
 use Rattle.sensor_core.specs.Cycles.{cycle_at, cycle_time, cycle_end, fraction_at, part_of_cycle}
@@ -71,6 +71,3 @@ unfolding fraction_at
 fraction_at-inside start interval x h =
     let e : (unsigned_abs (int_rem_euclid (x -ℤ start) interval) == 0) ≡ false = grind arith in
     if-false _ _ _ (and-false_right (int_lt start x) _ e)
-
--- a signed number that was handed on is the number
-pub ruleset passed = (to_z-of_z, append_assoc)

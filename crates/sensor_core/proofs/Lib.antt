@@ -1,3 +1,4 @@
 pub mod CycleLemmas
 pub mod PartLemmas
+pub mod Passed
 pub mod SensorLaws

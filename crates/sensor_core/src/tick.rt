@@ -22,7 +22,7 @@ impl TimeState {
 
     /// Does what a TimeSensor does when the clock ticks, at a time in microseconds, and puts what
     /// it sends into the outbox.
-    #[tactic(auto, using(crate::proofs::CycleLemmas::passed), unfolding(crate::specs::Ticks::tick))]
+    #[tactic(auto, using(crate::proofs::Passed::passed), unfolding(crate::specs::Ticks::tick))]
     pub fn tick(&mut self, fields: &TimeFields, t: i64, out: &mut Outbox)
         requires after { pos 0 ≤ℤ t }
         requires late { t ≤ℤ pos (10 ^ 18) }
@@ -71,7 +71,7 @@ fn is_started(fields: &TimeFields, t: i64) -> bool
     t < start + fields.cycle_interval()
 }
 
-#[tactic(auto, using(crate::proofs::CycleLemmas::passed))]
+#[tactic(auto, using(crate::proofs::Passed::passed))]
 fn fraction_reply(fields: &TimeFields, x: i64) -> Reply
     requires { IsNear x }
     ensures { result ≡ reply FRACTION_CHANGED (SFFloat (fraction_of fields.now x)) }
@@ -82,7 +82,7 @@ fn fraction_reply(fields: &TimeFields, x: i64) -> Reply
     }
 }
 
-#[tactic(auto, using(crate::proofs::CycleLemmas::passed))]
+#[tactic(auto, using(crate::proofs::Passed::passed))]
 fn elapsed_reply(fields: &TimeFields, x: i64) -> Reply
     requires { IsNear x }
     ensures { result ≡ reply ELAPSED_TIME (SFTime (elapsed_of fields.now x)) }
@@ -124,7 +124,7 @@ fn progress(fields: &TimeFields, x: i64, t: i64, out: &mut Outbox)
 }
 
 /// The end of a cycle that doesn't begin again, if it isn't after a time.
-#[tactic(auto, using(crate::proofs::CycleLemmas::passed))]
+#[tactic(auto, using(crate::proofs::Passed::passed))]
 fn last_end(fields: &TimeFields, cycle: u64, t: i64) -> Option<i64>
     requires near { IsNear t }
     ensures value { result
@@ -138,7 +138,7 @@ fn last_end(fields: &TimeFields, cycle: u64, t: i64) -> Option<i64>
 }
 
 /// Where a sensor stands that ends, if it ends.
-#[tactic(auto, using(crate::proofs::CycleLemmas::passed), unfolding(crate::specs::Ticks::last_place))]
+#[tactic(auto, using(crate::proofs::Passed::passed), unfolding(crate::specs::Ticks::last_place))]
 fn last_place(fields: &TimeFields, cycle: u64, t: i64) -> Option<i64>
     requires near { IsNear t }
     ensures value { result ≡ last_place fields.now cycle t }
@@ -151,7 +151,7 @@ fn last_place(fields: &TimeFields, cycle: u64, t: i64) -> Option<i64>
 }
 
 /// A tick of an inactive sensor.
-#[tactic(auto, using(crate::proofs::CycleLemmas::passed))]
+#[tactic(auto, using(crate::proofs::Passed::passed))]
 fn tick_inactive(fields: &TimeFields, t: i64, out: &mut Outbox) -> TimeState
     requires near { IsNear t }
     requires after { pos 0 ≤ℤ t }
@@ -182,7 +182,7 @@ fn ends(fields: &TimeFields, x: i64, t: i64, out: &mut Outbox) -> TimeState
 }
 
 /// A tick of a sensor that goes on.
-#[tactic(auto, using(crate::proofs::CycleLemmas::passed))]
+#[tactic(auto, using(crate::proofs::Passed::passed))]
 fn goes_on(fields: &TimeFields, cycle: u64, t: i64, out: &mut Outbox) -> TimeState
     requires near { IsNear t }
     requires after { pos 0 ≤ℤ t }

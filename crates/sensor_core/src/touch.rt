@@ -44,7 +44,8 @@ pub(crate) struct Pointed {
     pub inside: Option<Vec3>,
 }
 
-/// Whether one of them is. All are looked at, which takes a processor less than to stop at the first.
+/// Whether one of them is. All are looked at, which takes a processor less than to stop at the
+/// first.
 pub fn is_any(over: &[bool; VIEWERS]) -> bool
     ensures { result ≡ list_any (λ over. over) over.now }
 {

@@ -11,14 +11,12 @@ pub fn numbers_law()
 {}
 
 /// A sensor inside a Transform is pressed, dragged off its geometry and past its limit, and let go.
-#[tactic(auto, unfolding(crate::specs::Planes::point, crate::specs::Planes::translation, crate::specs::Examples::sent_at_each))]
 pub fn dragging_law()
     ensures { Dragging }
 {}
 
 /// Drags with a minimum above the maximum, without `autoOffset`, along no plane, of a sensor that
 /// is disabled, and beside another viewer's button.
-#[tactic(auto, unfolding(crate::specs::Planes::point, crate::specs::Planes::disable, crate::specs::Planes::translation, crate::specs::Examples::sent_at_each))]
 pub fn kept_drags_law()
     ensures { KeptDrags }
 {}

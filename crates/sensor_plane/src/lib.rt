@@ -3,7 +3,7 @@
 //!
 //! | Module | Has |
 //! |---|---|
-//! | `pointing`, `slot` | what is kept of a TouchSensor, a PlaneSensor and of other nodes, and where |
+//! | `pointing`, `slot` | what is kept of a TouchSensor, a PlaneSensor and other nodes, and where |
 //! | `plane` | what a PlaneSensor does with a pointer, and when it is disabled |
 //! | `drag` | a drag: how it begins, goes on and ends, and how far it translates |
 //! | `pointer`, `path` | a viewer's pointer, and the way to the list that holds the sensor |

@@ -231,10 +231,10 @@ impl Host {
     /// Takes the bytes of a packet.
     ///
     /// An ask is answered with the inputs from the one asked for on, at most 64; with the floor
-    /// where that one is below it; and with `NothingToDo` where it isn't numbered yet. The next offer of a viewer is numbered 1
-    /// microsecond after the last input; an earlier one is a `Repeat`, a later one is `Ahead`, and
-    /// one of an earlier boot is of an `OldBoot`. Of a higher boot no offer is numbered yet. Inputs,
-    /// acks, floors and pieces are `NothingToDo`.
+    /// where that one is below it; and with `NothingToDo` where it isn't numbered yet. The next
+    /// offer of a viewer is numbered 1 microsecond after the last input; an earlier one is a
+    /// `Repeat`, a later one is `Ahead`, and one of an earlier boot is of an `OldBoot`. Of a higher
+    /// boot no offer is numbered yet. Inputs, acks, floors and pieces are `NothingToDo`.
     ///
     /// Refused in this order: `Wire`, where the bytes are no datagram; `WrongScene`, where it has
     /// another mark; `BadViewer`, an ask or an offer of a viewer that there isn't; `Number`, where

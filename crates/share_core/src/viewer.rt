@@ -179,9 +179,9 @@ impl<B: Behaviour> Viewer<B> {
     ///
     /// Refused in this order: `Spoiled`, where memory was refused before; `Wire`, where the bytes
     /// are no datagram; `WrongScene`, where it has another mark; `NotForMe`, an offer, an ask, a
-    /// piece, or another viewer's ack; each of these changes nothing. `TimeNotLater`, an input that isn't
-    /// later than the one before: it is dropped, and those before it stay applied. `Memory`: the
-    /// viewer is spoiled with the inputs that it had applied.
+    /// piece, or another viewer's ack; each of these changes nothing. `TimeNotLater`, an input that
+    /// isn't later than the one before: it is dropped, and those before it stay applied. `Memory`:
+    /// the viewer is spoiled with the inputs that it had applied.
     pub fn take(&mut self, bytes: &[u8]) -> Result<Taken, TakeFault>
         ensures others { self.new ≡ with_state self.old self.new.state }
         ensures step { IsTakeOf (machine_of self.old) self.old.mark self.old.who self.old.state

@@ -21,8 +21,8 @@ fn is_past(until: u32, lowest: Option<u32>) -> bool
     }
 }
 
-/// Whether a host that numbered so many inputs is done: where it is to number `until` of them, these
-/// are numbered, and every viewer of which it heard, one at least, has asked past them.
+/// Whether a host that numbered so many inputs is done: where it is to number `until` of them,
+/// these are numbered, and every viewer of which it heard, one at least, has asked past them.
 pub fn is_served(until: Option<u32>, lowest: Option<u32>, count: u32) -> bool
     ensures { result ≡ is_served until lowest count }
 {

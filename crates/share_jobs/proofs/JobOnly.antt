@@ -20,7 +20,8 @@ use Rattle.share_jobs.specs.Job.{AreSteps, IsClock, IsJob, IsJobStep, IsNumbered
 use Rattle.share_jobs.specs.Points.{word, behind, number_below, vector_of, sight_of, pointing_of, pointed, IsPoint}
 use Rattle.share_jobs.proofs.JobLemmas.{before-cons_no, before-cons_yes, any-cons_no, any-cons_yes, last_time-push}
 use Rattle.share_jobs.proofs.SpaceLemmas.{Spaceless, word_is, behind_is, numeral_is}
-use Rattle.share_jobs.proofs.OnlyLemmas.{number_is, vector_is, bit_low, bit_is}
+use Rattle.share_jobs.proofs.OnlyNumbers.{number_is, vector_is}
+use Rattle.share_jobs.proofs.OnlyLemmas.{bit_low, bit_is}
 
 -- ---- a line by which a viewer points
 

@@ -3,8 +3,10 @@ pub mod LineLemmas
 pub mod JobLemmas
 pub mod PointLemmas
 pub mod FoundLemmas
+pub mod WrittenNumbers
 pub mod StepLemmas
 pub mod ScheduleLemmas
 pub mod SpaceLemmas
+pub mod OnlyNumbers
 pub mod OnlyLemmas
 pub mod JobOnly

@@ -1,12 +1,12 @@
 -- A line that is a step, in its words.
 use Rattle.std.proofs.Common.{◌≡◌, ℕ, ◌<◌, ◌==◌, List, [], ◌∷◌, ◌++◌, length, Bool, true, codes, Option, Some, None, Ok}
 use Rattle.std.proofs.Common.{refl, sym, ap, subst, ◌∙◌, inl, inr, arith}
-use Rattle.std.specs.Prelude.{◌^◌, if◌then◌else◌}
+use Rattle.std.specs.Prelude.{if◌then◌else◌}
 use Rattle.std.specs.Option.{option_map, option_or}
 use Rattle.std.specs.Result.{result_ok}
 use Rattle.std.specs.Str.{bytes_eq}
 use Rattle.std.specs.Cmp.Lexicographic.{same_text}
-use Rattle.std.proofs.lemmas.Bool.{cases_Bool, ltb-true}
+use Rattle.std.proofs.lemmas.Bool.{cases_Bool}
 use Rattle.x3d_numerals.specs.Reading.{numeral}
 use Rattle.x3d_numerals.proofs.Numerals.{numeral_sound}
 use Rattle.x3d_values.specs.declared.vector.Vec3.{Vec3}
@@ -19,73 +19,9 @@ use Rattle.share_law.specs.declared.step.Step.TheVariants.{HostDropBelow, HostFl
 use Rattle.share_law.specs.declared.step.Step.TheVariants.{PiecePacket, ViewerGather, ViewerJoin, ViewerForget}
 use Rattle.share_jobs.specs.Points.{word, behind, number_below, vector_of, IsNumber, AreNumerals}
 use Rattle.share_jobs.specs.Schedule.{number, clock_step, given, give_step, paired, two_numbers, rewound, rewind_step, point, point_of, offered, offer_step}
-use Rattle.share_jobs.specs.Schedule.{host_step, viewer_step, piece_step, named_step, step_of, spaced, AreNumbers, IsCall, IsClockAt, IsGivenHost, IsOffer, IsStep}
+use Rattle.share_jobs.specs.Schedule.{host_step, viewer_step, piece_step, named_step, step_of, spaced, IsCall, IsClockAt, IsGivenHost, IsOffer, IsStep}
 use Rattle.share_jobs.proofs.PointLemmas.{cut_word, word_filled, ok_from, numeral_filled, number_from, vector_from, bit}
-
--- ---- what a value was made of
-
-record IsMapped {A B : Type 0} (f : A → B) (o : Option A) (b : B) : Type 0 where
-  value : A
-  is : o ≡ Some value
-  same : f value ≡ b
-
-mapped : {A B : Type 0} (f : A → B) (o : Option A) (b : B) → option_map f o ≡ Some b → IsMapped f o b
-mapped f None b e = absurd (cc)
-mapped f (Some a) b e = let same : f a ≡ b = cc in record { value = a; is = refl; same = same }
-
--- ---- numbers
-
--- words, which single spaces part, and the numbers that they write
-record AreWritten (text : List ℕ) (ns : List ℕ) : Type 0 where
-  first : List ℕ
-  more : List (List ℕ)
-  words : text ≡ spaced (first ∷ more)
-  each : AreNumbers (first ∷ more) ns
-  filled : 0 < length text
-
-record IsOne (text : List ℕ) (n : ℕ) : Type 0 where
-  numbers : AreNumbers (text ∷ []) (n ∷ [])
-  filled : 0 < length text
-
-one_from : (text : List ℕ) (n : ℕ) → number text ≡ Some n → IsOne text n
-unfolding number
-one_from text n e =
-    let b = number_from (2 ^ 32) text n e in
-    record { numbers = (b.number, ltb-true n (2 ^ 32) b.low, tt); filled = b.filled }
-
-written_one : (text : List ℕ) (n : ℕ) → number text ≡ Some n → AreWritten text (n ∷ [])
-written_one text n e =
-    let one = one_from text n e in
-    record { first = text; more = []; words = refl; each = one.numbers; filled = one.filled }
-
--- a first number, and others behind it
-written_more : (text : List ℕ) (n : ℕ) (ns : List ℕ) → number (word text) ≡ Some n → AreWritten (behind text) ns → AreWritten text (n ∷ ns)
-written_more text n ns e w =
-    let one = one_from (word text) n e in
-    record {
-      first = word text;
-      more = w.first ∷ w.more;
-      words = cut_word text w.filled ∙ ap (λ t. word text ++ (32 ∷ t)) w.words;
-      each = (one.numbers.0, one.numbers.1, w.each);
-      filled = word_filled text one.filled;
-    }
-
--- ---- a name, and numbers behind it
-
-named : (line name text : List ℕ) → bytes_eq (word line) name ≡ true → 0 < length (behind line) → behind line ≡ text → line ≡ name ++ (32 ∷ text)
-named line name text is filled same =
-    let first : word line ≡ name = same_text (word line) name (sym is) in
-    cut_word line filled ∙ (ap (λ n. n ++ (32 ∷ behind line)) first ∙ ap (λ t. name ++ (32 ∷ t)) same)
-
-called : (line name : List ℕ) (ns : List ℕ) → bytes_eq (word line) name ≡ true → AreWritten (behind line) ns → IsCall line name ns
-called line name ns is w = record {
-  texts = w.first ∷ w.more;
-  words = named line name (spaced (w.first ∷ w.more)) is w.filled w.words;
-  each = w.each;
-}
-
-called_by : (line text name : List ℕ) (ns : List ℕ) → bytes_eq (word line) name ≡ true → text ≡ behind line → AreWritten text ns → IsCall line name ns
-called_by line text name ns is at_text w = called line name ns is (rw at_text at w)
+use Rattle.share_jobs.proofs.WrittenNumbers.{mapped, AreWritten, one_from, written_one, written_more, named, called, called_by}
 
 -- ---- steps of the host
 

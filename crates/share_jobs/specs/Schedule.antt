@@ -117,7 +117,8 @@ piece_step name text =
     if bytes_eq name (codes "piece") then option_map (λ p. PiecePacket p.0 p.1) (two_numbers text)
     else (if bytes_eq name (codes "gather") then
     option_map (λ p. ViewerGather p.1 p.0) (two_numbers text)
-    else (if bytes_eq name (codes "join") then option_map (λ p. ViewerJoin p.0 p.1) (two_numbers text)
+    else (if bytes_eq name (codes "join") then
+    option_map (λ p. ViewerJoin p.0 p.1) (two_numbers text)
     else (if bytes_eq name (codes "forget") then option_map (λ v. ViewerForget v) (number text)
     else None)))
 

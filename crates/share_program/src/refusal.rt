@@ -81,8 +81,8 @@ fn share_status(fault: ShareFault) -> u8
     }
 }
 
-/// 1 for a scene that is refused, its scripts or a snapshot, 2 for words, boots and jobs, 3 for turns
-/// that are used up, 4 for devices, 5 for memory.
+/// 1 for a scene that is refused, its scripts or a snapshot, 2 for words, boots and jobs, 3 for
+/// turns that are used up, 4 for devices, 5 for memory.
 pub fn status_of(failure: &Failure) -> u8
     ensures { result ≡ status failure.now }
 {

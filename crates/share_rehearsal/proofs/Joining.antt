@@ -21,7 +21,7 @@ use Rattle.share_law.specs.Network.{Network, Seat, in_new_boot, joined_by, join_
 use Rattle.share_law.specs.Pieces.{Gathering, shot_with, whole_of}
 use Rattle.share_law.specs.Reached.{IsRunning}
 use Rattle.share_law.specs.Viewer.{Shot, ViewerState, begun, empty_window}
-use Rattle.share_law.proofs.Effects.{shot_with-at}
+use Rattle.share_law.proofs.Shots.{shot_with-at}
 use Rattle.share_law.proofs.Elements.{slice_get-set}
 use Rattle.share_core.specs.Viewer.{ViewerView}
 use Rattle.share_rehearsal.specs.declared.answer.Answer.{Answer}

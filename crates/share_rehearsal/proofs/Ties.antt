@@ -40,7 +40,7 @@ use Rattle.share_law.specs.Reached.{Reached, IsRunning}
 use Rattle.share_law.specs.Viewer.{View, Spoiled, Running, ViewerState, Shot as LawShot, viewer_offer, viewer_resend, viewer_ask}
 use Rattle.share_law.proofs.Calls.{IsClocked-step, IsGather-step, IsGatherOf-gather, IsJoin-step, IsNoJoin-step, forget-step, piece-step, seat_joined, IsHostTake-step, IsHostTakeOf-take, IsTake-step, IsTakeOf-take, ack-step, offer-step, resend-step, ask-step, save-step, save-refused-step, save-spoiled-step, IsRewind-step}
 use Rattle.share_law.proofs.Elements.{slice_get_push}
-use Rattle.share_law.proofs.Effects.{is_shot_of-parts, shot_with-at}
+use Rattle.share_law.proofs.Shots.{is_shot_of-parts, shot_with-at}
 use Rattle.share_law.proofs.Floors.{floor_stands}
 use Rattle.share_law.proofs.Machines.{cascade-is}
 use Rattle.share_law.proofs.Parts.{IsPartClocked-host, IsPartTakeOf-host, part_drop-host, part_packet-host}

@@ -1,5 +1,5 @@
-//! A viewer that gives: it sends the pieces of its snapshot to a port, round and round, and asks for
-//! nothing.
+//! A viewer that gives: it sends the pieces of its snapshot to a port, round and round, and asks
+//! for nothing.
 
 ghost use Rattle.std.specs.Prelude.{◌≡◌, [], Err, IfErr, OnErr, OnOk, is_ok};
 ghost use Rattle.std.specs.Option.{option_map};

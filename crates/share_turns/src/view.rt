@@ -151,9 +151,9 @@ fn end<B: Behaviour, P: Port>(
     }
 }
 
-/// What a viewer does as `plan` says: it joins by the pieces that come to it; then it takes turns as
-/// by `view_until`; then it gives its snapshot, in as many turns as are left of `turns`. Its trace
-/// and its scene are appended. On a fault the buffer is as it was.
+/// What a viewer does as `plan` says: it joins by the pieces that come to it; then it takes turns
+/// as by `view_until`; then it gives its snapshot, in as many turns as are left of `turns`. Its
+/// trace and its scene are appended. On a fault the buffer is as it was.
 ///
 /// `TurnsUsedUp` where the turns came to less, `Join` where what it gathered is no snapshot of its
 /// scene that it may begin in: `BootNotNew` where its boot isn't above the snapshot's. A turn that

@@ -205,7 +205,6 @@ static COMMANDS: [CommandWords; 7] = [
 ];
 
 /// The commands in the order of help.
-#[tactic(auto, unfolding(crate::specs::Commands::run_app, crate::specs::Commands::format_app, crate::specs::Commands::check_app, crate::specs::Commands::rehearse_app, crate::specs::Commands::agree_app, crate::specs::Commands::host_app, crate::specs::Commands::view_app))]
 fn commands() -> &'static [CommandWords]
     ensures { map app_with result.now ≡ run_app ∷ format_app ∷ check_app ∷ rehearse_app ∷ agree_app
         ∷ host_app ∷ view_app ∷ [] }

@@ -171,7 +171,6 @@ pub fn progress_of(bytes: &[u8]) -> Option<(Progress, &[u8])>
 }
 
 /// Appends how far a world had come. On a refusal the buffer is as it was.
-#[tactic(auto, unfolding(crate::specs::Head::progress_codec, byte_codec::specs::Codec::number_text))]
 pub fn push_progress(progress: Progress, out: &mut Vec<u8>) -> Result<(), AllocError>
     ensures ok { OnOk result (out.new.items ≡ out.old.items ++ progress_codec.write progress) }
     ensures err { OnErr result (out.new.items ≡ out.old.items) }

@@ -222,7 +222,6 @@ fn push_drag(drag: &Option<Drag>, out: &mut Vec<u8>) -> Result<(), AllocError>
     }
 }
 
-#[tactic(auto, unfolding(crate::specs::Parts::plane_codec, crate::specs::Parts::drag_codec, crate::specs::Parts::viewer_set_codec))]
 fn push_parts(plane: &Plane, out: &mut Vec<u8>) -> Result<(), AllocError>
     ensures ok { OnOk result (out.new.items ≡ out.old.items ++ plane_codec.write plane.now) }
     ensures kept { Extends out.old.items out.new.items }

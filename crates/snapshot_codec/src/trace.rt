@@ -174,7 +174,6 @@ pub fn trace_of<'a, O: Outputs, T: TakesEntries>(
     entries_of(alloc, outputs, count, rest, taker)
 }
 
-#[tactic(auto, unfolding(crate::specs::Trace::sent_at_codec, byte_codec::specs::Codec::number_text))]
 fn push_sent_at(sent: SentAt, out: &mut Vec<u8>) -> Result<(), AllocError>
     ensures ok { OnOk result (out.new.items ≡ out.old.items ++ sent_at_codec.write sent) }
     ensures err { OnErr result (out.new.items ≡ out.old.items) }

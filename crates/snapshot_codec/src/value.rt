@@ -8,10 +8,9 @@ ghost use Rattle.snapshot_codec.specs.Values.{list_at, value_codec, value_text};
 use crate::coded::{Coded, list_of, list_within, push_list};
 use crate::fault::PartFault;
 use crate::numbers::within_of;
-use crate::vectors::{color_of, number_of, vector2_of, vector3_of};
-use byte_codec::{flag_of, i32_of};
+use crate::vectors::number_of;
 use std::alloc::{AllocError, Global};
-use x3d_values::{FieldType, MAX_COORDINATE, Text, Value};
+use x3d_values::{Color, FieldType, MAX_COORDINATE, Text, Value, Vec2, Vec3};
 
 /// The largest size of a time, in microseconds.
 pub(crate) const MAX_TIME: u64 = 1_000_000_000_000_000_000;
@@ -29,52 +28,20 @@ pub fn value_of(
     ensures { Reads (λ x. (x.0, x.1.now)) result ((value_codec field_type).read bytes.now) }
 {
     match field_type {
-        FieldType::SFBool => {
-            let Some((truth, rest)) = flag_of(bytes) else {
-                return Err(PartFault::NotCanonical);
-            };
-            Ok((Value::SFBool(truth), rest))
-        }
-        FieldType::SFInt32 => {
-            let Some((number, rest)) = i32_of(bytes) else {
-                return Err(PartFault::NotCanonical);
-            };
-            Ok((Value::SFInt32(number), rest))
-        }
-        FieldType::SFFloat => {
-            let Some((number, rest)) = number_of(bytes) else {
-                return Err(PartFault::NotCanonical);
-            };
-            Ok((Value::SFFloat(number), rest))
-        }
-        FieldType::SFTime => {
-            let Some((time, rest)) = within_of(MAX_TIME, bytes) else {
-                return Err(PartFault::NotCanonical);
-            };
-            Ok((Value::SFTime(time), rest))
-        }
-        FieldType::SFString => {
-            let (text, rest) = Text::read(alloc, bytes)?;
-            Ok((Value::SFString(text), rest))
-        }
-        FieldType::SFVec2f => {
-            let Some((vector, rest)) = vector2_of(bytes) else {
-                return Err(PartFault::NotCanonical);
-            };
-            Ok((Value::SFVec2f(vector), rest))
-        }
-        FieldType::SFVec3f => {
-            let Some((vector, rest)) = vector3_of(bytes) else {
-                return Err(PartFault::NotCanonical);
-            };
-            Ok((Value::SFVec3f(vector), rest))
-        }
-        FieldType::SFColor => {
-            let Some((color, rest)) = color_of(bytes) else {
-                return Err(PartFault::NotCanonical);
-            };
-            Ok((Value::SFColor(color), rest))
-        }
+        FieldType::SFBool => valued(bool::read(alloc, bytes), Value::SFBool),
+        FieldType::SFInt32 => valued(i32::read(alloc, bytes), Value::SFInt32),
+        FieldType::SFFloat => valued(
+            number_of(bytes).ok_or(PartFault::NotCanonical),
+            Value::SFFloat,
+        ),
+        FieldType::SFTime => valued(
+            within_of(MAX_TIME, bytes).ok_or(PartFault::NotCanonical),
+            Value::SFTime,
+        ),
+        FieldType::SFString => valued(Text::read(alloc, bytes), Value::SFString),
+        FieldType::SFVec2f => valued(Vec2::read(alloc, bytes), Value::SFVec2f),
+        FieldType::SFVec3f => valued(Vec3::read(alloc, bytes), Value::SFVec3f),
+        FieldType::SFColor => valued(Color::read(alloc, bytes), Value::SFColor),
         _ => list_value_of(alloc, field_type, bytes),
     }
 }

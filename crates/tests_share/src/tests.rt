@@ -1,6 +1,6 @@
-//! What the cases of cases/ can't show of several nodes: a host and its viewers over a bad cable, over
-//! one that fails, and one of them by its command; hosts, viewers and their snapshots by themselves,
-//! damaged bytes, and memory that is refused.
+//! What the cases of cases/ can't show of several nodes: a host and its viewers over a bad cable,
+//! over one that fails, and one of them by its command; hosts, viewers and their snapshots by
+//! themselves, damaged bytes, and memory that is refused.
 
 mod agreeing;
 mod cable;

@@ -1,4 +1,5 @@
-//! Snapshots by their bytes: `save` makes those of version 2, and those of both versions are loaded.
+//! Snapshots by their bytes: `save` makes those of version 2, and those of both versions are
+//! loaded.
 
 ghost use Rattle.std.specs.Prelude.{◌≡◌, IfOk};
 ghost use Rattle.cascade_core.specs.Scripts.{scripts_in};

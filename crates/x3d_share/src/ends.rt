@@ -46,8 +46,8 @@ impl fmt::Display for ViewEnd {
     }
 }
 
-/// Says on standard error, where that is asked for, which port is bound. A standard error that fails
-/// is nothing to a run.
+/// Says on standard error, where that is asked for, which port is bound. A standard error that
+/// fails is nothing to a run.
 pub fn tell_port<R: Eprint>(rt: &R, verbose: bool, port: &UdpPort) {
     if verbose && let Ok(number) = number_of(port) {
         let _told = rt.eprintln(BoundAt(number));

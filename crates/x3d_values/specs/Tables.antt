@@ -1,124 +1,16 @@
 -- The table of fields (ISO/IEC 19775-1, the node types of each component; which rows there are
 -- is our choice).
-use Rattle.std.specs.Prelude.{◌≡◌, ⊤, MatchOption, ℕ, ◌+◌, ◌&&◌, pos, negsuc, Bool, true, is_none, List, [], ◌∷◌, Option, Some, None, codes, if◌then◌else◌, nat_eq}
-use Rattle.std.specs.Option.{option_map}
-use Rattle.std.specs.Cmp.Lexicographic.{pointwise}
-use Rattle.x3d_values.specs.declared.default.FieldDefault.{FieldDefault}
+use Rattle.std.specs.Prelude.{pos, negsuc, List, [], ◌∷◌, codes}
 use Rattle.x3d_values.specs.declared.default.FieldDefault.TheVariants.{Empty, True, Int32, Float, Time, Vec2f, Vec3f, Color, PlainStyle, SerifFamily, BeginJustify, StandardAvatar, ExamineAny, BlackSky}
-use Rattle.x3d_values.specs.declared.field_type.Access.{Access}
-use Rattle.x3d_values.specs.declared.field_type.Access.TheVariants.{InputOnly, OutputOnly, InputOutput, InitializeOnly}
-use Rattle.x3d_values.specs.declared.field_type.FieldType.{FieldType}
-use Rattle.x3d_values.specs.declared.field_type.FieldType.TheVariants.{SFBool, SFInt32, SFFloat, SFTime, SFString, SFVec2f, SFVec3f, SFColor, SFNode, MFBool, MFInt32, MFFloat, MFString, MFVec2f, MFVec3f, MFColor, MFNode, SFRotation}
+use Rattle.x3d_values.specs.declared.field_type.FieldType.TheVariants.{SFBool, SFInt32, SFFloat, SFTime, SFString, SFVec2f, SFVec3f, SFColor, MFBool, MFInt32, MFFloat, MFString, MFVec2f, MFVec3f, MFColor}
 use Rattle.x3d_values.specs.declared.node_type.NodeType.{NodeType}
 use Rattle.x3d_values.specs.declared.node_type.NodeType.TheVariants.{Group, Transform, Switch, WorldInfo, Shape, Appearance, Material, ImageTexture, Box, Sphere, Cone, Cylinder, IndexedFaceSet, Text, Coordinate, Color, Normal, TextureCoordinate, FontStyle, Viewpoint, NavigationInfo, Background, DirectionalLight, PointLight, MetadataString, MetadataInteger, MetadataFloat, MetadataSet, TimeSensor, TouchSensor, PlaneSensor, ScalarInterpolator, PositionInterpolator, PositionInterpolator2D, CoordinateInterpolator, BooleanSequencer, IntegerSequencer, BooleanFilter, BooleanToggle, BooleanTrigger, IntegerTrigger, TimeTrigger, Script}
-use Rattle.x3d_values.specs.declared.node_type.NodeKind.{NodeKind}
 use Rattle.x3d_values.specs.declared.node_type.NodeKind.TheVariants as kind
-use Rattle.x3d_values.specs.declared.rows.Field.{Field}
-use Rattle.x3d_values.specs.declared.table.FieldRow.{FieldRow}
-use Rattle.x3d_values.specs.Defaults.{default_value}
-use Rattle.x3d_values.specs.Values.{type_of}
+pub use Rattle.x3d_values.specs.Entries.{Entry, entry, exposed, initial, input, output, rotation, node, nodes, metadata, box_center, box_size, children}
 use Rattle.x3d_values.specs.Vectors.{pair, vector, color}
+pub use Rattle.x3d_values.specs.Finding.{numbered, row_named, are_distinct, IsTyped, AreTyped}
 
--- a row of the table: a field's name, and how it may be used
-pub record Entry : Type 0 where
-  pub name : List ℕ
-  pub access : Access
-  pub field_type : FieldType
-  pub default : Option FieldDefault
-  pub kind : Option NodeKind
-
--- a field of the program's table as a row
-abbrev pub entry : Field → Entry
-entry f = record {
-  name = f.name.now;
-  access = f.access;
-  field_type = f.field_type;
-  default = f.default;
-  kind = f.kind;
-}
-
--- ---- the kinds of rows
-
-abbrev pub exposed : List ℕ → FieldType → FieldDefault → Entry
-exposed name field_type value = record {
-  name = name;
-  access = InputOutput;
-  field_type = field_type;
-  default = Some value;
-  kind = None;
-}
-
-abbrev pub initial : List ℕ → FieldType → FieldDefault → Entry
-initial name field_type value = record {
-  name = name;
-  access = InitializeOnly;
-  field_type = field_type;
-  default = Some value;
-  kind = None;
-}
-
-abbrev pub input : List ℕ → FieldType → Entry
-input name field_type = record {
-  name = name;
-  access = InputOnly;
-  field_type = field_type;
-  default = None;
-  kind = None;
-}
-
-abbrev pub output : List ℕ → FieldType → Entry
-output name field_type = record {
-  name = name;
-  access = OutputOnly;
-  field_type = field_type;
-  default = None;
-  kind = None;
-}
-
--- a rotation is read and dropped, so it holds nothing
-abbrev pub rotation : List ℕ → Entry
-rotation name = record {
-  name = name;
-  access = InputOutput;
-  field_type = SFRotation;
-  default = None;
-  kind = None;
-}
-
-abbrev pub node : List ℕ → NodeKind → Entry
-node name k = record {
-  name = name;
-  access = InputOutput;
-  field_type = SFNode;
-  default = Some Empty;
-  kind = Some k;
-}
-
-abbrev pub nodes : List ℕ → NodeKind → Entry
-nodes name k = record {
-  name = name;
-  access = InputOutput;
-  field_type = MFNode;
-  default = Some Empty;
-  kind = Some k;
-}
-
-abbrev pub metadata : Entry
-metadata = node (codes "metadata") kind.Metadata
-
-abbrev pub box_center : Entry
-box_center = initial (codes "bboxCenter") SFVec3f Empty
-
-abbrev pub box_size : Entry
-box_size =
-    initial (codes "bboxSize") SFVec3f
-    (Vec3f (vector (negsuc 999999) (negsuc 999999) (negsuc 999999)))
-
-abbrev pub children : Entry
-children = nodes (codes "children") kind.Child
-
--- ---- the table: numbers are in millionths
-
+-- the fields of a node type; numbers are in millionths
 abbrev pub rows : NodeType → List Entry
 rows Group =
     metadata
@@ -450,36 +342,3 @@ rows Script =
     ∷ initial (codes "directOutput") SFBool Empty
     ∷ initial (codes "mustEvaluate") SFBool Empty
     ∷ []
-
--- ---- finding a row
-
--- a row by its number among the fields of its node
-abbrev pub numbered : ℕ → Entry → FieldRow
-numbered n e = record {
-  number = n;
-  access = e.access;
-  field_type = e.field_type;
-  default = e.default;
-  kind = e.kind;
-}
-
--- the first row of that name, numbered from n
-abbrev pub row_named : ℕ → List ℕ → List Entry → Option FieldRow
-row_named n name [] = None
-row_named n name (e ∷ others) =
-    if pointwise nat_eq name e.name then Some (numbered n e) else row_named (n + 1) name others
-
--- the name of no row stands again behind it
-abbrev pub are_distinct : List Entry → Bool
-are_distinct [] = true
-are_distinct (e ∷ others) = is_none (row_named 0 e.name others) && are_distinct others
-
--- the default, if there is one, is a value of the field's type
-abbrev pub IsTyped : Entry → Type 0
-IsTyped e =
-    MatchOption e.default ⊤
-    (λ value. option_map type_of (default_value e.field_type value) ≡ Some e.field_type)
-
-abbrev pub AreTyped : List Entry → Type 0
-AreTyped [] = ⊤
-AreTyped (e ∷ others) = IsTyped e × AreTyped others

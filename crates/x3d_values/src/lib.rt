@@ -5,8 +5,8 @@
 //! `names` their words, `rows` the table itself, `default` what stands where a scene gives nothing,
 //! `table` fields by name and number, `aliases` fields as routes name them, `laws` what holds of
 //! all rows. Of values: `vector` and `value` are the values, `show` their texts, `pieces` rows of
-//! texts, `fields` what a node keeps, `script` what a scene asks of scripts. Of inputs: `ranges` has
-//! the limits, `pointing` rays and pointers, `stamped` the numbered input.
+//! texts, `fields` what a node keeps, `script` what a scene asks of scripts. Of inputs: `ranges`
+//! has the limits, `pointing` rays and pointers, `stamped` the numbered input.
 #![tactic(auto)]
 
 mod aliases;

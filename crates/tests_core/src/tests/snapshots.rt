@@ -299,8 +299,8 @@ fn drags_have_their_bytes(rt: HostRuntime) {
     holds(&rt, plane_of(&PLANES[..65]).is_none());
 }
 
-/// A PlaneSensor that nobody is over, with that byte for who presses it, this height of where it was
-/// pressed, and that many positions; behind it come as many bytes as 64 positions have.
+/// A PlaneSensor that nobody is over, with that byte for who presses it, this height of where it
+/// was pressed, and that many positions; behind it come as many bytes as 64 positions have.
 fn drag_bytes(presser: u8, height: &[u8], count: u8) -> ArrayVec<u8, 320> {
     let mut out = ArrayVec::new();
     let _over = out.try_extend_from_slice(&[0; 8]);

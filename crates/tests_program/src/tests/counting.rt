@@ -6,150 +6,19 @@ ghost use Rattle.cascade_core.specs.Apply.{opening};
 ghost use Rattle.cascade_core.specs.Held.{Running};
 ghost use Rattle.share_rehearsal.specs.Rehearsed.{AreFresh};
 
+mod boxes;
+
+use boxes::{Calls, Count, Counted, NONE};
 use cascade_core::{LoadFault, Stage};
-use script_boxes::{Counter, StockScript};
-use script_host::{Behaviour, Replies, StateFault};
+use script_host::Behaviour;
 use share_core::Viewer;
 use share_law::{Step, Taken};
 use share_program::{Job, Opened, attach, open_job, open_scene, run};
 use share_rehearsal::rehearse;
 use share_wire::{Body, Message, encode};
 use std::alloc::{AllocError, Global};
-use std::cell::Cell;
 use std::process::Abort;
-use x3d_values::{Event, Kind, Stamped, is_input_number, is_input_time};
-
-/// How often each call was made of a box, and how often it was dropped.
-#[derive(Clone, Copy, PartialEq, Eq)]
-struct Calls {
-    initialize: u32,
-    receive: u32,
-    settle: u32,
-    state: u32,
-    restore: u32,
-    shutdown: u32,
-    dropped: u32,
-}
-
-const NONE: Calls = Calls {
-    initialize: 0,
-    receive: 0,
-    settle: 0,
-    state: 0,
-    restore: 0,
-    shutdown: 0,
-    dropped: 0,
-};
-
-/// What is done with a box.
-#[derive(Clone, Copy)]
-enum Call {
-    Initialize,
-    Receive,
-    Settle,
-    State,
-    Restore,
-    Shutdown,
-    Drop,
-}
-
-/// The calls of one box.
-type Count = Cell<Calls>;
-
-fn one_more(count: u32) -> u32 {
-    count.saturating_add(1)
-}
-
-fn tell(count: &Count, call: Call) {
-    let mut calls = count.get();
-    match call {
-        Call::Initialize => calls.initialize = one_more(calls.initialize),
-        Call::Receive => calls.receive = one_more(calls.receive),
-        Call::Settle => calls.settle = one_more(calls.settle),
-        Call::State => calls.state = one_more(calls.state),
-        Call::Restore => calls.restore = one_more(calls.restore),
-        Call::Shutdown => calls.shutdown = one_more(calls.shutdown),
-        Call::Drop => calls.dropped = one_more(calls.dropped),
-    }
-    count.set(calls);
-}
-
-/// A counter from 5 by steps of 2 that counts its calls.
-struct Counted<'a> {
-    script: StockScript,
-    /// Whether it answers that memory was refused where it is restored.
-    refuses: bool,
-    count: &'a Count,
-}
-
-impl<'a> Counted<'a> {
-    fn new(refuses: bool, count: &'a Count) -> Counted<'a> {
-        Counted {
-            script: StockScript::Counter(Counter::new(5, 2)),
-            refuses,
-            count,
-        }
-    }
-}
-
-impl<'a> Drop for Counted<'a> {
-    fn drop(self) {
-        let Counted {
-            script,
-            refuses: _,
-            count,
-        } = self;
-        tell(count, Call::Drop);
-        drop(script);
-    }
-}
-
-impl<'a> Behaviour for Counted<'a> {
-    ghost kind_of = { λ p. ⟦<StockScript as Behaviour>⟧.kind_of p.script };
-
-    ghost numbers = { λ p. ⟦<StockScript as Behaviour>⟧.numbers p.script };
-
-    fn kind(&self) -> Kind {
-        self.script.kind()
-    }
-
-    fn initialize(&mut self) -> Replies {
-        tell(self.count, Call::Initialize);
-        self.script.initialize()
-    }
-
-    fn receive(&mut self, input: u32, event: [i64; 3]) -> Replies {
-        tell(self.count, Call::Receive);
-        self.script.receive(input, event)
-    }
-
-    fn events_processed(&mut self) -> Replies {
-        tell(self.count, Call::Settle);
-        self.script.events_processed()
-    }
-
-    fn shutdown(&mut self) {
-        tell(self.count, Call::Shutdown);
-        self.script.shutdown();
-    }
-
-    fn state(&self, out: &mut Vec<i64>) -> Result<(), AllocError> {
-        tell(self.count, Call::State);
-        self.script.state(out)
-    }
-
-    fn fits(&self, state: &[i64]) -> Result<(), StateFault> {
-        self.script.fits(state)
-    }
-
-    fn restore(&mut self, state: &[i64]) -> Result<(), StateFault> {
-        tell(self.count, Call::Restore);
-        if self.refuses {
-            return Err(StateFault::Memory);
-        }
-        self.script.restore(state)
-    }
-}
+use x3d_values::{Event, Stamped, is_input_number, is_input_time};
 
 /// A counter that a clock drives each two seconds, from the first second on.
 const COUNTED: &str = "#X3D V3.0 utf8

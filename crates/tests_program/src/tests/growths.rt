@@ -58,8 +58,8 @@ fn formatting_is_refused_until_there_is_enough(rt: HostRuntime) {
     all_hold(&rt, rt.alloc(), &FORMATTED);
 }
 
-/// A few prototypes stand for many nodes with many fields: each layer holds more than the one before,
-/// so the growths of each are refused.
+/// A few prototypes stand for many nodes with many fields: each layer holds more than the one
+/// before, so the growths of each are refused.
 static CHECKED: [Refused; 1] = [Refused(
     Command::Check,
     &[
@@ -99,8 +99,8 @@ fn loading_is_refused_until_there_is_enough(rt: HostRuntime) {
     all_hold(&rt, rt.alloc(), &LOADED);
 }
 
-/// Clocks of which each is told by many lines: the job, its trace, the text of that, and the text of the
-/// scene behind it each take more than what was before.
+/// Clocks of which each is told by many lines: the job, its trace, the text of that, and the text
+/// of the scene behind it each take more than what was before.
 static CLOCKS: [Refused; 1] = [Refused(
     Command::Run,
     &[

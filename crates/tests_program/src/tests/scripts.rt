@@ -11,6 +11,7 @@ mod probe;
 mod running;
 mod stages;
 mod viewing;
+mod work;
 mod worlds;
 
 use std::alloc::Global;

@@ -137,7 +137,8 @@ static ROWS: [Marked; 6] = [
         "N{childrenN{}?{}}",
     ),
     Marked(
-        "#X3D V3.0 utf8\nPROTO Lamp [ initializeOnly SFVec3f size 1 1 1 initializeOnly SFBool on TRUE ] { Box { size IS size } }\nLamp { size 2 2 2 on FALSE }",
+        "#X3D V3.0 utf8\nPROTO Lamp [ initializeOnly SFVec3f size 1 1 1 \
+            initializeOnly SFBool on TRUE ] { Box { size IS size } }\nLamp { size 2 2 2 on FALSE }",
         "[size=]N{size:} I0{size=on-}",
     ),
     Marked(
@@ -145,11 +146,13 @@ static ROWS: [Marked; 6] = [
         "[]N{} []I0{} I1{}?{}",
     ),
     Marked(
-        "#X3D V3.0 utf8\nPROTO Lamp [ initializeOnly SFNode shade NULL ] { Group {} }\nLamp { shade Group { PROTO Bulb [] { Box {} } } }\nBulb {}",
+        "#X3D V3.0 utf8\nPROTO Lamp [ initializeOnly SFNode shade NULL ] { Group {} }\n\
+            Lamp { shade Group { PROTO Bulb [] { Box {} } } }\nBulb {}",
         "[]N{} []N{} I0{shade-}I1{}",
     ),
     Marked(
-        "#X3D V3.0 utf8\nGroup { children [ Box {} Group { PROTO Box [] { Group {} } } Box {} ] }\nGroup {}",
+        "#X3D V3.0 utf8\n\
+            Group { children [ Box {} Group { PROTO Box [] { Group {} } } Box {} ] }\nGroup {}",
         "N{childrenN{}N{!}}",
     ),
     Marked(

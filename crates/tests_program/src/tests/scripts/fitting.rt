@@ -11,8 +11,8 @@ use share_program::{Opened, open_scene};
 use std::alloc::Global;
 use x3d_values::{Items, Position, Value, Vec3};
 
-/// A node of each kind that keeps more than its fields, and one that declares fields: 0 to 3; then a
-/// PlaneSensor below a Group, which are 4 and 5, and one beside it, 6.
+/// A node of each kind that keeps more than its fields, and one that declares fields: 0 to 3; then
+/// a PlaneSensor below a Group, which are 4 and 5, and one beside it, 6.
 const SCENE: &[u8] = b"#X3D V3.0 utf8
 DEF T TimeSensor { cycleInterval 2 } DEF S TouchSensor {} DEF I IntegerSequencer {}
 DEF A Script { inputOutput SFFloat level 1 inputOutput MFFloat levels [1] inputOnly SFBool mute }
@@ -157,6 +157,14 @@ fn kept_of(kept: Kept) -> Option<PointingState> {
     }
 }
 
+/// The number of the field of that name, or 0.
+fn number_of(scene: &Scene, node: u32, name: &str) -> u32 {
+    match scene.field_named(node, name) {
+        Some(row) => row.number,
+        None => 0,
+    }
+}
+
 /// The world in which nothing has happened, with a change.
 fn world_with(alloc: Global, scene: &Scene, change: Change) -> Option<WorldData> {
     let mut world = untold(alloc, scene)?;
@@ -190,10 +198,7 @@ fn world_with(alloc: Global, scene: &Scene, change: Change) -> Option<WorldData>
         Change::FewerPointing => world.pointing = Watched::from_vec(Vec::new(alloc)),
         Change::Sent(input, time, node, name, held) => {
             if let Some(value) = value_of(alloc, held) {
-                let field = match scene.field_named(node, name) {
-                    Some(row) => row.number,
-                    None => 0,
-                };
+                let field = number_of(scene, node, name);
                 let _ = world
                     .trace
                     .push(alloc, input, time, End { node, field }, &value);

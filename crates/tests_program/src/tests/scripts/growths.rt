@@ -1,5 +1,5 @@
-//! Memory that is refused to a stage with scripts until there is enough, and to what makes its boxes:
-//! each box is shut down and dropped once.
+//! Memory that is refused to a stage with scripts until there is enough, and to what makes its
+//! boxes: each box is shut down and dropped once.
 
 use super::attaching::specs_of_kinds;
 use super::holds;

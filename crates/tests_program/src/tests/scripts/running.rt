@@ -12,8 +12,9 @@ use std::process::Abort;
 /// Two clocks by which both counters count.
 static JOB: [Part; 2] = [Part(1, "clock 1\nclock 3\nscene\n"), Part(1, COUNTERS)];
 
-/// Boxes for a job, why they are refused, and what was done with them: what they tell, and how often
-/// they were called for an event, for those of a timestamp, to be restored and for their states.
+/// Boxes for a job, why they are refused, and what was done with them: what they tell, and how
+/// often they were called for an event, for those of a timestamp, to be restored and for their
+/// states.
 struct Boxed(&'static [Made], Option<RunFault>, u64, [u32; 4]);
 
 /// Why a job of these bytes isn't run with these boxes; `None` in place of that where there is no

@@ -122,8 +122,8 @@ const TRACE: &str = "1 1 T.isActive TRUE
 3 3 T.time 3
 ";
 
-/// Boxes are initialized once. What comes to them is told to them, again behind the new beginning, for
-/// which each is set once; and a box that is replaced hands its state on.
+/// Boxes are initialized once. What comes to them is told to them, again behind the new beginning,
+/// for which each is set once; and a box that is replaced hands its state on.
 static STORIES: [Story; 1] = [Story(
     &[
         Step::Told(12),

@@ -1,4 +1,5 @@
-//! Snapshots in the middle of a drag: their sizes, altered ones, and a viewer that goes on from one.
+//! Snapshots in the middle of a drag: their sizes, altered ones, and a viewer that goes on from
+//! one.
 
 use super::given::{MARK, Trial, go_back, try_on};
 use super::snapshots::{Alterations, DIGEST, NOT_CANONICAL, Size, alter, fault_of};
@@ -19,8 +20,8 @@ Group { children [ DEF D PlaneSensor {} Shape { geometry Box {} } ] } Group {}";
 const TOUCHED: &str = "#X3D V3.0 utf8
 Group { children [ DEF S TouchSensor {} Shape { geometry Box {} } ] } Group {}";
 
-/// A viewer, whether its button is down, and where its ray along 0 0 -1 begins, in halves along x and
-/// y.
+/// A viewer, whether its button is down, and where its ray along 0 0 -1 begins, in halves along x
+/// and y.
 struct Aim(u8, bool, i8, i8);
 
 /// Viewer 63 comes over the box, presses it at 0.5 0.5, and drags it to 2 1; then viewer 1 comes

@@ -1,4 +1,5 @@
-//! Memory that is refused to a viewer that gathers a snapshot and joins by it, until there is enough.
+//! Memory that is refused to a viewer that gathers a snapshot and joins by it, until there is
+//! enough.
 
 use super::given::{COUNTED, MARK, POINT, Trial, go_back, try_on};
 use super::memory::is_unchanged;
@@ -55,8 +56,8 @@ impl<'a> Spared<Viewer<StockScript>> for OnePiece<'a> {
     }
 }
 
-/// A viewer with an offer that waits joins by this snapshot. Where it is refused its boot, its offer
-/// and what it gathered stand, and it joins by that once there is memory.
+/// A viewer with an offer that waits joins by this snapshot. Where it is refused its boot, its
+/// offer and what it gathered stand, and it joins by that once there is memory.
 #[derive(Clone, Copy)]
 struct Joins<'a>(&'a [u8]);
 

@@ -90,8 +90,8 @@ fn is_spoiled(alloc: Global, viewer: &mut Viewer<StockScript>, applied: u32) -> 
         && viewer.spoiled()
 }
 
-/// Behind this snapshot, after so many inputs, a viewer takes the two next ones at once. Where it is
-/// refused it is spoiled, with the inputs that it had applied.
+/// Behind this snapshot, after so many inputs, a viewer takes the two next ones at once. Where it
+/// is refused it is spoiled, with the inputs that it had applied.
 #[derive(Clone, Copy)]
 struct Takes<'a>(&'a [u8], u32);
 
