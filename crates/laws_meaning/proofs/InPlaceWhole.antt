@@ -35,7 +35,8 @@ use Rattle.proto_meaning.specs.Flat.{node as node_part, statement as stated}
 use Rattle.proto_meaning.proofs.Trees.{statement-node, statement-proto, proto-is, proto_of}
 use Rattle.proto_meaning.proofs.Induction.{OfGiven, Layers, every_statement}
 use Rattle.proto_meaning.proofs.SightLaw.{Seen}
-use Rattle.laws_meaning.specs.InPlace.{is_true, all_in, is_quiet_item, is_quiet_node, is_quiet_statement, written_item, written_node, written_statement, declaration_of, nothing_in_sight, InstancesAreTheirBodies}
+use Rattle.laws_meaning.specs.InPlace.{is_quiet_item, is_quiet_node, is_quiet_statement, written_item, written_node, written_statement, declaration_of, nothing_in_sight, InstancesAreTheirBodies}
+use Rattle.laws_meaning.specs.Steps.{is_true, all_in}
 use Rattle.laws_meaning.proofs.InPlaceTexts as texts
 use Rattle.laws_meaning.proofs.InPlaceWalks.{less, Beside, Alike, ComeAlike, EndAlike, Equal, then_alike, pure_alike}
 use Rattle.laws_meaning.proofs.InPlaceParts.{never, both_true, every_same}

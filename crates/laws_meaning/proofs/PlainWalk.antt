@@ -37,12 +37,13 @@ use Rattle.proto_meaning.specs.Limits.{Met, ANode, AField, AnItem, Outcome, item
 use Rattle.proto_meaning.specs.Names.{Name, Field, Filled, Stands, Braces, Scope, used, stands_at, ends_at, pairs}
 use Rattle.proto_meaning.specs.Names as names
 use Rattle.proto_meaning.specs.Sight.{no_names, OfType}
-use Rattle.proto_meaning.specs.Flat.{Walk, Does, Node, Item, Stated, Inside, put_in, give, numbered_from, is_filled, is_script, declare_field, field, fields_of, inside, close, close_node, flat_node, full_node, note_route, begin, header_of, item_step, node_step, statement_step, flat}
+use Rattle.proto_meaning.specs.Flat.{Walk, Does, Node, Item, Stated, Inside, put_in, give, numbered_from, is_filled, is_script, declare_field, field, fields_of, inside, close, close_node, flat_node, full_node, note_route, begin, header_of, item_step, node_step, statement_step, flat, comes}
 use Rattle.proto_meaning.specs.Flat as walk
 use Rattle.proto_meaning.specs.Flat.{item as item_part, node as node_part, statement as stated}
 use Rattle.proto_meaning.proofs.Trees.{item-field, item-declaration, item-route, node-use, node-full, statement-node, statement-route}
 use Rattle.proto_meaning.proofs.Induction.{OfGiven, Layers, every}
-use Rattle.laws_meaning.specs.Plain.{Pair, Wire, Reading, Reads, ◌>>=◌, comes, pure, refuse, meet, in_turn, has_name, last_closed, last_from, wire_route, end_of, route_of, read_value, Between, ItemReads, open_pair, close_pair, read_node, read_item, read_text, read_statement, read_all, plain, is_true, all_in, is_plain_item, is_plain_node, is_plain_statement, is_plain, plain_item_step, plain_node_step, plain_statement_step, PlainDocumentsAreThemselves}
+use Rattle.laws_meaning.specs.Plain.{Pair, Wire, Reading, Reads, ◌>>=◌, pure, refuse, meet, in_turn, has_name, last_closed, last_from, wire_route, end_of, route_of, read_value, Between, ItemReads, open_pair, close_pair, read_node, read_item, read_text, read_statement, read_all, plain, is_plain_item, is_plain_node, is_plain_statement, is_plain, plain_node_step, PlainDocumentsAreThemselves}
+use Rattle.laws_meaning.specs.Steps.{is_true, all_in, plain_item_step, plain_statement_step}
 use Rattle.laws_meaning.specs.Plain as plains
 use Rattle.laws_meaning.proofs.Maps.{Maps, mapped, came, maps_then, maps_if, maps_option}
 use Rattle.laws_meaning.proofs.PlainTexts as texts
