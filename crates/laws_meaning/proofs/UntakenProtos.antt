@@ -22,14 +22,14 @@ use Rattle.proto_flat.specs.declared.fault.ExpandFault.{ExpandFault}
 use Rattle.proto_flat.specs.declared.fault.ExpandFaultKind.TheVariants.{ProtoTwice, EmptyBody}
 use Rattle.proto_meaning.specs.Limits.{Met, behind, follow, and_then}
 use Rattle.proto_meaning.specs.Names.{Name, Filled, value_of}
-use Rattle.proto_meaning.specs.Sight.{Put, Sight, Step, Names, Prototype, and_see, each, aside, no_names, declared}
+use Rattle.proto_meaning.specs.Sight.{Put, Sight, Step, Names, Prototype, and_see, each, aside, no_names, declared, opened}
 use Rattle.proto_meaning.specs.Flat.{Walk, Does, ◌>>=◌, comes, pure, note, through, Node, Stated, Proto, Item, field, given_finds, given_sees, leave_out, put_in, in_body, put_default, default, begin, made, instance_of, prototype, body_finds, body_sees, declare_body, declare, item_step, node_step, statement_step, proto_step}
 use Rattle.proto_meaning.specs.Flat.{node as node_part, proto as proto_part, statement as stated}
 use Rattle.proto_meaning.proofs.Trees.{statement-node, statement-route, statement-proto, proto-is, proto_of}
 use Rattle.proto_meaning.proofs.Induction.{OfDeclaration}
 use Rattle.proto_meaning.proofs.SightLaw.{Seen, bare, bared, Free, Follows, Any, GoodProto, GoodStated, then_still, each_free, node_stated, route_stated, proto_stated, prototype_good}
 use Rattle.proto_meaning.proofs.SightWhole.{every_good}
-use Rattle.laws_meaning.specs.Untaken.{Change, KeepsDeclarations, StatementAt, given_declares, seen_or, past, in_turn, declaration_at, unless_kept, with_default, defaults_declare, statements_declare, scope_of, interface_at, statements_at, node_at, statement_at, prototype_at}
+use Rattle.laws_meaning.specs.Untaken.{Change, KeepsDeclarations, StatementAt, given_declares, seen_or, past, in_turn, declaration_at, unless_kept, with_default, defaults_declare, statements_declare, interface_at, statements_at, node_at, statement_at, prototype_at}
 use Rattle.laws_meaning.proofs.Same.{Alike, AllSteady, Steady, through_same, each_same, through_follows, steady_in_turn, finds_in_turn, past_alike, then_same, same_then}
 use Rattle.laws_meaning.proofs.UntakenGiven.{SameGiven, seen_given, free_given, left_same, left_follows, leave_same, aside_declares, DeclaresSame, never}
 use Rattle.laws_meaning.proofs.UntakenTexts.{at-node, at-route, at-proto, at-prototype}
@@ -280,7 +280,7 @@ module _ (change : Change) (keeps : KeepsDeclarations change) where
     outside = s.here ++ s.outside
 
     abbrev start : Sight
-    start = scope_of s
+    start = opened s
 
     -- the interface first with what is inside changed, and then with other defaults
     abbrev defaults : List (Declaration NodeText)
@@ -436,15 +436,15 @@ module _ (change : Change) (keeps : KeepsDeclarations change) where
   proto_by s l m n o e f h = subst (λ x. SameProto s x o) (sym e) (subst (λ x. SameProto s m x) (sym f) h)
 
   abbrev new_default : ProtoText → Sight → List (Declaration NodeText)
-  new_default p s = defaults_at (out-ProtoText p).interface (scope_of s)
+  new_default p s = defaults_at (out-ProtoText p).interface (opened s)
 
   pub prototype_layer : (p : ProtoText) → AllByRecursion OfDefault (out-ProtoText p).interface → AllByRecursion OfStatement (out-ProtoText p).body → OfProto p
   prototype_layer p ds ss =
-      let opened = fold_out-ProtoText Item Node Stated Proto item_step node_step statement_step proto_step p in (
-        subst GoodProto (sym opened) (prototype_good _),
+      let parts = fold_out-ProtoText Item Node Stated Proto item_step node_step statement_step proto_step p in (
+        subst GoodProto (sym parts) (prototype_good _),
         λ s. proto_by s _ (proto_of (out-ProtoText p).line (out-ProtoText p).name (old_interface (out-ProtoText p).line (out-ProtoText p).name (out-ProtoText p).interface (out-ProtoText p).body ds ss s) (old_body (out-ProtoText p).line (out-ProtoText p).name (out-ProtoText p).interface (out-ProtoText p).body ds ss s))
             (proto_of (out-ProtoText p).line (out-ProtoText p).name (new_interface (out-ProtoText p).line (out-ProtoText p).name (out-ProtoText p).interface (out-ProtoText p).body ds ss s) (new_body (out-ProtoText p).line (out-ProtoText p).name (out-ProtoText p).interface (out-ProtoText p).body ds ss s)) _
-            opened
+            parts
             (ap proto_part (at-prototype change p s)
             ∙ proto-is (out-ProtoText p).line (out-ProtoText p).name (finally (takes (out-ProtoText p).line (out-ProtoText p).name (out-ProtoText p).interface (out-ProtoText p).body ds ss s) (defaults (out-ProtoText p).line (out-ProtoText p).name (out-ProtoText p).interface (out-ProtoText p).body ds ss s))
             (statements (out-ProtoText p).line (out-ProtoText p).name (out-ProtoText p).interface (out-ProtoText p).body ds ss s) refl refl)

@@ -20,7 +20,7 @@ use Rattle.classic_tree.specs.declared.tree.Statement.{Statement, fold-Statement
 use Rattle.classic_tree.specs.declared.tree.Statement.TheVariants as statement_text
 use Rattle.proto_flat.specs.declared.fault.ExpandFault.{ExpandFault}
 use Rattle.proto_meaning.specs.Names.{Name}
-use Rattle.proto_meaning.specs.Sight.{Sight, Step, Names, Search, no_names, each, aside, nodes_in, taking, meant, taken_by, is_kept}
+use Rattle.proto_meaning.specs.Sight.{Sight, Step, Names, Search, no_names, each, opened, aside, nodes_in, taking, meant, taken_by, is_kept}
 use Rattle.proto_meaning.specs.Flat.{item, node, statement, flat}
 use Rattle.laws_meaning.specs.Steps.{is_true, plain_item_step, plain_statement_step, plain_proto_step}
 
@@ -130,9 +130,6 @@ proto_with change line name ds ss body =
       body = ss;
     })
 
-abbrev pub scope_of : Sight → Sight
-scope_of s = record { here = []; outside = s.here ++ s.outside; taken = no_names }
-
 unfoldable pub item_step : Change → BodyItem-F ItemAt NodeAt StatementAt ProtoAt → ItemAt
 item_step change (BodyItem-F.Field line name g) = λ taken s.
     item_text.Field line name (unless_kept change (is_kept taken name) line name (given_at g s))
@@ -167,7 +164,7 @@ with_parts change line name ds ss s = body_at change line name ds ss (past (defa
 
 unfoldable pub proto_step : Change → ProtoText-F ItemAt NodeAt StatementAt ProtoAt → ProtoAt
 proto_step change p = λ s.
-    with_parts change p.line p.name (interface_at p.interface (scope_of s)) p.body (scope_of s)
+    with_parts change p.line p.name (interface_at p.interface (opened s)) p.body (opened s)
 
 abbrev pub item_at : Change → BodyItem → ItemAt
 item_at change =

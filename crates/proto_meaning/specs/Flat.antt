@@ -38,7 +38,7 @@ use Rattle.proto_flat.specs.declared.flat.FlatNode.{FlatNode}
 use Rattle.proto_flat.specs.declared.flat.Header.{Header}
 use Rattle.proto_meaning.specs.Limits.{Met, ANode, AnInstance, AField, AnItem, item_count, Outcome, follow, and_then, limited}
 use Rattle.proto_meaning.specs.Names.{Name, Field, Filled, value_of, Stands, Scope, used, stands_at, sources, targets, pairs}
-use Rattle.proto_meaning.specs.Sight.{Put, Instance, Prototype, Sight, Step, and_see, each, aside, nodes_in, Names, no_names, taking, Owner, OfType, OfProto, declared, meant, taken_by, is_kept, Search}
+use Rattle.proto_meaning.specs.Sight.{Put, Instance, Prototype, Sight, Step, and_see, each, opened, aside, nodes_in, Names, no_names, taking, Owner, OfType, OfProto, declared, meant, taken_by, is_kept, Search}
 
 -- ---- one thing after the other
 
@@ -408,7 +408,7 @@ module _ (line : ℕ) (name : Name) (interface : List (Declaration Node)) (body 
   declare_body (Err itself) s = Err (fault ProtoItself itself)
   declare_body (Ok hidden) s =
       if list_any (λ (x : Stated). x.0) body
-      then and_see (body_sees (record { here = []; outside = s.here ++ s.outside; taken = no_names })) (λ t.
+      then and_see (body_sees (opened s)) (λ t.
       Ok (record s {
         here = s.here ++ prototype (s.here ++ s.outside) t.taken ∷ [];
       }))

@@ -17,7 +17,7 @@ use Rattle.proto_flat.specs.Fault.{fault}
 use Rattle.proto_flat.specs.declared.fault.ExpandFault.{ExpandFault}
 use Rattle.proto_flat.specs.declared.fault.ExpandFaultKind.TheVariants.{ProtoTwice, ProtoItself, EmptyBody}
 use Rattle.proto_meaning.specs.Names.{Name}
-use Rattle.proto_meaning.specs.Sight.{Names, no_names, with_name, Prototype, Sight, Step, Search, and_see, each, aside, declared, meant, taken_by}
+use Rattle.proto_meaning.specs.Sight.{Names, with_name, Prototype, Sight, Step, Search, and_see, each, opened, aside, declared, meant, taken_by}
 use Rattle.proto_meaning.specs.Flat as flat
 use Rattle.proto_meaning.specs.Flat.{Item, Node, Stated, Proto}
 
@@ -78,10 +78,6 @@ parts p =
 unfoldable pub prototype_of : Name → ProtoText → List Prototype → Names → Prototype
 prototype_of name p outside takes =
     flat.prototype (parts p).line name (parts p).interface (parts p).body outside takes
-
--- a scope of its own, in which the scope around it is in sight
-abbrev pub opened : Sight → Sight
-opened s = record { here = []; outside = s.here ++ s.outside; taken = no_names }
 
 -- behind its closing brace a prototype is declared in the scope around it
 abbrev pub closed : ProtoText → Sight → Sight → Sight
