@@ -7,7 +7,10 @@ pub mod Known
 pub mod Expected
 pub mod WrittenOut
 pub mod WorkedNodes
+pub mod WorkedNames
 pub mod WorkedSight
+pub mod WorkedDefaults
+pub mod WorkedFaults
 pub mod WorkedRoutes
 pub mod WorkedOut
 pub mod WorkedLimits
