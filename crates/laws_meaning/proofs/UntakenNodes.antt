@@ -26,7 +26,8 @@ use Rattle.proto_meaning.specs.Flat.{Walk, Does, ◌>>=◌, pure, refuse, throug
 use Rattle.proto_meaning.specs.Flat.{item as item_part, node as node_part, proto as proto_part}
 use Rattle.proto_meaning.proofs.Trees.{item-field, item-declaration, item-route, item-proto, node-use, node-full}
 use Rattle.proto_meaning.proofs.Induction.{OfGiven, OfDeclaration}
-use Rattle.proto_meaning.proofs.SightLaw.{Seen, bare, Free, After, Follows, Any, Owned, GoodNode, GoodItem, GoodProto, then_follows, then_still, still, still_free, field_good, declaration_good, route_good, proto_item_good, use_good, full_good}
+use Rattle.proto_meaning.proofs.SightLaw.{Seen, bare, Free, After, Follows, Any, Owned, GoodNode, GoodItem, GoodProto, then_follows, then_still, still, still_free, field_good, declaration_good, route_good, proto_item_good}
+use Rattle.proto_meaning.proofs.SightNodes.{use_good, full_good}
 use Rattle.laws_meaning.specs.Untaken.{Change, KeepsDeclarations, NodeAt, ItemAt, given_declares, given_holds, past, in_turn, given_at, declaration_at, unless_kept, item_at, node_at, prototype_at}
 use Rattle.laws_meaning.proofs.Same.{Alike, AllSteady, Steady, through_same, each_same, steady_free, through_follows, steady_in_turn, finds_in_turn, then_same, same_then}
 use Rattle.laws_meaning.proofs.UntakenGiven.{node_sees, put_next, SteadyNode, SteadyNodes, value_sees, SameValue, SameGiven, seen_given, aside_given, DeclaresSame, give_same, give_left, raw_in, InOption, named_from, option_at, never}

@@ -27,7 +27,8 @@ use Rattle.proto_meaning.specs.Flat.{Walk, Does, ◌>>=◌, comes, pure, note, t
 use Rattle.proto_meaning.specs.Flat.{node as node_part, proto as proto_part, statement as stated}
 use Rattle.proto_meaning.proofs.Trees.{statement-node, statement-route, statement-proto, proto-is, proto_of}
 use Rattle.proto_meaning.proofs.Induction.{OfDeclaration}
-use Rattle.proto_meaning.proofs.SightLaw.{Seen, bare, bared, Free, Follows, Any, GoodProto, GoodStated, then_still, each_free, node_stated, route_stated, proto_stated, prototype_good}
+use Rattle.proto_meaning.proofs.SightLaw.{Seen, bare, bared, Free, Follows, Any, GoodProto, GoodStated, then_still, each_free}
+use Rattle.proto_meaning.proofs.SightNodes.{node_stated, route_stated, proto_stated, prototype_good}
 use Rattle.proto_meaning.proofs.SightWhole.{every_good}
 use Rattle.laws_meaning.specs.Untaken.{Change, KeepsDeclarations, StatementAt, given_declares, seen_or, past, in_turn, declaration_at, unless_kept, with_default, defaults_declare, statements_declare, interface_at, statements_at, node_at, statement_at, prototype_at}
 use Rattle.laws_meaning.proofs.Same.{Alike, AllSteady, Steady, through_same, each_same, through_follows, steady_in_turn, finds_in_turn, past_alike, then_same, same_then}

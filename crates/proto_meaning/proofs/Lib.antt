@@ -1,6 +1,7 @@
 pub mod Trees
 pub mod Induction
 pub mod SightLaw
+pub mod SightNodes
 pub mod SightWhole
 pub mod LimitLaws
 pub mod Known
