@@ -25,7 +25,7 @@ use Rattle.proto_meaning.proofs.Trees.{item-field, item-declaration, item-route,
 use Rattle.proto_meaning.proofs.Induction.{OfGiven, OfDeclaration, Layers, every}
 use Rattle.laws_meaning.specs.Plain.{Reading, Reads, ◌>>=◌, pure, in_turn, route_of, Between, ItemReads, read_item, read_text, read_statement, read_all}
 use Rattle.laws_meaning.proofs.PlainTexts as texts
-use Rattle.laws_meaning.proofs.PlainWalk.{all_wired}
+use Rattle.laws_meaning.proofs.PlainRoutes.{all_wired}
 use Rattle.laws_flat.specs.Closings.{IsOfNode, in_item, in_statement}
 use Rattle.laws_flat.proofs.ClosingParts.{in_field, in_declaration, in_full, in_node_statement}
 use Rattle.laws_flat.proofs.Lists.{all_split}
