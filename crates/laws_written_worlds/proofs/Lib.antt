@@ -10,4 +10,5 @@ pub mod Ranged
 pub mod Whole
 pub mod SameSteps
 pub mod SameFields
+pub mod SameLists
 pub mod SameTrees

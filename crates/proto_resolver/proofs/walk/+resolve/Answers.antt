@@ -10,7 +10,8 @@ use Rattle.proto_resolver.specs.Standing.{Resolves}
 use Rattle.proto_resolver.specs.Parts.{Before, one_or_none, AreAllDefaults, AreDefaultsAside, IsInterior}
 use Rattle.proto_resolver.proofs.Standing.{fails}
 use Rattle.proto_resolver.proofs.Rows.{none_of, row_first, row_step, row_last, row_wrong}
-use Rattle.proto_resolver.proofs.Steps.{use_node, full_node, node_row, nothing_given, is_untaken, plain_given, one_given, many_given, is_given, left_out, field_row, declaration_row, route_row, proto_row, stated_row, routed_row, declared_row, no_defaults, default_row, interface_aside, wrong_inside, whole_inside}
+use Rattle.proto_resolver.proofs.Steps.{use_node, full_node, node_row, nothing_given, is_untaken, plain_given, one_given, many_given, is_given, left_out, field_row, declaration_row, route_row, proto_row, stated_row, routed_row, declared_row}
+use Rattle.proto_resolver.proofs.Interiors.{no_defaults, default_row, interface_aside, wrong_inside, whole_inside}
 use Rattle.proto_resolver.proofs.Declared.{sees_wrong}
 use Rattle.proto_resolver.proofs.Entered.{stopped, entered}
 use Rattle.proto_resolver.proofs.walk.+resolve.Goals as goal
