@@ -1,4 +1,5 @@
--- What the parts of a text declare and take, by the text itself: the steps of proto_meaning, part by part.
+-- What the parts of a text declare and take, by the text itself: the steps of proto_meaning, part by
+-- part.
 use Rattle.std.specs.Prelude.{ℕ, Bool, false, not, ◌&&◌, ◌||◌, if◌then◌else◌, List, [], ◌∷◌, ◌++◌, Result, Ok, Err, is_some}
 use Rattle.std.specs.List.{list_any}
 use Rattle.std.specs.Str.{bytes_eq}
@@ -72,7 +73,8 @@ sees_inside interface body s =
 
 abbrev pub parts : ProtoText → ProtoText-F Item Node Stated Proto
 parts p =
-    map-ProtoText BodyItem NodeText Statement ProtoText Item Node Stated Proto flat.item flat.node flat.statement flat.proto (out-ProtoText p)
+    map-ProtoText BodyItem NodeText Statement ProtoText Item Node Stated Proto
+    flat.item flat.node flat.statement flat.proto (out-ProtoText p)
 
 -- the prototype of a text under that name, by the prototypes around it and what its ISs take
 unfoldable pub prototype_of : Name → ProtoText → List Prototype → Names → Prototype
@@ -93,7 +95,8 @@ is_known name s = is_some (node_type_named name) || is_some (declared name s.her
 abbrev pub has_node : List Statement → Bool
 has_node body = list_any (λ s. (flat.statement s).0) body
 
-abbrev pub unless_found : Result Bool ℕ → Result (Unit {0}) ExpandFault → Result (Unit {0}) ExpandFault
+abbrev pub unless_found : Result Bool ℕ → Result (Unit {0}) ExpandFault
+    → Result (Unit {0}) ExpandFault
 unless_found (Ok hidden) answer = answer
 unless_found (Err line) answer = Err (fault ProtoItself line)
 
