@@ -1,7 +1,7 @@
 -- What no IS takes doesn't matter (ISO/IEC 19775-1, 4.4.4): where no IS of its prototype's body
 -- takes a field, the value that an instance gives it, and its default, may be any other that
 -- declares as much.
-use Rattle.std.specs.Prelude.{◌≡◌, ℕ, Bool, true, false, ◌&&◌, is_some, List, [], ◌∷◌, ◌++◌, map, Option, None, Result, Ok, Err}
+use Rattle.std.specs.Prelude.{◌≡◌, ℕ, Bool, true, false, ◌&&◌, is_some, List, [], ◌∷◌, map, Option, None, Result, Ok, Err}
 use Rattle.std.specs.List.{list_all}
 use Rattle.x3d_values.specs.Names.{node_type_named}
 use Rattle.classic_tree.specs.declared.tree.BodyItem.{BodyItem, fold-BodyItem}

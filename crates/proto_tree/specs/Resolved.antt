@@ -2,7 +2,7 @@
 -- sight before a part of the text, and what its `sees` gives: each word before braces by what it
 -- means there, what goes nowhere left out, and nothing behind the first wrong declaration.
 use Rattle.std.specs.Borrow.{Bor}
-use Rattle.std.specs.Prelude.{◌≡◌, ℕ, Bool, true, false, ◌&&◌, List, [], ◌∷◌, ◌++◌, length, Option, Some, None, Result, Ok, Err}
+use Rattle.std.specs.Prelude.{◌≡◌, ℕ, Bool, true, false, ◌&&◌, List, [], ◌∷◌, length, Option, Some, None, Result, Ok, Err}
 use Rattle.classic_tree.specs.declared.tree.BodyItem.{BodyItem}
 use Rattle.classic_tree.specs.declared.tree.BodyItem.TheVariants as text_item
 use Rattle.classic_tree.specs.declared.tree.Declaration.{Declaration}
