@@ -3,6 +3,7 @@ pub mod Fields
 pub mod Heads
 pub mod Levels
 pub mod Lined
+pub mod LinedDocuments
 pub mod Nodes
 pub mod Numbers
 pub mod Pieces

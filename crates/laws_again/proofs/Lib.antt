@@ -33,4 +33,5 @@ pub mod Ranged
 pub mod WorldsWhole
 pub mod SameSteps
 pub mod SameFields
+pub mod SameLists
 pub mod SameTrees

@@ -1,8 +1,7 @@
 -- The document of a scene that was written and read again is the document that was written.
-use Rattle.std.proofs.Common.{◌≡◌, ℕ, zero, suc, ◌+◌, ◌-◌, ◌<◌, ◌||◌, Bool, true, false, not, cond, if◌then◌else◌, List, [], ◌∷◌, ◌++◌, length, map, nat_le, replicate, Option, Some, None, Ok, codes, get_or, slice_get, slice_set, refl, sym, ap, subst, ◌∙◌, arith, append-nil}
+use Rattle.std.proofs.Common.{◌≡◌, ℕ, zero, suc, ◌+◌, ◌-◌, ◌<◌, ◌||◌, Bool, true, false, if◌then◌else◌, List, [], ◌∷◌, ◌++◌, length, map, nat_le, replicate, Option, Some, None, Ok, codes, get_or, slice_get, slice_set, refl, sym, ap, subst, ◌∙◌, arith, append-nil}
 use Rattle.std.specs.Prelude.{is_some}
-use Rattle.std.specs.List.{AllByRecursion, flat_map, fold, range_with_len}
-use Rattle.std.proofs.lemmas.Bool.{ne_eqb}
+use Rattle.std.specs.List.{AllByRecursion, flat_map, range_with_len}
 use Rattle.std.proofs.lemmas.List.{length-map}
 use Rattle.std.proofs.lemmas.List.FromFn.{get_or-map-range_with_len}
 use Rattle.std.proofs.lemmas.List.Sums.{fold-append}
@@ -39,64 +38,15 @@ use Rattle.laws_text.proofs.NumberedLists.{some_is, within}
 use Rattle.laws_text.proofs.NumberedScenes.{found}
 use Rattle.laws_written.specs.Nodes.{switch_root}
 use Rattle.laws_written.proofs.Counts.{hits, hits_append, hits_are, hits_own}
-use Rattle.laws_written.proofs.NodesParts.{all_join, low_shallow, lower_children, shallow_children, shown_are}
+use Rattle.laws_written.proofs.NodesParts.{low_shallow, lower_children, shallow_children, shown_are}
 use Rattle.laws_written.proofs.OrderShown.{links}
 use Rattle.laws_written.proofs.Plans.{none_shallow, plan, shallow_low, type_is}
 use Rattle.laws_again.specs.Again.{IsSwitchOf, IsWrittenOf, switch_type, switch_value}
 use Rattle.laws_again.proofs.Made.{behind}
 use Rattle.laws_again.proofs.Present.{declared_by_node, rows_by_node}
 use Rattle.laws_again.proofs.SameSteps.{Alike, AreAlike, each_alike, fields_alike, last_alike, roots_alike, set_alike}
-use Rattle.laws_again.proofs.SameFields.{all_within, def_same, many_next, opened_value, places_are, same_type, shown_by, shown_is, shown_same}
-
--- ---- lists
-
-both_all : {A : Type 0} (P Q : A → Type 0) (xs : List A) → AllByRecursion P xs → AllByRecursion Q xs → AllByRecursion (λ (x : A). P x × Q x) xs
-both_all P Q [] h g = tt
-both_all P Q (x ∷ xs) h g = ((h.0, g.0), both_all P Q xs h.1 g.1)
-
-none_seen : (many n : ℕ) → n < many → get_or (replicate many false) n true ≡ false
-none_seen zero n l = absurd (omega (arith, l))
-none_seen (suc many) zero l = refl
-none_seen (suc many) (suc n) l = none_seen many n (omega (arith, l))
-
--- none hits a number that all are below
-no_hits : (x : ℕ) (ns : List ℕ) → AllByRecursion (λ (n : ℕ). n < x) ns → hits x ns ≡ 0
-no_hits x [] h = refl
-no_hits x (n ∷ ns) h = ap (λ (b : Bool). cond b (1 + hits x ns) (hits x ns)) (ne_eqb n x (λ e. (let l = h.0 in omega (arith, e, l)))) ∙ no_hits x ns h.1
-
-all_joined : (P : ℕ → Type 0) (nodes : List SceneNode) → AllByRecursion (λ (n : SceneNode). AllByRecursion P (children n)) nodes
-    → AllByRecursion P (flat_map (λ (l : List ℕ). l) (map children nodes))
-all_joined P [] h = tt
-all_joined P (n ∷ ns) h = all_join P (children n) (flat_map (λ (l : List ℕ). l) (map children ns)) h.0 (all_joined P ns h.1)
-
-all_placed : {A : Type 0} (P : A → Type 0) (xs : List A) → ((n : ℕ) (x : A) → slice_get xs n ≡ Some x → P x) → AllByRecursion P xs
-all_placed P [] k = tt
-all_placed P (x ∷ xs) k = (k 0 x refl, all_placed P xs (λ n y at. k (suc n) y at))
-
--- the first thing that was made stays the first
-record HasFirst {B : Type 0} (first : B) (made : List B) : Type 0 where
-  others : List B
-  is : made ≡ first ∷ others
-
-keeps_first : {A B : Type 0} (make : Makes A B) (first : B) (xs : List A) (s : Step (List B)) → HasFirst first s.made → HasFirst first (fold (one_more make) s xs).made
-keeps_first make first [] s h = h
-keeps_first make first (x ∷ xs) s h =
-    keeps_first make first xs (one_more make s x)
-    (record { others = h.others ++ (make s.seen x).made ∷ []; is = ap (λ l. l ++ (make s.seen x).made ∷ []) h.is })
-
--- helpers, where there are some, are the children of a Switch
-switch_stands : (first : NodeText) (made : List NodeText) → HasFirst first made → helper_root made ≡ statement.Node (switch_of made) ∷ []
-switch_stands first made h = rw h.is refl
-
--- ---- what a Switch with helpers shows
-
-children_shown : (h : ℕ) (hs : List ℕ) → shown_by (switch_value (h ∷ hs)) 0 (rows Switch) ≡ Plain (codes "children") (MFNode (h ∷ hs)) ∷ []
-children_shown h hs =
-    ap (λ (b : Bool). (if not b then Plain (codes "children") (MFNode (h ∷ hs)) ∷ [] else []) ++ []) (ne_eqb (length (h ∷ hs)) 0 (λ e. omega (arith, e)))
-
-tree_is : (depth : ℕ) (p : PlanView) (seen : List Bool) (n : ℕ) → node_tree (suc depth) p seen n ≡ opened p (node_tree depth p) seen n (new_type p seen n)
-unfolding node_tree
-tree_is depth p seen n = refl
+use Rattle.laws_again.proofs.SameFields.{all_within, def_same, many_next, opened_value, places_are, same_type, shown_is, shown_same}
+use Rattle.laws_again.proofs.SameLists.{both_all, none_seen, no_hits, all_joined, all_placed, HasFirst, keeps_first, switch_stands, children_shown, tree_is}
 
 -- ---- a scene that was written and read again
 

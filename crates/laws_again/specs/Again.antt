@@ -39,8 +39,8 @@ pub record IsSwitchOf (helpers : List ℕ) (next : SceneView) (n : ℕ) : Type 0
       → value_at next n field ≡ switch_value helpers field e
 
 -- the second scene is the first, with what its nodes keep; the routes decide which nodes have a DEF
-pub record IsWrittenOf (s : SceneView) (routes : List Route) (state : List Fields) (next : SceneView)
-    : Type 0 where
+pub record IsWrittenOf (s : SceneView) (routes : List Route) (state : List Fields)
+    (next : SceneView) : Type 0 where
   pub header : next.header ≡ s.header
   -- where there are helpers, one root more, and no helpers
   pub roots : next.roots ≡ written_roots s

@@ -139,8 +139,8 @@ abbrev pub node_shape : FlatNode → NodeShape
 node_shape node =
     record { fields = map field_shape node.fields; interface = signatures node.interface }
 
--- which nodes stand in a node is all that is left: nodes with the same shape, in which stand the same
--- nodes, have the same fields
+-- which nodes stand in a node is all that is left: nodes with the same shape, in which stand the
+-- same nodes, have the same fields
 abbrev pub NodesTellTheRest : Type 0
 NodesTellTheRest =
     (m n : FlatNode) → node_shape m ≡ node_shape n → held m ≡ held n → m.fields ≡ n.fields

@@ -31,7 +31,8 @@ use Rattle.proto_meaning.specs.Flat.{Walk, Does, ◌>>=◌, pure, through, Node,
 use Rattle.proto_meaning.specs.Flat.{item as item_part, node as node_part, statement as stated}
 use Rattle.proto_meaning.proofs.Trees.{item-field, item-declaration, node-full, statement-node}
 use Rattle.proto_meaning.proofs.Induction.{OfGiven, Layers, every_statement}
-use Rattle.laws_meaning.specs.InPlace.{is_true, all_in, nothing_in_sight}
+use Rattle.laws_meaning.specs.InPlace.{nothing_in_sight}
+use Rattle.laws_meaning.specs.Steps.{is_true, all_in}
 use Rattle.laws_instances.specs.WithFields.{Quiet, quiet_item, is_quiet_node, is_quiet_statement, Finds, Braces, replaced, those_there, written_item, written_node, written_statement, named}
 use Rattle.laws_meaning.proofs.InPlaceParts.{never, both_true}
 use Rattle.laws_instances.proofs.WithFieldsSteps.{longer, named_full, named_last, rename, behind_then, then_then, split_all, IfNode, out_node, out_route, out_proto, field_same, declared_same}

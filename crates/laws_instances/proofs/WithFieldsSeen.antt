@@ -23,7 +23,7 @@ use Rattle.proto_meaning.specs.Flat.{item as item_part, node as node_part, state
 use Rattle.proto_meaning.proofs.Trees.{item-field, item-declaration, node-full, statement-node}
 use Rattle.proto_meaning.proofs.Induction.{OfGiven, Layers, every_statement}
 use Rattle.proto_meaning.proofs.SightLaw.{Seen}
-use Rattle.laws_meaning.specs.InPlace.{is_true, all_in}
+use Rattle.laws_meaning.specs.Steps.{is_true, all_in}
 use Rattle.laws_instances.specs.WithFields.{Quiet, quiet_item, is_quiet_node, is_quiet_statement}
 use Rattle.laws_meaning.proofs.InPlaceParts.{never, both_true}
 use Rattle.laws_instances.proofs.WithFieldsTexts as texts

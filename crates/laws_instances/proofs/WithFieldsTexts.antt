@@ -16,7 +16,7 @@ use Rattle.classic_tree.specs.declared.tree.Statement.{Statement, fold-Statement
 use Rattle.classic_tree.specs.declared.tree.Statement.TheVariants as statement
 use Rattle.classic_tree.proofs.Mapped.{declaration_mapped, given_mapped}
 use Rattle.proto_meaning.specs.Names.{Name}
-use Rattle.laws_meaning.specs.InPlace.{all_in}
+use Rattle.laws_meaning.specs.Steps.{all_in}
 use Rattle.laws_instances.specs.WithFields.{is_plain, Quiet, may_stand, quiet_item, is_quiet_node, is_quiet_statement, quiet_item_step, quiet_node_step, quiet_statement_step, quiet_proto_step, Finds, Braces, replaced, field_of, those_there, item_step, node_step, statement_step, proto_step, written_item, written_node, written_statement}
 
 module _ (finds : Finds) (braces : Braces) where

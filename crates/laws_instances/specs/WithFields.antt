@@ -22,7 +22,7 @@ use Rattle.classic_tree.specs.declared.tree.Statement.TheVariants as statement
 use Rattle.proto_flat.specs.declared.flat.Flat.{Flat}
 use Rattle.proto_meaning.specs.Names.{Name}
 use Rattle.proto_meaning.specs.Flat.{flat}
-use Rattle.laws_meaning.specs.InPlace.{all_in}
+use Rattle.laws_meaning.specs.Steps.{all_in}
 
 -- ---- texts without PROTO, USE and ROUTE
 

@@ -15,28 +15,29 @@ use Rattle.classic_tree.specs.declared.tree.Statement.{fold-roll-Statement}
 use Rattle.classic_tree.specs.declared.tree.Statement.TheVariants as statement
 use Rattle.classic_tree.proofs.Mapped.{given_mapped}
 use Rattle.proto_meaning.specs.Names.{Name}
-use Rattle.laws_meaning.specs.Untaken.{all_in, is_true, is_bare_item, is_bare_node, is_bare_statement, bare_item_step, bare_node_step, bare_statement_step, bare_proto_step}
+use Rattle.laws_meaning.specs.Untaken.{is_bare_item, is_bare_node, is_bare_statement, bare_node_step}
+use Rattle.laws_meaning.specs.Steps.{all_in, is_true, plain_item_step, plain_statement_step, plain_proto_step}
 
 pub bare-field : (line : ℕ) (name : Name) (g : Given NodeText) → is_bare_item (item.Field line name g) ≡ all_in (given_mapped is_bare_node g)
-unfolding bare_item_step
-bare-field line name g = ap is_bare_item (sym (item.rolls-Field line name g)) ∙ fold-roll-BodyItem Bool Bool Bool Bool bare_item_step bare_node_step bare_statement_step bare_proto_step (BodyItem-F.Field line name g)
+unfolding plain_item_step
+bare-field line name g = ap is_bare_item (sym (item.rolls-Field line name g)) ∙ fold-roll-BodyItem Bool Bool Bool Bool plain_item_step bare_node_step plain_statement_step plain_proto_step (BodyItem-F.Field line name g)
 
 pub bare-declaration : (d : Declaration NodeText) → is_bare_item (item.Declaration d) ≡ all_in (given_mapped is_bare_node d.given)
-unfolding bare_item_step
-bare-declaration d = ap is_bare_item (sym (item.rolls-Declaration d)) ∙ fold-roll-BodyItem Bool Bool Bool Bool bare_item_step bare_node_step bare_statement_step bare_proto_step (BodyItem-F.Declaration d)
+unfolding plain_item_step
+bare-declaration d = ap is_bare_item (sym (item.rolls-Declaration d)) ∙ fold-roll-BodyItem Bool Bool Bool Bool plain_item_step bare_node_step plain_statement_step plain_proto_step (BodyItem-F.Declaration d)
 
 pub bare-item-proto : (p : ProtoText) → is_bare_item (item.Proto p) ≡ false
-unfolding bare_item_step
-bare-item-proto p = ap is_bare_item (sym (item.rolls-Proto p)) ∙ fold-roll-BodyItem Bool Bool Bool Bool bare_item_step bare_node_step bare_statement_step bare_proto_step (BodyItem-F.BodyItem::Proto p)
+unfolding plain_item_step
+bare-item-proto p = ap is_bare_item (sym (item.rolls-Proto p)) ∙ fold-roll-BodyItem Bool Bool Bool Bool plain_item_step bare_node_step plain_statement_step plain_proto_step (BodyItem-F.BodyItem::Proto p)
 
 pub bare-full : (line : ℕ) (name : Option Name) (word : Name) (is : List BodyItem) → is_bare_node (node.Full line name word is) ≡ (is_some (node_type_named word) && list_all is_true (map is_bare_item is))
 unfolding bare_node_step
-bare-full line name word is = ap is_bare_node (sym (node.rolls-Full line name word is)) ∙ fold-roll-NodeText Bool Bool Bool Bool bare_item_step bare_node_step bare_statement_step bare_proto_step (NodeText-F.Full line name word is)
+bare-full line name word is = ap is_bare_node (sym (node.rolls-Full line name word is)) ∙ fold-roll-NodeText Bool Bool Bool Bool plain_item_step bare_node_step plain_statement_step plain_proto_step (NodeText-F.Full line name word is)
 
 pub bare-node : (n : NodeText) → is_bare_statement (statement.Node n) ≡ is_bare_node n
-unfolding bare_statement_step
-bare-node n = ap is_bare_statement (sym (statement.rolls-Node n)) ∙ fold-roll-Statement Bool Bool Bool Bool bare_item_step bare_node_step bare_statement_step bare_proto_step (Statement-F.Node n)
+unfolding plain_statement_step
+bare-node n = ap is_bare_statement (sym (statement.rolls-Node n)) ∙ fold-roll-Statement Bool Bool Bool Bool plain_item_step bare_node_step plain_statement_step plain_proto_step (Statement-F.Node n)
 
 pub bare-proto : (p : ProtoText) → is_bare_statement (statement.Proto p) ≡ false
-unfolding bare_statement_step
-bare-proto p = ap is_bare_statement (sym (statement.rolls-Proto p)) ∙ fold-roll-Statement Bool Bool Bool Bool bare_item_step bare_node_step bare_statement_step bare_proto_step (Statement-F.Statement::Proto p)
+unfolding plain_statement_step
+bare-proto p = ap is_bare_statement (sym (statement.rolls-Proto p)) ∙ fold-roll-Statement Bool Bool Bool Bool plain_item_step bare_node_step plain_statement_step plain_proto_step (Statement-F.Statement::Proto p)

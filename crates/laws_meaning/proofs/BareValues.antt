@@ -25,9 +25,10 @@ use Rattle.proto_meaning.specs.Flat.{item as item_part, node as node_part, state
 use Rattle.proto_meaning.proofs.Trees.{item-field, item-declaration, item-route, node-use, node-full, statement-node, statement-route}
 use Rattle.proto_meaning.proofs.Induction.{OfGiven, Layers, every_statement}
 use Rattle.proto_meaning.proofs.SightLaw.{Seen, bare, bared}
-use Rattle.laws_meaning.specs.Untaken.{KeepsDeclarations, given_declares, given_holds, is_true, all_in, is_bare_item, is_bare_node, is_bare_statement, null_if, blanked}
+use Rattle.laws_meaning.specs.Untaken.{KeepsDeclarations, given_declares, given_holds, is_bare_item, is_bare_node, is_bare_statement, null_if, blanked}
+use Rattle.laws_meaning.specs.Steps.{is_true, all_in}
 use Rattle.laws_meaning.proofs.BareTexts.{bare-field, bare-declaration, bare-item-proto, bare-full, bare-node, bare-proto}
-use Rattle.laws_meaning.proofs.UntakenProtos.{aside_bared}
+use Rattle.laws_meaning.proofs.UntakenBodies.{aside_bared}
 
 abbrev Only : Bool → Type 0 → Type 0
 Only false G = G

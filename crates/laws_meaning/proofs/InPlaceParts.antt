@@ -27,7 +27,8 @@ use Rattle.proto_meaning.specs.Flat.{Walk, Does, ◌>>=◌, pure, refuse, throug
 use Rattle.proto_meaning.specs.Flat.{item as item_part, node as node_part, statement as stated}
 use Rattle.proto_meaning.proofs.Trees.{item-field, item-declaration, node-full, statement-node}
 use Rattle.proto_meaning.proofs.Induction.{OfGiven, Layers, every}
-use Rattle.laws_meaning.specs.InPlace.{is_true, all_in, none_inside, is_quiet_item, is_quiet_node, is_quiet_statement, written_item, written_node, written_statement, nothing_in_sight}
+use Rattle.laws_meaning.specs.InPlace.{none_inside, is_quiet_item, is_quiet_node, is_quiet_statement, written_item, written_node, written_statement, nothing_in_sight}
+use Rattle.laws_meaning.specs.Steps.{is_true, all_in}
 use Rattle.laws_meaning.proofs.InPlaceTexts as texts
 use Rattle.laws_meaning.proofs.InPlaceWalks.{Alike, ComeAlike, Equal, behind_alike, then_alike, pure_alike, refuse_alike, if_alike, option_alike, inside_of, InsideAlike, GivenAlike, give_alike}
 

@@ -14,7 +14,8 @@ use Rattle.classic_tree.specs.declared.tree.Statement.{Statement, fold-roll-Stat
 use Rattle.classic_tree.specs.declared.tree.Statement.TheVariants as statement
 use Rattle.classic_tree.proofs.Mapped.{declaration_mapped, given_mapped}
 use Rattle.proto_meaning.specs.Names.{Name}
-use Rattle.laws_meaning.specs.InPlace.{all_in, may_stand, is_quiet_item, is_quiet_node, is_quiet_statement, quiet_item_step, quiet_node_step, quiet_statement_step, quiet_proto_step, item_step, node_step, statement_step, proto_step, written_item, written_node, written_statement}
+use Rattle.laws_meaning.specs.InPlace.{may_stand, is_quiet_item, is_quiet_node, is_quiet_statement, quiet_item_step, quiet_node_step, quiet_statement_step, item_step, node_step, statement_step, proto_step, written_item, written_node, written_statement}
+use Rattle.laws_meaning.specs.Steps.{all_in, plain_proto_step}
 
 module _ (proto : Name) (body : NodeText) where
   pub written-field : (line : ℕ) (name : Name) (g : Given NodeText) → written_item proto body (item.Field line name g) ≡ item.Field line name (given_mapped (written_node proto body) g)
@@ -36,36 +37,36 @@ module _ (proto : Name) (body : NodeText) where
 module _ (proto : Name) (allowed : Bool) where
   pub quiet-field : (line : ℕ) (name : Name) (g : Given NodeText) → is_quiet_item proto allowed (item.Field line name g) ≡ all_in (given_mapped (is_quiet_node proto allowed) g)
   unfolding quiet_item_step
-  quiet-field line name g = ap (is_quiet_item proto allowed) (sym (item.rolls-Field line name g)) ∙ fold-roll-BodyItem Bool Bool Bool Bool quiet_item_step (quiet_node_step proto allowed) quiet_statement_step quiet_proto_step (BodyItem-F.Field line name g)
+  quiet-field line name g = ap (is_quiet_item proto allowed) (sym (item.rolls-Field line name g)) ∙ fold-roll-BodyItem Bool Bool Bool Bool quiet_item_step (quiet_node_step proto allowed) quiet_statement_step plain_proto_step (BodyItem-F.Field line name g)
 
   pub quiet-declaration : (d : Declaration NodeText) → is_quiet_item proto allowed (item.Declaration d) ≡ all_in (given_mapped (is_quiet_node proto allowed) d.given)
   unfolding quiet_item_step
-  quiet-declaration d = ap (is_quiet_item proto allowed) (sym (item.rolls-Declaration d)) ∙ fold-roll-BodyItem Bool Bool Bool Bool quiet_item_step (quiet_node_step proto allowed) quiet_statement_step quiet_proto_step (BodyItem-F.Declaration d)
+  quiet-declaration d = ap (is_quiet_item proto allowed) (sym (item.rolls-Declaration d)) ∙ fold-roll-BodyItem Bool Bool Bool Bool quiet_item_step (quiet_node_step proto allowed) quiet_statement_step plain_proto_step (BodyItem-F.Declaration d)
 
   pub quiet-item-route : (r : RouteText) → is_quiet_item proto allowed (item.Route r) ≡ false
   unfolding quiet_item_step
-  quiet-item-route r = ap (is_quiet_item proto allowed) (sym (item.rolls-Route r)) ∙ fold-roll-BodyItem Bool Bool Bool Bool quiet_item_step (quiet_node_step proto allowed) quiet_statement_step quiet_proto_step (BodyItem-F.BodyItem::Route r)
+  quiet-item-route r = ap (is_quiet_item proto allowed) (sym (item.rolls-Route r)) ∙ fold-roll-BodyItem Bool Bool Bool Bool quiet_item_step (quiet_node_step proto allowed) quiet_statement_step plain_proto_step (BodyItem-F.BodyItem::Route r)
 
   pub quiet-item-proto : (p : ProtoText) → is_quiet_item proto allowed (item.Proto p) ≡ false
   unfolding quiet_item_step
-  quiet-item-proto p = ap (is_quiet_item proto allowed) (sym (item.rolls-Proto p)) ∙ fold-roll-BodyItem Bool Bool Bool Bool quiet_item_step (quiet_node_step proto allowed) quiet_statement_step quiet_proto_step (BodyItem-F.BodyItem::Proto p)
+  quiet-item-proto p = ap (is_quiet_item proto allowed) (sym (item.rolls-Proto p)) ∙ fold-roll-BodyItem Bool Bool Bool Bool quiet_item_step (quiet_node_step proto allowed) quiet_statement_step plain_proto_step (BodyItem-F.BodyItem::Proto p)
 
   pub quiet-use : (line : ℕ) (name : Name) → is_quiet_node proto allowed (node.Use line name) ≡ false
   unfolding quiet_node_step
-  quiet-use line name = ap (is_quiet_node proto allowed) (sym (node.rolls-Use line name)) ∙ fold-roll-NodeText Bool Bool Bool Bool quiet_item_step (quiet_node_step proto allowed) quiet_statement_step quiet_proto_step (NodeText-F.Use line name)
+  quiet-use line name = ap (is_quiet_node proto allowed) (sym (node.rolls-Use line name)) ∙ fold-roll-NodeText Bool Bool Bool Bool quiet_item_step (quiet_node_step proto allowed) quiet_statement_step plain_proto_step (NodeText-F.Use line name)
 
   pub quiet-full : (line : ℕ) (name : Option Name) (word : Name) (is : List BodyItem) → is_quiet_node proto allowed (node.Full line name word is) ≡ may_stand proto allowed name word (map (is_quiet_item proto allowed) is)
   unfolding quiet_node_step
-  quiet-full line name word is = ap (is_quiet_node proto allowed) (sym (node.rolls-Full line name word is)) ∙ fold-roll-NodeText Bool Bool Bool Bool quiet_item_step (quiet_node_step proto allowed) quiet_statement_step quiet_proto_step (NodeText-F.Full line name word is)
+  quiet-full line name word is = ap (is_quiet_node proto allowed) (sym (node.rolls-Full line name word is)) ∙ fold-roll-NodeText Bool Bool Bool Bool quiet_item_step (quiet_node_step proto allowed) quiet_statement_step plain_proto_step (NodeText-F.Full line name word is)
 
   pub quiet-node : (n : NodeText) → is_quiet_statement proto allowed (statement.Node n) ≡ is_quiet_node proto allowed n
   unfolding quiet_statement_step
-  quiet-node n = ap (is_quiet_statement proto allowed) (sym (statement.rolls-Node n)) ∙ fold-roll-Statement Bool Bool Bool Bool quiet_item_step (quiet_node_step proto allowed) quiet_statement_step quiet_proto_step (Statement-F.Node n)
+  quiet-node n = ap (is_quiet_statement proto allowed) (sym (statement.rolls-Node n)) ∙ fold-roll-Statement Bool Bool Bool Bool quiet_item_step (quiet_node_step proto allowed) quiet_statement_step plain_proto_step (Statement-F.Node n)
 
   pub quiet-route : (r : RouteText) → is_quiet_statement proto allowed (statement.Route r) ≡ false
   unfolding quiet_statement_step
-  quiet-route r = ap (is_quiet_statement proto allowed) (sym (statement.rolls-Route r)) ∙ fold-roll-Statement Bool Bool Bool Bool quiet_item_step (quiet_node_step proto allowed) quiet_statement_step quiet_proto_step (Statement-F.Statement::Route r)
+  quiet-route r = ap (is_quiet_statement proto allowed) (sym (statement.rolls-Route r)) ∙ fold-roll-Statement Bool Bool Bool Bool quiet_item_step (quiet_node_step proto allowed) quiet_statement_step plain_proto_step (Statement-F.Statement::Route r)
 
   pub quiet-proto : (p : ProtoText) → is_quiet_statement proto allowed (statement.Proto p) ≡ false
   unfolding quiet_statement_step
-  quiet-proto p = ap (is_quiet_statement proto allowed) (sym (statement.rolls-Proto p)) ∙ fold-roll-Statement Bool Bool Bool Bool quiet_item_step (quiet_node_step proto allowed) quiet_statement_step quiet_proto_step (Statement-F.Statement::Proto p)
+  quiet-proto p = ap (is_quiet_statement proto allowed) (sym (statement.rolls-Proto p)) ∙ fold-roll-Statement Bool Bool Bool Bool quiet_item_step (quiet_node_step proto allowed) quiet_statement_step plain_proto_step (Statement-F.Statement::Proto p)

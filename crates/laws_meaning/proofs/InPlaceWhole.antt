@@ -1,158 +1,36 @@
 -- An instance is its prototype's body written in its place: whole documents.
-use Rattle.std.proofs.Common.{◌≡◌, ◌⊎◌, inl, inr, ℕ, ◌+◌, ◌≤◌, Bool, true, false, not, ◌&&◌, ◌||◌, if◌then◌else◌, nat_lt, length, List, [], ◌∷◌, ◌++◌, Option, Some, None, option_map, Result, Ok, Err, map, refl, ap, sym, ◌∙◌, subst, arith}
+use Rattle.std.proofs.Common.{◌≡◌, ◌⊎◌, inl, inr, ℕ, ◌+◌, Bool, true, false, ◌||◌, if◌then◌else◌, length, List, [], ◌∷◌, ◌++◌, Option, Some, None, option_map, Result, Ok, Err, map, refl, ap, sym, ◌∙◌, subst}
 use Rattle.std.specs.Prelude.{is_some}
-use Rattle.std.specs.List.{AllByRecursion, list_all, list_any, sum_by, fold}
+use Rattle.std.specs.List.{AllByRecursion, list_all, list_any}
 use Rattle.std.specs.Option.{option_or}
 use Rattle.std.specs.Str.{bytes_eq}
-use Rattle.std.proofs.lemmas.Bool.{ltb-true, lt-ltb}
 use Rattle.std.proofs.lemmas.List.{append-nil}
 use Rattle.std.proofs.lemmas.Slice.Eq.{bytes_eq-Decides}
 use Rattle.x3d_values.specs.Names.{node_type_named}
 use Rattle.x3d_values.specs.declared.node_type.NodeType.{NodeType}
-use Rattle.classic_tree.specs.declared.tree.BodyItem.{BodyItem}
 use Rattle.classic_tree.specs.declared.tree.BodyItem.TheOpen.{Statement-F}
-use Rattle.classic_tree.specs.declared.tree.BodyItem.TheVariants as item_text
 use Rattle.classic_tree.specs.declared.tree.Document.{Document}
-use Rattle.classic_tree.specs.declared.tree.Given.{Given}
-use Rattle.classic_tree.specs.declared.tree.Given.TheVariants as given
 use Rattle.classic_tree.specs.declared.tree.NodeText.{NodeText}
-use Rattle.classic_tree.specs.declared.tree.NodeText.TheVariants as node_text
-use Rattle.classic_tree.specs.declared.tree.ProtoText.{ProtoText}
-use Rattle.classic_tree.specs.declared.tree.RawValue.TheVariants as value
 use Rattle.classic_tree.specs.declared.tree.Statement.{Statement}
 use Rattle.classic_tree.specs.declared.tree.Statement.TheVariants as statement_text
-use Rattle.classic_tree.proofs.Mapped.{given_mapped}
 use Rattle.proto_flat.specs.Fault.{fault}
 use Rattle.proto_flat.specs.declared.fault.ExpandFault.{ExpandFault}
 use Rattle.proto_flat.specs.declared.fault.ExpandFaultKind.TheVariants.{TooLarge}
 use Rattle.proto_flat.specs.declared.flat.Flat.{Flat}
 use Rattle.proto_flat.specs.declared.flat.FlatRoute.{FlatRoute}
-use Rattle.proto_meaning.specs.Limits.{Met, ANode, AnInstance, AField, AnItem, Outcome, behind, follow, and_then, nodes_met, instances_met, items_met, all_met, has_room, is_within, with_few_routes, limited}
+use Rattle.proto_meaning.specs.Limits.{Met, AnInstance, Outcome, behind, follow, and_then, is_within, with_few_routes, limited}
 use Rattle.proto_meaning.specs.Names.{Name}
 use Rattle.proto_meaning.specs.Sight.{Put, Instance, Prototype, Sight, Names, no_names, and_see, Owner, OfType, OfProto, declared, meant}
 use Rattle.proto_meaning.specs.Flat.{Walk, Does, ◌>>=◌, comes, pure, through, close, Stated, begin, made, prototype, body_finds, body_sees, declare_body, declare, full_node, statement_step, proto_step, header_of, flat}
 use Rattle.proto_meaning.specs.Flat.{node as node_part, statement as stated}
 use Rattle.proto_meaning.proofs.Trees.{statement-node, statement-proto, proto-is, proto_of}
-use Rattle.proto_meaning.proofs.Induction.{OfGiven, Layers, every_statement}
 use Rattle.proto_meaning.proofs.SightLaw.{Seen}
-use Rattle.laws_meaning.specs.InPlace.{is_true, all_in, is_quiet_item, is_quiet_node, is_quiet_statement, written_item, written_node, written_statement, declaration_of, nothing_in_sight, InstancesAreTheirBodies}
+use Rattle.laws_meaning.specs.InPlace.{is_quiet_node, is_quiet_statement, written_statement, declaration_of, nothing_in_sight, InstancesAreTheirBodies}
 use Rattle.laws_meaning.proofs.InPlaceTexts as texts
 use Rattle.laws_meaning.proofs.InPlaceWalks.{less, Beside, Alike, ComeAlike, EndAlike, Equal, then_alike, pure_alike}
 use Rattle.laws_meaning.proofs.InPlaceParts.{never, both_true, every_same}
-
--- ---- limits
-
-sum_from : (f : Met → ℕ) (a : ℕ) (ms : List Met) → fold (λ b m. b + f m) a ms ≡ a + sum_by f ms
-sum_from f a [] = omega arith
-sum_from f a (m ∷ ms) = omega (arith, sum_from f (a + f m) ms, sum_from f (0 + f m) ms)
-
-sum_cons : (f : Met → ℕ) (m : Met) (ms : List Met) → sum_by f (m ∷ ms) ≡ f m + sum_by f ms
-sum_cons f m ms = omega (arith, sum_from f (0 + f m) ms)
-
-sum_less : (f : Met → ℕ) (ms : List Met) → sum_by f (less ms) ≤ sum_by f ms
-sum_less f [] = omega arith
-sum_less f (AnInstance ∷ ms) = omega (arith, sum_less f ms, sum_cons f AnInstance ms)
-sum_less f (ANode ∷ ms) = omega (arith, sum_less f ms, sum_cons f ANode ms, sum_cons f ANode (less ms))
-sum_less f (AField number items ∷ ms) = omega (arith, sum_less f ms, sum_cons f (AField number items) ms, sum_cons f (AField number items) (less ms))
-sum_less f (AnItem ∷ ms) = omega (arith, sum_less f ms, sum_cons f AnItem ms, sum_cons f AnItem (less ms))
-
-room_less : (ms : List Met) → list_all has_room ms ≡ true → list_all has_room (less ms) ≡ true
-room_less [] e = refl
-room_less (AnInstance ∷ ms) e = room_less ms e
-room_less (ANode ∷ ms) e = room_less ms e
-room_less (AnItem ∷ ms) e = room_less ms e
-room_less (AField number items ∷ ms) e =
-    let both = both_true (nat_lt number 65536) (list_all has_room ms) e in
-    ap (λ b. b && list_all has_room (less ms)) both.0 ∙ room_less ms both.1
-
-few : (n a c : ℕ) → c ≤ a → not (nat_lt n a) ≡ true → not (nat_lt n c) ≡ true
-few n a c h e = on (nat_lt n c) refl where
-  on : (b : Bool) → nat_lt n c ≡ b → not b ≡ true
-  on false is = refl
-  on true is = sym (ap not (lt-ltb n a (omega (arith, h, ltb-true n c is)))) ∙ e
-
-all_five : (a b c d e p q r s t : Bool) → (a ≡ true → p ≡ true) → (b ≡ true → q ≡ true) → (c ≡ true → r ≡ true) → (d ≡ true → s ≡ true) → (e ≡ true → t ≡ true)
-    → (a && b && c && d && e) ≡ true → (p && q && r && s && t) ≡ true
-all_five a b c d e p q r s t f g h i j k =
-    let one = both_true (a && b && c && d) e k in
-    let two = both_true (a && b && c) d one.0 in
-    let three = both_true (a && b) c two.0 in
-    let four = both_true a b three.0 in
-    ap (λ x. x && q && r && s && t) (f four.0) ∙ ap (λ x. x && r && s && t) (g four.1) ∙ ap (λ x. x && s && t) (h three.1) ∙ ap (λ x. x && t) (i two.1) ∙ j one.1
-
-less_within : (ms : List Met) → is_within ms ≡ true → is_within (less ms) ≡ true
-less_within ms e =
-    all_five (not (nat_lt 65536 (sum_by nodes_met ms))) (not (nat_lt 8388608 (sum_by instances_met ms))) (not (nat_lt 8388608 (sum_by items_met ms))) (not (nat_lt 134217728 (sum_by all_met ms))) (list_all has_room ms)
-    (not (nat_lt 65536 (sum_by nodes_met (less ms)))) (not (nat_lt 8388608 (sum_by instances_met (less ms)))) (not (nat_lt 8388608 (sum_by items_met (less ms)))) (not (nat_lt 134217728 (sum_by all_met (less ms)))) (list_all has_room (less ms))
-    (few 65536 (sum_by nodes_met ms) (sum_by nodes_met (less ms)) (sum_less nodes_met ms))
-    (few 8388608 (sum_by instances_met ms) (sum_by instances_met (less ms)) (sum_less instances_met ms))
-    (few 8388608 (sum_by items_met ms) (sum_by items_met (less ms)) (sum_less items_met ms))
-    (few 134217728 (sum_by all_met ms) (sum_by all_met (less ms)) (sum_less all_met ms))
-    (room_less ms) e
-
--- ---- a text without the prototype's name stays
-
-module _ (proto : Name) (body : NodeText) where
-  abbrev Stays : NodeText → Type 0
-  Stays n = is_quiet_node proto false n ≡ true → written_node proto body n ≡ n
-
-  abbrev ItemStays : BodyItem → Type 0
-  ItemStays i = is_quiet_item proto false i ≡ true → written_item proto body i ≡ i
-
-  abbrev StatementStays : Statement → Type 0
-  StatementStays s = is_quiet_statement proto false s ≡ true → written_statement proto body s ≡ s
-
-  abbrev ProtoStays : ProtoText → Type 0
-  ProtoStays p = Unit {0}
-
-  nodes_stay : (ns : List NodeText) → AllByRecursion Stays ns → list_all is_true (map (is_quiet_node proto false) ns) ≡ true → map (written_node proto body) ns ≡ ns
-  nodes_stay [] h e = refl
-  nodes_stay (n ∷ ns) h e =
-      let both = both_true (is_quiet_node proto false n) (list_all is_true (map (is_quiet_node proto false) ns)) e in
-      ap (λ x. x ∷ map (written_node proto body) ns) (h.0 both.0) ∙ ap (λ xs. n ∷ xs) (nodes_stay ns h.1 both.1)
-
-  given_stays : (g : Given NodeText) → OfGiven Stays g → all_in (given_mapped (is_quiet_node proto false) g) ≡ true → given_mapped (written_node proto body) g ≡ g
-  given_stays given.Nothing h e = refl
-  given_stays (given.Is name) h e = refl
-  given_stays (given.Value value.Null) h e = refl
-  given_stays (given.Value (value.Truth truth)) h e = refl
-  given_stays (given.Value (value.String text)) h e = refl
-  given_stays (given.Value (value.Numbers numbers)) h e = refl
-  given_stays (given.Value (value.Node n)) h e = ap (λ x. given.Value (value.Node x)) (h e)
-  given_stays (given.Value value.EmptyList) h e = refl
-  given_stays (given.Value (value.TruthList truths)) h e = refl
-  given_stays (given.Value (value.StringList texts)) h e = refl
-  given_stays (given.Value (value.NumberList numbers)) h e = refl
-  given_stays (given.Value (value.NodeList ns)) h e = ap (λ xs. given.Value (value.NodeList xs)) (nodes_stay ns h e)
-
-  items_stay : (is : List BodyItem) → AllByRecursion ItemStays is → list_all is_true (map (is_quiet_item proto false) is) ≡ true → map (written_item proto body) is ≡ is
-  items_stay [] h e = refl
-  items_stay (i ∷ is) h e =
-      let both = both_true (is_quiet_item proto false i) (list_all is_true (map (is_quiet_item proto false) is)) e in
-      ap (λ x. x ∷ map (written_item proto body) is) (h.0 both.0) ∙ ap (λ xs. i ∷ xs) (items_stay is h.1 both.1)
-
-  full_stays : (line : ℕ) (name : Option Name) (word : Name) (is : List BodyItem) → AllByRecursion ItemStays is → (b : Bool)
-      → (if b then false else list_all is_true (map (is_quiet_item proto false) is)) ≡ true
-      → (if b then body else node_text.Full line name word (map (written_item proto body) is)) ≡ node_text.Full line name word is
-  full_stays line name word is h true e = never e
-  full_stays line name word is h false e = ap (λ xs. node_text.Full line name word xs) (items_stay is h e)
-
-  layers : Layers ItemStays Stays StatementStays ProtoStays
-  layers = record {
-    field = λ line name g h e. texts.written-field proto body line name g ∙ ap (λ x. item_text.Field line name x) (given_stays g h (sym (texts.quiet-field proto false line name g) ∙ e));
-    declaration = λ d h e. texts.written-declaration proto body d ∙ ap (λ x. item_text.Declaration (record d { given = x })) (given_stays d.given h (sym (texts.quiet-declaration proto false d) ∙ e));
-    item_route = λ r e. never (sym (texts.quiet-item-route proto false r) ∙ e);
-    item_proto = λ p h e. never (sym (texts.quiet-item-proto proto false p) ∙ e);
-    used = λ line name e. never (sym (texts.quiet-use proto false line name) ∙ e);
-    full = λ line name word is h e. texts.written-full proto body line name word is ∙ full_stays line name word is h (bytes_eq proto word) (sym (texts.quiet-full proto false line name word is) ∙ e);
-    node = λ n h e. texts.written-node proto body n ∙ ap (λ x. statement_text.Node x) (h (sym (texts.quiet-node proto false n) ∙ e));
-    route = λ r e. never (sym (texts.quiet-route proto false r) ∙ e);
-    proto = λ p h e. never (sym (texts.quiet-proto proto false p) ∙ e);
-    prototype = λ p hd hs. tt;
-  }
-
-  pub statement_stays : (s : Statement) → StatementStays s
-  statement_stays = every_statement ItemStays Stays StatementStays ProtoStays layers
+use Rattle.laws_meaning.proofs.InPlaceLimits.{less_within}
+use Rattle.laws_meaning.proofs.InPlaceStays.{statement_stays}
 
 -- ---- a sound declaration
 

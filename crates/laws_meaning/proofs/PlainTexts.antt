@@ -13,7 +13,8 @@ use Rattle.classic_tree.specs.declared.tree.Statement.{fold-roll-Statement}
 use Rattle.classic_tree.specs.declared.tree.Statement.TheVariants as statement
 use Rattle.classic_tree.proofs.Mapped.{declaration_mapped, given_mapped}
 use Rattle.proto_meaning.specs.Names.{Name}
-use Rattle.laws_meaning.specs.Plain.{ItemReads, Reads, is_plain_item, is_plain_node, is_plain_statement, plain_item_step, plain_node_step, plain_statement_step, plain_proto_step, item_step, node_step, statement_step, proto_step, read_item, read_text, read_statement}
+use Rattle.laws_meaning.specs.Plain.{ItemReads, Reads, is_plain_item, is_plain_node, is_plain_statement, plain_node_step, item_step, node_step, statement_step, proto_step, read_item, read_text, read_statement}
+use Rattle.laws_meaning.specs.Steps.{plain_item_step, plain_statement_step, plain_proto_step}
 
 pub read-field : (line : ℕ) (name : Name) (g : Given NodeText) → read_item (item.Field line name g) ≡ item_step (BodyItem-F.Field line name (given_mapped read_text g))
 unfolding item_step

@@ -1,9 +1,8 @@
 -- Fields, declarations and nodes come to the same with other values where no IS takes them.
-use Rattle.std.proofs.Common.{◌≡◌, ℕ, Bool, true, false, if◌then◌else◌, suc, List, [], ◌∷◌, ◌++◌, length, Option, Some, None, Result, Ok, Err, map, refl, ap, sym, ◌∙◌, subst}
+use Rattle.std.proofs.Common.{◌≡◌, ℕ, Bool, true, false, if◌then◌else◌, List, [], ◌∷◌, ◌++◌, length, Option, Some, None, Result, Ok, Err, map, refl, ap, sym, ◌∙◌, subst}
 use Rattle.std.specs.Prelude.{◌&&◌, not, is_some}
 use Rattle.std.specs.List.{AllByRecursion}
 use Rattle.std.specs.Str.{bytes_eq}
-use Rattle.x3d_values.specs.Names.{node_type_named}
 use Rattle.classic_tree.specs.declared.tree.BodyItem.{BodyItem}
 use Rattle.classic_tree.specs.declared.tree.BodyItem.TheOpen.{BodyItem-F, NodeText-F}
 use Rattle.classic_tree.specs.declared.tree.BodyItem.TheVariants as item_text
@@ -21,165 +20,20 @@ use Rattle.proto_flat.specs.declared.fault.ExpandFault.{ExpandFault}
 use Rattle.proto_flat.specs.declared.fault.ExpandFaultKind.TheVariants.{UnknownField, FieldTwice}
 use Rattle.proto_meaning.specs.Limits.{ANode, AnInstance, behind}
 use Rattle.proto_meaning.specs.Names.{Name, Field}
-use Rattle.proto_meaning.specs.Sight.{Sight, Step, Names, Search, and_see, each, aside, nodes_in, Owner, OfType, OfProto, meant, taken_by, is_kept}
-use Rattle.proto_meaning.specs.Flat.{Walk, Does, ◌>>=◌, pure, refuse, through, Node, Item, Proto, Inside, given_finds, given_sees, put_in, give, numbered_from, is_filled, is_script, field, fields_of, inside, close_node, flat_node, close_instance, is_one, unless_twice, full_node, item_step, node_step}
+use Rattle.proto_meaning.specs.Sight.{Sight, Step, Names, each, aside, nodes_in, Owner, OfType, OfProto, meant, taken_by, is_kept}
+use Rattle.proto_meaning.specs.Flat.{Walk, Does, ◌>>=◌, pure, refuse, Node, Item, Proto, Inside, given_sees, give, numbered_from, is_filled, is_script, field, fields_of, inside, close_node, flat_node, close_instance, is_one, unless_twice, full_node, item_step, node_step}
 use Rattle.proto_meaning.specs.Flat.{item as item_part, node as node_part, proto as proto_part}
 use Rattle.proto_meaning.proofs.Trees.{item-field, item-declaration, item-route, item-proto, node-use, node-full}
 use Rattle.proto_meaning.proofs.Induction.{OfGiven, OfDeclaration}
-use Rattle.proto_meaning.proofs.SightLaw.{Seen, bare, Free, After, Follows, Any, Owned, GoodNode, GoodItem, GoodProto, then_follows, then_still, still, still_free, field_good, declaration_good, route_good, proto_item_good, use_good, full_good}
-use Rattle.laws_meaning.specs.Untaken.{Change, KeepsDeclarations, NodeAt, ItemAt, given_declares, given_holds, past, in_turn, given_at, declaration_at, unless_kept, item_at, node_at, prototype_at}
-use Rattle.laws_meaning.proofs.Same.{Alike, AllSteady, Steady, through_same, each_same, steady_free, through_follows, steady_in_turn, finds_in_turn, then_same, same_then}
-use Rattle.laws_meaning.proofs.UntakenGiven.{node_sees, put_next, SteadyNode, SteadyNodes, value_sees, SameValue, SameGiven, seen_given, aside_given, DeclaresSame, give_same, give_left, raw_in, InOption, named_from, option_at, never}
+use Rattle.proto_meaning.proofs.SightLaw.{Seen, After, Follows, Any, Owned, GoodNode, GoodItem, GoodProto, still, still_free, field_good, declaration_good, route_good, proto_item_good}
+use Rattle.proto_meaning.proofs.SightNodes.{use_good, full_good}
+use Rattle.laws_meaning.specs.Untaken.{Change, KeepsDeclarations, ItemAt, in_turn, declaration_at, unless_kept, item_at, node_at, prototype_at}
+use Rattle.laws_meaning.proofs.Same.{Alike, AllSteady, Steady, through_same, each_same, steady_in_turn, finds_in_turn, then_same, same_then}
+use Rattle.laws_meaning.proofs.UntakenGiven.{SameGiven, seen_given, aside_given, DeclaresSame, give_same, give_left, raw_in, InOption, named_from, option_at, never}
 use Rattle.laws_meaning.proofs.UntakenTexts.{at-field, at-declaration, at-item-route, at-item-proto, at-use, at-full}
-
--- ---- nodes
-
-pub record SameNode (s : Sight) (m n : Node) : Type 0 where
-  pub finds : (own : Name) → node_type_named own ≡ None → (hidden : Bool) → n.finds own hidden ≡ m.finds own hidden
-  pub seen : (t : Sight) → Alike s t → n.sees t ≡ m.sees t
-  pub done : (w : Walk) → Alike s w.sight → n.does w ≡ m.does w
-
--- where these braces take that
-pub record SameItem (taken : Option Names) (s : Sight) (m n : Item) : Type 0 where
-  pub finds : (own : Name) → node_type_named own ≡ None → (hidden : Bool) → n.finds own hidden ≡ m.finds own hidden
-  pub seen : (t : Sight) → Alike s t → n.sees taken t ≡ m.sees taken t
-  pub done : (b : Inside) → taken_by (Some b.owner) ≡ taken → (w : Walk) → Alike s w.sight → n.does b w ≡ m.does b w
-
-pub record SameProto (s : Sight) (m n : Proto) : Type 0 where
-  pub finds : (own : Name) → node_type_named own ≡ None → (hidden : Bool) → n.finds own hidden ≡ m.finds own hidden
-  pub seen : (t : Sight) → Alike s t → n.sees t ≡ m.sees t
-  pub done : (w : Walk) → Alike s w.sight → n.does w ≡ m.does w
-
-steady_node : (s : Sight) (m n : Node) → GoodNode m → SameNode s m n → SteadyNode s m n
-steady_node s m n good same =
-    record {
-      free = good.free;
-      follows = λ ns _. then_still Any Any m.does (λ k. pure (ns ++ k ∷ [])) m.sees good.follows (λ k _ w. (tt, refl));
-      seen = same.seen;
-      done = λ ns _ w e. same_then m.does n.does (λ k. pure (ns ++ k ∷ [])) w (same.done w e);
-    }
-
--- ---- values
-
-plain_value : (s : Sight) (v : RawValue Node) → Follows Any (put_in v) (value_sees v) → Free (value_sees v) → SameValue s v v
-plain_value s v follows free = record { count = refl; seen = λ t e. refl; put = λ w e. refl; free = free; follows = follows }
-
-one_node : (s : Sight) (m n : Node) → GoodNode m → SameNode s m n → SameValue s (value.Node m) (value.Node n)
-one_node s m n good same =
-    let one : SteadyNodes s (m ∷ []) (n ∷ []) = (steady_node s m n good same, tt) in
-    record {
-      count = refl;
-      seen = each_same node_sees put_next Any s (m ∷ []) (n ∷ []) one;
-      put = λ w e. same_then m.does n.does (λ k. pure (value.Node k)) w (same.done w e);
-      free = steady_free node_sees put_next Any s (m ∷ []) (n ∷ []) one;
-      follows = then_follows Any Any m.does (λ k. pure (value.Node k)) m.sees (each node_sees []) (λ t. refl) good.follows (λ k _ w. (tt, refl));
-    }
-
-steady_length : (s : Sight) (ms ns : List Node) → SteadyNodes s ms ns → length ns ≡ length ms
-steady_length s [] [] h = refl
-steady_length s [] (n ∷ ns) h = absurd h
-steady_length s (m ∷ ms) [] h = absurd h
-steady_length s (m ∷ ms) (n ∷ ns) h = ap suc (steady_length (past (node_sees n) s) ms ns h.1)
-
-node_list : (s : Sight) (ms ns : List Node) → SteadyNodes s ms ns → SameValue s (value.NodeList ms) (value.NodeList ns)
-node_list s ms ns h =
-    record {
-      count = steady_length s ms ns h;
-      seen = each_same node_sees put_next Any s ms ns h;
-      put = λ w e. same_then (through put_next ms []) (through put_next ns []) (λ ks. pure (value.NodeList ks)) w (through_same node_sees put_next Any s ms ns h [] tt w e);
-      free = steady_free node_sees put_next Any s ms ns h;
-      follows = then_still Any Any (through put_next ms []) (λ ks. pure (value.NodeList ks)) (each node_sees ms) (through_follows node_sees put_next Any s ms ns h [] tt) (λ ks _ w. (tt, refl));
-    }
+use Rattle.laws_meaning.proofs.UntakenValues.{SameNode, SameItem, SameProto, OfNode, OfItem, given_then, given_steady, given_found, changed, changed_declares, changed_found}
 
 module _ (change : Change) (keeps : KeepsDeclarations change) where
-  abbrev pub OfNode : NodeText → Type 0
-  OfNode n = GoodNode (node_part n) × ((s : Sight) → SameNode s (node_part n) (node_part (node_at change n s)))
-
-  abbrev pub OfItem : BodyItem → Type 0
-  OfItem i = GoodItem (item_part i) × ((taken : Option Names) (s : Sight) → SameItem taken s (item_part i) (item_part (item_at change i taken s)))
-
-  one_by_one : (n : NodeText) → OfNode n → (s : Sight) → SteadyNode s (node_part n) (node_part (node_at change n s))
-  one_by_one n h s = steady_node s (node_part n) (node_part (node_at change n s)) h.0 (h.1 s)
-
-  abbrev pub given_then : Given NodeText → Sight → Given NodeText
-  given_then g s = given_at (given_mapped (node_at change) g) s
-
-  pub given_steady : (g : Given NodeText) → OfGiven OfNode g → (s : Sight) → SameGiven s (given_mapped node_part g) (given_mapped node_part (given_then g s))
-  given_steady given.Nothing h s = tt
-  given_steady (given.Is name) h s = refl
-  given_steady (given.Value value.Null) h s = plain_value s value.Null (λ w. (tt, refl)) (λ t. refl)
-  given_steady (given.Value (value.Truth truth)) h s = plain_value s (value.Truth truth) (λ w. (tt, refl)) (λ t. refl)
-  given_steady (given.Value (value.String text)) h s = plain_value s (value.String text) (λ w. (tt, refl)) (λ t. refl)
-  given_steady (given.Value (value.Numbers numbers)) h s = plain_value s (value.Numbers numbers) (λ w. (tt, refl)) (λ t. refl)
-  given_steady (given.Value (value.Node n)) h s = one_node s (node_part n) (node_part (node_at change n s)) h.0 (h.1 s)
-  given_steady (given.Value value.EmptyList) h s = plain_value s value.EmptyList (λ w. (tt, refl)) (λ t. refl)
-  given_steady (given.Value (value.TruthList truths)) h s = plain_value s (value.TruthList truths) (λ w. (tt, refl)) (λ t. refl)
-  given_steady (given.Value (value.StringList texts)) h s = plain_value s (value.StringList texts) (λ w. (tt, refl)) (λ t. refl)
-  given_steady (given.Value (value.NumberList numbers)) h s = plain_value s (value.NumberList numbers) (λ w. (tt, refl)) (λ t. refl)
-  given_steady (given.Value (value.NodeList ns)) h s =
-      node_list s (map node_part ns) (map node_part (in_turn (λ (n : NodeAt). n) (λ n. (node_part n).sees) (map (node_at change) ns) s))
-      (steady_in_turn node_sees put_next Any node_part (node_at change) (λ (n : NodeAt). n) OfNode one_by_one ns h s)
-
-  pub given_found : (g : Given NodeText) → OfGiven OfNode g → (s : Sight) (own : Name) → node_type_named own ≡ None → (hidden : Bool) → given_finds (given_mapped node_part (given_then g s)) own hidden ≡ given_finds (given_mapped node_part g) own hidden
-  given_found given.Nothing h s own free hidden = refl
-  given_found (given.Is name) h s own free hidden = refl
-  given_found (given.Value value.Null) h s own free hidden = refl
-  given_found (given.Value (value.Truth truth)) h s own free hidden = refl
-  given_found (given.Value (value.String text)) h s own free hidden = refl
-  given_found (given.Value (value.Numbers numbers)) h s own free hidden = refl
-  given_found (given.Value (value.Node n)) h s own free hidden = ap (λ r. and_see r (λ x. Ok x)) ((h.1 s).finds own free hidden)
-  given_found (given.Value value.EmptyList) h s own free hidden = refl
-  given_found (given.Value (value.TruthList truths)) h s own free hidden = refl
-  given_found (given.Value (value.StringList texts)) h s own free hidden = refl
-  given_found (given.Value (value.NumberList numbers)) h s own free hidden = refl
-  given_found (given.Value (value.NodeList ns)) h s own free hidden =
-      finds_in_turn (λ (n : Node). n.finds own) (λ n. (node_part n).sees) node_part (node_at change) (λ (n : NodeAt). n) OfNode (λ n k t b. (k.1 t).finds own free b) ns h s hidden
-
-  -- ---- what values declare, by their trees
-
-  pub each_map : {X Y S E : Type 0} (f : Y → S → Result S E) (g : X → Y) (xs : List X) → each f (map g xs) ≡ each (λ x. f (g x)) xs
-  each_map f g [] = refl
-  each_map f g (x ∷ xs) = ap (λ (q : _). λ s. and_see (f (g x) s) q) (each_map f g xs)
-
-  pub declares_is : (g : Given NodeText) (s : Sight) → given_sees (given_mapped node_part g) s ≡ given_declares g s
-  declares_is given.Nothing s = refl
-  declares_is (given.Is name) s = refl
-  declares_is (given.Value value.Null) s = refl
-  declares_is (given.Value (value.Truth truth)) s = refl
-  declares_is (given.Value (value.String text)) s = refl
-  declares_is (given.Value (value.Numbers numbers)) s = refl
-  declares_is (given.Value (value.Node n)) s = refl
-  declares_is (given.Value value.EmptyList) s = refl
-  declares_is (given.Value (value.TruthList truths)) s = refl
-  declares_is (given.Value (value.StringList texts)) s = refl
-  declares_is (given.Value (value.NumberList numbers)) s = refl
-  declares_is (given.Value (value.NodeList ns)) s = ap (λ (q : Step). q s) (each_map node_sees node_part ns)
-
-  holds_is : (v : RawValue NodeText) (own : Name) (hidden : Bool) → given_finds (given_mapped node_part (given.Value v)) own hidden ≡ given_holds (given.Value v) own hidden
-  holds_is value.Null own hidden = refl
-  holds_is (value.Truth truth) own hidden = refl
-  holds_is (value.String text) own hidden = refl
-  holds_is (value.Numbers numbers) own hidden = refl
-  holds_is (value.Node n) own hidden = refl
-  holds_is value.EmptyList own hidden = refl
-  holds_is (value.TruthList truths) own hidden = refl
-  holds_is (value.StringList texts) own hidden = refl
-  holds_is (value.NumberList numbers) own hidden = refl
-  holds_is (value.NodeList ns) own hidden = ap (λ (q : Search). q hidden) (each_map (λ (n : Node). n.finds own) node_part ns)
-
-  aside_by : (g : Given NodeText) (s : Sight) → aside (given_sees (given_mapped node_part g)) s ≡ aside (given_declares g) s
-  aside_by g s = ap (λ r. and_see {Y = Sight} r (λ u. Ok (record u { taken = s.taken }))) (declares_is g (bare s))
-
-  abbrev pub changed : ℕ → Name → RawValue NodeText → Given NodeText
-  changed line name v = given.Value (change line name v)
-
-  pub changed_declares : (line : ℕ) (name : Name) (v : RawValue NodeText) → DeclaresSame (given_mapped node_part (given.Value v)) (given_mapped node_part (changed line name v))
-  changed_declares line name v s = aside_by (changed line name v) s ∙ keeps.declares line name v s ∙ sym (aside_by (given.Value v) s)
-
-  pub changed_found : (line : ℕ) (name : Name) (v : RawValue NodeText) (own : Name) → node_type_named own ≡ None → (hidden : Bool)
-      → given_finds (given_mapped node_part (changed line name v)) own hidden ≡ given_finds (given_mapped node_part (given.Value v)) own hidden
-  changed_found line name v own free hidden = holds_is (change line name v) own hidden ∙ keeps.holds line name v own free hidden ∙ sym (holds_is v own hidden)
-
   -- ---- items between braces
 
   abbrev field_of : ℕ → Name → Given NodeText → Item
@@ -189,15 +43,15 @@ module _ (change : Change) (keeps : KeepsDeclarations change) where
   kept_seen true s g h same t e = seen_given s g h same t e
   kept_seen false s g h same t e = aside_given s g h same t e
 
-  field_same : (line : ℕ) (name : Name) (g : Given NodeText) → OfGiven OfNode g → (taken : Option Names) (s : Sight) → SameItem taken s (field_of line name g) (field_of line name (given_then g s))
+  field_same : (line : ℕ) (name : Name) (g : Given NodeText) → OfGiven (OfNode change keeps) g → (taken : Option Names) (s : Sight) → SameItem taken s (field_of line name g) (field_of line name (given_then change keeps g s))
   unfolding item_step
   field_same line name g h taken s =
       record {
-        finds = given_found g h s;
-        seen = kept_seen (is_kept taken name) s (given_mapped node_part g) (given_mapped node_part (given_then g s)) (given_steady g h s);
+        finds = given_found change keeps g h s;
+        seen = kept_seen (is_kept taken name) s (given_mapped node_part g) (given_mapped node_part (given_then change keeps g s)) (given_steady change keeps g h s);
         done = λ b _ w e. option_at (λ _. Unit {0}) (numbered_from 0 name b.fields)
-            (λ f. give line f (is_filled name b) (given_mapped node_part (given_then g s)) b) (λ f. give line f (is_filled name b) (given_mapped node_part g) b) (refuse UnknownField line) w
-            (always (numbered_from 0 name b.fields)) (λ f _. give_same s line f (is_filled name b) (given_mapped node_part g) (given_mapped node_part (given_then g s)) b (given_steady g h s) w e);
+            (λ f. give line f (is_filled name b) (given_mapped node_part (given_then change keeps g s)) b) (λ f. give line f (is_filled name b) (given_mapped node_part g) b) (refuse UnknownField line) w
+            (always (numbered_from 0 name b.fields)) (λ f _. give_same s line f (is_filled name b) (given_mapped node_part g) (given_mapped node_part (given_then change keeps g s)) b (given_steady change keeps g h s) w e);
       } where
         always : {X : Type 0} (o : Option X) → InOption (λ _. Unit {0}) o
         always None = tt
@@ -208,20 +62,20 @@ module _ (change : Change) (keeps : KeepsDeclarations change) where
   unkept_seen false g h is same t = same t
 
   -- where these braces don't take the field
-  left_field : (line : ℕ) (name : Name) (v : RawValue NodeText) (taken : Option Names) (s : Sight) → is_kept taken name ≡ false → SameItem taken s (field_of line name (given.Value v)) (field_of line name (changed line name v))
+  left_field : (line : ℕ) (name : Name) (v : RawValue NodeText) (taken : Option Names) (s : Sight) → is_kept taken name ≡ false → SameItem taken s (field_of line name (given.Value v)) (field_of line name (changed change keeps line name v))
   unfolding item_step
   left_field line name v taken s is =
       record {
-        finds = changed_found line name v;
-        seen = λ t e. unkept_seen (is_kept taken name) (given_mapped node_part (given.Value v)) (given_mapped node_part (changed line name v)) is (changed_declares line name v) t;
+        finds = changed_found change keeps line name v;
+        seen = λ t e. unkept_seen (is_kept taken name) (given_mapped node_part (given.Value v)) (given_mapped node_part (changed change keeps line name v)) is (changed_declares change keeps line name v) t;
         done = λ b takes w e. option_at (λ (f : ℕ × Field). f.1.name ≡ name) (numbered_from 0 name b.fields)
-            (λ f. give line f (is_filled name b) (given_mapped node_part (changed line name v)) b) (λ f. give line f (is_filled name b) (given_mapped node_part (given.Value v)) b) (refuse UnknownField line) w
+            (λ f. give line f (is_filled name b) (given_mapped node_part (changed change keeps line name v)) b) (λ f. give line f (is_filled name b) (given_mapped node_part (given.Value v)) b) (refuse UnknownField line) w
             (named_from 0 name b.fields)
             (λ f named. given_left f (is_filled name b) b (ap (λ x. is_kept (taken_by (Some b.owner)) x) named ∙ ap (λ o. is_kept o name) takes ∙ is) w);
       } where
         given_left : (f : ℕ × Field) (twice : Bool) (b : Inside) → is_kept (taken_by (Some b.owner)) f.1.name ≡ false → (w : Walk)
-            → give line f twice (given_mapped node_part (changed line name v)) b w ≡ give line f twice (given_mapped node_part (given.Value v)) b w
-        given_left f twice b unkept w = give_left line f twice (raw_in (given_mapped node_part (given.Value v))) (raw_in (given_mapped node_part (changed line name v))) b unkept (changed_declares line name v) w
+            → give line f twice (given_mapped node_part (changed change keeps line name v)) b w ≡ give line f twice (given_mapped node_part (given.Value v)) b w
+        given_left f twice b unkept w = give_left line f twice (raw_in (given_mapped node_part (given.Value v))) (raw_in (given_mapped node_part (changed change keeps line name v))) b unkept (changed_declares change keeps line name v) w
 
   -- ---- one after the other
 
@@ -247,11 +101,11 @@ module _ (change : Change) (keeps : KeepsDeclarations change) where
 
   -- ---- the layers of items
 
-  nodes_good : (ns : List NodeText) → AllByRecursion OfNode ns → AllByRecursion GoodNode (map node_part ns)
+  nodes_good : (ns : List NodeText) → AllByRecursion (OfNode change keeps) ns → AllByRecursion GoodNode (map node_part ns)
   nodes_good [] h = tt
   nodes_good (n ∷ ns) h = (h.0.0, nodes_good ns h.1)
 
-  pub given_good : (g : Given NodeText) → OfGiven OfNode g → AllByRecursion GoodNode (nodes_in (given_mapped node_part g))
+  pub given_good : (g : Given NodeText) → OfGiven (OfNode change keeps) g → AllByRecursion GoodNode (nodes_in (given_mapped node_part g))
   given_good given.Nothing h = tt
   given_good (given.Value value.Null) h = tt
   given_good (given.Value (value.Truth truth)) h = tt
@@ -265,33 +119,33 @@ module _ (change : Change) (keeps : KeepsDeclarations change) where
   given_good (given.Value (value.NodeList ns)) h = nodes_good ns h
   given_good (given.Is name) h = tt
 
-  pub field_layer : (line : ℕ) (name : List ℕ) (g : Given NodeText) → OfGiven OfNode g → OfItem (item_text.Field line name g)
+  pub field_layer : (line : ℕ) (name : List ℕ) (g : Given NodeText) → OfGiven (OfNode change keeps) g → OfItem change keeps (item_text.Field line name g)
   field_layer line name g h = (
     subst GoodItem (sym (item-field line name g {h = given_mapped node_part g} refl)) (field_good line name (given_mapped node_part g) (given_good g h)),
-    λ taken s. item_by taken s _ (field_of line name g) (field_of line name (unless_kept change (is_kept taken name) line name (given_then g s))) _
+    λ taken s. item_by taken s _ (field_of line name g) (field_of line name (unless_kept change (is_kept taken name) line name (given_then change keeps g s))) _
         (item-field line name g refl)
-        (ap item_part (at-field change line name g taken s) ∙ item-field line name (unless_kept change (is_kept taken name) line name (given_then g s)) refl)
-        (item_then taken s (field_of line name g) (field_of line name (given_then g s)) (field_of line name (unless_kept change (is_kept taken name) line name (given_then g s)))
-        (field_same line name g h taken s) (unless (is_kept taken name) line name taken s (given_then g s) refl)),
+        (ap item_part (at-field change line name g taken s) ∙ item-field line name (unless_kept change (is_kept taken name) line name (given_then change keeps g s)) refl)
+        (item_then taken s (field_of line name g) (field_of line name (given_then change keeps g s)) (field_of line name (unless_kept change (is_kept taken name) line name (given_then change keeps g s)))
+        (field_same line name g h taken s) (unless (is_kept taken name) line name taken s (given_then change keeps g s) refl)),
   )
 
   abbrev declaration_of : Declaration NodeText → Item
   declaration_of d = item_step (BodyItem-F.Declaration (declaration_mapped node_part d))
 
-  declaration_same : (d : Declaration NodeText) → OfDeclaration OfNode d → (taken : Option Names) (s : Sight) → SameItem taken s (declaration_of d) (declaration_of (declaration_at (declaration_mapped (node_at change) d) s))
+  declaration_same : (d : Declaration NodeText) → OfDeclaration (OfNode change keeps) d → (taken : Option Names) (s : Sight) → SameItem taken s (declaration_of d) (declaration_of (declaration_at (declaration_mapped (node_at change) d) s))
   unfolding item_step
   declaration_same d h taken s =
       record {
-        finds = given_found d.given h s;
-        seen = seen_given s (given_mapped node_part d.given) (given_mapped node_part (given_then d.given s)) (given_steady d.given h s);
+        finds = given_found change keeps d.given h s;
+        seen = seen_given s (given_mapped node_part d.given) (given_mapped node_part (given_then change keeps d.given s)) (given_steady change keeps d.given h s);
         done = λ b _ w e. script_at (is_script b.owner) _ _ (refuse UnknownField d.line) w
-            (give_same s d.line (length b.fields, field d) (is_some (numbered_from 0 d.name b.fields)) (given_mapped node_part d.given) (given_mapped node_part (given_then d.given s)) (record b { fields = b.fields ++ field d ∷ [] }) (given_steady d.given h s) w e);
+            (give_same s d.line (length b.fields, field d) (is_some (numbered_from 0 d.name b.fields)) (given_mapped node_part d.given) (given_mapped node_part (given_then change keeps d.given s)) (record b { fields = b.fields ++ field d ∷ [] }) (given_steady change keeps d.given h s) w e);
       } where
         script_at : {A : Type 0} (b : Bool) (m n o : Does A) (w : Walk) → n w ≡ m w → (if b then n else o) w ≡ (if b then m else o) w
         script_at true m n o w e = e
         script_at false m n o w e = refl
 
-  pub declaration_layer : (d : Declaration NodeText) → OfDeclaration OfNode d → OfItem (item_text.Declaration d)
+  pub declaration_layer : (d : Declaration NodeText) → OfDeclaration (OfNode change keeps) d → OfItem change keeps (item_text.Declaration d)
   declaration_layer d h = (
     subst GoodItem (sym (item-declaration d {h = declaration_mapped node_part d} refl)) (declaration_good (declaration_mapped node_part d) (given_good d.given h)),
     λ taken s. item_by taken s _ (declaration_of d) (declaration_of (declaration_at (declaration_mapped (node_at change) d) s)) _
@@ -299,7 +153,7 @@ module _ (change : Change) (keeps : KeepsDeclarations change) where
         (declaration_same d h taken s),
   )
 
-  pub item_route_layer : (r : RouteText) → OfItem (item_text.Route r)
+  pub item_route_layer : (r : RouteText) → OfItem change keeps (item_text.Route r)
   item_route_layer r = (
     subst GoodItem (sym (item-route r)) (route_good r),
     λ taken s. item_by taken s _ (item_part (item_text.Route r)) (item_part (item_text.Route r)) _ refl (ap item_part (at-item-route change r taken s)) (same_item taken s (item_part (item_text.Route r))),
@@ -309,7 +163,7 @@ module _ (change : Change) (keeps : KeepsDeclarations change) where
   unfolding item_step
   inside_proto taken s m n h = record { finds = h.finds; seen = h.seen; done = λ b _ w e. same_then m.does n.does (λ _. pure b) w (h.done w e) }
 
-  pub item_proto_layer : (p : ProtoText) → GoodProto (proto_part p) → ((s : Sight) → SameProto s (proto_part p) (proto_part (prototype_at change p s))) → OfItem (item_text.Proto p)
+  pub item_proto_layer : (p : ProtoText) → GoodProto (proto_part p) → ((s : Sight) → SameProto s (proto_part p) (proto_part (prototype_at change p s))) → OfItem change keeps (item_text.Proto p)
   item_proto_layer p good h = (
     subst GoodItem (sym (item-proto p {q = proto_part p} refl)) (proto_item_good (proto_part p) good),
     λ taken s. item_by taken s _ (item_step (BodyItem-F.BodyItem::Proto (proto_part p))) (item_step (BodyItem-F.BodyItem::Proto (proto_part (prototype_at change p s)))) _
@@ -335,7 +189,7 @@ module _ (change : Change) (keeps : KeepsDeclarations change) where
   owned_after taken owner e (Ok p) r h = (ap (λ o. taken_by (Some o)) h.0 ∙ e, h.1)
   owned_after taken owner e (Err x) r h = tt
 
-  steady_item : (taken : Option Names) (i : BodyItem) → OfItem i → (s : Sight) → Steady (item_sees taken) item_does (Takes taken) s (item_part i) (item_part (item_at change i taken s))
+  steady_item : (taken : Option Names) (i : BodyItem) → OfItem change keeps i → (s : Sight) → Steady (item_sees taken) item_does (Takes taken) s (item_part i) (item_part (item_at change i taken s))
   steady_item taken i h s =
       record {
         free = h.0.free taken;
@@ -345,9 +199,9 @@ module _ (change : Change) (keeps : KeepsDeclarations change) where
         done = λ b e w k. (h.1 taken s).done b e w k;
       }
 
-  steady_items : (taken : Option Names) (is : List BodyItem) → AllByRecursion OfItem is → (s : Sight)
+  steady_items : (taken : Option Names) (is : List BodyItem) → AllByRecursion (OfItem change keeps) is → (s : Sight)
       → SteadyItems taken s (map item_part is) (map item_part (in_turn (λ (i : ItemAt). i taken) (λ i. (item_part i).sees taken) (map (item_at change) is) s))
-  steady_items taken is h s = steady_in_turn (item_sees taken) item_does (Takes taken) item_part (item_at change) (λ (i : ItemAt). i taken) OfItem (steady_item taken) is h s
+  steady_items taken is h s = steady_in_turn (item_sees taken) item_does (Takes taken) item_part (item_at change) (λ (i : ItemAt). i taken) (OfItem change keeps) (steady_item taken) is h s
 
   inside_same : (name : Option Name) (owner : Owner) (fields : List Field) (taken : Option Names) (s : Sight) (ms ns : List Item) → SteadyItems taken s ms ns → taken_by (Some owner) ≡ taken
       → (w : Walk) → Alike s w.sight → inside name owner fields ns w ≡ inside name owner fields ms w
@@ -379,13 +233,13 @@ module _ (change : Change) (keeps : KeepsDeclarations change) where
   abbrev there : Name → List BodyItem → Sight → List BodyItem
   there word is s = in_turn (λ (i : ItemAt). i (taken_by (meant word s))) (λ i. (item_part i).sees (taken_by (meant word s))) (map (item_at change) is) s
 
-  full_node_same : (line : ℕ) (name : Option Name) (word : Name) (is : List BodyItem) → AllByRecursion OfItem is → (s : Sight)
+  full_node_same : (line : ℕ) (name : Option Name) (word : Name) (is : List BodyItem) → AllByRecursion (OfItem change keeps) is → (s : Sight)
       → SameNode s (full_of line name word is) (full_of line name word (there word is s))
   unfolding node_step
   full_node_same line name word is h s =
       record {
         finds = λ own free hidden. ap (λ r. if not hidden && bytes_eq word own then Err line else r)
-            (finds_in_turn (λ (i : Item). i.finds own) (λ (i : BodyItem). (item_part i).sees (taken_by (meant word s))) item_part (item_at change) (λ (i : ItemAt). i (taken_by (meant word s))) OfItem (λ i k t b. (k.1 (taken_by (meant word s)) t).finds own free b) is h s hidden);
+            (finds_in_turn (λ (i : Item). i.finds own) (λ (i : BodyItem). (item_part i).sees (taken_by (meant word s))) item_part (item_at change) (λ (i : ItemAt). i (taken_by (meant word s))) (OfItem change keeps) (λ i k t b. (k.1 (taken_by (meant word s)) t).finds own free b) is h s hidden);
         seen = λ t e. subst (λ o. each (item_sees o) (map item_part (there word is s)) t ≡ each (item_sees o) (map item_part is) t) (sym (ap (λ x. taken_by (meant word x)) e))
             (each_same (item_sees (taken_by (meant word s))) item_does (Takes (taken_by (meant word s))) s (map item_part is) (map item_part (there word is s)) (steady_items (taken_by (meant word s)) is h s) t e);
         done = λ w e. full_same line name (meant word w.sight) (taken_by (meant word s)) s (map item_part is) (map item_part (there word is s)) (steady_items (taken_by (meant word s)) is h s) (ap (λ x. taken_by (meant word x)) e) w e;
@@ -394,17 +248,17 @@ module _ (change : Change) (keeps : KeepsDeclarations change) where
   node_by : (s : Sight) (l m n o : Node) → l ≡ m → o ≡ n → SameNode s m n → SameNode s l o
   node_by s l m n o e f h = subst (λ x. SameNode s x o) (sym e) (subst (λ x. SameNode s m x) (sym f) h)
 
-  items_good : (is : List BodyItem) → AllByRecursion OfItem is → AllByRecursion GoodItem (map item_part is)
+  items_good : (is : List BodyItem) → AllByRecursion (OfItem change keeps) is → AllByRecursion GoodItem (map item_part is)
   items_good [] h = tt
   items_good (i ∷ is) h = (h.0.0, items_good is h.1)
 
-  pub use_layer : (line : ℕ) (name : List ℕ) → OfNode (node_text.Use line name)
+  pub use_layer : (line : ℕ) (name : List ℕ) → OfNode change keeps (node_text.Use line name)
   use_layer line name = (
     subst GoodNode (sym (node-use line name)) (use_good line name),
     λ s. node_by s _ (node_part (node_text.Use line name)) (node_part (node_text.Use line name)) _ refl (ap node_part (at-use change line name s)) (record { finds = λ own free hidden. refl; seen = λ t e. refl; done = λ w e. refl }),
   )
 
-  pub full_layer : (line : ℕ) (name : Option (List ℕ)) (word : List ℕ) (is : List BodyItem) → AllByRecursion OfItem is → OfNode (node_text.Full line name word is)
+  pub full_layer : (line : ℕ) (name : Option (List ℕ)) (word : List ℕ) (is : List BodyItem) → AllByRecursion (OfItem change keeps) is → OfNode change keeps (node_text.Full line name word is)
   full_layer line name word is h = (
     subst GoodNode (sym (node-full line name word is {ps = map item_part is} refl)) (full_good line name word (map item_part is) (items_good is h)),
     λ s. node_by s _ (full_of line name word is) _ _ (node-full line name word is refl)

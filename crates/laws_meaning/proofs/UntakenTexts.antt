@@ -13,9 +13,9 @@ use Rattle.classic_tree.specs.declared.tree.Statement.{Statement, fold-roll-Stat
 use Rattle.classic_tree.specs.declared.tree.Statement.TheVariants as statement
 use Rattle.classic_tree.proofs.Mapped.{declaration_mapped, given_mapped, interface_mapped}
 use Rattle.proto_meaning.specs.Names.{Name}
-use Rattle.proto_meaning.specs.Sight.{Sight, Names, taken_by, is_kept, meant}
+use Rattle.proto_meaning.specs.Sight.{Sight, Names, taken_by, is_kept, meant, opened}
 use Rattle.proto_meaning.specs.Flat.{item as item_part}
-use Rattle.laws_meaning.specs.Untaken.{Change, NodeAt, ItemAt, StatementAt, ProtoAt, given_at, declaration_at, unless_kept, in_turn, scope_of, interface_at, with_parts, item_step, node_step, statement_step, proto_step, item_at, node_at, statement_at, prototype_at}
+use Rattle.laws_meaning.specs.Untaken.{Change, NodeAt, ItemAt, StatementAt, ProtoAt, given_at, declaration_at, unless_kept, in_turn, interface_at, with_parts, item_step, node_step, statement_step, proto_step, item_at, node_at, statement_at, prototype_at}
 
 module _ (change : Change) where
   pub at-field : (line : ℕ) (name : Name) (g : Given NodeText) (taken : Option Names) (s : Sight)
@@ -83,7 +83,7 @@ module _ (change : Change) where
   defaults_of q s = interface_at (map (interface_mapped (node_at change)) q.interface) s
 
   abbrev pub proto_of : Parts → Sight → ProtoText
-  proto_of q s = with_parts change q.line q.name (defaults_of q (scope_of s)) (map (statement_at change) q.body) (scope_of s)
+  proto_of q s = with_parts change q.line q.name (defaults_of q (opened s)) (map (statement_at change) q.body) (opened s)
 
   pub at-prototype : (p : ProtoText) (s : Sight) → prototype_at change p s ≡ proto_of (out-ProtoText p) s
   unfolding proto_step

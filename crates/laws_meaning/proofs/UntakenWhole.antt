@@ -11,8 +11,11 @@ use Rattle.proto_meaning.proofs.SightLaw.{Any, then_still}
 use Rattle.laws_meaning.specs.Untaken.{Change, KeepsDeclarations, StatementAt, statements_at, statement_at, with_untaken, blanked, UntakenValuesDontMatter, UntakenPlainValuesDontMatter}
 use Rattle.laws_meaning.proofs.BareValues.{blanked_keeps}
 use Rattle.laws_meaning.proofs.Same.{AllSteady, Steady, through_same, steady_in_turn, same_then}
-use Rattle.laws_meaning.proofs.UntakenNodes.{OfNode, OfItem, field_layer, declaration_layer, item_route_layer, item_proto_layer, use_layer, full_layer}
-use Rattle.laws_meaning.proofs.UntakenProtos.{OfStatement, OfProto, stated_sees, prototype_layer, node_layer, route_layer, proto_layer}
+use Rattle.laws_meaning.proofs.UntakenNodes.{field_layer, declaration_layer, item_route_layer, item_proto_layer, use_layer, full_layer}
+use Rattle.laws_meaning.proofs.UntakenValues.{OfNode, OfItem}
+use Rattle.laws_meaning.proofs.UntakenProtos.{OfStatement, OfProto, prototype_layer}
+use Rattle.laws_meaning.proofs.UntakenStatements.{node_layer, route_layer, proto_layer}
+use Rattle.laws_meaning.proofs.UntakenBodies.{stated_sees}
 
 abbrev root : Stated → List ℕ → Does (List ℕ)
 root s roots = s.1.does >>= λ ns. pure (roots ++ ns)

@@ -8,12 +8,9 @@ use Rattle.classic_tree.specs.declared.tree.BodyItem.{BodyItem, fold-BodyItem}
 use Rattle.classic_tree.specs.declared.tree.BodyItem.TheOpen.{BodyItem-F, NodeText-F, Statement-F, ProtoText-F}
 use Rattle.classic_tree.specs.declared.tree.BodyItem.TheVariants as item
 use Rattle.classic_tree.specs.declared.tree.Document.{Document}
-use Rattle.classic_tree.specs.declared.tree.Given.{Given}
-use Rattle.classic_tree.specs.declared.tree.Given.TheVariants as given
 use Rattle.classic_tree.specs.declared.tree.NodeText.{NodeText, fold-NodeText}
 use Rattle.classic_tree.specs.declared.tree.NodeText.TheVariants as node
 use Rattle.classic_tree.specs.declared.tree.ProtoText.{ProtoText, roll-ProtoText}
-use Rattle.classic_tree.specs.declared.tree.RawValue.TheVariants as value
 use Rattle.classic_tree.specs.declared.tree.Statement.{Statement, fold-Statement}
 use Rattle.classic_tree.specs.declared.tree.Statement.TheVariants as statement
 use Rattle.proto_flat.specs.Fault.{fault}
@@ -22,16 +19,9 @@ use Rattle.proto_meaning.specs.Names.{Name}
 use Rattle.proto_meaning.specs.Sight.{Sight, no_names}
 use Rattle.proto_meaning.specs.Flat.{flat}
 use Rattle.proto_meaning.specs.Flat.{statement as stated}
+use Rattle.laws_meaning.specs.Steps.{is_true, all_in, plain_proto_step}
 
 -- ---- texts without PROTO, USE and ROUTE
-
-abbrev pub is_true : Bool → Bool
-is_true b = b
-
-abbrev pub all_in : Given Bool → Bool
-all_in (given.Value (value.Node b)) = b
-all_in (given.Value (value.NodeList bs)) = list_all is_true bs
-all_in _ = true
 
 abbrev pub none_inside : {A : Type 0} → List A → Bool
 none_inside [] = true
@@ -60,23 +50,20 @@ quiet_statement_step (Statement-F.Node b) = b
 quiet_statement_step (Statement-F.Statement::Route route) = false
 quiet_statement_step (Statement-F.Statement::Proto b) = false
 
-unfoldable pub quiet_proto_step : ProtoText-F Bool Bool Bool Bool → Bool
-quiet_proto_step p = false
-
 abbrev pub is_quiet_item : Name → Bool → BodyItem → Bool
 is_quiet_item proto allowed =
     fold-BodyItem Bool Bool Bool Bool quiet_item_step (quiet_node_step proto allowed)
-    quiet_statement_step quiet_proto_step
+    quiet_statement_step plain_proto_step
 
 abbrev pub is_quiet_node : Name → Bool → NodeText → Bool
 is_quiet_node proto allowed =
     fold-NodeText Bool Bool Bool Bool quiet_item_step (quiet_node_step proto allowed)
-    quiet_statement_step quiet_proto_step
+    quiet_statement_step plain_proto_step
 
 abbrev pub is_quiet_statement : Name → Bool → Statement → Bool
 is_quiet_statement proto allowed =
     fold-Statement Bool Bool Bool Bool quiet_item_step (quiet_node_step proto allowed)
-    quiet_statement_step quiet_proto_step
+    quiet_statement_step plain_proto_step
 
 -- ---- the body in the place of each instance
 

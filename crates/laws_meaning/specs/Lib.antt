@@ -1,3 +1,4 @@
+pub mod Steps
 pub mod Untaken
 pub mod Renamed
 pub mod Plain

@@ -33,36 +33,14 @@ use Rattle.proto_flat.specs.declared.flat.FlatNode.{FlatNode}
 use Rattle.proto_flat.specs.declared.flat.FlatRoute.{FlatRoute}
 use Rattle.proto_meaning.specs.Limits.{Met, ANode, AField, AnItem, item_count, Outcome, and_then, limited}
 use Rattle.proto_meaning.specs.Names.{Name, Field, Filled}
-use Rattle.proto_meaning.specs.Flat.{field, fields_of, numbered_from, header_of, flat}
+use Rattle.proto_meaning.specs.Flat.{comes, field, fields_of, numbered_from, header_of, flat}
+use Rattle.laws_meaning.specs.Steps.{is_true, plain_item_step, plain_statement_step, plain_proto_step}
 
 -- ---- texts without PROTO
-
-abbrev pub is_true : Bool → Bool
-is_true b = b
-
--- all nodes in a value are
-abbrev pub all_in : Given Bool → Bool
-all_in (given.Value (value.Node b)) = b
-all_in (given.Value (value.NodeList bs)) = list_all is_true bs
-all_in _ = true
-
-unfoldable pub plain_item_step : BodyItem-F Bool Bool Bool Bool → Bool
-plain_item_step (BodyItem-F.Field line name g) = all_in g
-plain_item_step (BodyItem-F.Declaration d) = all_in d.given
-plain_item_step (BodyItem-F.BodyItem::Route route) = true
-plain_item_step (BodyItem-F.BodyItem::Proto b) = false
 
 unfoldable pub plain_node_step : NodeText-F Bool Bool Bool Bool → Bool
 plain_node_step (NodeText-F.Use line name) = true
 plain_node_step (NodeText-F.Full line name word items) = list_all is_true items
-
-unfoldable pub plain_statement_step : Statement-F Bool Bool Bool Bool → Bool
-plain_statement_step (Statement-F.Node b) = b
-plain_statement_step (Statement-F.Statement::Route route) = true
-plain_statement_step (Statement-F.Statement::Proto b) = false
-
-unfoldable pub plain_proto_step : ProtoText-F Bool Bool Bool Bool → Bool
-plain_proto_step p = false
 
 abbrev pub is_plain_item : BodyItem → Bool
 is_plain_item =
@@ -108,9 +86,6 @@ Reads A = Reading → Outcome (A × Reading)
 infixl 10 ◌>>=◌
 abbrev pub ◌>>=◌ : {A B : Type 0} → Reads A → (A → Reads B) → Reads B
 m >>= f = λ r. and_then (m r) (λ p. f p.0 p.1)
-
-abbrev pub comes : {A : Type 0} → Result A ExpandFault → Outcome A
-comes result = record { met = []; comes = result }
 
 abbrev pub pure : {A : Type 0} → A → Reads A
 pure a = λ r. comes (Ok (a, r))

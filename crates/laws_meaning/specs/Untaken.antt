@@ -1,7 +1,7 @@
 -- What no IS takes doesn't matter (ISO/IEC 19775-1, 4.4.4): where no IS of its prototype's body
 -- takes a field, the value that an instance gives it, and its default, may be any other that
 -- declares as much.
-use Rattle.std.specs.Prelude.{◌≡◌, ℕ, Bool, true, false, ◌&&◌, is_some, List, [], ◌∷◌, ◌++◌, map, Option, None, Result, Ok, Err}
+use Rattle.std.specs.Prelude.{◌≡◌, ℕ, Bool, true, false, ◌&&◌, is_some, List, [], ◌∷◌, map, Option, None, Result, Ok, Err}
 use Rattle.std.specs.List.{list_all}
 use Rattle.x3d_values.specs.Names.{node_type_named}
 use Rattle.classic_tree.specs.declared.tree.BodyItem.{BodyItem, fold-BodyItem}
@@ -20,8 +20,9 @@ use Rattle.classic_tree.specs.declared.tree.Statement.{Statement, fold-Statement
 use Rattle.classic_tree.specs.declared.tree.Statement.TheVariants as statement_text
 use Rattle.proto_flat.specs.declared.fault.ExpandFault.{ExpandFault}
 use Rattle.proto_meaning.specs.Names.{Name}
-use Rattle.proto_meaning.specs.Sight.{Sight, Step, Names, Search, no_names, each, aside, nodes_in, taking, meant, taken_by, is_kept}
+use Rattle.proto_meaning.specs.Sight.{Sight, Step, Names, Search, no_names, each, opened, aside, nodes_in, taking, meant, taken_by, is_kept}
 use Rattle.proto_meaning.specs.Flat.{item, node, statement, flat}
+use Rattle.laws_meaning.specs.Steps.{is_true, plain_item_step, plain_statement_step, plain_proto_step}
 
 -- ---- what a value declares
 
@@ -129,9 +130,6 @@ proto_with change line name ds ss body =
       body = ss;
     })
 
-abbrev pub scope_of : Sight → Sight
-scope_of s = record { here = []; outside = s.here ++ s.outside; taken = no_names }
-
 unfoldable pub item_step : Change → BodyItem-F ItemAt NodeAt StatementAt ProtoAt → ItemAt
 item_step change (BodyItem-F.Field line name g) = λ taken s.
     item_text.Field line name (unless_kept change (is_kept taken name) line name (given_at g s))
@@ -166,7 +164,7 @@ with_parts change line name ds ss s = body_at change line name ds ss (past (defa
 
 unfoldable pub proto_step : Change → ProtoText-F ItemAt NodeAt StatementAt ProtoAt → ProtoAt
 proto_step change p = λ s.
-    with_parts change p.line p.name (interface_at p.interface (scope_of s)) p.body (scope_of s)
+    with_parts change p.line p.name (interface_at p.interface (opened s)) p.body (opened s)
 
 abbrev pub item_at : Change → BodyItem → ItemAt
 item_at change =
@@ -205,48 +203,26 @@ UntakenValuesDontMatter =
 
 -- ---- values without prototypes
 
-abbrev pub is_true : Bool → Bool
-is_true b = b
-
-abbrev pub all_in : Given Bool → Bool
-all_in (given.Value (value.Node b)) = b
-all_in (given.Value (value.NodeList bs)) = list_all is_true bs
-all_in _ = true
-
-unfoldable pub bare_item_step : BodyItem-F Bool Bool Bool Bool → Bool
-bare_item_step (BodyItem-F.Field line name g) = all_in g
-bare_item_step (BodyItem-F.Declaration d) = all_in d.given
-bare_item_step (BodyItem-F.BodyItem::Route route) = true
-bare_item_step (BodyItem-F.BodyItem::Proto b) = false
-
 unfoldable pub bare_node_step : NodeText-F Bool Bool Bool Bool → Bool
 bare_node_step (NodeText-F.Use line name) = true
 bare_node_step (NodeText-F.Full line name word items) =
     is_some (node_type_named word) && list_all is_true items
 
-unfoldable pub bare_statement_step : Statement-F Bool Bool Bool Bool → Bool
-bare_statement_step (Statement-F.Node b) = b
-bare_statement_step (Statement-F.Statement::Route route) = true
-bare_statement_step (Statement-F.Statement::Proto b) = false
-
-unfoldable pub bare_proto_step : ProtoText-F Bool Bool Bool Bool → Bool
-bare_proto_step p = false
-
 abbrev pub is_bare_item : BodyItem → Bool
 is_bare_item =
-    fold-BodyItem Bool Bool Bool Bool bare_item_step bare_node_step bare_statement_step
-    bare_proto_step
+    fold-BodyItem Bool Bool Bool Bool plain_item_step bare_node_step plain_statement_step
+    plain_proto_step
 
 -- no PROTO stands in it, and before all braces the names of node types
 abbrev pub is_bare_node : NodeText → Bool
 is_bare_node =
-    fold-NodeText Bool Bool Bool Bool bare_item_step bare_node_step bare_statement_step
-    bare_proto_step
+    fold-NodeText Bool Bool Bool Bool plain_item_step bare_node_step plain_statement_step
+    plain_proto_step
 
 abbrev pub is_bare_statement : Statement → Bool
 is_bare_statement =
-    fold-Statement Bool Bool Bool Bool bare_item_step bare_node_step bare_statement_step
-    bare_proto_step
+    fold-Statement Bool Bool Bool Bool plain_item_step bare_node_step plain_statement_step
+    plain_proto_step
 
 -- NULL in the place of a value that has to do with no prototype
 abbrev pub null_if : Bool → RawValue NodeText → RawValue NodeText

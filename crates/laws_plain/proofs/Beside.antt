@@ -9,7 +9,7 @@ use Rattle.proto_meaning.specs.Flat.{Walk, Does, refuse, see}
 use Rattle.proto_meaning.specs.Flat as walk
 use Rattle.laws_meaning.specs.Plain.{Reading, Reads, pure}
 use Rattle.laws_meaning.proofs.Maps.{mapped}
-use Rattle.laws_meaning.proofs.PlainWalk.{braces_of, wired}
+use Rattle.laws_meaning.proofs.PlainRoutes.{braces_of, wired}
 
 abbrev pub same : {A : Type 0} → A → A
 same a = a

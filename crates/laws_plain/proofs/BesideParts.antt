@@ -32,7 +32,7 @@ use Rattle.proto_meaning.proofs.Induction.{OfGiven}
 use Rattle.laws_meaning.specs.Plain.{Reading, Reads, ◌>>=◌, pure, refuse, meet, in_turn, last_closed, last_from, wire_route, read_value, Between, ItemReads, open_pair, close_pair, read_node, read_item, read_text}
 use Rattle.laws_meaning.specs.Plain as plains
 use Rattle.laws_meaning.proofs.Maps.{mapped}
-use Rattle.laws_meaning.proofs.PlainWalk.{braces_of, wire_pairs, wired, last_same, used_same, wired_more}
+use Rattle.laws_meaning.proofs.PlainRoutes.{braces_of, wire_pairs, wired, last_same, used_same, wired_more}
 use Rattle.laws_flat.specs.Closings.{IsOfNode, in_given, in_item, in_node}
 use Rattle.laws_flat.proofs.Lists.{all_split}
 use Rattle.laws_plain.proofs.Beside.{same, walk_at, Beside, Follows, beside_behind, follows_mapped, follows_pure, follows_refuse, follows_if, follows_then, follows_see}

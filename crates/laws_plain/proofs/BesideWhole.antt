@@ -18,14 +18,14 @@ use Rattle.proto_flat.specs.declared.flat.Flat.{Flat}
 use Rattle.proto_meaning.specs.Limits.{Met, Outcome, follow, and_then, is_within, limited}
 use Rattle.proto_meaning.specs.Names.{Name}
 use Rattle.proto_meaning.specs.Sight.{Sight, no_names}
-use Rattle.proto_meaning.specs.Flat.{Walk, Does, Node, Item, Stated, Proto, header_of, item_step, node_step, statement_step, proto_step, flat}
+use Rattle.proto_meaning.specs.Flat.{Walk, Does, Node, Item, Stated, Proto, header_of, item_step, node_step, statement_step, proto_step, flat, comes}
 use Rattle.proto_meaning.specs.Flat as walk
 use Rattle.proto_meaning.specs.Flat.{item as item_part, node as node_part, proto as proto_part, statement as stated}
 use Rattle.proto_meaning.proofs.Trees.{item-field, item-declaration, item-route, item-proto, node-use, node-full, statement-node, statement-route, statement-proto}
 use Rattle.proto_meaning.proofs.Induction.{OfGiven, OfDeclaration, Layers, every}
-use Rattle.laws_meaning.specs.Plain.{Reading, Reads, ◌>>=◌, comes, pure, in_turn, route_of, Between, ItemReads, read_item, read_text, read_statement, read_all}
+use Rattle.laws_meaning.specs.Plain.{Reading, Reads, ◌>>=◌, pure, in_turn, route_of, Between, ItemReads, read_item, read_text, read_statement, read_all}
 use Rattle.laws_meaning.proofs.PlainTexts as texts
-use Rattle.laws_meaning.proofs.PlainWalk.{all_wired}
+use Rattle.laws_meaning.proofs.PlainRoutes.{all_wired}
 use Rattle.laws_flat.specs.Closings.{IsOfNode, in_item, in_statement}
 use Rattle.laws_flat.proofs.ClosingParts.{in_field, in_declaration, in_full, in_node_statement}
 use Rattle.laws_flat.proofs.Lists.{all_split}

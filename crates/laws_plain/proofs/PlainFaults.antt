@@ -29,9 +29,10 @@ use Rattle.proto_flat.specs.declared.fault.ExpandFaultKind.TheVariants.{UnknownF
 use Rattle.proto_flat.specs.declared.flat.Flat.{Flat}
 use Rattle.proto_meaning.specs.Limits.{Met, AField, Outcome, follow, and_then, is_within, item_count, with_few_routes}
 use Rattle.proto_meaning.specs.Names.{Name, Field}
-use Rattle.proto_meaning.specs.Flat.{field, fields_of, header_of, numbered_from}
+use Rattle.proto_meaning.specs.Flat.{field, fields_of, header_of, numbered_from, comes}
 use Rattle.proto_meaning.proofs.Induction.{OfDeclaration, OfGiven, Layers, every}
-use Rattle.laws_meaning.specs.Plain.{Reading, Reads, ◌>>=◌, pure, refuse, meet, in_turn, last_closed, read_value, Between, ItemReads, comes, fill, give, is_filled, flat_node, close_pair, read_node, item_step, node_step, statement_step, read_all, read_item, read_text, read_statement, route_of, plain, is_true, all_in, is_plain, is_plain_item, is_plain_node, is_plain_statement, plain_item_step, plain_node_step, plain_statement_step}
+use Rattle.laws_meaning.specs.Plain.{Reading, Reads, ◌>>=◌, pure, refuse, meet, in_turn, last_closed, read_value, Between, ItemReads, fill, give, is_filled, flat_node, close_pair, read_node, item_step, node_step, statement_step, read_all, read_item, read_text, read_statement, route_of, plain, is_plain, is_plain_item, is_plain_node, is_plain_statement, plain_node_step}
+use Rattle.laws_meaning.specs.Steps.{is_true, all_in, plain_item_step, plain_statement_step}
 use Rattle.laws_meaning.proofs.PlainTexts as texts
 use Rattle.laws_meaning.proofs.PlainWalk.{plain_documents_are_themselves}
 use Rattle.laws_flat.proofs.Lists.{all_split}

@@ -4,8 +4,8 @@ use Rattle.classic_tree.specs.declared.tree.Document.{Document}
 use Rattle.proto_flat.specs.declared.fault.ExpandFault.{ExpandFault}
 use Rattle.proto_flat.specs.declared.flat.Flat.{Flat}
 use Rattle.proto_meaning.specs.Limits.{Met, follow, is_within, limited}
-use Rattle.proto_meaning.specs.Flat.{flat, header_of}
-use Rattle.laws_meaning.specs.Plain.{Reading, comes, read_all, read_statement, route_of}
+use Rattle.proto_meaning.specs.Flat.{flat, header_of, comes}
+use Rattle.laws_meaning.specs.Plain.{Reading, read_all, read_statement, route_of}
 use Rattle.laws_plain.proofs.Limited.{limited_is, refused}
 use Rattle.laws_plain.specs.Laws.{HasNoInstances}
 use Rattle.laws_plain.proofs.BesideWhole.{documents_are_read_plainly}

@@ -28,9 +28,9 @@ use Rattle.proto_flat.specs.declared.flat.Flat.{Flat}
 use Rattle.laws_flat.specs.Signatures.{Signature, of_type, signature}
 use Rattle.proto_meaning.specs.Limits.{Met, Outcome, follow, and_then, is_within, with_few_routes}
 use Rattle.proto_meaning.specs.Names.{Name, Field}
-use Rattle.proto_meaning.specs.Flat.{field, fields_of, header_of, numbered_from}
+use Rattle.proto_meaning.specs.Flat.{field, fields_of, header_of, numbered_from, comes}
 use Rattle.proto_meaning.proofs.Induction.{OfGiven, Layers, every}
-use Rattle.laws_meaning.specs.Plain.{Reading, Reads, ◌>>=◌, comes, pure, refuse, in_turn, last_closed, Between, ItemReads, fill, give, is_filled, flat_node, close_pair, item_step, node_step, statement_step, read_all, read_item, read_statement, read_text, route_of, plain}
+use Rattle.laws_meaning.specs.Plain.{Reading, Reads, ◌>>=◌, pure, refuse, in_turn, last_closed, Between, ItemReads, fill, give, is_filled, flat_node, close_pair, item_step, node_step, statement_step, read_all, read_item, read_statement, read_text, route_of, plain}
 use Rattle.laws_meaning.specs.Plain as plains
 use Rattle.laws_meaning.proofs.PlainTexts as texts
 use Rattle.laws_meaning.proofs.PlainWalk.{plain_documents_are_themselves}

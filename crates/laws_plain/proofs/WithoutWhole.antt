@@ -26,9 +26,10 @@ use Rattle.proto_flat.specs.declared.fault.ExpandFault.{ExpandFault}
 use Rattle.proto_flat.specs.declared.fault.ExpandFaultKind.TheVariants.{UnknownNode}
 use Rattle.proto_meaning.specs.Limits.{ANode, Met, Outcome, behind, follow, and_then, limited}
 use Rattle.proto_meaning.specs.Names.{Name}
-use Rattle.proto_meaning.specs.Flat.{fields_of, header_of}
+use Rattle.proto_meaning.specs.Flat.{fields_of, header_of, comes}
 use Rattle.proto_meaning.proofs.Induction.{OfGiven, Layers, every}
-use Rattle.laws_meaning.specs.Plain.{Reading, Reads, ◌>>=◌, comes, pure, refuse, in_turn, Between, ItemReads, all_in, close_pair, flat_node, is_plain_item, is_plain_node, is_plain_statement, is_true, item_step, node_step, plain, plain_item_step, plain_node_step, plain_statement_step, read_item, read_node, read_statement, read_text, route_of, statement_step}
+use Rattle.laws_meaning.specs.Plain.{Reading, Reads, ◌>>=◌, pure, refuse, in_turn, Between, ItemReads, close_pair, flat_node, is_plain_item, is_plain_node, is_plain_statement, item_step, node_step, plain, plain_node_step, read_item, read_node, read_statement, read_text, route_of, statement_step}
+use Rattle.laws_meaning.specs.Steps.{all_in, is_true, plain_item_step, plain_statement_step}
 use Rattle.laws_meaning.proofs.PlainTexts as texts
 use Rattle.laws_meaning.proofs.PlainWalk.{plain_documents_are_themselves}
 use Rattle.laws_plain.specs.Without.{DeclarationsPutNothingIn, left_items, left_node, left_statements, without_protos}

@@ -1,6 +1,6 @@
--- What is in its range, of one node: the events that come to it, and what it sends (ISO/IEC 19775-1,
--- field semantics; the ranges are our choice). A node has the fields of its type, and behind them
--- those that it declares, if it is a Script; what it keeps of them is cascade_world's.
+-- What is in its range, of one node: the events that come to it, and what it sends (ISO/IEC
+-- 19775-1, field semantics; the ranges are our choice). A node has the fields of its type, and
+-- behind them those that it declares, if it is a Script; what it keeps of them is cascade_world's.
 use Rattle.std.specs.Prelude.{ℕ, ◌++◌, Bool, false, ◌&&◌, List, Option, slice_get}
 use Rattle.std.specs.List.{list_all}
 use Rattle.std.specs.Option.{option_map, option_map_or}

@@ -26,14 +26,16 @@ abbrev pub lists_along : SceneView → Option ℕ → List ℕ → List (List �
 lists_along scene owner [] = []
 lists_along scene owner (p ∷ ps) =
     siblings_in scene owner
-    ∷ option_map_or (λ child. lists_along scene (Some child) ps) (slice_get (list_of scene owner) p) []
+    ∷ option_map_or (λ child. lists_along scene (Some child) ps)
+    (slice_get (list_of scene owner) p) []
 
 -- the number is that of an enabled pointing sensor in the list
 abbrev pub is_listed : SceneView → List Fields → ℕ → List ℕ → Bool
 is_listed scene state n list = has n list && is_enabled scene state n
 
 -- it is that of an enabled pointing sensor in one of the lists, and no list below that has any
-pub record IsLowest (scene : SceneView) (state : List Fields) (lists : List (List ℕ)) (n : ℕ) : Type 0 where
+pub record IsLowest (scene : SceneView) (state : List Fields) (lists : List (List ℕ)) (n : ℕ)
+    : Type 0 where
   pub above : List (List ℕ)
   pub list : List ℕ
   pub below : List (List ℕ)

@@ -6,4 +6,3 @@ mod document;
 mod whole;
 
 pub use document::expand;
-pub use whole::{Content, protos_of, walk};

@@ -13,7 +13,7 @@ ghost use Rattle.proto_scope.specs.Held as scope;
 ghost use Rattle.proto_tree.specs.Meaning.{stand_together};
 ghost use Rattle.proto_walker.specs.Shown as shown;
 ghost use Rattle.proto_nodes.specs.Protos.{Knows};
-ghost use Rattle.proto_nodes.specs.Frames.{Ends as Comes, MachineSound};
+ghost use Rattle.proto_nodes.specs.Frames.{Ends, MachineSound};
 ghost use Rattle.proto_expand.specs.Tied.{Tied, known_of, read_of};
 ghost use Rattle.proto_expand.specs.Whole.{all_of, content_by, content_of, content_or, root_does, roots_do, with_content};
 
@@ -86,7 +86,7 @@ fn put_root<'t, 'a>(
 ) -> Result<(), ExpandFault>
     requires machine { MachineSound machine.old }
     requires idle { machine.old.frames.items ≡ [] }
-    ensures goes { (ps : List Prototype) → Knows ps machine.old.protos.now → Comes (λ _. roots.new)
+    ensures goes { (ps : List Prototype) → Knows ps machine.old.protos.now → Ends (λ _. roots.new)
         (doing (root_does ps (BodyTree.Node node.now) roots.old)
         (shown.shown machine.old.walker)) result (shown.shown machine.new.walker) }
     ensures machine { IfOk result (λ _. MachineSound machine.new) }
@@ -106,7 +106,7 @@ fn put_route<'t, 'a>(
 ) -> Result<(), ExpandFault>
     requires machine { MachineSound machine.old }
     requires idle { machine.old.frames.items ≡ [] }
-    ensures goes { (ps : List Prototype) → Comes (λ _. roots.now) (doing (root_does ps
+    ensures goes { (ps : List Prototype) → Ends (λ _. roots.now) (doing (root_does ps
         (BodyTree.Route route.entry) roots.now) (shown.shown machine.old.walker)) result
         (shown.shown machine.new.walker) }
     ensures machine { IfOk result (λ _. MachineSound machine.new) }
@@ -126,7 +126,7 @@ fn put_statement<'t, 'a>(
 ) -> Result<(), ExpandFault>
     requires machine { MachineSound machine.old }
     requires idle { machine.old.frames.items ≡ [] }
-    ensures goes { (ps : List Prototype) → Knows ps machine.old.protos.now → Comes (λ _. roots.new)
+    ensures goes { (ps : List Prototype) → Knows ps machine.old.protos.now → Ends (λ _. roots.new)
         (doing (root_does ps statement.now roots.old) (shown.shown machine.old.walker)) result
         (shown.shown machine.new.walker) }
     ensures machine { IfOk result (λ _. MachineSound machine.new) }
@@ -148,7 +148,7 @@ fn put_roots<'t, 'a>(
 ) -> Result<Items<u32>, ExpandFault>
     requires machine { MachineSound machine.old }
     requires idle { machine.old.frames.items ≡ [] }
-    ensures { (ps : List Prototype) → Knows ps machine.old.protos.now → Comes (λ rs. rs)
+    ensures { (ps : List Prototype) → Knows ps machine.old.protos.now → Ends (λ rs. rs)
         (doing (roots_do ps statements.now []) (shown.shown machine.old.walker)) result
         (shown.shown machine.new.walker) }
 {

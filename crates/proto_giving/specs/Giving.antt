@@ -1,12 +1,13 @@
 -- What a step between braces has to do.
-use Rattle.std.specs.Prelude.{◌≡◌, ◌⊎◌, ℕ, Bool, true, false, ◌||◌, if◌then◌else◌, Option, Some, None, Result, Ok, Err}
+use Rattle.std.specs.Prelude.{◌≡◌, ◌⊎◌, ℕ, Bool, true, false, ◌||◌, if◌then◌else◌, Option, None, Result, Ok, Err}
 use Rattle.classic_tree.specs.declared.tree.Given.TheVariants as text
 use Rattle.proto_flat.specs.Fault.{memory}
 use Rattle.proto_flat.specs.declared.fault.ExpandFault.{ExpandFault}
 use Rattle.proto_flat.specs.declared.fault.ExpandFaultKind.TheVariants.{FieldTwice, UnknownField}
 use Rattle.x3d_values.specs.Access.{is_initial}
 use Rattle.proto_meaning.specs.Flat as flat
-use Rattle.proto_meaning.specs.Flat.{Does, ◌>>=◌, pure, comes, refuse, fill, met_field}
+use Rattle.proto_meaning.specs.Flat.{Does, ◌>>=◌, pure, refuse, fill, met_field}
+use Rattle.proto_meaning.specs.Left.{left_by}
 use Rattle.proto_meaning.specs.Names.{Name, Field, value_of}
 use Rattle.proto_meaning.specs.Sight.{Owner}
 use Rattle.proto_inside.specs.Held as braces
@@ -84,10 +85,6 @@ MayHold line name field twice items i s (Err e) walker =
     → (e ≡ memory)
     ⊎ (doing (value_at line (numbered name field) twice items (inside_of at o i) rest) s ≡ Err e)
 
--- a value goes nowhere: a wrong declaration in it is answered
-abbrev pub left_by : Option ExpandFault → Does (Unit {0})
-left_by None = pure tt
-left_by (Some e) = λ w. comes (Err e)
-
+-- a value goes nowhere
 abbrev pub aside : ℕ → ℕ × Field → flat.Inside → Option ExpandFault → Does flat.Inside
 aside line f i wrong = left_by wrong >>= λ _. pure (fill line f i None)

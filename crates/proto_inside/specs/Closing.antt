@@ -9,8 +9,10 @@ use Rattle.proto_given.specs.Held.{held}
 -- as `flat_node` has it
 abbrev pub flat_fields : List Filled → List FlatField
 flat_fields filled =
-    filter_map (λ (f : Filled). option_map (λ v. record { line = f.line; number = f.number; value = v }) f.value) filled
+    filter_map (λ (f : Filled).
+    option_map (λ v. record { line = f.line; number = f.number; value = v }) f.value) filled
 
 abbrev pub flat_field : GivenField → Option FlatField
 flat_field field =
-    option_map (λ v. record { line = field.line; number = field.number; value = v }) (held field.value)
+    option_map (λ v. record { line = field.line; number = field.number; value = v })
+    (held field.value)

@@ -1,6 +1,6 @@
--- The limits where they are passed: how much more may be met, and what a part of a text comes to in so
--- much room. Nothing of this is part of the definition of a flat document; limits_are_settled says that
--- the answers are the same.
+-- The limits where they are passed: how much more may be met, and what a part of a text comes to in
+-- so much room. Nothing of this is part of the definition of a flat document; limits_are_settled
+-- says that the answers are the same.
 use Rattle.std.specs.Prelude.{ℕ, ◌-◌, ◌&&◌, not, nat_lt, if◌then◌else◌, List, [], ◌∷◌, Result, Ok, Err}
 use Rattle.proto_flat.specs.Fault.{fault}
 use Rattle.proto_flat.specs.declared.fault.ExpandFault.{ExpandFault}

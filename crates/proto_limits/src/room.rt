@@ -79,7 +79,8 @@ impl Room {
 
     /// The field of that number of a node is met, whose value has so many items.
     pub fn meet_field(&mut self, number: usize, items: usize) -> Result<(), ExpandFault>
-        ensures { result_map_both (λ _. self.new) (λ e. e) result ≡ spend (AField number items) self.old }
+        ensures { result_map_both (λ _. self.new) (λ e. e) result
+            ≡ spend (AField number items) self.old }
     {
         if number >= MAX_FIELDS {
             return Err(ExpandFaultKind::TooLarge.on_line(0));

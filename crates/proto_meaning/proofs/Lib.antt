@@ -1,13 +1,17 @@
 pub mod Trees
 pub mod Induction
 pub mod SightLaw
+pub mod SightNodes
 pub mod SightWhole
 pub mod LimitLaws
 pub mod Known
 pub mod Expected
 pub mod WrittenOut
 pub mod WorkedNodes
+pub mod WorkedNames
 pub mod WorkedSight
+pub mod WorkedDefaults
+pub mod WorkedFaults
 pub mod WorkedRoutes
 pub mod WorkedOut
 pub mod WorkedLimits

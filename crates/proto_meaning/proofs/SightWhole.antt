@@ -15,7 +15,8 @@ use Rattle.proto_meaning.specs.Laws.{SightIsOfTheText}
 use Rattle.proto_meaning.specs.Flat.{item as item_part, node as node_part, proto as proto_part}
 use Rattle.proto_meaning.proofs.Trees.{item-field, item-declaration, item-route, item-proto, node-use, node-full, statement-node, statement-route, statement-proto}
 use Rattle.proto_meaning.proofs.Induction.{Layers, OfGiven, every_statement}
-use Rattle.proto_meaning.proofs.SightLaw.{Seen, bare, bared, Any, After, GoodNode, GoodItem, GoodProto, GoodStated, field_good, declaration_good, route_good, proto_item_good, use_good, full_good, node_stated, route_stated, proto_stated, prototype_good}
+use Rattle.proto_meaning.proofs.SightLaw.{Seen, bare, bared, Any, After, GoodNode, GoodItem, GoodProto, GoodStated, field_good, declaration_good, route_good, proto_item_good}
+use Rattle.proto_meaning.proofs.SightNodes.{use_good, full_good, node_stated, route_stated, proto_stated, prototype_good}
 
 abbrev OfItem : BodyItem → Type 0
 OfItem i = GoodItem (item_part i)

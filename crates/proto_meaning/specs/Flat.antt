@@ -38,7 +38,7 @@ use Rattle.proto_flat.specs.declared.flat.FlatNode.{FlatNode}
 use Rattle.proto_flat.specs.declared.flat.Header.{Header}
 use Rattle.proto_meaning.specs.Limits.{Met, ANode, AnInstance, AField, AnItem, item_count, Outcome, follow, and_then, limited}
 use Rattle.proto_meaning.specs.Names.{Name, Field, Filled, value_of, Stands, Scope, used, stands_at, sources, targets, pairs}
-use Rattle.proto_meaning.specs.Sight.{Put, Instance, Prototype, Sight, Step, and_see, each, aside, nodes_in, Names, no_names, taking, Owner, OfType, OfProto, declared, meant, taken_by, is_kept, Search}
+use Rattle.proto_meaning.specs.Sight.{Put, Instance, Prototype, Sight, Step, and_see, each, opened, aside, nodes_in, Names, no_names, taking, Owner, OfType, OfProto, declared, meant, taken_by, is_kept, Search}
 
 -- ---- one thing after the other
 
@@ -141,7 +141,13 @@ pub record Inside : Type 0 where
 
 abbrev pub field_with : ℕ → Access → FieldType → Name → Field
 field_with line access field_type name =
-    record { line = line; access = access; field_type = field_type; name = name; given = given.Nothing }
+    record {
+      line = line;
+      access = access;
+      field_type = field_type;
+      name = name;
+      given = given.Nothing;
+    }
 
 -- a declaration without its value
 abbrev pub field : {N : Type 0} → Declaration N → Field
@@ -191,7 +197,8 @@ fill line f i v =
 abbrev pub give_value : ℕ → ℕ × Field → Inside → RawValue Node → Does Inside
 give_value line f i v =
     met_field i.owner f.0 (item_count v)
-    >>= λ _. if is_kept (taken_by (Some i.owner)) f.1.name then (put_in v >>= λ r. pure (fill line f i (Some r)))
+    >>= λ _. if is_kept (taken_by (Some i.owner)) f.1.name
+    then (put_in v >>= λ r. pure (fill line f i (Some r)))
     else leave_out (given.Value v) >>= λ _. pure (fill line f i None)
 
 -- IS: the field is an end of the interface field, and holds what that is given. `all` are the
@@ -270,7 +277,9 @@ flat_node line name t i =
       line = line;
       name = name;
       node_type = t;
-      fields = filter_map (λ (f : Filled). option_map (λ v. record { line = f.line; number = f.number; value = v }) f.value) i.filled;
+      fields = filter_map (λ (f : Filled).
+          option_map (λ v. record { line = f.line; number = f.number; value = v }) f.value)
+          i.filled;
       interface = drop (length (rows t)) i.fields;
     }
 
@@ -278,14 +287,19 @@ flat_node line name t i =
 abbrev pub close_node : Option Name → ℕ → FlatNode → Does ℕ
 close_node name at node = λ w.
     close name at
-    (record { node = length w.put.nodes; interface = None; ends = λ f. At (length w.put.nodes) f ∷ [] })
+    (record {
+      node = length w.put.nodes;
+      interface = None;
+      ends = λ f. At (length w.put.nodes) f ∷ [];
+    })
     (record w.put { nodes = w.put.nodes ++ node ∷ [] }) w
 
 -- the node in its place takes the instance's name, if it has one
 abbrev pub renamed : Option Name → ℕ → List FlatNode → List FlatNode
 renamed None n nodes = nodes
 renamed name n nodes =
-    option_map_or (λ node. slice_set nodes n (record node { name = name })) (slice_get nodes n) nodes
+    option_map_or (λ node. slice_set nodes n (record node { name = name }))
+    (slice_get nodes n) nodes
 
 -- when its braces close, an instance's body is put in, behind what it is given; its routes stand
 -- behind those of the scope so far
@@ -357,7 +371,13 @@ begin outside put =
     record {
       put = put;
       sight = record { here = []; outside = outside; taken = no_names };
-      scope = record { braces = []; routes = λ all. []; ends = λ all name. []; interface = []; given = [] };
+      scope = record {
+        braces = [];
+        routes = λ all. [];
+        ends = λ all name. [];
+        interface = [];
+        given = [];
+      };
     }
 
 -- where a body ends, whose first node stands for the instance (`declare` asks that it has one)
@@ -408,7 +428,7 @@ module _ (line : ℕ) (name : Name) (interface : List (Declaration Node)) (body 
   declare_body (Err itself) s = Err (fault ProtoItself itself)
   declare_body (Ok hidden) s =
       if list_any (λ (x : Stated). x.0) body
-      then and_see (body_sees (record { here = []; outside = s.here ++ s.outside; taken = no_names })) (λ t.
+      then and_see (body_sees (opened s)) (λ t.
       Ok (record s {
         here = s.here ++ prototype (s.here ++ s.outside) t.taken ∷ [];
       }))
@@ -444,7 +464,8 @@ item_step (BodyItem-F.BodyItem::Proto proto) =
 -- a USE, or braces; what the word before them means is settled before they open
 unfoldable pub node_step : NodeText-F Item Node Stated Proto → Node
 node_step (NodeText-F.Use line name) =
-    part nothing_found (λ s. Ok s) (meet AnItem >>= λ _ w. option_map_or pure (used name w.scope.braces) (refuse UseWithoutDef line) w)
+    part nothing_found (λ s. Ok s) (meet AnItem >>= λ _ w.
+    option_map_or pure (used name w.scope.braces) (refuse UseWithoutDef line) w)
 node_step (NodeText-F.Full line name word items) =
     part
     (λ own hidden. if not hidden && bytes_eq word own then Err line

@@ -76,6 +76,10 @@ abbrev pub each : {A X E : Type 0} → (A → X → Result X E) → List A → X
 each f [] x = Ok x
 each f (a ∷ rest) x = and_see (f a x) (each f rest)
 
+-- where the parts of a PROTO begin: a scope of its own, in which what is around it is in sight
+abbrev pub opened : Sight → Sight
+opened s = record { here = []; outside = s.here ++ s.outside; taken = no_names }
+
 -- a part whose PROTOs are declared, but whose ISs take nothing
 abbrev pub aside : Step → Step
 aside step s =

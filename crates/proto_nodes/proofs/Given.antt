@@ -84,10 +84,6 @@ put-plain (value.StringList texts) = refl
 put-plain (value.NumberList numbers) = refl
 put-plain (value.NodeList ns) = refl
 
-pub left-same : (wrong : Option ExpandFault) → meaning.left_by wrong ≡ giving.left_by wrong
-left-same None = refl
-left-same (Some e) = refl
-
 -- ---- a field is given something that puts no nodes in
 
 -- what is left between braces goes by the owner, and not by what is given
@@ -246,7 +242,7 @@ given-as ps p twice g t o s r walker b is k = subst (λ x. OpenGoes ps (item_com
 
 pub left-out : (p : Place) (twice : Bool) (wrong : Option ExpandFault) (i : flat.Inside) →
     meaning.gives p.line (numbered p.name.now p.field) twice (tree.LeftOut wrong) i ≡ giving.value_at p.line (numbered p.name.now p.field) twice 0 i (giving.aside p.line (numbered p.name.now p.field) i wrong)
-left-out p twice wrong i = ap (λ (m : Does (Unit {0})). giving.value_at p.line (numbered p.name.now p.field) twice 0 i (m >>= λ _. pure (fill p.line (numbered p.name.now p.field) i None))) (left-same wrong)
+left-out p twice wrong i = refl
 
 pub item-as : (ps : List Prototype) (i t : ItemTree) (m : flat.Inside → Does flat.Inside) (o : Open) (s : State) (r : Result Next ExpandFault) (walker : Walker) (b : Open) → i ≡ t → (item ps t).does ≡ m →
     OpenGoes ps (item_comes ps m o s) r walker b → OpenGoes ps (item_comes ps (item ps i).does o s) r walker b

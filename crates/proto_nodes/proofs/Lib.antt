@@ -3,4 +3,5 @@ pub mod Steps
 mod Given
 mod Begun
 mod Left
+mod Fillings
 pub mod Waiting

@@ -13,9 +13,9 @@ use Rattle.proto_flat.specs.Fault.{fault}
 use Rattle.proto_flat.specs.declared.fault.ExpandFault.{ExpandFault}
 use Rattle.proto_flat.specs.declared.fault.ExpandFaultKind.TheVariants.{ProtoTwice, EmptyBody}
 use Rattle.proto_meaning.specs.Names.{Name}
-use Rattle.proto_meaning.specs.Sight.{Prototype, Sight, and_see, declared}
+use Rattle.proto_meaning.specs.Sight.{Prototype, Sight, and_see, declared, opened}
 use Rattle.proto_meaning.specs.Flat as flat
-use Rattle.proto_sight.specs.Texts.{opened, closed, has_node, finds_inside, unless_found, checked, enters, declares, sees_inside}
+use Rattle.proto_sight.specs.Texts.{closed, has_node, finds_inside, unless_found, checked, enters, declares, sees_inside}
 use Rattle.proto_sight.proofs.Equations.{proto-sees}
 use Rattle.proto_tree.specs.declared.tree.ProtoTree.{ProtoTree}
 use Rattle.proto_tree.specs.Resolved.{Seen}

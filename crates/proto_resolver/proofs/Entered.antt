@@ -6,9 +6,9 @@ use Rattle.std.proofs.lemmas.List.{same_from_push}
 use Rattle.classic_tree.specs.declared.tree.ProtoText.{ProtoText, out-ProtoText}
 use Rattle.proto_flat.specs.declared.fault.ExpandFault.{ExpandFault}
 use Rattle.proto_meaning.specs.Names.{Name, Filled}
-use Rattle.proto_meaning.specs.Sight.{Names, Put, Prototype, Sight, declared, no_names}
+use Rattle.proto_meaning.specs.Sight.{Names, Put, Prototype, Sight, declared, no_names, opened}
 use Rattle.proto_meaning.specs.Flat as flat
-use Rattle.proto_sight.specs.Texts.{prototype_of, opened, closed, checked}
+use Rattle.proto_sight.specs.Texts.{prototype_of, closed, checked}
 use Rattle.proto_tree.specs.declared.tree.BodyTree.{BodyTree}
 use Rattle.proto_tree.specs.declared.tree.DefaultTree.{DefaultTree}
 use Rattle.proto_tree.specs.declared.tree.ProtoTree.{ProtoTree}

@@ -1,6 +1,7 @@
 //! Resolves the words of a text (ISO/IEC 19775-1, 4.4.4, prototype scoping rules).
 #![tactic(auto)]
 
+mod declarations;
 mod laws;
 mod resolver;
 mod scopes;

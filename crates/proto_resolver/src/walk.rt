@@ -1,23 +1,18 @@
-//! The walk over a text that resolves its words.
+//! The walk over nodes and their values that resolves the words of a text.
 
-ghost use Rattle.std.specs.Prelude.{◌≡◌, ◌∷◌, ◌++◌, [], IfOk, List, false, option_map, true};
+ghost use Rattle.std.specs.Prelude.{◌≡◌, ◌∷◌, ◌++◌, IfOk, List, false, option_map, true};
 ghost use Rattle.classic_tree.specs.declared.tree.BodyItem.{BodyItem};
-ghost use Rattle.classic_tree.specs.declared.tree.Statement.{Statement};
-ghost use Rattle.proto_meaning.specs.Flat as flat;
-ghost use Rattle.proto_meaning.specs.Sight.{Prototype, Sight};
-ghost use Rattle.proto_sight.specs.Texts.{checked};
-ghost use Rattle.proto_tree.specs.Resolved.{AreItems, AreNodes, AreStatements, IsGiven, IsNode};
+ghost use Rattle.proto_tree.specs.Resolved.{AreItems, AreNodes, IsGiven, IsNode};
 ghost use Rattle.proto_resolver.specs.Held.{taken_names};
-ghost use Rattle.proto_resolver.specs.Standing.{Resolves, Shows};
-ghost use Rattle.proto_resolver.specs.Parts.{AreAllDefaults, AreDefaultsAside, Before};
-ghost use Rattle.proto_resolver.specs.Parts.{IsInterior};
-ghost use Rattle.proto_resolver.specs.Parts.{one_or_none};
+ghost use Rattle.proto_resolver.specs.Standing.{Resolves};
+ghost use Rattle.proto_resolver.specs.Parts.{Before, one_or_none};
 
-use crate::resolver::{Meaning, Resolver, check_declaration, declare, meaning_of};
+use crate::declarations::resolve_proto;
+use crate::resolver::{Meaning, Resolver, meaning_of};
 use crate::scopes::Taker;
-use classic_tree::{BodyItem, Declaration, Given, NodeText, ProtoText, RawValue, Statement};
+use classic_tree::{BodyItem, Given, NodeText, RawValue};
 use proto_flat::ExpandFault;
-use proto_tree::{BodyTree, DefaultTree, FieldTree, GivenTree, ItemTree, NodeTree};
+use proto_tree::{FieldTree, GivenTree, ItemTree, NodeTree};
 use std::alloc::{AllocError, Global};
 use x3d_lists::{Items, Text};
 
@@ -26,13 +21,6 @@ use x3d_lists::{Items, Text};
 pub struct Resolved<T> {
     pub tree: T,
     pub wrong: Option<ExpandFault>,
-}
-
-/// What stands between the brackets and the braces of a prototype.
-#[derive(Drop)]
-pub struct Interior<'a> {
-    pub defaults: Items<DefaultTree<'a>>,
-    pub body: Items<BodyTree<'a>>,
 }
 
 /// A declaration that is wrong stands for itself; any other for nothing.
@@ -45,18 +33,8 @@ fn wrong_item<'a>(wrong: Option<ExpandFault>) -> Option<ItemTree<'a>>
     }
 }
 
-/// The same, where it is a statement.
-fn wrong_statement<'a>(wrong: Option<ExpandFault>) -> Option<BodyTree<'a>>
-    ensures { result ≡ option_map (λ e. BodyTree.Wrong e) wrong }
-{
-    match wrong {
-        None => None,
-        Some(fault) => Some(BodyTree::Wrong(fault)),
-    }
-}
-
 /// Appends the tree, if there is one.
-fn append<T: Drop>(trees: &mut Items<T>, tree: Option<T>) -> Result<(), AllocError>
+pub fn append<T: Drop>(trees: &mut Items<T>, tree: Option<T>) -> Result<(), AllocError>
     ensures { IfOk result (λ _. trees.new ≡ trees.old ++ one_or_none tree) }
 {
     match tree {
@@ -66,7 +44,7 @@ fn append<T: Drop>(trees: &mut Items<T>, tree: Option<T>) -> Result<(), AllocErr
 }
 
 #[cycle(resolve)]
-fn resolve_node<'a>(
+pub fn resolve_node<'a>(
     alloc: Global,
     resolver: &mut Resolver<'a>,
     node: &'a NodeText,
@@ -231,7 +209,7 @@ fn leave_out<'a>(
 }
 
 #[cycle(resolve)]
-fn resolve_given<'a>(
+pub fn resolve_given<'a>(
     alloc: Global,
     resolver: &mut Resolver<'a>,
     given: &'a Given<NodeText>,
@@ -300,155 +278,4 @@ fn resolve_nodes<'a>(
     }
     let tree = trees;
     Ok(Resolved { tree, wrong: None })
-}
-
-#[cycle(resolve)]
-fn resolve_proto<'a>(
-    alloc: Global,
-    resolver: &mut Resolver<'a>,
-    proto: &'a ProtoText,
-) -> Result<Option<ExpandFault>, AllocError>
-    ensures { IfOk result (λ wrong. Resolves resolver.old resolver.new wrong (λ ps s r.
-        (flat.proto proto.now).sees s ≡ r)) }
-{
-    if let Err(fault) = check_declaration(&resolver.scopes, proto) {
-        return Ok(Some(fault));
-    }
-    enter(alloc, resolver, proto)
-}
-
-/// A declaration in which nothing itself is wrong. It is in sight behind its closing brace.
-#[cycle(resolve)]
-fn enter<'a>(
-    alloc: Global,
-    resolver: &mut Resolver<'a>,
-    proto: &'a ProtoText,
-) -> Result<Option<ExpandFault>, AllocError>
-    ensures { ((ps : List Prototype) (s : Sight) → Shows ps resolver.old.scopes s
-        → checked proto.now s ≡ Ok tt) → IfOk result (λ wrong.
-        Resolves resolver.old resolver.new wrong (λ ps s r. (flat.proto proto.now).sees s ≡ r)) }
-{
-    let before = resolver.open(alloc)?;
-    let Resolved { tree, wrong } = resolve_inside(alloc, resolver, proto)?;
-    if wrong.is_some() {
-        return Ok(wrong);
-    }
-    let Interior { defaults, body } = tree;
-    let taken = resolver.close(before);
-    declare(alloc, resolver, proto, defaults, body, taken)?;
-    Ok(None)
-}
-
-#[cycle(resolve)]
-fn resolve_inside<'a>(
-    alloc: Global,
-    resolver: &mut Resolver<'a>,
-    proto: &'a ProtoText,
-) -> Result<Resolved<Interior<'a>>, AllocError>
-    ensures { IfOk result (λ part. Resolves resolver.old resolver.new part.wrong (λ ps s r.
-        IsInterior ps proto.now part.tree.defaults part.tree.body s r)) }
-{
-    let defaults = resolve_interface(alloc, resolver, proto.interface.as_slice())?;
-    let Resolved { tree, wrong } = defaults;
-    let defaults = tree;
-    if wrong.is_some() {
-        let body = Items::new(alloc);
-        let tree = Interior { defaults, body };
-        return Ok(Resolved { tree, wrong });
-    }
-    let body = resolve_body(alloc, resolver, proto.body.as_slice())?;
-    let Resolved { tree, wrong } = body;
-    let body = tree;
-    let tree = Interior { defaults, body };
-    Ok(Resolved { tree, wrong })
-}
-
-/// An IS in a default value takes nothing.
-#[cycle(resolve)]
-fn resolve_interface<'a>(
-    alloc: Global,
-    resolver: &mut Resolver<'a>,
-    interface: &'a [Declaration<NodeText>],
-) -> Result<Resolved<Items<DefaultTree<'a>>>, AllocError>
-    ensures { IfOk result (λ part. Resolves resolver.old resolver.new part.wrong (λ ps s r.
-        AreDefaultsAside ps interface.now part.tree s r)) }
-{
-    let before = resolver.set_aside(alloc);
-    let part = resolve_defaults(alloc, resolver, interface)?;
-    resolver.put_back(before);
-    Ok(part)
-}
-
-#[cycle(resolve)]
-fn resolve_defaults<'a>(
-    alloc: Global,
-    resolver: &mut Resolver<'a>,
-    interface: &'a [Declaration<NodeText>],
-) -> Result<Resolved<Items<DefaultTree<'a>>>, AllocError>
-    ensures { IfOk result (λ part. Resolves resolver.old resolver.new part.wrong (λ ps s r.
-        AreAllDefaults ps interface.now part.tree s r)) }
-{
-    let mut trees = Items::new(alloc);
-    for declaration in interface {
-        let Resolved { tree, wrong } = resolve_given(alloc, resolver, &declaration.given)?;
-        let value = tree;
-        let default = DefaultTree { declaration, value };
-        trees.push(default)?;
-        if wrong.is_some() {
-            let tree = trees;
-            return Ok(Resolved { tree, wrong });
-        }
-    }
-    let tree = trees;
-    Ok(Resolved { tree, wrong: None })
-}
-
-#[cycle(resolve)]
-pub fn resolve_body<'a>(
-    alloc: Global,
-    resolver: &mut Resolver<'a>,
-    body: &'a [Statement],
-) -> Result<Resolved<Items<BodyTree<'a>>>, AllocError>
-    ensures { IfOk result (λ part. Resolves resolver.old resolver.new part.wrong (λ ps s r.
-        AreStatements ps body.now part.tree s r)) }
-{
-    let mut trees = Items::new(alloc);
-    for statement in body {
-        let Resolved { tree, wrong } = resolve_statement(alloc, resolver, statement)?;
-        append(&mut trees, tree)?;
-        if wrong.is_some() {
-            let tree = trees;
-            return Ok(Resolved { tree, wrong });
-        }
-    }
-    let tree = trees;
-    Ok(Resolved { tree, wrong: None })
-}
-
-#[cycle(resolve)]
-fn resolve_statement<'a>(
-    alloc: Global,
-    resolver: &mut Resolver<'a>,
-    statement: &'a Statement,
-) -> Result<Resolved<Option<BodyTree<'a>>>, AllocError>
-    ensures { IfOk result (λ part. (rest : List Statement)
-        → Resolves resolver.old resolver.new part.wrong (λ ps s r.
-        Before (AreStatements ps) (statement.now ∷ rest) rest (one_or_none part.tree) s r)) }
-{
-    match statement {
-        Statement::Node(node) => {
-            let Resolved { tree, wrong } = resolve_node(alloc, resolver, node)?;
-            let tree = Some(BodyTree::Node(tree));
-            Ok(Resolved { tree, wrong })
-        }
-        Statement::Route(route) => {
-            let tree = Some(BodyTree::Route(route));
-            Ok(Resolved { tree, wrong: None })
-        }
-        Statement::Proto(proto) => {
-            let wrong = resolve_proto(alloc, resolver, proto)?;
-            let tree = wrong_statement(wrong);
-            Ok(Resolved { tree, wrong })
-        }
-    }
 }

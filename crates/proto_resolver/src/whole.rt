@@ -3,9 +3,10 @@
 ghost use Rattle.std.specs.Prelude.{IfOk};
 ghost use Rattle.proto_resolver.specs.Parts.{IsResolved};
 
+use crate::declarations::resolve_body;
 use crate::resolver::Resolver;
 use crate::scopes::Scopes;
-use crate::walk::{Resolved, resolve_body};
+use crate::walk::Resolved;
 use classic_tree::Document;
 use proto_tree::TextTree;
 use std::alloc::{AllocError, Global};

@@ -44,7 +44,8 @@ pub fn both<'a>(
     first: Rc<Ends<'a>>,
     second: Rc<Ends<'a>>,
 ) -> Result<Rc<Ends<'a>>, AllocError>
-    ensures { IfOk result (λ made. list made.value ≡ list first.entry.value ++ list second.entry.value) }
+    ensures { IfOk result (λ made.
+        list made.value ≡ list first.entry.value ++ list second.entry.value) }
 {
     Ok(Rc::new(alloc, Ends::Both(first, second))?)
 }

@@ -21,10 +21,10 @@ use Rattle.proto_flat.specs.Fault.{fault}
 use Rattle.proto_flat.specs.declared.fault.ExpandFault.{ExpandFault}
 use Rattle.proto_flat.specs.declared.fault.ExpandFaultKind.TheVariants.{ProtoTwice, EmptyBody}
 use Rattle.proto_meaning.specs.Names.{Name}
-use Rattle.proto_meaning.specs.Sight.{Names, Sight, Step, and_see, each, aside, meant, taken_by, is_kept}
+use Rattle.proto_meaning.specs.Sight.{Names, Sight, Step, and_see, each, aside, meant, taken_by, is_kept, opened}
 use Rattle.proto_meaning.specs.Flat.{Item, Node, Stated, Proto, item_step, node_step, statement_step, proto_step, item, node, statement, proto, given_finds, given_sees, body_finds, body_sees, declare_body}
 use Rattle.proto_meaning.proofs.Trees.{item-field, item-declaration, item-route, item-proto, node-use, node-full, statement-node, statement-route, statement-proto}
-use Rattle.proto_sight.specs.Texts.{finds_given, finds_full, finds_inside, sees_given, sees_field, sees_full, sees_interface, sees_inside, parts, prototype_of, opened, closed, is_known, has_node, unless_found, checked, enters, declares}
+use Rattle.proto_sight.specs.Texts.{finds_given, finds_full, finds_inside, sees_given, sees_field, sees_full, sees_interface, sees_inside, parts, prototype_of, closed, is_known, has_node, unless_found, checked, enters, declares}
 
 -- ---- over lists
 

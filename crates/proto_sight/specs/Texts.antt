@@ -1,4 +1,5 @@
--- What the parts of a text declare and take, by the text itself: the steps of proto_meaning, part by part.
+-- What the parts of a text declare and take, by the text itself: the steps of proto_meaning, part by
+-- part.
 use Rattle.std.specs.Prelude.{ℕ, Bool, false, not, ◌&&◌, ◌||◌, if◌then◌else◌, List, [], ◌∷◌, ◌++◌, Result, Ok, Err, is_some}
 use Rattle.std.specs.List.{list_any}
 use Rattle.std.specs.Str.{bytes_eq}
@@ -17,7 +18,7 @@ use Rattle.proto_flat.specs.Fault.{fault}
 use Rattle.proto_flat.specs.declared.fault.ExpandFault.{ExpandFault}
 use Rattle.proto_flat.specs.declared.fault.ExpandFaultKind.TheVariants.{ProtoTwice, ProtoItself, EmptyBody}
 use Rattle.proto_meaning.specs.Names.{Name}
-use Rattle.proto_meaning.specs.Sight.{Names, no_names, with_name, Prototype, Sight, Step, Search, and_see, each, aside, declared, meant, taken_by}
+use Rattle.proto_meaning.specs.Sight.{Names, with_name, Prototype, Sight, Step, Search, and_see, each, opened, aside, declared, meant, taken_by}
 use Rattle.proto_meaning.specs.Flat as flat
 use Rattle.proto_meaning.specs.Flat.{Item, Node, Stated, Proto}
 
@@ -72,16 +73,13 @@ sees_inside interface body s =
 
 abbrev pub parts : ProtoText → ProtoText-F Item Node Stated Proto
 parts p =
-    map-ProtoText BodyItem NodeText Statement ProtoText Item Node Stated Proto flat.item flat.node flat.statement flat.proto (out-ProtoText p)
+    map-ProtoText BodyItem NodeText Statement ProtoText Item Node Stated Proto
+    flat.item flat.node flat.statement flat.proto (out-ProtoText p)
 
 -- the prototype of a text under that name, by the prototypes around it and what its ISs take
 unfoldable pub prototype_of : Name → ProtoText → List Prototype → Names → Prototype
 prototype_of name p outside takes =
     flat.prototype (parts p).line name (parts p).interface (parts p).body outside takes
-
--- a scope of its own, in which the scope around it is in sight
-abbrev pub opened : Sight → Sight
-opened s = record { here = []; outside = s.here ++ s.outside; taken = no_names }
 
 -- behind its closing brace a prototype is declared in the scope around it
 abbrev pub closed : ProtoText → Sight → Sight → Sight
@@ -97,7 +95,8 @@ is_known name s = is_some (node_type_named name) || is_some (declared name s.her
 abbrev pub has_node : List Statement → Bool
 has_node body = list_any (λ s. (flat.statement s).0) body
 
-abbrev pub unless_found : Result Bool ℕ → Result (Unit {0}) ExpandFault → Result (Unit {0}) ExpandFault
+abbrev pub unless_found : Result Bool ℕ → Result (Unit {0}) ExpandFault
+    → Result (Unit {0}) ExpandFault
 unless_found (Ok hidden) answer = answer
 unless_found (Err line) answer = Err (fault ProtoItself line)
 

@@ -23,8 +23,8 @@ pub fn same(a: &Text, b: &Text) -> bool
 #[cycle(find)]
 pub fn find_inside(own: &Text, proto: &ProtoText, hidden: bool) -> Result<bool, u32>
     ensures { result
-        ≡ spec.finds_inside (out-ProtoText proto.now).interface (out-ProtoText proto.now).body own.now
-        hidden }
+        ≡ spec.finds_inside (out-ProtoText proto.now).interface (out-ProtoText proto.now).body
+        own.now hidden }
 {
     let hides = find_in_interface(own, proto.interface.as_slice(), hidden)?;
     find_in_body(own, proto.body.as_slice(), hides)

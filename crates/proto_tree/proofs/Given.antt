@@ -23,7 +23,8 @@ use Rattle.proto_meaning.specs.Flat.{Walk, Does, ◌>>=◌, pure, refuse, see, t
 use Rattle.proto_meaning.proofs.SightLaw.{Any, Free, GoodNode, Follows, bared, each_free, aside_free, then_still}
 use Rattle.proto_tree.specs.Given.{GivenTree}
 use Rattle.proto_tree.specs.declared.tree.GivenTree.TheVariants as tree
-use Rattle.proto_tree.specs.Meaning.{plain, stands, holds, left_by, gives}
+use Rattle.proto_tree.specs.Meaning.{plain, stands, holds, gives}
+use Rattle.proto_meaning.specs.Left.{left_by}
 use Rattle.proto_tree.specs.Resolved.{Seen, given_sees, wrong_in, is_plain, taking}
 use Rattle.proto_tree.proofs.Same.{Same, never, in_bared, same_then, same_first, same_last, same_seen, same_wrong, same_if, same_chosen, same_other}
 use Rattle.proto_tree.proofs.Good.{every_given}

@@ -17,7 +17,8 @@ use Rattle.proto_meaning.specs.Names.{Name}
 use Rattle.proto_meaning.specs.Sight.{nodes_in}
 use Rattle.proto_meaning.specs.Flat.{Walk, pure, see, Node, Item, Stated, Proto, item, node, proto, item_step, node_step, statement_step, proto_step}
 use Rattle.proto_meaning.proofs.Trees.{item-field, item-declaration, item-route, item-proto, statement-node}
-use Rattle.proto_meaning.proofs.SightLaw.{Any, After, GoodNode, GoodItem, GoodProto, GoodStated, field_good, declaration_good, route_good, proto_item_good, prototype_good}
+use Rattle.proto_meaning.proofs.SightLaw.{Any, After, GoodNode, GoodItem, GoodProto, GoodStated, field_good, declaration_good, route_good, proto_item_good}
+use Rattle.proto_meaning.proofs.SightNodes.{prototype_good}
 use Rattle.proto_meaning.proofs.SightWhole.{every_good}
 use Rattle.proto_tree.specs.Resolved.{Seen}
 

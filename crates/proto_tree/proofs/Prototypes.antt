@@ -12,13 +12,13 @@ use Rattle.proto_flat.specs.declared.fault.ExpandFault.{ExpandFault}
 use Rattle.proto_flat.specs.declared.fault.ExpandFaultKind.TheVariants.{ProtoTwice, ProtoItself, EmptyBody}
 use Rattle.proto_meaning.specs.Limits.{Met, follow, and_then}
 use Rattle.proto_meaning.specs.Names.{Name, Field, Filled, value_of}
-use Rattle.proto_meaning.specs.Sight.{Put, Sight, Step, Names, Prototype, and_see, each, declared, no_names}
+use Rattle.proto_meaning.specs.Sight.{Put, Sight, Step, Names, Prototype, and_see, each, declared, no_names, opened}
 use Rattle.proto_meaning.specs.Flat as flat
 use Rattle.proto_meaning.specs.Flat.{Walk, Does, ◌>>=◌, pure, note, through, begin, made, field, in_body, Item, Node, Stated, Proto, item_step, node_step, statement_step, proto_step, declare, declare_body, body_sees, body_finds, instance_of, prototype}
 use Rattle.proto_meaning.proofs.SightLaw.{Any, Free, Follows, bared, each_free, then_follows}
 use Rattle.proto_tree.specs.declared.tree.ProtoTree.{ProtoTree}
 use Rattle.proto_tree.specs.Meaning.{statement, default}
-use Rattle.proto_tree.specs.Resolved.{Seen, IsProto, opened}
+use Rattle.proto_tree.specs.Resolved.{Seen, IsProto}
 use Rattle.proto_tree.specs.Laws.{PrototypesAreTheSame}
 use Rattle.proto_tree.proofs.Same.{Same, hide, hid, ok, in_bared, never, same_then, same_first}
 use Rattle.proto_tree.proofs.Good.{every_given}

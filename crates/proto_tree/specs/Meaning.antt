@@ -11,7 +11,6 @@ use Rattle.classic_tree.specs.declared.tree.NodeText.{NodeText}
 use Rattle.classic_tree.specs.declared.tree.ProtoText.{out-ProtoText}
 use Rattle.classic_tree.specs.declared.tree.RawValue.{RawValue}
 use Rattle.classic_tree.specs.declared.tree.RawValue.TheVariants as value
-use Rattle.proto_flat.specs.declared.fault.ExpandFault.{ExpandFault}
 use Rattle.proto_flat.specs.declared.fault.ExpandFaultKind.TheVariants.{FieldTwice, UnknownField}
 use Rattle.proto_flat.specs.declared.flat.Flat.{Flat}
 use Rattle.proto_flat.specs.declared.flat.Header.{Header}
@@ -20,6 +19,7 @@ use Rattle.proto_meaning.specs.Names.{Field, Filled, value_of}
 use Rattle.proto_meaning.specs.Sight.{Put, Instance, Prototype, Step, Owner, OfType, OfProto}
 use Rattle.proto_meaning.specs.Flat as flat
 use Rattle.proto_meaning.specs.Flat.{Does, ◌>>=◌, comes, pure, refuse, note, through, part, nothing_found, Node, Item, Stated, Inside, put_in, field, numbered_from, is_filled, is_node, is_script, met_field, fill, give, full_node, in_body, begin, made}
+use Rattle.proto_meaning.specs.Left.{left_by}
 use Rattle.proto_tree.specs.declared.tree.BodyTree.{BodyTree}
 use Rattle.proto_tree.specs.declared.tree.BodyTree.TheVariants as body
 use Rattle.proto_tree.specs.declared.tree.DefaultTree.{DefaultTree}
@@ -56,11 +56,6 @@ stands line f twice items i rest =
 
 abbrev pub holds : ℕ → ℕ × Field → Inside → RawValue Node → Does Inside
 holds line f i v = put_in v >>= λ r. pure (fill line f i (Some r))
-
--- the first wrong declaration in a value that goes nowhere
-abbrev pub left_by : Option ExpandFault → Does (Unit {0})
-left_by None = pure tt
-left_by (Some e) = λ w. comes (Err e)
 
 abbrev pub gives : ℕ → ℕ × Field → Bool → GivenTree Node → Inside → Does Inside
 gives line f twice Nothing i = give line f twice given.Nothing i

@@ -2,7 +2,7 @@
 -- sight before a part of the text, and what its `sees` gives: each word before braces by what it
 -- means there, what goes nowhere left out, and nothing behind the first wrong declaration.
 use Rattle.std.specs.Borrow.{Bor}
-use Rattle.std.specs.Prelude.{◌≡◌, ℕ, Bool, true, false, ◌&&◌, List, [], ◌∷◌, ◌++◌, length, Option, Some, None, Result, Ok, Err}
+use Rattle.std.specs.Prelude.{◌≡◌, ℕ, Bool, true, false, ◌&&◌, List, [], ◌∷◌, length, Option, Some, None, Result, Ok, Err}
 use Rattle.classic_tree.specs.declared.tree.BodyItem.{BodyItem}
 use Rattle.classic_tree.specs.declared.tree.BodyItem.TheVariants as text_item
 use Rattle.classic_tree.specs.declared.tree.Declaration.{Declaration}
@@ -18,7 +18,7 @@ use Rattle.classic_tree.specs.declared.tree.Statement.{Statement}
 use Rattle.classic_tree.specs.declared.tree.Statement.TheVariants as text_statement
 use Rattle.proto_flat.specs.declared.fault.ExpandFault.{ExpandFault}
 use Rattle.proto_meaning.specs.Names.{Name}
-use Rattle.proto_meaning.specs.Sight.{Names, with_name, no_names, Prototype, Sight, Step, each, aside, nodes_in, meant, taken_by, is_kept}
+use Rattle.proto_meaning.specs.Sight.{Names, with_name, no_names, Prototype, Sight, Step, each, opened, aside, nodes_in, meant, taken_by, is_kept}
 use Rattle.proto_meaning.specs.Sight as sight
 use Rattle.proto_meaning.specs.Flat as flat
 use Rattle.proto_tree.specs.declared.tree.BodyTree.{BodyTree}
@@ -164,10 +164,6 @@ pub data AreDefaults (ps : List Prototype) (takes : Names)
   left : (d : Declaration NodeText) (ds : List (Declaration NodeText)) (ts : List DefaultTree)
       (s u v : Sight) → (takes d.name && is_value d.given) ≡ false → given_sees d.given s ≡ Ok u
       → AreDefaults ps takes ds ts u v → AreDefaults ps takes (d ∷ ds) ts s v
-
--- where a body begins, and its defaults before it
-abbrev pub opened : Sight → Sight
-opened s = record { here = []; outside = s.here ++ s.outside; taken = no_names }
 
 -- what stands between the brackets and the braces of a prototype that is declared where s is in
 -- sight; behind it u is, and its ISs have taken u.taken

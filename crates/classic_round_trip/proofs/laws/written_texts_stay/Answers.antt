@@ -1,4 +1,4 @@
-use Rattle.classic_round_trip.proofs.Lined.{texts_stay}
+use Rattle.classic_round_trip.proofs.LinedDocuments.{texts_stay}
 use Rattle.classic_round_trip.proofs.laws.written_texts_stay.Goals as goal
 
 pub returns : goal.returns

@@ -1,6 +1,6 @@
 use Rattle.std.proofs.Common.{◌∙◌, sym}
 use Rattle.proto_given.specs.Held as table
-use Rattle.proto_nodes.proofs.Left.{given-none, given-some, is-none}
+use Rattle.proto_nodes.proofs.Fillings.{given-none, given-some, is-none}
 use Rattle.proto_nodes.proofs.defaults.is_free.Goals as goal
 
 pub returns-then-is_some : goal.returns-then-is_some

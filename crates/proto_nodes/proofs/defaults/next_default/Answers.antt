@@ -1,5 +1,5 @@
 use Rattle.proto_nodes.specs.Does.{default_comes, filled_now, filling_comes}
-use Rattle.proto_nodes.proofs.Left.{default-goes-as, free-name, free-next, sound-rest, taken-next}
+use Rattle.proto_nodes.proofs.Fillings.{default-goes-as, free-name, free-next, sound-rest, taken-next}
 use Rattle.proto_nodes.proofs.defaults.next_default.Goals as goal
 
 pub returns-then-not-is_free-clause-goes : goal.returns-then-not-is_free-clause-goes

@@ -1,7 +1,7 @@
 use Rattle.std.proofs.Common.{subst}
 use Rattle.proto_tree.specs.Resolved.{AreStatements}
 use Rattle.proto_resolver.specs.Standing.{Resolves}
-use Rattle.proto_resolver.proofs.Steps.{whole_text}
+use Rattle.proto_resolver.proofs.Interiors.{whole_text}
 use Rattle.proto_resolver.proofs.whole.resolve.Goals as goal
 
 pub returns : goal.returns
