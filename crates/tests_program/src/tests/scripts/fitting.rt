@@ -158,7 +158,7 @@ fn kept_of(kept: Kept) -> Option<PointingState> {
 }
 
 /// The number of the field of that name, or 0.
-fn number_of(scene: &Scene, node: u32, name: &str) -> u32 {
+fn number_of(scene: &Scene, node: u32, name: &str) -> u16 {
     match scene.field_named(node, name) {
         Some(row) => row.number,
         None => 0,
