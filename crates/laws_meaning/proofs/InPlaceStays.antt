@@ -14,7 +14,6 @@ use Rattle.classic_tree.specs.declared.tree.Statement.{Statement}
 use Rattle.classic_tree.specs.declared.tree.Statement.TheVariants as statement_text
 use Rattle.classic_tree.proofs.Mapped.{given_mapped}
 use Rattle.proto_meaning.specs.Names.{Name}
-use Rattle.proto_meaning.specs.Flat.{prototype}
 use Rattle.proto_meaning.proofs.Induction.{OfGiven, Layers, every_statement}
 use Rattle.laws_meaning.specs.InPlace.{is_quiet_item, is_quiet_node, is_quiet_statement, written_item, written_node, written_statement}
 use Rattle.laws_meaning.specs.Steps.{is_true, all_in}

@@ -16,7 +16,7 @@ use Rattle.proto_meaning.specs.Limits.{AnItem, Outcome}
 use Rattle.proto_meaning.specs.Names.{Name, Stands, Braces, used, stands_at, ends_at, pairs}
 use Rattle.proto_meaning.specs.Names as names
 use Rattle.proto_meaning.specs.Sight.{no_names, OfType}
-use Rattle.proto_meaning.specs.Flat.{Walk, Does, Inside, field, note_route, comes}
+use Rattle.proto_meaning.specs.Flat.{Walk, Does, Inside, field, note_route}
 use Rattle.laws_meaning.specs.Plain.{Pair, Wire, Reading, Reads, has_name, last_closed, last_from, wire_route, end_of, route_of, Between}
 use Rattle.laws_meaning.proofs.Maps.{Maps}
 

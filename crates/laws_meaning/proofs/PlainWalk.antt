@@ -1,5 +1,5 @@
 -- What a document without PROTO stands for is read plainly.
-use Rattle.std.proofs.Common.{◌≡◌, ℕ, ◌+◌, Bool, true, false, if◌then◌else◌, List, [], ◌∷◌, ◌++◌, length, Option, Some, None, option_map, Result, Ok, Err, map, refl, ap, sym, ◌∙◌, subst}
+use Rattle.std.proofs.Common.{◌≡◌, ℕ, Bool, true, false, if◌then◌else◌, List, [], ◌∷◌, ◌++◌, length, Option, Some, None, option_map, Result, Ok, Err, map, refl, ap, sym, ◌∙◌, subst}
 use Rattle.std.specs.Prelude.{◌&&◌, is_some}
 use Rattle.std.specs.List.{AllByRecursion, list_all}
 use Rattle.std.specs.Option.{option_or, option_map_or}
@@ -28,7 +28,7 @@ use Rattle.proto_flat.specs.declared.fault.ExpandFault.{ExpandFault}
 use Rattle.proto_flat.specs.declared.fault.ExpandFaultKind.TheVariants.{UnknownField, UnknownNode, UseWithoutDef, FieldTwice}
 use Rattle.proto_flat.specs.declared.flat.Flat.{Flat}
 use Rattle.proto_meaning.specs.Limits.{Met, ANode, AField, AnItem, Outcome, item_count, behind, follow, and_then, limited}
-use Rattle.proto_meaning.specs.Names.{Name, Field, Braces, used, pairs}
+use Rattle.proto_meaning.specs.Names.{Name, Field, Braces}
 use Rattle.proto_meaning.specs.Sight.{OfType}
 use Rattle.proto_meaning.specs.Flat.{Walk, Does, Node, Item, Stated, Inside, put_in, give, numbered_from, is_filled, field, fields_of, close_node, flat_node, full_node, note_route, header_of, item_step, node_step, statement_step, flat, comes}
 use Rattle.proto_meaning.specs.Flat as walk

@@ -20,7 +20,7 @@ use Rattle.proto_flat.specs.declared.fault.ExpandFault.{ExpandFault}
 use Rattle.proto_flat.specs.declared.fault.ExpandFaultKind.TheVariants.{ProtoTwice, EmptyBody}
 use Rattle.proto_flat.specs.declared.flat.Flat.{Flat}
 use Rattle.proto_meaning.specs.Limits.{Met, Outcome, behind, follow, and_then, limited}
-use Rattle.proto_meaning.specs.Names.{Name, Filled, value_of, used}
+use Rattle.proto_meaning.specs.Names.{Name, Filled, value_of}
 use Rattle.proto_meaning.specs.Sight.{Put, Prototype, Sight, Names, and_see, each, aside, no_names, declared}
 use Rattle.proto_meaning.specs.Flat.{Walk, Does, ◌>>=◌, comes, pure, note, through, Node, Item, Stated, Proto, given_finds, given_sees, leave_out, put_in, field, in_body, put_default, default, begin, made, instance_of, prototype, body_finds, body_sees, declare_body, declare, item_step, node_step, statement_step, proto_step, header_of, flat}
 use Rattle.proto_meaning.specs.Flat.{item as item_part, node as node_part, proto as proto_part, statement as stated}

@@ -1,5 +1,5 @@
-//! What holds of the routes of documents, of their opening worlds, of those that follow, and of hits
-//! in their scenes.
+//! What holds of the routes of documents, of their opening worlds, of those that follow, and of
+//! hits in their scenes.
 
 ghost use Rattle.laws_worlds.specs.Hits.{DocumentHitsAreOnRays, DocumentsAreSized};
 ghost use Rattle.laws_worlds.specs.Openings.{OpeningsFit, StartsAreStates};

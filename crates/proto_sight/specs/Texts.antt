@@ -1,5 +1,5 @@
--- What the parts of a text declare and take, by the text itself: the steps of proto_meaning, part by
--- part.
+-- What the parts of a text declare and take, by the text itself: the steps of proto_meaning, part
+-- by part.
 use Rattle.std.specs.Prelude.{ℕ, Bool, false, not, ◌&&◌, ◌||◌, if◌then◌else◌, List, [], ◌∷◌, ◌++◌, Result, Ok, Err, is_some}
 use Rattle.std.specs.List.{list_any}
 use Rattle.std.specs.Str.{bytes_eq}
