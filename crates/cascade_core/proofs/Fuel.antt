@@ -10,7 +10,7 @@ use Rattle.cascade_core.specs.Outputs.{ends_from, outputs_of}
 use Rattle.cascade_core.specs.Stack.{one_unless, unsent_among, unsent}
 use Rattle.scene_core.specs.declared.scene.End.{End}
 use Rattle.scene_core.specs.Shape.{Shape}
-use Rattle.cascade_world.specs.declared.world.Turn.{Turn}
+use Rattle.cascade_world.specs.declared.world.Live.{Live}
 
 has_sent-push : (sent : List End) (e o : End) → has_sent (sent ++ e ∷ []) o ≡ (has_sent sent o || (same_end e o || false))
 has_sent-push sent e o = list_any-append (λ x. same_end x o) sent (e ∷ [])
@@ -53,5 +53,5 @@ length-ends_from n [] = refl
 length-ends_from n (kind ∷ shapes) =
     rw (length-append, length-map, sum_by-cons, length-ends_from (n + 1) shapes) refl
 
-pub unsent-bound : (shapes : List Shape) (turn : Turn) → unsent shapes turn ≤ outputs_of shapes
-unsent-bound shapes turn = omega (arith, unsent-le (ends_from 0 shapes) turn.sent, length-ends_from 0 shapes)
+pub unsent-bound : (shapes : List Shape) (live : Live) → unsent shapes live ≤ outputs_of shapes
+unsent-bound shapes live = omega (arith, unsent-le (ends_from 0 shapes) live.sent, length-ends_from 0 shapes)

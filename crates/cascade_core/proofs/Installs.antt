@@ -5,7 +5,7 @@ use Rattle.std.specs.Prelude.{IsSomeAnd, slice_get}
 use Rattle.std.proofs.lemmas.List.{length-map}
 use Rattle.x3d_values.specs.declared.script.Kind.{Kind}
 use Rattle.script_host.specs.Attaching.{RefusesPlace}
-use Rattle.script_host.specs.Hosting.{ScriptRecord}
+use Rattle.script_host.specs.Hosting.{SlotView}
 use Rattle.script_host.specs.Restoring.{AreStates, IsFirstFault, RefusesStates}
 use Rattle.script_host.specs.States.{state_fault}
 use Rattle.script_host.specs.declared.fault.ReplaceFault.{ReplaceFault}
@@ -23,11 +23,11 @@ use Rattle.cascade_core.specs.Scripts.{kinds_in, running, scripts_in, states_of}
 use Rattle.script_running.proofs.Initialized.{running_states}
 use Rattle.cascade_core.proofs.SoundLemmas.{cast_stands}
 
-lengths : (xs ys : List ScriptRecord) → kinds_of xs ≡ kinds_of ys → length xs ≡ length ys
-lengths xs ys e = sym (length-map xs (λ (r : ScriptRecord). r.kind)) ∙ ap length e ∙ length-map ys (λ (r : ScriptRecord). r.kind)
+lengths : (xs ys : List SlotView) → kinds_of xs ≡ kinds_of ys → length xs ≡ length ys
+lengths xs ys e = sym (length-map xs (λ (r : SlotView). r.kind)) ∙ ap length e ∙ length-map ys (λ (r : SlotView). r.kind)
 
 -- what goes by the kind of the script at a place goes by the kinds of all
-at-kind : (P : Kind → Type 0) (xs ys : List ScriptRecord) (k : ℕ) → kinds_of xs ≡ kinds_of ys → IsSomeAnd (slice_get xs k) (λ r. P r.kind) → IsSomeAnd (slice_get ys k) (λ r. P r.kind)
+at-kind : (P : Kind → Type 0) (xs ys : List SlotView) (k : ℕ) → kinds_of xs ≡ kinds_of ys → IsSomeAnd (slice_get xs k) (λ r. P r.kind) → IsSomeAnd (slice_get ys k) (λ r. P r.kind)
 at-kind P [] ys k e h = absurd h
 at-kind P (x ∷ xs) [] k e h = cc
 at-kind P (x ∷ xs) (y ∷ ys) zero e h =
@@ -35,7 +35,7 @@ at-kind P (x ∷ xs) (y ∷ ys) zero e h =
 at-kind P (x ∷ xs) (y ∷ ys) (suc k) e h =
     let same : kinds_of xs ≡ kinds_of ys = cc in at-kind P xs ys k same h
 
-none-at : (xs ys : List ScriptRecord) (k : ℕ) → kinds_of xs ≡ kinds_of ys → slice_get xs k ≡ None → slice_get ys k ≡ None
+none-at : (xs ys : List SlotView) (k : ℕ) → kinds_of xs ≡ kinds_of ys → slice_get xs k ≡ None → slice_get ys k ≡ None
 none-at [] [] k e h = refl
 none-at [] (y ∷ ys) k e h = cc
 none-at (x ∷ xs) [] k e h = cc
@@ -45,7 +45,7 @@ none-at (x ∷ xs) (y ∷ ys) (suc k) e h =
 
 -- ---- states
 
-module _ (xs ys : List ScriptRecord) (e : kinds_of xs ≡ kinds_of ys) (states : List (List ℤ)) where
+module _ (xs ys : List SlotView) (e : kinds_of xs ≡ kinds_of ys) (states : List (List ℤ)) where
   pub states_alike : AreStates xs states → AreStates ys states
   states_alike h = record {
     count = sym (lengths xs ys e) ∙ h.count;
@@ -66,44 +66,44 @@ module _ (xs ys : List ScriptRecord) (e : kinds_of xs ≡ kinds_of ys) (states :
   length-differs (inr first) = inr (first-alike StateLength first)
 
 -- the first that isn't a state of its script
-pub first_alike : (fault : StateFault) (xs ys : List ScriptRecord) (states : List (List ℤ)) → IsFirstFault fault xs states → kinds_of xs ≡ kinds_of ys → IsFirstFault fault ys states
+pub first_alike : (fault : StateFault) (xs ys : List SlotView) (states : List (List ℤ)) → IsFirstFault fault xs states → kinds_of xs ≡ kinds_of ys → IsFirstFault fault ys states
 first_alike fault xs ys states h e = first-alike xs ys e states fault h
 
 -- what stands where states are refused before anything changes
-pub install_length : (old new : StageView) (rs after : List ScriptRecord) (states : List (List ℤ)) → kinds_of rs ≡ kinds_in old.scene →
+pub install_length : (old new : StageView) (rs after : List SlotView) (states : List (List ℤ)) → kinds_of rs ≡ kinds_in old.scene →
     RefusesStates StateLength rs states after → new ≡ old → RefusesInstall StateLength old states new
 install_length old new rs after states e h same = (same, length-differs rs (scripts_in old.scene) e states h.1)
 
-pub install_range : (old new : StageView) (rs after : List ScriptRecord) (states : List (List ℤ)) → kinds_of rs ≡ kinds_in old.scene →
+pub install_range : (old new : StageView) (rs after : List SlotView) (states : List (List ℤ)) → kinds_of rs ≡ kinds_in old.scene →
     RefusesStates StateRange rs states after → new ≡ old → RefusesInstall StateRange old states new
 install_range old new rs after states e h same = (same, first-alike rs (scripts_in old.scene) e states StateRange h.1)
 
 -- and where memory is refused
-pub install_memory : (old new : StageView) (rs after : List ScriptRecord) (states : List (List ℤ)) → kinds_of rs ≡ kinds_in old.scene →
+pub install_memory : (old new : StageView) (rs after : List SlotView) (states : List (List ℤ)) → kinds_of rs ≡ kinds_in old.scene →
     RefusesStates Memory rs states after → new ≡ spoiled old → RefusesInstall Memory old states new
 install_memory old new rs after states e h is = (states_alike rs (scripts_in old.scene) e states h.0, is)
 
 -- the states that scripts were given
-pub given_states : (rs after : List ScriptRecord) (states : List (List ℤ)) → AreStates rs states → after ≡ running (kinds_of rs) states → states_of after ≡ states
+pub given_states : (rs after : List SlotView) (states : List (List ℤ)) → AreStates rs states → after ≡ running (kinds_of rs) states → states_of after ≡ states
 given_states rs after states are is =
-    ap states_of is ∙ running_states (kinds_of rs) states (length-map rs (λ (r : ScriptRecord). r.kind) ∙ are.count)
+    ap states_of is ∙ running_states (kinds_of rs) states (length-map rs (λ (r : SlotView). r.kind) ∙ are.count)
 
 -- ---- a stage of these parts
 
-abbrev seen_as : SceneView → List Route → Option ℕ → WorldData → List ScriptRecord → StageView
+abbrev seen_as : SceneView → List Route → Option ℕ → WorldData → List SlotView → StageView
 seen_as scene routes mark w scripts = record { scene = scene; routes = routes; held = held_of mark (record { world = w; states = states_of scripts }) }
 
-module _ (old : StageView) (scene : SceneView) (routes : List Route) (mark : Option ℕ) (w : WorldData) (rs after : List ScriptRecord) (states : List (List ℤ))
+module _ (old : StageView) (scene : SceneView) (routes : List Route) (mark : Option ℕ) (w : WorldData) (rs after : List SlotView) (states : List (List ℤ))
     (is : seen_as scene routes mark w rs ≡ old) (e : kinds_of rs ≡ kinds_in scene) where
   pub length_refused : RefusesStates StateLength rs states after → RefusesInstall StateLength old states (seen_as scene routes mark w after)
   length_refused h =
       subst (λ (v : StageView). RefusesInstall StateLength v states (seen_as scene routes mark w after)) is
-      (install_length (seen_as scene routes mark w rs) (seen_as scene routes mark w after) rs after states e h (ap (λ (xs : List ScriptRecord). seen_as scene routes mark w xs) h.0))
+      (install_length (seen_as scene routes mark w rs) (seen_as scene routes mark w after) rs after states e h (ap (λ (xs : List SlotView). seen_as scene routes mark w xs) h.0))
 
   pub range_refused : RefusesStates StateRange rs states after → RefusesInstall StateRange old states (seen_as scene routes mark w after)
   range_refused h =
       subst (λ (v : StageView). RefusesInstall StateRange v states (seen_as scene routes mark w after)) is
-      (install_range (seen_as scene routes mark w rs) (seen_as scene routes mark w after) rs after states e h (ap (λ (xs : List ScriptRecord). seen_as scene routes mark w xs) h.0))
+      (install_range (seen_as scene routes mark w rs) (seen_as scene routes mark w after) rs after states e h (ap (λ (xs : List SlotView). seen_as scene routes mark w xs) h.0))
 
   spoiled_now : (n : ℕ) → n ≡ applied_of old.held → holding (seen_as scene routes mark w rs) (Spoiled n) ≡ spoiled old
   spoiled_now n m = ap (λ (v : StageView). holding v (Spoiled n)) is ∙ ap (λ (k : ℕ). holding old (Spoiled k)) m
@@ -123,7 +123,7 @@ module _ (old : StageView) (scene : SceneView) (routes : List Route) (mark : Opt
 
 -- ---- boxes
 
-kind-among : (xs : List ScriptRecord) (kinds : List Kind) (k : ℕ) (kind : Kind) → kinds_of xs ≡ kinds → IsSomeAnd (slice_get xs k) (λ r. kind ≡ r.kind) →
+kind-among : (xs : List SlotView) (kinds : List Kind) (k : ℕ) (kind : Kind) → kinds_of xs ≡ kinds → IsSomeAnd (slice_get xs k) (λ r. kind ≡ r.kind) →
     IsSomeAnd (slice_get kinds k) (λ other. kind ≡ other)
 kind-among [] kinds k kind e h = absurd h
 kind-among (x ∷ xs) [] k kind e h = cc
@@ -131,17 +131,17 @@ kind-among (x ∷ xs) (y ∷ ys) zero kind e h = let same : x.kind ≡ y = cc in
 kind-among (x ∷ xs) (y ∷ ys) (suc k) kind e h = let same : kinds_of xs ≡ ys = cc in kind-among xs ys k kind same h
 
 -- a box of the kind of the script at its place
-pub box_there : (xs : List ScriptRecord) (kinds : List Kind) (k : ℕ) (kind : Kind) → IsSomeAnd (slice_get xs k) (λ r. kind ≡ r.kind) → kinds_of xs ≡ kinds →
+pub box_there : (xs : List SlotView) (kinds : List Kind) (k : ℕ) (kind : Kind) → IsSomeAnd (slice_get xs k) (λ r. kind ≡ r.kind) → kinds_of xs ≡ kinds →
     IsSomeAnd (slice_get kinds k) (λ other. kind ≡ other)
 box_there xs kinds k kind h e = kind-among xs kinds k kind e h
 
-pub box_refused : (fault : ReplaceFault) (held : Held) (xs ys : List ScriptRecord) (k : ℕ) (kind : Kind) → kinds_of xs ≡ kinds_of ys → RefusesPlace fault (slice_get xs k) kind →
+pub box_refused : (fault : ReplaceFault) (held : Held) (xs ys : List SlotView) (k : ℕ) (kind : Kind) → kinds_of xs ≡ kinds_of ys → RefusesPlace fault (slice_get xs k) kind →
     RefusesBox (place_fault_of fault) held (slice_get ys k) kind
 box_refused place.NoSuchScript held xs ys k kind e h = none-at xs ys k e h
 box_refused place.KindDiffers held xs ys k kind e h = at-kind (λ other. kind ≢ other) xs ys k e h
 box_refused place.Memory held xs ys k kind e h = at-kind (λ other. kind ≡ other) xs ys k e h
 
-pub same_kinds : (old new : List ScriptRecord) → new ≡ old → kinds_of new ≡ kinds_of old
+pub same_kinds : (old new : List SlotView) → new ≡ old → kinds_of new ≡ kinds_of old
 same_kinds old new is = ap kinds_of is
 
 pub ruleset installs = (cast_stands, install_length, install_range, install_memory, first_alike, given_states, states_alike)

@@ -2,78 +2,78 @@
 use Rattle.std.proofs.Common.{◌≡◌, ℕ, List, [], ◌∷◌, ◌∙◌, ap, refl, length}
 use Rattle.std.specs.List.{fold, range_with_len}
 use Rattle.x3d_values.specs.declared.script.Kind.{Kind}
-use Rattle.x3d_values.specs.Stamp.{Stamp}
+use Rattle.x3d_values.specs.Stamp.{StampedView}
 use Rattle.scene_core.specs.declared.scene.Route.{Route}
 use Rattle.scene_core.specs.Scene.{SceneView}
 use Rattle.script_host.specs.Behaviour.{Initialize, Settle}
-use Rattle.script_host.specs.Hosting.{ScriptRecord}
+use Rattle.script_host.specs.Hosting.{SlotView}
 use Rattle.script_running.specs.Acting.{kinds_of}
 use Rattle.script_running.proofs.CallLemmas.{kinds_stand}
-use Rattle.cascade_core.specs.Apply.{Sending, Started, after_input, apply, begun, opening, opening_course, sent_by_all, start_one, started, world_after}
-use Rattle.cascade_core.specs.Course.{Course, Plan, Scripted, plan_of, ports_of}
+use Rattle.cascade_core.specs.Apply.{SendingView, Started, after_input, apply, begun, opening, opening_course, sent_by_all, start_one, started, world_after}
+use Rattle.cascade_core.specs.Course.{Course, Wiring, Scripted, wiring_of, ports_of}
 use Rattle.cascade_core.specs.ScriptLaws.{KindsStand, StatesStand}
 use Rattle.cascade_core.specs.Scripts.{kinds_in, scripts_in, states_of}
 use Rattle.cascade_core.specs.Settles.{settle}
 use Rattle.script_running.proofs.Runnings.{running-kinds, states-many}
 use Rattle.cascade_core.proofs.Settled.{input-of, sent-of, settle-of}
 
-module _ (plan : Plan) (kinds : List Kind) where
+module _ (wiring : Wiring) (kinds : List Kind) where
   abbrev Of : Course → Type 0
   Of c = kinds_of c.scripts ≡ kinds
 
-  after-of : (scene : SceneView) (c : Course) (input : Stamp) → Of c → Of (after_input scene plan c input)
+  after-of : (scene : SceneView) (c : Course) (input : StampedView) → Of c → Of (after_input scene wiring c input)
   after-of scene c input p =
-      input-of plan Of (λ c s v h p. p) (λ c a p. p) (λ c b p. p) (λ c k call p. kinds_stand (ports_of plan k) call k c.scripts ∙ p)
-      (λ c k p. kinds_stand (ports_of plan k) Settle k c.scripts ∙ p) scene c input p
+      input-of wiring Of (λ c s v h p. p) (λ c a p. p) (λ c b p. p) (λ c k call p. kinds_stand (ports_of wiring k) call k c.scripts ∙ p)
+      (λ c k p. kinds_stand (ports_of wiring k) Settle k c.scripts ∙ p) scene c input p
 
-  settled-of : (c : Course) → Of c → Of (settle plan c)
+  settled-of : (c : Course) → Of c → Of (settle wiring c)
   settled-of c p =
-      settle-of plan Of (λ c s v h p. p) (λ c a p. p) (λ c b p. p) (λ c k call p. kinds_stand (ports_of plan k) call k c.scripts ∙ p)
-      (λ c k p. kinds_stand (ports_of plan k) Settle k c.scripts ∙ p) c p
+      settle-of wiring Of (λ c s v h p. p) (λ c a p. p) (λ c b p. p) (λ c k call p. kinds_stand (ports_of wiring k) call k c.scripts ∙ p)
+      (λ c k p. kinds_stand (ports_of wiring k) Settle k c.scripts ∙ p) c p
 
-  all-of : (c : Course) (sendings : List Sending) → Of c → Of (sent_by_all plan c sendings)
+  all-of : (c : Course) (sendings : List SendingView) → Of c → Of (sent_by_all wiring c sendings)
   all-of c sendings p =
-      sent-of plan Of (λ c s v h p. p) (λ c a p. p) (λ c b p. p) (λ c k call p. kinds_stand (ports_of plan k) call k c.scripts ∙ p)
-      (λ c k p. kinds_stand (ports_of plan k) Settle k c.scripts ∙ p) c sendings p
+      sent-of wiring Of (λ c s v h p. p) (λ c a p. p) (λ c b p. p) (λ c k call p. kinds_stand (ports_of wiring k) call k c.scripts ∙ p)
+      (λ c k p. kinds_stand (ports_of wiring k) Settle k c.scripts ∙ p) c sendings p
 
-  starts-of : (s : Started) (ks : List ℕ) → kinds_of s.scripts ≡ kinds → kinds_of (fold (start_one plan) s ks).scripts ≡ kinds
+  starts-of : (s : Started) (ks : List ℕ) → kinds_of s.scripts ≡ kinds → kinds_of (fold (start_one wiring) s ks).scripts ≡ kinds
   starts-of s [] p = p
-  starts-of s (k ∷ ks) p = starts-of (start_one plan s k) ks (kinds_stand (ports_of plan k) Initialize k s.scripts ∙ p)
+  starts-of s (k ∷ ks) p = starts-of (start_one wiring s k) ks (kinds_stand (ports_of wiring k) Initialize k s.scripts ∙ p)
 
-  pub started-of : (scripts : List ScriptRecord) → kinds_of scripts ≡ kinds → kinds_of (started plan scripts).scripts ≡ kinds
+  pub started-of : (scripts : List SlotView) → kinds_of scripts ≡ kinds → kinds_of (started wiring scripts).scripts ≡ kinds
   unfolding started
   started-of scripts p = starts-of (record { scripts = scripts; sendings = [] }) (range_with_len 0 (length scripts)) p
 
 pub kinds_stand_always : KindsStand
-kinds_stand_always scene plan c input = after-of plan (kinds_of c.scripts) scene c input refl
+kinds_stand_always scene wiring c input = after-of wiring (kinds_of c.scripts) scene c input refl
 
 -- a world has a state for each script
 abbrev IsFull : SceneView → Scripted → Type 0
 IsFull scene w = length w.states ≡ length (kinds_in scene)
 
 -- a course whose scripts are of the scene's kinds
-full : (scene : SceneView) (scripts : List ScriptRecord) → kinds_of scripts ≡ kinds_in scene → length (states_of scripts) ≡ length (kinds_in scene)
+full : (scene : SceneView) (scripts : List SlotView) → kinds_of scripts ≡ kinds_in scene → length (states_of scripts) ≡ length (kinds_in scene)
 full scene scripts p = states-many scripts ∙ ap length p
 
 opened-full : (scene : SceneView) (routes : List Route) → IsFull scene (opening scene routes)
 unfolding opening
 opened-full scene routes =
-    let plan : Plan = plan_of scene routes in
-    let s : Started = started plan (scripts_in scene) in
-    let c : Course = sent_by_all plan (opening_course scene s.scripts) s.sendings in
-    full scene (settle plan c).scripts
-    (settled-of plan (kinds_in scene) c
-    (all-of plan (kinds_in scene) (opening_course scene s.scripts) s.sendings (started-of plan (kinds_in scene) (scripts_in scene) refl)))
+    let wiring : Wiring = wiring_of scene routes in
+    let s : Started = started wiring (scripts_in scene) in
+    let c : Course = sent_by_all wiring (opening_course scene s.scripts) s.sendings in
+    full scene (settle wiring c).scripts
+    (settled-of wiring (kinds_in scene) c
+    (all-of wiring (kinds_in scene) (opening_course scene s.scripts) s.sendings (started-of wiring (kinds_in scene) (scripts_in scene) refl)))
 
-pub applied-full : (scene : SceneView) (routes : List Route) (w : Scripted) (input : Stamp) → IsFull scene w → IsFull scene (apply scene routes w input)
+pub applied-full : (scene : SceneView) (routes : List Route) (w : Scripted) (input : StampedView) → IsFull scene w → IsFull scene (apply scene routes w input)
 unfolding apply
 applied-full scene routes w input p =
-    let plan : Plan = plan_of scene routes in
+    let wiring : Wiring = wiring_of scene routes in
     let c : Course = begun scene w input in
-    full scene (after_input scene plan c input).scripts
-    (after-of plan (kinds_in scene) scene c input (running-kinds (kinds_in scene) w.states p))
+    full scene (after_input scene wiring c input).scripts
+    (after-of wiring (kinds_in scene) scene c input (running-kinds (kinds_in scene) w.states p))
 
-inputs-full : (scene : SceneView) (routes : List Route) (w : Scripted) (inputs : List Stamp) → IsFull scene w → IsFull scene (world_after scene routes w inputs)
+inputs-full : (scene : SceneView) (routes : List Route) (w : Scripted) (inputs : List StampedView) → IsFull scene w → IsFull scene (world_after scene routes w inputs)
 inputs-full scene routes w [] p = p
 inputs-full scene routes w (input ∷ inputs) p = inputs-full scene routes (apply scene routes w input) inputs (applied-full scene routes w input p)
 

@@ -4,27 +4,27 @@ use Rattle.std.specs.Prelude.{slice_get, slice_set}
 use Rattle.std.specs.List.{AllByRecursion, fold, list_all, range_with_len}
 use Rattle.std.proofs.lemmas.List.{length-map, reverse-append}
 use Rattle.x3d_values.specs.declared.script.Kind.{Kind}
-use Rattle.react_core.specs.declared.outbox.Reply.{Reply}
+use Rattle.react_core.specs.declared.outbox.SentEvent.{SentEvent}
 use Rattle.scene_core.specs.Scene.{SceneView, shapes_of}
 use Rattle.scene_core.specs.Shape.{Shape}
 use Rattle.script_running.specs.declared.run.Run.{Run}
 use Rattle.script_host.specs.Behaviour.{Initialize}
-use Rattle.script_host.specs.Hosting.{ScriptRecord, after_call}
-use Rattle.script_slots.specs.Settling.{Settling, unsettled}
+use Rattle.script_host.specs.Hosting.{SlotView, after_call}
+use Rattle.script_slots.specs.Settling.{DueScriptsView, unsettled}
 use Rattle.script_running.specs.Acting.{act, acting, kinds_of}
-use Rattle.script_running.specs.Ports.{Wiring}
+use Rattle.script_running.specs.Ports.{PortsView}
 use Rattle.script_running.proofs.CallLemmas.{kinds_stand}
-use Rattle.cascade_core.specs.Apply.{Sending, Started, opening, sent_by_all, start_one, started, untold}
+use Rattle.cascade_core.specs.Apply.{SendingView, Started, opening, sent_by_all, start_one, started, untold}
 use Rattle.cascade_core.specs.Cascade.{send_replies}
-use Rattle.cascade_core.specs.Course.{Course, Plan, Scripted, course, ended, node_of, plan_at, plan_of, ports_of}
+use Rattle.cascade_core.specs.Course.{Course, PortsView, Scripted, course, ended, node_of, wiring_at, wiring_of, ports_of}
 use Rattle.cascade_core.specs.Outputs.{is_scene_output}
 use Rattle.cascade_core.specs.Scripts.{are_begun, kinds_in, scripts_in}
 use Rattle.cascade_core.specs.Settles.{settle}
-use Rattle.cascade_core.specs.Sound.{IsCast, IsFixed, IsSound, are_outputs, are_sent}
+use Rattle.cascade_core.specs.Sound.{HasScriptsOf, IsFixed, IsSound, are_outputs, are_sent}
 use Rattle.cascade_core.specs.Stack.{IsReady}
 use Rattle.cascade_rules.specs.Replies.{send_by}
-use Rattle.cascade_core.specs.declared.fixed.Fixed.{Fixed}
-use Rattle.cascade_world.specs.declared.world.Turn.{Turn}
+use Rattle.cascade_core.specs.declared.fixed.RoutedScene.{RoutedScene}
+use Rattle.cascade_world.specs.declared.world.Live.{Live}
 use Rattle.cascade_core.proofs.Keeping.{replies-of}
 use Rattle.cascade_core.proofs.SceneOutputs.{AllOutputs}
 use Rattle.cascade_core.proofs.SoundLemmas.{act-sends}
@@ -36,24 +36,24 @@ both false y h = cc
 
 -- ---- what is sent
 
-fields-sent : (shapes : List Shape) (node : ℕ) (replies : List Reply) → AllOutputs shapes node replies → are_outputs shapes node (map (λ (r : Reply). r.field) replies) ≡ true
+fields-sent : (shapes : List Shape) (node : ℕ) (replies : List SentEvent) → AllOutputs shapes node replies → are_outputs shapes node (map (λ (r : SentEvent). r.field) replies) ≡ true
 fields-sent shapes node [] h = refl
 fields-sent shapes node (r ∷ replies) h = rw h.0 (fields-sent shapes node replies h.1)
 
-ready-append : (shapes : List Shape) (node : ℕ) (replies : List Reply) (r : Reply) → AllByRecursion (IsReady shapes) (map (send_by node) replies) →
+ready-append : (shapes : List Shape) (node : ℕ) (replies : List SentEvent) (r : SentEvent) → AllByRecursion (IsReady shapes) (map (send_by node) replies) →
     is_scene_output shapes (record { node = node; field = r.field }) ≡ true → AllByRecursion (IsReady shapes) (map (send_by node) (replies ++ r ∷ []))
 ready-append shapes node [] r h is = (is, tt)
 ready-append shapes node (x ∷ replies) r h is = (h.0, ready-append shapes node replies r h.1 is)
 
 -- what leaves by outputs may be sent, the first of it last
-pub replies_ready : (shapes : List Shape) (node : ℕ) (replies : List Reply) → are_outputs shapes node (map (λ (r : Reply). r.field) replies) ≡ true →
+pub replies_ready : (shapes : List Shape) (node : ℕ) (replies : List SentEvent) → are_outputs shapes node (map (λ (r : SentEvent). r.field) replies) ≡ true →
     AllByRecursion (IsReady shapes) (map (send_by node) (reverse replies))
 replies_ready shapes node [] h = tt
 replies_ready shapes node (r ∷ replies) h =
-    let (one, rest) = both (is_scene_output shapes (record { node = node; field = r.field })) (are_outputs shapes node (map (λ (x : Reply). x.field) replies)) h in
+    let (one, rest) = both (is_scene_output shapes (record { node = node; field = r.field })) (are_outputs shapes node (map (λ (x : SentEvent). x.field) replies)) h in
     rw (reverse-append (r ∷ []) replies) (ready-append shapes node (reverse replies) r (replies_ready shapes node replies rest) one)
 
-sent-more : (shapes : List Shape) (sendings : List Sending) (s : Sending) → list_all (are_sent shapes) sendings ≡ true → are_sent shapes s ≡ true →
+sent-more : (shapes : List Shape) (sendings : List SendingView) (s : SendingView) → list_all (are_sent shapes) sendings ≡ true → are_sent shapes s ≡ true →
     list_all (are_sent shapes) (sendings ++ s ∷ []) ≡ true
 sent-more shapes [] s h is = rw is refl
 sent-more shapes (x ∷ sendings) s h is =
@@ -62,7 +62,7 @@ sent-more shapes (x ∷ sendings) s h is =
 
 -- ---- scripts that are initialized
 
-begun-more : (rs : List ScriptRecord) (k : ℕ) (r after : ScriptRecord) → slice_get rs k ≡ Some r → after.initialized ≡ true → are_begun (take k rs) ≡ true →
+begun-more : (rs : List SlotView) (k : ℕ) (r after : SlotView) → slice_get rs k ≡ Some r → after.initialized ≡ true → are_begun (take k rs) ≡ true →
     are_begun (take (suc k) (slice_set rs k after)) ≡ true
 begun-more [] k r after here is h = cc
 begun-more (x ∷ rs) zero r after here is h = rw is refl
@@ -70,182 +70,182 @@ begun-more (x ∷ rs) (suc k) r after here is h =
     let (one, rest) = both x.initialized (are_begun (take k rs)) h in
     rw one (begun-more rs k r after here is rest)
 
-nothing-there : (rs : List ScriptRecord) (k : ℕ) → slice_get rs k ≡ None → k < length rs → ⊥
+nothing-there : (rs : List SlotView) (k : ℕ) → slice_get rs k ≡ None → k < length rs → ⊥
 nothing-there [] k h below = omega (arith, below)
 nothing-there (x ∷ rs) zero h below = cc
 nothing-there (x ∷ rs) (suc k) h below = nothing-there rs k h (omega (arith, below))
 
-begun-act : (ports : Wiring) (k : ℕ) (rs : List ScriptRecord) → k < length rs → are_begun (take k rs) ≡ true → are_begun (take (suc k) (act ports Initialize k rs).scripts) ≡ true
+begun-act : (ports : PortsView) (k : ℕ) (rs : List SlotView) → k < length rs → are_begun (take k rs) ≡ true → are_begun (take (suc k) (act ports Initialize k rs).scripts) ≡ true
 unfolding act
 begun-act ports k rs below h = by-place (slice_get rs k) refl
   where
-    by-place : (place : Option ScriptRecord) → slice_get rs k ≡ place → are_begun (take (suc k) (acting ports Initialize k rs place).scripts) ≡ true
+    by-place : (place : Option SlotView) → slice_get rs k ≡ place → are_begun (take (suc k) (acting ports Initialize k rs place).scripts) ≡ true
     by-place None here = absurd (nothing-there rs k here below)
     by-place (Some r) here = begun-more rs k r (after_call Initialize r) here refl h
 
-take-all : (rs : List ScriptRecord) (k : ℕ) → k ≡ length rs → take k rs ≡ rs
+take-all : (rs : List SlotView) (k : ℕ) → k ≡ length rs → take k rs ≡ rs
 take-all [] zero e = refl
 take-all [] (suc k) e = refl
 take-all (r ∷ rs) zero e = absurd (omega (arith, e))
-take-all (r ∷ rs) (suc k) e = ap (λ (xs : List ScriptRecord). r ∷ xs) (take-all rs k (omega (arith, e)))
+take-all (r ∷ rs) (suc k) e = ap (λ (xs : List SlotView). r ∷ xs) (take-all rs k (omega (arith, e)))
 
-lengths : (xs ys : List ScriptRecord) → kinds_of xs ≡ kinds_of ys → length xs ≡ length ys
-lengths xs ys e = sym (length-map xs (λ (r : ScriptRecord). r.kind)) ∙ ap length e ∙ length-map ys (λ (r : ScriptRecord). r.kind)
+lengths : (xs ys : List SlotView) → kinds_of xs ≡ kinds_of ys → length xs ≡ length ys
+lengths xs ys e = sym (length-map xs (λ (r : SlotView). r.kind)) ∙ ap length e ∙ length-map ys (λ (r : SlotView). r.kind)
 
-module _ (plan : Plan) where
-  kinds-one : (s : Started) (k : ℕ) → kinds_of (start_one plan s k).scripts ≡ kinds_of s.scripts
-  kinds-one s k = kinds_stand (ports_of plan k) Initialize k s.scripts
+module _ (wiring : PortsView) where
+  kinds-one : (s : Started) (k : ℕ) → kinds_of (start_one wiring s k).scripts ≡ kinds_of s.scripts
+  kinds-one s k = kinds_stand (ports_of wiring k) Initialize k s.scripts
 
-  kinds-all : (s : Started) (ks : List ℕ) → kinds_of (fold (start_one plan) s ks).scripts ≡ kinds_of s.scripts
+  kinds-all : (s : Started) (ks : List ℕ) → kinds_of (fold (start_one wiring) s ks).scripts ≡ kinds_of s.scripts
   kinds-all s [] = refl
-  kinds-all s (k ∷ ks) = kinds-all (start_one plan s k) ks ∙ kinds-one s k
+  kinds-all s (k ∷ ks) = kinds-all (start_one wiring s k) ks ∙ kinds-one s k
 
-  sent-all : (s : Started) (ks : List ℕ) → IsSound plan (kinds_of s.scripts) → list_all (are_sent plan.shapes) s.sendings ≡ true →
-      list_all (are_sent plan.shapes) (fold (start_one plan) s ks).sendings ≡ true
+  sent-all : (s : Started) (ks : List ℕ) → IsSound wiring (kinds_of s.scripts) → list_all (are_sent wiring.shapes) s.sendings ≡ true →
+      list_all (are_sent wiring.shapes) (fold (start_one wiring) s ks).sendings ≡ true
   sent-all s [] sound h = h
   sent-all s (k ∷ ks) sound h =
-      let a = act (ports_of plan k) Initialize k s.scripts in
-      let one : are_sent plan.shapes (record { node = node_of plan k; replies = a.replies }) ≡ true =
-      fields-sent plan.shapes (node_of plan k) a.replies (act-sends plan s.scripts sound k Initialize) in
-      sent-all (start_one plan s k) ks (subst (λ (kinds : List Kind). IsSound plan kinds) (sym (kinds-one s k)) sound)
-      (sent-more plan.shapes s.sendings (record { node = node_of plan k; replies = a.replies }) h one)
+      let a = act (ports_of wiring k) Initialize k s.scripts in
+      let one : are_sent wiring.shapes (record { node = node_of wiring k; replies = a.replies }) ≡ true =
+      fields-sent wiring.shapes (node_of wiring k) a.replies (act-sends wiring s.scripts sound k Initialize) in
+      sent-all (start_one wiring s k) ks (subst (λ (kinds : List Kind). IsSound wiring kinds) (sym (kinds-one s k)) sound)
+      (sent-more wiring.shapes s.sendings (record { node = node_of wiring k; replies = a.replies }) h one)
 
-  begun-all : (n k : ℕ) (s : Started) → k + n ≡ length s.scripts → are_begun (take k s.scripts) ≡ true → are_begun (fold (start_one plan) s (range_with_len k n)).scripts ≡ true
+  begun-all : (n k : ℕ) (s : Started) → k + n ≡ length s.scripts → are_begun (take k s.scripts) ≡ true → are_begun (fold (start_one wiring) s (range_with_len k n)).scripts ≡ true
   begun-all zero k s e h = rw (take-all s.scripts k (omega (arith, e))) at h
   begun-all (suc n) k s e h =
       let next : k + 1 ≡ suc k = omega arith in
-      let many : length (start_one plan s k).scripts ≡ length s.scripts = lengths (start_one plan s k).scripts s.scripts (kinds-one s k) in
-      begun-all n (k + 1) (start_one plan s k) (omega (arith, e, many))
-      (ap (λ (j : ℕ). are_begun (take j (start_one plan s k).scripts)) next ∙ begun-act (ports_of plan k) k s.scripts (omega (arith, e)) h)
+      let many : length (start_one wiring s k).scripts ≡ length s.scripts = lengths (start_one wiring s k).scripts s.scripts (kinds-one s k) in
+      begun-all n (k + 1) (start_one wiring s k) (omega (arith, e, many))
+      (ap (λ (j : ℕ). are_begun (take j (start_one wiring s k).scripts)) next ∙ begun-act (ports_of wiring k) k s.scripts (omega (arith, e)) h)
 
   -- one script more is initialized
   pub next_started : (s : Started) (k n : ℕ) → k < n →
-      fold (start_one plan) (start_one plan s k) (range_with_len (k + 1) (n - (k + 1))) ≡ fold (start_one plan) s (range_with_len k (n - k))
+      fold (start_one wiring) (start_one wiring s k) (range_with_len (k + 1) (n - (k + 1))) ≡ fold (start_one wiring) s (range_with_len k (n - k))
   next_started s k n h =
       let e : n - k ≡ suc (n - (k + 1)) = omega (arith, h) in
-      ap (λ (m : ℕ). fold (start_one plan) s (range_with_len k m)) (sym e)
+      ap (λ (m : ℕ). fold (start_one wiring) s (range_with_len k m)) (sym e)
 
-  pub started_kinds : (rs : List ScriptRecord) → kinds_of (started plan rs).scripts ≡ kinds_of rs
+  pub started_kinds : (rs : List SlotView) → kinds_of (started wiring rs).scripts ≡ kinds_of rs
   unfolding started
   started_kinds rs = kinds-all (record { scripts = rs; sendings = [] }) (range_with_len 0 (length rs))
 
-  pub started_many : (rs : List ScriptRecord) → length (started plan rs).scripts ≡ length rs
-  started_many rs = lengths (started plan rs).scripts rs (started_kinds rs)
+  pub started_many : (rs : List SlotView) → length (started wiring rs).scripts ≡ length rs
+  started_many rs = lengths (started wiring rs).scripts rs (started_kinds rs)
 
-  pub started_sent : (rs : List ScriptRecord) → IsSound plan (kinds_of rs) → list_all (are_sent plan.shapes) (started plan rs).sendings ≡ true
+  pub started_sent : (rs : List SlotView) → IsSound wiring (kinds_of rs) → list_all (are_sent wiring.shapes) (started wiring rs).sendings ≡ true
   unfolding started
   started_sent rs sound = sent-all (record { scripts = rs; sendings = [] }) (range_with_len 0 (length rs)) sound refl
 
-  pub started_begun : (rs : List ScriptRecord) → are_begun (started plan rs).scripts ≡ true
+  pub started_begun : (rs : List SlotView) → are_begun (started wiring rs).scripts ≡ true
   unfolding started
   started_begun rs = begun-all (length rs) 0 (record { scripts = rs; sendings = [] }) (omega arith) refl
 
   -- ---- what they send is sent
 
   -- no script settles by it
-  pub sent_unsettled : (c : Course) (sendings : List Sending) → c.settling.settled ≡ [] → (sent_by_all plan c sendings).settling.settled ≡ []
+  pub sent_unsettled : (c : Course) (sendings : List SendingView) → c.settling.settled ≡ [] → (sent_by_all wiring c sendings).settling.settled ≡ []
   sent_unsettled c [] none = none
   sent_unsettled c (x ∷ xs) none =
-      sent_unsettled (send_replies plan x.node c x.replies) xs
-      (replies-of plan (λ (d : Course). d.settling.settled ≡ []) (λ d s v h p. p) (λ d a p. p) (λ d q p. p) (λ d k call p. p) x.node c x.replies none)
+      sent_unsettled (send_replies wiring x.node c x.replies) xs
+      (replies-of wiring (λ (d : Course). d.settling.settled ≡ []) (λ d s v h p. p) (λ d a p. p) (λ d q p. p) (λ d k call p. p) x.node c x.replies none)
 
 -- ---- the whole of input 0
 
-abbrev opened-from : SceneView → Plan → List ScriptRecord → Scripted
-opened-from scene plan given =
-    let s = started plan given in
-    ended (settle plan (sent_by_all plan (course (record { world = untold scene; sent = [] }) s.scripts) s.sendings))
+abbrev opened-from : SceneView → PortsView → List SlotView → Scripted
+opened-from scene wiring given =
+    let s = started wiring given in
+    ended (settle wiring (sent_by_all wiring (course (record { world = untold scene; sent = [] }) s.scripts) s.sendings))
 
-fixed-plan : (g : Fixed) → IsFixed g → plan_at g ≡ plan_of g.scene g.routes
+fixed-plan : (g : RoutedScene) → IsFixed g → wiring_at g ≡ wiring_of g.scene g.routes
 fixed-plan g fixed = ap made fixed
   where
-    made : List Run → Plan
+    made : List Run → PortsView
     made runs = record { shapes = shapes_of g.scene; routes = g.routes; runs = runs }
 
-opened-fixed : (g : Fixed) → IsFixed g → opened-from g.scene (plan_at g) (scripts_in g.scene) ≡ opening g.scene g.routes
+opened-fixed : (g : RoutedScene) → IsFixed g → opened-from g.scene (wiring_at g) (scripts_in g.scene) ≡ opening g.scene g.routes
 unfolding opening
-opened-fixed g fixed = ap (λ (plan : Plan). opened-from g.scene plan (scripts_in g.scene)) (fixed-plan g fixed)
+opened-fixed g fixed = ap (λ (wiring : PortsView). opened-from g.scene wiring (scripts_in g.scene)) (fixed-plan g fixed)
 
 -- the course behind the initialization of all scripts
-abbrev starts : Turn → List ScriptRecord → Settling → Course
-starts turn rs settling = record { turn = turn; scripts = rs; settling = settling }
+abbrev starts : Live → List SlotView → DueScriptsView → Course
+starts live rs settling = record { live = live; scripts = rs; settling = settling }
 
-starts-same : (turn : Turn) (scene : SceneView) (rs given : List ScriptRecord) (settling : Settling) (many : ℕ) → turn.world ≡ untold scene → turn.sent ≡ [] → rs ≡ given →
-    settling ≡ unsettled many → many ≡ length given → starts turn rs settling ≡ course (record { world = untold scene; sent = [] }) given
-starts-same turn scene rs given settling many world unsent e is counted =
-    let same : turn ≡ record { world = untold scene; sent = [] } = ap (λ w. record { world = w; sent = turn.sent }) world ∙ ap (λ s. record { world = untold scene; sent = s }) unsent in
+starts-same : (live : Live) (scene : SceneView) (rs given : List SlotView) (settling : DueScriptsView) (many : ℕ) → live.world ≡ untold scene → live.sent ≡ [] → rs ≡ given →
+    settling ≡ unsettled many → many ≡ length given → starts live rs settling ≡ course (record { world = untold scene; sent = [] }) given
+starts-same live scene rs given settling many world unsent e is counted =
+    let same : live ≡ record { world = untold scene; sent = [] } = ap (λ w. record { world = w; sent = live.sent }) world ∙ ap (λ s. record { world = untold scene; sent = s }) unsent in
     let all : settling ≡ unsettled (length given) = is ∙ ap unsettled counted in
-    ap (λ (t : Turn). starts t rs settling) same
-    ∙ ap (λ (xs : List ScriptRecord). starts (record { world = untold scene; sent = [] }) xs settling) e
-    ∙ ap (λ (s : Settling). starts (record { world = untold scene; sent = [] }) given s) all
+    ap (λ (t : Live). starts t rs settling) same
+    ∙ ap (λ (xs : List SlotView). starts (record { world = untold scene; sent = [] }) xs settling) e
+    ∙ ap (λ (s : DueScriptsView). starts (record { world = untold scene; sent = [] }) given s) all
 
 -- how input 0 ends
-pub opened_same : (g : Fixed) → IsFixed g → (turn : Turn) (given rs : List ScriptRecord) (settling : Settling) (many : ℕ) (sendings : List Sending) (before after : Course) →
-    given ≡ scripts_in g.scene → turn.world ≡ untold g.scene → turn.sent ≡ [] →
-    rs ≡ (started (plan_at g) given).scripts → settling ≡ unsettled many → many ≡ length given → sendings ≡ (started (plan_at g) given).sendings →
-    before ≡ sent_by_all (plan_at g) (record { turn = turn; scripts = rs; settling = settling }) sendings → after ≡ settle (plan_at g) before →
+pub opened_same : (g : RoutedScene) → IsFixed g → (live : Live) (given rs : List SlotView) (settling : DueScriptsView) (many : ℕ) (sendings : List SendingView) (before after : Course) →
+    given ≡ scripts_in g.scene → live.world ≡ untold g.scene → live.sent ≡ [] →
+    rs ≡ (started (wiring_at g) given).scripts → settling ≡ unsettled many → many ≡ length given → sendings ≡ (started (wiring_at g) given).sendings →
+    before ≡ sent_by_all (wiring_at g) (record { live = live; scripts = rs; settling = settling }) sendings → after ≡ settle (wiring_at g) before →
     ended after ≡ opening g.scene g.routes
-opened_same g fixed turn given rs settling many sendings before after same world unsent scripts is counted sent was done =
-    let plan = plan_at g in
-    let all : many ≡ length (started plan given).scripts = counted ∙ sym (started_many plan given) in
+opened_same g fixed live given rs settling many sendings before after same world unsent scripts is counted sent was done =
+    let wiring = wiring_at g in
+    let all : many ≡ length (started wiring given).scripts = counted ∙ sym (started_many wiring given) in
     ap ended done
-    ∙ ap (λ (c : Course). ended (settle plan c)) was
-    ∙ ap (λ (c : Course). ended (settle plan (sent_by_all plan c sendings))) (starts-same turn g.scene rs (started plan given).scripts settling many world unsent scripts is all)
-    ∙ ap (λ (xs : List Sending). ended (settle plan (sent_by_all plan (course (record { world = untold g.scene; sent = [] }) (started plan given).scripts) xs))) sent
-    ∙ ap (λ (xs : List ScriptRecord). opened-from g.scene plan xs) same
+    ∙ ap (λ (c : Course). ended (settle wiring c)) was
+    ∙ ap (λ (c : Course). ended (settle wiring (sent_by_all wiring c sendings))) (starts-same live g.scene rs (started wiring given).scripts settling many world unsent scripts is all)
+    ∙ ap (λ (xs : List SendingView). ended (settle wiring (sent_by_all wiring (course (record { world = untold g.scene; sent = [] }) (started wiring given).scripts) xs))) sent
+    ∙ ap (λ (xs : List SlotView). opened-from g.scene wiring xs) same
     ∙ opened-fixed g fixed
 
 -- nothing was settled before
-pub sent_fresh : (plan : Plan) (turn : Turn) (rs : List ScriptRecord) (settling : Settling) (after : Course) (sendings : List Sending) (many : ℕ) →
-    after ≡ sent_by_all plan (record { turn = turn; scripts = rs; settling = settling }) sendings → settling ≡ unsettled many → after.settling.settled ≡ []
-sent_fresh plan turn rs settling after sendings many is none =
-    ap (λ (c : Course). c.settling.settled) is ∙ sent_unsettled plan (record { turn = turn; scripts = rs; settling = settling }) sendings (ap (λ (s : Settling). s.settled) none)
+pub sent_fresh : (wiring : PortsView) (live : Live) (rs : List SlotView) (settling : DueScriptsView) (after : Course) (sendings : List SendingView) (many : ℕ) →
+    after ≡ sent_by_all wiring (record { live = live; scripts = rs; settling = settling }) sendings → settling ≡ unsettled many → after.settling.settled ≡ []
+sent_fresh wiring live rs settling after sendings many is none =
+    ap (λ (c : Course). c.settling.settled) is ∙ sent_unsettled wiring (record { live = live; scripts = rs; settling = settling }) sendings (ap (λ (s : DueScriptsView). s.settled) none)
 
 -- ---- the scripts of the course
 
 -- a script that there is is run
-pub script_run : (plan : Plan) (rs : List ScriptRecord) (k : ℕ) → IsSound plan (kinds_of rs) → k < length rs → k < length plan.runs
-script_run plan rs k sound below = omega (arith, below, sound.many, length-map rs (λ (r : ScriptRecord). r.kind))
+pub script_run : (wiring : PortsView) (rs : List SlotView) (k : ℕ) → IsSound wiring (kinds_of rs) → k < length rs → k < length wiring.runs
+script_run wiring rs k sound below = omega (arith, below, sound.many, length-map rs (λ (r : SlotView). r.kind))
 
-pub started_first : (plan : Plan) (rs : List ScriptRecord) (sendings : List Sending) (n : ℕ) → sendings ≡ [] → n ≡ length rs →
-    fold (start_one plan) (record { scripts = rs; sendings = sendings }) (range_with_len 0 (n - 0)) ≡ started plan rs
+pub started_first : (wiring : PortsView) (rs : List SlotView) (sendings : List SendingView) (n : ℕ) → sendings ≡ [] → n ≡ length rs →
+    fold (start_one wiring) (record { scripts = rs; sendings = sendings }) (range_with_len 0 (n - 0)) ≡ started wiring rs
 unfolding started
-started_first plan rs sendings n none e =
+started_first wiring rs sendings n none e =
     let all : n - 0 ≡ length rs = omega (arith, e) in
-    ap (λ (xs : List Sending). fold (start_one plan) (record { scripts = rs; sendings = xs }) (range_with_len 0 (n - 0))) none
-    ∙ ap (λ (m : ℕ). fold (start_one plan) (record { scripts = rs; sendings = [] }) (range_with_len 0 m)) all
+    ap (λ (xs : List SendingView). fold (start_one wiring) (record { scripts = rs; sendings = xs }) (range_with_len 0 (n - 0))) none
+    ∙ ap (λ (m : ℕ). fold (start_one wiring) (record { scripts = rs; sendings = [] }) (range_with_len 0 m)) all
 
 -- one script more was initialized
-pub started_more : (plan : Plan) (whole : Started) (rs after : List ScriptRecord) (sendings more : List Sending) (one : Sending) (k n : ℕ) → k < n →
-    after ≡ (act (ports_of plan k) Initialize k rs).scripts → one ≡ record { node = node_of plan k; replies = (act (ports_of plan k) Initialize k rs).replies } → more ≡ sendings ++ one ∷ [] →
-    fold (start_one plan) (record { scripts = rs; sendings = sendings }) (range_with_len k (n - k)) ≡ whole →
-    fold (start_one plan) (record { scripts = after; sendings = more }) (range_with_len (k + 1) (n - (k + 1))) ≡ whole
-started_more plan whole rs after sendings more one k n below scripts sent pushed e =
+pub started_more : (wiring : PortsView) (whole : Started) (rs after : List SlotView) (sendings more : List SendingView) (one : SendingView) (k n : ℕ) → k < n →
+    after ≡ (act (ports_of wiring k) Initialize k rs).scripts → one ≡ record { node = node_of wiring k; replies = (act (ports_of wiring k) Initialize k rs).replies } → more ≡ sendings ++ one ∷ [] →
+    fold (start_one wiring) (record { scripts = rs; sendings = sendings }) (range_with_len k (n - k)) ≡ whole →
+    fold (start_one wiring) (record { scripts = after; sendings = more }) (range_with_len (k + 1) (n - (k + 1))) ≡ whole
+started_more wiring whole rs after sendings more one k n below scripts sent pushed e =
     let s : Started = record { scripts = rs; sendings = sendings } in
-    let same : record { scripts = after; sendings = more } ≡ start_one plan s k =
-    ap (λ (xs : List ScriptRecord). pair xs more) scripts ∙ ap (λ (ys : List Sending). pair (start_one plan s k).scripts ys) (pushed ∙ ap (λ (x : Sending). sendings ++ x ∷ []) sent) in
-    ap (λ (x : Started). fold (start_one plan) x (range_with_len (k + 1) (n - (k + 1)))) same ∙ next_started plan s k n below ∙ e
+    let same : record { scripts = after; sendings = more } ≡ start_one wiring s k =
+    ap (λ (xs : List SlotView). pair xs more) scripts ∙ ap (λ (ys : List SendingView). pair (start_one wiring s k).scripts ys) (pushed ∙ ap (λ (x : SendingView). sendings ++ x ∷ []) sent) in
+    ap (λ (x : Started). fold (start_one wiring) x (range_with_len (k + 1) (n - (k + 1)))) same ∙ next_started wiring s k n below ∙ e
   where
-    pair : List ScriptRecord → List Sending → Started
+    pair : List SlotView → List SendingView → Started
     pair xs ys = record { scripts = xs; sendings = ys }
 
 -- behind input 0
-pub cast_opened : (plan : Plan) (scene : SceneView) (given : List ScriptRecord) (c : Course) → IsSound plan (kinds_of given) → given ≡ scripts_in scene →
-    kinds_of c.scripts ≡ kinds_in scene → c.settling.count ≡ length c.scripts → IsCast plan c
-cast_opened plan scene given c sound same kinds count = record {
-  sound = subst (λ (ks : List Kind). IsSound plan ks) (ap kinds_of same ∙ sym kinds) sound;
-  counted = count ∙ sym (length-map c.scripts (λ (r : ScriptRecord). r.kind));
+pub cast_opened : (wiring : PortsView) (scene : SceneView) (given : List SlotView) (c : Course) → IsSound wiring (kinds_of given) → given ≡ scripts_in scene →
+    kinds_of c.scripts ≡ kinds_in scene → c.settling.count ≡ length c.scripts → HasScriptsOf wiring c
+cast_opened wiring scene given c sound same kinds count = record {
+  sound = subst (λ (ks : List Kind). IsSound wiring ks) (ap kinds_of same ∙ sym kinds) sound;
+  counted = count ∙ sym (length-map c.scripts (λ (r : SlotView). r.kind));
 }
 
 -- scripts that were all initialized are of the kinds that they were of, and as many
-pub opening-cast : (plan : Plan) (given rs : List ScriptRecord) (turn : Turn) (settling : Settling) (many : ℕ) → IsSound plan (kinds_of given) →
-    kinds_of rs ≡ kinds_of given → settling ≡ unsettled many → many ≡ length given → IsCast plan (record { turn = turn; scripts = rs; settling = settling })
-opening-cast plan given rs turn settling many sound kinds is counted = record {
-  sound = subst (λ (ks : List Kind). IsSound plan ks) (sym kinds) sound;
-  counted = ap (λ (s : Settling). s.count) is ∙ counted ∙ sym (length-map given (λ (r : ScriptRecord). r.kind)) ∙ ap length (sym kinds);
+pub opening-cast : (wiring : PortsView) (given rs : List SlotView) (live : Live) (settling : DueScriptsView) (many : ℕ) → IsSound wiring (kinds_of given) →
+    kinds_of rs ≡ kinds_of given → settling ≡ unsettled many → many ≡ length given → HasScriptsOf wiring (record { live = live; scripts = rs; settling = settling })
+opening-cast wiring given rs live settling many sound kinds is counted = record {
+  sound = subst (λ (ks : List Kind). IsSound wiring ks) (sym kinds) sound;
+  counted = ap (λ (s : DueScriptsView). s.count) is ∙ counted ∙ sym (length-map given (λ (r : SlotView). r.kind)) ∙ ap length (sym kinds);
 }
 
-pub opening-count : (given after : List ScriptRecord) (settling : Settling) (many count : ℕ) → count ≡ settling.count → settling ≡ unsettled many →
+pub opening-count : (given after : List SlotView) (settling : DueScriptsView) (many count : ℕ) → count ≡ settling.count → settling ≡ unsettled many →
     many ≡ length given → kinds_of after ≡ kinds_of given → count ≡ length after
 opening-count given after settling many count same is counted kinds =
-    same ∙ ap (λ (s : Settling). s.count) is ∙ counted ∙ lengths given after (sym kinds)
+    same ∙ ap (λ (s : DueScriptsView). s.count) is ∙ counted ∙ lengths given after (sym kinds)

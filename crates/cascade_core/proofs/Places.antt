@@ -1,7 +1,7 @@
 -- A box that is to take the place of a script has one answer, memory aside.
 use Rattle.std.proofs.Common.{◌≡◌, false, refl, Some, None, inl, inr}
 use Rattle.x3d_values.specs.declared.script.Kind.{Kind}
-use Rattle.script_host.specs.Hosting.{ScriptRecord}
+use Rattle.script_host.specs.Hosting.{SlotView}
 use Rattle.cascade_core.specs.declared.fault.PlaceFault.{PlaceFault}
 use Rattle.cascade_core.specs.declared.fault.PlaceFault.TheVariants as fault
 use Rattle.cascade_core.specs.Held.{Held, is_spoiled}
@@ -16,7 +16,7 @@ none_there held kind fault.KindDiffers h r = absurd r
 none_there held kind fault.Memory h r = absurd r
 
 -- where there is one of another kind
-other_there : (held : Held) (x : ScriptRecord) (kind : Kind) (other : PlaceFault) → is_spoiled held ≡ false → (kind ≡ x.kind → ⊥) → RefusesBox other held (Some x) kind →
+other_there : (held : Held) (x : SlotView) (kind : Kind) (other : PlaceFault) → is_spoiled held ≡ false → (kind ≡ x.kind → ⊥) → RefusesBox other held (Some x) kind →
     fault.KindDiffers ≡ other
 other_there held x kind fault.Spoiled h differs r = cc
 other_there held x kind fault.NoSuchScript h differs r = cc

@@ -11,13 +11,13 @@ use Rattle.x3d_values.specs.declared.fields.Fields.{Fields}
 use Rattle.x3d_values.specs.declared.node_type.NodeType.{NodeType}
 use Rattle.x3d_values.specs.declared.node_type.NodeType.TheVariants.{TimeSensor}
 use Rattle.x3d_values.specs.declared.value.Value.{Value}
-use Rattle.x3d_values.specs.Tables.{Entry, numbered, rows}
+use Rattle.x3d_values.specs.Tables.{FieldRowView, numbered, rows}
 use Rattle.x3d_values.specs.declared.table.FieldRow.{FieldRow}
-use Rattle.react_core.specs.declared.outbox.Reply.{Reply}
+use Rattle.react_core.specs.declared.outbox.SentEvent.{SentEvent}
 use Rattle.react_core.specs.Access.{is_sender, leave_by_outputs}
 use Rattle.react_core.specs.Access.{is_output as is_output_of_type}
 use Rattle.react_core.specs.Reaction.{is_time_sensor}
-use Rattle.sensor_core.specs.Timing.{Timing, timing_of}
+use Rattle.sensor_core.specs.Timing.{TimeFieldsView, timing_of}
 use Rattle.scene_core.specs.declared.scene.End.{End}
 use Rattle.cascade_trace.specs.Ends.{has_sent, same_end}
 use Rattle.cascade_world.specs.Access.{is_set, is_output}
@@ -38,8 +38,8 @@ use Rattle.cascade_world.proofs.PointingReplies.{meeting-leaves, touching-leaves
 use Rattle.cascade_world.specs.declared.world.WorldData.{WorldData}
 
 -- all of these are sent by outputs of the scene
-abbrev pub AllOutputs : List Shape → ℕ → List Reply → Type 0
-AllOutputs shapes node replies = AllByRecursion (λ (r : Reply). is_scene_output shapes (record { node = node; field = r.field }) ≡ true) replies
+abbrev pub AllOutputs : List Shape → ℕ → List SentEvent → Type 0
+AllOutputs shapes node replies = AllByRecursion (λ (r : SentEvent). is_scene_output shapes (record { node = node; field = r.field }) ≡ true) replies
 
 or_left : (a b : Bool) → a ≡ true → (a || b) ≡ true
 or_left a b h = rw h refl
@@ -80,8 +80,8 @@ slice_get_some (x ∷ xs) (suc i) n = omega (arith, slice_get_some xs i n)
 output-below : (shape : Shape) (field : ℕ) → is_output shape field ≡ true → field < length (rows_of shape)
 output-below shape field h = within (rows_of shape) h
   where
-    within : (es : List Entry) → option_map_or (λ (e : Entry). is_sender e.access) (slice_get es field) false ≡ true → field < length es
-    within es h = slice_get_some es field (λ k. let no : option_map_or (λ (e : Entry). is_sender e.access) (slice_get es field) false ≡ false = rw k refl in cc)
+    within : (es : List FieldRowView) → option_map_or (λ (e : FieldRowView). is_sender e.access) (slice_get es field) false ≡ true → field < length es
+    within es h = slice_get_some es field (λ k. let no : option_map_or (λ (e : FieldRowView). is_sender e.access) (slice_get es field) false ≡ false = rw k refl in cc)
 
 output-listed : (shape : Shape) (field : ℕ) → is_output shape field ≡ true → list_any (λ g. g == field) (output_fields shape) ≡ true
 unfolding output_fields
@@ -92,8 +92,8 @@ output-listed shape field h =
 typed-output : (shape : Shape) (field : ℕ) → is_output_of_type shape.node_type field ≡ true → is_output shape field ≡ true
 typed-output shape field h = front (rows shape.node_type) field field h
   where
-    front : (es : List Entry) (n i : ℕ) → option_map_or (λ (row : FieldRow). is_sender row.access) (option_map (numbered n) (slice_get es i)) false ≡ true →
-        option_map_or (λ (e : Entry). is_sender e.access) (slice_get (es ++ shape.declared) i) false ≡ true
+    front : (es : List FieldRowView) (n i : ℕ) → option_map_or (λ (row : FieldRow). is_sender row.access) (option_map (numbered n) (slice_get es i)) false ≡ true →
+        option_map_or (λ (e : FieldRowView). is_sender e.access) (slice_get (es ++ shape.declared) i) false ≡ true
     front [] n i h = cc
     front (e ∷ es) n zero h = h
     front (e ∷ es) n (suc i) h = front es n i h
@@ -122,7 +122,7 @@ pub one_output : (shapes : List Shape) (node : ℕ) (shape : Shape) (field : ℕ
 one_output shapes node shape field h o = rw (zero-add node) at (ends_from-has 0 shapes node shape field h (output-listed shape field o))
 
 -- the replies of a node of the scene that leave by outputs of its type are sent by outputs of the scene
-all_outputs : (shapes : List Shape) (node : ℕ) (shape : Shape) → slice_get shapes node ≡ Some shape → (replies : List Reply) → leave_by_outputs shape.node_type replies ≡ true →
+all_outputs : (shapes : List Shape) (node : ℕ) (shape : Shape) → slice_get shapes node ≡ Some shape → (replies : List SentEvent) → leave_by_outputs shape.node_type replies ≡ true →
     AllOutputs shapes node replies
 all_outputs shapes node shape h [] all = tt
 all_outputs shapes node shape h (r ∷ replies) all =
@@ -130,7 +130,7 @@ all_outputs shapes node shape h (r ∷ replies) all =
     (one_output shapes node shape r.field h (typed-output shape r.field one), all_outputs shapes node shape h replies rest)
 
 -- the same of a node whose type is known
-all_by : (shapes : List Shape) (node : ℕ) (shape : Shape) (kind : NodeType) → slice_get shapes node ≡ Some shape → shape.node_type ≡ kind → (replies : List Reply) →
+all_by : (shapes : List Shape) (node : ℕ) (shape : Shape) (kind : NodeType) → slice_get shapes node ≡ Some shape → shape.node_type ≡ kind → (replies : List SentEvent) →
     leave_by_outputs kind replies ≡ true → AllOutputs shapes node replies
 all_by shapes node shape kind h is replies all = all_outputs shapes node shape h replies (rw is all)
 
@@ -154,7 +154,7 @@ not_run-sends shapes w target v shape (Some fields) h = kept (is_set v (slice_ge
     kept true is = (one_output shapes target.node shape target.field h (kept-sends v (slice_get (rows_of shape) target.field) is), tt)
     kept false is = tt
 
-setting-sends : (shapes : List Shape) (w : WorldData) (target : End) (v : Value) (shape : Shape) (fields : Fields) (timing : Option Timing) (cycle : Option (Option ℕ)) →
+setting-sends : (shapes : List Shape) (w : WorldData) (target : End) (v : Value) (shape : Shape) (fields : Fields) (timing : Option TimeFieldsView) (cycle : Option (Option ℕ)) →
     slice_get shapes target.node ≡ Some shape → shape.node_type ≡ TimeSensor → AllOutputs shapes target.node (setting w target v fields timing cycle).replies
 setting-sends shapes w target v shape fields None cycle h is = tt
 setting-sends shapes w target v shape fields (Some timing) None h is = tt
@@ -204,7 +204,7 @@ answer-sends shapes w target v = by_shape (slice_get shapes target.node) refl
 
 -- ---- a tick
 
-ticking-sends : (scene : SceneView) (w : WorldData) (node : ℕ) (now : ℤ) (timing : Option Timing) (cycle : Option (Option ℕ)) →
+ticking-sends : (scene : SceneView) (w : WorldData) (node : ℕ) (now : ℤ) (timing : Option TimeFieldsView) (cycle : Option (Option ℕ)) →
     HasShape scene node TimeSensor → AllOutputs (shapes_of scene) node (ticking w node now timing cycle).replies
 ticking-sends scene w node now None cycle h = tt
 ticking-sends scene w node now (Some timing) None h = tt

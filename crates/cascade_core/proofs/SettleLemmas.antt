@@ -7,7 +7,7 @@ use Rattle.std.proofs.lemmas.List.FromFn.{length-range_with_len}
 use Rattle.script_host.specs.Behaviour.{Settle}
 use Rattle.script_running.specs.Acting.{act}
 use Rattle.cascade_core.specs.Stack.{one_unless}
-use Rattle.cascade_core.specs.Course.{Course, Plan, node_of, ports_of}
+use Rattle.cascade_core.specs.Course.{Course, Wiring, node_of, ports_of}
 use Rattle.cascade_core.specs.ScriptLaws.{SettlesAll}
 use Rattle.script_slots.specs.Settling.{all_differ, is_among, is_due, lowest_due, with_settled}
 use Rattle.cascade_core.specs.Settles.{next_due, settle_one, settle_up_to}
@@ -122,17 +122,17 @@ differ-push (j ∷ ks) k d h =
 
 -- ---- settling
 
-module _ (plan : Plan) where
+module _ (wiring : Wiring) where
   abbrev Stands : List ℕ → ℕ → Course → Type 0
   Stands settled count c = (c.settling.settled ≡ settled) × (c.settling.count ≡ count)
 
-  one-stands : (c : Course) (k : ℕ) → Stands (c.settling.settled ++ k ∷ []) c.settling.count (settle_one plan c k)
+  one-stands : (c : Course) (k : ℕ) → Stands (c.settling.settled ++ k ∷ []) c.settling.count (settle_one wiring c k)
   unfolding settle_one
   one-stands c k =
-      let a = act (ports_of plan k) Settle k c.scripts in
-      replies-of plan (Stands (c.settling.settled ++ k ∷ []) c.settling.count)
+      let a = act (ports_of wiring k) Settle k c.scripts in
+      replies-of wiring (Stands (c.settling.settled ++ k ∷ []) c.settling.count)
       (λ d source v h p. p) (λ d a p. p) (λ d p q. q) (λ d j call p. p)
-      (node_of plan k) (record c { scripts = a.scripts; settling = with_settled c.settling k }) a.replies
+      (node_of wiring k) (record c { scripts = a.scripts; settling = with_settled c.settling k }) a.replies
       (refl, refl)
 
   abbrev pub due_left : Course → ℕ
@@ -142,7 +142,7 @@ module _ (plan : Plan) where
   unfolding lowest_due
   one-due c k h = found (is_due c.settling) (range_with_len 0 c.settling.count) k h
 
-  pub one-fewer : (c : Course) (k : ℕ) → next_due c ≡ Some k → due_left (settle_one plan c k) < due_left c
+  pub one-fewer : (c : Course) (k : ℕ) → next_due c ≡ Some k → due_left (settle_one wiring c k) < due_left c
   one-fewer c k h =
       let (due, there) = one-due c k h in
       let (received, unsettled) = both (is_among c.settling.received k) (not (is_among c.settling.settled k)) due in
@@ -150,7 +150,7 @@ module _ (plan : Plan) where
       rw (settled, count)
       (left-less (range_with_len 0 c.settling.count) c.settling.settled k there (is-not (is_among c.settling.settled k) unsettled))
 
-  one-differs : (c : Course) (k : ℕ) → next_due c ≡ Some k → all_differ c.settling.settled ≡ true → all_differ (settle_one plan c k).settling.settled ≡ true
+  one-differs : (c : Course) (k : ℕ) → next_due c ≡ Some k → all_differ c.settling.settled ≡ true → all_differ (settle_one wiring c k).settling.settled ≡ true
   one-differs c k h d =
       let (due, there) = one-due c k h in
       let (received, unsettled) = both (is_among c.settling.received k) (not (is_among c.settling.settled k)) due in
@@ -159,48 +159,48 @@ module _ (plan : Plan) where
   abbrev Done : Course → Type 0
   Done c = (next_due c ≡ None) × (all_differ c.settling.settled ≡ true)
 
-  settle-by : (n : ℕ) → ((c : Course) → due_left c ≤ n → all_differ c.settling.settled ≡ true → Done (settle_up_to plan n c)) →
-      (c : Course) (due : Option ℕ) → next_due c ≡ due → due_left c ≤ suc n → all_differ c.settling.settled ≡ true → Done (settle_up_to plan (suc n) c)
+  settle-by : (n : ℕ) → ((c : Course) → due_left c ≤ n → all_differ c.settling.settled ≡ true → Done (settle_up_to wiring n c)) →
+      (c : Course) (due : Option ℕ) → next_due c ≡ due → due_left c ≤ suc n → all_differ c.settling.settled ≡ true → Done (settle_up_to wiring (suc n) c)
   unfolding settle_up_to
   settle-by n rest c None h few d = rw h (h, d)
   settle-by n rest c (Some k) h few d =
-      rw h (rest (settle_one plan c k) (omega (arith, one-fewer c k h, few)) (one-differs c k h d))
+      rw h (rest (settle_one wiring c k) (omega (arith, one-fewer c k h, few)) (one-differs c k h d))
 
   none-due : (c : Course) → due_left c ≤ 0 → next_due c ≡ None
   unfolding lowest_due
   none-due c few = settled-all (range_with_len 0 c.settling.count) c.settling.received c.settling.settled few
 
-  settles : (n : ℕ) (c : Course) → due_left c ≤ n → all_differ c.settling.settled ≡ true → Done (settle_up_to plan n c)
+  settles : (n : ℕ) (c : Course) → due_left c ≤ n → all_differ c.settling.settled ≡ true → Done (settle_up_to wiring n c)
   unfolding settle_up_to
   settles zero c few d = (none-due c few, d)
   settles (suc n) c few d = settle-by n (settles n) c (next_due c) refl few d
 
   -- as many steps as there are scripts left to settle are enough
-  settle-by-more : (n m : ℕ) → ((c : Course) → due_left c ≤ n → due_left c ≤ m → settle_up_to plan n c ≡ settle_up_to plan m c) →
-      (c : Course) (due : Option ℕ) → next_due c ≡ due → due_left c ≤ suc n → due_left c ≤ suc m → settle_up_to plan (suc n) c ≡ settle_up_to plan (suc m) c
+  settle-by-more : (n m : ℕ) → ((c : Course) → due_left c ≤ n → due_left c ≤ m → settle_up_to wiring n c ≡ settle_up_to wiring m c) →
+      (c : Course) (due : Option ℕ) → next_due c ≡ due → due_left c ≤ suc n → due_left c ≤ suc m → settle_up_to wiring (suc n) c ≡ settle_up_to wiring (suc m) c
   unfolding settle_up_to
   settle-by-more n m same c None h few less = rw h refl
   settle-by-more n m same c (Some k) h few less =
-      rw h (same (settle_one plan c k) (omega (arith, one-fewer c k h, few)) (omega (arith, one-fewer c k h, less)))
+      rw h (same (settle_one wiring c k) (omega (arith, one-fewer c k h, few)) (omega (arith, one-fewer c k h, less)))
 
-  pub settle-end : (n : ℕ) (c : Course) → next_due c ≡ None → settle_up_to plan n c ≡ c
+  pub settle-end : (n : ℕ) (c : Course) → next_due c ≡ None → settle_up_to wiring n c ≡ c
   unfolding settle_up_to
   settle-end zero c h = refl
   settle-end (suc n) c h = rw h refl
 
-  settle-more : (n m : ℕ) (c : Course) → due_left c ≤ n → due_left c ≤ m → settle_up_to plan n c ≡ settle_up_to plan m c
+  settle-more : (n m : ℕ) (c : Course) → due_left c ≤ n → due_left c ≤ m → settle_up_to wiring n c ≡ settle_up_to wiring m c
   settle-more zero m c few less = settle-end zero c (none-due c few) ∙ sym (settle-end m c (none-due c few))
   settle-more (suc n) zero c few less = settle-end (suc n) c (none-due c less) ∙ sym (settle-end zero c (none-due c less))
   settle-more (suc n) (suc m) c few less = settle-by-more n m (settle-more n m) c (next_due c) refl few less
 
   -- one settles, and then the rest
-  pub settle-step : (n : ℕ) (c : Course) (k : ℕ) → next_due c ≡ Some k → due_left c ≤ n → settle_up_to plan n c ≡ settle_up_to plan n (settle_one plan c k)
+  pub settle-step : (n : ℕ) (c : Course) (k : ℕ) → next_due c ≡ Some k → due_left c ≤ n → settle_up_to wiring n c ≡ settle_up_to wiring n (settle_one wiring c k)
   unfolding settle_up_to
   settle-step zero c k h few = absurd (omega (arith, one-fewer c k h, few))
   settle-step (suc n) c k h few =
-      let less : due_left (settle_one plan c k) ≤ n = omega (arith, one-fewer c k h, few) in
-      let first : settle_up_to plan (suc n) c ≡ settle_up_to plan n (settle_one plan c k) = rw h refl in
-      first ∙ settle-more n (suc n) (settle_one plan c k) less (omega (arith, less))
+      let less : due_left (settle_one wiring c k) ≤ n = omega (arith, one-fewer c k h, few) in
+      let first : settle_up_to wiring (suc n) c ≡ settle_up_to wiring n (settle_one wiring c k) = rw h refl in
+      first ∙ settle-more n (suc n) (settle_one wiring c k) less (omega (arith, less))
 
   pub due_left-most : (c : Course) → due_left c ≤ c.settling.count
   due_left-most c = omega (arith, left-le (range_with_len 0 c.settling.count) c.settling.settled, length-range_with_len 0 c.settling.count)
@@ -218,8 +218,8 @@ module _ (plan : Plan) where
   due-below c k h = omega (arith, among-range 0 c.settling.count k (one-due c k h).1)
 
 pub settles_all : SettlesAll
-settles_all plan c none =
+settles_all wiring c none =
     let ks : List ℕ = range_with_len 0 c.settling.count in
     let few : left ks c.settling.settled ≤ c.settling.count =
     omega (arith, left-le ks c.settling.settled, length-range_with_len 0 c.settling.count) in
-    settles plan c.settling.count c few (rw none refl)
+    settles wiring c.settling.count c few (rw none refl)

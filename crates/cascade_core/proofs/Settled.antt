@@ -1,50 +1,50 @@
 -- What each event and each call of a script keep, settling and the opening keep.
 use Rattle.std.proofs.Common.{◌≡◌, ℕ, false, List, [], ◌∷◌, Option, Some, None, zero, suc, refl}
 use Rattle.x3d_values.specs.declared.value.Value.{Value}
-use Rattle.x3d_values.specs.Pointing.{Pointing}
-use Rattle.x3d_values.specs.Stamp.{Stamp}
+use Rattle.x3d_values.specs.Pointing.{PointerView}
+use Rattle.x3d_values.specs.Stamp.{StampedView}
 use Rattle.scene_core.specs.declared.scene.End.{End}
 use Rattle.scene_core.specs.Scene.{SceneView}
 use Rattle.script_host.specs.Behaviour.{Call, Settle}
 use Rattle.script_running.specs.Acting.{act}
 use Rattle.script_slots.specs.Settling.{with_settled}
-use Rattle.cascade_world.specs.Answers.{Answer, with_answer}
-use Rattle.cascade_core.specs.Apply.{Sending, after_input, happen, sent_by_all, with_button}
+use Rattle.cascade_world.specs.Answers.{NodeAnswer, with_answer}
+use Rattle.cascade_core.specs.Apply.{SendingView, after_input, happen, sent_by_all, with_button}
 use Rattle.cascade_core.specs.Cascade.{recorded, send_replies}
-use Rattle.cascade_core.specs.Course.{Course, Plan, node_of, ports_of, with_turn}
+use Rattle.cascade_core.specs.Course.{Course, Wiring, node_of, ports_of, with_live}
 use Rattle.cascade_trace.specs.Ends.{has_sent}
 use Rattle.cascade_core.specs.Settles.{next_due, settle, settle_one, settle_up_to}
 use Rattle.cascade_core.proofs.Keeping.{called, happen-of, replies-of}
 
-module _ (plan : Plan) (P : Course → Type 0)
-    (records : (c : Course) (source : End) (v : Value) → has_sent c.turn.sent source ≡ false → P c → P (recorded c source v))
-    (answers : (c : Course) (a : Answer) → P c → P (with_turn c (with_answer c.turn a)))
-    (buttons : (c : Course) (p : Pointing) → P c → P (with_turn c (with_button c.turn p)))
-    (calls : (c : Course) (k : ℕ) (call : Call) → P c → P (called plan k call c))
-    (settles : (c : Course) (k : ℕ) → P c → P (record c { scripts = (act (ports_of plan k) Settle k c.scripts).scripts; settling = with_settled c.settling k })) where
-  one-of : (c : Course) (k : ℕ) → P c → P (settle_one plan c k)
+module _ (wiring : Wiring) (P : Course → Type 0)
+    (records : (c : Course) (source : End) (v : Value) → has_sent c.live.sent source ≡ false → P c → P (recorded c source v))
+    (answers : (c : Course) (a : NodeAnswer) → P c → P (with_live c (with_answer c.live a)))
+    (buttons : (c : Course) (p : PointerView) → P c → P (with_live c (with_button c.live p)))
+    (calls : (c : Course) (k : ℕ) (call : Call) → P c → P (called wiring k call c))
+    (settles : (c : Course) (k : ℕ) → P c → P (record c { scripts = (act (ports_of wiring k) Settle k c.scripts).scripts; settling = with_settled c.settling k })) where
+  one-of : (c : Course) (k : ℕ) → P c → P (settle_one wiring c k)
   unfolding settle_one
   one-of c k p =
-      let a = act (ports_of plan k) Settle k c.scripts in
-      replies-of plan P records answers buttons calls (node_of plan k) (record c { scripts = a.scripts; settling = with_settled c.settling k }) a.replies (settles c k p)
+      let a = act (ports_of wiring k) Settle k c.scripts in
+      replies-of wiring P records answers buttons calls (node_of wiring k) (record c { scripts = a.scripts; settling = with_settled c.settling k }) a.replies (settles c k p)
 
-  by-of : (n : ℕ) → ((c : Course) → P c → P (settle_up_to plan n c)) → (c : Course) (due : Option ℕ) → next_due c ≡ due → P c → P (settle_up_to plan (suc n) c)
+  by-of : (n : ℕ) → ((c : Course) → P c → P (settle_up_to wiring n c)) → (c : Course) (due : Option ℕ) → next_due c ≡ due → P c → P (settle_up_to wiring (suc n) c)
   unfolding settle_up_to
   by-of n keeps c None h p = rw h p
-  by-of n keeps c (Some k) h p = rw h (keeps (settle_one plan c k) (one-of c k p))
+  by-of n keeps c (Some k) h p = rw h (keeps (settle_one wiring c k) (one-of c k p))
 
-  up_to-of : (n : ℕ) (c : Course) → P c → P (settle_up_to plan n c)
+  up_to-of : (n : ℕ) (c : Course) → P c → P (settle_up_to wiring n c)
   unfolding settle_up_to
   up_to-of zero c p = p
   up_to-of (suc n) c p = by-of n (up_to-of n) c (next_due c) refl p
 
-  pub settle-of : (c : Course) → P c → P (settle plan c)
+  pub settle-of : (c : Course) → P c → P (settle wiring c)
   settle-of c p = up_to-of c.settling.count c p
 
-  pub input-of : (scene : SceneView) (c : Course) (input : Stamp) → P c → P (after_input scene plan c input)
+  pub input-of : (scene : SceneView) (c : Course) (input : StampedView) → P c → P (after_input scene wiring c input)
   input-of scene c input p =
-      settle-of (happen scene plan input.time c input.event) (happen-of plan P records answers buttons calls scene input.time c input.event p)
+      settle-of (happen scene wiring input.time c input.cause) (happen-of wiring P records answers buttons calls scene input.time c input.cause p)
 
-  pub sent-of : (c : Course) (sendings : List Sending) → P c → P (sent_by_all plan c sendings)
+  pub sent-of : (c : Course) (sendings : List SendingView) → P c → P (sent_by_all wiring c sendings)
   sent-of c [] p = p
-  sent-of c (x ∷ xs) p = sent-of (send_replies plan x.node c x.replies) xs (replies-of plan P records answers buttons calls x.node c x.replies p)
+  sent-of c (x ∷ xs) p = sent-of (send_replies wiring x.node c x.replies) xs (replies-of wiring P records answers buttons calls x.node c x.replies p)

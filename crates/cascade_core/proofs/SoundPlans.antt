@@ -15,7 +15,7 @@ use Rattle.script_running.specs.Runs.{number_in, run_of}
 use Rattle.script_running.specs.Scripts.{script_list}
 use Rattle.script_running.proofs.Outputs.{send_by_outputs}
 use Rattle.script_host.specs.Attaching.{Fits, Meets}
-use Rattle.script_host.specs.Hosting.{ScriptRecord}
+use Rattle.script_host.specs.Hosting.{SlotView}
 use Rattle.script_host.specs.Interface.{outputs}
 use Rattle.script_running.specs.Acting.{kinds_of}
 use Rattle.cascade_core.specs.Course.{no_ports}
@@ -44,7 +44,7 @@ sent-outputs scene node (field ∷ fields) h =
     rw (sent-output scene node field one) (sent-outputs scene node fields rest)
 
 -- what is at a place of a list of kinds is the kind of a script
-kind-of-script : (rs : List ScriptRecord) (k : ℕ) (kind : Kind) → slice_get (kinds_of rs) k ≡ Some kind → (r : ScriptRecord) × (slice_get rs k ≡ Some r) × (r.kind ≡ kind)
+kind-of-script : (rs : List SlotView) (k : ℕ) (kind : Kind) → slice_get (kinds_of rs) k ≡ Some kind → (r : SlotView) × (slice_get rs k ≡ Some r) × (r.kind ≡ kind)
 kind-of-script [] k kind h = cc
 kind-of-script (r ∷ rs) zero kind h = (r, refl, cc)
 kind-of-script (r ∷ rs) (suc k) kind h = kind-of-script rs k kind h
@@ -66,20 +66,20 @@ record Asked (scene : SceneView) (k : ℕ) (kind : Kind) : Type 0 where
   of : asked.kind ≡ Some kind
   fits : asked.fits ≡ true
 
-asked-at : (scene : SceneView) (rs : List ScriptRecord) → Fits (script_list scene) rs → (k : ℕ) (kind : Kind) → slice_get (kinds_of rs) k ≡ Some kind → Asked scene k kind
+asked-at : (scene : SceneView) (rs : List SlotView) → Fits (script_list scene) rs → (k : ℕ) (kind : Kind) → slice_get (kinds_of rs) k ≡ Some kind → Asked scene k kind
 asked-at scene rs fits k kind h =
     let (r, here, is) = kind-of-script rs k kind h in
     let below : k < length (script_list scene) = omega (arith, below-length rs k r here, fits.count) in
     by-spec (slice_get (script_list scene) k) refl r here is (fits.meet k below)
   where
-    by-box : (asked : ScriptSpec) → slice_get (script_list scene) k ≡ Some asked → (r : ScriptRecord) → r.kind ≡ kind → (box : Option ScriptRecord) → box ≡ Some r →
+    by-box : (asked : ScriptSpec) → slice_get (script_list scene) k ≡ Some asked → (r : SlotView) → r.kind ≡ kind → (box : Option SlotView) → box ≡ Some r →
         IsSomeAnd box (λ y. Meets asked y) → Asked scene k kind
     by-box asked at r is None there m = absurd m
     by-box asked at r is (Some y) there m =
         let same : y ≡ r = cc in
-        record { asked = asked; at = at; of = m.kind ∙ ap (λ (z : ScriptRecord). Some z.kind) same ∙ ap Some is; fits = m.interface }
+        record { asked = asked; at = at; of = m.kind ∙ ap (λ (z : SlotView). Some z.kind) same ∙ ap Some is; fits = m.interface }
 
-    by-spec : (found : Option ScriptSpec) → slice_get (script_list scene) k ≡ found → (r : ScriptRecord) → slice_get rs k ≡ Some r → r.kind ≡ kind →
+    by-spec : (found : Option ScriptSpec) → slice_get (script_list scene) k ≡ found → (r : SlotView) → slice_get rs k ≡ Some r → r.kind ≡ kind →
         IsSomeAnd found (λ x. IsSomeAnd (slice_get rs k) (λ y. Meets x y)) → Asked scene k kind
     by-spec None at r here is m = absurd m
     by-spec (Some asked) at r here is m = by-box asked at r is (slice_get rs k) here m
@@ -88,10 +88,10 @@ asked-at scene rs fits k kind h =
 run-at : (scene : SceneView) (runs : List Run) → runs ≡ map (run_of scene) (script_list scene) → (k : ℕ) (kind : Kind) (a : Asked scene k kind) → slice_get runs k ≡ Some (run_of scene a.asked)
 run-at scene runs are k kind a = ap (λ (xs : List Run). slice_get xs k) are ∙ mapped-at (run_of scene) (script_list scene) k a.asked a.at
 
-pub sound_scene : (scene : SceneView) (routes : List Route) (runs : List Run) → runs ≡ map (run_of scene) (script_list scene) → (rs : List ScriptRecord) → Fits (script_list scene) rs →
+pub sound_scene : (scene : SceneView) (routes : List Route) (runs : List Run) → runs ≡ map (run_of scene) (script_list scene) → (rs : List SlotView) → Fits (script_list scene) rs →
     IsSound (record { shapes = shapes_of scene; routes = routes; runs = runs }) (kinds_of rs)
 sound_scene scene routes runs are rs fits = record {
-  many = ap length are ∙ length-map (script_list scene) (run_of scene) ∙ fits.count ∙ sym (length-map rs (λ (r : ScriptRecord). r.kind));
+  many = ap length are ∙ length-map (script_list scene) (run_of scene) ∙ fits.count ∙ sym (length-map rs (λ (r : SlotView). r.kind));
   count = λ k kind h. counted k kind (asked-at scene rs fits k kind h);
   sends = λ k kind h. sent k kind (asked-at scene rs fits k kind h);
 }

@@ -2,9 +2,9 @@
 use Rattle.std.proofs.Common.{◌≡◌, ◌∙◌, ap, sym, arith, ℕ, ◌+◌, ◌-◌, ◌<◌, ◌≤◌, List, length, drop, get_or}
 use Rattle.std.specs.List.{fold, range_with_len}
 use Rattle.std.proofs.lemmas.List.{at_drop_more, at_drop_all, length-map}
-use Rattle.script_host.specs.Hosting.{ScriptRecord}
+use Rattle.script_host.specs.Hosting.{SlotView}
 use Rattle.script_running.specs.Acting.{kinds_of}
-use Rattle.cascade_core.specs.Course.{Plan}
+use Rattle.cascade_core.specs.Course.{Wiring}
 use Rattle.cascade_core.specs.Sound.{IsSound}
 
 -- ---- a fold over the elements that are left
@@ -23,11 +23,11 @@ range_ended f s k n past =
 
 -- ---- scripts whose kinds stand
 
-pub sound_still : (plan : Plan) (old new : List ScriptRecord) → kinds_of new ≡ kinds_of old → IsSound plan (kinds_of old) → IsSound plan (kinds_of new)
-sound_still plan old new kinds sound = rw kinds sound
+pub sound_still : (wiring : Wiring) (old new : List SlotView) → kinds_of new ≡ kinds_of old → IsSound wiring (kinds_of old) → IsSound wiring (kinds_of new)
+sound_still wiring old new kinds sound = rw kinds sound
 
-pub below_still : (old new : List ScriptRecord) (k n : ℕ) → k < n → n ≡ length old → kinds_of new ≡ kinds_of old → k < length new
+pub below_still : (old new : List SlotView) (k n : ℕ) → k < n → n ≡ length old → kinds_of new ≡ kinds_of old → k < length new
 below_still old new k n below many kinds =
     let same : length new ≡ length old =
-    sym (length-map new (λ (r : ScriptRecord). r.kind)) ∙ ap length kinds ∙ length-map old (λ (r : ScriptRecord). r.kind) in
+    sym (length-map new (λ (r : SlotView). r.kind)) ∙ ap length kinds ∙ length-map old (λ (r : SlotView). r.kind) in
     omega (arith, below, many, same)

@@ -4,21 +4,21 @@
 use Rattle.std.specs.Prelude.{ℕ, ℤ, pos, Bool, false, ◌++◌, List, [], ◌∷◌, None, length, map, replicate}
 use Rattle.std.specs.List.{fold, range_with_len}
 use Rattle.x3d_values.specs.declared.ranges.TheConstants.{MAX_VIEWERS}
-use Rattle.x3d_values.specs.declared.stamped.Event.{Event}
-use Rattle.x3d_values.specs.declared.stamped.Event.TheVariants.{Clock, Pointer}
-use Rattle.x3d_values.specs.Pointing.{Pointing}
-use Rattle.x3d_values.specs.Stamp.{Stamp}
+use Rattle.x3d_values.specs.declared.stamped.Cause.{Cause}
+use Rattle.x3d_values.specs.declared.stamped.Cause.TheVariants.{Clock, Pointer}
+use Rattle.x3d_values.specs.Pointing.{PointerView}
+use Rattle.x3d_values.specs.Stamp.{StampedView}
 use Rattle.sensor_plane.specs.Pointing.{start_of}
-use Rattle.react_core.specs.declared.outbox.Reply.{Reply}
+use Rattle.react_core.specs.declared.outbox.SentEvent.{SentEvent}
 use Rattle.scene_core.specs.declared.scene.Route.{Route}
 use Rattle.scene_core.specs.Scene.{SceneView, state_of, types_of}
 use Rattle.script_host.specs.Behaviour.{Initialize}
-use Rattle.script_host.specs.Hosting.{ScriptRecord}
+use Rattle.script_host.specs.Hosting.{SlotView}
 use Rattle.script_running.specs.Acting.{act}
 use Rattle.cascade_world.specs.Answers.{met, pointer_at, ticked, with_answer}
 use Rattle.cascade_world.specs.Insides.{Insides, insides}
 use Rattle.cascade_core.specs.Cascade.{send_replies}
-use Rattle.cascade_core.specs.Course.{Course, Plan, Scripted, course, ended, node_of, plan_of, ports_of, with_turn}
+use Rattle.cascade_core.specs.Course.{Course, Wiring, Scripted, course, ended, node_of, wiring_of, ports_of, with_live}
 use Rattle.cascade_world.specs.Nodes.{clocks_of}
 use Rattle.cascade_world.specs.Pointer.{concerned, is_down}
 use Rattle.cascade_core.specs.Scripts.{kinds_in, running, scripts_in}
@@ -30,52 +30,52 @@ pub use Rattle.cascade_world.specs.World.{begin, with_button}
 -- ---- an input
 
 -- a time sensor ticks, and what it sends is followed
-unfoldable pub tick_node : Plan → ℤ → Course → ℕ → Course
-tick_node plan now c node =
-    let t = ticked c.turn.world node now in
-    send_replies plan node (with_turn c (with_answer c.turn t)) t.replies
+unfoldable pub tick_node : Wiring → ℤ → Course → ℕ → Course
+tick_node wiring now c node =
+    let t = ticked c.live.world node now in
+    send_replies wiring node (with_live c (with_answer c.live t)) t.replies
 
 -- a pointing sensor meets a viewer's pointer, and what it sends is followed
-unfoldable pub point_node : SceneView → Plan → Pointing → Bool → Insides → Course → Concerned
+unfoldable pub point_node : SceneView → Wiring → PointerView → Bool → Insides → Course → Concerned
     → Course
-point_node scene plan p before is c x =
-    let a = met scene c.turn.world x.sensor (pointer_at p before is x.tracked x.sensor) in
-    send_replies plan x.sensor (with_turn c (with_answer c.turn a)) a.replies
+point_node scene wiring p before is c x =
+    let a = met scene c.live.world x.sensor (pointer_at p before is x.tracked x.sensor) in
+    send_replies wiring x.sensor (with_live c (with_answer c.live a)) a.replies
 
 -- a viewer points: where its ray hits, which sensors that is inside of, which of them it presses,
 -- where its ray meets the planes of its drags and whether its button was down are fixed first; then
 -- each sensor that is concerned meets the pointer at its turn
-unfoldable pub point : SceneView → Plan → Course → Pointing → Course
-point scene plan c p =
-    let is = insides scene c.turn.world.fields p.ray in
-    let before = is_down c.turn.world p.who in
-    fold (point_node scene plan p before is) (with_turn c (with_button c.turn p))
-    (concerned scene c.turn.world p)
+unfoldable pub point : SceneView → Wiring → Course → PointerView → Course
+point scene wiring c p =
+    let is = insides scene c.live.world.fields p.ray in
+    let before = is_down c.live.world p.who in
+    fold (point_node scene wiring p before is) (with_live c (with_button c.live p))
+    (concerned scene c.live.world p)
 
 -- each time sensor ticks at its turn, or a viewer points
-abbrev pub happen : SceneView → Plan → ℤ → Course → Event → Course
-happen scene plan now c Clock = fold (tick_node plan now) c (clocks_of (types_of scene))
-happen scene plan now c (Pointer p) = point scene plan c p
+abbrev pub happen : SceneView → Wiring → ℤ → Course → Cause → Course
+happen scene wiring now c Clock = fold (tick_node wiring now) c (clocks_of (types_of scene))
+happen scene wiring now c (Pointer p) = point scene wiring c p
 
 -- an input comes to a world: no script has received yet
-abbrev pub begun : SceneView → Scripted → Stamp → Course
+abbrev pub begun : SceneView → Scripted → StampedView → Course
 begun scene w input = course (begin w.world input) (running (kinds_in scene) w.states)
 
 -- what happened goes to the nodes that it concerns, and then scripts settle
-abbrev pub after_input : SceneView → Plan → Course → Stamp → Course
-after_input scene plan c input = settle plan (happen scene plan input.time c input.event)
+abbrev pub after_input : SceneView → Wiring → Course → StampedView → Course
+after_input scene wiring c input = settle wiring (happen scene wiring input.time c input.cause)
 
 -- the course of an input at its end
-abbrev pub course_after : SceneView → List Route → Scripted → Stamp → Course
+abbrev pub course_after : SceneView → List Route → Scripted → StampedView → Course
 course_after scene routes w input =
-    after_input scene (plan_of scene routes) (begun scene w input) input
+    after_input scene (wiring_of scene routes) (begun scene w input) input
 
 -- the world after an input
-unfoldable pub apply : SceneView → List Route → Scripted → Stamp → Scripted
+unfoldable pub apply : SceneView → List Route → Scripted → StampedView → Scripted
 apply scene routes w input = ended (course_after scene routes w input)
 
 -- the world after a list of inputs
-abbrev pub world_after : SceneView → List Route → Scripted → List Stamp → Scripted
+abbrev pub world_after : SceneView → List Route → Scripted → List StampedView → Scripted
 world_after scene routes w inputs = fold (apply scene routes) w inputs
 
 -- ---- input 0: all scripts are initialized, then what they sent is sent, and then they settle
@@ -95,45 +95,45 @@ untold scene =
     }
 
 -- what the node of a script sends
-pub record Sending : Type 0 where
+pub record SendingView : Type 0 where
   pub node : ℕ
-  pub replies : List Reply
+  pub replies : List SentEvent
 
 -- scripts of which some were initialized, and what their nodes are to send
 pub record Started : Type 0 where
-  pub scripts : List ScriptRecord
-  pub sendings : List Sending
+  pub scripts : List SlotView
+  pub sendings : List SendingView
 
-abbrev pub start_one : Plan → Started → ℕ → Started
-start_one plan s k =
-    let a = act (ports_of plan k) Initialize k s.scripts in
+abbrev pub start_one : Wiring → Started → ℕ → Started
+start_one wiring s k =
+    let a = act (ports_of wiring k) Initialize k s.scripts in
     record {
       scripts = a.scripts;
-      sendings = s.sendings ++ record { node = node_of plan k; replies = a.replies } ∷ [];
+      sendings = s.sendings ++ record { node = node_of wiring k; replies = a.replies } ∷ [];
     }
 
 -- all of them, in the order of their numbers
-unfoldable pub started : Plan → List ScriptRecord → Started
-started plan scripts =
-    fold (start_one plan) (record { scripts = scripts; sendings = [] })
+unfoldable pub started : Wiring → List SlotView → Started
+started wiring scripts =
+    fold (start_one wiring) (record { scripts = scripts; sendings = [] })
     (range_with_len 0 (length scripts))
 
 -- their replies are sent in that order
-abbrev pub sent_by_all : Plan → Course → List Sending → Course
-sent_by_all plan c sendings =
-    fold (λ c (x : Sending). send_replies plan x.node c x.replies) c sendings
+abbrev pub sent_by_all : Wiring → Course → List SendingView → Course
+sent_by_all wiring c sendings =
+    fold (λ c (x : SendingView). send_replies wiring x.node c x.replies) c sendings
 
 -- the course of input 0, at time 0, behind the initialization of all scripts
-abbrev pub opening_course : SceneView → List ScriptRecord → Course
+abbrev pub opening_course : SceneView → List SlotView → Course
 opening_course scene scripts = course (record { world = untold scene; sent = [] }) scripts
 
 -- the world of a scene before any input: what input 0 leaves
 unfoldable pub opening : SceneView → List Route → Scripted
 opening scene routes =
-    let plan = plan_of scene routes in
-    let s = started plan (scripts_in scene) in
-    ended (settle plan (sent_by_all plan (opening_course scene s.scripts) s.sendings))
+    let wiring = wiring_of scene routes in
+    let s = started wiring (scripts_in scene) in
+    ended (settle wiring (sent_by_all wiring (opening_course scene s.scripts) s.sendings))
 
 -- the world of a scene and a list of inputs
-abbrev pub world : SceneView → List Route → List Stamp → Scripted
+abbrev pub world : SceneView → List Route → List StampedView → Scripted
 world scene routes inputs = world_after scene routes (opening scene routes) inputs

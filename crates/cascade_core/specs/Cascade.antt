@@ -4,7 +4,7 @@ use Rattle.std.specs.Prelude.{ℕ, zero, suc, ◌+◌, List, [], Option, Some, N
 use Rattle.std.specs.List.{fold}
 use Rattle.std.specs.Option.{option_and_then, option_map}
 use Rattle.x3d_values.specs.declared.value.Value.{Value}
-use Rattle.react_core.specs.declared.outbox.Reply.{Reply}
+use Rattle.react_core.specs.declared.outbox.SentEvent.{SentEvent}
 use Rattle.scene_core.specs.declared.scene.End.{End}
 use Rattle.script_host.specs.Behaviour.{Call}
 use Rattle.script_running.specs.Acting.{act, call_of}
@@ -13,10 +13,10 @@ use Rattle.cascade_world.specs.Answers.{answer, with_answer}
 use Rattle.cascade_trace.specs.Ends.{has_sent, targets_of}
 use Rattle.cascade_core.specs.Outputs.{outputs_of}
 use Rattle.cascade_world.specs.World.{record_event}
-use Rattle.cascade_core.specs.Course.{Course, Plan, ports_of, script_of, with_turn}
+use Rattle.cascade_core.specs.Course.{Course, Wiring, ports_of, script_of, with_live}
 
 -- the replies of a node, one after another, each sent on by `go`
-abbrev pub send_all : (Course → End → Value → Course) → ℕ → Course → List Reply → Course
+abbrev pub send_all : (Course → End → Value → Course) → ℕ → Course → List SentEvent → Course
 send_all go node c replies =
     fold (λ t reply. go t (record { node = node; field = reply.field }) reply.value) c replies
 
@@ -26,67 +26,67 @@ pub record Arrival : Type 0 where
   pub call : Call
 
 -- the call that an event is, where its target is an input of a script that takes the value
-abbrev pub arrival : Plan → Course → End → Value → Option Arrival
-arrival plan c target v =
+abbrev pub arrival : Wiring → Course → End → Value → Option Arrival
+arrival wiring c target v =
     option_and_then
     (λ k. option_map (λ call. record { number = k; call = call })
-    (call_of (ports_of plan k) k target.field v c.scripts))
-    (script_of plan target.node)
+    (call_of (ports_of wiring k) k target.field v c.scripts))
+    (script_of wiring target.node)
 
 -- what an event comes to at its target: the course, and what the target's node sends
-pub record Reached : Type 0 where
+pub record Reacted : Type 0 where
   pub course : Course
-  pub replies : List Reply
+  pub replies : List SentEvent
 
 -- a script is called, and has received
-abbrev pub called_at : Plan → Course → Arrival → Reached
-called_at plan c at =
-    let a = act (ports_of plan at.number) at.call at.number c.scripts in
+abbrev pub called_at : Wiring → Course → Arrival → Reacted
+called_at wiring c at =
+    let a = act (ports_of wiring at.number) at.call at.number c.scripts in
     record {
       course = record c { scripts = a.scripts; settling = with_received c.settling at.number };
       replies = a.replies;
     }
 
 -- where an event arrives nowhere nothing happens
-abbrev pub received_by : Plan → Course → Option Arrival → Reached
-received_by plan c (Some at) = called_at plan c at
-received_by plan c None = record { course = c; replies = [] }
+abbrev pub received_by : Wiring → Course → Option Arrival → Reacted
+received_by wiring c (Some at) = called_at wiring c at
+received_by wiring c None = record { course = c; replies = [] }
 
 -- any other target answers
-abbrev pub answered_at : Plan → Course → End → Value → Reached
-answered_at plan c target v =
-    let a = answer plan.shapes c.turn.world target v
-    in record { course = with_turn c (with_answer c.turn a); replies = a.replies }
+abbrev pub answered_at : Wiring → Course → End → Value → Reacted
+answered_at wiring c target v =
+    let a = answer wiring.shapes c.live.world target v
+    in record { course = with_live c (with_answer c.live a); replies = a.replies }
 
-abbrev pub reached_by : Plan → Course → End → Value → Option Arrival → Reached
-reached_by plan c target v (Some at) = called_at plan c at
-reached_by plan c target v None = answered_at plan c target v
+abbrev pub reached_by : Wiring → Course → End → Value → Option Arrival → Reacted
+reached_by wiring c target v (Some at) = called_at wiring c at
+reached_by wiring c target v None = answered_at wiring c target v
 
-unfoldable pub reached : Plan → Course → End → Value → Reached
-reached plan c target v = reached_by plan c target v (arrival plan c target v)
+unfoldable pub reached : Wiring → Course → End → Value → Reacted
+reached wiring c target v = reached_by wiring c target v (arrival wiring c target v)
 
 -- the target is reached, and each reply of its node is sent on
-unfoldable pub deliver : (Course → End → Value → Course) → Plan → Value → Course → End → Course
-deliver go plan v c target =
-    let r = reached plan c target v in send_all go target.node r.course r.replies
+unfoldable pub deliver : (Course → End → Value → Course) → Wiring → Value → Course → End → Course
+deliver go wiring v c target =
+    let r = reached wiring c target v in send_all go target.node r.course r.replies
 
 abbrev pub recorded : Course → End → Value → Course
-recorded c source v = with_turn c (record_event c.turn source v)
+recorded c source v = with_live c (record_event c.live source v)
 
 -- an event is sent by an output, unless the output has sent before: it is recorded, and follows
 -- each route to its end
-unfoldable pub send : Plan → ℕ → Course → End → Value → Course
-send plan zero c source v = c
-send plan (suc depth) c source v =
-    if has_sent c.turn.sent source
+unfoldable pub send : Wiring → ℕ → Course → End → Value → Course
+send wiring zero c source v = c
+send wiring (suc depth) c source v =
+    if has_sent c.live.sent source
     then c
-    else fold (deliver (send plan depth) plan v) (recorded c source v)
-    (targets_of plan.routes source)
+    else fold (deliver (send wiring depth) wiring v) (recorded c source v)
+    (targets_of wiring.routes source)
 
 -- an event is sent with all its consequences
-abbrev pub send_full : Plan → Course → End → Value → Course
-send_full plan = send plan (outputs_of plan.shapes + 1)
+abbrev pub send_full : Wiring → Course → End → Value → Course
+send_full wiring = send wiring (outputs_of wiring.shapes + 1)
 
 -- the replies of a node are sent with all their consequences
-abbrev pub send_replies : Plan → ℕ → Course → List Reply → Course
-send_replies plan node c replies = send_all (send_full plan) node c replies
+abbrev pub send_replies : Wiring → ℕ → Course → List SentEvent → Course
+send_replies wiring node c replies = send_all (send_full wiring) node c replies

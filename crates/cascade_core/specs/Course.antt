@@ -5,26 +5,26 @@ use Rattle.std.specs.Option.{option_map_or}
 use Rattle.scene_core.specs.declared.scene.Route.{Route}
 use Rattle.scene_core.specs.Scene.{SceneView, shapes_of}
 use Rattle.scene_core.specs.Shape.{Shape}
-use Rattle.script_host.specs.Hosting.{ScriptRecord}
-use Rattle.script_running.specs.Ports.{Wiring}
-use Rattle.script_slots.specs.Settling.{Settling, unsettled}
+use Rattle.script_host.specs.Hosting.{SlotView}
+use Rattle.script_running.specs.Ports.{PortsView}
+use Rattle.script_slots.specs.Settling.{DueScriptsView, unsettled}
 use Rattle.script_running.specs.Runs.{runs_of}
 use Rattle.script_running.specs.declared.run.Run.{Run}
 use Rattle.cascade_core.specs.Scripts.{script_from, states_of}
 pub use Rattle.script_running.specs.Running.{no_ports}
 use Rattle.cascade_core.specs.declared.course.Course as lent
-use Rattle.cascade_core.specs.declared.fixed.Fixed.{Fixed}
-use Rattle.cascade_world.specs.declared.world.Turn.{Turn}
+use Rattle.cascade_core.specs.declared.fixed.RoutedScene.{RoutedScene}
+use Rattle.cascade_world.specs.declared.world.Live.{Live}
 use Rattle.cascade_world.specs.declared.world.WorldData.{WorldData}
 
 -- what events go by: the fields of the nodes, the routes, and the scripts that are run
-pub record Plan : Type 0 where
+pub record PortsView : Type 0 where
   pub shapes : List Shape
   pub routes : List Route
   pub runs : List Run
 
-abbrev pub plan_of : SceneView → List Route → Plan
-plan_of scene routes =
+abbrev pub wiring_of : SceneView → List Route → PortsView
+wiring_of scene routes =
     record { shapes = shapes_of scene; routes = routes; runs = runs_of scene }
 
 -- ---- worlds
@@ -35,39 +35,39 @@ pub record Scripted : Type 0 where
   pub states : List (List ℤ)
 
 -- what events go by where a stage holds this
-abbrev pub plan_at : Fixed → Plan
-plan_at g = record { shapes = shapes_of g.scene; routes = g.routes; runs = g.runs }
+abbrev pub wiring_at : RoutedScene → PortsView
+wiring_at g = record { shapes = shapes_of g.scene; routes = g.routes; runs = g.runs }
 
 -- a world in the course of one input, and which of its scripts received and were settled
 pub record Course : Type 0 where
-  pub turn : Turn
-  pub scripts : List ScriptRecord
-  pub settling : Settling
+  pub live : Live
+  pub scripts : List SlotView
+  pub settling : DueScriptsView
 
 -- the same of the course that the code has, whatever its boxes are
 abbrev pub seen : {X : Type 0} → lent.Course X → Course
-seen c = record { turn = c.turn; scripts = c.scripts; settling = c.settling }
+seen c = record { live = c.live; scripts = c.scripts; settling = c.settling }
 
-abbrev pub with_turn : Course → Turn → Course
-with_turn c turn = record c { turn = turn }
+abbrev pub with_live : Course → Live → Course
+with_live c live = record c { live = live }
 
 -- an input begins: no script has received, and none is settled
-abbrev pub course : Turn → List ScriptRecord → Course
-course turn scripts =
-    record { turn = turn; scripts = scripts; settling = unsettled (length scripts) }
+abbrev pub course : Live → List SlotView → Course
+course live scripts =
+    record { live = live; scripts = scripts; settling = unsettled (length scripts) }
 
 abbrev pub ended : Course → Scripted
-ended c = record { world = c.turn.world; states = states_of c.scripts }
+ended c = record { world = c.live.world; states = states_of c.scripts }
 
 -- ---- the scripts of nodes
 
 -- the number of the script of a node, where its script is run
-abbrev pub script_of : Plan → ℕ → Option ℕ
-script_of plan node = script_from 0 plan.runs node
+abbrev pub script_of : PortsView → ℕ → Option ℕ
+script_of wiring node = script_from 0 wiring.runs node
 
 -- the node of a script
-abbrev pub node_of : Plan → ℕ → ℕ
-node_of plan k = option_map_or (λ (run : Run). run.node) (slice_get plan.runs k) 0
+abbrev pub node_of : PortsView → ℕ → ℕ
+node_of wiring k = option_map_or (λ (run : Run). run.node) (slice_get wiring.runs k) 0
 
-abbrev pub ports_of : Plan → ℕ → Wiring
-ports_of plan k = option_map_or (λ (run : Run). run.ports) (slice_get plan.runs k) no_ports
+abbrev pub ports_of : PortsView → ℕ → PortsView
+ports_of wiring k = option_map_or (λ (run : Run). run.ports) (slice_get wiring.runs k) no_ports

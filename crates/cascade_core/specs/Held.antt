@@ -2,7 +2,7 @@
 -- applied.
 use Rattle.std.specs.Prelude.{ℕ, ℤ, Bool, true, false, List, [], ◌∷◌, Option, Some, None, if◌then◌else◌, ◌+◌, ◌==◌, int_lt, not}
 use Rattle.std.specs.List.{fold}
-use Rattle.x3d_values.specs.Stamp.{Stamp}
+use Rattle.x3d_values.specs.Stamp.{StampedView}
 use Rattle.scene_core.specs.declared.scene.Route.{Route}
 use Rattle.scene_core.specs.Scene.{SceneView}
 use Rattle.cascade_core.specs.Course.{Scripted}
@@ -62,13 +62,13 @@ trace_of (Running w) = w.world.trace
 trace_of (Spoiled n) = []
 
 -- why a world refuses an input: the first that holds
-abbrev pub world_refusal : WorldData → Stamp → Option ApplyFault
+abbrev pub world_refusal : WorldData → StampedView → Option ApplyFault
 world_refusal w input =
     if not (input.number == w.applied + 1)
     then Some fault.NotNext
     else (if int_lt w.last_time input.time then None else Some fault.TimeNotLater)
 
-abbrev pub refusal_of : Held → Stamp → Option ApplyFault
+abbrev pub refusal_of : Held → StampedView → Option ApplyFault
 refusal_of (Running w) input = world_refusal w.world input
 refusal_of (Spoiled n) input = Some fault.Spoiled
 
@@ -76,24 +76,24 @@ refusal_of (Spoiled n) input = Some fault.Spoiled
 abbrev pub holding : StageView → Held → StageView
 holding stage held = record stage { held = held }
 
-abbrev pub after_held : SceneView → List Route → Held → Stamp → Held
+abbrev pub after_held : SceneView → List Route → Held → StampedView → Held
 after_held scene routes (Running w) input = Running (apply scene routes w input)
 after_held scene routes (Spoiled n) input = Spoiled n
 
 -- the stage after an input that it takes
-abbrev pub after : StageView → Stamp → StageView
+abbrev pub after : StageView → StampedView → StageView
 after stage input = holding stage (after_held stage.scene stage.routes stage.held input)
 
 -- the scripts that settle at an input that a stage takes, in order
-abbrev pub settled_in : SceneView → List Route → Held → Stamp → List ℕ
+abbrev pub settled_in : SceneView → List Route → Held → StampedView → List ℕ
 settled_in scene routes (Running w) input = (course_after scene routes w input).settling.settled
 settled_in scene routes (Spoiled n) input = []
 
-abbrev pub settled_by : StageView → Stamp → List ℕ
+abbrev pub settled_by : StageView → StampedView → List ℕ
 settled_by stage input = settled_in stage.scene stage.routes stage.held input
 
 -- the stage after a list of inputs that it takes
-abbrev pub after_all : StageView → List Stamp → StageView
+abbrev pub after_all : StageView → List StampedView → StageView
 after_all stage inputs = fold after stage inputs
 
 -- the first of two refusals, if there is one
@@ -103,7 +103,7 @@ first_refusal (Some f) later = Some f
 
 -- why a list of inputs is refused: by the first of them that the stage after those before it
 -- refuses
-abbrev pub refusal_in : StageView → List Stamp → Option ApplyFault
+abbrev pub refusal_in : StageView → List StampedView → Option ApplyFault
 refusal_in stage [] = None
 refusal_in stage (input ∷ inputs) =
     first_refusal (refusal_of stage.held input) (refusal_in (after stage input) inputs)

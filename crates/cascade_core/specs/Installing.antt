@@ -3,7 +3,7 @@ use Rattle.std.specs.Prelude.{◌≡◌, ◌≢◌, ◌⊎◌, ℤ, List, length
 use Rattle.x3d_values.specs.declared.script.Kind.{Kind}
 use Rattle.scene_core.specs.Scene.{SceneView}
 use Rattle.script_host.specs.Attaching.{RefusesPlace}
-use Rattle.script_host.specs.Hosting.{ScriptRecord}
+use Rattle.script_host.specs.Hosting.{SlotView}
 use Rattle.script_host.specs.Restoring.{AreStates, IsFirstFault}
 use Rattle.script_host.specs.declared.fault.ReplaceFault.TheVariants as place
 use Rattle.script_slots.specs.declared.fault.StateFault.{StateFault}
@@ -27,7 +27,7 @@ RefusesInstall StateRange old states new = (new ≡ old)
 RefusesInstall Memory old states new = StatesFit old.scene states × (new ≡ spoiled old)
 
 -- why a box of this kind doesn't take the place of a script of a stage
-abbrev pub RefusesBox : PlaceFault → Held → Option ScriptRecord → Kind → Type 0
+abbrev pub RefusesBox : PlaceFault → Held → Option SlotView → Kind → Type 0
 RefusesBox fault.Spoiled held old kind = is_spoiled held ≡ true
 RefusesBox fault.NoSuchScript held old kind = RefusesPlace place.NoSuchScript old kind
 RefusesBox fault.KindDiffers held old kind = RefusesPlace place.KindDiffers old kind

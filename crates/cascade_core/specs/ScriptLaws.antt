@@ -1,14 +1,14 @@
 -- What holds of worlds with scripts.
 use Rattle.std.specs.Prelude.{◌≡◌, ◌⊎◌, List, [], Option, None, true, false, length, IsSomeAnd}
 use Rattle.x3d_values.specs.declared.script.Kind.{Kind}
-use Rattle.x3d_values.specs.Stamp.{Stamp}
+use Rattle.x3d_values.specs.Stamp.{StampedView}
 use Rattle.scene_core.specs.declared.scene.Route.{Route}
 use Rattle.scene_core.specs.Scene.{SceneView}
 use Rattle.script_slots.specs.Settling.{all_differ}
-use Rattle.script_host.specs.Hosting.{ScriptRecord}
+use Rattle.script_host.specs.Hosting.{SlotView}
 use Rattle.script_running.specs.Acting.{kinds_of}
 use Rattle.cascade_core.specs.Apply.{after_input, world}
-use Rattle.cascade_core.specs.Course.{Course, Plan}
+use Rattle.cascade_core.specs.Course.{Course, Wiring}
 use Rattle.cascade_core.specs.Held.{Held, is_spoiled}
 use Rattle.cascade_core.specs.Installing.{RefusesBox}
 use Rattle.cascade_core.specs.Scripts.{kinds_in}
@@ -18,23 +18,23 @@ use Rattle.cascade_core.specs.declared.fault.PlaceFault.TheVariants.{Memory}
 
 -- no input changes the kind of a script, or how many there are
 abbrev pub KindsStand : Type 0
-KindsStand = (scene : SceneView) (plan : Plan) (c : Course) (input : Stamp)
-    → kinds_of (after_input scene plan c input).scripts ≡ kinds_of c.scripts
+KindsStand = (scene : SceneView) (wiring : Wiring) (c : Course) (input : StampedView)
+    → kinds_of (after_input scene wiring c input).scripts ≡ kinds_of c.scripts
 
 -- a world has a state for each script of its scene
 abbrev pub StatesStand : Type 0
-StatesStand = (scene : SceneView) (routes : List Route) (inputs : List Stamp)
+StatesStand = (scene : SceneView) (routes : List Route) (inputs : List StampedView)
     → length (world scene routes inputs).states ≡ length (kinds_in scene)
 
 -- settling leaves no script due, and settles each once at most
 abbrev pub SettlesAll : Type 0
-SettlesAll = (plan : Plan) (c : Course) → c.settling.settled ≡ []
-    → (next_due (settle plan c) ≡ None) × (all_differ (settle plan c).settling.settled ≡ true)
+SettlesAll = (wiring : Wiring) (c : Course) → c.settling.settled ≡ []
+    → (next_due (settle wiring c) ≡ None) × (all_differ (settle wiring c).settling.settled ≡ true)
 
 -- a stage that isn't spoiled has one answer to a box, memory aside: where a fault is why the box
 -- doesn't take the place of a script, no other is, and the box is not of the script's kind
 abbrev pub PlacesOne : Type 0
-PlacesOne = (held : Held) (old : Option ScriptRecord) (kind : Kind) (one other : PlaceFault)
+PlacesOne = (held : Held) (old : Option SlotView) (kind : Kind) (one other : PlaceFault)
     → is_spoiled held ≡ false → RefusesBox one held old kind
     → (one ≡ Memory)
     ⊎ ((RefusesBox other held old kind → one ≡ other)

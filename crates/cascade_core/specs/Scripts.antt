@@ -6,19 +6,19 @@ use Rattle.x3d_values.specs.declared.script.Kind.{Kind}
 use Rattle.x3d_values.specs.declared.script.ScriptSpec.{ScriptSpec}
 use Rattle.scene_core.specs.Scene.{SceneView}
 use Rattle.script_running.specs.Scripts.{script_list}
-use Rattle.script_host.specs.Hosting.{ScriptRecord}
+use Rattle.script_host.specs.Hosting.{SlotView}
 use Rattle.script_running.specs.Acting.{kinds_of}
 pub use Rattle.script_running.specs.Running.{are_begun, running, script_from, states_of}
 
 -- a script as the scene asks for it, before it is initialized; none where its kind is unknown
-abbrev pub script_for : ScriptSpec → Option ScriptRecord
+abbrev pub script_for : ScriptSpec → Option SlotView
 script_for asked =
     option_map
     (λ (kind : Kind). record { kind = kind; state = asked.start; initialized = false })
     asked.kind
 
 -- all that the scene asks for
-abbrev pub scripts_in : SceneView → List ScriptRecord
+abbrev pub scripts_in : SceneView → List SlotView
 scripts_in scene = filter_map script_for (script_list scene)
 
 abbrev pub kinds_in : SceneView → List Kind

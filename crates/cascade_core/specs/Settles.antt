@@ -5,7 +5,7 @@ use Rattle.std.specs.Option.{option_map_or}
 use Rattle.script_host.specs.Behaviour.{Settle}
 use Rattle.script_running.specs.Acting.{act}
 use Rattle.script_slots.specs.Settling.{lowest_due, with_settled}
-use Rattle.cascade_core.specs.Course.{Course, Plan, node_of, ports_of}
+use Rattle.cascade_core.specs.Course.{Course, Wiring, node_of, ports_of}
 use Rattle.cascade_core.specs.Cascade.{send_replies}
 
 -- the lowest script that has received and isn't settled
@@ -13,18 +13,18 @@ abbrev pub next_due : Course → Option ℕ
 next_due c = lowest_due c.settling
 
 -- it is settled, and the replies of its node are sent
-unfoldable pub settle_one : Plan → Course → ℕ → Course
-settle_one plan c k =
-    let a = act (ports_of plan k) Settle k c.scripts in
-    send_replies plan (node_of plan k)
+unfoldable pub settle_one : Wiring → Course → ℕ → Course
+settle_one wiring c k =
+    let a = act (ports_of wiring k) Settle k c.scripts in
+    send_replies wiring (node_of wiring k)
     (record c { scripts = a.scripts; settling = with_settled c.settling k }) a.replies
 
 -- scripts settle until none is due, but no more than so many
-unfoldable pub settle_up_to : Plan → ℕ → Course → Course
-settle_up_to plan zero c = c
-settle_up_to plan (suc n) c =
-    option_map_or (λ k. settle_up_to plan n (settle_one plan c k)) (next_due c) c
+unfoldable pub settle_up_to : Wiring → ℕ → Course → Course
+settle_up_to wiring zero c = c
+settle_up_to wiring (suc n) c =
+    option_map_or (λ k. settle_up_to wiring n (settle_one wiring c k)) (next_due c) c
 
 -- no more than once for each script
-abbrev pub settle : Plan → Course → Course
-settle plan c = settle_up_to plan c.settling.count c
+abbrev pub settle : Wiring → Course → Course
+settle wiring c = settle_up_to wiring c.settling.count c

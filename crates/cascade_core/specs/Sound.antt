@@ -3,13 +3,13 @@ use Rattle.std.specs.Prelude.{◌≡◌, ℕ, Bool, true, List, Some, length, ma
 use Rattle.std.specs.List.{list_all}
 use Rattle.x3d_values.specs.declared.script.Kind.{Kind}
 use Rattle.scene_core.specs.Shape.{Shape}
-use Rattle.react_core.specs.declared.outbox.Reply.{Reply}
+use Rattle.react_core.specs.declared.outbox.SentEvent.{SentEvent}
 use Rattle.script_running.specs.Runs.{runs_of}
 use Rattle.script_host.specs.Interface.{outputs}
 use Rattle.script_running.specs.Acting.{kinds_of}
-use Rattle.cascade_core.specs.Apply.{Sending}
-use Rattle.cascade_core.specs.Course.{Course, Plan, node_of, ports_of}
-use Rattle.cascade_core.specs.declared.fixed.Fixed.{Fixed}
+use Rattle.cascade_core.specs.Apply.{SendingView}
+use Rattle.cascade_core.specs.Course.{Course, Wiring, node_of, ports_of}
+use Rattle.cascade_core.specs.declared.fixed.RoutedScene.{RoutedScene}
 use Rattle.cascade_core.specs.Outputs.{is_scene_output}
 
 -- these fields of a node are outputs of the scene
@@ -19,22 +19,22 @@ are_outputs shapes node fields =
 
 -- there are as many scripts as are run, and each sends by outputs of its node, as many as those of
 -- its kind
-pub record IsSound (plan : Plan) (kinds : List Kind) : Type 0 where
-  pub many : length plan.runs ≡ length kinds
+pub record IsSound (wiring : Wiring) (kinds : List Kind) : Type 0 where
+  pub many : length wiring.runs ≡ length kinds
   pub count : (k : ℕ) (kind : Kind) → slice_get kinds k ≡ Some kind
-      → length (ports_of plan k).outputs ≡ length (outputs kind)
+      → length (ports_of wiring k).outputs ≡ length (outputs kind)
   pub sends : (k : ℕ) (kind : Kind) → slice_get kinds k ≡ Some kind
-      → are_outputs plan.shapes (node_of plan k) (ports_of plan k).outputs ≡ true
+      → are_outputs wiring.shapes (node_of wiring k) (ports_of wiring k).outputs ≡ true
 
 -- these replies leave by outputs
-abbrev pub are_sent : List Shape → Sending → Bool
-are_sent shapes s = are_outputs shapes s.node (map (λ (r : Reply). r.field) s.replies)
+abbrev pub are_sent : List Shape → SendingView → Bool
+are_sent shapes s = are_outputs shapes s.node (map (λ (r : SentEvent). r.field) s.replies)
 
 -- the scripts that a stage runs are those of its scene
-abbrev pub IsFixed : Fixed → Type 0
+abbrev pub IsFixed : RoutedScene → Type 0
 IsFixed g = g.runs ≡ runs_of g.scene
 
 -- the scripts of a course are those that the plan runs, and none else is counted
-pub record IsCast (plan : Plan) (c : Course) : Type 0 where
-  pub sound : IsSound plan (kinds_of c.scripts)
+pub record HasScriptsOf (wiring : Wiring) (c : Course) : Type 0 where
+  pub sound : IsSound wiring (kinds_of c.scripts)
   pub counted : c.settling.count ≡ length (kinds_of c.scripts)

@@ -4,35 +4,35 @@ use Rattle.std.specs.List.{fold}
 use Rattle.scene_core.specs.declared.scene.End.{End}
 use Rattle.scene_core.specs.declared.scene.Route.{Route}
 use Rattle.scene_core.specs.Shape.{Shape}
-use Rattle.cascade_core.specs.Course.{Course, Plan}
+use Rattle.cascade_core.specs.Course.{Course, Wiring}
 use Rattle.cascade_trace.specs.Ends.{has_sent, targets_of}
 use Rattle.cascade_core.specs.Outputs.{is_scene_output, ends_from}
 use Rattle.cascade_core.specs.Cascade.{deliver, send_full}
-use Rattle.cascade_rules.specs.declared.tasks.Task.{Task}
-use Rattle.cascade_rules.specs.declared.tasks.Task.TheVariants.{Send, Follow}
-use Rattle.cascade_world.specs.declared.world.Turn.{Turn}
+use Rattle.cascade_rules.specs.declared.tasks.CascadeTask.{CascadeTask}
+use Rattle.cascade_rules.specs.declared.tasks.CascadeTask.TheVariants.{Send, Follow}
+use Rattle.cascade_world.specs.declared.world.Live.{Live}
 
 -- a task by the definition of the cascade
-abbrev pub do_task : Plan → Course → Task → Course
-do_task plan c (Send source v) = send_full plan c source v
-do_task plan c (Follow source v next) =
-    fold (deliver (send_full plan) plan v) c (drop next (targets_of plan.routes source))
+abbrev pub do_task : Wiring → Course → CascadeTask → Course
+do_task wiring c (Send source v) = send_full wiring c source v
+do_task wiring c (Follow source v next) =
+    fold (deliver (send_full wiring) wiring v) c (drop next (targets_of wiring.routes source))
 
 -- the tasks from the last to the first
-unfoldable pub finish : Plan → Course → List Task → Course
-finish plan c tasks = fold (do_task plan) c (reverse tasks)
+unfoldable pub finish : Wiring → Course → List CascadeTask → Course
+finish wiring c tasks = fold (do_task wiring) c (reverse tasks)
 
 -- only outputs of the scene send
-abbrev pub IsReady : List Shape → Task → Type 0
+abbrev pub IsReady : List Shape → CascadeTask → Type 0
 IsReady shapes (Send source v) = is_scene_output shapes source ≡ true
 IsReady shapes (Follow source v next) = Unit {0}
 
 -- how many tasks can still come of this one, events that were not sent before apart
-abbrev pub weight : List Route → Task → ℕ
+abbrev pub weight : List Route → CascadeTask → ℕ
 weight routes (Send source v) = 1
 weight routes (Follow source v next) = 6 * (length routes - next) + 1
 
-unfoldable pub weights : List Route → List Task → ℕ
+unfoldable pub weights : List Route → List CascadeTask → ℕ
 weights routes [] = 0
 weights routes (task ∷ tasks) = weight routes task + weights routes tasks
 
@@ -47,10 +47,10 @@ unsent_among [] sent = 0
 unsent_among (o ∷ os) sent = one_unless (has_sent sent o) + unsent_among os sent
 
 -- how many outputs of the scene have not sent
-abbrev pub unsent : List Shape → Turn → ℕ
-unsent shapes turn = unsent_among (ends_from 0 shapes) turn.sent
+abbrev pub unsent : List Shape → Live → ℕ
+unsent shapes live = unsent_among (ends_from 0 shapes) live.sent
 
 -- a bound on the tasks that are still to be done
-unfoldable pub work_left : Plan → Course → List Task → ℕ
-work_left plan c tasks =
-    unsent plan.shapes c.turn * (6 * length plan.routes + 2) + weights plan.routes tasks
+unfoldable pub work_left : Wiring → Course → List CascadeTask → ℕ
+work_left wiring c tasks =
+    unsent wiring.shapes c.live * (6 * length wiring.routes + 2) + weights wiring.routes tasks

@@ -6,16 +6,16 @@ ghost use Rattle.std.specs.List.{fold, range_with_len};
 ghost use Rattle.scene_core.specs.Scene.{types_of};
 ghost use Rattle.pick_core.specs.Sites.{rows_of};
 ghost use Rattle.script_running.specs.Acting.{kinds_of};
-ghost use Rattle.cascade_core.specs.Course.{plan_at, seen};
-ghost use Rattle.cascade_core.specs.Sound.{IsCast};
+ghost use Rattle.cascade_core.specs.Course.{wiring_at, seen};
+ghost use Rattle.cascade_core.specs.Sound.{HasScriptsOf};
 ghost use Rattle.cascade_world.specs.Nodes.{clocks_of, is_clock};
 ghost use Rattle.cascade_core.specs.Apply.{tick_node as tick_node_of};
 ghost use Rattle.cascade_core.specs.Walks.{over_block, where_passes};
 
 use crate::course::Course;
-use crate::fixed::Fixed;
+use crate::fixed::RoutedScene;
 use crate::stack::send_replies;
-use cascade_rules::{Task, is_clock};
+use cascade_rules::{CascadeTask, is_clock};
 use cascade_world::BLOCK;
 use pick_core::BoxCache;
 use react_core::Outbox;
@@ -25,8 +25,8 @@ use x3d_values::Stamped;
 
 /// A TimeSensor ticks, and what it sends is followed.
 fn tick_node<B: Behaviour>(
-    fixed: &Fixed,
-    tasks: &mut Vec<Task>,
+    fixed: &RoutedScene,
+    tasks: &mut Vec<CascadeTask>,
     course: &mut Course<B>,
     replies: &mut Outbox,
     boxes: &mut BoxCache,
@@ -35,26 +35,26 @@ fn tick_node<B: Behaviour>(
 ) -> Result<(), AllocError>
     requires empty { tasks.old.items ≡ [] }
     requires none { replies.old.items ≡ [] }
-    requires boxes { boxes.old ≡ rows_of fixed.now.scene course.old.turn.world.fields }
-    requires cast { IsCast (plan_at fixed.now) (seen course.old) }
+    requires boxes { boxes.old ≡ rows_of fixed.now.scene course.old.live.world.fields }
+    requires cast { HasScriptsOf (wiring_at fixed.now) (seen course.old) }
     requires clock { is_clock (types_of fixed.now.scene) node ≡ true }
     ensures course { OnOk result (seen course.new
-        ≡ tick_node_of (plan_at fixed.now) input.now.time (seen course.old) node) }
+        ≡ tick_node_of (wiring_at fixed.now) input.now.time (seen course.old) node) }
     ensures empty { OnOk result (tasks.new.items ≡ []) }
     ensures none { OnOk result (replies.new.items ≡ []) }
     ensures boxes { OnOk result
-        (boxes.new ≡ rows_of fixed.now.scene course.new.turn.world.fields) }
+        (boxes.new ≡ rows_of fixed.now.scene course.new.live.world.fields) }
     ensures kinds { kinds_of course.new.scripts ≡ kinds_of course.old.scripts }
     ensures count { course.new.settling.count ≡ course.old.settling.count }
 {
-    course.turn.world.tick(node, input, replies);
+    course.live.world.tick(node, input, replies);
     send_replies(fixed, tasks, course, replies, boxes, node)
 }
 
 /// The node of that number ticks, where it is a TimeSensor.
 fn tick_any<B: Behaviour>(
-    fixed: &Fixed,
-    tasks: &mut Vec<Task>,
+    fixed: &RoutedScene,
+    tasks: &mut Vec<CascadeTask>,
     course: &mut Course<B>,
     replies: &mut Outbox,
     boxes: &mut BoxCache,
@@ -63,15 +63,15 @@ fn tick_any<B: Behaviour>(
 ) -> Result<(), AllocError>
     requires empty { tasks.old.items ≡ [] }
     requires none { replies.old.items ≡ [] }
-    requires boxes { boxes.old ≡ rows_of fixed.now.scene course.old.turn.world.fields }
-    requires cast { IsCast (plan_at fixed.now) (seen course.old) }
+    requires boxes { boxes.old ≡ rows_of fixed.now.scene course.old.live.world.fields }
+    requires cast { HasScriptsOf (wiring_at fixed.now) (seen course.old) }
     ensures course { OnOk result (seen course.new
         ≡ where_passes (is_clock (types_of fixed.now.scene))
-        (tick_node_of (plan_at fixed.now) input.now.time) (seen course.old) node) }
+        (tick_node_of (wiring_at fixed.now) input.now.time) (seen course.old) node) }
     ensures empty { OnOk result (tasks.new.items ≡ []) }
     ensures none { OnOk result (replies.new.items ≡ []) }
     ensures boxes { OnOk result
-        (boxes.new ≡ rows_of fixed.now.scene course.new.turn.world.fields) }
+        (boxes.new ≡ rows_of fixed.now.scene course.new.live.world.fields) }
     ensures kinds { kinds_of course.new.scripts ≡ kinds_of course.old.scripts }
     ensures count { course.new.settling.count ≡ course.old.settling.count }
 {
@@ -83,8 +83,8 @@ fn tick_any<B: Behaviour>(
 
 /// Each TimeSensor of some nodes ticks at its turn.
 fn tick_all<B: Behaviour>(
-    fixed: &Fixed,
-    tasks: &mut Vec<Task>,
+    fixed: &RoutedScene,
+    tasks: &mut Vec<CascadeTask>,
     course: &mut Course<B>,
     replies: &mut Outbox,
     boxes: &mut BoxCache,
@@ -94,16 +94,16 @@ fn tick_all<B: Behaviour>(
 ) -> Result<(), AllocError>
     requires empty { tasks.old.items ≡ [] }
     requires none { replies.old.items ≡ [] }
-    requires boxes { boxes.old ≡ rows_of fixed.now.scene course.old.turn.world.fields }
-    requires cast { IsCast (plan_at fixed.now) (seen course.old) }
+    requires boxes { boxes.old ≡ rows_of fixed.now.scene course.old.live.world.fields }
+    requires cast { HasScriptsOf (wiring_at fixed.now) (seen course.old) }
     ensures course { OnOk result (seen course.new
         ≡ fold (where_passes (is_clock (types_of fixed.now.scene))
-        (tick_node_of (plan_at fixed.now) input.now.time)) (seen course.old)
+        (tick_node_of (wiring_at fixed.now) input.now.time)) (seen course.old)
         (range_with_len start (end - start))) }
     ensures empty { OnOk result (tasks.new.items ≡ []) }
     ensures none { OnOk result (replies.new.items ≡ []) }
     ensures boxes { OnOk result
-        (boxes.new ≡ rows_of fixed.now.scene course.new.turn.world.fields) }
+        (boxes.new ≡ rows_of fixed.now.scene course.new.live.world.fields) }
     ensures kinds { kinds_of course.new.scripts ≡ kinds_of course.old.scripts }
     ensures count { course.new.settling.count ≡ course.old.settling.count }
 {
@@ -116,8 +116,8 @@ fn tick_all<B: Behaviour>(
 /// The TimeSensors of a block of nodes tick, of so many nodes in all. A block is passed where it is
 /// known that nothing happens there.
 fn tick_block<B: Behaviour>(
-    fixed: &Fixed,
-    tasks: &mut Vec<Task>,
+    fixed: &RoutedScene,
+    tasks: &mut Vec<CascadeTask>,
     course: &mut Course<B>,
     replies: &mut Outbox,
     boxes: &mut BoxCache,
@@ -128,19 +128,19 @@ fn tick_block<B: Behaviour>(
     requires within { block * 32 ≤ count }
     requires empty { tasks.old.items ≡ [] }
     requires none { replies.old.items ≡ [] }
-    requires boxes { boxes.old ≡ rows_of fixed.now.scene course.old.turn.world.fields }
-    requires cast { IsCast (plan_at fixed.now) (seen course.old) }
+    requires boxes { boxes.old ≡ rows_of fixed.now.scene course.old.live.world.fields }
+    requires cast { HasScriptsOf (wiring_at fixed.now) (seen course.old) }
     ensures course { OnOk result (seen course.new
         ≡ over_block (where_passes (is_clock (types_of fixed.now.scene))
-        (tick_node_of (plan_at fixed.now) input.now.time)) (seen course.old) block count) }
+        (tick_node_of (wiring_at fixed.now) input.now.time)) (seen course.old) block count) }
     ensures empty { OnOk result (tasks.new.items ≡ []) }
     ensures none { OnOk result (replies.new.items ≡ []) }
     ensures boxes { OnOk result
-        (boxes.new ≡ rows_of fixed.now.scene course.new.turn.world.fields) }
+        (boxes.new ≡ rows_of fixed.now.scene course.new.live.world.fields) }
     ensures kinds { kinds_of course.new.scripts ≡ kinds_of course.old.scripts }
     ensures count { course.new.settling.count ≡ course.old.settling.count }
 {
-    if course.turn.world.is_idle(block, input) {
+    if course.live.world.is_idle(block, input) {
         return Ok(());
     }
     let start = block * BLOCK;
@@ -155,27 +155,27 @@ fn tick_block<B: Behaviour>(
         start + many,
         input,
     )?;
-    course.turn.world.remember_idle(block, input);
+    course.live.world.remember_idle(block, input);
     Ok(())
 }
 
 /// Each TimeSensor ticks at its turn.
 pub fn clock<B: Behaviour>(
-    fixed: &Fixed,
-    tasks: &mut Vec<Task>,
+    fixed: &RoutedScene,
+    tasks: &mut Vec<CascadeTask>,
     course: &mut Course<B>,
     boxes: &mut BoxCache,
     input: &Stamped,
 ) -> Result<(), AllocError>
     requires empty { tasks.old.items ≡ [] }
-    requires boxes { boxes.old ≡ rows_of fixed.now.scene course.old.turn.world.fields }
-    requires cast { IsCast (plan_at fixed.now) (seen course.old) }
+    requires boxes { boxes.old ≡ rows_of fixed.now.scene course.old.live.world.fields }
+    requires cast { HasScriptsOf (wiring_at fixed.now) (seen course.old) }
     ensures course { OnOk result (seen course.new
-        ≡ fold (tick_node_of (plan_at fixed.now) input.now.time) (seen course.old)
+        ≡ fold (tick_node_of (wiring_at fixed.now) input.now.time) (seen course.old)
         (clocks_of (types_of fixed.now.scene))) }
     ensures empty { OnOk result (tasks.new.items ≡ []) }
     ensures boxes { OnOk result
-        (boxes.new ≡ rows_of fixed.now.scene course.new.turn.world.fields) }
+        (boxes.new ≡ rows_of fixed.now.scene course.new.live.world.fields) }
     ensures kinds { kinds_of course.new.scripts ≡ kinds_of course.old.scripts }
     ensures count { course.new.settling.count ≡ course.old.settling.count }
 {

@@ -3,13 +3,13 @@
 ghost use Rattle.std.specs.Prelude.{◌≡◌, [], IfOk, OnOk, is_some};
 ghost use Rattle.pick_core.specs.Sites.{rows_of};
 ghost use Rattle.script_running.specs.Acting.{kinds_of};
-ghost use Rattle.cascade_core.specs.Course.{plan_at, seen};
+ghost use Rattle.cascade_core.specs.Course.{wiring_at, seen};
 ghost use Rattle.cascade_core.specs.Cascade.{arrival, reached, received_by};
-ghost use Rattle.cascade_core.specs.Sound.{IsCast};
+ghost use Rattle.cascade_core.specs.Sound.{HasScriptsOf};
 
-use crate::fixed::Fixed;
+use crate::fixed::RoutedScene;
 use cascade_rules::deliver;
-use cascade_world::Turn;
+use cascade_world::Live;
 use pick_core::BoxCache;
 use react_core::Outbox;
 use scene_core::End;
@@ -23,7 +23,7 @@ use x3d_values::Value;
 /// settled.
 #[derive(Drop)]
 pub struct Course<B: Behaviour> {
-    pub turn: Turn,
+    pub live: Live,
     pub scripts: BegunScripts<B>,
     pub settling: DueScripts,
 }
@@ -32,22 +32,22 @@ impl<B: Behaviour> Course<B> {
     /// An event comes to the script of its target: whether there is one that receives it.
     fn receive(
         &mut self,
-        fixed: &Fixed,
+        fixed: &RoutedScene,
         target: End,
         value: &Value,
         out: &mut Outbox,
     ) -> Result<bool, AllocError>
         requires empty { out.old.items ≡ [] }
-        requires cast { IsCast (plan_at fixed.now) (seen self.old) }
+        requires cast { HasScriptsOf (wiring_at fixed.now) (seen self.old) }
         ensures received { IfOk result (λ received. received
-            ≡ is_some (arrival (plan_at fixed.now) (seen self.old) target value.now)) }
+            ≡ is_some (arrival (wiring_at fixed.now) (seen self.old) target value.now)) }
         ensures course { OnOk result (seen self.new
-            ≡ (received_by (plan_at fixed.now) (seen self.old)
-            (arrival (plan_at fixed.now) (seen self.old) target value.now)).course) }
+            ≡ (received_by (wiring_at fixed.now) (seen self.old)
+            (arrival (wiring_at fixed.now) (seen self.old) target value.now)).course) }
         ensures replies { OnOk result (out.new.items
-            ≡ (received_by (plan_at fixed.now) (seen self.old)
-            (arrival (plan_at fixed.now) (seen self.old) target value.now)).replies) }
-        ensures turn { self.new.turn ≡ self.old.turn }
+            ≡ (received_by (wiring_at fixed.now) (seen self.old)
+            (arrival (wiring_at fixed.now) (seen self.old) target value.now)).replies) }
+        ensures live { self.new.live ≡ self.old.live }
         ensures kinds { kinds_of self.new.scripts ≡ kinds_of self.old.scripts }
         ensures count { self.new.settling.count ≡ self.old.settling.count }
     {
@@ -68,21 +68,21 @@ impl<B: Behaviour> Course<B> {
     pub(crate) fn deliver(
         &mut self,
         alloc: Global,
-        fixed: &Fixed,
+        fixed: &RoutedScene,
         boxes: &mut BoxCache,
         target: End,
         value: &Value,
         out: &mut Outbox,
     ) -> Result<(), AllocError>
         requires empty { out.old.items ≡ [] }
-        requires boxes { boxes.old ≡ rows_of fixed.now.scene self.old.turn.world.fields }
-        requires cast { IsCast (plan_at fixed.now) (seen self.old) }
+        requires boxes { boxes.old ≡ rows_of fixed.now.scene self.old.live.world.fields }
+        requires cast { HasScriptsOf (wiring_at fixed.now) (seen self.old) }
         ensures course { OnOk result (seen self.new
-            ≡ (reached (plan_at fixed.now) (seen self.old) target value.now).course) }
+            ≡ (reached (wiring_at fixed.now) (seen self.old) target value.now).course) }
         ensures replies { OnOk result (out.new.items
-            ≡ (reached (plan_at fixed.now) (seen self.old) target value.now).replies) }
+            ≡ (reached (wiring_at fixed.now) (seen self.old) target value.now).replies) }
         ensures boxes { OnOk result
-            (boxes.new ≡ rows_of fixed.now.scene self.new.turn.world.fields) }
+            (boxes.new ≡ rows_of fixed.now.scene self.new.live.world.fields) }
         ensures kinds { kinds_of self.new.scripts ≡ kinds_of self.old.scripts }
         ensures count { self.new.settling.count ≡ self.old.settling.count }
     {
@@ -90,7 +90,7 @@ impl<B: Behaviour> Course<B> {
             return Ok(());
         }
         deliver(
-            &mut self.turn,
+            &mut self.live,
             alloc,
             &fixed.scene,
             boxes,

@@ -6,7 +6,7 @@ use script_running::Runs;
 
 /// What events go by, for good.
 #[derive(Drop)]
-pub struct Fixed {
+pub struct RoutedScene {
     pub scene: Scene,
     pub routes: Routes,
     pub runs: Runs,

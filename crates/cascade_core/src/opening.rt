@@ -8,18 +8,18 @@ ghost use Rattle.script_host.specs.Behaviour.{Initialize};
 ghost use Rattle.script_running.specs.Acting.{act, kinds_of};
 ghost use Rattle.cascade_core.specs.Apply.{opening as opening_of, sent_by_all, started, untold};
 ghost use Rattle.cascade_core.specs.Cascade.{send_replies as send_replies_of};
-ghost use Rattle.cascade_core.specs.Course.{ended, node_of, plan_at, ports_of, seen};
+ghost use Rattle.cascade_core.specs.Course.{ended, node_of, wiring_at, ports_of, seen};
 ghost use Rattle.cascade_core.specs.Scripts.{kinds_in, scripts_in};
 ghost use Rattle.cascade_core.specs.Settles.{settle as settle_of};
-ghost use Rattle.cascade_core.specs.Sound.{IsCast, IsSound, IsFixed, are_sent};
+ghost use Rattle.cascade_core.specs.Sound.{HasScriptsOf, IsSound, IsFixed, are_sent};
 
-use crate::bench::Bench;
+use crate::bench::Buffers;
 use crate::course::Course;
-use crate::fixed::Fixed;
+use crate::fixed::RoutedScene;
 use crate::settle::settle;
 use crate::stack::send_replies;
-use cascade_rules::Task;
-use cascade_world::Turn;
+use cascade_rules::CascadeTask;
+use cascade_world::Live;
 use pick_core::BoxCache;
 use react_core::Outbox;
 use script_host::{Behaviour, Scripts};
@@ -36,24 +36,24 @@ struct Sending {
 }
 
 impl Model for Sending {
-    ghost use Rattle.cascade_core.specs.Apply.{Sending as Sent};
+    ghost use Rattle.cascade_core.specs.Apply.{SendingView};
 
-    ghost Value = { Sent };
+    ghost Value = { SendingView };
 
     ghost view = { λ s. record { node = s.node; replies = s.replies.items } };
 }
 
 /// Initializes the k-th script: what its node is to send.
 #[tactic(auto, using(crate::proofs::Openings::script_run))]
-fn initialize_one<B: Behaviour>(fixed: &Fixed, scripts: &mut Scripts<B>, k: usize) -> Sending
+fn initialize_one<B: Behaviour>(fixed: &RoutedScene, scripts: &mut Scripts<B>, k: usize) -> Sending
     requires there { k < length scripts.old }
-    requires sound { IsSound (plan_at fixed.now) (kinds_of scripts.old) }
+    requires sound { IsSound (wiring_at fixed.now) (kinds_of scripts.old) }
     ensures scripts { scripts.new
-        ≡ (act (ports_of (plan_at fixed.now) k) Initialize k scripts.old).scripts }
+        ≡ (act (ports_of (wiring_at fixed.now) k) Initialize k scripts.old).scripts }
     ensures sending { result
         ≡ record {
-          node = node_of (plan_at fixed.now) k;
-          replies = (act (ports_of (plan_at fixed.now) k) Initialize k scripts.old).replies;
+          node = node_of (wiring_at fixed.now) k;
+          replies = (act (ports_of (wiring_at fixed.now) k) Initialize k scripts.old).replies;
         } }
     ensures kinds { kinds_of scripts.new ≡ kinds_of scripts.old }
 {
@@ -68,14 +68,14 @@ fn initialize_one<B: Behaviour>(fixed: &Fixed, scripts: &mut Scripts<B>, k: usiz
 /// Initializes all scripts in the order of their numbers: what their nodes are to send.
 fn initialize_all<B: Behaviour>(
     alloc: Global,
-    fixed: &Fixed,
+    fixed: &RoutedScene,
     scripts: &mut Scripts<B>,
 ) -> Result<Vec<Sending>, AllocError>
-    requires sound { IsSound (plan_at fixed.now) (kinds_of scripts.old) }
+    requires sound { IsSound (wiring_at fixed.now) (kinds_of scripts.old) }
     ensures scripts { OnOk result
-        (scripts.new ≡ (started (plan_at fixed.now) scripts.old).scripts) }
+        (scripts.new ≡ (started (wiring_at fixed.now) scripts.old).scripts) }
     ensures sendings { IfOk result (λ sendings.
-        sendings.items ≡ (started (plan_at fixed.now) scripts.old).sendings) }
+        sendings.items ≡ (started (wiring_at fixed.now) scripts.old).sendings) }
     ensures kinds { kinds_of scripts.new ≡ kinds_of scripts.old }
 {
     let count = scripts.len();
@@ -88,21 +88,21 @@ fn initialize_all<B: Behaviour>(
 
 /// What the node of one script is to send is sent.
 fn send_one<B: Behaviour>(
-    fixed: &Fixed,
-    tasks: &mut Vec<Task>,
+    fixed: &RoutedScene,
+    tasks: &mut Vec<CascadeTask>,
     course: &mut Course<B>,
     boxes: &mut BoxCache,
     sending: Sending,
 ) -> Result<(), AllocError>
     requires empty { tasks.old.items ≡ [] }
-    requires boxes { boxes.old ≡ rows_of fixed.now.scene course.old.turn.world.fields }
-    requires cast { IsCast (plan_at fixed.now) (seen course.old) }
+    requires boxes { boxes.old ≡ rows_of fixed.now.scene course.old.live.world.fields }
+    requires cast { HasScriptsOf (wiring_at fixed.now) (seen course.old) }
     requires outputs { are_sent (shapes_of fixed.now.scene) sending ≡ true }
     ensures course { OnOk result (seen course.new
-        ≡ send_replies_of (plan_at fixed.now) sending.node (seen course.old) sending.replies) }
+        ≡ send_replies_of (wiring_at fixed.now) sending.node (seen course.old) sending.replies) }
     ensures empty { OnOk result (tasks.new.items ≡ []) }
     ensures boxes { OnOk result
-        (boxes.new ≡ rows_of fixed.now.scene course.new.turn.world.fields) }
+        (boxes.new ≡ rows_of fixed.now.scene course.new.live.world.fields) }
     ensures kinds { kinds_of course.new.scripts ≡ kinds_of course.old.scripts }
     ensures count { course.new.settling.count ≡ course.old.settling.count }
 {
@@ -112,21 +112,21 @@ fn send_one<B: Behaviour>(
 
 /// What the nodes of scripts are to send is sent, in order.
 fn send_all<B: Behaviour>(
-    fixed: &Fixed,
-    tasks: &mut Vec<Task>,
+    fixed: &RoutedScene,
+    tasks: &mut Vec<CascadeTask>,
     course: &mut Course<B>,
     boxes: &mut BoxCache,
     sendings: Vec<Sending>,
 ) -> Result<(), AllocError>
     requires empty { tasks.old.items ≡ [] }
-    requires boxes { boxes.old ≡ rows_of fixed.now.scene course.old.turn.world.fields }
-    requires cast { IsCast (plan_at fixed.now) (seen course.old) }
+    requires boxes { boxes.old ≡ rows_of fixed.now.scene course.old.live.world.fields }
+    requires cast { HasScriptsOf (wiring_at fixed.now) (seen course.old) }
     requires outputs { list_all (are_sent (shapes_of fixed.now.scene)) sendings.items ≡ true }
     ensures course { OnOk result (seen course.new
-        ≡ sent_by_all (plan_at fixed.now) (seen course.old) sendings.items) }
+        ≡ sent_by_all (wiring_at fixed.now) (seen course.old) sendings.items) }
     ensures empty { OnOk result (tasks.new.items ≡ []) }
     ensures boxes { OnOk result
-        (boxes.new ≡ rows_of fixed.now.scene course.new.turn.world.fields) }
+        (boxes.new ≡ rows_of fixed.now.scene course.new.live.world.fields) }
     ensures kinds { kinds_of course.new.scripts ≡ kinds_of course.old.scripts }
     ensures count { course.new.settling.count ≡ course.old.settling.count }
 {
@@ -138,20 +138,20 @@ fn send_all<B: Behaviour>(
 
 /// What the nodes of scripts are to send is sent, and then the scripts settle.
 fn send_and_settle<B: Behaviour>(
-    fixed: &Fixed,
-    bench: &mut Bench,
+    fixed: &RoutedScene,
+    bench: &mut Buffers,
     course: &mut Course<B>,
     sendings: Vec<Sending>,
 ) -> Result<(), AllocError>
     requires empty { bench.old.tasks.items ≡ [] }
-    requires boxes { bench.old.boxes ≡ rows_of fixed.now.scene course.old.turn.world.fields }
-    requires cast { IsCast (plan_at fixed.now) (seen course.old) }
+    requires boxes { bench.old.boxes ≡ rows_of fixed.now.scene course.old.live.world.fields }
+    requires cast { HasScriptsOf (wiring_at fixed.now) (seen course.old) }
     requires outputs { list_all (are_sent (shapes_of fixed.now.scene)) sendings.items ≡ true }
     requires fresh { course.old.settling.settled ≡ [] }
-    ensures course { OnOk result (seen course.new ≡ settle_of (plan_at fixed.now)
-        (sent_by_all (plan_at fixed.now) (seen course.old) sendings.items)) }
+    ensures course { OnOk result (seen course.new ≡ settle_of (wiring_at fixed.now)
+        (sent_by_all (wiring_at fixed.now) (seen course.old) sendings.items)) }
     ensures boxes { OnOk result
-        (bench.new.boxes ≡ rows_of fixed.now.scene course.new.turn.world.fields) }
+        (bench.new.boxes ≡ rows_of fixed.now.scene course.new.live.world.fields) }
     ensures kinds { kinds_of course.new.scripts ≡ kinds_of course.old.scripts }
     ensures count { course.new.settling.count ≡ course.old.settling.count }
 {
@@ -163,39 +163,39 @@ fn send_and_settle<B: Behaviour>(
 /// The course of input 0 of these scripts, over a world in which nothing has happened.
 pub fn open<B: Behaviour>(
     alloc: Global,
-    fixed: &Fixed,
-    bench: &mut Bench,
-    turn: Turn,
+    fixed: &RoutedScene,
+    bench: &mut Buffers,
+    live: Live,
     mut scripts: Scripts<B>,
 ) -> Result<Course<B>, AllocError>
     requires fixed { IsFixed fixed.now }
-    requires sound { IsSound (plan_at fixed.now) (kinds_of scripts) }
+    requires sound { IsSound (wiring_at fixed.now) (kinds_of scripts) }
     requires scripts { scripts ≡ scripts_in fixed.now.scene }
     requires empty { bench.old.tasks.items ≡ [] }
-    requires world { turn.world ≡ untold fixed.now.scene }
-    requires unsent { turn.sent ≡ [] }
-    requires boxes { bench.old.boxes ≡ rows_of fixed.now.scene turn.world.fields }
+    requires world { live.world ≡ untold fixed.now.scene }
+    requires unsent { live.sent ≡ [] }
+    requires boxes { bench.old.boxes ≡ rows_of fixed.now.scene live.world.fields }
     ensures world { IfOk result (λ course.
         ended (seen course) ≡ opening_of fixed.now.scene fixed.now.routes) }
     ensures boxes { IfOk result (λ course.
-        bench.new.boxes ≡ rows_of fixed.now.scene course.turn.world.fields) }
+        bench.new.boxes ≡ rows_of fixed.now.scene course.live.world.fields) }
     ensures kinds { IfOk result (λ course. kinds_of course.scripts ≡ kinds_in fixed.now.scene) }
     ensures count { IfOk result (λ course. course.settling.count ≡ length course.scripts) }
 {
     // Each exit drops by calls: a drop in place is proved anew at each.
     let Ok(settling) = DueScripts::new(alloc, scripts.len()) else {
         drop(scripts);
-        drop(turn);
+        drop(live);
         return Err(AllocError);
     };
     let Ok(sendings) = initialize_all(alloc, fixed, &mut scripts) else {
         drop(settling);
         drop(scripts);
-        drop(turn);
+        drop(live);
         return Err(AllocError);
     };
     let mut course = Course {
-        turn,
+        live,
         scripts: BegunScripts::new(scripts),
         settling,
     };

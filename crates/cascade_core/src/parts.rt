@@ -3,20 +3,20 @@
 ghost use Rattle.std.specs.Prelude.{◌≡◌, [], IfOk, List, None, map, replicate};
 ghost use Rattle.script_running.specs.Acting.{kinds_of};
 ghost use Rattle.script_host.specs.Attaching.{Fits};
-ghost use Rattle.script_host.specs.Hosting.{ScriptRecord};
+ghost use Rattle.script_host.specs.Hosting.{SlotView};
 ghost use Rattle.script_running.specs.Runs.{runs_of};
 ghost use Rattle.script_running.specs.Scripts.{script_list};
-ghost use Rattle.cascade_core.specs.Course.{plan_at};
+ghost use Rattle.cascade_core.specs.Course.{wiring_at};
 ghost use Rattle.cascade_core.specs.Sound.{IsFixed, IsSound};
 ghost use Rattle.cascade_core.specs.Apply.{untold};
 ghost use Rattle.pick_core.specs.Sites.{rows_of};
 ghost use Rattle.scene_core.specs.Scene.{types_of};
 ghost use Rattle.sensor_plane.specs.Pointing.{start_of};
 
-use crate::bench::Bench;
-use crate::fixed::Fixed;
+use crate::bench::Buffers;
+use crate::fixed::RoutedScene;
 use cascade_trace::{SentBits, Trace};
-use cascade_world::{State, Turn, VIEWERS, Watched, WorldData};
+use cascade_world::{Live, State, VIEWERS, Watched, WorldData};
 use pick_core::BoxCache;
 use route_core::Routes;
 use scene_core::Scene;
@@ -76,12 +76,12 @@ fn untold(alloc: Global, scene: &Scene) -> Result<WorldData, AllocError>
 }
 
 /// What a stage works with: no task is left, and the boxes are those of the world.
-fn bench_of(alloc: Global, scene: &Scene, world: &WorldData) -> Result<Bench, AllocError>
+fn bench_of(alloc: Global, scene: &Scene, world: &WorldData) -> Result<Buffers, AllocError>
     ensures boxes { IfOk result (λ bench. bench.boxes ≡ rows_of scene.now world.now.fields) }
     ensures tasks { IfOk result (λ bench. bench.tasks.items ≡ []) }
 {
     let boxes = BoxCache::new(alloc, scene, world.fields.as_slice())?;
-    Ok(Bench {
+    Ok(Buffers {
         tasks: Vec::new(alloc),
         pressed: Vec::new(alloc),
         boxes,
@@ -89,37 +89,37 @@ fn bench_of(alloc: Global, scene: &Scene, world: &WorldData) -> Result<Bench, Al
 }
 
 /// The turn of a scene in which nothing has happened.
-fn turn_of(alloc: Global, scene: &Scene) -> Result<Turn, AllocError>
-    ensures world { IfOk result (λ turn. turn.world ≡ untold scene.now) }
-    ensures sent { IfOk result (λ turn. turn.sent ≡ []) }
+fn turn_of(alloc: Global, scene: &Scene) -> Result<Live, AllocError>
+    ensures world { IfOk result (λ live. live.world ≡ untold scene.now) }
+    ensures sent { IfOk result (λ live. live.sent ≡ []) }
 {
     let sent = SentBits::new(alloc, scene)?;
     let world = untold(alloc, scene)?;
-    Ok(Turn { world, sent })
+    Ok(Live { world, sent })
 }
 
 /// What a stage has beside its scene, its routes and its scripts.
 #[derive(Drop)]
 pub(crate) struct Parts {
-    pub(crate) turn: Turn,
-    pub(crate) bench: Bench,
+    pub(crate) live: Live,
+    pub(crate) bench: Buffers,
 }
 
 /// The parts of a stage before any input.
 pub(crate) fn parts_of(alloc: Global, scene: &Scene) -> Result<Parts, AllocError>
-    ensures world { IfOk result (λ parts. parts.turn.world ≡ untold scene.now) }
-    ensures sent { IfOk result (λ parts. parts.turn.sent ≡ []) }
+    ensures world { IfOk result (λ parts. parts.live.world ≡ untold scene.now) }
+    ensures sent { IfOk result (λ parts. parts.live.sent ≡ []) }
     ensures tasks { IfOk result (λ parts. parts.bench.tasks.items ≡ []) }
     ensures boxes { IfOk result
-        (λ parts. parts.bench.boxes ≡ rows_of scene.now parts.turn.world.fields) }
+        (λ parts. parts.bench.boxes ≡ rows_of scene.now parts.live.world.fields) }
 {
     // Each exit drops by calls: a drop in place is proved anew at each.
-    let turn = turn_of(alloc, scene)?;
-    let Ok(bench) = bench_of(alloc, scene, &turn.world) else {
-        drop(turn);
+    let live = turn_of(alloc, scene)?;
+    let Ok(bench) = bench_of(alloc, scene, &live.world) else {
+        drop(live);
         return Err(AllocError);
     };
-    Ok(Parts { turn, bench })
+    Ok(Parts { live, bench })
 }
 
 /// The scripts that a scene runs.
@@ -133,13 +133,13 @@ fn runs_in(alloc: Global, scene: &Scene) -> Result<Runs, AllocError>
 }
 
 /// What events go by in a scene with these routes.
-pub fn fixed_of(alloc: Global, scene: Scene, routes: Routes) -> Result<Fixed, AllocError>
+pub fn fixed_of(alloc: Global, scene: Scene, routes: Routes) -> Result<RoutedScene, AllocError>
     ensures scene { IfOk result (λ made. made.scene ≡ scene) }
     ensures routes { IfOk result (λ made. made.routes ≡ routes) }
     ensures runs { IfOk result (λ made. IsFixed made) }
-    ensures sound { IfOk result (λ made. (scripts : List ScriptRecord)
+    ensures sound { IfOk result (λ made. (scripts : List SlotView)
         → Fits (script_list scene) scripts
-        → IsSound (plan_at made) (kinds_of scripts)) }
+        → IsSound (wiring_at made) (kinds_of scripts)) }
 {
     // Each exit drops by calls: a drop in place is proved anew at each.
     let Ok(runs) = runs_in(alloc, &scene) else {
@@ -147,7 +147,7 @@ pub fn fixed_of(alloc: Global, scene: Scene, routes: Routes) -> Result<Fixed, Al
         drop(scene);
         return Err(AllocError);
     };
-    Ok(Fixed {
+    Ok(RoutedScene {
         scene,
         routes,
         runs,

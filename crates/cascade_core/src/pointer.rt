@@ -6,21 +6,21 @@ ghost use Rattle.std.specs.List.{fold, range_with_len};
 ghost use Rattle.scene_core.specs.Scene.{types_of};
 ghost use Rattle.pick_core.specs.Sites.{rows_of};
 ghost use Rattle.script_running.specs.Acting.{kinds_of};
-ghost use Rattle.cascade_core.specs.Course.{plan_at, seen};
-ghost use Rattle.cascade_core.specs.Sound.{IsCast};
+ghost use Rattle.cascade_core.specs.Course.{wiring_at, seen};
+ghost use Rattle.cascade_core.specs.Sound.{HasScriptsOf};
 ghost use Rattle.cascade_core.specs.Apply.{point as point_of, point_node as point_node_of};
 ghost use Rattle.cascade_world.specs.Insides.{seen as insides_seen};
 ghost use Rattle.cascade_world.specs.Nodes.{is_sensor, pointing_sensors_of};
 ghost use Rattle.cascade_world.specs.Pointer.{or_all, untracked};
 ghost use Rattle.cascade_core.specs.Walks.{over_block, untracked_by, where_passes};
 
-use crate::bench::Bench;
+use crate::bench::Buffers;
 use crate::course::Course;
-use crate::fixed::Fixed;
+use crate::fixed::RoutedScene;
 use crate::pressed::list_pressed;
 use crate::stack::send_replies;
-use cascade_rules::{Task, is_sensor};
-use cascade_world::{Aim, BLOCK, Concerned, insides};
+use cascade_rules::{CascadeTask, is_sensor};
+use cascade_world::{AimedAt, BLOCK, Concerned, insides};
 use pick_core::BoxCache;
 use react_core::Outbox;
 use script_host::Behaviour;
@@ -29,34 +29,34 @@ use x3d_values::Pointer;
 
 /// A pointing sensor meets a pointer, and what it sends is followed.
 fn point_node<B: Behaviour>(
-    fixed: &Fixed,
-    tasks: &mut Vec<Task>,
+    fixed: &RoutedScene,
+    tasks: &mut Vec<CascadeTask>,
     course: &mut Course<B>,
     replies: &mut Outbox,
     boxes: &mut BoxCache,
     concerned: Concerned,
-    aim: &Aim,
+    aim: &AimedAt,
 ) -> Result<(), AllocError>
     requires empty { tasks.old.items ≡ [] }
     requires none { replies.old.items ≡ [] }
-    requires boxes { boxes.old ≡ rows_of fixed.now.scene course.old.turn.world.fields }
-    requires cast { IsCast (plan_at fixed.now) (seen course.old) }
+    requires boxes { boxes.old ≡ rows_of fixed.now.scene course.old.live.world.fields }
+    requires cast { HasScriptsOf (wiring_at fixed.now) (seen course.old) }
     ensures course { OnOk result
         (seen course.new
-        ≡ point_node_of fixed.now.scene (plan_at fixed.now) aim.now.pointer aim.now.before
+        ≡ point_node_of fixed.now.scene (wiring_at fixed.now) aim.now.pointer aim.now.before
         (insides_seen aim.now.inside) (seen course.old) concerned) }
     ensures empty { OnOk result (tasks.new.items ≡ []) }
     ensures none { OnOk result (replies.new.items ≡ []) }
     ensures boxes { OnOk result
-        (boxes.new ≡ rows_of fixed.now.scene course.new.turn.world.fields) }
+        (boxes.new ≡ rows_of fixed.now.scene course.new.live.world.fields) }
     ensures kinds { kinds_of course.new.scripts ≡ kinds_of course.old.scripts }
     ensures count { course.new.settling.count ≡ course.old.settling.count }
 {
-    if course.turn.world.passes(concerned, aim) {
+    if course.live.world.passes(concerned, aim) {
         return Ok(());
     }
     course
-        .turn
+        .live
         .world
         .meet(&fixed.scene, concerned, aim, replies);
     send_replies(fixed, tasks, course, replies, boxes, concerned.sensor)
@@ -64,25 +64,25 @@ fn point_node<B: Behaviour>(
 
 /// Each of these sensors meets a pointer at its turn.
 fn point_all<B: Behaviour>(
-    fixed: &Fixed,
+    fixed: &RoutedScene,
     sensors: &[Concerned],
-    tasks: &mut Vec<Task>,
+    tasks: &mut Vec<CascadeTask>,
     course: &mut Course<B>,
     boxes: &mut BoxCache,
-    aim: &Aim,
+    aim: &AimedAt,
 ) -> Result<(), AllocError>
     requires empty { tasks.old.items ≡ [] }
-    requires boxes { boxes.old ≡ rows_of fixed.now.scene course.old.turn.world.fields }
-    requires cast { IsCast (plan_at fixed.now) (seen course.old) }
+    requires boxes { boxes.old ≡ rows_of fixed.now.scene course.old.live.world.fields }
+    requires cast { HasScriptsOf (wiring_at fixed.now) (seen course.old) }
     ensures course { OnOk result
         (seen course.new
         ≡ fold
-        (point_node_of fixed.now.scene (plan_at fixed.now) aim.now.pointer aim.now.before
+        (point_node_of fixed.now.scene (wiring_at fixed.now) aim.now.pointer aim.now.before
         (insides_seen aim.now.inside))
         (seen course.old) sensors.now) }
     ensures empty { OnOk result (tasks.new.items ≡ []) }
     ensures boxes { OnOk result
-        (boxes.new ≡ rows_of fixed.now.scene course.new.turn.world.fields) }
+        (boxes.new ≡ rows_of fixed.now.scene course.new.live.world.fields) }
     ensures kinds { kinds_of course.new.scripts ≡ kinds_of course.old.scripts }
     ensures count { course.new.settling.count ≡ course.old.settling.count }
 {
@@ -95,26 +95,26 @@ fn point_all<B: Behaviour>(
 
 /// The node of that number meets a pointer, where it is a pointing sensor.
 fn point_any<B: Behaviour>(
-    fixed: &Fixed,
-    tasks: &mut Vec<Task>,
+    fixed: &RoutedScene,
+    tasks: &mut Vec<CascadeTask>,
     course: &mut Course<B>,
     replies: &mut Outbox,
     boxes: &mut BoxCache,
     node: u32,
-    aim: &Aim,
+    aim: &AimedAt,
 ) -> Result<(), AllocError>
     requires empty { tasks.old.items ≡ [] }
     requires none { replies.old.items ≡ [] }
-    requires boxes { boxes.old ≡ rows_of fixed.now.scene course.old.turn.world.fields }
-    requires cast { IsCast (plan_at fixed.now) (seen course.old) }
+    requires boxes { boxes.old ≡ rows_of fixed.now.scene course.old.live.world.fields }
+    requires cast { HasScriptsOf (wiring_at fixed.now) (seen course.old) }
     ensures course { OnOk result (seen course.new
         ≡ where_passes (is_sensor (types_of fixed.now.scene))
-        (untracked_by (point_node_of fixed.now.scene (plan_at fixed.now) aim.now.pointer
+        (untracked_by (point_node_of fixed.now.scene (wiring_at fixed.now) aim.now.pointer
         aim.now.before (insides_seen aim.now.inside))) (seen course.old) node) }
     ensures empty { OnOk result (tasks.new.items ≡ []) }
     ensures none { OnOk result (replies.new.items ≡ []) }
     ensures boxes { OnOk result
-        (boxes.new ≡ rows_of fixed.now.scene course.new.turn.world.fields) }
+        (boxes.new ≡ rows_of fixed.now.scene course.new.live.world.fields) }
     ensures kinds { kinds_of course.new.scripts ≡ kinds_of course.old.scripts }
     ensures count { course.new.settling.count ≡ course.old.settling.count }
 {
@@ -130,28 +130,28 @@ fn point_any<B: Behaviour>(
 
 /// Each pointing sensor of some nodes meets a pointer at its turn.
 fn point_some<B: Behaviour>(
-    fixed: &Fixed,
-    tasks: &mut Vec<Task>,
+    fixed: &RoutedScene,
+    tasks: &mut Vec<CascadeTask>,
     course: &mut Course<B>,
     replies: &mut Outbox,
     boxes: &mut BoxCache,
     start: u32,
     end: u32,
-    aim: &Aim,
+    aim: &AimedAt,
 ) -> Result<(), AllocError>
     requires empty { tasks.old.items ≡ [] }
     requires none { replies.old.items ≡ [] }
-    requires boxes { boxes.old ≡ rows_of fixed.now.scene course.old.turn.world.fields }
-    requires cast { IsCast (plan_at fixed.now) (seen course.old) }
+    requires boxes { boxes.old ≡ rows_of fixed.now.scene course.old.live.world.fields }
+    requires cast { HasScriptsOf (wiring_at fixed.now) (seen course.old) }
     ensures course { OnOk result (seen course.new
         ≡ fold (where_passes (is_sensor (types_of fixed.now.scene))
-        (untracked_by (point_node_of fixed.now.scene (plan_at fixed.now) aim.now.pointer
+        (untracked_by (point_node_of fixed.now.scene (wiring_at fixed.now) aim.now.pointer
         aim.now.before (insides_seen aim.now.inside)))) (seen course.old)
         (range_with_len start (end - start))) }
     ensures empty { OnOk result (tasks.new.items ≡ []) }
     ensures none { OnOk result (replies.new.items ≡ []) }
     ensures boxes { OnOk result
-        (boxes.new ≡ rows_of fixed.now.scene course.new.turn.world.fields) }
+        (boxes.new ≡ rows_of fixed.now.scene course.new.live.world.fields) }
     ensures kinds { kinds_of course.new.scripts ≡ kinds_of course.old.scripts }
     ensures count { course.new.settling.count ≡ course.old.settling.count }
 {
@@ -164,32 +164,32 @@ fn point_some<B: Behaviour>(
 /// The pointing sensors of a block of nodes meet a pointer, of so many nodes in all. A block is
 /// passed where it is known that nothing happens there.
 fn point_block<B: Behaviour>(
-    fixed: &Fixed,
-    tasks: &mut Vec<Task>,
+    fixed: &RoutedScene,
+    tasks: &mut Vec<CascadeTask>,
     course: &mut Course<B>,
     replies: &mut Outbox,
     boxes: &mut BoxCache,
     block: u32,
     count: u32,
-    aim: &Aim,
+    aim: &AimedAt,
 ) -> Result<(), AllocError>
     requires within { block * 32 ≤ count }
     requires empty { tasks.old.items ≡ [] }
     requires none { replies.old.items ≡ [] }
-    requires boxes { boxes.old ≡ rows_of fixed.now.scene course.old.turn.world.fields }
-    requires cast { IsCast (plan_at fixed.now) (seen course.old) }
+    requires boxes { boxes.old ≡ rows_of fixed.now.scene course.old.live.world.fields }
+    requires cast { HasScriptsOf (wiring_at fixed.now) (seen course.old) }
     ensures course { OnOk result (seen course.new
         ≡ over_block (where_passes (is_sensor (types_of fixed.now.scene))
-        (untracked_by (point_node_of fixed.now.scene (plan_at fixed.now) aim.now.pointer
+        (untracked_by (point_node_of fixed.now.scene (wiring_at fixed.now) aim.now.pointer
         aim.now.before (insides_seen aim.now.inside)))) (seen course.old) block count) }
     ensures empty { OnOk result (tasks.new.items ≡ []) }
     ensures none { OnOk result (replies.new.items ≡ []) }
     ensures boxes { OnOk result
-        (boxes.new ≡ rows_of fixed.now.scene course.new.turn.world.fields) }
+        (boxes.new ≡ rows_of fixed.now.scene course.new.live.world.fields) }
     ensures kinds { kinds_of course.new.scripts ≡ kinds_of course.old.scripts }
     ensures count { course.new.settling.count ≡ course.old.settling.count }
 {
-    if course.turn.world.passes_block(block, aim) {
+    if course.live.world.passes_block(block, aim) {
         return Ok(());
     }
     let start = block * BLOCK;
@@ -204,31 +204,31 @@ fn point_block<B: Behaviour>(
         start + many,
         aim,
     )?;
-    course.turn.world.remember_pointing(block);
+    course.live.world.remember_pointing(block);
     Ok(())
 }
 
 /// Each pointing sensor meets a pointer at its turn.
 fn point_each<B: Behaviour>(
-    fixed: &Fixed,
-    tasks: &mut Vec<Task>,
+    fixed: &RoutedScene,
+    tasks: &mut Vec<CascadeTask>,
     course: &mut Course<B>,
     boxes: &mut BoxCache,
-    aim: &Aim,
+    aim: &AimedAt,
 ) -> Result<(), AllocError>
     requires empty { tasks.old.items ≡ [] }
-    requires boxes { boxes.old ≡ rows_of fixed.now.scene course.old.turn.world.fields }
-    requires cast { IsCast (plan_at fixed.now) (seen course.old) }
+    requires boxes { boxes.old ≡ rows_of fixed.now.scene course.old.live.world.fields }
+    requires cast { HasScriptsOf (wiring_at fixed.now) (seen course.old) }
     ensures course { OnOk result
         (seen course.new
         ≡ fold
-        (point_node_of fixed.now.scene (plan_at fixed.now) aim.now.pointer aim.now.before
+        (point_node_of fixed.now.scene (wiring_at fixed.now) aim.now.pointer aim.now.before
         (insides_seen aim.now.inside))
         (seen course.old)
         (map untracked (pointing_sensors_of (types_of fixed.now.scene)))) }
     ensures empty { OnOk result (tasks.new.items ≡ []) }
     ensures boxes { OnOk result
-        (boxes.new ≡ rows_of fixed.now.scene course.new.turn.world.fields) }
+        (boxes.new ≡ rows_of fixed.now.scene course.new.live.world.fields) }
     ensures kinds { kinds_of course.new.scripts ≡ kinds_of course.old.scripts }
     ensures count { course.new.settling.count ≡ course.old.settling.count }
 {
@@ -243,26 +243,26 @@ fn point_each<B: Behaviour>(
 /// Each of those that are pressed meets a pointer at its turn, or each pointing sensor where none
 /// is.
 fn point_concerned<B: Behaviour>(
-    fixed: &Fixed,
+    fixed: &RoutedScene,
     pressed: &[Concerned],
-    tasks: &mut Vec<Task>,
+    tasks: &mut Vec<CascadeTask>,
     course: &mut Course<B>,
     boxes: &mut BoxCache,
-    aim: &Aim,
+    aim: &AimedAt,
 ) -> Result<(), AllocError>
     requires empty { tasks.old.items ≡ [] }
-    requires boxes { boxes.old ≡ rows_of fixed.now.scene course.old.turn.world.fields }
-    requires cast { IsCast (plan_at fixed.now) (seen course.old) }
+    requires boxes { boxes.old ≡ rows_of fixed.now.scene course.old.live.world.fields }
+    requires cast { HasScriptsOf (wiring_at fixed.now) (seen course.old) }
     ensures course { OnOk result
         (seen course.new
         ≡ fold
-        (point_node_of fixed.now.scene (plan_at fixed.now) aim.now.pointer aim.now.before
+        (point_node_of fixed.now.scene (wiring_at fixed.now) aim.now.pointer aim.now.before
         (insides_seen aim.now.inside))
         (seen course.old)
         (or_all pressed.now (map untracked (pointing_sensors_of (types_of fixed.now.scene))))) }
     ensures empty { OnOk result (tasks.new.items ≡ []) }
     ensures boxes { OnOk result
-        (boxes.new ≡ rows_of fixed.now.scene course.new.turn.world.fields) }
+        (boxes.new ≡ rows_of fixed.now.scene course.new.live.world.fields) }
     ensures kinds { kinds_of course.new.scripts ≡ kinds_of course.old.scripts }
     ensures count { course.new.settling.count ≡ course.old.settling.count }
 {
@@ -275,25 +275,25 @@ fn point_concerned<B: Behaviour>(
 /// A viewer points.
 #[tactic(auto, unfolding(crate::specs::Apply::point, cascade_world::specs::Pointer::concerned))]
 pub fn point<B: Behaviour>(
-    fixed: &Fixed,
-    bench: &mut Bench,
+    fixed: &RoutedScene,
+    bench: &mut Buffers,
     course: &mut Course<B>,
     pointer: Pointer,
 ) -> Result<(), AllocError>
     requires empty { bench.old.tasks.items ≡ [] }
-    requires boxes { bench.old.boxes ≡ rows_of fixed.now.scene course.old.turn.world.fields }
-    requires cast { IsCast (plan_at fixed.now) (seen course.old) }
+    requires boxes { bench.old.boxes ≡ rows_of fixed.now.scene course.old.live.world.fields }
+    requires cast { HasScriptsOf (wiring_at fixed.now) (seen course.old) }
     ensures course { OnOk result (seen course.new
-        ≡ point_of fixed.now.scene (plan_at fixed.now) (seen course.old) pointer) }
+        ≡ point_of fixed.now.scene (wiring_at fixed.now) (seen course.old) pointer) }
     ensures empty { OnOk result (bench.new.tasks.items ≡ []) }
     ensures boxes { OnOk result
-        (bench.new.boxes ≡ rows_of fixed.now.scene course.new.turn.world.fields) }
+        (bench.new.boxes ≡ rows_of fixed.now.scene course.new.live.world.fields) }
     ensures kinds { kinds_of course.new.scripts ≡ kinds_of course.old.scripts }
     ensures count { course.new.settling.count ≡ course.old.settling.count }
 {
-    let world = &course.turn.world;
+    let world = &course.live.world;
     list_pressed(world, &fixed.scene, pointer, &mut bench.pressed)?;
-    let aim = Aim {
+    let aim = AimedAt {
         pointer,
         before: world.is_down(pointer.who()),
         inside: insides(
@@ -303,7 +303,7 @@ pub fn point<B: Behaviour>(
             pointer.ray(),
         ),
     };
-    course.turn.set_button(pointer);
+    course.live.set_button(pointer);
     point_concerned(
         fixed,
         &bench.pressed,

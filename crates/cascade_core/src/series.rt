@@ -4,7 +4,7 @@ ghost use Rattle.std.specs.Prelude.{◌≡◌, ◌⊎◌, IfOk, IfErr, None, OnO
 ghost use Rattle.cascade_core.specs.Apply.{opening, world};
 ghost use Rattle.cascade_core.specs.Scripts.{scripts_in};
 ghost use Rattle.cascade_core.specs.Held.{Running, after_all, refusal_in};
-ghost use Rattle.cascade_core.specs.InTurn.{AreInTurn};
+ghost use Rattle.cascade_core.specs.InOrder.{AreInOrder};
 ghost use Rattle.script_running.specs.Scripts.{script_list};
 ghost use Rattle.script_host.specs.Attaching.{Fits};
 
@@ -58,7 +58,7 @@ pub fn run<B: Behaviour>(
         (record { scene = scene; routes = routes; held = Running (opening scene routes) })
         inputs.now ≡ Some fault)) }
     // Of inputs in turn none is refused.
-    ensures in_turn { AreInTurn inputs.now → IfErr result (λ fault. fault ≡ ApplyFault.Memory) }
+    ensures in_order { AreInOrder inputs.now → IfErr result (λ fault. fault ≡ ApplyFault.Memory) }
 {
     let Ok(mut stage) = Stage::load(alloc, scene, routes, scripts) else {
         return Err(ApplyFault::Memory);

@@ -4,14 +4,14 @@ ghost use Rattle.std.specs.Prelude.{◌≡◌, ◌<◌, [], OnOk, true, length};
 ghost use Rattle.pick_core.specs.Sites.{rows_of};
 ghost use Rattle.script_slots.specs.Settling.{is_due};
 ghost use Rattle.script_running.specs.Acting.{kinds_of};
-ghost use Rattle.cascade_core.specs.Course.{plan_at, seen};
-ghost use Rattle.cascade_core.specs.Sound.{IsCast};
+ghost use Rattle.cascade_core.specs.Course.{wiring_at, seen};
+ghost use Rattle.cascade_core.specs.Sound.{HasScriptsOf};
 ghost use Rattle.cascade_core.specs.Settles.{settle as settle_of, settle_one as settle_one_of};
 
 use crate::course::Course;
-use crate::fixed::Fixed;
+use crate::fixed::RoutedScene;
 use crate::stack::send_replies;
-use cascade_rules::Task;
+use cascade_rules::CascadeTask;
 use pick_core::BoxCache;
 use react_core::Outbox;
 use script_host::Behaviour;
@@ -19,8 +19,8 @@ use std::alloc::AllocError;
 
 /// A script that is due settles, and what its node sends is followed.
 fn settle_one<B: Behaviour>(
-    fixed: &Fixed,
-    tasks: &mut Vec<Task>,
+    fixed: &RoutedScene,
+    tasks: &mut Vec<CascadeTask>,
     course: &mut Course<B>,
     replies: &mut Outbox,
     boxes: &mut BoxCache,
@@ -28,16 +28,16 @@ fn settle_one<B: Behaviour>(
 ) -> Result<(), AllocError>
     requires empty { tasks.old.items ≡ [] }
     requires none { replies.old.items ≡ [] }
-    requires boxes { boxes.old ≡ rows_of fixed.now.scene course.old.turn.world.fields }
-    requires cast { IsCast (plan_at fixed.now) (seen course.old) }
+    requires boxes { boxes.old ≡ rows_of fixed.now.scene course.old.live.world.fields }
+    requires cast { HasScriptsOf (wiring_at fixed.now) (seen course.old) }
     requires there { k < length course.old.scripts }
     requires due { is_due course.old.settling k ≡ true }
     ensures course { OnOk result
-        (seen course.new ≡ settle_one_of (plan_at fixed.now) (seen course.old) k) }
+        (seen course.new ≡ settle_one_of (wiring_at fixed.now) (seen course.old) k) }
     ensures empty { OnOk result (tasks.new.items ≡ []) }
     ensures none { OnOk result (replies.new.items ≡ []) }
     ensures boxes { OnOk result
-        (boxes.new ≡ rows_of fixed.now.scene course.new.turn.world.fields) }
+        (boxes.new ≡ rows_of fixed.now.scene course.new.live.world.fields) }
     ensures kinds { kinds_of course.new.scripts ≡ kinds_of course.old.scripts }
     ensures count { course.new.settling.count ≡ course.old.settling.count }
 {
@@ -48,19 +48,19 @@ fn settle_one<B: Behaviour>(
 
 /// Scripts settle until none is due.
 pub fn settle<B: Behaviour>(
-    fixed: &Fixed,
-    tasks: &mut Vec<Task>,
+    fixed: &RoutedScene,
+    tasks: &mut Vec<CascadeTask>,
     course: &mut Course<B>,
     boxes: &mut BoxCache,
 ) -> Result<(), AllocError>
     requires empty { tasks.old.items ≡ [] }
-    requires boxes { boxes.old ≡ rows_of fixed.now.scene course.old.turn.world.fields }
-    requires cast { IsCast (plan_at fixed.now) (seen course.old) }
+    requires boxes { boxes.old ≡ rows_of fixed.now.scene course.old.live.world.fields }
+    requires cast { HasScriptsOf (wiring_at fixed.now) (seen course.old) }
     requires fresh { course.old.settling.settled ≡ [] }
     ensures course { OnOk result
-        (seen course.new ≡ settle_of (plan_at fixed.now) (seen course.old)) }
+        (seen course.new ≡ settle_of (wiring_at fixed.now) (seen course.old)) }
     ensures boxes { OnOk result
-        (boxes.new ≡ rows_of fixed.now.scene course.new.turn.world.fields) }
+        (boxes.new ≡ rows_of fixed.now.scene course.new.live.world.fields) }
     ensures kinds { kinds_of course.new.scripts ≡ kinds_of course.old.scripts }
     ensures count { course.new.settling.count ≡ course.old.settling.count }
 {

@@ -7,15 +7,15 @@ ghost use Rattle.pick_core.specs.Sites.{rows_of};
 ghost use Rattle.cascade_trace.specs.Ends.{targets_of};
 ghost use Rattle.cascade_rules.specs.Replies.{send_by};
 ghost use Rattle.cascade_core.specs.Outputs.{is_scene_output};
-ghost use Rattle.cascade_core.specs.Course.{plan_at, seen};
+ghost use Rattle.cascade_core.specs.Course.{wiring_at, seen};
 ghost use Rattle.cascade_core.specs.Cascade.{send_full, send_replies as send_replies_of};
-ghost use Rattle.cascade_core.specs.Sound.{IsCast};
+ghost use Rattle.cascade_core.specs.Sound.{HasScriptsOf};
 ghost use Rattle.cascade_core.specs.Stack.{do_task, finish, IsReady, weight, work_left};
 ghost use Rattle.script_running.specs.Acting.{kinds_of};
 
 use crate::course::Course;
-use crate::fixed::Fixed;
-use cascade_rules::{Task, push_before, push_replies, send};
+use crate::fixed::RoutedScene;
+use cascade_rules::{CascadeTask, push_before, push_replies, send};
 use pick_core::BoxCache;
 use react_core::Outbox;
 use route_core::Routes;
@@ -26,8 +26,8 @@ use x3d_values::Value;
 
 /// What a node answers is sent, in its order, and followed to its end.
 pub fn send_replies<B: Behaviour>(
-    fixed: &Fixed,
-    tasks: &mut Vec<Task>,
+    fixed: &RoutedScene,
+    tasks: &mut Vec<CascadeTask>,
     course: &mut Course<B>,
     replies: &mut Outbox,
     boxes: &mut BoxCache,
@@ -36,14 +36,14 @@ pub fn send_replies<B: Behaviour>(
     requires empty { tasks.old.items ≡ [] }
     requires ready { AllByRecursion (IsReady (shapes_of fixed.now.scene))
         (map (send_by node) (reverse replies.old.items)) }
-    requires boxes { boxes.old ≡ rows_of fixed.now.scene course.old.turn.world.fields }
-    requires cast { IsCast (plan_at fixed.now) (seen course.old) }
+    requires boxes { boxes.old ≡ rows_of fixed.now.scene course.old.live.world.fields }
+    requires cast { HasScriptsOf (wiring_at fixed.now) (seen course.old) }
     ensures course { OnOk result (seen course.new
-        ≡ send_replies_of (plan_at fixed.now) node (seen course.old) replies.old.items) }
+        ≡ send_replies_of (wiring_at fixed.now) node (seen course.old) replies.old.items) }
     ensures empty { OnOk result (tasks.new.items ≡ []) }
     ensures none { OnOk result (replies.new.items ≡ []) }
     ensures boxes { OnOk result
-        (boxes.new ≡ rows_of fixed.now.scene course.new.turn.world.fields) }
+        (boxes.new ≡ rows_of fixed.now.scene course.new.live.world.fields) }
     ensures kinds { kinds_of course.new.scripts ≡ kinds_of course.old.scripts }
     ensures count { course.new.settling.count ≡ course.old.settling.count }
 {
@@ -54,22 +54,22 @@ pub fn send_replies<B: Behaviour>(
 
 /// Does all tasks, the last first.
 fn run_tasks<B: Behaviour>(
-    fixed: &Fixed,
-    tasks: &mut Vec<Task>,
+    fixed: &RoutedScene,
+    tasks: &mut Vec<CascadeTask>,
     course: &mut Course<B>,
     replies: &mut Outbox,
     boxes: &mut BoxCache,
 ) -> Result<(), AllocError>
     requires none { replies.old.items ≡ [] }
     requires ready { AllByRecursion (IsReady (shapes_of fixed.now.scene)) tasks.old.items }
-    requires boxes { boxes.old ≡ rows_of fixed.now.scene course.old.turn.world.fields }
-    requires cast { IsCast (plan_at fixed.now) (seen course.old) }
+    requires boxes { boxes.old ≡ rows_of fixed.now.scene course.old.live.world.fields }
+    requires cast { HasScriptsOf (wiring_at fixed.now) (seen course.old) }
     ensures course { OnOk result
-        (seen course.new ≡ finish (plan_at fixed.now) (seen course.old) tasks.old.items) }
+        (seen course.new ≡ finish (wiring_at fixed.now) (seen course.old) tasks.old.items) }
     ensures empty { OnOk result (tasks.new.items ≡ []) }
     ensures none { OnOk result (replies.new.items ≡ []) }
     ensures boxes { OnOk result
-        (boxes.new ≡ rows_of fixed.now.scene course.new.turn.world.fields) }
+        (boxes.new ≡ rows_of fixed.now.scene course.new.live.world.fields) }
     ensures kinds { kinds_of course.new.scripts ≡ kinds_of course.old.scripts }
     ensures count { course.new.settling.count ≡ course.old.settling.count }
 {
@@ -81,37 +81,39 @@ fn run_tasks<B: Behaviour>(
 
 /// Does one task, which may leave others.
 fn step<B: Behaviour>(
-    fixed: &Fixed,
-    tasks: &mut Vec<Task>,
+    fixed: &RoutedScene,
+    tasks: &mut Vec<CascadeTask>,
     course: &mut Course<B>,
     replies: &mut Outbox,
     boxes: &mut BoxCache,
-    task: Task,
+    task: CascadeTask,
 ) -> Result<(), AllocError>
     requires none { replies.old.items ≡ [] }
     requires task { IsReady (shapes_of fixed.now.scene) task }
     requires tasks { AllByRecursion (IsReady (shapes_of fixed.now.scene)) tasks.old.items }
-    requires boxes { boxes.old ≡ rows_of fixed.now.scene course.old.turn.world.fields }
-    requires cast { IsCast (plan_at fixed.now) (seen course.old) }
+    requires boxes { boxes.old ≡ rows_of fixed.now.scene course.old.live.world.fields }
+    requires cast { HasScriptsOf (wiring_at fixed.now) (seen course.old) }
     ensures done { OnOk result
-        (finish (plan_at fixed.now) (seen course.new) tasks.new.items
-        ≡ finish (plan_at fixed.now) (do_task (plan_at fixed.now) (seen course.old) task)
+        (finish (wiring_at fixed.now) (seen course.new) tasks.new.items
+        ≡ finish (wiring_at fixed.now) (do_task (wiring_at fixed.now) (seen course.old) task)
         tasks.old.items) }
     ensures ready { OnOk result
         (AllByRecursion (IsReady (shapes_of fixed.now.scene)) tasks.new.items) }
     ensures fewer { OnOk result
-        (work_left (plan_at fixed.now) (seen course.new) tasks.new.items + 1
-        ≤ work_left (plan_at fixed.now) (seen course.old) tasks.old.items
+        (work_left (wiring_at fixed.now) (seen course.new) tasks.new.items + 1
+        ≤ work_left (wiring_at fixed.now) (seen course.old) tasks.old.items
         + weight fixed.now.routes task) }
     ensures none { OnOk result (replies.new.items ≡ []) }
     ensures boxes { OnOk result
-        (boxes.new ≡ rows_of fixed.now.scene course.new.turn.world.fields) }
+        (boxes.new ≡ rows_of fixed.now.scene course.new.live.world.fields) }
     ensures kinds { kinds_of course.new.scripts ≡ kinds_of course.old.scripts }
     ensures count { course.new.settling.count ≡ course.old.settling.count }
 {
     match task {
-        Task::Send(source, value) => begin(fixed, tasks, course, replies, boxes, source, value),
-        Task::Follow(source, value, next) => {
+        CascadeTask::Send(source, value) => begin(
+            fixed, tasks, course, replies, boxes, source, value,
+        ),
+        CascadeTask::Follow(source, value, next) => {
             follow(fixed, tasks, course, replies, boxes, source, value, next)
         }
     }
@@ -119,8 +121,8 @@ fn step<B: Behaviour>(
 
 /// An output sends, unless it has sent before.
 fn begin<B: Behaviour>(
-    fixed: &Fixed,
-    tasks: &mut Vec<Task>,
+    fixed: &RoutedScene,
+    tasks: &mut Vec<CascadeTask>,
     course: &mut Course<B>,
     replies: &mut Outbox,
     boxes: &mut BoxCache,
@@ -130,27 +132,27 @@ fn begin<B: Behaviour>(
     requires none { replies.old.items ≡ [] }
     requires task { is_scene_output (shapes_of fixed.now.scene) source ≡ true }
     requires tasks { AllByRecursion (IsReady (shapes_of fixed.now.scene)) tasks.old.items }
-    requires boxes { boxes.old ≡ rows_of fixed.now.scene course.old.turn.world.fields }
-    requires cast { IsCast (plan_at fixed.now) (seen course.old) }
+    requires boxes { boxes.old ≡ rows_of fixed.now.scene course.old.live.world.fields }
+    requires cast { HasScriptsOf (wiring_at fixed.now) (seen course.old) }
     ensures done { OnOk result
-        (finish (plan_at fixed.now) (seen course.new) tasks.new.items
-        ≡ finish (plan_at fixed.now)
-        (send_full (plan_at fixed.now) (seen course.old) source value)
+        (finish (wiring_at fixed.now) (seen course.new) tasks.new.items
+        ≡ finish (wiring_at fixed.now)
+        (send_full (wiring_at fixed.now) (seen course.old) source value)
         tasks.old.items) }
     ensures ready { OnOk result
         (AllByRecursion (IsReady (shapes_of fixed.now.scene)) tasks.new.items) }
     ensures fewer { OnOk result
-        (work_left (plan_at fixed.now) (seen course.new) tasks.new.items + 1
-        ≤ work_left (plan_at fixed.now) (seen course.old) tasks.old.items + 1) }
+        (work_left (wiring_at fixed.now) (seen course.new) tasks.new.items + 1
+        ≤ work_left (wiring_at fixed.now) (seen course.old) tasks.old.items + 1) }
     ensures none { OnOk result (replies.new.items ≡ []) }
     ensures boxes { OnOk result
-        (boxes.new ≡ rows_of fixed.now.scene course.new.turn.world.fields) }
+        (boxes.new ≡ rows_of fixed.now.scene course.new.live.world.fields) }
     ensures kinds { kinds_of course.new.scripts ≡ kinds_of course.old.scripts }
     ensures count { course.new.settling.count ≡ course.old.settling.count }
 {
     // A value is dropped by a call: left to the exits, its drop is proved once for each of them.
     let alloc = *tasks.allocator();
-    let Ok(sends) = send(&mut course.turn, alloc, source, &value) else {
+    let Ok(sends) = send(&mut course.live, alloc, source, &value) else {
         drop(value);
         return Err(AllocError);
     };
@@ -164,8 +166,8 @@ fn begin<B: Behaviour>(
 
 /// The route at this place among those of the output is followed, and the rest are left.
 fn follow<B: Behaviour>(
-    fixed: &Fixed,
-    tasks: &mut Vec<Task>,
+    fixed: &RoutedScene,
+    tasks: &mut Vec<CascadeTask>,
     course: &mut Course<B>,
     replies: &mut Outbox,
     boxes: &mut BoxCache,
@@ -175,22 +177,22 @@ fn follow<B: Behaviour>(
 ) -> Result<(), AllocError>
     requires none { replies.old.items ≡ [] }
     requires tasks { AllByRecursion (IsReady (shapes_of fixed.now.scene)) tasks.old.items }
-    requires boxes { boxes.old ≡ rows_of fixed.now.scene course.old.turn.world.fields }
-    requires cast { IsCast (plan_at fixed.now) (seen course.old) }
+    requires boxes { boxes.old ≡ rows_of fixed.now.scene course.old.live.world.fields }
+    requires cast { HasScriptsOf (wiring_at fixed.now) (seen course.old) }
     ensures done { OnOk result
-        (finish (plan_at fixed.now) (seen course.new) tasks.new.items
-        ≡ finish (plan_at fixed.now)
-        (do_task (plan_at fixed.now) (seen course.old) (Task.Follow source value next))
+        (finish (wiring_at fixed.now) (seen course.new) tasks.new.items
+        ≡ finish (wiring_at fixed.now)
+        (do_task (wiring_at fixed.now) (seen course.old) (CascadeTask.Follow source value next))
         tasks.old.items) }
     ensures ready { OnOk result
         (AllByRecursion (IsReady (shapes_of fixed.now.scene)) tasks.new.items) }
     ensures fewer { OnOk result
-        (work_left (plan_at fixed.now) (seen course.new) tasks.new.items + 1
-        ≤ work_left (plan_at fixed.now) (seen course.old) tasks.old.items
-        + weight fixed.now.routes (Task.Follow source value next)) }
+        (work_left (wiring_at fixed.now) (seen course.new) tasks.new.items + 1
+        ≤ work_left (wiring_at fixed.now) (seen course.old) tasks.old.items
+        + weight fixed.now.routes (CascadeTask.Follow source value next)) }
     ensures none { OnOk result (replies.new.items ≡ []) }
     ensures boxes { OnOk result
-        (boxes.new ≡ rows_of fixed.now.scene course.new.turn.world.fields) }
+        (boxes.new ≡ rows_of fixed.now.scene course.new.live.world.fields) }
     ensures kinds { kinds_of course.new.scripts ≡ kinds_of course.old.scripts }
     ensures count { course.new.settling.count ≡ course.old.settling.count }
 {
@@ -205,7 +207,7 @@ fn follow<B: Behaviour>(
         return Err(AllocError);
     };
     if hop.more {
-        let rest = Task::Follow(source, value, next + 1);
+        let rest = CascadeTask::Follow(source, value, next + 1);
         push_before(tasks, rest, hop.target.node, replies)?;
         return Ok(());
     }

@@ -1,9 +1,9 @@
 //! A stage holds the world of a scene, and applies inputs to it.
 
-use crate::bench::Bench;
+use crate::bench::Buffers;
 use crate::course::Course;
 use crate::fault::{ApplyFault, LoadFault, PlaceFault, StatesFault, TextFault};
-use crate::fixed::Fixed;
+use crate::fixed::RoutedScene;
 use crate::input::advance;
 use crate::opening::open;
 use crate::parts::{Parts, fixed_of, parts_of};
@@ -23,9 +23,9 @@ use x3d_values::{Items, Stamped};
 /// A scene with its world, which moves on by inputs.
 #[derive(Drop)]
 pub struct Stage<B: Behaviour> {
-    fixed: Fixed,
+    fixed: RoutedScene,
     course: Course<B>,
-    bench: Bench,
+    bench: Buffers,
     spoiled: Option<u32>,
 }
 
@@ -33,9 +33,9 @@ impl<B: Behaviour> Model for Stage<B> {
     ghost use Rattle.std.specs.Prelude.{◌≡◌, IfNone};
     ghost use Rattle.pick_core.specs.Sites.{rows_of};
     ghost use Rattle.cascade_core.specs.Held.{StageView, held_of};
-    ghost use Rattle.cascade_core.specs.Course.{ended, plan_at, seen};
+    ghost use Rattle.cascade_core.specs.Course.{ended, wiring_at, seen};
     ghost use Rattle.cascade_core.specs.Scripts.{kinds_in};
-    ghost use Rattle.cascade_core.specs.Sound.{IsCast, IsFixed};
+    ghost use Rattle.cascade_core.specs.Sound.{HasScriptsOf, IsFixed};
     ghost use Rattle.script_running.specs.Acting.{kinds_of};
 
     ghost Value = { StageView };
@@ -48,9 +48,9 @@ impl<B: Behaviour> Model for Stage<B> {
         } };
 
     ghost invariant = { λ s. IfNone s.spoiled
-        (s.bench.boxes ≡ rows_of s.fixed.scene s.course.turn.world.fields)
+        (s.bench.boxes ≡ rows_of s.fixed.scene s.course.live.world.fields)
         × IsFixed s.fixed
-        × IsCast (plan_at s.fixed) (seen s.course)
+        × HasScriptsOf (wiring_at s.fixed) (seen s.course)
         × (kinds_of s.course.scripts ≡ kinds_in s.fixed.scene) };
 }
 
@@ -93,8 +93,8 @@ impl<B: Behaviour> Stage<B> {
             drop(fixed);
             return Err(LoadFault::Memory);
         };
-        let Parts { turn, mut bench } = parts;
-        let Ok(course) = open(alloc, &fixed, &mut bench, turn, scripts) else {
+        let Parts { live, mut bench } = parts;
+        let Ok(course) = open(alloc, &fixed, &mut bench, live, scripts) else {
             drop(bench);
             drop(fixed);
             return Err(LoadFault::Memory);
@@ -126,7 +126,7 @@ impl<B: Behaviour> Stage<B> {
         if self.spoiled.is_some() {
             return None;
         }
-        Some(&self.course.turn.world)
+        Some(&self.course.live.world)
     }
 
     /// How many inputs were applied, or had been when the stage was spoiled.
@@ -135,7 +135,7 @@ impl<B: Behaviour> Stage<B> {
     {
         match self.spoiled {
             Some(count) => count,
-            None => self.course.turn.world.applied,
+            None => self.course.live.world.applied,
         }
     }
 
@@ -153,7 +153,7 @@ impl<B: Behaviour> Stage<B> {
         if self.spoiled.is_some() {
             return Some(ApplyFault::Spoiled);
         }
-        let world = &self.course.turn.world;
+        let world = &self.course.live.world;
         if input.number() - 1 != world.applied {
             return Some(ApplyFault::NotNext);
         }
@@ -184,7 +184,7 @@ impl<B: Behaviour> Stage<B> {
         if let Some(fault) = self.refusal(input) {
             return Err(fault);
         }
-        let before = self.course.turn.world.applied;
+        let before = self.course.live.world.applied;
         match advance(&self.fixed, &mut self.bench, &mut self.course, input) {
             Ok(work) => Ok(work),
             Err(_) => {
@@ -207,7 +207,7 @@ impl<B: Behaviour> Stage<B> {
         if self.spoiled.is_some() {
             return Err(TextFault::Spoiled);
         }
-        push_trace(&self.fixed.scene, &self.course.turn.world.trace, out)?;
+        push_trace(&self.fixed.scene, &self.course.live.world.trace, out)?;
         Ok(())
     }
 
@@ -225,7 +225,7 @@ impl<B: Behaviour> Stage<B> {
         if self.spoiled.is_some() {
             return Err(TextFault::Spoiled);
         }
-        let fields = self.course.turn.world.fields.as_slice();
+        let fields = self.course.live.world.fields.as_slice();
         write_scene(&self.fixed.scene, self.fixed.routes.as_slice(), fields, out)?;
         Ok(())
     }
@@ -289,7 +289,7 @@ impl<B: Behaviour> Stage<B> {
             self.spoiled = Some(applied);
             return Err(StateFault::Memory);
         };
-        drop(mem::replace(&mut self.course.turn.world, world));
+        drop(mem::replace(&mut self.course.live.world, world));
         self.spoiled = None;
         Ok(())
     }

@@ -5,9 +5,9 @@ use Rattle.x3d_values.specs.declared.fields.Fields.{Fields}
 use Rattle.x3d_values.specs.declared.node_type.NodeType.{NodeType}
 use Rattle.x3d_values.specs.declared.node_type.NodeType.TheVariants as type
 use Rattle.x3d_values.specs.declared.value.Value.{Value}
-use Rattle.x3d_values.specs.Tables.{Entry}
+use Rattle.x3d_values.specs.Tables.{FieldRowView}
 use Rattle.react_core.specs.Reaction.{is_time_sensor}
-use Rattle.sensor_core.specs.Timing.{Timing, timing_of}
+use Rattle.sensor_core.specs.Timing.{TimeFieldsView, timing_of}
 use Rattle.sensor_plane.specs.declared.meeting.SensorPointer.{SensorPointer}
 use Rattle.sensor_plane.specs.declared.pointing.PointingState.{PointingState}
 use Rattle.scene_core.specs.Places.{is_pointing}
@@ -18,7 +18,7 @@ use Rattle.pick_core.specs.Sensors.{is_enabled, is_enabled_as}
 use Rattle.pick_core.specs.Sites.{IsSameBut, rows_of}
 use Rattle.pick_core.proofs.Alike.{alike_but, alike_rows}
 use Rattle.cascade_world.specs.Access.{is_set}
-use Rattle.cascade_world.specs.Answers.{Answer, answer, answer_as, answer_by, forgetting, is_script, is_met, keeping, meeting, met, met_as, not_run, nothing, reacting, setting, setting_at, ticked, ticking, ticking_at, touching, turns_off}
+use Rattle.cascade_world.specs.Answers.{NodeAnswer, answer, answer_as, answer_by, forgetting, is_script, is_met, keeping, meeting, met, met_as, not_run, nothing, reacting, setting, setting_at, ticked, ticking, ticking_at, touching, turns_off}
 use Rattle.cascade_world.specs.Nodes.{moves_boxes}
 use Rattle.cascade_world.specs.declared.world.WorldData.{WorldData}
 
@@ -35,7 +35,7 @@ reacting-same : (w : WorldData) (target : End) (v : Value) (kind : NodeType) (fi
 reacting-same w target v kind None k n = refl
 reacting-same w target v kind (Some fields) k n = set_other w.fields target.node _ k n
 
-setting-same : (w : WorldData) (target : End) (v : Value) (fields : Fields) (timing : Option Timing) (cycle : Option (Option ℕ)) →
+setting-same : (w : WorldData) (target : End) (v : Value) (fields : Fields) (timing : Option TimeFieldsView) (cycle : Option (Option ℕ)) →
     IsSameBut target.node w.fields (setting w target v fields timing cycle).fields
 setting-same w target v fields None cycle k n = refl
 setting-same w target v fields (Some timing) None k n = refl
@@ -48,7 +48,7 @@ setting_at-same w target v (Some fields) k n = setting-same w target v fields (t
 touching-fields : (w : WorldData) (target : End) (v : Value) (kind : NodeType) (fields : Option Fields) → (touching w target v kind fields).fields ≡ (reacting w target v kind fields).fields
 touching-fields w target v kind fields = off (turns_off kind target.field v) (reacting w target v kind fields)
   where
-    off : (b : Bool) (a : Answer) → (if b then forgetting w target.node kind a (slice_get w.pointing target.node) else a).fields ≡ a.fields
+    off : (b : Bool) (a : NodeAnswer) → (if b then forgetting w target.node kind a (slice_get w.pointing target.node) else a).fields ≡ a.fields
     off true a = refl
     off false a = refl
 
@@ -56,7 +56,7 @@ touching-same : (w : WorldData) (target : End) (v : Value) (kind : NodeType) (fi
 touching-same w target v kind fields k n =
     reacting-same w target v kind fields k n ∙ ap (λ (fs : List Fields). slice_get fs k) (sym (touching-fields w target v kind fields))
 
-not_run-same : (w : WorldData) (target : End) (v : Value) (field : Option Entry) (fields : Option Fields) → IsSameBut target.node w.fields (not_run w target v field fields).fields
+not_run-same : (w : WorldData) (target : End) (v : Value) (field : Option FieldRowView) (fields : Option Fields) → IsSameBut target.node w.fields (not_run w target v field fields).fields
 not_run-same w target v field None k n = refl
 not_run-same w target v field (Some fields) k n = kept (is_set v field)
   where
@@ -64,7 +64,7 @@ not_run-same w target v field (Some fields) k n = kept (is_set v field)
     kept true = set_other w.fields target.node _ k n
     kept false = refl
 
-answer_by-same : (w : WorldData) (target : End) (v : Value) (kind : NodeType) (field : Option Entry) → IsSameBut target.node w.fields (answer_by w target v kind field).fields
+answer_by-same : (w : WorldData) (target : End) (v : Value) (kind : NodeType) (field : Option FieldRowView) → IsSameBut target.node w.fields (answer_by w target v kind field).fields
 answer_by-same w target v kind field k n = by_time (is_time_sensor kind) (is_pointing kind) (is_script kind)
   where
     by_time : (time touch script : Bool) → slice_get w.fields k ≡ slice_get (if time
@@ -104,7 +104,7 @@ answer-rows scene w target v h =
 
 -- ---- ticks change no field
 
-ticking-fields : (w : WorldData) (node : ℕ) (now : ℤ) (timing : Option Timing) (cycle : Option (Option ℕ)) → (ticking w node now timing cycle).fields ≡ w.fields
+ticking-fields : (w : WorldData) (node : ℕ) (now : ℤ) (timing : Option TimeFieldsView) (cycle : Option (Option ℕ)) → (ticking w node now timing cycle).fields ≡ w.fields
 ticking-fields w node now None cycle = refl
 ticking-fields w node now (Some timing) None = refl
 ticking-fields w node now (Some timing) (Some cycle) = refl

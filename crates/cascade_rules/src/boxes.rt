@@ -6,7 +6,7 @@ ghost use Rattle.scene_core.specs.Scene.{shapes_of, types_of};
 ghost use Rattle.cascade_world.specs.Answers.{answer, answered, with_answer};
 ghost use Rattle.cascade_world.specs.Nodes.{moves_boxes};
 
-use cascade_world::{Turn, WorldData};
+use cascade_world::{Live, WorldData};
 use pick_core::BoxCache;
 use react_core::Outbox;
 use scene_core::{End, Scene};
@@ -28,7 +28,7 @@ fn moves_boxes(scene: &Scene, node: u32) -> bool
 
 /// An event comes to the target, if there is such a node, whatever has sent before.
 pub fn deliver(
-    turn: &mut Turn,
+    live: &mut Live,
     alloc: Global,
     scene: &Scene,
     boxes: &mut BoxCache,
@@ -37,14 +37,14 @@ pub fn deliver(
     out: &mut Outbox,
 ) -> Result<(), AllocError>
     requires empty { out.old.items ≡ [] }
-    requires boxes { boxes.old ≡ rows_of scene.now turn.old.world.fields }
-    ensures turn { OnOk result (turn.new
-        ≡ with_answer turn.old (answer (shapes_of scene.now) turn.old.world target value.now)) }
+    requires boxes { boxes.old ≡ rows_of scene.now live.old.world.fields }
+    ensures live { OnOk result (live.new
+        ≡ with_answer live.old (answer (shapes_of scene.now) live.old.world target value.now)) }
     ensures replies { OnOk result (out.new.items
-        ≡ (answer (shapes_of scene.now) turn.old.world target value.now).replies) }
-    ensures boxes { OnOk result (boxes.new ≡ rows_of scene.now turn.new.world.fields) }
+        ≡ (answer (shapes_of scene.now) live.old.world target value.now).replies) }
+    ensures boxes { OnOk result (boxes.new ≡ rows_of scene.now live.new.world.fields) }
 {
-    answer(&mut turn.world, alloc, scene, boxes, target, value, out)
+    answer(&mut live.world, alloc, scene, boxes, target, value, out)
 }
 
 /// An event comes to the target, if there is such a node.

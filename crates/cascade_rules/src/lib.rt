@@ -12,4 +12,4 @@ pub use boxes::{deliver, put_boxes};
 pub use nodes::is_clock;
 pub use pick_core::is_sensor;
 pub use sending::send;
-pub use tasks::{Task, push_before, push_replies};
+pub use tasks::{CascadeTask, push_before, push_replies};

@@ -10,7 +10,7 @@ use x3d_values::Value;
 
 /// Something that is still to be done.
 #[derive(Drop)]
-pub enum Task {
+pub enum CascadeTask {
     /// An event is sent by an output.
     Send(End, Value),
     /// The routes of an output are followed, from this place among them on.
@@ -20,8 +20,8 @@ pub enum Task {
 /// Each reply is to be sent, the first of them next, and the rest is left until all of them and
 /// what follows from them are done.
 pub fn push_before(
-    tasks: &mut Vec<Task>,
-    rest: Task,
+    tasks: &mut Vec<CascadeTask>,
+    rest: CascadeTask,
     node: u32,
     replies: &mut Outbox,
 ) -> Result<(), AllocError>
@@ -36,7 +36,7 @@ pub fn push_before(
 
 /// Each reply is to be sent, the first of them next.
 pub fn push_replies(
-    tasks: &mut Vec<Task>,
+    tasks: &mut Vec<CascadeTask>,
     node: u32,
     replies: &mut Outbox,
 ) -> Result<(), AllocError>
@@ -48,7 +48,7 @@ pub fn push_replies(
     // The slice says how few they are.
     let _few = replies.as_slice().len();
     while let Some(reply) = replies.pop() {
-        tasks.push(Task::Send(
+        tasks.push(CascadeTask::Send(
             End {
                 node,
                 field: reply.field,

@@ -9,8 +9,8 @@ use Rattle.x3d_values.specs.declared.value.Value.{Value}
 use Rattle.x3d_values.specs.declared.value.Value.TheVariants.{SFBool, SFInt32, SFFloat, SFTime, SFString, SFVec2f, SFVec3f, SFColor, SFNode, MFBool, MFInt32, MFFloat, MFTime, MFString, MFVec2f, MFVec3f, MFColor, MFNode}
 use Rattle.scene_core.specs.declared.scene.End.{End}
 use Rattle.cascade_trace.specs.declared.trace.Entry.{Entry}
-use Rattle.cascade_trace.specs.declared.trace.Kind.{Kind}
-use Rattle.cascade_trace.specs.declared.trace.Kind.TheVariants as entry_kind
+use Rattle.cascade_trace.specs.declared.trace.EntryKind.{EntryKind}
+use Rattle.cascade_trace.specs.declared.trace.EntryKind.TheVariants as entry_kind
 use Rattle.cascade_trace.specs.declared.trace.TraceLine.{TraceLine}
 use Rattle.cascade_trace.specs.Trace.{lines_of, lines_by, line, end_of, whole_of, is_event, plain_entry}
 use Rattle.cascade_trace.specs.Since.{IsSilent, begins_by, is_aside, kind_begins, risen, risen_by, takes_value}
@@ -22,7 +22,7 @@ risen-input : (b : Bool) (o : Option ℕ) (n : ℕ) → (if b then o else None) 
 risen-input true o n h = (refl, h)
 risen-input false o n h = cc
 
-above-by : (e : Entry) (es : List Entry) (i n : ℕ) (k : Kind) → ((j : ℕ) → risen j es ≡ Some n → j ≤ n) →
+above-by : (e : Entry) (es : List Entry) (i n : ℕ) (k : EntryKind) → ((j : ℕ) → risen j es ≡ Some n → j ≤ n) →
     risen_by (λ m. risen m es) i e k ≡ Some n → i ≤ n
 above-by e es i n entry_kind.Input more h =
     let (b, r) = risen-input (nat_lt i e.node) (risen e.node es) n h in
@@ -40,7 +40,7 @@ unfolding risen
 risen-above [] i n h = let same : i ≡ n = cc in omega (arith, same)
 risen-above (e ∷ es) i n h = above-by e es i n e.kind (λ j r. risen-above es j n r) h
 
-more-by : (e : Entry) (es fs : List Entry) (i n : ℕ) (k : Kind) → ((j : ℕ) → risen j es ≡ Some n → risen j (es ++ fs) ≡ risen n fs) →
+more-by : (e : Entry) (es fs : List Entry) (i n : ℕ) (k : EntryKind) → ((j : ℕ) → risen j es ≡ Some n → risen j (es ++ fs) ≡ risen n fs) →
     risen_by (λ m. risen m es) i e k ≡ Some n → risen_by (λ m. risen m (es ++ fs)) i e k ≡ risen n fs
 more-by e es fs i n entry_kind.Input more h =
     let (b, r) = risen-input (nat_lt i e.node) (risen e.node es) n h in
@@ -62,7 +62,7 @@ both : (a b : Bool) → (a && b) ≡ true → (a ≡ true) × (b ≡ true)
 both true b h = (refl, h)
 both false b h = cc
 
-next-by : (e : Entry) (last input : ℕ) (k : Kind) → k ≡ entry_kind.Input → e.node ≡ input → nat_lt last input ≡ true →
+next-by : (e : Entry) (last input : ℕ) (k : EntryKind) → k ≡ entry_kind.Input → e.node ≡ input → nat_lt last input ≡ true →
     risen_by (λ n. risen n []) last e k ≡ Some input
 unfolding risen
 next-by e last input entry_kind.Input is named above =
@@ -75,14 +75,14 @@ next-by e last input entry_kind.Time is named above = cc
 next-by e last input entry_kind.Other is named above = cc
 
 -- an input above the last one
-pub in-turn-next : (es : List Entry) (e : Entry) (last input : ℕ) (turn follows : Bool) → (turn ≡ true → risen 0 es ≡ Some last) →
+pub in-order-next : (es : List Entry) (e : Entry) (last input : ℕ) (turn follows : Bool) → (turn ≡ true → risen 0 es ≡ Some last) →
     e.kind ≡ entry_kind.Input → e.node ≡ input → follows ≡ (turn && nat_lt last input) → follows ≡ true → risen 0 (es ++ e ∷ []) ≡ Some input
 unfolding risen
-in-turn-next es e last input turn follows before is named said h =
+in-order-next es e last input turn follows before is named said h =
     let (still, above) = both turn (nat_lt last input) (sym said ∙ h) in
     risen-more es (e ∷ []) 0 last (before still) ∙ next-by e last input e.kind is named above
 
-on-by : (e : Entry) (last : ℕ) (k : Kind) → is_event k ≡ true → risen_by (λ n. risen n []) last e k ≡ Some last
+on-by : (e : Entry) (last : ℕ) (k : EntryKind) → is_event k ≡ true → risen_by (λ n. risen n []) last e k ≡ Some last
 unfolding risen
 on-by e last entry_kind.Input is = cc
 on-by e last entry_kind.True is = refl
@@ -93,9 +93,9 @@ on-by e last entry_kind.Time is = refl
 on-by e last entry_kind.Other is = refl
 
 -- an event of the last input
-pub in-turn-on : (es : List Entry) (e : Entry) (last : ℕ) → risen 0 es ≡ Some last → is_event e.kind ≡ true → risen 0 (es ++ e ∷ []) ≡ Some last
+pub in-order-on : (es : List Entry) (e : Entry) (last : ℕ) → risen 0 es ≡ Some last → is_event e.kind ≡ true → risen 0 (es ++ e ∷ []) ≡ Some last
 unfolding risen
-in-turn-on es e last before is = risen-more es (e ∷ []) 0 last before ∙ on-by e last e.kind is
+in-order-on es e last before is = risen-more es (e ∷ []) 0 last before ∙ on-by e last e.kind is
 
 event-one : (f e : Entry) → is_event f.kind ≡ true → Some f ≡ Some e → is_event e.kind ≡ true
 event-one f e is h = let same : f ≡ e = cc in subst (λ (x : Entry). is_event x.kind ≡ true) same is
@@ -143,7 +143,7 @@ alike P es fs vs ws one other h = subst (λ (us : List Value). P fs us) other (s
 
 -- ---- where the lines begin
 
-begins-input : (first : ℕ) (e : Entry) (k : Kind) → kind_begins first e k ≡ true → (k ≡ entry_kind.Input) × (e.node ≤ first)
+begins-input : (first : ℕ) (e : Entry) (k : EntryKind) → kind_begins first e k ≡ true → (k ≡ entry_kind.Input) × (e.node ≤ first)
 begins-input first e entry_kind.Input h = (refl, leb-true e.node first h)
 begins-input first e entry_kind.True h = cc
 begins-input first e entry_kind.False h = cc
@@ -152,7 +152,7 @@ begins-input first e entry_kind.Number h = cc
 begins-input first e entry_kind.Time h = cc
 begins-input first e entry_kind.Other h = cc
 
-below-by : (first : ℕ) (e : Entry) (es : List Entry) (i n : ℕ) (k : Kind) → ((j : ℕ) → risen j es ≡ Some n → j < first) →
+below-by : (first : ℕ) (e : Entry) (es : List Entry) (i n : ℕ) (k : EntryKind) → ((j : ℕ) → risen j es ≡ Some n → j < first) →
     risen_by (λ m. risen m es) i e k ≡ Some n → i < first
 below-by first e es i n entry_kind.Input more h =
     let (b, r) = risen-input (nat_lt i e.node) (risen e.node es) n h in
@@ -164,7 +164,7 @@ below-by first e es i n entry_kind.Number more h = more i h
 below-by first e es i n entry_kind.Time more h = more i h
 below-by first e es i n entry_kind.Other more h = more i h
 
-below-first : (first : ℕ) (e : Entry) (es : List Entry) (i n : ℕ) → (k : Kind) → k ≡ entry_kind.Input → e.node ≤ first →
+below-first : (first : ℕ) (e : Entry) (es : List Entry) (i n : ℕ) → (k : EntryKind) → k ≡ entry_kind.Input → e.node ≤ first →
     risen_by (λ m. risen m es) i e k ≡ Some n → i < first
 below-first first e es i n entry_kind.Input is low h =
     omega (arith, low, ltb-true i e.node (risen-input (nat_lt i e.node) (risen e.node es) n h).0)
@@ -210,7 +210,7 @@ module _ (text : TraceLine → List ℕ) (first : ℕ) (silent : IsSilent text f
 
   -- ---- nothing, where the last input is below the first
 
-  none-by : (e : Entry) (es : List Entry) (i n : ℕ) (t : ℤ) (vs : List Value) (k : Kind) → i < first →
+  none-by : (e : Entry) (es : List Entry) (i n : ℕ) (t : ℤ) (vs : List Value) (k : EntryKind) → i < first →
       ((j : ℕ) (s : ℤ) (us : List Value) → risen j es ≡ Some n → told es j s us ≡ []) →
       risen_by (λ m. risen m es) i e k ≡ Some n → flat_map text (lines_by (lines_of es) i t vs e k) ≡ []
   none-by e es i n t vs entry_kind.Input low more h = more e.node e.word vs (risen-input (nat_lt i e.node) (risen e.node es) n h).1
@@ -234,7 +234,7 @@ module _ (text : TraceLine → List ℕ) (first : ℕ) (silent : IsSilent text f
   abbrev pub behind : List Entry → ℕ → List Value → List ℕ
   behind es at vs = told (drop at es) 0 (pos 0) vs
 
-  since-by : (e : Entry) (es : List Entry) (at i n : ℕ) (t : ℤ) (vs : List Value) (k : Kind) → i < first →
+  since-by : (e : Entry) (es : List Entry) (at i n : ℕ) (t : ℤ) (vs : List Value) (k : EntryKind) → i < first →
       ((j : ℕ) (s : ℤ) (us : List Value) → risen j es ≡ Some n → told es j s us ≡ behind es at (drop (count_by takes_value (take at es)) us)) →
       risen_by (λ m. risen m es) i e k ≡ Some n →
       flat_map text (lines_by (lines_of es) i t vs e k) ≡ behind es at (drop (cond (is_aside k) 1 0 + count_by takes_value (take at es)) vs)

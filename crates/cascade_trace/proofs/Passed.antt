@@ -6,14 +6,14 @@ use Rattle.std.specs.Option.{option_map, option_map_or}
 use Rattle.std.proofs.lemmas.List.{at_drop_all, at_drop_more}
 use Rattle.x3d_values.specs.declared.value.Value.{Value}
 use Rattle.cascade_trace.specs.declared.trace.Entry.{Entry}
-use Rattle.cascade_trace.specs.declared.trace.Kind.{Kind}
-use Rattle.cascade_trace.specs.declared.trace.Kind.TheVariants as entry_kind
+use Rattle.cascade_trace.specs.declared.trace.EntryKind.{EntryKind}
+use Rattle.cascade_trace.specs.declared.trace.EntryKind.TheVariants as entry_kind
 use Rattle.cascade_trace.specs.declared.trace.TraceLine.{TraceLine}
 use Rattle.cascade_trace.specs.Trace.{lines_of, lines_by, line, end_of, plain_value, taking}
 use Rattle.cascade_trace.proofs.Told.{other-left}
 
 module _ (passing : TraceLine → Bool) where
-  plain-by : (e : Entry) (es : List Entry) (i : ℕ) (t : ℤ) (vs : List Value) (k : Kind) → k ≢ entry_kind.Input → k ≢ entry_kind.Other →
+  plain-by : (e : Entry) (es : List Entry) (i : ℕ) (t : ℤ) (vs : List Value) (k : EntryKind) → k ≢ entry_kind.Input → k ≢ entry_kind.Other →
       list_all passing (lines_by (lines_of es) i t vs e k)
       ≡ (option_map_or (λ v. passing (line i t (end_of e) v)) (plain_value k e.word) true && list_all passing (lines_of es i t vs))
   plain-by e es i t vs entry_kind.Input h g = absurd (h refl)

@@ -9,9 +9,9 @@ use Rattle.x3d_lists.specs.Extends.{Extends}
 use Rattle.x3d_values.specs.declared.value.Value.{Value}
 use Rattle.x3d_values.specs.declared.value.Value.TheVariants.{SFBool}
 use Rattle.cascade_trace.specs.declared.trace.Entry.{Entry}
-use Rattle.cascade_trace.specs.declared.trace.Kept.{Kept}
-use Rattle.cascade_trace.specs.declared.trace.Kind.{Kind}
-use Rattle.cascade_trace.specs.declared.trace.Kind.TheVariants as entry_kind
+use Rattle.cascade_trace.specs.declared.trace.EntryList.{EntryList}
+use Rattle.cascade_trace.specs.declared.trace.EntryKind.{EntryKind}
+use Rattle.cascade_trace.specs.declared.trace.EntryKind.TheVariants as entry_kind
 use Rattle.cascade_trace.specs.declared.trace.TraceLine.{TraceLine}
 use Rattle.cascade_trace.specs.Trace.{lines_of, lines_by, line, end_of, plain_value, is_event, tells_line, kept_lines, taking, IsOpen}
 
@@ -27,7 +27,7 @@ unfolding lines_of
 other-left e es i t vs h = ap (lines_by (lines_of es) i t vs e) h
 
 module _ (text : TraceLine → List ℕ) where
-  plain-by : (e : Entry) (es : List Entry) (i : ℕ) (t : ℤ) (vs : List Value) (k : Kind) → k ≢ entry_kind.Input → k ≢ entry_kind.Other →
+  plain-by : (e : Entry) (es : List Entry) (i : ℕ) (t : ℤ) (vs : List Value) (k : EntryKind) → k ≢ entry_kind.Input → k ≢ entry_kind.Other →
       flat_map text (lines_by (lines_of es) i t vs e k)
       ≡ option_map_or (λ v. text (line i t (end_of e) v)) (plain_value k e.word) [] ++ flat_map text (lines_of es i t vs)
   plain-by e es i t vs entry_kind.Input h g = absurd (h refl)
@@ -95,7 +95,7 @@ kept-on a b c h k = record { more = h.more ++ k.more; is = k.is ∙ ap (λ (xs :
 -- ---- how many lines there are
 
 -- with enough values each entry of an event has its line
-many-by : (e : Entry) (es : List Entry) (i : ℕ) (t : ℤ) (vs : List Value) (k : Kind) →
+many-by : (e : Entry) (es : List Entry) (i : ℕ) (t : ℤ) (vs : List Value) (k : EntryKind) →
     ((j : ℕ) (s : ℤ) (us : List Value) → length es ≤ length us → length (lines_of es j s us) ≡ count_by tells_line es) →
     length es + 1 ≤ length vs →
     length (lines_by (lines_of es) i t vs e k) ≡ cond (is_event k) 1 0 + count_by tells_line es
@@ -119,7 +119,7 @@ unfolding lines_of
 none-told i t vs = refl
 
 -- the lines that are kept are those that the entries tell: no line lacks its value
-pub many-kept : (k : Kept) → IsOpen k → length (kept_lines k) ≡ count_by tells_line k.entries.items
+pub many-kept : (k : EntryList) → IsOpen k → length (kept_lines k) ≡ count_by tells_line k.entries.items
 many-kept k opens =
     let more : List Value = replicate (length k.entries.items) (SFBool true) in
     let same : lines_of (k.entries.items ++ []) 0 (pos 0) (k.values.items ++ more) ≡ kept_lines k ++ lines_of [] k.input k.time more = opens [] more in

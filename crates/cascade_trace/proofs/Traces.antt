@@ -6,7 +6,7 @@ use Rattle.x3d_values.specs.declared.value.Value.{Value}
 use Rattle.scene_core.specs.declared.scene.End.{End}
 use Rattle.cascade_trace.specs.declared.trace.TraceLine.{TraceLine}
 use Rattle.cascade_trace.specs.declared.trace.Entry.{Entry}
-use Rattle.cascade_trace.specs.declared.trace.Kind.TheVariants as entry_kind
+use Rattle.cascade_trace.specs.declared.trace.EntryKind.TheVariants as entry_kind
 use Rattle.std.proofs.lemmas.Int.{to_z-of_z}
 use Rattle.std.proofs.Common.{Option, Some, None}
 use Rattle.x3d_values.specs.declared.value.Value.TheVariants.{SFBool, SFInt32, SFFloat, SFTime, SFString, SFVec2f, SFVec3f, SFColor, SFNode, MFBool, MFInt32, MFFloat, MFTime, MFString, MFVec2f, MFVec3f, MFColor, MFNode}

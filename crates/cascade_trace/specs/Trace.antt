@@ -6,9 +6,9 @@ use Rattle.x3d_values.specs.declared.value.Value.TheVariants.{SFBool, SFInt32, S
 use Rattle.scene_core.specs.declared.scene.End.{End}
 use Rattle.cascade_trace.specs.declared.trace.TraceLine.{TraceLine}
 use Rattle.cascade_trace.specs.declared.trace.Entry.{Entry}
-use Rattle.cascade_trace.specs.declared.trace.Kind.{Kind}
-use Rattle.cascade_trace.specs.declared.trace.Kind.TheVariants as entry_kind
-use Rattle.cascade_trace.specs.declared.trace.Kept.{Kept}
+use Rattle.cascade_trace.specs.declared.trace.EntryKind.{EntryKind}
+use Rattle.cascade_trace.specs.declared.trace.EntryKind.TheVariants as entry_kind
+use Rattle.cascade_trace.specs.declared.trace.EntryList.{EntryList}
 
 abbrev pub line : ℕ → ℤ → End → Value → TraceLine
 line input time source v = record { input = input; time = time; source = source; value = v }
@@ -27,7 +27,7 @@ taking rest input time source (v ∷ values) = line input time source v ∷ rest
 
 -- the line of an entry, and those of the entries behind it, by the number and the time of the input
 -- that they are then of
-abbrev pub lines_by : (ℕ → ℤ → List Value → List TraceLine) → ℕ → ℤ → List Value → Entry → Kind
+abbrev pub lines_by : (ℕ → ℤ → List Value → List TraceLine) → ℕ → ℤ → List Value → Entry → EntryKind
     → List TraceLine
 lines_by rest input time values e entry_kind.Input = rest e.node e.word values
 lines_by rest input time values e entry_kind.True =
@@ -49,17 +49,17 @@ lines_of [] input time values = []
 lines_of (e ∷ es) input time values = lines_by (lines_of es) input time values e e.kind
 
 -- the lines that are kept
-abbrev pub kept_lines : Kept → List TraceLine
+abbrev pub kept_lines : EntryList → List TraceLine
 kept_lines k = lines_of k.entries.items 0 (pos 0) k.values.items
 
 -- whatever is appended gives lines of the input that is kept
-abbrev pub IsOpen : Kept → Type 0
+abbrev pub IsOpen : EntryList → Type 0
 IsOpen k = (es : List Entry) (vs : List Value) →
     lines_of (k.entries.items ++ es) 0 (pos 0) (k.values.items ++ vs)
     ≡ kept_lines k ++ lines_of es k.input k.time vs
 
 -- the value that stands in an entry of this kind, if it is one of an event
-abbrev pub plain_value : Kind → ℤ → Option Value
+abbrev pub plain_value : EntryKind → ℤ → Option Value
 plain_value entry_kind.Input word = None
 plain_value entry_kind.True word = Some (SFBool true)
 plain_value entry_kind.False word = Some (SFBool false)
@@ -69,7 +69,7 @@ plain_value entry_kind.Time word = Some (SFTime word)
 plain_value entry_kind.Other word = None
 
 -- the entry tells an event
-abbrev pub is_event : Kind → Bool
+abbrev pub is_event : EntryKind → Bool
 is_event entry_kind.Input = false
 is_event _ = true
 
@@ -81,7 +81,7 @@ abbrev pub IsPlain : End → Value → Entry → Type 0
 IsPlain source v e = (es : List Entry) (input : ℕ) (time : ℤ) (vs : List Value) →
     lines_of (e ∷ es) input time vs ≡ line input time source v ∷ lines_of es input time vs
 
-abbrev pub entry_of : End → Kind → ℤ → Entry
+abbrev pub entry_of : End → EntryKind → ℤ → Entry
 entry_of source kind word =
     record { node = source.node; field = source.field; kind = kind; word = word }
 

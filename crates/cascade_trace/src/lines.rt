@@ -8,7 +8,7 @@ ghost use Rattle.cascade_trace.specs.Trace.{end_of, line, lines_of, plain_value,
 ghost use Rattle.cascade_trace.specs.declared.trace.Entry.{Entry as EntryView};
 ghost use Rattle.cascade_trace.specs.declared.trace.TraceLine.{TraceLine as LineView};
 
-use crate::trace::{Entry, Kind};
+use crate::trace::{Entry, EntryKind};
 use scene_core::End;
 use std::alloc::AllocError;
 use x3d_values::Value;
@@ -64,16 +64,16 @@ fn whole_of(word: i64) -> i32
 }
 
 /// The value that stands in an entry of this kind, if it is one of an event.
-pub(crate) fn plain_value(kind: Kind, word: i64) -> Option<Value>
+pub(crate) fn plain_value(kind: EntryKind, word: i64) -> Option<Value>
     ensures { result ≡ plain_value kind word }
 {
     match kind {
-        Kind::True => Some(Value::SFBool(true)),
-        Kind::False => Some(Value::SFBool(false)),
-        Kind::Whole => Some(Value::SFInt32(whole_of(word))),
-        Kind::Number => Some(Value::SFFloat(word)),
-        Kind::Time => Some(Value::SFTime(word)),
-        Kind::Input | Kind::Other => None,
+        EntryKind::True => Some(Value::SFBool(true)),
+        EntryKind::False => Some(Value::SFBool(false)),
+        EntryKind::Whole => Some(Value::SFInt32(whole_of(word))),
+        EntryKind::Number => Some(Value::SFFloat(word)),
+        EntryKind::Time => Some(Value::SFTime(word)),
+        EntryKind::Input | EntryKind::Other => None,
     }
 }
 
@@ -174,11 +174,11 @@ fn write_entry<'a, W: WritesLines>(
 {
     let head = head_of(*moment, entry);
     match entry.kind {
-        Kind::Input => {
+        EntryKind::Input => {
             *moment = moment_of(entry);
             Ok(values)
         }
-        Kind::Other => write_aside(writer, head, values, out),
+        EntryKind::Other => write_aside(writer, head, values, out),
         _ => {
             write_plain(writer, head, entry, out)?;
             Ok(values)
@@ -212,7 +212,7 @@ pub(crate) fn write_lines<W: WritesLines>(
 fn tells_line(entry: &Entry) -> bool
     ensures { result ≡ tells_line entry.now }
 {
-    !matches!(entry.kind, Kind::Input)
+    !matches!(entry.kind, EntryKind::Input)
 }
 
 /// How many of the entries tell an event.

@@ -8,7 +8,7 @@ ghost use Rattle.cascade_trace.specs.declared.trace.Entry.{Entry as EntryView};
 ghost use Rattle.cascade_trace.specs.declared.trace.TraceLine.{TraceLine as LineView};
 
 use crate::lines::{LineHead, Moment, head_of, moment_of, plain_value};
-use crate::trace::{Entry, Kind};
+use crate::trace::{Entry, EntryKind};
 use x3d_values::Value;
 
 /// A test of the lines of a trace.
@@ -82,11 +82,11 @@ fn entry_passes<'a, T: TestsLines>(
 {
     let head = head_of(*moment, entry);
     match entry.kind {
-        Kind::Input => {
+        EntryKind::Input => {
             *moment = moment_of(entry);
             Some(values)
         }
-        Kind::Other => aside_passes(test, head, values),
+        EntryKind::Other => aside_passes(test, head, values),
         _ => {
             if plain_passes(test, head, entry) {
                 Some(values)

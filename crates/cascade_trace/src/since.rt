@@ -8,7 +8,7 @@ ghost use Rattle.cascade_trace.specs.Since.{begins_by, takes_value};
 ghost use Rattle.cascade_trace.specs.Trace.{lines_of};
 
 use crate::lines::{WritesLines, write_lines};
-use crate::trace::{Entry, Kind};
+use crate::trace::{Entry, EntryKind};
 use std::alloc::AllocError;
 use x3d_values::Value;
 
@@ -16,7 +16,7 @@ use x3d_values::Value;
 fn takes_value(entry: &Entry) -> bool
     ensures { result ≡ takes_value entry.now }
 {
-    matches!(entry.kind, Kind::Other)
+    matches!(entry.kind, EntryKind::Other)
 }
 
 /// How many of the values that stand aside entries take.
@@ -31,7 +31,7 @@ fn begins_by(entry: &Entry, first: u32) -> bool
     ensures { result ≡ begins_by first entry.now }
 {
     match entry.kind {
-        Kind::Input => entry.node <= first,
+        EntryKind::Input => entry.node <= first,
         _ => false,
     }
 }

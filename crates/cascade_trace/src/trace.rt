@@ -26,7 +26,7 @@ pub struct TraceLine {
 
 /// What an entry says.
 #[derive(Clone, Copy)]
-pub enum Kind {
+pub enum EntryKind {
     /// The number of an input, in the node's place, and its time: those of the events behind it.
     Input,
     /// The value TRUE.
@@ -48,7 +48,7 @@ pub enum Kind {
 pub struct Entry {
     pub node: u32,
     pub field: u16,
-    pub kind: Kind,
+    pub kind: EntryKind,
     pub word: i64,
 }
 
@@ -56,19 +56,19 @@ const _: () = prove!(size_of::<Entry>() == 16);
 
 /// The entries of a trace, and what stands aside.
 #[derive(Drop)]
-pub struct Kept {
+pub struct EntryList {
     /// The number and the time of the input of the events that come.
     pub input: u32,
     pub time: i64,
     /// Whether each input's number is above those before it.
-    pub in_turn: bool,
+    pub in_order: bool,
     pub entries: Vec<Entry>,
     pub values: Vec<Value>,
 }
 
 /// The entry of an output.
 #[tactic(auto, using(crate::proofs::Traces::passed))]
-fn entry_of(source: End, kind: Kind, word: i64) -> Entry
+fn entry_of(source: End, kind: EntryKind, word: i64) -> Entry
     ensures { result ≡ entry_of source kind word }
 {
     Entry {
@@ -82,12 +82,12 @@ fn entry_of(source: End, kind: Kind, word: i64) -> Entry
 /// The entry of an input.
 #[tactic(auto, using(crate::proofs::Traces::passed))]
 fn input_entry(input: u32, time: i64) -> Entry
-    ensures { result ≡ record { node = input; field = 0; kind = Kind.Input; word = time } }
+    ensures { result ≡ record { node = input; field = 0; kind = EntryKind.Input; word = time } }
 {
     Entry {
         node: input,
         field: 0,
-        kind: Kind::Input,
+        kind: EntryKind::Input,
         word: time,
     }
 }
@@ -95,10 +95,10 @@ fn input_entry(input: u32, time: i64) -> Entry
 /// The entry of an integer.
 #[tactic(auto, using(crate::proofs::Traces::passed))]
 fn whole_entry(source: End, number: i32) -> Entry
-    ensures entry { result ≡ entry_of source Kind.Whole number }
+    ensures entry { result ≡ entry_of source EntryKind.Whole number }
     ensures whole { whole_of number ≡ number }
 {
-    entry_of(source, Kind::Whole, i64::from(number))
+    entry_of(source, EntryKind::Whole, i64::from(number))
 }
 
 /// The entry of a value that needs no place aside.
@@ -108,37 +108,37 @@ fn plain_entry(source: End, value: &Value) -> Option<Entry>
     ensures whole { IsWhole value.now }
 {
     match value {
-        Value::SFBool(true) => Some(entry_of(source, Kind::True, 0)),
-        Value::SFBool(false) => Some(entry_of(source, Kind::False, 0)),
+        Value::SFBool(true) => Some(entry_of(source, EntryKind::True, 0)),
+        Value::SFBool(false) => Some(entry_of(source, EntryKind::False, 0)),
         Value::SFInt32(number) => Some(whole_entry(source, *number)),
-        Value::SFFloat(number) => Some(entry_of(source, Kind::Number, *number)),
-        Value::SFTime(time) => Some(entry_of(source, Kind::Time, *time)),
+        Value::SFFloat(number) => Some(entry_of(source, EntryKind::Number, *number)),
+        Value::SFTime(time) => Some(entry_of(source, EntryKind::Time, *time)),
         _ => None,
     }
 }
 
 /// Whether all inputs have risen, up to a next one.
-fn follows(in_turn: bool, last: u32, next: u32) -> bool
-    ensures { result ≡ (in_turn && nat_lt last next) }
+fn follows(in_order: bool, last: u32, next: u32) -> bool
+    ensures { result ≡ (in_order && nat_lt last next) }
 {
-    in_turn && last < next
+    in_order && last < next
 }
 
-impl Kept {
+impl EntryList {
     ghost use Rattle.std.specs.Prelude.{◌≡◌, ◌++◌, [], ◌∷◌, OnOk, pos};
     ghost use Rattle.std.specs.List.{flat_map};
     ghost use Rattle.x3d_lists.specs.Extends.{Extends};
-    ghost use Rattle.cascade_trace.specs.Since.{IsCounted, IsInTurn, IsSilent};
+    ghost use Rattle.cascade_trace.specs.Since.{IsCounted, IsInOrder, IsSilent};
     ghost use Rattle.cascade_trace.specs.Trace.{IsOpen, kept_lines, line};
 
     /// The events that come are of this input.
     fn begin(&mut self, input: u32, time: i64) -> Result<(), AllocError>
         requires open { IsOpen self.old }
         requires counted { IsCounted self.old }
-        requires in_turn { IsInTurn self.old }
+        requires in_order { IsInOrder self.old }
         ensures open { IsOpen self.new }
         ensures counted { IsCounted self.new }
-        ensures in_turn { IsInTurn self.new }
+        ensures in_order { IsInOrder self.new }
         ensures lines { kept_lines self.new ≡ kept_lines self.old }
         ensures input { OnOk result (self.new.input ≡ input) }
         ensures time { OnOk result (self.new.time ≡ time) }
@@ -147,8 +147,8 @@ impl Kept {
             return Ok(());
         }
         self.entries.push(input_entry(input, time))?;
-        let in_turn = follows(self.in_turn, self.input, input);
-        self.in_turn = in_turn;
+        let in_order = follows(self.in_order, self.input, input);
+        self.in_order = in_order;
         self.input = input;
         self.time = time;
         Ok(())
@@ -158,10 +158,10 @@ impl Kept {
     fn event(&mut self, alloc: Global, source: End, value: &Value) -> Result<(), AllocError>
         requires open { IsOpen self.old }
         requires counted { IsCounted self.old }
-        requires in_turn { IsInTurn self.old }
+        requires in_order { IsInOrder self.old }
         ensures open { IsOpen self.new }
         ensures counted { IsCounted self.new }
-        ensures in_turn { IsInTurn self.new }
+        ensures in_order { IsInOrder self.new }
         ensures lines { OnOk result (kept_lines self.new
             ≡ kept_lines self.old ++ line self.old.input self.old.time source value.now ∷ []) }
     {
@@ -170,7 +170,7 @@ impl Kept {
             return Ok(());
         }
         let copy = clone_value(alloc, value)?;
-        let other = entry_of(source, Kind::Other, 0);
+        let other = entry_of(source, EntryKind::Other, 0);
         push_both(&mut self.entries, &mut self.values, other, copy)?;
         Ok(())
     }
@@ -184,13 +184,13 @@ impl Kept {
         out: &mut Vec<u8>,
     ) -> Result<(), AllocError>
         requires counted { IsCounted self.now }
-        requires in_turn { IsInTurn self.now }
+        requires in_order { IsInOrder self.now }
         requires silent { IsSilent (W.text writer.old) first }
         ensures ok { OnOk result
             (out.new.items ≡ out.old.items ++ flat_map (W.text writer.old) (kept_lines self.now)) }
         ensures kept { Extends out.old.items out.new.items }
     {
-        if !self.in_turn {
+        if !self.in_order {
             return write_lines(writer, &self.entries, &self.values, out);
         }
         if self.input < first {
@@ -227,20 +227,20 @@ fn push_both(
 /// All events that were sent, in order.
 #[derive(Drop)]
 pub struct Trace {
-    kept: Kept,
+    kept: EntryList,
 }
 
 impl Model for Trace {
     ghost use Rattle.std.specs.Prelude.{List};
     ghost use Rattle.cascade_trace.specs.declared.trace.TraceLine.{TraceLine};
-    ghost use Rattle.cascade_trace.specs.Since.{IsCounted, IsInTurn};
+    ghost use Rattle.cascade_trace.specs.Since.{IsCounted, IsInOrder};
     ghost use Rattle.cascade_trace.specs.Trace.{IsOpen, kept_lines};
 
     ghost Value = { List TraceLine };
 
     ghost view = { λ t. kept_lines t.kept };
 
-    ghost invariant = { λ t. IsOpen t.kept × IsCounted t.kept × IsInTurn t.kept };
+    ghost invariant = { λ t. IsOpen t.kept × IsCounted t.kept × IsInOrder t.kept };
 }
 
 impl Trace {
@@ -254,10 +254,10 @@ impl Trace {
         ensures { result ≡ [] }
     {
         Trace {
-            kept: Kept {
+            kept: EntryList {
                 input: 0,
                 time: 0,
-                in_turn: true,
+                in_order: true,
                 entries: Vec::new(alloc),
                 values: Vec::new(alloc),
             },

@@ -7,7 +7,7 @@ use Rattle.std.proofs.lemmas.List.{nil_from_length}
 use Rattle.x3d_values.specs.declared.fields.Fields.{Fields}
 use Rattle.x3d_values.specs.declared.node_type.NodeType.{NodeType}
 use Rattle.x3d_values.specs.declared.value.Value.{Value}
-use Rattle.x3d_values.specs.Tables.{Entry}
+use Rattle.x3d_values.specs.Tables.{FieldRowView}
 use Rattle.snapshot_codec.specs.Fields.{kept_field, kept_fits}
 use Rattle.sensor_plane.specs.declared.pointing.PointingState.{PointingState}
 use Rattle.sensor_plane.specs.Pointing.{pointing_fits}
@@ -27,17 +27,17 @@ differ h = absurd cc
 -- ---- values, row by row
 
 -- the row fits the value that stands at its number
-abbrev row_fits : NodeType → ℕ → Option Value → Entry → Bool
+abbrev row_fits : NodeType → ℕ → Option Value → FieldRowView → Bool
 row_fits t n value row = kept_fits (kept_field t n row.access row.field_type) value
 
-pub values_apart : (t : NodeType) (n : ℕ) (rows : List Entry) (values : List (Option Value)) → length values ≢ length rows → values_fit t n rows values ≡ false
+pub values_apart : (t : NodeType) (n : ℕ) (rows : List FieldRowView) (values : List (Option Value)) → length values ≢ length rows → values_fit t n rows values ≡ false
 values_apart t n [] [] apart = absurd (apart refl)
 values_apart t n [] (v ∷ vs) apart = refl
 values_apart t n (row ∷ rows) [] apart = refl
 values_apart t n (row ∷ rows) (v ∷ vs) apart =
     ap (λ (b : Bool). row_fits t n v row && b) (values_apart t (n + 1) rows vs (λ e. apart (ap suc e))) ∙ and_false (row_fits t n v row)
 
-values_split : (t : NodeType) (n : ℕ) (rows : List Entry) (values : List (Option Value)) (i : ℕ) (v : Option Value) → length values ≡ length rows → slice_get values i ≡ Some v →
+values_split : (t : NodeType) (n : ℕ) (rows : List FieldRowView) (values : List (Option Value)) (i : ℕ) (v : Option Value) → length values ≡ length rows → slice_get values i ≡ Some v →
     values_fit t n (drop i rows) (drop i values)
     ≡ (option_map_or (row_fits t n v) (slice_get rows i) false && values_fit t (n + 1) (drop (suc i) rows) (drop (suc i) values))
 values_split t n rows [] i v same at = cc
@@ -45,7 +45,7 @@ values_split t n [] (u ∷ vs) i v same at = absurd (omega (arith, same))
 values_split t n (row ∷ rows) (u ∷ vs) zero v same at = let is : u ≡ v = cc in rw is refl
 values_split t n (row ∷ rows) (u ∷ vs) (suc i) v same at = values_split t n rows vs i v (omega (arith, same)) at
 
-module _ (t : NodeType) (rows : List Entry) (values : List (Option Value)) (i : ℕ) (v : Option Value) (all : Bool) (same : length values ≡ length rows) (at : slice_get values i ≡ Some v)
+module _ (t : NodeType) (rows : List FieldRowView) (values : List (Option Value)) (i : ℕ) (v : Option Value) (all : Bool) (same : length values ≡ length rows) (at : slice_get values i ≡ Some v)
     (so_far : values_fit t i (drop i rows) (drop i values) ≡ all) where
   split : (b : Bool) → b ≡ option_map_or (row_fits t i v) (slice_get rows i) false → (b && values_fit t (i + 1) (drop (i + 1) rows) (drop (i + 1) values)) ≡ all
   split b is =
@@ -65,22 +65,22 @@ module _ (t : NodeType) (rows : List Entry) (values : List (Option Value)) (i : 
   value_fails false is failed = split false is
 
 -- too few, or too many
-pub values_uncounted : (t : NodeType) (rows : List Entry) (values : List (Option Value)) (count : ℕ) (b : Bool) → count ≡ length rows → b ≡ (length values == count) → b ≡ false →
+pub values_uncounted : (t : NodeType) (rows : List FieldRowView) (values : List (Option Value)) (count : ℕ) (b : Bool) → count ≡ length rows → b ≡ (length values == count) → b ≡ false →
     false ≡ values_fit t 0 rows values
 values_uncounted t rows values count true all is failed = absurd cc
 values_uncounted t rows values count false all is failed = sym (values_apart t 0 rows values (λ e. differ (is ∙ eq-eqb (length values) count (e ∙ sym all))))
 
 -- as many as there are rows
-pub values_counted : (rows : List Entry) (values : List (Option Value)) (count : ℕ) (b : Bool) → count ≡ length rows → b ≡ (length values == count) → b ≡ true → length values ≡ length rows
+pub values_counted : (rows : List FieldRowView) (values : List (Option Value)) (count : ℕ) (b : Bool) → count ≡ length rows → b ≡ (length values == count) → b ≡ true → length values ≡ length rows
 values_counted rows values count b all is passed = eqb-true (length values) count (sym is ∙ passed) ∙ all
 
 -- none is left
-pub values_done : (t : NodeType) (rows : List Entry) (values : List (Option Value)) (i : ℕ) (all : Bool) → length values ≡ length rows → length rows ≤ i →
+pub values_done : (t : NodeType) (rows : List FieldRowView) (values : List (Option Value)) (i : ℕ) (all : Bool) → length values ≡ length rows → length rows ≤ i →
     values_fit t i (drop i rows) (drop i values) ≡ all → true ≡ all
 values_done t rows values i all same past so_far =
     let no_row : drop i rows ≡ [] = nil_from_length (drop i rows) (omega (arith, past, length-drop i rows)) in
     let no_value : drop i values ≡ [] = nil_from_length (drop i values) (omega (arith, past, same, length-drop i values)) in
-    sym (ap (λ (xs : List Entry). values_fit t i xs (drop i values)) no_row ∙ ap (values_fit t i []) no_value) ∙ so_far
+    sym (ap (λ (xs : List FieldRowView). values_fit t i xs (drop i values)) no_row ∙ ap (values_fit t i []) no_value) ∙ so_far
 
 -- ---- nodes
 

@@ -7,10 +7,10 @@ use Rattle.x3d_values.specs.declared.node_type.NodeType.TheVariants.{PlaneSensor
 use Rattle.x3d_values.specs.declared.value.Value.{Value}
 use Rattle.x3d_values.specs.declared.value.Value.TheVariants.{SFBool, SFVec3f}
 use Rattle.x3d_values.specs.declared.vector.Vec3.{Vec3}
-use Rattle.react_core.specs.declared.outbox.Reply.{Reply}
+use Rattle.react_core.specs.declared.outbox.SentEvent.{SentEvent}
 use Rattle.react_core.specs.Access.{is_kept, is_output, leave_by_outputs}
 use Rattle.react_core.specs.Reaction.{keeps, nothing as none, reaction, reply}
-use Rattle.sensor_core.specs.Touches.{Touch, disable, point, over_replies, hit_replies, pointer, press_replies, time_replies, is_over, is_pressed_by, presses, releases, touch_after}
+use Rattle.sensor_core.specs.Touches.{TouchStateView, disable, point, over_replies, hit_replies, pointer, press_replies, time_replies, is_over, is_pressed_by, presses, releases, touch_after}
 use Rattle.std.specs.Option.{option_map_or}
 use Rattle.sensor_core.specs.declared.touch_numbers.TheConstants.{HIT_POINT_CHANGED, IS_OVER, IS_PRESSED}
 use Rattle.scene_core.specs.declared.scene.End.{End}
@@ -28,26 +28,26 @@ use Rattle.cascade_world.specs.Answers.{forgotten_by, forgetting, reacting, touc
 use Rattle.cascade_world.specs.declared.world.WorldData.{WorldData}
 use Rattle.cascade_world.proofs.Senders.{reaction-leaves}
 
-abbrev pub SentBy : NodeType → List Reply → Type 0
+abbrev pub SentBy : NodeType → List SentEvent → Type 0
 SentBy kind replies = leave_by_outputs kind replies ≡ true
 
-abbrev SentByTouch : List Reply → Type 0
+abbrev SentByTouch : List SentEvent → Type 0
 SentByTouch replies = SentBy TouchSensor replies
 
 both : (a b : Bool) → (a && b) ≡ true → (a ≡ true) × (b ≡ true)
 both true b h = (refl, h)
 both false b h = cc
 
-append-leaves : (kind : NodeType) (xs ys : List Reply) → SentBy kind xs → SentBy kind ys → SentBy kind (xs ++ ys)
+append-leaves : (kind : NodeType) (xs ys : List SentEvent) → SentBy kind xs → SentBy kind ys → SentBy kind (xs ++ ys)
 append-leaves kind [] ys p q = q
 append-leaves kind (x ∷ xs) ys p q =
     let (one, rest) = both (is_output kind x.field) (leave_by_outputs kind xs) p in
     rw one (append-leaves kind xs ys rest q)
 
-leaves-append : (xs ys : List Reply) → SentByTouch xs → SentByTouch ys → SentByTouch (xs ++ ys)
+leaves-append : (xs ys : List SentEvent) → SentByTouch xs → SentByTouch ys → SentByTouch (xs ++ ys)
 leaves-append xs ys p q = append-leaves TouchSensor xs ys p q
 
-leaves-if : (b : Bool) (xs ys : List Reply) → SentByTouch xs → SentByTouch ys → SentByTouch (if b then xs else ys)
+leaves-if : (b : Bool) (xs ys : List SentEvent) → SentByTouch xs → SentByTouch ys → SentByTouch (if b then xs else ys)
 leaves-if true xs ys p q = p
 leaves-if false xs ys p q = q
 
@@ -57,12 +57,12 @@ over-leaves true false = refl
 over-leaves false true = refl
 over-leaves false false = refl
 
-hit-leaves : (touch : Touch) (who : ℕ) (before down : Bool) (inside place : Option Vec3) → SentByTouch (hit_replies touch (pointer who before down inside) place)
+hit-leaves : (touch : TouchStateView) (who : ℕ) (before down : Bool) (inside place : Option Vec3) → SentByTouch (hit_replies touch (pointer who before down inside) place)
 hit-leaves touch who before down inside None = refl
 hit-leaves touch who before down inside (Some point) =
     leaves-if (is_none touch.presser || is_pressed_by touch who) (reply HIT_POINT_CHANGED (SFVec3f point) ∷ []) [] refl refl
 
-three-leave : (xs ys zs : List Reply) → SentByTouch xs → SentByTouch ys → SentByTouch zs → SentByTouch (xs ++ ys ++ zs)
+three-leave : (xs ys zs : List SentEvent) → SentByTouch xs → SentByTouch ys → SentByTouch zs → SentByTouch (xs ++ ys ++ zs)
 three-leave xs ys zs p q r = leaves-append (xs ++ ys) zs (leaves-append xs ys p q) r
 
 released-leaves : (place : Option Vec3) (t : ℤ) → SentByTouch (reply IS_PRESSED (SFBool false) ∷ time_replies place t)
@@ -74,14 +74,14 @@ press-leaves : (down up : Bool) (place : Option Vec3) (t : ℤ) →
 press-leaves down up place t =
     leaves-if down (reply IS_PRESSED (SFBool true) ∷ []) _ refl (leaves-if up (reply IS_PRESSED (SFBool false) ∷ time_replies place t) [] (released-leaves place t) refl)
 
-pub point-leaves : (touch : Touch) (who : ℕ) (before down : Bool) (place : Option Vec3) (t : ℤ) → SentByTouch (point touch (pointer who before down place) t).replies
+pub point-leaves : (touch : TouchStateView) (who : ℕ) (before down : Bool) (place : Option Vec3) (t : ℤ) → SentByTouch (point touch (pointer who before down place) t).replies
 unfolding point
 point-leaves touch who before down place t =
     let p = pointer who before down place in
     three-leave (over_replies (is_over touch) (is_over (touch_after touch p))) (hit_replies touch p place) (press_replies touch p t)
     (over-leaves (is_over touch) (is_over (touch_after touch p))) (hit-leaves touch who before down place place) (press-leaves (presses touch p) (releases touch p) place t)
 
-pub disable-leaves : (touch : Touch) → SentByTouch (disable touch).replies
+pub disable-leaves : (touch : TouchStateView) → SentByTouch (disable touch).replies
 unfolding disable
 disable-leaves touch =
     leaves-append (if is_over touch then reply IS_OVER (SFBool false) ∷ [] else []) _
@@ -156,5 +156,5 @@ few-replies TouchSensor (Some fields) input v t is = kept fields input v (is_kep
 few-replies PlaneSensor (Some fields) input v t is = kept fields input v (is_kept PlaneSensor input v)
 few-replies _ (Some fields) input v t is = absurd cc
 
-pub few-room : (replies : List Reply) → length replies ≤ 1 → length replies + 2 ≤ 5
+pub few-room : (replies : List SentEvent) → length replies ≤ 1 → length replies + 2 ≤ 5
 few-room replies few = omega arith

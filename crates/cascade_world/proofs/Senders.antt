@@ -10,9 +10,9 @@ use Rattle.x3d_values.specs.declared.node_type.NodeType.TheVariants.{ScalarInter
 use Rattle.x3d_values.specs.declared.table.FieldRow.{FieldRow}
 use Rattle.x3d_values.specs.declared.value.Value.{Value}
 use Rattle.x3d_values.specs.declared.value.Value.TheVariants.{SFBool, SFInt32, SFTime}
-use Rattle.x3d_values.specs.Tables.{Entry}
+use Rattle.x3d_values.specs.Tables.{FieldRowView}
 use Rattle.x3d_values.specs.Values.{type_of}
-use Rattle.react_core.specs.declared.sequence.Step.{Step}
+use Rattle.react_core.specs.declared.sequence.Keyed.{Keyed}
 use Rattle.react_core.specs.Sequence.{step_after}
 use Rattle.react_core.specs.Stored.{truth_of, integer_of, time_of}
 use Rattle.react_core.specs.Access.{is_kept, is_exposed, is_output, is_sender, leave_by_outputs, row_at, are_same, names_nodes}
@@ -40,9 +40,9 @@ exposed-sends OutputOnly b h = refl
 exposed-sends InitializeOnly b h = cc
 
 -- a field that an event sets is one that the node sends by
-pub kept-sends : (value : Value) (row : Option Entry) →
-    option_map_or (λ (row : Entry). is_exposed row.access && (are_same row.field_type (type_of value) && not (names_nodes value))) row false ≡ true →
-    option_map_or (λ (row : Entry). is_sender row.access) row false ≡ true
+pub kept-sends : (value : Value) (row : Option FieldRowView) →
+    option_map_or (λ (row : FieldRowView). is_exposed row.access && (are_same row.field_type (type_of value) && not (names_nodes value))) row false ≡ true →
+    option_map_or (λ (row : FieldRowView). is_sender row.access) row false ≡ true
 kept-sends value None h = h
 kept-sends value (Some row) h = exposed-sends row.access (are_same row.field_type (type_of value) && not (names_nodes value)) h
 
@@ -66,7 +66,7 @@ leaves-interpolator kind fields input value h =
 
 leaves-sequencer : (kind : NodeType) (fields : Fields) (input : ℕ) (value : Value) (values : Option (List Value)) → is_output kind 6 ≡ true → Leaves kind (sequencer fields input value values)
 leaves-sequencer kind fields input value values h =
-    let o : Option Step = option_and_then (step_after fields input value) values in
+    let o : Option Keyed = option_and_then (step_after fields input value) values in
     leaves-some kind fields o (steps_to fields) (λ step. leaves-one kind 6 h)
 
 leaves-filter : (fields : Fields) (input : ℕ) (value : Value) → Leaves BooleanFilter (filter fields input value)

@@ -9,8 +9,8 @@ use Rattle.std.specs.Option.{option_map_or}
 use Rattle.x3d_values.specs.declared.fields.Fields.{Fields}
 use Rattle.x3d_values.specs.declared.value.Value.{Value}
 use Rattle.x3d_values.specs.Ranges.{is_input_time, max_time}
-use Rattle.react_core.specs.declared.outbox.Reply.{Reply}
-use Rattle.sensor_core.specs.Timing.{Timing, timing_of, with_timing}
+use Rattle.react_core.specs.declared.outbox.SentEvent.{SentEvent}
+use Rattle.sensor_core.specs.Timing.{TimeFieldsView, timing_of, with_timing}
 use Rattle.sensor_core.specs.Events.{set}
 use Rattle.sensor_core.specs.Ticks.{tick}
 use Rattle.sensor_plane.specs.declared.meeting.SensorPointer.{SensorPointer}
@@ -20,7 +20,7 @@ use Rattle.sensor_plane.specs.Meeting.{pointed}
 use Rattle.sensor_plane.specs.Pointing.{is_no_sensor}
 use Rattle.scene_core.specs.Scene.{SceneView}
 use Rattle.scene_core.specs.declared.scene.End.{End}
-use Rattle.cascade_world.specs.Answers.{Answer, answered, is_met, meeting, met, met_as, nothing, setting, setting_at, ticked, ticking, ticking_at}
+use Rattle.cascade_world.specs.Answers.{NodeAnswer, answered, is_met, meeting, met, met_as, nothing, setting, setting_at, ticked, ticking, ticking_at}
 use Rattle.cascade_world.specs.declared.world.WorldData.{WorldData}
 
 -- ---- the clock ticks
@@ -58,14 +58,14 @@ module _ (w : WorldData) (node : ℕ) (now : ℤ) where
     unfolding ticked
     tick-untimed none =
         sym (ap (ticking_at w node now) here
-        ∙ ap (λ (t : Option Timing). ticking w node now t (slice_get w.sensors node)) none)
+        ∙ ap (λ (t : Option TimeFieldsView). ticking w node now t (slice_get w.sensors node)) none)
 
-    module _ (timing : Timing) (timed : timing_of fields ≡ Some timing) where
+    module _ (timing : TimeFieldsView) (timed : timing_of fields ≡ Some timing) where
       at-timing : ticking w node now (Some timing) (slice_get w.sensors node) ≡ ticked w node now
       unfolding ticked
       at-timing =
           sym (ap (ticking_at w node now) here
-          ∙ ap (λ (t : Option Timing). ticking w node now t (slice_get w.sensors node)) timed)
+          ∙ ap (λ (t : Option TimeFieldsView). ticking w node now t (slice_get w.sensors node)) timed)
 
       pub tick-unlisted : slice_get w.sensors node ≡ None → nothing w ≡ ticked w node now
       tick-unlisted none = sym (ap (ticking w node now (Some timing)) none) ∙ at-timing
@@ -79,8 +79,8 @@ module _ (w : WorldData) (node : ℕ) (now : ℤ) where
             record w { sensors = sensors } ≡ answered w (ticked w node now)
         tick-world sensors is = ap (λ (s : List (Option ℕ)). record w { sensors = s }) is ∙ ap (answered w) ticks
 
-        pub tick-replies : (replies : List Reply) → replies ≡ (tick cycle timing now).replies → replies ≡ (ticked w node now).replies
-        tick-replies replies is = is ∙ ap (λ (a : Answer). a.replies) ticks
+        pub tick-replies : (replies : List SentEvent) → replies ≡ (tick cycle timing now).replies → replies ≡ (ticked w node now).replies
+        tick-replies replies is = is ∙ ap (λ (a : NodeAnswer). a.replies) ticks
 
 -- ---- an event comes to a time sensor
 
@@ -92,13 +92,13 @@ module _ (w : WorldData) (target : End) (v : Value) where
     pub set-untimed : timing_of fields ≡ None → nothing w ≡ setting_at w target v (slice_get w.fields target.node)
     set-untimed none =
         sym (ap (setting_at w target v) here
-        ∙ ap (λ (t : Option Timing). setting w target v fields t (slice_get w.sensors target.node)) none)
+        ∙ ap (λ (t : Option TimeFieldsView). setting w target v fields t (slice_get w.sensors target.node)) none)
 
-    module _ (timing : Timing) (timed : timing_of fields ≡ Some timing) where
+    module _ (timing : TimeFieldsView) (timed : timing_of fields ≡ Some timing) where
       set-at : setting w target v fields (Some timing) (slice_get w.sensors target.node) ≡ setting_at w target v (slice_get w.fields target.node)
       set-at =
           sym (ap (setting_at w target v) here
-          ∙ ap (λ (t : Option Timing). setting w target v fields t (slice_get w.sensors target.node)) timed)
+          ∙ ap (λ (t : Option TimeFieldsView). setting w target v fields t (slice_get w.sensors target.node)) timed)
 
       pub set-unlisted : slice_get w.sensors target.node ≡ None → nothing w ≡ setting_at w target v (slice_get w.fields target.node)
       set-unlisted none = sym (ap (setting w target v fields (Some timing)) none) ∙ set-at
@@ -107,17 +107,17 @@ module _ (w : WorldData) (target : End) (v : Value) where
         sets : setting w target v fields (Some timing) (Some cycle) ≡ setting_at w target v (slice_get w.fields target.node)
         sets = sym (ap (setting w target v fields (Some timing)) listed) ∙ set-at
 
-        kept : (new : Timing) (all : List Fields) →
+        kept : (new : TimeFieldsView) (all : List Fields) →
             all ≡ option_map_or (λ (f : Fields). slice_set w.fields target.node (with_timing f new)) (slice_get w.fields target.node) w.fields →
             new ≡ (set cycle timing target.field v).timing →
             all ≡ slice_set w.fields target.node (with_timing fields (set cycle timing target.field v).timing)
         kept new all is same =
             is
             ∙ ap (λ (o : Option Fields). option_map_or (λ (f : Fields). slice_set w.fields target.node (with_timing f new)) o w.fields) here
-            ∙ ap (λ (t : Timing). slice_set w.fields target.node (with_timing fields t)) same
+            ∙ ap (λ (t : TimeFieldsView). slice_set w.fields target.node (with_timing fields t)) same
 
         -- the world and the replies of a time sensor that takes an event
-        pub set-world : (new : Timing) (all : List Fields) (sensors : List (Option ℕ)) →
+        pub set-world : (new : TimeFieldsView) (all : List Fields) (sensors : List (Option ℕ)) →
             all ≡ option_map_or (λ (f : Fields). slice_set w.fields target.node (with_timing f new)) (slice_get w.fields target.node) w.fields →
             new ≡ (set cycle timing target.field v).timing →
             sensors ≡ slice_set w.sensors target.node (set cycle timing target.field v).cycle →
@@ -128,9 +128,9 @@ module _ (w : WorldData) (target : End) (v : Value) where
             record w { fields = slice_set w.fields target.node (with_timing fields (set cycle timing target.field v).timing); sensors = s }) at
             ∙ ap (answered w) sets
 
-        pub set-replies : (replies : List Reply) → replies ≡ (set cycle timing target.field v).replies →
+        pub set-replies : (replies : List SentEvent) → replies ≡ (set cycle timing target.field v).replies →
             replies ≡ (setting_at w target v (slice_get w.fields target.node)).replies
-        set-replies replies is = is ∙ ap (λ (a : Answer). a.replies) sets
+        set-replies replies is = is ∙ ap (λ (a : NodeAnswer). a.replies) sets
 
 -- ---- a pointing sensor meets a pointer
 
@@ -145,7 +145,7 @@ fields_met w node at state own = option_map_or (λ (f : Fields). slice_set w.fie
 abbrev state_met : WorldData → SensorPointer → PointingState → Option Fields → PointingState
 state_met w at state own = option_map_or (λ (f : Fields). (pointed state f at w.last_time).state) own state
 
-abbrev replies_met : WorldData → SensorPointer → PointingState → Option Fields → List Reply
+abbrev replies_met : WorldData → SensorPointer → PointingState → Option Fields → List SentEvent
 replies_met w at state own = option_map_or (λ (f : Fields). (pointed state f at w.last_time).replies) own []
 
 module _ (scene : SceneView) (w : WorldData) (node : ℕ) (at : SensorPointer) where
@@ -182,8 +182,8 @@ module _ (scene : SceneView) (w : WorldData) (node : ℕ) (at : SensorPointer) w
           ∙ met-by (slice_get w.fields node)
           ∙ ap (answered w) meets
 
-      pub met-replies : (replies : List Reply) → replies ≡ replies_met w at state (slice_get w.fields node) → replies ≡ (met scene w node at).replies
-      met-replies replies is = is ∙ replies-by (slice_get w.fields node) ∙ ap (λ (a : Answer). a.replies) meets
+      pub met-replies : (replies : List SentEvent) → replies ≡ replies_met w at state (slice_get w.fields node) → replies ≡ (met scene w node at).replies
+      met-replies replies is = is ∙ replies-by (slice_get w.fields node) ∙ ap (λ (a : NodeAnswer). a.replies) meets
 
 -- ---- a node that is no sensor stays one
 

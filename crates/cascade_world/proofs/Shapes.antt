@@ -4,7 +4,7 @@ use Rattle.std.specs.Prelude.{slice_get}
 use Rattle.std.specs.Option.{option_map_or}
 use Rattle.x3d_values.specs.declared.node_type.NodeType.{NodeType}
 use Rattle.x3d_values.specs.declared.value.Value.{Value}
-use Rattle.x3d_values.specs.Tables.{Entry}
+use Rattle.x3d_values.specs.Tables.{FieldRowView}
 use Rattle.react_core.specs.Reaction.{is_time_sensor}
 use Rattle.scene_core.specs.Scene.{SceneView, rows_at, shape_of, shapes_of, types_of}
 use Rattle.scene_core.specs.Shape.{Shape, rows_of}
@@ -56,7 +56,7 @@ answer-none scene w target v h = rw (no_shape scene.nodes target.node h) refl
 
 -- ---- an event, by the type of its target
 
-module _ (w : WorldData) (target : End) (v : Value) (kind : NodeType) (field : Option Entry) where
+module _ (w : WorldData) (target : End) (v : Value) (kind : NodeType) (field : Option FieldRowView) where
   pub by-time : is_time_sensor kind ≡ true → setting_at w target v (slice_get w.fields target.node) ≡ answer_by w target v kind field
   by-time is = rw is refl
 

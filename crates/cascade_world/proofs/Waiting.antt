@@ -6,10 +6,10 @@ use Rattle.std.specs.List.{list_any}
 use Rattle.std.specs.Option.{option_map_or}
 use Rattle.x3d_values.specs.declared.fields.Fields.{Fields}
 use Rattle.x3d_values.specs.declared.vector.Vec3.{Vec3}
-use Rattle.x3d_values.specs.Pointing.{Pointing}
-use Rattle.react_core.specs.declared.outbox.Reply.{Reply}
+use Rattle.x3d_values.specs.Pointing.{PointerView}
+use Rattle.react_core.specs.declared.outbox.SentEvent.{SentEvent}
 use Rattle.sensor_core.specs.Ticks.{Tick, is_started, tick}
-use Rattle.sensor_core.specs.Timing.{Timing, timing_of}
+use Rattle.sensor_core.specs.Timing.{TimeFieldsView, timing_of}
 use Rattle.sensor_core.specs.Touches as touches
 use Rattle.sensor_plane.specs.Planes as planes
 use Rattle.sensor_plane.specs.declared.pointing.PointingState.{PointingState}
@@ -17,11 +17,11 @@ use Rattle.sensor_plane.specs.declared.pointing.PointingState.TheVariants.{NoSen
 use Rattle.sensor_plane.specs.declared.drag.Drag.{Drag}
 use Rattle.sensor_plane.specs.declared.meeting.SensorPointer.{SensorPointer}
 use Rattle.sensor_plane.specs.declared.pointer.Contact.{Contact}
-use Rattle.sensor_plane.specs.Meeting.{Met, pointed}
+use Rattle.sensor_plane.specs.Meeting.{PlaneMet, pointed}
 use Rattle.sensor_plane.specs.Pointing.{is_pressed_by, is_resting}
 use Rattle.sensor_plane.proofs.Resting.{rests}
 use Rattle.scene_core.specs.Scene.{SceneView}
-use Rattle.cascade_world.specs.Answers.{Answer, is_met, meeting, met, nothing, pointer_at, ticked, ticking}
+use Rattle.cascade_world.specs.Answers.{NodeAnswer, is_met, meeting, met, nothing, pointer_at, ticked, ticking}
 use Rattle.cascade_world.specs.Blocks.{AreOthers}
 use Rattle.cascade_world.specs.Idle.{AreIdle, IsIdle, no_time, starts_at}
 use Rattle.cascade_world.specs.declared.idle.Idle.{Idle}
@@ -49,20 +49,20 @@ pub none-of : (o : Option ℕ) → is_some o ≡ false → o ≡ None
 none-of None h = refl
 none-of (Some x) h = cc
 
-calm : (timing : Timing) (t : ℤ) → is_started timing t ≡ false → tick None timing t ≡ record { cycle = None; replies = [] }
+calm : (timing : TimeFieldsView) (t : ℤ) → is_started timing t ≡ false → tick None timing t ≡ record { cycle = None; replies = [] }
 unfolding tick
 calm timing t h = rw h refl
 
-abbrev with-sensors : WorldData → List (Option ℕ) → List Reply → Answer
+abbrev with-sensors : WorldData → List (Option ℕ) → List SentEvent → NodeAnswer
 with-sensors w sensors replies = record { fields = w.fields; sensors = sensors; pointing = w.pointing; replies = replies }
 
 module _ (w : WorldData) (node : ℕ) (t : ℤ) (listed : slice_get w.sensors node ≡ Some None) where
-  still : (timing : Timing) → is_started timing t ≡ false → ticking w node t (Some timing) (Some None) ≡ nothing w
+  still : (timing : TimeFieldsView) → is_started timing t ≡ false → ticking w node t (Some timing) (Some None) ≡ nothing w
   still timing h =
       ap (λ (k : Tick). with-sensors w (slice_set w.sensors node k.cycle) k.replies) (calm timing t h)
       ∙ ap (λ (s : List (Option ℕ)). with-sensors w s []) (same-set w.sensors node None listed)
 
-  by-timing : (fields : Fields) → slice_get w.fields node ≡ Some fields → (o : Option Timing) → timing_of fields ≡ o → starts_at fields t ≡ false →
+  by-timing : (fields : Fields) → slice_get w.fields node ≡ Some fields → (o : Option TimeFieldsView) → timing_of fields ≡ o → starts_at fields t ≡ false →
       ticked w node t ≡ nothing w
   by-timing fields here None none waits = sym (tick-untimed w node t fields here none)
   by-timing fields here (Some timing) timed waits =
@@ -78,7 +78,7 @@ module _ (w : WorldData) (node : ℕ) (t : ℤ) (listed : slice_get w.sensors no
 
 module _ (w : WorldData) (node : ℕ) (t : ℤ) where
   module _ (unlisted : slice_get w.sensors node ≡ None) where
-    quiet-timing : (fields : Fields) → slice_get w.fields node ≡ Some fields → (o : Option Timing) → timing_of fields ≡ o → ticked w node t ≡ nothing w
+    quiet-timing : (fields : Fields) → slice_get w.fields node ≡ Some fields → (o : Option TimeFieldsView) → timing_of fields ≡ o → ticked w node t ≡ nothing w
     quiet-timing fields here None none = sym (tick-untimed w node t fields here none)
     quiet-timing fields here (Some timing) timed = sym (tick-unlisted w node t fields here timing timed unlisted)
 
@@ -102,7 +102,7 @@ not-inside : (is : Insides) (o : Option Inside) (sensor : ℕ) → inside_at is.
 not-inside is None sensor here h = (rw here refl, rw here refl)
 not-inside is (Some i) sensor here h = cc
 
-module _ (scene : SceneView) (w : WorldData) (node : ℕ) (p : Pointing) (before : Bool) (is : Insides) (tracked : Option Vec3)
+module _ (scene : SceneView) (w : WorldData) (node : ℕ) (p : PointerView) (before : Bool) (is : Insides) (tracked : Option Vec3)
     (outside : is_none (inside_at is.sensors node) ≡ true) where
   abbrev at : SensorPointer
   at = pointer_at p before is tracked node
@@ -119,13 +119,13 @@ module _ (scene : SceneView) (w : WorldData) (node : ℕ) (p : Pointing) (before
         ∙ ap (λ (o : Option Contact). pointed state fields (passing None o) w.last_time) none.1
         ∙ rests state fields p.who before p.down tracked w.last_time rest
 
-    abbrev with_both : List Fields → List PointingState → List Reply → Answer
+    abbrev with_both : List Fields → List PointingState → List SentEvent → NodeAnswer
     with_both fields pointing replies = record { fields = fields; sensors = w.sensors; pointing = pointing; replies = replies }
 
     meets-none : (own : Option Fields) → slice_get w.fields node ≡ own → meeting w node at state own ≡ nothing w
     meets-none None own = refl
     meets-none (Some fields) own =
-        ap (λ (x : Met). with_both (slice_set w.fields node x.fields) (slice_set w.pointing node x.state) x.replies) (leaves fields)
+        ap (λ (x : PlaneMet). with_both (slice_set w.fields node x.fields) (slice_set w.pointing node x.state) x.replies) (leaves fields)
         ∙ ap (λ (fs : List Fields). with_both fs (slice_set w.pointing node state) []) (same-set w.fields node fields own)
         ∙ ap (λ (ps : List PointingState). with_both w.fields ps []) (same-set w.pointing node state here)
 

@@ -3,7 +3,7 @@
 use Rattle.std.specs.Prelude.{ℕ, Bool, false, not, ◌&&◌, Option, slice_get}
 use Rattle.std.specs.Option.{option_map_or}
 use Rattle.x3d_values.specs.declared.value.Value.{Value}
-use Rattle.x3d_values.specs.Tables.{Entry}
+use Rattle.x3d_values.specs.Tables.{FieldRowView}
 use Rattle.x3d_values.specs.Values.{type_of}
 use Rattle.react_core.specs.Access.{are_same, is_exposed, is_sender, names_nodes}
 use Rattle.scene_core.specs.Shape.{Shape, rows_of}
@@ -15,7 +15,7 @@ is_output shape field =
 
 -- an event with this value sets the field that it comes to: an inputOutput field of the value's
 -- type, and no node field
-abbrev pub is_set : Value → Option Entry → Bool
+abbrev pub is_set : Value → Option FieldRowView → Bool
 is_set value field =
     option_map_or
     (λ row. is_exposed row.access

@@ -7,11 +7,11 @@ use Rattle.x3d_values.specs.declared.node_type.NodeType.{NodeType}
 use Rattle.x3d_values.specs.declared.node_type.NodeType.TheVariants.{PlaneSensor, Script}
 use Rattle.x3d_values.specs.declared.value.Value.{Value}
 use Rattle.x3d_values.specs.declared.value.Value.TheVariants.{SFBool}
-use Rattle.react_core.specs.declared.outbox.Reply.{Reply}
+use Rattle.react_core.specs.declared.outbox.SentEvent.{SentEvent}
 use denote.Enum.Bare.{sameb}
 use Rattle.x3d_values.specs.contracts.node_type.NodeType.{the_type}
 use Rattle.react_core.specs.Reaction.{reaction, keeps, is_time_sensor}
-use Rattle.sensor_core.specs.Timing.{Timing, timing_of, with_timing}
+use Rattle.sensor_core.specs.Timing.{TimeFieldsView, timing_of, with_timing}
 use Rattle.sensor_core.specs.Events.{set}
 use Rattle.sensor_core.specs.Ticks.{tick}
 use Rattle.sensor_plane.specs.declared.numbers.TheConstants.{PLANE_ENABLED}
@@ -19,9 +19,9 @@ use Rattle.sensor_plane.specs.declared.pointing.PointingState.{PointingState}
 use Rattle.sensor_plane.specs.declared.meeting.SensorPointer.{SensorPointer}
 use Rattle.sensor_plane.specs.Meeting.{pointed}
 use Rattle.sensor_plane.specs.Pointing.{forgotten, is_state_of}
-use Rattle.x3d_values.specs.Pointing.{Pointing}
+use Rattle.x3d_values.specs.Pointing.{PointerView}
 use Rattle.x3d_values.specs.declared.vector.Vec3.{Vec3}
-use Rattle.x3d_values.specs.Tables.{Entry}
+use Rattle.x3d_values.specs.Tables.{FieldRowView}
 use Rattle.sensor_core.specs.declared.touch_numbers.TheConstants.{TOUCH_ENABLED}
 use Rattle.scene_core.specs.declared.scene.End.{End}
 use Rattle.scene_core.specs.Places.{is_pointing}
@@ -31,32 +31,32 @@ use Rattle.pick_core.specs.Sensors.{is_enabled}
 use Rattle.cascade_world.specs.Access.{is_set}
 use Rattle.cascade_world.specs.Insides.{Insides, contact_in, place_in}
 use Rattle.cascade_world.specs.declared.world.WorldData.{WorldData}
-use Rattle.cascade_world.specs.declared.world.Turn.{Turn}
+use Rattle.cascade_world.specs.declared.world.Live.{Live}
 
 -- what the nodes keep, and the time sensors and the pointing sensors beside, after an answer, and
 -- what is sent, in order
-pub record Answer : Type 0 where
+pub record NodeAnswer : Type 0 where
   pub fields : List Fields
   pub sensors : List (Option ℕ)
   pub pointing : List PointingState
-  pub replies : List Reply
+  pub replies : List SentEvent
 
 -- nothing happens
-abbrev pub nothing : WorldData → Answer
+abbrev pub nothing : WorldData → NodeAnswer
 nothing w =
     record { fields = w.fields; sensors = w.sensors; pointing = w.pointing; replies = [] }
 
 -- the world after an answer
-abbrev pub answered : WorldData → Answer → WorldData
+abbrev pub answered : WorldData → NodeAnswer → WorldData
 answered w a = record w { fields = a.fields; sensors = a.sensors; pointing = a.pointing }
 
-abbrev pub with_answer : Turn → Answer → Turn
-with_answer turn a = record turn { world = answered turn.world a }
+abbrev pub with_answer : Live → NodeAnswer → Live
+with_answer live a = record live { world = answered live.world a }
 
 -- ---- an event comes to a node
 
 -- a node of this type with these fields reacts, at the time of the input
-abbrev pub reacting : WorldData → End → Value → NodeType → Option Fields → Answer
+abbrev pub reacting : WorldData → End → Value → NodeType → Option Fields → NodeAnswer
 reacting w target v kind (Some fields) =
     let r = reaction kind fields target.field v w.last_time in
     record {
@@ -68,7 +68,8 @@ reacting w target v kind (Some fields) =
 reacting w target v kind None = nothing w
 
 -- a time sensor goes by rules of its own: it keeps these values, and this cycle runs or none
-abbrev pub setting : WorldData → End → Value → Fields → Option Timing → Option (Option ℕ) → Answer
+abbrev pub setting : WorldData → End → Value → Fields → Option TimeFieldsView
+    → Option (Option ℕ) → NodeAnswer
 setting w target v fields (Some timing) (Some cycle) =
     let a = set cycle timing target.field v in
     record {
@@ -80,7 +81,7 @@ setting w target v fields (Some timing) (Some cycle) =
 setting w target v fields (Some timing) None = nothing w
 setting w target v fields None cycle = nothing w
 
-abbrev pub setting_at : WorldData → End → Value → Option Fields → Answer
+abbrev pub setting_at : WorldData → End → Value → Option Fields → NodeAnswer
 setting_at w target v (Some fields) =
     setting w target v fields (timing_of fields) (slice_get w.sensors target.node)
 setting_at w target v None = nothing w
@@ -102,12 +103,12 @@ forgets w node kind (Some state) =
     if is_state_of kind state then slice_set w.pointing node (forgotten state).state else w.pointing
 forgets w node kind None = w.pointing
 
-abbrev pub forgotten_by : NodeType → Option PointingState → List Reply
+abbrev pub forgotten_by : NodeType → Option PointingState → List SentEvent
 forgotten_by kind (Some state) = if is_state_of kind state then (forgotten state).replies else []
 forgotten_by kind None = []
 
 -- a pointing sensor forgets its pointers, behind what it has answered
-abbrev pub forgetting : WorldData → ℕ → NodeType → Answer → Option PointingState → Answer
+abbrev pub forgetting : WorldData → ℕ → NodeType → NodeAnswer → Option PointingState → NodeAnswer
 forgetting w node kind a state = record {
   fields = a.fields;
   sensors = a.sensors;
@@ -117,7 +118,7 @@ forgetting w node kind a state = record {
 
 -- a pointing sensor reacts as any node, and forgets its pointers where it is turned off, even if it
 -- was off before
-abbrev pub touching : WorldData → End → Value → NodeType → Option Fields → Answer
+abbrev pub touching : WorldData → End → Value → NodeType → Option Fields → NodeAnswer
 touching w target v kind fields =
     let a = reacting w target v kind fields in
     if turns_off kind target.field v
@@ -129,7 +130,7 @@ abbrev pub is_script : NodeType → Bool
 is_script kind = sameb the_type kind Script
 
 -- a node with these fields sets the one that an event comes to, and sends it
-abbrev pub keeping : WorldData → End → Value → Fields → Answer
+abbrev pub keeping : WorldData → End → Value → Fields → NodeAnswer
 keeping w target v fields =
     let r = keeps fields target.field v in
     record {
@@ -141,13 +142,13 @@ keeping w target v fields =
 
 -- a Script that isn't run sets its inputOutput fields and sends them, its own and those that it
 -- declares; an event at one of its inputOnly fields does nothing
-abbrev pub not_run : WorldData → End → Value → Option Entry → Option Fields → Answer
+abbrev pub not_run : WorldData → End → Value → Option FieldRowView → Option Fields → NodeAnswer
 not_run w target v field (Some fields) =
     if is_set v field then keeping w target v fields else nothing w
 not_run w target v field None = nothing w
 
 -- what a node of this type does at an event that comes to this field of it
-abbrev pub answer_by : WorldData → End → Value → NodeType → Option Entry → Answer
+abbrev pub answer_by : WorldData → End → Value → NodeType → Option FieldRowView → NodeAnswer
 answer_by w target v kind field =
     if is_time_sensor kind
     then setting_at w target v (slice_get w.fields target.node)
@@ -157,19 +158,19 @@ answer_by w target v kind field =
     then not_run w target v field (slice_get w.fields target.node)
     else reacting w target v kind (slice_get w.fields target.node)))
 
-abbrev pub answer_as : WorldData → End → Value → Option Shape → Answer
+abbrev pub answer_as : WorldData → End → Value → Option Shape → NodeAnswer
 answer_as w target v (Some shape) =
     answer_by w target v shape.node_type (slice_get (rows_of shape) target.field)
 answer_as w target v None = nothing w
 
 -- what the target of an event does; where there is no such node nothing happens
-unfoldable pub answer : List Shape → WorldData → End → Value → Answer
+unfoldable pub answer : List Shape → WorldData → End → Value → NodeAnswer
 answer shapes w target v = answer_as w target v (slice_get shapes target.node)
 
 -- ---- the clock ticks
 
 -- a time sensor ticks: it keeps these values, and this cycle runs or none
-abbrev pub ticking : WorldData → ℕ → ℤ → Option Timing → Option (Option ℕ) → Answer
+abbrev pub ticking : WorldData → ℕ → ℤ → Option TimeFieldsView → Option (Option ℕ) → NodeAnswer
 ticking w node now (Some timing) (Some cycle) =
     let t = tick cycle timing now in
     record {
@@ -181,19 +182,19 @@ ticking w node now (Some timing) (Some cycle) =
 ticking w node now (Some timing) None = nothing w
 ticking w node now None cycle = nothing w
 
-abbrev pub ticking_at : WorldData → ℕ → ℤ → Option Fields → Answer
+abbrev pub ticking_at : WorldData → ℕ → ℤ → Option Fields → NodeAnswer
 ticking_at w node now (Some fields) =
     ticking w node now (timing_of fields) (slice_get w.sensors node)
 ticking_at w node now None = nothing w
 
 -- what a time sensor does when the clock ticks, by the fields that it has then
-unfoldable pub ticked : WorldData → ℕ → ℤ → Answer
+unfoldable pub ticked : WorldData → ℕ → ℤ → NodeAnswer
 ticked w node now = ticking_at w node now (slice_get w.fields node)
 
 -- ---- a viewer points
 
 -- a pointing sensor with these fields meets a viewer's pointer
-abbrev pub meeting : WorldData → ℕ → SensorPointer → PointingState → Option Fields → Answer
+abbrev pub meeting : WorldData → ℕ → SensorPointer → PointingState → Option Fields → NodeAnswer
 meeting w node at state (Some fields) =
     let p = pointed state fields at w.last_time in
     record {
@@ -206,7 +207,7 @@ meeting w node at state None = nothing w
 
 -- a viewer's pointer as a sensor meets it: whether its button was down until now, where it is
 -- inside the sensor, and where its ray meets the plane of a drag, which was fixed before
-abbrev pub pointer_at : Pointing → Bool → Insides → Option Vec3 → ℕ → SensorPointer
+abbrev pub pointer_at : PointerView → Bool → Insides → Option Vec3 → ℕ → SensorPointer
 pointer_at p before is tracked node = record {
   who = p.who;
   before = before;
@@ -222,12 +223,12 @@ is_met scene w node state =
     is_enabled scene w.fields node
     && option_map_or (λ kind. is_state_of kind state) (type_at scene node) false
 
-abbrev pub met_as : SceneView → WorldData → ℕ → SensorPointer → Option PointingState → Answer
+abbrev pub met_as : SceneView → WorldData → ℕ → SensorPointer → Option PointingState → NodeAnswer
 met_as scene w node at None = nothing w
 met_as scene w node at (Some state) =
     if is_met scene w node state then meeting w node at state (slice_get w.fields node)
     else nothing w
 
 -- what a pointing sensor does at a pointer; one that isn't enabled is skipped
-unfoldable pub met : SceneView → WorldData → ℕ → SensorPointer → Answer
+unfoldable pub met : SceneView → WorldData → ℕ → SensorPointer → NodeAnswer
 met scene w node at = met_as scene w node at (slice_get w.pointing node)

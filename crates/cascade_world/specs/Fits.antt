@@ -11,7 +11,7 @@ use Rattle.x3d_values.specs.declared.node_type.NodeType.TheVariants.{BooleanSequ
 use Rattle.x3d_values.specs.declared.ranges.TheConstants.{MAX_VIEWERS}
 use Rattle.x3d_values.specs.declared.value.Value.{Value}
 use Rattle.x3d_values.specs.Access.{sends}
-use Rattle.x3d_values.specs.Tables.{Entry, rows}
+use Rattle.x3d_values.specs.Tables.{FieldRowView, rows}
 use Rattle.snapshot_codec.specs.Fields.{kept_field, kept_fits}
 use Rattle.snapshot_codec.specs.Parts.{cycle_fits, place_fits}
 use Rattle.snapshot_codec.specs.Trace.{is_moment, typed_fits}
@@ -30,7 +30,7 @@ use Rattle.cascade_world.specs.declared.world.WorldData.{WorldData}
 
 -- a value for each of these rows, the first of which has number n: of the row's type, in the range
 -- of the type, where the row is that of an inputOutput field, and else none
-abbrev pub values_fit : NodeType → ℕ → List Entry → List (Option Value) → Bool
+abbrev pub values_fit : NodeType → ℕ → List FieldRowView → List (Option Value) → Bool
 values_fit node_type n [] [] = true
 values_fit node_type n [] (value ∷ values) = false
 values_fit node_type n (row ∷ others) [] = false
@@ -45,7 +45,7 @@ position_fits IntegerSequencer position = place_fits position.at
 position_fits _ position = is_none position.at
 
 -- the node keeps for each field what its row says
-abbrev pub fields_fit : NodeType → List Entry → Fields → Bool
+abbrev pub fields_fit : NodeType → List FieldRowView → Fields → Bool
 fields_fit node_type declared fields =
     values_fit node_type 0 (rows node_type ++ declared) fields.values
     && position_fits node_type fields.position
@@ -92,7 +92,7 @@ all_lead scene n (state ∷ states) = leads scene n state && all_lead scene (n +
 -- ---- the trace
 
 -- the type of the events that leave by a field, if any do
-abbrev pub sent_type : Entry → Option FieldType
+abbrev pub sent_type : FieldRowView → Option FieldType
 sent_type row = if sends row.access then Some row.field_type else None
 
 -- the type of the events that a node sends by its field of that number, if it sends any

@@ -2,7 +2,7 @@
 -- concerns more than one viewer is our choice).
 use Rattle.std.specs.Prelude.{ℕ, ◌==◌, List, [], ◌∷◌, map, take, Option, Some, None, if◌then◌else◌}
 use Rattle.std.specs.Option.{option_and_then, option_map}
-use Rattle.x3d_values.specs.Pointing.{Sight}
+use Rattle.x3d_values.specs.Pointing.{RayView}
 use Rattle.x3d_values.specs.declared.fields.Fields.{Fields}
 use Rattle.x3d_values.specs.declared.vector.Vec3.{Vec3}
 use Rattle.scene_core.specs.Scene.{SceneView}
@@ -28,7 +28,7 @@ seen hit = record { path = hit.path; sensors = hit.sensors.items }
 
 -- a sensor of a hit: the hit's place in its coordinates, and how many positions of the hit's path
 -- lead to the list that holds it
-abbrev pub inside_by : SceneView → List Fields → Sight → Hit → ℕ → Inside
+abbrev pub inside_by : SceneView → List Fields → RayView → Hit → ℕ → Inside
 inside_by scene state ray hit sensor = record {
   sensor = sensor;
   point = local_of scene state hit ray sensor;
@@ -36,7 +36,7 @@ inside_by scene state ray hit sensor = record {
 }
 
 -- the path of a hit, and its sensors
-abbrev pub inside_of : SceneView → List Fields → Sight → Option Hit → Insides
+abbrev pub inside_of : SceneView → List Fields → RayView → Option Hit → Insides
 inside_of scene state ray None = record { path = None; sensors = [] }
 inside_of scene state ray (Some hit) = record {
   path = Some hit.path;
@@ -44,7 +44,7 @@ inside_of scene state ray (Some hit) = record {
 }
 
 -- the sensors that a ray is inside of, by the box that it hits first in a state, and where
-unfoldable pub insides : SceneView → List Fields → Sight → Insides
+unfoldable pub insides : SceneView → List Fields → RayView → Insides
 insides scene state ray = inside_of scene state ray (picked ray (boxes scene state))
 
 -- how a pointer is inside a sensor, if it is

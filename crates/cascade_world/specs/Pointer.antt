@@ -3,7 +3,7 @@
 use Rattle.std.specs.Prelude.{ℕ, Bool, false, List, [], ◌∷◌, map, Option, Some, None, slice_get}
 use Rattle.std.specs.List.{filter}
 use Rattle.std.specs.Option.{option_and_then, option_map_or}
-use Rattle.x3d_values.specs.Pointing.{Pointing, Sight}
+use Rattle.x3d_values.specs.Pointing.{PointerView, RayView}
 use Rattle.x3d_values.specs.declared.fields.Fields.{Fields}
 use Rattle.x3d_values.specs.declared.vector.Vec3.{Vec3}
 use Rattle.scene_core.specs.Scene.{SceneView, types_of}
@@ -22,19 +22,19 @@ is_pressed w who sensor =
     false
 
 -- where a ray meets the plane of a drag, if there is one
-abbrev pub tracked_by : SceneView → List Fields → Sight → Option Drag → Option Vec3
+abbrev pub tracked_by : SceneView → List Fields → RayView → Option Drag → Option Vec3
 tracked_by scene fields ray None = None
 tracked_by scene fields ray (Some drag) = track_of scene fields drag.path drag.start ray
 
 -- where a viewer's ray meets the plane in which it drags the sensor of that number, if it does
-unfoldable pub tracked_at : SceneView → WorldData → Pointing → ℕ → Option Vec3
+unfoldable pub tracked_at : SceneView → WorldData → PointerView → ℕ → Option Vec3
 tracked_at scene w p sensor =
     tracked_by scene w.fields p.ray
     (option_and_then (λ (state : PointingState). drag_by state p.who)
     (slice_get w.pointing sensor))
 
 -- a sensor that the viewer presses
-abbrev pub tracking : SceneView → WorldData → Pointing → ℕ → Concerned
+abbrev pub tracking : SceneView → WorldData → PointerView → ℕ → Concerned
 tracking scene w p sensor = record { sensor = sensor; tracked = tracked_at scene w p sensor }
 
 -- one that it doesn't
@@ -45,13 +45,13 @@ abbrev pub or_all : List Concerned → List Concerned → List Concerned
 or_all [] all = all
 or_all (sensor ∷ some) all = sensor ∷ some
 
-abbrev pub pressed : SceneView → WorldData → Pointing → List Concerned
+abbrev pub pressed : SceneView → WorldData → PointerView → List Concerned
 pressed scene w p =
     map (tracking scene w p) (filter (is_pressed w p.who) (pointing_sensors_of (types_of scene)))
 
 -- those that a viewer presses, each with where its ray meets the plane of a drag; where it presses
 -- none, all
-unfoldable pub concerned : SceneView → WorldData → Pointing → List Concerned
+unfoldable pub concerned : SceneView → WorldData → PointerView → List Concerned
 concerned scene w p =
     or_all (pressed scene w p) (map untracked (pointing_sensors_of (types_of scene)))
 

@@ -7,7 +7,7 @@ ghost use Rattle.pick_core.specs.Sites.{rows_of};
 ghost use Rattle.cascade_world.specs.Answers.{pointer_at};
 ghost use Rattle.cascade_world.specs.Insides.{contact_by, contact_in, contact_of, inside_at, inside_by, insides as insides_of, place_in, seen};
 
-use crate::world::{Turn, WorldData};
+use crate::world::{Live, WorldData};
 use arrayvec::ArrayVec;
 use pick_core::{BoxCache, Hit, MAX_SENSORS, Path, local_point, sensors_of};
 use pick_track::sensor_depth;
@@ -51,7 +51,7 @@ pub struct SensorsHit {
 
 /// What is fixed where a viewer points.
 #[derive(Drop)]
-pub struct Aim {
+pub struct AimedAt {
     pub pointer: Pointer,
     /// Whether the viewer's button was down until now.
     pub before: bool,
@@ -143,7 +143,7 @@ impl SensorsHit {
     }
 }
 
-impl Aim {
+impl AimedAt {
     ghost use Rattle.std.specs.Prelude.{◌≡◌, IsTrue};
     ghost use Rattle.x3d_values.specs.Ranges.{is_viewer};
     ghost use Rattle.cascade_world.specs.Answers.{pointer_at};
@@ -224,7 +224,7 @@ impl WorldData {
     }
 }
 
-impl Turn {
+impl Live {
     ghost use Rattle.std.specs.Prelude.{◌≡◌};
     ghost use Rattle.cascade_world.specs.World.{with_button};
 

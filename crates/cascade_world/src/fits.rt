@@ -14,7 +14,7 @@ ghost use Rattle.cascade_world.specs.Fits.{all_lead, drag_leads, leads, line_fit
 use crate::world::{VIEWERS, WorldData};
 use cascade_trace::{LineHead, TestsLines};
 use pick_track::leads_to;
-use scene_core::{Row, Scene};
+use scene_core::{NodeField, Scene};
 use sensor_core::TimeState;
 use sensor_plane::{Drag, PointingSlot, PointingState};
 use snapshot_codec::kept_field;
@@ -207,7 +207,7 @@ pub fn all_lead(scene: &Scene, count: u32, pointing: &[PointingSlot]) -> bool
 }
 
 /// The type of the events that leave by a field, if any do.
-fn sent_type(row: Row<'_>) -> Option<FieldType>
+fn sent_type(row: NodeField<'_>) -> Option<FieldType>
     ensures { result ≡ sent_type (row_entry row.entry) }
 {
     if row.access.sends() {

@@ -14,8 +14,8 @@ mod unrun;
 mod watched;
 mod world;
 
-pub use aim::{Aim, Concerned, Inside, SensorsHit, inside_at, insides};
+pub use aim::{AimedAt, Concerned, Inside, SensorsHit, inside_at, insides};
 pub use fits::{all_lead, output_type};
 pub use state::State;
 pub use watched::{BLOCK, Rests, Watched};
-pub use world::{Turn, VIEWERS, WorldData};
+pub use world::{Live, VIEWERS, WorldData};

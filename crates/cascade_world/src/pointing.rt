@@ -13,7 +13,7 @@ ghost use Rattle.cascade_world.specs.Answers.{answered, enabled_field, forgets, 
 ghost use Rattle.cascade_world.specs.Insides.{inside_at, seen};
 ghost use Rattle.cascade_world.specs.Pointer.{is_pressed, tracked_at, tracked_by};
 
-use crate::aim::{Aim, Concerned, Inside, inside_at};
+use crate::aim::{AimedAt, Concerned, Inside, inside_at};
 use crate::watched::{BLOCK, Watched};
 use crate::world::WorldData;
 use pick_core::is_enabled;
@@ -46,7 +46,7 @@ fn turns_off(node_type: NodeType, field: u16, value: &Value) -> bool
 }
 
 /// Whether a pointer isn't inside a sensor.
-fn is_outside(aim: &Aim, sensor: u32) -> bool
+fn is_outside(aim: &AimedAt, sensor: u32) -> bool
     ensures { result ≡ is_none (inside_at aim.now.inside.sensors.items sensor) }
 {
     inside_at(aim.inside.sensors.as_slice(), sensor).is_none()
@@ -60,7 +60,7 @@ fn is_near(inside: &[Inside], block: u32) -> bool
 }
 
 /// Whether a pointer is inside no sensor of a block.
-fn is_beside(aim: &Aim, block: u32) -> bool
+fn is_beside(aim: &AimedAt, block: u32) -> bool
     ensures { result ≡ not (list_any (is_near block) aim.now.inside.sensors.items) }
 {
     !is_near(aim.inside.sensors.as_slice(), block)
@@ -159,7 +159,7 @@ impl WorldData {
 
     /// A pointing sensor meets a pointer; one that isn't enabled is skipped.
     #[tactic(auto, unfolding(crate::specs::Answers::met))]
-    pub fn meet(&mut self, scene: &Scene, concerned: Concerned, aim: &Aim, out: &mut Outbox)
+    pub fn meet(&mut self, scene: &Scene, concerned: Concerned, aim: &AimedAt, out: &mut Outbox)
         requires empty { out.old.items ≡ [] }
         ensures world { self.new
             ≡ answered self.old
@@ -194,7 +194,7 @@ impl WorldData {
 
     /// Whether a pointer passes a pointing sensor, so that nothing happens: it isn't inside, and no
     /// pointer is over the sensor or presses it.
-    pub fn passes(&self, concerned: Concerned, aim: &Aim) -> bool
+    pub fn passes(&self, concerned: Concerned, aim: &AimedAt) -> bool
         ensures { (scene : SceneView) → IsTrue result
             → met scene self.now concerned.sensor
             (pointer_at aim.now.pointer aim.now.before (seen aim.now.inside) concerned.tracked
@@ -209,7 +209,7 @@ impl WorldData {
 
     /// Whether a pointer passes a block of nodes, so that nothing happens at any pointing sensor of
     /// it.
-    pub fn passes_block(&self, block: u32, aim: &Aim) -> bool
+    pub fn passes_block(&self, block: u32, aim: &AimedAt) -> bool
         ensures { (scene : SceneView) (sensor : ℕ) → IsTrue result → sensor / 32 ≡ block
             → met scene self.now sensor
             (pointer_at aim.now.pointer aim.now.before (seen aim.now.inside) None sensor)

@@ -13,7 +13,7 @@ ghost use Rattle.cascade_world.specs.Idle.{starts_at};
 
 use crate::idle::{Idle, idle_of, is_among, no_time, wake};
 use crate::watched::WIDTH;
-use react_core::{Outbox, Reply, copy_of, react};
+use react_core::{Outbox, SentEvent, copy_of, react};
 use scene_core::End;
 use sensor_core::TimeFields;
 use sensor_plane::{PointingState, SensorPointer};
@@ -98,7 +98,7 @@ fn keep_at(
         return Err(AllocError);
     };
     items[node].set(target.field, kept);
-    out.push(Reply {
+    out.push(SentEvent {
         field: target.field,
         value: sent,
     });

@@ -9,7 +9,7 @@ ghost use Rattle.cascade_world.specs.Answers.{answered, not_run};
 
 use crate::world::WorldData;
 use react_core::Outbox;
-use scene_core::{End, Row, Scene};
+use scene_core::{End, NodeField, Scene};
 use std::alloc::{AllocError, Global};
 use x3d_values::Value;
 
@@ -21,7 +21,7 @@ fn names_nodes(value: &Value) -> bool
 
 /// Whether an event with this value sets the field that it comes to: an inputOutput field of the
 /// value's type, and no node field.
-fn is_set(field: Option<Row<'_>>, value: &Value) -> bool
+fn is_set(field: Option<NodeField<'_>>, value: &Value) -> bool
     ensures { result ≡ is_set value.now (option_map row_entry field.entry) }
 {
     match field {

@@ -55,12 +55,12 @@ impl Rests for PointingSlot {
 
 /// The world in the course of one input.
 #[derive(Drop)]
-pub struct Turn {
+pub struct Live {
     pub world: WorldData,
     pub sent: SentBits,
 }
 
-impl Turn {
+impl Live {
     /// The turn of an input begins: no output has sent yet.
     pub fn begin(&mut self, input: &Stamped)
         requires next { input.now.number ≡ self.old.world.applied + 1 }

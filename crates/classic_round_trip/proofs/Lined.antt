@@ -67,22 +67,22 @@ lined_until text k P Q f (x ∷ xs) ts rest h =
 
 -- ---- prototypes, by what is in them
 
-abbrev Opened : Type 0
-Opened = ProtoText-F BodyItem NodeText Statement ProtoText
+abbrev OpenProto : Type 0
+OpenProto = ProtoText-F BodyItem NodeText Statement ProtoText
 
 -- what is written of a prototype
-abbrev open_text : Opened → Writes
+abbrev open_text : OpenProto → Writes
 open_text o indent =
     codes "PROTO " ++ o.name ++ codes " [" ++ block_text (declaration_text node_text) indent o.interface ++ codes "] {" ++ deeper_text statement_text indent o.body ++ 125 ∷ []
 
-open_same : (again o : Opened) (indent : ℕ) → again.name ≡ o.name
+open_same : (again o : OpenProto) (indent : ℕ) → again.name ≡ o.name
     → block_text (declaration_text node_text) indent again.interface ≡ block_text (declaration_text node_text) indent o.interface
     → lines_text statement_text (indent + 2) again.body ≡ lines_text statement_text (indent + 2) o.body → open_text again indent ≡ open_text o indent
 open_same again o indent name block body = rw (name, block, body) refl
 
 -- what spells it, with its line
-abbrev IsOpened : (NodeText → List Tok → List Tok → Type 0) → (List Statement → List Tok → List Tok → Type 0) → Opened → List Tok → List Tok → Type 0
-IsOpened Inner Body o ts rest =
+abbrev IsOpenProto : (NodeText → List Tok → List Tok → Type 0) → (List Statement → List Tok → List Tok → Type 0) → OpenProto → List Tok → List Tok → Type 0
+IsOpenProto Inner Body o ts rest =
     (a : List Tok) × (b : List Tok) × (c : List Tok) × (d : List Tok)
     × (line ts ≡ o.line) × Is (word (codes "PROTO")) ts a
     × IsName o.name a b × Is (terminal_of kind.OpenBracket []) b c
@@ -239,16 +239,16 @@ module _ (P Q : NodeText → List Tok → List Tok → Type 0) (f : (n : NodeTex
     pub lined_proto : (p : ProtoText) (ts rest : List Tok) → IsProtoBy Any P B p ts rest → Lined proto_text (IsProtoBy ◌≡◌ Q C) p ts rest
     unfolding word
     lined_proto p ts rest h =
-        let o : Opened = out-ProtoText p in
+        let o : OpenProto = out-ProtoText p in
         let m = lined_until (declaration_text node_text) (terminal_of kind.CloseBracket []) (IsDeclaration Any P false) (IsDeclaration ◌≡◌ Q false) (lined_declaration false)
         o.interface h.2 h.3 h.8 in
         let b = g o.body h.3 rest h.9 in
-        let again : Opened = record { line = line ts; name = o.name; interface = m.parts; body = b.parts } in
+        let again : OpenProto = record { line = line ts; name = o.name; interface = m.parts; body = b.parts } in
         let opens : out-ProtoText (roll-ProtoText again) ≡ again = out-roll-ProtoText again in
-        let spelled : IsOpened Q C again ts rest = (h.0, h.1, h.2, h.3, refl, h.5, h.6, h.7, m.spelled, b.spelled) in
+        let spelled : IsOpenProto Q C again ts rest = (h.0, h.1, h.2, h.3, refl, h.5, h.6, h.7, m.spelled, b.spelled) in
         record {
           part = roll-ProtoText again;
-          spelled = subst (λ (x : Opened). IsOpened Q C x ts rest) (sym opens) spelled;
+          spelled = subst (λ (x : OpenProto). IsOpenProto Q C x ts rest) (sym opens) spelled;
           same = λ i.
-              proto_text_is (roll-ProtoText again) i ∙ ap (λ (x : Opened). open_text x i) opens ∙ open_same again o i refl (m.block i) (b.same (i + 2)) ∙ sym (proto_text_is p i);
+              proto_text_is (roll-ProtoText again) i ∙ ap (λ (x : OpenProto). open_text x i) opens ∙ open_same again o i refl (m.block i) (b.same (i + 2)) ∙ sym (proto_text_is p i);
         }

@@ -95,14 +95,14 @@ module _ (Body : List ℕ → List BodyItem → List Tok → List Tok → Type 0
       (found : (node_type : List ℕ) (items : List BodyItem) → AllByRecursion (Item node_type) items → (indent : ℕ) (rest : List ℕ)
       → Found (123 ∷ block_text item_text indent items ++ 125 ∷ []) rest Always (Body node_type items))
       (words : List (List ℕ)) where
-    abbrev Opened : NodeText → List Tok → List Tok → Type 0
-    Opened node ts ms = IsLayer Any Body node ts ms × Opens words ts
+    abbrev OpensNode : NodeText → List Tok → List Tok → Type 0
+    OpensNode node ts ms = IsLayer Any Body node ts ms × Opens words ts
 
-    found_use : (node : NodeText) → IsSpellableUse node → (indent : ℕ) → IsWritten (node_text node indent) (Opened node)
+    found_use : (node : NodeText) → IsSpellableUse node → (indent : ℕ) → IsWritten (node_text node indent) (OpensNode node)
     unfolding word
     found_use node h indent = λ r e.
         retext (node_text node indent) (ap (λ (n : NodeText). node_text n indent) h.is ∙ node_text-use h.at h.name indent)
-        (with (Opened node) (λ ts ms j. (
+        (with (OpensNode node) (λ ts ms j. (
           inl (record { at = h.at; name = h.name; is = h.is; lined = tt; behind = j.0; word = j.1.0; named = j.2 }),
           inl j.1.1,
         ))
@@ -122,12 +122,12 @@ module _ (Body : List ℕ → List BodyItem → List Tok → List Tok → Type 0
           (ending_space ((123 ∷ block_text item_text indent items ++ 125 ∷ []) ++ r)).0) (spaced (found name items all indent r)) (λ ts ms s. tt)
 
       found_def : (def : Option (List ℕ)) → IsNameOrNone def → BeginsWithNoneOf words def name → node ≡ made.Full at def name items
-          → Found (node_text node indent) r BeginsNew (Opened node)
+          → Found (node_text node indent) r BeginsNew (OpensNode node)
       unfolding word name_or_access is_access
       found_def None d b is =
           retext (node_text node indent) (ap (λ (n : NodeText). node_text n indent) is ∙ node_text-full at None name items indent
           ∙ plain_parts name (block_text item_text indent items))
-          (with (Opened node) (λ ts ms j. (
+          (with (OpensNode node) (λ ts ms j. (
             inr (record {
               at = at;
               def = None;
@@ -147,7 +147,7 @@ module _ (Body : List ℕ → List BodyItem → List Tok → List Tok → Type 0
       found_def (Some n) d b is =
           retext (node_text node indent) (ap (λ (n : NodeText). node_text n indent) is ∙ node_text-full at (Some n) name items indent
           ∙ def_parts n name (block_text item_text indent items))
-          (with (Opened node) (λ ts ms j. (
+          (with (OpensNode node) (λ ts ms j. (
             inr (record {
               at = at;
               def = Some n;
@@ -169,6 +169,6 @@ module _ (Body : List ℕ → List BodyItem → List Tok → List Tok → Type 0
           (λ ts ms s. tt))))
 
     pub found_layer : (node : NodeText) → IsSpellableUse node ⊎ IsSpellableFull Item words node → (indent : ℕ)
-        → IsWritten (node_text node indent) (Opened node)
+        → IsWritten (node_text node indent) (OpensNode node)
     found_layer node (inl h) indent = found_use node h indent
     found_layer node (inr h) indent = λ r e. found_def node h.at h.node_type h.items h.typed h.body indent r h.def h.defined h.begins h.is

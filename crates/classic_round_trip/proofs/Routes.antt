@@ -4,7 +4,7 @@ use Rattle.std.specs.Prelude.{codes}
 use Rattle.std.specs.List.{AllByRecursion}
 use Rattle.classic_lex.specs.declared.token.TokenKind.TheVariants as kind
 use Rattle.classic_lex.specs.Lexed.{Tok}
-use Rattle.classic_tree.specs.declared.tree.Place.{Place}
+use Rattle.classic_tree.specs.declared.tree.RouteEnd.{RouteEnd}
 use Rattle.classic_tree.specs.declared.tree.RouteText.{RouteText}
 use Rattle.classic_tree.specs.Writing.{Writes, lines_text, deeper_text, block_text, place_text, route_text}
 use Rattle.classic_text.specs.Input.{spelling}
@@ -25,7 +25,7 @@ IsWritten text R = (rest : List ℕ) → IsEnding rest → Found text rest Begin
 
 -- ---- routes
 
-found_place : (p : Place) (rest : List ℕ) → IsFreeName p.node → IsFreeName p.field → IsEnding rest → Found (place_text p) rest Always (IsPlace p)
+found_place : (p : RouteEnd) (rest : List ℕ) → IsFreeName p.node → IsFreeName p.field → IsEnding rest → Found (place_text p) rest Always (IsPlace p)
 found_place p rest n f e =
     with (IsPlace p) (λ ts ms j. (j.0, j.2.0, j.1, j.2.1, j.2.2))
     (join (found_name p.node (46 ∷ p.field ++ rest) n (ending_point (p.field ++ rest)))

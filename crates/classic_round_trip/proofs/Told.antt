@@ -12,7 +12,7 @@ use Rattle.classic_lex.specs.Lexed.{Tok, line_after}
 use Rattle.classic_lex.specs.Tokens.{IsIdentifier, IsToken, Piece, blank, token, ArePieces, tokens_among, HasTokens}
 use Rattle.classic_lex.proofs.Utf8Lemmas.{IsUtf8-HasTokens}
 use Rattle.classic_tree.specs.declared.tree.RouteText.{RouteText}
-use Rattle.classic_tree.specs.declared.tree.Place.{Place}
+use Rattle.classic_tree.specs.declared.tree.RouteEnd.{RouteEnd}
 use Rattle.classic_tree.specs.declared.tree.RawValue.{RawValue}
 use Rattle.classic_tree.specs.declared.tree.RawValue.TheVariants as v
 use Rattle.classic_tree.specs.declared.tree.Given.{Given}
@@ -116,7 +116,7 @@ unfolding word
 told_truth true ts rest h g = record { fact = tt; left = is_left (word (codes "TRUE")) ts rest h g }
 told_truth false ts rest h g = record { fact = tt; left = is_left (word (codes "FALSE")) ts rest h g }
 
-told_place : (p : Place) (ts rest : List Tok) → IsPlace p ts rest → AllGood ts → Told (IsFreeName p.node × IsFreeName p.field) rest
+told_place : (p : RouteEnd) (ts rest : List Tok) → IsPlace p ts rest → AllGood ts → Told (IsFreeName p.node × IsFreeName p.field) rest
 told_place p ts rest h g =
     let a = told_name p.node ts h.0 h.2 g in
     let c = told_name p.field h.1 rest h.4 (is_left (terminal_of kind.Point []) h.0 h.1 h.3 a.left) in

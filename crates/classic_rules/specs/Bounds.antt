@@ -1,15 +1,15 @@
 -- How deep nodes may nest, and where declarations and `IS` may stand (ISO/IEC 19776-2, grammar).
 use Rattle.std.specs.Prelude.{ℕ, Bool, true, false, List, codes}
 use Rattle.std.specs.Str.{bytes_eq}
-use Rattle.classic_rules.specs.declared.declared.Owner.{Owner}
-use Rattle.classic_rules.specs.declared.declared.Owner.TheVariants.{Script, Interface}
+use Rattle.classic_rules.specs.declared.declared.DeclaredIn.{DeclaredIn}
+use Rattle.classic_rules.specs.declared.declared.DeclaredIn.TheVariants.{Script, Interface}
 
 -- nodes and the bodies of PROTOs nest at most 64 deep (our choice)
 abbrev pub max_depth : ℕ
 max_depth = 64
 
 -- `IS name` stands in the declarations of a Script, not in an interface
-abbrev pub takes_is : Owner → Bool
+abbrev pub takes_is : DeclaredIn → Bool
 takes_is Script = true
 takes_is Interface = false
 

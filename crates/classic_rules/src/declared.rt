@@ -8,19 +8,19 @@ use x3d_values::{Access, Text};
 
 /// Who has the declared field.
 #[derive(Clone, Copy)]
-pub enum Owner {
+pub enum DeclaredIn {
     Script,
     /// The interface of a PROTO.
     Interface,
 }
 
 /// Whether `IS name` may stand in a declaration.
-pub fn takes_is(owner: Owner) -> bool
+pub fn takes_is(owner: DeclaredIn) -> bool
     ensures { result ≡ spec.takes_is owner }
 {
     match owner {
-        Owner::Script => true,
-        Owner::Interface => false,
+        DeclaredIn::Script => true,
+        DeclaredIn::Interface => false,
     }
 }
 

@@ -5,5 +5,5 @@
 mod declared;
 mod depth;
 
-pub use declared::{Owner, holds_value, is_script, takes_is};
+pub use declared::{DeclaredIn, holds_value, is_script, takes_is};
 pub use depth::top_depth;

@@ -13,7 +13,7 @@ use Rattle.classic_lex.proofs.TokenLemmas.{HasTokens-lexed, lexed-HasTokens}
 use Rattle.classic_tree.specs.declared.tree.Statement.{Statement}
 use Rattle.classic_tree.specs.declared.tree.Document.{Document}
 use Rattle.classic_text.specs.declared.fault.ReadFault.{ReadFault}
-use Rattle.classic_text.specs.Input.{Outcome, at_end}
+use Rattle.classic_text.specs.Input.{Parsed, at_end}
 use Rattle.classic_text.specs.Grammar.{node_at, proto_at, top_statement, statements_from, statements}
 use Rattle.classic_text.specs.Head.{profile, component, meta, each, whole}
 use Rattle.classic_text.specs.Spells.{max_depth, IsNode, IsProto, IsTopStatement, AreStatements, IsComponent, IsMeta, IsSpelling, Spells}
@@ -92,7 +92,7 @@ heads : (text : List ℕ) (version : Version) → version_of text ≡ Ok version
 heads text version e = record { body = without_mark text; headed = IsHeaded-version_of text version e }
 
 module _ (text : List ℕ) where
-  by_outcome : (version : Version) (tokens : List Tok) (o : Outcome Document) (d : Document) → HasVersion text version → HasTokens text tokens → whole version tokens ≡ o → document_of (last_line text) o ≡ Ok d → Spells text d
+  by_outcome : (version : Version) (tokens : List Tok) (o : Parsed Document) (d : Document) → HasVersion text version → HasTokens text tokens → whole version tokens ≡ o → document_of (last_line text) o ≡ Ok d → Spells text d
   by_outcome version tokens (Ok p) d v has e h =
       let is : p.0 ≡ d = cc in
       let g = found_whole version p.0 tokens p.1 e in

@@ -16,7 +16,7 @@ use Rattle.classic_text.specs.declared.refusal.Refusal.{Refusal}
 use Rattle.classic_text.specs.declared.refusal.Refusal.TheVariants.{Unsupported}
 use Rattle.classic_text.specs.declared.terminal.Terminal.TheVariants as t
 use Rattle.classic_text.specs.Terminal.{line}
-use Rattle.classic_text.specs.Input.{Outcome, Parser, and_then, kind, sees, sees_word, expect, name}
+use Rattle.classic_text.specs.Input.{Parsed, Parser, and_then, kind, sees, sees_word, expect, name}
 use Rattle.classic_text.specs.Grammar.{route, one_given, field, declaration, begins_unread_statement, other_item, one_item, body, node_statement, one_statement, proto_body}
 use Rattle.classic_text.specs.Spells.{NotWordAhead, IsAccess, IsItem, IsBody, IsStatement, IsProtoBody}
 use Rattle.classic_text.proofs.Seen.{see, not_see, same_word, word_same, not_word_ahead, word_not_ahead, other_name, name_other}
@@ -25,7 +25,7 @@ use Rattle.classic_text.proofs.Values.{Knows, BeginsNode, found_until, only_unti
 use Rattle.classic_text.proofs.Declarations.{known_declaration, IsDeclaration-kind}
 
 -- what is not refused
-not_refused : {A : Type 0} (b : Bool) (e : Refusal) (x : Outcome A) (y : A × List Tok) → cond b (Err e) x ≡ Ok y → (b ≡ false) × (x ≡ Ok y)
+not_refused : {A : Type 0} (b : Bool) (e : Refusal) (x : Parsed A) (y : A × List Tok) → cond b (Err e) x ≡ Ok y → (b ≡ false) × (x ≡ Ok y)
 not_refused true e x y h = cc
 not_refused false e x y h = (refl, h)
 

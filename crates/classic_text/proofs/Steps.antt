@@ -8,13 +8,13 @@ use Rattle.x3d_values.specs.declared.field_type.Access.{Access}
 use Rattle.x3d_values.specs.declared.field_type.FieldType.{FieldType}
 use Rattle.x3d_values.specs.Names.{access_named, field_type_named}
 use Rattle.classic_lex.specs.Lexed.{Tok}
-use Rattle.classic_tree.specs.declared.tree.Place.{Place}
+use Rattle.classic_tree.specs.declared.tree.RouteEnd.{RouteEnd}
 use Rattle.classic_tree.specs.declared.tree.RouteText.{RouteText}
 use Rattle.classic_text.specs.declared.refusal.Refusal.{Refusal}
 use Rattle.classic_text.specs.declared.terminal.Terminal.{Terminal}
 use Rattle.classic_text.specs.declared.terminal.Terminal.TheVariants as t
 use Rattle.classic_text.specs.Unquoted.{unquoted, is_quoted}
-use Rattle.classic_text.specs.Input.{Outcome, Parser, and_then, kind, spelling, next, sees, sees_string, refusal, expect, name, access, access_by, field_type, type_by, string, truth, number, number_by}
+use Rattle.classic_text.specs.Input.{Parsed, Parser, and_then, kind, spelling, next, sees, sees_string, refusal, expect, name, access, access_by, field_type, type_by, string, truth, number, number_by}
 use Rattle.classic_text.specs.Grammar.{place, route}
 use Rattle.classic_text.specs.Spells.{Is, IsSuch, IsName, IsString, IsNumber, IsTruth, IsAccess, IsFieldType, IsPlace, IsRoute}
 use Rattle.classic_text.proofs.HeldLemmas.{unquoted-Holds, Holds-quoted, Holds-unquoted}
@@ -22,11 +22,11 @@ use Rattle.classic_text.proofs.Seen.{seen, see, not_see}
 
 -- ---- tools
 
-pub ok_is : {A : Type 0} (x y : A × List Tok) → ◌≡◌ {A = Outcome A} (Ok x) (Ok y) → x ≡ y
+pub ok_is : {A : Type 0} (x y : A × List Tok) → ◌≡◌ {A = Parsed A} (Ok x) (Ok y) → x ≡ y
 ok_is x y h = cc
 
 -- what read both parts read the first, and then the second
-pub both : {A B C : Type 0} (r : Outcome A) (f : A → Parser B) (y : B × List Tok) → and_then r f ≡ Ok y → ((x : A) (a : List Tok) → r ≡ Ok (x, a) → f x a ≡ Ok y → C) → C
+pub both : {A B C : Type 0} (r : Parsed A) (f : A → Parser B) (y : B × List Tok) → and_then r f ≡ Ok y → ((x : A) (a : List Tok) → r ≡ Ok (x, a) → f x a ≡ Ok y → C) → C
 both (Ok x) f y h go = go x.0 x.1 refl h
 both (Err e) f y h go = cc
 
@@ -212,18 +212,18 @@ IsFieldType-shorter f ts rest h = IsSuch-shorter t.Name (λ text. field_type_nam
 
 -- ---- places and routes
 
-pub found_place : (p : Place) (ts rest : List Tok) → place ts ≡ Ok (p, rest) → IsPlace p ts rest
+pub found_place : (p : RouteEnd) (ts rest : List Tok) → place ts ≡ Ok (p, rest) → IsPlace p ts rest
 unfolding place
 found_place p ts rest h =
     both (name ts) _ (p, rest) h (λ n a e h. both (expect t.Point a) _ (p, rest) h (λ u b f h. both (name b) _ (p, rest) h (λ m c g h.
-    subst (λ (y : Place × List Tok). IsPlace y.0 ts y.1) (ok_is _ _ h)
+    subst (λ (y : RouteEnd × List Tok). IsPlace y.0 ts y.1) (ok_is _ _ h)
     (a, b, found_name n ts a e, found_expect t.Point a b (λ e. cc) f, found_name m b c g))))
 
-pub only_place : (p : Place) (ts rest : List Tok) → IsPlace p ts rest → place ts ≡ Ok (p, rest)
+pub only_place : (p : RouteEnd) (ts rest : List Tok) → IsPlace p ts rest → place ts ≡ Ok (p, rest)
 unfolding place
 only_place p ts rest h = rw (only_name p.node ts h.0 h.2, only_expect t.Point h.0 h.1 h.3, only_name p.field h.1 rest h.4) refl
 
-pub IsPlace-shorter : (p : Place) (ts rest : List Tok) → IsPlace p ts rest → length rest < length ts
+pub IsPlace-shorter : (p : RouteEnd) (ts rest : List Tok) → IsPlace p ts rest → length rest < length ts
 IsPlace-shorter p ts rest h = omega (arith, IsName-shorter p.node ts h.0 h.2, Is-shorter t.Point h.0 h.1 h.3, IsName-shorter p.field h.1 rest h.4)
 
 pub found_route : (r : RouteText) (ts rest : List Tok) → route ts ≡ Ok (r, rest) → IsRoute ◌≡◌ r ts rest

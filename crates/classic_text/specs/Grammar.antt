@@ -4,7 +4,7 @@ use Rattle.x3d_values.specs.declared.field_type.Access.{Access}
 use Rattle.classic_lex.specs.Lexed.{Tok}
 use Rattle.x3d_values.specs.Access.{is_initial}
 use Rattle.classic_rules.specs.Bounds.{max_depth, is_script}
-use Rattle.classic_tree.specs.declared.tree.Place.{Place}
+use Rattle.classic_tree.specs.declared.tree.RouteEnd.{RouteEnd}
 use Rattle.classic_tree.specs.declared.tree.RouteText.{RouteText}
 use Rattle.classic_tree.specs.declared.tree.RawValue.{RawValue}
 use Rattle.classic_tree.specs.declared.tree.RawValue.TheVariants as v
@@ -25,7 +25,7 @@ use Rattle.classic_text.specs.declared.terminal.Terminal.TheVariants as t
 use Rattle.classic_text.specs.Input.{Parser, ◌>>=◌, and_then, pure, refuse, refusal, peek, here, expect, name, access, field_type, string, truth, number, sees, sees_word, at_end, next}
 use Rattle.classic_text.specs.Terminal.{line}
 
-unfoldable pub place : Parser Place
+unfoldable pub place : Parser RouteEnd
 place = do
   n ← name
   _ ← expect t.Point

@@ -42,13 +42,13 @@ at_end (x ∷ ts) = false
 
 -- ---- parsers
 
-abbrev pub Outcome : Type 0 → Type 0
-Outcome A = Result (A × List Tok) Refusal
+abbrev pub Parsed : Type 0 → Type 0
+Parsed A = Result (A × List Tok) Refusal
 
 abbrev pub Parser : Type 0 → Type 0
-Parser A = List Tok → Outcome A
+Parser A = List Tok → Parsed A
 
-abbrev pub and_then : {A B : Type 0} → Outcome A → (A → Parser B) → Outcome B
+abbrev pub and_then : {A B : Type 0} → Parsed A → (A → Parser B) → Parsed B
 and_then (Ok p) f = f p.0 p.1
 and_then (Err e) f = Err e
 
@@ -132,5 +132,5 @@ field_type = λ ts. if sees t.Name ts then type_by (field_type_named (spelling t
 
 -- ---- what a function that reads ensures: the parser's outcome, memory aside
 
-abbrev pub Reads : {A : Type 0} → Outcome A → Result A Refusal → List Tok → Type 0
-Reads outcome result new = Gives Memory (λ a. (a, new)) result outcome
+abbrev pub ReadsTokens : {A : Type 0} → Parsed A → Result A Refusal → List Tok → Type 0
+ReadsTokens outcome result new = Gives Memory (λ a. (a, new)) result outcome

@@ -7,7 +7,7 @@ use Rattle.x3d_values.specs.declared.field_type.Access.{Access}
 use Rattle.x3d_values.specs.declared.field_type.FieldType.{FieldType}
 use Rattle.x3d_values.specs.Names.{access_named, field_type_named}
 use Rattle.classic_lex.specs.Lexed.{Tok}
-use Rattle.classic_tree.specs.declared.tree.Place.{Place}
+use Rattle.classic_tree.specs.declared.tree.RouteEnd.{RouteEnd}
 use Rattle.classic_text.specs.declared.terminal.Terminal.{Terminal}
 use Rattle.classic_text.specs.declared.terminal.Terminal.TheVariants as t
 use Rattle.classic_text.specs.Terminal.{terminal_of}
@@ -59,7 +59,7 @@ IsFieldType f ts rest = IsSuch t.Name (λ text. field_type_named text ≡ Some f
 -- ---- places, runs and lists
 
 -- `node.field`
-abbrev pub IsPlace : Place → List Tok → List Tok → Type 0
+abbrev pub IsPlace : RouteEnd → List Tok → List Tok → Type 0
 IsPlace p ts rest = (a : List Tok) × (b : List Tok) × IsName p.node ts a × Is t.Point a b
     × IsName p.field b rest
 

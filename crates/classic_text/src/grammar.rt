@@ -4,7 +4,7 @@ ghost use Rattle.std.specs.Prelude.{◌≡◌, false};
 ghost use Rattle.classic_rules.specs.Bounds.{takes_is};
 ghost use Rattle.classic_text.specs.Grammar as spec;
 ghost use Rattle.classic_text.specs.Grammar.{until};
-ghost use Rattle.classic_text.specs.Input.{Reads};
+ghost use Rattle.classic_text.specs.Input.{ReadsTokens};
 ghost use Rattle.classic_text.specs.declared.terminal.Terminal.TheVariants.{CloseBracket};
 
 use crate::ahead::{begins_unread_statement, refuse_deep};
@@ -13,7 +13,7 @@ use crate::parts::{all_of, def_name, joined, numbers, route, use_node};
 use crate::refusal::Refusal;
 use crate::terminal::Terminal;
 use crate::tokens::Tokens;
-use classic_rules::{Owner, holds_value, is_script};
+use classic_rules::{DeclaredIn, holds_value, is_script};
 use classic_tree::{BodyItem, Declaration, Given, NodeText, ProtoText, RawValue, Statement};
 use std::alloc::Global;
 use x3d_values::{Access, Items, Text};
@@ -21,7 +21,7 @@ use x3d_values::{Access, Items, Text};
 /// A node in which nodes nest no deeper than `depth`, itself counted.
 #[cycle(nodes)]
 fn one_node(alloc: Global, tokens: &mut Tokens<'_>, depth: u32) -> Result<NodeText, Refusal>
-    ensures { Reads (spec.node_at depth tokens.old) result tokens.new }
+    ensures { ReadsTokens (spec.node_at depth tokens.old) result tokens.new }
 {
     if depth == 0 {
         return Err(refuse_deep(tokens));
@@ -35,7 +35,7 @@ fn one_node(alloc: Global, tokens: &mut Tokens<'_>, depth: u32) -> Result<NodeTe
 #[cycle(nodes)]
 #[tactic(auto, unfolding(crate::specs::Grammar::full_node))]
 fn full_node(alloc: Global, tokens: &mut Tokens<'_>, depth: u32) -> Result<NodeText, Refusal>
-    ensures { Reads (spec.full_node
+    ensures { ReadsTokens (spec.full_node
         (spec.body (spec.node_at depth) (spec.proto_at depth)) tokens.old) result tokens.new }
 {
     let line = tokens.line();
@@ -53,7 +53,7 @@ fn body(
     depth: u32,
     script: bool,
 ) -> Result<Items<BodyItem>, Refusal>
-    ensures { Reads (spec.body (spec.node_at depth) (spec.proto_at depth) script tokens.old)
+    ensures { ReadsTokens (spec.body (spec.node_at depth) (spec.proto_at depth) script tokens.old)
         result tokens.new }
 {
     tokens.expect(Terminal::OpenBrace)?;
@@ -76,7 +76,8 @@ fn one_item(
     depth: u32,
     script: bool,
 ) -> Result<BodyItem, Refusal>
-    ensures { Reads (spec.one_item (spec.node_at depth) (spec.proto_at depth) script tokens.old)
+    ensures { ReadsTokens
+        (spec.one_item (spec.node_at depth) (spec.proto_at depth) script tokens.old)
         result tokens.new }
 {
     if tokens.sees(Terminal::Route) {
@@ -89,7 +90,7 @@ fn one_item(
         return Err(Refusal::Unsupported(tokens.line()));
     }
     if script && tokens.sees(Terminal::Access) {
-        return declaration(alloc, tokens, depth, Owner::Script).map(BodyItem::Declaration);
+        return declaration(alloc, tokens, depth, DeclaredIn::Script).map(BodyItem::Declaration);
     }
     field(alloc, tokens, depth)
 }
@@ -101,9 +102,9 @@ fn declaration(
     alloc: Global,
     tokens: &mut Tokens<'_>,
     depth: u32,
-    owner: Owner,
+    owner: DeclaredIn,
 ) -> Result<Declaration<NodeText>, Refusal>
-    ensures { Reads (spec.declaration (spec.node_at depth) (takes_is owner) tokens.old)
+    ensures { ReadsTokens (spec.declaration (spec.node_at depth) (takes_is owner) tokens.old)
         result tokens.new }
 {
     let line = tokens.line();
@@ -128,10 +129,10 @@ fn declared(
     alloc: Global,
     tokens: &mut Tokens<'_>,
     depth: u32,
-    owner: Owner,
+    owner: DeclaredIn,
     access: Access,
 ) -> Result<Given<NodeText>, Refusal>
-    ensures { Reads (spec.declared (spec.node_at depth) (takes_is owner) access tokens.old)
+    ensures { ReadsTokens (spec.declared (spec.node_at depth) (takes_is owner) access tokens.old)
         result tokens.new }
 {
     if tokens.sees(Terminal::Is) {
@@ -149,7 +150,8 @@ fn declarations(
     tokens: &mut Tokens<'_>,
     depth: u32,
 ) -> Result<Items<Declaration<NodeText>>, Refusal>
-    ensures { Reads (until CloseBracket (spec.declaration (spec.node_at depth) false) tokens.old)
+    ensures { ReadsTokens
+        (until CloseBracket (spec.declaration (spec.node_at depth) false) tokens.old)
         result tokens.new }
 {
     let mut found = Items::new(alloc);
@@ -158,7 +160,10 @@ fn declarations(
             tokens.advance();
             return Ok(found);
         }
-        found = grown(found, declaration(alloc, tokens, depth, Owner::Interface))?;
+        found = grown(
+            found,
+            declaration(alloc, tokens, depth, DeclaredIn::Interface),
+        )?;
     }
     Err(tokens.refuse())
 }
@@ -167,7 +172,7 @@ fn declarations(
 #[cycle(nodes)]
 #[tactic(auto, unfolding(crate::specs::Grammar::proto_with))]
 fn one_proto(alloc: Global, tokens: &mut Tokens<'_>, depth: u32) -> Result<ProtoText, Refusal>
-    ensures { Reads (spec.proto_at depth tokens.old) result tokens.new }
+    ensures { ReadsTokens (spec.proto_at depth tokens.old) result tokens.new }
 {
     let line = tokens.line();
     tokens.expect(Terminal::Proto)?;
@@ -191,7 +196,7 @@ fn proto_body(
     depth: u32,
     line: u32,
 ) -> Result<Items<Statement>, Refusal>
-    ensures { Reads (spec.proto_body_at depth line tokens.old) result tokens.new }
+    ensures { ReadsTokens (spec.proto_body_at depth line tokens.old) result tokens.new }
 {
     if depth == 0 {
         return Err(Refusal::TooDeep(line));
@@ -213,11 +218,17 @@ fn proto_body(
 #[cycle(nodes)]
 #[tactic(auto, unfolding(crate::specs::Grammar::field))]
 fn field(alloc: Global, tokens: &mut Tokens<'_>, depth: u32) -> Result<BodyItem, Refusal>
-    ensures { Reads (spec.field (spec.node_at depth) tokens.old) result tokens.new }
+    ensures { ReadsTokens (spec.field (spec.node_at depth) tokens.old) result tokens.new }
 {
     let line = tokens.line();
     let name = tokens.name(alloc)?;
-    let given = declared(alloc, tokens, depth, Owner::Script, Access::InputOutput)?;
+    let given = declared(
+        alloc,
+        tokens,
+        depth,
+        DeclaredIn::Script,
+        Access::InputOutput,
+    )?;
     Ok(BodyItem::Field(line, name, given))
 }
 
@@ -228,7 +239,7 @@ fn value_of(
     tokens: &mut Tokens<'_>,
     depth: u32,
 ) -> Result<RawValue<NodeText>, Refusal>
-    ensures { Reads (spec.value (spec.node_at depth) tokens.old) result tokens.new }
+    ensures { ReadsTokens (spec.value (spec.node_at depth) tokens.old) result tokens.new }
 {
     match tokens.peek() {
         Terminal::Null => {
@@ -254,7 +265,7 @@ fn list_of(
     tokens: &mut Tokens<'_>,
     depth: u32,
 ) -> Result<RawValue<NodeText>, Refusal>
-    ensures { Reads (spec.list (spec.node_at depth) tokens.old) result tokens.new }
+    ensures { ReadsTokens (spec.list (spec.node_at depth) tokens.old) result tokens.new }
 {
     match tokens.peek() {
         Terminal::CloseBracket => {
@@ -270,7 +281,7 @@ fn list_of(
 
 #[cycle(nodes)]
 fn node_list(alloc: Global, tokens: &mut Tokens<'_>, depth: u32) -> Result<Items<NodeText>, Refusal>
-    ensures { Reads (until CloseBracket (spec.node_at depth) tokens.old) result tokens.new }
+    ensures { ReadsTokens (until CloseBracket (spec.node_at depth) tokens.old) result tokens.new }
 {
     let mut found = Items::new(alloc);
     for _turn in 0..tokens.left() {
@@ -290,7 +301,7 @@ pub(crate) fn one_statement(
     tokens: &mut Tokens<'_>,
     depth: u32,
 ) -> Result<Statement, Refusal>
-    ensures { Reads (spec.one_statement (spec.node_at depth) (spec.proto_at depth) tokens.old)
+    ensures { ReadsTokens (spec.one_statement (spec.node_at depth) (spec.proto_at depth) tokens.old)
         result tokens.new }
 {
     if tokens.sees(Terminal::Route) {

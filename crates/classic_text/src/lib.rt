@@ -1,4 +1,4 @@
-//! Reads a text of the Classic VRML encoding (ISO/IEC 19776-2) as a tree.
+//! ReadsTokens a text of the Classic VRML encoding (ISO/IEC 19776-2) as a tree.
 #![tactic(auto)]
 
 mod ahead;
@@ -16,8 +16,8 @@ mod terminal;
 mod tokens;
 
 pub use classic_tree::{
-    BodyItem, Declaration, Document, Given, Meta, NodeText, Place, ProtoText, RawValue, RouteText,
-    Statement,
+    BodyItem, Declaration, Document, Given, Meta, NodeText, ProtoText, RawValue, RouteEnd,
+    RouteText, Statement,
 };
 pub use fault::{ReadFault, ReadFaultKind};
 pub use laws::texts_spell_one_document;

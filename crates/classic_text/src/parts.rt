@@ -4,31 +4,31 @@ ghost use Rattle.std.specs.Prelude.{◌≡◌};
 ghost use Rattle.classic_rules.specs.Bounds.{takes_is};
 ghost use Rattle.classic_text.specs.Grammar as spec;
 ghost use Rattle.classic_text.specs.Grammar.{until};
-ghost use Rattle.classic_text.specs.Input.{Parser, Reads, number, string, truth};
+ghost use Rattle.classic_text.specs.Input.{Parser, ReadsTokens, number, string, truth};
 ghost use Rattle.classic_text.specs.declared.terminal.Terminal.TheVariants.{CloseBracket};
 
 use crate::gathered::grown;
 use crate::refusal::Refusal;
 use crate::terminal::Terminal;
 use crate::tokens::Tokens;
-use classic_rules::{Owner, takes_is};
-use classic_tree::{Given, NodeText, Place, RouteText};
+use classic_rules::{DeclaredIn, takes_is};
+use classic_tree::{Given, NodeText, RouteEnd, RouteText};
 use std::alloc::Global;
 use x3d_values::{Items, Text};
 
 #[tactic(auto, unfolding(crate::specs::Grammar::place))]
-fn place(alloc: Global, tokens: &mut Tokens<'_>) -> Result<Place, Refusal>
-    ensures { Reads (spec.place tokens.old) result tokens.new }
+fn place(alloc: Global, tokens: &mut Tokens<'_>) -> Result<RouteEnd, Refusal>
+    ensures { ReadsTokens (spec.place tokens.old) result tokens.new }
 {
     let node = tokens.name(alloc)?;
     tokens.expect(Terminal::Point)?;
     let field = tokens.name(alloc)?;
-    Ok(Place { node, field })
+    Ok(RouteEnd { node, field })
 }
 
 #[tactic(auto, unfolding(crate::specs::Grammar::route))]
 pub(crate) fn route(alloc: Global, tokens: &mut Tokens<'_>) -> Result<RouteText, Refusal>
-    ensures { Reads (spec.route tokens.old) result tokens.new }
+    ensures { ReadsTokens (spec.route tokens.old) result tokens.new }
 {
     let line = tokens.line();
     tokens.expect(Terminal::Route)?;
@@ -44,7 +44,7 @@ pub(crate) fn route(alloc: Global, tokens: &mut Tokens<'_>) -> Result<RouteText,
 
 /// A run of numerals.
 pub(crate) fn numbers(alloc: Global, tokens: &mut Tokens<'_>) -> Result<Items<i64>, Refusal>
-    ensures { Reads (spec.numbers tokens.old) result tokens.new }
+    ensures { ReadsTokens (spec.numbers tokens.old) result tokens.new }
 {
     let mut found = Items::new(alloc);
     for _turn in 0..tokens.left() {
@@ -61,7 +61,7 @@ pub(crate) trait Listed: Drop {
     ghost parser: { Parser Self };
 
     fn read(alloc: Global, tokens: &mut Tokens<'_>) -> Result<Self, Refusal>
-        ensures { Reads (parser tokens.old) result tokens.new };
+        ensures { ReadsTokens (parser tokens.old) result tokens.new };
 }
 
 impl Listed for i64 {
@@ -90,7 +90,7 @@ impl Listed for Text {
 
 /// The items up to the bracket that closes the list.
 pub(crate) fn all_of<T: Listed>(alloc: Global, tokens: &mut Tokens<'_>) -> Result<Items<T>, Refusal>
-    ensures { Reads (until CloseBracket T.Listed.parser tokens.old) result tokens.new }
+    ensures { ReadsTokens (until CloseBracket T.Listed.parser tokens.old) result tokens.new }
 {
     let mut found = Items::new(alloc);
     for _turn in 0..tokens.left() {
@@ -105,7 +105,7 @@ pub(crate) fn all_of<T: Listed>(alloc: Global, tokens: &mut Tokens<'_>) -> Resul
 
 #[tactic(auto, unfolding(crate::specs::Grammar::def_name, crate::specs::Input::expect))]
 pub(crate) fn def_name(alloc: Global, tokens: &mut Tokens<'_>) -> Result<Option<Text>, Refusal>
-    ensures { Reads (spec.def_name tokens.old) result tokens.new }
+    ensures { ReadsTokens (spec.def_name tokens.old) result tokens.new }
 {
     if !tokens.sees(Terminal::Def) {
         return Ok(None);
@@ -116,7 +116,7 @@ pub(crate) fn def_name(alloc: Global, tokens: &mut Tokens<'_>) -> Result<Option<
 
 #[tactic(auto, unfolding(crate::specs::Grammar::use_node))]
 pub(crate) fn use_node(alloc: Global, tokens: &mut Tokens<'_>) -> Result<NodeText, Refusal>
-    ensures { Reads (spec.use_node tokens.old) result tokens.new }
+    ensures { ReadsTokens (spec.use_node tokens.old) result tokens.new }
 {
     let line = tokens.line();
     tokens.expect(Terminal::Use)?;
@@ -128,9 +128,9 @@ pub(crate) fn use_node(alloc: Global, tokens: &mut Tokens<'_>) -> Result<NodeTex
 pub(crate) fn joined(
     alloc: Global,
     tokens: &mut Tokens<'_>,
-    owner: Owner,
+    owner: DeclaredIn,
 ) -> Result<Given<NodeText>, Refusal>
-    ensures { Reads (spec.joined (takes_is owner) tokens.old) result tokens.new }
+    ensures { ReadsTokens (spec.joined (takes_is owner) tokens.old) result tokens.new }
 {
     if !takes_is(owner) {
         return Err(tokens.refuse());

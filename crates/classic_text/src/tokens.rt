@@ -4,7 +4,7 @@ ghost use Rattle.std.specs.Prelude.{◌≡◌, map, length, All, IsUtf8};
 ghost use Rattle.classic_lex.specs.Lexed.{seen};
 ghost use Rattle.classic_text.specs.Cursor.{IsPlaced};
 ghost use Rattle.classic_text.specs.Input as spec;
-ghost use Rattle.classic_text.specs.Input.{Reads};
+ghost use Rattle.classic_text.specs.Input.{ReadsTokens};
 ghost use Rattle.classic_text.specs.Terminal.{line};
 
 use crate::level::has_level;
@@ -140,7 +140,7 @@ impl<'a> Tokens<'a> {
 
     #[tactic(auto, unfolding(crate::specs::Input::expect))]
     pub(crate) fn expect(&mut self, kind: Terminal) -> Result<(), Refusal>
-        ensures { Reads (spec.expect kind self.old) result self.new }
+        ensures { ReadsTokens (spec.expect kind self.old) result self.new }
     {
         if self.sees(kind) {
             self.advance();
@@ -152,7 +152,7 @@ impl<'a> Tokens<'a> {
 
     #[tactic(auto, unfolding(crate::specs::Input::expect_word))]
     pub(crate) fn expect_word(&mut self, word: &[u8]) -> Result<(), Refusal>
-        ensures { Reads (spec.expect_word word.now self.old) result self.new }
+        ensures { ReadsTokens (spec.expect_word word.now self.old) result self.new }
     {
         if self.sees_word(word) {
             self.advance();
@@ -176,7 +176,7 @@ impl<'a> Tokens<'a> {
     /// A word of access.
     #[tactic(auto, unfolding(crate::specs::Input::access))]
     pub(crate) fn access(&mut self) -> Result<Access, Refusal>
-        ensures { Reads (spec.access self.old) result self.new }
+        ensures { ReadsTokens (spec.access self.old) result self.new }
     {
         if !self.sees(Terminal::Access) {
             return Err(self.refuse());
@@ -193,7 +193,7 @@ impl<'a> Tokens<'a> {
     /// The type of a declared field.
     #[tactic(auto, unfolding(crate::specs::Input::field_type))]
     pub(crate) fn field_type(&mut self) -> Result<FieldType, Refusal>
-        ensures { Reads (spec.field_type self.old) result self.new }
+        ensures { ReadsTokens (spec.field_type self.old) result self.new }
     {
         if !self.sees(Terminal::Name) {
             return Err(self.refuse());
@@ -209,14 +209,14 @@ impl<'a> Tokens<'a> {
 
     /// A copy of the next token.
     fn copy(&self, alloc: Global) -> Result<Text, Refusal>
-        ensures { Reads (spec.copied self.now) result self.now }
+        ensures { ReadsTokens (spec.copied self.now) result self.now }
     {
         Ok(Text::from_str(alloc, self.word())?)
     }
 
     #[tactic(auto, unfolding(crate::specs::Input::name))]
     pub(crate) fn name(&mut self, alloc: Global) -> Result<Text, Refusal>
-        ensures { Reads (spec.name self.old) result self.new }
+        ensures { ReadsTokens (spec.name self.old) result self.new }
     {
         if self.sees(Terminal::Name) {
             let name = self.copy(alloc)?;
@@ -230,7 +230,7 @@ impl<'a> Tokens<'a> {
     /// A name with a level, as `Navigation:2`.
     #[tactic(auto, unfolding(crate::specs::Input::component_name))]
     pub(crate) fn component_name(&mut self, alloc: Global) -> Result<Text, Refusal>
-        ensures { Reads (spec.component_name self.old) result self.new }
+        ensures { ReadsTokens (spec.component_name self.old) result self.new }
     {
         if self.sees(Terminal::Name) && has_level(self.spelling()) {
             let name = self.copy(alloc)?;
@@ -252,7 +252,7 @@ impl<'a> Tokens<'a> {
 
     #[tactic(auto, unfolding(crate::specs::Input::string))]
     pub(crate) fn string(&mut self, alloc: Global) -> Result<Text, Refusal>
-        ensures { Reads (spec.string self.old) result self.new }
+        ensures { ReadsTokens (spec.string self.old) result self.new }
     {
         if self.sees_string() {
             let string = unquoted(alloc, self.spelling())?;
@@ -265,7 +265,7 @@ impl<'a> Tokens<'a> {
 
     #[tactic(auto, unfolding(crate::specs::Input::truth))]
     pub(crate) fn truth(&mut self) -> Result<bool, Refusal>
-        ensures { Reads (spec.truth self.old) result self.new }
+        ensures { ReadsTokens (spec.truth self.old) result self.new }
     {
         if self.sees(Terminal::True) {
             self.advance();
@@ -280,7 +280,7 @@ impl<'a> Tokens<'a> {
 
     #[tactic(auto, unfolding(crate::specs::Input::number))]
     pub(crate) fn number(&mut self) -> Result<i64, Refusal>
-        ensures { Reads (spec.number self.old) result self.new }
+        ensures { ReadsTokens (spec.number self.old) result self.new }
     {
         if !self.sees(Terminal::Numeral) {
             return Err(self.refuse());

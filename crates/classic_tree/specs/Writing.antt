@@ -6,7 +6,7 @@ use Rattle.x3d_values.specs.Names.{access_name, field_type_name}
 use Rattle.x3d_values.specs.ValueText.{truth_text, string_text, list_text}
 use Rattle.classic_lex.specs.declared.versions.Version.{Version}
 use Rattle.classic_lex.specs.Header.{version_text}
-use Rattle.classic_tree.specs.declared.tree.Place.{Place}
+use Rattle.classic_tree.specs.declared.tree.RouteEnd.{RouteEnd}
 use Rattle.classic_tree.specs.declared.tree.RouteText.{RouteText}
 use Rattle.classic_tree.specs.declared.tree.RawValue.{RawValue}
 use Rattle.classic_tree.specs.declared.tree.RawValue.TheVariants as value
@@ -47,7 +47,7 @@ block_text text indent (part ∷ parts) = deeper_text text indent (part ∷ part
 
 -- ---- what holds no node
 
-abbrev pub place_text : Place → List ℕ
+abbrev pub place_text : RouteEnd → List ℕ
 place_text place = place.node ++ 46 ∷ place.field
 
 abbrev pub route_text : RouteText → List ℕ

@@ -14,7 +14,7 @@ mod tree;
 mod writer;
 
 pub use tree::{
-    BodyItem, Declaration, Document, Given, Meta, NodeText, Place, ProtoText, RawValue, RouteText,
-    Statement,
+    BodyItem, Declaration, Document, Given, Meta, NodeText, ProtoText, RawValue, RouteEnd,
+    RouteText, Statement,
 };
 pub use writer::write;

@@ -5,7 +5,7 @@ ghost use Rattle.x3d_lists.specs.Extends.{Extends};
 ghost use Rattle.x3d_values.specs.Names.{access_name, field_type_name};
 ghost use Rattle.classic_tree.specs.Writing.{route_text, def_text};
 
-use crate::tree::{Declaration, NodeText, Place, RouteText};
+use crate::tree::{Declaration, NodeText, RouteEnd, RouteText};
 use std::alloc::AllocError;
 use x3d_values::{Text, push_pieces};
 
@@ -23,9 +23,9 @@ pub(crate) fn push_route(route: &RouteText, out: &mut Vec<u8>) -> Result<(), All
     ensures ok { OnOk result (out.new.items ≡ out.old.items ++ route_text route.now) }
     ensures kept { Extends out.old.items out.new.items }
 {
-    let Place { node, field } = &route.source;
+    let RouteEnd { node, field } = &route.source;
     push_pieces(&[b"ROUTE ", node.as_bytes(), b".", field.as_bytes()], out)?;
-    let Place { node, field } = &route.target;
+    let RouteEnd { node, field } = &route.target;
     push_pieces(&[b" TO ", node.as_bytes(), b".", field.as_bytes()], out)
 }
 

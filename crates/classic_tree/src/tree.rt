@@ -7,7 +7,7 @@ use x3d_values::{Access, Duplicate, FieldType, Items, Text};
 
 /// `node.field`, an end of a ROUTE.
 #[derive(Drop)]
-pub struct Place {
+pub struct RouteEnd {
     pub node: Text,
     pub field: Text,
 }
@@ -16,8 +16,8 @@ pub struct Place {
 #[derive(Drop)]
 pub struct RouteText {
     pub line: u32,
-    pub source: Place,
-    pub target: Place,
+    pub source: RouteEnd,
+    pub target: RouteEnd,
 }
 
 /// The value of a field as it is written; `N` is a node in it. Numerals are whole millionths,

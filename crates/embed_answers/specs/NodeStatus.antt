@@ -106,7 +106,7 @@ replied old (Err fault) = old
 abbrev pub taken_as : Taken → TakenAs
 taken_as taken.Old = record { kind = 0; count = 0 }
 taken_as taken.Beyond = record { kind = 1; count = 0 }
-taken_as taken.Kept = record { kind = 2; count = 0 }
+taken_as taken.Held = record { kind = 2; count = 0 }
 taken_as (taken.Applied n) = record { kind = 3; count = n }
 taken_as taken.Noted = record { kind = 4; count = 0 }
 taken_as taken.Behind = record { kind = 5; count = 0 }

@@ -73,7 +73,7 @@ fn taken_as(taken: Taken) -> TakenAs
     match taken {
         Taken::Old => plain_taken(0, 0),
         Taken::Beyond => plain_taken(1, 0),
-        Taken::Kept => plain_taken(2, 0),
+        Taken::Held => plain_taken(2, 0),
         Taken::Applied(count) => plain_taken(3, count),
         Taken::Noted => plain_taken(4, 0),
         Taken::Behind => plain_taken(5, 0),

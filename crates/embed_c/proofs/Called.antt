@@ -1,7 +1,7 @@
 -- What a handle has behind a call.
 use Rattle.std.proofs.Common.{◌≡◌, ℕ, List, Option, Some, Result, subst}
-use Rattle.x3d_values.specs.Stamp.{Stamp}
-use Rattle.x3d_values.specs.Pointing.{Sight}
+use Rattle.x3d_values.specs.Stamp.{StampedView}
+use Rattle.x3d_values.specs.Pointing.{RayView}
 use Rattle.cascade_core.specs.declared.fault.ApplyFault.{ApplyFault}
 use Rattle.cascade_core.specs.declared.work.Work.{Work}
 use Rattle.snapshot_core.specs.declared.fault.SnapFault.{SnapFault}
@@ -9,7 +9,7 @@ use Rattle.snapshot_core.specs.declared.loading.Saved.{Saved}
 use Rattle.embed_world.specs.Calls.{Applies, Loads, Meets}
 use Rattle.embed_world.specs.Looks.{meeting_in}
 use Rattle.embed_world.specs.declared.fault.LookFault.{LookFault}
-use Rattle.embed_world.specs.declared.lists.Entry.{Entry}
+use Rattle.embed_world.specs.declared.lists.ListEntry.{ListEntry}
 use Rattle.embed_world.specs.declared.world.EmbeddedWorld.{EmbeddedWorld}
 use Rattle.embed_c.specs.Answers.{AppliesAt, LoadsAt, MeetsAt, Meeting, counted, saved_as, status_of_load, status_of_meet, status_of_work, told}
 use Rattle.embed_answers.specs.Status.{Calls, CallsOut, HandsOut, IsHandedOut}
@@ -33,7 +33,7 @@ hands_out {H} none made before status old wanted_old wanted new h packet is same
     subst (λ (o : Option H). HandsOut none made o status old wanted_old wanted new) is
     (subst (λ (p : Option (List ℕ)). IsHandedOut none p old status wanted_old wanted new) same handed)
 
-pub applied : (input : Stamp) (before after : Option EmbeddedWorld) (status : ℕ) (old new : WorkCount) (w next : EmbeddedWorld) (answer : Result Work ApplyFault)
+pub applied : (input : StampedView) (before after : Option EmbeddedWorld) (status : ℕ) (old new : WorkCount) (w next : EmbeddedWorld) (answer : Result Work ApplyFault)
     → Some w ≡ before → Applies w input answer next → status ≡ status_of_work answer → after ≡ Some next → new ≡ counted old answer → AppliesAt input before status after old new
 applied input before after status old new w next answer is done says left count =
     subst (λ (o : Option EmbeddedWorld). AppliesAt input o status after old new) is (answer, next, done, says, left, count)
@@ -43,12 +43,12 @@ pub loads : (boot : ℕ) (bytes : List ℕ) (before after : Option EmbeddedWorld
 loads boot bytes before after status old new w next answer is done says left told =
     subst (λ (o : Option EmbeddedWorld). LoadsAt boot bytes o status after old new) is (answer, next, done, says, left, told)
 
-meets_at : (ray : Sight) (before after : Option EmbeddedWorld) (status : ℕ) (old new : Met) (w next : EmbeddedWorld) (answer : Result (Option Entry) LookFault)
+meets_at : (ray : RayView) (before after : Option EmbeddedWorld) (status : ℕ) (old new : Met) (w next : EmbeddedWorld) (answer : Result (Option ListEntry) LookFault)
     → Some w ≡ before → Meets (meeting_in w.stage ray) w answer next → status ≡ status_of_meet answer → after ≡ Some next → new ≡ told old answer → MeetsAt ray before status after old new
 meets_at ray before after status old new w next answer is done says left tells =
     subst (λ (o : Option EmbeddedWorld). MeetsAt ray o status after old new) is (answer, next, done, says, left, tells)
 
-pub meets : (asked : Option Sight) (ray : Sight) (before after : Option EmbeddedWorld) (status : ℕ) (old new : Met) (w next : EmbeddedWorld) (answer : Result (Option Entry) LookFault)
+pub meets : (asked : Option RayView) (ray : RayView) (before after : Option EmbeddedWorld) (status : ℕ) (old new : Met) (w next : EmbeddedWorld) (answer : Result (Option ListEntry) LookFault)
     → Some ray ≡ asked → Some w ≡ before → Meets (meeting_in w.stage ray) w answer next → status ≡ status_of_meet answer → after ≡ Some next → new ≡ told old answer → Meeting asked before status after old new
 meets asked ray before after status old new w next answer of is done says left tells =
-    subst (λ (o : Option Sight). Meeting o before status after old new) of (meets_at ray before after status old new w next answer is done says left tells)
+    subst (λ (o : Option RayView). Meeting o before status after old new) of (meets_at ray before after status old new w next answer is done says left tells)

@@ -8,13 +8,13 @@ use Rattle.snapshot_core.specs.declared.fault.SnapFault.{SnapFault}
 use Rattle.snapshot_core.specs.declared.loading.Saved.{Saved}
 use Rattle.cascade_core.specs.declared.fault.ApplyFault.{ApplyFault}
 use Rattle.cascade_core.specs.declared.work.Work.{Work}
-use Rattle.x3d_values.specs.Stamp.{Stamp}
-use Rattle.x3d_values.specs.Pointing.{Sight}
+use Rattle.x3d_values.specs.Stamp.{StampedView}
+use Rattle.x3d_values.specs.Pointing.{RayView}
 use Rattle.x3d_values.specs.declared.script.Kind.{Kind}
-use Rattle.embed_world.specs.Calls.{Applies, IsOpened, Loads, Meets, Replaces}
+use Rattle.embed_world.specs.Calls.{Applies, IsWorldOpened, Loads, Meets, Replaces}
 use Rattle.embed_world.specs.Looks.{meeting_in}
 use Rattle.embed_world.specs.declared.fault.LookFault.{LookFault}
-use Rattle.embed_world.specs.declared.lists.Entry.{Entry}
+use Rattle.embed_world.specs.declared.lists.ListEntry.{ListEntry}
 use Rattle.embed_world.specs.declared.world.EmbeddedWorld.{EmbeddedWorld}
 use Rattle.embed_answers.specs.Status.{Calls, IsCopied, closed, out_of_range, status_of_apply, status_of_look, status_of_place, status_of_snap}
 use Rattle.embed_c.specs.declared.inputs.WorkCount.{WorkCount}
@@ -37,7 +37,7 @@ refusal_line (Err fault) = refusal_text (Job fault)
 abbrev pub Opens : List ℕ → ℕ → Option EmbeddedWorld → (old : List ℕ) → ℕ → (new : List ℕ) → Type 0
 Opens text status after old wanted new =
     (answer : Result EmbeddedWorld JobFault) × (copied : ℕ)
-    × IsOpened text answer × (status ≡ status_of_open answer) × (after ≡ result_ok answer)
+    × IsWorldOpened text answer × (status ≡ status_of_open answer) × (after ≡ result_ok answer)
     × IsCopied (refusal_line answer) old copied wanted new
 
 -- ---- inputs
@@ -52,7 +52,7 @@ status_of_work (Ok _) = 0
 status_of_work (Err fault) = status_of_apply fault
 
 -- an input is applied to the world of a handle, and its work counted
-abbrev pub AppliesAt : Stamp → Option EmbeddedWorld → ℕ → Option EmbeddedWorld
+abbrev pub AppliesAt : StampedView → Option EmbeddedWorld → ℕ → Option EmbeddedWorld
     → (old new : WorkCount) → Type 0
 AppliesAt input None status after old new = (status ≡ closed) × (after ≡ None) × (new ≡ old)
 AppliesAt input (Some w) status after old new =
@@ -61,11 +61,12 @@ AppliesAt input (Some w) status after old new =
     × (new ≡ counted old answer)
 
 -- the same of an input whose numbers may be out of range
-abbrev pub Inputs : Option Stamp → Option EmbeddedWorld → ℕ → Option EmbeddedWorld
+abbrev pub InputIsApplied : Option StampedView → Option EmbeddedWorld → ℕ → Option EmbeddedWorld
     → (old new : WorkCount) → Type 0
-Inputs None before status after old new =
+InputIsApplied None before status after old new =
     (status ≡ out_of_range) × (after ≡ before) × (new ≡ old)
-Inputs (Some input) before status after old new = AppliesAt input before status after old new
+InputIsApplied (Some input) before status after old new =
+    AppliesAt input before status after old new
 
 -- ---- snapshots
 
@@ -88,29 +89,29 @@ LoadsAt boot bytes (Some w) status after old new =
 
 -- ---- rays
 
-abbrev pub met_of : Option Entry → Met
+abbrev pub met_of : Option ListEntry → Met
 met_of None = record { n = 0; m = 0 }
 met_of (Some entry) = record { n = entry.n; m = entry.m }
 
-abbrev pub told : Met → Result (Option Entry) LookFault → Met
+abbrev pub told : Met → Result (Option ListEntry) LookFault → Met
 told old (Ok entry) = met_of entry
 told old (Err fault) = old
 
-abbrev pub status_of_meet : Result (Option Entry) LookFault → ℕ
+abbrev pub status_of_meet : Result (Option ListEntry) LookFault → ℕ
 status_of_meet (Ok _) = 0
 status_of_meet (Err fault) = status_of_look (Err fault)
 
 -- what a ray meets is asked of the world of a handle
-abbrev pub MeetsAt : Sight → Option EmbeddedWorld → ℕ → Option EmbeddedWorld → (old new : Met)
+abbrev pub MeetsAt : RayView → Option EmbeddedWorld → ℕ → Option EmbeddedWorld → (old new : Met)
     → Type 0
 MeetsAt ray None status after old new = (status ≡ closed) × (after ≡ None) × (new ≡ old)
 MeetsAt ray (Some w) status after old new =
-    (answer : Result (Option Entry) LookFault) × (next : EmbeddedWorld)
+    (answer : Result (Option ListEntry) LookFault) × (next : EmbeddedWorld)
     × Meets (meeting_in w.stage ray) w answer next × (status ≡ status_of_meet answer)
     × (after ≡ Some next) × (new ≡ told old answer)
 
 -- the same of a ray whose numbers may be out of range
-abbrev pub Meeting : Option Sight → Option EmbeddedWorld → ℕ → Option EmbeddedWorld
+abbrev pub Meeting : Option RayView → Option EmbeddedWorld → ℕ → Option EmbeddedWorld
     → (old new : Met) → Type 0
 Meeting None before status after old new =
     (status ≡ out_of_range) × (after ≡ before) × (new ≡ old)

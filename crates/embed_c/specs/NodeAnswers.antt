@@ -9,7 +9,7 @@ use Rattle.embed_nodes.specs.declared.host.EmbeddedHost.{EmbeddedHost}
 use Rattle.embed_nodes.specs.declared.viewer.EmbeddedViewer.{EmbeddedViewer}
 use Rattle.embed_world.specs.Looks.{meeting_in}
 use Rattle.share_core.specs.Viewer.{stage_in}
-use Rattle.x3d_values.specs.Pointing.{Sight}
+use Rattle.x3d_values.specs.Pointing.{RayView}
 use Rattle.embed_answers.specs.Status.{CallsOut, IsCopied, out_of_range}
 use Rattle.embed_c.specs.Answers.{status_of_meet, told}
 use Rattle.embed_c.specs.declared.lists.Met.{Met}
@@ -68,7 +68,7 @@ forgets v _ next = next ≡ forgetting v
 -- ---- rays
 
 -- what a ray meets is asked of the viewer of a handle; a ray whose numbers are out of range isn't
-abbrev pub ViewerMeets : Option Sight → Option EmbeddedViewer → ℕ → Option EmbeddedViewer
+abbrev pub ViewerMeets : Option RayView → Option EmbeddedViewer → ℕ → Option EmbeddedViewer
     → (old new : Met) → Type 0
 ViewerMeets None before status after old new =
     (status ≡ out_of_range) × (after ≡ before) × (new ≡ old)

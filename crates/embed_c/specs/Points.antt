@@ -1,10 +1,10 @@
 -- The input of a pointer, and the kind of a script, by the numbers that C hands in.
 use Rattle.std.specs.Prelude.{ℕ, ℤ, Bool, ◌==◌, if◌then◌else◌, Option, Some, None}
-use Rattle.x3d_values.specs.Pointing.{Pointing, Sight}
-use Rattle.x3d_values.specs.Stamp.{Stamp}
+use Rattle.x3d_values.specs.Pointing.{PointerView, RayView}
+use Rattle.x3d_values.specs.Stamp.{StampedView}
 use Rattle.x3d_values.specs.declared.script.Kind.{Kind}
 use Rattle.x3d_values.specs.declared.script.Kind.TheVariants as kinds
-use Rattle.x3d_values.specs.declared.stamped.Event.TheVariants.{Pointer}
+use Rattle.x3d_values.specs.declared.stamped.Cause.TheVariants.{Pointer}
 use Rattle.x3d_values.specs.declared.pointing.Point.{Point}
 use Rattle.x3d_values.specs.declared.vector.Vec3.{Vec3}
 use Rattle.embed_world.specs.Pointing.{pointer_of, ray_of, stamped}
@@ -17,15 +17,15 @@ abbrev pub direction_of : Aim → Vec3
 direction_of aim = record { x = aim.direction_x; y = aim.direction_y; z = aim.direction_z }
 
 -- the ray that is pointed with
-abbrev pub aimed : Aim → Option Sight
+abbrev pub aimed : Aim → Option RayView
 aimed aim = ray_of (origin_of aim) (direction_of aim)
 
-abbrev pub stamped_pointer : ℕ → ℤ → Option Pointing → Option Stamp
+abbrev pub stamped_pointer : ℕ → ℤ → Option PointerView → Option StampedView
 stamped_pointer number time None = None
 stamped_pointer number time (Some pointer) = stamped number time (Pointer pointer)
 
 -- the pointer of a viewer with this ray, as the input of a number at a time
-abbrev pub pointed : ℕ → ℤ → ℕ → Bool → Aim → Option Stamp
+abbrev pub pointed : ℕ → ℤ → ℕ → Bool → Aim → Option StampedView
 pointed number time who down aim =
     stamped_pointer number time (pointer_of who down (ray_of (origin_of aim) (direction_of aim)))
 

@@ -1,9 +1,9 @@
-//! Inputs to a world.
+//! InputIsApplied to a world.
 
 ghost use Rattle.std.specs.Prelude.{◌≡◌, Some, None};
-ghost use Rattle.x3d_values.specs.declared.stamped.Event.TheVariants.{Clock};
+ghost use Rattle.x3d_values.specs.declared.stamped.Cause.TheVariants.{Clock};
 ghost use Rattle.embed_world.specs.Pointing as pointing;
-ghost use Rattle.embed_c.specs.Answers.{AppliesAt, Inputs};
+ghost use Rattle.embed_c.specs.Answers.{AppliesAt, InputIsApplied};
 ghost use Rattle.embed_c.specs.Points.{aimed, direction_of, origin_of, pointed};
 
 use embed_answers::{CLOSED, DONE, RANGE, status_of_apply};
@@ -11,7 +11,7 @@ use embed_handles::WorldHandle;
 use embed_handles::world_handle::{put, take};
 use embed_world::{pointer_of, ray_of, stamped};
 use std::alloc::Global;
-use x3d_values::{Event, Ray, Stamped, Vec3};
+use x3d_values::{Cause, Ray, Stamped, Vec3};
 
 /// What an input gave rise to: how many outputs sent, routes were followed and scripts settled.
 #[derive(Clone, Copy)]
@@ -63,10 +63,10 @@ pub extern "C" fn x3d_world_clock(
     time: i64,
     work: &mut WorkCount,
 ) -> u8
-    ensures { Inputs (pointing.stamped number time Clock) handle.old.world result
+    ensures { InputIsApplied (pointing.stamped number time Clock) handle.old.world result
         handle.new.world work.old work.new }
 {
-    let Some(input) = stamped(number, time, Event::Clock) else {
+    let Some(input) = stamped(number, time, Cause::Clock) else {
         return RANGE;
     };
     apply(alloc, handle, &input, work)
@@ -108,7 +108,7 @@ fn pointed(number: u32, time: i64, who: u8, down: bool, aim: &Aim) -> Option<Sta
     let Some(pointer) = pointer_of(who, down, origin_of(aim), direction_of(aim)) else {
         return None;
     };
-    stamped(number, time, Event::Pointer(pointer))
+    stamped(number, time, Cause::Pointer(pointer))
 }
 
 /// Applies a pointer of viewer `who` with this number, at this time in microseconds.
@@ -123,7 +123,7 @@ pub extern "C" fn x3d_world_point(
     aim: &Aim,
     work: &mut WorkCount,
 ) -> u8
-    ensures { Inputs (pointed number time who down aim.now) handle.old.world result
+    ensures { InputIsApplied (pointed number time who down aim.now) handle.old.world result
         handle.new.world work.old work.new }
 {
     let Some(input) = pointed(number, time, who, down, aim) else {

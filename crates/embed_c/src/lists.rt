@@ -16,7 +16,7 @@ use crate::inputs::{Aim, direction_of, origin_of};
 use embed_answers::{CLOSED, DONE, RANGE, copy_numbers, status_of_look, tell_field};
 use embed_handles::WorldHandle;
 use embed_handles::world_handle::{put, take};
-use embed_world::{Entry, LookFault, ray_of};
+use embed_world::{ListEntry, LookFault, ray_of};
 use std::alloc::Global;
 
 /// Lists the roots of the scene.
@@ -172,7 +172,7 @@ pub struct Met {
 }
 
 /// Writes where a ray enters.
-fn write_met(entry: Option<Entry>, met: &mut Met)
+fn write_met(entry: Option<ListEntry>, met: &mut Met)
     ensures { met.new ≡ met_of entry }
 {
     let Some(entry) = entry else {
@@ -185,7 +185,7 @@ fn write_met(entry: Option<Entry>, met: &mut Met)
 }
 
 /// Where a ray enters, if it was asked.
-pub(crate) fn tell_met(answer: Result<Option<Entry>, LookFault>, met: &mut Met) -> u8
+pub(crate) fn tell_met(answer: Result<Option<ListEntry>, LookFault>, met: &mut Met) -> u8
     ensures status { result ≡ status_of_meet answer }
     ensures told { met.new ≡ told met.old answer }
 {

@@ -4,7 +4,7 @@ ghost use Rattle.std.specs.Prelude.{◌≡◌, ℕ, None};
 ghost use Rattle.std.specs.Result.{result_map_both};
 ghost use Rattle.share_program.specs.Refusal.{refusal_text, status};
 ghost use Rattle.share_program.specs.declared.refusal.Failure.TheVariants.{Job};
-ghost use Rattle.embed_world.specs.Calls.{IsOpened};
+ghost use Rattle.embed_world.specs.Calls.{IsWorldOpened};
 ghost use Rattle.embed_answers.specs.Status.{IsCopied};
 ghost use Rattle.embed_c.specs.Answers.{Opens};
 
@@ -18,7 +18,7 @@ use std::alloc::Global;
 
 /// A world on the heap.
 fn boxed(alloc: Global, text: &[u8]) -> Result<Box<EmbeddedWorld>, JobFault>
-    ensures { IsOpened text.now
+    ensures { IsWorldOpened text.now
         (result_map_both (λ b. b.value) (λ fault. fault) result) }
 {
     let world = EmbeddedWorld::open(alloc, text)?;

@@ -12,7 +12,7 @@ use Rattle.share_law.specs.Parts.{HostPart, new_part, part_drop_below, part_floo
 use Rattle.share_law.specs.declared.fault.FloorFault.{FloorFault}
 use Rattle.share_law.specs.declared.fault.HostFault.{HostFault}
 use Rattle.share_law.specs.declared.fault.NumberFault.{NumberFault}
-use Rattle.share_law.specs.declared.kept.Kept.{Kept}
+use Rattle.share_law.specs.declared.kept.SeatCount.{SeatCount}
 use Rattle.share_law.specs.declared.reply.HostReply.{HostReply}
 use Rattle.embed_nodes.specs.declared.host.EmbeddedHost.{EmbeddedHost}
 
@@ -47,7 +47,7 @@ input_bytes h number = option_map (host_datagram h) (part_packet h.host.part num
 -- the datagram that tells a viewer how many of its offers are numbered
 abbrev pub ack_bytes : EmbeddedHost → ℕ → Option (List ℕ)
 ack_bytes h who =
-    option_map (λ (kept : Kept). host_datagram h (ack_of who kept))
+    option_map (λ (kept : SeatCount). host_datagram h (ack_of who kept))
     (slice_get h.host.part.kept who)
 
 -- the datagram that tells the floor

@@ -31,7 +31,7 @@ use Rattle.snapshot_core.specs.declared.fault.SnapFault.{SnapFault}
 use Rattle.embed_world.specs.Looks.{snapshot_in}
 use Rattle.embed_world.specs.declared.fault.LookFault.{LookFault}
 use Rattle.embed_world.specs.declared.fault.LookFault.TheVariants as look
-use Rattle.embed_world.specs.declared.lists.Entry.{Entry}
+use Rattle.embed_world.specs.declared.lists.ListEntry.{ListEntry}
 use Rattle.share_stages.specs.Stages.{opened_stage}
 use Rattle.embed_nodes.specs.declared.viewer.EmbeddedViewer.{EmbeddedViewer}
 
@@ -141,8 +141,8 @@ Lists numbers old result new =
     × (new ≡ record old { numbers = new.numbers })
 
 -- where a ray enters was told, and the sensors were listed, of the world, which is as it was
-abbrev pub Meets : Result (Option Entry × List ℤ) LookFault → EmbeddedViewer
-    → Result (Option Entry) LookFault → EmbeddedViewer → Type 0
+abbrev pub Meets : Result (Option ListEntry × List ℤ) LookFault → EmbeddedViewer
+    → Result (Option ListEntry) LookFault → EmbeddedViewer → Type 0
 Meets met old result new =
     Gives look.Memory (λ entry. (entry, new.numbers.items)) result met
     × OnErr result (new.numbers.items ≡ [])

@@ -1,7 +1,9 @@
 //! Numbers of a viewer's world.
 
 use crate::viewer::EmbeddedViewer;
-use embed_world::{Entry, LookFault, write_children, write_numbers, write_roots, write_sensors};
+use embed_world::{
+    ListEntry, LookFault, write_children, write_numbers, write_roots, write_sensors,
+};
 use x3d_values::Ray;
 
 impl EmbeddedViewer {
@@ -36,7 +38,7 @@ impl EmbeddedViewer {
 
     /// Tells where a ray would enter the box that it hits first, if it hits one, and lists the
     /// sensors that this concerns.
-    pub fn list_sensors(&mut self, ray: Ray) -> Result<Option<Entry>, LookFault>
+    pub fn list_sensors(&mut self, ray: Ray) -> Result<Option<ListEntry>, LookFault>
         ensures { Meets (look.meeting_in (stage_in self.old.viewer) ray) self.old result self.new }
     {
         self.numbers.clear();

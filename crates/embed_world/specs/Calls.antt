@@ -19,18 +19,18 @@ use Rattle.cascade_core.specs.declared.fault.PlaceFault.{PlaceFault}
 use Rattle.cascade_core.specs.declared.fault.PlaceFault.TheVariants as place
 use Rattle.cascade_core.specs.declared.work.Work.{Work}
 use Rattle.x3d_lists.specs.Answers.{Gives}
-use Rattle.x3d_values.specs.Stamp.{Stamp}
+use Rattle.x3d_values.specs.Stamp.{StampedView}
 use Rattle.x3d_values.specs.declared.script.Kind.{Kind}
 use Rattle.embed_world.specs.Looks.{snapshot_in}
 use Rattle.share_stages.specs.Stages.{opened_stage}
 use Rattle.embed_world.specs.declared.fault.LookFault.{LookFault}
 use Rattle.embed_world.specs.declared.fault.LookFault.TheVariants as look
-use Rattle.embed_world.specs.declared.lists.Entry.{Entry}
+use Rattle.embed_world.specs.declared.lists.ListEntry.{ListEntry}
 use Rattle.embed_world.specs.declared.world.EmbeddedWorld.{EmbeddedWorld}
 
 -- the world of a text before any input, with the text's mark, or why there is none
-abbrev pub IsOpened : List ℕ → Result EmbeddedWorld JobFault → Type 0
-IsOpened text result =
+abbrev pub IsWorldOpened : List ℕ → Result EmbeddedWorld JobFault → Type 0
+IsWorldOpened text result =
     Gives Memory (λ (w : EmbeddedWorld). w.stage) result (opened_stage text)
     × IfOk result (λ w. w.mark ≡ sha256 text)
     × IfOk result (λ w. w.text.items ≡ [])
@@ -41,7 +41,7 @@ with_stage w stage = record w { stage = stage }
 
 -- an input is refused and nothing changes, or it gives the world of the definition and work that
 -- counts what it did; where memory is refused the stage is spoiled
-abbrev pub Applies : EmbeddedWorld → Stamp → Result Work ApplyFault → EmbeddedWorld → Type 0
+abbrev pub Applies : EmbeddedWorld → StampedView → Result Work ApplyFault → EmbeddedWorld → Type 0
 Applies old input result new =
     IfSome (refusal_of old.stage.held input) (λ fault. (result ≡ Err fault)
     × (new.stage ≡ old.stage))
@@ -70,8 +70,8 @@ Lists numbers old result new =
     × (new ≡ record old { numbers = new.numbers })
 
 -- where a ray enters was told, and the sensors were listed, of the world, which is as it was
-abbrev pub Meets : Result (Option Entry × List ℤ) LookFault → EmbeddedWorld
-    → Result (Option Entry) LookFault → EmbeddedWorld → Type 0
+abbrev pub Meets : Result (Option ListEntry × List ℤ) LookFault → EmbeddedWorld
+    → Result (Option ListEntry) LookFault → EmbeddedWorld → Type 0
 Meets met old result new =
     Gives look.Memory (λ entry. (entry, new.numbers.items)) result met
     × OnErr result (new.numbers.items ≡ [])

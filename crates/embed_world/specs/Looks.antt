@@ -18,11 +18,11 @@ use Rattle.embed_reading.specs.Meeting.{hit_by}
 use Rattle.embed_reading.specs.Numbers.{node_numbers, numbers_of}
 use Rattle.embed_reading.specs.Values.{value_now}
 use Rattle.x3d_values.specs.Names.{node_type_name}
-use Rattle.x3d_values.specs.Pointing.{Sight}
+use Rattle.x3d_values.specs.Pointing.{RayView}
 use Rattle.x3d_values.specs.ValueText.{value_text}
 use Rattle.x3d_values.specs.declared.fields.Fields.{Fields}
 use Rattle.embed_world.specs.declared.fault.LookFault.{LookFault}
-use Rattle.embed_world.specs.declared.lists.Entry.{Entry}
+use Rattle.embed_world.specs.declared.lists.ListEntry.{ListEntry}
 use Rattle.embed_world.specs.declared.fault.LookFault.TheVariants as look
 
 abbrev pub or_fault : {A : Type 0} → LookFault → Option A → Result A LookFault
@@ -109,7 +109,7 @@ numbers_in stage node field =
 -- ---- rays
 
 -- where a hit is, and the sensors that it concerns
-abbrev pub met_at : SceneView → List Fields → Option Hit → Option Entry × List ℤ
+abbrev pub met_at : SceneView → List Fields → Option Hit → Option ListEntry × List ℤ
 met_at scene state None = (None, [])
 met_at scene state (Some hit) = (
   Some (record { n = hit.n; m = hit.m }),
@@ -117,7 +117,7 @@ met_at scene state (Some hit) = (
 )
 
 -- the same of what a ray hits first
-abbrev pub meeting_in : StageView → Sight → Result (Option Entry × List ℤ) LookFault
+abbrev pub meeting_in : StageView → RayView → Result (Option ListEntry × List ℤ) LookFault
 meeting_in stage ray =
     of_world (world_in stage.held)
     (λ w. Ok (met_at stage.scene w.fields (hit_by stage.scene w.fields ray)))

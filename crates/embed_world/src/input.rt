@@ -6,7 +6,7 @@ ghost use Rattle.embed_world.specs.Pointing as spec;
 use crate::world::EmbeddedWorld;
 use cascade_core::{ApplyFault, Work};
 use x3d_values::{
-    Event, Pointer, Stamped, Vec3, is_input_number, is_input_time, is_viewer, ray_of,
+    Cause, Pointer, Stamped, Vec3, is_input_number, is_input_time, is_viewer, ray_of,
 };
 
 /// The pointer of a viewer, 0 to 63, with such a ray.
@@ -23,8 +23,8 @@ pub fn pointer_of(who: u8, down: bool, origin: Vec3, dir: Vec3) -> Option<Pointe
 }
 
 /// The input of a number from 1 to 2^20, at a time of 1 to 10^18 microseconds.
-pub fn stamped(number: u32, time: i64, event: Event) -> Option<Stamped>
-    ensures { result ≡ spec.stamped number time event }
+pub fn stamped(number: u32, time: i64, cause: Cause) -> Option<Stamped>
+    ensures { result ≡ spec.stamped number time cause }
 {
     if !is_input_number(number) {
         return None;
@@ -32,7 +32,7 @@ pub fn stamped(number: u32, time: i64, event: Event) -> Option<Stamped>
     if !is_input_time(time) {
         return None;
     }
-    Some(Stamped::new(number, time, event))
+    Some(Stamped::new(number, time, cause))
 }
 
 impl EmbeddedWorld {

@@ -15,7 +15,7 @@ mod world;
 
 pub use fault::LookFault;
 pub use input::{pointer_of, stamped};
-pub use lists::{Entry, write_children, write_numbers, write_roots, write_sensors};
+pub use lists::{ListEntry, write_children, write_numbers, write_roots, write_sensors};
 pub use shots::write_snapshot;
 pub use texts::{
     write_changes, write_field, write_label, write_scene, write_trace, write_type, write_value,

@@ -15,7 +15,7 @@ use x3d_values::Ray;
 
 /// Where a ray enters a box: at `n / m` of the way along its direction; m is above 0.
 #[derive(Clone, Copy)]
-pub struct Entry {
+pub struct ListEntry {
     pub n: u64,
     pub m: u64,
 }
@@ -78,7 +78,7 @@ pub fn write_sensors(
     stage: &Stage<StockScript>,
     ray: Ray,
     out: &mut Vec<i64>,
-) -> Result<Option<Entry>, LookFault>
+) -> Result<Option<ListEntry>, LookFault>
     requires empty { out.old.items ≡ [] }
     ensures is { Gives Memory (λ met. (met, out.new.items)) result (spec.meeting_in stage.now ray) }
     ensures err { OnErr result (out.new.items ≡ []) }
@@ -93,7 +93,7 @@ pub fn write_sensors(
         out.clear();
         return Err(LookFault::Memory);
     };
-    Ok(Some(Entry {
+    Ok(Some(ListEntry {
         n: met.hit.n,
         m: met.hit.m,
     }))
@@ -131,7 +131,7 @@ impl EmbeddedWorld {
 
     /// Tells where a ray would enter the box that it hits first, if it hits one, and lists the
     /// sensors that this concerns: the enabled pointing sensors beside it, or else above it.
-    pub fn list_sensors(&mut self, ray: Ray) -> Result<Option<Entry>, LookFault>
+    pub fn list_sensors(&mut self, ray: Ray) -> Result<Option<ListEntry>, LookFault>
         ensures { Meets (spec.meeting_in self.old.stage ray) self.old result self.new }
     {
         self.numbers.clear();

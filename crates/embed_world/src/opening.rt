@@ -8,11 +8,11 @@ use std::alloc::Global;
 
 impl EmbeddedWorld {
     ghost use Rattle.std.specs.Prelude.{◌≡◌};
-    ghost use Rattle.embed_world.specs.Calls.{IsOpened};
+    ghost use Rattle.embed_world.specs.Calls.{IsWorldOpened};
 
     /// The world of a scene's text before any input, with scripts of the stock.
     pub fn open(alloc: Global, text: &[u8]) -> Result<EmbeddedWorld, JobFault>
-        ensures { IsOpened text.now result }
+        ensures { IsWorldOpened text.now result }
     {
         let stage = stage_of(alloc, text)?;
         Ok(EmbeddedWorld {

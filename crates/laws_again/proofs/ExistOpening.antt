@@ -10,7 +10,7 @@ use Rattle.x3d_values.specs.declared.node_type.NodeType.TheVariants.{Group}
 use Rattle.x3d_values.specs.declared.value.Value.{Value}
 use Rattle.x3d_values.specs.Access.{is_kept}
 use Rattle.x3d_values.specs.Kept.{field_value}
-use Rattle.x3d_values.specs.Tables.{Entry, rows}
+use Rattle.x3d_values.specs.Tables.{FieldRowView, rows}
 use Rattle.scene_core.specs.declared.scene.SceneNode.{SceneNode}
 use Rattle.scene_core.specs.Scene.{SceneView, fields_of, kept, shape_of, state_of, type_at, value_at}
 use Rattle.scene_core.specs.Shape.{rows_of}
@@ -24,7 +24,7 @@ use Rattle.laws_again.proofs.Standing.{IsGivenTo, row_by}
 
 -- ---- defaults
 
-abbrev ranged : Entry → Bool
+abbrev ranged : FieldRowView → Bool
 ranged e = option_map_or (in_range e.name) (default_of e) true
 
 rows_ranged : (t : NodeType) → list_all ranged (rows t) ≡ true
@@ -35,14 +35,14 @@ both : (a b : Bool) → (a && b) ≡ true → (a ≡ true) × (b ≡ true)
 both true b e = (refl, e)
 both false b e = absurd cc
 
-each_ranged : (es : List Entry) → list_all ranged es ≡ true → AllByRecursion (λ (e : Entry). ranged e ≡ true) es
+each_ranged : (es : List FieldRowView) → list_all ranged es ≡ true → AllByRecursion (λ (e : FieldRowView). ranged e ≡ true) es
 each_ranged [] h = tt
 each_ranged (e ∷ es) h = let b = both (ranged e) (list_all ranged es) h in (b.0, each_ranged es b.1)
 
-default_ranged : (t : NodeType) (i : ℕ) (e : Entry) (v : Value) → slice_get (rows t) i ≡ Some e → default_of e ≡ Some v → in_range e.name v ≡ true
+default_ranged : (t : NodeType) (i : ℕ) (e : FieldRowView) (v : Value) → slice_get (rows t) i ≡ Some e → default_of e ≡ Some v → in_range e.name v ≡ true
 default_ranged t i e v at held =
     ap (λ (o : Option Value). option_map_or (in_range e.name) o true) (sym held)
-    ∙ all_at (λ (x : Entry). ranged x ≡ true) (rows t) i e (each_ranged (rows t) (rows_ranged t)) at
+    ∙ all_at (λ (x : FieldRowView). ranged x ≡ true) (rows t) i e (each_ranged (rows t) (rows_ranged t)) at
 
 -- ---- what is kept
 
@@ -50,7 +50,7 @@ kept_some : (b : Bool) (o : Option Value) (v : Value) → (if b then o else None
 kept_some true o v h = h
 kept_some false o v h = absurd cc
 
-kept_in : (es : List Entry) (os : List (Option Value)) (field : ℕ) (v : Value) → value_in (map (λ p. kept p.0 p.1) (zip es os)) field ≡ Some v → value_in os field ≡ Some v
+kept_in : (es : List FieldRowView) (os : List (Option Value)) (field : ℕ) (v : Value) → value_in (map (λ p. kept p.0 p.1) (zip es os)) field ≡ Some v → value_in os field ≡ Some v
 kept_in [] os field v h = absurd cc
 kept_in (e ∷ es) [] field v h = absurd cc
 kept_in (e ∷ es) (o ∷ os) zero v h = kept_some (is_kept e.access e.field_type) o v h

@@ -13,7 +13,7 @@ use Rattle.x3d_values.specs.declared.value.Value.{Value}
 use Rattle.x3d_values.specs.Access.{holds_nodes, is_exposed, is_initial, is_kept}
 use Rattle.x3d_values.specs.Defaults.{default_value}
 use Rattle.x3d_values.specs.Kept.{field_value}
-use Rattle.x3d_values.specs.Tables.{Entry, rows}
+use Rattle.x3d_values.specs.Tables.{FieldRowView, rows}
 use Rattle.x3d_values.specs.Values.{nodes_of}
 use Rattle.proto_flat.specs.declared.flat.Flat.{Flat}
 use Rattle.scene_core.specs.declared.scene.SceneNode.{SceneNode}
@@ -63,7 +63,7 @@ module _ (from : Flat) (s : SceneView) (state : List Fields) (is_scene : scene_o
   kept_is n k a t v h = kept_at state n k a t v (is_kept a t) refl (slice_get state n) refl h
 
   -- a value that isn't left out may stand in its field
-  pub now_given : (n : ℕ) (node : SceneNode) → slice_get s.nodes n ≡ Some node → (k : ℕ) (e : Entry) → slice_get (rows node.node_type) k ≡ Some e
+  pub now_given : (n : ℕ) (node : SceneNode) → slice_get s.nodes n ≡ Some node → (k : ℕ) (e : FieldRowView) → slice_get (rows node.node_type) k ≡ Some e
       → (d : FieldDefault) → e.default ≡ Some d → (x : Value) → is_default d x ≡ false → value_now s state n k e.access e.field_type ≡ Some x → IsGivenTo s e x
   now_given n node is k e row d default x other h =
       either (λ (v : Value). is_default d v ≡ false → IsGivenTo s e v) (kept_value (without_routes s state) n k e.access e.field_type) (value_at s n k) by_state by_scene x h other where

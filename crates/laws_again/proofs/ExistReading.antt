@@ -8,7 +8,7 @@ use Rattle.x3d_values.specs.declared.node_type.NodeKind.{NodeKind}
 use Rattle.x3d_values.specs.declared.value.Value.{Value}
 use Rattle.x3d_values.specs.declared.value.Value.TheVariants as value
 use Rattle.x3d_values.specs.Access.{is_initial}
-use Rattle.x3d_values.specs.Tables.{Entry}
+use Rattle.x3d_values.specs.Tables.{FieldRowView}
 use Rattle.x3d_values.specs.Values.{nodes_of, type_of}
 use Rattle.classic_tree.specs.declared.tree.Declaration.{Declaration}
 use Rattle.classic_tree.specs.declared.tree.RawValue.{RawValue}
@@ -128,7 +128,7 @@ module _ (typed_again : WrittenNodesAreTyped) (all : List FlatNode) (numbers : L
 
   -- ---- a field of a type
 
-  pub given_okay : (e : Entry) (k : ℕ) (x : Value) → type_of x ≡ e.field_type → IsFit numbers (Some x) → is_initial e.access ≡ true → in_range e.name x ≡ true → AreTaken e.kind x
+  pub given_okay : (e : FieldRowView) (k : ℕ) (x : Value) → type_of x ≡ e.field_type → IsFit numbers (Some x) → is_initial e.access ≡ true → in_range e.name x ≡ true → AreTaken e.kind x
       → IsOkay (field_value all numbers e (Some (as_given k x)))
   unfolding field_value
   given_okay e k x t fit i r h =
@@ -137,19 +137,19 @@ module _ (typed_again : WrittenNodesAreTyped) (all : List FlatNode) (numbers : L
       (typed_then 0 (typed e.field_type (written_value x) numbers) x (accepted_in_range all e f) (typed_is e.field_type x fit t)
       (ranged_okay (in_range e.name x) (fault ValueRange 0) (accepted all e.access e.kind f x) r (accepted_is e.access e.kind k x i h)))
 
-  pub nothing_okay : (e : Entry) → IsOkay (field_value all numbers e None)
+  pub nothing_okay : (e : FieldRowView) → IsOkay (field_value all numbers e None)
   unfolding field_value
   nothing_okay e = tt
 
   -- what is asked of a value that stands there
-  pub record IsTaken (e : Entry) (x : Value) : Type 0 where
+  pub record IsTaken (e : FieldRowView) (x : Value) : Type 0 where
     pub typed_as : type_of x ≡ e.field_type
     pub fit : IsFit numbers (Some x)
     pub initial : is_initial e.access ≡ true
     pub ranged : in_range e.name x ≡ true
     pub taken : AreTaken e.kind x
 
-  pub row_okay : (e : Entry) (k : ℕ) (o : Option Value)
+  pub row_okay : (e : FieldRowView) (k : ℕ) (o : Option Value)
       → ((d : FieldDefault) (x : Value) → e.default ≡ Some d → is_default d x ≡ false → o ≡ Some x → IsTaken e x)
       → IsOkay (field_value all numbers e (given_by k (unless_default e.default o)))
   row_okay e k o h = by_default e.default refl o refl where

@@ -3,7 +3,7 @@ use Rattle.std.proofs.Common.{◌≡◌, ℕ, zero, suc, ◌+◌, ◌<◌, ◌==
 use Rattle.std.specs.Option.{option_and_then}
 use Rattle.x3d_values.specs.declared.fields.Fields.{Fields}
 use Rattle.x3d_values.specs.declared.value.Value.{Value}
-use Rattle.x3d_values.specs.Tables.{Entry}
+use Rattle.x3d_values.specs.Tables.{FieldRowView}
 use Rattle.proto_flat.specs.declared.flat.FlatField.{FlatField}
 use Rattle.scene_core.specs.declared.row.DeclaredField.{DeclaredField}
 use Rattle.scene_core.specs.Parts.{given}
@@ -81,7 +81,7 @@ held_append number (o ∷ os) ps =
 
 module _ (s : SceneView) (state : List Fields) (n : ℕ) where
   -- what is written of each of these rows, the first of which has that number
-  abbrev pub row_slots : ℕ → List Entry → List (Option Value)
+  abbrev pub row_slots : ℕ → List FieldRowView → List (Option Value)
   row_slots number [] = []
   row_slots number (e ∷ es) = unless_default e.default (value_now s state n number e.access e.field_type) ∷ row_slots (number + 1) es
 
@@ -89,7 +89,7 @@ module _ (s : SceneView) (state : List Fields) (n : ℕ) where
   declared_slots number [] = []
   declared_slots number (d ∷ ds) = declared_value s state n number d ∷ declared_slots (number + 1) ds
 
-  rows_are : (number : ℕ) (es : List Entry) → rows_held s state n number es ≡ held_from number (row_slots number es)
+  rows_are : (number : ℕ) (es : List FieldRowView) → rows_held s state n number es ≡ held_from number (row_slots number es)
   rows_are number [] = refl
   rows_are number (e ∷ es) =
       ap (λ (l : List HeldField). held_by number (unless_default e.default (value_now s state n number e.access e.field_type)) ++ l) (rows_are (number + 1) es)
@@ -98,14 +98,14 @@ module _ (s : SceneView) (state : List Fields) (n : ℕ) where
   declared_are number [] = refl
   declared_are number (d ∷ ds) = ap (λ (l : List HeldField). held_by number (declared_value s state n number d) ++ l) (declared_are (number + 1) ds)
 
-  pub rows_many : (number : ℕ) (es : List Entry) → length (row_slots number es) ≡ length es
+  pub rows_many : (number : ℕ) (es : List FieldRowView) → length (row_slots number es) ≡ length es
   rows_many number [] = refl
   rows_many number (e ∷ es) = ap (λ (k : ℕ). suc k) (rows_many (number + 1) es)
 
-  abbrev pub slots : List Entry → List DeclaredField → List (Option Value)
+  abbrev pub slots : List FieldRowView → List DeclaredField → List (Option Value)
   slots es ds = row_slots 0 es ++ declared_slots (length es) ds
 
-  pub fields_are : (es : List Entry) (ds : List DeclaredField) → rows_held s state n 0 es ++ declared_held s state n (length es) ds ≡ held_from 0 (slots es ds)
+  pub fields_are : (es : List FieldRowView) (ds : List DeclaredField) → rows_held s state n 0 es ++ declared_held s state n (length es) ds ≡ held_from 0 (slots es ds)
   fields_are es ds =
       let e : 0 + length (row_slots 0 es) ≡ length es = ap (λ (k : ℕ). 0 + k) (rows_many 0 es) ∙ omega arith in
       ap (λ (l : List HeldField). l ++ declared_held s state n (length es) ds) (rows_are 0 es)
@@ -113,12 +113,12 @@ module _ (s : SceneView) (state : List Fields) (n : ℕ) where
       ∙ (ap (λ (k : ℕ). held_from 0 (row_slots 0 es) ++ held_from k (declared_slots (length es) ds)) (sym e)
       ∙ sym (held_append 0 (row_slots 0 es) (declared_slots (length es) ds))))
 
-  row_slot : (number : ℕ) (es : List Entry) (i : ℕ) (e : Entry) → slice_get es i ≡ Some e
+  row_slot : (number : ℕ) (es : List FieldRowView) (i : ℕ) (e : FieldRowView) → slice_get es i ≡ Some e
       → slice_get (row_slots number es) i ≡ Some (unless_default e.default (value_now s state n (number + i) e.access e.field_type))
   row_slot number [] i e h = absurd cc
   row_slot number (x ∷ es) zero e h =
       let here : number ≡ number + 0 = omega arith in
-      ap (λ (y : Entry). Some (unless_default y.default (value_now s state n number y.access y.field_type))) (some_is x e h)
+      ap (λ (y : FieldRowView). Some (unless_default y.default (value_now s state n number y.access y.field_type))) (some_is x e h)
       ∙ ap (λ (k : ℕ). Some (unless_default e.default (value_now s state n k e.access e.field_type))) here
   row_slot number (x ∷ es) (suc i) e h =
       let here : number + 1 + i ≡ number + suc i = omega arith in
@@ -134,7 +134,7 @@ module _ (s : SceneView) (state : List Fields) (n : ℕ) where
       let here : number + 1 + i ≡ number + suc i = omega arith in
       declared_slot (number + 1) ds i d h ∙ ap (λ (k : ℕ). Some (declared_value s state n k d)) here
 
-  module _ (es : List Entry) (ds : List DeclaredField) where
+  module _ (es : List FieldRowView) (ds : List DeclaredField) where
     abbrev pub fields : List FlatField
     fields = all_written (rows_held s state n 0 es ++ declared_held s state n (length es) ds)
 
@@ -145,7 +145,7 @@ module _ (s : SceneView) (state : List Fields) (n : ℕ) where
         ∙ (ap (λ (j : ℕ). given (all_written (held_from 0 (slots es ds))) j) here
         ∙ (given_at 0 (slots es ds) k ∙ ap (λ (j : ℕ). given_by j (slot (slots es ds) k)) (sym here)))
 
-    pub row_given : (i : ℕ) (e : Entry) → slice_get es i ≡ Some e
+    pub row_given : (i : ℕ) (e : FieldRowView) → slice_get es i ≡ Some e
         → given fields i ≡ given_by i (unless_default e.default (value_now s state n i e.access e.field_type))
     row_given i e h =
         let here : 0 + i ≡ i = omega arith in

@@ -1,6 +1,6 @@
 -- The worlds that running viewers hold fit, so that what their nodes keep is of their fields' types.
 use Rattle.std.proofs.Common.{ℕ, List, Option, sym, subst}
-use Rattle.x3d_values.specs.Stamp.{Stamp}
+use Rattle.x3d_values.specs.Stamp.{StampedView}
 use Rattle.proto_flat.specs.declared.flat.Flat.{Flat}
 use Rattle.scene_core.specs.declared.scene.Route.{Route}
 use Rattle.scene_core.specs.Scene.{SceneView}
@@ -10,7 +10,7 @@ use Rattle.cascade_core.specs.Course.{Scripted}
 use Rattle.share_law.specs.Cascade.{cascade}
 use Rattle.share_law.specs.Network.{Network}
 use Rattle.share_law.specs.Reached.{IsRunning, Reached}
-use Rattle.share_law.specs.Viewer.{View}
+use Rattle.share_law.specs.Viewer.{ViewerWorld}
 use Rattle.share_law.proofs.Agreement.{Sound-reached}
 use Rattle.share_law.proofs.Machines.{cascade-is}
 use Rattle.share_law.proofs.Sound.{InStep, IsAt, Sound, ViewSound}
@@ -31,11 +31,11 @@ module _ (text : List ℕ) (f : Flat) (scene : SceneView) (routes : List Route) 
       all_worlds_fit f scene routes a.done d run (front_inputs f scene routes mark net d run reached a.done a.todo a.whole) in
       subst (λ (v : Scripted). ScriptedFits scene v) (sym a.is) fits
 
-  pub running_fits : (viewer : ℕ) (held : Scripted) (window : List (Option Stamp)) → IsRunning net viewer held window → ScriptedFits scene held
+  pub running_fits : (viewer : ℕ) (held : Scripted) (window : List (Option StampedView)) → IsRunning net viewer held window → ScriptedFits scene held
   running_fits viewer held window r =
       let sound : Sound (cascade mark scene routes) net = Sound-reached (cascade-is mark scene routes) reached in
       let step : InStep (cascade mark scene routes) net.host.list held window =
-      subst (λ (v : View Scripted). ViewSound (cascade mark scene routes) net.host.list v) r.view (sound.viewers viewer r.seat r.is) in
+      subst (λ (v : ViewerWorld Scripted). ViewSound (cascade mark scene routes) net.host.list v) r.view (sound.viewers viewer r.seat r.is) in
       at_fits held step.at
 
 pub worlds_typed : WorldsAreOfType

@@ -14,7 +14,7 @@ use Rattle.x3d_values.specs.declared.value.Value.{Value}
 use Rattle.x3d_values.specs.declared.value.Value.TheVariants as value
 use Rattle.x3d_values.specs.Access.{is_initial}
 use Rattle.x3d_values.specs.Defaults.{default_value}
-use Rattle.x3d_values.specs.Tables.{Entry, IsTyped}
+use Rattle.x3d_values.specs.Tables.{FieldRowView, IsTyped}
 use Rattle.x3d_values.specs.Values.{empty_value, type_of}
 use Rattle.classic_tree.specs.declared.tree.Declaration.{Declaration}
 use Rattle.classic_tree.specs.declared.tree.RawValue.{RawValue}
@@ -117,13 +117,13 @@ empty_is types.SFRotation r = absurd cc
 
 -- ---- what a field holds
 
-pub record Holds (e : Entry) (o : Option Value) : Type 0 where
+pub record Holds (e : FieldRowView) (o : Option Value) : Type 0 where
   pub typed : (v : Value) → o ≡ Some v → type_of v ≡ e.field_type
   pub absent : e.default ≡ None → o ≡ None
   pub present : (d : FieldDefault) → e.default ≡ Some d → (v : Value) × (o ≡ Some v)
 
 -- where a value may be given there is a default, but of a rotation
-abbrev pub right : Entry → Bool
+abbrev pub right : FieldRowView → Bool
 right e = not (is_initial e.access) || (is_rotation e.field_type || is_some e.default)
 
 never : (i r d : Bool) → (not i || (r || d)) ≡ true → i ≡ true → r ≡ false → d ≡ false → ⊥
@@ -147,17 +147,17 @@ default_is : (t : FieldType) (o : Option Value) → option_map type_of o ≡ Som
 default_is t None h = absurd cc
 default_is t (Some v) h = (v, refl, some_is (type_of v) t h)
 
-pub entry_default : (e : Entry) → IsTyped e → (d : FieldDefault) → e.default ≡ Some d
+pub entry_default : (e : FieldRowView) → IsTyped e → (d : FieldDefault) → e.default ≡ Some d
     → (v : Value) × (default_value e.field_type d ≡ Some v) × (type_of v ≡ e.field_type)
 entry_default e h d is =
     default_is e.field_type (default_value e.field_type d)
     (subst (λ (o : Option FieldDefault). MatchOption o ⊤ (λ (x : FieldDefault). option_map type_of (default_value e.field_type x) ≡ Some e.field_type)) is h)
 
 -- a default, or nothing
-abbrev made_of : Entry → Option FieldDefault → Option Value
+abbrev made_of : FieldRowView → Option FieldDefault → Option Value
 made_of e o = option_and_then (default_value e.field_type) o
 
-default_holds : (e : Entry) → IsTyped e → Holds e (default_of e)
+default_holds : (e : FieldRowView) → IsTyped e → Holds e (default_of e)
 default_holds e h = by_default e.default refl where
   by_default : (o : Option FieldDefault) → e.default ≡ o → Holds e (made_of e e.default)
   by_default None is = record {
@@ -175,14 +175,14 @@ default_holds e h = by_default e.default refl where
       }
 
 -- a value of the type, where one may be given
-pub value_holds : (e : Entry) (v : Value) → right e ≡ true → is_initial e.access ≡ true → type_of v ≡ e.field_type → Holds e (Some v)
+pub value_holds : (e : FieldRowView) (v : Value) → right e ≡ true → is_initial e.access ≡ true → type_of v ≡ e.field_type → Holds e (Some v)
 value_holds e v r i t = record {
   typed = λ x k. ap type_of (some_is x v (sym k)) ∙ t;
   absent = λ k. absurd (never (is_initial e.access) (is_rotation e.field_type) (is_some e.default) r i (no_turn v e.field_type t) (ap is_some k));
   present = λ d k. (v, refl);
 }
 
-turned_holds : (e : Entry) → IsTyped e → is_rotation e.field_type ≡ true → Holds e None
+turned_holds : (e : FieldRowView) → IsTyped e → is_rotation e.field_type ≡ true → Holds e None
 turned_holds e h r = record {
   typed = λ v k. absurd cc;
   absent = λ k. refl;
@@ -190,7 +190,7 @@ turned_holds e h r = record {
 }
 
 -- what the node keeps of it, or else what the scene gives
-pub kept_holds : (e : Entry) (o p : Option Value) → right e ≡ true → ((v : Value) → o ≡ Some v → (is_initial e.access ≡ true) × (type_of v ≡ e.field_type)) → Holds e p
+pub kept_holds : (e : FieldRowView) (o p : Option Value) → right e ≡ true → ((v : Value) → o ≡ Some v → (is_initial e.access ≡ true) × (type_of v ≡ e.field_type)) → Holds e p
     → Holds e (option_or o p)
 kept_holds e None p r k h = h
 kept_holds e (Some v) p r k h = let x = k v refl in value_holds e v r x.0 x.1
@@ -207,7 +207,7 @@ module _ (all : List FlatNode) (numbers : List ℕ) where
       → (is_initial access ≡ true) × (Some x ≡ v)
   accepted_is access kind f x v h = accepted_told (is_initial access) (all_taken kind all (inner_nodes f.value)) (fault NotInitial f.line) (fault BadChild f.line) (Some x) v h
 
-  pub row_holds : (e : Entry) (o : Option FlatField) (v : Option Value) → IsTyped e → right e ≡ true → field_value all numbers e o ≡ Ok v → Holds e v
+  pub row_holds : (e : FieldRowView) (o : Option FlatField) (v : Option Value) → IsTyped e → right e ≡ true → field_value all numbers e o ≡ Ok v → Holds e v
   unfolding field_value
   row_holds e None v t r h = subst (Holds e) (scene_ok_is (default_of e) v h) (default_holds e t)
   row_holds e (Some f) v t r h = by_rotation (is_rotation e.field_type) refl h where
@@ -224,7 +224,7 @@ module _ (all : List FlatNode) (numbers : List ℕ) where
 
   -- ---- a field that a Script declares
 
-  declared_typed : (access : Access) (t : FieldType) (e : Entry) → e.field_type ≡ t → e.default ≡ declared_default access t → is_rotation t ≡ false → IsTyped e
+  declared_typed : (access : Access) (t : FieldType) (e : FieldRowView) → e.field_type ≡ t → e.default ≡ declared_default access t → is_rotation t ≡ false → IsTyped e
   declared_typed access t e f d r = by_access (is_initial access) (is_rotation t) r d where
     by_access : (i q : Bool) → q ≡ false → e.default ≡ (if i && not q then Some default.Empty else None) → IsTyped e
     by_access i true r d = absurd cc

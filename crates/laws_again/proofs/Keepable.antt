@@ -17,7 +17,7 @@ use Rattle.x3d_values.specs.declared.vector.Color.{Color}
 use Rattle.x3d_values.specs.declared.vector.Vec2.{Vec2}
 use Rattle.x3d_values.specs.declared.vector.Vec3.{Vec3}
 use Rattle.x3d_values.specs.Kept.{field_value}
-use Rattle.x3d_values.specs.Tables.{Entry, rows}
+use Rattle.x3d_values.specs.Tables.{FieldRowView, rows}
 use Rattle.snapshot_codec.specs.declared.kept.KeptField.{KeptField}
 use Rattle.snapshot_codec.specs.declared.kept.KeptField.TheVariants.{Absent, Interval, Typed}
 use Rattle.snapshot_codec.specs.Fields.{is_positive, kept_field, kept_fits}
@@ -145,7 +145,7 @@ field_keepable Absent v h = absurd cc
 field_keepable Interval v h = value_keepable types.SFTime v (both (value_fits types.SFTime v) (is_positive v) h).0
 field_keepable (Typed t) v h = value_keepable t v h
 
-values_keepable : (t : NodeType) (n : ℕ) (es : List Entry) (vs : List (Option Value)) (number : ℕ) (v : Value)
+values_keepable : (t : NodeType) (n : ℕ) (es : List FieldRowView) (vs : List (Option Value)) (number : ℕ) (v : Value)
     → values_fit t n es vs ≡ true → option_and_then (λ o. o) (slice_get vs number) ≡ Some v → IsKeepable v
 values_keepable t n [] [] number v f e = absurd cc
 values_keepable t n [] (o ∷ vs) number v f e = absurd cc

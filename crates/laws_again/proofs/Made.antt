@@ -3,7 +3,7 @@ use Rattle.std.proofs.Common.{◌≡◌, ℕ, Bool, zero, suc, ◌+◌, List, []
 use Rattle.std.specs.Option.{option_and_then}
 use Rattle.x3d_values.specs.declared.node_type.NodeType.{NodeType}
 use Rattle.x3d_values.specs.declared.value.Value.{Value}
-use Rattle.x3d_values.specs.Tables.{Entry, rows}
+use Rattle.x3d_values.specs.Tables.{FieldRowView, rows}
 use Rattle.classic_tree.specs.declared.tree.Declaration.{Declaration}
 use Rattle.proto_flat.specs.declared.flat.FlatField.{FlatField}
 use Rattle.proto_flat.specs.declared.flat.FlatNode.{FlatNode}
@@ -60,13 +60,13 @@ behind (x ∷ xs) ys i = let e : suc (length xs) + i ≡ suc (length xs + i) = o
 
 module _ (all : List FlatNode) (numbers : List ℕ) where
   -- the value was made of what was given by that number
-  abbrev pub IsRowMade : List FlatField → Entry → ℕ → Option Value → Type 0
+  abbrev pub IsRowMade : List FlatField → FieldRowView → ℕ → Option Value → Type 0
   IsRowMade fields e number v = field_value all numbers e (given fields number) ≡ Ok v
 
   abbrev pub IsDeclaredMade : List FlatField → Declaration ℕ → ℕ → Option Value → Type 0
   IsDeclaredMade fields d number v = declared_value all numbers d (given fields number) ≡ Ok v
 
-  rows_made : (fields : List FlatField) (number : ℕ) (es : List Entry) (made values : List (Option Value)) → values_from all numbers fields number es made ≡ Ok values
+  rows_made : (fields : List FlatField) (number : ℕ) (es : List FieldRowView) (made values : List (Option Value)) → values_from all numbers fields number es made ≡ Ok values
       → (more : List (Option Value)) × (values ≡ made ++ more) × Related (IsRowMade fields) number es more
   rows_made fields number [] made values h = ([], sym (scene_ok_is made values h) ∙ sym (append-nil made), tt)
   rows_made fields number (e ∷ es) made values h =
@@ -91,7 +91,7 @@ module _ (all : List FlatNode) (numbers : List ℕ) where
     pub node_type : node.node_type ≡ flat.node_type
     pub label : node.label ≡ label_by is_label flat.name
     pub declared : node.declared ≡ map declared_by flat.interface
-    pub row : (i : ℕ) (e : Entry) → slice_get (rows flat.node_type) i ≡ Some e → IsRowMade flat.fields e i (value_in node.values i)
+    pub row : (i : ℕ) (e : FieldRowView) → slice_get (rows flat.node_type) i ≡ Some e → IsRowMade flat.fields e i (value_in node.values i)
     pub field : (i : ℕ) (d : Declaration ℕ) → slice_get (numbered_fields flat.node_type flat.interface) i ≡ Some d
         → IsDeclaredMade flat.fields d (length (rows flat.node_type) + i) (value_in node.values (length (rows flat.node_type) + i))
 
@@ -114,7 +114,7 @@ module _ (all : List FlatNode) (numbers : List ℕ) where
         field = λ i d at. field_at first.0 more.0 a.0 own first.2 more.2 i d at;
       }) where
         row_at : (first more values : List (Option Value)) → values ≡ first ++ more → Related (IsRowMade flat.fields) 0 (rows flat.node_type) first
-            → (i : ℕ) (e : Entry) → slice_get (rows flat.node_type) i ≡ Some e → IsRowMade flat.fields e i (value_in values i)
+            → (i : ℕ) (e : FieldRowView) → slice_get (rows flat.node_type) i ≡ Some e → IsRowMade flat.fields e i (value_in values i)
         row_at first more values own h i e at =
             let r = related_at (IsRowMade flat.fields) 0 (rows flat.node_type) first h i e at in
             let is : value_in values i ≡ r.0 =

@@ -10,7 +10,7 @@ use Rattle.x3d_values.specs.declared.node_type.NodeType.{NodeType}
 use Rattle.x3d_values.specs.declared.node_type.NodeType.TheVariants.{Switch}
 use Rattle.x3d_values.specs.declared.value.Value.{Value}
 use Rattle.x3d_values.specs.Access.{is_initial}
-use Rattle.x3d_values.specs.Tables.{AreTyped, Entry, rows}
+use Rattle.x3d_values.specs.Tables.{AreTyped, FieldRowView, rows}
 use Rattle.classic_tree.specs.declared.tree.Declaration.{Declaration}
 use Rattle.proto_flat.specs.declared.flat.Flat.{Flat}
 use Rattle.proto_flat.specs.declared.flat.FlatField.{FlatField}
@@ -248,15 +248,15 @@ module _ (from : Flat) (s : SceneView) (routes : List Route) (state : List Field
 
   -- ---- values
 
-  fits_now : (n : ℕ) → n < count → (k : ℕ) (e : Entry) → IsFit numbers (value_now s state n k e.access e.field_type)
+  fits_now : (n : ℕ) → n < count → (k : ℕ) (e : FieldRowView) → IsFit numbers (value_now s state n k e.access e.field_type)
   fits_now n l k e =
       now_fits from s state is_scene kept of_type sound table numbers (λ m h. called_in_place m (omega (arith, as_many, h))) n l k e.access e.field_type
 
-  holds_now : (n : ℕ) (node : SceneNode) → slice_get s.nodes n ≡ Some node → (k : ℕ) (e : Entry) → slice_get (rows_at s n) k ≡ Some e
+  holds_now : (n : ℕ) (node : SceneNode) → slice_get s.nodes n ≡ Some node → (k : ℕ) (e : FieldRowView) → slice_get (rows_at s n) k ≡ Some e
       → Holds e (value_now s state n k e.access e.field_type)
   holds_now = now_holds from s state is_scene kept of_type sound table
 
-  row_value : (n : ℕ) (node : SceneNode) → slice_get s.nodes n ≡ Some node → AreThree n node → (k : ℕ) (e : Entry) → slice_get (rows_at s n) k ≡ Some e
+  row_value : (n : ℕ) (node : SceneNode) → slice_get s.nodes n ≡ Some node → AreThree n node → (k : ℕ) (e : FieldRowView) → slice_get (rows_at s n) k ≡ Some e
       → slice_get (rows node.node_type) k ≡ Some e → value_at next n k ≡ value_now s state n k e.access e.field_type
   row_value n node is x k e at own =
       let l = within s.nodes n node is in
@@ -292,7 +292,7 @@ module _ (from : Flat) (s : SceneView) (routes : List Route) (state : List Field
   rows_split n node is =
       rows_by_node s n node is ∙ ap (λ (l : List DeclaredField). rows node.node_type ++ map declared_entry l) (sym (declared_by_node s n node is))
 
-  field_value_at : (n : ℕ) (node : SceneNode) → slice_get s.nodes n ≡ Some node → AreThree n node → (i : ℕ) (e : Entry) → slice_get (map declared_entry (declared_at s n)) i ≡ Some e
+  field_value_at : (n : ℕ) (node : SceneNode) → slice_get s.nodes n ≡ Some node → AreThree n node → (i : ℕ) (e : FieldRowView) → slice_get (map declared_entry (declared_at s n)) i ≡ Some e
       → slice_get (rows_at s n) (length (rows node.node_type) + i) ≡ Some e
       → value_at next n (length (rows node.node_type) + i) ≡ value_now s state n (length (rows node.node_type) + i) e.access e.field_type
   field_value_at n node is x i e at row =
@@ -301,13 +301,13 @@ module _ (from : Flat) (s : SceneView) (routes : List Route) (state : List Field
       let d = declared_there node.node_type x.g.interface (declared_at s n) x.flat_is.numbered i f.0 f.1 in
       let same_entry : e ≡ declaration_entry d.0 = f.2 ∙ ap declared_entry (sym d.2) in
       let there : slice_get (declared_at s n) i ≡ Some (declared_by d.0) = f.1 ∙ ap (λ (y : DeclaredField). Some y) (sym d.2) in
-      subst (λ (y : Entry). value_at next n k ≡ value_now s state n k y.access y.field_type) (sym same_entry)
-      (field_of_value n node is x i d.0 d.1 there (row ∙ ap (λ (y : Entry). Some y) same_entry))
+      subst (λ (y : FieldRowView). value_at next n k ≡ value_now s state n k y.access y.field_type) (sym same_entry)
+      (field_of_value n node is x i d.0 d.1 there (row ∙ ap (λ (y : FieldRowView). Some y) same_entry))
 
-  value_of_node : (n : ℕ) (node : SceneNode) → slice_get s.nodes n ≡ Some node → AreThree n node → (field : ℕ) (e : Entry) → slice_get (rows_at s n) field ≡ Some e
+  value_of_node : (n : ℕ) (node : SceneNode) → slice_get s.nodes n ≡ Some node → AreThree n node → (field : ℕ) (e : FieldRowView) → slice_get (rows_at s n) field ≡ Some e
       → value_at next n field ≡ value_now s state n field e.access e.field_type
   value_of_node n node is x field e at =
-      by_part (parted (rows node.node_type) (map declared_entry (declared_at s n)) field e (ap (λ (l : List Entry). slice_get l field) (sym (rows_split n node is)) ∙ at)) where
+      by_part (parted (rows node.node_type) (map declared_entry (declared_at s n)) field e (ap (λ (l : List FieldRowView). slice_get l field) (sym (rows_split n node is)) ∙ at)) where
         by_part : (slice_get (rows node.node_type) field ≡ Some e)
             ⊎ ((i : ℕ) × (field ≡ length (rows node.node_type) + i) × (slice_get (map declared_entry (declared_at s n)) i ≡ Some e))
             → value_at next n field ≡ value_now s state n field e.access e.field_type
@@ -321,8 +321,8 @@ module _ (from : Flat) (s : SceneView) (routes : List Route) (state : List Field
       ap (λ (o : Option Shape). option_map_or rows_of o [])
       (slice_get-map shape_of s.nodes n ∙ ap (λ (o : Option SceneNode). option_map shape_of o) is)
 
-  pub next_values : (n field : ℕ) (e : Entry) → slice_get (rows_at s n) field ≡ Some e → value_at next n field ≡ value_now s state n field e.access e.field_type
+  pub next_values : (n field : ℕ) (e : FieldRowView) → slice_get (rows_at s n) field ≡ Some e → value_at next n field ≡ value_now s state n field e.access e.field_type
   next_values n field e at = by_node (slice_get s.nodes n) refl where
     by_node : (o : Option SceneNode) → slice_get s.nodes n ≡ o → value_at next n field ≡ value_now s state n field e.access e.field_type
-    by_node None is = let gone : slice_get [] field ≡ Some e = ap (λ (l : List Entry). slice_get l field) (sym (no_rows n is)) ∙ at in absurd cc
+    by_node None is = let gone : slice_get [] field ≡ Some e = ap (λ (l : List FieldRowView). slice_get l field) (sym (no_rows n is)) ∙ at in absurd cc
     by_node (Some node) is = value_of_node n node is (three n node is) field e at

@@ -10,7 +10,7 @@ use Rattle.x3d_values.specs.declared.node_type.NodeType.TheVariants.{Switch}
 use Rattle.x3d_values.specs.declared.value.Value.{Value}
 use Rattle.x3d_values.specs.declared.value.Value.TheVariants.{MFNode}
 use Rattle.x3d_values.specs.Access.{is_initial}
-use Rattle.x3d_values.specs.Tables.{AreTyped, Entry, rows}
+use Rattle.x3d_values.specs.Tables.{AreTyped, FieldRowView, rows}
 use Rattle.x3d_values.specs.Values.{nodes_of}
 use Rattle.classic_tree.specs.declared.tree.Declaration.{Declaration}
 use Rattle.proto_flat.specs.declared.flat.Flat.{Flat}
@@ -68,19 +68,19 @@ beyond (x ∷ xs) zero at = absurd cc
 beyond (x ∷ xs) (suc i) at = let r = beyond xs i at in omega (arith, r)
 
 -- the row of the children
-children_type : (e : Entry) → slice_get (rows Switch) switch_children ≡ Some e → types.MFNode ≡ e.field_type
-children_type e at = ap (λ (y : Entry). y.field_type) (some_is _ e at)
+children_type : (e : FieldRowView) → slice_get (rows Switch) switch_children ≡ Some e → types.MFNode ≡ e.field_type
+children_type e at = ap (λ (y : FieldRowView). y.field_type) (some_is _ e at)
 
-children_initial : (e : Entry) → slice_get (rows Switch) switch_children ≡ Some e → true ≡ is_initial e.access
-children_initial e at = ap (λ (y : Entry). is_initial y.access) (some_is _ e at)
+children_initial : (e : FieldRowView) → slice_get (rows Switch) switch_children ≡ Some e → true ≡ is_initial e.access
+children_initial e at = ap (λ (y : FieldRowView). is_initial y.access) (some_is _ e at)
 
-children_kind : (e : Entry) → slice_get (rows Switch) switch_children ≡ Some e → Some Child ≡ e.kind
-children_kind e at = ap (λ (y : Entry). y.kind) (some_is _ e at)
+children_kind : (e : FieldRowView) → slice_get (rows Switch) switch_children ≡ Some e → Some Child ≡ e.kind
+children_kind e at = ap (λ (y : FieldRowView). y.kind) (some_is _ e at)
 
 module _ (typed_again : WrittenNodesAreTyped) (all : List FlatNode) (numbers : List ℕ) where
   -- a node of that type is made, where its fields are
   values_okay : (g : FlatNode) (t : NodeType) → g.node_type ≡ t
-      → ((i : ℕ) (e : Entry) → slice_get (rows t) i ≡ Some e → IsOkay (field_value all numbers e (given g.fields i)))
+      → ((i : ℕ) (e : FieldRowView) → slice_get (rows t) i ≡ Some e → IsOkay (field_value all numbers e (given g.fields i)))
       → ((i : ℕ) (d : Declaration ℕ) → slice_get (numbered_fields t g.interface) i ≡ Some d → IsOkay (declared_value all numbers d (given g.fields (length (rows t) + i))))
       → IsOkay (values_of all numbers g)
   unfolding values_of
@@ -101,7 +101,7 @@ module _ (typed_again : WrittenNodesAreTyped) (all : List FlatNode) (numbers : L
       named = λ v e. subst (λ (x : Value). AllByRecursion (λ (n : ℕ). called numbers n ≡ n) (nodes_of x)) (some_is (MFNode (h ∷ hs)) v e) named;
     }
 
-    switch_row : (i : ℕ) (e : Entry) → slice_get (rows Switch) i ≡ Some e → IsOkay (field_value all numbers e (given (children_field (h ∷ hs) ∷ []) i))
+    switch_row : (i : ℕ) (e : FieldRowView) → slice_get (rows Switch) i ≡ Some e → IsOkay (field_value all numbers e (given (children_field (h ∷ hs) ∷ []) i))
     switch_row i e at = by_field (switch_children == i) refl where
       by_field : (b : Bool) → (switch_children == i) ≡ b → IsOkay (field_value all numbers e (if b then Some (children_field (h ∷ hs)) else None))
       by_field true k =
@@ -155,17 +155,17 @@ module _ (from : Flat) (s : SceneView) (routes : List Route) (state : List Field
 
   -- ---- a node of the scene
 
-  fits_at : (n : ℕ) (node : SceneNode) → slice_get s.nodes n ≡ Some node → (k : ℕ) (e : Entry) (x : Value) → value_now s state n k e.access e.field_type ≡ Some x
+  fits_at : (n : ℕ) (node : SceneNode) → slice_get s.nodes n ≡ Some node → (k : ℕ) (e : FieldRowView) (x : Value) → value_now s state n k e.access e.field_type ≡ Some x
       → IsFit numbers (Some x)
   fits_at n node is k e x held =
       subst (IsFit numbers) held
       (now_fits from s state is_scene kept of_type sound table numbers (λ m h. called_in_place m (omega (arith, as_many, h))) n (within s.nodes n node is) k e.access e.field_type)
 
-  holds_at : (n : ℕ) (node : SceneNode) → slice_get s.nodes n ≡ Some node → (k : ℕ) (e : Entry) → slice_get (rows_at s n) k ≡ Some e
+  holds_at : (n : ℕ) (node : SceneNode) → slice_get s.nodes n ≡ Some node → (k : ℕ) (e : FieldRowView) → slice_get (rows_at s n) k ≡ Some e
       → Holds e (value_now s state n k e.access e.field_type)
   holds_at = now_holds from s state is_scene kept of_type sound table
 
-  row_read : (n : ℕ) (node : SceneNode) (g : FlatNode) → slice_get s.nodes n ≡ Some node → slice_get again.nodes n ≡ Some g → (k : ℕ) (e : Entry)
+  row_read : (n : ℕ) (node : SceneNode) (g : FlatNode) → slice_get s.nodes n ≡ Some node → slice_get again.nodes n ≡ Some g → (k : ℕ) (e : FieldRowView)
       → slice_get (rows node.node_type) k ≡ Some e → IsOkay (field_value again.nodes numbers e (given g.fields k))
   row_read n node g is at k e own =
       let a = again_at n node g is at in
@@ -173,7 +173,7 @@ module _ (from : Flat) (s : SceneView) (routes : List Route) (state : List Field
       let there : given g.fields k ≡ given_by k (unless_default e.default now) =
       ap (λ (l : List FlatField). given l k) a.fields_same ∙ row_given s state n (rows node.node_type) (declared_at s n) k e own in
       let row : slice_get (rows_at s n) k ≡ Some e =
-      ap (λ (l : List Entry). slice_get l k) (rows_by_node s n node is)
+      ap (λ (l : List FieldRowView). slice_get l k) (rows_by_node s n node is)
       ∙ front (rows node.node_type) (map declared_entry (numbered_fields node.node_type node.declared)) k e own in
       subst (λ (o : Option FlatField). IsOkay (field_value again.nodes numbers e o)) (sym there)
       (row_okay typed_again again.nodes numbers e k now (λ d x default other held.
@@ -202,7 +202,7 @@ module _ (from : Flat) (s : SceneView) (routes : List Route) (state : List Field
       let x = declaration_at fs.node_type fs.interface i (declared_entry d)
       (ap (λ (l : List DeclaredField). slice_get (map declared_entry l) i) (sym here) ∙ mapped_at declared_entry (declared_at s n) i d there) in
       let k : ℕ = length (rows fs.node_type) + i in
-      ap (λ (e : Entry). is_rotation e.field_type) x.2
+      ap (λ (e : FieldRowView). is_rotation e.field_type) x.2
       ∙ (declared_holds from.nodes (numbers_of from).numbers x.0 (given fs.fields k) (value_in node.values k) (m.1.field i x.0 x.1)).0
 
   field_read : (n : ℕ) (node : SceneNode) (g : FlatNode) → slice_get s.nodes n ≡ Some node → slice_get again.nodes n ≡ Some g → (i : ℕ) (d : Declaration ℕ)
@@ -215,7 +215,7 @@ module _ (from : Flat) (s : SceneView) (routes : List Route) (state : List Field
       let there : slice_get (declared_at s n) i ≡ Some (declared_by d) =
       ap (λ (l : List DeclaredField). slice_get l i) (sym a.numbered) ∙ mapped_at declared_by (numbered_fields t g.interface) i d own in
       let row : slice_get (rows_at s n) k ≡ Some (declaration_entry d) =
-      ap (λ (l : List Entry). slice_get l k) (split_at n node is)
+      ap (λ (l : List FieldRowView). slice_get l k) (split_at n node is)
       ∙ (behind (rows t) (map declared_entry (declared_at s n)) i ∙ mapped_at declared_entry (declared_at s n) i (declared_by d) there) in
       let shown : given g.fields k ≡ given_by k (if is_initial d.access then now else None) =
       ap (λ (l : List FlatField). given l k) a.fields_same ∙ declared_given s state n (rows t) (declared_at s n) i (declared_by d) there in

@@ -6,7 +6,7 @@ use Rattle.std.proofs.lemmas.List.{length-append, length-map, take-map}
 use Rattle.x3d_values.specs.declared.fields.Fields.{Fields}
 use Rattle.x3d_values.specs.declared.node_type.NodeType.{NodeType}
 use Rattle.x3d_values.specs.declared.node_type.NodeType.TheVariants.{Switch}
-use Rattle.x3d_values.specs.Tables.{AreTyped, Entry, rows}
+use Rattle.x3d_values.specs.Tables.{AreTyped, FieldRowView, rows}
 use Rattle.classic_tree.specs.declared.tree.Declaration.{Declaration}
 use Rattle.proto_flat.specs.declared.flat.Flat.{Flat}
 use Rattle.proto_flat.specs.declared.flat.FlatField.{FlatField}
@@ -114,11 +114,11 @@ module _ (from : Flat) (s : SceneView) (routes : List Route) (state : List Field
     pub numbered : map declared_by (numbered_fields node.node_type g.interface) ≡ declared_at s n
     pub inside : parts g ≡ children node
 
-  own_holds : (n : ℕ) (node : SceneNode) → slice_get s.nodes n ≡ Some node → (k : ℕ) (e : Entry) → slice_get (rows node.node_type) k ≡ Some e
+  own_holds : (n : ℕ) (node : SceneNode) → slice_get s.nodes n ≡ Some node → (k : ℕ) (e : FieldRowView) → slice_get (rows node.node_type) k ≡ Some e
       → Holds e (value_now s state n k e.access e.field_type)
   own_holds n node is k e at =
       now_holds from s state is_scene kept of_type sound table n node is k e
-      (ap (λ (l : List Entry). slice_get l k) (rows_by_node s n node is)
+      (ap (λ (l : List FieldRowView). slice_get l k) (rows_by_node s n node is)
       ∙ front (rows node.node_type) (map declared_entry (numbered_fields node.node_type node.declared)) k e at)
 
   more_holds : (n : ℕ) (node : SceneNode) → slice_get s.nodes n ≡ Some node → (i : ℕ) (d : DeclaredField) → slice_get (declared_at s n) i ≡ Some d
@@ -127,7 +127,7 @@ module _ (from : Flat) (s : SceneView) (routes : List Route) (state : List Field
       let ds : List DeclaredField = numbered_fields node.node_type node.declared in
       let there : slice_get ds i ≡ Some d = ap (λ (l : List DeclaredField). slice_get l i) (sym (declared_by_node s n node is)) ∙ at in
       now_holds from s state is_scene kept of_type sound table n node is (length (rows node.node_type) + i) (declared_entry d)
-      (ap (λ (l : List Entry). slice_get l (length (rows node.node_type) + i)) (rows_by_node s n node is)
+      (ap (λ (l : List FieldRowView). slice_get l (length (rows node.node_type) + i)) (rows_by_node s n node is)
       ∙ (behind (rows node.node_type) (map declared_entry ds) i ∙ mapped_at declared_entry ds i d there))
 
   type_of_shown : (t : NodeType) (name : Option (List ℕ)) (x : Shown) → (Some t, name) ≡ x → x.0 ≡ Some t

@@ -1,7 +1,7 @@
 -- Steps that may fail, and don't.
 use Rattle.std.proofs.Common.{◌≡◌, ℕ, suc, ◌+◌, List, [], ◌∷◌, ◌++◌, length, Option, Some, None, Result, Ok, Err, slice_get, map, Bool, refl, subst, arith}
 use Rattle.x3d_values.specs.declared.value.Value.{Value}
-use Rattle.x3d_values.specs.Tables.{Entry}
+use Rattle.x3d_values.specs.Tables.{FieldRowView}
 use Rattle.classic_tree.specs.declared.tree.Declaration.{Declaration}
 use Rattle.proto_flat.specs.declared.flat.FlatField.{FlatField}
 use Rattle.proto_flat.specs.declared.flat.FlatNode.{FlatNode}
@@ -27,8 +27,8 @@ okay_then (Ok a) k h g = g a
 okay_then (Err e) k h g = absurd h
 
 module _ (all : List FlatNode) (numbers : List ℕ) where
-  pub rows_okay : (fields : List FlatField) (number : ℕ) (es : List Entry) (made : List (Option Value))
-      → ((i : ℕ) (e : Entry) → slice_get es i ≡ Some e → IsOkay (field_value all numbers e (given fields (number + i))))
+  pub rows_okay : (fields : List FlatField) (number : ℕ) (es : List FieldRowView) (made : List (Option Value))
+      → ((i : ℕ) (e : FieldRowView) → slice_get es i ≡ Some e → IsOkay (field_value all numbers e (given fields (number + i))))
       → IsOkay (values_from all numbers fields number es made)
   rows_okay fields number [] made k = tt
   rows_okay fields number (e ∷ es) made k =

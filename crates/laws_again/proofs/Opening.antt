@@ -8,7 +8,7 @@ use Rattle.x3d_values.specs.declared.node_type.NodeType.{NodeType}
 use Rattle.x3d_values.specs.declared.value.Value.{Value}
 use Rattle.x3d_values.specs.Access.{is_kept}
 use Rattle.x3d_values.specs.Kept.{field_value}
-use Rattle.x3d_values.specs.Tables.{AreTyped, Entry, rows}
+use Rattle.x3d_values.specs.Tables.{AreTyped, FieldRowView, rows}
 use Rattle.scene_core.specs.declared.scene.SceneNode.{SceneNode}
 use Rattle.scene_core.specs.Scene.{SceneView, fields_of, kept, shape_of, state_of, value_at}
 use Rattle.scene_core.specs.Shape.{rows_of}
@@ -49,7 +49,7 @@ kept_some : (b : Bool) (o : Option Value) (v : Value) → (if b then o else None
 kept_some true o v h = h
 kept_some false o v h = absurd cc
 
-kept_in : (es : List Entry) (os : List (Option Value)) (field : ℕ) (v : Value) → value_in (map (λ p. kept p.0 p.1) (zip es os)) field ≡ Some v → value_in os field ≡ Some v
+kept_in : (es : List FieldRowView) (os : List (Option Value)) (field : ℕ) (v : Value) → value_in (map (λ p. kept p.0 p.1) (zip es os)) field ≡ Some v → value_in os field ≡ Some v
 kept_in [] os field v h = absurd cc
 kept_in (e ∷ es) [] field v h = absurd cc
 kept_in (e ∷ es) (o ∷ os) zero v h = kept_some (is_kept e.access e.field_type) o v h

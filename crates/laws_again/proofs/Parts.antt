@@ -10,7 +10,7 @@ use Rattle.x3d_values.specs.declared.node_type.NodeType.{NodeType}
 use Rattle.x3d_values.specs.declared.value.Value.{Value}
 use Rattle.x3d_values.specs.declared.value.Value.TheVariants as value
 use Rattle.x3d_values.specs.Access.{holds_nodes, is_initial}
-use Rattle.x3d_values.specs.Tables.{Entry, rows}
+use Rattle.x3d_values.specs.Tables.{FieldRowView, rows}
 use Rattle.x3d_values.specs.Values.{nodes_of, type_of}
 use Rattle.classic_tree.specs.declared.tree.Declaration.{Declaration}
 use Rattle.proto_flat.specs.declared.flat.FlatField.{FlatField}
@@ -112,11 +112,11 @@ initial_some true o v h = h
 initial_some false o v h = absurd cc
 
 module _ (s : SceneView) (state : List Fields) (n : ℕ) where
-  abbrev now : ℕ → Entry → Option Value
+  abbrev now : ℕ → FieldRowView → Option Value
   now k e = value_now s state n k e.access e.field_type
 
-  rows_parts : (fs : List FlatField) (number : ℕ) (es : List Entry)
-      → ((i : ℕ) (e : Entry) → slice_get es i ≡ Some e → parts_in e.field_type (given fs (number + i)) ≡ linked (unless_default e.default (now (number + i) e)))
+  rows_parts : (fs : List FlatField) (number : ℕ) (es : List FieldRowView)
+      → ((i : ℕ) (e : FieldRowView) → slice_get es i ≡ Some e → parts_in e.field_type (given fs (number + i)) ≡ linked (unless_default e.default (now (number + i) e)))
       → parts_from fs number es ≡ flat_map linked (row_slots s state n number es)
   rows_parts fs number [] k = refl
   rows_parts fs number (e ∷ es) k =
@@ -144,7 +144,7 @@ module _ (s : SceneView) (state : List Fields) (n : ℕ) where
   -- in a node with these fields stand the nodes in them
   pub node_parts : (t : NodeType) (ds : List DeclaredField) (g : FlatNode) → g.node_type ≡ t → g.fields ≡ fields s state n (rows t) ds
       → map declared_by (numbered_fields t g.interface) ≡ ds
-      → ((k : ℕ) (e : Entry) → slice_get (rows t) k ≡ Some e → Holds e (now k e))
+      → ((k : ℕ) (e : FieldRowView) → slice_get (rows t) k ≡ Some e → Holds e (now k e))
       → ((i : ℕ) (d : DeclaredField) → slice_get ds i ≡ Some d → Holds (declared_entry d) (now (length (rows t) + i) (declared_entry d)))
       → parts g ≡ nodes_within g.fields
   node_parts t ds g type_is fields_same declared_same own more =
@@ -163,7 +163,7 @@ module _ (s : SceneView) (state : List Fields) (n : ℕ) where
       ∙ (sym (slots_inside 0 (slots s state n (rows t) ds))
       ∙ (ap (λ (l : List HeldField). nodes_within (all_written l)) (sym (fields_are s state n (rows t) ds))
       ∙ ap nodes_within (sym fields_same)))))))) where
-        row_at : (i : ℕ) (e : Entry) → slice_get (rows t) i ≡ Some e
+        row_at : (i : ℕ) (e : FieldRowView) → slice_get (rows t) i ≡ Some e
             → parts_in e.field_type (given (fields s state n (rows t) ds) (0 + i)) ≡ linked (unless_default e.default (now (0 + i) e))
         row_at i e at =
             let here : i ≡ 0 + i = omega arith in

@@ -14,7 +14,7 @@ use Rattle.x3d_values.specs.declared.node_type.NodeType.TheVariants.{Group}
 use Rattle.x3d_values.specs.declared.value.Value.{Value}
 use Rattle.x3d_values.specs.Access.{holds_nodes, is_exposed, is_initial, is_kept}
 use Rattle.x3d_values.specs.Kept.{field_value}
-use Rattle.x3d_values.specs.Tables.{AreTyped, Entry, IsTyped, rows}
+use Rattle.x3d_values.specs.Tables.{AreTyped, FieldRowView, IsTyped, rows}
 use Rattle.x3d_values.specs.Values.{nodes_of}
 use Rattle.classic_tree.specs.declared.tree.Declaration.{Declaration}
 use Rattle.proto_flat.specs.declared.flat.Flat.{Flat}
@@ -50,14 +50,14 @@ both : (a b : Bool) → (a && b) ≡ true → (a ≡ true) × (b ≡ true)
 both true b e = (refl, e)
 both false b e = absurd cc
 
-each_right : (es : List Entry) → list_all right es ≡ true → AllByRecursion (λ (e : Entry). right e ≡ true) es
+each_right : (es : List FieldRowView) → list_all right es ≡ true → AllByRecursion (λ (e : FieldRowView). right e ≡ true) es
 each_right [] h = tt
 each_right (e ∷ es) h = let b = both (right e) (list_all right es) h in (b.0, each_right es b.1)
 
-right_at : (t : NodeType) (i : ℕ) (e : Entry) → slice_get (rows t) i ≡ Some e → right e ≡ true
-right_at t i e at = all_at (λ (x : Entry). right x ≡ true) (rows t) i e (each_right (rows t) (rows_right t)) at
+right_at : (t : NodeType) (i : ℕ) (e : FieldRowView) → slice_get (rows t) i ≡ Some e → right e ≡ true
+right_at t i e at = all_at (λ (x : FieldRowView). right x ≡ true) (rows t) i e (each_right (rows t) (rows_right t)) at
 
-typed_at : (es : List Entry) (i : ℕ) (e : Entry) → AreTyped es → slice_get es i ≡ Some e → IsTyped e
+typed_at : (es : List FieldRowView) (i : ℕ) (e : FieldRowView) → AreTyped es → slice_get es i ≡ Some e → IsTyped e
 typed_at [] i e h at = absurd cc
 typed_at (x ∷ es) zero e h at = subst IsTyped (some_is x e at) h.0
 typed_at (x ∷ es) (suc i) e h at = typed_at es i e h.1 at
@@ -84,7 +84,7 @@ pub value_by_node : (s : SceneView) (n : ℕ) (node : SceneNode) (field : ℕ) �
 value_by_node s n node field is = ap (λ (o : Option SceneNode). option_and_then (λ (m : SceneNode). option_and_then (λ v. v) (slice_get m.values field)) o) is
 
 -- of which declaration a field was made
-pub declaration_at : (t : NodeType) (ds : List (Declaration ℕ)) (i : ℕ) (e : Entry) → slice_get (map declared_entry (numbered_fields t (map declared_by ds))) i ≡ Some e
+pub declaration_at : (t : NodeType) (ds : List (Declaration ℕ)) (i : ℕ) (e : FieldRowView) → slice_get (map declared_entry (numbered_fields t (map declared_by ds))) i ≡ Some e
     → (d : Declaration ℕ) × (slice_get (numbered_fields t ds) i ≡ Some d) × (e ≡ declaration_entry d)
 declaration_at t ds i e at =
     let a = at_map declared_entry (numbered_fields t (map declared_by ds)) i e at in
@@ -131,35 +131,35 @@ module _ (from : Flat) (s : SceneView) (is_scene : scene_of from ≡ Ok s) (tabl
 
   -- ---- what the scene gives
 
-  pub record IsGiven (e : Entry) (o : Option Value) : Type 0 where
+  pub record IsGiven (e : FieldRowView) (o : Option Value) : Type 0 where
     pub holds : Holds e o
     pub right_row : right e ≡ true
 
   abbrev By : ℕ → FlatNode → SceneNode → Type 0
   By n flat node = IsNode from.nodes (numbers_of from).numbers (label_in from n) flat node
 
-  row_given : (n : ℕ) (flat : FlatNode) (node : SceneNode) → By n flat node → (k : ℕ) (e : Entry) → slice_get (rows flat.node_type) k ≡ Some e → IsGiven e (value_in node.values k)
+  row_given : (n : ℕ) (flat : FlatNode) (node : SceneNode) → By n flat node → (k : ℕ) (e : FieldRowView) → slice_get (rows flat.node_type) k ≡ Some e → IsGiven e (value_in node.values k)
   row_given n flat node m k e at = record {
     holds = row_holds from.nodes (numbers_of from).numbers e (given flat.fields k) (value_in node.values k) (typed_at (rows flat.node_type) k e (table flat.node_type) at)
         (right_at flat.node_type k e at) (m.row k e at);
     right_row = right_at flat.node_type k e at;
   }
 
-  field_given : (n : ℕ) (flat : FlatNode) (node : SceneNode) → By n flat node → (i : ℕ) (e : Entry)
+  field_given : (n : ℕ) (flat : FlatNode) (node : SceneNode) → By n flat node → (i : ℕ) (e : FieldRowView)
       → slice_get (map declared_entry (numbered_fields flat.node_type (map declared_by flat.interface))) i ≡ Some e
       → IsGiven e (value_in node.values (length (rows flat.node_type) + i))
   field_given n flat node m i e at =
       let d = declaration_at flat.node_type flat.interface i e at in
       let k : ℕ = length (rows flat.node_type) + i in
-      subst (λ (x : Entry). IsGiven x (value_in node.values k)) (sym d.2) (record {
+      subst (λ (x : FieldRowView). IsGiven x (value_in node.values k)) (sym d.2) (record {
         holds = (declared_holds from.nodes (numbers_of from).numbers d.0 (given flat.fields k) (value_in node.values k) (m.field i d.0 d.1)).1;
         right_row = declared_right from.nodes (numbers_of from).numbers d.0.access d.0.field_type (is_initial d.0.access) (is_rotation d.0.field_type) refl refl;
       })
 
-  abbrev rows_by : NodeType → List DeclaredField → List Entry
+  abbrev rows_by : NodeType → List DeclaredField → List FieldRowView
   rows_by t ds = rows t ++ map declared_entry (numbered_fields t ds)
 
-  given_of : (n : ℕ) (flat : FlatNode) (node : SceneNode) → By n flat node → (k : ℕ) (e : Entry) → slice_get (rows_by flat.node_type (map declared_by flat.interface)) k ≡ Some e
+  given_of : (n : ℕ) (flat : FlatNode) (node : SceneNode) → By n flat node → (k : ℕ) (e : FieldRowView) → slice_get (rows_by flat.node_type (map declared_by flat.interface)) k ≡ Some e
       → IsGiven e (value_in node.values k)
   given_of n flat node m k e at = by_part (parted (rows flat.node_type) (map declared_entry (numbered_fields flat.node_type (map declared_by flat.interface))) k e at) where
     by_part : (slice_get (rows flat.node_type) k ≡ Some e)
@@ -168,13 +168,13 @@ module _ (from : Flat) (s : SceneView) (is_scene : scene_of from ≡ Ok s) (tabl
     by_part (inl h) = row_given n flat node m k e h
     by_part (inr h) = subst (λ (j : ℕ). IsGiven e (value_in node.values j)) (sym h.1) (field_given n flat node m h.0 e h.2)
 
-  pub given_at : (n : ℕ) (node : SceneNode) → slice_get s.nodes n ≡ Some node → (k : ℕ) (e : Entry) → slice_get (rows_at s n) k ≡ Some e → IsGiven e (value_at s n k)
+  pub given_at : (n : ℕ) (node : SceneNode) → slice_get s.nodes n ≡ Some node → (k : ℕ) (e : FieldRowView) → slice_get (rows_at s n) k ≡ Some e → IsGiven e (value_at s n k)
   given_at n node is k e at =
       let m = made_of n node is in
       let all : rows_of (shape_of node) ≡ rows_by m.0.node_type (map declared_by m.0.interface) =
       ap (λ (t : NodeType). rows_by t node.declared) m.1.node_type ∙ ap (λ (l : List DeclaredField). rows_by m.0.node_type l) m.1.declared in
       subst (IsGiven e) (sym (value_by_node s n node k is))
-      (given_of n m.0 node m.1 k e (ap (λ (l : List Entry). slice_get l k) (sym (rows_by_node s n node is ∙ all)) ∙ at))
+      (given_of n m.0 node m.1 k e (ap (λ (l : List FieldRowView). slice_get l k) (sym (rows_by_node s n node is ∙ all)) ∙ at))
 
 -- ---- what is written
 
@@ -183,7 +183,7 @@ module _ (from : Flat) (s : SceneView) (state : List Fields) (is_scene : scene_o
   kept_is : (n k : ℕ) (a : Access) (t : FieldType) (v : Value) → kept_value (without_routes s state) n k a t ≡ Some v → IsKept state n k a v
   kept_is n k a t v h = kept_at state n k a t v (is_kept a t) refl (slice_get state n) refl h
 
-  pub now_holds : (n : ℕ) (node : SceneNode) → slice_get s.nodes n ≡ Some node → (k : ℕ) (e : Entry) → slice_get (rows_at s n) k ≡ Some e
+  pub now_holds : (n : ℕ) (node : SceneNode) → slice_get s.nodes n ≡ Some node → (k : ℕ) (e : FieldRowView) → slice_get (rows_at s n) k ≡ Some e
       → Holds e (value_now s state n k e.access e.field_type)
   now_holds n node is k e at =
       let g = given_at from s is_scene table n node is k e at in

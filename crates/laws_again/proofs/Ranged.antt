@@ -13,7 +13,7 @@ use Rattle.x3d_values.specs.declared.value.Value.{Value}
 use Rattle.x3d_values.specs.declared.value.Value.TheVariants as value
 use Rattle.x3d_values.specs.declared.vector.Vec3.{Vec3}
 use Rattle.x3d_values.specs.Kept.{field_value}
-use Rattle.x3d_values.specs.Tables.{Entry, rows}
+use Rattle.x3d_values.specs.Tables.{FieldRowView, rows}
 use Rattle.snapshot_codec.specs.declared.kept.KeptField.{KeptField}
 use Rattle.snapshot_codec.specs.declared.kept.KeptField.TheVariants.{Absent, Interval, Typed}
 use Rattle.snapshot_codec.specs.Fields.{is_positive, kept_field, kept_fits}
@@ -75,10 +75,10 @@ kept_ranged (Typed t) name v k h = typed_ranged t name v k h
 
 -- ---- the table
 
-abbrev row_takes : NodeType → ℕ → Entry → Bool
+abbrev row_takes : NodeType → ℕ → FieldRowView → Bool
 row_takes t n e = takes_kept e.name (kept_field t n e.access e.field_type)
 
-abbrev rows_take : NodeType → ℕ → List Entry → Bool
+abbrev rows_take : NodeType → ℕ → List FieldRowView → Bool
 rows_take t n [] = true
 rows_take t n (e ∷ es) = row_takes t n e && rows_take t (n + 1) es
 
@@ -95,33 +95,33 @@ same_place n = omega arith
 next_place : (n k : ℕ) → n + 1 + k ≡ n + suc k
 next_place n k = omega arith
 
-take_at : (t : NodeType) (n : ℕ) (es : List Entry) (number : ℕ) (e : Entry) → rows_take t n es ≡ true → slice_get es number ≡ Some e → row_takes t (n + number) e ≡ true
+take_at : (t : NodeType) (n : ℕ) (es : List FieldRowView) (number : ℕ) (e : FieldRowView) → rows_take t n es ≡ true → slice_get es number ≡ Some e → row_takes t (n + number) e ≡ true
 take_at t n [] number e h at = absurd cc
 take_at t n (row ∷ es) zero e h at =
     let b = both (row_takes t n row) (rows_take t (n + 1) es) h in
-    subst (λ (m : ℕ). row_takes t m e ≡ true) (same_place n) (subst (λ (x : Entry). row_takes t n x ≡ true) (some_is row e at) b.0)
+    subst (λ (m : ℕ). row_takes t m e ≡ true) (same_place n) (subst (λ (x : FieldRowView). row_takes t n x ≡ true) (some_is row e at) b.0)
 take_at t n (row ∷ es) (suc number) e h at =
     let b = both (row_takes t n row) (rows_take t (n + 1) es) h in
     subst (λ (m : ℕ). row_takes t m e ≡ true) (next_place n number) (take_at t (n + 1) es number e b.1 at)
 
 -- ---- the fields of a node
 
-abbrev Keeps : NodeType → ℕ → Entry → Value → Type 0
+abbrev Keeps : NodeType → ℕ → FieldRowView → Value → Type 0
 Keeps t n e v = kept_fits (kept_field t n e.access e.field_type) (Some v) ≡ true
 
-keeps_at : (t : NodeType) (n : ℕ) (es : List Entry) (vs : List (Option Value)) (number : ℕ) (e : Entry) (v : Value)
+keeps_at : (t : NodeType) (n : ℕ) (es : List FieldRowView) (vs : List (Option Value)) (number : ℕ) (e : FieldRowView) (v : Value)
     → values_fit t n es vs ≡ true → slice_get es number ≡ Some e → option_and_then (λ o. o) (slice_get vs number) ≡ Some v → Keeps t (n + number) e v
 keeps_at t n [] vs number e v f at held = absurd cc
 keeps_at t n (row ∷ es) [] number e v f at held = absurd cc
 keeps_at t n (row ∷ es) (o ∷ vs) zero e v f at held =
     let b = both (kept_fits (kept_field t n row.access row.field_type) o) (values_fit t (n + 1) es vs) f in
     let here : Keeps t n row v = subst (λ (x : Option Value). kept_fits (kept_field t n row.access row.field_type) x ≡ true) held b.0 in
-    subst (λ (m : ℕ). Keeps t m e v) (same_place n) (subst (λ (x : Entry). Keeps t n x v) (some_is row e at) here)
+    subst (λ (m : ℕ). Keeps t m e v) (same_place n) (subst (λ (x : FieldRowView). Keeps t n x v) (some_is row e at) here)
 keeps_at t n (row ∷ es) (o ∷ vs) (suc number) e v f at held =
     let b = both (kept_fits (kept_field t n row.access row.field_type) o) (values_fit t (n + 1) es vs) f in
     subst (λ (m : ℕ). Keeps t m e v) (next_place n number) (keeps_at t (n + 1) es vs number e v b.1 at held)
 
-node_ranged : (s : Shape) (fields : Fields) (cycle : Option ℕ) (state : PointingState) (t : NodeType) (number : ℕ) (e : Entry) (v : Value)
+node_ranged : (s : Shape) (fields : Fields) (cycle : Option ℕ) (state : PointingState) (t : NodeType) (number : ℕ) (e : FieldRowView) (v : Value)
     → node_fits s fields cycle state ≡ true → s.node_type ≡ t → slice_get (rows t) number ≡ Some e → field_value fields number ≡ Some v → in_range e.name v ≡ true
 node_ranged s fields cycle state t number e v f is row held =
     let own : slice_get (rows s.node_type) number ≡ Some e = ap (λ (u : NodeType). slice_get (rows u) number) is ∙ row in
@@ -134,7 +134,7 @@ node_ranged s fields cycle state t number e v f is row held =
 -- ---- nodes
 
 nodes_ranged : (nodes : List SceneNode) (fs : List Fields) (cs : List (Option ℕ)) (us : List PointingState) → nodes_fit (map shape_of nodes) fs cs us ≡ true
-    → (n number : ℕ) (t : NodeType) (e : Entry) (fields : Fields) (v : Value) → slice_get (map (λ (m : SceneNode). m.node_type) nodes) n ≡ Some t
+    → (n number : ℕ) (t : NodeType) (e : FieldRowView) (fields : Fields) (v : Value) → slice_get (map (λ (m : SceneNode). m.node_type) nodes) n ≡ Some t
     → slice_get (rows t) number ≡ Some e → slice_get fs n ≡ Some fields → field_value fields number ≡ Some v → in_range e.name v ≡ true
 nodes_ranged nodes [] cs us f n number t e fields v typed row at held = absurd cc
 nodes_ranged [] (x ∷ fs) cs us f n number t e fields v typed row at held = absurd cc

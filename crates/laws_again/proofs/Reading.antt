@@ -9,7 +9,7 @@ use Rattle.x3d_values.specs.declared.value.Value.{Value}
 use Rattle.x3d_values.specs.declared.value.Value.TheVariants as value
 use Rattle.x3d_values.specs.Access.{is_initial}
 use Rattle.x3d_values.specs.Defaults.{default_value}
-use Rattle.x3d_values.specs.Tables.{Entry}
+use Rattle.x3d_values.specs.Tables.{FieldRowView}
 use Rattle.x3d_values.specs.Values.{nodes_of, type_of}
 use Rattle.classic_tree.specs.declared.tree.Declaration.{Declaration}
 use Rattle.classic_tree.specs.declared.tree.RawValue.{RawValue}
@@ -73,7 +73,7 @@ module _ (typed_again : WrittenNodesAreTyped) (left_out : LeftOutAreDefaults) (a
 
   -- ---- a field of a type
 
-  pub given_again : (e : Entry) (k : ℕ) (x : Value) (v : Option Value) → type_of x ≡ e.field_type → IsFit numbers (Some x)
+  pub given_again : (e : FieldRowView) (k : ℕ) (x : Value) (v : Option Value) → type_of x ≡ e.field_type → IsFit numbers (Some x)
       → field_value all numbers e (Some (as_given k x)) ≡ Ok v → v ≡ Some x
   unfolding field_value
   given_again e k x v t fit h = by_rotation (is_rotation e.field_type) refl h where
@@ -87,11 +87,11 @@ module _ (typed_again : WrittenNodesAreTyped) (left_out : LeftOutAreDefaults) (a
         let y = read_is e.field_type x b.0 fit t (line_is f.line (typed e.field_type f.value numbers) b.0 b.1) in
         sym a.1 ∙ ap (λ (z : Value). Some z) (sym y)
 
-  pub nothing_again : (e : Entry) (v : Option Value) → field_value all numbers e None ≡ Ok v → default_of e ≡ v
+  pub nothing_again : (e : FieldRowView) (v : Option Value) → field_value all numbers e None ≡ Ok v → default_of e ≡ v
   unfolding field_value
   nothing_again e v h = scene_ok_is (default_of e) v h
 
-  pub row_again : (e : Entry) (k : ℕ) (o v : Option Value) → Holds e o → IsFit numbers o
+  pub row_again : (e : FieldRowView) (k : ℕ) (o v : Option Value) → Holds e o → IsFit numbers o
       → field_value all numbers e (given_by k (unless_default e.default o)) ≡ Ok v → v ≡ o
   row_again e k o v h fit read = by_default e.default refl o h fit read where
     by_test : (d : FieldDefault) (x : Value) → e.default ≡ Some d → Holds e (Some x) → IsFit numbers (Some x) → (b : Bool) → is_default d x ≡ b

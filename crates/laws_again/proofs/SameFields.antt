@@ -12,7 +12,7 @@ use Rattle.x3d_values.specs.declared.node_type.NodeType.{NodeType}
 use Rattle.x3d_values.specs.declared.value.Value.{Value}
 use Rattle.x3d_values.specs.Access.{is_initial, is_kept}
 use Rattle.x3d_values.specs.Kept.{field_value}
-use Rattle.x3d_values.specs.Tables.{Entry, rows}
+use Rattle.x3d_values.specs.Tables.{FieldRowView, rows}
 use Rattle.proto_flat.specs.declared.flat.Flat.{Flat}
 use Rattle.scene_core.specs.declared.row.DeclaredField.{DeclaredField}
 use Rattle.scene_core.specs.declared.scene.Route.{Route}
@@ -42,19 +42,19 @@ none_kept : (b : Bool) (V : Option Value) → V ≡ None → V ≡ (if b then V 
 none_kept true V e = refl
 none_kept false V e = e
 
-kept_in : (es : List Entry) (os : List (Option Value)) (field : ℕ) (e : Entry) → slice_get es field ≡ Some e
+kept_in : (es : List FieldRowView) (os : List (Option Value)) (field : ℕ) (e : FieldRowView) → slice_get es field ≡ Some e
     → value_in (map (λ p. kept p.0 p.1) (zip es os)) field ≡ kept e (value_in os field)
 kept_in [] os field e at = absurd cc
 kept_in (x ∷ es) [] field e at = none_kept (is_kept e.access e.field_type) None refl
-kept_in (x ∷ es) (o ∷ os) zero e at = ap (λ (y : Entry). kept y o) (some_is x e at)
+kept_in (x ∷ es) (o ∷ os) zero e at = ap (λ (y : FieldRowView). kept y o) (some_is x e at)
 kept_in (x ∷ es) (o ∷ os) (suc field) e at = kept_in es os field e at
 
-opening : (next : SceneView) (n : ℕ) (m : SceneNode) → slice_get next.nodes n ≡ Some m → (k : ℕ) (e : Entry) → slice_get (rows_at next n) k ≡ Some e
+opening : (next : SceneView) (n : ℕ) (m : SceneNode) → slice_get next.nodes n ≡ Some m → (k : ℕ) (e : FieldRowView) → slice_get (rows_at next n) k ≡ Some e
     → kept_of (state_of next) n k ≡ kept e (value_at next n k)
 unfolding state_of
 opening next n m is k e at =
     ap (λ (o : Option Fields). option_and_then (λ (fields : Fields). field_value fields k) o) (mapped_at fields_of next.nodes n m is)
-    ∙ (kept_in (rows_of (shape_of m)) m.values k e (ap (λ (l : List Entry). slice_get l k) (sym (rows_by_node next n m is)) ∙ at)
+    ∙ (kept_in (rows_of (shape_of m)) m.values k e (ap (λ (l : List FieldRowView). slice_get l k) (sym (rows_by_node next n m is)) ∙ at)
     ∙ ap (kept e) (sym (value_by_node next n m k is)))
 
 or_own : (b : Bool) (X V : Option Value) → X ≡ (if b then V else None) → option_or (if b then X else None) V ≡ V
@@ -62,7 +62,7 @@ or_own false X V e = refl
 or_own true X (Some v) e = ap (λ (o : Option Value). option_or o (Some v)) e
 or_own true X None e = ap (λ (o : Option Value). option_or o None) e
 
-pub opened_value : (next : SceneView) (routes : List Route) (n : ℕ) (m : SceneNode) → slice_get next.nodes n ≡ Some m → (k : ℕ) (e : Entry)
+pub opened_value : (next : SceneView) (routes : List Route) (n : ℕ) (m : SceneNode) → slice_get next.nodes n ≡ Some m → (k : ℕ) (e : FieldRowView)
     → slice_get (rows_at next n) k ≡ Some e → present_value (plan next routes (state_of next)) n k e.access e.field_type ≡ value_at next n k
 opened_value next routes n m is k e at =
     or_own (is_kept e.access e.field_type) (kept_of (state_of next) n k) (value_at next n k) (opening next n m is k e at)
@@ -71,14 +71,14 @@ opened_value next routes n m is k e at =
 
 -- what each row of a type holds, by its number
 abbrev pub Holding : Type 0
-Holding = ℕ → Entry → Option Value
+Holding = ℕ → FieldRowView → Option Value
 
-abbrev pub shown_by : Holding → ℕ → List Entry → List Shown
+abbrev pub shown_by : Holding → ℕ → List FieldRowView → List Shown
 shown_by hold number [] = []
 shown_by hold number (e ∷ others) = shown_field e.name e.default (hold number e) ++ shown_by hold (number + 1) others
 
-pub shown_is : (p : PlanView) (n : ℕ) (hold : Holding) (number : ℕ) (es : List Entry)
-    → ((j : ℕ) (e : Entry) → slice_get es j ≡ Some e → present_value p n (number + j) e.access e.field_type ≡ hold (number + j) e)
+pub shown_is : (p : PlanView) (n : ℕ) (hold : Holding) (number : ℕ) (es : List FieldRowView)
+    → ((j : ℕ) (e : FieldRowView) → slice_get es j ≡ Some e → present_value p n (number + j) e.access e.field_type ≡ hold (number + j) e)
     → shown_from p n number es ≡ shown_by hold number es
 shown_is p n hold number [] k = refl
 shown_is p n hold number (e ∷ es) k =
@@ -169,11 +169,11 @@ module _ (from again : Flat) (s next : SceneView) (routes : List Route) (state :
 
   -- ---- fields
 
-  present_same : (n : ℕ) → n < count → (k : ℕ) (e : Entry) → slice_get (rows_at s n) k ≡ Some e
+  present_same : (n : ℕ) → n < count → (k : ℕ) (e : FieldRowView) → slice_get (rows_at s n) k ≡ Some e
       → present_value q n k e.access e.field_type ≡ present_value p n k e.access e.field_type
   present_same n low k e at =
       let m = next_node n low in
-      opened_value next routes n m.0 m.1 k e (ap (λ (l : List Entry). slice_get l k) (w.rows n low) ∙ at) ∙ w.values n k e at
+      opened_value next routes n m.0 m.1 k e (ap (λ (l : List FieldRowView). slice_get l k) (w.rows n low) ∙ at) ∙ w.values n k e at
 
   -- the rows of a node, and behind them what it declares
   rows_apart : (n : ℕ) (node : SceneNode) → slice_get s.nodes n ≡ Some node → rows_at s n ≡ rows node.node_type ++ map declared_entry (declared_at s n)
@@ -190,14 +190,14 @@ module _ (from again : Flat) (s next : SceneView) (routes : List Route) (state :
       let own : shown_from q n 0 (rows t) ≡ shown_from p n 0 (rows t) =
       shown_is q n hold 0 (rows t) (λ j e there.
       present_same n low (0 + j) e
-      (ap (λ (l : List Entry). slice_get l (0 + j)) (rows_apart n node at)
+      (ap (λ (l : List FieldRowView). slice_get l (0 + j)) (rows_apart n node at)
       ∙ (ap (λ (i : ℕ). slice_get (rows t ++ map declared_entry (declared_at s n)) i) (start j)
       ∙ front (rows t) (map declared_entry (declared_at s n)) j e there)))
       ∙ sym (shown_is p n hold 0 (rows t) (λ j e there. refl)) in
       let more : declared_from q n (length (rows t)) (declared_at s n) ≡ declared_from p n (length (rows t)) (declared_at s n) =
       declared_same p q n (length (rows t)) (declared_at s n) (λ j d there.
       present_same n low (length (rows t) + j) (declared_entry d)
-      (ap (λ (l : List Entry). slice_get l (length (rows t) + j)) (rows_apart n node at)
+      (ap (λ (l : List FieldRowView). slice_get l (length (rows t) + j)) (rows_apart n node at)
       ∙ (behind (rows t) (map declared_entry (declared_at s n)) j ∙ mapped_at declared_entry (declared_at s n) j d there))) in
       ap (λ (l : List Shown). l ++ declared_from q n (length (rows t)) (declared_at next n)) own
       ∙ (ap (λ (ds : List DeclaredField). shown_from p n 0 (rows t) ++ declared_from q n (length (rows t)) ds) (w.declared n low)

@@ -9,7 +9,7 @@ use Rattle.classic_tree.specs.declared.tree.NodeText.{NodeText}
 use Rattle.classic_tree.specs.declared.tree.Statement.TheVariants as statement
 use Rattle.scene_core.specs.declared.scene.SceneNode.{SceneNode}
 use Rattle.scene_text.specs.Statements.{helper_root, switch_of}
-use Rattle.scene_text.specs.Tree.{Makes, Plain, PlanView, Step, new_type, node_tree, one_more, opened}
+use Rattle.scene_text.specs.Tree.{Makes, Plain, PlanView, Grows, new_type, node_tree, one_more, opened}
 use Rattle.laws_text.specs.Children.{children}
 use Rattle.laws_written.proofs.Counts.{hits}
 use Rattle.laws_written.proofs.NodesParts.{all_join}
@@ -46,7 +46,7 @@ pub record HasFirst {B : Type 0} (first : B) (made : List B) : Type 0 where
   pub others : List B
   pub is : made ≡ first ∷ others
 
-pub keeps_first : {A B : Type 0} (make : Makes A B) (first : B) (xs : List A) (s : Step (List B)) → HasFirst first s.made → HasFirst first (fold (one_more make) s xs).made
+pub keeps_first : {A B : Type 0} (make : Makes A B) (first : B) (xs : List A) (s : Grows (List B)) → HasFirst first s.made → HasFirst first (fold (one_more make) s xs).made
 keeps_first make first [] s h = h
 keeps_first make first (x ∷ xs) s h =
     keeps_first make first xs (one_more make s x)

@@ -11,7 +11,7 @@ use Rattle.classic_tree.specs.declared.tree.RawValue.TheVariants as raw
 use Rattle.classic_tree.specs.declared.tree.Statement.TheVariants as statement
 use Rattle.scene_core.specs.Deep.{linked}
 use Rattle.scene_text.specs.Statements.{root_tree}
-use Rattle.scene_text.specs.Tree.{Declared, Makes, Plain, Shown, Step, declaration, each, field_tree, given_tree, one_more, value_tree}
+use Rattle.scene_text.specs.Tree.{Declared, Makes, Plain, Shown, Grows, declaration, each, field_tree, given_tree, one_more, value_tree}
 use Rattle.laws_text.proofs.NumbersInOrder.{equal}
 use Rattle.laws_written.proofs.OrderShown.{links}
 use Rattle.laws_written.proofs.Plans.{all_split}
@@ -36,7 +36,7 @@ pub record AreAlike (count : ℕ) (last : Bool) (seen other : List Bool) : Type 
   pub more : get_or other count true ≡ last
 
 -- what was made is the same
-pub record Alike {B : Type 0} (count : ℕ) (last : Bool) (m k : Step B) : Type 0 where
+pub record Alike {B : Type 0} (count : ℕ) (last : Bool) (m k : Grows B) : Type 0 where
   pub made : k.made ≡ m.made
   pub seen : AreAlike count last m.seen k.seen
 
@@ -64,7 +64,7 @@ last_alike count last seen other a = record {
 module _ (count : ℕ) (last : Bool) where
   module _ {A B : Type 0} (make other : Makes A B) (P : A → Type 0)
       (f : (seen more : List Bool) → AreAlike count last seen more → (x : A) → P x → Alike count last (make seen x) (other more x)) where
-    fold_alike : (xs : List A) → AllByRecursion P xs → (s t : Step (List B)) → Alike count last s t → Alike count last (fold (one_more make) s xs) (fold (one_more other) t xs)
+    fold_alike : (xs : List A) → AllByRecursion P xs → (s t : Grows (List B)) → Alike count last s t → Alike count last (fold (one_more make) s xs) (fold (one_more other) t xs)
     fold_alike [] h s t a = a
     fold_alike (x ∷ xs) h s t a =
         let b = f s.seen t.seen a.seen x h.0 in

@@ -11,7 +11,7 @@ use Rattle.x3d_values.specs.declared.node_type.NodeType.TheVariants.{Switch}
 use Rattle.x3d_values.specs.declared.value.Value.TheVariants.{MFNode}
 use Rattle.x3d_values.specs.Names.{node_type_name}
 use Rattle.x3d_values.specs.Ranges.{max_depth}
-use Rattle.x3d_values.specs.Tables.{Entry, rows}
+use Rattle.x3d_values.specs.Tables.{FieldRowView, rows}
 use Rattle.classic_tree.specs.declared.tree.BodyItem.{BodyItem}
 use Rattle.classic_tree.specs.declared.tree.NodeText.{NodeText}
 use Rattle.classic_tree.specs.declared.tree.NodeText.TheVariants as text
@@ -30,7 +30,7 @@ use Rattle.scene_core.specs.Shape.{declared_entry}
 use Rattle.scene_text.specs.Places.{ends_of, is_named, named, nodes_within, places, times}
 use Rattle.scene_text.specs.SceneText.{scene_text}
 use Rattle.scene_text.specs.Statements.{helper_root, helpers_of, place_of, root_tree, roots_of, route_of, routes_of, scene_document, statements_of, switch_of}
-use Rattle.scene_text.specs.Tree.{Makes, Plain, PlanView, Shown, Step, declared_from, def_name, each, field_tree, new_type, node_tree, one_more, opened, shown_fields, shown_from}
+use Rattle.scene_text.specs.Tree.{Makes, Plain, PlanView, Shown, Grows, declared_from, def_name, each, field_tree, new_type, node_tree, one_more, opened, shown_fields, shown_from}
 use Rattle.laws_text.specs.Children.{children}
 use Rattle.laws_text.specs.Writable.{AreKeepable, IsEnd, IsShallow, IsWritable, IsWritableRoute}
 use Rattle.laws_text.proofs.Lists.{all_weaker}
@@ -134,7 +134,7 @@ module _ (from again : Flat) (s next : SceneView) (routes : List Route) (state :
 
   -- ---- roots
 
-  abbrev Roots : List Bool → PlanView → List ℕ → Step (List Statement)
+  abbrev Roots : List Bool → PlanView → List ℕ → Grows (List Statement)
   Roots seen t ns = each (root_tree (node_tree max_depth t)) seen ns
 
   abbrev begun : List Bool
@@ -187,7 +187,7 @@ module _ (from again : Flat) (s next : SceneView) (routes : List Route) (state :
         (let start : 0 + j ≡ j = omega arith in
         let at : slice_get (rows Switch) (0 + j) ≡ Some e = ap (λ (i : ℕ). slice_get (rows Switch) i) start ∙ there in
         opened_value next routes count m.0 m.1 (0 + j) e
-        (ap (λ (l : List Entry). slice_get l (0 + j)) (switch_rows ∙ append-nil (rows Switch)) ∙ at)
+        (ap (λ (l : List FieldRowView). slice_get l (0 + j)) (switch_rows ∙ append-nil (rows Switch)) ∙ at)
         ∙ switch.values (0 + j) e at))
         ∙ children_shown h hs))
 
@@ -242,7 +242,7 @@ module _ (from again : Flat) (s next : SceneView) (routes : List Route) (state :
         → (node_tree max_depth q more count).made ≡ switch_of (each (node_tree (max_depth - 1) q) (slice_set more count true) (h ∷ hs)).made
     root_of_helpers more new =
         let type_new : new_type q more count ≡ Some Switch = ap (λ (b : Bool). if b then None else type_at next count) new ∙ switch_typed in
-        ap (λ (m : Step NodeText). m.made) (tree_is (max_depth - 1) q more count)
+        ap (λ (m : Grows NodeText). m.made) (tree_is (max_depth - 1) q more count)
         ∙ ap (λ (o : Option NodeType). (opened q (node_tree (max_depth - 1) q) more count o).made) type_new ∙ switch_tree (node_tree (max_depth - 1) q) more
 
     helpers_made : (seen more : List Bool) → AreAlike count false seen more
@@ -261,12 +261,12 @@ module _ (from again : Flat) (s next : SceneView) (routes : List Route) (state :
     roots_same =
         let many = one_more_node in
         let base = roots_made false (none_seen (length next.nodes) count (omega (arith, many))) in
-        let bq : Step (List Statement) = Roots begun_next q s.roots in
-        let bp : Step (List Statement) = Roots begun p s.roots in
+        let bq : Grows (List Statement) = Roots begun_next q s.roots in
+        let bp : Grows (List Statement) = Roots begun p s.roots in
         let ns_are : next.roots ≡ s.roots ++ count ∷ [] = w.roots ∙ ap (λ (l : List ℕ). s.roots ++ switch_root count l) are in
         let split : (roots_of q).made ≡ bq.made ++ statement.Node (node_tree max_depth q bq.seen count).made ∷ [] =
         ap (λ (l : List ℕ). (Roots begun_next q l).made) ns_are
-        ∙ ap (λ (x : Step (List Statement)). x.made) (fold-append (one_more (root_tree (node_tree max_depth q))) (record { seen = begun_next; made = [] }) s.roots (count ∷ [])) in
+        ∙ ap (λ (x : Grows (List Statement)). x.made) (fold-append (one_more (root_tree (node_tree max_depth q))) (record { seen = begun_next; made = [] }) s.roots (count ∷ [])) in
         let trees : List NodeText = (helpers_of p bp.seen).made in
         let last : (node_tree max_depth q bq.seen count).made ≡ switch_of trees =
         root_of_helpers bq.seen base.seen.more ∙ ap switch_of (helpers_made bp.seen bq.seen base.seen) in

@@ -12,7 +12,7 @@ use Rattle.cascade_core.specs.Course.{Scripted}
 use Rattle.share_law.specs.Cascade.{cascade}
 use Rattle.share_law.specs.Network.{Network}
 use Rattle.share_law.specs.Reached.{Reached}
-use Rattle.share_law.specs.Viewer.{View}
+use Rattle.share_law.specs.Viewer.{ViewerWorld}
 use Rattle.share_law.proofs.Agreement.{Sound-reached}
 use Rattle.share_law.proofs.Machines.{cascade-is}
 use Rattle.share_law.proofs.Sound.{InStep, IsAt, Sound, ViewSound}
@@ -54,5 +54,5 @@ pub running_worlds_spell : RunningWorldsSpell
 running_worlds_spell text f scene routes mark net o run room reached viewer held window r =
     let sound : Sound (cascade mark scene routes) net = Sound-reached (cascade-is mark scene routes) reached in
     let step : InStep (cascade mark scene routes) net.host.list held window =
-    subst (λ (v : View Scripted). ViewSound (cascade mark scene routes) net.host.list v) r.view (sound.viewers viewer r.seat r.is) in
+    subst (λ (v : ViewerWorld Scripted). ViewSound (cascade mark scene routes) net.host.list v) r.view (sound.viewers viewer r.seat r.is) in
     at_spells text f scene routes o run room mark net reached held step.at

@@ -12,7 +12,7 @@ use Rattle.x3d_values.specs.declared.node_type.NodeType.{NodeType}
 use Rattle.x3d_values.specs.declared.value.Value.{Value}
 use Rattle.x3d_values.specs.Access.{holds_nodes, is_initial}
 use Rattle.x3d_values.specs.Nodes.{kind_of}
-use Rattle.x3d_values.specs.Tables.{Entry, rows}
+use Rattle.x3d_values.specs.Tables.{FieldRowView, rows}
 use Rattle.x3d_values.specs.Values.{nodes_of}
 use Rattle.proto_flat.specs.declared.flat.Flat.{Flat}
 use Rattle.proto_flat.specs.declared.flat.FlatField.{FlatField}
@@ -57,7 +57,7 @@ pub record IsOfKind (s : SceneView) (kind : Option NodeKind) (m : ℕ) : Type 0 
   pub goes : goes_into kind node.node_type ≡ true
 
 -- the value may stand in the field
-pub record IsGivenTo (s : SceneView) (e : Entry) (x : Value) : Type 0 where
+pub record IsGivenTo (s : SceneView) (e : FieldRowView) (x : Value) : Type 0 where
   pub initial : is_initial e.access ≡ true
   pub ranged : in_range e.name x ≡ true
   pub kinds_are : AllByRecursion (IsOfKind s e.kind) (nodes_of x)
@@ -87,7 +87,7 @@ inner_of false ns y n = absurd n
 
 -- ---- a field as it was read
 
-module _ (s : SceneView) (all : List FlatNode) (numbers : List ℕ) (e : Entry) (x : Value) where
+module _ (s : SceneView) (all : List FlatNode) (numbers : List ℕ) (e : FieldRowView) (x : Value) where
   abbrev AreOfKind : Option FlatField → Type 0
   AreOfKind o = (y : ℕ) → In y (parts_in e.field_type o) → takes e.kind (slice_get all y) ≡ true → IsOfKind s e.kind (called numbers y)
 
@@ -124,14 +124,14 @@ module _ (s : SceneView) (all : List FlatNode) (numbers : List ℕ) (e : Entry) 
 
 -- ---- which nodes stand in a node
 
-parts_at : (y : ℕ) (fields : List FlatField) (number : ℕ) (es : List Entry) (i : ℕ) (e : Entry) → slice_get es i ≡ Some e
+parts_at : (y : ℕ) (fields : List FlatField) (number : ℕ) (es : List FieldRowView) (i : ℕ) (e : FieldRowView) → slice_get es i ≡ Some e
     → In y (parts_in e.field_type (given fields (number + i))) → In y (parts_from fields number es)
 parts_at y fields number [] i e at n = absurd cc
 parts_at y fields number (x ∷ es) zero e at n =
     let here : number + 0 ≡ number = omega arith in
     in_front y (parts_in x.field_type (given fields number)) (parts_from fields (number + 1) es)
     (subst (λ (k : ℕ). In y (parts_in x.field_type (given fields k))) here
-    (subst (λ (z : Entry). In y (parts_in z.field_type (given fields (number + 0)))) (sym (some_is x e at)) n))
+    (subst (λ (z : FieldRowView). In y (parts_in z.field_type (given fields (number + 0)))) (sym (some_is x e at)) n))
 parts_at y fields number (x ∷ es) (suc i) e at n =
     let there : number + suc i ≡ number + 1 + i = omega arith in
     in_back y (parts_in x.field_type (given fields number)) (parts_from fields (number + 1) es)
@@ -178,7 +178,7 @@ module _ (from : Flat) (s : SceneView) (is_scene : scene_of from ≡ Ok s) where
   -- ---- a field of the node's type
 
   row_of : (i y : ℕ) (flat : FlatNode) → slice_get (numbers_of from).order i ≡ Some y → slice_get from.nodes y ≡ Some flat → (node : SceneNode)
-      → IsNode from.nodes numbers (label_in from i) flat node → (k : ℕ) (e : Entry) → slice_get (rows flat.node_type) k ≡ Some e
+      → IsNode from.nodes numbers (label_in from i) flat node → (k : ℕ) (e : FieldRowView) → slice_get (rows flat.node_type) k ≡ Some e
       → (x : Value) → value_in node.values k ≡ Some x → (default_of e ≡ Some x) ⊎ IsGivenTo s e x
   unfolding parts_of
   row_of i y flat at flat_is node m k e row x held =
@@ -197,7 +197,7 @@ module _ (from : Flat) (s : SceneView) (is_scene : scene_of from ≡ Ok s) where
               within from.nodes z g.0 g.1,
             )
 
-  pub row_by : (n : ℕ) (node : SceneNode) → slice_get s.nodes n ≡ Some node → (k : ℕ) (e : Entry) → slice_get (rows node.node_type) k ≡ Some e
+  pub row_by : (n : ℕ) (node : SceneNode) → slice_get s.nodes n ≡ Some node → (k : ℕ) (e : FieldRowView) → slice_get (rows node.node_type) k ≡ Some e
       → (x : Value) → value_at s n k ≡ Some x → (default_of e ≡ Some x) ⊎ IsGivenTo s e x
   row_by n node is k e row x held =
       let l = within s.nodes n node is in

@@ -8,7 +8,7 @@ use Rattle.x3d_values.specs.declared.node_type.NodeType.{NodeType}
 use Rattle.x3d_values.specs.declared.node_type.NodeType.TheVariants.{Switch}
 use Rattle.x3d_values.specs.declared.value.Value.{Value}
 use Rattle.x3d_values.specs.declared.value.Value.TheVariants.{MFNode}
-use Rattle.x3d_values.specs.Tables.{AreTyped, Entry, rows}
+use Rattle.x3d_values.specs.Tables.{AreTyped, FieldRowView, rows}
 use Rattle.x3d_values.specs.Values.{nodes_of}
 use Rattle.proto_flat.specs.declared.flat.Flat.{Flat}
 use Rattle.proto_flat.specs.declared.flat.FlatField.{FlatField}
@@ -47,8 +47,8 @@ none_taken (suc k) [] e = refl
 none_taken k (x ∷ xs) e = absurd cc
 
 -- the row of the children
-children_type : (e : Entry) → slice_get (rows Switch) switch_children ≡ Some e → types.MFNode ≡ e.field_type
-children_type e at = ap (λ (y : Entry). y.field_type) (some_is _ e at)
+children_type : (e : FieldRowView) → slice_get (rows Switch) switch_children ≡ Some e → types.MFNode ≡ e.field_type
+children_type e at = ap (λ (y : FieldRowView). y.field_type) (some_is _ e at)
 
 module _ (typed_again : WrittenNodesAreTyped) (left_out : LeftOutAreDefaults) (all : List FlatNode) (ns : List ℕ) (h : ℕ) (hs : List ℕ)
     (named : AllByRecursion (λ (n : ℕ). called ns n ≡ n) (h ∷ hs)) where
@@ -58,7 +58,7 @@ module _ (typed_again : WrittenNodesAreTyped) (left_out : LeftOutAreDefaults) (a
     named = λ v e. subst (λ (x : Value). AllByRecursion (λ (n : ℕ). called ns n ≡ n) (nodes_of x)) (some_is (MFNode (h ∷ hs)) v e) named;
   }
 
-  value_is : (field : ℕ) (e : Entry) (v : Option Value) → slice_get (rows Switch) field ≡ Some e
+  value_is : (field : ℕ) (e : FieldRowView) (v : Option Value) → slice_get (rows Switch) field ≡ Some e
       → field_value all ns e (given (children_field (h ∷ hs) ∷ []) field) ≡ Ok v → v ≡ switch_value (h ∷ hs) field e
   value_is field e v at made = by_field (switch_children == field) refl made where
     by_field : (b : Bool) → (switch_children == field) ≡ b → field_value all ns e (if b then Some (children_field (h ∷ hs)) else None) ≡ Ok v
@@ -95,8 +95,8 @@ module _ (from : Flat) (s : SceneView) (routes : List Route) (state : List Field
             (row_made ns g.0 m.0 a.node_type a.fields_same r.is.row field x at);
       } where
         row_made : (ns : List ℕ) (g : FlatNode) (m : SceneNode) → g.node_type ≡ Switch → g.fields ≡ children_field (h ∷ hs) ∷ []
-            → ((i : ℕ) (x : Entry) → slice_get (rows g.node_type) i ≡ Some x → IsRowMade again.nodes ns g.fields x i (value_in m.values i))
-            → (field : ℕ) (x : Entry) → slice_get (rows Switch) field ≡ Some x
+            → ((i : ℕ) (x : FieldRowView) → slice_get (rows g.node_type) i ≡ Some x → IsRowMade again.nodes ns g.fields x i (value_in m.values i))
+            → (field : ℕ) (x : FieldRowView) → slice_get (rows Switch) field ≡ Some x
             → field_value again.nodes ns x (given (children_field (h ∷ hs) ∷ []) field) ≡ Ok (value_in m.values field)
         row_made ns g m t f k field x at =
             ap (λ (l : List FlatField). field_value again.nodes ns x (given l field)) (sym f)

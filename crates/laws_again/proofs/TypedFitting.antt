@@ -13,7 +13,7 @@ use Rattle.x3d_values.specs.declared.value.Value.{Value}
 use Rattle.x3d_values.specs.declared.value.Value.TheVariants as value
 use Rattle.x3d_values.specs.Access.{is_kept}
 use Rattle.x3d_values.specs.Kept.{field_value}
-use Rattle.x3d_values.specs.Tables.{Entry, rows}
+use Rattle.x3d_values.specs.Tables.{FieldRowView, rows}
 use Rattle.x3d_values.specs.Values.{type_of}
 use Rattle.snapshot_codec.specs.declared.kept.KeptField.TheVariants.{Absent, Interval, Typed}
 use Rattle.snapshot_codec.specs.Fields.{has_bytes, is_interval, is_positive, kept_field, kept_fits}
@@ -76,11 +76,11 @@ some_is : {A : Type 0} (x y : A) → some x ≡ some y → x ≡ y
 some_is x y e = cc
 
 -- the field of an interval is one of times
-interval_is : (t : NodeType) (declared : List Entry) (number : ℕ) (e : Entry) → slice_get (rows t ++ declared) number ≡ Some e → is_interval t number ≡ true
+interval_is : (t : NodeType) (declared : List FieldRowView) (number : ℕ) (e : FieldRowView) → slice_get (rows t ++ declared) number ≡ Some e → is_interval t number ≡ true
     → e.field_type ≡ types.SFTime
 interval_is TimeSensor declared number e at h =
     let here : slice_get (rows TimeSensor ++ declared) 1 ≡ Some e = subst (λ (n : ℕ). slice_get (rows TimeSensor ++ declared) n ≡ Some e) (eqb-true number 1 h) at in
-    sym (some_is types.SFTime e.field_type (ap (λ (o : Option Entry). option_map (λ (row : Entry). row.field_type) o) here))
+    sym (some_is types.SFTime e.field_type (ap (λ (o : Option FieldRowView). option_map (λ (row : FieldRowView). row.field_type) o) here))
 interval_is _ declared number e at h = absurd cc
 
 -- what has bytes is kept, where it is an inputOutput field
@@ -109,12 +109,12 @@ field_held t n InitializeOnly field_type v k h = absurd cc
 -- ---- the fields of a node
 
 -- what its row says of the field of that number
-abbrev Keeps : NodeType → ℕ → Entry → Value → Type 0
+abbrev Keeps : NodeType → ℕ → FieldRowView → Value → Type 0
 Keeps t n e v = kept_fits (kept_field t n e.access e.field_type) (Some v) ≡ true
 
 -- there is a row for a value that is kept, the first of the rows having number n
-abbrev HasRow : NodeType → ℕ → List Entry → ℕ → Value → Type 0
-HasRow t n es number v = (e : Entry) × (slice_get es number ≡ Some e) × Keeps t (n + number) e v
+abbrev HasRow : NodeType → ℕ → List FieldRowView → ℕ → Value → Type 0
+HasRow t n es number v = (e : FieldRowView) × (slice_get es number ≡ Some e) × Keeps t (n + number) e v
 
 same_place : (n : ℕ) → n ≡ n + zero
 same_place n = omega arith
@@ -125,7 +125,7 @@ next_place n k = omega arith
 from_zero : (n : ℕ) → zero + n ≡ n
 from_zero n = omega arith
 
-has_row : (t : NodeType) (n : ℕ) (es : List Entry) (vs : List (Option Value)) (number : ℕ) (v : Value)
+has_row : (t : NodeType) (n : ℕ) (es : List FieldRowView) (vs : List (Option Value)) (number : ℕ) (v : Value)
     → values_fit t n es vs ≡ true → option_and_then (λ o. o) (slice_get vs number) ≡ Some v → HasRow t n es number v
 has_row t n es [] number v f held = absurd cc
 has_row t n [] (o ∷ vs) number v f held = absurd cc
@@ -139,8 +139,8 @@ has_row t n (row ∷ es) (o ∷ vs) (suc number) v f held =
     (r.0, r.1, subst (λ (m : ℕ). Keeps t m r.0 v) (next_place n number) r.2)
 
 -- the value is one of a field of these that is kept
-abbrev pub IsHeld : List Entry → ℕ → Value → Type 0
-IsHeld es number v = (e : Entry) × (slice_get es number ≡ Some e) × (type_of v ≡ e.field_type) × (is_kept e.access e.field_type ≡ true)
+abbrev pub IsHeld : List FieldRowView → ℕ → Value → Type 0
+IsHeld es number v = (e : FieldRowView) × (slice_get es number ≡ Some e) × (type_of v ≡ e.field_type) × (is_kept e.access e.field_type ≡ true)
 
 node_held : (s : Shape) (fields : Fields) (cycle : Option ℕ) (state : PointingState) (number : ℕ) (v : Value)
     → node_fits s fields cycle state ≡ true → field_value fields number ≡ Some v → IsHeld (rows_of s) number v
@@ -177,4 +177,4 @@ fitting_held scene w fits = nodes_held (shapes_of scene) w.fields w.sensors w.po
 pub fitting_typed : FittingAreOfType
 fitting_typed scene w fits n number e fields v at here held =
     let r : IsHeld (rows_at scene n) number v = fitting_held scene w fits n number fields v here held in
-    r.2 ∙ ap (λ (x : Entry). x.field_type) (some_is r.0 e (sym r.1 ∙ at))
+    r.2 ∙ ap (λ (x : FieldRowView). x.field_type) (some_is r.0 e (sym r.1 ∙ at))

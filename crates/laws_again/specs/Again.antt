@@ -6,7 +6,7 @@ use Rattle.x3d_values.specs.declared.node_type.NodeType.{NodeType}
 use Rattle.x3d_values.specs.declared.node_type.NodeType.TheVariants.{Switch}
 use Rattle.x3d_values.specs.declared.value.Value.{Value}
 use Rattle.x3d_values.specs.declared.value.Value.TheVariants.{MFNode}
-use Rattle.x3d_values.specs.Tables.{Entry, rows}
+use Rattle.x3d_values.specs.Tables.{FieldRowView, rows}
 use Rattle.proto_flat.specs.declared.flat.Flat.{Flat}
 use Rattle.proto_meaning.specs.Flat.{flat}
 use Rattle.scene_core.specs.declared.scene.Route.{Route}
@@ -28,14 +28,14 @@ switch_type [] = []
 switch_type (n ∷ ns) = Switch ∷ []
 
 -- its children are the helpers, and its other fields hold what they hold where nothing is given
-abbrev pub switch_value : List ℕ → ℕ → Entry → Option Value
+abbrev pub switch_value : List ℕ → ℕ → FieldRowView → Option Value
 switch_value helpers field e =
     if switch_children == field then Some (MFNode helpers) else default_of e
 
 pub record IsSwitchOf (helpers : List ℕ) (next : SceneView) (n : ℕ) : Type 0 where
   pub label : name_at next n ≡ None
   pub declared : declared_at next n ≡ []
-  pub values : (field : ℕ) (e : Entry) → slice_get (rows Switch) field ≡ Some e
+  pub values : (field : ℕ) (e : FieldRowView) → slice_get (rows Switch) field ≡ Some e
       → value_at next n field ≡ switch_value helpers field e
 
 -- the second scene is the first, with what its nodes keep; the routes decide which nodes have a DEF
@@ -51,7 +51,7 @@ pub record IsWrittenOf (s : SceneView) (routes : List Route) (state : List Field
   pub rows : (n : ℕ) → n < length s.nodes → rows_at next n ≡ rows_at s n
   pub children : map children next.nodes ≡ written_nodes s
   -- each field holds what it held: what its node keeps of it, and else what the scene gives
-  pub values : (n field : ℕ) (e : Entry) → slice_get (rows_at s n) field ≡ Some e
+  pub values : (n field : ℕ) (e : FieldRowView) → slice_get (rows_at s n) field ≡ Some e
       → value_at next n field ≡ value_now s state n field e.access e.field_type
   -- a node has the same label, and keeps it as its name where it was written with a DEF
   pub labels : (n : ℕ) → n < length s.nodes → label_of next n ≡ label_of s n

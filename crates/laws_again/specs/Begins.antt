@@ -6,7 +6,7 @@ use Rattle.x3d_values.specs.declared.fields.Fields.{Fields}
 use Rattle.x3d_values.specs.declared.value.Value.{Value}
 use Rattle.x3d_values.specs.Access.{is_kept}
 use Rattle.x3d_values.specs.Kept.{field_value}
-use Rattle.x3d_values.specs.Tables.{Entry}
+use Rattle.x3d_values.specs.Tables.{FieldRowView}
 use Rattle.scene_core.specs.declared.scene.Route.{Route}
 use Rattle.scene_core.specs.Scene.{SceneView, rows_at, state_of}
 use Rattle.laws_again.specs.Again.{IsWrittenOf}
@@ -20,7 +20,7 @@ kept_of state n field =
 abbrev pub KeptAgain : Type 0
 KeptAgain =
     (s : SceneView) (routes : List Route) (state : List Fields) (next : SceneView)
-    → IsWrittenOf s routes state next → (n field : ℕ) (e : Entry) (v : Value)
+    → IsWrittenOf s routes state next → (n field : ℕ) (e : FieldRowView) (v : Value)
     → slice_get (rows_at s n) field ≡ Some e → is_kept e.access e.field_type ≡ true
     → kept_of state n field ≡ Some v
     → kept_of (state_of next) n field ≡ Some v

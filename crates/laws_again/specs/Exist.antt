@@ -5,7 +5,7 @@ use Rattle.x3d_values.specs.declared.fields.Fields.{Fields}
 use Rattle.x3d_values.specs.declared.node_type.NodeType.{NodeType}
 use Rattle.x3d_values.specs.declared.value.Value.{Value}
 use Rattle.x3d_values.specs.Kept.{field_value}
-use Rattle.x3d_values.specs.Tables.{Entry, rows}
+use Rattle.x3d_values.specs.Tables.{FieldRowView, rows}
 use Rattle.proto_flat.specs.declared.flat.Flat.{Flat}
 use Rattle.proto_meaning.specs.Flat.{flat}
 use Rattle.scene_core.specs.declared.fault.SceneFault.{SceneFault}
@@ -23,7 +23,7 @@ use Rattle.laws_again.specs.Sound.{AreOfType, AreSound}
 -- what a node keeps of a field of its type is in the range of that field
 abbrev pub AreInRange : SceneView → List Fields → Type 0
 AreInRange s state =
-    (n field : ℕ) (t : NodeType) (e : Entry) (fields : Fields) (v : Value)
+    (n field : ℕ) (t : NodeType) (e : FieldRowView) (fields : Fields) (v : Value)
     → type_at s n ≡ Some t → slice_get (rows t) field ≡ Some e → slice_get state n ≡ Some fields
     → field_value fields field ≡ Some v → in_range e.name v ≡ true
 

@@ -3,7 +3,7 @@ use Rattle.std.specs.Prelude.{◌≡◌, ℕ, true, List, Some, Ok, slice_get}
 use Rattle.x3d_values.specs.declared.fields.Fields.{Fields}
 use Rattle.x3d_values.specs.declared.value.Value.{Value}
 use Rattle.x3d_values.specs.Kept.{field_value}
-use Rattle.x3d_values.specs.Tables.{Entry}
+use Rattle.x3d_values.specs.Tables.{FieldRowView}
 use Rattle.x3d_values.specs.Values.{type_of}
 use Rattle.proto_flat.specs.declared.flat.Flat.{Flat}
 use Rattle.scene_core.specs.Building.{scene_of}
@@ -18,7 +18,7 @@ AreSound s = (n field : ℕ) (v : Value) → value_at s n field ≡ Some v → i
 -- what a node keeps of a field is of the field's type
 abbrev pub AreOfType : SceneView → List Fields → Type 0
 AreOfType s state =
-    (n field : ℕ) (e : Entry) (fields : Fields) (v : Value)
+    (n field : ℕ) (e : FieldRowView) (fields : Fields) (v : Value)
     → slice_get (rows_at s n) field ≡ Some e → slice_get state n ≡ Some fields
     → field_value fields field ≡ Some v → type_of v ≡ e.field_type
 

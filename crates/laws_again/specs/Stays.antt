@@ -1,7 +1,7 @@
 -- A written scene is the scene (ISO/IEC 19775-1, scene graph; which sizes are too large is our
 -- choice).
 use Rattle.std.specs.Prelude.{◌≡◌, ◌⊎◌, ℕ, true, List, Option, Ok, Err}
-use Rattle.x3d_values.specs.Stamp.{Stamp}
+use Rattle.x3d_values.specs.Stamp.{StampedView}
 use Rattle.x3d_values.specs.declared.fields.Fields.{Fields}
 use Rattle.classic_round_trip.specs.AnyLength.{SpellsAtAnyLength}
 use Rattle.proto_flat.specs.declared.fault.ExpandFault.{ExpandFault}
@@ -71,7 +71,7 @@ ScenesStay =
 -- so it is in each world that the scene of a text comes to by inputs in turn, if its scripts run
 abbrev pub WorldsStay : Type 0
 WorldsStay =
-    (text : List ℕ) (f : Flat) (scene : SceneView) (routes : List Route) (inputs : List Stamp)
+    (text : List ℕ) (f : Flat) (scene : SceneView) (routes : List Route) (inputs : List StampedView)
     → IsOpened text f scene routes → RunsAll scene → AreInputs inputs
     → Stays scene routes (world scene routes inputs).world.fields
 
@@ -82,5 +82,5 @@ RunningWorldsStay =
     (text : List ℕ) (f : Flat) (scene : SceneView) (routes : List Route)
     (mark : List ℕ) (net : Network Scripted)
     → IsOpened text f scene routes → RunsAll scene → Reached (cascade mark scene routes) net
-    → (viewer : ℕ) (held : Scripted) (window : List (Option Stamp))
+    → (viewer : ℕ) (held : Scripted) (window : List (Option StampedView))
     → IsRunning net viewer held window → Stays scene routes held.world.fields

@@ -1,6 +1,6 @@
 -- What the nodes of a world keep is of their fields' types (ISO/IEC 19775-1, field types).
 use Rattle.std.specs.Prelude.{ℕ, List, Option}
-use Rattle.x3d_values.specs.Stamp.{Stamp}
+use Rattle.x3d_values.specs.Stamp.{StampedView}
 use Rattle.proto_flat.specs.declared.flat.Flat.{Flat}
 use Rattle.scene_core.specs.declared.scene.Route.{Route}
 use Rattle.scene_core.specs.Scene.{SceneView, shapes_of}
@@ -24,7 +24,7 @@ FittingAreOfType =
 -- in each world that the scene of a text comes to by inputs in turn, that of no inputs too
 abbrev pub WorldsAreOfType : Type 0
 WorldsAreOfType =
-    (text : List ℕ) (f : Flat) (scene : SceneView) (routes : List Route) (inputs : List Stamp)
+    (text : List ℕ) (f : Flat) (scene : SceneView) (routes : List Route) (inputs : List StampedView)
     → IsOpened text f scene routes → RunsAll scene → AreInputs inputs
     → AreOfType scene (world scene routes inputs).world.fields
 
@@ -35,5 +35,5 @@ RunningWorldsAreOfType =
     (text : List ℕ) (f : Flat) (scene : SceneView) (routes : List Route)
     (mark : List ℕ) (net : Network Scripted)
     → IsOpened text f scene routes → RunsAll scene → Reached (cascade mark scene routes) net
-    → (viewer : ℕ) (held : Scripted) (window : List (Option Stamp))
+    → (viewer : ℕ) (held : Scripted) (window : List (Option StampedView))
     → IsRunning net viewer held window → AreOfType scene held.world.fields

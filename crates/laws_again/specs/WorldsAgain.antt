@@ -2,7 +2,7 @@
 -- graph).
 use Rattle.std.specs.Prelude.{◌≡◌, ℕ, List, Ok, Option, Some}
 use Rattle.x3d_values.specs.declared.value.Value.{Value}
-use Rattle.x3d_values.specs.Stamp.{Stamp}
+use Rattle.x3d_values.specs.Stamp.{StampedView}
 use Rattle.proto_flat.specs.declared.flat.Flat.{Flat}
 use Rattle.proto_meaning.specs.Flat.{flat}
 use Rattle.scene_core.specs.declared.scene.Route.{Route}
@@ -31,7 +31,7 @@ IsAgain scene routes w =
 -- so in each world that the scene of a text comes to by inputs in turn
 abbrev pub WrittenWorldsAreAgain : Type 0
 WrittenWorldsAreAgain =
-    (text : List ℕ) (f : Flat) (scene : SceneView) (routes : List Route) (inputs : List Stamp)
+    (text : List ℕ) (f : Flat) (scene : SceneView) (routes : List Route) (inputs : List StampedView)
     → IsOpened text f scene routes → RunsAll scene → AreInputs inputs
     → IsAgain scene routes (world scene routes inputs)
 
@@ -42,7 +42,7 @@ RunningWorldsAreAgain =
     (text : List ℕ) (f : Flat) (scene : SceneView) (routes : List Route)
     (mark : List ℕ) (net : Network Scripted)
     → IsOpened text f scene routes → RunsAll scene → Reached (cascade mark scene routes) net
-    → (viewer : ℕ) (held : Scripted) (window : List (Option Stamp))
+    → (viewer : ℕ) (held : Scripted) (window : List (Option StampedView))
     → IsRunning net viewer held window → IsAgain scene routes held
 
 -- each value that a node of such a world kept it keeps in that scene, before any event
@@ -55,7 +55,7 @@ IsKeptAgain scene routes w =
 
 abbrev pub WorldsAreKeptAgain : Type 0
 WorldsAreKeptAgain =
-    (text : List ℕ) (f : Flat) (scene : SceneView) (routes : List Route) (inputs : List Stamp)
+    (text : List ℕ) (f : Flat) (scene : SceneView) (routes : List Route) (inputs : List StampedView)
     → IsOpened text f scene routes → RunsAll scene → AreInputs inputs
     → IsKeptAgain scene routes (world scene routes inputs)
 
@@ -64,5 +64,5 @@ RunningWorldsAreKeptAgain =
     (text : List ℕ) (f : Flat) (scene : SceneView) (routes : List Route)
     (mark : List ℕ) (net : Network Scripted)
     → IsOpened text f scene routes → RunsAll scene → Reached (cascade mark scene routes) net
-    → (viewer : ℕ) (held : Scripted) (window : List (Option Stamp))
+    → (viewer : ℕ) (held : Scripted) (window : List (Option StampedView))
     → IsRunning net viewer held window → IsKeptAgain scene routes held

@@ -1,6 +1,6 @@
 -- That the scene of a world is written as a text that is read again (ISO/IEC 19776-2, grammar).
 use Rattle.std.specs.Prelude.{◌≡◌, ℕ, true, List, Option}
-use Rattle.x3d_values.specs.Stamp.{Stamp}
+use Rattle.x3d_values.specs.Stamp.{StampedView}
 use Rattle.classic_round_trip.specs.AnyLength.{SpellsAtAnyLength}
 use Rattle.proto_flat.specs.declared.flat.Flat.{Flat}
 use Rattle.scene_core.specs.declared.scene.Route.{Route}
@@ -27,7 +27,7 @@ IsReadAgain scene routes w =
 -- the helpers
 abbrev pub WrittenWorldsSpell : Type 0
 WrittenWorldsSpell =
-    (text : List ℕ) (f : Flat) (scene : SceneView) (routes : List Route) (inputs : List Stamp)
+    (text : List ℕ) (f : Flat) (scene : SceneView) (routes : List Route) (inputs : List StampedView)
     → IsOpened text f scene routes → RunsAll scene → has_room scene ≡ true → AreInputs inputs
     → IsReadAgain scene routes (world scene routes inputs)
 
@@ -39,5 +39,5 @@ RunningWorldsSpell =
     (mark : List ℕ) (net : Network Scripted)
     → IsOpened text f scene routes → RunsAll scene → has_room scene ≡ true
     → Reached (cascade mark scene routes) net
-    → (viewer : ℕ) (held : Scripted) (window : List (Option Stamp))
+    → (viewer : ℕ) (held : Scripted) (window : List (Option StampedView))
     → IsRunning net viewer held window → IsReadAgain scene routes held

@@ -18,7 +18,7 @@ use Rattle.classic_tree.specs.declared.tree.Statement.TheVariants as statement
 use Rattle.classic_tree.proofs.Mapped.{given_mapped}
 use Rattle.laws_flat.specs.Signatures.{Signature, signature}
 use Rattle.laws_flat.specs.Uses.{named}
-use Rattle.laws_flat.specs.Fields.{FieldRead, Reading, Got, closes, interface_of, numbering, opens, Item, NodeStep, Numbering, StatementStep, each, gives, got_map, read_one, read_full, read_given, read_item, read_node, read_statement, declares, item_step, node_step, proto_step, statement_step}
+use Rattle.laws_flat.specs.Fields.{FieldRead, Reading, Got, closes, interface_of, numbering, opens, FieldItem, NodeStep, Numbering, StatementStep, each, gives, got_map, read_one, read_full, read_given, read_item, read_node, read_statement, declares, item_step, node_step, proto_step, statement_step}
 use Rattle.laws_flat.specs.Fields.{item as item_read}
 
 abbrev itself : NodeStep → NodeStep
@@ -48,49 +48,49 @@ module _ (numbers : Numbering) (before : List FieldRead) (r : Reading) where
   unfolding item_step
   read-field line name g =
       ap (λ i. read_item numbers i before r) (sym (item.rolls-Field line name g))
-      ∙ ap (λ (s : Item). s.reads numbers before r) (fold-roll-BodyItem Item NodeStep StatementStep StatementStep item_step node_step statement_step proto_step (BodyItem-F.Field line name g))
+      ∙ ap (λ (s : FieldItem). s.reads numbers before r) (fold-roll-BodyItem FieldItem NodeStep StatementStep StatementStep item_step node_step statement_step proto_step (BodyItem-F.Field line name g))
       ∙ given-mapped read_node line (numbers name) g before r
 
   pub read-declaration : (d : Declaration NodeText) → read_item numbers (item.Declaration d) before r ≡ read_given read_node d.line (numbers d.name) d.given before r
   unfolding item_step
   read-declaration d =
       ap (λ i. read_item numbers i before r) (sym (item.rolls-Declaration d))
-      ∙ ap (λ (s : Item). s.reads numbers before r) (fold-roll-BodyItem Item NodeStep StatementStep StatementStep item_step node_step statement_step proto_step (BodyItem-F.Declaration d))
+      ∙ ap (λ (s : FieldItem). s.reads numbers before r) (fold-roll-BodyItem FieldItem NodeStep StatementStep StatementStep item_step node_step statement_step proto_step (BodyItem-F.Declaration d))
       ∙ given-mapped read_node d.line (numbers d.name) d.given before r
 
   pub read-item-route : (route : RouteText) → read_item numbers (item.Route route) before r ≡ gives before r
   unfolding item_step
   read-item-route route =
       ap (λ i. read_item numbers i before r) (sym (item.rolls-Route route))
-      ∙ ap (λ (s : Item). s.reads numbers before r) (fold-roll-BodyItem Item NodeStep StatementStep StatementStep item_step node_step statement_step proto_step (BodyItem-F.BodyItem::Route route))
+      ∙ ap (λ (s : FieldItem). s.reads numbers before r) (fold-roll-BodyItem FieldItem NodeStep StatementStep StatementStep item_step node_step statement_step proto_step (BodyItem-F.BodyItem::Route route))
 
   pub read-item-proto : (p : ProtoText) → read_item numbers (item.Proto p) before r ≡ gives before r
   unfolding item_step
   read-item-proto p =
       ap (λ i. read_item numbers i before r) (sym (item.rolls-Proto p))
-      ∙ ap (λ (s : Item). s.reads numbers before r) (fold-roll-BodyItem Item NodeStep StatementStep StatementStep item_step node_step statement_step proto_step (BodyItem-F.BodyItem::Proto p))
+      ∙ ap (λ (s : FieldItem). s.reads numbers before r) (fold-roll-BodyItem FieldItem NodeStep StatementStep StatementStep item_step node_step statement_step proto_step (BodyItem-F.BodyItem::Proto p))
 
 -- ---- what is declared
 
 pub declares-field : (line : ℕ) (name : List ℕ) (g : Given NodeText) → declares (item.Field line name g) ≡ []
 unfolding item_step
 declares-field line name g =
-    ap declares (sym (item.rolls-Field line name g)) ∙ ap (λ (s : Item). s.declares) (fold-roll-BodyItem Item NodeStep StatementStep StatementStep item_step node_step statement_step proto_step (BodyItem-F.Field line name g))
+    ap declares (sym (item.rolls-Field line name g)) ∙ ap (λ (s : FieldItem). s.declares) (fold-roll-BodyItem FieldItem NodeStep StatementStep StatementStep item_step node_step statement_step proto_step (BodyItem-F.Field line name g))
 
 pub declares-declaration : (d : Declaration NodeText) → declares (item.Declaration d) ≡ signature d ∷ []
 unfolding item_step
 declares-declaration d =
-    ap declares (sym (item.rolls-Declaration d)) ∙ ap (λ (s : Item). s.declares) (fold-roll-BodyItem Item NodeStep StatementStep StatementStep item_step node_step statement_step proto_step (BodyItem-F.Declaration d))
+    ap declares (sym (item.rolls-Declaration d)) ∙ ap (λ (s : FieldItem). s.declares) (fold-roll-BodyItem FieldItem NodeStep StatementStep StatementStep item_step node_step statement_step proto_step (BodyItem-F.Declaration d))
 
 pub declares-route : (route : RouteText) → declares (item.Route route) ≡ []
 unfolding item_step
 declares-route route =
-    ap declares (sym (item.rolls-Route route)) ∙ ap (λ (s : Item). s.declares) (fold-roll-BodyItem Item NodeStep StatementStep StatementStep item_step node_step statement_step proto_step (BodyItem-F.BodyItem::Route route))
+    ap declares (sym (item.rolls-Route route)) ∙ ap (λ (s : FieldItem). s.declares) (fold-roll-BodyItem FieldItem NodeStep StatementStep StatementStep item_step node_step statement_step proto_step (BodyItem-F.BodyItem::Route route))
 
 pub declares-proto : (p : ProtoText) → declares (item.Proto p) ≡ []
 unfolding item_step
 declares-proto p =
-    ap declares (sym (item.rolls-Proto p)) ∙ ap (λ (s : Item). s.declares) (fold-roll-BodyItem Item NodeStep StatementStep StatementStep item_step node_step statement_step proto_step (BodyItem-F.BodyItem::Proto p))
+    ap declares (sym (item.rolls-Proto p)) ∙ ap (λ (s : FieldItem). s.declares) (fold-roll-BodyItem FieldItem NodeStep StatementStep StatementStep item_step node_step statement_step proto_step (BodyItem-F.BodyItem::Proto p))
 
 -- ---- nodes
 
@@ -98,16 +98,16 @@ pub read-use : (line : ℕ) (name : List ℕ) (r : Reading) → read_node (node.
 unfolding node_step
 read-use line name r =
     ap (λ n. read_node n r) (sym (node.rolls-Use line name))
-    ∙ ap (λ (s : NodeStep). s r) (fold-roll-NodeText Item NodeStep StatementStep StatementStep item_step node_step statement_step proto_step (NodeText-F.Use line name))
+    ∙ ap (λ (s : NodeStep). s r) (fold-roll-NodeText FieldItem NodeStep StatementStep StatementStep item_step node_step statement_step proto_step (NodeText-F.Use line name))
 
 abbrev pub all_declared : List BodyItem → List Signature
 all_declared items = flat_map declares items
 
-declares-mapped : (items : List BodyItem) → flat_map (λ (i : Item). i.declares) (map item_read items) ≡ all_declared items
+declares-mapped : (items : List BodyItem) → flat_map (λ (i : FieldItem). i.declares) (map item_read items) ≡ all_declared items
 declares-mapped [] = refl
 declares-mapped (i ∷ items) = ap (λ ss. declares i ++ ss) (declares-mapped items)
 
-each-mapped : (numbers : Numbering) (items : List BodyItem) (b : List FieldRead) (r : Reading) → each (λ (i : Item). i.reads numbers) (map item_read items) b r ≡ each (read_item numbers) items b r
+each-mapped : (numbers : Numbering) (items : List BodyItem) (b : List FieldRead) (r : Reading) → each (λ (i : FieldItem). i.reads numbers) (map item_read items) b r ≡ each (read_item numbers) items b r
 each-mapped numbers [] b r = refl
 each-mapped numbers (i ∷ items) b r = each-mapped numbers items (read_item numbers i b r).what (read_item numbers i b r).after
 
@@ -115,7 +115,7 @@ abbrev Parts : Type 0
 Parts = Numbering → List FieldRead → Reading → Got (List FieldRead)
 
 full-parts : (name : Option (List ℕ)) (word : List ℕ) (items : List BodyItem) (ss : List Signature) (r : Reading) →
-    read_full name (node_type_named word) ss (λ numbers. each (λ (i : Item). i.reads numbers) (map item_read items)) r ≡ read_full name (node_type_named word) ss (λ numbers. each (read_item numbers) items) r
+    read_full name (node_type_named word) ss (λ numbers. each (λ (i : FieldItem). i.reads numbers) (map item_read items)) r ≡ read_full name (node_type_named word) ss (λ numbers. each (read_item numbers) items) r
 full-parts name word items ss r =
     ap (λ (g : Got (List FieldRead)). closes name r (interface_of (node_type_named word) ss) g)
     (each-mapped (numbering (node_type_named word) ss) items [] (opens name r))
@@ -125,8 +125,8 @@ pub read-full : (line : ℕ) (name : Option (List ℕ)) (word : List ℕ) (items
 unfolding node_step
 read-full line name word items r =
     ap (λ n. read_node n r) (sym (node.rolls-Full line name word items))
-    ∙ ap (λ (s : NodeStep). s r) (fold-roll-NodeText Item NodeStep StatementStep StatementStep item_step node_step statement_step proto_step (NodeText-F.Full line name word items))
-    ∙ full-parts name word items (flat_map (λ (i : Item). i.declares) (map item_read items)) r
+    ∙ ap (λ (s : NodeStep). s r) (fold-roll-NodeText FieldItem NodeStep StatementStep StatementStep item_step node_step statement_step proto_step (NodeText-F.Full line name word items))
+    ∙ full-parts name word items (flat_map (λ (i : FieldItem). i.declares) (map item_read items)) r
     ∙ ap (λ ss. read_full name (node_type_named word) ss (λ numbers. each (read_item numbers) items) r) (declares-mapped items)
 
 -- ---- statements
@@ -135,16 +135,16 @@ pub read-node-statement : (n : NodeText) (r : Reading) → read_statement (state
 unfolding statement_step
 read-node-statement n r =
     ap (λ s. read_statement s r) (sym (statement.rolls-Node n))
-    ∙ ap (λ (s : StatementStep). s r) (fold-roll-Statement Item NodeStep StatementStep StatementStep item_step node_step statement_step proto_step (Statement-F.Node n))
+    ∙ ap (λ (s : StatementStep). s r) (fold-roll-Statement FieldItem NodeStep StatementStep StatementStep item_step node_step statement_step proto_step (Statement-F.Node n))
 
 pub read-route : (route : RouteText) (r : Reading) → read_statement (statement.Route route) r ≡ r
 unfolding statement_step
 read-route route r =
     ap (λ s. read_statement s r) (sym (statement.rolls-Route route))
-    ∙ ap (λ (s : StatementStep). s r) (fold-roll-Statement Item NodeStep StatementStep StatementStep item_step node_step statement_step proto_step (Statement-F.Statement::Route route))
+    ∙ ap (λ (s : StatementStep). s r) (fold-roll-Statement FieldItem NodeStep StatementStep StatementStep item_step node_step statement_step proto_step (Statement-F.Statement::Route route))
 
 pub read-proto : (p : ProtoText) (r : Reading) → read_statement (statement.Proto p) r ≡ r
 unfolding statement_step
 read-proto p r =
     ap (λ s. read_statement s r) (sym (statement.rolls-Proto p))
-    ∙ ap (λ (s : StatementStep). s r) (fold-roll-Statement Item NodeStep StatementStep StatementStep item_step node_step statement_step proto_step (Statement-F.Statement::Proto p))
+    ∙ ap (λ (s : StatementStep). s r) (fold-roll-Statement FieldItem NodeStep StatementStep StatementStep item_step node_step statement_step proto_step (Statement-F.Statement::Proto p))

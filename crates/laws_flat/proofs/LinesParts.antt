@@ -69,10 +69,10 @@ unfolding statement_step
 statement-proto p =
     ap unlined_statement (sym (statement.rolls-Proto p)) ∙ fold-roll-Statement BodyItem NodeText Statement ProtoText item_step node_step statement_step proto_step (Statement-F.Statement::Proto p)
 
-abbrev pub Opened : Type 0
-Opened = ProtoText-F BodyItem NodeText Statement ProtoText
+abbrev pub OpenProto : Type 0
+OpenProto = ProtoText-F BodyItem NodeText Statement ProtoText
 
-abbrev pub unlined_open : ProtoText → Opened
+abbrev pub unlined_open : ProtoText → OpenProto
 unlined_open p = record {
   line = 0;
   name = (out-ProtoText p).name;

@@ -36,36 +36,46 @@ abbrev pub inside : List Braces → List Braces
 inside braces = braces
 
 -- the declaration of a prototype has none of the document's nodes
-abbrev pub Step : Type 0
-Step = List Braces
+abbrev pub ClosedBraces : Type 0
+ClosedBraces = List Braces
 
-unfoldable pub item_step : BodyItem-F Step Step Step Step → Step
+unfoldable pub item_step : BodyItem-F ClosedBraces ClosedBraces ClosedBraces ClosedBraces
+    → ClosedBraces
 item_step (BodyItem-F.Field line name g) = in_given inside g
 item_step (BodyItem-F.Declaration d) = in_given inside d.given
 item_step (BodyItem-F.BodyItem::Route route) = []
 item_step (BodyItem-F.BodyItem::Proto proto) = []
 
-unfoldable pub node_step : NodeText-F Step Step Step Step → Step
+unfoldable pub node_step : NodeText-F ClosedBraces ClosedBraces ClosedBraces ClosedBraces
+    → ClosedBraces
 node_step (NodeText-F.Use line name) = []
 node_step (NodeText-F.Full line name word items) =
     flat_map inside items ++ record { word = word; name = name } ∷ []
 
-unfoldable pub statement_step : Statement-F Step Step Step Step → Step
+unfoldable pub statement_step : Statement-F ClosedBraces ClosedBraces ClosedBraces ClosedBraces
+    → ClosedBraces
 statement_step (Statement-F.Node node) = node
 statement_step (Statement-F.Statement::Route route) = []
 statement_step (Statement-F.Statement::Proto proto) = []
 
-unfoldable pub proto_step : ProtoText-F Step Step Step Step → Step
+unfoldable pub proto_step : ProtoText-F ClosedBraces ClosedBraces ClosedBraces ClosedBraces
+    → ClosedBraces
 proto_step p = []
 
 abbrev pub in_item : BodyItem → List Braces
-in_item = fold-BodyItem Step Step Step Step item_step node_step statement_step proto_step
+in_item =
+    fold-BodyItem ClosedBraces ClosedBraces ClosedBraces ClosedBraces item_step node_step
+    statement_step proto_step
 
 abbrev pub in_node : NodeText → List Braces
-in_node = fold-NodeText Step Step Step Step item_step node_step statement_step proto_step
+in_node =
+    fold-NodeText ClosedBraces ClosedBraces ClosedBraces ClosedBraces item_step node_step
+    statement_step proto_step
 
 abbrev pub in_statement : Statement → List Braces
-in_statement = fold-Statement Step Step Step Step item_step node_step statement_step proto_step
+in_statement =
+    fold-Statement ClosedBraces ClosedBraces ClosedBraces ClosedBraces item_step node_step
+    statement_step proto_step
 
 abbrev pub closings : Document → List Braces
 closings document = flat_map in_statement document.statements

@@ -16,9 +16,9 @@ use Rattle.classic_tree.specs.declared.tree.RawValue.TheVariants as value
 use Rattle.classic_tree.specs.declared.tree.Statement.{Statement, fold-Statement}
 use Rattle.proto_flat.specs.declared.flat.FlatField.{FlatField}
 use Rattle.proto_flat.specs.declared.flat.FlatNode.{FlatNode}
-use Rattle.laws_flat.specs.Readings.{Step, same}
+use Rattle.laws_flat.specs.Readings.{StateChange, same}
 use Rattle.laws_flat.specs.Signatures.{KnownField, Signature, signature, signatures, of_type, of_declared, own_interface}
-use Rattle.laws_flat.specs.Uses.{Opened, named, some}
+use Rattle.laws_flat.specs.Uses.{OpenBraces, named, some}
 
 -- a field between braces: the line of its name, its number among the fields of the node, None
 -- where the node has no such field, and its value, in which a node stands as its number, and a USE
@@ -37,7 +37,7 @@ pub record NodeRead : Type 0 where
 -- a text up to some place: all braces that opened, in that order, and what stands between those
 -- that are closed, in the order in which they close
 pub record Reading : Type 0 where
-  pub opened : List Opened
+  pub opened : List OpenBraces
   pub closed : List NodeRead
 
 abbrev pub nothing_read : Reading
@@ -131,18 +131,18 @@ module _ {N : Type 0} (read : N → NodeStep) where
 
 -- an item between braces by the numbers of the fields there: the fields with a value, behind those
 -- before it; and the field that it declares
-pub record Item : Type 0 where
+pub record FieldItem : Type 0 where
   pub reads : Numbering → List FieldRead → Reading → Got (List FieldRead)
   pub declares : List Signature
 
-abbrev pub no_field : Item
+abbrev pub no_field : FieldItem
 no_field = record { reads = λ numbers before r. gives before r; declares = [] }
 
 -- what a statement, or the declaration of a prototype, adds: the latter has none of the nodes
 abbrev pub StatementStep : Type 0
-StatementStep = Step Reading
+StatementStep = StateChange Reading
 
-unfoldable pub item_step : BodyItem-F Item NodeStep StatementStep StatementStep → Item
+unfoldable pub item_step : BodyItem-F FieldItem NodeStep StatementStep StatementStep → FieldItem
 item_step (BodyItem-F.Field line name g) =
     record {
       reads = λ numbers. read_given (λ step. step) line (numbers name) g;
@@ -162,24 +162,25 @@ abbrev pub read_full : Option (List ℕ) → Option NodeType → List Signature
 read_full name t declared items r =
     closes name r (interface_of t declared) (items (numbering t declared) [] (opens name r))
 
-unfoldable pub node_step : NodeText-F Item NodeStep StatementStep StatementStep → NodeStep
+unfoldable pub node_step : NodeText-F FieldItem NodeStep StatementStep StatementStep → NodeStep
 node_step (NodeText-F.Use line name) = λ r. gives (named name r.opened) r
 node_step (NodeText-F.Full line name word items) =
-    read_full name (node_type_named word) (flat_map (λ (item : Item). item.declares) items)
-    (λ numbers. each (λ (item : Item). item.reads numbers) items)
+    read_full name (node_type_named word) (flat_map (λ (item : FieldItem). item.declares) items)
+    (λ numbers. each (λ (item : FieldItem). item.reads numbers) items)
 
-unfoldable pub statement_step : Statement-F Item NodeStep StatementStep StatementStep
+unfoldable pub statement_step : Statement-F FieldItem NodeStep StatementStep StatementStep
     → StatementStep
 statement_step (Statement-F.Node node) = λ r. (node r).after
 statement_step (Statement-F.Statement::Route route) = same
 statement_step (Statement-F.Statement::Proto proto) = same
 
-unfoldable pub proto_step : ProtoText-F Item NodeStep StatementStep StatementStep → StatementStep
+unfoldable pub proto_step : ProtoText-F FieldItem NodeStep StatementStep StatementStep
+    → StatementStep
 proto_step p = same
 
-abbrev pub item : BodyItem → Item
+abbrev pub item : BodyItem → FieldItem
 item =
-    fold-BodyItem Item NodeStep StatementStep StatementStep item_step node_step statement_step
+    fold-BodyItem FieldItem NodeStep StatementStep StatementStep item_step node_step statement_step
     proto_step
 
 abbrev pub read_item : Numbering → BodyItem → List FieldRead → Reading → Got (List FieldRead)
@@ -190,12 +191,12 @@ declares i = (item i).declares
 
 abbrev pub read_node : NodeText → NodeStep
 read_node =
-    fold-NodeText Item NodeStep StatementStep StatementStep item_step node_step statement_step
+    fold-NodeText FieldItem NodeStep StatementStep StatementStep item_step node_step statement_step
     proto_step
 
 abbrev pub read_statement : Statement → StatementStep
 read_statement =
-    fold-Statement Item NodeStep StatementStep StatementStep item_step node_step statement_step
+    fold-Statement FieldItem NodeStep StatementStep StatementStep item_step node_step statement_step
     proto_step
 
 abbrev pub read_on : Reading → Statement → Reading

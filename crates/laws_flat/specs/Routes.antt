@@ -4,13 +4,13 @@
 use Rattle.std.specs.Prelude.{ℕ, ◌+◌, if◌then◌else◌, List, [], ◌∷◌, ◌++◌, length, map, Option, Some, None, slice_get, slice_set}
 use Rattle.std.specs.Option.{option_or}
 use Rattle.classic_tree.specs.declared.tree.Document.{Document}
-use Rattle.classic_tree.specs.declared.tree.Place.{Place}
+use Rattle.classic_tree.specs.declared.tree.RouteEnd.{RouteEnd}
 use Rattle.classic_tree.specs.declared.tree.RouteText.{RouteText}
 use Rattle.proto_flat.specs.declared.flat.FlatEnd.{FlatEnd}
 use Rattle.proto_flat.specs.declared.flat.FlatEnd.TheVariants.{At, NoNode}
 use Rattle.proto_flat.specs.declared.flat.FlatRoute.{FlatRoute}
-use Rattle.laws_flat.specs.Readings.{Step, Steps, read_document, same}
-use Rattle.laws_flat.specs.Uses.{Opened, has_name}
+use Rattle.laws_flat.specs.Readings.{StateChange, Steps, read_document, same}
+use Rattle.laws_flat.specs.Uses.{OpenBraces, has_name}
 
 -- an end of a ROUTE: the braces that it names, by how many opened before them, and the field
 pub record ReadEnd : Type 0 where
@@ -24,7 +24,7 @@ pub record ReadRoute : Type 0 where
 -- a text up to some place: all braces that opened, in that order, each with the number of its node
 -- once they are closed; how many are closed; and the ROUTEs that were met
 pub record Reading : Type 0 where
-  pub opened : List Opened
+  pub opened : List OpenBraces
   pub closed : ℕ
   pub routes : List ReadRoute
 
@@ -34,23 +34,23 @@ nothing_read = record { opened = []; closed = 0; routes = [] }
 -- ---- names
 
 -- the last of that name, where the first has that place
-abbrev pub last_from : ℕ → List ℕ → List Opened → Option ℕ
+abbrev pub last_from : ℕ → List ℕ → List OpenBraces → Option ℕ
 last_from at name [] = None
 last_from at name (o ∷ os) =
     option_or (last_from (at + 1) name os) (if has_name name o.name then Some at else None)
 
-abbrev pub read_end : List Opened → Place → ReadEnd
+abbrev pub read_end : List OpenBraces → RouteEnd → ReadEnd
 read_end opened end =
     record { place = last_from 0 end.node opened; field = end.field }
 
 -- ---- what a part of the text does
 
-abbrev pub opens : Option (List ℕ) → Step Reading
+abbrev pub opens : Option (List ℕ) → StateChange Reading
 opens name r =
     record r { opened = r.opened ++ record { name = name; node = None } ∷ [] }
 
 -- the braces that opened behind what was read before close: their node has the next number
-abbrev pub closes : Option (List ℕ) → Reading → Step Reading
+abbrev pub closes : Option (List ℕ) → Reading → StateChange Reading
 closes name before r =
     record r {
       opened = slice_set r.opened (length before.opened)
@@ -58,7 +58,7 @@ closes name before r =
       closed = r.closed + 1;
     }
 
-abbrev pub routes : RouteText → Step Reading
+abbrev pub routes : RouteText → StateChange Reading
 routes route r =
     record r {
       routes = r.routes ++ record {
@@ -77,15 +77,15 @@ abbrev pub end_at : List ℕ → Option ℕ → FlatEnd
 end_at field None = NoNode
 end_at field (Some node) = At node field
 
-abbrev pub node_of : Option Opened → Option ℕ
+abbrev pub node_of : Option OpenBraces → Option ℕ
 node_of None = None
 node_of (Some o) = o.node
 
-abbrev pub node_at : List Opened → Option ℕ → Option ℕ
+abbrev pub node_at : List OpenBraces → Option ℕ → Option ℕ
 node_at opened None = None
 node_at opened (Some place) = node_of (slice_get opened place)
 
-abbrev pub end_shown : List Opened → ReadEnd → FlatEnd
+abbrev pub end_shown : List OpenBraces → ReadEnd → FlatEnd
 end_shown opened end = end_at end.field (node_at opened end.place)
 
 -- ---- both ends
@@ -97,7 +97,7 @@ Shown = FlatEnd × FlatEnd
 abbrev pub route_shown : FlatRoute → Shown
 route_shown route = (route.source, route.target)
 
-abbrev pub read_shown : List Opened → ReadRoute → Shown
+abbrev pub read_shown : List OpenBraces → ReadRoute → Shown
 read_shown opened route = (end_shown opened route.source, end_shown opened route.target)
 
 -- the ends of each ROUTE of a text, in turn

@@ -7,10 +7,10 @@ use Rattle.std.specs.Str.{bytes_eq}
 use Rattle.classic_tree.specs.declared.tree.Document.{Document}
 use Rattle.proto_flat.specs.declared.flat.FlatNode.{FlatNode}
 use Rattle.laws_flat.specs.Order.{nodes_in}
-use Rattle.laws_flat.specs.Readings.{Step, Steps, read_document, same}
+use Rattle.laws_flat.specs.Readings.{StateChange, Steps, read_document, same}
 
 -- braces that opened: the name that DEF gives, and the number of the node once they are closed
-pub record Opened : Type 0 where
+pub record OpenBraces : Type 0 where
   pub name : Option (List ℕ)
   pub node : Option ℕ
 
@@ -19,7 +19,7 @@ pub record Opened : Type 0 where
 -- stand so far between the braces that are open, or as statements. A node stands there as its
 -- number, and a USE as that of the node it names, None where it names none
 pub record Reading : Type 0 where
-  pub opened : List Opened
+  pub opened : List OpenBraces
   pub closed : List (List (Option ℕ))
   pub here : List (Option ℕ)
 
@@ -32,24 +32,24 @@ abbrev pub has_name : List ℕ → Option (List ℕ) → Bool
 has_name name None = false
 has_name name (Some given) = bytes_eq given name
 
-abbrev pub named_next : List ℕ → Option ℕ → Opened → Option ℕ
+abbrev pub named_next : List ℕ → Option ℕ → OpenBraces → Option ℕ
 named_next name before o = if has_name name o.name then option_or o.node before else before
 
 -- the last of that name whose braces are closed
-abbrev pub named : List ℕ → List Opened → Option ℕ
+abbrev pub named : List ℕ → List OpenBraces → Option ℕ
 named name opened = fold (named_next name) None opened
 
 -- ---- what a part of the text does
 
-abbrev pub stands : Option ℕ → Step Reading
+abbrev pub stands : Option ℕ → StateChange Reading
 stands what r = record r { here = r.here ++ what ∷ [] }
 
-abbrev pub opens : Option (List ℕ) → Step Reading
+abbrev pub opens : Option (List ℕ) → StateChange Reading
 opens name r =
     record r { opened = r.opened ++ record { name = name; node = None } ∷ []; here = [] }
 
 -- the braces that opened behind what was read before close: their node has the next number
-abbrev pub closes : Option (List ℕ) → Reading → Step Reading
+abbrev pub closes : Option (List ℕ) → Reading → StateChange Reading
 closes name before r =
     record {
       opened = slice_set r.opened (length before.opened)

@@ -17,7 +17,7 @@ use Rattle.classic_tree.specs.declared.tree.RawValue.TheVariants as value
 use Rattle.classic_tree.specs.declared.tree.Statement.{Statement}
 use Rattle.classic_tree.proofs.Mapped.{given_mapped, declaration_mapped}
 use Rattle.proto_meaning.specs.Names.{Name}
-use Rattle.proto_meaning.specs.Sight.{Sight, Step, Names, with_name, and_see, each, OfType, taken_by}
+use Rattle.proto_meaning.specs.Sight.{Sight, Look, Names, with_name, and_see, each, OfType, taken_by}
 use Rattle.proto_meaning.specs.Flat.{Node, Item, Stated, given_sees, item_step, node_step, statement_step}
 use Rattle.proto_meaning.specs.Flat.{item as item_part, node as node_part, statement as stated}
 use Rattle.proto_meaning.proofs.Trees.{item-field, item-declaration, node-full, statement-node}
@@ -58,10 +58,10 @@ all_taken (x ∷ xs) taken =
 
 -- ---- what each part takes
 
-abbrev Takes : Step → List Name → Type 0
+abbrev Takes : Look → List Name → Type 0
 Takes step names = (taken : Names) → step (bare taken) ≡ Ok (bare (adds names taken))
 
-takes_then : (r : Seen) (f : Step) (xs ys : List Name) (taken : Names) → r ≡ Ok (bare (adds xs taken)) → Takes f ys → and_see r f ≡ Ok (bare (adds (xs ++ ys) taken))
+takes_then : (r : Seen) (f : Look) (xs ys : List Name) (taken : Names) → r ≡ Ok (bare (adds xs taken)) → Takes f ys → and_see r f ≡ Ok (bare (adds (xs ++ ys) taken))
 takes_then r f xs ys taken e k = ap (λ x. and_see x f) e ∙ k (adds xs taken) ∙ ap (λ n. Ok (bare n)) (sym (adds_append xs ys taken))
 
 module _ (proto : Name) where

@@ -19,7 +19,7 @@ use Rattle.classic_tree.specs.declared.tree.Statement.{Statement}
 use Rattle.classic_tree.specs.declared.tree.Statement.TheVariants as statement_text
 use Rattle.classic_tree.proofs.Mapped.{given_mapped, declaration_mapped}
 use Rattle.proto_meaning.specs.Names.{Name}
-use Rattle.proto_meaning.specs.Sight.{Sight, Step, Names, Search, and_see, each, aside, nodes_in, meant, taken_by, is_kept}
+use Rattle.proto_meaning.specs.Sight.{Sight, Look, Names, Search, and_see, each, aside, nodes_in, meant, taken_by, is_kept}
 use Rattle.proto_meaning.specs.Flat.{Node, Item, Stated, given_finds, given_sees, item_step, node_step, statement_step}
 use Rattle.proto_meaning.specs.Flat.{item as item_part, node as node_part, statement as stated}
 use Rattle.proto_meaning.proofs.Trees.{item-field, item-declaration, item-route, node-use, node-full, statement-node, statement-route}
@@ -46,21 +46,21 @@ is_ok (Ok s) = true
 is_ok (Err e) = false
 
 -- nothing is declared, and nothing is wrong
-abbrev Calm : Step → Type 0
+abbrev Calm : Look → Type 0
 Calm step = (s : Sight) → bared (step s) ≡ Ok (bare s)
 
 -- no instance of a prototype of that name
 abbrev Lost : (Name → Search) → Type 0
 Lost finds = (own : Name) → node_type_named own ≡ None → (hidden : Bool) → finds own hidden ≡ Ok hidden
 
-calm_then : (r : Seen) (f : Step) (s : Sight) → bared r ≡ Ok (bare s) → Calm f → bared (and_see r f) ≡ Ok (bare s)
+calm_then : (r : Seen) (f : Look) (s : Sight) → bared r ≡ Ok (bare s) → Calm f → bared (and_see r f) ≡ Ok (bare s)
 calm_then (Ok u) f s e calm = calm u ∙ e
 calm_then (Err x) f s e calm = never (ap is_ok e)
 
 found_then : (r : Result Bool ℕ) (f : Search) (hidden : Bool) → r ≡ Ok hidden → f hidden ≡ Ok hidden → and_see r f ≡ Ok hidden
 found_then r f hidden e k = ap (λ x. and_see x f) e ∙ k
 
-each_calm : {X : Type 0} (f : X → Step) (xs : List X) → AllByRecursion (λ x. Calm (f x)) xs → Calm (each f xs)
+each_calm : {X : Type 0} (f : X → Look) (xs : List X) → AllByRecursion (λ x. Calm (f x)) xs → Calm (each f xs)
 each_calm f [] h s = refl
 each_calm f (x ∷ xs) h s = calm_then (f x s) (each f xs) s (h.0 s) (each_calm f xs h.1)
 
@@ -68,7 +68,7 @@ each_lost : {X : Type 0} (f : X → Name → Search) (xs : List X) → AllByRecu
 each_lost f [] h own free hidden = refl
 each_lost f (x ∷ xs) h own free hidden = found_then (f x own hidden) (each (λ y. f y own) xs) hidden (h.0 own free hidden) (each_lost f xs h.1 own free hidden)
 
-aside_calm : (step : Step) → Calm step → Calm (aside step)
+aside_calm : (step : Look) → Calm step → Calm (aside step)
 aside_calm step calm s = on (step (bare s)) (calm (bare s)) where
   on : (r : Seen) → bared r ≡ Ok (bare s) → bared (and_see r (λ t. Ok (record t { taken = s.taken }))) ≡ Ok (bare s)
   on (Ok t) e = e
@@ -124,7 +124,7 @@ given_lost (given.Value (value.StringList texts)) h e own free hidden = refl
 given_lost (given.Value (value.NumberList numbers)) h e own free hidden = refl
 given_lost (given.Value (value.NodeList ns)) h e own free hidden = each_lost (λ (m : Node). m.finds) (map node_part ns) (nodes_lost ns h e) own free hidden
 
-kept_calm : (b : Bool) (step : Step) → Calm step → Calm (λ s. (if b then step else aside step) s)
+kept_calm : (b : Bool) (step : Look) → Calm step → Calm (λ s. (if b then step else aside step) s)
 kept_calm true step calm s = calm s
 kept_calm false step calm s = aside_calm step calm s
 

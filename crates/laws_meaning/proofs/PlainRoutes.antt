@@ -17,7 +17,7 @@ use Rattle.proto_meaning.specs.Names.{Name, Stands, Braces, used, stands_at, end
 use Rattle.proto_meaning.specs.Names as names
 use Rattle.proto_meaning.specs.Sight.{no_names, OfType}
 use Rattle.proto_meaning.specs.Flat.{Walk, Does, Inside, field, note_route}
-use Rattle.laws_meaning.specs.Plain.{Pair, Wire, Reading, Reads, has_name, last_closed, last_from, wire_route, end_of, route_of, Between}
+use Rattle.laws_meaning.specs.Plain.{Pair, Wire, Reading, PlainRead, has_name, last_closed, last_from, wire_route, end_of, route_of, Between}
 use Rattle.laws_meaning.proofs.Maps.{Maps}
 
 abbrev pub same : {A : Type 0} → A → A
@@ -57,7 +57,7 @@ walk_of r =
 abbrev pub inside_of : ℕ → NodeType → Between → Inside
 inside_of at t b = record { at = at; owner = OfType t; fields = b.fields; filled = b.filled }
 
-abbrev pub Walks : {A B : Type 0} → (A → B) → Reads A → Does B → Type 0
+abbrev pub Walks : {A B : Type 0} → (A → B) → PlainRead A → Does B → Type 0
 Walks = Maps walk_of
 
 -- ---- names

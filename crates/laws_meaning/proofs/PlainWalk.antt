@@ -35,7 +35,7 @@ use Rattle.proto_meaning.specs.Flat as walk
 use Rattle.proto_meaning.specs.Flat.{item as item_part, node as node_part, statement as stated}
 use Rattle.proto_meaning.proofs.Trees.{item-field, item-declaration, item-route, node-use, node-full, statement-node, statement-route}
 use Rattle.proto_meaning.proofs.Induction.{OfGiven, Layers, every}
-use Rattle.laws_meaning.specs.Plain.{Reading, Reads, ◌>>=◌, pure, refuse, meet, in_turn, last_closed, wire_route, route_of, read_value, Between, ItemReads, close_pair, read_node, read_item, read_text, read_statement, read_all, is_plain_item, is_plain_node, is_plain_statement, plain_node_step, PlainDocumentsAreThemselves}
+use Rattle.laws_meaning.specs.Plain.{Reading, PlainRead, ◌>>=◌, pure, refuse, meet, in_turn, last_closed, wire_route, route_of, read_value, Between, ItemReads, close_pair, read_node, read_item, read_text, read_statement, read_all, is_plain_item, is_plain_node, is_plain_statement, plain_node_step, PlainDocumentsAreThemselves}
 use Rattle.laws_meaning.specs.Steps.{is_true, all_in, plain_item_step, plain_statement_step}
 use Rattle.laws_meaning.specs.Plain as plains
 use Rattle.laws_meaning.proofs.Maps.{mapped, came, maps_then, maps_if, maps_option}
@@ -68,7 +68,7 @@ OfStatement s = is_plain_statement s ≡ true → Walks same (read_statement s) 
 abbrev OfPrototype : ProtoText → Type 0
 OfPrototype p = Unit {0}
 
-abbrev next_number : Reads ℕ → List ℕ → Reads (List ℕ)
+abbrev next_number : PlainRead ℕ → List ℕ → PlainRead (List ℕ)
 next_number node ns = node >>= λ n. pure (ns ++ n ∷ [])
 
 abbrev put_next : Node → List ℕ → Does (List ℕ)
@@ -82,7 +82,7 @@ nodes_walk (n ∷ ns) h true_all ks r =
     (maps_then walk_of same same (read_text n) (node_part n).does (λ k. pure (ks ++ k ∷ [])) (λ k. walk.pure (ks ++ k ∷ [])) (h.0 both.0) (λ k x. refl)) (λ ls. nodes_walk ns h.1 both.1 ls) r
 
 -- what a field is given, and how it is read
-abbrev GivenReads : Given (Reads ℕ) → Given Node → Type 0
+abbrev GivenReads : Given (PlainRead ℕ) → Given Node → Type 0
 GivenReads given.Nothing given.Nothing = Unit {0}
 GivenReads (given.Is a) (given.Is b) = Unit {0}
 GivenReads (given.Value v) (given.Value u) = (item_count u ≡ item_count v) × Walks same (read_value v) (put_in u)
@@ -110,10 +110,10 @@ given_reads (given.Value (value.NodeList ns)) h e = (
 
 -- ---- fields
 
-refuse_given : (line : ℕ) (f : ℕ × Field) (twice : Bool) (at : ℕ) (t : NodeType) (b : Between) (m : Reads Between) (n : Does Inside) → Walks (inside_of at t) m n → Walks (inside_of at t) (if twice then refuse FieldTwice line else m) (if twice then walk.refuse FieldTwice line else n)
+refuse_given : (line : ℕ) (f : ℕ × Field) (twice : Bool) (at : ℕ) (t : NodeType) (b : Between) (m : PlainRead Between) (n : Does Inside) → Walks (inside_of at t) m n → Walks (inside_of at t) (if twice then refuse FieldTwice line else m) (if twice then walk.refuse FieldTwice line else n)
 refuse_given line f twice at t b m n h = maps_if walk_of (inside_of at t) twice (refuse FieldTwice line) m (walk.refuse FieldTwice line) n (λ x. refl) h
 
-give_walks : (line : ℕ) (f : ℕ × Field) (twice : Bool) (g : Given (Reads ℕ)) (h : Given Node) (at : ℕ) (t : NodeType) (b : Between) → GivenReads g h → Walks (inside_of at t) (plains.give line f twice g b) (give line f twice h (inside_of at t b))
+give_walks : (line : ℕ) (f : ℕ × Field) (twice : Bool) (g : Given (PlainRead ℕ)) (h : Given Node) (at : ℕ) (t : NodeType) (b : Between) → GivenReads g h → Walks (inside_of at t) (plains.give line f twice g b) (give line f twice h (inside_of at t b))
 give_walks line f twice given.Nothing given.Nothing at t b k = refuse_given line f twice at t b (meet (AField f.0 0) >>= λ _. pure (plains.fill line f b None)) (λ w. and_then (walk.meet (AField f.0 0) w) (λ p. walk.pure (walk.fill line f (inside_of at t b) None) p.1)) (λ x. refl)
 give_walks line f twice given.Nothing (given.Is a) at t b k = absurd k
 give_walks line f twice given.Nothing (given.Value u) at t b k = absurd k
@@ -132,7 +132,7 @@ give_walks line f twice (given.Value v) (given.Value u) at t b k =
 item_by : (at : ℕ) (t : NodeType) (b : Between) (l m : ItemReads) (n o : Item) → l ≡ m → n ≡ o → Walks (inside_of at t) (m t b) (o.does (inside_of at t b)) → Walks (inside_of at t) (l t b) (n.does (inside_of at t b))
 item_by at t b l m n o e f h = subst (λ (x : ItemReads). Walks (inside_of at t) (x t b) (n.does (inside_of at t b))) (sym e) (subst (λ (x : Item). Walks (inside_of at t) (m t b) (x.does (inside_of at t b))) (sym f) h)
 
-field_walks : (line : ℕ) (name : Name) (g : Given (Reads ℕ)) (h : Given Node) → GivenReads g h → (at : ℕ) (t : NodeType) (b : Between)
+field_walks : (line : ℕ) (name : Name) (g : Given (PlainRead ℕ)) (h : Given Node) → GivenReads g h → (at : ℕ) (t : NodeType) (b : Between)
     → Walks (inside_of at t) (plains.item_step (BodyItem-F.Field line name g) t b) ((item_step (BodyItem-F.Field line name h)).does (inside_of at t b))
 unfolding plains.item_step item_step
 field_walks line name g h k at t b =
@@ -225,8 +225,8 @@ word_walks : (line : ℕ) (name : Option Name) (word : Name) (is : List BodyItem
 word_walks line name word is h e None r = refl
 word_walks line name word is h e (Some t) r = full_walks line name is h e t r
 
-node_by : (l m : Reads ℕ) (n o : Node) → l ≡ m → n ≡ o → Walks same m o.does → Walks same l n.does
-node_by l m n o e f h = subst (λ (x : Reads ℕ). Walks same x n.does) (sym e) (subst (λ (x : Node). Walks same m x.does) (sym f) h)
+node_by : (l m : PlainRead ℕ) (n o : Node) → l ≡ m → n ≡ o → Walks same m o.does → Walks same l n.does
+node_by l m n o e f h = subst (λ (x : PlainRead ℕ). Walks same x n.does) (sym e) (subst (λ (x : Node). Walks same m x.does) (sym f) h)
 
 full_node_walks : (line : ℕ) (name : Option Name) (word : Name) (is : List BodyItem) → AllByRecursion OfItem is → list_all is_true (map is_plain_item is) ≡ true
     → Walks same (plains.node_step (NodeText-F.Full line name word (map read_item is))) (node_step (NodeText-F.Full line name word (map item_part is))).does
@@ -242,8 +242,8 @@ use_walks line name r = ap (λ o. behind (AnItem ∷ []) (option_map_or walk.pur
 
 -- ---- statements
 
-statement_by : (l m : Reads (List ℕ)) (n o : Stated) → l ≡ m → n ≡ o → Walks same m o.1.does → Walks same l n.1.does
-statement_by l m n o e f h = subst (λ (x : Reads (List ℕ)). Walks same x n.1.does) (sym e) (subst (λ (x : Stated). Walks same m x.1.does) (sym f) h)
+statement_by : (l m : PlainRead (List ℕ)) (n o : Stated) → l ≡ m → n ≡ o → Walks same m o.1.does → Walks same l n.1.does
+statement_by l m n o e f h = subst (λ (x : PlainRead (List ℕ)). Walks same x n.1.does) (sym e) (subst (λ (x : Stated). Walks same m x.1.does) (sym f) h)
 
 node_statement : (n : NodeText) → Walks same (read_text n) (node_part n).does → Walks same (plains.statement_step (Statement-F.Node (read_text n))) (statement_step (Statement-F.Node (node_part n))).1.does
 unfolding plains.statement_step statement_step
@@ -269,7 +269,7 @@ layers = record {
 
 -- ---- a document
 
-abbrev next_root : Reads (List ℕ) → List ℕ → Reads (List ℕ)
+abbrev next_root : PlainRead (List ℕ) → List ℕ → PlainRead (List ℕ)
 next_root s roots = s >>= λ ns. pure (roots ++ ns)
 
 abbrev root : Stated → List ℕ → Does (List ℕ)

@@ -14,7 +14,7 @@ use Rattle.classic_tree.specs.declared.tree.RawValue.{RawValue}
 use Rattle.proto_flat.specs.declared.fault.ExpandFaultKind.TheVariants.{UnknownField, FieldTwice, BadIs}
 use Rattle.proto_meaning.specs.Limits.{Met, AField, AnItem, Outcome, item_count, behind, follow}
 use Rattle.proto_meaning.specs.Names.{Name, Field, value_of, stands_at}
-use Rattle.proto_meaning.specs.Sight.{Prototype, Sight, Step, Names, Search, and_see, each, aside, no_names, nodes_in, Owner, OfType, OfProto, declared, meant, taken_by, is_kept}
+use Rattle.proto_meaning.specs.Sight.{Prototype, Sight, Look, Names, Search, and_see, each, aside, no_names, nodes_in, Owner, OfType, OfProto, declared, meant, taken_by, is_kept}
 use Rattle.proto_meaning.specs.Flat.{Walk, Does, ◌>>=◌, comes, pure, refuse, through, see, Node, Inside, given_finds, given_sees, leave_out, put_in, met_field, meet, note, is_node, is_script, fits, fill, join, give_is, give_value, give}
 use Rattle.proto_meaning.proofs.SightLaw.{Seen}
 use Rattle.laws_meaning.specs.Renamed.{IsRenaming}
@@ -47,7 +47,7 @@ module _ (rename : Name → Name) (good : IsRenaming rename) where
   seen (Err e) = Err e
 
   -- a step does the same with other names
-  abbrev pub Sees : Step → Step → Type 0
+  abbrev pub Sees : Look → Look → Type 0
   Sees p q = (s : Sight) → q (others s) ≡ seen (p s)
 
   abbrev pub Keeps : {A B : Type 0} → (A → B) → Does A → Does B → Type 0
@@ -105,21 +105,21 @@ module _ (rename : Name → Name) (good : IsRenaming rename) where
 
   -- ---- steps
 
-  then_seen : (r : Seen) (f g : Step) → Sees f g → and_see (seen r) g ≡ seen (and_see r f)
+  then_seen : (r : Seen) (f g : Look) → Sees f g → and_see (seen r) g ≡ seen (and_see r f)
   then_seen (Ok s) f g h = h s
   then_seen (Err e) f g h = refl
 
-  pub sees_then : (p q f g : Step) → Sees p q → Sees f g → Sees (λ s. and_see (p s) f) (λ s. and_see (q s) g)
+  pub sees_then : (p q f g : Look) → Sees p q → Sees f g → Sees (λ s. and_see (p s) f) (λ s. and_see (q s) g)
   sees_then p q f g h k s = ap (λ r. and_see r g) (h s) ∙ then_seen (p s) f g k
 
   back : (r : Seen) (names : Names) → and_see {Y = Sight} (seen r) (λ t. Ok (record t { taken = names })) ≡ seen (and_see r (λ t. Ok (record t { taken = names })))
   back (Ok t) names = refl
   back (Err e) names = refl
 
-  pub sees_aside : (p q : Step) → Sees p q → Sees (aside p) (aside q)
+  pub sees_aside : (p q : Look) → Sees p q → Sees (aside p) (aside q)
   sees_aside p q h s = ap (λ r. and_see {Y = Sight} r (λ t. Ok (record t { taken = s.taken }))) (h (record s { taken = no_names })) ∙ back (p (record s { taken = no_names })) s.taken
 
-  pub keeps_see : (p q : Step) → Sees p q → Keeps same (see p) (see q)
+  pub keeps_see : (p q : Look) → Sees p q → Keeps same (see p) (see q)
   keeps_see p q h w = ap (λ r. follow [] r (λ s. comes (Ok (tt {0}, record w { sight = s })))) (h w.sight) ∙ on (p w.sight) where
     on : (r : Seen) → follow [] (seen r) (λ s. comes (Ok (tt {0}, record w { sight = s }))) ≡ mapped walked same (follow [] r (λ s. comes (Ok (tt {0}, record w { sight = s }))))
     on (Ok s) = refl
@@ -136,7 +136,7 @@ module _ (rename : Name → Name) (good : IsRenaming rename) where
   both_map R of ren [] h = tt
   both_map R of ren (x ∷ xs) h = (h.0, both_map R of ren xs h.1)
 
-  pub each_sees : {X : Type 0} (R : X → X → Type 0) (f g : X → Step) → ((x y : X) → R x y → Sees (f x) (g y)) → (xs ys : List X) → Both R xs ys → Sees (each f xs) (each g ys)
+  pub each_sees : {X : Type 0} (R : X → X → Type 0) (f g : X → Look) → ((x y : X) → R x y → Sees (f x) (g y)) → (xs ys : List X) → Both R xs ys → Sees (each f xs) (each g ys)
   each_sees R f g k [] [] h s = refl
   each_sees R f g k [] (y ∷ ys) h s = absurd h
   each_sees R f g k (x ∷ xs) [] h s = absurd h

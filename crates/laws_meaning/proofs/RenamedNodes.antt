@@ -18,7 +18,7 @@ use Rattle.proto_flat.specs.declared.fault.ExpandFault.{ExpandFault}
 use Rattle.proto_flat.specs.declared.fault.ExpandFaultKind.TheVariants.{UnknownField, UseWithoutDef, FieldTwice}
 use Rattle.proto_meaning.specs.Limits.{Met, ANode, AnInstance, AnItem, behind, follow}
 use Rattle.proto_meaning.specs.Names.{Name, Field, used}
-use Rattle.proto_meaning.specs.Sight.{Instance, Prototype, Step, Names, each, aside, Owner, OfType, OfProto, meant, taken_by, is_kept}
+use Rattle.proto_meaning.specs.Sight.{Instance, Prototype, Look, Names, each, aside, Owner, OfType, OfProto, meant, taken_by, is_kept}
 use Rattle.proto_meaning.specs.Flat.{Walk, Does, ◌>>=◌, pure, refuse, through, Node, Item, Stated, Proto, Inside, given_sees, give, numbered_from, is_filled, is_script, field, fields_of, inside, close, close_node, flat_node, close_instance, renamed as renames, is_one, unless_twice, full_node, made, item_step, node_step}
 use Rattle.proto_meaning.specs.Flat.{item as item_part, node as node_part, proto as proto_part, statement as stated}
 use Rattle.proto_meaning.proofs.Induction.{OfGiven}
@@ -27,7 +27,7 @@ use Rattle.laws_meaning.proofs.Maps.{mapped, maps_then, maps_if, maps_option}
 use Rattle.laws_meaning.proofs.RenamedGiven.{same, other, others, walked, other_owner, within, seen, Sees, Keeps, is_script_other, taken_other, apart, meant_other, sees_aside, Both, both_map, each_sees, each_found, through_keeps, NodeKeeps, GivenKeeps, given_sees_keeps, given_found, give_keeps}
 
 module _ (rename : Name → Name) (good : IsRenaming rename) where
-  abbrev pub Saw : Step → Step → Type 0
+  abbrev pub Saw : Look → Look → Type 0
   Saw = Sees rename good
 
   abbrev pub Does' : {A B : Type 0} → (A → B) → Does A → Does B → Type 0

@@ -14,7 +14,7 @@ use Rattle.classic_tree.proofs.Mapped.{given_mapped, interface_mapped}
 use Rattle.proto_flat.specs.declared.fault.ExpandFault.{ExpandFault}
 use Rattle.proto_meaning.specs.Limits.{Met, behind, follow, and_then}
 use Rattle.proto_meaning.specs.Names.{Name, Filled, value_of}
-use Rattle.proto_meaning.specs.Sight.{Sight, Step, Names, and_see}
+use Rattle.proto_meaning.specs.Sight.{Sight, Look, Names, and_see}
 use Rattle.proto_meaning.specs.Flat.{Walk, Does, ◌>>=◌, comes, pure, Node, Stated, given_sees, leave_out, put_in, in_body, put_default, default, statement_step}
 use Rattle.proto_meaning.specs.Flat.{node as node_part}
 use Rattle.proto_meaning.proofs.Trees.{statement-node}
@@ -73,7 +73,7 @@ pub record SameStatement (s : Sight) (m n : Stated) : Type 0 where
   pub seen : (t : Sight) → Alike s t → n.1.sees t ≡ m.1.sees t
   pub done : (w : Walk) → Alike s w.sight → n.1.does w ≡ m.1.does w
 
-abbrev pub stated_sees : Stated → Step
+abbrev pub stated_sees : Stated → Look
 stated_sees x = x.1.sees
 
 body_follows : (m : Stated) → GoodStated m → (ns : List ℕ) → Follows Any (in_body m ns) m.1.sees
@@ -92,7 +92,7 @@ steady_stated s m n good h = record { free = good.free; follows = λ ns _. body_
 abbrev pub parts : Declaration NodeText → Declaration Node
 parts d = interface_mapped node_part d
 
-abbrev pub default_sees : Declaration Node → Step
+abbrev pub default_sees : Declaration Node → Look
 default_sees d = given_sees d.given
 
 abbrev as_default : Declaration Node → Given Node → Declaration Node
@@ -106,7 +106,7 @@ put_follows d filled s (given.Value v) (given.Is b) same w = absurd same
 put_follows d filled s (given.Value v) (given.Value u) same w =
     then_still Any Any (put_in v) (λ r. pure (filled ++ record { line = d.line; name = d.name; number = 0; value = Some r } ∷ [])) (given_sees (given.Value v)) same.follows (λ r _ x. (tt, refl)) w
 
-if_follows : {A : Type 0} (c : Bool) (m n : Does A) (p : Step) → Follows Any m p → Follows Any n p → Follows Any (if c then m else n) p
+if_follows : {A : Type 0} (c : Bool) (m n : Does A) (p : Look) → Follows Any m p → Follows Any n p → Follows Any (if c then m else n) p
 if_follows true m n p h k = h
 if_follows false m n p h k = k
 

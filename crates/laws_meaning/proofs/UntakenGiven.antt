@@ -13,14 +13,14 @@ use Rattle.proto_flat.specs.declared.fault.ExpandFault.{ExpandFault}
 use Rattle.proto_flat.specs.declared.fault.ExpandFaultKind.TheVariants.{UnknownField, FieldTwice}
 use Rattle.proto_meaning.specs.Limits.{AField, AnItem, item_count, behind, follow}
 use Rattle.proto_meaning.specs.Names.{Name, Field}
-use Rattle.proto_meaning.specs.Sight.{Sight, Step, and_see, each, aside, nodes_in, Owner, OfType, OfProto, taken_by, is_kept}
+use Rattle.proto_meaning.specs.Sight.{Sight, Look, and_see, each, aside, nodes_in, Owner, OfType, OfProto, taken_by, is_kept}
 use Rattle.proto_meaning.specs.Flat.{Walk, Does, ◌>>=◌, comes, pure, refuse, Node, Inside, given_sees, leave_out, put_in, met_field, is_node, fill, give_value, give, numbered_from}
 use Rattle.proto_meaning.proofs.SightLaw.{Seen, bare, bared, Free, After, Follows, Any, see_follows}
 use Rattle.laws_meaning.proofs.Same.{Alike, AllSteady, Steady, same_then}
 
 -- ---- nodes in a value
 
-abbrev pub node_sees : Node → Step
+abbrev pub node_sees : Node → Look
 node_sees n = n.sees
 
 abbrev pub put_next : Node → List ℕ → Does (List ℕ)
@@ -32,7 +32,7 @@ SteadyNode = Steady node_sees put_next Any
 abbrev pub SteadyNodes : Sight → List Node → List Node → Type 0
 SteadyNodes = AllSteady node_sees put_next Any
 
-abbrev pub value_sees : RawValue Node → Step
+abbrev pub value_sees : RawValue Node → Look
 value_sees v = each node_sees (nodes_in (given.Value v))
 
 -- a value and another that comes to the same, where that is in sight
@@ -82,7 +82,7 @@ aside_is : (r : Seen) (s : Sight) → bared (and_see r (λ t. Ok (record t { tak
 aside_is (Ok t) s = refl
 aside_is (Err e) s = refl
 
-pub aside_declares : (step : Step) → Free step → (s : Sight) → bared (aside step s) ≡ bared (step s)
+pub aside_declares : (step : Look) → Free step → (s : Sight) → bared (aside step s) ≡ bared (step s)
 aside_declares step free s = aside_is (step (bare s)) s ∙ sym (free s)
 
 pub same_after : {A : Type 0} (P : A → Type 0) (c : Result (A × Walk) ExpandFault) (x y : Seen) → bared x ≡ bared y → After P c x → After P c y

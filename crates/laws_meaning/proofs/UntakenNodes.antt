@@ -20,7 +20,7 @@ use Rattle.proto_flat.specs.declared.fault.ExpandFault.{ExpandFault}
 use Rattle.proto_flat.specs.declared.fault.ExpandFaultKind.TheVariants.{UnknownField, FieldTwice}
 use Rattle.proto_meaning.specs.Limits.{ANode, AnInstance, behind}
 use Rattle.proto_meaning.specs.Names.{Name, Field}
-use Rattle.proto_meaning.specs.Sight.{Sight, Step, Names, each, aside, nodes_in, Owner, OfType, OfProto, meant, taken_by, is_kept}
+use Rattle.proto_meaning.specs.Sight.{Sight, Look, Names, each, aside, nodes_in, Owner, OfType, OfProto, meant, taken_by, is_kept}
 use Rattle.proto_meaning.specs.Flat.{Walk, Does, ◌>>=◌, pure, refuse, Node, Item, Proto, Inside, given_sees, give, numbered_from, is_filled, is_script, field, fields_of, inside, close_node, flat_node, close_instance, is_one, unless_twice, full_node, item_step, node_step}
 use Rattle.proto_meaning.specs.Flat.{item as item_part, node as node_part, proto as proto_part}
 use Rattle.proto_meaning.proofs.Trees.{item-field, item-declaration, item-route, item-proto, node-use, node-full}
@@ -176,7 +176,7 @@ module _ (change : Change) (keeps : KeepsDeclarations change) where
   abbrev Takes : Option Names → Inside → Type 0
   Takes taken b = taken_by (Some b.owner) ≡ taken
 
-  abbrev item_sees : Option Names → Item → Step
+  abbrev item_sees : Option Names → Item → Look
   item_sees taken i = i.sees taken
 
   abbrev item_does : Item → Inside → Does Inside

@@ -17,7 +17,7 @@ use Rattle.proto_flat.specs.Fault.{fault}
 use Rattle.proto_flat.specs.declared.fault.ExpandFaultKind.TheVariants.{ProtoTwice, EmptyBody}
 use Rattle.proto_meaning.specs.Limits.{behind, follow, and_then}
 use Rattle.proto_meaning.specs.Names.{Name, Filled, value_of}
-use Rattle.proto_meaning.specs.Sight.{Put, Sight, Step, Names, Prototype, and_see, each, aside, no_names, declared, opened}
+use Rattle.proto_meaning.specs.Sight.{Put, Sight, Look, Names, Prototype, and_see, each, aside, no_names, declared, opened}
 use Rattle.proto_meaning.specs.Flat.{Walk, Does, ◌>>=◌, comes, pure, note, through, Node, Stated, Proto, Item, field, given_finds, leave_out, in_body, default, begin, made, instance_of, prototype, body_finds, body_sees, declare_body, declare, item_step, node_step, statement_step, proto_step}
 use Rattle.proto_meaning.specs.Flat.{node as node_part, proto as proto_part, statement as stated}
 use Rattle.proto_meaning.proofs.Trees.{proto-is, proto_of}
@@ -43,7 +43,7 @@ module _ (change : Change) (keeps : KeepsDeclarations change) where
   abbrev at_once : Declaration NodeText → Sight → Declaration NodeText
   at_once d s = declaration_at (interface_mapped (node_at change) d) s
 
-  abbrev text_sees : Declaration NodeText → Step
+  abbrev text_sees : Declaration NodeText → Look
   text_sees d = given_declares d.given
 
   sees_text : (λ (d : Declaration NodeText). default_sees (parts d)) ≡ text_sees
@@ -122,7 +122,7 @@ module _ (change : Change) (keeps : KeepsDeclarations change) where
   all_defaults_free : (ds : List (Declaration NodeText)) → Free (each default_sees (map parts ds))
   all_defaults_free ds = each_free default_sees (map parts ds) (defaults_free ds)
 
-  bared_then : (r q : Seen) (f g : Step) → Free f → bared q ≡ bared r → ((s : Sight) → bared (g s) ≡ bared (f s)) → bared (and_see q g) ≡ bared (and_see r f)
+  bared_then : (r q : Seen) (f g : Look) → Free f → bared q ≡ bared r → ((s : Sight) → bared (g s) ≡ bared (f s)) → bared (and_see q g) ≡ bared (and_see r f)
   bared_then (Ok s) (Ok t) f g free e h = h t ∙ free t ∙ ap (λ (x : Seen). bared (and_see x f)) e ∙ sym (free s)
   bared_then (Err x) (Err y) f g free e h = e
   bared_then (Ok s) (Err y) f g free e h = never (sym (ap is_ok e))
@@ -188,7 +188,7 @@ module _ (change : Change) (keeps : KeepsDeclarations change) where
 
     -- what the defaults declare
     text_declares : defaults_declare defaults start ≡ aside (each default_sees (map parts defaults)) start
-    text_declares = ap (λ (q : Step). aside q start) (sym (each_map change keeps default_sees parts defaults ∙ ap (λ q. each q defaults) sees_text))
+    text_declares = ap (λ (q : Look). aside q start) (sym (each_map change keeps default_sees parts defaults ∙ ap (λ q. each q defaults) sees_text))
 
     old_declares : aside (each default_sees (map parts defaults)) start ≡ aside (each default_sees old_interface) start
     old_declares =
@@ -216,7 +216,7 @@ module _ (change : Change) (keeps : KeepsDeclarations change) where
       on : (r : Seen) → aside (each default_sees old_interface) start ≡ r → and_see r (each stated_sees old_body) ≡ Ok u → takes ≡ u.taken
       on (Ok b) is k =
           ap (λ q. (seen_or before q).taken)
-          (ap (λ (q : Step). q before) (sym (each_map change keeps stated_sees stated statements))
+          (ap (λ (q : Look). q before) (sym (each_map change keeps stated_sees stated statements))
           ∙ each_same stated_sees in_body Any before old_body new_body steady_statements before refl
           ∙ ap (each stated_sees old_body) (before_is b is) ∙ k)
       on (Err x) is k = never (sym (ap is_ok k))

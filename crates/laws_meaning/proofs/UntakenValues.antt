@@ -9,7 +9,7 @@ use Rattle.classic_tree.specs.declared.tree.RawValue.{RawValue}
 use Rattle.classic_tree.specs.declared.tree.RawValue.TheVariants as value
 use Rattle.classic_tree.proofs.Mapped.{given_mapped}
 use Rattle.proto_meaning.specs.Names.{Name}
-use Rattle.proto_meaning.specs.Sight.{Sight, Step, Names, Search, and_see, each, aside, taken_by}
+use Rattle.proto_meaning.specs.Sight.{Sight, Look, Names, Search, and_see, each, aside, taken_by}
 use Rattle.proto_meaning.specs.Flat.{Walk, pure, through, Node, Item, Proto, Inside, given_finds, given_sees, put_in}
 use Rattle.proto_meaning.specs.Flat.{item as item_part, node as node_part}
 use Rattle.proto_meaning.proofs.Induction.{OfGiven}
@@ -139,7 +139,7 @@ module _ (change : Change) (keeps : KeepsDeclarations change) where
   declares_is (given.Value (value.TruthList truths)) s = refl
   declares_is (given.Value (value.StringList texts)) s = refl
   declares_is (given.Value (value.NumberList numbers)) s = refl
-  declares_is (given.Value (value.NodeList ns)) s = ap (λ (q : Step). q s) (each_map node_sees node_part ns)
+  declares_is (given.Value (value.NodeList ns)) s = ap (λ (q : Look). q s) (each_map node_sees node_part ns)
 
   holds_is : (v : RawValue NodeText) (own : Name) (hidden : Bool) → given_finds (given_mapped node_part (given.Value v)) own hidden ≡ given_holds (given.Value v) own hidden
   holds_is value.Null own hidden = refl

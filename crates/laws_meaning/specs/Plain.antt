@@ -80,23 +80,23 @@ pub record Reading : Type 0 where
   pub pairs : List Pair
   pub wires : List Wire
 
-abbrev pub Reads : Type 0 → Type 0
-Reads A = Reading → Outcome (A × Reading)
+abbrev pub PlainRead : Type 0 → Type 0
+PlainRead A = Reading → Outcome (A × Reading)
 
 infixl 10 ◌>>=◌
-abbrev pub ◌>>=◌ : {A B : Type 0} → Reads A → (A → Reads B) → Reads B
+abbrev pub ◌>>=◌ : {A B : Type 0} → PlainRead A → (A → PlainRead B) → PlainRead B
 m >>= f = λ r. and_then (m r) (λ p. f p.0 p.1)
 
-abbrev pub pure : {A : Type 0} → A → Reads A
+abbrev pub pure : {A : Type 0} → A → PlainRead A
 pure a = λ r. comes (Ok (a, r))
 
-abbrev pub refuse : {A : Type 0} → ExpandFaultKind → ℕ → Reads A
+abbrev pub refuse : {A : Type 0} → ExpandFaultKind → ℕ → PlainRead A
 refuse kind line = λ r. comes (Err (fault kind line))
 
-abbrev pub meet : Met → Reads (Unit {0})
+abbrev pub meet : Met → PlainRead (Unit {0})
 meet m = λ r. record { met = m ∷ []; comes = Ok (tt, r) }
 
-abbrev pub in_turn : {A X : Type 0} → (A → X → Reads X) → List A → X → Reads X
+abbrev pub in_turn : {A X : Type 0} → (A → X → PlainRead X) → List A → X → PlainRead X
 in_turn f [] x = pure x
 in_turn f (a ∷ rest) x = f a x >>= in_turn f rest
 
@@ -117,7 +117,7 @@ last_from at name [] = None
 last_from at name (p ∷ ps) =
     option_or (last_from (at + 1) name ps) (if has_name name p then Some at else None)
 
-abbrev pub wire_route : RouteText → Reads (Unit {0})
+abbrev pub wire_route : RouteText → PlainRead (Unit {0})
 wire_route route = meet AnItem >>= λ _ r. comes (Ok (
   tt,
   record r {
@@ -146,7 +146,7 @@ route_of pairs w =
 
 -- ---- fields
 
-abbrev pub read_value : RawValue (Reads ℕ) → Reads (RawValue ℕ)
+abbrev pub read_value : RawValue (PlainRead ℕ) → PlainRead (RawValue ℕ)
 read_value value.Null = pure value.Null
 read_value (value.Truth truth) = pure (value.Truth truth)
 read_value (value.String text) = pure (value.String text)
@@ -157,7 +157,7 @@ read_value (value.TruthList truths) = pure (value.TruthList truths)
 read_value (value.StringList texts) = pure (value.StringList texts)
 read_value (value.NumberList numbers) = pure (value.NumberList numbers)
 read_value (value.NodeList nodes) =
-    in_turn (λ (node : Reads ℕ) ns. node >>= λ n. pure (ns ++ n ∷ [])) nodes []
+    in_turn (λ (node : PlainRead ℕ) ns. node >>= λ n. pure (ns ++ n ∷ [])) nodes []
     >>= λ ns. pure (value.NodeList ns)
 
 -- between the braces of a node: its fields, and what was given so far
@@ -174,7 +174,7 @@ fill line f b v =
 
 -- f is the field with its number; `twice`: it was given something before. There is nothing that IS
 -- could take
-abbrev pub give : ℕ → ℕ × Field → Bool → Given (Reads ℕ) → Between → Reads Between
+abbrev pub give : ℕ → ℕ × Field → Bool → Given (PlainRead ℕ) → Between → PlainRead Between
 give line f twice (given.Is outer) b = refuse BadIs line
 give line f twice (given.Value v) b =
     if twice then refuse FieldTwice line
@@ -191,9 +191,10 @@ is_filled name b = list_any (λ (f : Filled). bytes_eq f.name name) b.filled
 
 -- between the braces of a node of that type
 abbrev pub ItemReads : Type 0
-ItemReads = NodeType → Between → Reads Between
+ItemReads = NodeType → Between → PlainRead Between
 
-unfoldable pub item_step : BodyItem-F ItemReads (Reads ℕ) (Reads (List ℕ)) (Unit {0}) → ItemReads
+unfoldable pub item_step : BodyItem-F ItemReads (PlainRead ℕ) (PlainRead (List ℕ)) (Unit {0})
+    → ItemReads
 item_step (BodyItem-F.Field line name g) = λ t b.
     option_map_or (λ f. give line f (is_filled name b) g b) (numbered_from 0 name b.fields)
     (refuse UnknownField line)
@@ -219,7 +220,7 @@ flat_node line name t b =
     }
 
 -- braces open, and have no number yet
-abbrev pub open_pair : Option Name → Reads ℕ
+abbrev pub open_pair : Option Name → PlainRead ℕ
 open_pair name = λ r. comes (Ok (
   length r.pairs,
   record r {
@@ -228,7 +229,7 @@ open_pair name = λ r. comes (Ok (
 ))
 
 -- those that opened at that place close, and have the next number
-abbrev pub close_pair : Option Name → ℕ → FlatNode → Reads ℕ
+abbrev pub close_pair : Option Name → ℕ → FlatNode → PlainRead ℕ
 close_pair name at node = λ r. comes (Ok (
   length r.nodes,
   record r {
@@ -237,48 +238,52 @@ close_pair name at node = λ r. comes (Ok (
   },
 ))
 
-abbrev pub read_node : ℕ → Option Name → List ItemReads → NodeType → Reads ℕ
+abbrev pub read_node : ℕ → Option Name → List ItemReads → NodeType → PlainRead ℕ
 read_node line name items t =
     meet ANode >>= λ _. open_pair name
     >>= λ at. in_turn (λ (i : ItemReads). i t) items (record { fields = fields_of t; filled = [] })
     >>= λ b. close_pair name at (flat_node line name t b)
 
-unfoldable pub node_step : NodeText-F ItemReads (Reads ℕ) (Reads (List ℕ)) (Unit {0}) → Reads ℕ
+unfoldable pub node_step : NodeText-F ItemReads (PlainRead ℕ) (PlainRead (List ℕ)) (Unit {0})
+    → PlainRead ℕ
 node_step (NodeText-F.Use line name) =
     meet AnItem
     >>= λ _ r. option_map_or pure (last_closed name r.pairs) (refuse UseWithoutDef line) r
 node_step (NodeText-F.Full line name word items) =
     option_map_or (read_node line name items) (node_type_named word) (refuse UnknownNode line)
 
-unfoldable pub statement_step : Statement-F ItemReads (Reads ℕ) (Reads (List ℕ)) (Unit {0})
-    → Reads (List ℕ)
+unfoldable pub statement_step : Statement-F ItemReads (PlainRead ℕ) (PlainRead (List ℕ)) (Unit {0})
+    → PlainRead (List ℕ)
 statement_step (Statement-F.Node node) = node >>= λ n. pure (n ∷ [])
 statement_step (Statement-F.Statement::Route route) = wire_route route >>= λ _. pure []
 statement_step (Statement-F.Statement::Proto p) = pure []
 
-unfoldable pub proto_step : ProtoText-F ItemReads (Reads ℕ) (Reads (List ℕ)) (Unit {0}) → Unit {0}
+unfoldable pub proto_step : ProtoText-F ItemReads (PlainRead ℕ) (PlainRead (List ℕ)) (Unit {0})
+    → Unit {0}
 proto_step p = tt
 
 abbrev pub read_item : BodyItem → ItemReads
 read_item =
-    fold-BodyItem ItemReads (Reads ℕ) (Reads (List ℕ)) (Unit {0}) item_step node_step statement_step
+    fold-BodyItem ItemReads (PlainRead ℕ) (PlainRead (List ℕ)) (Unit {0}) item_step node_step
+    statement_step
     proto_step
 
-abbrev pub read_text : NodeText → Reads ℕ
+abbrev pub read_text : NodeText → PlainRead ℕ
 read_text =
-    fold-NodeText ItemReads (Reads ℕ) (Reads (List ℕ)) (Unit {0}) item_step node_step statement_step
+    fold-NodeText ItemReads (PlainRead ℕ) (PlainRead (List ℕ)) (Unit {0}) item_step node_step
+    statement_step
     proto_step
 
-abbrev pub read_statement : Statement → Reads (List ℕ)
+abbrev pub read_statement : Statement → PlainRead (List ℕ)
 read_statement =
-    fold-Statement ItemReads (Reads ℕ) (Reads (List ℕ)) (Unit {0}) item_step node_step
+    fold-Statement ItemReads (PlainRead ℕ) (PlainRead (List ℕ)) (Unit {0}) item_step node_step
     statement_step proto_step
 
 -- ---- a document
 
-abbrev pub read_all : List (Reads (List ℕ)) → Outcome (List ℕ × Reading)
+abbrev pub read_all : List (PlainRead (List ℕ)) → Outcome (List ℕ × Reading)
 read_all statements =
-    in_turn (λ (s : Reads (List ℕ)) roots. s >>= λ ns. pure (roots ++ ns)) statements []
+    in_turn (λ (s : PlainRead (List ℕ)) roots. s >>= λ ns. pure (roots ++ ns)) statements []
     (record { nodes = []; pairs = []; wires = [] })
 
 abbrev pub plain : Document → Result Flat ExpandFault

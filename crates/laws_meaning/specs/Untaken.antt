@@ -20,14 +20,14 @@ use Rattle.classic_tree.specs.declared.tree.Statement.{Statement, fold-Statement
 use Rattle.classic_tree.specs.declared.tree.Statement.TheVariants as statement_text
 use Rattle.proto_flat.specs.declared.fault.ExpandFault.{ExpandFault}
 use Rattle.proto_meaning.specs.Names.{Name}
-use Rattle.proto_meaning.specs.Sight.{Sight, Step, Names, Search, no_names, each, opened, aside, nodes_in, taking, meant, taken_by, is_kept}
+use Rattle.proto_meaning.specs.Sight.{Sight, Look, Names, Search, no_names, each, opened, aside, nodes_in, taking, meant, taken_by, is_kept}
 use Rattle.proto_meaning.specs.Flat.{item, node, statement, flat}
 use Rattle.laws_meaning.specs.Steps.{is_true, plain_item_step, plain_statement_step, plain_proto_step}
 
 -- ---- what a value declares
 
 -- what the nodes in it declare, and what ISs take there
-abbrev pub given_declares : Given NodeText → Step
+abbrev pub given_declares : Given NodeText → Look
 given_declares g s =
     each (λ n. (node n).sees) (nodes_in g) (record s { taken = taking g s.taken })
 
@@ -57,11 +57,11 @@ abbrev pub seen_or : Sight → Result Sight ExpandFault → Sight
 seen_or s (Ok t) = t
 seen_or s (Err e) = s
 
-abbrev pub past : Step → Sight → Sight
+abbrev pub past : Look → Sight → Sight
 past step s = seen_or s (step s)
 
 -- parts in turn
-abbrev pub in_turn : {F T : Type 0} → (F → Sight → T) → (T → Step) → List F → Sight → List T
+abbrev pub in_turn : {F T : Type 0} → (F → Sight → T) → (T → Look) → List F → Sight → List T
 in_turn at sees [] s = []
 in_turn at sees (f ∷ fs) s = at f s ∷ in_turn at sees fs (past (sees (at f s)) s)
 
@@ -113,10 +113,10 @@ abbrev pub with_default : Change → Names → Declaration NodeText → Declarat
 with_default change takes d =
     record d { given = unless_kept change (takes d.name) d.line d.name d.given }
 
-abbrev pub defaults_declare : List (Declaration NodeText) → Step
+abbrev pub defaults_declare : List (Declaration NodeText) → Look
 defaults_declare ds = aside (each (λ d. given_declares d.given) ds)
 
-abbrev pub statements_declare : List Statement → Step
+abbrev pub statements_declare : List Statement → Look
 statements_declare ss = each (λ s. (statement s).1.sees) ss
 
 -- a prototype whose parts are those, by what is in sight where its interface begins, and its body

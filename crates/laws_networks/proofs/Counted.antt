@@ -5,7 +5,7 @@ use Rattle.std.proofs.lemmas.Bool.{leb-true}
 use Rattle.std.proofs.lemmas.List.{length-map, length-take}
 use Rattle.std.proofs.lemmas.List.FromFn.{length-range_with_len}
 use Rattle.std.proofs.lemmas.List.Sums.{count_by-le-length, length-filter, sum_by-cons}
-use Rattle.x3d_values.specs.Stamp.{Stamp}
+use Rattle.x3d_values.specs.Stamp.{StampedView}
 use Rattle.x3d_values.specs.Tables.{rows}
 use Rattle.x3d_values.specs.declared.node_type.NodeType.{NodeType}
 use Rattle.x3d_values.specs.declared.node_type.NodeType.TheVariants.{Group}
@@ -49,7 +49,7 @@ few_all (n ∷ nodes) =
 
 -- ---- the trace
 
-grows : (scene : SceneView) (routes : List Route) → RunsAll scene → outputs_of (shapes_of scene) ≤ 4294967296 → (inputs : List Stamp) (w : Scripted)
+grows : (scene : SceneView) (routes : List Route) → RunsAll scene → outputs_of (shapes_of scene) ≤ 4294967296 → (inputs : List StampedView) (w : Scripted)
     → length (world_after scene routes w inputs).world.trace ≤ length w.world.trace + length inputs * 4294967296
 grows scene routes all few [] w = omega arith
 grows scene routes all few (s ∷ inputs) w =

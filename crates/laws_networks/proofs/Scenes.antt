@@ -3,7 +3,7 @@ use Rattle.std.proofs.Common.{◌≡◌, ℕ, zero, suc, ◌+◌, ◌==◌, Bool
 use Rattle.std.specs.List.{AllByRecursion, find}
 use Rattle.std.specs.Cmp.Lexicographic.{pointwise}
 use Rattle.x3d_values.specs.Access.{is_initial}
-use Rattle.x3d_values.specs.Tables.{Entry, rows}
+use Rattle.x3d_values.specs.Tables.{FieldRowView, rows}
 use Rattle.x3d_values.specs.declared.field_type.Access.{Access}
 use Rattle.x3d_values.specs.declared.field_type.FieldType.{FieldType}
 use Rattle.x3d_values.specs.declared.node_type.NodeKind.{NodeKind}
@@ -102,26 +102,26 @@ accepted_so nodes a kind f x h =
     either Short (not (is_initial a)) (Err (fault NotInitial f.line)) (if all_taken kind nodes (inner_nodes f.value) then Ok (Some x) else Err (fault BadChild f.line)) tt
     (either Short (all_taken kind nodes (inner_nodes f.value)) (Ok (Some x)) (Err (fault BadChild f.line)) h tt)
 
-in_range_so : (nodes : List FlatNode) (e : Entry) (f : FlatField) (x : Value) → IsShortValue max_len x → IfSo Short (accepted_in_range nodes e f x)
+in_range_so : (nodes : List FlatNode) (e : FieldRowView) (f : FlatField) (x : Value) → IsShortValue max_len x → IfSo Short (accepted_in_range nodes e f x)
 in_range_so nodes e f x h =
     either Short (in_range e.name x) (accepted nodes e.access e.kind f x) (Err (fault ValueRange f.line)) (accepted_so nodes e.access e.kind f x h) tt
 
-dropped_so : (e : Entry) (f : FlatField) → IfSo Short (dropped_rotation e f)
+dropped_so : (e : FieldRowView) (f : FlatField) → IfSo Short (dropped_rotation e f)
 dropped_so e f =
     let r : Result (Unit {0}) SceneFault = at_line f.line (checked_rotation f.value (pointwise nat_eq e.name (codes "orientation"))) in
     then_so (λ (u : Unit {0}). Unit {0}) Short r (λ _. Ok None) (anyway r) (λ u t. tt)
 
-given_so : (nodes : List FlatNode) (numbers : List ℕ) (e : Entry) (f : FlatField) → ShortField f → IfSo Short (given_value nodes numbers e f)
+given_so : (nodes : List FlatNode) (numbers : List ℕ) (e : FieldRowView) (f : FlatField) → ShortField f → IfSo Short (given_value nodes numbers e f)
 given_so nodes numbers e f h =
     either Short (is_rotation e.field_type) (dropped_rotation e f) (typed_value numbers e.field_type f >>= accepted_in_range nodes e f) (dropped_so e f)
     (then_so (IsShortValue max_len) Short (typed_value numbers e.field_type f) (accepted_in_range nodes e f) (typed_so numbers e.field_type f h) (λ x k. in_range_so nodes e f x k))
 
-field_so : (nodes : List FlatNode) (numbers : List ℕ) (e : Entry) (f : Option FlatField) → IfAny ShortField f → IfSo Short (field_value nodes numbers e f)
+field_so : (nodes : List FlatNode) (numbers : List ℕ) (e : FieldRowView) (f : Option FlatField) → IfAny ShortField f → IfSo Short (field_value nodes numbers e f)
 unfolding field_value
 field_so nodes numbers e (Some f) h = given_so nodes numbers e f h
 field_so nodes numbers e None h = default_or_none e.field_type e.default
 
-values_so : (nodes : List FlatNode) (numbers : List ℕ) (fields : List FlatField) → AllByRecursion ShortField fields → (n : ℕ) (es : List Entry) (done : List (Option Value)) → AllShort done → IfSo AllShort (values_from nodes numbers fields n es done)
+values_so : (nodes : List FlatNode) (numbers : List ℕ) (fields : List FlatField) → AllByRecursion ShortField fields → (n : ℕ) (es : List FieldRowView) (done : List (Option Value)) → AllShort done → IfSo AllShort (values_from nodes numbers fields n es done)
 values_so nodes numbers fields h n [] done k = k
 values_so nodes numbers fields h n (e ∷ es) done k =
     then_so Short AllShort (field_value nodes numbers e (given fields n)) (λ v. values_from nodes numbers fields (n + 1) es (done ++ v ∷ [])) (field_so nodes numbers e (given fields n) (given_short fields n h))

@@ -5,18 +5,18 @@ use Rattle.std.specs.List.{list_all}
 use Rattle.std.proofs.lemmas.Bool.{leb-true}
 use Rattle.byte_codec.proofs.Laws.{both}
 use Rattle.x3d_values.specs.Ranges.{is_input_number, is_input_time, max_inputs}
-use Rattle.x3d_values.specs.Stamp.{Stamp}
+use Rattle.x3d_values.specs.Stamp.{StampedView}
 use Rattle.proto_flat.specs.declared.flat.Flat.{Flat}
 use Rattle.scene_core.specs.declared.scene.Route.{Route}
 use Rattle.scene_core.specs.Scene.{SceneView}
 use Rattle.laws_worlds.specs.Nodes.{RunsAll}
 use Rattle.cascade_core.specs.Course.{Scripted}
-use Rattle.cascade_core.specs.InTurn.{Follow}
-use Rattle.share_wire.specs.Datagram.{event_fits, stamp_fits}
+use Rattle.cascade_core.specs.InOrder.{Follow}
+use Rattle.share_wire.specs.Datagram.{cause_fits, stamp_fits}
 use Rattle.share_law.specs.Cascade.{cascade}
 use Rattle.share_law.specs.Network.{Network}
 use Rattle.share_law.specs.Reached.{Reached}
-use Rattle.share_law.specs.Viewer.{View}
+use Rattle.share_law.specs.Viewer.{ViewerWorld}
 use Rattle.share_law.proofs.Agreement.{Sound-reached}
 use Rattle.share_law.proofs.Machines.{cascade-is}
 use Rattle.share_law.proofs.Ranges.{InRange, both-reached}
@@ -32,29 +32,29 @@ use Rattle.laws_networks.specs.Opened.{IsOpened}
 use Rattle.laws_networks.specs.Worlds.{RunningOfTextsHaveSnapshots, SavedOfTextsHaveSnapshots, WorldsOfTextsFit, WorldsOfTextsHaveSnapshots}
 use Rattle.laws_networks.proofs.Countable.{is_document}
 
-last : (s : Stamp) → is_input_number s.number ≡ true → s.number ≤ max_inputs
+last : (s : StampedView) → is_input_number s.number ≡ true → s.number ≤ max_inputs
 last s h = leb-true s.number max_inputs (both (nat_le 1 s.number) (nat_le s.number max_inputs) h).1
 
-from_none : (k : ℕ) (x : Stamp) → x.number ≡ suc k → x.number ≡ suc (0 + k)
+from_none : (k : ℕ) (x : StampedView) → x.number ≡ suc k → x.number ≡ suc (0 + k)
 from_none k x e = omega (arith, e)
 
-next : (n k : ℕ) (x : Stamp) → x.number ≡ suc (n + suc k) → x.number ≡ suc (suc n + k)
+next : (n k : ℕ) (x : StampedView) → x.number ≡ suc (n + suc k) → x.number ≡ suc (suc n + k)
 next n k x e = omega (arith, e)
 
 -- ---- inputs are no more than their numbers
 
-in_turn : (n : ℕ) (t : ℤ) (inputs : List Stamp) → n ≤ max_inputs → Follow n t inputs → list_all is_input inputs ≡ true → n + length inputs ≤ max_inputs
-in_turn n t [] h f i = omega (arith, h)
-in_turn n t (s ∷ inputs) h f i =
+in_order : (n : ℕ) (t : ℤ) (inputs : List StampedView) → n ≤ max_inputs → Follow n t inputs → list_all is_input inputs ≡ true → n + length inputs ≤ max_inputs
+in_order n t [] h f i = omega (arith, h)
+in_order n t (s ∷ inputs) h f i =
     let p = both (is_input s) (list_all is_input inputs) i in
-    let q = both (is_input_number s.number) (is_input_time s.time && is_event s.event) p.0 in
-    omega (arith, in_turn s.number s.time inputs (last s q.0) f.2 p.1, f.0)
+    let q = both (is_input_number s.number) (is_input_time s.time && is_event s.cause) p.0 in
+    omega (arith, in_order s.number s.time inputs (last s q.0) f.2 p.1, f.0)
 
-numbered : (n : ℕ) (inputs : List Stamp) → n ≤ max_inputs → ((k : ℕ) (x : Stamp) → slice_get inputs k ≡ Some x → x.number ≡ suc (n + k))
-    → ((k : ℕ) (x : Stamp) → slice_get inputs k ≡ Some x → stamp_fits x ≡ true) → n + length inputs ≤ max_inputs
+numbered : (n : ℕ) (inputs : List StampedView) → n ≤ max_inputs → ((k : ℕ) (x : StampedView) → slice_get inputs k ≡ Some x → x.number ≡ suc (n + k))
+    → ((k : ℕ) (x : StampedView) → slice_get inputs k ≡ Some x → stamp_fits x ≡ true) → n + length inputs ≤ max_inputs
 numbered n [] h f i = omega (arith, h)
 numbered n (s ∷ inputs) h f i =
-    let q = both (is_input_number s.number && is_input_time s.time) (event_fits s.event) (i 0 s refl) in
+    let q = both (is_input_number s.number && is_input_time s.time) (cause_fits s.cause) (i 0 s refl) in
     let few = last s (both (is_input_number s.number) (is_input_time s.time) q.0).0 in
     let e = f 0 s refl in
     omega (arith, numbered (suc n) inputs (omega (arith, few, e)) (λ k x at. next n k x (f (suc k) x at)) (λ k x at. i (suc k) x at))
@@ -80,7 +80,7 @@ worlds_fit text f scene routes inputs o run i = all_worlds_fit f scene routes in
 
 pub worlds_have : WorldsOfTextsHaveSnapshots
 worlds_have text f scene routes inputs o run i =
-    let few : length inputs ≤ max_inputs = omega (arith, in_turn 0 (pos 0) inputs (omega arith) i.in_turn i.in_range) in
+    let few : length inputs ≤ max_inputs = omega (arith, in_order 0 (pos 0) inputs (omega arith) i.in_order i.in_range) in
     all_have_snapshots f scene routes inputs (is_document text f scene routes o) run i (counted scene routes inputs run (few_nodes text f scene routes o) few)
 
 pub saved_have : SavedOfTextsHaveSnapshots
@@ -91,5 +91,5 @@ saved_have text f scene routes mark net o run reached s shot at =
 pub running_have : RunningOfTextsHaveSnapshots
 running_have text f scene routes mark net o run reached viewer held window r =
     let sound : Sound (cascade mark scene routes) net = Sound-reached (cascade-is mark scene routes) reached in
-    let step : InStep (cascade mark scene routes) net.host.list held window = subst (λ (v : View Scripted). ViewSound (cascade mark scene routes) net.host.list v) r.view (sound.viewers viewer r.seat r.is) in
+    let step : InStep (cascade mark scene routes) net.host.list held window = subst (λ (v : ViewerWorld Scripted). ViewSound (cascade mark scene routes) net.host.list v) r.view (sound.viewers viewer r.seat r.is) in
     all_running f scene routes mark net (is_document text f scene routes o) run reached viewer held window r (few_lines text f scene routes o run mark net reached held step.at)

@@ -1,6 +1,6 @@
 -- The worlds of a network have snapshots.
 use Rattle.std.specs.Prelude.{◌≡◌, ℕ, ◌<◌, ◌^◌, List, length, Option, Some, slice_get}
-use Rattle.x3d_values.specs.Stamp.{Stamp}
+use Rattle.x3d_values.specs.Stamp.{StampedView}
 use Rattle.proto_flat.specs.declared.flat.Flat.{Flat}
 use Rattle.scene_core.specs.declared.scene.Route.{Route}
 use Rattle.scene_core.specs.Scene.{SceneView}
@@ -30,6 +30,6 @@ RunningHaveSnapshots =
     (flat : Flat) (scene : SceneView) (routes : List Route)
     (mark : List ℕ) (net : Network Scripted)
     → IsDocument flat scene routes → RunsAll scene → Reached (cascade mark scene routes) net
-    → (viewer : ℕ) (held : Scripted) (window : List (Option Stamp))
+    → (viewer : ℕ) (held : Scripted) (window : List (Option StampedView))
     → IsRunning net viewer held window
     → length held.world.trace < 2 ^ 64 → HasSnapshot scene held

@@ -2,7 +2,7 @@
 -- model).
 use Rattle.std.specs.Prelude.{◌+◌, ◌^◌, ◌≤◌, ◌<◌, List, length}
 use Rattle.x3d_values.specs.Ranges.{max_inputs}
-use Rattle.x3d_values.specs.Stamp.{Stamp}
+use Rattle.x3d_values.specs.Stamp.{StampedView}
 use Rattle.scene_core.specs.declared.scene.Route.{Route}
 use Rattle.scene_core.specs.Scene.{SceneView, shapes_of}
 use Rattle.laws_worlds.specs.Nodes.{RunsAll}
@@ -13,7 +13,7 @@ use Rattle.cascade_core.specs.Outputs.{outputs_of}
 -- an input adds no more lines than the scene has outputs, where all its scripts run
 abbrev pub InputsSendFew : Type 0
 InputsSendFew =
-    (scene : SceneView) (routes : List Route) (w : Scripted) (input : Stamp)
+    (scene : SceneView) (routes : List Route) (w : Scripted) (input : StampedView)
     → RunsAll scene
     → length (apply scene routes w input).world.trace
     ≤ length w.world.trace + outputs_of (shapes_of scene)
@@ -28,6 +28,6 @@ OpeningsSendFew =
 -- the trace of a scene of at most 65,536 nodes, after as many inputs as a world may have
 abbrev pub TracesAreCounted : Type 0
 TracesAreCounted =
-    (scene : SceneView) (routes : List Route) (inputs : List Stamp)
+    (scene : SceneView) (routes : List Route) (inputs : List StampedView)
     → RunsAll scene → length scene.nodes ≤ 2 ^ 16 → length inputs ≤ max_inputs
     → length (world scene routes inputs).world.trace < 2 ^ 64

@@ -1,7 +1,7 @@
 -- The worlds of a scene that was read from a text: nothing else is asked of the text, but that all
 -- scripts of the scene run.
 use Rattle.std.specs.Prelude.{◌≡◌, ℕ, List, Option, Some, slice_get}
-use Rattle.x3d_values.specs.Stamp.{Stamp}
+use Rattle.x3d_values.specs.Stamp.{StampedView}
 use Rattle.proto_flat.specs.declared.flat.Flat.{Flat}
 use Rattle.scene_core.specs.declared.scene.Route.{Route}
 use Rattle.scene_core.specs.Scene.{SceneView}
@@ -20,14 +20,14 @@ use Rattle.laws_networks.specs.Opened.{IsOpened}
 -- every world that inputs in turn lead to fits
 abbrev pub WorldsOfTextsFit : Type 0
 WorldsOfTextsFit =
-    (text : List ℕ) (f : Flat) (scene : SceneView) (routes : List Route) (inputs : List Stamp)
+    (text : List ℕ) (f : Flat) (scene : SceneView) (routes : List Route) (inputs : List StampedView)
     → IsOpened text f scene routes → RunsAll scene → AreInputs inputs
     → ScriptedFits scene (world scene routes inputs)
 
 -- and has a snapshot that is read again
 abbrev pub WorldsOfTextsHaveSnapshots : Type 0
 WorldsOfTextsHaveSnapshots =
-    (text : List ℕ) (f : Flat) (scene : SceneView) (routes : List Route) (inputs : List Stamp)
+    (text : List ℕ) (f : Flat) (scene : SceneView) (routes : List Route) (inputs : List StampedView)
     → IsOpened text f scene routes → RunsAll scene → AreInputs inputs
     → HasSnapshot scene (world scene routes inputs)
 
@@ -47,5 +47,5 @@ RunningOfTextsHaveSnapshots =
     (text : List ℕ) (f : Flat) (scene : SceneView) (routes : List Route)
     (mark : List ℕ) (net : Network Scripted)
     → IsOpened text f scene routes → RunsAll scene → Reached (cascade mark scene routes) net
-    → (viewer : ℕ) (held : Scripted) (window : List (Option Stamp))
+    → (viewer : ℕ) (held : Scripted) (window : List (Option StampedView))
     → IsRunning net viewer held window → HasSnapshot scene held

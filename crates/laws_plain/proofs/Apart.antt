@@ -5,7 +5,7 @@ use Rattle.std.specs.List.{AllByRecursion}
 use Rattle.std.specs.Option.{option_or}
 use Rattle.std.proofs.lemmas.List.{append-nil, append_assoc}
 use Rattle.std.proofs.lemmas.Option.{none-some}
-use Rattle.x3d_values.specs.Tables.{Entry, are_distinct, numbered, row_named, rows}
+use Rattle.x3d_values.specs.Tables.{FieldRowView, are_distinct, numbered, row_named, rows}
 use Rattle.x3d_values.specs.declared.node_type.NodeType.{NodeType}
 use Rattle.x3d_values.specs.declared.table.FieldRow.{FieldRow}
 use Rattle.laws_flat.specs.Signatures.{of_type}
@@ -56,7 +56,7 @@ row_none : (b : Bool) (row : FieldRow) (o : Option FieldRow) → b ≡ false →
 row_none true row o e k = absurd cc
 row_none false row o e k = k
 
-module _ (of : Field → Entry) (named : (d : Field) → (of d).name ≡ d.name) where
+module _ (of : Field → FieldRowView) (named : (d : Field) → (of d).name ≡ d.name) where
   not_row : (n : ℕ) (x : Field) (ds : List Field) → Apart ds x → row_named n x.name (map of ds) ≡ None
   not_row n x [] h = refl
   not_row n x (d ∷ ds) h =

@@ -4,10 +4,10 @@ use Rattle.std.proofs.Common.{◌≡◌, ℕ, [], Bool, true, false, if◌then�
 use Rattle.proto_flat.specs.declared.fault.ExpandFault.{ExpandFault}
 use Rattle.proto_flat.specs.declared.fault.ExpandFaultKind.{ExpandFaultKind}
 use Rattle.proto_meaning.specs.Limits.{Met, Outcome, behind, follow, and_then}
-use Rattle.proto_meaning.specs.Sight.{Sight, Step}
+use Rattle.proto_meaning.specs.Sight.{Sight, Look}
 use Rattle.proto_meaning.specs.Flat.{Walk, Does, refuse, see}
 use Rattle.proto_meaning.specs.Flat as walk
-use Rattle.laws_meaning.specs.Plain.{Reading, Reads, pure}
+use Rattle.laws_meaning.specs.Plain.{Reading, PlainRead, pure}
 use Rattle.laws_meaning.proofs.Maps.{mapped}
 use Rattle.laws_meaning.proofs.PlainRoutes.{braces_of, wired}
 
@@ -45,7 +45,7 @@ Comes a o met (Err e) = Unit {0}
 abbrev pub Beside : {A B : Type 0} → (A → B) → Outcome (A × Reading) → Outcome (B × Walk) → Type 0
 Beside a o q = Comes a o q.met q.comes
 
-abbrev pub Follows : {A B : Type 0} → (A → B) → Reads A → Does B → Type 0
+abbrev pub Follows : {A B : Type 0} → (A → B) → PlainRead A → Does B → Type 0
 Follows a m n = (s : Sight) (r : Reading) → Beside a (m r) (n (walk_at s r))
 
 module _ {A B : Type 0} (a : A → B) where
@@ -61,21 +61,21 @@ module _ {A B : Type 0} (a : A → B) where
   comes_mapped s met (Err e) = tt
 
   -- the walk is made of the reading, where that is in sight
-  pub follows_mapped : (m : Reads A) (n : Does B) → ((s : Sight) (r : Reading) → n (walk_at s r) ≡ mapped (walk_at s) a (m r)) → Follows a m n
+  pub follows_mapped : (m : PlainRead A) (n : Does B) → ((s : Sight) (r : Reading) → n (walk_at s r) ≡ mapped (walk_at s) a (m r)) → Follows a m n
   follows_mapped m n e s r = subst (λ (q : Outcome (B × Walk)). Beside a (m r) q) (sym (e s r)) (comes_mapped s (m r).met (m r).comes)
 
   pub follows_pure : (x : A) → Follows a (pure x) (walk.pure (a x))
   follows_pure x s r = record { what = x; after = r; sight = s; read = refl; given = refl; walked = refl }
 
-  pub follows_refuse : (m : Reads A) (kind : ExpandFaultKind) (line : ℕ) → Follows a m (refuse kind line)
+  pub follows_refuse : (m : PlainRead A) (kind : ExpandFaultKind) (line : ℕ) → Follows a m (refuse kind line)
   follows_refuse m kind line s r = tt
 
-  pub follows_if : (b : Bool) (m k : Reads A) (n l : Does B) → Follows a m n → Follows a k l → Follows a (if b then m else k) (if b then n else l)
+  pub follows_if : (b : Bool) (m k : PlainRead A) (n l : Does B) → Follows a m n → Follows a k l → Follows a (if b then m else k) (if b then n else l)
   follows_if true m k n l h g = h
   follows_if false m k n l h g = g
 
 module _ {A B C D : Type 0} (a : A → B) (c : C → D) where
-  then_comes : (f : A → Reads C) (g : B → Does D) (o : Outcome (A × Reading)) (met : List Met) (r : Result (B × Walk) ExpandFault) → ((x : A) → Follows c (f x) (g (a x))) → Comes a o met r
+  then_comes : (f : A → PlainRead C) (g : B → Does D) (o : Outcome (A × Reading)) (met : List Met) (r : Result (B × Walk) ExpandFault) → ((x : A) → Follows c (f x) (g (a x))) → Comes a o met r
       → Beside c (and_then o (λ p. f p.0 p.1)) (follow met r (λ p. g p.0 p.1))
   then_comes f g o met (Ok p) k h =
       subst (λ (x : Outcome (A × Reading)). Beside c (and_then x (λ p. f p.0 p.1)) (behind met (g p.0 p.1))) (sym h.read)
@@ -84,7 +84,7 @@ module _ {A B C D : Type 0} (a : A → B) (c : C → D) where
       (beside_behind c met (f h.what h.after) (g (a h.what) (walk_at h.sight h.after)) (k h.what h.sight h.after))))
   then_comes f g o met (Err e) k h = tt
 
-  pub follows_then : (m : Reads A) (n : Does B) (f : A → Reads C) (g : B → Does D) → Follows a m n → ((x : A) → Follows c (f x) (g (a x)))
+  pub follows_then : (m : PlainRead A) (n : Does B) (f : A → PlainRead C) (g : B → Does D) → Follows a m n → ((x : A) → Follows c (f x) (g (a x)))
       → Follows c (λ r. and_then (m r) (λ p. f p.0 p.1)) (λ w. and_then (n w) (λ p. g p.0 p.1))
   follows_then m n f g h k s r = then_comes f g (m r) (n (walk_at s r)).met (n (walk_at s r)).comes k (h s r)
 
@@ -93,5 +93,5 @@ seen : (r : Reading) (s : Sight) (x : Result Sight ExpandFault) → Beside same 
 seen r s (Ok t) = record { what = tt; after = r; sight = t; read = refl; given = refl; walked = refl }
 seen r s (Err e) = tt
 
-pub follows_see : (step : Step) → Follows same (pure (tt {0})) (see step)
+pub follows_see : (step : Look) → Follows same (pure (tt {0})) (see step)
 follows_see step s r = seen r s (step s)

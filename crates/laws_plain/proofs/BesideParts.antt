@@ -29,7 +29,7 @@ use Rattle.proto_meaning.specs.Flat.{Walk, Does, Node, Item, Stated, Proto, Insi
 use Rattle.proto_meaning.specs.Flat as walk
 use Rattle.proto_meaning.specs.Flat.{item as item_part, node as node_part}
 use Rattle.proto_meaning.proofs.Induction.{OfGiven}
-use Rattle.laws_meaning.specs.Plain.{Reading, Reads, ◌>>=◌, pure, refuse, meet, in_turn, last_closed, last_from, wire_route, read_value, Between, ItemReads, open_pair, close_pair, read_node, read_item, read_text}
+use Rattle.laws_meaning.specs.Plain.{Reading, PlainRead, ◌>>=◌, pure, refuse, meet, in_turn, last_closed, last_from, wire_route, read_value, Between, ItemReads, open_pair, close_pair, read_node, read_item, read_text}
 use Rattle.laws_meaning.specs.Plain as plains
 use Rattle.laws_meaning.proofs.Maps.{mapped}
 use Rattle.laws_meaning.proofs.PlainRoutes.{braces_of, wire_pairs, wired, last_same, used_same, wired_more}
@@ -61,7 +61,7 @@ route_follows route = follows_mapped same (wire_route route) (note_route route) 
 
 -- ---- values
 
-abbrev next_number : Reads ℕ → List ℕ → Reads (List ℕ)
+abbrev next_number : PlainRead ℕ → List ℕ → PlainRead (List ℕ)
 next_number node ns = node >>= λ n. pure (ns ++ n ∷ [])
 
 abbrev put_next : Node → List ℕ → Does (List ℕ)
@@ -76,7 +76,7 @@ nodes_follow (n ∷ ns) h k ks =
     (λ ls. nodes_follow ns h.1 both.1 ls)
 
 -- what a field is given, and how it is read
-abbrev pub GivenFollows : Given (Reads ℕ) → Given Node → Type 0
+abbrev pub GivenFollows : Given (PlainRead ℕ) → Given Node → Type 0
 GivenFollows given.Nothing given.Nothing = Unit {0}
 GivenFollows (given.Is a) (given.Is b) = Unit {0}
 GivenFollows (given.Value v) (given.Value u) = (item_count u ≡ item_count v) × Follows same (read_value v) (put_in u)
@@ -108,10 +108,10 @@ given_follows (given.Value (value.NodeList ns)) h e = (
 
 -- ---- fields
 
-unless_twice : (line : ℕ) (twice : Bool) (at : ℕ) (t : NodeType) (m : Reads Between) (n : Does Inside) → Follows (inside_of at t) m n → Follows (inside_of at t) (if twice then refuse FieldTwice line else m) (if twice then walk.refuse FieldTwice line else n)
+unless_twice : (line : ℕ) (twice : Bool) (at : ℕ) (t : NodeType) (m : PlainRead Between) (n : Does Inside) → Follows (inside_of at t) m n → Follows (inside_of at t) (if twice then refuse FieldTwice line else m) (if twice then walk.refuse FieldTwice line else n)
 unless_twice line twice at t m n h = follows_if (inside_of at t) twice (refuse FieldTwice line) m (walk.refuse FieldTwice line) n (follows_refuse (inside_of at t) (refuse FieldTwice line) FieldTwice line) h
 
-give_follows : (line : ℕ) (f : ℕ × Field) (twice : Bool) (g : Given (Reads ℕ)) (h : Given Node) (at : ℕ) (t : NodeType) (b : Between) → GivenFollows g h → Follows (inside_of at t) (plains.give line f twice g b) (give line f twice h (inside_of at t b))
+give_follows : (line : ℕ) (f : ℕ × Field) (twice : Bool) (g : Given (PlainRead ℕ)) (h : Given Node) (at : ℕ) (t : NodeType) (b : Between) → GivenFollows g h → Follows (inside_of at t) (plains.give line f twice g b) (give line f twice h (inside_of at t b))
 give_follows line f twice given.Nothing given.Nothing at t b k =
     unless_twice line twice at t (meet (AField f.0 0) >>= λ _. pure (plains.fill line f b None)) (λ w. and_then (walk.meet (AField f.0 0) w) (λ p. walk.pure (walk.fill line f (inside_of at t b) None) p.1))
     (λ s r. record { what = plains.fill line f b None; after = r; sight = s; read = refl; given = refl; walked = refl })
@@ -128,19 +128,19 @@ give_follows line f twice (given.Value v) (given.Value u) at t b k =
     (beside_behind (inside_of at t) (AField f.0 (item_count v) ∷ []) (read_filled r) (put_filled (walk_at s r))
     (follows_then same (inside_of at t) (read_value v) (put_in u) (λ x. pure (plains.fill line f b (Some x))) (λ x. walk.pure (walk.fill line f (inside_of at t b) (Some x))) k.1
     (λ x. follows_pure (inside_of at t) (plains.fill line f b (Some x))) s r))) where
-      read_filled : Reads Between
+      read_filled : PlainRead Between
       read_filled r = and_then (read_value v r) (λ p. pure (plains.fill line f b (Some p.0)) p.1)
 
       put_filled : Does Inside
       put_filled w = and_then (put_in u w) (λ p. walk.pure (walk.fill line f (inside_of at t b) (Some p.0)) p.1)
 
-follows_option : {X A B : Type 0} (a : A → B) (o : Option X) (f : X → Reads A) (g : X → Does B) (m : Reads A) (n : Does B) → ((x : X) → Follows a (f x) (g x)) → Follows a m n → Follows a (option_map_or f o m) (option_map_or g o n)
+follows_option : {X A B : Type 0} (a : A → B) (o : Option X) (f : X → PlainRead A) (g : X → Does B) (m : PlainRead A) (n : Does B) → ((x : X) → Follows a (f x) (g x)) → Follows a m n → Follows a (option_map_or f o m) (option_map_or g o n)
 follows_option a None f g m n h k = k
 follows_option a (Some x) f g m n h k = h x
 
 -- ---- items
 
-pub field_follows : (line : ℕ) (name : Name) (g : Given (Reads ℕ)) (h : Given Node) → GivenFollows g h → (at : ℕ) (t : NodeType) (b : Between)
+pub field_follows : (line : ℕ) (name : Name) (g : Given (PlainRead ℕ)) (h : Given Node) → GivenFollows g h → (at : ℕ) (t : NodeType) (b : Between)
     → Follows (inside_of at t) (plains.item_step (BodyItem-F.Field line name g) t b) ((item_step (BodyItem-F.Field line name h)).does (inside_of at t b))
 unfolding plains.item_step item_step
 field_follows line name g h k at t b =

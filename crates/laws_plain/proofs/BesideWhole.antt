@@ -23,7 +23,7 @@ use Rattle.proto_meaning.specs.Flat as walk
 use Rattle.proto_meaning.specs.Flat.{item as item_part, node as node_part, proto as proto_part, statement as stated}
 use Rattle.proto_meaning.proofs.Trees.{item-field, item-declaration, item-route, item-proto, node-use, node-full, statement-node, statement-route, statement-proto}
 use Rattle.proto_meaning.proofs.Induction.{OfGiven, OfDeclaration, Layers, every}
-use Rattle.laws_meaning.specs.Plain.{Reading, Reads, ◌>>=◌, pure, in_turn, route_of, Between, ItemReads, read_item, read_text, read_statement, read_all}
+use Rattle.laws_meaning.specs.Plain.{Reading, PlainRead, ◌>>=◌, pure, in_turn, route_of, Between, ItemReads, read_item, read_text, read_statement, read_all}
 use Rattle.laws_meaning.proofs.PlainTexts as texts
 use Rattle.laws_meaning.proofs.PlainRoutes.{all_wired}
 use Rattle.laws_flat.specs.Closings.{IsOfNode, in_item, in_statement}
@@ -46,11 +46,11 @@ item_by : (i : BodyItem) (m : ItemReads) (o : Item) → read_item i ≡ m → it
 item_by i m o e f h k at t b =
     subst (λ (x : ItemReads). Follows (inside_of at t) (x t b) ((item_part i).does (inside_of at t b))) (sym e) (subst (λ (x : Item). Follows (inside_of at t) (m t b) (x.does (inside_of at t b))) (sym f) (h at t b))
 
-node_by : (n : NodeText) (m : Reads ℕ) (o : Node) → read_text n ≡ m → node_part n ≡ o → Follows same m o.does → Follows same (read_text n) (node_part n).does
-node_by n m o e f h = subst (λ (x : Reads ℕ). Follows same x (node_part n).does) (sym e) (subst (λ (x : Node). Follows same m x.does) (sym f) h)
+node_by : (n : NodeText) (m : PlainRead ℕ) (o : Node) → read_text n ≡ m → node_part n ≡ o → Follows same m o.does → Follows same (read_text n) (node_part n).does
+node_by n m o e f h = subst (λ (x : PlainRead ℕ). Follows same x (node_part n).does) (sym e) (subst (λ (x : Node). Follows same m x.does) (sym f) h)
 
-statement_by : (s : Statement) (m : Reads (List ℕ)) (o : Stated) → read_statement s ≡ m → stated s ≡ o → Follows same m o.1.does → Follows same (read_statement s) (stated s).1.does
-statement_by s m o e f h = subst (λ (x : Reads (List ℕ)). Follows same x (stated s).1.does) (sym e) (subst (λ (x : Stated). Follows same m x.1.does) (sym f) h)
+statement_by : (s : Statement) (m : PlainRead (List ℕ)) (o : Stated) → read_statement s ≡ m → stated s ≡ o → Follows same m o.1.does → Follows same (read_statement s) (stated s).1.does
+statement_by s m o e f h = subst (λ (x : PlainRead (List ℕ)). Follows same x (stated s).1.does) (sym e) (subst (λ (x : Stated). Follows same m x.1.does) (sym f) h)
 
 field_layer : (line : ℕ) (name : Name) (g : Given NodeText) → OfGiven NodeFollows g → ItemFollows (item_text.Field line name g)
 field_layer line name g h k =
@@ -91,7 +91,7 @@ layers = record {
 
 -- ---- a document
 
-abbrev next_root : Reads (List ℕ) → List ℕ → Reads (List ℕ)
+abbrev next_root : PlainRead (List ℕ) → List ℕ → PlainRead (List ℕ)
 next_root s roots = s >>= λ ns. pure (roots ++ ns)
 
 abbrev root : Stated → List ℕ → Does (List ℕ)

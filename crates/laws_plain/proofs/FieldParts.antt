@@ -26,7 +26,7 @@ use Rattle.laws_flat.specs.Signatures.{Signature, signature, signatures}
 use Rattle.proto_meaning.specs.Names.{Name, Field, Filled}
 use Rattle.proto_meaning.specs.Flat.{field, fields_of, numbered_from}
 use Rattle.proto_meaning.proofs.Induction.{OfGiven}
-use Rattle.laws_meaning.specs.Plain.{Reading, Reads, ◌>>=◌, pure, refuse, meet, in_turn, Between, ItemReads, fill, give, is_filled, flat_field, item_step, read_item, read_text}
+use Rattle.laws_meaning.specs.Plain.{Reading, PlainRead, ◌>>=◌, pure, refuse, meet, in_turn, Between, ItemReads, fill, give, is_filled, flat_field, item_step, read_item, read_text}
 use Rattle.laws_meaning.specs.Plain as plains
 use Rattle.laws_meaning.proofs.PlainTexts as texts
 use Rattle.laws_flat.specs.Uses.{some}
@@ -51,7 +51,7 @@ NodeReads n = (r : Reading) → Ends (NodeIs n r) (read_text n r)
 abbrev Listed : Got (List (Option ℕ)) → List ℕ → Reading → Type 0
 Listed g ks q = g ≡ gives (map some ks) (read_as q)
 
-abbrev next_number : Reads ℕ → List ℕ → Reads (List ℕ)
+abbrev next_number : PlainRead ℕ → List ℕ → PlainRead (List ℕ)
 next_number node ns = node >>= λ n. pure (ns ++ n ∷ [])
 
 one_reads : (n : NodeText) → NodeReads n → (ks : List ℕ) (r : Reading) → Ends (Listed (read_one read_node n (map some ks) (read_as r))) (next_number (read_text n) ks r)
@@ -70,7 +70,7 @@ abbrev ValueIs : RawValue NodeText → Reading → RawValue ℕ → Reading → 
 ValueIs v r u q = read_value read_node v (read_as r) ≡ gives (as_read u) (read_as q)
 
 -- what a field is given, and how it is read
-abbrev GivenReads : Given (Reads ℕ) → Given NodeText → Type 0
+abbrev GivenReads : Given (PlainRead ℕ) → Given NodeText → Type 0
 GivenReads given.Nothing given.Nothing = Unit {0}
 GivenReads (given.Is a) (given.Is b) = Unit {0}
 GivenReads (given.Value v) (given.Value u) = (r : Reading) → Ends (ValueIs u r) (plains.read_value v r)
@@ -106,7 +106,7 @@ pub record GivenIs (line : ℕ) (number : ℕ) (twice : Bool) (h : Given NodeTex
   pub once : twice ≡ false
   pub reads : (n : Option ℕ) → n ≡ Some number → read_given read_node line n h (given_of b.filled) (read_as r) ≡ gives (given_of c.filled) (read_as q)
 
-once_given : (line : ℕ) (f : ℕ × Field) (twice : Bool) (g : Given (Reads ℕ)) (h : Given NodeText) → GivenReads g h → (b : Between) (r : Reading) → Ends (GivenIs line f.0 twice h b r) (give line f twice g b r)
+once_given : (line : ℕ) (f : ℕ × Field) (twice : Bool) (g : Given (PlainRead ℕ)) (h : Given NodeText) → GivenReads g h → (b : Between) (r : Reading) → Ends (GivenIs line f.0 twice h b r) (give line f twice g b r)
 once_given line f true given.Nothing given.Nothing k b r = tt
 once_given line f false given.Nothing given.Nothing k b r = record {
   same_fields = refl;

@@ -5,7 +5,7 @@ use Rattle.std.specs.Option.{option_map_or}
 use Rattle.std.proofs.Math.Seq.{drop-append_seam}
 use Rattle.std.proofs.lemmas.List.{append-nil, append_assoc, length-map, map-append, map-set}
 use Rattle.x3d_values.specs.Names.{node_type_named}
-use Rattle.x3d_values.specs.Tables.{Entry, rows}
+use Rattle.x3d_values.specs.Tables.{FieldRowView, rows}
 use Rattle.x3d_values.specs.declared.node_type.NodeType.{NodeType}
 use Rattle.classic_tree.specs.declared.tree.BodyItem.{BodyItem}
 use Rattle.classic_tree.specs.declared.tree.NodeText.{NodeText}
@@ -19,7 +19,7 @@ use Rattle.laws_flat.specs.Signatures.{Signature, signatures}
 use Rattle.proto_meaning.specs.Names.{Name, Field}
 use Rattle.proto_meaning.specs.Flat.{field_with, fields_of}
 use Rattle.proto_meaning.proofs.Induction.{Layers, every}
-use Rattle.laws_meaning.specs.Plain.{Reading, Reads, ◌>>=◌, pure, refuse, in_turn, last_closed, Between, ItemReads, flat_field, flat_node, close_pair, node_step, statement_step, read_item, read_text, read_statement}
+use Rattle.laws_meaning.specs.Plain.{Reading, PlainRead, ◌>>=◌, pure, refuse, in_turn, last_closed, Between, ItemReads, flat_field, flat_node, close_pair, node_step, statement_step, read_item, read_text, read_statement}
 use Rattle.laws_meaning.specs.Plain as plains
 use Rattle.laws_meaning.proofs.PlainTexts as texts
 use Rattle.laws_flat.specs.Fields.{FieldRead, Got, NodeRead, Numbering, closes, declares, each, field_read, gives, interface_of, node_read, numbering, opens, read_full, read_node, read_on}
@@ -66,10 +66,10 @@ items_read (i ∷ is) h t ds b r k own =
 
 -- ---- a node that closes
 
-abbrev row_field : Entry → Field
+abbrev row_field : FieldRowView → Field
 row_field row = field_with 0 row.access row.field_type row.name
 
-seam : (es : List Entry) (f : Entry → Field) (more : List Field) → drop (length es) (map f es ++ more) ≡ more
+seam : (es : List FieldRowView) (f : FieldRowView → Field) (more : List Field) → drop (length es) (map f es ++ more) ≡ more
 seam es f more = ap (λ n. drop n (map f es ++ more)) (sym (length-map es f)) ∙ drop-append_seam (map f es) more
 
 none_owned : (t : NodeType) → Owns t []
@@ -122,7 +122,7 @@ full_reads line name word is h r (Some t) e =
 full_layer : (line : ℕ) (name : Option Name) (word : Name) (is : List BodyItem) → AllByRecursion ItemReadsOf is → NodeReads (node_text.Full line name word is)
 unfolding node_step
 full_layer line name word is h r =
-    subst (λ (m : Reads ℕ). Ends (NodeIs (node_text.Full line name word is) r) (m r)) (sym (texts.read-full line name word is)) (full_reads line name word is h r (node_type_named word) refl)
+    subst (λ (m : PlainRead ℕ). Ends (NodeIs (node_text.Full line name word is) r) (m r)) (sym (texts.read-full line name word is)) (full_reads line name word is h r (node_type_named word) refl)
 
 use_reads : (line : ℕ) (name : Name) (r : Reading) (o : Option ℕ) → last_closed name r.pairs ≡ o → Ends (NodeIs (node_text.Use line name) r) (option_map_or pure o (refuse UseWithoutDef line) r)
 use_reads line name r None e = tt
@@ -131,7 +131,7 @@ use_reads line name r (Some k) e = read-use line name (read_as r) ∙ ap (λ o. 
 use_layer : (line : ℕ) (name : Name) → NodeReads (node_text.Use line name)
 unfolding node_step
 use_layer line name r =
-    subst (λ (m : Reads ℕ). Ends (NodeIs (node_text.Use line name) r) (m r)) (sym (texts.read-use line name)) (use_reads line name r (last_closed name r.pairs) refl)
+    subst (λ (m : PlainRead ℕ). Ends (NodeIs (node_text.Use line name) r) (m r)) (sym (texts.read-use line name)) (use_reads line name r (last_closed name r.pairs) refl)
 
 -- ---- statements
 
@@ -144,16 +144,16 @@ StatementReads s = (r : Reading) → Ends (StatementIs s r) (read_statement s r)
 node_layer : (n : NodeText) → NodeReads n → StatementReads (statement_text.Node n)
 unfolding statement_step
 node_layer n h r =
-    subst (λ (m : Reads (List ℕ)). Ends (StatementIs (statement_text.Node n) r) (m r)) (sym (texts.read-node n))
+    subst (λ (m : PlainRead (List ℕ)). Ends (StatementIs (statement_text.Node n) r) (m r)) (sym (texts.read-node n))
     (ends_then (NodeIs n r) (StatementIs (statement_text.Node n) r) (λ k. pure (k ∷ [])) (read_text n r) (h r) (λ k q e. read-node-statement n (read_as r) ∙ ap (λ (g : Got (Option ℕ)). g.after) e))
 
 route_layer : (route : RouteText) → StatementReads (statement_text.Route route)
 unfolding statement_step
-route_layer route r = subst (λ (m : Reads (List ℕ)). Ends (StatementIs (statement_text.Route route) r) (m r)) (sym (texts.read-route route)) (read-route route (read_as r))
+route_layer route r = subst (λ (m : PlainRead (List ℕ)). Ends (StatementIs (statement_text.Route route) r) (m r)) (sym (texts.read-route route)) (read-route route (read_as r))
 
 proto_layer : (p : ProtoText) → StatementReads (statement_text.Proto p)
 unfolding statement_step
-proto_layer p r = subst (λ (m : Reads (List ℕ)). Ends (StatementIs (statement_text.Proto p) r) (m r)) (sym (texts.read-proto p)) (read-proto p (read_as r))
+proto_layer p r = subst (λ (m : PlainRead (List ℕ)). Ends (StatementIs (statement_text.Proto p) r) (m r)) (sym (texts.read-proto p)) (read-proto p (read_as r))
 
 layers : Layers ItemReadsOf NodeReads StatementReads (λ p. Unit {0})
 layers = record {
@@ -169,7 +169,7 @@ layers = record {
   prototype = λ p h k. tt;
 }
 
-abbrev next_root : Reads (List ℕ) → List ℕ → Reads (List ℕ)
+abbrev next_root : PlainRead (List ℕ) → List ℕ → PlainRead (List ℕ)
 next_root s roots = s >>= λ ns. pure (roots ++ ns)
 
 abbrev AllIs : List Statement → fields.Reading → List ℕ → Reading → Type 0

@@ -15,7 +15,7 @@ use Rattle.classic_tree.specs.declared.tree.RouteText.{RouteText}
 use Rattle.proto_flat.specs.declared.fault.ExpandFaultKind.TheVariants.{UnknownField, BadIs, FieldTwice}
 use Rattle.proto_meaning.specs.Limits.{item_count}
 use Rattle.proto_meaning.specs.Names.{Name, Field, Filled, value_of}
-use Rattle.proto_meaning.specs.Sight.{Step, Names, Owner, OfType, OfProto, aside, is_kept, nodes_in, taken_by}
+use Rattle.proto_meaning.specs.Sight.{Look, Names, Owner, OfType, OfProto, aside, is_kept, nodes_in, taken_by}
 use Rattle.proto_meaning.specs.Flat.{Walk, Does, ◌>>=◌, Node, Item, Stated, Proto, Inside, declare_field, field, fields_of, fill, fits, give, give_is, give_value, given_sees, is_filled, is_node, is_script, item_step, join, leave_out, met_field, note_route, numbered_from, pure, put_in, refuse, see, through}
 use Rattle.laws_flat.proofs.Lists.{IfSome, all_push}
 use Rattle.laws_plain.specs.Laws.{AreApart}
@@ -33,7 +33,7 @@ apart_push fields [] d e h = (ap (numbered_from 0 d.name) (sym (append-nil field
 apart_push fields (x ∷ ds) d e h = (h.0, apart_push (fields ++ x ∷ []) ds d (ap (numbered_from 0 d.name) (append_assoc fields (x ∷ []) ds) ∙ e) h.1)
 
 module _ (asked : Asked) where
-  abbrev pub Keeps : Step → Type 0
+  abbrev pub Keeps : Look → Type 0
   Keeps step = KeepsSight (IsGoodPrototype asked) step
 
   -- ---- parts that keep it
@@ -88,7 +88,7 @@ module _ (asked : Asked) where
   seen w g (Ok s) h = done asked (Any asked) tt [] (record w { sight = s }) (record { put = g.put; given = g.given; sight = h }) tt
   seen w g (Err e) h = tt
 
-  pub see_keeps : (step : Step) → Keeps step → DoesWell asked (Any asked {A = Unit {0}}) (see step)
+  pub see_keeps : (step : Look) → Keeps step → DoesWell asked (Any asked {A = Unit {0}}) (see step)
   see_keeps step h w g = seen w g (step w.sight) (h w.sight g.sight)
 
   pub left_out : (g : Given Node) → GoodGiven g → DoesWell asked (Any asked {A = Unit {0}}) (leave_out g)

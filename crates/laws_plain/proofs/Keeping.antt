@@ -32,7 +32,7 @@ use Rattle.proto_meaning.specs.Limits.{AField, item_count}
 use Rattle.proto_meaning.specs.Names.{Name, Field, Filled}
 use Rattle.proto_meaning.specs.Flat.{field, fields_of, numbered_from}
 use Rattle.proto_meaning.proofs.Induction.{OfGiven, Layers, every}
-use Rattle.laws_meaning.specs.Plain.{Pair, Wire, Reading, Reads, ◌>>=◌, pure, refuse, meet, in_turn, last_closed, last_from, read_value, Between, ItemReads, fill, give, is_filled, flat_field, flat_node, close_pair, read_node, item_step, node_step, statement_step, read_item, read_text, read_statement}
+use Rattle.laws_meaning.specs.Plain.{Pair, Wire, Reading, PlainRead, ◌>>=◌, pure, refuse, meet, in_turn, last_closed, last_from, read_value, Between, ItemReads, fill, give, is_filled, flat_field, flat_node, close_pair, read_node, item_step, node_step, statement_step, read_item, read_text, read_statement}
 use Rattle.laws_meaning.proofs.PlainTexts as texts
 use Rattle.laws_flat.specs.Order.{nodes_in}
 use Rattle.laws_flat.specs.Readings as steps
@@ -132,7 +132,7 @@ module _ {X : Type 0} (Inv : List ℕ → Reading → X → Type 0) (l : Law Inv
 
   -- ---- values
 
-  abbrev next_number : Reads ℕ → List ℕ → Reads (List ℕ)
+  abbrev next_number : PlainRead ℕ → List ℕ → PlainRead (List ℕ)
   next_number node ns = node >>= λ n. pure (ns ++ n ∷ [])
 
   nodes_keep : (ns : List NodeText) → AllByRecursion NodeKeeps ns → (here ks : List ℕ) (r : Reading) (x : X) → Inv (here ++ ks) r x → Ends (Then here (each l.node ns x)) (in_turn next_number (map read_text ns) ks r)
@@ -143,10 +143,10 @@ module _ {X : Type 0} (Inv : List ℕ → Reading → X → Type 0) (l : Law Inv
       (λ k q j. subst (λ ms. Inv ms q (l.node n x)) (append_assoc here ks (k ∷ [])) j))
       (λ ms q j. nodes_keep ns h.1 here ms q (l.node n x) j)
 
-  abbrev ValueKeeps : RawValue (Reads ℕ) → (X → X) → Type 0
+  abbrev ValueKeeps : RawValue (PlainRead ℕ) → (X → X) → Type 0
   ValueKeeps v step = (here : List ℕ) (r : Reading) (x : X) → Inv here r x → Ends (λ u q. Inv (here ++ nodes_in u) q (step x)) (read_value v r)
 
-  abbrev GivenKeeps : Given (Reads ℕ) → (X → X) → Type 0
+  abbrev GivenKeeps : Given (PlainRead ℕ) → (X → X) → Type 0
   GivenKeeps given.Nothing step = (x : X) → step x ≡ x
   GivenKeeps (given.Is a) step = Unit {0}
   GivenKeeps (given.Value v) step = ValueKeeps v step
@@ -175,7 +175,7 @@ module _ {X : Type 0} (Inv : List ℕ → Reading → X → Type 0) (l : Law Inv
   filled_keeps : (line : ℕ) (f : ℕ × Field) (b : Between) (v : Option (RawValue ℕ)) (r : Reading) (x : X) → Inv (held_in b.filled ++ option_map_or nodes_in v []) r x → Amid x (fill line f b v) r
   filled_keeps line f b v r x i = subst (λ ms. Inv ms r x) (sym (held_more b.filled (record { line = line; name = f.1.name; number = f.0; value = v }))) i
 
-  give_keeps : (line : ℕ) (f : ℕ × Field) (twice : Bool) (g : Given (Reads ℕ)) (step : X → X) → GivenKeeps g step → (b : Between) (r : Reading) (x : X) → Amid x b r → Ends (Amid (step x)) (give line f twice g b r)
+  give_keeps : (line : ℕ) (f : ℕ × Field) (twice : Bool) (g : Given (PlainRead ℕ)) (step : X → X) → GivenKeeps g step → (b : Between) (r : Reading) (x : X) → Amid x b r → Ends (Amid (step x)) (give line f twice g b r)
   give_keeps line f twice given.Nothing step h b r x i =
       ends_if (Amid (step x)) r twice (refuse FieldTwice line) (meet (AField f.0 0) >>= λ _. pure (fill line f b None)) tt
       (filled_keeps line f b None r (step x) (subst (λ y. Inv (held_in b.filled ++ []) r y) (sym (h x)) (no_nodes (held_in b.filled) r x i)))
@@ -190,12 +190,12 @@ module _ {X : Type 0} (Inv : List ℕ → Reading → X → Type 0) (l : Law Inv
   item_by : (i : BodyItem) (m : ItemReads) (step : X → X) → read_item i ≡ m → ((x : X) → l.item i x ≡ step x) → ((t : NodeType) (b : Between) (r : Reading) (x : X) → Amid x b r → Ends (Amid (step x)) (m t b r)) → ItemKeeps i
   item_by i m step e f h t b r x k = subst (λ (n : ItemReads). Ends (Amid (l.item i x)) (n t b r)) (sym e) (subst (λ y. Ends (Amid y) (m t b r)) (sym (f x)) (h t b r x k))
 
-  field_keeps : (line : ℕ) (name : Name) (g : Given (Reads ℕ)) (step : X → X) → GivenKeeps g step → (t : NodeType) (b : Between) (r : Reading) (x : X) → Amid x b r → Ends (Amid (step x)) (item_step (BodyItem-F.Field line name g) t b r)
+  field_keeps : (line : ℕ) (name : Name) (g : Given (PlainRead ℕ)) (step : X → X) → GivenKeeps g step → (t : NodeType) (b : Between) (r : Reading) (x : X) → Amid x b r → Ends (Amid (step x)) (item_step (BodyItem-F.Field line name g) t b r)
   unfolding item_step
   field_keeps line name g step h t b r x i =
       ends_option (Amid (step x)) r (numbered_from 0 name b.fields) (λ f. give line f (is_filled name b) g b) (refuse UnknownField line) (λ f. give_keeps line f (is_filled name b) g step h b r x i) tt
 
-  declaration_keeps : (d : Declaration (Reads ℕ)) (step : X → X) → GivenKeeps d.given step → (t : NodeType) (b : Between) (r : Reading) (x : X) → Amid x b r → Ends (Amid (step x)) (item_step (BodyItem-F.Declaration d) t b r)
+  declaration_keeps : (d : Declaration (PlainRead ℕ)) (step : X → X) → GivenKeeps d.given step → (t : NodeType) (b : Between) (r : Reading) (x : X) → Amid x b r → Ends (Amid (step x)) (item_step (BodyItem-F.Declaration d) t b r)
   unfolding item_step
   declaration_keeps d step h t b r x i =
       let c : Between = record b { fields = b.fields ++ field d ∷ [] } in
@@ -230,8 +230,8 @@ module _ {X : Type 0} (Inv : List ℕ → Reading → X → Type 0) (l : Law Inv
       (items_keep is h t (record { fields = fields_of t; filled = [] }) (opened name r) (l.opens name x) (l.opened_by name here r x i))
       (λ b q j. l.closed_by name word t (flat_node line name t b) here (held_in b.filled) r q x y e refl refl (fields_held b.filled) i j)
 
-  node_by : (n : NodeText) (m : Reads ℕ) (step : X → X) → read_text n ≡ m → ((x : X) → l.node n x ≡ step x) → ((here : List ℕ) (r : Reading) (x : X) → Inv here r x → Ends (Placed here (step x)) (m r)) → NodeKeeps n
-  node_by n m step e f h here r x i = subst (λ (k : Reads ℕ). Ends (Placed here (l.node n x)) (k r)) (sym e) (subst (λ y. Ends (Placed here y) (m r)) (sym (f x)) (h here r x i))
+  node_by : (n : NodeText) (m : PlainRead ℕ) (step : X → X) → read_text n ≡ m → ((x : X) → l.node n x ≡ step x) → ((here : List ℕ) (r : Reading) (x : X) → Inv here r x → Ends (Placed here (step x)) (m r)) → NodeKeeps n
+  node_by n m step e f h here r x i = subst (λ (k : PlainRead ℕ). Ends (Placed here (l.node n x)) (k r)) (sym e) (subst (λ y. Ends (Placed here y) (m r)) (sym (f x)) (h here r x i))
 
   full_layer : (line : ℕ) (name : Option Name) (word : Name) (is : List BodyItem) → AllByRecursion ItemKeeps is → NodeKeeps (node_text.Full line name word is)
   unfolding node_step
@@ -250,8 +250,8 @@ module _ {X : Type 0} (Inv : List ℕ → Reading → X → Type 0) (l : Law Inv
 
   -- ---- statements
 
-  statement_by : (s : Statement) (m : Reads (List ℕ)) (step : X → X) → read_statement s ≡ m → ((x : X) → l.statement s x ≡ step x) → ((here : List ℕ) (r : Reading) (x : X) → Inv here r x → Ends (Then here (step x)) (m r)) → StatementKeeps s
-  statement_by s m step e f h here r x i = subst (λ (k : Reads (List ℕ)). Ends (Then here (l.statement s x)) (k r)) (sym e) (subst (λ y. Ends (Then here y) (m r)) (sym (f x)) (h here r x i))
+  statement_by : (s : Statement) (m : PlainRead (List ℕ)) (step : X → X) → read_statement s ≡ m → ((x : X) → l.statement s x ≡ step x) → ((here : List ℕ) (r : Reading) (x : X) → Inv here r x → Ends (Then here (step x)) (m r)) → StatementKeeps s
+  statement_by s m step e f h here r x i = subst (λ (k : PlainRead (List ℕ)). Ends (Then here (l.statement s x)) (k r)) (sym e) (subst (λ y. Ends (Then here y) (m r)) (sym (f x)) (h here r x i))
 
   node_statement : (n : NodeText) → NodeKeeps n → StatementKeeps (statement_text.Node n)
   unfolding statement_step
@@ -286,7 +286,7 @@ module _ {X : Type 0} (Inv : List ℕ → Reading → X → Type 0) (l : Law Inv
     prototype = λ p h k. tt;
   }
 
-  abbrev next_root : Reads (List ℕ) → List ℕ → Reads (List ℕ)
+  abbrev next_root : PlainRead (List ℕ) → List ℕ → PlainRead (List ℕ)
   next_root s roots = s >>= λ ns. pure (roots ++ ns)
 
   roots_keep : (ss : List Statement) → AllByRecursion StatementKeeps ss → (here roots : List ℕ) (r : Reading) (x : X) → Inv (here ++ roots) r x → Ends (Then here (each l.statement ss x)) (in_turn next_root (map read_statement ss) roots r)

@@ -4,7 +4,7 @@ use Rattle.std.specs.Prelude.{◌&&◌, not}
 use Rattle.std.specs.Option.{option_map_or, option_or}
 use Rattle.std.proofs.lemmas.List.{length-map, map-append}
 use Rattle.x3d_values.specs.Names.{node_type_named}
-use Rattle.x3d_values.specs.Tables.{Entry, rows}
+use Rattle.x3d_values.specs.Tables.{FieldRowView, rows}
 use Rattle.x3d_values.specs.declared.node_type.NodeType.{NodeType}
 use Rattle.classic_tree.specs.declared.tree.BodyItem.TheOpen.{NodeText-F, Statement-F}
 use Rattle.classic_tree.specs.declared.tree.RouteText.{RouteText}
@@ -152,10 +152,10 @@ taken_same (Some (OfProto p)) (Some (OfType u)) h = absurd h
 taken_same None (Some q) h = absurd h
 taken_same (Some p) None h = absurd h
 
-abbrev row_field : Entry → Field
+abbrev row_field : FieldRowView → Field
 row_field row = field_with 0 row.access row.field_type row.name
 
-rows_bare : (es : List Entry) → map row_field es ≡ bare_fields (map row_field es)
+rows_bare : (es : List FieldRowView) → map row_field es ≡ bare_fields (map row_field es)
 rows_bare [] = refl
 rows_bare (e ∷ es) = ap (λ fs. row_field e ∷ fs) (rows_bare es)
 

@@ -9,7 +9,7 @@ use Rattle.x3d_values.specs.declared.field_type.Access.{Access}
 use Rattle.x3d_values.specs.declared.node_type.NodeType.{NodeType}
 use Rattle.x3d_values.specs.Access.{is_exposed, receives, sends}
 use Rattle.x3d_values.specs.Tables.{rows}
-use Rattle.classic_tree.specs.declared.tree.Place.{Place}
+use Rattle.classic_tree.specs.declared.tree.RouteEnd.{RouteEnd}
 use Rattle.classic_tree.specs.declared.tree.RawValue.{RawValue}
 use Rattle.classic_tree.specs.declared.tree.RouteText.{RouteText}
 use Rattle.proto_flat.specs.declared.fault.ExpandFaultKind.TheVariants.{UseWithoutDef}
@@ -127,7 +127,7 @@ pairs_bare line (s ∷ ss) ts =
     ∙ ap (λ rs. rs ++ map unlined_flat_route (pairs line ss ts)) (one_source line s ts)
     ∙ ap (λ rs. map (λ t. record { line = 0; source = s; target = t }) ts ++ rs) (pairs_bare line ss ts)
 
-end_of : (allowed : Access → Bool) (other : Name → Name) (p : Place) (bs all : List Braces)
+end_of : (allowed : Access → Bool) (other : Name → Name) (p : RouteEnd) (bs all : List Braces)
     → ends_at allowed other p.field (stands_at (map bare_braces all) (last_from 0 p.node (map bare_braces bs))) ≡ ends_at allowed other p.field (stands_at all (last_from 0 p.node bs))
 end_of allowed other p bs all =
     ap (λ at. ends_at allowed other p.field (stands_at (map bare_braces all) at)) (last_bare 0 p.node bs)

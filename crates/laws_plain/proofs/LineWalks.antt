@@ -4,7 +4,7 @@ use Rattle.proto_flat.specs.declared.fault.ExpandFault.{ExpandFault}
 use Rattle.proto_flat.specs.declared.fault.ExpandFaultKind.{ExpandFaultKind}
 use Rattle.proto_meaning.specs.Limits.{Met, Outcome, follow}
 use Rattle.proto_meaning.specs.Names.{Name, Field, Filled, Stands, Braces, Scope}
-use Rattle.proto_meaning.specs.Sight.{Put, Instance, Prototype, Sight, Step, Owner, OfType, OfProto, and_see, aside, each, no_names}
+use Rattle.proto_meaning.specs.Sight.{Put, Instance, Prototype, Sight, Look, Owner, OfType, OfProto, and_see, aside, each, no_names}
 use Rattle.proto_meaning.specs.Flat.{Walk, Does, ◌>>=◌, Inside, comes, meet, pure, refuse, see, through}
 use Rattle.laws_flat.specs.Lines.{unlined_declaration, unlined_flat_node, unlined_flat_route}
 
@@ -147,28 +147,28 @@ SeenAlike (Err e) (Err f) = f ≡ bare_fault e
 SeenAlike (Ok s) (Err f) = ⊥
 SeenAlike (Err e) (Ok t) = ⊥
 
-abbrev pub SeesAlike : Step → Step → Type 0
+abbrev pub SeesAlike : Look → Look → Type 0
 SeesAlike p q = (s t : Sight) → SightAlike s t → SeenAlike (p s) (q t)
 
-pub sees_then : (r q : Seen) (f g : Step) → SeenAlike r q → SeesAlike f g → SeenAlike (and_see r f) (and_see q g)
+pub sees_then : (r q : Seen) (f g : Look) → SeenAlike r q → SeesAlike f g → SeenAlike (and_see r f) (and_see q g)
 sees_then (Ok s) (Ok t) f g h k = k s t h
 sees_then (Err e) (Err x) f g h k = h
 sees_then (Ok s) (Err x) f g h k = absurd h
 sees_then (Err e) (Ok t) f g h k = absurd h
 
-pub aside_alike : (p q : Step) → SeesAlike p q → SeesAlike (aside p) (aside q)
+pub aside_alike : (p q : Look) → SeesAlike p q → SeesAlike (aside p) (aside q)
 aside_alike p q h s t k =
     sees_then (p (record s { taken = no_names })) (q (record t { taken = no_names })) (λ u. Ok (record u { taken = s.taken })) (λ u. Ok (record u { taken = t.taken }))
     (h (record s { taken = no_names }) (record t { taken = no_names }) (record { here = k.here; outside = k.outside; taken = refl }))
     (λ u x i. record { here = i.here; outside = i.outside; taken = k.taken })
 
-pub each_alike : {A B : Type 0} (I : A → B → Type 0) (f : A → Step) (g : B → Step) → ((a : A) (b : B) → I a b → SeesAlike (f a) (g b)) → (as' : List A) (bs : List B) → Both I as' bs → SeesAlike (each f as') (each g bs)
+pub each_alike : {A B : Type 0} (I : A → B → Type 0) (f : A → Look) (g : B → Look) → ((a : A) (b : B) → I a b → SeesAlike (f a) (g b)) → (as' : List A) (bs : List B) → Both I as' bs → SeesAlike (each f as') (each g bs)
 each_alike I f g k [] [] h s t i = i
 each_alike I f g k [] (b ∷ bs) h s t i = absurd h
 each_alike I f g k (a ∷ as') [] h s t i = absurd h
 each_alike I f g k (a ∷ as') (b ∷ bs) h s t i = sees_then (f a s) (g b t) (each f as') (each g bs) (k a b h.0 s t i) (each_alike I f g k as' bs h.1)
 
-pub sees_if : (b : Bool) (p q m n : Step) → SeesAlike p m → SeesAlike q n → SeesAlike (if b then p else q) (if b then m else n)
+pub sees_if : (b : Bool) (p q m n : Look) → SeesAlike p m → SeesAlike q n → SeesAlike (if b then p else q) (if b then m else n)
 sees_if true p q m n h k = h
 sees_if false p q m n h k = k
 
@@ -178,7 +178,7 @@ now_seen w v h (Err e) (Err f) k = record { met = refl; comes_to = k }
 now_seen w v h (Ok s) (Err f) k = absurd k
 now_seen w v h (Err e) (Ok t) k = absurd k
 
-pub see_alike : (p q : Step) → SeesAlike p q → DoesAlike (Equal {A = Unit {0}}) (see p) (see q)
+pub see_alike : (p q : Look) → SeesAlike p q → DoesAlike (Equal {A = Unit {0}}) (see p) (see q)
 see_alike p q h w v k = now_seen w v k (p w.sight) (q v.sight) (h w.sight v.sight k.sight)
 
 -- ---- whose fields stand between braces

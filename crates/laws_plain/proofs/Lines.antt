@@ -25,7 +25,7 @@ use Rattle.proto_meaning.proofs.Trees.{item-field, item-declaration, item-route,
 use Rattle.proto_meaning.proofs.Induction.{OfDeclaration, OfGiven, Layers, every}
 use Rattle.laws_flat.specs.Lines.{AreAlike, unlined, unlined_flat, unlined_flat_route, unlined_item, unlined_node, unlined_proto, unlined_route, unlined_statement}
 use Rattle.laws_flat.proofs.LinesParts as texts
-use Rattle.laws_flat.proofs.LinesParts.{Opened, proto-open, unlined_given, unlined_interface, unlined_own}
+use Rattle.laws_flat.proofs.LinesParts.{OpenProto, proto-open, unlined_given, unlined_interface, unlined_own}
 use Rattle.laws_plain.specs.Laws.{LinesAreForFaults}
 use Rattle.laws_plain.proofs.LineWalks.{Both, ComesAlike, DoesAlike, Equal, WalkAlike, bare_put, pure_alike, then_alike, through_alike}
 use Rattle.laws_plain.proofs.LineParts.{GivenAlike, ItemAlike, NodeAlike, ProtoAlike, StatedAlike, declaration_alike, field_alike, list_alike, node_value, proto_item_alike, route_item_alike}
@@ -87,7 +87,7 @@ stated_by l m n o e f h = subst (λ x. StatedAlike x o) (sym e) (subst (λ x. St
 proto_by : (l m n o : Proto) → l ≡ m → o ≡ n → ProtoAlike m n → ProtoAlike l o
 proto_by l m n o e f h = subst (λ x. ProtoAlike x o) (sym e) (subst (λ x. ProtoAlike m x) (sym f) h)
 
-abbrev of_open : Opened → Proto
+abbrev of_open : OpenProto → Proto
 of_open q = proto_of q.line q.name (map parts q.interface) (map stated q.body)
 
 prototype_layer : (p : ProtoText) → AllByRecursion (OfDeclaration OfNode) (out-ProtoText p).interface → AllByRecursion OfStatement (out-ProtoText p).body → OfProto p

@@ -7,11 +7,11 @@ use Rattle.std.proofs.lemmas.Slice.Eq.{bytes_eq-Decides}
 use Rattle.proto_meaning.specs.Names.{Name}
 use Rattle.laws_meaning.specs.Plain.{Pair, last_closed, last_from}
 use Rattle.laws_meaning.specs.Plain as plains
-use Rattle.laws_flat.specs.Uses.{Opened, has_name, named, named_next}
+use Rattle.laws_flat.specs.Uses.{OpenBraces, has_name, named, named_next}
 use Rattle.laws_flat.specs.Routes as routes
 
 -- braces as they are read
-abbrev pub opened_of : Pair → Opened
+abbrev pub opened_of : Pair → OpenBraces
 opened_of p = record { name = p.name; node = p.node }
 
 turned_by : (p q : Bool) (a b : Name) → Decides p (a ≡ b) → Decides q (b ≡ a) → p ≡ q

@@ -6,7 +6,7 @@ use Rattle.std.proofs.lemmas.List.{length-map}
 use Rattle.std.proofs.lemmas.Option.{none-some}
 use Rattle.std.proofs.lemmas.Slice.Eq.{bytes_eq-Decides}
 use denote.Enum.Bare.{sameb}
-use Rattle.x3d_values.specs.Tables.{Entry, numbered, row_named, rows}
+use Rattle.x3d_values.specs.Tables.{FieldRowView, numbered, row_named, rows}
 use Rattle.x3d_values.specs.declared.table.FieldRow.{FieldRow}
 use Rattle.x3d_values.specs.contracts.node_type.NodeType as node_types
 use Rattle.x3d_values.specs.declared.node_type.NodeType.{NodeType}
@@ -70,7 +70,7 @@ known_append n name (x ∷ xs) ys =
     ∙ or_if (bytes_eq x.name name) (of_signature n x) (known.numbered_from (n + 1) name xs) (known.numbered_from (n + 1 + length xs) name ys)
     ∙ ap (λ k. option_or (known.numbered_from n name (x ∷ xs)) (known.numbered_from k name ys)) there
 
-abbrev row_field : Entry → Field
+abbrev row_field : FieldRowView → Field
 row_field row = field_with 0 row.access row.field_type row.name
 
 row_mapped : (b : Bool) (row : FieldRow) (m : Option FieldRow) → option_map of_row (if b then Some row else m) ≡ (if b then Some (of_row row) else option_map of_row m)
@@ -78,7 +78,7 @@ row_mapped true row m = refl
 row_mapped false row m = refl
 
 -- a field of the type has the number of its row
-pub rows_number : (n : ℕ) (name : Name) (es : List Entry) → option_map number_of (option_map of_row (row_named n name es)) ≡ option_map first (numbered_from n name (map row_field es))
+pub rows_number : (n : ℕ) (name : Name) (es : List FieldRowView) → option_map number_of (option_map of_row (row_named n name es)) ≡ option_map first (numbered_from n name (map row_field es))
 rows_number n name [] = refl
 rows_number n name (e ∷ es) =
     ap (λ b. option_map number_of (option_map of_row (if b then Some (numbered n e) else row_named (n + 1) name es))) (turned name e.name)

@@ -8,7 +8,7 @@ use Rattle.proto_flat.specs.declared.flat.FlatNode.{FlatNode}
 use Rattle.proto_flat.specs.declared.flat.FlatRoute.{FlatRoute}
 use Rattle.proto_meaning.specs.Limits.{Met, Outcome, follow, and_then}
 use Rattle.proto_meaning.specs.Names.{Name, Filled, Stands, Braces, Scope}
-use Rattle.proto_meaning.specs.Sight.{Put, Instance, Prototype, Sight, Step}
+use Rattle.proto_meaning.specs.Sight.{Put, Instance, Prototype, Sight, Look}
 use Rattle.proto_meaning.specs.Flat.{Walk, Does, through}
 use Rattle.laws_flat.specs.Order.{AreBelow, AreFieldsBelow, IsEndBelow, IsRouteBelow, IsValueBelow, nodes_in}
 use Rattle.laws_flat.proofs.Lists.{IfSome, all_weaker}
@@ -145,7 +145,7 @@ pub record IsGoodWalk (w : Walk) : Type 0 where
 abbrev pub Sees : Result Sight ExpandFault → Type 0
 Sees r = sights.Sees IsGoodPrototype r
 
-abbrev pub KeepsSight : Step → Type 0
+abbrev pub KeepsSight : Look → Type 0
 KeepsSight step = sights.KeepsSight IsGoodPrototype step
 
 -- ---- outcomes

@@ -14,7 +14,7 @@ use Rattle.proto_flat.specs.declared.flat.FlatNode.{FlatNode}
 use Rattle.proto_flat.specs.declared.flat.FlatRoute.{FlatRoute}
 use Rattle.proto_meaning.specs.Limits.{Met, AnItem}
 use Rattle.proto_meaning.specs.Names.{Name, Field, Filled, Stands, Braces, Scope, ends_at, ends_by, field_by, has_name, pairs, sources, stands_at, targets, used, value_of}
-use Rattle.proto_meaning.specs.Sight.{Put, Sight, Step}
+use Rattle.proto_meaning.specs.Sight.{Put, Sight, Look}
 use Rattle.proto_meaning.specs.Flat.{Walk, Does, ◌>>=◌, close, close_node, meet, note, note_route, pure, refuse, renamed, see}
 use Rattle.laws_flat.specs.Order.{AreFieldsBelow, IsEndBelow, IsRouteBelow, IsValueBelow}
 use Rattle.laws_flat.proofs.Lists.{IfSome, all_append, all_flat, all_map, all_set, at_all}
@@ -40,7 +40,7 @@ seen : (w : Walk) → IsGoodWalk w → (r : Result Sight ExpandFault) → Sees r
 seen w g (Ok s) h = record { told = tt; good = record { put = g.put; scope = g.scope; sight = h }; grown = same (count w) }
 seen w g (Err e) h = tt
 
-pub see_keeps : (step : Step) → KeepsSight step → Keeps (see step)
+pub see_keeps : (step : Look) → KeepsSight step → Keeps (see step)
 see_keeps step h w g = seen w g (step w.sight) (h w.sight g.sight)
 
 -- ---- names

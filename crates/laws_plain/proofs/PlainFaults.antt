@@ -31,14 +31,14 @@ use Rattle.proto_meaning.specs.Limits.{Met, AField, Outcome, follow, and_then, i
 use Rattle.proto_meaning.specs.Names.{Name, Field}
 use Rattle.proto_meaning.specs.Flat.{field, fields_of, header_of, numbered_from, comes}
 use Rattle.proto_meaning.proofs.Induction.{OfDeclaration, OfGiven, Layers, every}
-use Rattle.laws_meaning.specs.Plain.{Reading, Reads, ◌>>=◌, pure, refuse, meet, in_turn, last_closed, read_value, Between, ItemReads, fill, give, is_filled, flat_node, close_pair, read_node, item_step, node_step, statement_step, read_all, read_item, read_text, read_statement, route_of, plain, is_plain, is_plain_item, is_plain_node, is_plain_statement, plain_node_step}
+use Rattle.laws_meaning.specs.Plain.{Reading, PlainRead, ◌>>=◌, pure, refuse, meet, in_turn, last_closed, read_value, Between, ItemReads, fill, give, is_filled, flat_node, close_pair, read_node, item_step, node_step, statement_step, read_all, read_item, read_text, read_statement, route_of, plain, is_plain, is_plain_item, is_plain_node, is_plain_statement, plain_node_step}
 use Rattle.laws_meaning.specs.Steps.{is_true, all_in, plain_item_step, plain_statement_step}
 use Rattle.laws_meaning.proofs.PlainTexts as texts
 use Rattle.laws_meaning.proofs.PlainWalk.{plain_documents_are_themselves}
 use Rattle.laws_flat.proofs.Lists.{all_split}
 use Rattle.laws_plain.specs.Faults.{IsPlain, IsPlainFault, PlainDocumentsFail}
 use Rattle.laws_plain.specs.Parts.{item as part}
-use Rattle.laws_plain.specs.Parts.{Item, Part, in_given, in_item, in_node, in_statement}
+use Rattle.laws_plain.specs.Parts.{BraceItem, TreePart, in_given, in_item, in_node, in_statement}
 use Rattle.laws_plain.proofs.Keeping.{opened}
 use Rattle.laws_plain.proofs.PartTexts as parts
 
@@ -51,24 +51,24 @@ FaultOf (Err e) = IsPlainFault e.kind
 abbrev Fails : {A : Type 0} → Outcome A → Type 0
 Fails o = FaultOf o.comes
 
-then_fault : {A B : Type 0} (met : List Met) (c : Result (A × Reading) ExpandFault) (f : A → Reads B) → FaultOf c → ((a : A) (r : Reading) → Fails (f a r)) → Fails (follow met c (λ p. f p.0 p.1))
+then_fault : {A B : Type 0} (met : List Met) (c : Result (A × Reading) ExpandFault) (f : A → PlainRead B) → FaultOf c → ((a : A) (r : Reading) → Fails (f a r)) → Fails (follow met c (λ p. f p.0 p.1))
 then_fault met (Ok p) f h k = k p.0 p.1
 then_fault met (Err e) f h k = h
 
-fails_then : {A B : Type 0} (o : Outcome (A × Reading)) (f : A → Reads B) → Fails o → ((a : A) (r : Reading) → Fails (f a r)) → Fails (and_then o (λ p. f p.0 p.1))
+fails_then : {A B : Type 0} (o : Outcome (A × Reading)) (f : A → PlainRead B) → Fails o → ((a : A) (r : Reading) → Fails (f a r)) → Fails (and_then o (λ p. f p.0 p.1))
 fails_then o f h k = then_fault o.met o.comes f h k
 
-fails_if : {A : Type 0} (b : Bool) (m n : Reads A) (r : Reading) → Fails (m r) → Fails (n r) → Fails ((if b then m else n) r)
+fails_if : {A : Type 0} (b : Bool) (m n : PlainRead A) (r : Reading) → Fails (m r) → Fails (n r) → Fails ((if b then m else n) r)
 fails_if true m n r h k = h
 fails_if false m n r h k = k
 
-fails_option : {X A : Type 0} (o : Option X) (f : X → Reads A) (m : Reads A) (r : Reading) → ((x : X) → Fails (f x r)) → Fails (m r) → Fails (option_map_or f o m r)
+fails_option : {X A : Type 0} (o : Option X) (f : X → PlainRead A) (m : PlainRead A) (r : Reading) → ((x : X) → Fails (f x r)) → Fails (m r) → Fails (option_map_or f o m r)
 fails_option None f m r h k = k
 fails_option (Some x) f m r h k = h x
 
 -- ---- parts without prototypes
 
-abbrev ArePlain : List Part → Type 0
+abbrev ArePlain : List TreePart → Type 0
 ArePlain ps = AllByRecursion IsPlain ps
 
 abbrev NodeIs : NodeText → Type 0
@@ -84,7 +84,7 @@ both_true : (a b : Bool) → a ≡ true → b ≡ true → a && b ≡ true
 both_true true b e k = k
 both_true false b e k = absurd cc
 
-all_plain : {A : Type 0} (test : A → Bool) (ps : A → List Part) (R : A → Type 0) (xs : List A) → AllByRecursion (λ (x : A). ArePlain (ps x) → (test x ≡ true) × R x) xs → ArePlain (flat_map ps xs) → (list_all is_true (map test xs) ≡ true) × AllByRecursion R xs
+all_plain : {A : Type 0} (test : A → Bool) (ps : A → List TreePart) (R : A → Type 0) (xs : List A) → AllByRecursion (λ (x : A). ArePlain (ps x) → (test x ≡ true) × R x) xs → ArePlain (flat_map ps xs) → (list_all is_true (map test xs) ≡ true) × AllByRecursion R xs
 all_plain test ps R [] h k = (refl, tt)
 all_plain test ps R (x ∷ xs) h k =
     let both = all_split IsPlain (ps x) (flat_map ps xs) k in
@@ -94,7 +94,7 @@ all_plain test ps R (x ∷ xs) h k =
 
 -- ---- values
 
-abbrev next_number : Reads ℕ → List ℕ → Reads (List ℕ)
+abbrev next_number : PlainRead ℕ → List ℕ → PlainRead (List ℕ)
 next_number node ns = node >>= λ n. pure (ns ++ n ∷ [])
 
 abbrev ReadsNode : NodeText → Type 0
@@ -106,7 +106,7 @@ nodes_fail (n ∷ ns) h ks r =
     fails_then (next_number (read_text n) ks r) (in_turn next_number (map read_text ns)) (fails_then (read_text n r) (λ k. pure (ks ++ k ∷ [])) (h.0 r) (λ k q. tt)) (λ ls q. nodes_fail ns h.1 ls q)
 
 -- a value and no IS
-abbrev GivenFails : Given (Reads ℕ) → Type 0
+abbrev GivenFails : Given (PlainRead ℕ) → Type 0
 GivenFails given.Nothing = Unit {0}
 GivenFails (given.Is name) = ⊥
 GivenFails (given.Value v) = (r : Reading) → Fails (read_value v r)
@@ -129,27 +129,27 @@ given_is (given.Value (value.NodeList ns)) h k =
 
 -- ---- fields
 
-give_fails : (line : ℕ) (f : ℕ × Field) (twice : Bool) (g : Given (Reads ℕ)) → GivenFails g → (b : Between) (r : Reading) → Fails (give line f twice g b r)
+give_fails : (line : ℕ) (f : ℕ × Field) (twice : Bool) (g : Given (PlainRead ℕ)) → GivenFails g → (b : Between) (r : Reading) → Fails (give line f twice g b r)
 give_fails line f twice given.Nothing h b r = fails_if twice (refuse FieldTwice line) (meet (AField f.0 0) >>= λ _. pure (fill line f b None)) r tt tt
 give_fails line f twice (given.Is a) h b r = absurd h
 give_fails line f twice (given.Value v) h b r =
     fails_if twice (refuse FieldTwice line) (meet (AField f.0 (item_count v)) >>= λ _. read_value v >>= λ u. pure (fill line f b (Some u))) r tt
     (fails_then (read_value v r) (λ u. pure (fill line f b (Some u))) (h r) (λ u q. tt))
 
-field_fails : (line : ℕ) (name : Name) (g : Given (Reads ℕ)) → GivenFails g → (t : NodeType) (b : Between) (r : Reading) → Fails (item_step (BodyItem-F.Field line name g) t b r)
+field_fails : (line : ℕ) (name : Name) (g : Given (PlainRead ℕ)) → GivenFails g → (t : NodeType) (b : Between) (r : Reading) → Fails (item_step (BodyItem-F.Field line name g) t b r)
 unfolding item_step
 field_fails line name g h t b r =
     fails_option (numbered_from 0 name b.fields) (λ f. give line f (is_filled name b) g b) (refuse UnknownField line) r (λ f. give_fails line f (is_filled name b) g h b r) tt
 
-declaration_fails : (d : Declaration (Reads ℕ)) → GivenFails d.given → (t : NodeType) (b : Between) (r : Reading) → Fails (item_step (BodyItem-F.Declaration d) t b r)
+declaration_fails : (d : Declaration (PlainRead ℕ)) → GivenFails d.given → (t : NodeType) (b : Between) (r : Reading) → Fails (item_step (BodyItem-F.Declaration d) t b r)
 unfolding item_step
 declaration_fails d h t b r =
     let c : Between = record b { fields = b.fields ++ field d ∷ [] } in
     fails_if (sameb node_types.the_type t Script) (give d.line (length b.fields, field d) (is_some (numbered_from 0 d.name b.fields)) d.given c) (refuse UnknownField d.line) r
     (give_fails d.line (length b.fields, field d) (is_some (numbered_from 0 d.name b.fields)) d.given h c r) tt
 
-inside_of : (i : BodyItem) (p : Item) → part i ≡ p → ArePlain (in_item i) → ArePlain p.inside
-inside_of i p e h = subst (λ (x : Item). ArePlain x.inside) e h
+inside_of : (i : BodyItem) (p : BraceItem) → part i ≡ p → ArePlain (in_item i) → ArePlain p.inside
+inside_of i p e h = subst (λ (x : BraceItem). ArePlain x.inside) e h
 
 field_layer : (line : ℕ) (name : Name) (g : Given NodeText) → OfGiven NodeIs g → ItemIs (item_text.Field line name g)
 unfolding plain_item_step
@@ -195,7 +195,7 @@ full_layer line name word is h k =
     let inner = (all_split IsPlain (flat_map in_item is) _ (subst ArePlain (parts.in_full line name word is) k)).0 in
     let all = all_plain is_plain_item in_item ReadsItem is h inner in (
       texts.plain-full line name word is ∙ all.0,
-      λ r. subst (λ (m : Reads ℕ). Fails (m r)) (sym (texts.read-full line name word is)) (full_fails line name is all.1 (node_type_named word) r),
+      λ r. subst (λ (m : PlainRead ℕ). Fails (m r)) (sym (texts.read-full line name word is)) (full_fails line name is all.1 (node_type_named word) r),
     )
 
 use_fails : (line : ℕ) (o : Option ℕ) (r : Reading) → Fails (option_map_or pure o (refuse UseWithoutDef line) r)
@@ -204,7 +204,7 @@ use_fails line (Some n) r = tt
 
 use_layer : (line : ℕ) (name : Name) → NodeIs (node_text.Use line name)
 unfolding plain_node_step node_step
-use_layer line name k = (texts.plain-use line name, λ r. subst (λ (m : Reads ℕ). Fails (m r)) (sym (texts.read-use line name)) (use_fails line (last_closed name r.pairs) r))
+use_layer line name k = (texts.plain-use line name, λ r. subst (λ (m : PlainRead ℕ). Fails (m r)) (sym (texts.read-use line name)) (use_fails line (last_closed name r.pairs) r))
 
 -- ---- statements
 
@@ -213,12 +213,12 @@ unfolding plain_statement_step statement_step
 node_layer n h k =
     let one = h (subst ArePlain (parts.in_node_statement n) k) in (
       texts.plain-node n ∙ one.0,
-      λ r. subst (λ (m : Reads (List ℕ)). Fails (m r)) (sym (texts.read-node n)) (fails_then (read_text n r) (λ k. pure (k ∷ [])) (one.1 r) (λ k q. tt)),
+      λ r. subst (λ (m : PlainRead (List ℕ)). Fails (m r)) (sym (texts.read-node n)) (fails_then (read_text n r) (λ k. pure (k ∷ [])) (one.1 r) (λ k q. tt)),
     )
 
 route_layer : (route : RouteText) → StatementIs (statement_text.Route route)
 unfolding plain_statement_step statement_step
-route_layer route k = (texts.plain-route route, λ r. subst (λ (m : Reads (List ℕ)). Fails (m r)) (sym (texts.read-route route)) tt)
+route_layer route k = (texts.plain-route route, λ r. subst (λ (m : PlainRead (List ℕ)). Fails (m r)) (sym (texts.read-route route)) tt)
 
 proto_layer : (p : ProtoText) → StatementIs (statement_text.Proto p)
 proto_layer p k = absurd (subst ArePlain (parts.in_proto p) k).0
@@ -253,7 +253,7 @@ all_mapped test (x ∷ xs) = ap (λ b. test x && b) (all_mapped test xs)
 pub plain_is : (d : Document) → ArePlain (flat_map in_statement d.statements) → is_plain d ≡ true
 plain_is d k = sym (all_mapped is_plain_statement d.statements) ∙ (both_of d k).0
 
-abbrev next_root : Reads (List ℕ) → List ℕ → Reads (List ℕ)
+abbrev next_root : PlainRead (List ℕ) → List ℕ → PlainRead (List ℕ)
 next_root s roots = s >>= λ ns. pure (roots ++ ns)
 
 roots_fail : (ss : List Statement) → AllByRecursion ReadsStatement ss → (roots : List ℕ) (r : Reading) → Fails (in_turn next_root (map read_statement ss) roots r)

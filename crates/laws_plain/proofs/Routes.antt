@@ -9,7 +9,7 @@ use Rattle.proto_flat.specs.declared.flat.FlatEnd.TheVariants.{At, NoNode}
 use Rattle.proto_flat.specs.declared.flat.FlatNode.{FlatNode}
 use Rattle.proto_meaning.specs.Names.{Name}
 use Rattle.laws_meaning.specs.Plain.{Pair, Reading, Wire, end_of, route_of}
-use Rattle.laws_flat.specs.Uses.{Opened}
+use Rattle.laws_flat.specs.Uses.{OpenBraces}
 use Rattle.laws_flat.specs.Routes.{ReadEnd, ReadRoute, closes, end_at, end_shown, node_at, node_of, opens, read_shown, route_shown, steps}
 use Rattle.laws_flat.specs.Routes as routes
 use Rattle.laws_flat.specs.Readings.{read_item, read_node, read_statement}
@@ -81,7 +81,7 @@ law = record {
 
 end_same : (ps : List Pair) (at : Option ℕ) (field : Name) → end_of ps at field ≡ end_shown (map opened_of ps) (end_read at field)
 end_same ps None field = refl
-end_same ps (Some k) field = on (slice_get ps k) ∙ ap (λ (o : Option Opened). end_at field (node_of o)) (sym (slice_get-map opened_of ps k)) where
+end_same ps (Some k) field = on (slice_get ps k) ∙ ap (λ (o : Option OpenBraces). end_at field (node_of o)) (sym (slice_get-map opened_of ps k)) where
   closed_end : (n : Option ℕ) → option_map_or (λ n. At n field) n NoNode ≡ end_at field n
   closed_end None = refl
   closed_end (Some n) = refl

@@ -6,7 +6,7 @@ use Rattle.x3d_values.specs.Names.{node_type_named}
 use Rattle.x3d_values.specs.declared.node_type.NodeType.{NodeType}
 use Rattle.proto_flat.specs.declared.fault.ExpandFault.{ExpandFault}
 use Rattle.proto_meaning.specs.Names.{Name}
-use Rattle.proto_meaning.specs.Sight.{Prototype, Sight, Step, Owner, OfType, OfProto, and_see, aside, declared, each, meant, no_names}
+use Rattle.proto_meaning.specs.Sight.{Prototype, Sight, Look, Owner, OfType, OfProto, and_see, aside, declared, each, meant, no_names}
 use Rattle.laws_flat.proofs.Lists.{IfSome, all_append}
 
 module _ (Good : Prototype → Type 0) where
@@ -18,10 +18,10 @@ module _ (Good : Prototype → Type 0) where
   Sees (Ok s) = IsGoodSight s
   Sees (Err e) = Unit {0}
 
-  abbrev pub KeepsSight : Step → Type 0
+  abbrev pub KeepsSight : Look → Type 0
   KeepsSight step = (s : Sight) → IsGoodSight s → Sees (step s)
 
-  pub sees_then : (r : Result Sight ExpandFault) (f : Step) → Sees r → KeepsSight f → Sees (and_see r f)
+  pub sees_then : (r : Result Sight ExpandFault) (f : Look) → Sees r → KeepsSight f → Sees (and_see r f)
   sees_then (Ok s) f h k = k s h
   sees_then (Err e) f h k = tt
 
@@ -29,14 +29,14 @@ module _ (Good : Prototype → Type 0) where
   aside_sees s (Ok t) h = record { here = h.here; outside = h.outside }
   aside_sees s (Err e) h = tt
 
-  pub aside_keeps : (step : Step) → KeepsSight step → KeepsSight (aside step)
+  pub aside_keeps : (step : Look) → KeepsSight step → KeepsSight (aside step)
   aside_keeps step h s g = aside_sees s (step (record s { taken = no_names })) (h (record s { taken = no_names }) (record { here = g.here; outside = g.outside }))
 
-  pub each_keeps : {A : Type 0} (f : A → Step) (xs : List A) → AllByRecursion (λ x. KeepsSight (f x)) xs → KeepsSight (each f xs)
+  pub each_keeps : {A : Type 0} (f : A → Look) (xs : List A) → AllByRecursion (λ x. KeepsSight (f x)) xs → KeepsSight (each f xs)
   each_keeps f [] h s g = g
   each_keeps f (x ∷ xs) h s g = sees_then (f x s) (each f xs) (h.0 s g) (each_keeps f xs h.1)
 
-  pub if_keeps : (b : Bool) (m n : Step) → KeepsSight m → KeepsSight n → KeepsSight (if b then m else n)
+  pub if_keeps : (b : Bool) (m n : Look) → KeepsSight m → KeepsSight n → KeepsSight (if b then m else n)
   if_keeps true m n h k = h
   if_keeps false m n h k = k
 

@@ -16,7 +16,7 @@ use Rattle.laws_flat.specs.Uses.{Reading, closes, named, opens, stands, steps}
 use Rattle.laws_flat.specs.Readings.{each, read_given, read_item, read_node, read_statement}
 use Rattle.laws_flat.proofs.Lists.{all_split}
 use Rattle.laws_flat.proofs.Readings.{read-declaration, read-field, read-full, read-item-proto, read-item-route, read-node-statement, read-proto, read-route, read-use}
-use Rattle.laws_plain.specs.Sound.{AllNamed, AreNamed, IsNamed}
+use Rattle.laws_plain.specs.Sound.{AllNamed, AreNamed, IsNodeNamed}
 
 -- of the text before a part, where it is so behind it
 abbrev pub Backs : (Reading → Reading) → Type 0
@@ -59,7 +59,7 @@ inner_named name x y h =
     record { closed = both.0; here = both.1.0 }
 
 outer_here : (name : Option Name) (x y : Reading) → AllNamed (closes name x y) → AreNamed x.here
-outer_here name x y h = (all_split IsNamed x.here _ h.here).0
+outer_here name x y h = (all_split IsNodeNamed x.here _ h.here).0
 
 full_backs : (line : ℕ) (name : Option Name) (word : Name) (is : List BodyItem) → AllByRecursion ItemBacks is → NodeBacks (node_text.Full line name word is)
 full_backs line name word is h =
@@ -69,8 +69,8 @@ full_backs line name word is h =
     let first = each_backs (read_item steps) is h (opens name x) (inner_named name x y k) in
     record { closed = first.closed; here = outer_here name x y k })
 
-pub used_named : (o : Option ℕ) (x : Reading) → AllNamed (stands o x) → AllNamed x × IsNamed o
-used_named o x h = let both = all_split IsNamed x.here (o ∷ []) h.here in (record { closed = h.closed; here = both.0 }, both.1.0)
+pub used_named : (o : Option ℕ) (x : Reading) → AllNamed (stands o x) → AllNamed x × IsNodeNamed o
+used_named o x h = let both = all_split IsNodeNamed x.here (o ∷ []) h.here in (record { closed = h.closed; here = both.0 }, both.1.0)
 
 pub backs : Layers ItemBacks NodeBacks StatementBacks (λ p. Unit {0})
 backs = record {

@@ -15,13 +15,13 @@ use Rattle.laws_flat.specs.Signatures.{Signature}
 use Rattle.proto_meaning.specs.Limits.{Met, Outcome, follow, and_then}
 use Rattle.proto_meaning.specs.Names.{Field}
 use Rattle.proto_meaning.proofs.Induction.{OfGiven}
-use Rattle.laws_meaning.specs.Plain.{Reading, Reads, ◌>>=◌, pure, in_turn, read_value, Between, fill, give, read_item, read_text}
+use Rattle.laws_meaning.specs.Plain.{Reading, PlainRead, ◌>>=◌, pure, in_turn, read_value, Between, fill, give, read_item, read_text}
 use Rattle.laws_flat.specs.Uses.{closes, named, opens, steps}
 use Rattle.laws_flat.specs.Uses as uses
 use Rattle.laws_flat.specs.Readings.{each, read_given, read_node}
 use Rattle.laws_flat.specs.Readings as steps_of
 use Rattle.laws_flat.proofs.Lists.{all_split}
-use Rattle.laws_plain.specs.Parts.{Entry, Part, entries, in_given, in_item, in_node}
+use Rattle.laws_plain.specs.Parts.{BraceField, TreePart, entries, in_given, in_item, in_node}
 use Rattle.laws_plain.specs.Sound.{AllNamed, AreOnce, IsSound}
 use Rattle.laws_plain.proofs.Keeping.{ItemKeeps, NodeKeeps, held_in}
 use Rattle.laws_plain.proofs.Reading.{Ends, ends_then}
@@ -39,7 +39,7 @@ IsOk (Err e) = ⊥
 abbrev pub Comes : {A : Type 0} → Outcome A → Type 0
 Comes o = IsOk o.comes
 
-module _ {A B : Type 0} (P : A → Reading → Type 0) (f : A → Reads B) where
+module _ {A B : Type 0} (P : A → Reading → Type 0) (f : A → PlainRead B) where
   then_ok : (met : List Met) (c : Result (A × Reading) ExpandFault) → IsOk c → Ends P (record { met = met; comes = c }) → ((a : A) (r : Reading) → P a r → Comes (f a r)) → Comes (follow met c (λ p. f p.0 p.1))
   then_ok met (Ok p) h e k = k p.0 p.1 e
   then_ok met (Err x) h e k = absurd h
@@ -63,7 +63,7 @@ ends_any o = any_end o.met o.comes
 
 -- ---- parts of the text
 
-abbrev pub AreSound : List Part → Type 0
+abbrev pub AreSound : List TreePart → Type 0
 AreSound ps = AllByRecursion IsSound ps
 
 abbrev pub NodeOk : NodeText → Type 0
@@ -75,14 +75,14 @@ pub record OfNode (n : NodeText) : Type 0 where
   pub comes : NodeOk n
 
 -- the fields so far, and those that come
-pub record After (t : NodeType) (all : List Signature) (rest : List Entry) (b : Between) (r : Reading) : Type 0 where
+pub record After (t : NodeType) (all : List Signature) (rest : List BraceField) (b : Between) (r : Reading) : Type 0 where
   pub before : List ℕ
   pub state : State t all before b
   pub once : AreOnce t all before rest
 
 abbrev pub ItemOk : BodyItem → Type 0
 ItemOk i =
-    AreSound (in_item i) → (t : NodeType) (all : List Signature) (rest : List Entry) (b : Between) (r : Reading) (x : uses.Reading) → After t all (entries i ++ rest) b r → kept.Reads (held_in b.filled) r x → AllNamed (steps_of.read_item steps i x)
+    AreSound (in_item i) → (t : NodeType) (all : List Signature) (rest : List BraceField) (b : Between) (r : Reading) (x : uses.Reading) → After t all (entries i ++ rest) b r → kept.Reads (held_in b.filled) r x → AllNamed (steps_of.read_item steps i x)
     → Comes (read_item i t b r) × Ends (After t all rest) (read_item i t b r)
 
 pub record OfItem (i : BodyItem) : Type 0 where
@@ -92,7 +92,7 @@ pub record OfItem (i : BodyItem) : Type 0 where
 
 -- ---- values
 
-abbrev next_node : Reads ℕ → List ℕ → Reads (List ℕ)
+abbrev next_node : PlainRead ℕ → List ℕ → PlainRead (List ℕ)
 next_node node ns = node >>= λ n. pure (ns ++ n ∷ [])
 
 backs_of : (ns : List NodeText) → AllByRecursion OfNode ns → AllByRecursion NodeBacks ns
@@ -110,7 +110,7 @@ nodes_come (n ∷ ns) h k here ks r x i a =
     (λ m q j. subst (λ ms. kept.Reads ms q (read_node steps n x)) (append_assoc here ks (m ∷ [])) j))
     (λ ls q j. nodes_come ns h.1 sound.1 here ls q (read_node steps n x) j a)
 
-abbrev pub GivenComes : Given (Reads ℕ) → Given NodeText → Type 0
+abbrev pub GivenComes : Given (PlainRead ℕ) → Given NodeText → Type 0
 GivenComes given.Nothing given.Nothing = Unit {0}
 GivenComes (given.Value u) (given.Value v) = (here : List ℕ) (r : Reading) (x : uses.Reading) → kept.Reads here r x → AllNamed (read_given (read_node steps) (given.Value v) x) → Comes (read_value u r)
 GivenComes _ _ = ⊥
@@ -136,7 +136,7 @@ given_comes (given.Value (value.NodeList ns)) h k = λ here r x i a.
 abbrev pub IsFilledBy : ℕ → ℕ × Field → Between → Between → Reading → Type 0
 IsFilledBy line f b c q = (v : Option (RawValue ℕ)) × (c ≡ fill line f b v)
 
-pub filled_ends : (line : ℕ) (f : ℕ × Field) (g : Given (Reads ℕ)) (h : Given NodeText) → GivenComes g h → (b : Between) (r : Reading) → Ends (IsFilledBy line f b) (give line f false g b r)
+pub filled_ends : (line : ℕ) (f : ℕ × Field) (g : Given (PlainRead ℕ)) (h : Given NodeText) → GivenComes g h → (b : Between) (r : Reading) → Ends (IsFilledBy line f b) (give line f false g b r)
 filled_ends line f given.Nothing given.Nothing k b r = (None, refl)
 filled_ends line f (given.Value u) (given.Value v) k b r =
     ends_then (λ m q. Unit {0}) (IsFilledBy line f b) (λ m. pure (fill line f b (Some m))) (read_value u r) (ends_any (read_value u r)) (λ m q p. (Some m, refl))
@@ -146,7 +146,7 @@ filled_ends line f (given.Is a) h k b r = tt
 filled_ends line f (given.Value u) given.Nothing k b r = absurd k
 filled_ends line f (given.Value u) (given.Is a) k b r = absurd k
 
-pub give_comes : (line : ℕ) (f : ℕ × Field) (g : Given (Reads ℕ)) (h : Given NodeText) → GivenComes g h → (b : Between) (here : List ℕ) (r : Reading) (x : uses.Reading) → kept.Reads here r x → AllNamed (read_given (read_node steps) h x) → Comes (give line f false g b r)
+pub give_comes : (line : ℕ) (f : ℕ × Field) (g : Given (PlainRead ℕ)) (h : Given NodeText) → GivenComes g h → (b : Between) (here : List ℕ) (r : Reading) (x : uses.Reading) → kept.Reads here r x → AllNamed (read_given (read_node steps) h x) → Comes (give line f false g b r)
 give_comes line f given.Nothing given.Nothing k b here r x i a = tt
 give_comes line f (given.Value u) (given.Value v) k b here r x i a =
     comes_then (λ m q. Unit {0}) (λ m. pure (fill line f b (Some m))) (read_value u r) (k here r x i a) (ends_any (read_value u r)) (λ m q p. tt)

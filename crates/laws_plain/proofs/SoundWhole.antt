@@ -30,7 +30,7 @@ use Rattle.proto_meaning.specs.Limits.{Met, Outcome, follow, and_then, is_within
 use Rattle.proto_meaning.specs.Names.{Name, Field}
 use Rattle.proto_meaning.specs.Flat.{field, fields_of, header_of, numbered_from, comes}
 use Rattle.proto_meaning.proofs.Induction.{OfGiven, Layers, every}
-use Rattle.laws_meaning.specs.Plain.{Reading, Reads, ◌>>=◌, pure, refuse, in_turn, last_closed, Between, ItemReads, fill, give, is_filled, flat_node, close_pair, item_step, node_step, statement_step, read_all, read_item, read_statement, read_text, route_of, plain}
+use Rattle.laws_meaning.specs.Plain.{Reading, PlainRead, ◌>>=◌, pure, refuse, in_turn, last_closed, Between, ItemReads, fill, give, is_filled, flat_node, close_pair, item_step, node_step, statement_step, read_all, read_item, read_statement, read_text, route_of, plain}
 use Rattle.laws_meaning.specs.Plain as plains
 use Rattle.laws_meaning.proofs.PlainTexts as texts
 use Rattle.laws_meaning.proofs.PlainWalk.{plain_documents_are_themselves}
@@ -42,7 +42,7 @@ use Rattle.laws_flat.specs.Readings as steps_of
 use Rattle.laws_flat.proofs.Lists.{all_split, all_weaker}
 use Rattle.laws_flat.proofs.Readings.{read-declaration, read-field, read-full, read-node-statement, read-use}
 use Rattle.laws_plain.specs.Faults.{IsPlain}
-use Rattle.laws_plain.specs.Parts.{Braces, Declares, Entry, Gives, Joins, Part, Prototype, entries, in_given, in_item, in_node, in_statement}
+use Rattle.laws_plain.specs.Parts.{Braces, Declares, BraceField, Gives, Joins, TreePart, Prototype, entries, in_given, in_item, in_node, in_statement}
 use Rattle.laws_plain.specs.Parts as parts_of
 use Rattle.laws_plain.specs.Parts.{item as part}
 use Rattle.laws_plain.specs.Sound.{AllNamed, AreOnce, IsFlatOrTooLarge, IsOfType, IsSound, SoundDocumentsAreFlat, entry_number, signed, with_next}
@@ -76,21 +76,21 @@ given_weaker P Q k (given.Value (value.NodeList ns)) h = all_weaker P Q k ns h
 
 -- ---- items
 
-abbrev Right : (t : NodeType) → List Signature → List Entry → Reads Between → Reading → Type 0
+abbrev Right : (t : NodeType) → List Signature → List BraceField → PlainRead Between → Reading → Type 0
 Right t all rest m r = Comes (m r) × Ends (After t all rest) (m r)
 
 next_before : (before : List ℕ) (o : Option ℕ) (k : ℕ) → o ≡ Some k → with_next before o ≡ before ++ k ∷ []
 next_before before o k e = ap (with_next before) e
 
 -- the part's field is the next one
-first_entry : (i : BodyItem) (es : List Entry) → entries i ≡ es → (t : NodeType) (all : List Signature) (before : List ℕ) (rest : List Entry) → AreOnce t all before (entries i ++ rest) → AreOnce t all before (es ++ rest)
+first_entry : (i : BodyItem) (es : List BraceField) → entries i ≡ es → (t : NodeType) (all : List Signature) (before : List ℕ) (rest : List BraceField) → AreOnce t all before (entries i ++ rest) → AreOnce t all before (es ++ rest)
 first_entry i es e t all before rest h = subst (λ xs. AreOnce t all before (xs ++ rest)) e h
 
 module _ (line : ℕ) (name : Name) (g : Given NodeText) (h : OfGiven OfNode g) where
   abbrev of_field : BodyItem
   of_field = item_text.Field line name g
 
-  field_right : AreSound (in_given in_node g) → (t : NodeType) (all : List Signature) (rest : List Entry) (b : Between) (r : Reading) (x : uses.Reading) (before : List ℕ) → State t all before b → AreOnce t all before (Gives name ∷ rest) → kept.Reads (held_in b.filled) r x
+  field_right : AreSound (in_given in_node g) → (t : NodeType) (all : List Signature) (rest : List BraceField) (b : Between) (r : Reading) (x : uses.Reading) (before : List ℕ) → State t all before b → AreOnce t all before (Gives name ∷ rest) → kept.Reads (held_in b.filled) r x
       → AllNamed (read_given (read_node steps) g x) → Right t all rest (item_step (BodyItem-F.Field line name (given_mapped read_text g)) t b) r
   unfolding item_step
   field_right k t all rest b r x before s once i a =
@@ -119,7 +119,7 @@ module _ (d : Declaration NodeText) (h : OfGiven OfNode d.given) where
   abbrev of_declaration : BodyItem
   of_declaration = item_text.Declaration d
 
-  declaration_right : AreSound (in_given in_node d.given) → (t : NodeType) (all : List Signature) (rest : List Entry) (b : Between) (r : Reading) (x : uses.Reading) (before : List ℕ) → State t all before b → AreOnce t all before (Declares (signature d) ∷ rest) → kept.Reads (held_in b.filled) r x
+  declaration_right : AreSound (in_given in_node d.given) → (t : NodeType) (all : List Signature) (rest : List BraceField) (b : Between) (r : Reading) (x : uses.Reading) (before : List ℕ) → State t all before b → AreOnce t all before (Declares (signature d) ∷ rest) → kept.Reads (held_in b.filled) r x
       → AllNamed (read_given (read_node steps) d.given x) → Right t all rest (item_step (BodyItem-F.Declaration (declaration_mapped read_text d)) t b) r
   unfolding item_step
   declaration_right k t all rest b r x before s once i a =
@@ -194,7 +194,7 @@ full_ok : (line : ℕ) (name : Option Name) (word : Name) (is : List BodyItem) �
 unfolding node_step
 full_ok line name word is h k here r x i a =
     let sound = all_split IsSound (flat_map in_item is) (Braces word (flat_map entries is) ∷ []) (subst AreSound (parts.in_full line name word is) k) in
-    subst (λ (m : Reads ℕ). Comes (m r)) (sym (texts.read-full line name word is))
+    subst (λ (m : PlainRead ℕ). Comes (m r)) (sym (texts.read-full line name word is))
     (full_comes line name word is h sound.0 (node_type_named word) sound.1.0 here r x i (subst AllNamed (read-full steps line name word is x) a))
 
 use_comes : (line : ℕ) (o : Option ℕ) (r : Reading) → is_some o ≡ true → Comes (option_map_or pure o (refuse UseWithoutDef line) r)
@@ -205,7 +205,7 @@ use_ok : (line : ℕ) (name : Name) → NodeOk (node_text.Use line name)
 unfolding node_step
 use_ok line name k here r x i a =
     let named_is = (used_named (named name x.opened) x (subst AllNamed (read-use steps line name x) a)).1 in
-    subst (λ (m : Reads ℕ). Comes (m r)) (sym (texts.read-use line name))
+    subst (λ (m : PlainRead ℕ). Comes (m r)) (sym (texts.read-use line name))
     (use_comes line (last_closed name r.pairs) r (ap is_some (sym (named_same name r.pairs) ∙ ap (λ (y : uses.Reading). named name y.opened) (sym i)) ∙ named_is))
 
 -- ---- statements
@@ -221,12 +221,12 @@ pub record OfStatement (s : Statement) : Type 0 where
 node_ok : (n : NodeText) → NodeOk n → StatementOk (statement_text.Node n)
 unfolding statement_step
 node_ok n h k here r x i a =
-    subst (λ (m : Reads (List ℕ)). Comes (m r)) (sym (texts.read-node n))
+    subst (λ (m : PlainRead (List ℕ)). Comes (m r)) (sym (texts.read-node n))
     (comes_then (λ m q. Unit {0}) (λ m. pure (m ∷ [])) (read_text n r) (h (subst AreSound (parts.in_node_statement n) k) here r x i (subst AllNamed (read-node-statement steps n x) a)) (ends_any (read_text n r)) (λ m q p. tt))
 
 route_ok : (route : RouteText) → StatementOk (statement_text.Route route)
 unfolding statement_step
-route_ok route k here r x i a = subst (λ (m : Reads (List ℕ)). Comes (m r)) (sym (texts.read-route route)) tt
+route_ok route k here r x i a = subst (λ (m : PlainRead (List ℕ)). Comes (m r)) (sym (texts.read-route route)) tt
 
 proto_ok : (p : ProtoText) → StatementOk (statement_text.Proto p)
 proto_ok p k here r x i a = absurd (subst AreSound (parts.in_proto p) k).0
@@ -261,7 +261,7 @@ layers = record {
 
 -- ---- a document
 
-abbrev next_root : Reads (List ℕ) → List ℕ → Reads (List ℕ)
+abbrev next_root : PlainRead (List ℕ) → List ℕ → PlainRead (List ℕ)
 next_root s roots = s >>= λ ns. pure (roots ++ ns)
 
 statements_back : (ss : List Statement) → AllByRecursion OfStatement ss → AllByRecursion StatementBacks ss
@@ -312,7 +312,7 @@ plain_comes d k a =
     limit_large (is_within whole.met) (with_few_routes whole.comes)
     (routes_large whole.comes (finish_ok d o.met o.comes (roots_come d.statements (every OfItem OfNode OfStatement (λ p. Unit {0}) layers d.statements) k [] nothing nothing_read refl a)))
 
-sound_plain : (p : Part) → IsSound p → IsPlain p
+sound_plain : (p : TreePart) → IsSound p → IsPlain p
 sound_plain (Braces word es) h = tt
 sound_plain Prototype h = h
 sound_plain Joins h = h

@@ -5,7 +5,7 @@ use Rattle.std.proofs.lemmas.List.{map-append, length-map, map-set}
 use Rattle.proto_flat.specs.declared.flat.FlatNode.{FlatNode}
 use Rattle.proto_meaning.specs.Names.{Name}
 use Rattle.laws_meaning.specs.Plain.{Reading, last_closed}
-use Rattle.laws_flat.specs.Uses.{Opened, closes, held, named, opens, some, stands, steps}
+use Rattle.laws_flat.specs.Uses.{OpenBraces, closes, held, named, opens, some, stands, steps}
 use Rattle.laws_flat.specs.Uses as uses
 use Rattle.laws_flat.specs.Readings.{read_item, read_node, read_statement}
 use Rattle.laws_flat.proofs.Readings.{read-declaration, read-field, read-full, read-item-proto, read-item-route, read-node-statement, read-proto, read-route, read-use}
@@ -48,7 +48,7 @@ closed_as name node here inner r q x y n i j =
         here = map some here ++ Some k ∷ [];
       }
 
-      pairs : List Opened
+      pairs : List OpenBraces
       pairs = map opened_of (slice_set q.pairs (length r.pairs) (record { name = name; node = Some (length q.nodes) }))
 
 abbrev pub law : Law Reads

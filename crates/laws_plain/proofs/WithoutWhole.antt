@@ -28,7 +28,7 @@ use Rattle.proto_meaning.specs.Limits.{ANode, Met, Outcome, behind, follow, and_
 use Rattle.proto_meaning.specs.Names.{Name}
 use Rattle.proto_meaning.specs.Flat.{fields_of, header_of, comes}
 use Rattle.proto_meaning.proofs.Induction.{OfGiven, Layers, every}
-use Rattle.laws_meaning.specs.Plain.{Reading, Reads, ◌>>=◌, pure, refuse, in_turn, Between, ItemReads, close_pair, flat_node, is_plain_item, is_plain_node, is_plain_statement, item_step, node_step, plain, plain_node_step, read_item, read_node, read_statement, read_text, route_of, statement_step}
+use Rattle.laws_meaning.specs.Plain.{Reading, PlainRead, ◌>>=◌, pure, refuse, in_turn, Between, ItemReads, close_pair, flat_node, is_plain_item, is_plain_node, is_plain_statement, item_step, node_step, plain, plain_node_step, read_item, read_node, read_statement, read_text, route_of, statement_step}
 use Rattle.laws_meaning.specs.Steps.{all_in, is_true, plain_item_step, plain_statement_step}
 use Rattle.laws_meaning.proofs.PlainTexts as texts
 use Rattle.laws_meaning.proofs.PlainWalk.{plain_documents_are_themselves}
@@ -43,14 +43,14 @@ then_pure : {A : Type 0} (met : List Met) (c : Result (A × Reading) ExpandFault
 then_pure met (Ok p) = ap (λ m. record { met = m; comes = Ok p }) (append-nil met)
 then_pure met (Err e) = refl
 
-then_again : {A B C : Type 0} (f : A → Reads B) (g : B → Reads C) (met : List Met) (c : Result (A × Reading) ExpandFault) → and_then (follow met c (λ p. f p.0 p.1)) (λ p. g p.0 p.1) ≡ follow met c (λ p. and_then (f p.0 p.1) (λ q. g q.0 q.1))
+then_again : {A B C : Type 0} (f : A → PlainRead B) (g : B → PlainRead C) (met : List Met) (c : Result (A × Reading) ExpandFault) → and_then (follow met c (λ p. f p.0 p.1)) (λ p. g p.0 p.1) ≡ follow met c (λ p. and_then (f p.0 p.1) (λ q. g q.0 q.1))
 then_again f g met (Ok p) = one met (f p.0 p.1).met (f p.0 p.1).comes where
   one : (before met : List Met) (c : Result (_ × Reading) ExpandFault) → follow (before ++ met) c (λ q. g q.0 q.1) ≡ behind before (follow met c (λ q. g q.0 q.1))
   one before met (Ok q) = ap (λ m. record { met = m; comes = (g q.0 q.1).comes }) (append_assoc before met (g q.0 q.1).met)
   one before met (Err e) = refl
 then_again f g met (Err e) = refl
 
-module _ {A X : Type 0} (f : A → X → Reads X) where
+module _ {A X : Type 0} (f : A → X → PlainRead X) where
   turn_append : (xs ys : List A) (x : X) (r : Reading) → in_turn f (xs ++ ys) x r ≡ and_then (in_turn f xs x r) (λ p. in_turn f ys p.0 p.1)
   turn_append [] ys x r = refl
   turn_append (a ∷ xs) ys x r =
@@ -65,13 +65,13 @@ module _ {A X : Type 0} (f : A → X → Reads X) where
 abbrev NodeSame : NodeText → Type 0
 NodeSame n = (read_text (left_node n) ≡ read_text n) × (is_plain_node (left_node n) ≡ true)
 
-abbrev item_of : NodeType → ItemReads → Between → Reads Between
+abbrev item_of : NodeType → ItemReads → Between → PlainRead Between
 item_of t i = i t
 
 abbrev ItemSame : BodyItem → Type 0
 ItemSame i = ((t : NodeType) (b : Between) (r : Reading) → in_turn (item_of t) (map read_item (left_items i)) b r ≡ read_item i t b r) × (list_all is_true (map is_plain_item (left_items i)) ≡ true)
 
-abbrev next_root : Reads (List ℕ) → List ℕ → Reads (List ℕ)
+abbrev next_root : PlainRead (List ℕ) → List ℕ → PlainRead (List ℕ)
 next_root s roots = s >>= λ ns. pure (roots ++ ns)
 
 abbrev StatementSame : Statement → Type 0
@@ -93,17 +93,17 @@ given_same (given.Value value.Null) h = (refl, refl)
 given_same (given.Value (value.Truth truth)) h = (refl, refl)
 given_same (given.Value (value.String text)) h = (refl, refl)
 given_same (given.Value (value.Numbers numbers)) h = (refl, refl)
-given_same (given.Value (value.Node n)) h = (ap (λ (m : Reads ℕ). given.Value (value.Node m)) h.0, h.1)
+given_same (given.Value (value.Node n)) h = (ap (λ (m : PlainRead ℕ). given.Value (value.Node m)) h.0, h.1)
 given_same (given.Value value.EmptyList) h = (refl, refl)
 given_same (given.Value (value.TruthList truths)) h = (refl, refl)
 given_same (given.Value (value.StringList texts)) h = (refl, refl)
 given_same (given.Value (value.NumberList numbers)) h = (refl, refl)
-given_same (given.Value (value.NodeList ns)) h = (ap (λ (ms : List (Reads ℕ)). given.Value (value.NodeList ms)) (nodes ns h).0, (nodes ns h).1) where
+given_same (given.Value (value.NodeList ns)) h = (ap (λ (ms : List (PlainRead ℕ)). given.Value (value.NodeList ms)) (nodes ns h).0, (nodes ns h).1) where
   nodes : (ns : List NodeText) → AllByRecursion NodeSame ns → (map read_text (map left_node ns) ≡ map read_text ns) × (list_all is_true (map is_plain_node (map left_node ns)) ≡ true)
   nodes [] h = (refl, refl)
   nodes (n ∷ ns) h =
       let rest = nodes ns h.1 in (
-        ap (λ (m : Reads ℕ). m ∷ map read_text (map left_node ns)) h.0.0 ∙ ap (λ (ms : List (Reads ℕ)). read_text n ∷ ms) rest.0,
+        ap (λ (m : PlainRead ℕ). m ∷ map read_text (map left_node ns)) h.0.0 ∙ ap (λ (ms : List (PlainRead ℕ)). read_text n ∷ ms) rest.0,
         both_true (is_plain_node (left_node n)) (list_all is_true (map is_plain_node (map left_node ns))) h.0.1 rest.1,
       )
 
@@ -119,7 +119,7 @@ unfolding plain_item_step
 field_layer line name g h =
     let s = given_same g h in
     one_left (item_text.Field line name g) (item_text.Field line name (given_mapped left_node g)) (left_field line name g)
-    (texts.read-field line name (given_mapped left_node g) ∙ ap (λ (x : Given (Reads ℕ)). item_step (BodyItem-F.Field line name x)) s.0 ∙ sym (texts.read-field line name g))
+    (texts.read-field line name (given_mapped left_node g) ∙ ap (λ (x : Given (PlainRead ℕ)). item_step (BodyItem-F.Field line name x)) s.0 ∙ sym (texts.read-field line name g))
     (texts.plain-field line name (given_mapped left_node g) ∙ s.1)
 
 declaration_layer : (d : Declaration NodeText) → OfGiven NodeSame d.given → ItemSame (item_text.Declaration d)
@@ -127,7 +127,7 @@ unfolding plain_item_step
 declaration_layer d h =
     let s = given_same d.given h in
     one_left (item_text.Declaration d) (item_text.Declaration (declaration_mapped left_node d)) (left_declaration d)
-    (texts.read-declaration (declaration_mapped left_node d) ∙ ap (λ (x : Given (Reads ℕ)). item_step (BodyItem-F.Declaration (record (declaration_mapped read_text d) { given = x }))) s.0 ∙ sym (texts.read-declaration d))
+    (texts.read-declaration (declaration_mapped left_node d) ∙ ap (λ (x : Given (PlainRead ℕ)). item_step (BodyItem-F.Declaration (record (declaration_mapped read_text d) { given = x }))) s.0 ∙ sym (texts.read-declaration d))
     (texts.plain-declaration (declaration_mapped left_node d) ∙ s.1)
 
 route_item_layer : (route : RouteText) → ItemSame (item_text.Route route)
@@ -184,7 +184,7 @@ use_layer line name = (ap read_text (left_use line name), ap is_plain_node (left
 
 one_statement : (s u : Statement) → left_statements s ≡ u ∷ [] → read_statement u ≡ read_statement s → is_plain_statement u ≡ true → StatementSame s
 one_statement s u e same plain_one = (
-  λ roots r. ap (λ ss. in_turn next_root (map read_statement ss) roots r) e ∙ turn_one next_root (read_statement u) roots r ∙ ap (λ (m : Reads (List ℕ)). next_root m roots r) same,
+  λ roots r. ap (λ ss. in_turn next_root (map read_statement ss) roots r) e ∙ turn_one next_root (read_statement u) roots r ∙ ap (λ (m : PlainRead (List ℕ)). next_root m roots r) same,
   ap (λ ss. list_all is_true (map is_plain_statement ss)) e ∙ both_true (is_plain_statement u) true plain_one refl,
 )
 
@@ -192,7 +192,7 @@ node_layer : (n : NodeText) → NodeSame n → StatementSame (statement_text.Nod
 unfolding plain_statement_step
 node_layer n h =
     one_statement (statement_text.Node n) (statement_text.Node (left_node n)) (left_statement n)
-    (texts.read-node (left_node n) ∙ ap (λ (m : Reads ℕ). statement_step (Statement-F.Node m)) h.0 ∙ sym (texts.read-node n)) (texts.plain-node (left_node n) ∙ h.1)
+    (texts.read-node (left_node n) ∙ ap (λ (m : PlainRead ℕ). statement_step (Statement-F.Node m)) h.0 ∙ sym (texts.read-node n)) (texts.plain-node (left_node n) ∙ h.1)
 
 route_layer : (route : RouteText) → StatementSame (statement_text.Route route)
 unfolding plain_statement_step
@@ -204,7 +204,7 @@ nothing_more roots = sym (append-nil roots)
 proto_layer : (p : ProtoText) → StatementSame (statement_text.Proto p)
 unfolding statement_step
 proto_layer p = (
-  λ roots r. ap (λ ss. in_turn next_root (map read_statement ss) roots r) (left_proto p) ∙ ap (λ ns. pure ns r) (nothing_more roots) ∙ sym (ap (λ (m : Reads (List ℕ)). next_root m roots r) (texts.read-proto p)),
+  λ roots r. ap (λ ss. in_turn next_root (map read_statement ss) roots r) (left_proto p) ∙ ap (λ ns. pure ns r) (nothing_more roots) ∙ sym (ap (λ (m : PlainRead (List ℕ)). next_root m roots r) (texts.read-proto p)),
   ap (λ ss. list_all is_true (map is_plain_statement ss)) (left_proto p),
 )
 

@@ -7,10 +7,10 @@ use Rattle.proto_flat.specs.declared.fault.ExpandFault.{ExpandFault}
 use Rattle.proto_flat.specs.declared.fault.ExpandFaultKind.{ExpandFaultKind}
 use Rattle.proto_flat.specs.declared.fault.ExpandFaultKind.TheVariants.{UnknownNode, UnknownField, UseWithoutDef, FieldTwice, TooLarge}
 use Rattle.proto_meaning.specs.Flat.{flat}
-use Rattle.laws_plain.specs.Parts.{Part, Braces, parts}
+use Rattle.laws_plain.specs.Parts.{TreePart, Braces, parts}
 
 -- no prototype, and no IS
-abbrev pub IsPlain : Part → Type 0
+abbrev pub IsPlain : TreePart → Type 0
 IsPlain (Braces word entries) = Unit {0}
 IsPlain _ = ⊥
 

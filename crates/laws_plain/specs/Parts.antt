@@ -14,20 +14,20 @@ use Rattle.classic_tree.specs.declared.tree.Statement.{Statement, fold-Statement
 use Rattle.laws_flat.specs.Signatures.{Signature, signature}
 
 -- a field between braces that the node is to have, or one that is declared there
-pub data Entry : Type 0 where
-  Gives : List ℕ → Entry
-  Declares : Signature → Entry
+pub data BraceField : Type 0 where
+  Gives : List ℕ → BraceField
+  Declares : Signature → BraceField
 
 -- braces, with the word before them and the fields between them; a prototype; or an IS
-pub data Part : Type 0 where
-  Braces : List ℕ → List Entry → Part
-  Prototype : Part
-  Joins : Part
+pub data TreePart : Type 0 where
+  Braces : List ℕ → List BraceField → TreePart
+  Prototype : TreePart
+  Joins : TreePart
 
 -- ---- each part of a tree, by those inside
 
 abbrev pub Inside : Type 0
-Inside = List Part
+Inside = List TreePart
 
 module _ {N : Type 0} (parts : N → Inside) where
   abbrev pub in_value : RawValue N → Inside
@@ -41,14 +41,14 @@ module _ {N : Type 0} (parts : N → Inside) where
   in_given (given.Is name) = Joins ∷ []
 
 -- an item between braces: the field that it names, and what stands inside
-pub record Item : Type 0 where
-  pub entries : List Entry
+pub record BraceItem : Type 0 where
+  pub entries : List BraceField
   pub inside : Inside
 
 abbrev pub these : Inside → Inside
 these parts = parts
 
-unfoldable pub item_step : BodyItem-F Item Inside Inside Inside → Item
+unfoldable pub item_step : BodyItem-F BraceItem Inside Inside Inside → BraceItem
 item_step (BodyItem-F.Field line name g) =
     record { entries = Gives name ∷ []; inside = in_given these g }
 item_step (BodyItem-F.Declaration d) =
@@ -56,25 +56,25 @@ item_step (BodyItem-F.Declaration d) =
 item_step (BodyItem-F.BodyItem::Route route) = record { entries = []; inside = [] }
 item_step (BodyItem-F.BodyItem::Proto proto) = record { entries = []; inside = Prototype ∷ [] }
 
-unfoldable pub node_step : NodeText-F Item Inside Inside Inside → Inside
+unfoldable pub node_step : NodeText-F BraceItem Inside Inside Inside → Inside
 node_step (NodeText-F.Use line name) = []
 node_step (NodeText-F.Full line name word items) =
-    flat_map (λ (item : Item). item.inside) items
-    ++ Braces word (flat_map (λ (item : Item). item.entries) items) ∷ []
+    flat_map (λ (item : BraceItem). item.inside) items
+    ++ Braces word (flat_map (λ (item : BraceItem). item.entries) items) ∷ []
 
-unfoldable pub statement_step : Statement-F Item Inside Inside Inside → Inside
+unfoldable pub statement_step : Statement-F BraceItem Inside Inside Inside → Inside
 statement_step (Statement-F.Node node) = node
 statement_step (Statement-F.Statement::Route route) = []
 statement_step (Statement-F.Statement::Proto proto) = Prototype ∷ []
 
-unfoldable pub proto_step : ProtoText-F Item Inside Inside Inside → Inside
+unfoldable pub proto_step : ProtoText-F BraceItem Inside Inside Inside → Inside
 proto_step p = []
 
-abbrev pub item : BodyItem → Item
+abbrev pub item : BodyItem → BraceItem
 item =
-    fold-BodyItem Item Inside Inside Inside item_step node_step statement_step proto_step
+    fold-BodyItem BraceItem Inside Inside Inside item_step node_step statement_step proto_step
 
-abbrev pub entries : BodyItem → List Entry
+abbrev pub entries : BodyItem → List BraceField
 entries i = (item i).entries
 
 abbrev pub in_item : BodyItem → Inside
@@ -82,11 +82,11 @@ in_item i = (item i).inside
 
 abbrev pub in_node : NodeText → Inside
 in_node =
-    fold-NodeText Item Inside Inside Inside item_step node_step statement_step proto_step
+    fold-NodeText BraceItem Inside Inside Inside item_step node_step statement_step proto_step
 
 abbrev pub in_statement : Statement → Inside
 in_statement =
-    fold-Statement Item Inside Inside Inside item_step node_step statement_step proto_step
+    fold-Statement BraceItem Inside Inside Inside item_step node_step statement_step proto_step
 
 -- those of a document
 abbrev pub parts : Document → Inside

@@ -12,7 +12,7 @@ use Rattle.laws_flat.specs.Signatures.{KnownField}
 use Rattle.proto_meaning.specs.Flat.{flat}
 use Rattle.laws_flat.specs.Fields.{number_of}
 use Rattle.laws_flat.specs.Uses.{Reading, read}
-use Rattle.laws_plain.specs.Parts.{Entry, Gives, Declares, Part, Braces, Prototype, Joins, parts}
+use Rattle.laws_plain.specs.Parts.{BraceField, Gives, Declares, TreePart, Braces, Prototype, Joins, parts}
 
 -- ---- fields
 
@@ -22,12 +22,12 @@ unless_own None number = number
 unless_own (Some field) number = None
 
 -- the number of a field that is given is that of its row; behind these come the declared fields
-abbrev pub entry_number : NodeType → List Signature → Entry → Option ℕ
+abbrev pub entry_number : NodeType → List Signature → BraceField → Option ℕ
 entry_number t declared (Gives name) = option_map number_of (of_type t name)
 entry_number t declared (Declares s) =
     unless_own (of_type t s.name) (option_map number_of (of_declared t declared s.name))
 
-abbrev pub signed : Entry → List Signature
+abbrev pub signed : BraceField → List Signature
 signed (Gives name) = []
 signed (Declares s) = s ∷ []
 
@@ -45,7 +45,7 @@ with_next before None = before
 with_next before (Some number) = before ++ number ∷ []
 
 -- each field has a number that none before it has
-abbrev pub AreOnce : NodeType → List Signature → List ℕ → List Entry → Type 0
+abbrev pub AreOnce : NodeType → List Signature → List ℕ → List BraceField → Type 0
 AreOnce t declared before [] = Unit {0}
 AreOnce t declared before (e ∷ others) =
     IsNext before (entry_number t declared e)
@@ -53,24 +53,24 @@ AreOnce t declared before (e ∷ others) =
 
 -- ---- nodes
 
-abbrev pub IsOfType : Option NodeType → List Entry → Type 0
+abbrev pub IsOfType : Option NodeType → List BraceField → Type 0
 IsOfType None entries = ⊥
 IsOfType (Some t) entries = AreOnce t (flat_map signed entries) [] entries
 
 -- the word is that of a node type, and the fields are those of a node of this type, each once;
 -- nothing is a prototype, or joined to one
-abbrev pub IsSound : Part → Type 0
+abbrev pub IsSound : TreePart → Type 0
 IsSound (Braces word entries) = IsOfType (node_type_named word) entries
 IsSound Prototype = ⊥
 IsSound Joins = ⊥
 
 -- ---- names
 
-abbrev pub IsNamed : Option ℕ → Type 0
-IsNamed node = is_some node ≡ true
+abbrev pub IsNodeNamed : Option ℕ → Type 0
+IsNodeNamed node = is_some node ≡ true
 
 abbrev pub AreNamed : List (Option ℕ) → Type 0
-AreNamed nodes = AllByRecursion IsNamed nodes
+AreNamed nodes = AllByRecursion IsNodeNamed nodes
 
 -- each USE names a node before it whose braces are closed
 pub record AllNamed (r : Reading) : Type 0 where

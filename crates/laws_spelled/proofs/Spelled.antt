@@ -15,7 +15,7 @@ use Rattle.classic_tree.specs.declared.tree.Given.{Given}
 use Rattle.classic_tree.specs.declared.tree.Given.TheVariants as given
 use Rattle.classic_tree.specs.declared.tree.Meta.{Meta}
 use Rattle.classic_tree.specs.declared.tree.NodeText.{NodeText}
-use Rattle.classic_tree.specs.declared.tree.Place.{Place}
+use Rattle.classic_tree.specs.declared.tree.RouteEnd.{RouteEnd}
 use Rattle.classic_tree.specs.declared.tree.ProtoText.{ProtoText, out-ProtoText}
 use Rattle.classic_tree.specs.declared.tree.RawValue.{RawValue}
 use Rattle.classic_tree.specs.declared.tree.RawValue.TheVariants as v
@@ -97,7 +97,7 @@ module _ (most : ℕ) where
   numbers_left [] ts rest h g = subst (AreShort most) (sym h.1) g
   numbers_left (n ∷ ns) ts rest h g = numbers_left ns h.0 rest h.2 (number_left n ts h.0 h.1 g)
 
-  place_left : (p : Place) (ts rest : List Tok) → IsPlace p ts rest → AreShort most ts → AreShort most rest
+  place_left : (p : RouteEnd) (ts rest : List Tok) → IsPlace p ts rest → AreShort most ts → AreShort most rest
   place_left p ts rest h g =
       name_left p.field h.1 rest h.4 (is_left (terminal_of kind.Point []) h.0 h.1 h.3 (name_left p.node ts h.0 h.2 g))
 

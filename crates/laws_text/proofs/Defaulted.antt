@@ -12,7 +12,7 @@ use Rattle.x3d_values.specs.declared.node_type.NodeType.{NodeType}
 use Rattle.x3d_values.specs.declared.node_type.NodeType.TheVariants.{Group}
 use Rattle.x3d_values.specs.declared.value.Value.TheVariants as value
 use Rattle.x3d_values.specs.Defaults.{default_value}
-use Rattle.x3d_values.specs.Tables.{Entry, rows}
+use Rattle.x3d_values.specs.Tables.{FieldRowView, rows}
 use Rattle.x3d_values.specs.Values.{empty_value}
 use Rattle.classic_bytes.specs.Bytes.{begins_name, continues_name, is_digit}
 use Rattle.laws_text.specs.Values.{is_int32, is_number, is_time, is_sound}
@@ -61,6 +61,6 @@ pub none_given : (t : FieldType) (d : Option FieldDefault) → fits_or_none d �
 none_given t None h = refl
 none_given t (Some d) h = default_sound t d h
 
-pub rows_fit : (t : NodeType) → list_all (λ (e : Entry). fits_or_none e.default) (rows t) ≡ true
+pub rows_fit : (t : NodeType) → list_all (λ (e : FieldRowView). fits_or_none e.default) (rows t) ≡ true
 rows_fit Group = refl
 rows_fit _ = refl

@@ -13,7 +13,7 @@ use Rattle.x3d_values.specs.declared.value.Value.{Value}
 use Rattle.x3d_values.specs.Access.{is_initial, is_kept}
 use Rattle.x3d_values.specs.Kept.{field_value}
 use Rattle.x3d_values.specs.Names.{node_type_name}
-use Rattle.x3d_values.specs.Tables.{Entry}
+use Rattle.x3d_values.specs.Tables.{FieldRowView}
 use Rattle.x3d_values.specs.Values.{nodes_of}
 use Rattle.classic_tree.specs.declared.tree.Given.TheVariants as given
 use Rattle.classic_tree.specs.declared.tree.NodeText.{NodeText}
@@ -145,7 +145,7 @@ module _ (p : PlanView) (n : ℕ) (node : SceneNode) (Q : ℕ → Type 0) (kept 
   shown_fit t name (Some d) None f k = tt
   shown_fit t name None o f k = tt
 
-  pub shown_all : (t : NodeType) (number : ℕ) (es : List Entry) → AllByRecursion (λ (e : Entry). IsFieldName e.name) es
+  pub shown_all : (t : NodeType) (number : ℕ) (es : List FieldRowView) → AllByRecursion (λ (e : FieldRowView). IsFieldName e.name) es
       → AllByRecursion (IsFitShown Q t) (shown_from p n number es)
   shown_all t number [] h = tt
   shown_all t number (e ∷ es) h =

@@ -17,7 +17,7 @@ use Rattle.x3d_values.specs.declared.value.Value.{Value}
 use Rattle.x3d_values.specs.declared.value.Value.TheVariants as value
 use Rattle.x3d_values.specs.Access.{holds_nodes, is_initial}
 use Rattle.x3d_values.specs.Defaults.{default_value}
-use Rattle.x3d_values.specs.Tables.{Entry, rows}
+use Rattle.x3d_values.specs.Tables.{FieldRowView, rows}
 use Rattle.x3d_values.specs.Values.{empty_value, nodes_of}
 use Rattle.classic_tree.specs.declared.tree.Declaration.{Declaration}
 use Rattle.classic_tree.specs.declared.tree.RawValue.{RawValue}
@@ -195,7 +195,7 @@ module _ (all : List FlatNode) (numbers : List ℕ) where
   rotation_given : (t : FieldType) (f : FlatField) → is_rotation t ≡ true → parts_in t (Some f) ≡ []
   rotation_given t f h = ap (λ (b : Bool). inner_if b (inner_nodes f.value)) (rotation_none t h)
 
-  given_is : (e : Entry) (f : FlatField) (v : Option Value) → given_value all numbers e f ≡ Ok v → IsField e.field_type (Some f) v
+  given_is : (e : FieldRowView) (f : FlatField) (v : Option Value) → given_value all numbers e f ≡ Ok v → IsField e.field_type (Some f) v
   given_is e f v h = by_rotation (is_rotation e.field_type) refl h where
     by_rotation : (b : Bool) → is_rotation e.field_type ≡ b
         → (if b then dropped_rotation e f else (typed_value numbers e.field_type f >>= accepted_in_range all e f)) ≡ Ok v → IsField e.field_type (Some f) v
@@ -207,7 +207,7 @@ module _ (all : List FlatNode) (numbers : List ℕ) where
         accepted_is e.field_type e.access e.kind f b.0 v (line_is f.line (typed e.field_type f.value numbers) b.0 b.1)
         (range_is (in_range e.name b.0) (fault ValueRange f.line) (accepted all e.access e.kind f b.0) v b.2)
 
-  field_is : (e : Entry) (o : Option FlatField) (v : Option Value) → field_value all numbers e o ≡ Ok v → IsField e.field_type o v
+  field_is : (e : FieldRowView) (o : Option FlatField) (v : Option Value) → field_value all numbers e o ≡ Ok v → IsField e.field_type o v
   unfolding field_value
   field_is e None v h = nothing_is e.field_type None v (none_given e.field_type) (ap linked (sym (scene_ok_is (default_of e) v h)) ∙ default_none e.field_type e.default)
   field_is e (Some f) v h = given_is e f v h
@@ -260,7 +260,7 @@ module _ (all : List FlatNode) (numbers : List ℕ) where
   no_more : (made values : List (Option Value)) → scene_ok made ≡ Ok values → AreBehind made values []
   no_more made values h = record { more = []; is = sym (scene_ok_is made values h) ∙ sym (append-nil made); fields = nothing_inner }
 
-  values_behind : (fields : List FlatField) (number : ℕ) (es : List Entry) (made values : List (Option Value)) → values_from all numbers fields number es made ≡ Ok values
+  values_behind : (fields : List FlatField) (number : ℕ) (es : List FieldRowView) (made values : List (Option Value)) → values_from all numbers fields number es made ≡ Ok values
       → AreBehind made values (parts_from fields number es)
   values_behind fields number [] made values h = no_more made values h
   values_behind fields number (e ∷ es) made values h =

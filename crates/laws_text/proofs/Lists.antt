@@ -3,7 +3,7 @@ use Rattle.std.proofs.Common.{◌≡◌, ℕ, zero, suc, ◌<◌, Bool, List, []
 use Rattle.std.specs.List.{AllByRecursion}
 use Rattle.std.proofs.lemmas.Option.{slice_get-get_or}
 use Rattle.classic_round_trip.specs.Spellable.{AreSome}
-use Rattle.scene_text.specs.Tree.{Step, Makes, one_more, each}
+use Rattle.scene_text.specs.Tree.{Grows, Makes, one_more, each}
 
 pub all_push : {A : Type 0} (P : A → Type 0) (xs : List A) (x : A) → AllByRecursion P xs → P x → AllByRecursion P (xs ++ x ∷ [])
 all_push P [] x h k = (k, tt)
@@ -45,7 +45,7 @@ found (x ∷ xs) n h = (get_or (x ∷ xs) n x, slice_get-get_or (x ∷ xs) n x h
 -- ---- what is made of each in turn
 
 pub each_all : {A B : Type 0} (make : Makes A B) (Q : A → Type 0) (P : B → Type 0)
-    → ((seen : List Bool) (x : A) → Q x → P (make seen x).made) → (s : Step (List B)) (xs : List A) → AllByRecursion P s.made → AllByRecursion Q xs
+    → ((seen : List Bool) (x : A) → Q x → P (make seen x).made) → (s : Grows (List B)) (xs : List A) → AllByRecursion P s.made → AllByRecursion Q xs
     → AllByRecursion P (fold (one_more make) s xs).made
 each_all make Q P k s [] a h = a
 each_all make Q P k s (x ∷ xs) a h =
@@ -59,7 +59,7 @@ push_more : {A : Type 0} (xs : List A) (x : A) → 0 < length (xs ++ x ∷ [])
 push_more [] x = omega arith
 push_more (y ∷ ys) x = omega arith
 
-each_more : {A B : Type 0} (make : Makes A B) (s : Step (List B)) (xs : List A) → 0 < length s.made → 0 < length (fold (one_more make) s xs).made
+each_more : {A B : Type 0} (make : Makes A B) (s : Grows (List B)) (xs : List A) → 0 < length s.made → 0 < length (fold (one_more make) s xs).made
 each_more make s [] h = h
 each_more make s (x ∷ xs) h = each_more make (one_more make s x) xs (push_more s.made (make s.seen x).made)
 
@@ -67,6 +67,6 @@ pub each_some : {A B : Type 0} (make : Makes A B) (Q : A → Type 0) (P : B → 
     → ((seen : List Bool) (x : A) → Q x → P (make seen x).made) → (seen : List Bool) (x : A) (xs : List A) → AllByRecursion Q (x ∷ xs)
     → AreSome P (each make seen (x ∷ xs)).made
 each_some {A} {B} make Q P k seen x xs h =
-    let none : Step (List B) = record { seen = seen; made = [] } in
+    let none : Grows (List B) = record { seen = seen; made = [] } in
     are_some P (each make seen (x ∷ xs)).made (each_all make Q P k none (x ∷ xs) tt h)
     (each_more make (one_more make none x) xs (push_more [] (make seen x).made))

@@ -11,7 +11,7 @@ use Rattle.std.proofs.lemmas.Str.{IsUtf8-from_ascii}
 use Rattle.x3d_values.specs.declared.node_type.NodeType.{NodeType}
 use Rattle.x3d_values.specs.declared.node_type.NodeType.TheVariants.{Group}
 use Rattle.x3d_values.specs.Names.{node_type_name}
-use Rattle.x3d_values.specs.Tables.{Entry, rows}
+use Rattle.x3d_values.specs.Tables.{FieldRowView, rows}
 use Rattle.classic_bytes.specs.Bytes.{begins_name, continues_name, is_digit}
 use Rattle.classic_round_trip.specs.Spellable.{IsNoneOf, IsFreeName, grammar_words, access_words}
 use Rattle.scene_core.specs.Labels.{is_numbered}
@@ -80,18 +80,18 @@ IsFieldName name = IsFreeName name × (name ≢ codes "EXTERNPROTO")
 abbrev is_field_name : List ℕ → Bool
 is_field_name name = is_free name && not (bytes_eq name (codes "EXTERNPROTO"))
 
-field_name : (e : Entry) → is_field_name e.name ≡ true → IsFieldName e.name
+field_name : (e : FieldRowView) → is_field_name e.name ≡ true → IsFieldName e.name
 field_name e h =
     let b = both (is_free e.name) (not (bytes_eq e.name (codes "EXTERNPROTO"))) h in
     (free_name e.name b.0, not_same e.name (codes "EXTERNPROTO") b.1)
 
-rows_are_free : (t : NodeType) → list_all (λ (e : Entry). is_field_name e.name) (rows t) ≡ true
+rows_are_free : (t : NodeType) → list_all (λ (e : FieldRowView). is_field_name e.name) (rows t) ≡ true
 unfolding begins_name continues_name is_digit
 rows_are_free Group = refl
 rows_are_free _ = refl
 
-pub rows_free : (t : NodeType) → AllByRecursion (λ (e : Entry). IsFieldName e.name) (rows t)
-rows_free t = each_told (λ (e : Entry). is_field_name e.name) (λ (e : Entry). IsFieldName e.name) field_name (rows t) (rows_are_free t)
+pub rows_free : (t : NodeType) → AllByRecursion (λ (e : FieldRowView). IsFieldName e.name) (rows t)
+rows_free t = each_told (λ (e : FieldRowView). is_field_name e.name) (λ (e : FieldRowView). IsFieldName e.name) field_name (rows t) (rows_are_free t)
 
 -- ---- `N` and a number
 

@@ -16,7 +16,7 @@ use Rattle.x3d_values.specs.declared.value.Value.{Value}
 use Rattle.x3d_values.specs.declared.value.Value.TheVariants as value
 use Rattle.x3d_values.specs.Access.{is_initial}
 use Rattle.x3d_values.specs.Defaults.{default_value}
-use Rattle.x3d_values.specs.Tables.{Entry, rows}
+use Rattle.x3d_values.specs.Tables.{FieldRowView, rows}
 use Rattle.x3d_values.specs.Values.{empty_value}
 use Rattle.classic_tree.specs.declared.tree.Declaration.{Declaration}
 use Rattle.classic_tree.specs.declared.tree.RawValue.{RawValue}
@@ -90,7 +90,7 @@ module _ (P : Option Value → Type 0) (of_none : P None)
     (nodes : List FlatNode) (numbers : List ℕ)
     (of_typed : (t : FieldType) (r : RawValue ℕ) (v : Value) → has_utf8 r ≡ true → typed t r numbers ≡ Ok v → P (Some v))
     (fields : List FlatField) (texts : list_all (λ (f : FlatField). has_utf8 f.value) fields ≡ true) where
-  given_good : (e : Entry) (f : FlatField) (v : Option Value) → has_utf8 f.value ≡ true
+  given_good : (e : FieldRowView) (f : FlatField) (v : Option Value) → has_utf8 f.value ≡ true
       → given_value nodes numbers e f ≡ Ok v → P v
   given_good e f v u h = by_rotation (is_rotation e.field_type) h where
     by_rotation : (b : Bool) → (if b then dropped_rotation e f else (typed_value numbers e.field_type f >>= accepted_in_range nodes e f)) ≡ Ok v → P v
@@ -103,7 +103,7 @@ module _ (P : Option Value → Type 0) (of_none : P None)
         let r = range_is (in_range e.name b.0) (fault ValueRange f.line) (accepted nodes e.access e.kind f b.0) v b.2 in
         subst P (accepted_is nodes e.access e.kind f b.0 v r) t
 
-  one_good : (e : Entry) (o : Option FlatField) (v : Option Value) → option_map_or (λ (f : FlatField). has_utf8 f.value) o true ≡ true
+  one_good : (e : FieldRowView) (o : Option FlatField) (v : Option Value) → option_map_or (λ (f : FlatField). has_utf8 f.value) o true ≡ true
       → fits_or_none e.default ≡ true → field_value nodes numbers e o ≡ Ok v → P v
   unfolding field_value
   one_good e None v u d h = subst P (ok_is (default_of e) v h) (of_default e.field_type e.default d)
@@ -116,12 +116,12 @@ module _ (P : Option Value → Type 0) (of_none : P None)
     pub many : length more ≡ count
     pub good : AllByRecursion P more
 
-  values_made : (number : ℕ) (es : List Entry) (made all : List (Option Value)) → list_all (λ (e : Entry). fits_or_none e.default) es ≡ true
+  values_made : (number : ℕ) (es : List FieldRowView) (made all : List (Option Value)) → list_all (λ (e : FieldRowView). fits_or_none e.default) es ≡ true
       → values_from nodes numbers fields number es made ≡ Ok all → AreMade made all (length es)
   values_made number [] made all d h = record { more = []; is = sym (ok_is made all h) ∙ sym (append-nil made); many = refl; good = tt }
   values_made number (e ∷ es) made all d h =
       let b = bind_is (field_value nodes numbers e (given fields number)) (λ v. values_from nodes numbers fields (number + 1) es (made ++ v ∷ [])) all h in
-      let g = both (fits_or_none e.default) (list_all (λ (e : Entry). fits_or_none e.default) es) d in
+      let g = both (fits_or_none e.default) (list_all (λ (e : FieldRowView). fits_or_none e.default) es) d in
       let m = values_made (number + 1) es (made ++ b.0 ∷ []) all g.1 b.2 in
       record {
         more = b.0 ∷ m.more;

@@ -10,7 +10,7 @@ use Rattle.x3d_values.specs.declared.field_type.Access.{Access}
 use Rattle.x3d_values.specs.declared.table.FieldRow.{FieldRow}
 use Rattle.x3d_values.specs.Access.{is_exposed, receives, sends, holds_nodes}
 use Rattle.x3d_values.specs.Aliases.{no_rotation, if_exposed}
-use Rattle.x3d_values.specs.Tables.{Entry, numbered, row_named}
+use Rattle.x3d_values.specs.Tables.{FieldRowView, numbered, row_named}
 use Rattle.proto_flat.specs.declared.flat.Flat.{Flat}
 use Rattle.proto_flat.specs.declared.flat.FlatEnd.{FlatEnd}
 use Rattle.proto_flat.specs.declared.flat.FlatEnd.TheVariants.{At, NoNode, NoField, WrongWay}
@@ -29,9 +29,9 @@ use Rattle.laws_text.proofs.Lists.{all_push}
 
 -- ---- the row of a name
 
-record HasRow (n : ℕ) (es : List Entry) (row : FieldRow) : Type 0 where
+record HasRow (n : ℕ) (es : List FieldRowView) (row : FieldRow) : Type 0 where
   pub index : ℕ
-  pub entry : Entry
+  pub entry : FieldRowView
   pub number : row.number ≡ n + index
   pub is : slice_get es index ≡ Some entry
 
@@ -41,7 +41,7 @@ some x = Some x
 row_is : (a b : FieldRow) → some a ≡ some b → a ≡ b
 row_is a b e = cc
 
-row_by : (n : ℕ) (x : Entry) (xs : List Entry) (row : FieldRow) (o : Option FieldRow) → (o ≡ Some row → HasRow (n + 1) xs row) → (b : Bool)
+row_by : (n : ℕ) (x : FieldRowView) (xs : List FieldRowView) (row : FieldRow) (o : Option FieldRow) → (o ≡ Some row → HasRow (n + 1) xs row) → (b : Bool)
     → (if b then Some (numbered n x) else o) ≡ Some row → HasRow n (x ∷ xs) row
 row_by n x xs row o k true h =
     let same : n ≡ row.number = ap (λ (r : FieldRow). r.number) (row_is (numbered n x) row h) in
@@ -49,12 +49,12 @@ row_by n x xs row o k true h =
 row_by n x xs row o k false h =
     let f = k h in record { index = suc f.index; entry = f.entry; number = omega (arith, f.number); is = f.is }
 
-row_found : (n : ℕ) (name : List ℕ) (es : List Entry) (row : FieldRow) → row_named n name es ≡ Some row → HasRow n es row
+row_found : (n : ℕ) (name : List ℕ) (es : List FieldRowView) (row : FieldRow) → row_named n name es ≡ Some row → HasRow n es row
 row_found n name [] row e = absurd cc
 row_found n name (x ∷ xs) row e =
     row_by n x xs row (row_named (n + 1) name xs) (λ h. row_found (n + 1) name xs row h) (pointwise nat_eq name x.name) e
 
-module _ (es : List Entry) where
+module _ (es : List FieldRowView) where
   abbrev Has : FieldRow → Type 0
   Has row = HasRow 0 es row
 

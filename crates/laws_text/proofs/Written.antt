@@ -9,7 +9,7 @@ use Rattle.x3d_values.specs.declared.node_type.NodeType.{NodeType}
 use Rattle.x3d_values.specs.declared.node_type.NodeType.TheVariants.{Switch}
 use Rattle.x3d_values.specs.Names.{node_type_name}
 use Rattle.x3d_values.specs.Ranges.{max_depth}
-use Rattle.x3d_values.specs.Tables.{Entry, rows}
+use Rattle.x3d_values.specs.Tables.{FieldRowView, rows}
 use Rattle.classic_bytes.specs.Bytes.{begins_name, continues_name, is_digit}
 use Rattle.classic_tree.specs.declared.tree.BodyItem.TheVariants as held
 use Rattle.classic_tree.specs.declared.tree.Meta.{Meta}
@@ -54,13 +54,13 @@ no_head [] [] None t = no_statement t
 -- ---- routes
 
 module _ (s : SceneView) (nodes : (n : ℕ) (node : SceneNode) → slice_get s.nodes n ≡ Some node → IsWritableNode node) where
-  abbrev Named : Entry → Type 0
+  abbrev Named : FieldRowView → Type 0
   Named e = IsFreeName e.name
 
   rows_named : (node : SceneNode) → IsWritableNode node → AllByRecursion Named (rows_of (shape_of node))
   rows_named node h =
       all_append Named (rows node.node_type) (map declared_entry (numbered_fields node.node_type node.declared))
-      (all_weaker (λ (e : Entry). IsFieldName e.name) Named (λ e f. f.0) (rows node.node_type) (rows_free node.node_type))
+      (all_weaker (λ (e : FieldRowView). IsFieldName e.name) Named (λ e f. f.0) (rows node.node_type) (rows_free node.node_type))
       (all_map declared_entry (λ (d : DeclaredField). IsFreeName d.name) Named (λ d f. f) (numbered_fields node.node_type node.declared)
       (all_take (λ (d : DeclaredField). IsFreeName d.name) (most_declared node.node_type) node.declared h.declared))
 
@@ -72,9 +72,9 @@ module _ (s : SceneView) (nodes : (n : ℕ) (node : SceneNode) → slice_get s.n
   field_free : (end : End) → IsEnd s end → IsFreeName (field_name s end)
   field_free end h =
       let f = found s.nodes end.node h.0 in
-      let e : field_name s end ≡ h.1.0.name = ap (λ (o : Option Entry). unwrap_or (option_map (λ (e : Entry). e.name) o) []) h.1.1 in
+      let e : field_name s end ≡ h.1.0.name = ap (λ (o : Option FieldRowView). unwrap_or (option_map (λ (e : FieldRowView). e.name) o) []) h.1.1 in
       let is : slice_get (rows_of (shape_of f.0)) end.field ≡ Some h.1.0 =
-      ap (λ (es : List Entry). slice_get es end.field) (sym (rows_are end.node f.0 f.1)) ∙ h.1.1 in
+      ap (λ (es : List FieldRowView). slice_get es end.field) (sym (rows_are end.node f.0 f.1)) ∙ h.1.1 in
       subst IsFreeName (sym e) (all_at Named (rows_of (shape_of f.0)) end.field h.1.0 (rows_named f.0 (nodes end.node f.0 f.1)) is)
 
 -- ---- statements

@@ -10,7 +10,7 @@ use Rattle.x3d_values.specs.declared.value.Value.{Value}
 use Rattle.x3d_values.specs.Access.{is_initial}
 use Rattle.x3d_values.specs.Kept.{field_value}
 use Rattle.x3d_values.specs.Ranges.{max_depth}
-use Rattle.x3d_values.specs.Tables.{Entry, rows}
+use Rattle.x3d_values.specs.Tables.{FieldRowView, rows}
 use Rattle.x3d_values.specs.Values.{nodes_of}
 use Rattle.classic_round_trip.specs.Spellable.{IsFreeName, IsNameOrNone, IsSpellableComponent, IsSpellableMeta}
 use Rattle.scene_core.specs.declared.row.DeclaredField.{DeclaredField}
@@ -70,7 +70,7 @@ AreKeepable state =
 -- ---- routes
 
 abbrev pub HasField : SceneView → End → Type 0
-HasField s end = (e : Entry) × (slice_get (rows_at s end.node) end.field ≡ Some e)
+HasField s end = (e : FieldRowView) × (slice_get (rows_at s end.node) end.field ≡ Some e)
 
 -- a field of a node of the scene
 abbrev pub IsEnd : SceneView → End → Type 0

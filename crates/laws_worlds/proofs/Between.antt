@@ -9,15 +9,15 @@ use Rattle.x3d_values.specs.declared.field_type.FieldType.TheVariants as types
 use Rattle.x3d_values.specs.declared.value.Value.{Value}
 use Rattle.x3d_values.specs.declared.value.Value.TheVariants.{SFFloat, SFVec2f, SFVec3f, MFFloat, MFVec2f, MFVec3f}
 use Rattle.x3d_values.specs.declared.vector.Vec3.{Vec3}
-use Rattle.react_core.specs.declared.place.Place.{Place}
+use Rattle.react_core.specs.declared.place.Between.{Between}
 use Rattle.react_core.specs.Interpolation.{place_of, mixed, between, number_way, point_way, vector_way, group, groups_way, are_grouped, vectors_between, interpolated}
 use Rattle.snapshot_codec.specs.Values.{number, vector2, vector3, list_of, value_fits}
 use Rattle.laws_worlds.proofs.Rows.{then_some, map_some, all-get, all-take, all-drop, all-zip, zip-length}
 use Rattle.laws_worlds.proofs.Ways.{IsPart, place_is, way_within}
 
 -- a way between two values of a range stays in the range
-abbrev Stays : {X : Type 0} → Codec X → (Place → X → X → X) → Type 0
-Stays {X} c way = (place : Place) (from to : X) → IsPart place → c.fits from ≡ true → c.fits to ≡ true → c.fits (way place from to) ≡ true
+abbrev Stays : {X : Type 0} → Codec X → (Between → X → X → X) → Type 0
+Stays {X} c way = (place : Between) (from to : X) → IsPart place → c.fits from ≡ true → c.fits to ≡ true → c.fits (way place from to) ≡ true
 
 numbers_stay : Stays number number_way
 numbers_stay place from to p f t = way_within (10 ^ 15) place.part place.whole from to p.short p.some f t
@@ -41,14 +41,14 @@ vectors_stay place from to p f t =
 
 -- ---- one value for each key
 
-mixed_fits : {X : Type 0} (c : Codec X) (way : Place → X → X → X) → Stays c way → (values : List X) (place : Place) (x : X) → IsPart place → all_fit c values ≡ true → mixed way values place ≡ Some x → c.fits x ≡ true
+mixed_fits : {X : Type 0} (c : Codec X) (way : Between → X → X → X) → Stays c way → (values : List X) (place : Between) (x : X) → IsPart place → all_fit c values ≡ true → mixed way values place ≡ Some x → c.fits x ≡ true
 mixed_fits {X} c way stays values place x p f e =
     let a = then_some (λ (from : X). option_map (λ (to : X). way place from to) (slice_get values place.to)) (slice_get values place.from) x e in
     let b = map_some (λ (to : X). way place a.0 to) (slice_get values place.to) x a.2 in
     subst (λ (y : X). c.fits y ≡ true) b.2
     (stays place a.0 b.0 p (all-get c values place.from a.0 f a.1) (all-get c values place.to b.0 f b.1))
 
-between_fits : {X : Type 0} (c : Codec X) (way : Place → X → X → X) → Stays c way → (keys : List ℤ) (values : List X) (fraction : ℤ) (x : X) → all_fit c values ≡ true → between way keys values fraction ≡ Some x → c.fits x ≡ true
+between_fits : {X : Type 0} (c : Codec X) (way : Between → X → X → X) → Stays c way → (keys : List ℤ) (values : List X) (fraction : ℤ) (x : X) → all_fit c values ≡ true → between way keys values fraction ≡ Some x → c.fits x ≡ true
 unfolding between
 between_fits {X} c way stays keys values fraction x f e = given (length values == length keys) e
   where
@@ -69,7 +69,7 @@ group_length values many item =
 group_fits : (values : List Vec3) (many item : ℕ) → all_fit vector3 values ≡ true → all_fit vector3 (group values many item) ≡ true
 group_fits values many item f = all-take vector3 (item * many + many - item * many) (drop (item * many) values) (all-drop vector3 (item * many) values f)
 
-groups_fit : (values : List Vec3) (many : ℕ) (place : Place) → IsPart place → (list_of vector3).fits values ≡ true → (list_of vector3).fits (groups_way values many place) ≡ true
+groups_fit : (values : List Vec3) (many : ℕ) (place : Between) → IsPart place → (list_of vector3).fits values ≡ true → (list_of vector3).fits (groups_way values many place) ≡ true
 groups_fit values many place p f =
     let b = both (nat_lt (length values) (2 ^ 32)) (all_fit vector3 values) f in
     let way : Vec3 × Vec3 → Vec3 = λ pair. vector_way place pair.0 pair.1 in

@@ -7,16 +7,16 @@ use Rattle.x3d_values.specs.declared.field_type.FieldType.TheVariants as types
 use Rattle.x3d_values.specs.declared.fields.Fields.{Fields}
 use Rattle.x3d_values.specs.declared.node_type.NodeType.TheVariants.{TimeSensor}
 use Rattle.x3d_values.specs.Kept.{with_value}
-use Rattle.x3d_values.specs.Tables.{Entry}
+use Rattle.x3d_values.specs.Tables.{FieldRowView}
 use Rattle.x3d_values.specs.declared.value.Value.{Value}
 use Rattle.x3d_values.specs.declared.value.Value.TheVariants.{SFBool, SFTime}
-use Rattle.react_core.specs.declared.outbox.Reply.{Reply}
+use Rattle.react_core.specs.declared.outbox.SentEvent.{SentEvent}
 use Rattle.react_core.specs.Reaction.{reply}
 use Rattle.sensor_core.specs.declared.numbers.TheConstants.{CYCLE_INTERVAL, ENABLED, LOOP, PAUSE_TIME, RESUME_TIME, START_TIME, STOP_TIME, IS_ACTIVE, CYCLE_TIME}
 use Rattle.sensor_core.specs.Cycles.{cycle_at, part_of_cycle, fraction_at, elapsed_at}
-use Rattle.sensor_core.specs.Events.{Answer, answer, set, changed, is_disabled, is_refused, with_time, with_truth}
+use Rattle.sensor_core.specs.Events.{TimeAnswer, answer, set, changed, is_disabled, is_refused, with_time, with_truth}
 use Rattle.sensor_core.specs.Ticks.{Tick, tick, tick_active, tick_inactive, is_started, is_stopped, is_over, last_place, cycle_of, begin_of, end_of, progress, goes_on, ends}
-use Rattle.sensor_core.specs.Timing.{Timing, is_time, is_interval, are_times, is_timing, time_at, truth_at, checked, timing_of, with_timing}
+use Rattle.sensor_core.specs.Timing.{TimeFieldsView, is_time, is_interval, are_times, is_timing, time_at, truth_at, checked, timing_of, with_timing}
 use Rattle.sensor_core.proofs.CycleLemmas.{cycle_time-rest, cycle_end-length}
 use Rattle.snapshot_codec.specs.Fields.{kept_fits}
 use Rattle.snapshot_codec.specs.Parts.{cycle_fits}
@@ -31,16 +31,16 @@ use Rattle.laws_worlds.proofs.Times.{lt_of, moment_is, not_before, part_small, q
 
 -- ---- what it keeps
 
-checked_is : (made timing : Timing) → checked made ≡ Some timing → is_timing timing ≡ true
+checked_is : (made timing : TimeFieldsView) → checked made ≡ Some timing → is_timing timing ≡ true
 unfolding checked
 checked_is made timing e = given (is_timing made) refl e
   where
     given : (b : Bool) → is_timing made ≡ b → (if b then Some made else None) ≡ Some timing → is_timing timing ≡ true
-    given true h g = subst (λ (t : Timing). is_timing t ≡ true) (some_is made timing g) h
+    given true h g = subst (λ (t : TimeFieldsView). is_timing t ≡ true) (some_is made timing g) h
     given false h g = absurd cc
 
 -- the values that are read of a TimeSensor's fields are in their ranges
-pub timing_is : (fields : Fields) (timing : Timing) → timing_of fields ≡ Some timing → is_timing timing ≡ true
+pub timing_is : (fields : Fields) (timing : TimeFieldsView) → timing_of fields ≡ Some timing → is_timing timing ≡ true
 unfolding timing_of
 timing_is fields timing e =
     let a = then_some _ (time_at fields CYCLE_INTERVAL) timing e in
@@ -52,7 +52,7 @@ timing_is fields timing e =
     let h = then_some _ (time_at fields STOP_TIME) timing g.2 in
     checked_is _ timing h.2
 
-record InTimes (t : Timing) : Type 0 where
+record InTimes (t : TimeFieldsView) : Type 0 where
   positive : int_lt (pos 0) t.cycle_interval ≡ true
   interval : is_time t.cycle_interval ≡ true
   pause : is_time t.pause_time ≡ true
@@ -60,7 +60,7 @@ record InTimes (t : Timing) : Type 0 where
   start : is_time t.start_time ≡ true
   stop : is_time t.stop_time ≡ true
 
-times_of : (t : Timing) → is_timing t ≡ true → InTimes t
+times_of : (t : TimeFieldsView) → is_timing t ≡ true → InTimes t
 times_of t e =
     let a = both (is_interval t.cycle_interval) _ e in
     let b = both (int_lt (pos 0) t.cycle_interval) (is_time t.cycle_interval) a.0 in
@@ -73,7 +73,7 @@ not_or : (a b : Bool) → (a || b) ≡ false → (a ≡ false) × (b ≡ false)
 not_or true b e = absurd cc
 not_or false b e = (refl, e)
 
-positive_of : (active : Bool) (t : Timing) (input : ℕ) (time : ℤ) → is_refused active t input time ≡ false → input ≡ CYCLE_INTERVAL → int_lt (pos 0) time ≡ true
+positive_of : (active : Bool) (t : TimeFieldsView) (input : ℕ) (time : ℤ) → is_refused active t input time ≡ false → input ≡ CYCLE_INTERVAL → int_lt (pos 0) time ≡ true
 positive_of active t input time e is =
     let f : (active || int_le time (pos 0)) ≡ false = subst (λ (n : ℕ). is_refused active t n time ≡ false) is e in
     let g = not_or active (int_le time (pos 0)) f in
@@ -108,11 +108,11 @@ elapsed_fits start x l = given (x -ℤ start) l
 
 -- ---- a TimeSensor with these fields behind those of its type
 
-module _ (ds : List Entry) where
-  abbrev pub Sent : List Reply → Type 0
+module _ (ds : List FieldRowView) where
+  abbrev pub Sent : List SentEvent → Type 0
   Sent replies = replies_fit TimeSensor ds replies ≡ true
 
-  pub with_timing_fits : (fields : Fields) (t : Timing) → fields_fit TimeSensor ds fields ≡ true → is_timing t ≡ true → fields_fit TimeSensor ds (with_timing fields t) ≡ true
+  pub with_timing_fits : (fields : Fields) (t : TimeFieldsView) → fields_fit TimeSensor ds fields ≡ true → is_timing t ≡ true → fields_fit TimeSensor ds (with_timing fields t) ≡ true
   unfolding with_timing kept_fits value_fits
   with_timing_fits fields t f e =
       let r = times_of t e in
@@ -133,11 +133,11 @@ module _ (ds : List Entry) where
   -- ---- an event
 
   -- the new values are in their ranges, and the event may be sent
-  Good : ℕ → Value → Option Timing → Type 0
+  Good : ℕ → Value → Option TimeFieldsView → Type 0
   Good input value None = Unit {0}
   Good input value (Some new) = (is_timing new ≡ true) × (sent_fits TimeSensor ds input value ≡ true)
 
-  good_if : (input wanted : ℕ) (value : Value) (new : Timing) (rest : Option Timing) → (input ≡ wanted → (is_timing new ≡ true) × (sent_fits TimeSensor ds input value ≡ true)) → Good input value rest → Good input value (if input == wanted then Some new else rest)
+  good_if : (input wanted : ℕ) (value : Value) (new : TimeFieldsView) (rest : Option TimeFieldsView) → (input ≡ wanted → (is_timing new ≡ true) × (sent_fits TimeSensor ds input value ≡ true)) → Good input value rest → Good input value (if input == wanted then Some new else rest)
   unfolding Good
   good_if input wanted value new rest here r = given (input == wanted) refl
     where
@@ -149,13 +149,13 @@ module _ (ds : List Entry) where
   sent_at : (input wanted : ℕ) (value : Value) → input ≡ wanted → sent_fits TimeSensor ds wanted value ≡ true → sent_fits TimeSensor ds input value ≡ true
   sent_at input wanted value e s = subst (λ (n : ℕ). sent_fits TimeSensor ds n value ≡ true) (sym e) s
 
-  truths_good : (t : Timing) (input : ℕ) (truth : Bool) → is_timing t ≡ true → Good input (SFBool truth) (with_truth t input truth)
+  truths_good : (t : TimeFieldsView) (input : ℕ) (truth : Bool) → is_timing t ≡ true → Good input (SFBool truth) (with_truth t input truth)
   unfolding Good value_fits
   truths_good t input truth f =
       good_if input ENABLED (SFBool truth) _ _ (λ e. (f, sent_at input ENABLED (SFBool truth) e refl))
       (good_if input LOOP (SFBool truth) _ None (λ e. (f, sent_at input LOOP (SFBool truth) e refl)) tt)
 
-  times_good : (active : Bool) (t : Timing) (input : ℕ) (time : ℤ) → is_timing t ≡ true → is_refused active t input time ≡ false → is_time time ≡ true → Good input (SFTime time) (with_time t input time)
+  times_good : (active : Bool) (t : TimeFieldsView) (input : ℕ) (time : ℤ) → is_timing t ≡ true → is_refused active t input time ≡ false → is_time time ≡ true → Good input (SFTime time) (with_time t input time)
   unfolding Good value_fits
   times_good active t input time f r k =
       let i = times_of t f in
@@ -168,7 +168,7 @@ module _ (ds : List Entry) where
       timing_with : (c p q s u : ℤ) → int_lt (pos 0) c ≡ true → is_time c ≡ true → is_time p ≡ true → is_time q ≡ true → is_time s ≡ true → is_time u ≡ true → (is_interval c && (are_times p q && are_times s u)) ≡ true
       timing_with c p q s u c0 c1 p1 q1 s1 u1 = and_true _ _ (and_true _ _ c0 c1) (and_true _ _ (and_true _ _ p1 q1) (and_true _ _ s1 u1))
 
-  changed_good : (active : Bool) (t : Timing) (input : ℕ) (value : Value) → is_timing t ≡ true → Good input value (changed active t input value)
+  changed_good : (active : Bool) (t : TimeFieldsView) (input : ℕ) (value : Value) → is_timing t ≡ true → Good input value (changed active t input value)
   unfolding Good changed
   changed_good active t input (SFBool truth) f = truths_good t input truth f
   changed_good active t input (SFTime time) f = given (is_refused active t input time || not (is_time time)) refl
@@ -184,19 +184,19 @@ module _ (ds : List Entry) where
           times_good active t input time f n.0 (is_true (is_time time) n.1)
   changed_good active t input _ f = tt
 
-  answered : (fields : Fields) (cycle : Option ℕ) (t : Timing) (input : ℕ) (value : Value) (new : Option Timing) → fields_fit TimeSensor ds fields ≡ true → is_timing t ≡ true → cycle_fits cycle ≡ true → Good input value new → Set ds fields (answer cycle t input value new)
+  answered : (fields : Fields) (cycle : Option ℕ) (t : TimeFieldsView) (input : ℕ) (value : Value) (new : Option TimeFieldsView) → fields_fit TimeSensor ds fields ≡ true → is_timing t ≡ true → cycle_fits cycle ≡ true → Good input value new → Set ds fields (answer cycle t input value new)
   unfolding Good value_fits
   answered fields cycle t input value None f k c g = record { in_fields = with_timing_fits fields t f k; in_cycle = c; in_replies = refl }
   answered fields cycle t input value (Some new) f k c g = disabled (is_disabled new input) (is_some cycle)
     where
       disabled : (b d : Bool) → Set ds fields (if b
-          then (let a : Answer = record { cycle = None; timing = new; replies = reply input value ∷ (if d then reply IS_ACTIVE (SFBool false) ∷ [] else []) } in a)
-          else (let a : Answer = record { cycle = cycle; timing = new; replies = reply input value ∷ [] } in a))
+          then (let a : TimeAnswer = record { cycle = None; timing = new; replies = reply input value ∷ (if d then reply IS_ACTIVE (SFBool false) ∷ [] else []) } in a)
+          else (let a : TimeAnswer = record { cycle = cycle; timing = new; replies = reply input value ∷ [] } in a))
       disabled true true = record { in_fields = with_timing_fits fields new f g.0; in_cycle = refl; in_replies = and_true _ _ g.1 refl }
       disabled true false = record { in_fields = with_timing_fits fields new f g.0; in_cycle = refl; in_replies = and_true _ _ g.1 refl }
       disabled false d = record { in_fields = with_timing_fits fields new f g.0; in_cycle = c; in_replies = and_true _ _ g.1 refl }
 
-  pub all_sets_fit : (fields : Fields) (timing : Timing) (cycle : Option ℕ) (input : ℕ) (value : Value) → fields_fit TimeSensor ds fields ≡ true → timing_of fields ≡ Some timing → cycle_fits cycle ≡ true → Set ds fields (set cycle timing input value)
+  pub all_sets_fit : (fields : Fields) (timing : TimeFieldsView) (cycle : Option ℕ) (input : ℕ) (value : Value) → fields_fit TimeSensor ds fields ≡ true → timing_of fields ≡ Some timing → cycle_fits cycle ≡ true → Set ds fields (set cycle timing input value)
   unfolding set
   all_sets_fit fields timing cycle input value f e c =
       let k = timing_is fields timing e in
@@ -204,7 +204,7 @@ module _ (ds : List Entry) where
 
   -- ---- a tick
 
-  module _ (t : Timing) (fit : InTimes t) (now : ℤ) (moment : is_moment now ≡ true) where
+  module _ (t : TimeFieldsView) (fit : InTimes t) (now : ℤ) (moment : is_moment now ≡ true) where
     interval_above : pos 0 <ℤ t.cycle_interval
     interval_above = lt_of (pos 0) t.cycle_interval fit.positive
 
@@ -270,7 +270,7 @@ module _ (ds : List Entry) where
 
     ending : (x : ℤ) → negsuc (10 ^ 18 - 1) ≤ℤ (x -ℤ t.start_time) → Ticked ds (ends t x now)
     unfolding value_fits
-    ending x l = record { in_cycle = refl; in_replies = all_append (λ (r : Reply). sent_fits TimeSensor ds r.field r.value) (progress t x now) (reply IS_ACTIVE (SFBool false) ∷ []) (progress_sent x l) refl }
+    ending x l = record { in_cycle = refl; in_replies = all_append (λ (r : SentEvent). sent_fits TimeSensor ds r.field r.value) (progress t x now) (reply IS_ACTIVE (SFBool false) ∷ []) (progress_sent x l) refl }
 
     active : (cycle : ℕ) → cycle_fits (Some cycle) ≡ true → Ticked ds (tick_active t cycle now (last_place t cycle now))
     unfolding last_place
@@ -289,7 +289,7 @@ module _ (ds : List Entry) where
         over true = ending (end_of t cycle) end_low
         over false = stopped (is_stopped t now)
 
-  pub all_ticks_fit : (t : Timing) (cycle : Option ℕ) (now : ℤ) → is_timing t ≡ true → cycle_fits cycle ≡ true → is_moment now ≡ true → Ticked ds (tick cycle t now)
+  pub all_ticks_fit : (t : TimeFieldsView) (cycle : Option ℕ) (now : ℤ) → is_timing t ≡ true → cycle_fits cycle ≡ true → is_moment now ≡ true → Ticked ds (tick cycle t now)
   unfolding tick
   all_ticks_fit t None now k c m = inactive t (times_of t k) now m
   all_ticks_fit t (Some cycle) now k c m = active t (times_of t k) now m cycle c

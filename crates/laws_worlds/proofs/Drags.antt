@@ -6,9 +6,9 @@ use Rattle.x3d_values.specs.declared.node_type.NodeType.{NodeType}
 use Rattle.x3d_values.specs.declared.node_type.NodeType.TheVariants.{Group, PlaneSensor, TouchSensor}
 use Rattle.x3d_values.specs.declared.value.Value.{Value}
 use Rattle.x3d_values.specs.declared.vector.Vec3.{Vec3}
-use Rattle.x3d_values.specs.Tables.{Entry}
+use Rattle.x3d_values.specs.Tables.{FieldRowView}
 use Rattle.react_core.specs.Reaction.{is_time_sensor}
-use Rattle.sensor_core.specs.Timing.{Timing, timing_of}
+use Rattle.sensor_core.specs.Timing.{TimeFieldsView, timing_of}
 use Rattle.sensor_plane.specs.declared.drag.Drag.{Drag}
 use Rattle.sensor_plane.specs.declared.fields.PlaneFields.{PlaneFields}
 use Rattle.sensor_plane.specs.declared.meeting.SensorPointer.{SensorPointer}
@@ -26,7 +26,7 @@ use Rattle.scene_core.specs.Scene.{SceneView}
 use Rattle.scene_core.specs.Shape.{Shape, rows_of}
 use Rattle.pick_track.specs.Paths.{leads_to}
 use Rattle.cascade_world.specs.Access.{is_set}
-use Rattle.cascade_world.specs.Answers.{Answer, answer, answer_as, answer_by, forgets, forgetting, is_met, is_script, keeping, meeting, met, met_as, not_run, nothing, reacting, setting, setting_at, ticked, ticking, ticking_at, touching, turns_off}
+use Rattle.cascade_world.specs.Answers.{NodeAnswer, answer, answer_as, answer_by, forgets, forgetting, is_met, is_script, keeping, meeting, met, met_as, not_run, nothing, reacting, setting, setting_at, ticked, ticking, ticking_at, touching, turns_off}
 use Rattle.cascade_world.specs.Fits.{all_lead, drag_leads, leads}
 use Rattle.cascade_world.specs.declared.world.WorldData.{WorldData}
 use Rattle.laws_worlds.proofs.Rows.{some_is}
@@ -116,7 +116,7 @@ module _ (scene : SceneView) where
   -- ---- the answers of nodes
 
   module _ (w : WorldData) (all : all_lead scene 0 w.pointing ≡ true) where
-    abbrev pub Lead : Answer → Type 0
+    abbrev pub Lead : NodeAnswer → Type 0
     Lead a = all_lead scene 0 a.pointing ≡ true
 
     same_number : (n : ℕ) → n ≡ 0 + n
@@ -137,7 +137,7 @@ module _ (scene : SceneView) where
     reacting_leads target v kind None = all
     reacting_leads target v kind (Some fields) = all
 
-    setting_leads : (target : End) (v : Value) (fields : Fields) (t : Option Timing) (c : Option (Option ℕ)) → Lead (setting w target v fields t c)
+    setting_leads : (target : End) (v : Value) (fields : Fields) (t : Option TimeFieldsView) (c : Option (Option ℕ)) → Lead (setting w target v fields t c)
     setting_leads target v fields None c = all
     setting_leads target v fields (Some timing) None = all
     setting_leads target v fields (Some timing) (Some cycle) = all
@@ -153,7 +153,7 @@ module _ (scene : SceneView) where
         given true = forgets_lead target.node kind (slice_get w.pointing target.node)
         given false = reacting_leads target v kind o
 
-    not_run_leads : (target : End) (v : Value) (field : Option Entry) (o : Option Fields) → Lead (not_run w target v field o)
+    not_run_leads : (target : End) (v : Value) (field : Option FieldRowView) (o : Option Fields) → Lead (not_run w target v field o)
     not_run_leads target v field None = all
     not_run_leads target v field (Some fields) = given (is_set v field)
       where
@@ -161,11 +161,11 @@ module _ (scene : SceneView) where
         given true = all
         given false = all
 
-    lead_if : (b : Bool) (x y : Answer) → Lead x → Lead y → Lead (if b then x else y)
+    lead_if : (b : Bool) (x y : NodeAnswer) → Lead x → Lead y → Lead (if b then x else y)
     lead_if true x y p q = p
     lead_if false x y p q = q
 
-    by_lead : (target : End) (v : Value) (kind : NodeType) (field : Option Entry) → Lead (answer_by w target v kind field)
+    by_lead : (target : End) (v : Value) (kind : NodeType) (field : Option FieldRowView) → Lead (answer_by w target v kind field)
     by_lead target v kind field =
         let o : Option Fields = slice_get w.fields target.node in
         lead_if (is_time_sensor kind) (setting_at w target v o) _ (sets_lead target v o)
@@ -180,7 +180,7 @@ module _ (scene : SceneView) where
         given None = all
         given (Some s) = by_lead target v s.node_type (slice_get (rows_of s) target.field)
 
-    ticking_leads : (n : ℕ) (now : ℤ) (t : Option Timing) (c : Option (Option ℕ)) → Lead (ticking w n now t c)
+    ticking_leads : (n : ℕ) (now : ℤ) (t : Option TimeFieldsView) (c : Option (Option ℕ)) → Lead (ticking w n now t c)
     ticking_leads n now None c = all
     ticking_leads n now (Some timing) None = all
     ticking_leads n now (Some timing) (Some cycle) = all

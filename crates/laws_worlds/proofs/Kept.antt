@@ -22,7 +22,7 @@ use Rattle.x3d_values.specs.declared.value.Value.{Value}
 use Rattle.x3d_values.specs.declared.value.Value.TheVariants as value
 use Rattle.x3d_values.specs.Access.{is_kept, is_initial, holds_nodes}
 use Rattle.x3d_values.specs.Defaults.{default_value}
-use Rattle.x3d_values.specs.Tables.{Entry, rows}
+use Rattle.x3d_values.specs.Tables.{FieldRowView, rows}
 use Rattle.snapshot_codec.specs.declared.kept.KeptField.TheVariants.{Absent, Typed}
 use Rattle.snapshot_codec.specs.Fields.{has_bytes, is_interval, is_positive, kept_field, kept_fits}
 use Rattle.snapshot_codec.specs.Values.{text, vector2, vector3, color, value_fits}
@@ -58,12 +58,12 @@ line_is {A} line (Ok x) a h = ap (λ (k : A). Ok k) (ok_is x a h)
 -- ---- what the table says of each row
 
 -- the default fits, and the interval is `cycleInterval`
-abbrev row_right : NodeType → ℕ → Entry → Bool
+abbrev row_right : NodeType → ℕ → FieldRowView → Bool
 row_right t n e =
     kept_fits (kept_field t n e.access e.field_type) (kept e (default_of e))
     && (if is_interval t n then pointwise nat_eq e.name (codes "cycleInterval") && sameb types.the_type e.field_type SFTime else true)
 
-abbrev rows_right : NodeType → ℕ → List Entry → Bool
+abbrev rows_right : NodeType → ℕ → List FieldRowView → Bool
 rows_right t n [] = true
 rows_right t n (e ∷ es) = row_right t n e && rows_right t (n + 1) es
 
@@ -146,13 +146,13 @@ positive name (value.SFTime z) p r f = then_positive (pointwise nat_eq name (cod
     then_positive false e h = absurd cc
 positive name _ p r f = absurd cc
 
-abbrev Fits : NodeType → ℕ → Entry → Option Value → Type 0
+abbrev Fits : NodeType → ℕ → FieldRowView → Option Value → Type 0
 Fits t n e v = kept_fits (kept_field t n e.access e.field_type) (kept e v) ≡ true
 
 abbrev countable : Option Value → Bool
 countable v = option_map_or is_countable v true
 
-value_fits_row : (t : NodeType) (n : ℕ) (e : Entry) (nodes : List FlatNode) (numbers : List ℕ) (f : FlatField) (v : Option Value) → row_right t n e ≡ true → (x : Value) → typed_value numbers e.field_type f ≡ Ok x → accepted_in_range nodes e f x ≡ Ok v → sameb types.the_type e.field_type SFRotation ≡ false → countable v ≡ true → Fits t n e v
+value_fits_row : (t : NodeType) (n : ℕ) (e : FieldRowView) (nodes : List FlatNode) (numbers : List ℕ) (f : FlatField) (v : Option Value) → row_right t n e ≡ true → (x : Value) → typed_value numbers e.field_type f ≡ Ok x → accepted_in_range nodes e f x ≡ Ok v → sameb types.the_type e.field_type SFRotation ≡ false → countable v ≡ true → Fits t n e v
 value_fits_row t n e nodes numbers f v r x h k s c =
     let a = range_is (in_range e.name x) (fault ValueRange f.line) (accepted nodes e.access e.kind f x) v k in
     let held : Some x ≡ v = accepted_is nodes e.access e.kind f x v a.1 in
@@ -172,7 +172,7 @@ no_interval : (ft : FieldType) (i p : Bool) → ft ≡ SFRotation → (if i then
 no_interval ft false p s h = refl
 no_interval ft true p s h = let b = both p (sameb types.the_type ft SFTime) h in let no : sameb types.the_type SFRotation SFTime ≡ true = subst (λ (k : FieldType). sameb types.the_type k SFTime ≡ true) s b.1 in absurd cc
 
-row_fits : (t : NodeType) (n : ℕ) (e : Entry) (nodes : List FlatNode) (numbers : List ℕ) (g : Option FlatField) (v : Option Value) → row_right t n e ≡ true → field_value nodes numbers e g ≡ Ok v → countable v ≡ true → Fits t n e v
+row_fits : (t : NodeType) (n : ℕ) (e : FieldRowView) (nodes : List FlatNode) (numbers : List ℕ) (g : Option FlatField) (v : Option Value) → row_right t n e ≡ true → field_value nodes numbers e g ≡ Ok v → countable v ≡ true → Fits t n e v
 unfolding field_value
 row_fits t n e nodes numbers None v r h c =
     subst (λ (y : Option Value). Fits t n e y) (ok_is (default_of e) v h) (both (kept_fits (kept_field t n e.access e.field_type) (kept e (default_of e))) _ r).0
@@ -237,7 +237,7 @@ no_cycle TimeSensor n h =
     ne_eqb n 1 (λ e. omega (arith, least, h, e))
 no_cycle _ n h = refl
 
-abbrev all_kept : List Entry → List (Option Value) → List (Option Value)
+abbrev all_kept : List FieldRowView → List (Option Value) → List (Option Value)
 all_kept es vs = map (λ p. kept p.0 p.1) (zip es vs)
 
 module _ (nodes : List FlatNode) (numbers : List ℕ) where
@@ -267,13 +267,13 @@ module _ (nodes : List FlatNode) (numbers : List ℕ) where
 
 module _ (nodes : List FlatNode) (numbers : List ℕ) (fields : List FlatField) where
   -- the values are those of the rows, the first of which has that number
-  abbrev pub AreValues : ℕ → List Entry → List (Option Value) → Type 0
+  abbrev pub AreValues : ℕ → List FieldRowView → List (Option Value) → Type 0
   AreValues n [] [] = Unit {0}
   AreValues n (e ∷ es) (v ∷ vs) = (field_value nodes numbers e (given fields n) ≡ Ok v) × (AreValues (n + 1) es vs)
   AreValues n [] (v ∷ vs) = ⊥
   AreValues n (e ∷ es) [] = ⊥
 
-  pub are_values : (n : ℕ) (es : List Entry) (done all : List (Option Value)) → values_from nodes numbers fields n es done ≡ Ok all → (rest : List (Option Value)) × (done ++ rest ≡ all) × (AreValues n es rest)
+  pub are_values : (n : ℕ) (es : List FieldRowView) (done all : List (Option Value)) → values_from nodes numbers fields n es done ≡ Ok all → (rest : List (Option Value)) × (done ++ rest ≡ all) × (AreValues n es rest)
   are_values n [] done all h = ([], append-nil done ∙ ok_is done all h, tt)
   are_values n (e ∷ es) done all h =
       let b = bind_is (field_value nodes numbers e (given fields n)) (λ v. values_from nodes numbers fields (n + 1) es (done ++ v ∷ [])) all h in
@@ -281,7 +281,7 @@ module _ (nodes : List FlatNode) (numbers : List ℕ) (fields : List FlatField) 
       (b.0 ∷ r.0, sym (append_assoc done (b.0 ∷ []) r.0) ∙ r.1, (b.1, r.2))
 
   -- behind them come those of other rows
-  kept_fit : (t : NodeType) (n : ℕ) (es others : List Entry) (vs more : List (Option Value)) → rows_right t n es ≡ true → AreValues n es vs
+  kept_fit : (t : NodeType) (n : ℕ) (es others : List FieldRowView) (vs more : List (Option Value)) → rows_right t n es ≡ true → AreValues n es vs
       → ((m : ℕ) → n + length es ≤ m → list_all countable more ≡ true → values_fit t m others (all_kept others more) ≡ true) → list_all countable (vs ++ more) ≡ true
       → values_fit t n (es ++ others) (all_kept (es ++ others) (vs ++ more)) ≡ true
   kept_fit t n [] others [] more r a k c = k n (omega arith) c

@@ -7,12 +7,12 @@ use Rattle.x3d_values.specs.declared.node_type.NodeType.{NodeType}
 use Rattle.x3d_values.specs.declared.node_type.NodeType.TheVariants.{PlaneSensor, TouchSensor}
 use Rattle.x3d_values.specs.declared.ranges.TheConstants.{MAX_VIEWERS}
 use Rattle.x3d_values.specs.Ranges.{coordinates_fit, is_viewer}
-use Rattle.x3d_values.specs.Tables.{Entry}
-use Rattle.sensor_core.specs.Touches.{Touch, disable, point, pointer}
+use Rattle.x3d_values.specs.Tables.{FieldRowView}
+use Rattle.sensor_core.specs.Touches.{TouchStateView, disable, point, pointer}
 use Rattle.sensor_plane.specs.declared.meeting.SensorPointer.{SensorPointer}
 use Rattle.sensor_plane.specs.declared.pointing.PointingState.{PointingState}
 use Rattle.sensor_plane.specs.declared.pointing.PointingState.TheVariants as state
-use Rattle.sensor_plane.specs.Meeting.{Met, pointed}
+use Rattle.sensor_plane.specs.Meeting.{PlaneMet, pointed}
 use Rattle.sensor_plane.specs.PlaneParts.{contact_fits}
 use Rattle.sensor_plane.specs.Pointing.{Forgotten, forgotten, pointing_fits, touch_fits}
 use Rattle.snapshot_codec.specs.Trace.{is_moment}
@@ -21,11 +21,11 @@ use Rattle.laws_worlds.proofs.Places.{IfInRange}
 use Rattle.laws_worlds.proofs.Planes.{all_drags_fit, all_forget}
 use Rattle.laws_worlds.proofs.Pointers.{Viewer, all_disables_fit, all_points_fit}
 
-touch_right : (touch : Touch) → length touch.over ≡ MAX_VIEWERS → Viewer touch.presser → touch_fits (state.Touch touch) ≡ true
+touch_right : (touch : TouchStateView) → length touch.over ≡ MAX_VIEWERS → Viewer touch.presser → touch_fits (state.Touch touch) ≡ true
 touch_right touch f g = and_true _ _ (eq-eqb _ _ f) g
 
-module _ (ds : List Entry) (t : NodeType) where
-  pub record MeetFits (m : Met) : Type 0 where
+module _ (ds : List FieldRowView) (t : NodeType) where
+  pub record MeetFits (m : PlaneMet) : Type 0 where
     pub in_state : pointing_fits t m.state ≡ true
     pub in_fields : fields_fit t ds m.fields ≡ true
     pub in_replies : replies_fit t ds m.replies ≡ true
@@ -34,7 +34,7 @@ module _ (ds : List Entry) (t : NodeType) where
     pub in_state : pointing_fits t f.state ≡ true
     pub in_replies : replies_fit t ds f.replies ≡ true
 
-module _ (ds : List Entry) where
+module _ (ds : List FieldRowView) where
   -- ---- it is turned off
 
   pub all_forget_fit : (t : NodeType) (s : PointingState) → pointing_fits t s ≡ true → ForgetFits ds t (forgotten s)
@@ -50,7 +50,7 @@ module _ (ds : List Entry) where
 
   -- ---- a pointer
 
-  touch_meets : (touch : Touch) (fields : Fields) (at : SensorPointer) (now : ℤ) → touch_fits (state.Touch touch) ≡ true → fields_fit TouchSensor ds fields ≡ true → is_viewer at.who ≡ true → IfInRange at.place → is_moment now ≡ true
+  touch_meets : (touch : TouchStateView) (fields : Fields) (at : SensorPointer) (now : ℤ) → touch_fits (state.Touch touch) ≡ true → fields_fit TouchSensor ds fields ≡ true → is_viewer at.who ≡ true → IfInRange at.place → is_moment now ≡ true
       → MeetFits ds TouchSensor (pointed (state.Touch touch) fields at now)
   unfolding pointed
   touch_meets touch fields at now p f v inside m =

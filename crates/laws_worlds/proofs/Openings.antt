@@ -9,7 +9,7 @@ use Rattle.x3d_values.specs.declared.node_type.NodeType.{NodeType}
 use Rattle.x3d_values.specs.declared.node_type.NodeType.TheVariants.{TimeSensor}
 use Rattle.x3d_values.specs.declared.ranges.TheConstants.{MAX_VIEWERS}
 use Rattle.x3d_values.specs.declared.value.Value.{Value}
-use Rattle.x3d_values.specs.Tables.{Entry, rows}
+use Rattle.x3d_values.specs.Tables.{FieldRowView, rows}
 use Rattle.sensor_plane.specs.declared.pointing.PointingState.{PointingState}
 use Rattle.sensor_plane.specs.Pointing.{start_of}
 use Rattle.sensor_plane.proofs.Pointings.{starts_fit as states_fit}
@@ -29,7 +29,7 @@ use Rattle.scene_core.specs.Typed.{values_from, declared_from, values_of, all_ch
 use Rattle.laws_worlds.specs.Ranges.{values_fit, fields_fit}
 use Rattle.laws_worlds.proofs.Pointers.{all_append}
 use Rattle.laws_worlds.specs.Fits.{time_fits, nodes_fit}
-use Rattle.laws_worlds.specs.Openings.{OpeningsFit, StartsAreStates, is_countable_node}
+use Rattle.laws_worlds.specs.Openings.{UntoldWorldsFit, StartsAreStates, is_countable_node}
 use Rattle.laws_worlds.proofs.Routes.{ok_is}
 use Rattle.laws_worlds.proofs.Kept.{bind_is, AreValues, are_values, AreDeclared, are_declared, all_kept_fit, no_position}
 use Rattle.laws_worlds.proofs.Ranged.{all_ranged, ranged_if}
@@ -48,7 +48,7 @@ new_node node label values = record { node_type = node.node_type; label = label;
 entries_are : (m : ℕ) (ds : List (Declaration ℕ)) → map declared_entry (take m (map declared_by ds)) ≡ map declaration_entry (take m ds)
 entries_are zero ds = refl
 entries_are (suc m) [] = refl
-entries_are (suc m) (d ∷ ds) = ap (λ (es : List Entry). declaration_entry d ∷ es) (entries_are m ds)
+entries_are (suc m) (d ∷ ds) = ap (λ (es : List FieldRowView). declaration_entry d ∷ es) (entries_are m ds)
 
 module _ (nodes : List FlatNode) (numbers : List ℕ) (node : FlatNode) where
   new_fits : (label : Option (List ℕ)) (own more : List (Option Value)) → AreValues nodes numbers node.fields 0 (rows node.node_type) own
@@ -57,7 +57,7 @@ module _ (nodes : List FlatNode) (numbers : List ℕ) (node : FlatNode) where
   new_fits label own more a d c =
       let fit = all_kept_fit nodes numbers node.fields node.node_type own (numbered_fields node.node_type node.interface) more a d c in
       and_true _ _
-      (subst (λ (es : List Entry). values_fit node.node_type 0 (rows node.node_type ++ es) (map (λ p. kept p.0 p.1) (zip (rows node.node_type ++ es) (own ++ more))) ≡ true)
+      (subst (λ (es : List FieldRowView). values_fit node.node_type 0 (rows node.node_type ++ es) (map (λ p. kept p.0 p.1) (zip (rows node.node_type ++ es) (own ++ more))) ≡ true)
       (sym (entries_are (most_declared node.node_type) node.interface)) fit)
       (no_position node.node_type)
 
@@ -185,7 +185,7 @@ all_begin (n ∷ ns) (x ∷ cs) k p b c =
 none_yet : 0 ≤ 2 ^ 20
 none_yet = omega arith
 
-pub all_openings_fit : OpeningsFit
+pub all_openings_fit : UntoldWorldsFit
 unfolding state_of
 all_openings_fit flat scene h c =
     let count : ℕ = length (map fields_of scene.nodes) in

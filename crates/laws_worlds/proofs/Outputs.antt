@@ -18,7 +18,7 @@ use Rattle.x3d_values.specs.declared.script.Kind.TheVariants.{Counter, Gate, Add
 use Rattle.x3d_values.specs.declared.script.ScriptSpec.{ScriptSpec}
 use Rattle.x3d_values.specs.declared.table.FieldRow.{FieldRow}
 use Rattle.x3d_values.specs.Access.{sends}
-use Rattle.x3d_values.specs.Tables.{Entry, output, row_named, rows}
+use Rattle.x3d_values.specs.Tables.{FieldRowView, output, row_named, rows}
 use Rattle.script_host.specs.Interface.{interface, kind_named, outputs}
 use Rattle.scene_core.specs.declared.row.DeclaredField.{DeclaredField}
 use Rattle.scene_core.specs.declared.scene.SceneNode.{SceneNode}
@@ -93,23 +93,23 @@ module _ {A : Type 0} (p : A → Bool) where
 
 -- ---- each declared field is one of the kind's
 
-abbrev name_is : Entry → Entry → Bool
+abbrev name_is : FieldRowView → FieldRowView → Bool
 name_is e o = pointwise nat_eq e.name o.name
 
 -- no two have one name
-abbrev distinct : List Entry → Bool
+abbrev distinct : List FieldRowView → Bool
 distinct [] = true
 distinct (e ∷ es) = list_all (λ o. not (name_is e o)) es && distinct es
 
 -- a declared field is no second one
-module _ (e : Entry) where
-  other : (d : DeclaredField) (o : Entry) → is_field e d ≡ true → not (name_is e o) ≡ true → is_field o d ≡ false
+module _ (e : FieldRowView) where
+  other : (d : DeclaredField) (o : FieldRowView) → is_field e d ≡ true → not (name_is e o) ≡ true → is_field o d ≡ false
   other d o is n =
       let (named, rest) = both (pointwise nat_eq d.name e.name) _ is in
       let same : d.name ≡ e.name = same_text d.name e.name named in
       rw (same, is-not (name_is e o) n) refl
 
-  still : (es : List Entry) (ds : List DeclaredField) → list_all (λ o. not (name_is e o)) es ≡ true →
+  still : (es : List FieldRowView) (ds : List DeclaredField) → list_all (λ o. not (name_is e o)) es ≡ true →
       list_all (λ o. list_any (λ d. is_field o d) ds) es ≡ true → list_all (λ o. list_any (λ d. is_field o d) (without (λ d. is_field e d) ds)) es ≡ true
   still [] ds apart h = refl
   still (o ∷ es) ds apart h =
@@ -117,7 +117,7 @@ module _ (e : Entry) where
       let (has, rest) = both (list_any (λ d. is_field o d) ds) (list_all (λ o. list_any (λ d. is_field o d) ds) es) h in
       and-true _ _ (any-without (λ (d : DeclaredField). is_field e d) (λ d. is_field o d) (λ d is. other d o is one) ds has) (still es ds others rest)
 
-more-all : (e : Entry) (es : List Entry) (ds : List DeclaredField) → list_all (λ d. list_any (λ o. is_field o d) es) ds ≡ true →
+more-all : (e : FieldRowView) (es : List FieldRowView) (ds : List DeclaredField) → list_all (λ d. list_any (λ o. is_field o d) es) ds ≡ true →
     list_all (λ d. list_any (λ o. is_field o d) (e ∷ es)) ds ≡ true
 more-all e es [] h = refl
 more-all e es (d ∷ ds) h =
@@ -128,7 +128,7 @@ more-all e es (d ∷ ds) h =
     or-right true b k = refl
     or-right false b k = k
 
-matched : (es : List Entry) (ds : List DeclaredField) → distinct es ≡ true → length ds ≡ length es →
+matched : (es : List FieldRowView) (ds : List DeclaredField) → distinct es ≡ true → length ds ≡ length es →
     list_all (λ e. list_any (λ d. is_field e d) ds) es ≡ true → list_all (λ d. list_any (λ e. is_field e d) es) ds ≡ true
 matched [] [] apart many h = refl
 matched [] (d ∷ ds) apart many h = absurd (omega arith)
@@ -143,12 +143,12 @@ matched (e ∷ es) ds apart many h =
 -- ---- the first field of the name of an output
 
 -- it sends events of the type of that output
-abbrev is_like : Entry → Entry → Bool
+abbrev is_like : FieldRowView → FieldRowView → Bool
 is_like e o = sends o.access && sameb types.the_type o.field_type e.field_type
 
 -- so do the fields of that name among these
-abbrev are_sent : Entry → List Entry → Bool
-are_sent e es = list_all (λ (o : Entry). not (name_is e o) || is_like e o) es
+abbrev are_sent : FieldRowView → List FieldRowView → Bool
+are_sent e es = list_all (λ (o : FieldRowView). not (name_is e o) || is_like e o) es
 
 access_is : (a b : Access) → sameb accesses.the_type a b ≡ true → a ≡ b
 access_is a b h = same_true accesses.the_type (search rules) a b h
@@ -156,7 +156,7 @@ access_is a b h = same_true accesses.the_type (search rules) a b h
 type_is : (a b : FieldType) → sameb types.the_type a b ≡ true → a ≡ b
 type_is a b h = same_true types.the_type (search rules) a b h
 
-sent-one : (e : Entry) (d : DeclaredField) (es : List Entry) → are_sent e es ≡ true → list_any (λ o. is_field o d) es ≡ true →
+sent-one : (e : FieldRowView) (d : DeclaredField) (es : List FieldRowView) → are_sent e es ≡ true → list_any (λ o. is_field o d) es ≡ true →
     (not (name_is e (declared_entry d)) || is_like e (declared_entry d)) ≡ true
 sent-one e d [] all h = cc
 sent-one e d (o ∷ es) all h = cases (is_field o d) refl h (both (not (name_is e o) || is_like e o) (are_sent e es) all)
@@ -171,14 +171,14 @@ sent-one e d (o ∷ es) all h = cases (is_field o d) refl h (both (not (name_is 
         rw (same_text d.name o.name named, access_is d.access o.access reached, type_is d.field_type o.field_type typed) a.0
     cases false is k a rest = rest a.1 k
 
-all-sent : (e : Entry) (es : List Entry) → are_sent e es ≡ true → (ds : List DeclaredField) → list_all (λ d. list_any (λ o. is_field o d) es) ds ≡ true →
+all-sent : (e : FieldRowView) (es : List FieldRowView) → are_sent e es ≡ true → (ds : List DeclaredField) → list_all (λ d. list_any (λ o. is_field o d) es) ds ≡ true →
     are_sent e (map declared_entry ds) ≡ true
 all-sent e es all [] h = refl
 all-sent e es all (d ∷ ds) h =
     let (one, rest) = both (list_any (λ o. is_field o d) es) (list_all (λ d. list_any (λ o. is_field o d) es) ds) h in
     and-true _ _ (sent-one e d es all one) (all-sent e es all ds rest)
 
-there : (e : Entry) (ds : List DeclaredField) → list_any (λ d. is_field e d) ds ≡ true → list_any (name_is e) (map declared_entry ds) ≡ true
+there : (e : FieldRowView) (ds : List DeclaredField) → list_any (λ d. is_field e d) ds ≡ true → list_any (name_is e) (map declared_entry ds) ≡ true
 there e [] h = h
 there e (d ∷ ds) h = cases (is_field e d) refl h (λ k. there e ds k)
   where
@@ -193,25 +193,25 @@ there e (d ∷ ds) h = cases (is_field e d) refl h (λ k. there e ds k)
         rw (same_text d.name e.name named, text_itself e.name) refl
     cases false is k rest = or-right (name_is e (declared_entry d)) _ (rest k)
 
-get-here : (own : List Entry) (d : Entry) (ds : List Entry) → slice_get (own ++ d ∷ ds) (length own) ≡ Some d
+get-here : (own : List FieldRowView) (d : FieldRowView) (ds : List FieldRowView) → slice_get (own ++ d ∷ ds) (length own) ≡ Some d
 get-here [] d ds = refl
 get-here (o ∷ own) d ds = get-here own d ds
 
 -- the field of that number is like the output
-abbrev is_at : Entry → List Entry → ℕ → Bool
-is_at e fields field = option_map_or (λ (o : Entry). is_like e o) (slice_get fields field) false
+abbrev is_at : FieldRowView → List FieldRowView → ℕ → Bool
+is_at e fields field = option_map_or (λ (o : FieldRowView). is_like e o) (slice_get fields field) false
 
 abbrev number_or : Option FieldRow → ℕ
 number_or row = option_map_or (λ (r : FieldRow). r.number) row 0
 
-sent-from : (e : Entry) (own es : List Entry) (n : ℕ) → n ≡ length own → are_sent e es ≡ true → list_any (name_is e) es ≡ true →
+sent-from : (e : FieldRowView) (own es : List FieldRowView) (n : ℕ) → n ≡ length own → are_sent e es ≡ true → list_any (name_is e) es ≡ true →
     is_at e (own ++ es) (number_or (row_named n e.name es)) ≡ true
 sent-from e own [] n is all h = cc
 sent-from e own (d ∷ ds) n is all h =
     cases (name_is e d) refl h (both (not (name_is e d) || is_like e d) (are_sent e ds) all)
     (λ a k. rw (append_assoc own (d ∷ []) ds) at (sent-from e (own ++ d ∷ []) ds (n + 1) (omega (arith, is, length-push own)) a k))
   where
-    length-push : (xs : List Entry) → length (xs ++ d ∷ []) ≡ length xs + 1
+    length-push : (xs : List FieldRowView) → length (xs ++ d ∷ []) ≡ length xs + 1
     length-push [] = refl
     length-push (x ∷ xs) = omega (arith, length-push xs)
 
@@ -225,18 +225,18 @@ sent-from e own (d ∷ ds) n is all h =
 
 -- ---- the outputs of a kind
 
-abbrev fields_with : List DeclaredField → List Entry
+abbrev fields_with : List DeclaredField → List FieldRowView
 fields_with ds = rows Script ++ map declared_entry ds
 
 module _ (ds : List DeclaredField) where
-  get-all : (p : Entry → Bool) (es : List Entry) (i : ℕ) (e : Entry) → list_all p es ≡ true → slice_get es i ≡ Some e → p e ≡ true
+  get-all : (p : FieldRowView → Bool) (es : List FieldRowView) (i : ℕ) (e : FieldRowView) → list_all p es ≡ true → slice_get es i ≡ Some e → p e ≡ true
   get-all p [] i e all h = cc
   get-all p (o ∷ es) zero e all h =
       let same : o ≡ e = cc in
       rw (← same) ((both (p o) (list_all p es) all).0)
   get-all p (o ∷ es) (suc i) e all h = get-all p es i e (both (p o) (list_all p es) all).1 h
 
-  one-output : (kind : Kind) (e : Entry) (i : ℕ) → slice_get (interface kind) i ≡ Some e → distinct (interface kind) ≡ true → are_sent e (interface kind) ≡ true →
+  one-output : (kind : Kind) (e : FieldRowView) (i : ℕ) → slice_get (interface kind) i ≡ Some e → distinct (interface kind) ≡ true → are_sent e (interface kind) ≡ true →
       row_named 0 e.name (fields_with ds) ≡ row_named (length (rows Script)) e.name (map declared_entry ds) → declares kind ds ≡ true →
       is_at e (fields_with ds) (number_in (fields_with ds) e) ≡ true
   one-output kind e i at apart sent skips d =
@@ -259,18 +259,18 @@ module _ (ds : List DeclaredField) where
   all-outputs Meter d = and-true _ true (one-output Meter (output (codes "mean") SFFloat) 1 refl refl refl refl d) refl
 
   -- the number of an output's field
-  numbered : (es : List Entry) (i : ℕ) (e : Entry) → slice_get es i ≡ Some e → slice_index_or (map (number_in (fields_with ds)) es) i 0 ≡ number_in (fields_with ds) e
+  numbered : (es : List FieldRowView) (i : ℕ) (e : FieldRowView) → slice_get es i ≡ Some e → slice_index_or (map (number_in (fields_with ds)) es) i 0 ≡ number_in (fields_with ds) e
   numbered [] i e h = absurd cc
   numbered (o ∷ es) zero e h = let same : o ≡ e = cc in ap (number_in (fields_with ds)) same
   numbered (o ∷ es) (suc i) e h = numbered es i e h
 
-  of-kind : (kind : Kind) (i : ℕ) (e : Entry) → declares kind ds ≡ true → slice_get (outputs kind) i ≡ Some e →
+  of-kind : (kind : Kind) (i : ℕ) (e : FieldRowView) → declares kind ds ≡ true → slice_get (outputs kind) i ≡ Some e →
       Sends (fields_with ds) (slice_index_or (ports_of (fields_with ds) kind).outputs i 0) e.field_type
   of-kind kind i e d h =
       rw (numbered (outputs kind) i e h)
       (by-row (slice_get (fields_with ds) (number_in (fields_with ds) e)) (get-all (λ e. is_at e (fields_with ds) (number_in (fields_with ds) e)) (outputs kind) i e (all-outputs kind d) h))
     where
-      by-row : (o : Option Entry) → option_map_or (λ (o : Entry). is_like e o) o false ≡ true → IsSomeAnd o (λ row. (sends row.access ≡ true) × (row.field_type ≡ e.field_type))
+      by-row : (o : Option FieldRowView) → option_map_or (λ (o : FieldRowView). is_like e o) o false ≡ true → IsSomeAnd o (λ row. (sends row.access ≡ true) × (row.field_type ≡ e.field_type))
       by-row None k = absurd cc
       by-row (Some row) k = let (sent, typed) = both (sends row.access) (sameb types.the_type row.field_type e.field_type) k in (sent, type_is row.field_type e.field_type typed)
 
@@ -304,7 +304,7 @@ asks-as : (s : SceneView) (node : ℕ) (t : Option NodeType) (w : List ℕ) → 
 asks-as s node (Some Script) w h = refl
 asks-as s node _ w h = cc
 
-module _ (s : SceneView) (node : ℕ) (asked : ScriptSpec) (kind : Kind) (of : asked.kind ≡ Some kind) (fits : asked.fits ≡ true) (i : ℕ) (e : Entry) (out : slice_get (outputs kind) i ≡ Some e) where
+module _ (s : SceneView) (node : ℕ) (asked : ScriptSpec) (kind : Kind) (of : asked.kind ≡ Some kind) (fits : asked.fits ≡ true) (i : ℕ) (e : FieldRowView) (out : slice_get (outputs kind) i ≡ Some e) where
   by-kind : (found : Option Kind) → spec_by s node found ≡ asked → (asked.node ≡ node) × (declares kind (declared_at s node) ≡ true)
   by-kind None h = let none : None ≡ Some kind = ap (λ (a : ScriptSpec). a.kind) h ∙ of in cc
   by-kind (Some k) h =

@@ -10,7 +10,7 @@ use Rattle.x3d_values.specs.declared.fields.Fields.{Fields}
 use Rattle.x3d_values.specs.declared.node_type.NodeType.{NodeType}
 use Rattle.x3d_values.specs.declared.node_type.NodeType.TheVariants.{Transform}
 use Rattle.x3d_values.specs.declared.vector.Vec3.{Vec3}
-use Rattle.x3d_values.specs.Pointing.{Sight}
+use Rattle.x3d_values.specs.Pointing.{RayView}
 use Rattle.x3d_values.specs.Ranges.{coordinates_fit}
 use Rattle.scene_core.specs.Scene.{SceneView, type_at}
 use Rattle.snapshot_codec.specs.Values.{is_within, vector3}
@@ -45,7 +45,7 @@ clamped_fits z = high_fits z (int_lt (pos 1000000000000000) z) refl
 abbrev pub InRange : Vec3 → Type 0
 InRange p = vector3.fits p ≡ true
 
-ray_fits : (ray : Sight) (n m : ℕ) → InRange (point_of ray n m)
+ray_fits : (ray : RayView) (n m : ℕ) → InRange (point_of ray n m)
 unfolding point_of reached vector3
 ray_fits ray n m =
     and_true _ _ (clamped_fits (ray.origin.x +ℤ int_div_euclid (pos n *ℤ ray.dir.x) (pos m)))
@@ -96,7 +96,7 @@ or_fits : (one : Option Vec3) (world : Vec3) → IfInRange one → InRange world
 or_fits None world f g = g
 or_fits (Some p) world f g = f
 
-local_fits : (scene : SceneView) (state : List Fields) (hit : Hit) (ray : Sight) (sensor : ℕ) → InRange (local_of scene state hit ray sensor)
+local_fits : (scene : SceneView) (state : List Fields) (hit : Hit) (ray : RayView) (sensor : ℕ) → InRange (local_of scene state hit ray sensor)
 unfolding local_of
 local_fits scene state hit ray sensor =
     or_fits (local_along scene state sensor None hit.path (point_of ray hit.n hit.m)) (point_of ray hit.n hit.m)
@@ -112,7 +112,7 @@ pub record Leads (scene : SceneView) (path : Option (List ℕ)) (i : Inside) : T
 abbrev pub AllLead : SceneView → Insides → Type 0
 AllLead scene is = AllByRecursion (Leads scene is.path) is.sensors
 
-each_leads : (scene : SceneView) (state : List Fields) (ray : Sight) (hit : Hit) (sensors : List ℕ) → AllByRecursion (Leads scene (Some hit.path)) (map (inside_by scene state ray hit) sensors)
+each_leads : (scene : SceneView) (state : List Fields) (ray : RayView) (hit : Hit) (sensors : List ℕ) → AllByRecursion (Leads scene (Some hit.path)) (map (inside_by scene state ray hit) sensors)
 each_leads scene state ray hit [] = tt
 each_leads scene state ray hit (sensor ∷ sensors) =
     let here : Leads scene (Some hit.path) (inside_by scene state ray hit sensor) = record {
@@ -121,7 +121,7 @@ each_leads scene state ray hit (sensor ∷ sensors) =
     } in
     (here, each_leads scene state ray hit sensors)
 
-pub insides_lead : (scene : SceneView) (state : List Fields) (ray : Sight) → AllLead scene (insides scene state ray)
+pub insides_lead : (scene : SceneView) (state : List Fields) (ray : RayView) → AllLead scene (insides scene state ray)
 unfolding insides
 insides_lead scene state ray = given (picked ray (boxes scene state))
   where
@@ -215,12 +215,12 @@ unfolding inward
 inward_flat scene state [] p f = f
 inward_flat scene state (node ∷ nodes) p f = inward_flat scene state nodes (inside scene state node p) (inside_flat scene state node p f)
 
-met_flat : (ray : Sight) (height : ℤ) → Flat (met_at ray.origin ray.dir height)
+met_flat : (ray : RayView) (height : ℤ) → Flat (met_at ray.origin ray.dir height)
 unfolding met_on Flat
 met_flat ray height =
     (clamped_fits (ray.origin.x +ℤ quotient (ray.dir.x *ℤ (height -ℤ ray.origin.z)) ray.dir.z), clamped_fits (ray.origin.y +ℤ quotient (ray.dir.y *ℤ (height -ℤ ray.origin.z)) ray.dir.z))
 
-tracked_fits : (scene : SceneView) (state : List Fields) (nodes : List ℕ) (start : Vec3) (ray : Sight) → coordinates_fit start ≡ true → option_map_or coordinates_fit (tracked scene state nodes start ray) true ≡ true
+tracked_fits : (scene : SceneView) (state : List Fields) (nodes : List ℕ) (start : Vec3) (ray : RayView) → coordinates_fit start ≡ true → option_map_or coordinates_fit (tracked scene state nodes start ray) true ≡ true
 unfolding met Flat
 tracked_fits scene state nodes start ray s = given (outward scene state nodes start).z (comes_to ray.origin.z ray.dir.z (outward scene state nodes start).z)
   where
@@ -233,6 +233,6 @@ tracked_fits scene state nodes start ray s = given (outward scene state nodes st
         (and_true (is_within (10 ^ 15) p.y) (is_within (10 ^ 15) start.z) f.1 (both (is_within (10 ^ 15) start.y) (is_within (10 ^ 15) start.z) a.1).1)
     given height false = refl
 
-pub track_fits : (scene : SceneView) (state : List Fields) (path : List ℕ) (start : Vec3) (ray : Sight) → coordinates_fit start ≡ true → option_map_or coordinates_fit (track_of scene state path start ray) true ≡ true
+pub track_fits : (scene : SceneView) (state : List Fields) (path : List ℕ) (start : Vec3) (ray : RayView) → coordinates_fit start ≡ true → option_map_or coordinates_fit (track_of scene state path start ray) true ≡ true
 unfolding track_of
 track_fits scene state path start ray s = tracked_fits scene state (nodes_along scene None path) start ray s

@@ -12,8 +12,8 @@ use Rattle.x3d_values.specs.declared.vector.Vec2.{Vec2}
 use Rattle.x3d_values.specs.declared.vector.Vec3.{Vec3}
 use Rattle.x3d_values.specs.Kept.{field_value}
 use Rattle.x3d_values.specs.Ranges.{coordinates_fit, is_viewer}
-use Rattle.x3d_values.specs.Tables.{Entry}
-use Rattle.react_core.specs.declared.outbox.Reply.{Reply}
+use Rattle.x3d_values.specs.Tables.{FieldRowView}
+use Rattle.react_core.specs.declared.outbox.SentEvent.{SentEvent}
 use Rattle.sensor_plane.specs.declared.fields.PlaneFields.{PlaneFields}
 use Rattle.sensor_plane.specs.declared.meeting.SensorPointer.{SensorPointer}
 use Rattle.sensor_plane.specs.declared.numbers.TheConstants.{AUTO_OFFSET, MAX_POSITION, MIN_POSITION, OFFSET}
@@ -21,7 +21,7 @@ use Rattle.sensor_plane.specs.declared.pointing.PointingState.TheVariants as sta
 use Rattle.sensor_plane.specs.Meeting.{dragged_by, pointed, to_plane}
 use Rattle.sensor_plane.specs.PlaneFields.{pair_at, pair_of, plane_fields_of, triple_at, triple_of, truth_at, with_offset}
 use Rattle.sensor_plane.specs.PlaneParts.{AreFitting, contact_fits, drag_fits, pair_fits}
-use Rattle.sensor_plane.specs.Planes.{Plane, Pointed, disable, point}
+use Rattle.sensor_plane.specs.Planes.{Plane, PlanePointed, disable, point}
 use Rattle.sensor_plane.specs.Pointing.{forgotten, plane_fits}
 use Rattle.sensor_plane.proofs.Fitting.{dragged_planes_fit}
 use Rattle.sensor_plane.proofs.Sending.{Passes, disable_sent, point_passes}
@@ -49,8 +49,8 @@ made auto max min offset = record { auto_offset = auto; max_position = max; min_
 
 -- ---- what it sends
 
-module _ (ds : List Entry) where
-  abbrev pub leaves : Reply → Bool
+module _ (ds : List FieldRowView) where
+  abbrev pub leaves : SentEvent → Bool
   leaves r = sent_fits PlaneSensor ds r.field r.value
 
   passing : Passes coordinates_fit leaves
@@ -103,7 +103,7 @@ module _ (ds : List Entry) where
   drags_by plane fields at (Some values) e p f v c near =
       let a = are_fitting fields values f e in
       let b = both (length plane.over == MAX_VIEWERS) (drag_fits plane.drag) p in
-      let d : Pointed = point plane values (to_plane at) in
+      let d : PlanePointed = point plane values (to_plane at) in
       let r = dragged_planes_fit plane values (to_plane at) (record { viewers = eqb-true _ _ b.0; drag = b.1 }) a v c in
       record {
         in_state = and_true _ _ (eq-eqb _ _ r.plane.viewers) r.plane.drag;

@@ -8,11 +8,11 @@ use Rattle.x3d_values.specs.declared.ranges.TheConstants.{MAX_VIEWERS}
 use Rattle.x3d_values.specs.declared.value.Value.TheVariants.{SFBool, SFVec3f}
 use Rattle.x3d_values.specs.declared.vector.Vec3.{Vec3}
 use Rattle.x3d_values.specs.Ranges.{is_viewer}
-use Rattle.x3d_values.specs.Tables.{Entry}
-use Rattle.react_core.specs.declared.outbox.Reply.{Reply}
+use Rattle.x3d_values.specs.Tables.{FieldRowView}
+use Rattle.react_core.specs.declared.outbox.SentEvent.{SentEvent}
 use Rattle.react_core.specs.Reaction.{reply}
 use Rattle.sensor_core.specs.declared.touch_numbers.TheConstants.{IS_OVER, HIT_POINT_CHANGED, IS_PRESSED}
-use Rattle.sensor_core.specs.Touches.{Touch, is_over, is_pressed_by, over_after, over_replies, hit_replies, presses, releases, time_replies, press_replies, touch_after, pointer, point, disable}
+use Rattle.sensor_core.specs.Touches.{TouchStateView, is_over, is_pressed_by, over_after, over_replies, hit_replies, presses, releases, time_replies, press_replies, touch_after, pointer, point, disable}
 use Rattle.snapshot_codec.specs.Trace.{is_moment}
 use Rattle.snapshot_codec.specs.Values.{vector3, value_fits}
 use Rattle.laws_worlds.specs.Answers.{TouchFit}
@@ -31,14 +31,14 @@ viewer_if : (b : Bool) (one other : Option ℕ) → Viewer one → Viewer other 
 viewer_if true one other f g = f
 viewer_if false one other f g = g
 
-module _ (ds : List Entry) where
-  abbrev pub Sent : List Reply → Type 0
+module _ (ds : List FieldRowView) where
+  abbrev pub Sent : List SentEvent → Type 0
   Sent replies = replies_fit TouchSensor ds replies ≡ true
 
-  sent_append : (xs ys : List Reply) → Sent xs → Sent ys → Sent (xs ++ ys)
+  sent_append : (xs ys : List SentEvent) → Sent xs → Sent ys → Sent (xs ++ ys)
   sent_append xs ys f g = all_append _ xs ys f g
 
-  sent_if : (b : Bool) (xs ys : List Reply) → Sent xs → Sent ys → Sent (if b then xs else ys)
+  sent_if : (b : Bool) (xs ys : List SentEvent) → Sent xs → Sent ys → Sent (if b then xs else ys)
   sent_if true xs ys f g = f
   sent_if false xs ys f g = g
 
@@ -55,7 +55,7 @@ module _ (ds : List Entry) where
   time_sent None now m = refl
   time_sent (Some p) now m = and_true _ _ (moment_fits now m) refl
 
-  module _ (touch : Touch) (who : ℕ) (before down : Bool) where
+  module _ (touch : TouchStateView) (who : ℕ) (before down : Bool) where
     hit_sent : (at inside : Option Vec3) → option_map_or vector3.fits inside true ≡ true → Sent (hit_replies touch (pointer who before down at) inside)
     unfolding value_fits
     hit_sent at None f = refl
@@ -67,7 +67,7 @@ module _ (ds : List Entry) where
         sent_if (presses touch (pointer who before down inside)) _ _ refl
         (sent_if (releases touch (pointer who before down inside)) _ [] (time_sent inside now m) refl)
 
-  pub all_points_fit : (touch : Touch) (who : ℕ) (before down : Bool) (inside : Option Vec3) (now : ℤ) → length touch.over ≡ MAX_VIEWERS → Viewer touch.presser → is_viewer who ≡ true → option_map_or vector3.fits inside true ≡ true → is_moment now ≡ true → TouchFit ds (point touch (pointer who before down inside) now)
+  pub all_points_fit : (touch : TouchStateView) (who : ℕ) (before down : Bool) (inside : Option Vec3) (now : ℤ) → length touch.over ≡ MAX_VIEWERS → Viewer touch.presser → is_viewer who ≡ true → option_map_or vector3.fits inside true ≡ true → is_moment now ≡ true → TouchFit ds (point touch (pointer who before down inside) now)
   unfolding point
   all_points_fit touch who before down inside now f g v i m =
       let long : length (over_after touch (pointer who before down inside)) ≡ MAX_VIEWERS = length-set touch.over who (is_some inside) ∙ f in
@@ -83,7 +83,7 @@ module _ (ds : List Entry) where
 
   -- ---- it is turned off
 
-  pub all_disables_fit : (touch : Touch) → TouchFit ds (disable touch)
+  pub all_disables_fit : (touch : TouchStateView) → TouchFit ds (disable touch)
   unfolding disable value_fits
   all_disables_fit touch = record {
     in_over = refl;

@@ -15,7 +15,7 @@ use Rattle.x3d_values.specs.declared.vector.Vec3.{Vec3}
 use Rattle.x3d_values.specs.Access.{is_initial}
 use Rattle.x3d_values.specs.Defaults.{default_value}
 use Rattle.x3d_values.specs.Ranges.{coordinates_fit}
-use Rattle.x3d_values.specs.Tables.{Entry, rows}
+use Rattle.x3d_values.specs.Tables.{FieldRowView, rows}
 use Rattle.snapshot_codec.specs.Values.{value_fits, vector3}
 use Rattle.script_host.specs.States.{integer_fits}
 use Rattle.classic_tree.specs.declared.tree.Declaration.{Declaration}
@@ -104,7 +104,7 @@ module _ (others : List FlatNode) (numbers : List ℕ) where
   given_ranged : (ft : FieldType) (f : FlatField) (v : Option Value) (x : Value) → typed_value numbers ft f ≡ Ok x → Some x ≡ v → ranged_if v ≡ true
   given_ranged ft f v x h held = subst (λ (y : Option Value). ranged_if y ≡ true) held (typed_ranged ft f.value numbers x (line_is f.line (typed ft f.value numbers) x h))
 
-  row_ranged : (e : Entry) (g : Option FlatField) (v : Option Value) → ranged_if (default_of e) ≡ true → field_value others numbers e g ≡ Ok v → ranged_if v ≡ true
+  row_ranged : (e : FieldRowView) (g : Option FlatField) (v : Option Value) → ranged_if (default_of e) ≡ true → field_value others numbers e g ≡ Ok v → ranged_if v ≡ true
   unfolding field_value
   row_ranged e None v d h = subst (λ (y : Option Value). ranged_if y ≡ true) (ok_is (default_of e) v h) d
   row_ranged e (Some f) v d h = by_type (is_rotation e.field_type) h
@@ -139,7 +139,7 @@ module _ (others : List FlatNode) (numbers : List ℕ) where
 
   -- ---- the values of a node
 
-  rows_ranged : (fields : List FlatField) (n : ℕ) (es : List Entry) (vs : List (Option Value)) → list_all (λ e. ranged_if (default_of e)) es ≡ true → AreValues others numbers fields n es vs → list_all ranged_if vs ≡ true
+  rows_ranged : (fields : List FlatField) (n : ℕ) (es : List FieldRowView) (vs : List (Option Value)) → list_all (λ e. ranged_if (default_of e)) es ≡ true → AreValues others numbers fields n es vs → list_all ranged_if vs ≡ true
   rows_ranged fields n [] [] d a = refl
   rows_ranged fields n [] (v ∷ vs) d a = absurd a
   rows_ranged fields n (e ∷ es) [] d a = absurd a

@@ -17,7 +17,7 @@ use Rattle.x3d_values.specs.declared.value.Value.{Value}
 use Rattle.x3d_values.specs.declared.value.Value.TheVariants.{SFBool, SFInt32, SFTime, MFInt32}
 use Rattle.x3d_values.specs.Access.{is_exposed, sends as is_sender}
 use Rattle.x3d_values.specs.Kept.{field_value, with_value}
-use Rattle.x3d_values.specs.Tables.{Entry, rows, numbered}
+use Rattle.x3d_values.specs.Tables.{FieldRowView, rows, numbered}
 use Rattle.x3d_values.specs.Values.{type_of}
 use Rattle.react_core.specs.Access.{is_kept, are_same, names_nodes}
 use Rattle.react_core.specs.Keys.{have_steps}
@@ -26,8 +26,8 @@ use Rattle.react_core.specs.Reaction.{Reaction, reply, nothing, sends, keeps, wi
 use Rattle.react_core.specs.Sequence.{place_after, step_after, is_sequence, stepped, step}
 use Rattle.react_core.specs.Stored.{truth_of, integer_of, number_of, time_of, truths_of, integers_of, numbers_of}
 use Rattle.react_core.specs.declared.numbers.TheConstants.{KEY, KEY_VALUE, SET_FRACTION, VALUE_CHANGED, SEQUENCE_CHANGED, SET_BOOLEAN, TOGGLE, SET_TRIGGER_TIME, INTEGER_KEY}
-use Rattle.react_core.specs.declared.outbox.Reply.{Reply}
-use Rattle.react_core.specs.declared.sequence.Step.{Step}
+use Rattle.react_core.specs.declared.outbox.SentEvent.{SentEvent}
+use Rattle.react_core.specs.declared.sequence.Keyed.{Keyed}
 use Rattle.snapshot_codec.specs.Fields.{has_bytes, is_interval, kept_field, kept_fits}
 use Rattle.snapshot_codec.specs.Trace.{is_moment, typed_fits}
 use Rattle.snapshot_codec.specs.Values.{value_fits}
@@ -63,9 +63,9 @@ no_interval : (t : NodeType) (n : ℕ) → is_time_sensor t ≡ false → is_int
 no_interval TimeSensor n e = absurd cc
 no_interval _ n e = refl
 
-exposed_row : (t : NodeType) (input : ℕ) (value : Value) (o : Option Entry) →
+exposed_row : (t : NodeType) (input : ℕ) (value : Value) (o : Option FieldRowView) →
     option_map_or (λ row. is_exposed row.access && (are_same row.field_type (type_of value) && not (names_nodes value))) (option_map (numbered input) o) false ≡ true →
-    (row : Entry) × (o ≡ Some row) × (is_exposed row.access ≡ true)
+    (row : FieldRowView) × (o ≡ Some row) × (is_exposed row.access ≡ true)
 exposed_row t input value None e = absurd cc
 exposed_row t input value (Some row) e = (row, refl, (both _ _ e).0)
 
@@ -108,21 +108,21 @@ moment_fits (pos n) e = let b = both _ _ e in le-leb _ _ (leb-true _ _ b.1)
 moment_fits (negsuc n) e = absurd cc
 
 -- the values that it may send fit, and it is a sequencer
-record IsSequencer (t : NodeType) (ds : List Entry) (list : List Value) : Type 0 where
+record IsSequencer (t : NodeType) (ds : List FieldRowView) (list : List Value) : Type 0 where
   position : (at : ℕ) → at < 2 ^ 32 - 1 → position_fits t (record { at = Some at }) ≡ true
   values : (at : ℕ) (v : Value) → slice_get list at ≡ Some v → sent_fits t ds SEQUENCE_CHANGED v ≡ true
 
 -- ---- a node with these fields behind those of its type
 
-module _ (ds : List Entry) where
+module _ (ds : List FieldRowView) where
   -- ---- one field
 
   -- what a node keeps of a field is as its row says
-  pub field_fits : (t : NodeType) (fields : Fields) (n : ℕ) (row : Entry) (value : Value) → fields_fit t ds fields ≡ true → row_at t ds n ≡ Some row → field_value fields n ≡ Some value → kept_by t n row (Some value) ≡ true
+  pub field_fits : (t : NodeType) (fields : Fields) (n : ℕ) (row : FieldRowView) (value : Value) → fields_fit t ds fields ≡ true → row_at t ds n ≡ Some row → field_value fields n ≡ Some value → kept_by t n row (Some value) ≡ true
   field_fits t fields n row value f p q =
       values-get t 0 (rows t ++ ds) fields.values n n row (Some value) (both _ _ f).0 p (stands fields.values n value q) (omega arith)
 
-  pub set_fits : (t : NodeType) (fields : Fields) (n : ℕ) (row : Entry) (value : Value) → fields_fit t ds fields ≡ true → row_at t ds n ≡ Some row → kept_by t n row (Some value) ≡ true → fields_fit t ds (with_value fields n value) ≡ true
+  pub set_fits : (t : NodeType) (fields : Fields) (n : ℕ) (row : FieldRowView) (value : Value) → fields_fit t ds fields ≡ true → row_at t ds n ≡ Some row → kept_by t n row (Some value) ≡ true → fields_fit t ds (with_value fields n value) ≡ true
   set_fits t fields n row value f p k =
       let b = both _ _ f in
       and_true _ _ (values-set t 0 (rows t ++ ds) fields.values n n row (Some value) b.0 p k (omega arith)) b.1
@@ -133,7 +133,7 @@ module _ (ds : List Entry) where
     still : Fit t ds (nothing fields)
     still = record { in_fields = fit; in_replies = refl }
 
-    sending : (replies : List Reply) → replies_fit t ds replies ≡ true → Fit t ds (sends fields replies)
+    sending : (replies : List SentEvent) → replies_fit t ds replies ≡ true → Fit t ds (sends fields replies)
     sending replies r = record { in_fields = fit; in_replies = r }
 
     some_fits : {X : Type 0} (o : Option X) (does : X → Reaction) → ((x : X) → o ≡ Some x → Fit t ds (does x)) → Fit t ds (with_some fields o does)
@@ -153,10 +153,10 @@ module _ (ds : List Entry) where
 
   -- ---- a field that an event sets
 
-  pub set_field_fits : (t : NodeType) (fields : Fields) (input : ℕ) (value : Value) (row : Entry) → fields_fit t ds fields ≡ true → event_fits t ds input value ≡ true → is_time_sensor t ≡ false → row_at t ds input ≡ Some row → is_exposed row.access ≡ true → Fit t ds (keeps fields input value)
+  pub set_field_fits : (t : NodeType) (fields : Fields) (input : ℕ) (value : Value) (row : FieldRowView) → fields_fit t ds fields ≡ true → event_fits t ds input value ≡ true → is_time_sensor t ≡ false → row_at t ds input ≡ Some row → is_exposed row.access ≡ true → Fit t ds (keeps fields input value)
   set_field_fits t fields input value row f v s is k =
-      let typed : value_fits row.field_type value ≡ true = subst (λ (o : Option Entry). typed_fits (option_map (λ (row : Entry). row.field_type) o) value ≡ true) is v in
-      let sent : sent_fits t ds input value ≡ true = subst (λ (o : Option Entry). option_map_or (λ (row : Entry). is_sender row.access && value_fits row.field_type value) o false ≡ true) (sym is) (exposed_sent row.access row.field_type value k typed) in
+      let typed : value_fits row.field_type value ≡ true = subst (λ (o : Option FieldRowView). typed_fits (option_map (λ (row : FieldRowView). row.field_type) o) value ≡ true) is v in
+      let sent : sent_fits t ds input value ≡ true = subst (λ (o : Option FieldRowView). option_map_or (λ (row : FieldRowView). is_sender row.access && value_fits row.field_type value) o false ≡ true) (sym is) (exposed_sent row.access row.field_type value k typed) in
       record {
         in_fields = set_fits t fields input row value f is (exposed_fits t input row.access row.field_type value k typed (no_interval t input s));
         in_replies = and_true _ _ sent refl;
@@ -191,7 +191,7 @@ module _ (ds : List Entry) where
       let c = map_some (step b.0) (slice_get a.0 b.0) s b.2 in
       let few = place_small fields input value (length a.0) b.0 b.1 in
       let inside = slice_get_within a.0 b.0 c.0 c.1 in
-      subst (λ (x : Step). Fit t ds (steps_to fields x)) c.2 (record {
+      subst (λ (x : Keyed). Fit t ds (steps_to fields x)) c.2 (record {
         in_fields = and_true _ _ (both _ _ f).0 (q.position b.0 (omega (arith, few, inside)));
         in_replies = and_true _ _ (q.values b.0 c.0 c.1) refl;
       }))

@@ -13,7 +13,7 @@ use Rattle.x3d_values.specs.declared.field_type.FieldType.TheVariants.{SFRotatio
 use Rattle.x3d_values.specs.declared.table.FieldRow.{FieldRow}
 use Rattle.x3d_values.specs.Access.{is_exposed, receives, sends, holds_nodes}
 use Rattle.x3d_values.specs.Aliases.{no_rotation, if_exposed}
-use Rattle.x3d_values.specs.Tables.{Entry, row_named, numbered}
+use Rattle.x3d_values.specs.Tables.{FieldRowView, row_named, numbered}
 use Rattle.proto_flat.specs.declared.flat.Flat.{Flat}
 use Rattle.proto_flat.specs.declared.flat.FlatEnd.{FlatEnd}
 use Rattle.proto_flat.specs.declared.flat.FlatEnd.TheVariants.{At, NoNode, NoField, WrongWay}
@@ -34,15 +34,15 @@ use Rattle.laws_worlds.specs.Fits.{input_type, Joins, AllJoin}
 
 -- ---- a row that was found is a row of the table
 
-record Found (n : ℕ) (es : List Entry) (row : FieldRow) : Type 0 where
+record Found (n : ℕ) (es : List FieldRowView) (row : FieldRow) : Type 0 where
   pub index : ℕ
-  pub entry : Entry
+  pub entry : FieldRowView
   pub number : row.number ≡ n + index
   pub is : slice_get es index ≡ Some entry
   pub access : entry.access ≡ row.access
   pub field_type : entry.field_type ≡ row.field_type
 
-found : (n : ℕ) (name : List ℕ) (es : List Entry) (row : FieldRow) → row_named n name es ≡ Some row → Found n es row
+found : (n : ℕ) (name : List ℕ) (es : List FieldRowView) (row : FieldRow) → row_named n name es ≡ Some row → Found n es row
 found n name [] row e = absurd cc
 found n name (x ∷ xs) row e =
     cond_both (pointwise nat_eq name x.name) (Some (numbered n x)) (row_named (n + 1) name xs) (λ o. o ≡ Some row → Found n (x ∷ xs) row)
@@ -77,7 +77,7 @@ either None b row e = inr e
 either (Some x) b row e = inl e
 
 -- among the fields of a node, those that it declares too
-module _ (es : List Entry) where
+module _ (es : List FieldRowView) where
   abbrev IsRow : FieldRow → Type 0
   IsRow row = Found 0 es row
 
@@ -114,17 +114,17 @@ module _ (es : List Entry) where
 
 -- ---- the types of ends
 
-sent_row : (entry : Entry) (row : FieldRow) → entry.access ≡ row.access → entry.field_type ≡ row.field_type → sends row.access ≡ true → sent_type entry ≡ Some row.field_type
+sent_row : (entry : FieldRowView) (row : FieldRow) → entry.access ≡ row.access → entry.field_type ≡ row.field_type → sends row.access ≡ true → sent_type entry ≡ Some row.field_type
 sent_row entry row a f s = rw (a, s) (ap (λ (t : FieldType). Some t) f)
 
 output_is : (scene : SceneView) (node : ℕ) (row : FieldRow) → IsRow (rows_at scene node) row → sends row.access ≡ true → output_type (shapes_of scene) node row.number ≡ Some row.field_type
 output_is scene node row f s =
-    ap (λ (o : Option Entry). option_and_then sent_type o) (row_is (rows_at scene node) row f)
+    ap (λ (o : Option FieldRowView). option_and_then sent_type o) (row_is (rows_at scene node) row f)
     ∙ sent_row f.entry row f.access f.field_type s
 
 input_is : (scene : SceneView) (node : ℕ) (row : FieldRow) → IsRow (rows_at scene node) row → input_type (shapes_of scene) node row.number ≡ Some row.field_type
 input_is scene node row f =
-    ap (λ (o : Option Entry). option_map (λ (entry : Entry). entry.field_type) o) (row_is (rows_at scene node) row f)
+    ap (λ (o : Option FieldRowView). option_map (λ (entry : FieldRowView). entry.field_type) o) (row_is (rows_at scene node) row f)
     ∙ ap (λ (k : FieldType). Some k) f.field_type
 
 abbrev ok : {A B : Type 0} → A → Result A B

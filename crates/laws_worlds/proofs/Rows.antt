@@ -5,7 +5,7 @@ use Rattle.byte_codec.specs.Codec.{Codec, all_fit}
 use Rattle.byte_codec.proofs.Laws.{both, and_true}
 use Rattle.x3d_values.specs.declared.node_type.NodeType.{NodeType}
 use Rattle.x3d_values.specs.declared.value.Value.{Value}
-use Rattle.x3d_values.specs.Tables.{Entry}
+use Rattle.x3d_values.specs.Tables.{FieldRowView}
 use Rattle.snapshot_codec.specs.Fields.{kept_field, kept_fits}
 use Rattle.laws_worlds.specs.Ranges.{values_fit}
 
@@ -32,14 +32,14 @@ get_left (y ∷ xs) ys (suc i) x e = get_left xs ys i x e
 -- ---- a value for each row
 
 -- what a snapshot has of the field of that row
-abbrev pub kept_by : NodeType → ℕ → Entry → Option Value → Bool
+abbrev pub kept_by : NodeType → ℕ → FieldRowView → Option Value → Bool
 kept_by t n row value = kept_fits (kept_field t n row.access row.field_type) value
 
 only_first : (n m : ℕ) → m ≡ n + 0 → m ≡ n
 only_first n m k = omega (arith, k)
 
 module _ (t : NodeType) where
-  pub values-get : (n : ℕ) (rows : List Entry) (values : List (Option Value)) (i m : ℕ) (row : Entry) (value : Option Value) → values_fit t n rows values ≡ true → slice_get rows i ≡ Some row → slice_get values i ≡ Some value → m ≡ n + i → kept_by t m row value ≡ true
+  pub values-get : (n : ℕ) (rows : List FieldRowView) (values : List (Option Value)) (i m : ℕ) (row : FieldRowView) (value : Option Value) → values_fit t n rows values ≡ true → slice_get rows i ≡ Some row → slice_get values i ≡ Some value → m ≡ n + i → kept_by t m row value ≡ true
   values-get n [] values i m row value f p q k = absurd cc
   values-get n (x ∷ rows) [] i m row value f p q k = absurd cc
   values-get n (x ∷ rows) (y ∷ values) zero m row value f p q k =
@@ -48,13 +48,13 @@ module _ (t : NodeType) where
       rw (same, sym (some_is x row p), sym (some_is y value q)) b.0
   values-get n (x ∷ rows) (y ∷ values) (suc i) m row value f p q k = values-get (n + 1) rows values i m row value (both _ _ f).1 p q (omega (arith, k))
 
-  pub values-set : (n : ℕ) (rows : List Entry) (values : List (Option Value)) (i m : ℕ) (row : Entry) (value : Option Value) → values_fit t n rows values ≡ true → slice_get rows i ≡ Some row → kept_by t m row value ≡ true → m ≡ n + i → values_fit t n rows (slice_set values i value) ≡ true
+  pub values-set : (n : ℕ) (rows : List FieldRowView) (values : List (Option Value)) (i m : ℕ) (row : FieldRowView) (value : Option Value) → values_fit t n rows values ≡ true → slice_get rows i ≡ Some row → kept_by t m row value ≡ true → m ≡ n + i → values_fit t n rows (slice_set values i value) ≡ true
   values-set n [] values i m row value f p q k = absurd cc
   values-set n (x ∷ rows) [] i m row value f p q k = f
   values-set n (x ∷ rows) (y ∷ values) zero m row value f p q k =
       let b = both _ _ f in
       let same : m ≡ n = only_first n m k in
-      and_true _ _ (subst (λ (r : Entry). kept_by t n r value ≡ true) (sym (some_is x row p)) (subst (λ (j : ℕ). kept_by t j row value ≡ true) same q)) b.1
+      and_true _ _ (subst (λ (r : FieldRowView). kept_by t n r value ≡ true) (sym (some_is x row p)) (subst (λ (j : ℕ). kept_by t j row value ≡ true) same q)) b.1
   values-set n (x ∷ rows) (y ∷ values) (suc i) m row value f p q k =
       let b = both _ _ f in
       and_true _ _ b.0 (values-set (n + 1) rows values i m row value b.1 p q (omega (arith, k)))

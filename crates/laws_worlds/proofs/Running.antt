@@ -5,7 +5,7 @@ use Rattle.byte_codec.proofs.Laws.{both, and_true}
 use Rattle.x3d_values.specs.declared.script.Kind.{Kind}
 use Rattle.x3d_values.specs.declared.script.ScriptSpec.{ScriptSpec}
 use Rattle.script_host.specs.Attaching.{Meets}
-use Rattle.script_host.specs.Hosting.{ScriptRecord}
+use Rattle.script_host.specs.Hosting.{SlotView}
 use Rattle.scene_core.specs.Scene.{SceneView}
 use Rattle.script_running.specs.Scripts.{script_list}
 use Rattle.laws_worlds.specs.Nodes.{AttachedRun, RunsAll, runs}
@@ -22,7 +22,7 @@ one_of p (y ∷ xs) zero x all h =
     rw (← same) ((both (p y) (list_all p xs) all).0)
 one_of p (y ∷ xs) (suc j) x all h = one_of p xs j x (both (p y) (list_all p xs) all).1 h
 
-met : (o : Option ScriptSpec) (q : Option ScriptRecord) → IsSomeAnd o (λ s. IsSomeAnd q (λ r. Meets s r)) → IsSomeAnd o (λ s. runs s ≡ true)
+met : (o : Option ScriptSpec) (q : Option SlotView) → IsSomeAnd o (λ s. IsSomeAnd q (λ r. Meets s r)) → IsSomeAnd o (λ s. runs s ≡ true)
 met None q m = absurd m
 met (Some s) None m = absurd m
 met (Some s) (Some r) m = rw (m.kind, m.interface) refl

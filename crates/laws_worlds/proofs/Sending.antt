@@ -6,18 +6,18 @@ use Rattle.std.proofs.lemmas.Option.{slice_get_within}
 use Rattle.byte_codec.proofs.Laws.{both, and_true}
 use Rattle.x3d_values.specs.declared.field_type.FieldType.{FieldType}
 use Rattle.x3d_values.specs.declared.value.Value.{Value}
-use Rattle.x3d_values.specs.Tables.{Entry}
-use Rattle.react_core.specs.declared.outbox.Reply.{Reply}
+use Rattle.x3d_values.specs.Tables.{FieldRowView}
+use Rattle.react_core.specs.declared.outbox.SentEvent.{SentEvent}
 use Rattle.snapshot_codec.specs.Trace.{typed_fits}
 use Rattle.scene_core.specs.declared.scene.End.{End}
 use Rattle.scene_core.specs.declared.scene.Route.{Route}
 use Rattle.scene_core.specs.Scene.{SceneView, shapes_of}
 use Rattle.scene_core.specs.Shape.{Shape, rows_of}
-use Rattle.cascade_world.specs.Answers.{Answer}
+use Rattle.cascade_world.specs.Answers.{NodeAnswer}
 use Rattle.cascade_trace.specs.Ends.{same_end, targets_of}
 use Rattle.cascade_world.specs.World.{record_event}
 use Rattle.cascade_trace.specs.declared.trace.TraceLine.{TraceLine}
-use Rattle.cascade_world.specs.declared.world.Turn.{Turn}
+use Rattle.cascade_world.specs.declared.world.Live.{Live}
 use Rattle.cascade_world.specs.Fits.{sent_type, output_type}
 use Rattle.laws_worlds.proofs.Pointers.{all_append}
 use Rattle.laws_worlds.proofs.Rows.{then_some}
@@ -48,7 +48,7 @@ numbers_fit shapes source v few short l =
     let b = then_some sent_type (slice_get (option_map_or rows_of (slice_get shapes source.node) []) source.field) h.0 h.1 in
     given (slice_get shapes source.node) refl b.0 b.1
   where
-    given : (o : Option Shape) → slice_get shapes source.node ≡ o → (row : Entry) → slice_get (option_map_or rows_of o []) source.field ≡ Some row → (nat_lt source.node (2 ^ 32) && nat_lt source.field (2 ^ 16)) ≡ true
+    given : (o : Option Shape) → slice_get shapes source.node ≡ o → (row : FieldRowView) → slice_get (option_map_or rows_of o []) source.field ≡ Some row → (nat_lt source.node (2 ^ 32) && nat_lt source.field (2 ^ 16)) ≡ true
     given None e row f = absurd cc
     given (Some s) e row f =
         let inside : source.node < length shapes = slice_get_within shapes source.node s e in
@@ -79,26 +79,26 @@ targets_fit shapes (r ∷ rs) source v j l = given (same_end r.source source) re
 -- ---- what is kept
 
 -- what leaves by a node's fields leaves as Q of a walk says
-pub all_leave : (shapes : List Shape) (node : ℕ) (rs : List Reply) → list_all (leave shapes node) rs ≡ true → AllSent (Leaves shapes) node rs
+pub all_leave : (shapes : List Shape) (node : ℕ) (rs : List SentEvent) → list_all (leave shapes node) rs ≡ true → AllSent (Leaves shapes) node rs
 all_leave shapes node [] a = tt
 all_leave shapes node (r ∷ rs) a = let b = both (leave shapes node r) (list_all (leave shapes node) rs) a in (b.0, all_leave shapes node rs b.1)
 
 -- the world fits, and its drags lead to their sensors
-pub record Fit (scene : SceneView) (turn : Turn) : Type 0 where
-  pub world : WorldFits (shapes_of scene) turn.world
-  pub paths : all_lead scene 0 turn.world.pointing ≡ true
+pub record Fit (scene : SceneView) (live : Live) : Type 0 where
+  pub world : WorldFits (shapes_of scene) live.world
+  pub paths : all_lead scene 0 live.world.pointing ≡ true
 
-pub answered_fits : (scene : SceneView) (turn : Turn) (node : ℕ) (a : Answer) → Fit scene turn → Answered (shapes_of scene) node a → all_lead scene 0 a.pointing ≡ true → AnswerKeeps (Fit scene) (Leaves (shapes_of scene)) node turn a
-answered_fits scene turn node a f k l =
+pub answered_fits : (scene : SceneView) (live : Live) (node : ℕ) (a : NodeAnswer) → Fit scene live → Answered (shapes_of scene) node a → all_lead scene 0 a.pointing ≡ true → AnswerKeeps (Fit scene) (Leaves (shapes_of scene)) node live a
+answered_fits scene live node a f k l =
     let p = f.world in (
       record { world = record { count = p.count; last = p.last; nodes = k.nodes; buttons = p.buttons; lines = p.lines }; paths = l },
       all_leave (shapes_of scene) node a.replies k.replies,
     )
 
-pub record_fits : (scene : SceneView) → length (shapes_of scene) ≤ 2 ^ 32 → AreShort (shapes_of scene) → (turn : Turn) (source : End) (v : Value) → Leaves (shapes_of scene) source v → Fit scene turn → Fit scene (record_event turn source v)
-record_fits scene few short turn source v l f =
+pub record_fits : (scene : SceneView) → length (shapes_of scene) ≤ 2 ^ 32 → AreShort (shapes_of scene) → (live : Live) (source : End) (v : Value) → Leaves (shapes_of scene) source v → Fit scene live → Fit scene (record_event live source v)
+record_fits scene few short live source v l f =
     let p = f.world in
-    let line : TraceLine = record { input = turn.world.applied; time = turn.world.last_time; source = source; value = v } in
+    let line : TraceLine = record { input = live.world.applied; time = live.world.last_time; source = source; value = v } in
     let fits : line_fits (shapes_of scene) line ≡ true = and_true _ _ (le-leb _ _ p.count) (and_true _ _ p.last (and_true _ _ (numbers_fit (shapes_of scene) source v few short l) l)) in
     record {
       world = record {
@@ -106,7 +106,7 @@ record_fits scene few short turn source v l f =
         last = p.last;
         nodes = p.nodes;
         buttons = p.buttons;
-        lines = all_append (line_fits (shapes_of scene)) turn.world.trace (line ∷ []) p.lines (and_true _ _ fits refl);
+        lines = all_append (line_fits (shapes_of scene)) live.world.trace (line ∷ []) p.lines (and_true _ _ fits refl);
       };
       paths = f.paths;
     }

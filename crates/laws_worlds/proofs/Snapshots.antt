@@ -9,7 +9,7 @@ use Rattle.x3d_values.specs.declared.fields.Position.{Position}
 use Rattle.x3d_values.specs.declared.node_type.NodeType.{NodeType}
 use Rattle.x3d_values.specs.declared.node_type.NodeType.TheVariants.{TimeSensor, BooleanSequencer, IntegerSequencer}
 use Rattle.x3d_values.specs.declared.value.Value.{Value}
-use Rattle.x3d_values.specs.Tables.{Entry}
+use Rattle.x3d_values.specs.Tables.{FieldRowView}
 use Rattle.sensor_plane.specs.declared.pointing.PointingState.{PointingState}
 use Rattle.sensor_plane.specs.Pointing.{pointing_fits}
 use Rattle.snapshot_codec.specs.Fields.{kept_codec}
@@ -33,7 +33,7 @@ use Rattle.laws_worlds.specs.Snapshots.{FittingHaveSnapshots}
 
 -- ---- a node
 
-values_have : (t : NodeType) (n : ℕ) (es : List Entry) (values : List (Option Value)) → values_fit t n es values ≡ true → rows_fit kept_codec (kept_from t n es) values ≡ true
+values_have : (t : NodeType) (n : ℕ) (es : List FieldRowView) (values : List (Option Value)) → values_fit t n es values ≡ true → rows_fit kept_codec (kept_from t n es) values ≡ true
 values_have t n [] [] f = refl
 values_have t n [] (v ∷ values) f = absurd cc
 values_have t n (e ∷ es) [] f = absurd cc

@@ -7,15 +7,15 @@ use Rattle.x3d_values.specs.declared.fields.Fields.{Fields}
 use Rattle.x3d_values.specs.declared.node_type.NodeType.{NodeType}
 use Rattle.x3d_values.specs.declared.node_type.NodeType.TheVariants.{PlaneSensor, TimeSensor, TouchSensor}
 use Rattle.x3d_values.specs.declared.value.Value.{Value}
-use Rattle.x3d_values.specs.Pointing.{Pointing}
+use Rattle.x3d_values.specs.Pointing.{PointerView}
 use Rattle.x3d_values.specs.Access.{sends}
 use Rattle.x3d_values.specs.declared.ranges.TheConstants.{MAX_VIEWERS}
 use Rattle.x3d_values.specs.Ranges.{coordinates_fit, is_viewer}
-use Rattle.x3d_values.specs.Tables.{Entry}
-use Rattle.react_core.specs.declared.outbox.Reply.{Reply}
+use Rattle.x3d_values.specs.Tables.{FieldRowView}
+use Rattle.react_core.specs.declared.outbox.SentEvent.{SentEvent}
 use Rattle.react_core.specs.Access.{is_exposed}
 use Rattle.react_core.specs.Reaction.{is_time_sensor, keeps, reaction}
-use Rattle.sensor_core.specs.Timing.{Timing, timing_of}
+use Rattle.sensor_core.specs.Timing.{TimeFieldsView, timing_of}
 use Rattle.sensor_plane.specs.declared.drag.Drag.{Drag}
 use Rattle.sensor_plane.specs.declared.meeting.SensorPointer.{SensorPointer}
 use Rattle.sensor_plane.specs.declared.pointing.PointingState.{PointingState}
@@ -32,7 +32,7 @@ use Rattle.scene_core.specs.Places.{is_pointing}
 use Rattle.scene_core.specs.Scene.{SceneView}
 use Rattle.scene_core.specs.Shape.{Shape, rows_of}
 use Rattle.cascade_world.specs.Access.{is_set}
-use Rattle.cascade_world.specs.Answers.{Answer, nothing, reacting, setting, setting_at, is_script, turns_off, forgets, forgotten_by, forgetting, touching, keeping, not_run, answer_as, answer, ticking, ticking_at, ticked, is_met, meeting, met, met_as}
+use Rattle.cascade_world.specs.Answers.{NodeAnswer, nothing, reacting, setting, setting_at, is_script, turns_off, forgets, forgotten_by, forgetting, touching, keeping, not_run, answer_as, answer, ticking, ticking_at, ticked, is_met, meeting, met, met_as}
 use Rattle.cascade_world.specs.Fits.{sent_type, output_type}
 use Rattle.cascade_world.specs.Pointer.{tracked_at, tracked_by}
 use Rattle.cascade_world.specs.declared.world.WorldData.{WorldData}
@@ -89,15 +89,15 @@ set_same {A} (y ∷ xs) (suc n) x e = ap (λ (zs : List A). y ∷ zs) (set_same 
 -- ---- the answers of nodes
 
 -- what is sent may leave by the node's fields
-abbrev pub leave : List Shape → ℕ → Reply → Bool
+abbrev pub leave : List Shape → ℕ → SentEvent → Bool
 leave shapes node r = typed_fits (output_type shapes node r.field) r.value
 
-pub record Answered (shapes : List Shape) (node : ℕ) (a : Answer) : Type 0 where
+pub record Answered (shapes : List Shape) (node : ℕ) (a : NodeAnswer) : Type 0 where
   pub nodes : nodes_fit shapes a.fields a.sensors a.pointing ≡ true
   pub replies : list_all (leave shapes node) a.replies ≡ true
 
 -- what a row lets out is of the type that leaves by it
-sent_leaves : (o : Option Entry) (v : Value) → option_map_or (λ (row : Entry). sends row.access && value_fits row.field_type v) o false ≡ true → typed_fits (option_and_then sent_type o) v ≡ true
+sent_leaves : (o : Option FieldRowView) (v : Value) → option_map_or (λ (row : FieldRowView). sends row.access && value_fits row.field_type v) o false ≡ true → typed_fits (option_and_then sent_type o) v ≡ true
 sent_leaves None v e = absurd cc
 sent_leaves (Some row) v e = given (sends row.access) e
   where
@@ -109,14 +109,14 @@ all_imply : {X : Type 0} (p q : X → Bool) → ((x : X) → p x ≡ true → q 
 all_imply p q k [] f = refl
 all_imply p q k (x ∷ xs) f = let b = both (p x) (list_all p xs) f in and_true _ _ (k x b.0) (all_imply p q k xs b.1)
 
-leaving : (shapes : List Shape) (node : ℕ) (s : Shape) (rs : List Reply) → slice_get shapes node ≡ Some s → replies_fit s.node_type s.declared rs ≡ true → list_all (leave shapes node) rs ≡ true
+leaving : (shapes : List Shape) (node : ℕ) (s : Shape) (rs : List SentEvent) → slice_get shapes node ≡ Some s → replies_fit s.node_type s.declared rs ≡ true → list_all (leave shapes node) rs ≡ true
 leaving shapes node s rs e h =
-    all_imply (λ (r : Reply). sent_fits s.node_type s.declared r.field r.value) (leave shapes node)
+    all_imply (λ (r : SentEvent). sent_fits s.node_type s.declared r.field r.value) (leave shapes node)
     (λ r f. subst (λ (o : Option Shape). typed_fits (option_and_then sent_type (slice_get (option_map_or rows_of o []) r.field)) r.value ≡ true) (sym e) (sent_leaves (slice_get (rows_of s) r.field) r.value f))
     rs h
 
 -- a node of this type that declares these fields
-abbrev pub with_type : NodeType → List Entry → Shape
+abbrev pub with_type : NodeType → List FieldRowView → Shape
 with_type t declared = record { node_type = t; declared = declared }
 
 pub time_is : (t : NodeType) → is_time_sensor t ≡ true → t ≡ TimeSensor
@@ -136,7 +136,7 @@ drag_in_range TouchSensor (state.Plane plane) who f = absurd cc
 drag_in_range _ (state.Plane plane) who f = absurd cc
 
 -- a field that an event sets is there
-set_row : (v : Value) (field : Option Entry) → is_set v field ≡ true → (row : Entry) × (field ≡ Some row) × (is_exposed row.access ≡ true)
+set_row : (v : Value) (field : Option FieldRowView) → is_set v field ≡ true → (row : FieldRowView) × (field ≡ Some row) × (is_exposed row.access ≡ true)
 set_row v None e = absurd cc
 set_row v (Some row) e = (row, refl, (both (is_exposed row.access) _ e).0)
 
@@ -197,13 +197,13 @@ module _ (shapes : List Shape) (w : WorldData) (fit : nodes_fit shapes w.fields 
           record { nodes = put_fields target.node s is (keeps at.fields target.field v).fields r.in_fields; replies = leaving shapes target.node s (keeps at.fields target.field v).replies is r.in_replies }
       given false e = still target.node
 
-  sets : (target : End) (v : Value) (ds : List Entry) → slice_get shapes target.node ≡ Some (with_type TimeSensor ds) → Answered shapes target.node (setting_at w target v (slice_get w.fields target.node))
+  sets : (target : End) (v : Value) (ds : List FieldRowView) → slice_get shapes target.node ≡ Some (with_type TimeSensor ds) → Answered shapes target.node (setting_at w target v (slice_get w.fields target.node))
   sets target v ds is =
       let at = here target.node (with_type TimeSensor ds) is in
       subst (λ (o : Option Fields). Answered shapes target.node (setting_at w target v o)) (sym at.fields_is)
       (subst (λ (c : Option (Option ℕ)). Answered shapes target.node (setting w target v at.fields (timing_of at.fields) c)) (sym at.cycle_is) (given (timing_of at.fields) refl))
     where
-      given : (o : Option Timing) → timing_of (here target.node (with_type TimeSensor ds) is).fields ≡ o → Answered shapes target.node (setting w target v (here target.node (with_type TimeSensor ds) is).fields o (Some (here target.node (with_type TimeSensor ds) is).cycle))
+      given : (o : Option TimeFieldsView) → timing_of (here target.node (with_type TimeSensor ds) is).fields ≡ o → Answered shapes target.node (setting w target v (here target.node (with_type TimeSensor ds) is).fields o (Some (here target.node (with_type TimeSensor ds) is).cycle))
       given None e = still target.node
       given (Some timing) e =
           let at = here target.node (with_type TimeSensor ds) is in
@@ -211,7 +211,7 @@ module _ (shapes : List Shape) (w : WorldData) (fit : nodes_fit shapes w.fields 
           record { nodes = put_cycle target.node (with_type TimeSensor ds) is _ _ r.in_fields r.in_cycle; replies = leaving shapes target.node (with_type TimeSensor ds) _ is r.in_replies }
 
   -- a sensor that forgets its pointers behind what it has answered
-  forgets_fit : (target : End) (s : Shape) (x : Fields) (rs : List Reply) → slice_get shapes target.node ≡ Some s → fields_fit s.node_type s.declared x ≡ true → replies_fit s.node_type s.declared rs ≡ true → (u : Option PointingState) → slice_get w.pointing target.node ≡ u
+  forgets_fit : (target : End) (s : Shape) (x : Fields) (rs : List SentEvent) → slice_get shapes target.node ≡ Some s → fields_fit s.node_type s.declared x ≡ true → replies_fit s.node_type s.declared rs ≡ true → (u : Option PointingState) → slice_get w.pointing target.node ≡ u
       → (nodes_fit shapes (slice_set w.fields target.node x) w.sensors (forgets w target.node s.node_type u) ≡ true) × (list_all (leave shapes target.node) (rs ++ forgotten_by s.node_type u) ≡ true)
   forgets_fit target s x rs is f r None e = absurd (nowhere (here target.node s is).pointing_is e)
     where
@@ -283,18 +283,18 @@ module _ (shapes : List Shape) (w : WorldData) (fit : nodes_fit shapes w.fields 
     where
       given : (o : Option Shape) → slice_get shapes target.node ≡ o → Answered shapes target.node (answer_as w target v o)
       given None e = still target.node
-      given (Some s) e = typed target v s e (subst (λ (o : Option Shape). typed_fits (option_map (λ (row : Entry). row.field_type) (slice_get (option_map_or rows_of o []) target.field)) v ≡ true) e ev)
+      given (Some s) e = typed target v s e (subst (λ (o : Option Shape). typed_fits (option_map (λ (row : FieldRowView). row.field_type) (slice_get (option_map_or rows_of o []) target.field)) v ≡ true) e ev)
 
   -- ---- the clock, and a pointer
 
-  pub ticks : (time : ℤ) → is_moment time ≡ true → (n : ℕ) (ds : List Entry) → slice_get shapes n ≡ Some (with_type TimeSensor ds) → Answered shapes n (ticked w n time)
+  pub ticks : (time : ℤ) → is_moment time ≡ true → (n : ℕ) (ds : List FieldRowView) → slice_get shapes n ≡ Some (with_type TimeSensor ds) → Answered shapes n (ticked w n time)
   unfolding ticked
   ticks time moment n ds is =
       let at = here n (with_type TimeSensor ds) is in
       subst (λ (o : Option Fields). Answered shapes n (ticking_at w n time o)) (sym at.fields_is)
       (subst (λ (c : Option (Option ℕ)). Answered shapes n (ticking w n time (timing_of at.fields) c)) (sym at.cycle_is) (given (timing_of at.fields) refl))
     where
-      given : (o : Option Timing) → timing_of (here n (with_type TimeSensor ds) is).fields ≡ o → Answered shapes n (ticking w n time o (Some (here n (with_type TimeSensor ds) is).cycle))
+      given : (o : Option TimeFieldsView) → timing_of (here n (with_type TimeSensor ds) is).fields ≡ o → Answered shapes n (ticking w n time o (Some (here n (with_type TimeSensor ds) is).cycle))
       given None e = still n
       given (Some timing) e =
           let at = here n (with_type TimeSensor ds) is in
@@ -323,7 +323,7 @@ module _ (shapes : List Shape) (w : WorldData) (fit : nodes_fit shapes w.fields 
       given false = still n
 
   -- where a ray meets the plane of a drag
-  pub tracks : (scene : SceneView) (n : ℕ) (s : Shape) (p : Pointing) → slice_get shapes n ≡ Some s → option_map_or coordinates_fit (tracked_at scene w p n) true ≡ true
+  pub tracks : (scene : SceneView) (n : ℕ) (s : Shape) (p : PointerView) → slice_get shapes n ≡ Some s → option_map_or coordinates_fit (tracked_at scene w p n) true ≡ true
   unfolding tracked_at
   tracks scene n s p is =
       let node = here n s is in

@@ -6,11 +6,11 @@ use Rattle.std.proofs.lemmas.List.{length-map}
 use Rattle.byte_codec.proofs.Laws.{both, and_true}
 use Rattle.x3d_values.specs.declared.node_type.NodeType.{NodeType}
 use Rattle.x3d_values.specs.declared.node_type.NodeType.TheVariants.{Group, TimeSensor}
-use Rattle.x3d_values.specs.declared.stamped.Event.{Event}
-use Rattle.x3d_values.specs.declared.stamped.Event.TheVariants.{Clock, Pointer}
-use Rattle.x3d_values.specs.Pointing.{Pointing}
+use Rattle.x3d_values.specs.declared.stamped.Cause.{Cause}
+use Rattle.x3d_values.specs.declared.stamped.Cause.TheVariants.{Clock, Pointer}
+use Rattle.x3d_values.specs.Pointing.{PointerView}
 use Rattle.x3d_values.specs.Ranges.{coordinates_fit, is_viewer, is_input_time}
-use Rattle.x3d_values.specs.Tables.{Entry, rows}
+use Rattle.x3d_values.specs.Tables.{FieldRowView, rows}
 use Rattle.x3d_values.specs.declared.vector.Vec3.{Vec3}
 use Rattle.react_core.specs.Reaction.{is_time_sensor}
 use Rattle.sensor_plane.specs.declared.meeting.SensorPointer.{SensorPointer}
@@ -23,16 +23,16 @@ use Rattle.scene_core.specs.Scene.{SceneView, shape_of, shapes_of, types_of}
 use Rattle.scene_core.specs.Shape.{Shape, rows_of, declared_entry, most_declared, numbered_fields, shape_by}
 use Rattle.cascade_world.specs.Answers.{answer, met, pointer_at, ticked}
 use Rattle.cascade_core.specs.Apply.{after_input, apply, begun, with_button}
-use Rattle.cascade_core.specs.Course.{Course, Scripted, ended, plan_of}
+use Rattle.cascade_core.specs.Course.{Course, Scripted, ended, wiring_of}
 use Rattle.cascade_world.specs.Insides.{Insides, insides}
 use Rattle.cascade_world.specs.Nodes.{is_clock, is_sensor}
 use Rattle.cascade_world.specs.Pointer.{tracked_at}
 use Rattle.cascade_world.specs.declared.aim.Concerned.{Concerned}
 use Rattle.cascade_core.specs.Scripts.{scripts_in}
-use Rattle.cascade_world.specs.declared.world.Turn.{Turn}
+use Rattle.cascade_world.specs.declared.world.Live.{Live}
 use Rattle.cascade_world.proofs.Shapes.{shape_at}
 use Rattle.laws_worlds.proofs.Rows.{some_is}
-use Rattle.laws_worlds.specs.Fits.{IsStaged, OpeningsFit, ScriptedFits, StepsFit, WorldFits, is_event}
+use Rattle.laws_worlds.specs.Fits.{IsStaged, UntoldWorldsFit, ScriptedFits, StepsFit, WorldFits, is_event}
 use Rattle.laws_worlds.proofs.Calls.{InStates, calls_fit, running_in, starts_in, states_are}
 use Rattle.laws_worlds.proofs.Drags.{answers_lead, meets_lead, starts_lead, ticks_lead}
 use Rattle.laws_worlds.proofs.Places.{contact_right, insides_lead, place_fits}
@@ -44,7 +44,7 @@ use Rattle.laws_worlds.proofs.Walks.{Aims, EventKeeps, Holds, PointKeeps, Rules,
 
 -- the node of that number has that type, and declares what it does
 abbrev Typed : SceneView → ℕ → NodeType → Type 0
-Typed scene n t = (ds : List Entry) × (slice_get (shapes_of scene) n ≡ Some (with_type t ds))
+Typed scene n t = (ds : List FieldRowView) × (slice_get (shapes_of scene) n ≡ Some (with_type t ds))
 
 shaped : (scene : SceneView) (n : ℕ) (t : NodeType) → slice_get (types_of scene) n ≡ Some t → Typed scene n t
 shaped scene n t e =
@@ -93,21 +93,21 @@ module _ (scene : SceneView) (routes : List Route) (staged : IsStaged scene rout
   fitting : Rules scene routes (Fit scene) (InStates scene) (Leaves (shapes_of scene)) (Comes (shapes_of scene))
   fitting = record {
     comes = λ source v l. targets_fit shapes routes source v staged.joined l;
-    records = λ turn source v new l p. record_fits scene staged.few (short_nodes scene.nodes) turn source v l p;
-    answers = λ turn target v come p.
-        answered_fits scene turn target.node (answer shapes turn.world target v) p
-        (answers shapes turn.world p.world.nodes p.world.last target v come) (answers_lead scene turn.world p.paths shapes target v);
+    records = λ live source v new l p. record_fits scene staged.few (short_nodes scene.nodes) live source v l p;
+    answers = λ live target v come p.
+        answered_fits scene live target.node (answer shapes live.world target v) p
+        (answers shapes live.world p.world.nodes p.world.last target v come) (answers_lead scene live.world p.paths shapes target v);
     calls = λ scripts k call takes s. calls_fit scene routes staged.run scripts k call takes s;
   }
 
   tick_fits : (now : ℤ) → is_moment now ≡ true → TickKeeps scene (Fit scene) (Leaves (shapes_of scene)) now
-  tick_fits now m turn n q p =
+  tick_fits now m live n q p =
       let is = clock_at scene n q in
-      answered_fits scene turn n (ticked turn.world n now) p (ticks shapes turn.world p.world.nodes p.world.last now m n is.0 is.1)
-      (ticks_lead scene turn.world p.paths n now)
+      answered_fits scene live n (ticked live.world n now) p (ticks shapes live.world p.world.nodes p.world.last now m n is.0 is.1)
+      (ticks_lead scene live.world p.paths n now)
 
   -- where the ray of a viewer meets the plane of a drag
-  aim_fits : (p : Pointing) (first : Turn) (x : Concerned) → Fit scene first → Aims scene first.world p x → option_map_or coordinates_fit x.tracked true ≡ true
+  aim_fits : (p : PointerView) (first : Live) (x : Concerned) → Fit scene first → Aims scene first.world p x → option_map_or coordinates_fit x.tracked true ≡ true
   aim_fits p first x f aims =
       let is = sensor_at scene x.sensor aims.sensor in
       subst (λ (o : Option Vec3). option_map_or coordinates_fit o true ≡ true) (sym aims.tracked)
@@ -117,29 +117,29 @@ module _ (scene : SceneView) (routes : List Route) (staged : IsStaged scene rout
       given true fits = fits
       given false fits = refl
 
-  meet_fits : (p : Pointing) → is_viewer p.who ≡ true → PointKeeps scene (Fit scene) (Leaves (shapes_of scene)) p
-  meet_fits p v first before turn x t aims f =
+  meet_fits : (p : PointerView) → is_viewer p.who ≡ true → PointKeeps scene (Fit scene) (Leaves (shapes_of scene)) p
+  meet_fits p v first before live x t aims f =
       let inside : Insides = insides scene first.world.fields p.ray in
       let at : SensorPointer = pointer_at p before inside x.tracked x.sensor in
       let all = insides_lead scene first.world.fields p.ray in
       let right = contact_right scene inside x.sensor all in
       let is = sensor_at scene x.sensor aims.sensor in
-      answered_fits scene turn x.sensor (met scene turn.world x.sensor at) f
-      (meets shapes turn.world f.world.nodes f.world.last scene x.sensor is.0 at is.1 v (place_fits scene inside x.sensor all) right.0 (aim_fits p first x t aims))
-      (meets_lead scene turn.world f.paths x.sensor at right.1)
+      answered_fits scene live x.sensor (met scene live.world x.sensor at) f
+      (meets shapes live.world f.world.nodes f.world.last scene x.sensor is.0 at is.1 v (place_fits scene inside x.sensor all) right.0 (aim_fits p first x t aims))
+      (meets_lead scene live.world f.paths x.sensor at right.1)
 
-  button_fits : (p : Pointing) (turn : Turn) → Fit scene turn → Fit scene (with_button turn p)
-  button_fits p turn f =
+  button_fits : (p : PointerView) (live : Live) → Fit scene live → Fit scene (with_button live p)
+  button_fits p live f =
       let w = f.world in
-      record { world = record { count = w.count; last = w.last; nodes = w.nodes; buttons = length-set turn.world.buttons p.who p.down ∙ w.buttons; lines = w.lines }; paths = f.paths }
+      record { world = record { count = w.count; last = w.last; nodes = w.nodes; buttons = length-set live.world.buttons p.who p.down ∙ w.buttons; lines = w.lines }; paths = f.paths }
 
-  event_fits : (now : ℤ) → is_moment now ≡ true → (event : Event) → is_event event ≡ true → EventKeeps scene (Fit scene) (Leaves (shapes_of scene)) now event
+  event_fits : (now : ℤ) → is_moment now ≡ true → (cause : Cause) → is_event cause ≡ true → EventKeeps scene (Fit scene) (Leaves (shapes_of scene)) now cause
   event_fits now m Clock v = tick_fits now m
   event_fits now m (Pointer p) v = (button_fits p, meet_fits p v)
 
   -- the world that a course ends with
   ended_fits : (c : Course) → Holds (Fit scene) (InStates scene) c → ScriptedFits scene (ended c)
-  ended_fits c h = record { world = h.turn.world; paths = h.turn.paths; states = states_are (scripts_in scene) c.scripts h.scripts.kinds h.scripts.states }
+  ended_fits c h = record { world = h.live.world; paths = h.live.paths; states = states_are (scripts_in scene) c.scripts h.scripts.kinds h.scripts.states }
 
 moment_of : (t : ℤ) → is_input_time t ≡ true → is_moment t ≡ true
 moment_of t e = let b = both (int_le (pos 1) t) (int_le t (pos (10 ^ 18))) e in and_true _ _ (later t b.0) b.1
@@ -155,13 +155,13 @@ all_steps_fit scene routes w input staged is f =
     let number = is.next in
     let m = moment_of input.time is.time in
     let old : WorldFits (shapes_of scene) w.world = f.world in
-    ended_fits scene routes staged (after_input scene (plan_of scene routes) (begun scene w input) input)
+    ended_fits scene routes staged (after_input scene (wiring_of scene routes) (begun scene w input) input)
     (input_keeps scene routes (Fit scene) (InStates scene) (Leaves (shapes_of scene)) (Comes (shapes_of scene)) (fitting scene routes staged) w input
-    (event_fits scene routes staged input.time m input.event is.event)
+    (event_fits scene routes staged input.time m input.cause is.cause)
     (record { world = record { count = omega (arith, most, number); last = m; nodes = old.nodes; buttons = old.buttons; lines = old.lines }; paths = f.paths })
     (running_in scene w.states f.states))
 
-pub all_openings_fit : OpeningsFit
+pub all_openings_fit : UntoldWorldsFit
 all_openings_fit scene routes staged world starts =
     let c : Course = first_course scene routes in
     subst (λ (w : Scripted). ScriptedFits scene w) (sym (opening_is scene routes))

@@ -3,10 +3,10 @@ use Rattle.std.proofs.Common.{◌≡◌, ◌≢◌, ◌⊎◌, ℕ, zero, suc, �
 use Rattle.std.proofs.lemmas.Int.{ints}
 use Rattle.std.proofs.lemmas.Bool.{le-leb, leb-true}
 use Rattle.std.specs.Int.{int_div_euclid}
-use Rattle.react_core.specs.declared.place.Place.{Place}
-use Rattle.react_core.specs.Keys.{are_rising, rise_from, reached, have_steps, IsStep}
+use Rattle.react_core.specs.declared.place.Between.{Between}
+use Rattle.react_core.specs.Keys.{are_rising, rise_from, reached, have_steps, IsKeyAt}
 use Rattle.react_core.specs.Interpolation.{part_way, place_of, place_among, key_at, last_reached}
-use Rattle.react_core.proofs.KeyLemmas.{IsPassedAt, rise_from-above, reached-passed, IsStep-passed}
+use Rattle.react_core.proofs.KeyLemmas.{IsPassedAt, rise_from-above, reached-passed, IsKeyAt-passed}
 use Rattle.react_core.proofs.PlaceLemmas.{is_between}
 use Rattle.react_core.proofs.PartLemmas.{quotient_small, quotient_below, down_part}
 use Rattle.byte_codec.proofs.Laws.{both, and_true}
@@ -118,20 +118,20 @@ passed (key ∷ keys) fraction h =
     passed_from key (key ∷ keys) fraction (and_true (int_le key key) (rise_from key keys) same h)
 
 -- the last key that is reached
-step_is : (keys : List ℤ) (fraction : ℤ) → have_steps keys ≡ true → IsStep keys fraction (last_reached keys fraction)
+step_is : (keys : List ℤ) (fraction : ℤ) → have_steps keys ≡ true → IsKeyAt keys fraction (last_reached keys fraction)
 step_is keys fraction h =
     let b = both _ _ h in
     let some : 0 < length keys = not_empty keys b.0 in
     let p = passed keys fraction b.1 in
     let same : reached keys fraction ≡ p.0 = reached-passed keys fraction p.0 p.0 p.1 (omega arith) in
-    subst (λ (n : ℕ). IsStep keys fraction (n - 1)) (sym same) (IsStep-passed keys fraction p.0 some p.1)
+    subst (λ (n : ℕ). IsKeyAt keys fraction (n - 1)) (sym same) (IsKeyAt-passed keys fraction p.0 some p.1)
   where
     not_empty : (xs : List ℤ) → not (length xs == 0) ≡ true → 0 < length xs
     not_empty [] e = absurd cc
     not_empty (x ∷ xs) e = omega arith
 
 -- a part of a way, and a way of some length
-pub record IsPart (place : Place) : Type 0 where
+pub record IsPart (place : Between) : Type 0 where
   pub short : place.part ≤ place.whole
   pub some : 0 < place.whole
 
@@ -150,7 +150,7 @@ among keys fraction h = first (int_le fraction (key_at keys 0)) refl
     first true e = rw e (record { short = omega arith; some = omega arith })
     first false e = last e (int_le (key_at keys (length keys - 1)) fraction) refl
 
-pub place_is : (keys : List ℤ) (fraction : ℤ) (place : Place) → place_of keys fraction ≡ Some place → IsPart place
+pub place_is : (keys : List ℤ) (fraction : ℤ) (place : Between) → place_of keys fraction ≡ Some place → IsPart place
 unfolding place_of
 place_is keys fraction place e = given (have_steps keys) refl e
   where

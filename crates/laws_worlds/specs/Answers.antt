@@ -8,15 +8,15 @@ use Rattle.x3d_values.specs.declared.ranges.TheConstants.{MAX_VIEWERS}
 use Rattle.x3d_values.specs.declared.value.Value.{Value}
 use Rattle.x3d_values.specs.declared.vector.Vec3.{Vec3}
 use Rattle.x3d_values.specs.Ranges.{coordinates_fit, is_viewer}
-use Rattle.x3d_values.specs.Tables.{Entry}
+use Rattle.x3d_values.specs.Tables.{FieldRowView}
 use Rattle.react_core.specs.Reaction.{Reaction, reaction}
-use Rattle.sensor_core.specs.Events.{Answer, set}
+use Rattle.sensor_core.specs.Events.{TimeAnswer, set}
 use Rattle.sensor_core.specs.Ticks.{Tick, tick}
-use Rattle.sensor_core.specs.Timing.{Timing, timing_of, with_timing, is_timing}
-use Rattle.sensor_core.specs.Touches.{Touch, Touched, pointer, point, disable}
+use Rattle.sensor_core.specs.Timing.{TimeFieldsView, timing_of, with_timing, is_timing}
+use Rattle.sensor_core.specs.Touches.{TouchStateView, Touched, pointer, point, disable}
 use Rattle.sensor_plane.specs.declared.meeting.SensorPointer.{SensorPointer}
 use Rattle.sensor_plane.specs.declared.pointing.PointingState.TheVariants as state
-use Rattle.sensor_plane.specs.Meeting.{Met, pointed}
+use Rattle.sensor_plane.specs.Meeting.{PlaneMet, pointed}
 use Rattle.sensor_plane.specs.PlaneParts.{contact_fits}
 use Rattle.sensor_plane.specs.Planes.{Plane}
 use Rattle.sensor_plane.specs.Pointing.{Forgotten, forgotten, plane_fits}
@@ -28,14 +28,15 @@ use Rattle.laws_worlds.specs.Ranges.{event_fits, fields_fit, replies_fit}
 -- ---- any node, with these fields behind those of its type
 
 -- the node keeps fields that fit, and sends events that do
-pub record Fit (node_type : NodeType) (declared : List Entry) (r : Reaction) : Type 0 where
+pub record Fit (node_type : NodeType) (declared : List FieldRowView) (r : Reaction) : Type 0 where
   pub in_fields : fields_fit node_type declared r.fields ≡ true
   pub in_replies : replies_fit node_type declared r.replies ≡ true
 
 -- its fields fit, and the event that comes to it
 abbrev pub ReactionsFit : Type 0
 ReactionsFit =
-    (node_type : NodeType) (declared : List Entry) (fields : Fields) (input : ℕ) (value : Value)
+    (node_type : NodeType) (declared : List FieldRowView) (fields : Fields) (input : ℕ)
+    (value : Value)
     (time : ℤ)
     → fields_fit node_type declared fields ≡ true
     → event_fits node_type declared input value ≡ true → is_moment time ≡ true
@@ -44,19 +45,20 @@ ReactionsFit =
 -- ---- a TimeSensor
 
 -- it keeps fields that fit, a cycle that is numbered in 63 bits if one runs, and sends what fits
-pub record Set (declared : List Entry) (fields : Fields) (a : Answer) : Type 0 where
+pub record Set (declared : List FieldRowView) (fields : Fields) (a : TimeAnswer) : Type 0 where
   pub in_fields : fields_fit TimeSensor declared (with_timing fields a.timing) ≡ true
   pub in_cycle : cycle_fits a.cycle ≡ true
   pub in_replies : replies_fit TimeSensor declared a.replies ≡ true
 
-pub record Ticked (declared : List Entry) (t : Tick) : Type 0 where
+pub record Ticked (declared : List FieldRowView) (t : Tick) : Type 0 where
   pub in_cycle : cycle_fits t.cycle ≡ true
   pub in_replies : replies_fit TimeSensor declared t.replies ≡ true
 
 -- an event comes to it
 abbrev pub SetsFit : Type 0
 SetsFit =
-    (declared : List Entry) (fields : Fields) (timing : Timing) (cycle : Option ℕ) (input : ℕ)
+    (declared : List FieldRowView) (fields : Fields) (timing : TimeFieldsView) (cycle : Option ℕ)
+    (input : ℕ)
     (value : Value)
     → fields_fit TimeSensor declared fields ≡ true → timing_of fields ≡ Some timing
     → cycle_fits cycle ≡ true → Set declared fields (set cycle timing input value)
@@ -64,7 +66,7 @@ SetsFit =
 -- the clock ticks
 abbrev pub TicksFit : Type 0
 TicksFit =
-    (declared : List Entry) (timing : Timing) (cycle : Option ℕ) (now : ℤ)
+    (declared : List FieldRowView) (timing : TimeFieldsView) (cycle : Option ℕ) (now : ℤ)
     → is_timing timing ≡ true → cycle_fits cycle ≡ true → is_moment now ≡ true
     → Ticked declared (tick cycle timing now)
 
@@ -72,7 +74,7 @@ TicksFit =
 
 -- it tells of each viewer whether its pointer is over it, a viewer presses it if anybody does, and
 -- it sends what fits
-pub record TouchFit (declared : List Entry) (t : Touched) : Type 0 where
+pub record TouchFit (declared : List FieldRowView) (t : Touched) : Type 0 where
   pub in_over : length t.touch.over ≡ MAX_VIEWERS
   pub in_presser : option_map_or is_viewer t.touch.presser true ≡ true
   pub in_replies : replies_fit TouchSensor declared t.replies ≡ true
@@ -80,7 +82,8 @@ pub record TouchFit (declared : List Entry) (t : Touched) : Type 0 where
 -- a viewer points, inside at a place of its range or outside
 abbrev pub PointsFit : Type 0
 PointsFit =
-    (declared : List Entry) (touch : Touch) (who : ℕ) (before down : Bool) (inside : Option Vec3)
+    (declared : List FieldRowView) (touch : TouchStateView) (who : ℕ) (before down : Bool)
+    (inside : Option Vec3)
     (now : ℤ)
     → length touch.over ≡ MAX_VIEWERS → option_map_or is_viewer touch.presser true ≡ true
     → is_viewer who ≡ true
@@ -89,12 +92,13 @@ PointsFit =
 
 -- it is turned off
 abbrev pub DisablesFit : Type 0
-DisablesFit = (declared : List Entry) (touch : Touch) → TouchFit declared (disable touch)
+DisablesFit =
+    (declared : List FieldRowView) (touch : TouchStateView) → TouchFit declared (disable touch)
 
 -- ---- a PlaneSensor
 
 -- what is kept of it is in its ranges, so are its fields, and it sends what fits
-pub record PlaneFit (declared : List Entry) (m : Met) : Type 0 where
+pub record PlaneFit (declared : List FieldRowView) (m : PlaneMet) : Type 0 where
   pub in_state : plane_fits m.state ≡ true
   pub in_fields : fields_fit PlaneSensor declared m.fields ≡ true
   pub in_replies : replies_fit PlaneSensor declared m.replies ≡ true
@@ -103,18 +107,18 @@ pub record PlaneFit (declared : List Entry) (m : Met) : Type 0 where
 -- over it; where it drags, its ray meets the plane at a place of its range, or nowhere
 abbrev pub PlanePointsFit : Type 0
 PlanePointsFit =
-    (declared : List Entry) (plane : Plane) (fields : Fields) (at : SensorPointer) (now : ℤ)
+    (declared : List FieldRowView) (plane : Plane) (fields : Fields) (at : SensorPointer) (now : ℤ)
     → plane_fits (state.Plane plane) ≡ true → fields_fit PlaneSensor declared fields ≡ true
     → is_viewer at.who ≡ true → contact_fits at.contact ≡ true
     → option_map_or coordinates_fit at.tracked true ≡ true
     → PlaneFit declared (pointed (state.Plane plane) fields at now)
 
-pub record PlaneForgets (declared : List Entry) (f : Forgotten) : Type 0 where
+pub record PlaneForgets (declared : List FieldRowView) (f : Forgotten) : Type 0 where
   pub in_state : plane_fits f.state ≡ true
   pub in_replies : replies_fit PlaneSensor declared f.replies ≡ true
 
 -- it is turned off
 abbrev pub PlaneDisablesFit : Type 0
 PlaneDisablesFit =
-    (declared : List Entry) (plane : Plane)
+    (declared : List FieldRowView) (plane : Plane)
     → PlaneForgets declared (forgotten (state.Plane plane))

@@ -4,9 +4,9 @@ use Rattle.std.specs.Prelude.{◌≡◌, ℤ, Bool, true, false, List, None, sli
 use Rattle.std.specs.List.{list_all}
 use Rattle.std.specs.Option.{option_map_or}
 use Rattle.x3d_values.specs.declared.script.Kind.{Kind}
-use Rattle.x3d_values.specs.Tables.{Entry}
+use Rattle.x3d_values.specs.Tables.{FieldRowView}
 use Rattle.snapshot_codec.specs.Values.{value_fits}
-use Rattle.script_host.specs.Behaviour.{Answer, Call, Initialize, Receive, Settle, behave}
+use Rattle.script_host.specs.Behaviour.{CallAnswer, Call, Initialize, Receive, Settle, behave}
 use Rattle.script_host.specs.Events.{takes_event}
 use Rattle.script_host.specs.Interface.{outputs}
 use Rattle.script_host.specs.States.{state_fault}
@@ -22,11 +22,11 @@ call_fits kind Settle = true
 -- what leaves by an output is of its type, and in the range of the type
 abbrev pub reply_fits : Kind → Reply → Bool
 reply_fits kind r =
-    option_map_or (λ (e : Entry). value_fits e.field_type (value_of e.field_type r.numbers))
+    option_map_or (λ (e : FieldRowView). value_fits e.field_type (value_of e.field_type r.numbers))
     (slice_get (outputs kind) r.output) false
 
 -- the script comes to a state of its kind, and sends what fits
-pub record AnswerFits (kind : Kind) (a : Answer) : Type 0 where
+pub record AnswerFits (kind : Kind) (a : CallAnswer) : Type 0 where
   pub in_state : state_fault kind a.state ≡ None
   pub in_replies : list_all (reply_fits kind) a.replies ≡ true
 

@@ -3,11 +3,11 @@
 use Rattle.std.specs.Prelude.{◌≡◌, ℕ, ◌+◌, ◌^◌, ◌≤◌, Bool, true, List, [], ◌∷◌, length, Option, Some, slice_get}
 use Rattle.std.specs.Option.{option_map, option_map_or}
 use Rattle.x3d_values.specs.declared.field_type.FieldType.{FieldType}
-use Rattle.x3d_values.specs.declared.stamped.Event.{Event}
-use Rattle.x3d_values.specs.declared.stamped.Event.TheVariants.{Clock, Pointer}
+use Rattle.x3d_values.specs.declared.stamped.Cause.{Cause}
+use Rattle.x3d_values.specs.declared.stamped.Cause.TheVariants.{Clock, Pointer}
 use Rattle.x3d_values.specs.Ranges.{is_viewer, is_input_number, is_input_time}
-use Rattle.x3d_values.specs.Stamp.{Stamp}
-use Rattle.x3d_values.specs.Tables.{Entry}
+use Rattle.x3d_values.specs.Stamp.{StampedView}
+use Rattle.x3d_values.specs.Tables.{FieldRowView}
 use Rattle.scene_core.specs.declared.scene.Route.{Route}
 use Rattle.scene_core.specs.Scene.{SceneView, shapes_of}
 use Rattle.scene_core.specs.Shape.{Shape, rows_of}
@@ -26,7 +26,7 @@ use Rattle.cascade_world.specs.Fits.{output_type}
 -- the type of a node's field, by the numbers of both
 abbrev pub input_type : List Shape → ℕ → ℕ → Option FieldType
 input_type shapes node field =
-    option_map (λ (row : Entry). row.field_type)
+    option_map (λ (row : FieldRowView). row.field_type)
     (slice_get (option_map_or rows_of (slice_get shapes node) []) field)
 
 -- ---- a world
@@ -60,21 +60,21 @@ pub record IsStaged (scene : SceneView) (routes : List Route) : Type 0 where
   pub run : RunsAll scene
 
 -- nobody but a viewer points
-abbrev pub is_event : Event → Bool
+abbrev pub is_event : Cause → Bool
 is_event Clock = true
 is_event (Pointer p) = is_viewer p.who
 
 -- the next input of a world, up to the last that there may be
-pub record IsNext (w : WorldData) (input : Stamp) : Type 0 where
+pub record IsNext (w : WorldData) (input : StampedView) : Type 0 where
   pub next : input.number ≡ w.applied + 1
   pub number : is_input_number input.number ≡ true
   pub time : is_input_time input.time ≡ true
-  pub event : is_event input.event ≡ true
+  pub cause : is_event input.cause ≡ true
 
 -- a world that fits, after such an input, fits
 abbrev pub StepsFit : Type 0
 StepsFit =
-    (scene : SceneView) (routes : List Route) (w : Scripted) (input : Stamp)
+    (scene : SceneView) (routes : List Route) (w : Scripted) (input : StampedView)
     → IsStaged scene routes → IsNext w.world input
     → ScriptedFits scene w → ScriptedFits scene (apply scene routes w input)
 

@@ -1,7 +1,7 @@
 -- In the scene of a document a hit lies on its ray: each Box has a size that a document can give.
 use Rattle.std.specs.Prelude.{◌≡◌, List, Ok, Some}
 use Rattle.x3d_values.specs.declared.fields.Fields.{Fields}
-use Rattle.x3d_values.specs.Pointing.{Sight}
+use Rattle.x3d_values.specs.Pointing.{RayView}
 use Rattle.proto_flat.specs.declared.flat.Flat.{Flat}
 use Rattle.scene_core.specs.Building.{scene_of}
 use Rattle.scene_core.specs.Scene.{SceneView}
@@ -19,6 +19,6 @@ DocumentsAreSized =
 -- the point of a hit is where its ray is: the limit of size changes none
 abbrev pub DocumentHitsAreOnRays : Type 0
 DocumentHitsAreOnRays =
-    (flat : Flat) (scene : SceneView) (state : List Fields) (ray : Sight) (hit : Hit)
+    (flat : Flat) (scene : SceneView) (state : List Fields) (ray : RayView) (hit : Hit)
     → scene_of flat ≡ Ok scene → IsPicked ray (boxes scene state) (Some hit)
     → point_of ray hit.n hit.m ≡ on_ray ray hit.n hit.m

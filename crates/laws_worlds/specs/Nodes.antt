@@ -5,9 +5,9 @@ use Rattle.x3d_values.specs.declared.field_type.FieldType.{FieldType}
 use Rattle.x3d_values.specs.declared.script.Kind.{Kind}
 use Rattle.x3d_values.specs.declared.script.ScriptSpec.{ScriptSpec}
 use Rattle.x3d_values.specs.Access.{sends}
-use Rattle.x3d_values.specs.Tables.{Entry}
+use Rattle.x3d_values.specs.Tables.{FieldRowView}
 use Rattle.script_host.specs.Attaching.{Fits}
-use Rattle.script_host.specs.Hosting.{ScriptRecord}
+use Rattle.script_host.specs.Hosting.{SlotView}
 use Rattle.script_host.specs.Interface.{outputs}
 use Rattle.scene_core.specs.Scene.{SceneView, rows_at}
 use Rattle.script_running.specs.Runs.{run_of}
@@ -25,12 +25,12 @@ RunsAll s = list_all runs (script_list s) ≡ true
 
 -- so it is where boxes were attached: others than these are refused
 abbrev pub AttachedRun : Type 0
-AttachedRun = (s : SceneView) (boxes : List ScriptRecord) → Fits (script_list s) boxes → RunsAll s
+AttachedRun = (s : SceneView) (boxes : List SlotView) → Fits (script_list s) boxes → RunsAll s
 
 -- ---- what they send
 
 -- among these fields, that one sends events of the type
-abbrev pub Sends : List Entry → ℕ → FieldType → Type 0
+abbrev pub Sends : List FieldRowView → ℕ → FieldType → Type 0
 Sends rows field t =
     IsSomeAnd (slice_get rows field) (λ row. (sends row.access ≡ true) × (row.field_type ≡ t))
 
@@ -38,7 +38,7 @@ Sends rows field t =
 -- output's type
 abbrev pub OutputsTyped : Type 0
 OutputsTyped =
-    (s : SceneView) (k : ℕ) (asked : ScriptSpec) (kind : Kind) (i : ℕ) (e : Entry)
+    (s : SceneView) (k : ℕ) (asked : ScriptSpec) (kind : Kind) (i : ℕ) (e : FieldRowView)
     → slice_get (script_list s) k ≡ Some asked → asked.kind ≡ Some kind → asked.fits ≡ true
     → slice_get (outputs kind) i ≡ Some e
     → Sends (rows_at s asked.node) (slice_index_or (run_of s asked).ports.outputs i 0) e.field_type

@@ -43,8 +43,8 @@ abbrev pub IsCountable : SceneView → Type 0
 IsCountable scene = list_all is_countable_node scene.nodes ≡ true
 
 -- the world of a document's scene in which nothing has happened yet fits
-abbrev pub OpeningsFit : Type 0
-OpeningsFit =
+abbrev pub UntoldWorldsFit : Type 0
+UntoldWorldsFit =
     (flat : Flat) (scene : SceneView)
     → scene_of flat ≡ Ok scene → IsCountable scene → WorldFits (shapes_of scene) (untold scene)
 

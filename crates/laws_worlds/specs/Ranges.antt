@@ -7,8 +7,8 @@ use Rattle.std.specs.Option.{option_map, option_map_or}
 use Rattle.x3d_values.specs.declared.node_type.NodeType.{NodeType}
 use Rattle.x3d_values.specs.declared.value.Value.{Value}
 use Rattle.x3d_values.specs.Access.{sends}
-use Rattle.x3d_values.specs.Tables.{Entry, rows}
-use Rattle.react_core.specs.declared.outbox.Reply.{Reply}
+use Rattle.x3d_values.specs.Tables.{FieldRowView, rows}
+use Rattle.react_core.specs.declared.outbox.SentEvent.{SentEvent}
 use Rattle.snapshot_codec.specs.Trace.{typed_fits}
 use Rattle.snapshot_codec.specs.Values.{value_fits}
 pub use Rattle.cascade_world.specs.Fits.{values_fit, position_fits, fields_fit}
@@ -16,22 +16,23 @@ pub use Rattle.cascade_world.specs.Fits.{values_fit, position_fits, fields_fit}
 -- ---- events
 
 -- the row of a node's field
-abbrev pub row_at : NodeType → List Entry → ℕ → Option Entry
+abbrev pub row_at : NodeType → List FieldRowView → ℕ → Option FieldRowView
 row_at node_type declared field = slice_get (rows node_type ++ declared) field
 
 -- an event may come to that field: its value is of the field's type, in the range of the type
-abbrev pub event_fits : NodeType → List Entry → ℕ → Value → Bool
+abbrev pub event_fits : NodeType → List FieldRowView → ℕ → Value → Bool
 event_fits node_type declared field value =
-    typed_fits (option_map (λ (row : Entry). row.field_type) (row_at node_type declared field))
+    typed_fits
+    (option_map (λ (row : FieldRowView). row.field_type) (row_at node_type declared field))
     value
 
 -- an event may leave by that field: the field sends, and the value is of its type, in the range of
 -- the type
-abbrev pub sent_fits : NodeType → List Entry → ℕ → Value → Bool
+abbrev pub sent_fits : NodeType → List FieldRowView → ℕ → Value → Bool
 sent_fits node_type declared field value =
-    option_map_or (λ (row : Entry). sends row.access && value_fits row.field_type value)
+    option_map_or (λ (row : FieldRowView). sends row.access && value_fits row.field_type value)
     (row_at node_type declared field) false
 
-abbrev pub replies_fit : NodeType → List Entry → List Reply → Bool
+abbrev pub replies_fit : NodeType → List FieldRowView → List SentEvent → Bool
 replies_fit node_type declared replies =
-    list_all (λ (reply : Reply). sent_fits node_type declared reply.field reply.value) replies
+    list_all (λ (reply : SentEvent). sent_fits node_type declared reply.field reply.value) replies

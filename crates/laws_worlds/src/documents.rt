@@ -2,7 +2,7 @@
 //! hits in their scenes.
 
 ghost use Rattle.laws_worlds.specs.Hits.{DocumentHitsAreOnRays, DocumentsAreSized};
-ghost use Rattle.laws_worlds.specs.Openings.{OpeningsFit, StartsAreStates};
+ghost use Rattle.laws_worlds.specs.Openings.{UntoldWorldsFit, StartsAreStates};
 ghost use Rattle.laws_worlds.specs.Routes.{RoutesJoin};
 ghost use Rattle.laws_worlds.specs.Worlds.{WorldsFit, WorldsHaveSnapshots};
 
@@ -16,7 +16,7 @@ pub fn routes_join()
 /// The world of a document before anything has happened fits, and so do the states in which its
 /// scripts start.
 pub fn document_openings_fit()
-    ensures world { OpeningsFit }
+    ensures world { UntoldWorldsFit }
     ensures starts { StartsAreStates }
 {}
 

@@ -26,7 +26,7 @@ use Rattle.scene_core.specs.Numbers.{numbering}
 use Rattle.scene_core.specs.Scene.{SceneView, label_of, type_at}
 use Rattle.scene_text.specs.Places.{is_named, named}
 use Rattle.scene_text.specs.Statements.{helper_root, helpers_of, root_tree, roots_of, route_of, routes_of, scene_document, statements_of, switch_of}
-use Rattle.scene_text.specs.Tree.{PlanView, Step, each}
+use Rattle.scene_text.specs.Tree.{PlanView, Grows, each}
 use Rattle.laws_text.specs.Again.{in_place}
 use Rattle.laws_text.specs.Writable.{AreKeepable, IsShallow}
 use Rattle.laws_text.proofs.Lists.{all_weaker}
@@ -80,7 +80,7 @@ module _ (p : PlanView) (nodes : List FlatNode) (stand : Stand p nodes)
         closed = c.closed ∙ ap (λ (bs : List Braces). ended p nodes s ++ told bs) (sym (in_node_statement ((tree p) s.opened n).made));
       }
 
-  abbrev helpers_made : Step (List NodeText)
+  abbrev helpers_made : Grows (List NodeText)
   helpers_made = each (tree p) (s1 p nodes).opened p.scene.helpers
 
   roots_closed : Closes p nodes (flat_map in_statement) (s0 p nodes) (s1 p nodes) (roots_made p nodes)
@@ -94,14 +94,14 @@ module _ (p : PlanView) (nodes : List FlatNode) (stand : Stand p nodes)
   abbrev helper_statements : List Bool → List Statement
   helper_statements seen = helper_root (helpers_of p seen).made
 
-  abbrev parted : Step (List Statement) → List Braces
+  abbrev parted : Grows (List Statement) → List Braces
   parted m = flat_map in_statement (m.made ++ helper_statements m.seen ++ routes_of p.scene p.routes)
 
   apart : flat_map in_statement (statements_of p) ≡ parted (roots_of p)
   unfolding statements_of
   apart = refl
 
-  in_parts : (m : Step (List Statement)) → told (parted m) ≡ told (flat_map in_statement m.made) ++ told (flat_map in_statement (helper_statements m.seen))
+  in_parts : (m : Grows (List Statement)) → told (parted m) ≡ told (flat_map in_statement m.made) ++ told (flat_map in_statement (helper_statements m.seen))
   in_parts m =
       let front : List Statement = m.made ++ helper_statements m.seen in
       ap told (flat_map-append in_statement front (routes_of p.scene p.routes))

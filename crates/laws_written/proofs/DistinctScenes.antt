@@ -6,7 +6,7 @@ use Rattle.std.proofs.lemmas.List.{take-map}
 use Rattle.x3d_values.specs.declared.node_type.NodeType.{NodeType}
 use Rattle.x3d_values.specs.declared.node_type.NodeType.TheVariants.{Script}
 use Rattle.x3d_values.specs.declared.table.FieldRow.{FieldRow}
-use Rattle.x3d_values.specs.Tables.{Entry, are_distinct, row_named, rows}
+use Rattle.x3d_values.specs.Tables.{FieldRowView, are_distinct, row_named, rows}
 use Rattle.classic_tree.specs.declared.tree.Declaration.{Declaration}
 use Rattle.proto_flat.specs.declared.flat.Flat.{Flat}
 use Rattle.proto_flat.specs.declared.flat.FlatNode.{FlatNode}
@@ -39,26 +39,26 @@ none_mapped (Some row) h = absurd cc
 
 entries_are : (ds : List (Declaration ℕ)) → map declaration_entry ds ≡ map declared_entry (map declared_by ds)
 entries_are [] = refl
-entries_are (d ∷ ds) = ap (λ (es : List Entry). declaration_entry d ∷ es) (entries_are ds)
+entries_are (d ∷ ds) = ap (λ (es : List FieldRowView). declaration_entry d ∷ es) (entries_are ds)
 
 module _ (table : AreRowsDistinct) (t : NodeType) (interface : List (Declaration ℕ)) (h : IsDistinctInterface t interface) where
-  abbrev all : List Entry
+  abbrev all : List FieldRowView
   all = map declared_entry (map declared_by interface)
 
   all_rows : are_distinct (rows t ++ all) ≡ true
   all_rows =
-      subst (λ (es : List Entry). are_distinct (rows t ++ es) ≡ true) (entries_are interface)
+      subst (λ (es : List FieldRowView). are_distinct (rows t ++ es) ≡ true) (entries_are interface)
       (distinct_append (rows t) (map declaration_entry interface) (table t) h.apart
-      (all_map declaration_entry (IsNoneOf t) (λ (e : Entry). AreApart e.name (rows t)) (λ d none. apart 0 d.name (rows t) (none_mapped (row_named 0 d.name (rows t)) none)) interface h.none_own))
+      (all_map declaration_entry (IsNoneOf t) (λ (e : FieldRowView). AreApart e.name (rows t)) (λ d none. apart 0 d.name (rows t) (none_mapped (row_named 0 d.name (rows t)) none)) interface h.none_own))
 
   -- those that have numbers are the first
   numbered_rows : are_distinct (rows t ++ map declared_entry (numbered_fields t (map declared_by interface))) ≡ true
   numbered_rows =
       let many : ℕ = most_declared t in
       let parts : (rows t ++ take many all) ++ drop many all ≡ rows t ++ all =
-      append_assoc (rows t) (take many all) (drop many all) ∙ ap (λ (es : List Entry). rows t ++ es) (take-append-drop many all) in
-      subst (λ (es : List Entry). are_distinct (rows t ++ es) ≡ true) (take-map declared_entry many (map declared_by interface))
-      (distinct_front (rows t ++ take many all) (drop many all) (subst (λ (es : List Entry). are_distinct es ≡ true) (sym parts) all_rows))
+      append_assoc (rows t) (take many all) (drop many all) ∙ ap (λ (es : List FieldRowView). rows t ++ es) (take-append-drop many all) in
+      subst (λ (es : List FieldRowView). are_distinct (rows t ++ es) ≡ true) (take-map declared_entry many (map declared_by interface))
+      (distinct_front (rows t ++ take many all) (drop many all) (subst (λ (es : List FieldRowView). are_distinct es ≡ true) (sym parts) all_rows))
 
   scripted_too : (t ≡ Script) ⊎ (interface ≡ []) → (t ≡ Script) ⊎ (map declared_by interface ≡ [])
   scripted_too (inl e) = inl e

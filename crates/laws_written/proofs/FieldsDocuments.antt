@@ -25,7 +25,7 @@ use Rattle.scene_core.specs.Building.{scene_of}
 use Rattle.scene_core.specs.Numbers as order
 use Rattle.scene_core.specs.Scene.{SceneView}
 use Rattle.scene_text.specs.Statements.{helper_root, helpers_of, root_tree, roots_of, route_of, routes_of, scene_document, statements_of, switch_of}
-use Rattle.scene_text.specs.Tree.{PlanView, Step, each}
+use Rattle.scene_text.specs.Tree.{PlanView, Grows, each}
 use Rattle.laws_text.specs.Again.{in_place}
 use Rattle.laws_text.specs.Writable.{AreKeepable, IsShallow}
 use Rattle.laws_text.proofs.Lists.{all_weaker}
@@ -103,7 +103,7 @@ module _ (p : PlanView) (nodes : List FlatNode) (as_written : ℕ → NodeShape)
         closed = c.closed ∙ ap (λ (l : Shapes). ended p nodes as_written s ++ l) (sym (in_node_statement ((tree p) s.opened n).made));
       }
 
-  abbrev helpers_made : Step (List NodeText)
+  abbrev helpers_made : Grows (List NodeText)
   helpers_made = each (tree p) (s1 p nodes).opened p.scene.helpers
 
   roots_closed : Closes p nodes as_written (flat_map in_statement) (s0 p nodes) (s1 p nodes) (roots_made p nodes)
@@ -117,14 +117,14 @@ module _ (p : PlanView) (nodes : List FlatNode) (as_written : ℕ → NodeShape)
   abbrev helper_statements : List Bool → List Statement
   helper_statements seen = helper_root (helpers_of p seen).made
 
-  abbrev parted : Step (List Statement) → Shapes
+  abbrev parted : Grows (List Statement) → Shapes
   parted m = flat_map in_statement (m.made ++ helper_statements m.seen ++ routes_of p.scene p.routes)
 
   apart : flat_map in_statement (statements_of p) ≡ parted (roots_of p)
   unfolding statements_of
   apart = refl
 
-  in_parts : (m : Step (List Statement)) → parted m ≡ flat_map in_statement m.made ++ flat_map in_statement (helper_statements m.seen)
+  in_parts : (m : Grows (List Statement)) → parted m ≡ flat_map in_statement m.made ++ flat_map in_statement (helper_statements m.seen)
   in_parts m =
       let front : List Statement = m.made ++ helper_statements m.seen in
       flat_map-append in_statement front (routes_of p.scene p.routes)

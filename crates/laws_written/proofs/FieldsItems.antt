@@ -16,7 +16,7 @@ use Rattle.laws_flat.specs.Fields.{Numbering, interface_of, numbering}
 use Rattle.laws_flat.specs.Shapes.{FieldShape, blank, item_shape, no_node, node_of}
 use Rattle.laws_flat.proofs.ShapeParts.{all_fields, declared_shapes, shape-declaration, shape-field}
 use Rattle.scene_text.specs.Raw.{color_run, integer_run, number_list, number_run, pair_run, string_list, truth_list, vector_run}
-use Rattle.scene_text.specs.Tree.{Declared, Makes, Plain, Shown, Step, each, field_tree, one_more, value_tree}
+use Rattle.scene_text.specs.Tree.{Declared, Makes, Plain, Shown, Grows, each, field_tree, one_more, value_tree}
 use Rattle.laws_written.proofs.Braces.{type_named}
 use Rattle.laws_written.proofs.NodesWhole.{made_many}
 use Rattle.laws_written.specs.Fields.{written_value}
@@ -94,7 +94,7 @@ module _ (tree : Makes ℕ NodeText) (seen : List Bool) where
 -- ---- fields in turn
 
 module _ {A B C : Type 0} (make : Makes A B) (f : B → List C) (g : A → List C) (k : (seen : List Bool) (x : A) → f (make seen x).made ≡ g x) where
-  gives_more : (m : Step (List B)) (xs : List A) → flat_map f (fold (one_more make) m xs).made ≡ flat_map f m.made ++ flat_map g xs
+  gives_more : (m : Grows (List B)) (xs : List A) → flat_map f (fold (one_more make) m xs).made ≡ flat_map f m.made ++ flat_map g xs
   gives_more m [] = sym (append-nil (flat_map f m.made))
   gives_more m (x ∷ xs) =
       let b : B = (make m.seen x).made in

@@ -8,7 +8,7 @@ use Rattle.x3d_values.specs.declared.default.FieldDefault.{FieldDefault}
 use Rattle.x3d_values.specs.declared.fields.Fields.{Fields}
 use Rattle.x3d_values.specs.declared.node_type.NodeType.{NodeType}
 use Rattle.x3d_values.specs.declared.value.Value.{Value}
-use Rattle.x3d_values.specs.Tables.{Entry, are_distinct, rows}
+use Rattle.x3d_values.specs.Tables.{FieldRowView, are_distinct, rows}
 use Rattle.laws_flat.specs.Signatures.{Signature, own_interface}
 use Rattle.laws_flat.specs.Fields.{Numbering, numbering}
 use Rattle.laws_flat.specs.Shapes.{FieldShape, NodeShape, blank, field_shape}
@@ -86,7 +86,7 @@ module _ (s : SceneView) (routes : List Route) (state : List Fields) (n : ℕ) w
   abbrev p : PlanView
   p = plan s routes state
 
-  rows_shown : (numbers : Numbering) (number : ℕ) (es : List Entry) → AreNumbered numbers number es
+  rows_shown : (numbers : Numbering) (number : ℕ) (es : List FieldRowView) → AreNumbered numbers number es
       → all_shown numbers (shown_from p n number es) ≡ as_shapes (rows_held s state n number es)
   rows_shown numbers number [] h = refl
   rows_shown numbers number (e ∷ es) h =
@@ -105,7 +105,7 @@ module _ (s : SceneView) (routes : List Route) (state : List Fields) (n : ℕ) w
       ∙ (ap (λ (l : List FieldShape). as_shapes (held_by number o) ++ l) (declared_shown numbers (number + 1) ds h.1)
       ∙ sym (as_shapes_append (held_by number o) (declared_held s state n (number + 1) ds)))
 
-  rows_unsigned : (number : ℕ) (es : List Entry) → all_signed (shown_from p n number es) ≡ []
+  rows_unsigned : (number : ℕ) (es : List FieldRowView) → all_signed (shown_from p n number es) ≡ []
   rows_unsigned number [] = refl
   rows_unsigned number (e ∷ es) =
       let o : Option Value = present_value p n number e.access e.field_type in

@@ -26,7 +26,7 @@ use Rattle.scene_core.specs.Scene.{label_of, type_at}
 use Rattle.scene_core.specs.Tasks.{unopened}
 use Rattle.scene_core.proofs.Fuel.{visit-new, visit-old}
 use Rattle.scene_text.specs.Raw.{color_run, integer_run, number_list, number_run, pair_run, string_list, truth_list, vector_run}
-use Rattle.scene_text.specs.Tree.{Declared, Makes, Plain, PlanView, Step, def_name, each, field_tree, node_tree, one_more, opened, shown_fields, use_tree, value_tree}
+use Rattle.scene_text.specs.Tree.{Declared, Makes, Plain, PlanView, Grows, def_name, each, field_tree, node_tree, one_more, opened, shown_fields, use_tree, value_tree}
 use Rattle.scene_text.specs.Tree.{Shown as Field}
 use Rattle.laws_text.proofs.NumberedLists.{length_set}
 use Rattle.laws_text.proofs.NumberedScenes.{found}
@@ -73,7 +73,7 @@ module _ (p : PlanView) (nodes : List FlatNode) (as_written : ℕ → NodeShape)
   ended s = map as_written s.order
 
   -- what is made between two numberings has the shapes of the nodes that got a number
-  pub record Closes {B : Type 0} (shapes_in : B → Shapes) (s v : Numbering) (m : Step B) : Type 0 where
+  pub record Closes {B : Type 0} (shapes_in : B → Shapes) (s v : Numbering) (m : Grows B) : Type 0 where
     pub seen : m.seen ≡ v.opened
     pub sized : length v.opened ≡ length nodes
     pub closed : ended v ≡ ended s ++ shapes_in m.made
@@ -191,7 +191,7 @@ module _ (p : PlanView) (nodes : List FlatNode) (as_written : ℕ → NodeShape)
         let same : flat_map links fields ≡ inside = stand.shown n node is in
         let few : unopened s.opened ≤ length nodes = (let u = unopened_few s.opened in omega (arith, u, l)) in
         let visited : F s n ≡ close (fold F (appear s n) inside) n = visit-new nodes (length nodes) s n (ap not new) few in
-        let items : Step (List BodyItem) = each (field_tree tree) (slice_set s.opened n true) fields in
+        let items : Grows (List BodyItem) = each (field_tree tree) (slice_set s.opened n true) fields in
         let c : Closes (flat_map within) (appear s n) (fold F (appear s n) inside) items =
         subst (λ (l : List ℕ). Closes (flat_map within) (appear s n) (fold F (appear s n) l) items) same
         (all_in_turn (IsShallow p.scene depth) links within (field_tree tree) (field_shapes (IsShallow p.scene depth) tree k) (appear s n) fields there

@@ -8,7 +8,7 @@ use Rattle.x3d_values.specs.declared.fields.Fields.{Fields}
 use Rattle.x3d_values.specs.declared.node_type.NodeType.{NodeType}
 use Rattle.x3d_values.specs.declared.value.Value.{Value}
 use Rattle.x3d_values.specs.declared.value.Value.TheVariants as value
-use Rattle.x3d_values.specs.Tables.{Entry, rows}
+use Rattle.x3d_values.specs.Tables.{FieldRowView, rows}
 use Rattle.x3d_values.specs.Values.{nodes_of}
 use Rattle.proto_flat.specs.declared.flat.FlatField.{FlatField}
 use Rattle.laws_flat.specs.Order.{nodes_in}
@@ -89,7 +89,7 @@ module _ (s : SceneView) (routes : List Route) (state : List Fields) (n : ℕ) w
   abbrev p : PlanView
   p = plan s routes state
 
-  rows_inside : (number : ℕ) (es : List Entry) → inside (rows_held s state n number es) ≡ flat_map links (shown_from p n number es)
+  rows_inside : (number : ℕ) (es : List FieldRowView) → inside (rows_held s state n number es) ≡ flat_map links (shown_from p n number es)
   rows_inside number [] = refl
   rows_inside number (e ∷ es) =
       let o : Option Value = present_value p n number e.access e.field_type in

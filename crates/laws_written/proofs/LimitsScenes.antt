@@ -29,14 +29,14 @@ use Rattle.scene_core.specs.declared.scene.SceneNode.{SceneNode}
 use Rattle.scene_core.specs.Scene.{SceneView, label_of, type_at}
 use Rattle.scene_text.specs.Raw.{color_run, integer_run, number_list, number_run, pair_run, string_list, truth_list, vector_run}
 use Rattle.scene_text.specs.Statements.{helper_root, helpers_of, root_tree, roots_of, route_of, routes_of, scene_document, statements_of, switch_of}
-use Rattle.scene_text.specs.Tree.{Declared, Makes, Plain, PlanView, Step, def_name, each, field_tree, new_type, node_tree, one_more, opened, shown_fields, value_tree}
+use Rattle.scene_text.specs.Tree.{Declared, Makes, Plain, PlanView, Grows, def_name, each, field_tree, new_type, node_tree, one_more, opened, shown_fields, value_tree}
 use Rattle.scene_text.specs.Tree.{Shown as Field}
 use Rattle.laws_text.proofs.NumberedLists.{some_is}
-use Rattle.laws_written.specs.Nodes.{IsRead, WrittenNodesAreRead, written_nodes, written_roots}
+use Rattle.laws_written.specs.Nodes.{AreNodesRead, WrittenNodesAreRead, written_nodes, written_roots}
 use Rattle.laws_written.proofs.Braces.{type_named}
 use Rattle.laws_written.proofs.Plans.{plan}
 use Rattle.laws_written.specs.Distinct.{HaveDistinctFields}
-use Rattle.laws_plain.specs.Parts.{Braces, Entry, Item, entries, in_item, in_node, in_statement, in_value, parts}
+use Rattle.laws_plain.specs.Parts.{Braces, BraceField, BraceItem, entries, in_item, in_node, in_statement, in_value, parts}
 use Rattle.laws_plain.specs.Sound.{AllNamed, AreNamed, IsOfType, IsSound, SoundDocumentsAreFlat}
 use Rattle.laws_written.specs.LimitsWritten.{WrittenScenesAreFlat}
 use Rattle.laws_plain.proofs.PartTexts.{in_full, in_node_statement, in_route, in_use, part_declaration, part_field}
@@ -46,7 +46,7 @@ use Rattle.laws_plain.proofs.SoundParts.{AreSound}
 -- ---- of each in turn
 
 module _ {A B : Type 0} (P : B → Type 0) (make : Makes A B) (k : (seen : List Bool) (x : A) → P (make seen x).made) where
-  each_more : (m : Step (List B)) (xs : List A) → AllByRecursion P m.made → AllByRecursion P (fold (one_more make) m xs).made
+  each_more : (m : Grows (List B)) (xs : List A) → AllByRecursion P m.made → AllByRecursion P (fold (one_more make) m xs).made
   each_more m [] h = h
   each_more m (x ∷ xs) h = each_more (one_more make m x) xs (all_push P m.made (make m.seen x).made h (k m.seen x))
 
@@ -54,7 +54,7 @@ module _ {A B : Type 0} (P : B → Type 0) (make : Makes A B) (k : (seen : List 
   each_made seen xs = each_more (record { seen = seen; made = [] }) xs tt
 
 module _ {A B C : Type 0} (make : Makes A B) (f : B → List C) (g : A → List C) (k : (seen : List Bool) (x : A) → f (make seen x).made ≡ g x) where
-  gives_more : (m : Step (List B)) (xs : List A) → flat_map f (fold (one_more make) m xs).made ≡ flat_map f m.made ++ flat_map g xs
+  gives_more : (m : Grows (List B)) (xs : List A) → flat_map f (fold (one_more make) m xs).made ≡ flat_map f m.made ++ flat_map g xs
   gives_more m [] = sym (append-nil (flat_map f m.made))
   gives_more m (x ∷ xs) =
       let b : B = (make m.seen x).made in
@@ -121,15 +121,15 @@ module _ (tree : Makes ℕ NodeText) (k : (seen : List Bool) (n : ℕ) → NodeS
 
   field_sound : (seen : List Bool) (x : Field) → ItemSound (field_tree tree seen x).made
   field_sound seen (Plain name v) =
-      subst (λ (i : Item). AreSound i.inside) (sym (part_field 0 name (given.Value (value_tree tree seen v).made))) (value_sound seen v)
-  field_sound seen (Declared d None) = subst (λ (i : Item). AreSound i.inside) (sym (part_declaration (declaration_of d given.Nothing))) tt
+      subst (λ (i : BraceItem). AreSound i.inside) (sym (part_field 0 name (given.Value (value_tree tree seen v).made))) (value_sound seen v)
+  field_sound seen (Declared d None) = subst (λ (i : BraceItem). AreSound i.inside) (sym (part_declaration (declaration_of d given.Nothing))) tt
   field_sound seen (Declared d (Some v)) =
-      subst (λ (i : Item). AreSound i.inside) (sym (part_declaration (declaration_of d (given.Value (value_tree tree seen v).made)))) (value_sound seen v)
+      subst (λ (i : BraceItem). AreSound i.inside) (sym (part_declaration (declaration_of d (given.Value (value_tree tree seen v).made)))) (value_sound seen v)
 
   field_entries : (seen : List Bool) (x : Field) → entries (field_tree tree seen x).made ≡ shown_entry x
-  field_entries seen (Plain name v) = ap (λ (i : Item). i.entries) (part_field 0 name (given.Value (value_tree tree seen v).made))
-  field_entries seen (Declared d None) = ap (λ (i : Item). i.entries) (part_declaration (declaration_of d given.Nothing))
-  field_entries seen (Declared d (Some v)) = ap (λ (i : Item). i.entries) (part_declaration (declaration_of d (given.Value (value_tree tree seen v).made)))
+  field_entries seen (Plain name v) = ap (λ (i : BraceItem). i.entries) (part_field 0 name (given.Value (value_tree tree seen v).made))
+  field_entries seen (Declared d None) = ap (λ (i : BraceItem). i.entries) (part_declaration (declaration_of d given.Nothing))
+  field_entries seen (Declared d (Some v)) = ap (λ (i : BraceItem). i.entries) (part_declaration (declaration_of d (given.Value (value_tree tree seen v).made)))
 
 -- ---- nodes
 
@@ -153,7 +153,7 @@ module _ (p : PlanView) (known : AreKnown p) where
       let same : flat_map entries items ≡ shown_entries fields = gives (field_tree tree) entries shown_entry (field_entries tree k) (slice_set seen n true) fields in
       full_sound (def_name p n) (node_type_name t) items (each_made ItemSound (field_tree tree) (field_sound tree k) (slice_set seen n true) fields)
       (subst (λ (u : Option NodeType). IsOfType u (flat_map entries items)) (sym (type_named t))
-      (subst (λ (es : List Entry). IsOfType (Some t) es) (sym same) (known n t (h t refl))))
+      (subst (λ (es : List BraceField). IsOfType (Some t) es) (sym same) (known n t (h t refl))))
 
   new_is : (b : Bool) (o : Option NodeType) (t : NodeType) → (if b then None else o) ≡ Some t → o ≡ Some t
   new_is true o t e = absurd cc
@@ -177,9 +177,9 @@ module _ (p : PlanView) (known : AreKnown p) where
   switch_sound trees h =
       let content : BodyItem = item.Field 0 (codes "children") (given.Value (raw.NodeList trees)) in
       let is = part_field 0 (codes "children") (given.Value (raw.NodeList trees)) in
-      full_sound None (codes "Switch") (content ∷ []) (subst (λ (i : Item). AreSound i.inside) (sym is) (nodes_sound trees h), tt)
+      full_sound None (codes "Switch") (content ∷ []) (subst (λ (i : BraceItem). AreSound i.inside) (sym is) (nodes_sound trees h), tt)
       (subst (λ (u : Option NodeType). IsOfType u (flat_map entries (content ∷ []))) (sym (type_named Switch))
-      (subst (λ (i : Item). IsOfType (Some Switch) (i.entries ++ [])) (sym is) switch_known))
+      (subst (λ (i : BraceItem). IsOfType (Some Switch) (i.entries ++ [])) (sym is) switch_known))
 
   last_sound : (trees : List NodeText) → AllByRecursion NodeSound trees → AllByRecursion StatementSound (helper_root trees)
   last_sound [] h = tt
@@ -212,7 +212,7 @@ all_closed : (ns : List (List ℕ)) → AllByRecursion AreNamed (map (map some) 
 all_closed [] = tt
 all_closed (n ∷ ns) = (all_some n, all_closed ns)
 
-read_named : (s : SceneView) (r : Reading) → IsRead s r → AllNamed r
+read_named : (s : SceneView) (r : Reading) → AreNodesRead s r → AllNamed r
 read_named s r h = record {
   closed = subst (AllByRecursion AreNamed) (sym h.0) (all_closed (written_nodes s));
   here = subst AreNamed (sym h.1) (all_some (written_roots s));

@@ -13,7 +13,7 @@ use Rattle.x3d_values.specs.declared.node_type.NodeType.{NodeType}
 use Rattle.x3d_values.specs.declared.node_type.NodeType.TheVariants.{Script}
 use Rattle.x3d_values.specs.declared.table.FieldRow.{FieldRow}
 use Rattle.x3d_values.specs.declared.value.Value.{Value}
-use Rattle.x3d_values.specs.Tables.{Entry as Row, are_distinct, numbered, row_named, rows}
+use Rattle.x3d_values.specs.Tables.{FieldRowView as Row, are_distinct, numbered, row_named, rows}
 use Rattle.laws_flat.specs.Signatures.{KnownField}
 use Rattle.laws_flat.specs.Signatures.{Signature, numbered_from, of_declared, of_row, of_type, own_interface}
 use Rattle.laws_flat.specs.Fields.{Numbering, number_of, numbering}
@@ -30,7 +30,7 @@ use Rattle.laws_written.specs.Distinct.{HasDistinctFields}
 use Rattle.laws_written.specs.Fields.{declared_signature}
 use Rattle.laws_written.proofs.Naming.{AreNumbered, fields_numbered, owned}
 use Rattle.laws_written.proofs.Naming.{signed as signatures_of}
-use Rattle.laws_plain.specs.Parts.{Declares, Entry, Gives}
+use Rattle.laws_plain.specs.Parts.{Declares, BraceField, Gives}
 use Rattle.laws_plain.specs.Sound.{AreOnce, IsNext, IsOfType, entry_number, is_among, signed, with_next}
 use Rattle.laws_plain.specs.Sound.{unless_own as unless}
 
@@ -123,39 +123,39 @@ fresh k (m ∷ before) h = by_test (m == k) (is_among k before) (ne_eqb m k (λ 
   by_test false c e j = j
 
 -- what is written of a field
-abbrev pub shown_entry : Shown → List Entry
+abbrev pub shown_entry : Shown → List BraceField
 shown_entry (Plain name v) = Gives name ∷ []
 shown_entry (Declared d held) = Declares (declared_signature d) ∷ []
 
-abbrev pub shown_entries : List Shown → List Entry
+abbrev pub shown_entries : List Shown → List BraceField
 shown_entries fields = flat_map shown_entry fields
 
 module _ (t : NodeType) (ss : List Signature) where
-  abbrev Continues : ℕ → List Entry → Type 0
+  abbrev Continues : ℕ → List BraceField → Type 0
   Continues k rest = (later : List ℕ) → Below k later → AreOnce t ss later rest
 
-  entry_once : (e : Entry) (k : ℕ) (before : List ℕ) (rest : List Entry) → entry_number t ss e ≡ Some k → Below k before → Continues (k + 1) rest → AreOnce t ss before (e ∷ rest)
+  entry_once : (e : BraceField) (k : ℕ) (before : List ℕ) (rest : List BraceField) → entry_number t ss e ≡ Some k → Below k before → Continues (k + 1) rest → AreOnce t ss before (e ∷ rest)
   entry_once e k before rest same below next =
       let more : Below (k + 1) (before ++ k ∷ []) =
       all_push (λ (m : ℕ). m < k + 1) before k (below_more k (k + 1) before (omega arith) below) (omega arith) in
       subst (λ (o : Option ℕ). IsNext before o × AreOnce t ss (with_next before o) rest) (sym same) (fresh k before below, next (before ++ k ∷ []) more)
 
-  skip : (k : ℕ) (before : List ℕ) (rest : List Entry) → Below k before → Continues (k + 1) rest → AreOnce t ss before rest
+  skip : (k : ℕ) (before : List ℕ) (rest : List BraceField) → Below k before → Continues (k + 1) rest → AreOnce t ss before rest
   skip k before rest below next = next before (below_more k (k + 1) before (omega arith) below)
 
-  if_once : (b : Bool) (name : List ℕ) (v : Value) (k : ℕ) (before : List ℕ) (rest : List Entry) → by_type t name ≡ Some k → Below k before → Continues (k + 1) rest
+  if_once : (b : Bool) (name : List ℕ) (v : Value) (k : ℕ) (before : List ℕ) (rest : List BraceField) → by_type t name ≡ Some k → Below k before → Continues (k + 1) rest
       → AreOnce t ss before (shown_entries (shown_if b name v) ++ rest)
   if_once true name v k before rest same below next = entry_once (Gives name) k before rest same below next
   if_once false name v k before rest same below next = skip k before rest below next
 
-  field_once : (default : Option FieldDefault) (o : Option Value) (name : List ℕ) (k : ℕ) (before : List ℕ) (rest : List Entry) → by_type t name ≡ Some k → Below k before → Continues (k + 1) rest
+  field_once : (default : Option FieldDefault) (o : Option Value) (name : List ℕ) (k : ℕ) (before : List ℕ) (rest : List BraceField) → by_type t name ≡ Some k → Below k before → Continues (k + 1) rest
       → AreOnce t ss before (shown_entries (shown_field name default o) ++ rest)
   field_once (Some default) (Some v) name k before rest same below next = if_once (not (is_default default v)) name v k before rest same below next
   field_once (Some default) None name k before rest same below next = skip k before rest below next
   field_once None o name k before rest same below next = skip k before rest below next
 
   module _ (p : PlanView) (n : ℕ) where
-    rows_once : (number : ℕ) (es : List Row) (before : List ℕ) (rest : List Entry) → AreNumbered (by_type t) number es → Below number before → Continues (number + length es) rest
+    rows_once : (number : ℕ) (es : List Row) (before : List ℕ) (rest : List BraceField) → AreNumbered (by_type t) number es → Below number before → Continues (number + length es) rest
         → AreOnce t ss before (shown_entries (shown_from p n number es) ++ rest)
     rows_once number [] before rest h below next = next before (below_more number (number + length es) before (omega arith) below) where
       es : List Row
@@ -165,8 +165,8 @@ module _ (t : NodeType) (ss : List Signature) where
         let here : List Shown = shown_field e.name e.default o in
         let others : List Shown = shown_from p n (number + 1) es in
         let apart : shown_entries (here ++ others) ++ rest ≡ shown_entries here ++ (shown_entries others ++ rest) =
-        ap (λ (l : List Entry). l ++ rest) (flat_map-append shown_entry here others) ∙ append_assoc (shown_entries here) (shown_entries others) rest in
-        subst (λ (l : List Entry). AreOnce t ss before l) (sym apart)
+        ap (λ (l : List BraceField). l ++ rest) (flat_map-append shown_entry here others) ∙ append_assoc (shown_entries here) (shown_entries others) rest in
+        subst (λ (l : List BraceField). AreOnce t ss before l) (sym apart)
         (field_once e.default o e.name number before (shown_entries others ++ rest) h.0 below
         (λ later low. rows_once (number + 1) es later rest h.1 low
         (λ last k. next last (below_more (number + 1 + length es) (number + length (e ∷ es)) last (omega arith) k))))
@@ -192,7 +192,7 @@ field_unsigned name None o = refl
 
 module _ (p : PlanView) (n : ℕ) where
   signed_apart : (xs ys : List Shown) → flat_map signed (shown_entries (xs ++ ys)) ≡ flat_map signed (shown_entries xs) ++ flat_map signed (shown_entries ys)
-  signed_apart xs ys = ap (λ (l : List Entry). flat_map signed l) (flat_map-append shown_entry xs ys) ∙ flat_map-append signed (shown_entries xs) (shown_entries ys)
+  signed_apart xs ys = ap (λ (l : List BraceField). flat_map signed l) (flat_map-append shown_entry xs ys) ∙ flat_map-append signed (shown_entries xs) (shown_entries ys)
 
   rows_unsigned : (number : ℕ) (es : List Row) → flat_map signed (shown_entries (shown_from p n number es)) ≡ []
   rows_unsigned number [] = refl
@@ -223,7 +223,7 @@ module _ (p : PlanView) (n : ℕ) where
       let ss : List Signature = signatures_of ds in
       let both_numbered = fields_numbered t ds scripted distinct in
       let behind_them : List Shown = declared_from p n (length (rows t)) ds in
-      subst (λ (l : List Entry). AreOnce t ss [] l) (sym (flat_map-append shown_entry (shown_from p n 0 (rows t)) behind_them))
+      subst (λ (l : List BraceField). AreOnce t ss [] l) (sym (flat_map-append shown_entry (shown_from p n 0 (rows t)) behind_them))
       (rows_once t ss p n 0 (rows t) [] (shown_entries behind_them) (rows_numbered t (distinct_front (rows t) (map declared_entry ds) distinct)) tt
       (λ later low. declared_once t ss p n (length (rows t)) ds later (omega arith) both_numbered.1
       (below_more (0 + length (rows t)) (length (rows t)) later (omega arith) low)))

@@ -16,18 +16,18 @@ use Rattle.classic_tree.specs.declared.tree.RawValue.TheVariants as value
 use Rattle.classic_tree.specs.declared.tree.Statement.{Statement}
 use Rattle.classic_tree.specs.declared.tree.Statement.TheVariants as statement
 use Rattle.laws_flat.specs.Closings.{Braces, closings, in_given, in_item, in_node, in_statement, in_value}
-use Rattle.laws_flat.specs.Uses.{Opened, has_name}
+use Rattle.laws_flat.specs.Uses.{OpenBraces, has_name}
 use Rattle.laws_flat.proofs.ClosingParts.{in_declaration, in_field, in_full, in_item_proto, in_item_route, in_node_statement, in_proto, in_route, in_use}
 use Rattle.laws_flat.proofs.Trees.{Layers, OfGiven, OfValue, every}
 use Rattle.laws_flat.proofs.Lists.{all_append, get_middle, set_middle}
-use Rattle.laws_flat.specs.Readings.{Step, each, read_document, read_given, read_item, read_node, read_statement, read_value}
+use Rattle.laws_flat.specs.Readings.{StateChange, each, read_document, read_given, read_item, read_node, read_statement, read_value}
 use Rattle.laws_flat.specs.Routes.{Reading, closes, last_from, node_at, node_of, nothing_read, opens, routes, steps}
 use Rattle.laws_flat.proofs.Readings.{read-declaration, read-field, read-full, read-item-proto, read-item-route, read-node-statement, read-proto, read-route, read-use}
 
-abbrev pub open_braces : Option (List ℕ) → Opened
+abbrev pub open_braces : Option (List ℕ) → OpenBraces
 open_braces name = record { name = name; node = None }
 
-abbrev pub closed_braces : Option (List ℕ) → ℕ → Opened
+abbrev pub closed_braces : Option (List ℕ) → ℕ → OpenBraces
 closed_braces name node = record { name = name; node = Some node }
 
 abbrev pub if_one : Bool → ℕ
@@ -41,7 +41,7 @@ module _ (name : List ℕ) (n : ℕ) where
   names_in [] = 0
   names_in (b ∷ bs) = if_one (has_name name b.name) + names_in bs
 
-  abbrev pub names_of : List Opened → ℕ
+  abbrev pub names_of : List OpenBraces → ℕ
   names_of [] = 0
   names_of (o ∷ os) = if_one (has_name name o.name) + names_of os
 
@@ -50,11 +50,11 @@ module _ (name : List ℕ) (n : ℕ) where
   AreOnly at [] = Unit {0}
   AreOnly at (b ∷ bs) = (has_name name b.name ≡ true → at ≡ n) × AreOnly (at + 1) bs
 
-  abbrev pub Holds : Opened → Type 0
+  abbrev pub Holds : OpenBraces → Type 0
   Holds o = has_name name o.name ≡ true → o.node ≡ Some n
 
   pub record Linked (r : Reading) (bs : List Braces) (s : Reading) : Type 0 where
-    pub more : List Opened
+    pub more : List OpenBraces
     pub opened : s.opened ≡ r.opened ++ more
     pub closed : s.closed ≡ r.closed + length bs
     pub holds : AllByRecursion Holds more
@@ -64,7 +64,7 @@ module _ (name : List ℕ) (n : ℕ) where
   names_in-append [] ys = omega arith
   names_in-append (x ∷ xs) ys = let e = names_in-append xs ys in omega (arith, e)
 
-  names_of-append : (xs ys : List Opened) → names_of (xs ++ ys) ≡ names_of xs + names_of ys
+  names_of-append : (xs ys : List OpenBraces) → names_of (xs ++ ys) ≡ names_of xs + names_of ys
   names_of-append [] ys = omega arith
   names_of-append (x ∷ xs) ys = let e = names_of-append xs ys in omega (arith, e)
 
@@ -86,22 +86,22 @@ module _ (name : List ℕ) (n : ℕ) where
       let after = k.closed in
       record {
         more = h.more ++ k.more;
-        opened = k.opened ∙ ap (λ (os : List Opened). os ++ k.more) h.opened ∙ append_assoc r.opened h.more k.more;
+        opened = k.opened ∙ ap (λ (os : List OpenBraces). os ++ k.more) h.opened ∙ append_assoc r.opened h.more k.more;
         closed = omega (arith, before, after, length-append xs ys);
         holds = all_append Holds h.more k.more h.holds k.holds;
         count = omega (arith, first, second, names_in-append xs ys, names_of-append h.more k.more);
       }
 
-  abbrev Links : List Braces → Step Reading → Type 0
+  abbrev Links : List Braces → StateChange Reading → Type 0
   Links bs step = (r : Reading) → AreOnly r.closed bs → Linked r bs (step r)
 
   -- the same, with braces and reading in another form
-  linked_by : (bs same : List Braces) (f g : Step Reading) → bs ≡ same → ((r : Reading) → f r ≡ g r) → Links same g → Links bs f
+  linked_by : (bs same : List Braces) (f g : StateChange Reading) → bs ≡ same → ((r : Reading) → f r ≡ g r) → Links same g → Links bs f
   linked_by bs same f g e k h r only =
       subst (λ (s : Reading). Linked r bs s) (sym (k r))
       (subst (λ (b : List Braces). Linked r b (g r)) (sym e) (h r (subst (λ (b : List Braces). AreOnly r.closed b) e only)))
 
-  module _ {A : Type 0} (braces : A → List Braces) (read : A → Step Reading) where
+  module _ {A : Type 0} (braces : A → List Braces) (read : A → StateChange Reading) where
     linked_each : (parts : List A) → AllByRecursion (λ (a : A). Links (braces a) (read a)) parts → Links (flat_map braces parts) (each read parts)
     linked_each [] h r only = linked_none r r refl refl
     linked_each (a ∷ parts) h r only =
@@ -155,7 +155,7 @@ module _ (name : List ℕ) (n : ℕ) where
       record {
         more = now ∷ l.more;
         opened =
-            ap (λ (os : List Opened). slice_set os (length r.opened) now) (l.opened ∙ append_assoc r.opened (open_braces label ∷ []) l.more)
+            ap (λ (os : List OpenBraces). slice_set os (length r.opened) now) (l.opened ∙ append_assoc r.opened (open_braces label ∷ []) l.more)
             ∙ set_middle r.opened l.more (open_braces label) now;
         closed = omega (arith, before, length-append inner (last ∷ []));
         holds = ((λ e. ap (λ (k : ℕ). number k) (before ∙ parts.1.0 e)), l.holds);
@@ -184,18 +184,18 @@ module _ (name : List ℕ) (n : ℕ) where
 
   -- ---- the last of the name
 
-  or_first : (os : List Opened) (a b : Option ℕ) → node_at os a ≡ Some n → node_at os (option_or a b) ≡ Some n
+  or_first : (os : List OpenBraces) (a b : Option ℕ) → node_at os a ≡ Some n → node_at os (option_or a b) ≡ Some n
   or_first os None b h = absurd cc
   or_first os (Some k) b h = h
 
-  none_last : (at : ℕ) (os : List Opened) → names_of os ≡ 0 → last_from at name os ≡ None
+  none_last : (at : ℕ) (os : List OpenBraces) → names_of os ≡ 0 → last_from at name os ≡ None
   none_last at [] h = refl
   none_last at (o ∷ os) h = by_name (has_name name o.name) h (λ e. none_last (at + 1) os e) where
     by_name : (b : Bool) → if_one b + names_of os ≡ 0 → (names_of os ≡ 0 → last_from (at + 1) name os ≡ None) → option_or (last_from (at + 1) name os) (if b then Some at else None) ≡ None
     by_name true e k = absurd (omega (arith, e))
     by_name false e k = let z : names_of os ≡ 0 = omega (arith, e) in ap (λ (o : Option ℕ). option_or o None) (k z)
 
-  last_is : (before os : List Opened) → AllByRecursion Holds os → 1 ≤ names_of os → node_at (before ++ os) (last_from (length before) name os) ≡ Some n
+  last_is : (before os : List OpenBraces) → AllByRecursion Holds os → 1 ≤ names_of os → node_at (before ++ os) (last_from (length before) name os) ≡ Some n
   last_is before [] h some = absurd omega (arith, some)
   last_is before (o ∷ os) h some = by_rest (names_of os) refl (λ l. last_is (before ++ o ∷ []) os h.1 l) where
     at_end : length (before ++ o ∷ []) ≡ length before + 1
@@ -212,7 +212,7 @@ module _ (name : List ℕ) (n : ℕ) where
     by_rest (suc k) z rest =
         let l : 1 ≤ names_of os = omega (arith, z) in
         or_first (before ++ o ∷ os) (last_from (length before + 1) name os) (if has_name name o.name then Some (length before) else None)
-        (subst (λ (all : List Opened). node_at all (last_from (length before + 1) name os) ≡ Some n) (append_assoc before (o ∷ []) os)
+        (subst (λ (all : List OpenBraces). node_at all (last_from (length before + 1) name os) ≡ Some n) (append_assoc before (o ∷ []) os)
         (subst (λ (at : ℕ). node_at ((before ++ o ∷ []) ++ os) (last_from at name os) ≡ Some n) at_end (rest l)))
 
   -- at the end of a text in which one node has the name
@@ -220,4 +220,4 @@ module _ (name : List ℕ) (n : ℕ) where
   name_stands d only some =
       let l = document_links d only in
       let same = l.count in
-      subst (λ (os : List Opened). node_at os (last_from 0 name os) ≡ Some n) (sym l.opened) (last_is [] l.more l.holds (omega (arith, same, some)))
+      subst (λ (os : List OpenBraces). node_at os (last_from 0 name os) ≡ Some n) (sym l.opened) (last_is [] l.more l.holds (omega (arith, same, some)))

@@ -5,7 +5,7 @@ use Rattle.std.specs.Option.{option_or}
 use Rattle.std.proofs.lemmas.Bool.{cases_lt}
 use Rattle.std.proofs.lemmas.List.Sums.{fold-append}
 use Rattle.std.proofs.lemmas.Slice.Eq.{bytes_eq-Decides}
-use Rattle.laws_flat.specs.Uses.{Opened, has_name, named, named_next}
+use Rattle.laws_flat.specs.Uses.{OpenBraces, has_name, named, named_next}
 use Rattle.scene_core.specs.Scene.{label_of}
 use Rattle.scene_text.specs.Tree.{PlanView, def_name}
 use Rattle.laws_text.proofs.NumberedLists.{some_is}
@@ -13,7 +13,7 @@ use Rattle.laws_text.proofs.NumberedLists.{some_is}
 -- ---- a list of braces
 
 -- once a node has the name, some node has it
-some_stays : (l : List ℕ) (m : ℕ) (os : List Opened) → fold (named_next l) (Some m) os ≡ None → ⊥
+some_stays : (l : List ℕ) (m : ℕ) (os : List OpenBraces) → fold (named_next l) (Some m) os ≡ None → ⊥
 some_stays l m [] h = absurd cc
 some_stays l m (o ∷ os) h = by_name (λ k. some_stays l k os) (has_name l o.name) o.node h where
   by_name : ((k : ℕ) → fold (named_next l) (Some k) os ≡ None → ⊥) → (b : Bool) (inner : Option ℕ)
@@ -22,12 +22,12 @@ some_stays l m (o ∷ os) h = by_name (λ k. some_stays l k os) (has_name l o.na
   by_name k true None h = k m h
   by_name k true (Some j) h = k j h
 
-none_first : (l : List ℕ) (b : Option ℕ) (os : List Opened) → fold (named_next l) b os ≡ None → b ≡ None
+none_first : (l : List ℕ) (b : Option ℕ) (os : List OpenBraces) → fold (named_next l) b os ≡ None → b ≡ None
 none_first l None os h = refl
 none_first l (Some m) os h = absurd (some_stays l m os h)
 
 -- where no node of these has the name, it is that of the node before
-over_none : (l : List ℕ) (n : ℕ) (os : List Opened) → fold (named_next l) None os ≡ None → fold (named_next l) (Some n) os ≡ Some n
+over_none : (l : List ℕ) (n : ℕ) (os : List OpenBraces) → fold (named_next l) None os ≡ None → fold (named_next l) (Some n) os ≡ Some n
 over_none l n [] h = refl
 over_none l n (o ∷ os) h = by_name (over_none l n os) (has_name l o.name) o.node h where
   by_name : (fold (named_next l) None os ≡ None → fold (named_next l) (Some n) os ≡ Some n) → (b : Bool) (inner : Option ℕ)
@@ -38,15 +38,15 @@ over_none l n (o ∷ os) h = by_name (over_none l n os) (has_name l o.name) o.no
   by_name k true (Some m) h = absurd (some_stays l m os h)
 
 -- braces that close, of another name
-set_other_name : (l : List ℕ) (before : Option ℕ) (os : List Opened) (k : ℕ) (o new : Opened) → slice_get os k ≡ Some o
+set_other_name : (l : List ℕ) (before : Option ℕ) (os : List OpenBraces) (k : ℕ) (o new : OpenBraces) → slice_get os k ≡ Some o
     → ((b : Option ℕ) → named_next l b new ≡ named_next l b o) → fold (named_next l) before (slice_set os k new) ≡ fold (named_next l) before os
 set_other_name l before [] k o new at e = absurd cc
 set_other_name l before (x ∷ os) zero o new at e =
-    ap (λ (b : Option ℕ). fold (named_next l) b os) (e before ∙ ap (λ (y : Opened). named_next l before y) (sym (some_is x o at)))
+    ap (λ (b : Option ℕ). fold (named_next l) b os) (e before ∙ ap (λ (y : OpenBraces). named_next l before y) (sym (some_is x o at)))
 set_other_name l before (x ∷ os) (suc k) o new at e = set_other_name l (named_next l before x) os k o new at e
 
 -- of that name, which no node has
-set_own_name : (l : List ℕ) (n : ℕ) (os : List Opened) (k : ℕ) (o new : Opened) → slice_get os k ≡ Some o
+set_own_name : (l : List ℕ) (n : ℕ) (os : List OpenBraces) (k : ℕ) (o new : OpenBraces) → slice_get os k ≡ Some o
     → ((b : Option ℕ) → named_next l b new ≡ Some n) → fold (named_next l) None os ≡ None → fold (named_next l) None (slice_set os k new) ≡ Some n
 set_own_name l n [] k o new at e h = absurd cc
 set_own_name l n (x ∷ os) zero o new at e h =
@@ -60,7 +60,7 @@ set_own_name l n (x ∷ os) (suc k) o new at e h =
 
 -- ---- one pair of braces
 
-abbrev pub braces : Option (List ℕ) → Option ℕ → Opened
+abbrev pub braces : Option (List ℕ) → Option ℕ → OpenBraces
 braces name node = record { name = name; node = node }
 
 if_open : (c : Bool) (b : Option ℕ) → (if c then option_or None b else b) ≡ b
@@ -93,14 +93,14 @@ module _ (p : PlanView) where
   AreApart = (m n : ℕ) → m < count → n < count → label m ≡ label n → m ≡ n
 
   -- of so many nodes the braces are closed, and each that has a DEF is named by its label
-  pub record NamesAre (done : ℕ) (os : List Opened) : Type 0 where
+  pub record NamesAre (done : ℕ) (os : List OpenBraces) : Type 0 where
     pub closed : (x : ℕ) → x < done → x < count → is_named x ≡ true → named (label x) os ≡ Some x
     pub coming : (x : ℕ) → done ≤ x → x < count → named (label x) os ≡ None
 
   pub names_begin : NamesAre 0 []
   names_begin = record { closed = λ x l m h. absurd (omega (arith, l)); coming = λ x l m. refl }
 
-  pub names_open : (done : ℕ) (os : List Opened) (name : Option (List ℕ)) → NamesAre done os → NamesAre done (os ++ braces name None ∷ [])
+  pub names_open : (done : ℕ) (os : List OpenBraces) (name : Option (List ℕ)) → NamesAre done os → NamesAre done (os ++ braces name None ∷ [])
   names_open done os name h =
       record { closed = λ x l m k. same x ∙ h.closed x l m k; coming = λ x l m. same x ∙ h.coming x l m } where
         same : (x : ℕ) → named (label x) (os ++ braces name None ∷ []) ≡ named (label x) os
@@ -125,8 +125,8 @@ module _ (p : PlanView) where
         ∙ (bytes_eq-Decides (label n) (label n)).1 refl
 
     -- the braces of the next node close
-    module _ (n : ℕ) (os : List Opened) (k : ℕ) (h : NamesAre n os) (low : n < count) (at : slice_get os k ≡ Some (braces (def_name p n) None)) where
-      abbrev now : List Opened
+    module _ (n : ℕ) (os : List OpenBraces) (k : ℕ) (h : NamesAre n os) (low : n < count) (at : slice_get os k ≡ Some (braces (def_name p n) None)) where
+      abbrev now : List OpenBraces
       now = slice_set os k (braces (def_name p n) (Some n))
 
       others : (x : ℕ) → (x ≡ n → ⊥) → x < count → named (label x) now ≡ named (label x) os

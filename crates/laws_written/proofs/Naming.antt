@@ -11,7 +11,7 @@ use Rattle.x3d_values.specs.contracts.node_type.NodeType as node_types
 use Rattle.x3d_values.specs.declared.node_type.NodeType.{NodeType}
 use Rattle.x3d_values.specs.declared.node_type.NodeType.TheVariants.{Script}
 use Rattle.x3d_values.specs.declared.table.FieldRow.{FieldRow}
-use Rattle.x3d_values.specs.Tables.{Entry, are_distinct, numbered, row_named, rows}
+use Rattle.x3d_values.specs.Tables.{FieldRowView, are_distinct, numbered, row_named, rows}
 use Rattle.laws_flat.specs.Signatures.{KnownField}
 use Rattle.laws_flat.specs.Signatures.{Signature, numbered_from, of_row, of_signature, of_type, own_interface}
 use Rattle.laws_flat.specs.Fields.{Numbering, number_of, numbering}
@@ -47,12 +47,12 @@ some_or : (b : Bool) (r : FieldRow) (o : Option FieldRow) → is_none o ≡ fals
 some_or true r o h = refl
 some_or false r o h = h
 
-named_there : (k : ℕ) (before after : List Entry) (e : Entry) → is_none (row_named k e.name (before ++ e ∷ after)) ≡ false
+named_there : (k : ℕ) (before after : List FieldRowView) (e : FieldRowView) → is_none (row_named k e.name (before ++ e ∷ after)) ≡ false
 named_there k [] after e = ap (λ (b : Bool). is_none (if b then Some (numbered k e) else row_named (k + 1) e.name after)) (itself e.name)
 named_there k (b ∷ before) after e =
     some_or (pointwise nat_eq e.name b.name) (numbered k b) (row_named (k + 1) e.name (before ++ e ∷ after)) (named_there (k + 1) before after e)
 
-differ : (before after : List Entry) (e b : Entry) → is_none (row_named 0 b.name (before ++ e ∷ after)) ≡ true → pointwise nat_eq e.name b.name ≡ false
+differ : (before after : List FieldRowView) (e b : FieldRowView) → is_none (row_named 0 b.name (before ++ e ∷ after)) ≡ true → pointwise nat_eq e.name b.name ≡ false
 differ before after e b h = by_test (pointwise nat_eq e.name b.name) refl where
   by_test : (t : Bool) → pointwise nat_eq e.name b.name ≡ t → t ≡ false
   by_test false same = refl
@@ -60,7 +60,7 @@ differ before after e b h = by_test (pointwise nat_eq e.name b.name) refl where
       let name : e.name ≡ b.name = (bytes_eq-Decides e.name b.name).0 same in
       sym h ∙ (sym (ap (λ (t : List ℕ). is_none (row_named 0 t (before ++ e ∷ after))) name) ∙ named_there 0 before after e)
 
-row_is : (k : ℕ) (before after : List Entry) (e : Entry) → are_distinct (before ++ e ∷ after) ≡ true
+row_is : (k : ℕ) (before after : List FieldRowView) (e : FieldRowView) → are_distinct (before ++ e ∷ after) ≡ true
     → row_named k e.name (before ++ e ∷ after) ≡ Some (numbered (k + length before) e)
 row_is k [] after e h =
     let here : k ≡ k + 0 = omega arith in
@@ -73,33 +73,33 @@ row_is k (b ∷ before) after e h =
 
 -- ---- rows that are found at their numbers, the first at that
 
-abbrev pub AreNumbered : Numbering → ℕ → List Entry → Type 0
+abbrev pub AreNumbered : Numbering → ℕ → List FieldRowView → Type 0
 AreNumbered numbers number [] = Unit {0}
 AreNumbered numbers number (e ∷ others) = (numbers e.name ≡ Some number) × AreNumbered numbers (number + 1) others
 
 abbrev row_number : FieldRow → ℕ
 row_number row = row.number
 
-abbrev by_row : List Entry → Numbering
+abbrev by_row : List FieldRowView → Numbering
 by_row all name = option_map row_number (row_named 0 name all)
 
-all_numbered : (before after : List Entry) → are_distinct (before ++ after) ≡ true → AreNumbered (by_row (before ++ after)) (length before) after
+all_numbered : (before after : List FieldRowView) → are_distinct (before ++ after) ≡ true → AreNumbered (by_row (before ++ after)) (length before) after
 all_numbered before [] h = tt
 all_numbered before (e ∷ after) h =
     let apart : (before ++ e ∷ []) ++ after ≡ before ++ e ∷ after = append_assoc before (e ∷ []) after in
     let here : 0 + length before ≡ length before = omega arith in
-    let others = all_numbered (before ++ e ∷ []) after (subst (λ (all : List Entry). are_distinct all ≡ true) (sym apart) h) in (
+    let others = all_numbered (before ++ e ∷ []) after (subst (λ (all : List FieldRowView). are_distinct all ≡ true) (sym apart) h) in (
       ap (λ (o : Option FieldRow). option_map row_number o) (row_is 0 before after e h) ∙ ap (λ (i : ℕ). Some i) here,
-      subst (λ (all : List Entry). AreNumbered (by_row all) (length before + 1) after) apart
+      subst (λ (all : List FieldRowView). AreNumbered (by_row all) (length before + 1) after) apart
           (subst (λ (i : ℕ). AreNumbered (by_row ((before ++ e ∷ []) ++ after)) i after) (length-append before (e ∷ [])) others),
     )
 
 -- by another numbering
-renumbered : (f g : Numbering) → ((name : List ℕ) → f name ≡ g name) → (number : ℕ) (es : List Entry) → AreNumbered f number es → AreNumbered g number es
+renumbered : (f g : Numbering) → ((name : List ℕ) → f name ≡ g name) → (number : ℕ) (es : List FieldRowView) → AreNumbered f number es → AreNumbered g number es
 renumbered f g k number [] h = tt
 renumbered f g k number (e ∷ es) h = (sym (k e.name) ∙ h.0, renumbered f g k (number + 1) es h.1)
 
-parted : (f : Numbering) (number : ℕ) (xs ys : List Entry) → AreNumbered f number (xs ++ ys) → AreNumbered f number xs × AreNumbered f (number + length xs) ys
+parted : (f : Numbering) (number : ℕ) (xs ys : List FieldRowView) → AreNumbered f number (xs ++ ys) → AreNumbered f number xs × AreNumbered f (number + length xs) ys
 parted f number [] ys h = let here : number ≡ number + 0 = omega arith in (tt, subst (λ (i : ℕ). AreNumbered f i ys) here h)
 parted f number (x ∷ xs) ys h =
     let p = parted f (number + 1) xs ys h.1 in
@@ -129,7 +129,7 @@ own_first None x y h = h
 own_first (Some row) x y h = refl
 
 module _ (t : NodeType) (ds : List DeclaredField) (scripted : own_interface t (signed ds) ≡ signed ds) where
-  abbrev all : List Entry
+  abbrev all : List FieldRowView
   all = rows t ++ map declared_entry ds
 
   numbering_is : (name : List ℕ) → numbering (Some t) (signed ds) name ≡ by_row all name

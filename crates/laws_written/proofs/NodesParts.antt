@@ -9,7 +9,7 @@ use Rattle.x3d_values.specs.declared.node_type.NodeType.{NodeType}
 use Rattle.x3d_values.specs.declared.node_type.NodeType.TheVariants.{Group}
 use Rattle.x3d_values.specs.declared.value.Value.{Value}
 use Rattle.x3d_values.specs.Ranges.{max_depth}
-use Rattle.x3d_values.specs.Tables.{Entry, rows}
+use Rattle.x3d_values.specs.Tables.{FieldRowView, rows}
 use Rattle.classic_tree.specs.declared.tree.Declaration.{Declaration}
 use Rattle.classic_tree.specs.declared.tree.RawValue.TheVariants.{NodeList}
 use Rattle.proto_flat.specs.declared.flat.Flat.{Flat}
@@ -96,7 +96,7 @@ shallow_children s depth n node is h = all_children s (IsShallow s depth) n node
 
 -- ---- as many values as rows
 
-fit_rows_many : (es : List Entry) (vs : List (Option Value)) → FitRows es vs → length vs ≡ length es
+fit_rows_many : (es : List FieldRowView) (vs : List (Option Value)) → FitRows es vs → length vs ≡ length es
 fit_rows_many [] [] f = refl
 fit_rows_many [] (v ∷ vs) f = absurd f
 fit_rows_many (e ∷ es) [] f = absurd f
@@ -108,7 +108,7 @@ fit_declared_many [] (v ∷ vs) f = absurd f
 fit_declared_many (d ∷ ds) [] f = absurd f
 fit_declared_many (d ∷ ds) (v ∷ vs) f = ap (λ (k : ℕ). suc k) (fit_declared_many ds vs f.1)
 
-abbrev rows_by : NodeType → List DeclaredField → List Entry
+abbrev rows_by : NodeType → List DeclaredField → List FieldRowView
 rows_by t declared = rows t ++ map declared_entry (numbered_fields t declared)
 
 values_many : (flat : FlatNode) (node : SceneNode) → HasValues flat node → length node.values ≡ length (rows_of (shape_of node))
@@ -120,7 +120,7 @@ values_many flat node h =
     let both = length-append h.own h.more in
     let all : rows_of (shape_of node) ≡ rows_by t (map declared_by flat.interface) =
     ap (λ (k : NodeType). rows_by k node.declared) h.node_type ∙ ap (λ (l : List DeclaredField). rows_by t l) h.declared in
-    let long = ap (λ (l : List Entry). length l) all in
+    let long = ap (λ (l : List FieldRowView). length l) all in
     let apart = length-append (rows t) (map declared_entry (numbered_fields t (map declared_by flat.interface))) in
     let first = length-map (numbered_fields t (map declared_by flat.interface)) declared_entry in
     let second = ap (λ (l : List DeclaredField). length l) (take-map declared_by (most_declared t) flat.interface) in
@@ -172,7 +172,7 @@ module _ (flat : Flat) (s : SceneView) (is_scene : scene_of flat ≡ Ok s) where
   within_are n node is =
       let m = made_of n node is in
       let many : length (rows_at s n) ≡ length node.values =
-      ap (λ (l : List Entry). length l) (rows_are n node is) ∙ sym (values_many m.0 node m.1) in
+      ap (λ (l : List FieldRowView). length l) (rows_are n node is) ∙ sym (values_many m.0 node m.1) in
       ap (λ (k : ℕ). flat_map (λ number. linked (value_at s n number)) (range_with_len 0 k)) many
       ∙ values_linked (λ number. linked (value_at s n number)) node.values 0 (λ i v at.
       (let e : 0 + i ≡ i = omega arith in

@@ -13,7 +13,7 @@ use Rattle.classic_tree.specs.declared.tree.Given.TheVariants as given
 use Rattle.classic_tree.specs.declared.tree.NodeText.{NodeText}
 use Rattle.proto_flat.specs.declared.flat.FlatNode.{FlatNode}
 use Rattle.laws_flat.specs.Readings.{each as each_read, read_item, read_node, read_value}
-use Rattle.laws_flat.specs.Uses.{Opened, Reading, closes, named, opens, some, stands, steps}
+use Rattle.laws_flat.specs.Uses.{OpenBraces, Reading, closes, named, opens, some, stands, steps}
 use Rattle.laws_flat.proofs.Readings.{read-declaration, read-field, read-full, read-use}
 use Rattle.scene_core.specs.declared.numbering.Numbering.{Numbering}
 use Rattle.scene_core.specs.declared.scene.SceneNode.{SceneNode}
@@ -24,7 +24,7 @@ use Rattle.scene_core.specs.Tasks.{unopened}
 use Rattle.scene_core.proofs.Fuel.{visit-new, visit-old}
 use Rattle.scene_text.specs.Places.{places}
 use Rattle.scene_text.specs.Raw.{color_run, integer_run, number_list, number_run, pair_run, string_list, truth_list, vector_run}
-use Rattle.scene_text.specs.Tree.{Declared, Makes, Plain, PlanView, Shown, Step, declaration, def_name, each, field_tree, node_tree, opened, shown_fields, use_tree, value_tree}
+use Rattle.scene_text.specs.Tree.{Declared, Makes, Plain, PlanView, Shown, Grows, declaration, def_name, each, field_tree, node_tree, opened, shown_fields, use_tree, value_tree}
 use Rattle.laws_text.proofs.NumberedLists.{In, IsMarked, length_set, mark_was, push_keeps, push_last, set_other, within}
 use Rattle.laws_text.proofs.NumberedScenes.{found}
 use Rattle.laws_text.proofs.Visits.{Seen, full, unopened_few}
@@ -225,7 +225,7 @@ module _ (p : PlanView) (nodes : List FlatNode) where
       one_longer : n + 1 ≡ length (s.order ++ n ∷ [])
       one_longer = ap (λ (k : ℕ). k + 1) last ∙ sym (length-append s.order (n ∷ []))
 
-      abbrev ended : List Opened
+      abbrev ended : List OpenBraces
       ended = slice_set t.opened (length r.opened) (braces (def_name p n) (Some (length t.closed)))
 
       end_names : NamesAre p (length (s.order ++ n ∷ [])) ended
@@ -250,7 +250,7 @@ module _ (p : PlanView) (nodes : List FlatNode) where
         by_list (inl (inr k)) = inl k
         by_list (inr k) = inr (omega (arith, k, one_longer, last))
 
-      end_kept : (k : ℕ) (o : Opened) → slice_get r.opened k ≡ Some o → slice_get ended k ≡ Some o
+      end_kept : (k : ℕ) (o : OpenBraces) → slice_get r.opened k ≡ Some o → slice_get ended k ≡ Some o
       end_kept k o at =
           let l = within r.opened k o at in
           set_other t.opened (length r.opened) k (braces (def_name p n) (Some (length t.closed))) (λ e. omega (arith, e, l))
@@ -309,7 +309,7 @@ module _ (p : PlanView) (nodes : List FlatNode) where
         (subst (AllByRecursion (IsFit depth (n ∷ begun))) (sym same) (inside_fit depth n begun node is q))
         (subst (λ (l : List ℕ). Ready p nodes (n ∷ begun) (l ++ coming) (opens name r) (appear s n)) (sym same) (appeared begun coming r s n h new))
         (subst (λ (l : List ℕ). InPlace p nodes (fold F (appear s n) l)) (sym same) inner_place) in
-        let items : Step (List BodyItem) = each (field_tree tree) (slice_set s.opened n true) fields in
+        let items : Grows (List BodyItem) = each (field_tree tree) (slice_set s.opened n true) fields in
         let told : (items.seen ≡ (fold F (appear s n) within_node).opened)
         × After p nodes (n ∷ begun) coming (opens name r) (each_read (read_item steps) items.made (opens name r)) (fold F (appear s n) within_node) within_node =
         subst (λ (l : List ℕ). (items.seen ≡ (fold F (appear s n) l).opened)

@@ -26,7 +26,7 @@ use Rattle.scene_core.specs.Parts.{parts_of}
 use Rattle.scene_core.specs.Scene.{SceneView}
 use Rattle.scene_text.specs.Places.{nodes_within, places}
 use Rattle.scene_text.specs.Statements.{helper_root, helpers_of, root_tree, roots_of, route_of, routes_of, scene_document, statements_of, switch_of}
-use Rattle.scene_text.specs.Tree.{Makes, PlanView, Step, each, one_more}
+use Rattle.scene_text.specs.Tree.{Makes, PlanView, Grows, each, one_more}
 use Rattle.laws_text.specs.Again.{HaveChildren, in_place}
 use Rattle.laws_text.specs.Children.{children}
 use Rattle.laws_text.proofs.NumberedLists.{some_is}
@@ -34,7 +34,7 @@ use Rattle.laws_text.proofs.NumberedScenes.{found}
 use Rattle.laws_text.specs.Labels.{LabelsAreDistinct}
 use Rattle.laws_text.specs.Writable.{AreKeepable}
 use Rattle.laws_text.proofs.Lists.{all_weaker}
-use Rattle.laws_written.specs.Nodes.{IsRead, WrittenNodesAreRead, in_switch, switch_root}
+use Rattle.laws_written.specs.Nodes.{AreNodesRead, WrittenNodesAreRead, in_switch, switch_root}
 use Rattle.laws_written.proofs.Counts.{all_unwritten, hits, hits_append, named_twice, unwritten}
 use Rattle.laws_written.proofs.Names.{count, names_begin, names_open}
 use Rattle.laws_written.proofs.NodesParts.{holders, holders_have, low_shallow, lower_children, within_are}
@@ -69,7 +69,7 @@ all_in : (new : Bool) (coming left all : ℕ) → new ≡ true → coming + left
 all_in true coming left all e h = omega (arith, h)
 all_in false coming left all e h = absurd cc
 
-pub made_many : {A B : Type 0} (make : Makes A B) (m : Step (List B)) (xs : List A) → length (fold (one_more make) m xs).made ≡ length m.made + length xs
+pub made_many : {A B : Type 0} (make : Makes A B) (m : Grows (List B)) (xs : List A) → length (fold (one_more make) m xs).made ≡ length m.made + length xs
 made_many make m [] = omega arith
 made_many make m (x ∷ xs) =
     let rest = made_many make (one_more make m x) xs in
@@ -165,7 +165,7 @@ module _ (p : PlanView) (nodes : List FlatNode) (rules : Rules p nodes) where
     abbrev all : Reading
     all = each_read (read_statement steps) (statements_of p) nothing_read
 
-    abbrev parted : Step (List Statement) → Reading
+    abbrev parted : Grows (List Statement) → Reading
     parted m =
         each_read (read_statement steps) (m.made ++ helper_root (helpers_of p m.seen).made ++ routes_of p.scene p.routes) nothing_read
 
@@ -196,9 +196,9 @@ module _ (p : PlanView) (nodes : List FlatNode) (rules : Rules p nodes) where
       many_are : length (s2 p nodes).order ≡ length p.scene.nodes
       many_are = ap (λ (l : List ℕ). length l) (order_is p nodes numbered) ∙ (length-range_with_len 0 (length nodes) ∙ rules.stand.many)
 
-      pub is_read : IsRead p.scene all
+      pub is_read : AreNodesRead p.scene all
       is_read =
-          subst (λ (t : Reading). IsRead p.scene t) (sym all_is) (
+          subst (λ (t : Reading). AreNodesRead p.scene t) (sym all_is) (
             whole.closed
                 ∙ (ap (λ (l : List (List (Option ℕ))). l ++ map (map some) (in_switch p.scene.helpers)) closed_are
                 ∙ sym (map-append (map some) (map children p.scene.nodes) (in_switch p.scene.helpers))),
@@ -260,9 +260,9 @@ module _ (distinct : LabelsAreDistinct) (flat : Flat) (scene : SceneView) (route
   unfolding scene_document
   document_is = refl
 
-  document_read : IsRead scene (read (scene_document scene routes state))
+  document_read : AreNodesRead scene (read (scene_document scene routes state))
   document_read =
-      subst (λ (r : Reading). IsRead scene r) (sym document_is)
+      subst (λ (r : Reading). AreNodesRead scene r) (sym document_is)
       (is_read p nodes rules start fit (roots_there flat scene is) (helpers_there flat scene is)
       (numbered flat scene is) (holders_have scene))
 

@@ -14,7 +14,7 @@ use Rattle.x3d_values.specs.declared.node_type.NodeType.TheVariants.{Group}
 use Rattle.x3d_values.specs.declared.value.Value.{Value}
 use Rattle.x3d_values.specs.Access.{holds_nodes, is_initial}
 use Rattle.x3d_values.specs.Defaults.{default_value}
-use Rattle.x3d_values.specs.Tables.{Entry, rows}
+use Rattle.x3d_values.specs.Tables.{FieldRowView, rows}
 use Rattle.classic_tree.specs.declared.tree.Declaration.{Declaration}
 use Rattle.proto_flat.specs.declared.flat.FlatField.{FlatField}
 use Rattle.proto_flat.specs.declared.flat.FlatNode.{FlatNode}
@@ -46,11 +46,11 @@ pub record IsGiven (access : Access) (t : FieldType) (o : Option Value) : Type 0
 
 -- ---- what fields hold
 
-abbrev right : Entry → Bool
+abbrev right : FieldRowView → Bool
 right e = not (is_initial e.access) || (is_rotation e.field_type || is_some e.default)
 
 -- it holds no nodes if its type holds none, and nothing where the table has no default
-pub record FitsRow (e : Entry) (o : Option Value) : Type 0 where
+pub record FitsRow (e : FieldRowView) (o : Option Value) : Type 0 where
   pub plain : holds_nodes e.field_type ≡ false → linked o ≡ []
   pub held : e.default ≡ None → o ≡ None
 
@@ -68,7 +68,7 @@ not_both : (b : Bool) → b ≡ true → b ≡ false → ⊥
 not_both true h k = absurd cc
 not_both false h k = absurd cc
 
-abbrev pub FitRows : List Entry → List (Option Value) → Type 0
+abbrev pub FitRows : List FieldRowView → List (Option Value) → Type 0
 FitRows [] [] = Unit {0}
 FitRows [] (v ∷ vs) = ⊥
 FitRows (e ∷ es) [] = ⊥
@@ -115,7 +115,7 @@ module _ (all : List FlatNode) (numbers : List ℕ) where
             ∙ (typed_nodes numbers t f.value x h ∙ ap (λ (b : Bool). map (called numbers) (inner_if b (inner_nodes f.value))) p);
       }
 
-  row_is : (e : Entry) (o : Option FlatField) (v : Option Value) → right e ≡ true → field_value all numbers e o ≡ Ok v → FitsRow e v
+  row_is : (e : FieldRowView) (o : Option FlatField) (v : Option Value) → right e ≡ true → field_value all numbers e o ≡ Ok v → FitsRow e v
   unfolding field_value
   row_is e None v k h =
       let is = scene_ok_is (default_of e) v h in
@@ -157,7 +157,7 @@ module _ (all : List FlatNode) (numbers : List ℕ) where
         let g = given_is d.field_type d.access None f b.0 v (line_is f.line (typed d.field_type f.value numbers) b.0 b.1) b.2 in
         record { plain = g.plain; held = λ i. absurd (not_both (is_initial d.access) g.initial i) }
 
-  rows_fit : (fields : List FlatField) (number : ℕ) (es : List Entry) (made values : List (Option Value)) → list_all right es ≡ true
+  rows_fit : (fields : List FlatField) (number : ℕ) (es : List FieldRowView) (made values : List (Option Value)) → list_all right es ≡ true
       → values_from all numbers fields number es made ≡ Ok values → (more : List (Option Value)) × (values ≡ made ++ more) × FitRows es more
   rows_fit fields number [] made values k h = ([], sym (scene_ok_is made values h) ∙ sym (append-nil made), tt)
   rows_fit fields number (e ∷ es) made values k h =

@@ -12,7 +12,7 @@ use Rattle.x3d_values.specs.declared.node_type.NodeType.{NodeType}
 use Rattle.x3d_values.specs.declared.value.Value.{Value}
 use Rattle.x3d_values.specs.Access.{holds_nodes, is_exposed, is_initial, is_kept}
 use Rattle.x3d_values.specs.Kept.{field_value}
-use Rattle.x3d_values.specs.Tables.{Entry, rows}
+use Rattle.x3d_values.specs.Tables.{FieldRowView, rows}
 use Rattle.x3d_values.specs.Values.{nodes_of, type_of}
 use Rattle.classic_tree.specs.declared.tree.Declaration.{Declaration}
 use Rattle.proto_flat.specs.declared.flat.FlatNode.{FlatNode}
@@ -88,7 +88,7 @@ module _ (p : PlanView) (n : ℕ) (node : SceneNode) (kept : AreKeepable p.state
       ∙ ap (λ (o : Option (Option Value)). option_and_then (λ v. v) o)
       (ap (λ (l : List (Option Value)). slice_get l number) e ∙ (ap (λ (k : ℕ). slice_get (before ++ v ∷ rest) k) (sym l) ∙ behind before v rest))
 
-  row_links : (number : ℕ) (e : Entry) (v : Option Value) → value_at p.scene n number ≡ v → FitsRow e v
+  row_links : (number : ℕ) (e : FieldRowView) (v : Option Value) → value_at p.scene n number ≡ v → FitsRow e v
       → flat_map links (shown_field e.name e.default (present_value p n number e.access e.field_type)) ≡ linked v
   row_links number e v at f =
       let same : linked (present_value p n number e.access e.field_type) ≡ linked v =
@@ -102,7 +102,7 @@ module _ (p : PlanView) (n : ℕ) (node : SceneNode) (kept : AreKeepable p.state
   one_more : (before : List (Option Value)) (v : Option Value) (number : ℕ) → length before ≡ number → length (before ++ v ∷ []) ≡ number + 1
   one_more before v number l = length-append before (v ∷ []) ∙ ap (λ (k : ℕ). k + 1) l
 
-  rows_links : (number : ℕ) (es : List Entry) (vs before rest : List (Option Value)) → node.values ≡ before ++ (vs ++ rest) → length before ≡ number
+  rows_links : (number : ℕ) (es : List FieldRowView) (vs before rest : List (Option Value)) → node.values ≡ before ++ (vs ++ rest) → length before ≡ number
       → FitRows es vs → flat_map links (shown_from p n number es) ≡ flat_map linked vs
   rows_links number [] [] before rest e l f = refl
   rows_links number [] (v ∷ vs) before rest e l f = absurd f
@@ -134,7 +134,7 @@ module _ (p : PlanView) (n : ℕ) (node : SceneNode) (kept : AreKeepable p.state
 
   -- ---- all fields
 
-  as_many : (es : List Entry) (vs : List (Option Value)) → FitRows es vs → length vs ≡ length es
+  as_many : (es : List FieldRowView) (vs : List (Option Value)) → FitRows es vs → length vs ≡ length es
   as_many [] [] f = refl
   as_many [] (v ∷ vs) f = absurd f
   as_many (e ∷ es) [] f = absurd f

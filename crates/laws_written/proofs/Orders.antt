@@ -24,7 +24,7 @@ use Rattle.scene_core.specs.Scene.{value_at}
 use Rattle.scene_core.specs.Tasks.{unopened}
 use Rattle.scene_core.proofs.Fuel.{visit-new, visit-old}
 use Rattle.scene_text.specs.Statements.{helpers_of, root_tree, roots_of}
-use Rattle.scene_text.specs.Tree.{Declared, Makes, Plain, PlanView, Shown, Step, each, field_tree, node_tree, one_more, opened, shown_fields, value_tree}
+use Rattle.scene_text.specs.Tree.{Declared, Makes, Plain, PlanView, Shown, Grows, each, field_tree, node_tree, one_more, opened, shown_fields, value_tree}
 use Rattle.laws_text.specs.Children.{children}
 use Rattle.laws_text.proofs.NumberedLists.{length_set, some_is, within}
 use Rattle.laws_text.proofs.Lower.{children_lower, helpers_low, roots_low}
@@ -90,14 +90,14 @@ module _ (nodes : List FlatNode) where
   Leaves Q make = (s : Numbering) (n : ℕ) → length s.opened ≡ length nodes → Q n → (make s.opened n).seen ≡ (F s n).opened
 
   -- of each in turn
-  each_leaves : {B : Type 0} (Q : ℕ → Type 0) (make : Makes ℕ B) → Leaves Q make → (made : Step (List B)) (s : Numbering) (ns : List ℕ)
+  each_leaves : {B : Type 0} (Q : ℕ → Type 0) (make : Makes ℕ B) → Leaves Q make → (made : Grows (List B)) (s : Numbering) (ns : List ℕ)
       → made.seen ≡ s.opened → length s.opened ≡ length nodes → AllByRecursion Q ns → (fold (one_more make) made ns).seen ≡ (fold F s ns).opened
   each_leaves Q make k made s [] e l h = e
   each_leaves Q make k made s (n ∷ ns) e l h =
       each_leaves Q make k (one_more make made n) (F s n) ns (ap (λ (seen : List Bool). (make seen n).seen) e ∙ k s n l h.0) (one_length s n l) h.1
 
   module _ (Q : ℕ → Type 0) (tree : Makes ℕ NodeText) (k : Leaves Q tree) where
-    abbrev none_yet : List Bool → Step (List NodeText)
+    abbrev none_yet : List Bool → Grows (List NodeText)
     none_yet seen = record { seen = seen; made = [] }
 
     value_leaves : (s : Numbering) (v : Value) → length s.opened ≡ length nodes → AllByRecursion Q (nodes_of v)
@@ -129,7 +129,7 @@ module _ (nodes : List FlatNode) where
     field_leaves s (Declared d None) l h = refl
     field_leaves s (Declared d (Some v)) l h = value_leaves s v l h
 
-    fields_leave : (made : Step (List BodyItem)) (s : Numbering) (fs : List Shown) → made.seen ≡ s.opened → length s.opened ≡ length nodes
+    fields_leave : (made : Grows (List BodyItem)) (s : Numbering) (fs : List Shown) → made.seen ≡ s.opened → length s.opened ≡ length nodes
         → AllByRecursion Q (flat_map links fs) → (fold (one_more (field_tree tree)) made fs).seen ≡ (fold F s (flat_map links fs)).opened
     fields_leave made s [] e l h = e
     fields_leave made s (f ∷ fs) e l h =

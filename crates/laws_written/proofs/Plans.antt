@@ -20,7 +20,7 @@ use Rattle.scene_core.specs.Parts.{parts_of}
 use Rattle.scene_core.specs.Scene.{SceneView, type_at}
 use Rattle.scene_text.specs.Places.{named}
 use Rattle.scene_text.specs.Statements.{root_tree, roots_of}
-use Rattle.scene_text.specs.Tree.{Makes, PlanView, Step, each, node_tree, shown_fields}
+use Rattle.scene_text.specs.Tree.{Makes, PlanView, Grows, each, node_tree, shown_fields}
 use Rattle.laws_text.specs.Again.{in_place}
 use Rattle.laws_text.proofs.Again.{all_numbered_again}
 use Rattle.laws_text.proofs.Lower.{helpers_low, roots_low}
@@ -43,7 +43,7 @@ pub ones_are : (ns : List ℕ) → flat_map one ns ≡ ns
 ones_are [] = refl
 ones_are (n ∷ ns) = ap (λ (l : List ℕ). n ∷ l) (ones_are ns)
 
-abbrev pub begins : {B : Type 0} → List Bool → List B → Step (List B)
+abbrev pub begins : {B : Type 0} → List Bool → List B → Grows (List B)
 begins seen made = record { seen = seen; made = made }
 
 -- ---- nodes of a scene
@@ -91,7 +91,7 @@ module _ (p : PlanView) (nodes : List FlatNode) where
   pub order_is : numbering nodes p.scene.roots p.scene.helpers ≡ in_place (length nodes) → s2.order ≡ range_with_len 0 (length nodes)
   order_is numbered = ap (λ (s : Numbering). s.order) (sym (fold-append (full nodes) s0 p.scene.roots p.scene.helpers) ∙ (sym run ∙ numbered))
 
-  abbrev pub roots_made : Step (List Statement)
+  abbrev pub roots_made : Grows (List Statement)
   roots_made = each (root_tree (tree p)) s0.opened p.scene.roots
 
   pub roots_are : Stand → roots_of p ≡ roots_made

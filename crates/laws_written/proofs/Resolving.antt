@@ -7,7 +7,7 @@ use Rattle.x3d_values.specs.contracts.field_type.FieldType as types
 use Rattle.x3d_values.specs.declared.field_type.Access.{Access}
 use Rattle.x3d_values.specs.declared.table.FieldRow.{FieldRow}
 use Rattle.x3d_values.specs.Access.{receives, sends, holds_nodes}
-use Rattle.x3d_values.specs.Tables.{Entry}
+use Rattle.x3d_values.specs.Tables.{FieldRowView}
 use Rattle.proto_flat.specs.declared.flat.FlatEnd.{FlatEnd}
 use Rattle.proto_flat.specs.declared.flat.FlatEnd.TheVariants.{At, NoNode, NoField, WrongWay}
 use Rattle.proto_flat.specs.declared.flat.FlatRoute.{FlatRoute}
@@ -59,11 +59,11 @@ module _ (s other : SceneView) (keeps : KeepsRows s other) where
     by_number (Some m) k = by_bound m (nat_lt m (length s.nodes)) refl k
 
   -- the same field, by its own name
-  record IsUsable (allowed : Access → Bool) (fault : RouteFaultKind) (named : List Entry → List ℕ → Option FieldRow) (f : SceneField) : Type 0 where
+  record IsUsable (allowed : Access → Bool) (fault : RouteFaultKind) (named : List FieldRowView → List ℕ → Option FieldRow) (f : SceneField) : Type 0 where
     end : IsEnd s f.end
     again : usable allowed fault f.end.node (named (rows_at s f.end.node) (field_name s f.end)) ≡ Ok f
 
-  usable_is : (allowed : Access → Bool) (fault : RouteFaultKind) (named : List Entry → List ℕ → Option FieldRow) (n : ℕ) → n < length s.nodes
+  usable_is : (allowed : Access → Bool) (fault : RouteFaultKind) (named : List FieldRowView → List ℕ → Option FieldRow) (n : ℕ) → n < length s.nodes
       → ((row : FieldRow) → IsOwn (rows_at s n) row → named (rows_at s n) (own_name (rows_at s n) row.number) ≡ Some row)
       → (o : Option FieldRow) (f : SceneField) → ((row : FieldRow) → o ≡ Some row → IsOwn (rows_at s n) row)
       → usable allowed fault n o ≡ Ok f → IsUsable allowed fault named f
@@ -91,14 +91,14 @@ module _ (s other : SceneView) (keeps : KeepsRows s other) where
   source_there f u = (
     u.end,
     ap (output_named other (field_name s f.end)) (keeps.numbers f.end.node u.end.0)
-        ∙ ap (λ (es : List Entry). usable sends NotOutput f.end.node (source_field es (field_name s f.end))) (keeps.rows f.end.node u.end.0) ∙ u.again,
+        ∙ ap (λ (es : List FieldRowView). usable sends NotOutput f.end.node (source_field es (field_name s f.end))) (keeps.rows f.end.node u.end.0) ∙ u.again,
   )
 
   target_there : (f : SceneField) → IsUsable receives NotInput target_field f → TargetAgain f
   target_there f u = (
     u.end,
     ap (input_named other (field_name s f.end)) (keeps.numbers f.end.node u.end.0)
-        ∙ ap (λ (es : List Entry). usable receives NotInput f.end.node (target_field es (field_name s f.end))) (keeps.rows f.end.node u.end.0) ∙ u.again,
+        ∙ ap (λ (es : List FieldRowView). usable receives NotInput f.end.node (target_field es (field_name s f.end))) (keeps.rows f.end.node u.end.0) ∙ u.again,
   )
 
   output_is : (name : List ℕ) (o : Option ℕ) (f : SceneField) → ((n : ℕ) → o ≡ Some n → n < length s.nodes) → output_named s name o ≡ Ok f → SourceAgain f

@@ -11,7 +11,7 @@ use Rattle.x3d_values.specs.declared.field_type.FieldType.TheVariants.{SFRotatio
 use Rattle.x3d_values.specs.declared.table.FieldRow.{FieldRow}
 use Rattle.x3d_values.specs.Access.{is_exposed}
 use Rattle.x3d_values.specs.Aliases.{no_rotation, if_exposed}
-use Rattle.x3d_values.specs.Tables.{Entry, numbered, row_named}
+use Rattle.x3d_values.specs.Tables.{FieldRowView, numbered, row_named}
 use Rattle.route_core.specs.Names.{exact, exposed, set_alias, changed_alias, target_field, source_field}
 
 abbrev some : {A : Type 0} → A → Option A
@@ -21,14 +21,14 @@ row_is : (a b : FieldRow) → some a ≡ some b → a ≡ b
 row_is a b e = cc
 
 -- the row of that name, where the first has number n
-record IsNamed (n : ℕ) (name : List ℕ) (es : List Entry) (row : FieldRow) : Type 0 where
+record IsNamed (n : ℕ) (name : List ℕ) (es : List FieldRowView) (row : FieldRow) : Type 0 where
   index : ℕ
-  entry : Entry
+  entry : FieldRowView
   number : row.number ≡ n + index
   is : slice_get es index ≡ Some entry
   same : entry.name ≡ name
 
-row_by : (n : ℕ) (name : List ℕ) (x : Entry) (xs : List Entry) (row : FieldRow) (o : Option FieldRow) → (o ≡ Some row → IsNamed (n + 1) name xs row) → (b : Bool) → pointwise nat_eq name x.name ≡ b
+row_by : (n : ℕ) (name : List ℕ) (x : FieldRowView) (xs : List FieldRowView) (row : FieldRow) (o : Option FieldRow) → (o ≡ Some row → IsNamed (n + 1) name xs row) → (b : Bool) → pointwise nat_eq name x.name ≡ b
     → (if b then Some (numbered n x) else o) ≡ Some row → IsNamed n name (x ∷ xs) row
 row_by n name x xs row o k true t h =
     let same : n ≡ row.number = ap (λ (r : FieldRow). r.number) (row_is (numbered n x) row h) in
@@ -36,19 +36,19 @@ row_by n name x xs row o k true t h =
 row_by n name x xs row o k false t h =
     let f = k h in record { index = suc f.index; entry = f.entry; number = omega (arith, f.number); is = f.is; same = f.same }
 
-row_found : (n : ℕ) (name : List ℕ) (es : List Entry) (row : FieldRow) → row_named n name es ≡ Some row → IsNamed n name es row
+row_found : (n : ℕ) (name : List ℕ) (es : List FieldRowView) (row : FieldRow) → row_named n name es ≡ Some row → IsNamed n name es row
 row_found n name [] row e = absurd cc
 row_found n name (x ∷ xs) row e =
     row_by n name x xs row (row_named (n + 1) name xs) (λ h. row_found (n + 1) name xs row h) (pointwise nat_eq name x.name) refl e
 
 -- the name of the field of that number
-abbrev pub own_name : List Entry → ℕ → List ℕ
-own_name es k = unwrap_or (option_map (λ (e : Entry). e.name) (slice_get es k)) []
+abbrev pub own_name : List FieldRowView → ℕ → List ℕ
+own_name es k = unwrap_or (option_map (λ (e : FieldRowView). e.name) (slice_get es k)) []
 
-module _ (es : List Entry) where
+module _ (es : List FieldRowView) where
   -- the row stands among these, and its own name is that of no other
   pub record IsOwn (row : FieldRow) : Type 0 where
-    pub entry : Entry
+    pub entry : FieldRowView
     pub is : slice_get es row.number ≡ Some entry
     pub own : exact es (own_name es row.number) ≡ Some row
 
@@ -70,7 +70,7 @@ module _ (es : List Entry) where
       let f = row_found 0 name es row (and_then no_rotation (λ r row h. unless (sameb types.the_type r.field_type SFRotation) r row h) (row_named 0 name es) row e) in
       let index : f.index ≡ row.number = omega (arith, f.number) in
       let there : slice_get es row.number ≡ Some f.entry = subst (λ (k : ℕ). slice_get es k ≡ Some f.entry) index f.is in
-      let called : own_name es row.number ≡ name = ap (λ (o : Option Entry). unwrap_or (option_map (λ (x : Entry). x.name) o) []) there ∙ f.same in
+      let called : own_name es row.number ≡ name = ap (λ (o : Option FieldRowView). unwrap_or (option_map (λ (x : FieldRowView). x.name) o) []) there ∙ f.same in
       record { entry = f.entry; is = there; own = ap (exact es) called ∙ e }
 
   exposed_own : (name : List ℕ) (row : FieldRow) → exposed es name ≡ Some row → IsOwn row

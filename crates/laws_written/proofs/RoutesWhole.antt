@@ -11,7 +11,7 @@ use Rattle.classic_tree.specs.declared.tree.Statement.{Statement}
 use Rattle.proto_flat.specs.declared.flat.FlatEnd.{FlatEnd}
 use Rattle.laws_flat.specs.Closings.{Braces, IsOfNode, closings, expected}
 use Rattle.laws_flat.specs.Closings.{Shown as ShownBraces}
-use Rattle.laws_flat.specs.Uses.{Opened}
+use Rattle.laws_flat.specs.Uses.{OpenBraces}
 use Rattle.laws_flat.specs.Readings.{each, read_document, read_statement}
 use Rattle.laws_flat.specs.Routes.{ReadRoute, Reading, Shown, end_at, end_shown, nothing_read, read_end, read_shown, routes, routes_read, steps}
 use Rattle.laws_flat.proofs.Readings.{read-route}
@@ -59,7 +59,7 @@ module _ (s : SceneView) (rs : List Route) where
 
 -- ---- the ROUTEs behind all nodes
 
-abbrev read_of : SceneView → List Opened → Route → ReadRoute
+abbrev read_of : SceneView → List OpenBraces → Route → ReadRoute
 read_of s opened route = record { source = read_end opened (place_of s route.source); target = read_end opened (place_of s route.target) }
 
 record AreMet (s : SceneView) (rs : List Route) (r u : Reading) : Type 0 where
@@ -114,7 +114,7 @@ module _ (scene : SceneView) (rs : List Route) (state : List Fields) where
   routes_met =
       let m = all_met scene rs before in
       ap (λ (r : Reading). r.routes) in_parts ∙ m.met ∙ ap (λ (l : List ReadRoute). l ++ map (read_of scene before.opened) rs) none_before
-      ∙ ap (λ (os : List Opened). map (read_of scene os) rs) (sym (ap (λ (r : Reading). r.opened) in_parts ∙ m.opened))
+      ∙ ap (λ (os : List OpenBraces). map (read_of scene os) rs) (sym (ap (λ (r : Reading). r.opened) in_parts ∙ m.opened))
 
   module _ (distinct : (m n : ℕ) → m < length scene.nodes → n < length scene.nodes → label_of scene m ≡ label_of scene n → m ≡ n)
       (closes : map expected (closings d) ≡ written_braces scene rs) where

@@ -5,13 +5,13 @@ use Rattle.std.proofs.lemmas.List.{map-append}
 use Rattle.std.proofs.lemmas.List.Sums.{fold-append}
 use Rattle.proto_flat.specs.declared.flat.FlatNode.{FlatNode}
 use Rattle.laws_flat.specs.Readings.{each as each_read}
-use Rattle.laws_flat.specs.Uses.{Opened, Reading, some}
+use Rattle.laws_flat.specs.Uses.{OpenBraces, Reading, some}
 use Rattle.scene_core.specs.declared.numbering.Numbering.{Numbering}
 use Rattle.scene_core.specs.declared.scene.SceneNode.{SceneNode}
 use Rattle.scene_core.specs.Numbers.{appear, close, is_new, visit}
 use Rattle.scene_core.specs.Parts.{parts_of}
 use Rattle.scene_text.specs.Places.{places}
-use Rattle.scene_text.specs.Tree.{Makes, PlanView, Step, each, one_more}
+use Rattle.scene_text.specs.Tree.{Makes, PlanView, Grows, each, one_more}
 use Rattle.laws_text.proofs.NumberedLists.{In, push_keeps}
 use Rattle.laws_text.proofs.Visits.{Seen, full}
 use Rattle.laws_written.proofs.Counts.{hits, unwritten}
@@ -71,7 +71,7 @@ module _ (p : PlanView) (nodes : List FlatNode) where
   -- these nodes were read
   pub record After (begun coming : List ℕ) (r t : Reading) (s : Numbering) (ns : List ℕ) : Type 0 where
     pub here : t.here ≡ r.here ++ map some ns
-    pub kept : (k : ℕ) (o : Opened) → slice_get r.opened k ≡ Some o → slice_get t.opened k ≡ Some o
+    pub kept : (k : ℕ) (o : OpenBraces) → slice_get r.opened k ≡ Some o → slice_get t.opened k ≡ Some o
     pub ready : Ready begun coming t s
 
   pub after_none : (begun coming : List ℕ) (r t : Reading) (s : Numbering) → t ≡ r → Ready begun coming r s → After begun coming r t s []
@@ -104,7 +104,7 @@ module _ (p : PlanView) (nodes : List FlatNode) where
 
   module _ {A B : Type 0} (begun : List ℕ) (Q : ℕ → Type 0) (nodes_in : A → List ℕ) (read : B → Reading → Reading) (make : Makes A B)
       (does : Does begun Q nodes_in read make) where
-    abbrev IsDone : List ℕ → Reading → Step (List B) → Reading → Numbering → List ℕ → Type 0
+    abbrev IsDone : List ℕ → Reading → Grows (List B) → Reading → Numbering → List ℕ → Type 0
     IsDone coming r0 m r s ns = (m.seen ≡ s.opened) × After begun coming r (each_read read m.made r0) s ns
 
     pub in_turn : (coming : List ℕ) (r0 : Reading) (made : List B) (s : Numbering) (xs : List A) → AllByRecursion Q (flat_map nodes_in xs)

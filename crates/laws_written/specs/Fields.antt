@@ -9,7 +9,7 @@ use Rattle.x3d_values.specs.declared.fields.Fields.{Fields}
 use Rattle.x3d_values.specs.declared.node_type.NodeType.{NodeType}
 use Rattle.x3d_values.specs.declared.value.Value.{Value}
 use Rattle.x3d_values.specs.declared.value.Value.TheVariants.{SFNode, MFNode}
-use Rattle.x3d_values.specs.Tables.{Entry, rows}
+use Rattle.x3d_values.specs.Tables.{FieldRowView, rows}
 use Rattle.classic_tree.specs.declared.tree.RawValue.{RawValue}
 use Rattle.classic_tree.specs.declared.tree.RawValue.TheVariants as raw
 use Rattle.proto_flat.specs.declared.flat.FlatField.{FlatField}
@@ -48,7 +48,7 @@ unless_default (Some default) (Some value) = if is_default default value then No
 unless_default _ _ = None
 
 -- of the node n, those of these rows, the first of which has that number
-abbrev pub rows_held : SceneView → List Fields → ℕ → ℕ → List Entry → List HeldField
+abbrev pub rows_held : SceneView → List Fields → ℕ → ℕ → List FieldRowView → List HeldField
 rows_held s state n number [] = []
 rows_held s state n number (e ∷ others) =
     held_by number

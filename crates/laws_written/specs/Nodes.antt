@@ -30,8 +30,8 @@ written_roots s = s.roots ++ switch_root (length s.nodes) s.helpers
 
 -- the n-th braces of the text that close are those of the scene's node n: between them stand the
 -- nodes that stand in it, and each USE, there and as a root, is the node that it is written for
-abbrev pub IsRead : SceneView → Reading → Type 0
-IsRead s r =
+abbrev pub AreNodesRead : SceneView → Reading → Type 0
+AreNodesRead s r =
     (r.closed ≡ map (map some) (written_nodes s)) × (r.here ≡ map some (written_roots s))
 
 -- so is what is written of a document's scene, with any routes
@@ -39,4 +39,4 @@ abbrev pub WrittenNodesAreRead : Type 0
 WrittenNodesAreRead =
     (flat : Flat) (scene : SceneView) (routes : List Route) (state : List Fields)
     → scene_of flat ≡ Ok scene → length scene.nodes ≤ 2 ^ 64 → AreKeepable state
-    → IsRead scene (read (scene_document scene routes state))
+    → AreNodesRead scene (read (scene_document scene routes state))

@@ -13,19 +13,19 @@ use Rattle.pick_core.specs.Motion.{box_of, moved_at, moved_by, moved_box}
 use Rattle.pick_core.specs.Sites.{Site, IsAlike, AreAlike, IsSameBut, allows, allows_as, is_shown, is_shown_from_roots, row_of, rows_of, shows, sites}
 use Rattle.pick_core.specs.Trail.{carried}
 use Rattle.pick_rules.specs.declared.bounds.Bounds.{Bounds}
-use Rattle.pick_core.specs.declared.look.Kind.{Kind}
-use Rattle.pick_core.specs.declared.look.Kind.TheVariants.{Group, Transform, Switch, Shape, Other}
-use Rattle.pick_core.specs.declared.row.Row.{Row}
+use Rattle.pick_core.specs.declared.look.Role.{Role}
+use Rattle.pick_core.specs.declared.look.Role.TheVariants.{Group, Transform, Switch, Shape, Other}
+use Rattle.pick_core.specs.declared.row.BoxRow.{BoxRow}
 use Rattle.pick_core.specs.declared.trail.Place.{Place}
 
-moved-alike : (kind : Kind) (a b : Option Fields) (bounds : Bounds) → IsAlike kind a b → moved_by kind a bounds ≡ moved_by kind b bounds
+moved-alike : (kind : Role) (a b : Option Fields) (bounds : Bounds) → IsAlike kind a b → moved_by kind a bounds ≡ moved_by kind b bounds
 moved-alike Transform a b bounds h = ap (λ m. moved_box m bounds) h
 moved-alike Switch a b bounds h = refl
 moved-alike Group a b bounds h = refl
 moved-alike (Shape size) a b bounds h = refl
 moved-alike Other a b bounds h = refl
 
-allows-alike : (kind : Kind) (a b : Option Fields) (position : ℕ) → IsAlike kind a b → allows_as (choice_of a) kind position ≡ allows_as (choice_of b) kind position
+allows-alike : (kind : Role) (a b : Option Fields) (position : ℕ) → IsAlike kind a b → allows_as (choice_of a) kind position ≡ allows_as (choice_of b) kind position
 allows-alike Transform a b position h = refl
 allows-alike Switch a b position h = ap (λ which. shows which position) h
 allows-alike Group a b position h = refl
@@ -62,7 +62,7 @@ module _ (scene : SceneView) (before after : List Fields) (alike : AreAlike scen
 
   row-alike : (trail : List Place) (size : Vec3) → row_of scene before trail size ≡ row_of scene after trail size
   row-alike trail size =
-      let make : Bounds → Bool → Row = λ b s. record { trail = trail; size = size; bounds = b; shown = s } in
+      let make : Bounds → Bool → BoxRow = λ b s. record { trail = trail; size = size; bounds = b; shown = s } in
       ap (λ b. make b (is_shown_from_roots scene before trail)) (carried-alike trail (box_of size)) ∙ ap (λ s. make (carried scene after trail (box_of size)) s) (shown-alike-roots trail)
 
   rows-alike : rows_of scene before ≡ rows_of scene after
@@ -74,7 +74,7 @@ alike_rows scene before after alike = rows-alike scene before after alike
 
 -- ---- a change at a node that is neither a Transform nor a Switch
 
-equal_alike : (kind : Kind) (a b : Option Fields) → a ≡ b → IsAlike kind a b
+equal_alike : (kind : Role) (a b : Option Fields) → a ≡ b → IsAlike kind a b
 equal_alike Transform a b e = rw e refl
 equal_alike Switch a b e = rw e refl
 equal_alike Group a b e = tt

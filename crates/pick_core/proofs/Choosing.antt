@@ -2,7 +2,7 @@
 use Rattle.std.proofs.Common.{◌≡◌, Bool, true, false, List, [], ◌∷◌, refl, Option, Some, None, MatchOption, if◌then◌else◌, arith}
 use Rattle.std.specs.List.{fold}
 use Rattle.x3d_values.specs.declared.fields.Fields.{Fields}
-use Rattle.x3d_values.specs.Pointing.{Sight}
+use Rattle.x3d_values.specs.Pointing.{RayView}
 use Rattle.scene_core.specs.Scene.{SceneView}
 use Rattle.pick_core.specs.Boxes.{Placed, boxes}
 use Rattle.pick_rules.specs.Entry.{entry_of}
@@ -23,7 +23,7 @@ nearer-false : (at : Fraction) (old : Option Hit) → is_nearer at old ≡ false
 nearer-false at None e k = absurd (cc)
 nearer-false at (Some hit) e k = grind arith
 
-picks-one : (ray : Sight) (b : Placed) (old : Option Hit) → Continues ray (b ∷ []) old (nearer ray old b)
+picks-one : (ray : RayView) (b : Placed) (old : Option Hit) → Continues ray (b ∷ []) old (nearer ray old b)
 unfolding nearer
 picks-one ray b old = by_entry (entry_of b.bounds ray) (entry-is b.bounds ray)
   where
@@ -35,12 +35,12 @@ picks-one ray b old = by_entry (entry_of b.bounds ray) (entry-is b.bounds ray)
         by_test true e = continues-nearer ray b (hit_at b at) old refl first (nearer-true at old e)
         by_test false e = continues-behind ray b at old first (nearer-false at old e)
 
-picks-all : (ray : Sight) (bs : List Placed) (old : Option Hit) → Continues ray bs old (fold (nearer ray) old bs)
+picks-all : (ray : RayView) (bs : List Placed) (old : Option Hit) → Continues ray bs old (fold (nearer ray) old bs)
 picks-all ray [] old = continues-none ray old
 picks-all ray (b ∷ bs) old =
     continues-append ray (b ∷ []) bs old (nearer ray old b) (fold (nearer ray) (nearer ray old b) bs) (picks-one ray b old) (picks-all ray bs (nearer ray old b))
 
 -- what is picked out of a scene's boxes is the nearest
-pub picks-nearest : (scene : SceneView) (state : List Fields) (ray : Sight) → IsPicked ray (boxes scene state) (picked ray (boxes scene state))
+pub picks-nearest : (scene : SceneView) (state : List Fields) (ray : RayView) → IsPicked ray (boxes scene state) (picked ray (boxes scene state))
 picks-nearest scene state ray =
     picked-all ray (boxes scene state) (picked ray (boxes scene state)) (order-boxes scene state) (picks-all ray (boxes scene state) None)

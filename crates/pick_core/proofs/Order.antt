@@ -8,8 +8,8 @@ use Rattle.pick_core.specs.Boxes.{Placed, under, inside, boxes, layer, shown, sh
 use Rattle.pick_core.specs.Looks.{kind_of, listed, choice_of}
 use Rattle.pick_core.specs.Nearest.{IsPathBefore}
 use Rattle.pick_core.specs.Spread.{spread}
-use Rattle.pick_core.specs.declared.look.Kind.{Kind}
-use Rattle.pick_core.specs.declared.look.Kind.TheVariants.{Group, Transform, Switch, Shape, Other}
+use Rattle.pick_core.specs.declared.look.Role.{Role}
+use Rattle.pick_core.specs.declared.look.Role.TheVariants.{Group, Transform, Switch, Shape, Other}
 use Rattle.pick_core.specs.declared.trail.Place.{Place}
 use Rattle.pick_core.proofs.Picking.{AreInOrder, each-append, each-weaker}
 
@@ -63,7 +63,7 @@ module _ (scene : SceneView) (state : List Fields) where
   order-shown f None h = tt
   order-shown f (Some p) h = order-under p.position p.node (f p.node) (h p.node)
 
-  order-layer : (f : ℕ → List Placed) (which : ℤ) (kind : Kind) (children : List ℕ) → ((node : ℕ) → AreInOrder (f node)) → AreInOrder (layer (under scene state) f which kind children)
+  order-layer : (f : ℕ → List Placed) (which : ℤ) (kind : Role) (children : List ℕ) → ((node : ℕ) → AreInOrder (f node)) → AreInOrder (layer (under scene state) f which kind children)
   order-layer f which Group children h = order-spread f 0 children h
   order-layer f which Transform children h = order-spread f 0 children h
   order-layer f which Switch children h = order-shown f (shown_child children which) h

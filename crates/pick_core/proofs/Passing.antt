@@ -7,7 +7,7 @@ use Rattle.std.proofs.lemmas.Bool.{cases_lt}
 use Rattle.std.proofs.lemmas.List.Sums.{fold-append}
 use Rattle.std.proofs.lemmas.List.{length-map}
 use Rattle.std.proofs.lemmas.Option.{same_Some, none-some, slice_get-map}
-use Rattle.x3d_values.specs.Pointing.{Sight}
+use Rattle.x3d_values.specs.Pointing.{RayView}
 use Rattle.pick_rules.specs.Entry.{entry_of}
 use Rattle.pick_rules.specs.declared.bounds.Fraction.{Fraction}
 use Rattle.pick_tree.specs.Passed.{enters_before, enters_as, is_before}
@@ -21,7 +21,7 @@ use Rattle.pick_core.specs.Picked.{closer, nearer, is_nearer, fraction_of, hit_a
 use Rattle.pick_core.specs.Runs.{seen, seen_in}
 use Rattle.pick_core.specs.Sites.{placed_row, shown_rows}
 use Rattle.pick_core.specs.declared.hit.Hit.{Hit}
-use Rattle.pick_core.specs.declared.row.Row.{Row}
+use Rattle.pick_core.specs.declared.row.BoxRow.{BoxRow}
 use Rattle.pick_core.proofs.Rows.{shown_rows-on, shown_rows-off, shown_rows-more}
 
 -- ties are told alike
@@ -29,7 +29,7 @@ pub before-nearer : (at : Fraction) (best : Option Hit) → is_before at (fracti
 before-nearer at None = refl
 before-nearer at (Some hit) = refl
 
-module _ (ray : Sight) (best : Option Hit) where
+module _ (ray : RayView) (best : Option Hit) where
   closer-late : (p : Placed) (at : Option Fraction) → enters_as at (fraction_of best) ≡ false → closer p best at ≡ best
   closer-late p None e = refl
   closer-late p (Some at) e = ap (λ (t : Bool). if t then Some (hit_at p at) else best) (sym (before-nearer at best) ∙ e)
@@ -38,7 +38,7 @@ module _ (ray : Sight) (best : Option Hit) where
   unfolding nearer enters_before
   nearer-late p e = closer-late p (entry_of p.bounds ray) e
 
-  row-late : (r : Row) → enters_before (seen r) ray (fraction_of best) ≡ false → fold (nearer ray) best (shown_rows (r ∷ [])) ≡ best
+  row-late : (r : BoxRow) → enters_before (seen r) ray (fraction_of best) ≡ false → fold (nearer ray) best (shown_rows (r ∷ [])) ≡ best
   row-late r e = cases r.shown refl
     where
       cases : (t : Bool) → r.shown ≡ t → fold (nearer ray) best (shown_rows (r ∷ [])) ≡ best
@@ -48,23 +48,23 @@ module _ (ray : Sight) (best : Option Hit) where
           ap (fold (nearer ray) best) (shown_rows-on r h) ∙ nearer-late (placed_row r) late
       cases false h = ap (fold (nearer ray) best) (shown_rows-off r h)
 
-get-there : (xs : List Row) (n : ℕ) → n < length xs → (x : Row) × (slice_get xs n ≡ Some x)
+get-there : (xs : List BoxRow) (n : ℕ) → n < length xs → (x : BoxRow) × (slice_get xs n ≡ Some x)
 get-there [] n h = absurd (omega arith)
 get-there (x ∷ xs) zero h = (x, refl)
 get-there (x ∷ xs) (suc n) h = get-there xs n (omega arith)
 
-get-is : (xs : List Row) (n : ℕ) (x : Row) → slice_get xs n ≡ Some x → get_or xs n x ≡ x
+get-is : (xs : List BoxRow) (n : ℕ) (x : BoxRow) → slice_get xs n ≡ Some x → get_or xs n x ≡ x
 get-is [] n x e = absurd (none-some x e)
 get-is (y ∷ xs) zero x e = same_Some y x e
 get-is (y ∷ xs) (suc n) x e = get-is xs n x e
 
-pub get-seen : (rows : List Row) (n : ℕ) (r : Row) → slice_get rows n ≡ Some r → slice_get (seen_in rows) n ≡ Some (seen r)
+pub get-seen : (rows : List BoxRow) (n : ℕ) (r : BoxRow) → slice_get rows n ≡ Some r → slice_get (seen_in rows) n ≡ Some (seen r)
 get-seen rows n r e = slice_get-map seen rows n ∙ ap (option_map seen) e
 
 -- one row more
-pub picked-row : (ray : Sight) (rows : List Row) (at : ℕ) (r : Row) (old new : Option Hit) → slice_get rows at ≡ Some r → at < length rows → old ≡ fold (nearer ray) None (shown_rows (take at rows)) → new ≡ fold (nearer ray) old (shown_rows (r ∷ [])) → new ≡ fold (nearer ray) None (shown_rows (take (at + 1) rows))
+pub picked-row : (ray : RayView) (rows : List BoxRow) (at : ℕ) (r : BoxRow) (old new : Option Hit) → slice_get rows at ≡ Some r → at < length rows → old ≡ fold (nearer ray) None (shown_rows (take at rows)) → new ≡ fold (nearer ray) old (shown_rows (r ∷ [])) → new ≡ fold (nearer ray) None (shown_rows (take (at + 1) rows))
 picked-row ray rows at r old new there lt was is =
-    let more : shown_rows (take (at + 1) rows) ≡ shown_rows (take at rows) ++ shown_rows (r ∷ []) = shown_rows-more rows at r lt ∙ ap (λ (q : Row). shown_rows (take at rows) ++ shown_rows (q ∷ [])) (get-is rows at r there) in
+    let more : shown_rows (take (at + 1) rows) ≡ shown_rows (take at rows) ++ shown_rows (r ∷ []) = shown_rows-more rows at r lt ∙ ap (λ (q : BoxRow). shown_rows (take at rows) ++ shown_rows (q ∷ [])) (get-is rows at r there) in
     is ∙ (ap (λ best. fold (nearer ray) best (shown_rows (r ∷ []))) was
     ∙ (sym (fold-append (nearer ray) None (shown_rows (take at rows)) (shown_rows (r ∷ []))) ∙ ap (fold (nearer ray) None) (sym more)))
 
@@ -75,7 +75,7 @@ no-more : (at : ℕ) → at ≡ at + 0
 no-more at = omega arith
 
 -- rows that are passed
-pub picked-late : (ray : Sight) (rows : List Row) (at many : ℕ) (best : Option Hit) → ArePassed (seen_in rows) at many ray (fraction_of best) → best ≡ fold (nearer ray) None (shown_rows (take at rows)) → best ≡ fold (nearer ray) None (shown_rows (take (at + many) rows))
+pub picked-late : (ray : RayView) (rows : List BoxRow) (at many : ℕ) (best : Option Hit) → ArePassed (seen_in rows) at many ray (fraction_of best) → best ≡ fold (nearer ray) None (shown_rows (take at rows)) → best ≡ fold (nearer ray) None (shown_rows (take (at + many) rows))
 picked-late ray rows at zero best late was = subst (λ n. best ≡ fold (nearer ray) None (shown_rows (take n rows))) (no-more at) was
 picked-late ray rows at (suc many) best late was =
     let before : best ≡ fold (nearer ray) None (shown_rows (take (at + many) rows)) = picked-late ray rows at many best (λ n b e h l. late n b e h (omega arith)) was in
@@ -91,7 +91,7 @@ picked-late ray rows at (suc many) best late was =
     ]
 
 -- up to a place among them
-pub picked-next : (ray : Sight) (rows : List Row) (at many next : ℕ) (best : Option Hit) → at ≤ next → next ≤ at + many → ArePassed (seen_in rows) at many ray (fraction_of best) → best ≡ fold (nearer ray) None (shown_rows (take at rows)) → best ≡ fold (nearer ray) None (shown_rows (take next rows))
+pub picked-next : (ray : RayView) (rows : List BoxRow) (at many next : ℕ) (best : Option Hit) → at ≤ next → next ≤ at + many → ArePassed (seen_in rows) at many ray (fraction_of best) → best ≡ fold (nearer ray) None (shown_rows (take at rows)) → best ≡ fold (nearer ray) None (shown_rows (take next rows))
 picked-next ray rows at many next best low high late was =
     let (gap, is) = gap_of at next low in
     subst (λ n. best ≡ fold (nearer ray) None (shown_rows (take n rows))) is (picked-late ray rows at gap best (λ n b e l k. late n b e l (omega arith)) was)
@@ -101,9 +101,9 @@ picked-next ray rows at many next best low high late was =
 
 -- ---- trees round rows
 
-pub seen-long : (rows : List Row) → length (seen_in rows) ≡ length rows
+pub seen-long : (rows : List BoxRow) → length (seen_in rows) ≡ length rows
 seen-long rows = simp length-map
 
-pub seen-tree : (range : RowRange) (tree : Tree) (old new : List Row) → IsTreeOf tree (seen_in old) → length new ≡ length old → ((k : ℕ) → (IsInRange range k → ⊥) → slice_get new k ≡ slice_get old k) → IsTreeBut range.first range.last tree (seen_in new)
+pub seen-tree : (range : RowRange) (tree : Tree) (old new : List BoxRow) → IsTreeOf tree (seen_in old) → length new ≡ length old → ((k : ℕ) → (IsInRange range k → ⊥) → slice_get new k ≡ slice_get old k) → IsTreeBut range.first range.last tree (seen_in new)
 seen-tree range tree old new is long outside =
     tree-but range.first range.last tree (seen_in old) (seen_in new) is (seen-long new ∙ (long ∙ sym (seen-long old))) (λ k off. slice_get-map seen new k ∙ (ap (option_map seen) (outside k (λ h. off h.0 h.1)) ∙ sym (slice_get-map seen old k)))

@@ -4,7 +4,7 @@ use Rattle.std.specs.List.{AllByRecursion}
 use Rattle.pick_core.specs.Boxes.{Placed}
 use Rattle.pick_rules.specs.Hits.{IsMissed, IsEntered}
 use Rattle.pick_core.specs.Nearest.{IsPathBefore, IsReached, IsNotBehind, IsPicked}
-use Rattle.x3d_values.specs.Pointing.{Sight}
+use Rattle.x3d_values.specs.Pointing.{RayView}
 use Rattle.pick_rules.specs.declared.bounds.Fraction.{Fraction}
 use Rattle.pick_core.specs.declared.hit.Hit.{Hit}
 use Rattle.std.proofs.lemmas.Bool.{cases_lt}
@@ -16,7 +16,7 @@ AreInOrder [] = Unit {0}
 AreInOrder (b ∷ bs) = AllByRecursion (λ (c : Placed). IsPathBefore b.path c.path) bs × AreInOrder bs
 
 -- what was picked among boxes before these becomes what is picked with these
-pub record Continues (ray : Sight) (bs : List Placed) (old new : Option Hit) : Type 0 where
+pub record Continues (ray : RayView) (bs : List Placed) (old new : Option Hit) : Type 0 where
   pub picked : (done : List Placed) → AreInOrder (done ++ bs) → IsPicked ray done old → IsPicked ray (done ++ bs) new
 
 abbrev pub IsNearer : Fraction → Option Hit → Type 0
@@ -46,7 +46,7 @@ order-left (x ∷ xs) ys h = (each-left (λ (c : Placed). IsPathBefore x.path c.
 not_less : (a b c d : ℕ) → (a * b < c * d → ⊥) → c * d ≤ a * b
 not_less a b c d h = elim (cases_lt (a * b) (c * d)) [ inl k ↦ absurd (h k) | inr k ↦ k ]
 
-module _ (ray : Sight) where
+module _ (ray : RayView) where
   reached-left : (hit : Hit) (xs ys : List Placed) → IsReached ray hit xs → IsReached ray hit (xs ++ ys)
   reached-left hit [] ys h = absurd h
   reached-left hit (x ∷ xs) ys (inl h) = inl h

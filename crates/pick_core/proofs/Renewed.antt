@@ -9,7 +9,7 @@ use Rattle.x3d_values.specs.declared.fields.Fields.{Fields}
 use Rattle.scene_core.specs.Scene.{SceneView}
 use Rattle.pick_core.specs.Renewal.{AreRangesOf}
 use Rattle.pick_core.specs.Sites.{renewed, fresh, touches}
-use Rattle.pick_core.specs.declared.row.Row.{Row}
+use Rattle.pick_core.specs.declared.row.BoxRow.{BoxRow}
 use Rattle.pick_core.specs.declared.trail.Place.{Place}
 use Rattle.pick_ranges.specs.Ranges.{IsAmong, IsInRange}
 use Rattle.pick_ranges.specs.declared.ranges.RowRange.{RowRange}
@@ -45,15 +45,15 @@ module _ {A : Type 0} where
 -- ---- one range
 
 -- the rows of a range up to a place are mapped, and no others
-pub record IsDone (f : Row → Row) (old : List Row) (range : RowRange) (at : ℕ) (now : List Row) : Type 0 where
+pub record IsDone (f : BoxRow → BoxRow) (old : List BoxRow) (range : RowRange) (at : ℕ) (now : List BoxRow) : Type 0 where
   pub front : range.first ≤ at
   pub within : (k : ℕ) → range.first ≤ k → k < at → k ≤ range.last
   pub long : length now ≡ length old
-  pub done : (k : ℕ) (r : Row) → range.first ≤ k → k < at → slice_get old k ≡ Some r → slice_get now k ≡ Some (f r)
+  pub done : (k : ℕ) (r : BoxRow) → range.first ≤ k → k < at → slice_get old k ≡ Some r → slice_get now k ≡ Some (f r)
   pub before : (k : ℕ) → k < range.first → slice_get now k ≡ slice_get old k
   pub behind : (k : ℕ) → at ≤ k → slice_get now k ≡ slice_get old k
 
-pub done-none : (f : Row → Row) (old : List Row) (range : RowRange) → IsDone f old range range.first old
+pub done-none : (f : BoxRow → BoxRow) (old : List BoxRow) (range : RowRange) → IsDone f old range range.first old
 done-none f old range = record {
   front = omega arith;
   within = λ k h l. absurd (omega arith);
@@ -63,7 +63,7 @@ done-none f old range = record {
   behind = λ k h. refl;
 }
 
-pub done-more : (f : Row → Row) (old now : List Row) (range : RowRange) (at : ℕ) (item new : Row) → IsDone f old range at now → at < length now → at ≤ range.last → slice_get now at ≡ Some item → new ≡ f item → IsDone f old range (at + 1) (set now at new)
+pub done-more : (f : BoxRow → BoxRow) (old now : List BoxRow) (range : RowRange) (at : ℕ) (item new : BoxRow) → IsDone f old range at now → at < length now → at ≤ range.last → slice_get now at ≡ Some item → new ≡ f item → IsDone f old range (at + 1) (set now at new)
 done-more f old now range at item new is lt fits here made = record {
   front = omega (arith, is.front);
   within = λ k h l. elim (cases_lt k at) [
@@ -83,13 +83,13 @@ done-more f old now range at item new is lt fits here made = record {
   behind = λ k h. get-other now at k new (λ q. absurd (omega arith)) ∙ is.behind k (omega arith);
 }
 
-module _ (f : Row → Row) (old now : List Row) (at : ℕ) (range : RowRange) (is : IsDone f old range at now) where
+module _ (f : BoxRow → BoxRow) (old now : List BoxRow) (at : ℕ) (range : RowRange) (is : IsDone f old range at now) where
   -- past the last row of a range all of it is done
-  pub done-inside : range.last < at → (k : ℕ) (r : Row) → IsInRange range k → slice_get old k ≡ Some r → slice_get now k ≡ Some (f r)
+  pub done-inside : range.last < at → (k : ℕ) (r : BoxRow) → IsInRange range k → slice_get old k ≡ Some r → slice_get now k ≡ Some (f r)
   done-inside past k r h e = is.done k r h.0 (omega (arith, h.1)) e
 
   -- and so behind the last row of all
-  pub done-inside-all : length now ≤ at → (k : ℕ) (r : Row) → IsInRange range k → slice_get old k ≡ Some r → slice_get now k ≡ Some (f r)
+  pub done-inside-all : length now ≤ at → (k : ℕ) (r : BoxRow) → IsInRange range k → slice_get old k ≡ Some r → slice_get now k ≡ Some (f r)
   done-inside-all past k r h e = is.done k r h.0 (omega (arith, is.long, slice_get_within old k r e)) e
 
   pub done-outside : (k : ℕ) → (IsInRange range k → ⊥) → slice_get now k ≡ slice_get old k
@@ -104,24 +104,24 @@ module _ (f : Row → Row) (old now : List Row) (at : ℕ) (range : RowRange) (i
 -- ---- all ranges of a node
 
 module _ (scene : SceneView) (state : List Fields) (node : ℕ) where
-  by : (t : Bool) (r : Row) → Row
+  by : (t : Bool) (r : BoxRow) → BoxRow
   by t r = if t then fresh scene state r else r
 
-  pub renewed-off : (r : Row) → touches node r.trail ≡ false → renewed scene state node r ≡ r
+  pub renewed-off : (r : BoxRow) → touches node r.trail ≡ false → renewed scene state node r ≡ r
   renewed-off r h = ap (λ t. if t then fresh scene state r else r) h
 
-  renewed-on : (r : Row) → touches node r.trail ≡ true → renewed scene state node r ≡ fresh scene state r
+  renewed-on : (r : BoxRow) → touches node r.trail ≡ true → renewed scene state node r ≡ fresh scene state r
   renewed-on r h = ap (λ t. if t then fresh scene state r else r) h
 
   -- a row that was made new stays
-  pub renewed-again : (r : Row) → renewed scene state node (renewed scene state node r) ≡ renewed scene state node r
+  pub renewed-again : (r : BoxRow) → renewed scene state node (renewed scene state node r) ≡ renewed scene state node r
   renewed-again r = cases (touches node r.trail) refl
     where
       cases : (t : Bool) → touches node r.trail ≡ t → renewed scene state node (renewed scene state node r) ≡ renewed scene state node r
       cases true h = ap (renewed scene state node) (renewed-on r h) ∙ (renewed-on (fresh scene state r) h ∙ sym (renewed-on r h))
       cases false h = ap (renewed scene state node) (renewed-off r h)
 
-  pub renewed-trail : (r : Row) → (renewed scene state node r).trail ≡ r.trail
+  pub renewed-trail : (r : BoxRow) → (renewed scene state node r).trail ≡ r.trail
   renewed-trail r = cases (touches node r.trail)
     where
       cases : (t : Bool) → (if t then fresh scene state r else r).trail ≡ r.trail
@@ -129,11 +129,11 @@ module _ (scene : SceneView) (state : List Fields) (node : ℕ) where
       cases false = refl
 
   -- a row is made new already, or it still is to be where it leads through the node
-  abbrev pub IsSoFar : List RowRange → ℕ → ℕ → List Row → List Row → Type 0
-  IsSoFar ranges left place old now = (k : ℕ) (r : Row) → slice_get old k ≡ Some r
+  abbrev pub IsSoFar : List RowRange → ℕ → ℕ → List BoxRow → List BoxRow → Type 0
+  IsSoFar ranges left place old now = (k : ℕ) (r : BoxRow) → slice_get old k ≡ Some r
       → (slice_get now k ≡ Some (renewed scene state node r)) ⊎ ((slice_get now k ≡ Some r) × (touches node r.trail ≡ true → IsAmong ranges left place k))
 
-  pub so_far-none : (ranges : List RowRange) (left place : ℕ) (old : List Row) → ((k : ℕ) (r : Row) → slice_get old k ≡ Some r → touches node r.trail ≡ true → IsAmong ranges left place k) → IsSoFar ranges left place old old
+  pub so_far-none : (ranges : List RowRange) (left place : ℕ) (old : List BoxRow) → ((k : ℕ) (r : BoxRow) → slice_get old k ≡ Some r → touches node r.trail ≡ true → IsAmong ranges left place k) → IsSoFar ranges left place old old
   so_far-none ranges left place old waits k r e = inr (e, waits k r e)
 
   -- behind a range come those that follow it
@@ -157,8 +157,8 @@ module _ (scene : SceneView) (state : List Fields) (node : ℕ) where
     ]
   ]
 
-  module _ (ranges : List RowRange) (left place : ℕ) (old now new : List Row) (range : RowRange) (some : 0 < left) (here : slice_get ranges place ≡ Some range) (so_far : IsSoFar ranges left place old now) where
-    pub so_far-more : ((k : ℕ) (r : Row) → IsInRange range k → slice_get now k ≡ Some r → slice_get new k ≡ Some (renewed scene state node r)) → ((k : ℕ) → (IsInRange range k → ⊥) → slice_get new k ≡ slice_get now k) → IsSoFar ranges (left - 1) range.next old new
+  module _ (ranges : List RowRange) (left place : ℕ) (old now new : List BoxRow) (range : RowRange) (some : 0 < left) (here : slice_get ranges place ≡ Some range) (so_far : IsSoFar ranges left place old now) where
+    pub so_far-more : ((k : ℕ) (r : BoxRow) → IsInRange range k → slice_get now k ≡ Some r → slice_get new k ≡ Some (renewed scene state node r)) → ((k : ℕ) → (IsInRange range k → ⊥) → slice_get new k ≡ slice_get now k) → IsSoFar ranges (left - 1) range.next old new
     so_far-more inside outside k r e = elim (in_range range k) [
       | inl is ↦ elim (so_far k r e) [
         | inl done ↦ inl (inside k (renewed scene state node r) is done ∙ ap Some (renewed-again r))
@@ -171,14 +171,14 @@ module _ (scene : SceneView) (state : List Fields) (node : ℕ) where
     ]
 
   -- where no range is left all are made new
-  pub so_far-all : (ranges : List RowRange) (left place : ℕ) (old now : List Row) → length now ≡ length old → ((k : ℕ) → IsAmong ranges left place k → ⊥) → IsSoFar ranges left place old now → now ≡ map (renewed scene state node) old
+  pub so_far-all : (ranges : List RowRange) (left place : ℕ) (old now : List BoxRow) → length now ≡ length old → ((k : ℕ) → IsAmong ranges left place k → ⊥) → IsSoFar ranges left place old now → now ≡ map (renewed scene state node) old
   so_far-all ranges left place old now long none so_far = all-mapped (renewed scene state node) old now long each
     where
-      last : (k : ℕ) (r : Row) → (slice_get now k ≡ Some r) × (touches node r.trail ≡ true → IsAmong ranges left place k) → (t : Bool) → touches node r.trail ≡ t → slice_get now k ≡ Some (renewed scene state node r)
+      last : (k : ℕ) (r : BoxRow) → (slice_get now k ≡ Some r) × (touches node r.trail ≡ true → IsAmong ranges left place k) → (t : Bool) → touches node r.trail ≡ t → slice_get now k ≡ Some (renewed scene state node r)
       last k r waits true h = absurd (none k (waits.1 h))
       last k r waits false h = waits.0 ∙ ap Some (sym (renewed-off r h))
 
-      each : (k : ℕ) (r : Row) → slice_get old k ≡ Some r → slice_get now k ≡ Some (renewed scene state node r)
+      each : (k : ℕ) (r : BoxRow) → slice_get old k ≡ Some r → slice_get now k ≡ Some (renewed scene state node r)
       each k r e = elim (so_far k r e) [
         | inl done ↦ done
         | inr waits ↦ last k r waits (touches node r.trail) refl
@@ -195,10 +195,10 @@ none-there ranges (suc left) place e k a = none-some a.0 (sym e ∙ a.1)
 -- ---- ranges of rows
 
 -- rows with the same trails have the same ranges
-pub ranges-kept : (ranges : RowRanges) (f : Row → Row) (rows : List Row) → ((r : Row) → (f r).trail ≡ r.trail) → AreRangesOf ranges rows → AreRangesOf ranges (map f rows)
+pub ranges-kept : (ranges : RowRanges) (f : BoxRow → BoxRow) (rows : List BoxRow) → ((r : BoxRow) → (f r).trail ≡ r.trail) → AreRangesOf ranges rows → AreRangesOf ranges (map f rows)
 ranges-kept ranges f rows same are n k r e t =
     let (x, there, is) = get-mapped f rows k r e in
-    let trail : r.trail ≡ x.trail = ap (λ (q : Row). q.trail) is ∙ same x in
+    let trail : r.trail ≡ x.trail = ap (λ (q : BoxRow). q.trail) is ∙ same x in
     are n k x there (subst (λ (ps : List Place). touches n ps ≡ true) trail t)
 
 -- a trail up to a place leads through a node before it, or there

@@ -7,7 +7,7 @@ use Rattle.std.proofs.lemmas.Int.{ints}
 use Rattle.std.proofs.lemmas.Nat.{mul-le}
 use Rattle.x3d_values.specs.declared.fields.Fields.{Fields}
 use Rattle.x3d_values.specs.declared.vector.Vec3.{Vec3}
-use Rattle.x3d_values.specs.Pointing.{Sight}
+use Rattle.x3d_values.specs.Pointing.{RayView}
 use Rattle.scene_core.specs.Scene.{SceneView}
 use Rattle.pick_core.specs.Local.{reached, point_of, local_along, or_world, local_of}
 use Rattle.pick_core.specs.Motion.{clamped}
@@ -76,7 +76,7 @@ same_reached : (origin d : ℤ) (n m n' m' : ℕ) → 0 < m → 0 < m' → n * m
 unfolding reached
 same_reached origin d n m n' m' p p' e = ap (λ z. clamped (origin +ℤ z)) (same_way d n m n' m' p p' e)
 
-same_point : (ray : Sight) (n m n' m' : ℕ) → 0 < m → 0 < m' → n * m' ≡ n' * m → point_of ray n m ≡ point_of ray n' m'
+same_point : (ray : RayView) (n m n' m' : ℕ) → 0 < m → 0 < m' → n * m' ≡ n' * m → point_of ray n m ≡ point_of ray n' m'
 unfolding point_of
 same_point ray n m n' m' p p' e =
     let x = same_reached ray.origin.x ray.dir.x n m n' m' p p' e in
@@ -87,7 +87,7 @@ same_point ray n m n' m' p p' e =
     ∙ (ap (λ b. make (reached ray.origin.x ray.dir.x n' m') b (reached ray.origin.z ray.dir.z n m)) y
     ∙ ap (λ c. make (reached ray.origin.x ray.dir.x n' m') (reached ray.origin.y ray.dir.y n' m') c) z)
 
-pub one_local : (scene : SceneView) (state : List Fields) (ray : Sight) (sensor : ℕ) (h k : Hit) → 0 < h.m → 0 < k.m → h.path ≡ k.path → h.n * k.m ≡ k.n * h.m → local_of scene state h ray sensor ≡ local_of scene state k ray sensor
+pub one_local : (scene : SceneView) (state : List Fields) (ray : RayView) (sensor : ℕ) (h k : Hit) → 0 < h.m → 0 < k.m → h.path ≡ k.path → h.n * k.m ≡ k.n * h.m → local_of scene state h ray sensor ≡ local_of scene state k ray sensor
 unfolding local_of
 one_local scene state ray sensor h k p q path e =
     let from : List ℕ → Vec3 → Vec3 = λ ps at. or_world (local_along scene state sensor None ps at) at in

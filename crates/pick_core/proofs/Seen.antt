@@ -11,8 +11,8 @@ use Rattle.pick_core.specs.Motion.{box_of}
 use Rattle.pick_core.specs.Sites.{Site, site_under, site_layer, sites_in, sites, shows, allows_as, allows, is_shown, is_shown_from_roots, row_of, rows_of, shown_rows}
 use Rattle.pick_core.specs.Spread.{spread}
 use Rattle.pick_core.specs.Trail.{carried, positions}
-use Rattle.pick_core.specs.declared.look.Kind.{Kind}
-use Rattle.pick_core.specs.declared.look.Kind.TheVariants.{Group, Transform, Switch, Shape, Other}
+use Rattle.pick_core.specs.declared.look.Role.{Role}
+use Rattle.pick_core.specs.declared.look.Role.TheVariants.{Group, Transform, Switch, Shape, Other}
 
 abbrev add_if : Bool → Placed → List Placed → List Placed
 add_if b p ps = if b then p ∷ ps else ps
@@ -99,7 +99,7 @@ module _ (scene : SceneView) (state : List Fields) where
     seen-switch parent (pos which) nodes h = seen-one parent 0 which which nodes (omega arith) h
     seen-switch parent (negsuc which) nodes h = sym (seen-none parent 0 nodes (λ k l. h k))
 
-    seen-layer : (parent : ℕ) (which : ℤ) (kind : Kind) (children : List ℕ) → ((k : ℕ) → allows scene state parent k ≡ allows_as which kind k) → layer (under scene state) f which kind children ≡ seen parent (site_layer g kind children)
+    seen-layer : (parent : ℕ) (which : ℤ) (kind : Role) (children : List ℕ) → ((k : ℕ) → allows scene state parent k ≡ allows_as which kind k) → layer (under scene state) f which kind children ≡ seen parent (site_layer g kind children)
     unfolding is_shown carried
     seen-layer parent which Group children h = seen-all parent 0 children h
     seen-layer parent which Transform children h = seen-all parent 0 children h

@@ -9,7 +9,7 @@ use Rattle.x3d_values.specs.Ranges.{coordinates_fit}
 use Rattle.scene_core.specs.Scene.{SceneView, type_at, value_at}
 use Rattle.pick_core.specs.Looks.{kind_as, kind_of, node_in, size_as, size_of, vector_in}
 use Rattle.pick_core.specs.Within.{AreSized}
-use Rattle.pick_core.specs.declared.look.Kind.TheVariants as kind
+use Rattle.pick_core.specs.declared.look.Role.TheVariants as kind
 use Rattle.pick_core.specs.declared.numbers.TheConstants.{GEOMETRY, SIZE}
 
 vector_is : (o : Option Value) (size : Vec3) → vector_in o ≡ Some size → o ≡ Some (SFVec3f size)

@@ -8,7 +8,7 @@ use Rattle.pick_core.specs.Boxes.{Placed}
 use Rattle.pick_rules.specs.Hits.{IsCrossed, IsHit}
 use Rattle.pick_core.specs.Nearest.{IsPathBefore, IsPathUpTo, IsReached, IsNotBehind, IsNearest}
 use Rattle.pick_rules.specs.declared.bounds.Bounds.{Bounds}
-use Rattle.x3d_values.specs.Pointing.{Sight}
+use Rattle.x3d_values.specs.Pointing.{RayView}
 use Rattle.pick_core.specs.declared.hit.Hit.{Hit}
 use Rattle.pick_rules.proofs.Fractions.{mul_parts}
 
@@ -40,7 +40,7 @@ crossed_same low high origin d n m n' m' p q h = record {
 }
 
 -- a box is hit at all fractions of one value, or at none
-pub hit_same : (b : Bounds) (r : Sight) (n m n' m' : ℕ) → 0 < m → n * m' ≡ n' * m → IsHit b r n m → IsHit b r n' m'
+pub hit_same : (b : Bounds) (r : RayView) (n m n' m' : ℕ) → 0 < m → n * m' ≡ n' * m → IsHit b r n m → IsHit b r n' m'
 hit_same b r n m n' m' p q h = record {
   x = crossed_same b.low.x b.high.x r.origin.x r.dir.x n m n' m' p q h.x;
   y = crossed_same b.low.y b.high.y r.origin.y r.dir.y n m n' m' p q h.y;
@@ -61,12 +61,12 @@ both_up_to p q (inl e) k = e
 both_up_to p q (inr h) (inl e) = sym e
 both_up_to p q (inr h) (inr k) = absurd (never_both p q h k)
 
-reached_box : (ray : Sight) (hit : Hit) (P : Placed → Type 0) (bs : List Placed) → AllByRecursion P bs → IsReached ray hit bs → (b : Placed) × ((b.path ≡ hit.path) × IsHit b.bounds ray hit.n hit.m × P b)
+reached_box : (ray : RayView) (hit : Hit) (P : Placed → Type 0) (bs : List Placed) → AllByRecursion P bs → IsReached ray hit bs → (b : Placed) × ((b.path ≡ hit.path) × IsHit b.bounds ray hit.n hit.m × P b)
 reached_box ray hit P [] a h = absurd h
 reached_box ray hit P (b ∷ bs) a (inl h) = (b, (h.0, h.1, a.0))
 reached_box ray hit P (b ∷ bs) a (inr h) = reached_box ray hit P bs a.1 h
 
-pub one_nearest : (ray : Sight) (bs : List Placed) (h k : Hit) → IsNearest ray bs h → IsNearest ray bs k → (h.path ≡ k.path) × (h.n * k.m ≡ k.n * h.m)
+pub one_nearest : (ray : RayView) (bs : List Placed) (h k : Hit) → IsNearest ray bs h → IsNearest ray bs k → (h.path ≡ k.path) × (h.n * k.m ≡ k.n * h.m)
 one_nearest ray bs h k p q =
     let (b, x) = reached_box ray h (IsNotBehind ray k) bs q.none_before p.reached in
     let (c, y) = reached_box ray k (IsNotBehind ray h) bs p.none_before q.reached in

@@ -8,7 +8,7 @@ use Rattle.std.proofs.lemmas.Int.{ints, clamps}
 use borrow.Author.Differences.{up, down}
 use Rattle.x3d_values.specs.declared.fields.Fields.{Fields}
 use Rattle.x3d_values.specs.declared.vector.Vec3.{Vec3}
-use Rattle.x3d_values.specs.Pointing.{Sight}
+use Rattle.x3d_values.specs.Pointing.{RayView}
 use Rattle.x3d_values.specs.Ranges.{coordinate_fits, coordinates_fit}
 use Rattle.scene_core.specs.Scene.{SceneView}
 use Rattle.pick_rules.specs.Hits.{IsCrossed, IsHit}
@@ -22,8 +22,8 @@ use Rattle.pick_core.specs.Nearest.{IsReached}
 use Rattle.pick_core.specs.Spread.{spread}
 use Rattle.pick_core.specs.Within.{AreSized, HitsAreOnRays}
 use Rattle.pick_core.specs.declared.hit.Hit.{Hit}
-use Rattle.pick_core.specs.declared.look.Kind.{Kind}
-use Rattle.pick_core.specs.declared.look.Kind.TheVariants.{Group, Transform, Switch, Shape, Other}
+use Rattle.pick_core.specs.declared.look.Role.{Role}
+use Rattle.pick_core.specs.declared.look.Role.TheVariants.{Group, Transform, Switch, Shape, Other}
 use Rattle.pick_core.specs.declared.look.Motion.{Motion}
 use Rattle.pick_core.specs.declared.trail.Place.{Place}
 use Rattle.pick_core.proofs.Picking.{each-append}
@@ -177,7 +177,7 @@ shown_inside : (f : ℕ → ℕ → Placed → Placed) → ((position node : ℕ
 shown_inside f k g h None = tt
 shown_inside f k g h (Some p) = map_inside (f p.position p.node) (k p.position p.node) (g p.node) (h p.node)
 
-by_kind : (k : Kind) (own : Option Fields) (b : Bounds) → IsInside b → IsInside (moved_by k own b)
+by_kind : (k : Role) (own : Option Fields) (b : Bounds) → IsInside b → IsInside (moved_by k own b)
 by_kind Transform own b h = moved_inside (motion_of own) b
 by_kind Group own b h = h
 by_kind Switch own b h = h
@@ -189,7 +189,7 @@ module _ (scene : SceneView) (state : List Fields) (sized : AreSized scene) wher
   unfolding moved_at
   under_inside position node p h = by_kind (kind_of scene node) (slice_get state node) p.bounds h
 
-  layer_inside : (g : ℕ → List Placed) → ((node : ℕ) → AllInside (g node)) → (node : ℕ) (which : ℤ) (k : Kind) (children : List ℕ) → kind_of scene node ≡ k → AllInside (layer (under scene state) g which k children)
+  layer_inside : (g : ℕ → List Placed) → ((node : ℕ) → AllInside (g node)) → (node : ℕ) (which : ℤ) (k : Role) (children : List ℕ) → kind_of scene node ≡ k → AllInside (layer (under scene state) g which k children)
   layer_inside g h node which Group children e = spread_inside (under scene state) under_inside g h 0 children
   layer_inside g h node which Transform children e = spread_inside (under scene state) under_inside g h 0 children
   layer_inside g h node which Switch children e = shown_inside (under scene state) under_inside g h (shown_child children which)
@@ -208,12 +208,12 @@ module _ (scene : SceneView) (state : List Fields) (sized : AreSized scene) wher
 
 -- ---- a hit
 
-record IsStruck (ray : Sight) (hit : Hit) : Type 0 where
+record IsStruck (ray : RayView) (hit : Hit) : Type 0 where
   bounds : Bounds
   within : IsInside bounds
   struck : IsHit bounds ray hit.n hit.m
 
-struck_in : (ray : Sight) (hit : Hit) (bs : List Placed) → AllInside bs → IsReached ray hit bs → IsStruck ray hit
+struck_in : (ray : RayView) (hit : Hit) (bs : List Placed) → AllInside bs → IsReached ray hit bs → IsStruck ray hit
 struck_in ray hit [] a h = absurd h
 struck_in ray hit (b ∷ bs) a (inl h) = record { bounds = b.bounds; within = a.0; struck = h.1 }
 struck_in ray hit (b ∷ bs) a (inr h) = struck_in ray hit bs a.1 h

@@ -5,8 +5,8 @@ use Rattle.std.specs.Option.{option_map}
 use Rattle.x3d_values.specs.declared.fields.Fields.{Fields}
 use Rattle.scene_core.specs.Scene.{SceneView}
 use Rattle.pick_rules.specs.declared.bounds.Bounds.{Bounds}
-use Rattle.pick_core.specs.declared.look.Kind.{Kind}
-use Rattle.pick_core.specs.declared.look.Kind.TheVariants.{Group, Transform, Switch, Shape, Other}
+use Rattle.pick_core.specs.declared.look.Role.{Role}
+use Rattle.pick_core.specs.declared.look.Role.TheVariants.{Group, Transform, Switch, Shape, Other}
 use Rattle.pick_core.specs.declared.trail.Place.{Place}
 use Rattle.pick_core.specs.Looks.{kind_of, listed, choice_of}
 use Rattle.pick_core.specs.Motion.{moved_at, box_of}
@@ -34,7 +34,7 @@ abbrev pub shown : (ℕ → ℕ → Placed → Placed) → (ℕ → List Placed)
 shown seen inside None = []
 shown seen inside (Some p) = map (seen p.position p.node) (inside p.node)
 
-abbrev pub layer : (ℕ → ℕ → Placed → Placed) → (ℕ → List Placed) → ℤ → Kind → List ℕ → List Placed
+abbrev pub layer : (ℕ → ℕ → Placed → Placed) → (ℕ → List Placed) → ℤ → Role → List ℕ → List Placed
 layer seen inside which Group children = spread seen inside 0 children
 layer seen inside which Transform children = spread seen inside 0 children
 layer seen inside which Switch children = shown seen inside (shown_child children which)

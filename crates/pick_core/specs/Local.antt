@@ -6,11 +6,11 @@ use Rattle.std.specs.List.{list_any}
 use Rattle.std.specs.Option.{option_and_then}
 use Rattle.x3d_values.specs.declared.fields.Fields.{Fields}
 use Rattle.x3d_values.specs.declared.vector.Vec3.{Vec3}
-use Rattle.x3d_values.specs.Pointing.{Sight}
+use Rattle.x3d_values.specs.Pointing.{RayView}
 use Rattle.scene_core.specs.Scene.{SceneView}
 use Rattle.pick_core.specs.declared.hit.Hit.{Hit}
-use Rattle.pick_core.specs.declared.look.Kind.{Kind}
-use Rattle.pick_core.specs.declared.look.Kind.TheVariants.{Group, Transform, Switch, Shape, Other}
+use Rattle.pick_core.specs.declared.look.Role.{Role}
+use Rattle.pick_core.specs.declared.look.Role.TheVariants.{Group, Transform, Switch, Shape, Other}
 use Rattle.pick_core.specs.declared.look.Motion.{Motion}
 use Rattle.pick_core.specs.Looks.{kind_of, motion_of}
 use Rattle.pick_core.specs.Motion.{clamped}
@@ -23,7 +23,7 @@ abbrev pub on_axis : ℤ → ℤ → ℕ → ℕ → ℤ
 on_axis origin dir n m = origin +ℤ int_div_euclid (pos n *ℤ dir) (pos m)
 
 -- where a ray is at n / m of its way
-abbrev pub on_ray : Sight → ℕ → ℕ → Vec3
+abbrev pub on_ray : RayView → ℕ → ℕ → Vec3
 on_ray ray n m = record {
   x = on_axis ray.origin.x ray.dir.x n m;
   y = on_axis ray.origin.y ray.dir.y n m;
@@ -35,7 +35,7 @@ on_ray ray n m = record {
 unfoldable pub reached : ℤ → ℤ → ℕ → ℕ → ℤ
 reached origin dir n m = clamped (on_axis origin dir n m)
 
-unfoldable pub point_of : Sight → ℕ → ℕ → Vec3
+unfoldable pub point_of : RayView → ℕ → ℕ → Vec3
 point_of ray n m = record {
   x = reached ray.origin.x ray.dir.x n m;
   y = reached ray.origin.y ray.dir.y n m;
@@ -63,7 +63,7 @@ moved_back m p = record {
   z = back_along m.translation.z m.scale.z m.center.z p.z;
 }
 
-abbrev pub entered_by : Kind → Option Fields → Vec3 → Vec3
+abbrev pub entered_by : Role → Option Fields → Vec3 → Vec3
 entered_by Transform own p = moved_back (motion_of own) p
 entered_by Group own p = p
 entered_by Switch own p = p
@@ -96,13 +96,13 @@ or_world (Some p) world = p
 
 -- the point of a hit in the coordinates of a sensor; no sensor stands in two lists that a hit
 -- concerns
-unfoldable pub local_of : SceneView → List Fields → Hit → Sight → ℕ → Vec3
+unfoldable pub local_of : SceneView → List Fields → Hit → RayView → ℕ → Vec3
 local_of scene state hit ray sensor =
     or_world (local_along scene state sensor None hit.path (point_of ray hit.n hit.m))
     (point_of ray hit.n hit.m)
 
 -- the path and the value of the fraction decide where a hit lies
 abbrev pub OneLocal : Type 0
-OneLocal = (scene : SceneView) (state : List Fields) (ray : Sight) (sensor : ℕ) (h k : Hit)
+OneLocal = (scene : SceneView) (state : List Fields) (ray : RayView) (sensor : ℕ) (h k : Hit)
     → 0 < h.m → 0 < k.m → h.path ≡ k.path → h.n * k.m ≡ k.n * h.m
     → local_of scene state h ray sensor ≡ local_of scene state k ray sensor

@@ -9,8 +9,8 @@ use Rattle.x3d_values.specs.declared.value.Value.TheVariants.{SFInt32, SFNode, S
 use Rattle.x3d_values.specs.declared.vector.Vec3.{Vec3}
 use Rattle.x3d_values.specs.Kept.{field_value}
 use Rattle.scene_core.specs.Scene.{SceneView, type_at, value_at, children_of}
-use Rattle.pick_core.specs.declared.look.Kind.{Kind}
-use Rattle.pick_core.specs.declared.look.Kind.TheVariants as kind
+use Rattle.pick_core.specs.declared.look.Role.{Role}
+use Rattle.pick_core.specs.declared.look.Role.TheVariants as kind
 use Rattle.pick_core.specs.declared.look.Motion.{Motion}
 use Rattle.pick_core.specs.declared.numbers.TheConstants.{GEOMETRY, SIZE, CENTER, SCALE, TRANSLATION, WHICH_CHOICE}
 
@@ -33,7 +33,7 @@ abbrev pub size_of : SceneView → Option ℕ → Option Vec3
 size_of scene None = None
 size_of scene (Some geometry) = size_as scene geometry (type_at scene geometry)
 
-abbrev pub kind_as : SceneView → ℕ → Option NodeType → Kind
+abbrev pub kind_as : SceneView → ℕ → Option NodeType → Role
 kind_as scene node (Some type.Group) = kind.Group
 kind_as scene node (Some type.Transform) = kind.Transform
 kind_as scene node (Some type.Switch) = kind.Switch
@@ -41,7 +41,7 @@ kind_as scene node (Some type.Shape) =
     kind.Shape (size_of scene (node_in (value_at scene node GEOMETRY)))
 kind_as scene node _ = kind.Other
 
-unfoldable pub kind_of : SceneView → ℕ → Kind
+unfoldable pub kind_of : SceneView → ℕ → Role
 kind_of scene node = kind_as scene node (type_at scene node)
 
 -- the nodes in the list `children` of a node

@@ -6,8 +6,8 @@ use Rattle.x3d_values.specs.declared.fields.Fields.{Fields}
 use Rattle.x3d_values.specs.declared.vector.Vec3.{Vec3}
 use Rattle.scene_core.specs.Scene.{SceneView}
 use Rattle.pick_rules.specs.declared.bounds.Bounds.{Bounds}
-use Rattle.pick_core.specs.declared.look.Kind.{Kind}
-use Rattle.pick_core.specs.declared.look.Kind.TheVariants.{Group, Transform, Switch, Shape, Other}
+use Rattle.pick_core.specs.declared.look.Role.{Role}
+use Rattle.pick_core.specs.declared.look.Role.TheVariants.{Group, Transform, Switch, Shape, Other}
 use Rattle.pick_core.specs.declared.look.Motion.{Motion}
 use Rattle.pick_core.specs.Looks.{kind_of, motion_of}
 
@@ -38,7 +38,7 @@ sides_along a b = record {
 unfoldable pub moved_box : Motion → Bounds → Bounds
 moved_box m b = sides_along (moved m b.low) (moved m b.high)
 
-abbrev pub moved_by : Kind → Option Fields → Bounds → Bounds
+abbrev pub moved_by : Role → Option Fields → Bounds → Bounds
 moved_by Transform own b = moved_box (motion_of own) b
 moved_by Group own b = b
 moved_by Switch own b = b

@@ -1,7 +1,7 @@
 -- The nearest box that a ray hits.
 use Rattle.std.specs.Prelude.{◌≡◌, ℕ, ◌*◌, ◌<◌, ◌≤◌, ◌⊎◌, List, [], ◌∷◌, Option, MatchOption}
 use Rattle.std.specs.List.{AllByRecursion}
-use Rattle.x3d_values.specs.Pointing.{Sight}
+use Rattle.x3d_values.specs.Pointing.{RayView}
 use Rattle.pick_rules.specs.Hits.{IsHit, IsMissed}
 use Rattle.pick_core.specs.Boxes.{Placed}
 use Rattle.pick_core.specs.declared.hit.Hit.{Hit}
@@ -17,29 +17,30 @@ abbrev pub IsPathUpTo : List ℕ → List ℕ → Type 0
 IsPathUpTo p q = (p ≡ q) ⊎ IsPathBefore p q
 
 -- one of the boxes has the hit's path and is hit at its fraction
-abbrev pub IsReached : Sight → Hit → List Placed → Type 0
+abbrev pub IsReached : RayView → Hit → List Placed → Type 0
 IsReached ray hit [] = ⊥
 IsReached ray hit (b ∷ bs) = ((b.path ≡ hit.path) × IsHit b.bounds ray hit.n hit.m)
     ⊎ IsReached ray hit bs
 
 -- the box isn't hit at a lesser fraction, and at this one only if its path isn't less
-pub record IsNotBehind (ray : Sight) (hit : Hit) (b : Placed) : Type 0 where
+pub record IsNotBehind (ray : RayView) (hit : Hit) (b : Placed) : Type 0 where
   pub first : (n m : ℕ) → 0 < m → IsHit b.bounds ray n m → hit.n * m ≤ n * hit.m
   pub least : IsHit b.bounds ray hit.n hit.m → IsPathUpTo hit.path b.path
 
 -- a path and a fraction at which its box is hit; no box is hit before it, and at it none of a
 -- lesser path
-pub record IsNearest (ray : Sight) (bs : List Placed) (hit : Hit) : Type 0 where
+pub record IsNearest (ray : RayView) (bs : List Placed) (hit : Hit) : Type 0 where
   pub positive : 0 < hit.m
   pub reached : IsReached ray hit bs
   pub none_before : AllByRecursion (IsNotBehind ray hit) bs
 
 -- the nearest hit; none where no box is hit at any fraction
-abbrev pub IsPicked : Sight → List Placed → Option Hit → Type 0
+abbrev pub IsPicked : RayView → List Placed → Option Hit → Type 0
 IsPicked ray bs hit =
     MatchOption hit (AllByRecursion (λ b. IsMissed b.bounds ray) bs) (IsNearest ray bs)
 
 -- there is one nearest hit: one path, and one value of the fraction
 abbrev pub OneNearest : Type 0
-OneNearest = (ray : Sight) (bs : List Placed) (h k : Hit) → IsNearest ray bs h → IsNearest ray bs k
+OneNearest =
+    (ray : RayView) (bs : List Placed) (h k : Hit) → IsNearest ray bs h → IsNearest ray bs k
     → (h.path ≡ k.path) × (h.n * k.m ≡ k.n * h.m)

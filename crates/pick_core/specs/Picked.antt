@@ -2,7 +2,7 @@
 use Rattle.std.specs.Prelude.{◌*◌, nat_lt, Bool, true, List, Option, Some, None, if◌then◌else◌}
 use Rattle.std.specs.List.{fold}
 use Rattle.x3d_values.specs.declared.fields.Fields.{Fields}
-use Rattle.x3d_values.specs.Pointing.{Sight}
+use Rattle.x3d_values.specs.Pointing.{RayView}
 use Rattle.scene_core.specs.Scene.{SceneView}
 use Rattle.pick_core.specs.Boxes.{Placed, boxes}
 use Rattle.pick_rules.specs.Entry.{entry_of}
@@ -26,14 +26,14 @@ abbrev pub closer : Placed → Option Hit → Option Fraction → Option Hit
 closer b best None = best
 closer b best (Some at) = if is_nearer at best then Some (hit_at b at) else best
 
-unfoldable pub nearer : Sight → Option Hit → Placed → Option Hit
+unfoldable pub nearer : RayView → Option Hit → Placed → Option Hit
 nearer ray best b = closer b best (entry_of b.bounds ray)
 
 -- the hit that is picked out of boxes
-abbrev pub picked : Sight → List Placed → Option Hit
+abbrev pub picked : RayView → List Placed → Option Hit
 picked ray bs = fold (nearer ray) None bs
 
 -- it is the nearest of a scene's boxes
 abbrev pub PicksNearest : Type 0
-PicksNearest = (scene : SceneView) (state : List Fields) (ray : Sight)
+PicksNearest = (scene : SceneView) (state : List Fields) (ray : RayView)
     → IsPicked ray (boxes scene state) (picked ray (boxes scene state))

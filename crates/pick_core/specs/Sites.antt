@@ -9,9 +9,9 @@ use Rattle.pick_core.specs.Looks.{kind_of, listed, motion_of, choice_of}
 use Rattle.pick_core.specs.Motion.{box_of}
 use Rattle.pick_core.specs.Spread.{spread}
 use Rattle.pick_core.specs.Trail.{carried, positions}
-use Rattle.pick_core.specs.declared.row.Row.{Row}
-use Rattle.pick_core.specs.declared.look.Kind.{Kind}
-use Rattle.pick_core.specs.declared.look.Kind.TheVariants.{Group, Transform, Switch, Shape, Other}
+use Rattle.pick_core.specs.declared.row.BoxRow.{BoxRow}
+use Rattle.pick_core.specs.declared.look.Role.{Role}
+use Rattle.pick_core.specs.declared.look.Role.TheVariants.{Group, Transform, Switch, Shape, Other}
 use Rattle.pick_core.specs.declared.trail.Place.{Place}
 
 -- a box of a size at the end of a trail
@@ -23,7 +23,7 @@ abbrev pub site_under : ℕ → ℕ → Site → Site
 site_under position node s =
     record { trail = record { position = position; node = node } ∷ s.trail; size = s.size }
 
-abbrev pub site_layer : (ℕ → List Site) → Kind → List ℕ → List Site
+abbrev pub site_layer : (ℕ → List Site) → Role → List ℕ → List Site
 site_layer inside Group children = spread site_under inside 0 children
 site_layer inside Transform children = spread site_under inside 0 children
 site_layer inside Switch children = spread site_under inside 0 children
@@ -45,7 +45,7 @@ abbrev pub shows : ℤ → ℕ → Bool
 shows (pos which) position = which == position
 shows (negsuc which) position = false
 
-abbrev pub allows_as : ℤ → Kind → ℕ → Bool
+abbrev pub allows_as : ℤ → Role → ℕ → Bool
 allows_as which Switch position = shows which position
 allows_as which Group position = true
 allows_as which Transform position = true
@@ -71,7 +71,7 @@ is_shown_from_roots scene state (p ∷ ps) = is_shown scene state p.node ps
 -- ---- rows
 
 -- what a row says of a box of a size at the end of a trail
-abbrev pub row_of : SceneView → List Fields → List Place → Vec3 → Row
+abbrev pub row_of : SceneView → List Fields → List Place → Vec3 → BoxRow
 row_of scene state trail size =
     record {
       trail = trail;
@@ -81,23 +81,23 @@ row_of scene state trail size =
     }
 
 -- the row of a box below the end of a trail
-abbrev pub row_at : SceneView → List Fields → List Place → Site → Row
+abbrev pub row_at : SceneView → List Fields → List Place → Site → BoxRow
 row_at scene state trail s = row_of scene state (trail ++ s.trail) s.size
 
 -- the rows of a state
-unfoldable pub rows_of : SceneView → List Fields → List Row
+unfoldable pub rows_of : SceneView → List Fields → List BoxRow
 rows_of scene state = map (λ (s : Site). row_of scene state s.trail s.size) (sites scene)
 
-abbrev pub placed_row : Row → Placed
+abbrev pub placed_row : BoxRow → Placed
 placed_row r = record { path = positions r.trail; bounds = r.bounds }
 
 -- the boxes of the rows that are shown
-unfoldable pub shown_rows : List Row → List Placed
+unfoldable pub shown_rows : List BoxRow → List Placed
 shown_rows [] = []
 shown_rows (r ∷ rs) = if r.shown then placed_row r ∷ shown_rows rs else shown_rows rs
 
 -- a row in a state
-abbrev pub fresh : SceneView → List Fields → Row → Row
+abbrev pub fresh : SceneView → List Fields → BoxRow → BoxRow
 fresh scene state r = row_of scene state r.trail r.size
 
 -- whether a trail leads through a node
@@ -105,7 +105,7 @@ abbrev pub touches : ℕ → List Place → Bool
 touches node trail = list_any (λ (p : Place). p.node == node) trail
 
 -- a row in a state that differs at a node
-abbrev pub renewed : SceneView → List Fields → ℕ → Row → Row
+abbrev pub renewed : SceneView → List Fields → ℕ → BoxRow → BoxRow
 renewed scene state node r = if touches node r.trail then fresh scene state r else r
 
 -- two states are the same but at a node
@@ -114,7 +114,7 @@ IsSameBut node before after = (k : ℕ) → (k ≡ node → ⊥) → slice_get b
 
 -- a ray sees the same of a node with these fields as with those: the motion of a Transform, the
 -- choice of a Switch
-abbrev pub IsAlike : Kind → Option Fields → Option Fields → Type 0
+abbrev pub IsAlike : Role → Option Fields → Option Fields → Type 0
 IsAlike Transform a b = motion_of a ≡ motion_of b
 IsAlike Switch a b = choice_of a ≡ choice_of b
 IsAlike Group a b = Unit {0}

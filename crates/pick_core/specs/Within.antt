@@ -2,7 +2,7 @@
 use Rattle.std.specs.Prelude.{◌≡◌, ℕ, true, List, Some}
 use Rattle.x3d_values.specs.declared.fields.Fields.{Fields}
 use Rattle.x3d_values.specs.declared.vector.Vec3.{Vec3}
-use Rattle.x3d_values.specs.Pointing.{Sight}
+use Rattle.x3d_values.specs.Pointing.{RayView}
 use Rattle.x3d_values.specs.Ranges.{coordinates_fit}
 use Rattle.scene_core.specs.Scene.{SceneView}
 use Rattle.pick_core.specs.Boxes.{boxes}
@@ -10,7 +10,7 @@ use Rattle.pick_core.specs.Local.{on_ray, point_of}
 use Rattle.pick_core.specs.Looks.{kind_of}
 use Rattle.pick_core.specs.Nearest.{IsPicked}
 use Rattle.pick_core.specs.declared.hit.Hit.{Hit}
-use Rattle.pick_core.specs.declared.look.Kind.TheVariants.{Shape}
+use Rattle.pick_core.specs.declared.look.Role.TheVariants.{Shape}
 
 -- the size of each Box is one that a document can give
 abbrev pub AreSized : SceneView → Type 0
@@ -19,6 +19,6 @@ AreSized scene = (node : ℕ) (size : Vec3) → kind_of scene node ≡ Shape (So
 
 -- the point of a hit is where its ray is
 abbrev pub HitsAreOnRays : Type 0
-HitsAreOnRays = (scene : SceneView) (state : List Fields) (ray : Sight) (hit : Hit)
+HitsAreOnRays = (scene : SceneView) (state : List Fields) (ray : RayView) (hit : Hit)
     → AreSized scene → IsPicked ray (boxes scene state) (Some hit)
     → point_of ray hit.n hit.m ≡ on_ray ray hit.n hit.m

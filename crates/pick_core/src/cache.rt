@@ -11,7 +11,7 @@ use crate::gather::gathered;
 use crate::hit::Hit;
 use crate::nearest::{fraction_of, keep_nearer};
 use crate::renewal::{ranges_of, renew_ranges};
-use crate::row::{Row, refresh_all};
+use crate::row::{BoxRow, refresh_all};
 use crate::runs::{renew_runs, tree_of};
 use pick_ranges::{RowRanges, first_place};
 use pick_tree::{Tree, passed};
@@ -24,19 +24,19 @@ use x3d_values::{Fields, Ray};
 /// runs of them.
 #[derive(Drop)]
 pub struct BoxCache {
-    rows: Vec<Row>,
+    rows: Vec<BoxRow>,
     ranges: RowRanges,
     tree: Tree,
 }
 
 impl Model for BoxCache {
     ghost use Rattle.std.specs.Prelude.{List};
-    ghost use Rattle.pick_core.specs.declared.row.Row.{Row};
+    ghost use Rattle.pick_core.specs.declared.row.BoxRow.{BoxRow};
     ghost use Rattle.pick_core.specs.Renewal.{AreRangesOf};
     ghost use Rattle.pick_core.specs.Runs.{seen_in};
     ghost use Rattle.pick_tree.specs.Tree.{IsTreeOf};
 
-    ghost Value = { List Row };
+    ghost Value = { List BoxRow };
 
     ghost view = { λ c. c.rows.items };
 
@@ -104,7 +104,7 @@ impl BoxCache {
     }
 }
 
-fn pick_row(row: &Row, ray: Ray, best: &mut Option<Hit>)
+fn pick_row(row: &BoxRow, ray: Ray, best: &mut Option<Hit>)
     ensures { best.new ≡ fold (nearer ray) best.old (spec.shown_rows (row.now ∷ [])) }
 {
     if row.shown {
@@ -114,7 +114,7 @@ fn pick_row(row: &Row, ray: Ray, best: &mut Option<Hit>)
 
 /// Goes past the rows from a place on that a tree tells to be no nearer than the best, or past one
 /// that it looks at, and answers the place of the next.
-fn pick_next(rows: &[Row], tree: &Tree, at: usize, ray: Ray, best: &mut Option<Hit>) -> usize
+fn pick_next(rows: &[BoxRow], tree: &Tree, at: usize, ray: Ray, best: &mut Option<Hit>) -> usize
     requires tree { IsTreeOf tree.now (seen_in rows.now) }
     requires inside { at < length rows.now }
     ensures further { at < result }
@@ -129,7 +129,7 @@ fn pick_next(rows: &[Row], tree: &Tree, at: usize, ray: Ray, best: &mut Option<H
     at + 1
 }
 
-fn pick_rows(rows: &[Row], tree: &Tree, ray: Ray) -> Option<Hit>
+fn pick_rows(rows: &[BoxRow], tree: &Tree, ray: Ray) -> Option<Hit>
     requires { IsTreeOf tree.now (seen_in rows.now) }
     ensures { result ≡ fold (nearer ray) None (spec.shown_rows rows.now) }
 {

@@ -4,8 +4,8 @@ ghost use Rattle.std.specs.Prelude.{◌≡◌, [], ◌∷◌, ◌++◌, ◌+◌,
 ghost use Rattle.pick_core.specs.Sites.{row_at, row_of, rows_of, site_under, sites_in};
 ghost use Rattle.pick_core.specs.Spread.{spread};
 
-use crate::look::{Kind, kind_of, listed};
-use crate::row::{Row, row_of};
+use crate::look::{Role, kind_of, listed};
+use crate::row::{BoxRow, row_of};
 use crate::trail::Place;
 use arrayvec::ArrayVec;
 use scene_core::Scene;
@@ -16,7 +16,7 @@ use x3d_values::{Fields, Vec3};
 #[derive(Drop)]
 struct Gathering {
     trail: ArrayVec<Place, 64>,
-    rows: Vec<Row>,
+    rows: Vec<BoxRow>,
 }
 
 /// The rows of all boxes of the scene, in a state.
@@ -24,7 +24,7 @@ pub(crate) fn gathered(
     alloc: Global,
     scene: &Scene,
     state: &[Fields],
-) -> Result<Vec<Row>, AllocError>
+) -> Result<Vec<BoxRow>, AllocError>
     ensures { IfOk result (λ rows. rows.items ≡ rows_of scene.now state.now) }
 {
     let mut walk = Gathering {
@@ -69,12 +69,12 @@ fn gather(
         ++ map (row_at scene.now state.now walk.old.trail.items) (sites_in scene.now depth node)) }
 {
     match kind_of(scene, node) {
-        Kind::Group | Kind::Transform | Kind::Switch => {
+        Role::Group | Role::Transform | Role::Switch => {
             gather_all(alloc, scene, state, depth - 1, listed(scene, node), walk)
         }
-        Kind::Shape(Some(size)) => push_row(alloc, scene, state, size, walk),
-        Kind::Shape(None) => Ok(()),
-        Kind::Other => Ok(()),
+        Role::Shape(Some(size)) => push_row(alloc, scene, state, size, walk),
+        Role::Shape(None) => Ok(()),
+        Role::Other => Ok(()),
     }
 }
 

@@ -7,7 +7,7 @@ ghost use Rattle.pick_core.specs.Local as spec;
 ghost use Rattle.pick_core.specs.Sensors.{siblings_in as siblings_of};
 
 use crate::hit::Hit;
-use crate::look::{Kind, Motion, kind_of, motion_of};
+use crate::look::{Motion, Role, kind_of, motion_of};
 use crate::motion::clamped;
 use crate::sensors::{is_held, list_of};
 use scene_core::Scene;
@@ -109,8 +109,8 @@ fn entered(scene: &Scene, state: &[Fields], node: u32, at: Vec3) -> Vec3
     ensures { result ≡ spec.entered scene.now state.now node at }
 {
     match kind_of(scene, node) {
-        Kind::Transform => moved_back(motion_of(state.get(node as usize)), at),
-        Kind::Group | Kind::Switch | Kind::Shape(_) | Kind::Other => at,
+        Role::Transform => moved_back(motion_of(state.get(node as usize)), at),
+        Role::Group | Role::Switch | Role::Shape(_) | Role::Other => at,
     }
 }
 

@@ -11,7 +11,7 @@ use x3d_values::{Fields, NodeType, Value, Vec3};
 
 /// What a node is for a ray. A Shape may hold a Box of a size.
 #[derive(Clone, Copy)]
-pub(crate) enum Kind {
+pub(crate) enum Role {
     Group,
     Transform,
     Switch,
@@ -60,15 +60,15 @@ fn size_in(scene: &Scene, shape: u32) -> Option<Vec3>
 
 /// What a node is for a ray.
 #[tactic(auto, unfolding(crate::specs::Looks::kind_of))]
-pub(crate) fn kind_of(scene: &Scene, node: u32) -> Kind
+pub(crate) fn kind_of(scene: &Scene, node: u32) -> Role
     ensures { result ≡ spec.kind_of scene.now node }
 {
     match scene.type_at(node) {
-        Some(NodeType::Group) => Kind::Group,
-        Some(NodeType::Transform) => Kind::Transform,
-        Some(NodeType::Switch) => Kind::Switch,
-        Some(NodeType::Shape) => Kind::Shape(size_in(scene, node)),
-        _ => Kind::Other,
+        Some(NodeType::Group) => Role::Group,
+        Some(NodeType::Transform) => Role::Transform,
+        Some(NodeType::Switch) => Role::Switch,
+        Some(NodeType::Shape) => Role::Shape(size_in(scene, node)),
+        _ => Role::Other,
     }
 }
 

@@ -5,7 +5,7 @@ ghost use Rattle.std.specs.Int.{int_div_euclid};
 ghost use Rattle.std.specs.Option.{option_copied};
 ghost use Rattle.pick_core.specs.Motion.{along_of, clamped, moved_at, moved, moved_box, box_of, sides_along};
 
-use crate::look::{Kind, Motion, kind_of, motion_of};
+use crate::look::{Motion, Role, kind_of, motion_of};
 use pick_rules::Bounds;
 use scene_core::Scene;
 use x3d_values::{Fields, Vec3};
@@ -25,8 +25,8 @@ pub(crate) fn move_box(scene: &Scene, state: &[Fields], node: u32, bounds: Bound
     ensures { result ≡ moved_at scene.now state.now node bounds }
 {
     match kind_of(scene, node) {
-        Kind::Transform => moved_box(motion_of(state.get(node as usize)), bounds),
-        Kind::Group | Kind::Switch | Kind::Shape(_) | Kind::Other => bounds,
+        Role::Transform => moved_box(motion_of(state.get(node as usize)), bounds),
+        Role::Group | Role::Switch | Role::Shape(_) | Role::Other => bounds,
     }
 }
 

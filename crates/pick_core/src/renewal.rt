@@ -2,13 +2,13 @@
 
 ghost use Rattle.std.specs.Prelude.{◌≡◌, ℕ, true, Some, length, map, slice_get, IfOk, OnOk};
 ghost use Rattle.pick_ranges.specs.Ranges.{HasRow, IsAmong, IsInRange};
-ghost use Rattle.pick_core.specs.declared.row.Row.{Row as RowOf};
+ghost use Rattle.pick_core.specs.declared.row.BoxRow.{BoxRow as RowOf};
 ghost use Rattle.pick_core.specs.Renewal.{AreRangesOf};
 ghost use Rattle.pick_core.specs.Runs.{seen_in};
 ghost use Rattle.pick_core.specs.Sites.{renewed, touches};
 ghost use Rattle.pick_tree.specs.Tree.{IsTreeOf};
 
-use crate::row::{Row, renew_row};
+use crate::row::{BoxRow, renew_row};
 use crate::runs::renew_runs;
 use crate::trail::Place;
 use pick_ranges::{RowRange, RowRanges, add_row, no_rows};
@@ -18,7 +18,7 @@ use std::alloc::{AllocError, Global};
 use x3d_values::Fields;
 
 /// For each node the ranges of rows whose trails lead through it.
-pub(crate) fn ranges_of(alloc: Global, rows: &[Row]) -> Result<RowRanges, AllocError>
+pub(crate) fn ranges_of(alloc: Global, rows: &[BoxRow]) -> Result<RowRanges, AllocError>
     ensures { IfOk result (λ ranges. AreRangesOf ranges rows.now) }
 {
     let mut ranges = no_rows(alloc);
@@ -29,7 +29,7 @@ pub(crate) fn ranges_of(alloc: Global, rows: &[Row]) -> Result<RowRanges, AllocE
 }
 
 /// The row at a place is one of each node's on its trail.
-fn add_at(ranges: &mut RowRanges, at: usize, row: &Row) -> Result<(), AllocError>
+fn add_at(ranges: &mut RowRanges, at: usize, row: &BoxRow) -> Result<(), AllocError>
     ensures added { OnOk result
         ((n : ℕ) → touches n row.now.trail ≡ true → HasRow ranges.new n at) }
     ensures kept { OnOk result ((n k : ℕ) → HasRow ranges.old n k → HasRow ranges.new n k) }
@@ -57,7 +57,7 @@ pub(crate) fn renew_ranges(
     node: u32,
     ranges: &[RowRange],
     first: usize,
-    rows: &mut [Row],
+    rows: &mut [BoxRow],
     tree: &mut Tree,
 )
     requires ranges { (k : ℕ) (r : RowOf) → slice_get rows.old k ≡ Some r
@@ -87,7 +87,7 @@ fn range_at(ranges: &[RowRange], place: usize) -> Option<RowRange>
 
 /// The rows of a range then are those of this state, where they lead through the node. All others
 /// stay as they are.
-fn renew_range(scene: &Scene, state: &[Fields], node: u32, range: RowRange, rows: &mut [Row])
+fn renew_range(scene: &Scene, state: &[Fields], node: u32, range: RowRange, rows: &mut [BoxRow])
     ensures long { length rows.new ≡ length rows.old }
     ensures inside { (k : ℕ) (r : RowOf) → IsInRange range k → slice_get rows.old k ≡ Some r
         → slice_get rows.new k ≡ Some (renewed scene.now state.now node r) }

@@ -3,7 +3,7 @@
 ghost use Rattle.std.specs.Prelude.{◌≡◌, ◌≤◌, length, map, slice_get, IfOk};
 ghost use Rattle.pick_core.specs.Sites as spec;
 
-use crate::look::{Kind, choice_of, kind_of};
+use crate::look::{Role, choice_of, kind_of};
 use crate::motion::box_round;
 use crate::trail::{Place, Trail, carry};
 use pick_rules::Bounds;
@@ -13,7 +13,7 @@ use x3d_values::{Fields, Vec3};
 
 /// A Box of a size at the end of a trail, with its corners in the world, shown or not.
 #[derive(Drop)]
-pub struct Row {
+pub struct BoxRow {
     pub(crate) bounds: Bounds,
     pub(crate) shown: bool,
     pub(crate) size: Vec3,
@@ -27,11 +27,11 @@ pub(crate) fn row_of(
     state: &[Fields],
     trail: &[Place],
     size: Vec3,
-) -> Result<Row, AllocError>
+) -> Result<BoxRow, AllocError>
     requires { length trail.now ≤ 64 }
     ensures { IfOk result (λ row. row ≡ spec.row_of scene.now state.now trail.now size) }
 {
-    Ok(Row {
+    Ok(BoxRow {
         bounds: carry(scene, state, trail, box_round(size)),
         shown: is_shown_from_roots(scene, state, trail),
         size,
@@ -52,8 +52,8 @@ fn allows(scene: &Scene, state: &[Fields], node: u32, position: usize) -> bool
     ensures { result ≡ spec.allows scene.now state.now node position }
 {
     match kind_of(scene, node) {
-        Kind::Switch => shows(choice_of(state.get(node as usize)), position),
-        Kind::Group | Kind::Transform | Kind::Shape(_) | Kind::Other => true,
+        Role::Switch => shows(choice_of(state.get(node as usize)), position),
+        Role::Group | Role::Transform | Role::Shape(_) | Role::Other => true,
     }
 }
 
@@ -85,14 +85,14 @@ fn is_shown_from_roots(scene: &Scene, state: &[Fields], trail: &[Place]) -> bool
 }
 
 /// The row then is that of this state.
-pub(crate) fn refresh(scene: &Scene, state: &[Fields], row: &mut Row)
+pub(crate) fn refresh(scene: &Scene, state: &[Fields], row: &mut BoxRow)
     ensures { row.new ≡ spec.fresh scene.now state.now row.old }
 {
     row.bounds = carry(scene, state, row.trail.as_slice(), box_round(row.size));
     row.shown = is_shown_from_roots(scene, state, row.trail.as_slice());
 }
 
-pub(crate) fn refresh_all(scene: &Scene, state: &[Fields], rows: &mut [Row])
+pub(crate) fn refresh_all(scene: &Scene, state: &[Fields], rows: &mut [BoxRow])
     ensures { rows.new ≡ map (spec.fresh scene.now state.now) rows.old }
 {
     for row in rows.iter_mut() {
@@ -108,7 +108,7 @@ fn touches(node: u32, trail: &[Place]) -> bool
 }
 
 /// The row then is that of this state, where it leads through the node.
-pub(crate) fn renew_row(scene: &Scene, state: &[Fields], node: u32, row: &mut Row)
+pub(crate) fn renew_row(scene: &Scene, state: &[Fields], node: u32, row: &mut BoxRow)
     ensures { row.new ≡ spec.renewed scene.now state.now node row.old }
 {
     if touches(node, row.trail.as_slice()) {

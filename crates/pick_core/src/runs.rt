@@ -5,20 +5,20 @@ ghost use Rattle.pick_rules.specs.declared.bounds.Bounds.{Bounds as BoundsOf};
 ghost use Rattle.pick_tree.specs.Tree.{IsIn, IsOf, IsOverBut, IsRenewed, IsTreeOf, IsTreeBut};
 ghost use Rattle.pick_core.specs.Runs as spec;
 
-use crate::row::Row;
+use crate::row::BoxRow;
 use pick_rules::Bounds;
 use pick_tree::{Tree, WIDTH, empty_tree, joined, renew_groups};
 use std::alloc::{AllocError, Global};
 
 /// The box of a row that is shown.
-fn seen(row: &Row) -> Option<Bounds>
+fn seen(row: &BoxRow) -> Option<Bounds>
     ensures { result ≡ spec.seen row.now }
 {
     if row.shown { Some(row.bounds) } else { None }
 }
 
 /// The box round all rows of a run that are shown.
-fn box_round(rows: &[Row], run: usize) -> Option<Bounds>
+fn box_round(rows: &[BoxRow], run: usize) -> Option<Bounds>
     ensures { (n : ℕ) (b : Option BoundsOf) → slice_get (spec.seen_in rows.now) n ≡ Some b
         → IsOf n run → IsIn b result }
 {
@@ -37,7 +37,7 @@ fn box_round(rows: &[Row], run: usize) -> Option<Bounds>
 
 /// The boxes of the runs then are round their rows again, where the rows from `first` to `last`
 /// have changed.
-fn renew_boxes(rows: &[Row], first: usize, last: usize, runs: &mut [Option<Bounds>])
+fn renew_boxes(rows: &[BoxRow], first: usize, last: usize, runs: &mut [Option<Bounds>])
     requires { IsOverBut first last runs.old (spec.seen_in rows.now) }
     ensures { IsRenewed first last runs.old runs.new (spec.seen_in rows.now) }
 {
@@ -52,7 +52,7 @@ fn renew_boxes(rows: &[Row], first: usize, last: usize, runs: &mut [Option<Bound
 }
 
 /// The tree then is round the rows again, where those from `first` to `last` have changed.
-pub(crate) fn renew_runs(rows: &[Row], first: usize, last: usize, tree: &mut Tree)
+pub(crate) fn renew_runs(rows: &[BoxRow], first: usize, last: usize, tree: &mut Tree)
     requires { IsTreeBut first last tree.old (spec.seen_in rows.now) }
     ensures { IsTreeOf tree.new (spec.seen_in rows.now) }
 {
@@ -66,7 +66,7 @@ pub(crate) fn renew_runs(rows: &[Row], first: usize, last: usize, tree: &mut Tre
 }
 
 /// A tree round the rows.
-pub(crate) fn tree_of(alloc: Global, rows: &[Row]) -> Result<Tree, AllocError>
+pub(crate) fn tree_of(alloc: Global, rows: &[BoxRow]) -> Result<Tree, AllocError>
     ensures { IfOk result (λ tree. IsTreeOf tree (spec.seen_in rows.now)) }
 {
     let mut tree = empty_tree(alloc, rows.len())?;

@@ -11,7 +11,7 @@ ghost use Rattle.pick_core.specs.Spread.{spread};
 ghost use Rattle.pick_core.specs.Trail.{carried, positions, raised};
 
 use crate::hit::Hit;
-use crate::look::{Kind, choice_of, kind_of, listed};
+use crate::look::{Role, choice_of, kind_of, listed};
 use crate::motion::box_round;
 use crate::nearest::keep_nearer;
 use crate::trail::{Place, carry};
@@ -93,17 +93,17 @@ fn visit(scene: &Scene, state: &[Fields], ray: Ray, depth: usize, node: u32, wal
         (inside scene.now state.now depth node)) }
 {
     match kind_of(scene, node) {
-        Kind::Group | Kind::Transform => {
+        Role::Group | Role::Transform => {
             visit_all(scene, state, ray, depth - 1, listed(scene, node), walk)
         }
-        Kind::Switch => {
+        Role::Switch => {
             if let Some(place) = shown_place(scene, state, node) {
                 visit_place(scene, state, ray, depth - 1, place, walk);
             }
         }
-        Kind::Shape(Some(size)) => consider(scene, state, ray, size, walk),
-        Kind::Shape(None) => {}
-        Kind::Other => {}
+        Role::Shape(Some(size)) => consider(scene, state, ray, size, walk),
+        Role::Shape(None) => {}
+        Role::Other => {}
     }
 }
 

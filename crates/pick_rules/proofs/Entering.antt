@@ -4,12 +4,12 @@ use Rattle.std.specs.Prelude.{nat_le, ◌==◌}
 use Rattle.std.specs.Option.{option_and_then}
 use Rattle.std.proofs.lemmas.Int.{ints}
 use Rattle.std.proofs.lemmas.Nat.{mul-le}
-use Rattle.x3d_values.specs.Pointing.{Sight}
+use Rattle.x3d_values.specs.Pointing.{RayView}
 use Rattle.pick_rules.specs.Entry.{from_0, span_at, span_of, push_of, is_before, last_pushed, if_before, first_within, joined, spans_of, entry_of}
 use Rattle.pick_rules.specs.Hits.{IsMissed, IsEntered}
 use Rattle.pick_rules.specs.declared.bounds.Bounds.{Bounds}
 use Rattle.pick_rules.specs.declared.bounds.Fraction.{Fraction}
-use Rattle.pick_rules.specs.declared.crossing.Span.{Span}
+use Rattle.pick_rules.specs.declared.crossing.Stretch.{Stretch}
 use Rattle.pick_rules.specs.declared.crossing.Spans.{Spans}
 use Rattle.pick_rules.proofs.Spans.{IsSpan, IsPushed, IsPush, AreSpans, IsNever, IsFirstWithin, Forward, Backward, between, behind_all, IsNear, span_in, span_out, pushed_within, pushed_before}
 
@@ -130,8 +130,8 @@ module _ (s : Spans) where
   unfolding first_within
   first-is = within-is (last_pushed s) last-is
 
-module _ (b : Bounds) (ray : Sight) where
-  joined-is : (x y z : Option Span) → IsSpan b.low.x b.high.x ray.origin.x ray.dir.x x → IsSpan b.low.y b.high.y ray.origin.y ray.dir.y y → IsSpan b.low.z b.high.z ray.origin.z ray.dir.z z → MatchOption (joined x y z) (IsMissed b ray) (AreSpans b ray)
+module _ (b : Bounds) (ray : RayView) where
+  joined-is : (x y z : Option Stretch) → IsSpan b.low.x b.high.x ray.origin.x ray.dir.x x → IsSpan b.low.y b.high.y ray.origin.y ray.dir.y y → IsSpan b.low.z b.high.z ray.origin.z ray.dir.z z → MatchOption (joined x y z) (IsMissed b ray) (AreSpans b ray)
   joined-is (Some x) (Some y) (Some z) p q r = record {
     within = λ n m h hit.
         let (px, bx) = (p n m h).0 hit.x in

@@ -2,11 +2,11 @@
 use Rattle.std.proofs.Common.{◌≡◌, ℕ, ◌*◌, ◌<◌, ◌≤◌, ◌⊎◌, inl, inr, ℤ, pos, negsuc, ◌+ℤ◌, ◌*ℤ◌, ◌≤ℤ◌, ◌<ℤ◌, suc, sym, subst, unsigned_abs, Option, Some, None, arith}
 use Rattle.std.proofs.lemmas.Int.{ints}
 use Rattle.std.proofs.lemmas.Nat.{mul-le}
-use Rattle.x3d_values.specs.Pointing.{Sight}
+use Rattle.x3d_values.specs.Pointing.{RayView}
 use Rattle.pick_rules.specs.Hits.{IsCrossed, IsHit}
 use Rattle.pick_rules.specs.declared.bounds.Bounds.{Bounds}
 use Rattle.pick_rules.specs.declared.bounds.Fraction.{Fraction}
-use Rattle.pick_rules.specs.declared.crossing.Span.{Span}
+use Rattle.pick_rules.specs.declared.crossing.Stretch.{Stretch}
 use Rattle.pick_rules.specs.declared.crossing.Spans.{Spans}
 use Rattle.pick_rules.proofs.Fractions.{fraction_trans, IsBetween, mul_parts, forward_between, between_forward, backward_between, between_backward}
 
@@ -19,7 +19,7 @@ abbrev pub IsBefore : ℕ → ℕ → ℕ → ℕ → Type 0
 IsBefore far slope n m = n * slope ≤ m * far
 
 -- the sides are passed exactly within the span
-abbrev pub IsSpan : ℤ → ℤ → ℤ → ℤ → Option Span → Type 0
+abbrev pub IsSpan : ℤ → ℤ → ℤ → ℤ → Option Stretch → Type 0
 IsSpan low high origin dir None = (n m : ℕ) → 0 < m → ¬ IsCrossed low high origin dir n m
 IsSpan low high origin dir (Some s) = (n m : ℕ) → 0 < m → (IsCrossed low high origin dir n m → IsPast s.near s.slope n m × IsBefore s.far s.slope n m) × (IsPast s.near s.slope n m → IsBefore s.far s.slope n m → IsCrossed low high origin dir n m)
 
@@ -48,7 +48,7 @@ pub record IsWithin (s : Spans) (n m : ℕ) : Type 0 where
   pub z_before : IsBefore s.z.far s.z.slope n m
 
 -- the ray is in the box exactly within the spans
-pub record AreSpans (b : Bounds) (r : Sight) (s : Spans) : Type 0 where
+pub record AreSpans (b : Bounds) (r : RayView) (s : Spans) : Type 0 where
   pub within : (n m : ℕ) → 0 < m → IsHit b r n m → IsWithin s n m
   pub hit : (n m : ℕ) → 0 < m → IsWithin s n m → IsHit b r n m
 

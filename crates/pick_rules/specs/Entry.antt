@@ -1,10 +1,10 @@
 -- Where a ray enters a box, by the sides that it passes on each axis.
 use Rattle.std.specs.Prelude.{ℕ, ◌*◌, ◌==◌, nat_le, nat_lt, ℤ, pos, negsuc, ◌-ℤ◌, int_lt, unsigned_abs, Bool, ◌&&◌, Option, Some, None, MatchOption, if◌then◌else◌}
 use Rattle.std.specs.Option.{option_and_then}
-use Rattle.x3d_values.specs.Pointing.{Sight}
+use Rattle.x3d_values.specs.Pointing.{RayView}
 use Rattle.pick_rules.specs.declared.bounds.Bounds.{Bounds}
 use Rattle.pick_rules.specs.declared.bounds.Fraction.{Fraction}
-use Rattle.pick_rules.specs.declared.crossing.Span.{Span}
+use Rattle.pick_rules.specs.declared.crossing.Stretch.{Stretch}
 use Rattle.pick_rules.specs.declared.crossing.Spans.{Spans}
 use Rattle.pick_rules.specs.Hits.{IsMissed, IsEntered}
 
@@ -13,13 +13,13 @@ from_0 (pos n) = n
 from_0 (negsuc n) = 0
 
 -- between two sides, the near and the far one, that lie so far ahead; none where both are behind
-unfoldable pub span_at : ℤ → ℤ → ℕ → Option Span
+unfoldable pub span_at : ℤ → ℤ → ℕ → Option Stretch
 span_at near far slope =
     if int_lt far (pos 0) then None
     else Some (record { near = from_0 near; far = from_0 far; slope = slope })
 
 -- the ray is between the sides of an axis from near / slope to far / slope of its way
-unfoldable pub span_of : ℤ → ℤ → ℤ → ℤ → Option Span
+unfoldable pub span_of : ℤ → ℤ → ℤ → ℤ → Option Stretch
 span_of low high origin dir =
     if int_lt dir (pos 0)
     then span_at (origin -ℤ high) (origin -ℤ low) (unsigned_abs dir)
@@ -33,7 +33,7 @@ push_of from near slope =
     else (if slope == 0 then None else Some (record { n = near; m = slope }))
 
 -- a fraction is not behind far / slope
-abbrev pub is_before : Fraction → Span → Bool
+abbrev pub is_before : Fraction → Stretch → Bool
 is_before at s = nat_le (at.n * s.slope) (at.m * s.far)
 
 unfoldable pub last_pushed : Spans → Option Fraction
@@ -50,13 +50,13 @@ if_before s at = if is_before at s.x && (is_before at s.y && is_before at s.z) t
 unfoldable pub first_within : Spans → Option Fraction
 first_within s = option_and_then (if_before s) (last_pushed s)
 
-abbrev pub joined : Option Span → Option Span → Option Span → Option Spans
+abbrev pub joined : Option Stretch → Option Stretch → Option Stretch → Option Spans
 joined (Some x) (Some y) (Some z) = Some (record { x = x; y = y; z = z })
 joined (Some x) (Some y) None = None
 joined (Some x) None z = None
 joined None y z = None
 
-unfoldable pub spans_of : Bounds → Sight → Option Spans
+unfoldable pub spans_of : Bounds → RayView → Option Spans
 spans_of b ray =
     joined
     (span_of b.low.x b.high.x ray.origin.x ray.dir.x)
@@ -64,12 +64,12 @@ spans_of b ray =
     (span_of b.low.z b.high.z ray.origin.z ray.dir.z)
 
 -- the first fraction at which the ray hits the box
-unfoldable pub entry_of : Bounds → Sight → Option Fraction
+unfoldable pub entry_of : Bounds → RayView → Option Fraction
 entry_of b ray = option_and_then first_within (spans_of b ray)
 
 -- it is where the box is hit first; none where it is missed
 abbrev pub Entries : Type 0
-Entries = (b : Bounds) (ray : Sight)
+Entries = (b : Bounds) (ray : RayView)
     → MatchOption (entry_of b ray) (IsMissed b ray) (λ (at : Fraction). IsEntered b ray at.n at.m)
 
 -- ---- the order of fractions

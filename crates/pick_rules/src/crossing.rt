@@ -9,7 +9,7 @@ use x3d_values::{Ray, Vec3};
 
 /// The ray is between two sides of a box from `near / slope` to `far / slope` of its way.
 #[derive(Clone, Copy)]
-pub(crate) struct Span {
+pub(crate) struct Stretch {
     pub near: u64,
     pub far: u64,
     pub slope: u64,
@@ -18,9 +18,9 @@ pub(crate) struct Span {
 /// The spans of the three axes.
 #[derive(Clone, Copy)]
 pub(crate) struct Spans {
-    pub x: Span,
-    pub y: Span,
-    pub z: Span,
+    pub x: Stretch,
+    pub y: Stretch,
+    pub z: Stretch,
 }
 
 /// The first fraction at which the ray hits the box.
@@ -36,7 +36,7 @@ pub fn entry(bounds: Bounds, ray: Ray) -> Option<Fraction>
 
 /// The span between two sides that lie so far ahead.
 #[tactic(auto, unfolding(crate::specs::Entry::span_at))]
-fn span_at(near: i128, far: i128, slope: u64) -> Option<Span>
+fn span_at(near: i128, far: i128, slope: u64) -> Option<Stretch>
     requires near { near <ℤ pos (2 ^ 64) }
     requires far { far <ℤ pos (2 ^ 64) }
     ensures { result ≡ spec.span_at near far slope }
@@ -45,7 +45,7 @@ fn span_at(near: i128, far: i128, slope: u64) -> Option<Span>
         return None;
     }
     let near = if near < 0 { 0 } else { near as u64 };
-    Some(Span {
+    Some(Stretch {
         near,
         far: far as u64,
         slope,
@@ -54,7 +54,7 @@ fn span_at(near: i128, far: i128, slope: u64) -> Option<Span>
 
 /// The span between the two sides of one axis.
 #[tactic(auto, using(crate::proofs::Wide::passed), unfolding(crate::specs::Entry::span_of))]
-fn span_of(low: i64, high: i64, origin: i64, dir: i64) -> Option<Span>
+fn span_of(low: i64, high: i64, origin: i64, dir: i64) -> Option<Stretch>
     ensures { result ≡ spec.span_of low high origin dir }
 {
     let (low, high, origin) = (low as i128, high as i128, origin as i128);
@@ -86,7 +86,7 @@ fn push(from: Fraction, near: u64, slope: u64) -> Option<Fraction>
 }
 
 /// Whether a fraction is not behind the far side.
-fn is_before(at: Fraction, span: Span) -> bool
+fn is_before(at: Fraction, span: Stretch) -> bool
     ensures { result ≡ spec.is_before at span }
 {
     times(at.n, span.slope) <= times(at.m, span.far)

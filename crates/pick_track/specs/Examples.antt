@@ -1,7 +1,7 @@
 -- Rays and planes, in millionths; the values are by hand.
 use Rattle.std.specs.Prelude.{◌≡◌, ℕ, ℤ, pos, negsuc, Some, None}
 use Rattle.x3d_values.specs.declared.vector.Vec3.{Vec3}
-use Rattle.x3d_values.specs.Pointing.{Sight}
+use Rattle.x3d_values.specs.Pointing.{RayView}
 use Rattle.x3d_values.specs.Vectors.{vector as at}
 use Rattle.pick_core.specs.declared.look.Motion.{Motion}
 use Rattle.pick_core.specs.Local.{moved_back}
@@ -16,21 +16,21 @@ abbrev minus : ℕ → ℤ
 minus n = negsuc n
 
 -- a ray from 14 4 20 straight down z
-abbrev down : Sight
+abbrev down : RayView
 down = record {
   origin = at (pos 14000000) (pos 4000000) (pos 20000000);
   dir = at zero zero (minus 999999);
 }
 
 -- a ray from 0 0 20 that goes 3 along x and -2 along y while it goes 4 down z
-abbrev aslant : Sight
+abbrev aslant : RayView
 aslant = record {
   origin = at zero zero (pos 20000000);
   dir = at (pos 3000000) (minus 1999999) (minus 3999999);
 }
 
 -- a ray along x at height 20
-abbrev level : Sight
+abbrev level : RayView
 level = record {
   origin = at zero zero (pos 20000000);
   dir = at (pos 1000000) zero zero;

@@ -4,7 +4,7 @@ use Rattle.std.specs.Prelude.{ℕ, ℤ, pos, ◌+ℤ◌, ◌-ℤ◌, ◌*ℤ◌,
 use Rattle.std.specs.Option.{option_map}
 use Rattle.x3d_values.specs.declared.fields.Fields.{Fields}
 use Rattle.x3d_values.specs.declared.vector.Vec3.{Vec3}
-use Rattle.x3d_values.specs.Pointing.{Sight}
+use Rattle.x3d_values.specs.Pointing.{RayView}
 use Rattle.scene_core.specs.Scene.{SceneView}
 use Rattle.pick_core.specs.Local.{quotient}
 use Rattle.pick_core.specs.Motion.{clamped}
@@ -30,7 +30,7 @@ met_at origin dir height = record {
 }
 
 -- the point where a ray comes to a height; none where it goes along it, or away
-unfoldable pub met : Sight → ℤ → Option Vec3
+unfoldable pub met : RayView → ℤ → Option Vec3
 met ray height =
     if comes_to ray.origin.z ray.dir.z height then Some (met_at ray.origin ray.dir height) else None
 
@@ -39,12 +39,12 @@ abbrev pub at_height : Vec3 → Vec3 → Vec3
 at_height start p = record { x = p.x; y = p.y; z = start.z }
 
 -- where a ray meets the plane across z through `start`, all in the coordinates inside these nodes
-abbrev pub tracked : SceneView → List Fields → List ℕ → Vec3 → Sight → Option Vec3
+abbrev pub tracked : SceneView → List Fields → List ℕ → Vec3 → RayView → Option Vec3
 tracked scene state nodes start ray =
     option_map (λ p. at_height start (inward scene state nodes p))
     (met ray (outward scene state nodes start).z)
 
 -- the same in the coordinates of the list at the end of a path
-unfoldable pub track_of : SceneView → List Fields → List ℕ → Vec3 → Sight → Option Vec3
+unfoldable pub track_of : SceneView → List Fields → List ℕ → Vec3 → RayView → Option Vec3
 track_of scene state path start ray =
     tracked scene state (nodes_along scene None path) start ray

@@ -2,7 +2,7 @@
 use Rattle.std.proofs.Common.{◌≡◌, ℕ, ◌+◌, ◌*◌, ◌<◌, ◌≤◌, ℤ, pos, ◌*ℤ◌, ◌≤ℤ◌, false, refl, Option, Some, None, MatchOption, arith}
 use Rattle.std.specs.Int.{int_min, int_max}
 use Rattle.std.proofs.lemmas.Int.{ints}
-use Rattle.x3d_values.specs.Pointing.{Sight}
+use Rattle.x3d_values.specs.Pointing.{RayView}
 use Rattle.pick_rules.specs.Entry.{entry_of}
 use Rattle.pick_rules.specs.Hits.{IsCrossed, IsHit, IsMissed, IsEntered}
 use Rattle.pick_rules.specs.declared.bounds.Bounds.{Bounds}
@@ -27,7 +27,7 @@ crossed-inside low high low' high' origin dir n m l h c =
     let b = times_le m high high' h in
     record { above = omega (arith, ints, c.above); below = omega (arith, ints, c.below) }
 
-hit-inside : (b c : Bounds) (ray : Sight) (n m : ℕ) → IsInside b c → IsHit b ray n m → IsHit c ray n m
+hit-inside : (b c : Bounds) (ray : RayView) (n m : ℕ) → IsInside b c → IsHit b ray n m → IsHit c ray n m
 hit-inside b c ray n m is h = record {
   x = crossed-inside b.low.x b.high.x c.low.x c.high.x ray.origin.x ray.dir.x n m is.low_x is.high_x h.x;
   y = crossed-inside b.low.y b.high.y c.low.y c.high.y ray.origin.y ray.dir.y n m is.low_y is.high_y h.y;
@@ -42,14 +42,14 @@ before-later at outer (Some best) p q le e =
     let later : best.n * at.m ≤ at.n * best.m = fraction_trans best.n best.m outer.n outer.m at.n at.m p behind le in
     grind arith
 
-module _ (b c : Bounds) (ray : Sight) (best : Option Fraction) (is : IsInside b c) where
+module _ (b c : Bounds) (ray : RayView) (best : Option Fraction) (is : IsInside b c) where
   passed-as : (inner outer : Option Fraction) → MatchOption inner (IsMissed b ray) (λ (at : Fraction). IsEntered b ray at.n at.m) → MatchOption outer (IsMissed c ray) (λ (at : Fraction). IsEntered c ray at.n at.m) → enters_as outer best ≡ false → enters_as inner best ≡ false
   passed-as None outer p q e = refl
   passed-as (Some at) None p q e = absurd (q at.n at.m p.positive (hit-inside b c ray at.n at.m is p.hit))
   passed-as (Some at) (Some outer) p q e =
       before-later at outer best q.positive p.positive (q.first at.n at.m p.positive (hit-inside b c ray at.n at.m is p.hit)) e
 
-pub passed-inside : (inner outer : Option Bounds) (ray : Sight) (best : Option Fraction) → IsIn inner outer → enters_before outer ray best ≡ false → enters_before inner ray best ≡ false
+pub passed-inside : (inner outer : Option Bounds) (ray : RayView) (best : Option Fraction) → IsIn inner outer → enters_before outer ray best ≡ false → enters_before inner ray best ≡ false
 unfolding enters_before
 passed-inside None outer ray best is e = refl
 passed-inside (Some b) None ray best is e = absurd is

@@ -4,7 +4,7 @@ use Rattle.std.specs.Prelude.{slice_get, ◌/◌}
 use Rattle.std.proofs.lemmas.Bool.{cases_lt}
 use Rattle.std.proofs.lemmas.List.{length-set, take-append-le}
 use Rattle.std.proofs.lemmas.Option.{same_Some, slice_get_within}
-use Rattle.x3d_values.specs.Pointing.{Sight}
+use Rattle.x3d_values.specs.Pointing.{RayView}
 use Rattle.pick_rules.specs.declared.bounds.Bounds.{Bounds}
 use Rattle.pick_rules.specs.declared.bounds.Fraction.{Fraction}
 use Rattle.pick_tree.specs.declared.tree.Tree.{Tree}
@@ -166,7 +166,7 @@ written n new old e f =
 
 -- ---- boxes that are passed
 
-module _ (tree : Tree) (boxes : Boxes) (is : IsTreeOf tree boxes) (at : ℕ) (ray : Sight) (best : Option Fraction) where
+module _ (tree : Tree) (boxes : Boxes) (is : IsTreeOf tree boxes) (at : ℕ) (ray : RayView) (best : Option Fraction) where
   pub passed-run : at ≡ 16 * (at / 16) → IsPassed tree.runs.items (at / 16) ray best → ArePassed boxes at 16 ray best
   passed-run whole p n b e h l =
       passed-inside b p.outer ray best (is.runs.round n (at / 16) b p.outer e p.there (omega arith, omega arith)) p.late

@@ -2,7 +2,7 @@
 use Rattle.std.specs.Prelude.{Bool, true, false, Option, Some, None}
 use Rattle.std.specs.Int.{int_min, int_max}
 use Rattle.x3d_values.specs.declared.vector.Vec3.{Vec3}
-use Rattle.x3d_values.specs.Pointing.{Sight}
+use Rattle.x3d_values.specs.Pointing.{RayView}
 use Rattle.pick_rules.specs.declared.bounds.Bounds.{Bounds}
 use Rattle.pick_rules.specs.declared.bounds.Fraction.{Fraction}
 use Rattle.pick_rules.specs.Entry.{entry_of, is_less}
@@ -17,7 +17,7 @@ enters_as None best = false
 enters_as (Some at) best = is_before at best
 
 -- a ray enters a box before the best so far; where there is no box, it enters none
-unfoldable pub enters_before : Option Bounds → Sight → Option Fraction → Bool
+unfoldable pub enters_before : Option Bounds → RayView → Option Fraction → Bool
 enters_before None ray best = false
 enters_before (Some b) ray best = enters_as (entry_of b ray) best
 

@@ -1,6 +1,6 @@
 -- Boxes round runs of 16 boxes.
 use Rattle.std.specs.Prelude.{◌≡◌, ℕ, ◌+◌, ◌*◌, ◌/◌, ◌≤◌, ◌<◌, ◌≤ℤ◌, List, length, Option, Some, None, slice_get, false}
-use Rattle.x3d_values.specs.Pointing.{Sight}
+use Rattle.x3d_values.specs.Pointing.{RayView}
 use Rattle.pick_rules.specs.declared.bounds.Bounds.{Bounds}
 use Rattle.pick_rules.specs.declared.bounds.Fraction.{Fraction}
 use Rattle.pick_tree.specs.declared.tree.Tree.{Tree}
@@ -56,18 +56,18 @@ pub record IsTreeBut (first last : ℕ) (tree : Tree) (boxes : List (Option Boun
   pub groups : IsOver tree.groups.items tree.runs.items
 
 -- what stands at a place, a box or none, a ray doesn't enter before the best so far
-pub record IsPassed (boxes : List (Option Bounds)) (at : ℕ) (ray : Sight)
+pub record IsPassed (boxes : List (Option Bounds)) (at : ℕ) (ray : RayView)
     (best : Option Fraction) : Type 0 where
   pub outer : Option Bounds
   pub there : slice_get boxes at ≡ Some outer
   pub late : enters_before outer ray best ≡ false
 
 -- a ray enters none of so many boxes from a place on before the best so far
-abbrev pub ArePassed : List (Option Bounds) → ℕ → ℕ → Sight → Option Fraction → Type 0
+abbrev pub ArePassed : List (Option Bounds) → ℕ → ℕ → RayView → Option Fraction → Type 0
 ArePassed boxes at many ray best = (n : ℕ) (b : Option Bounds) → slice_get boxes n ≡ Some b
     → at ≤ n → n < at + many → enters_before b ray best ≡ false
 
 -- what a ray doesn't enter in time has no box inside that it enters in time
 abbrev pub PassedInside : Type 0
-PassedInside = (inner outer : Option Bounds) (ray : Sight) (best : Option Fraction)
+PassedInside = (inner outer : Option Bounds) (ray : RayView) (best : Option Fraction)
     → IsIn inner outer → enters_before outer ray best ≡ false → enters_before inner ray best ≡ false

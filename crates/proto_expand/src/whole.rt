@@ -20,7 +20,7 @@ ghost use Rattle.proto_expand.specs.Whole.{all_of, content_by, content_of, conte
 use classic_tree::RouteText;
 use proto_flat::{ExpandFault, FlatNode, FlatRoute};
 use proto_interface::Interface;
-use proto_nodes::{Machine, Proto, put_node};
+use proto_nodes::{Proto, WalkState, put_node};
 use proto_put::{PutIn, flat_nodes};
 use proto_routes::routes_of;
 use proto_tree::{BodyTree, NodeTree, ProtoTree};
@@ -80,7 +80,7 @@ pub fn protos_of<'t, 'a>(
 /// A node that is a statement is a root.
 fn put_root<'t, 'a>(
     alloc: Global,
-    machine: &mut Machine<'t, 'a>,
+    machine: &mut WalkState<'t, 'a>,
     node: &'t NodeTree<'a>,
     roots: &mut Items<u32>,
 ) -> Result<(), ExpandFault>
@@ -100,7 +100,7 @@ fn put_root<'t, 'a>(
 
 /// A ROUTE that is a statement gives no root.
 fn put_route<'t, 'a>(
-    machine: &mut Machine<'t, 'a>,
+    machine: &mut WalkState<'t, 'a>,
     route: &'a RouteText,
     roots: &Items<u32>,
 ) -> Result<(), ExpandFault>
@@ -120,7 +120,7 @@ fn put_route<'t, 'a>(
 /// Puts a statement in.
 fn put_statement<'t, 'a>(
     alloc: Global,
-    machine: &mut Machine<'t, 'a>,
+    machine: &mut WalkState<'t, 'a>,
     statement: &'t BodyTree<'a>,
     roots: &mut Items<u32>,
 ) -> Result<(), ExpandFault>
@@ -143,7 +143,7 @@ fn put_statement<'t, 'a>(
 /// Puts all in, and gives the numbers of the nodes that are statements.
 fn put_roots<'t, 'a>(
     alloc: Global,
-    machine: &mut Machine<'t, 'a>,
+    machine: &mut WalkState<'t, 'a>,
     statements: &'t [BodyTree<'a>],
 ) -> Result<Items<u32>, ExpandFault>
     requires machine { MachineSound machine.old }
@@ -173,7 +173,7 @@ fn routes(alloc: Global, walker: &mut Walker<'_, '_>) -> Result<Items<FlatRoute>
 
 fn put_all<'t, 'a>(
     alloc: Global,
-    machine: &mut Machine<'t, 'a>,
+    machine: &mut WalkState<'t, 'a>,
     statements: &'t [BodyTree<'a>],
 ) -> Result<Made, ExpandFault>
     requires machine { MachineSound machine.old }
@@ -188,10 +188,10 @@ fn put_all<'t, 'a>(
 }
 
 /// What was put in. The branches that were made go last, and the last of them first.
-fn put_in<'t, 'a>(machine: Machine<'t, 'a>) -> PutIn<'a>
+fn put_in<'t, 'a>(machine: WalkState<'t, 'a>) -> PutIn<'a>
     ensures { result ≡ machine.entry.walker.put }
 {
-    let Machine { walker, frames, .. } = machine;
+    let WalkState { walker, frames, .. } = machine;
     drop(frames);
     let Walker {
         put,
@@ -239,7 +239,7 @@ fn put_text<'t, 'a>(
 {
     let walker = Walker::new(alloc);
     let frames = Vec::new(alloc);
-    let mut machine = Machine {
+    let mut machine = WalkState {
         protos,
         walker,
         frames,

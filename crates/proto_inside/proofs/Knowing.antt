@@ -7,7 +7,7 @@ use Rattle.std.specs.Borrow.{Bor}
 use Rattle.std.proofs.lemmas.List.{append_assoc, map-append, length-append, length-map}
 use Rattle.std.proofs.lemmas.Slice.Eq.{bytes_eq-Decides}
 use Rattle.x3d_values.specs.Tables as tables
-use Rattle.x3d_values.specs.Tables.{Entry, row_named}
+use Rattle.x3d_values.specs.Tables.{FieldRowView, row_named}
 use Rattle.x3d_values.specs.declared.table.FieldRow.{FieldRow}
 use Rattle.classic_tree.specs.declared.tree.Declaration.{Declaration}
 use Rattle.classic_tree.specs.declared.tree.NodeText.{NodeText}
@@ -15,7 +15,7 @@ use Rattle.proto_meaning.specs.Names.{Name, Field}
 use Rattle.proto_meaning.specs.Flat.{field, field_with, numbered_from}
 use Rattle.proto_interface.specs.declared.fields.Fields.{Fields}
 use Rattle.proto_interface.specs.declared.fields.KnownField.{KnownField}
-use Rattle.proto_interface.specs.Fields.{IsNamed, numbered}
+use Rattle.proto_interface.specs.Fields.{AreFieldsNamed, numbered}
 use Rattle.proto_inside.specs.Held.{declared_fields}
 
 same-truth : (p q : Bool) → (p ≡ true → q ≡ true) → (q ≡ true → p ≡ true) → p ≡ q
@@ -33,23 +33,23 @@ turned a b =
 abbrev row_known : FieldRow → KnownField
 row_known row = record { line = 0; number = row.number; access = row.access; field_type = row.field_type }
 
-abbrev row_field : Entry → Field
+abbrev row_field : FieldRowView → Field
 row_field row = field_with 0 row.access row.field_type row.name
 
-row-by : (b : Bool) (n : ℕ) (name : Name) (e : Entry) (o : Option FieldRow) (rest : Option (ℕ × Field)) → bytes_eq name e.name ≡ b →
+row-by : (b : Bool) (n : ℕ) (name : Name) (e : FieldRowView) (o : Option FieldRow) (rest : Option (ℕ × Field)) → bytes_eq name e.name ≡ b →
     option_map (numbered name) (option_map row_known o) ≡ rest →
     option_map (numbered name) (option_map row_known (if b then Some (tables.numbered n e) else o)) ≡ (if b then Some (n, row_field e) else rest)
 row-by true n name e o rest same is = ap (λ given. Some (n, field_with 0 e.access e.field_type given)) ((bytes_eq-Decides name e.name).0 same)
 row-by false n name e o rest same is = is
 
-pub rows-known : (n : ℕ) (name : Name) (es : List Entry) → option_map (numbered name) (option_map row_known (row_named n name es)) ≡ numbered_from n name (map (λ (row : Entry). field_with 0 row.access row.field_type row.name) es)
+pub rows-known : (n : ℕ) (name : Name) (es : List FieldRowView) → option_map (numbered name) (option_map row_known (row_named n name es)) ≡ numbered_from n name (map (λ (row : FieldRowView). field_with 0 row.access row.field_type row.name) es)
 rows-known n name [] = refl
 rows-known n name (e ∷ es) =
     row-by (bytes_eq name e.name) n name e (row_named (n + 1) name es) (numbered_from (n + 1) name (map row_field es)) refl (rows-known (n + 1) name es)
     ∙ ap (λ b. if b then Some (n, row_field e) else numbered_from (n + 1) name (map row_field es)) (turned name e.name)
 
-pub type-known : (name given : Name) (es : List Entry) (o : Option FieldRow) → o ≡ row_named 0 given es → given ≡ name →
-    option_map (numbered name) (option_map row_known o) ≡ numbered_from 0 name (map (λ (row : Entry). field_with 0 row.access row.field_type row.name) es)
+pub type-known : (name given : Name) (es : List FieldRowView) (o : Option FieldRow) → o ≡ row_named 0 given es → given ≡ name →
+    option_map (numbered name) (option_map row_known o) ≡ numbered_from 0 name (map (λ (row : FieldRowView). field_with 0 row.access row.field_type row.name) es)
 type-known name given es o is same =
     ap (λ (p : Option FieldRow). option_map (numbered name) (option_map row_known p)) (is ∙ ap (λ n. row_named 0 n es) same) ∙ rows-known 0 name es
 
@@ -101,5 +101,5 @@ whole-count xs ds number is = is ∙ sym (length-append xs (declared_fields ds))
 
 -- a declaration more, in the table of those that were declared
 pub table-more : (table : Fields) (first : ℕ) (old new : List (Bor (Declaration NodeText))) (d : Bor (Declaration NodeText)) → new ≡ old ++ d ∷ [] →
-    IsNamed table first (declared_fields old ++ field d.now ∷ []) → IsNamed table first (declared_fields new)
-table-more table first old new d is has = subst (λ fs. IsNamed table first fs) (sym (declared-more old new d is)) has
+    AreFieldsNamed table first (declared_fields old ++ field d.now ∷ []) → AreFieldsNamed table first (declared_fields new)
+table-more table first old new d is has = subst (λ fs. AreFieldsNamed table first fs) (sym (declared-more old new d is)) has

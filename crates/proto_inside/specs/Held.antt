@@ -7,7 +7,7 @@ use Rattle.proto_meaning.specs.Flat as meaning
 use Rattle.proto_meaning.specs.Flat.{field}
 use Rattle.proto_meaning.specs.Names.{Field, Filled}
 use Rattle.proto_given.specs.Held as given
-use Rattle.proto_interface.specs.Fields.{IsNamed}
+use Rattle.proto_interface.specs.Fields.{AreFieldsNamed}
 use Rattle.proto_inside.specs.declared.inside.Inside.{Inside}
 use Rattle.proto_inside.specs.declared.inside.Owner.{Owner}
 use Rattle.proto_inside.specs.declared.inside.Owner.TheVariants.{Node, Instance}
@@ -28,5 +28,6 @@ filled_in i = given.shown i.given
 
 -- the tables are those of the declared fields, and of what is given
 pub record Sound (i : Inside) : Type 0 where
-  pub named : IsNamed i.named (length (fields_of_owner i.owner)) (declared_fields i.declared.items)
+  pub named : AreFieldsNamed i.named (length (fields_of_owner i.owner))
+      (declared_fields i.declared.items)
   pub given : given.IsHeld i.given

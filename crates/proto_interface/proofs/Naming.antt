@@ -16,7 +16,7 @@ use Rattle.proto_meaning.specs.Sight.{Names, with_name, no_names}
 use Rattle.proto_meaning.specs.Flat.{field, field_with, numbered_from}
 use Rattle.proto_interface.specs.declared.fields.Fields.{Fields}
 use Rattle.proto_interface.specs.declared.fields.KnownField.{KnownField}
-use Rattle.proto_interface.specs.Fields.{field_named, numbered, known, fields_of, with_entry, added, IsNamed, IsExposed, has_name, twice_after}
+use Rattle.proto_interface.specs.Fields.{field_named, numbered, known, fields_of, with_entry, added, AreFieldsNamed, IsExposed, has_name, twice_after}
 
 abbrev Found : Type 0
 Found = Option KnownField
@@ -73,7 +73,7 @@ named-by d m name None true e = ap (λ given. Some (m, field_with d.line d.acces
 named-by d m name None false e = refl
 
 pub names-more : (old new : Fields) (d : Declaration NodeText) (n m : ℕ) (fs : List Field) → m ≡ n + length fs →
-    fields_of new ≡ added (known m d) d.name (fields_of old) → IsNamed old n fs → IsNamed new n (fs ++ field d ∷ [])
+    fields_of new ≡ added (known m d) d.name (fields_of old) → AreFieldsNamed old n fs → AreFieldsNamed new n (fs ++ field d ∷ [])
 names-more old new d n m fs is grows has name =
     ap (λ (e : Name → Found). option_map (numbered name) (e name)) grows
     ∙ named-by d m name (fields_of old name) (bytes_eq d.name name) refl
@@ -122,7 +122,7 @@ new-is : {A B : Type 0} (o : Option A) (f : A → B) → is_none o ≡ not (is_s
 new-is None f = refl
 new-is (Some a) f = refl
 
-pub is-new : (table : Fields) (n : ℕ) (name : Name) (fs : List Field) (b : Bool) → b ≡ is_none (fields_of table name) → IsNamed table n fs → b ≡ not (has_name name fs)
+pub is-new : (table : Fields) (n : ℕ) (name : Name) (fs : List Field) (b : Bool) → b ≡ is_none (fields_of table name) → AreFieldsNamed table n fs → b ≡ not (has_name name fs)
 is-new table n name fs b is has =
     is ∙ new-is (fields_of table name) (numbered name) ∙ ap (λ o. not (is_some o)) (has name) ∙ ap not (has-number n name fs)
 

@@ -43,8 +43,8 @@ added field given fields name =
     option_or (fields name) (if bytes_eq given name then Some field else None)
 
 -- the table has the first of these fields of each name, where the first has that number
-abbrev pub IsNamed : Fields → ℕ → List Field → Type 0
-IsNamed table first fs =
+abbrev pub AreFieldsNamed : Fields → ℕ → List Field → Type 0
+AreFieldsNamed table first fs =
     (name : Name) → option_map (numbered name) (fields_of table name) ≡ numbered_from first name fs
 
 -- the table has the first inputOutput field of each name
@@ -65,7 +65,7 @@ twice_after seen (f ∷ fs) =
     if seen f.name then Some f.line else twice_after (with_name f.name seen) fs
 
 -- the tables are those of these fields
-pub record Reads (tables : Tables) (fs : List Field) : Type 0 where
-  pub named : IsNamed tables.named 0 fs
+pub record HasFields (tables : Tables) (fs : List Field) : Type 0 where
+  pub named : AreFieldsNamed tables.named 0 fs
   pub exposed : IsExposed tables.exposed fs
   pub twice : tables.twice ≡ twice_after no_names fs

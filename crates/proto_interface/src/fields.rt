@@ -3,7 +3,7 @@
 ghost use Rattle.std.specs.Prelude.{◌≡◌, ℕ, ◌+◌, ◌++◌, ◌∷◌, [], List, length, not, is_none, IfOk};
 ghost use Rattle.proto_meaning.specs.Names.{Field};
 ghost use Rattle.proto_meaning.specs.Flat.{field};
-ghost use Rattle.proto_interface.specs.Fields.{IsExposed, IsNamed};
+ghost use Rattle.proto_interface.specs.Fields.{IsExposed, AreFieldsNamed};
 ghost use Rattle.proto_interface.specs.Fields.{added, fields_of, has_name, known, no_fields, with_entry};
 
 use classic_tree::{Declaration, NodeText};
@@ -95,9 +95,9 @@ pub fn add_named<'a>(
     number: usize,
 ) -> Result<bool, AllocError>
     ensures named { (first : ℕ) (fs : List Field) → number ≡ first + length fs
-        → IsNamed named.old first fs → IfOk result (λ _.
-        IsNamed named.new first (fs ++ field declaration.now ∷ [])) }
-    ensures new { (first : ℕ) (fs : List Field) → IsNamed named.old first fs
+        → AreFieldsNamed named.old first fs → IfOk result (λ _.
+        AreFieldsNamed named.new first (fs ++ field declaration.now ∷ [])) }
+    ensures new { (first : ℕ) (fs : List Field) → AreFieldsNamed named.old first fs
         → IfOk result (λ new. new ≡ not (has_name declaration.now.name fs)) }
 {
     let new = named.add(&declaration.name, known(declaration, number))?;

@@ -8,7 +8,7 @@ ghost use Rattle.x3d_values.specs.Access.{is_exposed};
 ghost use Rattle.proto_meaning.specs.Names.{Field};
 ghost use Rattle.proto_meaning.specs.Flat.{field, numbered_from};
 ghost use Rattle.proto_meaning.specs.Sight.{no_names};
-ghost use Rattle.proto_interface.specs.Fields.{Reads, field_named, numbered, twice_after};
+ghost use Rattle.proto_interface.specs.Fields.{HasFields, field_named, numbered, twice_after};
 
 use crate::fields::{Fields, KnownField, add_exposed, add_named};
 use classic_tree::{Declaration, NodeText};
@@ -35,13 +35,13 @@ impl<'a> Model for Interface<'a> {
     ghost use Rattle.std.specs.Prelude.{List, map};
     ghost use Rattle.proto_meaning.specs.Names.{Field};
     ghost use Rattle.proto_meaning.specs.Flat.{field};
-    ghost use Rattle.proto_interface.specs.Fields.{Reads};
+    ghost use Rattle.proto_interface.specs.Fields.{HasFields};
 
     ghost Value = { List Field };
 
     ghost view = { λ s. map field s.declarations.now };
 
-    ghost invariant = { λ s. Reads s.tables (map field s.declarations.now) };
+    ghost invariant = { λ s. HasFields s.tables (map field s.declarations.now) };
 }
 
 /// The line that was found before, or the line of a name that isn't new.
@@ -59,7 +59,7 @@ fn first_line(before: Option<u32>, new: bool, line: u32) -> Option<u32>
 
 impl<'a> Tables<'a> {
     fn new(alloc: Global) -> Tables<'a>
-        ensures { Reads result [] }
+        ensures { HasFields result [] }
     {
         Tables {
             named: Fields::new(alloc),
@@ -73,8 +73,8 @@ impl<'a> Tables<'a> {
         declaration: &'a Declaration<NodeText>,
         number: usize,
     ) -> Result<(), AllocError>
-        ensures { (fs : List Field) → number ≡ length fs → Reads self.old fs
-            → IfOk result (λ _. Reads self.new (fs ++ field declaration.now ∷ [])) }
+        ensures { (fs : List Field) → number ≡ length fs → HasFields self.old fs
+            → IfOk result (λ _. HasFields self.new (fs ++ field declaration.now ∷ [])) }
     {
         let new = add_named(&mut self.named, declaration, number)?;
         add_exposed(&mut self.exposed, declaration, number)?;
@@ -87,7 +87,7 @@ fn read<'a>(
     alloc: Global,
     declarations: &'a [Declaration<NodeText>],
 ) -> Result<Tables<'a>, AllocError>
-    ensures { IfOk result (λ tables. Reads tables (map field declarations.now)) }
+    ensures { IfOk result (λ tables. HasFields tables (map field declarations.now)) }
 {
     let mut tables = Tables::new(alloc);
     let mut number: usize = 0;

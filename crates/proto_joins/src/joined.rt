@@ -3,7 +3,7 @@
 ghost use Rattle.std.specs.Prelude.{◌≡◌, ◌++◌, [], IfOk};
 ghost use Rattle.proto_joins.specs.Joined.{borrowed, ends_in, meant, owned, with_ends, with_more};
 
-use proto_routes::{Ends, Kept};
+use proto_routes::{Branches, Ends};
 use std::alloc::{AllocError, AllocFailed, Global};
 use std::collections::BTreeMap;
 use std::rc::Rc;
@@ -51,7 +51,7 @@ impl<'a> JoinedEnds<'a> {
     fn grown(
         &self,
         alloc: Global,
-        kept: &mut Kept<'a>,
+        kept: &mut Branches<'a>,
         name: &str,
         more: Rc<Ends<'a>>,
     ) -> Result<Rc<Ends<'a>>, AllocError>
@@ -69,7 +69,7 @@ impl<'a> JoinedEnds<'a> {
     pub fn join(
         &mut self,
         alloc: Global,
-        kept: &mut Kept<'a>,
+        kept: &mut Branches<'a>,
         name: &'a Text,
         more: Option<Rc<Ends<'a>>>,
     ) -> Result<(), AllocError>

@@ -6,7 +6,7 @@ ghost use Rattle.proto_joins.specs.Joins.{braces_of, ends_behind, joins_ends, st
 
 use crate::joined::JoinedEnds;
 use proto_interface::Interface;
-use proto_routes::{End, Ends, Kept, one};
+use proto_routes::{Branches, End, Ends, one};
 use std::alloc::{AllocError, Global};
 use std::rc::Rc;
 use x3d_lists::Text;
@@ -80,7 +80,7 @@ fn join_ends<'t, 'a>(
 /// The ends of the fields of an interface, once all braces of the body are closed.
 pub fn joined_ends<'t, 'a>(
     alloc: Global,
-    kept: &mut Kept<'a>,
+    kept: &mut Branches<'a>,
     braces: &[Braces<'t, 'a>],
     joins: &[Join<'a>],
 ) -> Result<JoinedEnds<'a>, AllocError>

@@ -14,7 +14,7 @@ ghost use Rattle.proto_joins.specs.Sides.{made_routes, part_routes, parts_routes
 
 use crate::joins::{Braces, InstanceEnds, Stands, field_ends};
 use proto_interface::{source_field, target_field};
-use proto_routes::{End, Ends, Kept, Wire, Wires, one, one_wire};
+use proto_routes::{Branches, End, Ends, Wire, Wires, one, one_wire};
 use std::alloc::{AllocError, Global};
 use std::rc::Rc;
 use x3d_lists::Text;
@@ -201,7 +201,7 @@ fn wires_of<'t, 'a>(
 /// Those ROUTEs and then these.
 fn behind<'a>(
     alloc: Global,
-    kept: &mut Kept<'a>,
+    kept: &mut Branches<'a>,
     before: Option<Rc<Wires<'a>>>,
     next: Rc<Wires<'a>>,
 ) -> Result<Rc<Wires<'a>>, AllocError>
@@ -218,7 +218,7 @@ fn behind<'a>(
 /// braces of the scope are closed. None where there are none.
 pub fn routes_made<'t, 'a>(
     alloc: Global,
-    kept: &mut Kept<'a>,
+    kept: &mut Branches<'a>,
     braces: &[Braces<'t, 'a>],
     parts: &[RoutePart<'a>],
 ) -> Result<Option<Rc<Wires<'a>>>, AllocError>

@@ -14,7 +14,7 @@ use Rattle.std.specs.Prelude.{length, is_some}
 use Rattle.classic_tree.specs.declared.tree.BodyItem.TheOpen.{BodyItem-F}
 use Rattle.classic_tree.specs.declared.tree.RouteText.{RouteText}
 use Rattle.proto_meaning.specs.Limits.{Met, item_count, follow}
-use Rattle.proto_meaning.specs.Sight.{Sight, Step, and_see, each, aside, no_names, nodes_in, taking, Owner, taken_by, is_kept, Names}
+use Rattle.proto_meaning.specs.Sight.{Sight, Look, and_see, each, aside, no_names, nodes_in, taking, Owner, taken_by, is_kept, Names}
 use Rattle.std.specs.Prelude.{◌||◌}
 use Rattle.std.specs.Str.{bytes_eq}
 use Rattle.x3d_values.specs.Access.{is_initial}
@@ -35,14 +35,14 @@ bared (Ok s) = Ok (bare s)
 bared (Err e) = Err e
 
 -- the step declares the same, whatever ISs took before
-abbrev pub Free : Step → Type 0
+abbrev pub Free : Look → Type 0
 Free step = (s : Sight) → bared (step s) ≡ bared (step (bare s))
 
 abbrev pub After : {A : Type 0} → (A → Type 0) → Result (A × Walk) ExpandFault → Seen → Type 0
 After P (Ok p) r = P p.0 × (bared r ≡ Ok (bare p.1.sight))
 After P (Err e) r = Unit {0}
 
-abbrev pub Follows : {A : Type 0} → (A → Type 0) → Does A → Step → Type 0
+abbrev pub Follows : {A : Type 0} → (A → Type 0) → Does A → Look → Type 0
 Follows P m step = (w : Walk) → After P (m w).comes (step w.sight)
 
 -- ---- one after the other
@@ -63,18 +63,18 @@ same_after : {A : Type 0} (P : A → Type 0) (c : Result (A × Walk) ExpandFault
 same_after P (Ok p) x y e h = (h.0, sym e ∙ h.1)
 same_after P (Err f) x y e h = tt
 
-then_after : {A B : Type 0} (P : A → Type 0) (Q : B → Type 0) (f : A → Does B) (q : Step) (met : List Met) (c : Result (A × Walk) ExpandFault) (r : Seen) → Free q → After P c r
+then_after : {A B : Type 0} (P : A → Type 0) (Q : B → Type 0) (f : A → Does B) (q : Look) (met : List Met) (c : Result (A × Walk) ExpandFault) (r : Seen) → Free q → After P c r
     → ((a : A) → P a → Follows Q (f a) q) → After Q (follow met c (λ p. f p.0 p.1)).comes (and_see r q)
 then_after P Q f q met (Err e) r free h hf = tt
 then_after P Q f q met (Ok p) (Err e) free h hf = subst (λ b. Only b (After Q (f p.0 p.1).comes (Err e))) (ap is_there h.1) tt
 then_after P Q f q met (Ok p) (Ok t) free h hf =
     same_after Q (f p.0 p.1).comes (q p.1.sight) (q t) (free p.1.sight ∙ ap (λ s. bared (q s)) (sym (ap sight_in h.1)) ∙ sym (free t)) (hf p.0 h.0 p.1)
 
-pub then_follows : {A B : Type 0} (P : A → Type 0) (Q : B → Type 0) (m : Does A) (f : A → Does B) (p q : Step) → Free q → Follows P m p → ((a : A) → P a → Follows Q (f a) q) → Follows Q (m >>= f) (λ s. and_see (p s) q)
+pub then_follows : {A B : Type 0} (P : A → Type 0) (Q : B → Type 0) (m : Does A) (f : A → Does B) (p q : Look) → Free q → Follows P m p → ((a : A) → P a → Follows Q (f a) q) → Follows Q (m >>= f) (λ s. and_see (p s) q)
 then_follows P Q m f p q free hm hf w = then_after P Q f q (m w).met (m w).comes (p w.sight) free (hm w) hf
 
 -- what changes nothing in sight
-abbrev pub still : Step
+abbrev pub still : Look
 still s = Ok s
 
 pub still_free : Free still
@@ -84,21 +84,21 @@ unstill : (r : Seen) → bared (and_see r still) ≡ bared r
 unstill (Ok s) = refl
 unstill (Err e) = refl
 
-pub then_still : {A B : Type 0} (P : A → Type 0) (Q : B → Type 0) (m : Does A) (f : A → Does B) (p : Step) → Follows P m p → ((a : A) → P a → Follows Q (f a) still) → Follows Q (m >>= f) p
+pub then_still : {A B : Type 0} (P : A → Type 0) (Q : B → Type 0) (m : Does A) (f : A → Does B) (p : Look) → Follows P m p → ((a : A) → P a → Follows Q (f a) still) → Follows Q (m >>= f) p
 then_still P Q m f p hm hf w = same_after Q ((m >>= f) w).comes (and_see (p w.sight) still) (p w.sight) (unstill (p w.sight)) (then_follows P Q m f p still still_free hm hf w)
 
-pub still_then : {A B : Type 0} (P : A → Type 0) (Q : B → Type 0) (m : Does A) (f : A → Does B) (q : Step) → Free q → Follows P m still → ((a : A) → P a → Follows Q (f a) q) → Follows Q (m >>= f) q
+pub still_then : {A B : Type 0} (P : A → Type 0) (Q : B → Type 0) (m : Does A) (f : A → Does B) (q : Look) → Free q → Follows P m still → ((a : A) → P a → Follows Q (f a) q) → Follows Q (m >>= f) q
 still_then P Q m f q free hm hf w = then_follows P Q m f still q free hm hf w
 
 -- ---- lists
 
-see_after : (r r' : Seen) (q : Step) → Free q → bared r ≡ bared r' → bared (and_see r q) ≡ bared (and_see r' q)
+see_after : (r r' : Seen) (q : Look) → Free q → bared r ≡ bared r' → bared (and_see r q) ≡ bared (and_see r' q)
 see_after (Ok s) (Ok t) q free e = free s ∙ ap (λ x. bared (q x)) (ap sight_in e) ∙ sym (free t)
 see_after (Err a) (Err b) q free e = e
 see_after (Ok s) (Err b) q free e = subst (λ x. Only x (bared (q s) ≡ Err b)) (sym (ap is_there e)) tt
 see_after (Err a) (Ok t) q free e = subst (λ x. Only x (Err a ≡ bared (q t))) (ap is_there e) tt
 
-pub each_free : {A : Type 0} (f : A → Step) (xs : List A) → AllByRecursion (λ x. Free (f x)) xs → Free (each f xs)
+pub each_free : {A : Type 0} (f : A → Look) (xs : List A) → AllByRecursion (λ x. Free (f x)) xs → Free (each f xs)
 each_free f [] h s = refl
 each_free f (x ∷ xs) h s = see_after (f x s) (f x (bare s)) (each f xs) (each_free f xs h.1) (h.0 s)
 
@@ -107,10 +107,10 @@ aside_is (Ok t) s = refl
 aside_is (Err e) s = refl
 
 -- what a part declares aside is what it declares
-aside_declares : (step : Step) → Free step → (s : Sight) → bared (aside step s) ≡ bared (step s)
+aside_declares : (step : Look) → Free step → (s : Sight) → bared (aside step s) ≡ bared (step s)
 aside_declares step free s = aside_is (step (bare s)) s ∙ sym (free s)
 
-pub aside_free : (step : Step) → Free step → Free (aside step)
+pub aside_free : (step : Look) → Free step → Free (aside step)
 aside_free step free s = aside_declares step free s ∙ free s ∙ sym (aside_declares step free (bare s))
 
 -- ---- values
@@ -126,7 +126,7 @@ all_free : (ns : List Node) → AllByRecursion GoodNode ns → AllByRecursion (�
 all_free [] h = tt
 all_free (n ∷ ns) h = (h.0.free, all_free ns h.1)
 
-abbrev sees_all : List Node → Step
+abbrev sees_all : List Node → Look
 sees_all ns = each (λ (n : Node). n.sees) ns
 
 sees_free : (ns : List Node) → AllByRecursion GoodNode ns → Free (sees_all ns)
@@ -162,7 +162,7 @@ seen_after : (w : Walk) (r : Seen) → After Any (follow [] r (λ s. comes (Ok (
 seen_after w (Ok s) = (tt, refl)
 seen_after w (Err e) = tt
 
-pub see_follows : (step : Step) → Follows Any (see step) step
+pub see_follows : (step : Look) → Follows Any (see step) step
 see_follows step w = seen_after w (step w.sight)
 
 left_out : (g : Given Node) → AllByRecursion GoodNode (nodes_in g) → Follows Any (leave_out g) (sees_all (nodes_in g))
@@ -170,7 +170,7 @@ left_out g h w = same_after Any (leave_out g w).comes (aside (given_sees g) w.si
 
 -- ---- fields
 
-pub if_follows : {A : Type 0} (P : A → Type 0) (c : Bool) (m n : Does A) (p : Step) → Follows P m p → Follows P n p → Follows P (if c then m else n) p
+pub if_follows : {A : Type 0} (P : A → Type 0) (c : Bool) (m n : Does A) (p : Look) → Follows P m p → Follows P n p → Follows P (if c then m else n) p
 if_follows P true m n p h k = h
 if_follows P false m n p h k = k
 
@@ -184,7 +184,7 @@ met_follows owner number items w = (tt, refl)
 join_follows : (line : ℕ) (f : ℕ × Field) (i : Inside) (outer : Name) (v : Option (RawValue ℕ)) → Follows (Owned i.owner) (join line f i outer v) still
 join_follows line f i outer v w = (refl, refl)
 
-refuse_follows : {A : Type 0} (P : A → Type 0) (kind : ExpandFaultKind) (line : ℕ) (p : Step) → Follows P (refuse {A = A} kind line) p
+refuse_follows : {A : Type 0} (P : A → Type 0) (kind : ExpandFaultKind) (line : ℕ) (p : Look) → Follows P (refuse {A = A} kind line) p
 refuse_follows P kind line p w = tt
 
 is_follows : (line : ℕ) (f : ℕ × Field) (twice : Bool) (i : Inside) (outer : Option Field) → Follows (Owned i.owner) (give_is line f twice i outer) still
@@ -207,11 +207,11 @@ give_follows line f twice given.Nothing i h w = if_follows (Owned i.owner) twice
 
 -- ---- items between braces
 
-opt_follows : {X A : Type 0} (P : A → Type 0) (o : Option X) (k : X → Does A) (m : Does A) (p : Step) → ((x : X) → Follows P (k x) p) → Follows P m p → Follows P (option_map_or k o m) p
+opt_follows : {X A : Type 0} (P : A → Type 0) (o : Option X) (k : X → Does A) (m : Does A) (p : Look) → ((x : X) → Follows P (k x) p) → Follows P m p → Follows P (option_map_or k o m) p
 opt_follows P None k m p h n = n
 opt_follows P (Some x) k m p h n = h x
 
-if_free : (c : Bool) (p q : Step) → Free p → Free q → Free (if c then p else q)
+if_free : (c : Bool) (p q : Look) → Free p → Free q → Free (if c then p else q)
 if_free true p q h k = h
 if_free false p q h k = k
 

@@ -13,7 +13,7 @@ use Rattle.classic_tree.specs.declared.tree.BodyItem.TheOpen.{NodeText-F, Statem
 use Rattle.classic_tree.specs.declared.tree.RouteText.{RouteText}
 use Rattle.proto_flat.specs.Fault.{fault}
 use Rattle.proto_meaning.specs.Limits.{Met, ANode, AnInstance, follow}
-use Rattle.proto_meaning.specs.Sight.{Sight, Step, and_see, each, no_names, Owner, OfType, OfProto, taken_by, Names, meant, declared, Instance, Prototype}
+use Rattle.proto_meaning.specs.Sight.{Sight, Look, and_see, each, no_names, Owner, OfType, OfProto, taken_by, Names, meant, declared, Instance, Prototype}
 use Rattle.std.specs.Prelude.{◌||◌}
 use Rattle.proto_meaning.specs.Names.{Name, Field, used}
 use Rattle.proto_flat.specs.declared.fault.ExpandFaultKind.TheVariants.{FieldTwice, UseWithoutDef, EmptyBody, ProtoTwice}
@@ -22,7 +22,7 @@ use Rattle.proto_meaning.proofs.SightLaw.{Seen, bare, bared, Free, After, Follow
 
 -- ---- nodes
 
-abbrev items_see : Option Names → List Item → Step
+abbrev items_see : Option Names → List Item → Look
 items_see o items = each (λ (i : Item). i.sees o) items
 
 all_items_free : (o : Option Names) (items : List Item) → AllByRecursion GoodItem items → AllByRecursion (λ (i : Item). Free (i.sees o)) items

@@ -38,7 +38,7 @@ use Rattle.proto_flat.specs.declared.flat.FlatNode.{FlatNode}
 use Rattle.proto_flat.specs.declared.flat.Header.{Header}
 use Rattle.proto_meaning.specs.Limits.{Met, ANode, AnInstance, AField, AnItem, item_count, Outcome, follow, and_then, limited}
 use Rattle.proto_meaning.specs.Names.{Name, Field, Filled, value_of, Stands, Scope, used, stands_at, sources, targets, pairs}
-use Rattle.proto_meaning.specs.Sight.{Put, Instance, Prototype, Sight, Step, and_see, each, opened, aside, nodes_in, Names, no_names, taking, Owner, OfType, OfProto, declared, meant, taken_by, is_kept, Search}
+use Rattle.proto_meaning.specs.Sight.{Put, Instance, Prototype, Sight, Look, and_see, each, opened, aside, nodes_in, Names, no_names, taking, Owner, OfType, OfProto, declared, meant, taken_by, is_kept, Search}
 
 -- ---- one thing after the other
 
@@ -78,7 +78,7 @@ abbrev pub meet : Met → Does (Unit {0})
 meet m = λ w. record { met = m ∷ []; comes = Ok (tt, w) }
 
 -- what comes to be in sight, and nothing else
-abbrev pub see : Step → Does (Unit {0})
+abbrev pub see : Look → Does (Unit {0})
 see step = λ w. follow [] (step w.sight) (λ s. comes (Ok (tt, record w { sight = s })))
 
 -- the name scope changes, and `a` is given
@@ -99,7 +99,7 @@ part finds sees does = record { finds = finds; sees = sees; does = does }
 
 -- a node as it stands in the text: where it is put in, it gives its number
 abbrev pub Node : Type 0
-Node = Part Step (Does ℕ)
+Node = Part Look (Does ℕ)
 
 abbrev pub nothing_found : Name → Search
 nothing_found own hidden = Ok hidden
@@ -107,7 +107,7 @@ nothing_found own hidden = Ok hidden
 abbrev pub given_finds : Given Node → Name → Search
 given_finds g own = each (λ n. n.finds own) (nodes_in g)
 
-abbrev pub given_sees : Given Node → Step
+abbrev pub given_sees : Given Node → Look
 given_sees g s = each (λ n. n.sees) (nodes_in g) (record s { taken = taking g s.taken })
 
 -- a value that goes nowhere is left out with all that is inside; but its PROTOs come in sight
@@ -248,7 +248,7 @@ declare_field d i =
 -- ---- nodes and instances
 
 abbrev pub Item : Type 0
-Item = Part (Option Names → Step) (Inside → Does Inside)
+Item = Part (Option Names → Look) (Inside → Does Inside)
 
 -- braces open, and then come the items between them, in turn
 abbrev pub inside : Option Name → Owner → List Field → List Item → Does Inside
@@ -341,7 +341,7 @@ note_route r = meet AnItem >>= λ _. note (tt {0}) (λ s. record s {
 
 -- a statement: whether it is a node; put in, it gives the nodes in its place, one or none
 abbrev pub Stated : Type 0
-Stated = Bool × Part Step (Does (List ℕ))
+Stated = Bool × Part Look (Does (List ℕ))
 
 -- a statement of a body, by the node before it that stands for the instance, if there is one: the
 -- first node does, the others are helpers
@@ -417,14 +417,14 @@ module _ (line : ℕ) (name : Name) (interface : List (Declaration Node)) (body 
       (each (λ (s : Stated). s.1.finds own) body)
 
   -- an IS in a default takes nothing
-  abbrev pub body_sees : Step
+  abbrev pub body_sees : Look
   body_sees s =
       and_see (aside (each (λ (d : Declaration Node). given_sees d.given) interface) s)
       (each (λ (s : Stated). s.1.sees) body)
 
   -- first what is wrong with the declaration itself, and then with those inside; the prototype
   -- isn't in sight in its own body, but behind it
-  abbrev pub declare_body : Result Bool ℕ → Step
+  abbrev pub declare_body : Result Bool ℕ → Look
   declare_body (Err itself) s = Err (fault ProtoItself itself)
   declare_body (Ok hidden) s =
       if list_any (λ (x : Stated). x.0) body
@@ -435,7 +435,7 @@ module _ (line : ℕ) (name : Name) (interface : List (Declaration Node)) (body 
       else Err (fault EmptyBody line)
 
   -- no PROTO has the name of a node type, or of one before it in its scope
-  abbrev pub declare : Step
+  abbrev pub declare : Look
   declare s =
       if is_some (node_type_named name) || is_some (declared name s.here)
       then Err (fault ProtoTwice line)
@@ -444,7 +444,7 @@ module _ (line : ℕ) (name : Name) (interface : List (Declaration Node)) (body 
 -- ---- each part, by those inside
 
 abbrev pub Proto : Type 0
-Proto = Part Step (Does (Unit {0}))
+Proto = Part Look (Does (Unit {0}))
 
 -- an item between braces: what it does to the fields given so far. (A BodyItem-F is a BodyItem that
 -- has, in the place of its parts, what is said of them; NodeText-F and the others as well)

@@ -8,7 +8,7 @@ use Rattle.x3d_values.specs.declared.field_type.Access.{Access}
 use Rattle.x3d_values.specs.Access.{receives, sends, is_exposed}
 use Rattle.classic_tree.specs.declared.tree.Declaration.{Declaration}
 use Rattle.classic_tree.specs.declared.tree.RawValue.{RawValue}
-use Rattle.classic_tree.specs.declared.tree.Place.{Place}
+use Rattle.classic_tree.specs.declared.tree.RouteEnd.{RouteEnd}
 use Rattle.proto_flat.specs.declared.flat.FlatEnd.{FlatEnd}
 use Rattle.proto_flat.specs.declared.flat.FlatEnd.TheVariants.{NoNode, NoField, WrongWay}
 use Rattle.proto_flat.specs.declared.flat.FlatRoute.{FlatRoute}
@@ -105,12 +105,12 @@ ends_at allowed other field (Some s) =
     (s.ends field)
 
 -- the ends that a ROUTE names behind these braces, by what all of the scope come to stand for
-abbrev pub sources : List Braces → List Braces → Place → List FlatEnd
+abbrev pub sources : List Braces → List Braces → RouteEnd → List FlatEnd
 sources braces all p =
     ends_at sends (λ name. name ++ codes "_changed") p.field
     (stands_at all (last_from 0 p.node braces))
 
-abbrev pub targets : List Braces → List Braces → Place → List FlatEnd
+abbrev pub targets : List Braces → List Braces → RouteEnd → List FlatEnd
 targets braces all p =
     ends_at receives (λ name. codes "set_" ++ name) p.field
     (stands_at all (last_from 0 p.node braces))

@@ -64,8 +64,8 @@ pub record Sight : Type 0 where
 
 -- what a part of the text declares and takes: by what is in sight before it, what is behind it, or
 -- what is wrong with a declaration
-abbrev pub Step : Type 0
-Step = Sight → Result Sight ExpandFault
+abbrev pub Look : Type 0
+Look = Sight → Result Sight ExpandFault
 
 -- one after the other, up to the first fault; and so each of a list
 abbrev pub and_see : {X Y E : Type 0} → Result X E → (X → Result Y E) → Result Y E
@@ -81,7 +81,7 @@ abbrev pub opened : Sight → Sight
 opened s = record { here = []; outside = s.here ++ s.outside; taken = no_names }
 
 -- a part whose PROTOs are declared, but whose ISs take nothing
-abbrev pub aside : Step → Step
+abbrev pub aside : Look → Look
 aside step s =
     and_see (step (record s { taken = no_names })) (λ t. Ok (record t { taken = s.taken }))
 

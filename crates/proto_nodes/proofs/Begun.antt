@@ -37,7 +37,7 @@ use Rattle.proto_nodes.specs.declared.frames.Around.{Around}
 use Rattle.proto_nodes.specs.declared.frames.Filling.{Filling}
 use Rattle.proto_nodes.specs.declared.frames.Open.{Open}
 use Rattle.proto_nodes.specs.declared.frames.Proto.{Proto}
-use Rattle.proto_nodes.specs.declared.frames.Task.TheVariants as task
+use Rattle.proto_nodes.specs.declared.frames.NodeTask.TheVariants as task
 use Rattle.proto_nodes.specs.Protos.{IsKnown, AreKnown, Knows, owner_by, proto_by, found}
 use Rattle.proto_nodes.specs.Does.{Comes, after, items_do, closes, open_does, inside_now, braces_do, instance_do, leaves_by, filled_now, filling_comes, statements_do, finds}
 use Rattle.proto_nodes.specs.Frames.{task_comes}

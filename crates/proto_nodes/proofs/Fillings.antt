@@ -27,7 +27,7 @@ use Rattle.proto_nodes.specs.declared.frames.Around.{Around}
 use Rattle.proto_nodes.specs.declared.frames.Filling.{Filling}
 use Rattle.proto_nodes.specs.declared.frames.Next.{Next}
 use Rattle.proto_nodes.specs.declared.frames.Next.TheVariants as next
-use Rattle.proto_nodes.specs.declared.frames.Place.{Place}
+use Rattle.proto_nodes.specs.declared.frames.FieldAt.{FieldAt}
 use Rattle.proto_nodes.specs.Does.{Comes, after, done, nodes_do, statements_do, leaves, finds, defaults_do, filling_comes, filled_now, default_value, default_comes}
 use Rattle.proto_nodes.specs.Frames.{AllValued, DefaultGoes, DefaultSound, FillingFits, FillingSound, HasFilled, filling_next}
 use Rattle.proto_nodes.proofs.Steps.{then-assoc, then-same, doing-assoc}
@@ -65,12 +65,12 @@ default-none ps d t f s is nothing =
     default-as ps d t f s is ∙ ap (λ x. after (doing (put_default (with_given d.declaration.now x) (filled_now f) x) s) (filling_comes ps f.around.value f.rest.now)) nothing
 
 -- the line and the name are those of the declaration, and the number is none
-pub record IsPlace (d : DefaultTree) (p : Place) : Type 0 where
+pub record IsPlace (d : DefaultTree) (p : FieldAt) : Type 0 where
   pub line : p.line ≡ d.declaration.now.line
   pub name : p.name.now ≡ d.declaration.now.name
   pub number : p.field.number ≡ 0
 
-stands-there : (d : DefaultTree) (p : Place) (v : RawValue ℕ) → IsPlace d p → record { line = d.declaration.now.line; name = d.declaration.now.name; number = 0; value = Some v } ≡ default_value p v
+stands-there : (d : DefaultTree) (p : FieldAt) (v : RawValue ℕ) → IsPlace d p → record { line = d.declaration.now.line; name = d.declaration.now.name; number = 0; value = Some v } ≡ default_value p v
 stands-there d p v is =
     ap (λ n. record { line = n; name = d.declaration.now.name; number = 0; value = Some v }) (sym is.line)
     ∙ ap (λ n. record { line = p.line; name = n; number = 0; value = Some v }) (sym is.name)
@@ -88,7 +88,7 @@ put-plain (value.StringList texts) = refl
 put-plain (value.NumberList numbers) = refl
 put-plain (value.NodeList ns) = refl
 
-pub default-plain : (ps : List Prototype) (d : DefaultTree) (v : Bor (RawValue NodeText)) (p : Place) (f g : Filling) (s : State) → d.value ≡ tree.Plain v → IsPlace d p → HasFilled f (default_value p (inside.plain v.now)) g →
+pub default-plain : (ps : List Prototype) (d : DefaultTree) (v : Bor (RawValue NodeText)) (p : FieldAt) (f g : Filling) (s : State) → d.value ≡ tree.Plain v → IsPlace d p → HasFilled f (default_value p (inside.plain v.now)) g →
     default_comes ps d f s ≡ filling_next ps g next.On s
 default-plain ps d v p f g s is place filled =
     default-as ps d (tree.Plain v) f s is
@@ -99,7 +99,7 @@ default-plain ps d v p f g s is place filled =
     ∙ ap (λ a. filling_comes ps a.value g.rest.now (filled_now g) s) (sym filled.around)
 
 -- a value that is put in, and then the default value
-value-filled : {A : Type 0} (ps : List Prototype) (d : DefaultTree) (p : Place) (f : Filling) (m : Does A) (g : A → RawValue ℕ) (s : State) → IsPlace d p →
+value-filled : {A : Type 0} (ps : List Prototype) (d : DefaultTree) (p : FieldAt) (f : Filling) (m : Does A) (g : A → RawValue ℕ) (s : State) → IsPlace d p →
     after (doing ((m >>= λ a. pure (g a)) >>= λ r. pure (filled_now f ++ record { line = d.declaration.now.line; name = d.declaration.now.name; number = 0; value = Some r } ∷ [])) s) (filling_comes ps f.around.value f.rest.now)
     ≡ after (doing m s) (λ a. filling_comes ps f.around.value f.rest.now (filled_now f ++ default_value p (g a) ∷ []))
 value-filled ps d p f m g s place =
@@ -108,11 +108,11 @@ value-filled ps d p f m g s place =
     ∙ then-same (doing m s) (λ a. filling_comes ps f.around.value f.rest.now (filled_now f ++ record { line = d.declaration.now.line; name = d.declaration.now.name; number = 0; value = Some (g a) } ∷ [])) (λ a. filling_comes ps f.around.value f.rest.now (filled_now f ++ default_value p (g a) ∷ []))
     (λ a t. ap (λ x. filling_comes ps f.around.value f.rest.now (filled_now f ++ x ∷ []) t) (stands-there d p (g a) place))
 
-pub default-one : (ps : List Prototype) (d : DefaultTree) (n : Bor NodeTree) (p : Place) (f : Filling) (s : State) → d.value ≡ tree.One n.now → IsPlace d p → default_comes ps d f s ≡ filling_next ps f (next.One p n) s
+pub default-one : (ps : List Prototype) (d : DefaultTree) (n : Bor NodeTree) (p : FieldAt) (f : Filling) (s : State) → d.value ≡ tree.One n.now → IsPlace d p → default_comes ps d f s ≡ filling_next ps f (next.One p n) s
 default-one ps d n p f s is place =
     default-as ps d (tree.One n.now) f s is ∙ value-filled ps d p f (node ps n.now).does (λ k. value.Node k) s place
 
-pub default-many : (ps : List Prototype) (d : DefaultTree) (count : ℕ) (ns : Bor (List NodeTree)) (p : Place) (f : Filling) (s : State) → d.value ≡ tree.Many count ns.now → IsPlace d p → default_comes ps d f s ≡ filling_next ps f (next.List p ns) s
+pub default-many : (ps : List Prototype) (d : DefaultTree) (count : ℕ) (ns : Bor (List NodeTree)) (p : FieldAt) (f : Filling) (s : State) → d.value ≡ tree.Many count ns.now → IsPlace d p → default_comes ps d f s ≡ filling_next ps f (next.List p ns) s
 default-many ps d count ns p f s is place =
     default-as ps d (tree.Many count ns.now) f s is ∙ value-filled ps d p f (nodes_do ps ns.now []) (λ ks. value.NodeList ks) s place
 
@@ -194,7 +194,7 @@ pub fills-if : (r : Result (Unit {0}) AllocError) (f : Filling) (new : tables.Gi
 fills-if (Ok u) f new v w same some sound holds = fills f new v w same some sound holds
 fills-if (Err e) f new v w same some sound holds = tt
 
-pub plain-goes : (ps : List Prototype) (d : DefaultTree) (v : Bor (RawValue NodeText)) (p : Place) (f g : Filling) (r : Result Next AllocError) (s : State) → d.value ≡ tree.Plain v → IsPlace d p →
+pub plain-goes : (ps : List Prototype) (d : DefaultTree) (v : Bor (RawValue NodeText)) (p : FieldAt) (f g : Filling) (r : Result Next AllocError) (s : State) → d.value ≡ tree.Plain v → IsPlace d p →
     IfOk r (λ n. (n ≡ next.On) × HasFilled f (default_value p (inside.plain v.now)) g) → DefaultGoes ps (default_comes ps d f s) r g s
 plain-goes ps d v p f g (Ok n) s is place k = default-plain ps d v p f g s is place k.1 ∙ ap (λ x. filling_next ps g x s) (sym k.0)
 plain-goes ps d v p f g (Err e) s is place k = tt

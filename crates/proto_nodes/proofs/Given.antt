@@ -42,7 +42,7 @@ use Rattle.proto_tree.specs.declared.tree.Word.{Word}
 use Rattle.proto_nodes.specs.declared.frames.Next.{Next}
 use Rattle.proto_nodes.specs.declared.frames.Next.TheVariants as next
 use Rattle.proto_nodes.specs.declared.frames.Open.{Open}
-use Rattle.proto_nodes.specs.declared.frames.Place.{Place}
+use Rattle.proto_nodes.specs.declared.frames.FieldAt.{FieldAt}
 use Rattle.proto_nodes.specs.Protos.{owner_by}
 use Rattle.proto_nodes.specs.Does.{Comes, after, nodes_do, given_by, field_does, route_does, items_do, closes, open_does, inside_now, with_value}
 use Rattle.proto_nodes.specs.Frames.{OpenGoes, OpenSound, given_at, item_comes, open_next, on_or}
@@ -125,25 +125,25 @@ stands-then o m rest k s t is next =
 
 -- ---- values between braces
 
-abbrev value_of_place : (p : Place) (twice : Bool) (items : ℕ) (i : flat.Inside) (rest : Does flat.Inside) → Does flat.Inside
+abbrev value_of_place : (p : FieldAt) (twice : Bool) (items : ℕ) (i : flat.Inside) (rest : Does flat.Inside) → Does flat.Inside
 value_of_place p twice items i rest = giving.value_at p.line (numbered p.name.now p.field) twice items i rest
 
 -- a value that may not stand there
-pub value-stopped : (ps : List Prototype) (o q : Open) (p : Place) (twice : Bool) (items : ℕ) (rest : Does flat.Inside) (s : State) (r : Result Next ExpandFault) (walker : Walker) (e : ExpandFault) → r ≡ Err e →
+pub value-stopped : (ps : List Prototype) (o q : Open) (p : FieldAt) (twice : Bool) (items : ℕ) (rest : Does flat.Inside) (s : State) (r : Result Next ExpandFault) (walker : Walker) (e : ExpandFault) → r ≡ Err e →
     (e ≡ memory) ⊎ (doing (giving.value_at p.line (numbered p.name.now p.field) twice items (inside_now ps o) rest) s ≡ Err e) →
     OpenGoes ps (doing (giving.value_at p.line (numbered p.name.now p.field) twice items (inside_now ps o) rest >>= open_does ps o) s) r walker q
 value-stopped ps o q p twice items rest s r walker e is k =
     subst (λ x. OpenGoes ps (doing (value_of_place p twice items (inside_now ps o) rest >>= open_does ps o) s) x walker q) (sym is)
     (stopped (value_of_place p twice items (inside_now ps o) rest) (open_does ps o) s e k)
 
-pub one-stands : (ps : List Prototype) (o : Open) (p : Place) (twice : Bool) (n : Bor NodeTree) (s t : State) →
+pub one-stands : (ps : List Prototype) (o : Open) (p : FieldAt) (twice : Bool) (n : Bor NodeTree) (s t : State) →
     doing (meaning.gives p.line (numbered p.name.now p.field) twice (tree.One (node ps n.now)) (inside_now ps o)) s ≡ doing (meaning.holds p.line (numbered p.name.now p.field) (inside_now ps o) (value.Node (node ps n.now))) t →
     doing (meaning.gives p.line (numbered p.name.now p.field) twice (tree.One (node ps n.now)) (inside_now ps o) >>= open_does ps o) s ≡ open_next ps o (next.One p n) t
 one-stands ps o p twice n s t is =
     stands-then (open_next ps o (next.One p n) t) (meaning.gives p.line (numbered p.name.now p.field) twice (tree.One (node ps n.now)) (inside_now ps o)) (meaning.holds p.line (numbered p.name.now p.field) (inside_now ps o) (value.Node (node ps n.now))) (open_does ps o) s t is
     (value-then (node ps n.now).does (λ number. value.Node number) p.line (numbered p.name.now p.field) (inside_now ps o) (open_does ps o) t)
 
-pub many-stand : (ps : List Prototype) (o : Open) (p : Place) (twice : Bool) (count : ℕ) (ns : Bor (List NodeTree)) (s t : State) →
+pub many-stand : (ps : List Prototype) (o : Open) (p : FieldAt) (twice : Bool) (count : ℕ) (ns : Bor (List NodeTree)) (s t : State) →
     doing (meaning.gives p.line (numbered p.name.now p.field) twice (tree.Many count (map (node ps) ns.now)) (inside_now ps o)) s ≡ doing (meaning.holds p.line (numbered p.name.now p.field) (inside_now ps o) (value.NodeList (map (node ps) ns.now))) t →
     doing (meaning.gives p.line (numbered p.name.now p.field) twice (tree.Many count (map (node ps) ns.now)) (inside_now ps o) >>= open_does ps o) s ≡ open_next ps o (next.List p ns) t
 many-stand ps o p twice count ns s t is =
@@ -151,18 +151,18 @@ many-stand ps o p twice count ns s t is =
     (value-then (nodes_do ps ns.now []) (λ numbers. value.NodeList numbers) p.line (numbered p.name.now p.field) (inside_now ps o) (open_does ps o) t)
 
 -- so many items are met as the value has
-counted : (ps : List Prototype) (o : Open) (p : Place) (twice : Bool) (v : Bor (RawValue NodeText)) (n : ℕ) → n ≡ item_count v.now →
+counted : (ps : List Prototype) (o : Open) (p : FieldAt) (twice : Bool) (v : Bor (RawValue NodeText)) (n : ℕ) → n ≡ item_count v.now →
     giving.value_at p.line (numbered p.name.now p.field) twice n (inside_now ps o) (meaning.holds p.line (numbered p.name.now p.field) (inside_now ps o) (meaning.plain v.now)) ≡ meaning.gives p.line (numbered p.name.now p.field) twice (tree.Plain v) (inside_now ps o)
 counted ps o p twice v n is = ap (λ m. giving.value_at p.line (numbered p.name.now p.field) twice m (inside_now ps o) (meaning.holds p.line (numbered p.name.now p.field) (inside_now ps o) (meaning.plain v.now))) is
 
-pub plain-stopped : (ps : List Prototype) (o q : Open) (p : Place) (twice : Bool) (v : Bor (RawValue NodeText)) (n : ℕ) (s : State) (r : Result Next ExpandFault) (walker : Walker) (e : ExpandFault) → n ≡ item_count v.now → r ≡ Err e →
+pub plain-stopped : (ps : List Prototype) (o q : Open) (p : FieldAt) (twice : Bool) (v : Bor (RawValue NodeText)) (n : ℕ) (s : State) (r : Result Next ExpandFault) (walker : Walker) (e : ExpandFault) → n ≡ item_count v.now → r ≡ Err e →
     (e ≡ memory) ⊎ (doing (giving.value_at p.line (numbered p.name.now p.field) twice n (inside_now ps o) (meaning.holds p.line (numbered p.name.now p.field) (inside_now ps o) (meaning.plain v.now))) s ≡ Err e) →
     OpenGoes ps (item_comes ps (given_at p twice (tree.Plain v)) o s) r walker q
 plain-stopped ps o q p twice v n s r walker e count is k =
     subst (λ m. OpenGoes ps (doing (m >>= open_does ps o) s) r walker q) (counted ps o p twice v n count)
     (value-stopped ps o q p twice n (meaning.holds p.line (numbered p.name.now p.field) (inside_now ps o) (meaning.plain v.now)) s r walker e is k)
 
-pub plain-stands : (ps : List Prototype) (o : Open) (new : Inside) (p : Place) (twice : Bool) (v : Bor (RawValue NodeText)) (copy : RawValue ℕ) (n : ℕ) (s t : State) → n ≡ item_count v.now →
+pub plain-stands : (ps : List Prototype) (o : Open) (new : Inside) (p : FieldAt) (twice : Bool) (v : Bor (RawValue NodeText)) (copy : RawValue ℕ) (n : ℕ) (s t : State) → n ≡ item_count v.now →
     doing (giving.value_at p.line (numbered p.name.now p.field) twice n (inside_now ps o) (meaning.holds p.line (numbered p.name.now p.field) (inside_now ps o) (meaning.plain v.now))) s ≡ doing (meaning.holds p.line (numbered p.name.now p.field) (inside_now ps o) (meaning.plain v.now)) t →
     copy ≡ inside.plain v.now → fill p.line (numbered p.name.now p.field) (inside_now ps o) (Some copy) ≡ inside_of o.at (owner_by ps o.word o.inside.owner) new → new.owner ≡ o.inside.owner →
     item_comes ps (given_at p twice (tree.Plain v)) o s ≡ open_next ps (record o { inside = new }) next.On t
@@ -236,11 +236,11 @@ gives-sound at owner o new (Err e) result walker out is k = subst (λ x. OpenSou
 
 -- ---- what a field is given, by its variant
 
-pub given-as : (ps : List Prototype) (p : Place) (twice : Bool) (g t : GivenTree NodeTree) (o : Open) (s : State) (r : Result Next ExpandFault) (walker : Walker) (b : Open) → g ≡ t →
+pub given-as : (ps : List Prototype) (p : FieldAt) (twice : Bool) (g t : GivenTree NodeTree) (o : Open) (s : State) (r : Result Next ExpandFault) (walker : Walker) (b : Open) → g ≡ t →
     OpenGoes ps (item_comes ps (given_at p twice (given_by ps t)) o s) r walker b → OpenGoes ps (item_comes ps (given_at p twice (given_by ps g)) o s) r walker b
 given-as ps p twice g t o s r walker b is k = subst (λ x. OpenGoes ps (item_comes ps (given_at p twice (given_by ps x)) o s) r walker b) (sym is) k
 
-pub left-out : (p : Place) (twice : Bool) (wrong : Option ExpandFault) (i : flat.Inside) →
+pub left-out : (p : FieldAt) (twice : Bool) (wrong : Option ExpandFault) (i : flat.Inside) →
     meaning.gives p.line (numbered p.name.now p.field) twice (tree.LeftOut wrong) i ≡ giving.value_at p.line (numbered p.name.now p.field) twice 0 i (giving.aside p.line (numbered p.name.now p.field) i wrong)
 left-out p twice wrong i = refl
 
@@ -253,11 +253,11 @@ pub wrong-item : (ps : List Prototype) (i : ItemTree) (e : ExpandFault) (o : Ope
 wrong-item ps i e o s is does = ap (λ x. item_comes ps (item ps x).does o s) is ∙ ap (λ (x : flat.Inside → Does flat.Inside). item_comes ps x o s) does
 
 -- the value of a field is kept
-pub value-kept : (ps : List Prototype) (o : Open) (new : Inside) (p : Place) (v : RawValue ℕ) (s : State) → with_value ps o p v ≡ inside_of o.at (owner_by ps o.word o.inside.owner) new → new.owner ≡ o.inside.owner →
+pub value-kept : (ps : List Prototype) (o : Open) (new : Inside) (p : FieldAt) (v : RawValue ℕ) (s : State) → with_value ps o p v ≡ inside_of o.at (owner_by ps o.word o.inside.owner) new → new.owner ≡ o.inside.owner →
     doing (open_does ps o (with_value ps o p v)) s ≡ doing (open_does ps (record o { inside = new }) (inside_now ps (record o { inside = new }))) s
 value-kept ps o new p v s filled owner = ap (λ i. doing (open_does ps o i) s) filled ∙ open-on ps o new s owner
 
-pub value-kept-if : (o : Open) (new : Inside) (p : Place) (v : RawValue ℕ) (r : Result (Unit {0}) AllocError) →
+pub value-kept-if : (o : Open) (new : Inside) (p : FieldAt) (v : RawValue ℕ) (r : Result (Unit {0}) AllocError) →
     IfOk r (λ _. (at : ℕ) (w : Owner) → fill p.line (numbered p.name.now p.field) (inside_of at w o.inside) (Some v) ≡ inside_of at w new) → new.owner ≡ o.inside.owner →
     IfOk r (λ _. (ps : List Prototype) (s : State) → doing (open_does ps o (with_value ps o p v)) s ≡ doing (open_does ps (record o { inside = new }) (inside_now ps (record o { inside = new }))) s)
 value-kept-if o new p v (Ok u) filled owner = λ ps s. value-kept ps o new p v s (filled o.at (owner_by ps o.word o.inside.owner)) owner

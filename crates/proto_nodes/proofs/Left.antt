@@ -26,10 +26,10 @@ use Rattle.proto_tree.specs.declared.tree.DefaultTree.{DefaultTree}
 use Rattle.proto_tree.specs.declared.tree.GivenTree.TheVariants as tree
 use Rattle.proto_tree.specs.declared.tree.NodeTree.{NodeTree}
 use Rattle.proto_nodes.specs.declared.frames.Around.{Around}
-use Rattle.proto_nodes.specs.declared.frames.Body.{Body}
+use Rattle.proto_nodes.specs.declared.frames.ProtoBody.{ProtoBody}
 use Rattle.proto_nodes.specs.declared.frames.Frame.TheVariants as frame
-use Rattle.proto_nodes.specs.declared.frames.Task.{Task}
-use Rattle.proto_nodes.specs.declared.frames.Task.TheVariants as task
+use Rattle.proto_nodes.specs.declared.frames.NodeTask.{NodeTask}
+use Rattle.proto_nodes.specs.declared.frames.NodeTask.TheVariants as task
 use Rattle.proto_nodes.specs.Does.{Comes, after, done, statements_do, line_of, outside, leaves, first_of, body_comes, defaults_do, filling_comes}
 use Rattle.proto_nodes.specs.Frames.{Goes, body_or, held, frame_comes, task_comes}
 use Rattle.proto_nodes.proofs.Steps.{then-assoc, then-same, doing-then, doing-assoc, then-stop}
@@ -93,21 +93,21 @@ body-wrong ps a all e rest first s is =
 
 -- ---- the next task of a body
 
-pub body-goes : (ps : List Prototype) (b c : Body) (n : Bor NodeTree) (rest : Bor (List BodyTree)) (o : Comes ℕ) (s : State) → c ≡ record b { rest = rest } →
+pub body-goes : (ps : List Prototype) (b c : ProtoBody) (n : Bor NodeTree) (rest : Bor (List BodyTree)) (o : Comes ℕ) (s : State) → c ≡ record b { rest = rest } →
     o ≡ after (doing (node ps n.now).does s) (λ k t. after (doing (held b.first k) t) (body_comes ps b.around.value rest.now)) → o ≡ task_comes ps (task.NodeFor (frame.Body c) n) s
 unfolding task_comes frame_comes
 body-goes ps b c n rest o s left is = is ∙ ap (λ x. task_comes ps (task.NodeFor (frame.Body x) n) s) (sym left)
 
-pub body-on : (ps : List Prototype) (b : Body) (o : Comes ℕ) (s : State) → o ≡ body_comes ps b.around.value b.rest.now (first_of b.first) s → o ≡ task_comes ps (task.Body b) s
+pub body-on : (ps : List Prototype) (b : ProtoBody) (o : Comes ℕ) (s : State) → o ≡ body_comes ps b.around.value b.rest.now (first_of b.first) s → o ≡ task_comes ps (task.Body b) s
 unfolding task_comes
 body-on ps b o s is = is
 
-pub body-frame : (ps : List Prototype) (b : Body) (n : ℕ) (s : State) → frame_comes ps (frame.Body b) n s ≡ after (doing (held b.first n) s) (body_comes ps b.around.value b.rest.now)
+pub body-frame : (ps : List Prototype) (b : ProtoBody) (n : ℕ) (s : State) → frame_comes ps (frame.Body b) n s ≡ after (doing (held b.first n) s) (body_comes ps b.around.value b.rest.now)
 unfolding frame_comes
 body-frame ps b n s = refl
 
 -- what was done before went well, and the body goes on
-pub body-after : (ps : List Prototype) (b : Body) (m : Does (Unit {0})) (s : State) (d : Result (Unit {0}) ExpandFault) (result : Result Task ExpandFault) (walker : Walker) → result ≡ body_or b d → Steps (λ (a : Unit {0}). a) (doing m s) d walker →
+pub body-after : (ps : List Prototype) (b : ProtoBody) (m : Does (Unit {0})) (s : State) (d : Result (Unit {0}) ExpandFault) (result : Result NodeTask ExpandFault) (walker : Walker) → result ≡ body_or b d → Steps (λ (a : Unit {0}). a) (doing m s) d walker →
     Goes ps (after (doing m s) (λ _. body_comes ps b.around.value b.rest.now (first_of b.first))) result (shown walker)
 body-after ps b m s (Ok u) result walker is k =
     subst (λ x. Goes ps (after (doing m s) (λ _. body_comes ps b.around.value b.rest.now (first_of b.first))) x (shown walker)) (sym is)
@@ -145,15 +145,15 @@ leave-empty a o s is = ap (λ x. leaves a (first_of x) s) is
 
 -- ---- a body has a node more
 
-pub hold-first : (ps : List Prototype) (b : Body) (n : ℕ) (s : State) → b.first ≡ None → frame_comes ps (frame.Body b) n s ≡ task_comes ps (task.Body (record b { first = Some n })) s
+pub hold-first : (ps : List Prototype) (b : ProtoBody) (n : ℕ) (s : State) → b.first ≡ None → frame_comes ps (frame.Body b) n s ≡ task_comes ps (task.Body (record b { first = Some n })) s
 unfolding task_comes frame_comes
 hold-first ps b n s is = ap (λ o. after (doing (held o n) s) (body_comes ps b.around.value b.rest.now)) is
 
-pub hold-more : (ps : List Prototype) (b : Body) (first n : ℕ) (s : State) → b.first ≡ Some first → frame_comes ps (frame.Body b) n s ≡ after (doing (held (Some first) n) s) (body_comes ps b.around.value b.rest.now)
+pub hold-more : (ps : List Prototype) (b : ProtoBody) (first n : ℕ) (s : State) → b.first ≡ Some first → frame_comes ps (frame.Body b) n s ≡ after (doing (held (Some first) n) s) (body_comes ps b.around.value b.rest.now)
 unfolding frame_comes
 hold-more ps b first n s is = ap (λ o. after (doing (held o n) s) (body_comes ps b.around.value b.rest.now)) is
 
-pub help-goes : (ps : List Prototype) (b : Body) (first n : ℕ) (w : Walker) (new : puts.PutIn) → b.first ≡ Some first → put.shown new ≡ record (put.shown w.put) { helpers = (put.shown w.put).helpers ++ n ∷ [] } →
+pub help-goes : (ps : List Prototype) (b : ProtoBody) (first n : ℕ) (w : Walker) (new : puts.PutIn) → b.first ≡ Some first → put.shown new ≡ record (put.shown w.put) { helpers = (put.shown w.put).helpers ++ n ∷ [] } →
     after (doing (held (Some first) n) (shown w)) (body_comes ps b.around.value b.rest.now) ≡ task_comes ps (task.Body b) (shown (record w { put = new }))
 unfolding task_comes
 help-goes ps b first n w new is helped =

@@ -7,7 +7,7 @@ use Rattle.proto_meaning.specs.Flat.{Does, ◌>>=◌}
 use Rattle.proto_meaning.specs.Sight.{Prototype}
 use Rattle.proto_limits.specs.Settled.{State, doing}
 use Rattle.proto_limits.proofs.Settling.{parts_settle_in_turn}
-use Rattle.proto_nodes.specs.declared.frames.Task.{Task}
+use Rattle.proto_nodes.specs.declared.frames.NodeTask.{NodeTask}
 use Rattle.proto_nodes.specs.Does.{Comes, after, done}
 use Rattle.proto_nodes.specs.Frames.{Goes}
 
@@ -55,6 +55,6 @@ then-stop o f e (inr k) = inr (ap (λ x. after x f) k)
 -- ---- answers
 
 -- toward another outcome that is the same
-pub goes-as : (ps : List Prototype) (o q : Comes ℕ) (r : Result Task ExpandFault) (s : State) → o ≡ q → Goes ps q r s → Goes ps o r s
+pub goes-as : (ps : List Prototype) (o q : Comes ℕ) (r : Result NodeTask ExpandFault) (s : State) → o ≡ q → Goes ps q r s → Goes ps o r s
 goes-as ps o q (Ok t) s is k = is ∙ k
 goes-as ps o q (Err e) s is k = same-stop o q e is k

@@ -32,7 +32,7 @@ use Rattle.proto_tree.specs.declared.tree.Word.{Word}
 use Rattle.proto_nodes.specs.declared.frames.Around.{Around}
 use Rattle.proto_nodes.specs.declared.frames.Filling.{Filling}
 use Rattle.proto_nodes.specs.declared.frames.Open.{Open}
-use Rattle.proto_nodes.specs.declared.frames.Place.{Place}
+use Rattle.proto_nodes.specs.declared.frames.FieldAt.{FieldAt}
 use Rattle.proto_nodes.specs.Protos.{owner_by, proto_by}
 
 -- ---- what something comes to from where the walk stands
@@ -105,7 +105,7 @@ abbrev pub inside_now : List Prototype → Open → flat.Inside
 inside_now ps o = inside_of o.at (owner_by ps o.word o.inside.owner) o.inside
 
 -- the same when a field has a value
-abbrev pub with_value : List Prototype → Open → Place → RawValue ℕ → flat.Inside
+abbrev pub with_value : List Prototype → Open → FieldAt → RawValue ℕ → flat.Inside
 with_value ps o p v =
     flat.fill p.line (numbered p.name.now p.field) (inside_now ps o) (Some v)
 
@@ -171,7 +171,7 @@ filling_comes ps a rest all s = after (doing (defaults_do ps a rest all) s) (lea
 abbrev pub filled_now : Filling → List Filled
 filled_now f = table.shown f.given ++ table.shown f.defaults
 
-abbrev pub default_value : Place → RawValue ℕ → Filled
+abbrev pub default_value : FieldAt → RawValue ℕ → Filled
 default_value p v =
     record { line = p.line; name = p.name.now; number = p.field.number; value = Some v }
 

@@ -19,19 +19,19 @@ use Rattle.proto_tree.specs.Given.{GivenTree}
 use Rattle.proto_tree.specs.declared.tree.NodeTree.{NodeTree}
 use Rattle.proto_walker.specs.Shown as shown
 use Rattle.proto_walker.specs.declared.walker.Walker.{Walker}
-use Rattle.proto_nodes.specs.declared.frames.Body.{Body}
+use Rattle.proto_nodes.specs.declared.frames.ProtoBody.{ProtoBody}
 use Rattle.proto_nodes.specs.declared.frames.Filling.{Filling}
 use Rattle.proto_nodes.specs.declared.frames.Frame.{Frame}
 use Rattle.proto_nodes.specs.declared.frames.Frame.TheVariants as frame
 use Rattle.proto_nodes.specs.declared.frames.Holder.{Holder}
 use Rattle.proto_nodes.specs.declared.frames.Holder.TheVariants.{Braces, Defaults}
-use Rattle.proto_nodes.specs.declared.frames.Machine.{Machine}
+use Rattle.proto_nodes.specs.declared.frames.WalkState.{WalkState}
 use Rattle.proto_nodes.specs.declared.frames.Next.{Next}
 use Rattle.proto_nodes.specs.declared.frames.Next.TheVariants as next
 use Rattle.proto_nodes.specs.declared.frames.Open.{Open}
-use Rattle.proto_nodes.specs.declared.frames.Place.{Place}
-use Rattle.proto_nodes.specs.declared.frames.Task.{Task}
-use Rattle.proto_nodes.specs.declared.frames.Task.TheVariants as task
+use Rattle.proto_nodes.specs.declared.frames.FieldAt.{FieldAt}
+use Rattle.proto_nodes.specs.declared.frames.NodeTask.{NodeTask}
+use Rattle.proto_nodes.specs.declared.frames.NodeTask.TheVariants as task
 use Rattle.proto_nodes.specs.Does.{Comes, after, done, nodes_do, open_does, inside_now, with_value, first_of, body_comes, filling_comes, filled_now, default_value}
 
 -- ---- what is done
@@ -42,13 +42,13 @@ holder_comes ps (Braces o) s = doing (open_does ps o (inside_now ps o)) s
 holder_comes ps (Defaults f) s =
     filling_comes ps f.around.value f.rest.now (filled_now f) s
 
-unfoldable pub value_comes : List Prototype → Holder → Place → RawValue ℕ → State → Comes ℕ
+unfoldable pub value_comes : List Prototype → Holder → FieldAt → RawValue ℕ → State → Comes ℕ
 value_comes ps (Braces o) p v s = doing (open_does ps o (with_value ps o p v)) s
 value_comes ps (Defaults f) p v s =
     filling_comes ps f.around.value f.rest.now
     (filled_now f ++ default_value p v ∷ []) s
 
-unfoldable pub list_comes : List Prototype → Holder → Place → List NodeTree → List ℕ → State
+unfoldable pub list_comes : List Prototype → Holder → FieldAt → List NodeTree → List ℕ → State
     → Comes ℕ
 list_comes ps h p rest numbers s =
     after (doing (nodes_do ps rest numbers) s) (λ ns. value_comes ps h p (value.NodeList ns))
@@ -75,7 +75,7 @@ unfoldable pub frames_come : List Prototype → List Frame → ℕ → State →
 frames_come ps [] n s = done n s
 frames_come ps (f ∷ fs) n s = after (frames_come ps fs n s) (frame_comes ps f)
 
-unfoldable pub task_comes : List Prototype → Task → State → Comes ℕ
+unfoldable pub task_comes : List Prototype → NodeTask → State → Comes ℕ
 task_comes ps (task.On h) s = holder_comes ps h s
 task_comes ps (task.List h l) s = list_comes ps h l.place l.rest.now l.numbers s
 task_comes ps (task.Body b) s = body_comes ps b.around.value b.rest.now (first_of b.first) s
@@ -83,12 +83,12 @@ task_comes ps (task.NodeFor f n) s = after (doing (node ps n.now).does s) (frame
 task_comes ps (task.Number n) s = done n s
 
 -- the task and then the frames
-abbrev pub all_comes : List Prototype → Task → Machine → Comes ℕ
+abbrev pub all_comes : List Prototype → NodeTask → WalkState → Comes ℕ
 all_comes ps t m = after (task_comes ps t (shown.shown m.walker)) (frames_come ps m.frames.items)
 
 -- what is next: the next thing, a field's value that is a node or a list of nodes, or nothing; by
 -- what comes of the rest as it is, and with one value more
-abbrev pub next_by : List Prototype → (State → Comes ℕ) → (Place → RawValue ℕ → State → Comes ℕ)
+abbrev pub next_by : List Prototype → (State → Comes ℕ) → (FieldAt → RawValue ℕ → State → Comes ℕ)
     → Next → State → Comes ℕ
 next_by ps on more next.On s = on s
 next_by ps on more (next.One p n) s =
@@ -132,7 +132,7 @@ abbrev pub IsFree : Holder → Name → Type 0
 IsFree (Braces o) name = table.has_name name (inside.filled_in o.inside) ≡ false
 IsFree (Defaults f) name = table.has_name name (table.shown f.defaults) ≡ false
 
-abbrev pub BodySound : Body → Type 0
+abbrev pub BodySound : ProtoBody → Type 0
 BodySound b = scope.Sound b.around.value.scope
 
 abbrev pub FrameSound : Frame → Type 0
@@ -144,7 +144,7 @@ abbrev pub FramesSound : List Frame → Type 0
 FramesSound [] = Unit
 FramesSound (f ∷ fs) = FrameSound f × FramesSound fs
 
-abbrev pub TaskSound : Task → Type 0
+abbrev pub TaskSound : NodeTask → Type 0
 TaskSound (task.On h) = HolderSound h
 TaskSound (task.List h l) = HolderSound h × IsFree h l.place.name.now
 TaskSound (task.Body b) = BodySound b
@@ -169,24 +169,24 @@ abbrev pub HolderFits : Holder → Next → Type 0
 HolderFits (Braces o) n = OpenFits o n
 HolderFits (Defaults f) n = FillingFits f n
 
-pub record MachineSound (m : Machine) : Type 0 where
+pub record MachineSound (m : WalkState) : Type 0 where
   pub walker : shown.Sound m.walker
   pub frames : FramesSound m.frames.items
 
 -- ---- a step
 
 -- toward that: what is to be done after it comes to the same, memory aside
-abbrev pub Goes : List Prototype → Comes ℕ → Result Task ExpandFault → State → Type 0
+abbrev pub Goes : List Prototype → Comes ℕ → Result NodeTask ExpandFault → State → Type 0
 Goes ps outcome (Ok t) s = outcome ≡ task_comes ps t s
 Goes ps outcome (Err e) s = (e ≡ memory) ⊎ (outcome ≡ Err e)
 
 -- the same by what all comes to
-abbrev pub AllGoes : List Prototype → Comes ℕ → Result Task ExpandFault → Machine → Type 0
+abbrev pub AllGoes : List Prototype → Comes ℕ → Result NodeTask ExpandFault → WalkState → Type 0
 AllGoes ps outcome (Ok t) m = outcome ≡ all_comes ps t m
 AllGoes ps outcome (Err e) m = (e ≡ memory) ⊎ (outcome ≡ Err e)
 
 -- the same, with what is next in the place of the task
-abbrev pub StepsOn : List Prototype → Comes ℕ → Result (Unit {0}) ExpandFault → Task → Machine
+abbrev pub StepsOn : List Prototype → Comes ℕ → Result (Unit {0}) ExpandFault → NodeTask → WalkState
     → Type 0
 StepsOn ps outcome (Ok u) t m = outcome ≡ all_comes ps t m
 StepsOn ps outcome (Err e) t m = (e ≡ memory) ⊎ (outcome ≡ Err e)
@@ -200,7 +200,7 @@ Ends view outcome (Err e) s = (e ≡ memory) ⊎ (outcome ≡ Err e)
 abbrev pub item_comes : List Prototype → (flat.Inside → Does flat.Inside) → Open → State → Comes ℕ
 item_comes ps m o s = doing (m (inside_now ps o) >>= open_does ps o) s
 
-abbrev pub given_at : Place → Bool → GivenTree flat.Node → flat.Inside → Does flat.Inside
+abbrev pub given_at : FieldAt → Bool → GivenTree flat.Node → flat.Inside → Does flat.Inside
 given_at p twice g i = gives p.line (numbered p.name.now p.field) twice g i
 
 -- the same of a step between braces, and of one in a holder
@@ -244,7 +244,7 @@ on_or (Ok u) = Ok next.On
 on_or (Err e) = Err e
 
 -- what is left of a body, if what was done before it went well
-abbrev pub body_or : Body → Result (Unit {0}) ExpandFault → Result Task ExpandFault
+abbrev pub body_or : ProtoBody → Result (Unit {0}) ExpandFault → Result NodeTask ExpandFault
 body_or b (Ok u) = Ok (task.Body b)
 body_or b (Err e) = Err e
 

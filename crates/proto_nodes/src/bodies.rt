@@ -12,7 +12,7 @@ ghost use Rattle.proto_walker.specs.Steps.{standing_in};
 ghost use Rattle.proto_nodes.specs.Does.{body_comes, filled_now, filling_comes, first_of, leaves, outside, after};
 ghost use Rattle.proto_nodes.specs.Frames.{BodySound, FillingSound, Goes, IsSplit, TaskSound, body_or, frame_comes, held};
 
-use crate::frames::{Around, Body, Filling, Frame, Task};
+use crate::frames::{Around, Filling, Frame, NodeTask, ProtoBody};
 use classic_tree::RouteText;
 use proto_flat::{ExpandFault, ExpandFaultKind};
 use proto_joins::{InstanceEnds, JoinedEnds};
@@ -30,7 +30,10 @@ struct Joined<'a> {
 }
 
 /// All default values are put in.
-pub fn begin_body<'t, 'a>(walker: &mut Walker<'t, 'a>, filling: Filling<'t, 'a>) -> Body<'t, 'a>
+pub fn begin_body<'t, 'a>(
+    walker: &mut Walker<'t, 'a>,
+    filling: Filling<'t, 'a>,
+) -> ProtoBody<'t, 'a>
     requires walker { shown.Sound walker.old }
     requires filling { FillingSound filling }
     requires done { filling.rest.now ≡ [] }
@@ -49,7 +52,7 @@ pub fn begin_body<'t, 'a>(walker: &mut Walker<'t, 'a>, filling: Filling<'t, 'a>)
     } = filling;
     let proto = around.proto;
     walker.scope.begin_body(&proto.interface, given, defaults);
-    Body {
+    ProtoBody {
         rest: proto.tree.body.as_slice(),
         first: None,
         around,
@@ -58,13 +61,13 @@ pub fn begin_body<'t, 'a>(walker: &mut Walker<'t, 'a>, filling: Filling<'t, 'a>)
 
 /// What is left of a body, if what was done before it went well.
 fn go_on<'t, 'a>(
-    body: Body<'t, 'a>,
+    body: ProtoBody<'t, 'a>,
     done: Result<(), ExpandFault>,
-) -> Result<Task<'t, 'a>, ExpandFault>
+) -> Result<NodeTask<'t, 'a>, ExpandFault>
     ensures { result ≡ body_or body.entry done }
 {
     match done {
-        Ok(()) => Ok(Task::Body(body)),
+        Ok(()) => Ok(NodeTask::Body(body)),
         Err(fault) => {
             drop(body);
             Err(fault)
@@ -74,9 +77,9 @@ fn go_on<'t, 'a>(
 
 fn put_route<'t, 'a>(
     walker: &mut Walker<'t, 'a>,
-    body: Body<'t, 'a>,
+    body: ProtoBody<'t, 'a>,
     route: &'a RouteText,
-) -> Result<Task<'t, 'a>, ExpandFault>
+) -> Result<NodeTask<'t, 'a>, ExpandFault>
     requires walker { shown.Sound walker.old }
     requires body { BodySound body }
     ensures goes { (ps : List Prototype) → Goes ps (after (doing (flat.note_route route.now)
@@ -110,7 +113,7 @@ fn stand_in<'t, 'a>(
     around: Around<'t, 'a>,
     node: u32,
     joined: Joined<'a>,
-) -> Result<Task<'t, 'a>, ExpandFault>
+) -> Result<NodeTask<'t, 'a>, ExpandFault>
     requires walker { shown.Sound walker.old }
     requires around { scope.Sound around.scope }
     ensures goes { (ps : List Prototype) → Goes ps (doing (standing_in around.entry.name.now
@@ -137,7 +140,7 @@ fn stand_in<'t, 'a>(
         joined: ends,
     };
     let number = walker.stand_in(alloc, name, at, node, ends, routes)?;
-    Ok(Task::Number(number))
+    Ok(NodeTask::Number(number))
 }
 
 /// A body is done.
@@ -146,7 +149,7 @@ fn leave<'t, 'a>(
     walker: &mut Walker<'t, 'a>,
     around: Around<'t, 'a>,
     first: Option<u32>,
-) -> Result<Task<'t, 'a>, ExpandFault>
+) -> Result<NodeTask<'t, 'a>, ExpandFault>
     requires walker { shown.Sound walker.old }
     requires around { scope.Sound around.scope }
     ensures goes { (ps : List Prototype) → Goes ps (leaves around.entry (first_of first)
@@ -178,7 +181,7 @@ fn first_statement<'t, 'a>(
 }
 
 /// These are left.
-fn set_rest<'t, 'a>(body: &mut Body<'t, 'a>, rest: &'t [BodyTree<'a>])
+fn set_rest<'t, 'a>(body: &mut ProtoBody<'t, 'a>, rest: &'t [BodyTree<'a>])
     ensures { body.new ≡ record body.old { rest = rest.entry } }
 {
     body.rest = rest;
@@ -188,8 +191,8 @@ fn set_rest<'t, 'a>(body: &mut Body<'t, 'a>, rest: &'t [BodyTree<'a>])
 pub fn next_statement<'t, 'a>(
     alloc: Global,
     walker: &mut Walker<'t, 'a>,
-    body: Body<'t, 'a>,
-) -> Result<Task<'t, 'a>, ExpandFault>
+    body: ProtoBody<'t, 'a>,
+) -> Result<NodeTask<'t, 'a>, ExpandFault>
     requires walker { shown.Sound walker.old }
     requires body { BodySound body }
     ensures goes { (ps : List Prototype) → Goes ps (body_comes ps body.entry.around.value
@@ -199,13 +202,13 @@ pub fn next_statement<'t, 'a>(
     ensures walker { IfOk result (λ _. shown.Sound walker.new) }
 {
     let Some((statement, rest)) = first_statement(body.rest) else {
-        let Body { first, around, .. } = body;
+        let ProtoBody { first, around, .. } = body;
         return leave(alloc, walker, Box::into_inner(around), first);
     };
     let mut body = body;
     set_rest(&mut body, rest);
     match statement {
-        BodyTree::Node(node) => Ok(Task::NodeFor(Frame::Body(body), node)),
+        BodyTree::Node(node) => Ok(NodeTask::NodeFor(Frame::Body(body), node)),
         BodyTree::Route(route) => put_route(walker, body, route),
         BodyTree::Wrong(fault) => {
             drop(body);
@@ -216,10 +219,10 @@ pub fn next_statement<'t, 'a>(
 
 fn help<'t, 'a>(
     walker: &mut Walker<'t, 'a>,
-    body: Body<'t, 'a>,
+    body: ProtoBody<'t, 'a>,
     first: u32,
     number: u32,
-) -> Result<Task<'t, 'a>, ExpandFault>
+) -> Result<NodeTask<'t, 'a>, ExpandFault>
     requires walker { shown.Sound walker.old }
     requires body { BodySound body }
     requires first { body.first ≡ Some first }
@@ -230,7 +233,7 @@ fn help<'t, 'a>(
     ensures walker { IfOk result (λ _. shown.Sound walker.new) }
 {
     match walker.put.help(number) {
-        Ok(()) => Ok(Task::Body(body)),
+        Ok(()) => Ok(NodeTask::Body(body)),
         Err(error) => {
             drop(body);
             Err(ExpandFault::from(error))
@@ -241,9 +244,9 @@ fn help<'t, 'a>(
 /// A statement's node has its number: the first stands for the instance, the others are helpers.
 pub fn hold<'t, 'a>(
     walker: &mut Walker<'t, 'a>,
-    body: Body<'t, 'a>,
+    body: ProtoBody<'t, 'a>,
     number: u32,
-) -> Result<Task<'t, 'a>, ExpandFault>
+) -> Result<NodeTask<'t, 'a>, ExpandFault>
     requires walker { shown.Sound walker.old }
     requires body { BodySound body }
     ensures goes { (ps : List Prototype) → Goes ps
@@ -256,7 +259,7 @@ pub fn hold<'t, 'a>(
         None => {
             let mut body = body;
             body.first = Some(number);
-            Ok(Task::Body(body))
+            Ok(NodeTask::Body(body))
         }
         Some(first) => help(walker, body, first, number),
     }

@@ -13,7 +13,7 @@ ghost use Rattle.proto_nodes.specs.Protos.{IsKnown, Knows, proto_by};
 ghost use Rattle.proto_nodes.specs.Does.{braces_do, closes, instance_do, inside_now, open_does};
 ghost use Rattle.proto_nodes.specs.Frames.{Goes, TaskSound};
 
-use crate::frames::{Around, Filling, Holder, Open, Proto, Task};
+use crate::frames::{Around, Filling, Holder, NodeTask, Open, Proto};
 use proto_flat::{ExpandFault, ExpandFaultKind};
 use proto_given::Given;
 use proto_inside::{Inside, Owner, declarations, flat_fields};
@@ -41,7 +41,7 @@ fn open_braces<'t, 'a>(
     walker: &mut Walker<'t, 'a>,
     text: Full<'t, 'a>,
     owner: Owner<'t, 'a>,
-) -> Result<Task<'t, 'a>, ExpandFault>
+) -> Result<NodeTask<'t, 'a>, ExpandFault>
     requires { shown.Sound walker.old }
     ensures goes { (ps : List Prototype) → Goes ps (doing (braces_do ps text.entry.line
         text.entry.name.now text.entry.word owner.entry text.entry.items.now)
@@ -51,7 +51,7 @@ fn open_braces<'t, 'a>(
 {
     let at = walker.open_braces(text.name)?;
     let inside = Inside::new(alloc, owner);
-    Ok(Task::On(Holder::Braces(Open {
+    Ok(NodeTask::On(Holder::Braces(Open {
         line: text.line,
         name: text.name,
         at,
@@ -66,7 +66,7 @@ fn begin_node<'t, 'a>(
     walker: &mut Walker<'t, 'a>,
     text: Full<'t, 'a>,
     node_type: NodeType,
-) -> Result<Task<'t, 'a>, ExpandFault>
+) -> Result<NodeTask<'t, 'a>, ExpandFault>
     requires { shown.Sound walker.old }
     ensures goes { (ps : List Prototype) → Goes ps (doing (flat.full_node text.entry.line
         text.entry.name.now (map (meaning.item ps) text.entry.items.now) (Some (OfType node_type)))
@@ -84,7 +84,7 @@ fn open_instance<'t, 'a>(
     walker: &mut Walker<'t, 'a>,
     text: Full<'t, 'a>,
     interface: &'t Interface<'a>,
-) -> Result<Task<'t, 'a>, ExpandFault>
+) -> Result<NodeTask<'t, 'a>, ExpandFault>
     requires { shown.Sound walker.old }
     ensures goes { (ps : List Prototype) → Goes ps (doing (instance_do ps text.entry.name.now
         (proto_by ps text.entry.word) interface.now text.entry.items.now) (shown.shown walker.old))
@@ -100,7 +100,7 @@ fn begin_instance<'t, 'a>(
     walker: &mut Walker<'t, 'a>,
     text: Full<'t, 'a>,
     proto: &'t Proto<'t, 'a>,
-) -> Result<Task<'t, 'a>, ExpandFault>
+) -> Result<NodeTask<'t, 'a>, ExpandFault>
     requires { shown.Sound walker.old }
     ensures goes { (ps : List Prototype) (p : Prototype) → IsKnown ps p proto.now
         → proto_by ps text.entry.word ≡ p → Goes ps (doing (flat.full_node text.entry.line
@@ -125,7 +125,7 @@ fn begin_full<'t, 'a>(
     walker: &mut Walker<'t, 'a>,
     protos: &'t [Proto<'t, 'a>],
     text: Full<'t, 'a>,
-) -> Result<Task<'t, 'a>, ExpandFault>
+) -> Result<NodeTask<'t, 'a>, ExpandFault>
     requires { shown.Sound walker.old }
     ensures goes { (ps : List Prototype) → Knows ps protos.now → Goes ps (doing (flat.full_node
         text.entry.line text.entry.name.now (map (meaning.item ps) text.entry.items.now)
@@ -150,7 +150,7 @@ fn begin_use<'t, 'a>(
     walker: &mut Walker<'t, 'a>,
     line: u32,
     name: &Text,
-) -> Result<Task<'t, 'a>, ExpandFault>
+) -> Result<NodeTask<'t, 'a>, ExpandFault>
     requires { shown.Sound walker.old }
     ensures goes { (ps : List Prototype) → Goes ps (doing (using line name.now)
         (shown.shown walker.old)) result (shown.shown walker.new) }
@@ -158,7 +158,7 @@ fn begin_use<'t, 'a>(
     ensures walker { IfOk result (λ _. shown.Sound walker.new) }
 {
     let number = walker.put_use(line, name)?;
-    Ok(Task::Number(number))
+    Ok(NodeTask::Number(number))
 }
 
 /// A node of the text.
@@ -167,7 +167,7 @@ pub fn begin<'t, 'a>(
     walker: &mut Walker<'t, 'a>,
     protos: &'t [Proto<'t, 'a>],
     node: &'t NodeTree<'a>,
-) -> Result<Task<'t, 'a>, ExpandFault>
+) -> Result<NodeTask<'t, 'a>, ExpandFault>
     requires { shown.Sound walker.old }
     ensures goes { (ps : List Prototype) → Knows ps protos.now → Goes ps
         (doing (meaning.node ps node.now).does (shown.shown walker.old)) result
@@ -224,7 +224,7 @@ fn close_node<'t, 'a>(
     walker: &mut Walker<'t, 'a>,
     opened: Open<'t, 'a>,
     node_type: NodeType,
-) -> Result<Task<'t, 'a>, ExpandFault>
+) -> Result<NodeTask<'t, 'a>, ExpandFault>
     requires walker { shown.Sound walker.old }
     requires owner { opened.inside.owner ≡ Owner.Node node_type }
     ensures goes { (ps : List Prototype) → Goes ps (doing (closes ps opened.entry.line
@@ -242,7 +242,7 @@ fn close_node<'t, 'a>(
     } = opened;
     let node = placed(alloc, line, name, node_type, inside)?;
     let number = walker.close_node(name, at, node)?;
-    Ok(Task::Number(number))
+    Ok(NodeTask::Number(number))
 }
 
 /// The braces of an instance close: a scope of its own begins, and default values are put in.
@@ -251,7 +251,7 @@ fn begin_defaults<'t, 'a>(
     walker: &mut Walker<'t, 'a>,
     opened: Open<'t, 'a>,
     proto: &'t Proto<'t, 'a>,
-) -> Result<Task<'t, 'a>, ExpandFault>
+) -> Result<NodeTask<'t, 'a>, ExpandFault>
     requires walker { shown.Sound walker.old }
     requires inside { braces.Sound opened.inside }
     ensures goes { (ps : List Prototype) (p : Prototype) → IsKnown ps p proto.now → Goes ps (doing
@@ -278,7 +278,7 @@ fn begin_defaults<'t, 'a>(
         },
     )?;
     let defaults = Given::new(alloc);
-    Ok(Task::On(Holder::Defaults(Filling {
+    Ok(NodeTask::On(Holder::Defaults(Filling {
         rest: proto.tree.defaults.as_slice(),
         given,
         defaults,
@@ -304,7 +304,7 @@ fn close_instance<'t, 'a>(
     walker: &mut Walker<'t, 'a>,
     protos: &'t [Proto<'t, 'a>],
     opened: Open<'t, 'a>,
-) -> Result<Task<'t, 'a>, ExpandFault>
+) -> Result<NodeTask<'t, 'a>, ExpandFault>
     requires walker { shown.Sound walker.old }
     requires inside { braces.Sound opened.inside }
     ensures goes { (ps : List Prototype) → Knows ps protos.now → Goes ps (doing
@@ -326,7 +326,7 @@ pub fn close_braces<'t, 'a>(
     walker: &mut Walker<'t, 'a>,
     protos: &'t [Proto<'t, 'a>],
     opened: Open<'t, 'a>,
-) -> Result<Task<'t, 'a>, ExpandFault>
+) -> Result<NodeTask<'t, 'a>, ExpandFault>
     requires walker { shown.Sound walker.old }
     requires inside { braces.Sound opened.inside }
     requires done { opened.rest.now ≡ [] }

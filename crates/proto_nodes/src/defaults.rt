@@ -9,7 +9,7 @@ ghost use Rattle.proto_limits.specs.Settled.{State};
 ghost use Rattle.proto_nodes.specs.Does.{default_comes, default_value, filled_now, filling_comes};
 ghost use Rattle.proto_nodes.specs.Frames.{DefaultGoes, DefaultSound, FillingSound, HasFilled, IsSplit};
 
-use crate::frames::{Filling, Next, Place};
+use crate::frames::{FieldAt, Filling, Next};
 use classic_tree::{Declaration, NodeText, RawValue};
 use proto_given::{Given, GivenField};
 use proto_inside::plain;
@@ -32,12 +32,12 @@ fn is_free(given: &Given<'_>, defaults: &Given<'_>, name: &Text) -> bool
     defaults.value(name).is_none()
 }
 
-fn place_of<'a>(declaration: &'a Declaration<NodeText>) -> Place<'a>
+fn place_of<'a>(declaration: &'a Declaration<NodeText>) -> FieldAt<'a>
     ensures line { result.line ≡ declaration.now.line }
     ensures name { result.name.now ≡ declaration.now.name }
     ensures number { result.field.number ≡ 0 }
 {
-    Place {
+    FieldAt {
         line: declaration.line,
         name: &declaration.name,
         field: KnownField {
@@ -53,7 +53,7 @@ fn place_of<'a>(declaration: &'a Declaration<NodeText>) -> Place<'a>
 pub fn fill<'t, 'a>(
     alloc: Global,
     filling: &mut Filling<'t, 'a>,
-    place: Place<'a>,
+    place: FieldAt<'a>,
     value: RawValue<u32>,
 ) -> Result<(), AllocError>
     requires sound { FillingSound filling.old }
@@ -62,7 +62,7 @@ pub fn fill<'t, 'a>(
         HasFilled filling.old (default_value place.entry value) filling.new) }
 {
     let value = Rc::new(alloc, value)?;
-    let Place { line, name, field } = place;
+    let FieldAt { line, name, field } = place;
     filling.defaults.fill(
         name,
         GivenField {
@@ -76,7 +76,7 @@ pub fn fill<'t, 'a>(
 fn put_plain<'t, 'a>(
     alloc: Global,
     filling: &mut Filling<'t, 'a>,
-    place: Place<'a>,
+    place: FieldAt<'a>,
     value: &RawValue<NodeText>,
 ) -> Result<Next<'t, 'a>, AllocError>
     requires sound { FillingSound filling.old }

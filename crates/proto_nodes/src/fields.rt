@@ -11,7 +11,7 @@ ghost use Rattle.proto_walker.specs.Shown as shown;
 ghost use Rattle.proto_nodes.specs.Does.{field_does, given_by, inside_now, open_does, route_does, with_value};
 ghost use Rattle.proto_nodes.specs.Frames.{IsSplit, OpenGoes, OpenSound, given_at, item_comes, on_or};
 
-use crate::frames::{Next, Open, Place};
+use crate::frames::{FieldAt, Next, Open};
 use classic_tree::{Declaration, NodeText, RawValue, RouteText};
 use proto_flat::{ExpandFault, ExpandFaultKind};
 use proto_giving::{Declared, declare, keep_value, meet_value, put_aside, put_is, put_nothing};
@@ -35,7 +35,7 @@ fn on<'t, 'a>(done: Result<(), ExpandFault>) -> Result<Next<'t, 'a>, ExpandFault
 fn put_one<'t, 'a>(
     walker: &mut Walker<'t, 'a>,
     opened: &Open<'t, 'a>,
-    place: Place<'a>,
+    place: FieldAt<'a>,
     twice: bool,
     node: &'t NodeTree<'a>,
 ) -> Result<Next<'t, 'a>, ExpandFault>
@@ -48,7 +48,7 @@ fn put_one<'t, 'a>(
         (shown.shown walker.old)) result walker.new opened.now }
     ensures sound { OpenSound result walker.new opened.now }
 {
-    let Place { line, name, field } = place;
+    let FieldAt { line, name, field } = place;
     meet_value(walker, &opened.inside, line, name, field, twice, 1)?;
     Ok(Next::One(place, node))
 }
@@ -57,7 +57,7 @@ fn put_one<'t, 'a>(
 fn put_many<'t, 'a>(
     walker: &mut Walker<'t, 'a>,
     opened: &Open<'t, 'a>,
-    place: Place<'a>,
+    place: FieldAt<'a>,
     twice: bool,
     count: usize,
     nodes: &'t [NodeTree<'a>],
@@ -71,7 +71,7 @@ fn put_many<'t, 'a>(
         (shown.shown walker.old)) result walker.new opened.now }
     ensures sound { OpenSound result walker.new opened.now }
 {
-    let Place { line, name, field } = place;
+    let FieldAt { line, name, field } = place;
     meet_value(walker, &opened.inside, line, name, field, twice, count)?;
     Ok(Next::List(place, nodes))
 }
@@ -81,7 +81,7 @@ fn put_plain<'t, 'a>(
     alloc: Global,
     walker: &mut Walker<'t, 'a>,
     opened: &mut Open<'t, 'a>,
-    place: Place<'a>,
+    place: FieldAt<'a>,
     twice: bool,
     value: &'a RawValue<NodeText>,
 ) -> Result<Next<'t, 'a>, ExpandFault>
@@ -94,7 +94,7 @@ fn put_plain<'t, 'a>(
         (shown.shown walker.old)) result walker.new opened.new }
     ensures sound { OpenSound result walker.new opened.new }
 {
-    let Place { line, name, field } = place;
+    let FieldAt { line, name, field } = place;
     meet_value(
         walker,
         &opened.inside,
@@ -114,7 +114,7 @@ fn put_given<'t, 'a>(
     alloc: Global,
     walker: &mut Walker<'t, 'a>,
     opened: &mut Open<'t, 'a>,
-    place: Place<'a>,
+    place: FieldAt<'a>,
     twice: bool,
     given: &'t FieldTree<'a>,
 ) -> Result<Next<'t, 'a>, ExpandFault>
@@ -128,7 +128,7 @@ fn put_given<'t, 'a>(
         walker.new opened.new }
     ensures sound { OpenSound result walker.new opened.new }
 {
-    let Place { line, name, field } = place;
+    let FieldAt { line, name, field } = place;
     let at = opened.at;
     let inside = &mut opened.inside;
     match given {
@@ -172,7 +172,7 @@ fn put_field<'t, 'a>(
         alloc,
         walker,
         opened,
-        Place { line, name, field },
+        FieldAt { line, name, field },
         twice,
         given,
     )
@@ -195,7 +195,7 @@ fn put_declaration<'t, 'a>(
     ensures sound { OpenSound result walker.new opened.new }
 {
     let Declared { field, twice } = declare(&mut opened.inside, declaration)?;
-    let place = Place {
+    let place = FieldAt {
         line: declaration.line,
         name: &declaration.name,
         field,
@@ -281,7 +281,7 @@ pub fn next_item<'t, 'a>(
 pub fn set_value<'t, 'a>(
     alloc: Global,
     opened: &mut Open<'t, 'a>,
-    place: Place<'a>,
+    place: FieldAt<'a>,
     value: RawValue<u32>,
 ) -> Result<(), AllocError>
     requires inside { braces.Sound opened.old.inside }
@@ -291,6 +291,6 @@ pub fn set_value<'t, 'a>(
         ≡ doing (open_does ps opened.new (inside_now ps opened.new)) s) }
     ensures sound { IfOk result (λ _. braces.Sound opened.new.inside) }
 {
-    let Place { line, name, field } = place;
+    let FieldAt { line, name, field } = place;
     keep_value(alloc, &mut opened.inside, line, name, field, value)
 }

@@ -49,7 +49,7 @@ pub struct Filling<'t, 'a> {
 
 /// The body of an instance: its first node so far, and the statements that are left.
 #[derive(Drop)]
-pub struct Body<'t, 'a> {
+pub struct ProtoBody<'t, 'a> {
     pub rest: &'t [BodyTree<'a>],
     pub first: Option<u32>,
     pub around: Box<Around<'t, 'a>>,
@@ -57,7 +57,7 @@ pub struct Body<'t, 'a> {
 
 /// The field whose value it is.
 #[derive(Clone, Copy)]
-pub struct Place<'a> {
+pub struct FieldAt<'a> {
     pub line: u32,
     pub name: &'a Text,
     pub field: KnownField,
@@ -73,7 +73,7 @@ pub enum Holder<'t, 'a> {
 /// A list of nodes in a field: those that are left, and the numbers of those before.
 #[derive(Drop)]
 pub struct Listing<'t, 'a> {
-    pub place: Place<'a>,
+    pub place: FieldAt<'a>,
     pub rest: &'t [NodeTree<'a>],
     pub numbers: Items<u32>,
 }
@@ -84,9 +84,9 @@ pub enum Next<'t, 'a> {
     /// The next thing.
     On,
     /// A field's value is that node.
-    One(Place<'a>, &'t NodeTree<'a>),
+    One(FieldAt<'a>, &'t NodeTree<'a>),
     /// It is a list of those.
-    List(Place<'a>, &'t [NodeTree<'a>]),
+    List(FieldAt<'a>, &'t [NodeTree<'a>]),
     /// Nothing is left.
     Closed,
 }
@@ -95,19 +95,19 @@ pub enum Next<'t, 'a> {
 #[derive(Drop)]
 pub enum Frame<'t, 'a> {
     /// The field that is this node.
-    One(Holder<'t, 'a>, Place<'a>),
+    One(Holder<'t, 'a>, FieldAt<'a>),
     /// The list in which this node is next.
     List(Holder<'t, 'a>, Listing<'t, 'a>),
     /// The body whose statement is this node.
-    Body(Body<'t, 'a>),
+    Body(ProtoBody<'t, 'a>),
 }
 
 /// What is to be done next.
 #[derive(Drop)]
-pub enum Task<'t, 'a> {
+pub enum NodeTask<'t, 'a> {
     On(Holder<'t, 'a>),
     List(Holder<'t, 'a>, Listing<'t, 'a>),
-    Body(Body<'t, 'a>),
+    Body(ProtoBody<'t, 'a>),
     /// A node whose number this frame waits for.
     NodeFor(Frame<'t, 'a>, &'t NodeTree<'a>),
     /// The last frame has the number that it waits for.
@@ -116,7 +116,7 @@ pub enum Task<'t, 'a> {
 
 /// All that the walk holds.
 #[derive(Drop)]
-pub struct Machine<'t, 'a> {
+pub struct WalkState<'t, 'a> {
     pub protos: &'t [Proto<'t, 'a>],
     pub walker: Walker<'t, 'a>,
     pub frames: Vec<Frame<'t, 'a>>,

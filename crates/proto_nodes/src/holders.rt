@@ -12,7 +12,7 @@ use crate::bodies::begin_body;
 use crate::braces::close_braces;
 use crate::defaults::{fill, next_default};
 use crate::fields::{next_item, set_value};
-use crate::frames::{Filling, Frame, Holder, Listing, Next, Open, Place, Proto, Task};
+use crate::frames::{FieldAt, Filling, Frame, Holder, Listing, Next, NodeTask, Open, Proto};
 use classic_tree::RawValue;
 use proto_flat::ExpandFault;
 use proto_tree::NodeTree;
@@ -36,7 +36,7 @@ fn close<'t, 'a>(
     walker: &mut Walker<'t, 'a>,
     protos: &'t [Proto<'t, 'a>],
     holder: Holder<'t, 'a>,
-) -> Result<Task<'t, 'a>, ExpandFault>
+) -> Result<NodeTask<'t, 'a>, ExpandFault>
     requires walker { shown.Sound walker.old }
     requires holder { HolderSound holder }
     requires done { HolderFits holder Next.Closed }
@@ -47,12 +47,12 @@ fn close<'t, 'a>(
 {
     match holder {
         Holder::Braces(opened) => close_braces(alloc, walker, protos, opened),
-        Holder::Defaults(filling) => Ok(Task::Body(begin_body(walker, filling))),
+        Holder::Defaults(filling) => Ok(NodeTask::Body(begin_body(walker, filling))),
     }
 }
 
 /// A list of these nodes begins.
-fn listing<'t, 'a>(alloc: Global, place: Place<'a>, nodes: &'t [NodeTree<'a>]) -> Listing<'t, 'a>
+fn listing<'t, 'a>(alloc: Global, place: FieldAt<'a>, nodes: &'t [NodeTree<'a>]) -> Listing<'t, 'a>
     ensures place { result.place ≡ place.entry }
     ensures rest { result.rest ≡ nodes.entry }
     ensures numbers { result.numbers ≡ [] }
@@ -71,7 +71,7 @@ fn begin_next<'t, 'a>(
     protos: &'t [Proto<'t, 'a>],
     holder: Holder<'t, 'a>,
     next: Next<'t, 'a>,
-) -> Result<Task<'t, 'a>, ExpandFault>
+) -> Result<NodeTask<'t, 'a>, ExpandFault>
     requires walker { shown.Sound walker.old }
     requires holder { HolderSound holder }
     requires fits { HolderFits holder next }
@@ -82,9 +82,9 @@ fn begin_next<'t, 'a>(
     ensures walker { IfOk result (λ _. shown.Sound walker.new) }
 {
     match next {
-        Next::On => Ok(Task::On(holder)),
-        Next::One(place, node) => Ok(Task::NodeFor(Frame::One(holder, place), node)),
-        Next::List(place, nodes) => Ok(Task::List(holder, listing(alloc, place, nodes))),
+        Next::On => Ok(NodeTask::On(holder)),
+        Next::One(place, node) => Ok(NodeTask::NodeFor(Frame::One(holder, place), node)),
+        Next::List(place, nodes) => Ok(NodeTask::List(holder, listing(alloc, place, nodes))),
         Next::Closed => close(alloc, walker, protos, holder),
     }
 }
@@ -96,7 +96,7 @@ fn proceed<'t, 'a>(
     protos: &'t [Proto<'t, 'a>],
     holder: Holder<'t, 'a>,
     next: Result<Next<'t, 'a>, ExpandFault>,
-) -> Result<Task<'t, 'a>, ExpandFault>
+) -> Result<NodeTask<'t, 'a>, ExpandFault>
     requires { HolderGoesSound next walker.old holder }
     ensures goes { (ps : List Prototype) (outcome : Comes ℕ) → Knows ps protos.now
         → HolderGoes ps outcome next.entry walker.old holder.entry
@@ -119,7 +119,7 @@ fn go_on_braces<'t, 'a>(
     walker: &mut Walker<'t, 'a>,
     protos: &'t [Proto<'t, 'a>],
     opened: Open<'t, 'a>,
-) -> Result<Task<'t, 'a>, ExpandFault>
+) -> Result<NodeTask<'t, 'a>, ExpandFault>
     requires walker { shown.Sound walker.old }
     requires holder { HolderSound (Holder.Braces opened) }
     ensures goes { (ps : List Prototype) → Knows ps protos.now → Goes ps
@@ -139,7 +139,7 @@ fn go_on_defaults<'t, 'a>(
     walker: &mut Walker<'t, 'a>,
     protos: &'t [Proto<'t, 'a>],
     filling: Filling<'t, 'a>,
-) -> Result<Task<'t, 'a>, ExpandFault>
+) -> Result<NodeTask<'t, 'a>, ExpandFault>
     requires walker { shown.Sound walker.old }
     requires holder { HolderSound (Holder.Defaults filling) }
     ensures goes { (ps : List Prototype) → Knows ps protos.now → Goes ps
@@ -165,7 +165,7 @@ pub fn go_on<'t, 'a>(
     walker: &mut Walker<'t, 'a>,
     protos: &'t [Proto<'t, 'a>],
     holder: Holder<'t, 'a>,
-) -> Result<Task<'t, 'a>, ExpandFault>
+) -> Result<NodeTask<'t, 'a>, ExpandFault>
     requires walker { shown.Sound walker.old }
     requires holder { HolderSound holder }
     ensures goes { (ps : List Prototype) → Knows ps protos.now → Goes ps
@@ -183,9 +183,9 @@ pub fn go_on<'t, 'a>(
 fn keep_braces<'t, 'a>(
     alloc: Global,
     opened: Open<'t, 'a>,
-    place: Place<'a>,
+    place: FieldAt<'a>,
     value: RawValue<u32>,
-) -> Result<Task<'t, 'a>, ExpandFault>
+) -> Result<NodeTask<'t, 'a>, ExpandFault>
     requires holder { HolderSound (Holder.Braces opened) }
     requires free { IsFree (Holder.Braces opened) place.name.now }
     ensures goes { (ps : List Prototype) (s : State) → Goes ps
@@ -194,7 +194,7 @@ fn keep_braces<'t, 'a>(
 {
     let mut opened = opened;
     match set_value(alloc, &mut opened, place, value) {
-        Ok(()) => Ok(Task::On(Holder::Braces(opened))),
+        Ok(()) => Ok(NodeTask::On(Holder::Braces(opened))),
         Err(error) => {
             drop(opened);
             Err(ExpandFault::from(error))
@@ -206,9 +206,9 @@ fn keep_braces<'t, 'a>(
 fn keep_defaults<'t, 'a>(
     alloc: Global,
     filling: Filling<'t, 'a>,
-    place: Place<'a>,
+    place: FieldAt<'a>,
     value: RawValue<u32>,
-) -> Result<Task<'t, 'a>, ExpandFault>
+) -> Result<NodeTask<'t, 'a>, ExpandFault>
     requires holder { HolderSound (Holder.Defaults filling) }
     requires free { IsFree (Holder.Defaults filling) place.name.now }
     ensures goes { (ps : List Prototype) (s : State) → Goes ps
@@ -217,7 +217,7 @@ fn keep_defaults<'t, 'a>(
 {
     let mut filling = filling;
     match fill(alloc, &mut filling, place, value) {
-        Ok(()) => Ok(Task::On(Holder::Defaults(filling))),
+        Ok(()) => Ok(NodeTask::On(Holder::Defaults(filling))),
         Err(error) => {
             drop(filling);
             Err(ExpandFault::from(error))
@@ -229,9 +229,9 @@ fn keep_defaults<'t, 'a>(
 pub fn keep<'t, 'a>(
     alloc: Global,
     holder: Holder<'t, 'a>,
-    place: Place<'a>,
+    place: FieldAt<'a>,
     value: RawValue<u32>,
-) -> Result<Task<'t, 'a>, ExpandFault>
+) -> Result<NodeTask<'t, 'a>, ExpandFault>
     requires holder { HolderSound holder }
     requires free { IsFree holder place.name.now }
     ensures goes { (ps : List Prototype) (s : State) → Goes ps
@@ -263,7 +263,7 @@ pub fn next_in_list<'t, 'a>(
     alloc: Global,
     holder: Holder<'t, 'a>,
     listing: Listing<'t, 'a>,
-) -> Result<Task<'t, 'a>, ExpandFault>
+) -> Result<NodeTask<'t, 'a>, ExpandFault>
     requires holder { HolderSound holder }
     requires free { IsFree holder listing.place.name.now }
     ensures goes { (ps : List Prototype) (s : State) → Goes ps (list_comes ps holder.entry
@@ -276,7 +276,7 @@ pub fn next_in_list<'t, 'a>(
     };
     let mut listing = listing;
     set_rest(&mut listing, rest);
-    Ok(Task::NodeFor(Frame::List(holder, listing), node))
+    Ok(NodeTask::NodeFor(Frame::List(holder, listing), node))
 }
 
 /// The list has one number more.
@@ -294,7 +294,7 @@ pub fn add_number<'t, 'a>(
     holder: Holder<'t, 'a>,
     listing: Listing<'t, 'a>,
     number: u32,
-) -> Result<Task<'t, 'a>, ExpandFault>
+) -> Result<NodeTask<'t, 'a>, ExpandFault>
     requires holder { HolderSound holder }
     requires free { IsFree holder listing.place.name.now }
     ensures goes { (ps : List Prototype) (s : State) → Goes ps (list_comes ps holder.entry
@@ -303,7 +303,7 @@ pub fn add_number<'t, 'a>(
     ensures sound { IfOk result (λ t. TaskSound t) }
 {
     match longer(listing, number) {
-        Ok(listing) => Ok(Task::List(holder, listing)),
+        Ok(listing) => Ok(NodeTask::List(holder, listing)),
         Err(error) => {
             drop(holder);
             Err(ExpandFault::from(error))

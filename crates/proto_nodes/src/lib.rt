@@ -9,5 +9,5 @@ mod frames;
 mod holders;
 mod nodes;
 
-pub use frames::{Frame, Machine, Proto, Task};
+pub use frames::{Frame, NodeTask, Proto, WalkState};
 pub use nodes::put_node;

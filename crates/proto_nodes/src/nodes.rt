@@ -11,7 +11,7 @@ ghost use Rattle.proto_nodes.specs.Frames.{AllGoes, Ends, FrameSound, Goes, Mach
 
 use crate::bodies::{hold, next_statement};
 use crate::braces::begin;
-use crate::frames::{Frame, Machine, Task};
+use crate::frames::{Frame, NodeTask, WalkState};
 use crate::holders::{add_number, go_on, keep, next_in_list};
 use classic_tree::RawValue;
 use proto_flat::{ExpandFault, ExpandFaultKind};
@@ -22,10 +22,10 @@ use std::mem;
 /// The frame has the number that it waits for.
 fn give<'t, 'a>(
     alloc: Global,
-    machine: &mut Machine<'t, 'a>,
+    machine: &mut WalkState<'t, 'a>,
     frame: Frame<'t, 'a>,
     number: u32,
-) -> Result<Task<'t, 'a>, ExpandFault>
+) -> Result<NodeTask<'t, 'a>, ExpandFault>
     requires machine { MachineSound machine.old }
     requires frame { FrameSound frame }
     ensures goes { (ps : List Prototype) → Goes ps
@@ -46,10 +46,10 @@ fn give<'t, 'a>(
 /// The node begins, and the frame waits for its number.
 fn wait<'t, 'a>(
     alloc: Global,
-    machine: &mut Machine<'t, 'a>,
+    machine: &mut WalkState<'t, 'a>,
     frame: Frame<'t, 'a>,
     node: &'t NodeTree<'a>,
-) -> Result<Task<'t, 'a>, ExpandFault>
+) -> Result<NodeTask<'t, 'a>, ExpandFault>
     requires machine { MachineSound machine.old }
     requires frame { FrameSound frame }
     ensures goes { (ps : List Prototype) → Knows ps machine.old.protos.now → AllGoes ps
@@ -68,9 +68,9 @@ fn wait<'t, 'a>(
 /// The next step of what is to be done.
 fn step<'t, 'a>(
     alloc: Global,
-    machine: &mut Machine<'t, 'a>,
-    task: Task<'t, 'a>,
-) -> Result<Task<'t, 'a>, ExpandFault>
+    machine: &mut WalkState<'t, 'a>,
+    task: NodeTask<'t, 'a>,
+) -> Result<NodeTask<'t, 'a>, ExpandFault>
     requires machine { MachineSound machine.old }
     requires task { TaskSound task }
     ensures goes { (ps : List Prototype) → Knows ps machine.old.protos.now → AllGoes ps
@@ -80,23 +80,24 @@ fn step<'t, 'a>(
     ensures protos { machine.new.protos ≡ machine.old.protos }
 {
     match task {
-        Task::On(holder) => go_on(alloc, &mut machine.walker, machine.protos, holder),
-        Task::List(holder, listing) => next_in_list(alloc, holder, listing),
-        Task::Body(body) => next_statement(alloc, &mut machine.walker, body),
-        Task::NodeFor(frame, node) => wait(alloc, machine, frame, node),
-        Task::Number(number) => match machine.frames.pop() {
-            None => Ok(Task::Number(number)),
+        NodeTask::On(holder) => go_on(alloc, &mut machine.walker, machine.protos, holder),
+        NodeTask::List(holder, listing) => next_in_list(alloc, holder, listing),
+        NodeTask::Body(body) => next_statement(alloc, &mut machine.walker, body),
+        NodeTask::NodeFor(frame, node) => wait(alloc, machine, frame, node),
+        NodeTask::Number(number) => match machine.frames.pop() {
+            None => Ok(NodeTask::Number(number)),
             Some(frame) => give(alloc, machine, frame, number),
         },
     }
 }
 
 /// The number, if nothing is left to be done.
-fn result_of(machine: &Machine<'_, '_>, task: &Task<'_, '_>) -> Option<u32>
-    ensures { IfSome result (λ n. (task.now ≡ Task.Number n) × (machine.now.frames.items ≡ [])) }
+fn result_of(machine: &WalkState<'_, '_>, task: &NodeTask<'_, '_>) -> Option<u32>
+    ensures { IfSome result (λ n.
+        (task.now ≡ NodeTask.Number n) × (machine.now.frames.items ≡ [])) }
 {
     match task {
-        Task::Number(number) if machine.frames.is_empty() => Some(*number),
+        NodeTask::Number(number) if machine.frames.is_empty() => Some(*number),
         _ => None,
     }
 }
@@ -104,8 +105,8 @@ fn result_of(machine: &Machine<'_, '_>, task: &Task<'_, '_>) -> Option<u32>
 /// One step: what is to be done next stands in the place of the task.
 fn step_on<'t, 'a>(
     alloc: Global,
-    machine: &mut Machine<'t, 'a>,
-    task: &mut Task<'t, 'a>,
+    machine: &mut WalkState<'t, 'a>,
+    task: &mut NodeTask<'t, 'a>,
 ) -> Result<(), ExpandFault>
     requires machine { MachineSound machine.old }
     requires task { TaskSound task.old }
@@ -115,7 +116,7 @@ fn step_on<'t, 'a>(
     ensures machine { IfOk result (λ _. MachineSound machine.new) }
     ensures protos { machine.new.protos ≡ machine.old.protos }
 {
-    let begun = mem::replace(task, Task::Number(0));
+    let begun = mem::replace(task, NodeTask::Number(0));
     let next = step(alloc, machine, begun)?;
     drop(mem::replace(task, next));
     Ok(())
@@ -123,8 +124,8 @@ fn step_on<'t, 'a>(
 
 fn run<'t, 'a>(
     alloc: Global,
-    machine: &mut Machine<'t, 'a>,
-    task: &mut Task<'t, 'a>,
+    machine: &mut WalkState<'t, 'a>,
+    task: &mut NodeTask<'t, 'a>,
 ) -> Result<u32, ExpandFault>
     requires machine { MachineSound machine.old }
     requires task { TaskSound task.old }
@@ -146,7 +147,7 @@ fn run<'t, 'a>(
 /// Puts a node in with all that is inside, and gives its number.
 pub fn put_node<'t, 'a>(
     alloc: Global,
-    machine: &mut Machine<'t, 'a>,
+    machine: &mut WalkState<'t, 'a>,
     node: &'t NodeTree<'a>,
 ) -> Result<u32, ExpandFault>
     requires machine { MachineSound machine.old }

@@ -21,11 +21,11 @@ use Rattle.proto_tree.specs.declared.tree.ProtoTree.{ProtoTree}
 use Rattle.proto_tree.specs.Resolved.{Seen}
 use Rattle.proto_resolver.specs.declared.scopes.KnownProto.{KnownProto}
 use Rattle.proto_resolver.specs.declared.scopes.Table.{Table}
-use Rattle.proto_resolver.specs.declared.scopes.Taken.{Taken}
+use Rattle.proto_resolver.specs.declared.scopes.TakenNames.{TakenNames}
 use Rattle.proto_resolver.specs.declared.resolver.Resolver.{Resolver}
 use Rattle.proto_resolver.specs.Held.{Entries, with_entry, found, seen}
 use Rattle.proto_resolver.specs.Standing.{Extends, IsOf, TreesStand, Means, Shows}
-use Rattle.proto_resolver.specs.Steps.{IsOpened}
+use Rattle.proto_resolver.specs.Steps.{IsScopeOpen}
 use Rattle.proto_resolver.proofs.Names.{or_means}
 use Rattle.proto_resolver.proofs.Standing.{extends_then, extends_one}
 
@@ -118,7 +118,7 @@ seen_one (t ∷ ts) here name = ap (λ o. option_or o (found t name)) (seen_one 
   or_assoc None b c = refl
   or_assoc (Some x) b c = refl
 
-pub shows_opened : (ps : List Prototype) (old : Resolver) (before : Taken) (new : Resolver) (s : Sight) → IsOpened old before new → Shows ps old.scopes s → Shows ps new.scopes (opened s)
+pub shows_opened : (ps : List Prototype) (old : Resolver) (before : TakenNames) (new : Resolver) (s : Sight) → IsScopeOpen old before new → Shows ps old.scopes s → Shows ps new.scopes (opened s)
 shows_opened ps old before new s o h = record {
   here = λ name. subst (λ (f : Entries). Means ps (f name) None) (sym o.here) tt;
   outside = λ name. subst (λ (ts : List Table). Means ps (seen ts name) (declared name (s.here ++ s.outside))) (sym o.outside)

@@ -18,19 +18,19 @@ use Rattle.proto_tree.proofs.Prototypes.{prototypes_are_the_same}
 use Rattle.proto_resolver.specs.declared.scopes.KnownProto.{KnownProto}
 use Rattle.proto_resolver.specs.declared.scopes.Scopes.{Scopes}
 use Rattle.proto_resolver.specs.declared.scopes.Table.{Table}
-use Rattle.proto_resolver.specs.declared.scopes.Taken.{Taken}
+use Rattle.proto_resolver.specs.declared.scopes.TakenNames.{TakenNames}
 use Rattle.proto_resolver.specs.declared.resolver.Resolver.{Resolver}
 use Rattle.proto_resolver.specs.Held.{Entries, with_entry, names_of, takes_of, found, seen}
 use Rattle.proto_resolver.specs.Standing.{Extends, IsOf, TreesStand, Means, Shows, Ends, LeadsTo, Resolves}
-use Rattle.proto_resolver.specs.Steps.{IsOpened, IsClosed, IsDeclared, defaults_taken}
+use Rattle.proto_resolver.specs.Steps.{IsScopeOpen, IsClosed, IsDeclared, defaults_taken}
 use Rattle.proto_resolver.specs.Parts.{IsInterior}
 use Rattle.proto_resolver.proofs.Standing.{extends_none, extends_then, extends_one, means_more, shows_more, stands_moved}
 use Rattle.proto_resolver.proofs.Declared.{last_one, stands_one, means_one, shows_opened, sees_right, unknown}
 
 -- ---- something inside is wrong
 
-wrong_entered : (p : ProtoText) (old start new : Resolver) (before : Taken) (x : ExpandFault) (defaults : List DefaultTree) (body : List BodyTree)
-    → ((ps : List Prototype) (s : Sight) → Shows ps old.scopes s → checked p s ≡ Ok tt) → IsOpened old before start
+wrong_entered : (p : ProtoText) (old start new : Resolver) (before : TakenNames) (x : ExpandFault) (defaults : List DefaultTree) (body : List BodyTree)
+    → ((ps : List Prototype) (s : Sight) → Shows ps old.scopes s → checked p s ≡ Ok tt) → IsScopeOpen old before start
     → Resolves start new (Some x) (λ ps s r. IsInterior ps p defaults body s r) → Resolves old new (Some x) (λ ps s r. (flat.proto p).sees s ≡ r)
 wrong_entered p old start new before x defaults body right o does ps s stands shows =
     let e = does ps (opened s) (stands_moved ps old.protos start.protos o.protos stands) (shows_opened ps old before start s o shows) in
@@ -48,8 +48,8 @@ wrong_entered p old start new before x defaults body right o does ps s stands sh
         is = λ all k. sees_right p s (Err z) (right ps s shows) (inside all k).sees;
       }
 
-pub stopped : (p : ProtoText) (old start new : Resolver) (before : Taken) (wrong : Option ExpandFault) (defaults : List DefaultTree) (body : List BodyTree) → is_some wrong ≡ true
-    → ((ps : List Prototype) (s : Sight) → Shows ps old.scopes s → checked p s ≡ Ok tt) → IsOpened old before start
+pub stopped : (p : ProtoText) (old start new : Resolver) (before : TakenNames) (wrong : Option ExpandFault) (defaults : List DefaultTree) (body : List BodyTree) → is_some wrong ≡ true
+    → ((ps : List Prototype) (s : Sight) → Shows ps old.scopes s → checked p s ≡ Ok tt) → IsScopeOpen old before start
     → Resolves start new wrong (λ ps s r. IsInterior ps p defaults body s r) → Resolves old new wrong (λ ps s r. (flat.proto p).sees s ≡ r)
 stopped p old start new before None defaults body e right o does = absurd (true≢false (sym e))
 stopped p old start new before (Some x) defaults body e right o does = wrong_entered p old start new before x defaults body right o does
@@ -106,9 +106,9 @@ shows_one ps own entry old new s q named fresh number takes here outside taken h
   taken = taken;
 }
 
-module _ (p : Bor ProtoText) (old start inner mid new : Resolver) (before taken : Taken) (defaults : List DefaultTree) (body : List BodyTree) where
+module _ (p : Bor ProtoText) (old start inner mid new : Resolver) (before taken : TakenNames) (defaults : List DefaultTree) (body : List BodyTree) where
   declared_one : (ps more : List Prototype) (s u : Sight) → Shows ps old.scopes s → Extends ps more → TreesStand more inner.protos → checked p.now s ≡ Ok tt
-      → IsOpened old before start → IsClosed old.scopes.outside.items old.scopes.here before taken inner mid → IsDeclared p defaults body (names_of taken) mid new
+      → IsScopeOpen old before start → IsClosed old.scopes.outside.items old.scopes.here before taken inner mid → IsDeclared p defaults body (names_of taken) mid new
       → names_of inner.scopes.takes ≡ u.taken
       → ((all : List Prototype) → Extends more all → IsInterior all p.now defaults body (opened s) (Ok u))
       → LeadsTo ps s old new None (λ ps s r. (flat.proto p.now).sees s ≡ r)
@@ -135,7 +135,7 @@ module _ (p : Bor ProtoText) (old start inner mid new : Resolver) (before taken 
         is = λ all y. sees_right p.now s (Ok u) right (inside all (extends_then more (more ++ q ∷ []) all (λ n z. extends_one more q n z) y)).sees;
       }
 
-  pub entered : ((ps : List Prototype) (s : Sight) → Shows ps old.scopes s → checked p.now s ≡ Ok tt) → IsOpened old before start
+  pub entered : ((ps : List Prototype) (s : Sight) → Shows ps old.scopes s → checked p.now s ≡ Ok tt) → IsScopeOpen old before start
       → Resolves start inner None (λ ps s r. IsInterior ps p.now defaults body s r)
       → ((outer : List Table) (around : Table) → inner.scopes.outside.items ≡ outer ++ around ∷ [] → IsClosed outer around before taken inner mid)
       → IsDeclared p defaults body (names_of taken) mid new

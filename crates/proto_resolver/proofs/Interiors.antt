@@ -8,7 +8,7 @@ use Rattle.classic_tree.specs.declared.tree.NodeText.{NodeText}
 use Rattle.classic_tree.specs.declared.tree.ProtoText.{ProtoText, out-ProtoText}
 use Rattle.classic_tree.specs.declared.tree.Statement.{Statement}
 use Rattle.proto_flat.specs.declared.fault.ExpandFault.{ExpandFault}
-use Rattle.proto_meaning.specs.Sight.{Names, Prototype, Sight, Step, no_names, and_see, each}
+use Rattle.proto_meaning.specs.Sight.{Names, Prototype, Sight, Look, no_names, and_see, each}
 use Rattle.proto_meaning.specs.Flat as flat
 use Rattle.proto_sight.specs.Texts as texts
 use Rattle.proto_sight.specs.Texts.{sees_inside}
@@ -19,7 +19,7 @@ use Rattle.proto_tree.specs.declared.tree.DefaultTree.{DefaultTree}
 use Rattle.proto_tree.specs.Resolved as rule
 use Rattle.proto_tree.specs.Resolved.{Seen, wrong_in, is_value, IsGiven, AreStatements, AreDefaults}
 use Rattle.proto_tree.proofs.Same.{in_bared, never}
-use Rattle.proto_resolver.specs.declared.scopes.Taken.{Taken}
+use Rattle.proto_resolver.specs.declared.scopes.TakenNames.{TakenNames}
 use Rattle.proto_resolver.specs.declared.resolver.Resolver.{Resolver}
 use Rattle.proto_resolver.specs.declared.scopes.Table.{Table}
 use Rattle.proto_tree.specs.declared.tree.ProtoTree.{ProtoTree}
@@ -32,7 +32,7 @@ use Rattle.proto_resolver.proofs.Steps.{given_seen, given_left, statements_seen,
 
 -- ---- default values
 
-abbrev default_sees : Declaration NodeText → Step
+abbrev default_sees : Declaration NodeText → Look
 default_sees d = texts.sees_given d.given
 
 pub no_defaults : (ps : List Prototype) (s : Sight) → AreAllDefaults ps [] [] s (Ok s)
@@ -77,7 +77,7 @@ defaults_aside ps ds ts s (Err x) h = record {
   are = λ u e. never u x e;
 }
 
-pub interface_aside : (old start inner new : Resolver) (before : Taken) (wrong : Option ExpandFault) (ds : List (Declaration NodeText)) (ts : List DefaultTree)
+pub interface_aside : (old start inner new : Resolver) (before : TakenNames) (wrong : Option ExpandFault) (ds : List (Declaration NodeText)) (ts : List DefaultTree)
     → IsAside old before start → Resolves start inner wrong (λ ps s r. AreAllDefaults ps ds ts s r) → IsBack inner before new
     → Resolves old new wrong (λ ps s r. AreDefaultsAside ps ds ts s r)
 interface_aside old start inner new before wrong ds ts =

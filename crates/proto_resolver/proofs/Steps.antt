@@ -37,7 +37,7 @@ use Rattle.proto_tree.specs.Resolved.{Seen, wrong_in, given_sees, is_plain, IsNo
 use Rattle.proto_tree.proofs.Given.{sees_given}
 use Rattle.proto_tree.proofs.Statements.{put_root, puts_roots}
 use Rattle.proto_tree.proofs.Whole.{given_means, statements_mean}
-use Rattle.proto_resolver.specs.declared.scopes.Taken.{Taken}
+use Rattle.proto_resolver.specs.declared.scopes.TakenNames.{TakenNames}
 use Rattle.proto_resolver.specs.declared.scopes.Taker.{Taker}
 use Rattle.proto_resolver.specs.declared.resolver.Resolver.{Resolver}
 use Rattle.proto_resolver.specs.Held.{seen, taken_names}
@@ -134,7 +134,7 @@ is_given old new name taking ps s stands shows =
 abbrev pub taken_again : Names → Seen → Seen
 taken_again taken q = and_see q (λ t. Ok (record t { taken = taken }))
 
-aside_ends : (ps : List Prototype) (old start inner new : Resolver) (before : Taken) (wrong : Option ExpandFault) (s : Sight) (q : Seen) → IsAside old before start → IsBack inner before new → Shows ps old.scopes s → Ends ps start inner wrong q
+aside_ends : (ps : List Prototype) (old start inner new : Resolver) (before : TakenNames) (wrong : Option ExpandFault) (s : Sight) (q : Seen) → IsAside old before start → IsBack inner before new → Shows ps old.scopes s → Ends ps start inner wrong q
     → Ends ps old new wrong (taken_again s.taken q)
 aside_ends ps old start inner new before None s (Ok u) a b shows h =
     (shows_moved ps inner.scopes new.scopes u s.taken b.here b.outside (b.takes ∙ a.kept ∙ shows.taken) h.0, b.outside ∙ h.1 ∙ a.outside)
@@ -142,7 +142,7 @@ aside_ends ps old start inner new before None s (Err e) a b shows h = absurd h
 aside_ends ps old start inner new before (Some x) s (Ok u) a b shows h = absurd h
 aside_ends ps old start inner new before (Some x) s (Err e) a b shows h = h
 
-pub set_aside : (old start inner new : Resolver) (before : Taken) (wrong : Option ExpandFault) (h k : List Prototype → Sight → Seen → Type 0)
+pub set_aside : (old start inner new : Resolver) (before : TakenNames) (wrong : Option ExpandFault) (h k : List Prototype → Sight → Seen → Type 0)
     → ((all : List Prototype) (s : Sight) (q : Seen) → wrong ≡ wrong_in q → h all (record s { taken = no_names }) q → k all s (and_see q (λ t. Ok (record t { taken = s.taken }))))
     → IsAside old before start → Resolves start inner wrong h → IsBack inner before new → Resolves old new wrong k
 set_aside old start inner new before wrong h k w a does b ps s stands shows =
@@ -160,7 +160,7 @@ again_wrong : (taken : Names) (wrong : Option ExpandFault) (q : Seen) → wrong 
 again_wrong taken wrong (Ok u) e = e
 again_wrong taken wrong (Err x) e = e
 
-pub left_out : (old start inner new : Resolver) (before : Taken) (wrong : Option ExpandFault) (v : RawValue NodeText) (t : GivenTree NodeTree)
+pub left_out : (old start inner new : Resolver) (before : TakenNames) (wrong : Option ExpandFault) (v : RawValue NodeText) (t : GivenTree NodeTree)
     → IsAside old before start → Resolves start inner wrong (λ ps s r. IsGiven ps true (given.Value v) t s r) → IsBack inner before new
     → Resolves old new wrong (λ ps s r. IsGiven ps false (given.Value v) (tree_given.LeftOut wrong) s r)
 left_out old start inner new before wrong v t =

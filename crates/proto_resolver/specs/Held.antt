@@ -8,14 +8,14 @@ use Rattle.std.specs.Ordering.{nat_cmp}
 use Rattle.std.specs.Str.{bytes_eq}
 use Rattle.proto_meaning.specs.Names.{Name}
 use Rattle.proto_meaning.specs.Sight.{Names}
-use Rattle.proto_resolver.specs.declared.scopes.Taken.{Taken}
+use Rattle.proto_resolver.specs.declared.scopes.TakenNames.{TakenNames}
 use Rattle.proto_resolver.specs.declared.scopes.Taker.{Taker}
 use Rattle.proto_resolver.specs.declared.scopes.KnownProto.{KnownProto}
 use Rattle.proto_resolver.specs.declared.scopes.Table.{Table}
 use Rattle.proto_resolver.specs.declared.scopes.Scopes.{Scopes}
 
 -- the set as a function
-unfoldable pub names_of : Taken → Names
+unfoldable pub names_of : TakenNames → Names
 names_of taken name = contains_by (λ k. slice_cmp nat_cmp name k.now) taken.names
 
 abbrev pub taken_names : Taker → Option Names

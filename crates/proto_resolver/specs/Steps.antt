@@ -9,12 +9,12 @@ use Rattle.proto_tree.specs.declared.tree.BodyTree.{BodyTree}
 use Rattle.proto_tree.specs.declared.tree.DefaultTree.{DefaultTree}
 use Rattle.proto_resolver.specs.declared.scopes.KnownProto.{KnownProto}
 use Rattle.proto_resolver.specs.declared.scopes.Table.{Table}
-use Rattle.proto_resolver.specs.declared.scopes.Taken.{Taken}
+use Rattle.proto_resolver.specs.declared.scopes.TakenNames.{TakenNames}
 use Rattle.proto_resolver.specs.declared.resolver.Resolver.{Resolver}
 use Rattle.proto_resolver.specs.Held.{names_of, takes_of, found, no_entries, with_entry}
 
 -- nothing is taken so far; before is what was
-pub record IsAside (old : Resolver) (before : Taken) (new : Resolver) : Type 0 where
+pub record IsAside (old : Resolver) (before : TakenNames) (new : Resolver) : Type 0 where
   pub kept : names_of before ≡ names_of old.scopes.takes
   pub here : found new.scopes.here ≡ found old.scopes.here
   pub outside : new.scopes.outside.items ≡ old.scopes.outside.items
@@ -22,7 +22,7 @@ pub record IsAside (old : Resolver) (before : Taken) (new : Resolver) : Type 0 w
   pub protos : new.protos ≡ old.protos
 
 -- that is taken again
-pub record IsBack (old : Resolver) (before : Taken) (new : Resolver) : Type 0 where
+pub record IsBack (old : Resolver) (before : TakenNames) (new : Resolver) : Type 0 where
   pub here : found new.scopes.here ≡ found old.scopes.here
   pub outside : new.scopes.outside.items ≡ old.scopes.outside.items
   pub takes : names_of new.scopes.takes ≡ names_of before
@@ -36,7 +36,7 @@ pub record IsTaking (name : Name) (old new : Resolver) : Type 0 where
   pub protos : new.protos ≡ old.protos
 
 -- a scope was opened; before is what the body around takes so far
-pub record IsOpened (old : Resolver) (before : Taken) (new : Resolver) : Type 0 where
+pub record IsScopeOpen (old : Resolver) (before : TakenNames) (new : Resolver) : Type 0 where
   pub kept : names_of before ≡ names_of old.scopes.takes
   pub here : found new.scopes.here ≡ no_entries
   pub outside : new.scopes.outside.items ≡ old.scopes.outside.items ++ old.scopes.here ∷ []
@@ -44,7 +44,7 @@ pub record IsOpened (old : Resolver) (before : Taken) (new : Resolver) : Type 0 
   pub protos : new.protos ≡ old.protos
 
 -- the scope around, the last of those outside, is open again; taken is what the body took
-pub record IsClosed (outer : List Table) (around : Table) (before taken : Taken)
+pub record IsClosed (outer : List Table) (around : Table) (before taken : TakenNames)
     (old new : Resolver) : Type 0 where
   pub took : names_of taken ≡ names_of old.scopes.takes
   pub here : found new.scopes.here ≡ found around

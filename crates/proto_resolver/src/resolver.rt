@@ -7,10 +7,10 @@ ghost use Rattle.proto_tree.specs.Meaning.{owner};
 ghost use Rattle.proto_resolver.specs.declared.scopes.Table.{Table};
 ghost use Rattle.proto_resolver.specs.Held.{names_of, taken_names};
 ghost use Rattle.proto_resolver.specs.Standing.{Extends, Shows};
-ghost use Rattle.proto_resolver.specs.Steps.{IsAside, IsBack, IsClosed, IsDeclared, IsOpened};
+ghost use Rattle.proto_resolver.specs.Steps.{IsAside, IsBack, IsClosed, IsDeclared, IsScopeOpen};
 ghost use Rattle.proto_resolver.specs.Steps.{IsTaking, defaults_taken};
 
-use crate::scopes::{KnownProto, Scopes, Table, Taken, Taker};
+use crate::scopes::{KnownProto, Scopes, Table, TakenNames, Taker};
 use classic_tree::ProtoText;
 use proto_flat::{ExpandFault, ExpandFaultKind};
 use proto_sight::{find_inside, has_node};
@@ -89,14 +89,14 @@ pub fn check_declaration(scopes: &Scopes<'_>, proto: &ProtoText) -> Result<(), E
 
 impl<'a> Resolver<'a> {
     /// Nothing is taken so far. Gives what was.
-    pub fn set_aside(&mut self, alloc: Global) -> Taken<'a>
+    pub fn set_aside(&mut self, alloc: Global) -> TakenNames<'a>
         ensures { IsAside self.old result self.new }
     {
-        mem::replace(&mut self.scopes.takes, Taken::new(alloc))
+        mem::replace(&mut self.scopes.takes, TakenNames::new(alloc))
     }
 
     /// That is taken again.
-    pub fn put_back(&mut self, before: Taken<'a>)
+    pub fn put_back(&mut self, before: TakenNames<'a>)
         ensures { IsBack self.old before.entry self.new }
     {
         drop(mem::replace(&mut self.scopes.takes, before));
@@ -111,16 +111,16 @@ impl<'a> Resolver<'a> {
     }
 
     /// Opens a scope. Gives what the body around takes so far.
-    pub fn open(&mut self, alloc: Global) -> Result<Taken<'a>, AllocError>
-        ensures { IfOk result (λ before. IsOpened self.old before self.new) }
+    pub fn open(&mut self, alloc: Global) -> Result<TakenNames<'a>, AllocError>
+        ensures { IfOk result (λ before. IsScopeOpen self.old before self.new) }
     {
         let here = mem::replace(&mut self.scopes.here, Table::new(alloc));
         self.scopes.outside.push(here)?;
-        Ok(mem::replace(&mut self.scopes.takes, Taken::new(alloc)))
+        Ok(mem::replace(&mut self.scopes.takes, TakenNames::new(alloc)))
     }
 
     /// The scope around is open again. Gives what the body took.
-    pub fn close(&mut self, before: Taken<'a>) -> Taken<'a>
+    pub fn close(&mut self, before: TakenNames<'a>) -> TakenNames<'a>
         ensures { (outer : List Table) (around : Table)
             → self.old.scopes.outside.items ≡ outer ++ around ∷ []
             → IsClosed outer around before.entry result self.old self.new }
@@ -151,7 +151,7 @@ fn keep<'a>(
 fn taken_defaults<'a>(
     alloc: Global,
     defaults: Items<DefaultTree<'a>>,
-    taken: &Taken<'a>,
+    taken: &TakenNames<'a>,
 ) -> Result<Items<DefaultTree<'a>>, AllocError>
     ensures { IfOk result (λ trees. trees ≡ defaults_taken (names_of taken.now) defaults.entry) }
 {
@@ -170,7 +170,7 @@ pub fn declare<'a>(
     proto: &'a ProtoText,
     defaults: Items<DefaultTree<'a>>,
     body: Items<BodyTree<'a>>,
-    taken: Taken<'a>,
+    taken: TakenNames<'a>,
 ) -> Result<(), AllocError>
     ensures { IfOk result (λ _.
         IsDeclared proto.entry defaults.entry body.entry (names_of taken.entry) resolver.old

@@ -13,7 +13,7 @@ use x3d_lists::Text;
 
 /// The names that the ISs of a body take.
 #[derive(Drop)]
-pub struct Taken<'a> {
+pub struct TakenNames<'a> {
     pub names: BTreeSet<&'a str>,
 }
 
@@ -22,14 +22,14 @@ pub struct Taken<'a> {
 #[derive(Drop)]
 pub struct Taker<'a> {
     /// Of an instance.
-    pub taken: Option<Rc<Taken<'a>>>,
+    pub taken: Option<Rc<TakenNames<'a>>>,
 }
 
 /// A prototype that was declared, by its number.
 #[derive(Drop)]
 pub struct KnownProto<'a> {
     pub number: usize,
-    pub takes: Rc<Taken<'a>>,
+    pub takes: Rc<TakenNames<'a>>,
 }
 
 /// The prototypes declared in one scope, by name.
@@ -46,14 +46,14 @@ pub struct Scopes<'a> {
     /// Those of the scopes around it, the nearest last.
     pub outside: Vec<Table<'a>>,
     /// What the body that is open takes so far.
-    pub takes: Taken<'a>,
+    pub takes: TakenNames<'a>,
 }
 
-impl<'a> Taken<'a> {
-    pub fn new(alloc: Global) -> Taken<'a>
+impl<'a> TakenNames<'a> {
+    pub fn new(alloc: Global) -> TakenNames<'a>
         ensures { names_of result ≡ no_names }
     {
-        Taken {
+        TakenNames {
             names: BTreeSet::new(alloc),
         }
     }
@@ -137,7 +137,7 @@ impl<'a> Scopes<'a> {
         Scopes {
             here: Table::new(alloc),
             outside: Vec::new(alloc),
-            takes: Taken::new(alloc),
+            takes: TakenNames::new(alloc),
         }
     }
 

@@ -12,14 +12,14 @@ use std::rc::Rc;
 /// The branches that were made. A drop of a branch drops its parts where nobody else has them,
 /// and these theirs: so each branch is kept here until none is needed, and the last goes first.
 #[derive(Drop)]
-pub struct Kept<'a> {
+pub struct Branches<'a> {
     pub ends: Vec<Rc<Ends<'a>>>,
     pub wires: Vec<Rc<Wires<'a>>>,
 }
 
-impl<'a> Kept<'a> {
-    pub fn new(alloc: Global) -> Kept<'a> {
-        Kept {
+impl<'a> Branches<'a> {
+    pub fn new(alloc: Global) -> Branches<'a> {
+        Branches {
             ends: Vec::new(alloc),
             wires: Vec::new(alloc),
         }

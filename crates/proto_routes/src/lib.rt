@@ -7,6 +7,6 @@ mod routes;
 mod wires;
 
 pub use ends::{End, Ends, both, listed, one};
-pub use kept::Kept;
+pub use kept::Branches;
 pub use routes::Wire;
 pub use wires::{Wires, both_wires, one_wire, routes_of};

@@ -14,7 +14,7 @@ ghost use Rattle.proto_joins.specs.Sides.{made_routes};
 ghost use Rattle.proto_scope.specs.Held as spec;
 ghost use Rattle.proto_scope.specs.Held.{Sound, shown};
 
-use classic_tree::{Place, RawValue, RouteText};
+use classic_tree::{RawValue, RouteEnd, RouteText};
 use proto_given::Given;
 use proto_interface::{Interface, KnownField};
 use proto_joins::{
@@ -22,7 +22,7 @@ use proto_joins::{
     routes_made,
 };
 use proto_names::Names;
-use proto_routes::{Kept, Wires};
+use proto_routes::{Branches, Wires};
 use std::alloc::{AllocError, Global};
 use std::rc::Rc;
 use x3d_lists::Text;
@@ -156,7 +156,7 @@ impl<'t, 'a> Scope<'t, 'a> {
     }
 
     /// The end of a ROUTE names the last braces of that name.
-    fn side(&self, place: &'a Place) -> Side<'a>
+    fn side(&self, place: &'a RouteEnd) -> Side<'a>
         requires { Sound self.now }
         ensures at { result.at ≡ last_from 0 place.now.node (shown self.now).braces }
         ensures field { result.field.now ≡ place.now.field }
@@ -254,7 +254,7 @@ impl<'t, 'a> Scope<'t, 'a> {
     }
 
     /// The ends of the interface's fields, once all braces are closed.
-    pub fn ends(&self, alloc: Global, kept: &mut Kept<'a>) -> Result<JoinedEnds<'a>, AllocError>
+    pub fn ends(&self, alloc: Global, kept: &mut Branches<'a>) -> Result<JoinedEnds<'a>, AllocError>
         ensures { IfOk result (λ joined. ends_in joined
             ≡ (shown self.now).ends (shown self.now).braces) }
     {
@@ -265,7 +265,7 @@ impl<'t, 'a> Scope<'t, 'a> {
     pub fn wires(
         &self,
         alloc: Global,
-        kept: &mut Kept<'a>,
+        kept: &mut Branches<'a>,
     ) -> Result<Option<Rc<Wires<'a>>>, AllocError>
         ensures { IfOk result (λ made. made_routes made
             ≡ (shown self.now).routes (shown self.now).braces) }

@@ -21,7 +21,7 @@ use Rattle.proto_flat.specs.Fault.{fault}
 use Rattle.proto_flat.specs.declared.fault.ExpandFault.{ExpandFault}
 use Rattle.proto_flat.specs.declared.fault.ExpandFaultKind.TheVariants.{ProtoTwice, EmptyBody}
 use Rattle.proto_meaning.specs.Names.{Name}
-use Rattle.proto_meaning.specs.Sight.{Names, Sight, Step, and_see, each, aside, meant, taken_by, is_kept, opened}
+use Rattle.proto_meaning.specs.Sight.{Names, Sight, Look, and_see, each, aside, meant, taken_by, is_kept, opened}
 use Rattle.proto_meaning.specs.Flat.{Item, Node, Stated, Proto, item_step, node_step, statement_step, proto_step, item, node, statement, proto, given_finds, given_sees, body_finds, body_sees, declare_body}
 use Rattle.proto_meaning.proofs.Trees.{item-field, item-declaration, item-route, item-proto, node-use, node-full, statement-node, statement-route, statement-proto}
 use Rattle.proto_sight.specs.Texts.{finds_given, finds_full, finds_inside, sees_given, sees_field, sees_full, sees_interface, sees_inside, parts, prototype_of, closed, is_known, has_node, unless_found, checked, enters, declares}
@@ -135,7 +135,7 @@ proto-searched p own hidden = ap (λ (q : Proto). q.finds own hidden) (proto-who
 pub item-field-sees : (line : ℕ) (name : Name) (g : Given NodeText) (taken : Option Names) (s : Sight) → (item (tree_item.Field line name g)).sees taken s ≡ sees_field (is_kept taken name) g s
 unfolding item_step
 item-field-sees line name g taken s = ap (λ (p : Item). p.sees taken s) (item-field line name g {h = given_mapped node g} refl)
-    ∙ ap (λ (f : Step). (if is_kept taken name then f else aside f) s) (fun_ext (λ t. given-sees g t))
+    ∙ ap (λ (f : Look). (if is_kept taken name then f else aside f) s) (fun_ext (λ t. given-sees g t))
 
 pub item-declaration-sees : (d : Declaration NodeText) (taken : Option Names) (s : Sight) → (item (tree_item.Declaration d)).sees taken s ≡ sees_given d.given s
 unfolding item_step
@@ -174,7 +174,7 @@ inside-sees : (line : ℕ) (name : Name) (interface : List (Declaration NodeText
     body_sees line name (map (interface_mapped node) interface) (map statement body) s ≡ sees_inside interface body s
 unfolding sees_inside
 inside-sees line name interface body s =
-    ap (λ (f : Step). and_see (aside f s) (each (λ (x : Stated). x.1.sees) (map statement body)))
+    ap (λ (f : Look). and_see (aside f s) (each (λ (x : Stated). x.1.sees) (map statement body)))
     (fun_ext (λ t. each-map (λ (d : Declaration Node). given_sees d.given) (λ (d : Declaration NodeText). sees_given d.given) (interface_mapped node) (λ d u. given-sees d.given u) interface t))
     ∙ and_see-congr (each (λ (x : Stated). x.1.sees) (map statement body)) (each (λ x. (statement x).1.sees) body)
     (λ t. each-map (λ (x : Stated). x.1.sees) (λ x. (statement x).1.sees) statement (λ x u. refl) body t)

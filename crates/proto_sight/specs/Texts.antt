@@ -18,7 +18,7 @@ use Rattle.proto_flat.specs.Fault.{fault}
 use Rattle.proto_flat.specs.declared.fault.ExpandFault.{ExpandFault}
 use Rattle.proto_flat.specs.declared.fault.ExpandFaultKind.TheVariants.{ProtoTwice, ProtoItself, EmptyBody}
 use Rattle.proto_meaning.specs.Names.{Name}
-use Rattle.proto_meaning.specs.Sight.{Names, with_name, Prototype, Sight, Step, Search, and_see, each, opened, aside, declared, meant, taken_by}
+use Rattle.proto_meaning.specs.Sight.{Names, with_name, Prototype, Sight, Look, Search, and_see, each, opened, aside, declared, meant, taken_by}
 use Rattle.proto_meaning.specs.Flat as flat
 use Rattle.proto_meaning.specs.Flat.{Item, Node, Stated, Proto}
 
@@ -45,27 +45,27 @@ finds_inside interface body own hidden =
 
 -- ---- what is declared and taken
 
-abbrev pub sees_value : RawValue NodeText → Step
+abbrev pub sees_value : RawValue NodeText → Look
 sees_value (value.Node n) s = (flat.node n).sees s
 sees_value (value.NodeList ns) s = each (λ n. (flat.node n).sees) ns s
 sees_value _ s = Ok s
 
-abbrev pub sees_given : Given NodeText → Step
+abbrev pub sees_given : Given NodeText → Look
 sees_given given.Nothing s = Ok s
 sees_given (given.Value v) s = sees_value v s
 sees_given (given.Is name) s = Ok (record s { taken = with_name name s.taken })
 
 -- what is kept takes names; what goes nowhere only declares
-abbrev pub sees_field : Bool → Given NodeText → Step
+abbrev pub sees_field : Bool → Given NodeText → Look
 sees_field kept g = if kept then sees_given g else aside (sees_given g)
 
-unfoldable pub sees_full : Name → List BodyItem → Step
+unfoldable pub sees_full : Name → List BodyItem → Look
 sees_full word items s = each (λ i. (flat.item i).sees (taken_by (meant word s))) items s
 
-abbrev pub sees_interface : List (Declaration NodeText) → Step
+abbrev pub sees_interface : List (Declaration NodeText) → Look
 sees_interface interface = each (λ (d : Declaration NodeText). sees_given d.given) interface
 
-unfoldable pub sees_inside : List (Declaration NodeText) → List Statement → Step
+unfoldable pub sees_inside : List (Declaration NodeText) → List Statement → Look
 sees_inside interface body s =
     and_see (aside (sees_interface interface) s) (each (λ x. (flat.statement x).1.sees) body)
 
@@ -109,11 +109,11 @@ checked p s =
     (if has_node (out-ProtoText p).body then Ok tt
     else Err (fault EmptyBody (out-ProtoText p).line))
 
-unfoldable pub enters : ProtoText → Step
+unfoldable pub enters : ProtoText → Look
 enters p s =
     and_see (sees_inside (out-ProtoText p).interface (out-ProtoText p).body (opened s)) (λ t.
     Ok (closed p s t))
 
 -- first the declaration itself, and then those inside
-unfoldable pub declares : ProtoText → Step
+unfoldable pub declares : ProtoText → Look
 declares p s = and_see (checked p s) (λ _. enters p s)

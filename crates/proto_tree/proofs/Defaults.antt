@@ -12,7 +12,7 @@ use Rattle.classic_tree.specs.declared.tree.RawValue.TheVariants as value
 use Rattle.classic_tree.proofs.Mapped.{given_mapped, interface_mapped}
 use Rattle.proto_flat.specs.declared.fault.ExpandFault.{ExpandFault}
 use Rattle.proto_meaning.specs.Names.{Filled, value_of}
-use Rattle.proto_meaning.specs.Sight.{Sight, Step, Names, Prototype, and_see, each, aside, nodes_in}
+use Rattle.proto_meaning.specs.Sight.{Sight, Look, Names, Prototype, and_see, each, aside, nodes_in}
 use Rattle.proto_meaning.specs.Sight as sight
 use Rattle.proto_meaning.specs.Flat as flat
 use Rattle.proto_meaning.specs.Flat.{Walk, Does, ◌>>=◌, pure, see, through, put_in, leave_out, Node}

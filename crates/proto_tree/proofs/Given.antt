@@ -17,7 +17,7 @@ use Rattle.proto_flat.specs.declared.fault.ExpandFaultKind.TheVariants.{BadIs, F
 use Rattle.proto_meaning.specs.Limits.{item_count}
 use Rattle.proto_meaning.specs.Names.{Name, Field, value_of}
 use Rattle.proto_meaning.specs.Sight as sight
-use Rattle.proto_meaning.specs.Sight.{Sight, Step, Prototype, Owner, OfType, OfProto, and_see, each, aside, no_names, nodes_in, taken_by, is_kept}
+use Rattle.proto_meaning.specs.Sight.{Sight, Look, Prototype, Owner, OfType, OfProto, and_see, each, aside, no_names, nodes_in, taken_by, is_kept}
 use Rattle.proto_meaning.specs.Flat as flat
 use Rattle.proto_meaning.specs.Flat.{Walk, Does, ◌>>=◌, pure, refuse, see, through, put_in, leave_out, Node, Inside, give, give_is, join, fits, fill, met_field, is_node}
 use Rattle.proto_meaning.proofs.SightLaw.{Any, Free, GoodNode, Follows, bared, each_free, aside_free, then_still}
@@ -147,7 +147,7 @@ plain_same_at v x s none count h =
 
 -- ---- a value that goes nowhere
 
-left_same : (p : Step) (x : Inside) (s : Sight) (r : Seen) → Free p → p s ≡ r → Same s (see p >>= λ _. pure x) (left_by (wrong_in r) >>= λ _. pure x)
+left_same : (p : Look) (x : Inside) (s : Sight) (r : Seen) → Free p → p s ≡ r → Same s (see p >>= λ _. pure x) (left_by (wrong_in r) >>= λ _. pure x)
 left_same p x s (Ok t) free e = same_seen p (λ _. pure x) (left_by None >>= λ _. pure x) s (Ok t) free (ap bared e) (λ u h w k. refl) (λ y h v. never t y (sym h))
 left_same p x s (Err y) free e = same_wrong p (λ _. pure x) (left_by (Some y) >>= λ _. pure x) s y free (ap bared e) (λ v. refl)
 
@@ -202,7 +202,7 @@ sees_given (given.Value (value.NodeList ns)) s = each-map (λ (p : Node). p.sees
 sees_given (given.Is name) s = refl
 
 pub left_out_given : (s : Sight) (v : RawValue NodeText) (r : Seen) → aside (given_sees (given.Value v)) s ≡ r → GivenSame false s (given_mapped flat.node (given.Value v)) (tree.LeftOut (wrong_in r)) r
-left_out_given s v r e = left_out_same s _ r (every_given (given.Value v)) (ap (λ (f : Step). aside f s) (fun_ext (λ t. sees_given (given.Value v) t)) ∙ e)
+left_out_given s v r e = left_out_same s _ r (every_given (given.Value v)) (ap (λ (f : Look). aside f s) (fun_ext (λ t. sees_given (given.Value v) t)) ∙ e)
 
 pub plain_same : (v : Bor (RawValue NodeText)) (s : Sight) → is_plain v.now ≡ true → GivenSame true s (given_mapped flat.node (given.Value v.now)) (tree.Plain v) (Ok s)
 plain_same v s plainly = by_value v.now refl plainly where

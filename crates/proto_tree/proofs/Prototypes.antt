@@ -12,7 +12,7 @@ use Rattle.proto_flat.specs.declared.fault.ExpandFault.{ExpandFault}
 use Rattle.proto_flat.specs.declared.fault.ExpandFaultKind.TheVariants.{ProtoTwice, ProtoItself, EmptyBody}
 use Rattle.proto_meaning.specs.Limits.{Met, follow, and_then}
 use Rattle.proto_meaning.specs.Names.{Name, Field, Filled, value_of}
-use Rattle.proto_meaning.specs.Sight.{Put, Sight, Step, Names, Prototype, and_see, each, declared, no_names, opened}
+use Rattle.proto_meaning.specs.Sight.{Put, Sight, Look, Names, Prototype, and_see, each, declared, no_names, opened}
 use Rattle.proto_meaning.specs.Flat as flat
 use Rattle.proto_meaning.specs.Flat.{Walk, Does, ◌>>=◌, pure, note, through, begin, made, field, in_body, Item, Node, Stated, Proto, item_step, node_step, statement_step, proto_step, declare, declare_body, body_sees, body_finds, instance_of, prototype}
 use Rattle.proto_meaning.proofs.SightLaw.{Any, Free, Follows, bared, each_free, then_follows}
@@ -30,7 +30,7 @@ use Rattle.proto_tree.proofs.Defaults.{default_follows, defaults_mean}
 abbrev defaults_of : List (Declaration NodeText) → List (Declaration Node)
 defaults_of ds = map (interface_mapped flat.node) ds
 
-abbrev default_sees : Declaration Node → Step
+abbrev default_sees : Declaration Node → Look
 default_sees d = flat.given_sees d.given
 
 all_free : (ds : List (Declaration NodeText)) → AllByRecursion (λ (d : Declaration Node). Free (default_sees d)) (defaults_of ds)

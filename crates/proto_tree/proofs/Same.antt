@@ -4,7 +4,7 @@ use Rattle.std.specs.Prelude.{if◌then◌else◌}
 use Rattle.std.specs.Option.{option_map_or}
 use Rattle.proto_flat.specs.declared.fault.ExpandFault.{ExpandFault}
 use Rattle.proto_meaning.specs.Limits.{Met, Outcome, behind, follow, and_then}
-use Rattle.proto_meaning.specs.Sight.{Sight, Step, no_names}
+use Rattle.proto_meaning.specs.Sight.{Sight, Look, no_names}
 use Rattle.proto_meaning.specs.Flat.{Walk, Does, ◌>>=◌, pure, see, comes}
 use Rattle.proto_meaning.proofs.SightLaw.{bare, bared, Free, After, Follows}
 use Rattle.proto_tree.specs.Resolved.{Seen}
@@ -54,7 +54,7 @@ pub in_bared : (s t : Sight) → ok s ≡ ok t → s ≡ t
 in_bared s t e = ap sight_in e
 
 -- a step that doesn't ask what was taken sees the same where the same is in sight
-pub free_in : (p : Step) → Free p → (s : Sight) (w : Walk) → In s w → bared (p w.sight) ≡ bared (p s)
+pub free_in : (p : Look) → Free p → (s : Sight) (w : Walk) → In s w → bared (p w.sight) ≡ bared (p s)
 free_in p free s w e = free w.sight ∙ ap (λ x. bared (p x)) e ∙ sym (free s)
 
 -- ---- one after the other
@@ -65,7 +65,7 @@ then_hidden P f g met (Err e) r q same h k = refl
 then_hidden P f g met (Ok p) (Ok t) q same h k = ap (behind met) (k t refl p.0 h.0 p.1 (in_bared (bare p.1.sight) (bare t) (sym h.1 ∙ same)))
 then_hidden P f g met (Ok p) (Err e) q same h k = never (bare p.1.sight) e (sym same ∙ h.1)
 
-pub same_then : {A B : Type 0} (P : A → Type 0) (m n : Does A) (f g : A → Does B) (p : Step) (s : Sight) (r : Seen) → Free p → Follows P m p → bared (p s) ≡ bared r → Same s m n
+pub same_then : {A B : Type 0} (P : A → Type 0) (m n : Does A) (f g : A → Does B) (p : Look) (s : Sight) (r : Seen) → Free p → Follows P m p → bared (p s) ≡ bared r → Same s m n
     → ((t : Sight) → r ≡ Ok t → (a : A) → P a → Same t (f a) (g a)) → Same s (m >>= f) (n >>= g)
 same_then P m n f g p s r free follows sees same k w e =
     ap (λ o. and_then o (λ q. g q.0 q.1)) (same w e)
@@ -100,7 +100,7 @@ seen_first f g w (Err e) (Err x) same k wrong = wrong e refl (hide w) ∙ ap fai
 seen_first f g w (Ok t) (Err x) same k wrong = never (bare t) x same
 seen_first f g w (Err e) (Ok u) same k wrong = never (bare u) e (sym same)
 
-pub same_seen : {A : Type 0} (p : Step) (f : Unit {0} → Does A) (g : Does A) (s : Sight) (r : Seen) → Free p → bared (p s) ≡ bared r → ((t : Sight) → r ≡ Ok t → Same t (f tt) g)
+pub same_seen : {A : Type 0} (p : Look) (f : Unit {0} → Does A) (g : Does A) (s : Sight) (r : Seen) → Free p → bared (p s) ≡ bared r → ((t : Sight) → r ≡ Ok t → Same t (f tt) g)
     → ((e : ExpandFault) → r ≡ Err e → (v : Walk) → g v ≡ record { met = []; comes = Err e }) → Same s (see p >>= f) g
 same_seen p f g s r free sees k wrong w e = seen_first f g w r (p w.sight) (free_in p free s w e ∙ sees) k wrong
 
@@ -130,10 +130,10 @@ passed : {A B : Type 0} (b : B) (f : B → Does A) (g : Does A) (w : Walk) (u : 
 passed b f g w u (Ok t) same k = k (record w { sight = t }) (in_bared (bare t) (bare u) same)
 passed b f g w u (Err x) same k = never (bare u) x same
 
-pub same_passed : {A B : Type 0} (p : Step) (b : B) (f : B → Does A) (g : Does A) (s u : Sight) → Free p → bared (p s) ≡ bared (ok u) → Same u (f b) g → Same s ((see p >>= λ _. pure b) >>= f) g
+pub same_passed : {A B : Type 0} (p : Look) (b : B) (f : B → Does A) (g : Does A) (s u : Sight) → Free p → bared (p s) ≡ bared (ok u) → Same u (f b) g → Same s ((see p >>= λ _. pure b) >>= f) g
 same_passed p b f g s u free sees k w e = passed b f g w u (p w.sight) (free_in p free s w e ∙ sees) k
 
 -- a step that fails
-pub same_wrong : {A : Type 0} (p : Step) (f : Unit {0} → Does A) (g : Does A) (s : Sight) (e : ExpandFault) → Free p → bared (p s) ≡ fails e → ((v : Walk) → g v ≡ failing e) → Same s (see p >>= f) g
+pub same_wrong : {A : Type 0} (p : Look) (f : Unit {0} → Does A) (g : Does A) (s : Sight) (e : ExpandFault) → Free p → bared (p s) ≡ fails e → ((v : Walk) → g v ≡ failing e) → Same s (see p >>= f) g
 same_wrong p f g s e free sees wrong =
     same_seen p f g s (Err e) free sees (λ t h. never t e h) (λ x h v. wrong v ∙ ap failing (ap (fault_or e) h))

@@ -7,7 +7,7 @@ use Rattle.classic_tree.specs.declared.tree.RouteText.{RouteText}
 use Rattle.classic_tree.specs.declared.tree.Statement.TheVariants as text_statement
 use Rattle.proto_flat.specs.declared.fault.ExpandFault.{ExpandFault}
 use Rattle.proto_meaning.specs.Limits.{Outcome, and_then}
-use Rattle.proto_meaning.specs.Sight.{Sight, Step, and_see, each}
+use Rattle.proto_meaning.specs.Sight.{Sight, Look, and_see, each}
 use Rattle.proto_meaning.specs.Flat as flat
 use Rattle.proto_meaning.specs.Flat.{Walk, Does, ◌>>=◌, pure, comes, see, through, part, nothing_found, Node, Stated, Proto, in_body}
 use Rattle.proto_meaning.proofs.SightLaw.{Any, Follows, GoodStated, bared, then_still}
@@ -22,7 +22,7 @@ pub record Puts (put : Stated → List ℕ → Does (List ℕ)) : Type 0 where
   pub same : (s : Sight) (m n : Stated) → Same s m.1.does n.1.does → (x : List ℕ) → Same s (put m x) (put n x)
   pub follows : (m : Stated) → GoodStated m → (x : List ℕ) → Follows Any (put m x) m.1.sees
   -- a statement that gives no node
-  pub none : (m : Stated) (p : Step) (x : List ℕ) (w : Walk) → m.1.does ≡ (see p >>= λ _. pure []) → put m x w ≡ (see p >>= λ _. pure x) w
+  pub none : (m : Stated) (p : Look) (x : List ℕ) (w : Walk) → m.1.does ≡ (see p >>= λ _. pure []) → put m x w ≡ (see p >>= λ _. pure x) w
   pub fails : (m : Stated) (e : ExpandFault) (x : List ℕ) (w : Walk) → m.1.does ≡ (λ v. comes (Err e)) → put m x w ≡ comes (Err e)
 
 -- ---- bodies
@@ -61,7 +61,7 @@ puts_in_body = record {
   none = by_first;
   fails = by_fault;
 } where
-  by_first : (m : Stated) (p : Step) (x : List ℕ) (w : Walk) → m.1.does ≡ (see p >>= λ _. pure []) → in_body m x w ≡ (see p >>= λ _. pure x) w
+  by_first : (m : Stated) (p : Look) (x : List ℕ) (w : Walk) → m.1.does ≡ (see p >>= λ _. pure []) → in_body m x w ≡ (see p >>= λ _. pure x) w
   by_first m p [] w e = ap (λ (d : Does (List ℕ)). d w) e
   by_first m p (k ∷ ks) w e =
       ap (λ (d : Does (List ℕ)). (d >>= helping k ks) w) e

@@ -16,7 +16,7 @@ use Rattle.proto_flat.specs.declared.flat.Flat.{Flat}
 use Rattle.proto_flat.specs.declared.flat.Header.{Header}
 use Rattle.proto_meaning.specs.Limits.{Outcome, and_then, item_count}
 use Rattle.proto_meaning.specs.Names.{Field, Filled, value_of}
-use Rattle.proto_meaning.specs.Sight.{Put, Instance, Prototype, Step, Owner, OfType, OfProto}
+use Rattle.proto_meaning.specs.Sight.{Put, Instance, Prototype, Look, Owner, OfType, OfProto}
 use Rattle.proto_meaning.specs.Flat as flat
 use Rattle.proto_meaning.specs.Flat.{Does, ◌>>=◌, comes, pure, refuse, note, through, part, nothing_found, Node, Item, Stated, Inside, put_in, field, numbered_from, is_filled, is_node, is_script, met_field, fill, give, full_node, in_body, begin, made}
 use Rattle.proto_meaning.specs.Left.{left_by}
@@ -79,7 +79,7 @@ declares d g i =
 -- ---- braces
 
 -- parts that neither hold nor declare a prototype
-abbrev pub quiet : {D : Type 0} → D → flat.Part Step D
+abbrev pub quiet : {D : Type 0} → D → flat.Part Look D
 quiet does = part nothing_found (λ s. Ok s) does
 
 abbrev pub between : (Inside → Does Inside) → Item

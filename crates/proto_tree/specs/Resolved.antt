@@ -18,7 +18,7 @@ use Rattle.classic_tree.specs.declared.tree.Statement.{Statement}
 use Rattle.classic_tree.specs.declared.tree.Statement.TheVariants as text_statement
 use Rattle.proto_flat.specs.declared.fault.ExpandFault.{ExpandFault}
 use Rattle.proto_meaning.specs.Names.{Name}
-use Rattle.proto_meaning.specs.Sight.{Names, with_name, no_names, Prototype, Sight, Step, each, opened, aside, nodes_in, meant, taken_by, is_kept}
+use Rattle.proto_meaning.specs.Sight.{Names, with_name, no_names, Prototype, Sight, Look, each, opened, aside, nodes_in, meant, taken_by, is_kept}
 use Rattle.proto_meaning.specs.Sight as sight
 use Rattle.proto_meaning.specs.Flat as flat
 use Rattle.proto_tree.specs.declared.tree.BodyTree.{BodyTree}
@@ -40,7 +40,7 @@ Seen = Result Sight ExpandFault
 -- ---- what goes nowhere
 
 -- what a value declares, and what is taken by an IS that is given
-abbrev pub given_sees : Given NodeText → Step
+abbrev pub given_sees : Given NodeText → Look
 given_sees g s =
     each (λ n. (flat.node n).sees) (nodes_in g) (record s { taken = sight.taking g s.taken })
 

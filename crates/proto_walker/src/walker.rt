@@ -5,7 +5,7 @@ ghost use Rattle.proto_walker.specs.Shown.{Sound, before, shown};
 
 use proto_limits::Room;
 use proto_put::PutIn;
-use proto_routes::Kept;
+use proto_routes::Branches;
 use proto_scope::Scope;
 use std::alloc::Global;
 
@@ -16,7 +16,7 @@ pub struct Walker<'t, 'a> {
     pub room: Room,
     pub put: PutIn<'a>,
     pub scope: Scope<'t, 'a>,
-    pub kept: Kept<'a>,
+    pub kept: Branches<'a>,
 }
 
 impl<'t, 'a> Walker<'t, 'a> {
@@ -29,7 +29,7 @@ impl<'t, 'a> Walker<'t, 'a> {
             room: Room::new(),
             put: PutIn::new(alloc),
             scope: Scope::new(alloc),
-            kept: Kept::new(alloc),
+            kept: Branches::new(alloc),
         }
     }
 }

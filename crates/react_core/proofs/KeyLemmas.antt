@@ -3,7 +3,7 @@ use Rattle.std.proofs.Common.{◌≡◌, refl, ℕ, zero, suc, ◌+◌, ◌-◌,
 use Rattle.std.proofs.lemmas.Grind.{common_steps}
 use Rattle.std.proofs.lemmas.List.Sums.{sum_by-cons}
 use Rattle.std.proofs.lemmas.Int.{ints}
-use Rattle.react_core.specs.Keys.{are_rising, rise_from, reached, IsStep}
+use Rattle.react_core.specs.Keys.{are_rising, rise_from, reached, IsKeyAt}
 
 -- the count of the items that pass, where those in front pass and no other
 pub count_by-front : {X : Type 0} (p : X → Bool) (xs : List X) (i : ℕ) (d : X) → i ≤ length xs → ((k : ℕ) → k < i → p (get_or xs k d) ≡ true) → ((k : ℕ) → i ≤ k → k < length xs → p (get_or xs k d) ≡ false) → count_by p xs ≡ i
@@ -78,8 +78,8 @@ reached-passed keys fraction low high p h =
     count_by-front (λ key. int_le key fraction) keys low (pos 0) (omega arith) p.in_front (λ k l m. p.behind k (omega arith) m)
 
 -- the place before the one where keys pass a fraction
-pub IsStep-passed : (keys : List ℤ) (fraction : ℤ) (low : ℕ) → 0 < length keys → IsPassedAt keys fraction low low → IsStep keys fraction (low - 1)
-IsStep-passed keys fraction low some p =
+pub IsKeyAt-passed : (keys : List ℤ) (fraction : ℤ) (low : ℕ) → 0 < length keys → IsPassedAt keys fraction low low → IsKeyAt keys fraction (low - 1)
+IsKeyAt-passed keys fraction low some p =
     let w = p.within in
     record {
       below = omega arith;

@@ -10,7 +10,7 @@ use Rattle.x3d_values.specs.declared.node_type.NodeType.{NodeType}
 use Rattle.x3d_values.specs.declared.table.FieldRow.{FieldRow}
 use Rattle.x3d_values.specs.declared.value.Value.{Value}
 use Rattle.x3d_values.specs.declared.value.Value.TheVariants.{SFNode, MFNode}
-use Rattle.react_core.specs.declared.outbox.Reply.{Reply}
+use Rattle.react_core.specs.declared.outbox.SentEvent.{SentEvent}
 use Rattle.x3d_values.specs.Tables.{rows, numbered, row_named}
 use Rattle.x3d_values.specs.Values.{type_of}
 
@@ -46,5 +46,5 @@ is_output node_type field =
     option_map_or (λ row. is_sender row.access) (row_at node_type field) false
 
 -- all of them leave by such fields
-abbrev pub leave_by_outputs : NodeType → List Reply → Bool
+abbrev pub leave_by_outputs : NodeType → List SentEvent → Bool
 leave_by_outputs node_type replies = list_all (λ reply. is_output node_type reply.field) replies

@@ -10,7 +10,7 @@ use Rattle.x3d_values.specs.declared.value.Value.{Value}
 use Rattle.x3d_values.specs.declared.value.Value.TheVariants.{SFFloat, SFVec2f, SFVec3f, MFVec3f}
 use Rattle.x3d_values.specs.declared.vector.Vec2.{Vec2}
 use Rattle.x3d_values.specs.declared.vector.Vec3.{Vec3}
-use Rattle.react_core.specs.declared.place.Place.{Place}
+use Rattle.react_core.specs.declared.place.Between.{Between}
 use Rattle.react_core.specs.Keys.{have_steps, reached}
 use Rattle.react_core.specs.Stored.{numbers_of, points_of, vectors_of}
 
@@ -20,15 +20,15 @@ use Rattle.react_core.specs.Stored.{numbers_of, points_of, vectors_of}
 unfoldable pub part_way : ℕ → ℕ → ℤ → ℤ → ℤ
 part_way part whole from to = from +ℤ int_div_euclid ((to -ℤ from) *ℤ pos part) (pos whole)
 
-abbrev pub number_way : Place → ℤ → ℤ → ℤ
+abbrev pub number_way : Between → ℤ → ℤ → ℤ
 number_way place from to = part_way place.part place.whole from to
 
 -- each component by itself
-abbrev pub point_way : Place → Vec2 → Vec2 → Vec2
+abbrev pub point_way : Between → Vec2 → Vec2 → Vec2
 point_way place from to =
     record { x = number_way place from.x to.x; y = number_way place from.y to.y }
 
-abbrev pub vector_way : Place → Vec3 → Vec3 → Vec3
+abbrev pub vector_way : Between → Vec3 → Vec3 → Vec3
 vector_way place from to =
     record {
       x = number_way place from.x to.x;
@@ -39,11 +39,11 @@ vector_way place from to =
 -- ---- where a fraction lies
 
 -- at an item, which is no part of the way from it to itself
-abbrev pub at_item : ℕ → Place
+abbrev pub at_item : ℕ → Between
 at_item item = record { from = item; to = item; part = 0; whole = 1 }
 
 -- on the way from an item to the next one, as far as the fraction lies between their keys
-abbrev pub after_item : ℕ → ℤ → ℤ → ℤ → Place
+abbrev pub after_item : ℕ → ℤ → ℤ → ℤ → Between
 after_item item key next fraction =
     record {
       from = item;
@@ -61,7 +61,7 @@ last_reached keys fraction = reached keys fraction - 1
 
 -- at or below the first key, at or above the last one, or else after the last key that isn't above
 -- the fraction
-abbrev pub place_among : List ℤ → ℤ → Place
+abbrev pub place_among : List ℤ → ℤ → Between
 place_among keys fraction =
     if int_le fraction (key_at keys 0) then at_item 0
     else (if int_le (key_at keys (length keys - 1)) fraction then at_item (length keys - 1)
@@ -71,18 +71,18 @@ place_among keys fraction =
     fraction)
 
 -- nowhere without keys, or where a key is below the one before it
-unfoldable pub place_of : List ℤ → ℤ → Option Place
+unfoldable pub place_of : List ℤ → ℤ → Option Between
 place_of keys fraction = if have_steps keys then Some (place_among keys fraction) else None
 
 -- ---- one value for each key
 
-abbrev pub mixed : {X : Type 0} → (Place → X → X → X) → List X → Place → Option X
+abbrev pub mixed : {X : Type 0} → (Between → X → X → X) → List X → Between → Option X
 mixed way values place =
     option_and_then
     (λ from. option_map (λ to. way place from to) (slice_get values place.to))
     (slice_get values place.from)
 
-unfoldable pub between : {X : Type 0} → (Place → X → X → X) → List ℤ → List X → ℤ → Option X
+unfoldable pub between : {X : Type 0} → (Between → X → X → X) → List ℤ → List X → ℤ → Option X
 between way keys values fraction =
     if length values == length keys
     then option_and_then (mixed way values) (place_of keys fraction) else None
@@ -102,10 +102,10 @@ vector_between keys values fraction = between vector_way keys values fraction
 abbrev pub group : List Vec3 → ℕ → ℕ → List Vec3
 group values many item = slice_range values (item * many) (item * many + many)
 
-abbrev pub vectors_way : Place → List Vec3 → List Vec3 → List Vec3
+abbrev pub vectors_way : Between → List Vec3 → List Vec3 → List Vec3
 vectors_way place from to = map (λ pair. vector_way place pair.0 pair.1) (zip from to)
 
-abbrev pub groups_way : List Vec3 → ℕ → Place → List Vec3
+abbrev pub groups_way : List Vec3 → ℕ → Between → List Vec3
 groups_way values many place =
     vectors_way place (group values many place.from) (group values many place.to)
 

@@ -24,7 +24,7 @@ unfoldable pub step_of : List ℤ → ℤ → Option ℕ
 step_of keys fraction = if have_steps keys then Some (reached keys fraction - 1) else None
 
 -- no key behind this place is above the fraction, and the one at it is only where it is the first
-pub record IsStep (keys : List ℤ) (fraction : ℤ) (at : ℕ) : Type 0 where
+pub record IsKeyAt (keys : List ℤ) (fraction : ℤ) (at : ℕ) : Type 0 where
   pub below : at < length keys
   pub is_reached : 0 < at → slice_index_or keys at (pos 0) ≤ℤ fraction
   pub is_last : (k : ℕ) → at < k → k < length keys → fraction <ℤ slice_index_or keys k (pos 0)

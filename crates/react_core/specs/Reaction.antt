@@ -11,8 +11,8 @@ use Rattle.x3d_values.specs.declared.value.Value.{Value}
 use Rattle.x3d_values.specs.declared.value.Value.TheVariants.{SFBool, SFInt32, SFTime}
 use Rattle.x3d_values.specs.Kept.{field_value, with_value}
 use Rattle.react_core.specs.declared.numbers.TheConstants.{KEY, KEY_VALUE, SET_FRACTION, VALUE_CHANGED, SEQUENCE_CHANGED, SET_BOOLEAN, INPUT_TRUE, INPUT_FALSE, INPUT_NEGATE, TOGGLE, SET_TRIGGER_TIME, TRIGGER_TRUE, INTEGER_KEY, TRIGGER_VALUE, TRIGGER_TIME}
-use Rattle.react_core.specs.declared.outbox.Reply.{Reply}
-use Rattle.react_core.specs.declared.sequence.Step.{Step}
+use Rattle.react_core.specs.declared.outbox.SentEvent.{SentEvent}
+use Rattle.react_core.specs.declared.sequence.Keyed.{Keyed}
 use Rattle.react_core.specs.Access.{is_kept}
 use Rattle.react_core.specs.Interpolation.{interpolated}
 use Rattle.react_core.specs.Sequence.{step_after}
@@ -21,9 +21,9 @@ use Rattle.react_core.specs.Stored.{truth_of, integer_of, number_of, time_of, tr
 -- what a node keeps after an event, and what it sends, in order
 pub record Reaction : Type 0 where
   pub fields : Fields
-  pub replies : List Reply
+  pub replies : List SentEvent
 
-abbrev pub reply : ℕ → Value → Reply
+abbrev pub reply : ℕ → Value → SentEvent
 reply field value = record { field = field; value = value }
 
 -- it keeps its fields and sends nothing
@@ -31,7 +31,7 @@ abbrev pub nothing : Fields → Reaction
 nothing fields = record { fields = fields; replies = [] }
 
 -- it keeps its fields and sends these
-abbrev pub sends : Fields → List Reply → Reaction
+abbrev pub sends : Fields → List SentEvent → Reaction
 sends fields replies = record { fields = fields; replies = replies }
 
 -- any node, an inputOutput field: sets it, sends it
@@ -72,7 +72,7 @@ interpolator node_type fields input value =
 -- ---- sequencers
 
 -- sets the position, sends `value_changed`
-abbrev pub steps_to : Fields → Step → Reaction
+abbrev pub steps_to : Fields → Keyed → Reaction
 steps_to fields step =
     sends (record fields { position = record { at = Some step.at } })
     (reply SEQUENCE_CHANGED step.value ∷ [])

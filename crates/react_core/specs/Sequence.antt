@@ -7,7 +7,7 @@ use Rattle.x3d_values.specs.declared.fields.Position.{Position}
 use Rattle.x3d_values.specs.declared.value.Value.{Value}
 use Rattle.x3d_values.specs.Kept.{field_value}
 use Rattle.react_core.specs.declared.numbers.TheConstants.{KEY, NEXT, PREVIOUS, SEQUENCE_FRACTION}
-use Rattle.react_core.specs.declared.sequence.Step.{Step}
+use Rattle.react_core.specs.declared.sequence.Keyed.{Keyed}
 use Rattle.react_core.specs.Keys.{have_steps, step_of}
 use Rattle.react_core.specs.Stored.{truth_of, number_of, numbers_of}
 
@@ -51,11 +51,11 @@ place_after fields input value count =
     (λ keys. if is_sequence keys count then stepped keys fields.position input value else None)
     (option_and_then numbers_of (field_value fields KEY))
 
-abbrev pub step : ℕ → Value → Step
+abbrev pub step : ℕ → Value → Keyed
 step at value = record { at = at; value = value }
 
 -- the place with its value
-abbrev pub step_after : Fields → ℕ → Value → List Value → Option Step
+abbrev pub step_after : Fields → ℕ → Value → List Value → Option Keyed
 step_after fields input value values =
     option_and_then (λ at. option_map (step at) (slice_get values at))
     (place_after fields input value (length values))

@@ -2,12 +2,12 @@
 
 ghost use Rattle.std.specs.Prelude.{◌≡◌, ◌≢◌, ◌<◌, ◌≤◌, ◌+◌, ◌*◌, length, map, slice_get, IfOk, IsOk};
 ghost use Rattle.std.specs.List.{zip};
-ghost use Rattle.react_core.specs.declared.place.Place.{Place};
+ghost use Rattle.react_core.specs.declared.place.Between.{Between};
 ghost use Rattle.react_core.specs.Interpolation.{number_way, point_way, vector_way, between, group, vectors_way, vectors_between, interpolated};
 ghost use Rattle.x3d_values.specs.declared.node_type.NodeType.TheVariants.{ScalarInterpolator, PositionInterpolator, PositionInterpolator2D, CoordinateInterpolator};
 
 use crate::part::part_way;
-use crate::place::{Place, place_of, point_way, vector_way};
+use crate::place::{Between, place_of, point_way, vector_way};
 use crate::stored::{numbers_of, points_of, vectors_of};
 use std::alloc::{AllocError, Global};
 use x3d_values::{Items, NodeType, Value, Vec2, Vec3};
@@ -47,9 +47,9 @@ fn item<T: Copy>(values: &[T], at: usize) -> Option<T>
 
 /// What has a value part of the way between two others.
 trait OnTheWay: Copy {
-    ghost way: { Place → Self → Self → Self };
+    ghost way: { Between → Self → Self → Self };
 
-    fn on_the_way(place: Place, from: Self, to: Self) -> Self
+    fn on_the_way(place: Between, from: Self, to: Self) -> Self
         requires is_part { place.part ≤ place.whole }
         requires is_whole { 0 < place.whole }
         ensures { result ≡ way place from to };
@@ -58,7 +58,7 @@ trait OnTheWay: Copy {
 impl OnTheWay for i64 {
     ghost way = { number_way };
 
-    fn on_the_way(place: Place, from: i64, to: i64) -> i64 {
+    fn on_the_way(place: Between, from: i64, to: i64) -> i64 {
         part_way(place.part, place.whole, from, to)
     }
 }
@@ -66,7 +66,7 @@ impl OnTheWay for i64 {
 impl OnTheWay for Vec2 {
     ghost way = { point_way };
 
-    fn on_the_way(place: Place, from: Vec2, to: Vec2) -> Vec2 {
+    fn on_the_way(place: Between, from: Vec2, to: Vec2) -> Vec2 {
         point_way(place, from, to)
     }
 }
@@ -74,7 +74,7 @@ impl OnTheWay for Vec2 {
 impl OnTheWay for Vec3 {
     ghost way = { vector_way };
 
-    fn on_the_way(place: Place, from: Vec3, to: Vec3) -> Vec3 {
+    fn on_the_way(place: Between, from: Vec3, to: Vec3) -> Vec3 {
         vector_way(place, from, to)
     }
 }
@@ -96,7 +96,7 @@ fn between<T: OnTheWay>(keys: &[i64], values: &[T], fraction: i64) -> Option<T>
 /// The vectors that far on the way between two lists.
 fn vectors_way(
     alloc: Global,
-    place: Place,
+    place: Between,
     from: &[Vec3],
     to: &[Vec3],
 ) -> Result<Vec<Vec3>, AllocError>

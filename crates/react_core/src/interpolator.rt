@@ -8,7 +8,7 @@ ghost use Rattle.react_core.specs.Stored.{numbers_of};
 
 use crate::interpolation::interpolate;
 use crate::numbers::{KEY, KEY_VALUE, SET_FRACTION, VALUE_CHANGED};
-use crate::outbox::{Outbox, Reply};
+use crate::outbox::{Outbox, SentEvent};
 use crate::stored::{number_of, numbers_of};
 use std::alloc::{AllocError, Global};
 use x3d_values::{Fields, Items, NodeType, Value};
@@ -63,7 +63,7 @@ pub fn interpolator(
         return Ok(());
     }
     if let Some(changed) = interpolator_value(alloc, node_type, fields, value)? {
-        out.push(Reply {
+        out.push(SentEvent {
             field: VALUE_CHANGED,
             value: changed,
         });

@@ -1,7 +1,7 @@
 //! The keys of interpolators and sequencers.
 
 ghost use Rattle.std.specs.Prelude.{◌≡◌, ◌-◌, ◌<◌, length, true, IfSome};
-ghost use Rattle.react_core.specs.Keys.{are_rising, rise_from, reached, step_of, have_steps, IsStep};
+ghost use Rattle.react_core.specs.Keys.{are_rising, rise_from, reached, step_of, have_steps, IsKeyAt};
 
 /// The place of the last key that a fraction has reached, or the first place where it has reached
 /// none; none where there are no keys, or where a key is below the one before it.
@@ -11,7 +11,7 @@ ghost use Rattle.react_core.specs.Keys.{are_rising, rise_from, reached, step_of,
 pub fn step_index(keys: &[i64], fraction: i64) -> Option<usize>
     ensures value { result ≡ step_of keys.now fraction }
     // It is the greatest place whose key isn't above the fraction.
-    ensures greatest { IfSome result (IsStep keys.now fraction) }
+    ensures greatest { IfSome result (IsKeyAt keys.now fraction) }
 {
     if !have_steps(keys) {
         return None;
@@ -53,7 +53,7 @@ fn are_rising(keys: &[i64]) -> bool
 fn reached(keys: &[i64], fraction: i64) -> usize
     requires { are_rising keys.now ≡ true }
     ensures count { result ≡ reached keys.now fraction }
-    ensures step { 0 < length keys.now → IsStep keys.now fraction (result - 1) }
+    ensures step { 0 < length keys.now → IsKeyAt keys.now fraction (result - 1) }
 {
     let mut low = 0;
     let mut high = keys.len();

@@ -33,5 +33,5 @@ pub use copies::copy_of;
 pub use interpolation::interpolate;
 pub use keys::step_index;
 pub use laws::numbers_law;
-pub use outbox::{MAX_REPLIES, Outbox, Reply};
+pub use outbox::{MAX_REPLIES, Outbox, SentEvent};
 pub use reaction::react;

@@ -11,18 +11,18 @@ pub const MAX_REPLIES: usize = 5;
 
 /// An event that a node sends by one of its outputs.
 #[derive(Drop, PartialEq, Eq)]
-pub struct Reply {
+pub struct SentEvent {
     /// The number of the output among the node's fields.
     pub field: u16,
     pub value: Value,
 }
 
 /// What stands in an unused place of an outbox.
-impl Default for Reply {
+impl Default for SentEvent {
     ghost is_default = { λ reply. reply ≡ record { field = 0; value = SFBool false } };
 
-    fn default() -> Reply {
-        Reply {
+    fn default() -> SentEvent {
+        SentEvent {
             field: 0,
             value: Value::SFBool(false),
         }
@@ -30,4 +30,4 @@ impl Default for Reply {
 }
 
 /// The events that a node sends, in order. `Outbox::new()` takes no memory.
-pub type Outbox = ArrayVec<Reply, MAX_REPLIES>;
+pub type Outbox = ArrayVec<SentEvent, MAX_REPLIES>;

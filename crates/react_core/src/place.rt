@@ -9,17 +9,17 @@ use x3d_values::{Vec2, Vec3};
 
 /// `part` of `whole` of the way from one item to another.
 #[derive(Clone, Copy)]
-pub struct Place {
+pub struct Between {
     pub from: usize,
     pub to: usize,
     pub part: u64,
     pub whole: u64,
 }
 
-fn at_item(item: usize) -> Place
+fn at_item(item: usize) -> Between
     ensures { result ≡ record { from = item; to = item; part = 0; whole = 1 } }
 {
-    Place {
+    Between {
         from: item,
         to: item,
         part: 0,
@@ -29,7 +29,7 @@ fn at_item(item: usize) -> Place
 
 /// Where the fraction lies; nowhere without keys, or where a key is below the one before it.
 #[tactic(auto, unfolding(crate::specs::Interpolation::place_of, crate::specs::Keys::step_of))]
-pub fn place_of(keys: &[i64], fraction: i64) -> Option<Place>
+pub fn place_of(keys: &[i64], fraction: i64) -> Option<Between>
     ensures value { result ≡ place_of keys.now fraction }
     ensures is_part { IfSome result (λ place. place.part ≤ place.whole) }
     ensures is_whole { IfSome result (λ place. 0 < place.whole) }
@@ -44,7 +44,7 @@ pub fn place_of(keys: &[i64], fraction: i64) -> Option<Place>
     if keys[last] <= fraction {
         return Some(at_item(last));
     }
-    Some(Place {
+    Some(Between {
         from: step,
         to: step + 1,
         part: fraction.abs_diff(keys[step]),
@@ -53,7 +53,7 @@ pub fn place_of(keys: &[i64], fraction: i64) -> Option<Place>
 }
 
 /// The point that far on the way, each component by itself.
-pub fn point_way(place: Place, from: Vec2, to: Vec2) -> Vec2
+pub fn point_way(place: Between, from: Vec2, to: Vec2) -> Vec2
     requires is_part { place.part ≤ place.whole }
     requires is_whole { 0 < place.whole }
     ensures { result ≡ point_way place from to }
@@ -66,7 +66,7 @@ pub fn point_way(place: Place, from: Vec2, to: Vec2) -> Vec2
 }
 
 /// The vector that far on the way, each component by itself.
-pub fn vector_way(place: Place, from: Vec3, to: Vec3) -> Vec3
+pub fn vector_way(place: Between, from: Vec3, to: Vec3) -> Vec3
     requires is_part { place.part ≤ place.whole }
     requires is_whole { 0 < place.whole }
     ensures { result ≡ vector_way place from to }

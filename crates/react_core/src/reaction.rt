@@ -9,7 +9,7 @@ ghost use Rattle.react_core.specs.Stored.{is_plain};
 use crate::access::is_kept;
 use crate::copies::copy_of;
 use crate::interpolator::interpolator;
-use crate::outbox::{Outbox, Reply};
+use crate::outbox::{Outbox, SentEvent};
 use crate::sequence::{boolean_step, integer_step, step_to};
 use crate::utilities::{boolean_trigger, filter, integer_trigger, time_trigger, toggle};
 use std::alloc::{AllocError, Global};
@@ -75,7 +75,7 @@ fn keep(
         return Err(AllocError);
     };
     fields.set(input, kept);
-    out.push(Reply {
+    out.push(SentEvent {
         field: input,
         value: sent,
     });

@@ -9,13 +9,13 @@ ghost use Rattle.react_core.specs.Sequence.{present, next_of, previous_of, on_tr
 
 use crate::keys::{have_steps, step_index};
 use crate::numbers::{KEY, KEY_VALUE, NEXT, PREVIOUS, SEQUENCE_CHANGED, SEQUENCE_FRACTION};
-use crate::outbox::{Outbox, Reply};
+use crate::outbox::{Outbox, SentEvent};
 use crate::stored::{integers_of, number_of, numbers_of, truth_of, truths_of};
 use x3d_values::{Fields, Items, Position, Value};
 
 /// A place of a sequencer, from 0, with the value there.
 #[derive(Drop)]
-pub struct Step {
+pub struct Keyed {
     pub at: u32,
     pub value: Value,
 }
@@ -93,7 +93,7 @@ fn place_after(fields: &Fields, input: u16, value: &Value, count: usize) -> Opti
 }
 
 /// Where an event leads a BooleanSequencer.
-pub fn boolean_step(fields: &Fields, input: u16, value: &Value) -> Option<Step>
+pub fn boolean_step(fields: &Fields, input: u16, value: &Value) -> Option<Keyed>
     ensures { result ≡ option_and_then (step_after fields.now input value.now)
         (option_map (map SFBool) (stored truths_of fields.now KEY_VALUE)) }
 {
@@ -101,7 +101,7 @@ pub fn boolean_step(fields: &Fields, input: u16, value: &Value) -> Option<Step>
 }
 
 /// Where an event leads an IntegerSequencer.
-pub fn integer_step(fields: &Fields, input: u16, value: &Value) -> Option<Step>
+pub fn integer_step(fields: &Fields, input: u16, value: &Value) -> Option<Keyed>
     ensures { result ≡ option_and_then (step_after fields.now input value.now)
         (option_map (map SFInt32) (stored integers_of fields.now KEY_VALUE)) }
 {
@@ -109,38 +109,38 @@ pub fn integer_step(fields: &Fields, input: u16, value: &Value) -> Option<Step>
 }
 
 #[tactic(auto, using(crate::proofs::PlaceLemmas::among))]
-fn truth_at(fields: &Fields, input: u16, value: &Value, values: &Items<bool>) -> Option<Step>
+fn truth_at(fields: &Fields, input: u16, value: &Value, values: &Items<bool>) -> Option<Keyed>
     ensures { result ≡ step_after fields.now input value.now (map SFBool values.now) }
 {
     let at = place_after(fields, input, value, values.len())?;
     let truth = *values.get(at)?;
-    Some(Step {
+    Some(Keyed {
         at: at as u32,
         value: Value::SFBool(truth),
     })
 }
 
 #[tactic(auto, using(crate::proofs::PlaceLemmas::among))]
-fn integer_at(fields: &Fields, input: u16, value: &Value, values: &Items<i32>) -> Option<Step>
+fn integer_at(fields: &Fields, input: u16, value: &Value, values: &Items<i32>) -> Option<Keyed>
     ensures { result ≡ step_after fields.now input value.now (map SFInt32 values.now) }
 {
     let at = place_after(fields, input, value, values.len())?;
     let number = *values.get(at)?;
-    Some(Step {
+    Some(Keyed {
         at: at as u32,
         value: Value::SFInt32(number),
     })
 }
 
 /// Sets a sequencer's position, and sends the value there.
-pub fn step_to(step: Option<Step>, fields: &mut Fields, out: &mut Outbox)
+pub fn step_to(step: Option<Keyed>, fields: &mut Fields, out: &mut Outbox)
     requires empty { out.old.items ≡ [] }
     ensures fields { fields.new ≡ (with_some fields.old step (steps_to fields.old)).fields }
     ensures replies { out.new.items ≡ (with_some fields.old step (steps_to fields.old)).replies }
 {
     if let Some(step) = step {
         fields.position = Position { at: Some(step.at) };
-        out.push(Reply {
+        out.push(SentEvent {
             field: SEQUENCE_CHANGED,
             value: step.value,
         });

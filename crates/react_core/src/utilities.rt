@@ -8,7 +8,7 @@ use crate::numbers::{
     INPUT_FALSE, INPUT_NEGATE, INPUT_TRUE, INTEGER_KEY, SET_BOOLEAN, SET_TRIGGER_TIME, TOGGLE,
     TRIGGER_TIME, TRIGGER_TRUE, TRIGGER_VALUE,
 };
-use crate::outbox::{Outbox, Reply};
+use crate::outbox::{Outbox, SentEvent};
 use crate::stored::{integer_of, time_of, truth_of};
 use x3d_values::{Fields, Value};
 
@@ -23,11 +23,11 @@ pub fn filter(fields: &Fields, input: u16, value: &Value, out: &mut Outbox)
     let Some(truth) = truth_of(value) else {
         return;
     };
-    out.push(Reply {
+    out.push(SentEvent {
         field: if truth { INPUT_TRUE } else { INPUT_FALSE },
         value: Value::SFBool(truth),
     });
-    out.push(Reply {
+    out.push(SentEvent {
         field: INPUT_NEGATE,
         value: Value::SFBool(!truth),
     });
@@ -58,7 +58,7 @@ pub fn toggle(fields: &mut Fields, input: u16, value: &Value, out: &mut Outbox)
         return;
     };
     fields.set(TOGGLE, Value::SFBool(!now));
-    out.push(Reply {
+    out.push(SentEvent {
         field: TOGGLE,
         value: Value::SFBool(!now),
     });
@@ -73,7 +73,7 @@ pub fn boolean_trigger(fields: &Fields, input: u16, value: &Value, out: &mut Out
         return;
     }
     if let Some(_) = time_of(value) {
-        out.push(Reply {
+        out.push(SentEvent {
             field: TRIGGER_TRUE,
             value: Value::SFBool(true),
         });
@@ -94,7 +94,7 @@ pub fn integer_trigger(fields: &Fields, input: u16, value: &Value, out: &mut Out
     let Some(key) = stored_integer(fields, INTEGER_KEY) else {
         return;
     };
-    out.push(Reply {
+    out.push(SentEvent {
         field: TRIGGER_VALUE,
         value: Value::SFInt32(key),
     });
@@ -109,7 +109,7 @@ pub fn time_trigger(fields: &Fields, input: u16, value: &Value, time: i64, out: 
         return;
     }
     if let Some(_) = truth_of(value) {
-        out.push(Reply {
+        out.push(SentEvent {
             field: TRIGGER_TIME,
             value: Value::SFTime(time),
         });

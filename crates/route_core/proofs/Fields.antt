@@ -10,7 +10,7 @@ use denote.Enum.Bare.{sameb}
 use Rattle.x3d_values.specs.contracts.field_type.FieldType as types
 use Rattle.x3d_values.specs.declared.field_type.FieldType.TheVariants.{SFRotation}
 use Rattle.x3d_values.specs.declared.table.FieldRow.{FieldRow}
-use Rattle.x3d_values.specs.Tables.{Entry, row_named, numbered}
+use Rattle.x3d_values.specs.Tables.{FieldRowView, row_named, numbered}
 use Rattle.x3d_values.specs.Access.{is_exposed}
 use Rattle.scene_core.specs.Scene.{SceneView, rows_at, shape_of, shapes_of}
 use Rattle.scene_core.specs.Shape.{Shape, rows_of}
@@ -18,7 +18,7 @@ use Rattle.scene_core.specs.declared.scene.End.{End}
 use Rattle.route_core.specs.Ends.{IsKnown, field_counts}
 use Rattle.route_core.specs.Names.{exact, exposed, changed_alias, source_field}
 
-row-below : (n : ℕ) (name : List ℕ) (es : List Entry) (row : FieldRow) → row_named n name es ≡ Some row → row.number < n + length es
+row-below : (n : ℕ) (name : List ℕ) (es : List FieldRowView) (row : FieldRow) → row_named n name es ≡ Some row → row.number < n + length es
 row-below n name [] row e = cc
 row-below n name (x ∷ xs) row e =
     cond_both (pointwise nat_eq name x.name) (Some (numbered n x)) (row_named (n + 1) name xs) (λ o. o ≡ Some row → row.number < n + length (x ∷ xs))
@@ -34,13 +34,13 @@ when : (p : FieldRow → Bool) (o : Option FieldRow) (row : FieldRow) → option
 when p None row e = e
 when p (Some r) row e = cond_both (p r) (Some r) None (λ x. x ≡ Some row → Some r ≡ Some row) (λ _ same. same) (λ _ none. cc) e
 
-exact-below : (es : List Entry) (name : List ℕ) (row : FieldRow) → exact es name ≡ Some row → row.number < length es
+exact-below : (es : List FieldRowView) (name : List ℕ) (row : FieldRow) → exact es name ≡ Some row → row.number < length es
 exact-below es name row e = omega (arith, row-below 0 name es row (unless (λ r. sameb types.the_type r.field_type SFRotation) (row_named 0 name es) row e))
 
-exposed-below : (es : List Entry) (name : List ℕ) (row : FieldRow) → exposed es name ≡ Some row → row.number < length es
+exposed-below : (es : List FieldRowView) (name : List ℕ) (row : FieldRow) → exposed es name ≡ Some row → row.number < length es
 exposed-below es name row e = exact-below es name row (when (λ (r : FieldRow). is_exposed r.access) (exact es name) row e)
 
-changed-below : (es : List Entry) (name : List ℕ) (row : FieldRow) → changed_alias es name ≡ Some row → row.number < length es
+changed-below : (es : List FieldRowView) (name : List ℕ) (row : FieldRow) → changed_alias es name ≡ Some row → row.number < length es
 changed-below es name row e =
     let front : List ℕ = take (length name - length (codes "_changed")) name in
     cond_both (ends_with nat_eq name (codes "_changed")) (exposed es front) None (λ x. x ≡ Some row → row.number < length es)
@@ -52,7 +52,7 @@ either : (a b : Option FieldRow) (row : FieldRow) → option_or a b ≡ Some row
 either None b row e = inr e
 either (Some x) b row e = inl e
 
-pub source-below : (es : List Entry) (name : List ℕ) (row : FieldRow) → source_field es name ≡ Some row → row.number < length es
+pub source-below : (es : List FieldRowView) (name : List ℕ) (row : FieldRow) → source_field es name ≡ Some row → row.number < length es
 unfolding source_field
 source-below es name row e = ⊎_elim (exact-below es name row) (changed-below es name row) (either (exact es name) (changed_alias es name) row e)
 

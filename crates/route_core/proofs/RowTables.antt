@@ -7,7 +7,7 @@ use Rattle.std.proofs.lemmas.Bool.{eqb-true}
 use Rattle.std.proofs.lemmas.Bool.Decides.{nat_tests}
 use Rattle.std.proofs.lemmas.List.{drop_all, drop_more}
 use Rattle.std.proofs.lemmas.Option.{slice_get_cases}
-use Rattle.x3d_values.specs.Tables.{Entry, row_named}
+use Rattle.x3d_values.specs.Tables.{FieldRowView, row_named}
 use Rattle.scene_core.specs.Scene.{SceneView, rows_at}
 use Rattle.route_core.specs.declared.named.RowTable.{RowTable}
 use Rattle.route_core.specs.declared.named.RowTables.{RowTables}
@@ -19,23 +19,23 @@ numbers a b = grind (arith, nat_tests)
 never : (a b : ℕ) → a < b → b ≤ a → ⊥
 never a b less more = omega (arith, less, more)
 
-grown-by : (entries : List Entry) (k : ℕ) (e : Entry) → k < length entries → slice_get entries k ≡ Some e → get_or entries k e ≡ e
+grown-by : (entries : List FieldRowView) (k : ℕ) (e : FieldRowView) → k < length entries → slice_get entries k ≡ Some e → get_or entries k e ≡ e
     → with_entry k (slice_get entries k) (rows_from (k + 1) entries) ≡ rows_from k entries
 grown-by entries k e within at got =
     ap (λ o. with_entry k o (rows_from (k + 1) entries)) at
     ∙ fun_ext (λ name. ap (row_named k name) (sym (drop_more entries k e within ∙ ap (λ y. y ∷ drop (k + 1) entries) got)))
 
 -- one field more, before those behind it
-grown : (entries : List Entry) (k : ℕ) → k < length entries → with_entry k (slice_get entries k) (rows_from (k + 1) entries) ≡ rows_from k entries
+grown : (entries : List FieldRowView) (k : ℕ) → k < length entries → with_entry k (slice_get entries k) (rows_from (k + 1) entries) ≡ rows_from k entries
 grown entries k within =
     ⊎_elim (λ found. grown-by entries k found.0 found.1 found.2 found.3) (λ past. absurd (never k (length entries) within past.0)) (slice_get_cases entries k).1
 
-pub one_more : (entries : List Entry) (k n : ℕ) (old new : Rows) → n ≡ k + 1 → n ≤ length entries → old ≡ rows_from n entries
+pub one_more : (entries : List FieldRowView) (k n : ℕ) (old new : Rows) → n ≡ k + 1 → n ≤ length entries → old ≡ rows_from n entries
     → new ≡ with_entry k (slice_get entries k) old → new ≡ rows_from k entries
 one_more entries k n old new next within held put =
     put ∙ ap (with_entry k (slice_get entries k)) (held ∙ ap (λ m. rows_from m entries) next) ∙ grown entries k (omega (arith, next, within))
 
-pub none_yet : (entries : List Entry) (n : ℕ) → n ≡ length entries → no_rows ≡ rows_from n entries
+pub none_yet : (entries : List FieldRowView) (n : ℕ) → n ≡ length entries → no_rows ≡ rows_from n entries
 none_yet entries n all = fun_ext (λ name. ap (row_named n name) (sym (drop_all n entries (omega (arith, all)))))
 
 -- ---- nodes with tables

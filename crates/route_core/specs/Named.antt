@@ -5,7 +5,7 @@ use Rattle.std.specs.BTreeMap.{get_by}
 use Rattle.std.specs.Cmp.Lexicographic.{slice_cmp}
 use Rattle.std.specs.Ordering.{nat_cmp}
 use Rattle.x3d_values.specs.declared.table.FieldRow.{FieldRow}
-use Rattle.x3d_values.specs.Tables.{Entry, numbered, row_named}
+use Rattle.x3d_values.specs.Tables.{FieldRowView, numbered, row_named}
 use Rattle.scene_core.specs.Scene.{SceneView, rows_at}
 use Rattle.route_core.specs.declared.named.RowTable.{RowTable}
 use Rattle.route_core.specs.declared.named.RowTables.{RowTables}
@@ -25,12 +25,12 @@ abbrev pub with_row : List ℕ → FieldRow → Rows → Rows
 with_row given row rows name = if bytes_eq name given then Some row else rows name
 
 -- the entry of that number, if there is one, before those of the same name
-abbrev pub with_entry : ℕ → Option Entry → Rows → Rows
+abbrev pub with_entry : ℕ → Option FieldRowView → Rows → Rows
 with_entry n None rows = rows
 with_entry n (Some e) rows = with_row e.name (numbered n e) rows
 
 -- those from number n on
-abbrev pub rows_from : ℕ → List Entry → Rows
+abbrev pub rows_from : ℕ → List FieldRowView → Rows
 rows_from n entries name = row_named n name (drop n entries)
 
 -- the map as a function

@@ -8,7 +8,7 @@ ghost use Rattle.route_core.specs.Named.{AreTables, no_rows, rows_from, rows_in,
 ghost use Rattle.route_core.specs.Named.{with_entry, with_row};
 
 use crate::resolving::MOST_NODES;
-use scene_core::{Row, Scene};
+use scene_core::{NodeField, Scene};
 use std::alloc::{AllocError, AllocFailed, Global};
 use std::collections::BTreeMap;
 use x3d_values::FieldRow;
@@ -28,7 +28,7 @@ pub struct RowTables<'a> {
     pub tables: BTreeMap<u32, RowTable<'a>>,
 }
 
-fn numbered_row(row: &Row<'_>, number: u16) -> FieldRow
+fn numbered_row(row: &NodeField<'_>, number: u16) -> FieldRow
     ensures { result ≡ numbered number (row_entry row.now) }
 {
     FieldRow {

@@ -3,7 +3,7 @@ use Rattle.std.proofs.Common.{◌≡◌, ◌⊎◌, inl, inr, ℕ, List, refl, a
 use Rattle.std.specs.Prelude.{Result, Ok, Err}
 use Rattle.proto_flat.specs.declared.flat.Flat.{Flat}
 use Rattle.proto_flat.specs.declared.flat.FlatNode.{FlatNode}
-use Rattle.scene_core.specs.declared.build.Frame.{Frame}
+use Rattle.scene_core.specs.declared.build.Surroundings.{Surroundings}
 use Rattle.scene_core.specs.declared.fault.SceneFault.{SceneFault}
 use Rattle.scene_core.specs.declared.numbering.Numbering.{Numbering}
 use Rattle.scene_core.specs.declared.scene.SceneNode.{SceneNode}
@@ -51,12 +51,12 @@ module _ (flat : Flat) (s : Numbering) where
   scene-refused : (roots : List ℕ) (e : SceneFault) → roots ≡ called s.numbers flat.roots → checked_nodes flat s roots ≡ Err e → scene_by flat s ≡ Err e
   scene-refused roots e is h = by_nodes ∙ ap (λ r. checked_nodes flat s r >>= λ n. Ok (scene_with flat s n)) (sym is) ∙ ap (λ o. o >>= λ n. Ok (scene_with flat s n)) h
 
-abbrev pub frame_by : Flat → List ℕ → Frame
+abbrev pub frame_by : Flat → List ℕ → Surroundings
 frame_by flat numbers = record { header = flat.header; roots = called numbers flat.roots; helpers = called numbers flat.helpers }
 
 -- ---- by what the calls answered
 
-module _ (flat : Flat) (s : Numbering) (frame : Frame) (nodes : List FlatNode) (roots helpers numbers called_roots : List ℕ) (are_nodes : nodes ≡ flat.nodes) (are_roots : roots ≡ flat.roots)
+module _ (flat : Flat) (s : Numbering) (frame : Surroundings) (nodes : List FlatNode) (roots helpers numbers called_roots : List ℕ) (are_nodes : nodes ≡ flat.nodes) (are_roots : roots ≡ flat.roots)
     (are_helpers : helpers ≡ flat.helpers) (same : s ≡ numbering nodes roots helpers) (are_numbers : numbers ≡ s.numbers) (is_frame : frame ≡ frame_by flat numbers) (are_called : called_roots ≡ frame.roots) where
   numbered : scene_of flat ≡ scene_by flat s
   unfolding scene_of
@@ -68,13 +68,13 @@ module _ (flat : Flat) (s : Numbering) (frame : Frame) (nodes : List FlatNode) (
   framed = is_frame ∙ ap (frame_by flat) are_numbers
 
   named : called_roots ≡ called s.numbers flat.roots
-  named = are_called ∙ ap (λ (f : Frame). f.roots) framed
+  named = are_called ∙ ap (λ (f : Surroundings). f.roots) framed
 
   pub scene-found : (found : List SceneNode) → checked_nodes flat s called_roots ≡ Ok found
       → scene_of flat ≡ Ok (record { header = frame.header; nodes = found; roots = frame.roots; helpers = frame.helpers; opened = s.opened; numbers = s.numbers })
   scene-found found e =
       numbered ∙ scene-made flat s called_roots found named e
-      ∙ ap (λ (f : Frame). Ok (record { header = f.header; nodes = found; roots = f.roots; helpers = f.helpers; opened = s.opened; numbers = s.numbers })) (sym framed)
+      ∙ ap (λ (f : Surroundings). Ok (record { header = f.header; nodes = found; roots = f.roots; helpers = f.helpers; opened = s.opened; numbers = s.numbers })) (sym framed)
 
   pub scene-fault : (e : SceneFault) → (e ≡ memory) ⊎ (checked_nodes flat s called_roots ≡ Err e) → (e ≡ memory) ⊎ (scene_of flat ≡ Err e)
   scene-fault e (inl m) = inl m

@@ -9,7 +9,7 @@ use Rattle.std.proofs.lemmas.Option.{slice_get-get_or, slice_get-map}
 use Rattle.x3d_values.specs.declared.node_type.NodeType.{NodeType}
 use Rattle.x3d_values.specs.declared.rows.Field.{Field}
 use Rattle.x3d_values.specs.declared.table.FieldRow.{FieldRow}
-use Rattle.x3d_values.specs.Tables.{Entry, entry, numbered, row_named, rows}
+use Rattle.x3d_values.specs.Tables.{FieldRowView, entry, numbered, row_named, rows}
 use Rattle.scene_core.specs.declared.row.DeclaredField.{DeclaredField}
 use Rattle.scene_core.specs.Shape.{declared_entry, numbered_fields, most_declared, rows_of, shape_by}
 
@@ -39,7 +39,7 @@ get-taken (suc k) (x ∷ xs) (suc n) h = get-taken k xs n (omega (arith, h))
 pub own-row : (t : NodeType) (declared : List DeclaredField) (own : List Field) (n : ℕ) (f : Field) → map entry own ≡ rows t → slice_get own n ≡ Some f
     → slice_get (rows_of (shape_by t declared)) n ≡ Some (entry f)
 own-row t declared own n f e is =
-    let here : slice_get (rows t) n ≡ Some (entry f) = ap (λ (es : List Entry). slice_get es n) (sym e) ∙ slice_get-map entry own n ∙ ap (λ o. option_map entry o) is in
+    let here : slice_get (rows t) n ≡ Some (entry f) = ap (λ (es : List FieldRowView). slice_get es n) (sym e) ∙ slice_get-map entry own n ∙ ap (λ o. option_map entry o) is in
     get-front (rows t) (map declared_entry (numbered_fields t declared)) n (entry f) here
 
 pub own-row-at : (t : NodeType) (declared : List DeclaredField) (own : List Field) (n : ℕ) (d : Field) → map entry own ≡ rows t → n < length own
@@ -47,7 +47,7 @@ pub own-row-at : (t : NodeType) (declared : List DeclaredField) (own : List Fiel
 own-row-at t declared own n d e h = own-row t declared own n (get_or own n d) e (slice_get-get_or own n d h)
 
 pub own-length : (t : NodeType) (own : List Field) → map entry own ≡ rows t → length (rows t) ≡ length own
-own-length t own e = ap (λ (es : List Entry). length es) (sym e) ∙ length-map own entry
+own-length t own e = ap (λ (es : List FieldRowView). length es) (sym e) ∙ length-map own entry
 
 pub declared-row : (t : NodeType) (declared : List DeclaredField) (own : List Field) (n : ℕ) → map entry own ≡ rows t → length own ≤ n → n < 65536
     → slice_get (rows_of (shape_by t declared)) n ≡ option_map declared_entry (slice_get declared (n - length own))
@@ -80,7 +80,7 @@ or-if : {A : Type 0} (b : Bool) (x : A) (r s t : Option A) → s ≡ option_or r
 or-if true x r s t e = refl
 or-if false x r s t e = e
 
-pub named-append : (n : ℕ) (name : List ℕ) (xs ys : List Entry) → row_named n name (xs ++ ys) ≡ option_or (row_named n name xs) (row_named (n + length xs) name ys)
+pub named-append : (n : ℕ) (name : List ℕ) (xs ys : List FieldRowView) → row_named n name (xs ++ ys) ≡ option_or (row_named n name xs) (row_named (n + length xs) name ys)
 named-append n name [] ys = let e : n ≡ n + 0 = omega arith in ap (λ k. row_named k name ys) e
 named-append n name (x ∷ xs) ys =
     let k : ℕ = n + length (x ∷ xs) in

@@ -4,8 +4,8 @@ use Rattle.std.specs.List.{fold}
 use Rattle.std.proofs.lemmas.List.{reverse-append, length-reverse, reverse-reverse, length-map}
 use Rattle.proto_flat.specs.declared.flat.FlatNode.{FlatNode}
 use Rattle.scene_core.specs.declared.numbering.Numbering.{Numbering}
-use Rattle.scene_core.specs.declared.numbering.Task.{Task}
-use Rattle.scene_core.specs.declared.numbering.Task.TheVariants.{Visit, Close}
+use Rattle.scene_core.specs.declared.numbering.NumberTask.{NumberTask}
+use Rattle.scene_core.specs.declared.numbering.NumberTask.TheVariants.{Visit, Close}
 use Rattle.scene_core.specs.Numbers.{is_new, appear, visit, unnumbered, numbering}
 use Rattle.scene_core.specs.Parts.{parts_of}
 use Rattle.scene_core.specs.Tasks.{do_task, finish, unopened, work_left}
@@ -27,7 +27,7 @@ map-reverse f [] = refl
 map-reverse f (x ∷ xs) =
     rw (reverse-append (x ∷ []) xs, reverse-append (f x ∷ []) (map f xs), map-append-one f, map-reverse f xs) refl
 
-reversed : (ns : List ℕ) (tasks : List Task) → reverse (tasks ++ map Visit (reverse ns)) ≡ map Visit ns ++ reverse tasks
+reversed : (ns : List ℕ) (tasks : List NumberTask) → reverse (tasks ++ map Visit (reverse ns)) ≡ map Visit ns ++ reverse tasks
 reversed ns tasks = rw (reverse-append, map-reverse, reverse-reverse) refl
 
 module _ (nodes : List FlatNode) where
@@ -35,7 +35,7 @@ module _ (nodes : List FlatNode) where
   full = visit (length nodes + 1) nodes
 
   -- the last task is done first
-  pub finish-push : (s : Numbering) (tasks : List Task) (task : Task) → finish nodes s (tasks ++ task ∷ []) ≡ finish nodes (do_task nodes s task) tasks
+  pub finish-push : (s : Numbering) (tasks : List NumberTask) (task : NumberTask) → finish nodes s (tasks ++ task ∷ []) ≡ finish nodes (do_task nodes s task) tasks
   unfolding finish
   finish-push s tasks task = ap (fold (do_task nodes) s) (reverse-push tasks task)
 
@@ -44,7 +44,7 @@ module _ (nodes : List FlatNode) where
   visits-done (n ∷ ns) s = visits-done ns (full s n)
 
   -- nodes that are pushed last to first are visited first to last
-  pub finish-visits : (ns : List ℕ) (s : Numbering) (tasks : List Task) → finish nodes s (tasks ++ map Visit (reverse ns)) ≡ finish nodes (fold full s ns) tasks
+  pub finish-visits : (ns : List ℕ) (s : Numbering) (tasks : List NumberTask) → finish nodes s (tasks ++ map Visit (reverse ns)) ≡ finish nodes (fold full s ns) tasks
   unfolding finish
   finish-visits ns s tasks =
       ap (fold (do_task nodes) s) (reversed ns tasks)
@@ -55,10 +55,10 @@ module _ (nodes : List FlatNode) where
   unfolding finish
   finish-none s = refl
 
-  pub old-done : (s : Numbering) (n : ℕ) (tasks : List Task) → is_new s n ≡ false → finish nodes s tasks ≡ finish nodes (do_task nodes s (Visit n)) tasks
+  pub old-done : (s : Numbering) (n : ℕ) (tasks : List NumberTask) → is_new s n ≡ false → finish nodes s tasks ≡ finish nodes (do_task nodes s (Visit n)) tasks
   old-done s n tasks old = ap (λ (t : Numbering). finish nodes t tasks) (sym (visit-old nodes (length nodes) s n old))
 
-  pub new-done : (s : Numbering) (n : ℕ) (tasks : List Task) → is_new s n ≡ true → unopened s.opened ≤ length nodes →
+  pub new-done : (s : Numbering) (n : ℕ) (tasks : List NumberTask) → is_new s n ≡ true → unopened s.opened ≤ length nodes →
       finish nodes (appear s n) ((tasks ++ Close n ∷ []) ++ map Visit (reverse (parts_of nodes n))) ≡ finish nodes (do_task nodes s (Visit n)) tasks
   new-done s n tasks new h =
       finish-visits (parts_of nodes n) (appear s n) (tasks ++ Close n ∷ [])
@@ -68,7 +68,7 @@ module _ (nodes : List FlatNode) where
   length-visits : (ns : List ℕ) → length (map Visit (reverse ns)) ≡ length ns
   length-visits ns = rw (length-map, length-reverse) refl
 
-  pub new-fewer : (s : Numbering) (n : ℕ) (tasks : List Task) → is_new s n ≡ true →
+  pub new-fewer : (s : Numbering) (n : ℕ) (tasks : List NumberTask) → is_new s n ≡ true →
       work_left nodes (appear s n) ((tasks ++ Close n ∷ []) ++ map Visit (reverse (parts_of nodes n))) ≤ work_left nodes s tasks
   unfolding work_left
   new-fewer s n tasks new =
@@ -83,11 +83,11 @@ module _ (nodes : List FlatNode) where
   pub new-few : (s : Numbering) (n : ℕ) → is_new s n ≡ true → unopened s.opened ≤ length nodes → unopened (appear s n).opened ≤ length nodes
   new-few s n new h = omega (arith, appear-fewer s n new, h)
 
-  pub close-fewer : (s t : Numbering) (tasks : List Task) → t.opened ≡ s.opened → work_left nodes t tasks ≤ work_left nodes s tasks
+  pub close-fewer : (s t : Numbering) (tasks : List NumberTask) → t.opened ≡ s.opened → work_left nodes t tasks ≤ work_left nodes s tasks
   unfolding work_left
   close-fewer s t tasks e = rw e (omega arith)
 
-  pub work-push : (s : Numbering) (tasks : List Task) (task : Task) → work_left nodes s (tasks ++ task ∷ []) ≡ work_left nodes s tasks + 1
+  pub work-push : (s : Numbering) (tasks : List NumberTask) (task : NumberTask) → work_left nodes s (tasks ++ task ∷ []) ≡ work_left nodes s tasks + 1
   unfolding work_left
   work-push s tasks task = omega (arith, length-append tasks (task ∷ []))
 

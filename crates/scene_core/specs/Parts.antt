@@ -4,7 +4,7 @@ use Rattle.std.specs.List.{find}
 use Rattle.std.specs.Option.{option_map_or}
 use Rattle.x3d_values.specs.declared.field_type.FieldType.{FieldType}
 use Rattle.x3d_values.specs.Access.{holds_nodes}
-use Rattle.x3d_values.specs.Tables.{Entry, rows}
+use Rattle.x3d_values.specs.Tables.{FieldRowView, rows}
 use Rattle.classic_tree.specs.declared.tree.RawValue.{RawValue}
 use Rattle.classic_tree.specs.declared.tree.RawValue.TheVariants.{Node, NodeList}
 use Rattle.proto_flat.specs.declared.flat.FlatNode.{FlatNode}
@@ -29,7 +29,7 @@ parts_in field_type given =
     else []
 
 -- the nodes in the fields of these rows, the first of which has that number
-abbrev pub parts_from : List FlatField → ℕ → List Entry → List ℕ
+abbrev pub parts_from : List FlatField → ℕ → List FieldRowView → List ℕ
 parts_from fields number [] = []
 parts_from fields number (e ∷ es) =
     parts_in e.field_type (given fields number) ++ parts_from fields (number + 1) es

@@ -8,7 +8,7 @@ use Rattle.x3d_values.specs.declared.node_type.NodeType.{NodeType}
 use Rattle.x3d_values.specs.declared.value.Value.{Value}
 use Rattle.x3d_values.specs.declared.value.Value.TheVariants.{MFNode}
 use Rattle.x3d_values.specs.Access.{is_kept}
-use Rattle.x3d_values.specs.Tables.{Entry, rows, row_named}
+use Rattle.x3d_values.specs.Tables.{FieldRowView, rows, row_named}
 use Rattle.proto_flat.specs.declared.flat.Header.{Header}
 use Rattle.scene_core.specs.declared.scene.End.{End}
 use Rattle.scene_core.specs.declared.scene.SceneNode.{SceneNode}
@@ -54,14 +54,14 @@ abbrev pub shape_at : SceneView → ℕ → Option Shape
 shape_at s node = slice_get (shapes_of s) node
 
 -- the fields of a node, none where there is no such node
-abbrev pub rows_at : SceneView → ℕ → List Entry
+abbrev pub rows_at : SceneView → ℕ → List FieldRowView
 rows_at s node = option_map_or rows_of (shape_at s node) []
 
 -- the plain name of a field: by the table of fields, or as a Script declares it
 abbrev pub field_name : SceneView → End → List ℕ
 field_name s end =
     unwrap_or
-    (option_map (λ (e : Entry). e.name) (slice_get (rows_at s end.node) end.field)) []
+    (option_map (λ (e : FieldRowView). e.name) (slice_get (rows_at s end.node) end.field)) []
 
 -- those of them that the node declares
 abbrev pub declared_at : SceneView → ℕ → List DeclaredField
@@ -97,7 +97,7 @@ abbrev pub name_at : SceneView → ℕ → Option (List ℕ)
 name_at s node = option_and_then (λ (n : SceneNode). n.label) (slice_get s.nodes node)
 
 -- what a node keeps of a field
-abbrev pub kept : Entry → Option Value → Option Value
+abbrev pub kept : FieldRowView → Option Value → Option Value
 kept e value = if is_kept e.access e.field_type then value else None
 
 abbrev pub fields_of : SceneNode → Fields

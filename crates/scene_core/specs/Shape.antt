@@ -10,17 +10,17 @@ use Rattle.x3d_values.specs.declared.field_type.FieldType.{FieldType}
 use Rattle.x3d_values.specs.declared.field_type.FieldType.TheVariants.{SFRotation}
 use Rattle.x3d_values.specs.declared.node_type.NodeType.{NodeType}
 use Rattle.x3d_values.specs.Access.{is_initial}
-use Rattle.x3d_values.specs.Tables.{Entry, rows}
+use Rattle.x3d_values.specs.Tables.{FieldRowView, rows}
 use Rattle.classic_tree.specs.declared.tree.Declaration.{Declaration}
 use Rattle.scene_core.specs.declared.row.DeclaredField.{DeclaredField}
-use Rattle.scene_core.specs.declared.row.Row.{Row}
+use Rattle.scene_core.specs.declared.row.NodeField.{NodeField}
 
 -- which fields a node has: those of its type, and behind them those that a Script declares
 pub record Shape : Type 0 where
   pub node_type : NodeType
-  pub declared : List Entry
+  pub declared : List FieldRowView
 
-abbrev pub rows_of : Shape → List Entry
+abbrev pub rows_of : Shape → List FieldRowView
 rows_of s = rows s.node_type ++ s.declared
 
 -- ---- a declared field
@@ -34,7 +34,7 @@ declared_default access field_type =
     if is_initial access && not (is_rotation field_type) then Some Empty else None
 
 -- its node fields take any node
-abbrev pub declared_entry : DeclaredField → Entry
+abbrev pub declared_entry : DeclaredField → FieldRowView
 declared_entry d = record {
   name = d.name;
   access = d.access;
@@ -46,7 +46,7 @@ declared_entry d = record {
 abbrev pub declared_by : Declaration ℕ → DeclaredField
 declared_by d = record { name = d.name; access = d.access; field_type = d.field_type }
 
-abbrev pub declaration_entry : Declaration ℕ → Entry
+abbrev pub declaration_entry : Declaration ℕ → FieldRowView
 declaration_entry d = declared_entry (declared_by d)
 
 -- ---- numbers have 16 bits: a scene has no node with more fields (specs/Wide)
@@ -67,7 +67,7 @@ shape_by t declared =
 
 -- ---- a row of the program
 
-abbrev pub row_entry : Row → Entry
+abbrev pub row_entry : NodeField → FieldRowView
 row_entry r = record {
   name = r.name.now;
   access = r.access;

@@ -3,18 +3,18 @@ use Rattle.std.specs.Prelude.{ℕ, ◌+◌, Bool, true, false, List, [], ◌∷�
 use Rattle.std.specs.List.{fold}
 use Rattle.proto_flat.specs.declared.flat.FlatNode.{FlatNode}
 use Rattle.scene_core.specs.declared.numbering.Numbering.{Numbering}
-use Rattle.scene_core.specs.declared.numbering.Task.{Task}
-use Rattle.scene_core.specs.declared.numbering.Task.TheVariants.{Visit, Close}
+use Rattle.scene_core.specs.declared.numbering.NumberTask.{NumberTask}
+use Rattle.scene_core.specs.declared.numbering.NumberTask.TheVariants.{Visit, Close}
 use Rattle.scene_core.specs.Numbers.{visit, close}
 use Rattle.scene_core.specs.Parts.{parts_of}
 
 -- a task by the definition of the numbers
-abbrev pub do_task : List FlatNode → Numbering → Task → Numbering
+abbrev pub do_task : List FlatNode → Numbering → NumberTask → Numbering
 do_task nodes s (Visit n) = visit (length nodes + 1) nodes s n
 do_task nodes s (Close n) = close s n
 
 -- the tasks from the last to the first
-unfoldable pub finish : List FlatNode → Numbering → List Task → Numbering
+unfoldable pub finish : List FlatNode → Numbering → List NumberTask → Numbering
 finish nodes s tasks = fold (do_task nodes) s (reverse tasks)
 
 -- how many of the nodes have not appeared
@@ -30,5 +30,5 @@ to_come nodes n (true ∷ rest) = to_come nodes (n + 1) rest
 to_come nodes n (false ∷ rest) = to_come nodes (n + 1) rest + (length (parts_of nodes n) + 1)
 
 -- a bound on the tasks that are still to be done
-unfoldable pub work_left : List FlatNode → Numbering → List Task → ℕ
+unfoldable pub work_left : List FlatNode → Numbering → List NumberTask → ℕ
 work_left nodes s tasks = to_come nodes 0 s.opened + length tasks

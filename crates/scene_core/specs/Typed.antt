@@ -15,7 +15,7 @@ use Rattle.x3d_values.specs.declared.value.Value.TheVariants.{SFTime, SFVec3f}
 use Rattle.x3d_values.specs.Access.{is_initial}
 use Rattle.x3d_values.specs.Defaults.{default_value}
 use Rattle.x3d_values.specs.Nodes.{kind_of}
-use Rattle.x3d_values.specs.Tables.{Entry, rows}
+use Rattle.x3d_values.specs.Tables.{FieldRowView, rows}
 use Rattle.classic_tree.specs.declared.tree.Declaration.{Declaration}
 use Rattle.proto_flat.specs.declared.flat.FlatNode.{FlatNode}
 use Rattle.proto_flat.specs.declared.flat.FlatField.{FlatField}
@@ -41,7 +41,7 @@ at_line line (Ok a) = Ok a
 at_line line (Err e) = Err (fault_at line e)
 
 -- a rotation is checked and dropped; any angle will do for `orientation`, which nothing uses
-abbrev pub dropped_rotation : Entry → FlatField → Result (Option Value) SceneFault
+abbrev pub dropped_rotation : FieldRowView → FlatField → Result (Option Value) SceneFault
 dropped_rotation e f =
     at_line f.line (checked_rotation f.value (pointwise nat_eq e.name (codes "orientation")))
     >>= λ _. Ok None
@@ -76,7 +76,7 @@ accepted nodes access kind f value =
     else Err (fault BadChild f.line))
 
 -- the same of a field of a node type, some of which have ranges of their own
-abbrev pub accepted_in_range : List FlatNode → Entry → FlatField → Value
+abbrev pub accepted_in_range : List FlatNode → FieldRowView → FlatField → Value
     → Result (Option Value) SceneFault
 accepted_in_range nodes e f value =
     if in_range e.name value
@@ -86,24 +86,24 @@ accepted_in_range nodes e f value =
 abbrev pub typed_value : List ℕ → FieldType → FlatField → Result Value SceneFault
 typed_value numbers field_type f = at_line f.line (typed field_type f.value numbers)
 
-abbrev pub given_value : List FlatNode → List ℕ → Entry → FlatField
+abbrev pub given_value : List FlatNode → List ℕ → FieldRowView → FlatField
     → Result (Option Value) SceneFault
 given_value nodes numbers e f =
     if is_rotation e.field_type
     then dropped_rotation e f
     else (typed_value numbers e.field_type f >>= accepted_in_range nodes e f)
 
-abbrev pub default_of : Entry → Option Value
+abbrev pub default_of : FieldRowView → Option Value
 default_of e = option_and_then (default_value e.field_type) e.default
 
 -- what a field of that row holds: the value given, or the default; none where it holds no value
-unfoldable pub field_value : List FlatNode → List ℕ → Entry → Option FlatField
+unfoldable pub field_value : List FlatNode → List ℕ → FieldRowView → Option FlatField
     → Result (Option Value) SceneFault
 field_value nodes numbers e (Some f) = given_value nodes numbers e f
 field_value nodes numbers e None = Ok (default_of e)
 
 -- the values of these rows, the first of which has that number, behind those made so far
-abbrev pub values_from : List FlatNode → List ℕ → List FlatField → ℕ → List Entry
+abbrev pub values_from : List FlatNode → List ℕ → List FlatField → ℕ → List FieldRowView
     → List (Option Value) → Result (List (Option Value)) SceneFault
 values_from nodes numbers fields number [] made = Ok made
 values_from nodes numbers fields number (e ∷ es) made =

@@ -24,14 +24,18 @@ use x3d_lists::{Duplicate, Items};
 
 /// What a scene has beside its nodes and their numbers.
 #[derive(Drop)]
-pub struct Frame {
+pub struct Surroundings {
     pub header: Header,
     pub roots: Items<u32>,
     pub helpers: Items<u32>,
 }
 
 /// The header of a document, and what its roots and helpers are called in the scene.
-pub(crate) fn frame_of(alloc: Global, flat: &Flat, numbers: &[u32]) -> Result<Frame, AllocError>
+pub(crate) fn frame_of(
+    alloc: Global,
+    flat: &Flat,
+    numbers: &[u32],
+) -> Result<Surroundings, AllocError>
     ensures { IfOk result (λ frame. frame ≡ record {
       header = flat.now.header;
       roots = spec.called numbers.now flat.now.roots;
@@ -48,7 +52,7 @@ pub(crate) fn frame_of(alloc: Global, flat: &Flat, numbers: &[u32]) -> Result<Fr
         drop(helpers);
         return Err(AllocError);
     };
-    Ok(Frame {
+    Ok(Surroundings {
         header,
         roots,
         helpers,

@@ -27,5 +27,5 @@ mod wide;
 
 pub use fault::{SceneFault, SceneFaultKind};
 pub use places::is_pointing;
-pub use row::{DeclaredField, Row};
+pub use row::{DeclaredField, NodeField};
 pub use scene::{End, Route, Scene, SceneNode};

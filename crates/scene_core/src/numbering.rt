@@ -21,7 +21,7 @@ pub struct Numbering {
 
 /// Something that is still to be done.
 #[derive(Clone, Copy)]
-pub enum Task {
+pub enum NumberTask {
     /// A node appears.
     Visit(u32),
     /// All nodes in a node have numbers.
@@ -96,7 +96,8 @@ fn visit_all(
     requires { unopened state.old.opened ≤ length nodes.now }
     ensures { OnOk result
         (state.new ≡ finish nodes.now state.old
-        (([] ++ map Task.Visit (reverse helpers.now)) ++ map Task.Visit (reverse roots.now))) }
+        (([] ++ map NumberTask.Visit (reverse helpers.now))
+        ++ map NumberTask.Visit (reverse roots.now))) }
 {
     let mut tasks = Vec::new(alloc);
     push_visits(&mut tasks, helpers)?;
@@ -104,12 +105,12 @@ fn visit_all(
     run(alloc, nodes, &mut tasks, state)
 }
 
-fn push_visits(tasks: &mut Vec<Task>, nodes: &[u32]) -> Result<(), AllocError>
+fn push_visits(tasks: &mut Vec<NumberTask>, nodes: &[u32]) -> Result<(), AllocError>
     ensures { OnOk result
-        (tasks.new.items ≡ tasks.old.items ++ map Task.Visit (reverse nodes.now)) }
+        (tasks.new.items ≡ tasks.old.items ++ map NumberTask.Visit (reverse nodes.now)) }
 {
     for i in (0..nodes.len()).rev() {
-        tasks.push(Task::Visit(nodes[i]))?;
+        tasks.push(NumberTask::Visit(nodes[i]))?;
     }
     Ok(())
 }
@@ -129,13 +130,13 @@ fn parts_of(alloc: Global, nodes: &[FlatNode], node: u32) -> Result<Vec<u32>, Al
 fn visit(
     alloc: Global,
     nodes: &[FlatNode],
-    tasks: &mut Vec<Task>,
+    tasks: &mut Vec<NumberTask>,
     state: &mut Numbering,
     node: u32,
 ) -> Result<(), AllocError>
     requires { unopened state.old.opened ≤ length nodes.now }
     ensures done { OnOk result (finish nodes.now state.new tasks.new.items
-        ≡ finish nodes.now (do_task nodes.now state.old (Task.Visit node)) tasks.old.items) }
+        ≡ finish nodes.now (do_task nodes.now state.old (NumberTask.Visit node)) tasks.old.items) }
     ensures few { OnOk result (unopened state.new.opened ≤ length nodes.now) }
     ensures fewer { OnOk result
         (work_left nodes.now state.new tasks.new.items
@@ -145,7 +146,7 @@ fn visit(
         return Ok(());
     }
     state.appear(node);
-    tasks.push(Task::Close(node))?;
+    tasks.push(NumberTask::Close(node))?;
     let parts = parts_of(alloc, nodes, node)?;
     push_visits(tasks, parts.as_slice())?;
     Ok(())
@@ -154,9 +155,9 @@ fn visit(
 fn step(
     alloc: Global,
     nodes: &[FlatNode],
-    tasks: &mut Vec<Task>,
+    tasks: &mut Vec<NumberTask>,
     state: &mut Numbering,
-    task: Task,
+    task: NumberTask,
 ) -> Result<(), AllocError>
     requires { unopened state.old.opened ≤ length nodes.now }
     ensures done { OnOk result (finish nodes.now state.new tasks.new.items
@@ -167,8 +168,8 @@ fn step(
         ≤ work_left nodes.now state.old tasks.old.items) }
 {
     match task {
-        Task::Visit(node) => visit(alloc, nodes, tasks, state, node),
-        Task::Close(node) => {
+        NumberTask::Visit(node) => visit(alloc, nodes, tasks, state, node),
+        NumberTask::Close(node) => {
             state.close(node)?;
             Ok(())
         }
@@ -178,7 +179,7 @@ fn step(
 fn run(
     alloc: Global,
     nodes: &[FlatNode],
-    tasks: &mut Vec<Task>,
+    tasks: &mut Vec<NumberTask>,
     state: &mut Numbering,
 ) -> Result<(), AllocError>
     requires { unopened state.old.opened ≤ length nodes.now }

@@ -26,7 +26,7 @@ pub struct DeclaredField {
 
 /// A field of a node.
 #[derive(Clone, Copy)]
-pub struct Row<'a> {
+pub struct NodeField<'a> {
     pub name: &'a str,
     pub access: Access,
     pub field_type: FieldType,
@@ -36,10 +36,10 @@ pub struct Row<'a> {
     pub kind: Option<NodeKind>,
 }
 
-fn own_row(field: &'static Field) -> Row<'static>
+fn own_row(field: &'static Field) -> NodeField<'static>
     ensures { row_entry result ≡ entry field.now }
 {
-    Row {
+    NodeField {
         name: field.name,
         access: field.access,
         field_type: field.field_type,
@@ -58,10 +58,10 @@ fn declared_default(access: Access, field_type: FieldType) -> Option<FieldDefaul
     }
 }
 
-fn declared_row(field: &DeclaredField) -> Row<'_>
+fn declared_row(field: &DeclaredField) -> NodeField<'_>
     ensures { row_entry result ≡ spec.declared_entry field.now }
 {
-    Row {
+    NodeField {
         name: field.name.as_str(),
         access: field.access,
         field_type: field.field_type,
@@ -84,7 +84,7 @@ pub(crate) fn row_by(
     node_type: NodeType,
     declared: &[DeclaredField],
     number: u16,
-) -> Option<Row<'_>>
+) -> Option<NodeField<'_>>
     ensures { option_map row_entry result
         ≡ slice_get (rows_of (shape_by node_type declared.now)) number }
 {

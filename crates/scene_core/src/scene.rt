@@ -16,7 +16,7 @@ use crate::fault::{SceneFault, SceneFaultKind, fault};
 use crate::labels::push_label;
 use crate::numbering::numbered;
 use crate::places::own_children;
-use crate::row::{DeclaredField, Row, count_by, named_by, numbered_fields, row_by};
+use crate::row::{DeclaredField, NodeField, count_by, named_by, numbered_fields, row_by};
 use crate::sensor_lists::{SensorLists, sensor_lists};
 use crate::state::state_of;
 use proto_flat::{Flat, Header};
@@ -154,7 +154,7 @@ impl Scene {
 
     /// The field of that number of a node; none where there is no such field.
     #[tactic(auto, using(crate::proofs::ShapeLemmas::shapes))]
-    pub fn row(&self, node: u32, number: u16) -> Option<Row<'_>>
+    pub fn row(&self, node: u32, number: u16) -> Option<NodeField<'_>>
         ensures { option_map row_entry result ≡ slice_get (rows_at self.now node) number }
     {
         let Some(node) = self.nodes.get(node as usize) else {

@@ -7,7 +7,7 @@ ghost use Rattle.scene_core.specs.Scene as spec;
 ghost use Rattle.scene_core.specs.Scene.{shape_of};
 ghost use Rattle.scene_core.specs.Shape.{row_entry, rows_of};
 
-use crate::row::{Row, count_by, row_by};
+use crate::row::{NodeField, count_by, row_by};
 use crate::scene::SceneNode;
 use std::alloc::{AllocError, Global};
 use x3d_lists::Items;
@@ -27,7 +27,7 @@ pub(crate) fn state_of(alloc: Global, nodes: &[SceneNode]) -> Result<Vec<Fields>
 /// What a node keeps of a field of that row; nothing where there is no row.
 fn kept(
     alloc: Global,
-    row: Option<Row<'_>>,
+    row: Option<NodeField<'_>>,
     value: &Option<Value>,
 ) -> Result<Option<Value>, AllocError>
     ensures { IfOk result (λ copy. copy

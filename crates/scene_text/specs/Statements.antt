@@ -3,7 +3,7 @@ use Rattle.std.specs.Prelude.{ℕ, Bool, false, List, [], ◌∷◌, ◌++◌, N
 use Rattle.x3d_values.specs.declared.fields.Fields.{Fields}
 use Rattle.x3d_values.specs.Ranges.{max_depth}
 use Rattle.classic_tree.specs.declared.tree.Document.{Document}
-use Rattle.classic_tree.specs.declared.tree.Place.{Place}
+use Rattle.classic_tree.specs.declared.tree.RouteEnd.{RouteEnd}
 use Rattle.classic_tree.specs.declared.tree.RouteText.{RouteText}
 use Rattle.classic_tree.specs.declared.tree.RawValue.TheVariants as raw
 use Rattle.classic_tree.specs.declared.tree.Given.TheVariants as given
@@ -16,11 +16,11 @@ use Rattle.scene_core.specs.declared.scene.End.{End}
 use Rattle.scene_core.specs.declared.scene.Route.{Route}
 use Rattle.scene_core.specs.Scene.{SceneView, field_name, label_of}
 use Rattle.scene_text.specs.Places.{named}
-use Rattle.scene_text.specs.Tree.{PlanView, Step, Makes, each, node_tree}
+use Rattle.scene_text.specs.Tree.{PlanView, Grows, Makes, each, node_tree}
 
 -- ---- routes, by labels and the fields' own names
 
-abbrev pub place_of : SceneView → End → Place
+abbrev pub place_of : SceneView → End → RouteEnd
 place_of s end = record { node = label_of s end.node; field = field_name s end }
 
 abbrev pub route_of : SceneView → Route → RouteText
@@ -42,11 +42,11 @@ abbrev pub root_tree : Makes ℕ NodeText → Makes ℕ Statement
 root_tree tree seen n =
     let m = tree seen n in record { seen = m.seen; made = statement.Node m.made }
 
-abbrev pub roots_of : PlanView → Step (List Statement)
+abbrev pub roots_of : PlanView → Grows (List Statement)
 roots_of p =
     each (root_tree (node_tree max_depth p)) (replicate (length p.scene.nodes) false) p.scene.roots
 
-abbrev pub helpers_of : PlanView → List Bool → Step (List NodeText)
+abbrev pub helpers_of : PlanView → List Bool → Grows (List NodeText)
 helpers_of p seen = each (node_tree max_depth p) seen p.scene.helpers
 
 abbrev pub routes_of : SceneView → List Route → List Statement

@@ -12,7 +12,7 @@ use Rattle.x3d_values.specs.declared.value.Value.TheVariants.{SFNode, MFNode}
 use Rattle.x3d_values.specs.Access.{is_initial, is_kept}
 use Rattle.x3d_values.specs.Kept.{field_value}
 use Rattle.x3d_values.specs.Names.{node_type_name}
-use Rattle.x3d_values.specs.Tables.{Entry, rows}
+use Rattle.x3d_values.specs.Tables.{FieldRowView, rows}
 use Rattle.classic_tree.specs.declared.tree.RawValue.{RawValue}
 use Rattle.classic_tree.specs.declared.tree.RawValue.TheVariants as raw
 use Rattle.classic_tree.specs.declared.tree.Given.{Given}
@@ -63,7 +63,7 @@ shown_field name (Some default) (Some value) = shown_if (not (is_default default
 shown_field name _ _ = []
 
 -- in the order of the table, the first of these rows being of that number
-abbrev pub shown_from : PlanView → ℕ → ℕ → List Entry → List Shown
+abbrev pub shown_from : PlanView → ℕ → ℕ → List FieldRowView → List Shown
 shown_from p n number [] = []
 shown_from p n number (e ∷ others) =
     shown_field e.name e.default (present_value p n number e.access e.field_type)
@@ -88,24 +88,24 @@ shown_fields p n t =
 -- ---- trees, by which nodes have appeared
 
 -- which nodes have appeared, and what was made
-pub record Step (A : Type 0) : Type 0 where
+pub record Grows (A : Type 0) : Type 0 where
   pub seen : List Bool
   pub made : A
 
 abbrev pub Makes : Type 0 → Type 0 → Type 0
-Makes A B = List Bool → A → Step B
+Makes A B = List Bool → A → Grows B
 
-abbrev pub one_more : {A B : Type 0} → Makes A B → Step (List B) → A → Step (List B)
+abbrev pub one_more : {A B : Type 0} → Makes A B → Grows (List B) → A → Grows (List B)
 one_more make s x = let m = make s.seen x in record { seen = m.seen; made = s.made ++ m.made ∷ [] }
 
 -- something of each in turn
 abbrev pub each : {A B : Type 0} → Makes A B → Makes (List A) (List B)
 each make seen xs = fold (one_more make) (record { seen = seen; made = [] }) xs
 
-abbrev pub as_node : {N : Type 0} → Step N → Step (RawValue N)
+abbrev pub as_node : {N : Type 0} → Grows N → Grows (RawValue N)
 as_node m = record { seen = m.seen; made = raw.Node m.made }
 
-abbrev pub as_nodes : {N : Type 0} → Step (List N) → Step (RawValue N)
+abbrev pub as_nodes : {N : Type 0} → Grows (List N) → Grows (RawValue N)
 as_nodes m = record { seen = m.seen; made = raw.NodeList m.made }
 
 abbrev pub node_list : Makes ℕ NodeText → Makes (List ℕ) (RawValue NodeText)
@@ -117,7 +117,7 @@ value_tree tree seen (SFNode (Some n)) = as_node (tree seen n)
 value_tree tree seen (MFNode ns) = node_list tree seen ns
 value_tree tree seen value = record { seen = seen; made = plain value }
 
-abbrev pub plain_tree : List ℕ → Step (RawValue NodeText) → Step BodyItem
+abbrev pub plain_tree : List ℕ → Grows (RawValue NodeText) → Grows BodyItem
 plain_tree name m = record { seen = m.seen; made = item.Field 0 name (given.Value m.made) }
 
 abbrev pub given_tree : Makes ℕ NodeText → Makes (Option Value) (Given NodeText)
@@ -134,7 +134,7 @@ declaration d held = item.Declaration (record {
   given = held;
 })
 
-abbrev pub declared_tree : DeclaredField → Step (Given NodeText) → Step BodyItem
+abbrev pub declared_tree : DeclaredField → Grows (Given NodeText) → Grows BodyItem
 declared_tree d m = record { seen = m.seen; made = declaration d m.made }
 
 abbrev pub field_tree : Makes ℕ NodeText → Makes Shown BodyItem
@@ -151,12 +151,12 @@ use_tree p n = node.Use 0 (label_of p.scene n)
 abbrev pub def_name : PlanView → ℕ → Option (List ℕ)
 def_name p n = if get_or p.named n false then Some (label_of p.scene n) else None
 
-abbrev pub full_tree : PlanView → ℕ → NodeType → Step (List BodyItem) → Step NodeText
+abbrev pub full_tree : PlanView → ℕ → NodeType → Grows (List BodyItem) → Grows NodeText
 full_tree p n t m =
     record { seen = m.seen; made = node.Full 0 (def_name p n) (node_type_name t) m.made }
 
 -- the type is that of a node that appears for the first time
-abbrev pub opened : PlanView → Makes ℕ NodeText → List Bool → ℕ → Option NodeType → Step NodeText
+abbrev pub opened : PlanView → Makes ℕ NodeText → List Bool → ℕ → Option NodeType → Grows NodeText
 opened p tree seen n (Some t) =
     full_tree p n t (each (field_tree tree) (slice_set seen n true) (shown_fields p n t))
 opened p tree seen n None = record { seen = seen; made = use_tree p n }

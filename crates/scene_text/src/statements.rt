@@ -8,7 +8,7 @@ ghost use Rattle.scene_text.specs.Views.{plan_of};
 
 use crate::plan::{Plan, label};
 use crate::tree::{node_tree, node_trees};
-use classic_tree::{BodyItem, Given, NodeText, Place, RawValue, RouteText, Statement};
+use classic_tree::{BodyItem, Given, NodeText, RawValue, RouteEnd, RouteText, Statement};
 use scene_core::{End, Route, Scene};
 use std::alloc::{AllocError, Global};
 use x3d_values::{Items, MAX_DEPTH, Text};
@@ -31,10 +31,10 @@ pub(crate) fn statements_of(alloc: Global, plan: &Plan<'_>) -> Result<Vec<Statem
     Ok(statements)
 }
 
-fn place_of(alloc: Global, scene: &Scene, end: &End) -> Result<Place, AllocError>
+fn place_of(alloc: Global, scene: &Scene, end: &End) -> Result<RouteEnd, AllocError>
     ensures { IfOk result (λ place. place ≡ place_of scene.now end.now) }
 {
-    Ok(Place {
+    Ok(RouteEnd {
         node: label(alloc, scene, end.node)?,
         field: Text::from_str(alloc, scene.field_name(*end))?,
     })

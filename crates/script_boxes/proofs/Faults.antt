@@ -5,7 +5,7 @@ use Rattle.x3d_values.specs.declared.script.Kind.{Kind}
 use Rattle.x3d_values.specs.declared.script.Kind.TheVariants as kinds
 use Rattle.x3d_values.specs.declared.script.ScriptSpec.{ScriptSpec}
 use Rattle.script_host.specs.Attaching.{Fits, IsElsewhere, IsOther, IsUnfit, KnownBelow, Meets, Refuses}
-use Rattle.script_host.specs.Hosting.{ScriptRecord}
+use Rattle.script_host.specs.Hosting.{SlotView}
 use Rattle.script_host.specs.Pairs.{PairAt, PairsBelow}
 use Rattle.script_host.specs.States.{state_fault}
 use Rattle.script_host.specs.declared.fault.AttachFault.{AttachFault}
@@ -99,7 +99,7 @@ not_other (s ∷ ss) (suc j) known here =
     not_other ss j (others_known s ss known) (subst (λ b. PairAt IsOther (s ∷ ss) b (suc j)) (stock_first s ss first.0 first.1) here)
 
 -- the first box that doesn't meet its script tells its fault
-unfit_there : (Here : ScriptSpec → ScriptRecord → Type 0) (fault : ℕ → AttachFault)
+unfit_there : (Here : ScriptSpec → SlotView → Type 0) (fault : ℕ → AttachFault)
     → ((k : ℕ) (s : ScriptSpec) (kind : Kind) → s.kind ≡ Some kind → Here s (made kind s.start) → unfit_at k s ≡ Some (fault k))
     → (k n : ℕ) (asked : List ScriptSpec) (j : ℕ) → n ≡ k + j → KnownBelow asked (length asked)
     → PairsBelow Meets asked (stock_for asked) j → PairAt Here asked (stock_for asked) j → unfit_from k asked ≡ Some (fault n)
@@ -131,7 +131,7 @@ none_unfit k (s ∷ ss) known meet =
 -- ---- all of them
 
 -- boxes that are taken have scripts without a fault
-pub no_fault : (asked : List ScriptSpec) (boxes : List ScriptRecord) → boxes ≡ stock_for asked → Fits asked boxes
+pub no_fault : (asked : List ScriptSpec) (boxes : List SlotView) → boxes ≡ stock_for asked → Fits asked boxes
     → scripts_fault asked ≡ None
 no_fault asked boxes made_so fit =
     let own = subst (Fits asked) made_so fit in
@@ -149,17 +149,17 @@ told asked (StartMismatch k) h =
 told asked Memory h = inl refl
 
 -- boxes are refused for memory, or for the fault of their scripts
-pub fault_of : (asked : List ScriptSpec) (boxes : List ScriptRecord) (fault : AttachFault) → boxes ≡ stock_for asked
+pub fault_of : (asked : List ScriptSpec) (boxes : List SlotView) (fault : AttachFault) → boxes ≡ stock_for asked
     → Refuses fault asked boxes → (fault ≡ Memory) ⊎ (scripts_fault asked ≡ Some fault)
 fault_of asked boxes fault made_so h = told asked fault (subst (Refuses fault asked) made_so h)
 
 -- the same of an answer
-pub taken_if : (result : Result (List ScriptRecord) AttachFault) (asked : List ScriptSpec) (boxes : List ScriptRecord) → boxes ≡ stock_for asked
+pub taken_if : (result : Result (List SlotView) AttachFault) (asked : List ScriptSpec) (boxes : List SlotView) → boxes ≡ stock_for asked
     → IfOk result (λ scripts. scripts ≡ boxes) → IfOk result (λ scripts. Fits asked scripts) → OnOk result (scripts_fault asked ≡ None)
 taken_if (Ok scripts) asked boxes made_so are fit = no_fault asked scripts (are ∙ made_so) fit
 taken_if (Err fault) asked boxes made_so are fit = tt
 
-pub refused_if : (result : Result (List ScriptRecord) AttachFault) (asked : List ScriptSpec) (boxes : List ScriptRecord) → boxes ≡ stock_for asked
+pub refused_if : (result : Result (List SlotView) AttachFault) (asked : List ScriptSpec) (boxes : List SlotView) → boxes ≡ stock_for asked
     → IfErr result (λ fault. Refuses fault asked boxes) → IfErr result (λ fault. (fault ≡ Memory) ⊎ (scripts_fault asked ≡ Some fault))
 refused_if (Ok scripts) asked boxes made_so h = tt
 refused_if (Err fault) asked boxes made_so h = fault_of asked boxes fault made_so h

@@ -7,11 +7,11 @@ use Rattle.std.proofs.lemmas.Option.{same_Some, slice_get-map, unwrap_or-slice_g
 use Rattle.x3d_values.specs.declared.script.Kind.{Kind}
 use Rattle.x3d_values.specs.declared.script.ScriptSpec.{ScriptSpec}
 use Rattle.script_host.specs.Attaching.{Fits, Meets}
-use Rattle.script_host.specs.Hosting.{ScriptRecord}
+use Rattle.script_host.specs.Hosting.{SlotView}
 use Rattle.script_boxes.specs.Boxes.{made_of, stock_kind, stock_state}
 use Rattle.script_boxes.specs.declared.stock.StockScript.{StockScript}
 
-abbrev new_record : Kind → List ℤ → ScriptRecord
+abbrev new_record : Kind → List ℤ → SlotView
 new_record k s = record { kind = k; state = s; initialized = false }
 
 one_box : (s : ScriptSpec) (a b : StockScript) → Meets s (made_of a) → Meets s (made_of b) → made_of a ≡ made_of b

@@ -5,7 +5,7 @@ use Rattle.std.specs.Option.{option_map}
 use Rattle.x3d_values.specs.declared.script.Kind.{Kind}
 use Rattle.x3d_values.specs.declared.script.Kind.TheVariants as kinds
 use Rattle.x3d_values.specs.declared.script.ScriptSpec.{ScriptSpec}
-use Rattle.script_host.specs.Hosting.{ScriptRecord, fresh_record}
+use Rattle.script_host.specs.Hosting.{SlotView, fresh_record}
 use Rattle.script_host.specs.States.{state_fault}
 use Rattle.script_slots.specs.declared.fault.StateFault.{StateFault}
 use Rattle.script_boxes.specs.declared.stock.StockScript.{StockScript}
@@ -29,7 +29,7 @@ stock_state (stock.Mover state) = state
 stock_state (stock.Meter state) = state
 
 -- a box that was made, before it is initialized
-abbrev pub made_of : StockScript → ScriptRecord
+abbrev pub made_of : StockScript → SlotView
 made_of script = fresh_record stock_kind stock_state script
 
 -- the state of a script that isn't told its start
@@ -47,7 +47,7 @@ start_or_zeros kind start None = start
 start_or_zeros kind start (Some fault) = zeros kind
 
 -- the box of a script of this kind that is to start in this state
-abbrev pub made : Kind → List ℤ → ScriptRecord
+abbrev pub made : Kind → List ℤ → SlotView
 made kind start = record {
   kind = kind;
   state = start_or_zeros kind start (state_fault kind start);
@@ -55,9 +55,9 @@ made kind start = record {
 }
 
 -- the box of a script, where its kind is known
-abbrev pub made_for : ScriptSpec → Option ScriptRecord
+abbrev pub made_for : ScriptSpec → Option SlotView
 made_for asked = option_map (λ (kind : Kind). made kind asked.start) asked.kind
 
 -- the boxes of all scripts whose kinds are known
-abbrev pub stock_for : List ScriptSpec → List ScriptRecord
+abbrev pub stock_for : List ScriptSpec → List SlotView
 stock_for asked = filter_map made_for asked

@@ -5,13 +5,13 @@ use Rattle.std.specs.Prelude.{IsSomeAnd}
 use Rattle.x3d_values.specs.declared.script.ScriptSpec.{ScriptSpec}
 use Rattle.script_host.specs.declared.fault.AttachFault.{AttachFault}
 use Rattle.script_host.specs.declared.fault.AttachFault.TheVariants.{UnknownScript, WrongCount, KindDiffers, InterfaceMismatch, StartMismatch, Memory}
-use Rattle.script_host.specs.Hosting.{ScriptRecord}
+use Rattle.script_host.specs.Hosting.{SlotView}
 use Rattle.script_host.specs.Attaching.{Meets, Fits, KnownBelow, IsMismatch, IsOther, IsUnfit, IsElsewhere, Refuses}
 use Rattle.script_host.specs.Pairs.{PairAt, PairsBelow}
 use Rattle.script_host.proofs.PairLemmas.{PairAt-map}
 
 -- a mismatch at k, where all before k meet, is the fault
-pub refuses_at : {X : Type 0} (f : X → ScriptRecord) (specs : List ScriptSpec) (xs : List X) (k : ℕ) (s : ScriptSpec) (x : X) (fault : AttachFault)
+pub refuses_at : {X : Type 0} (f : X → SlotView) (specs : List ScriptSpec) (xs : List X) (k : ℕ) (s : ScriptSpec) (x : X) (fault : AttachFault)
     → k < length specs → k < length xs → s ≡ get_or specs k s → x ≡ get_or xs k x
     → KnownBelow specs (length specs) → length specs ≡ length (map f xs) → PairsBelow Meets specs (map f xs) k
     → IsMismatch fault k s (f x) → Refuses fault specs (map f xs)
@@ -32,15 +32,15 @@ no_unknown [] k h known = absurd h
 no_unknown (s ∷ specs) zero h known = known zero (omega arith) h
 no_unknown (s ∷ specs) (suc k) h known = no_unknown specs k h (λ j below. known (suc j) (omega arith))
 
-apart : (P Q : ScriptSpec → ScriptRecord → Type 0) → ((s : ScriptSpec) (r : ScriptRecord) → P s r → Q s r → ⊥) →
-    (specs : List ScriptSpec) (boxes : List ScriptRecord) (k : ℕ) → PairAt P specs boxes k → PairsBelow Q specs boxes (length specs) → ⊥
+apart : (P Q : ScriptSpec → SlotView → Type 0) → ((s : ScriptSpec) (r : SlotView) → P s r → Q s r → ⊥) →
+    (specs : List ScriptSpec) (boxes : List SlotView) (k : ℕ) → PairAt P specs boxes k → PairsBelow Q specs boxes (length specs) → ⊥
 apart P Q never [] boxes k h q = absurd h
 apart P Q never (s ∷ specs) [] zero h q = absurd h
 apart P Q never (s ∷ specs) [] (suc k) h q = apart P Q never specs [] k h (λ j below. q (suc j) (omega arith))
 apart P Q never (s ∷ specs) (r ∷ boxes) zero h q = never s r h (q zero (omega arith))
 apart P Q never (s ∷ specs) (r ∷ boxes) (suc k) h q = apart P Q never specs boxes k h (λ j below. q (suc j) (omega arith))
 
-pub only_memory : (fault : AttachFault) (specs : List ScriptSpec) (boxes : List ScriptRecord) → Refuses fault specs boxes → Fits specs boxes → fault ≡ Memory
+pub only_memory : (fault : AttachFault) (specs : List ScriptSpec) (boxes : List SlotView) → Refuses fault specs boxes → Fits specs boxes → fault ≡ Memory
 only_memory (UnknownScript k) specs boxes h fits = absurd (no_unknown specs k h.1 fits.known)
 only_memory WrongCount specs boxes h fits = absurd (h.1 fits.count)
 only_memory (KindDiffers k) specs boxes h fits = absurd (apart IsOther Meets (λ s r other meets. other meets.kind) specs boxes k h.here fits.meet)
@@ -50,6 +50,6 @@ only_memory (StartMismatch k) specs boxes h fits = absurd (apart IsElsewhere Mee
 only_memory Memory specs boxes h fits = refl
 
 -- all boxes were looked at, and each meets
-pub all_meet : {X : Type 0} (f : X → ScriptRecord) (specs : List ScriptSpec) (xs : List X) (k : ℕ) → length specs ≡ k →
+pub all_meet : {X : Type 0} (f : X → SlotView) (specs : List ScriptSpec) (xs : List X) (k : ℕ) → length specs ≡ k →
     KnownBelow specs (length specs) → length specs ≡ length xs → PairsBelow Meets specs (map f xs) k → Fits specs (map f xs)
 all_meet f specs xs k done known count meet = record { known = known; count = count ∙ sym (length-map _ _); meet = rw done meet }

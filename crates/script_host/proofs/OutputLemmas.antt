@@ -1,7 +1,7 @@
 -- Scripts send from outputs of their kinds.
 use Rattle.std.proofs.Common.{zero, suc, ℤ, List, [], ◌∷◌, Bool, true, false, IsTrue, if◌then◌else◌, refl}
 use Rattle.x3d_values.specs.declared.script.Kind.TheVariants.{Counter, Gate, Adder, Batch, Mover, Meter}
-use Rattle.script_host.specs.Behaviour.{Call, Initialize, Receive, Settle, Answer, counter, gate, adder, batch, mover, meter, counted, next_count, keeps, sends, number_of, is_one}
+use Rattle.script_host.specs.Behaviour.{Call, Initialize, Receive, Settle, CallAnswer, counter, gate, adder, batch, mover, meter, counted, next_count, keeps, sends, number_of, is_one}
 use Rattle.script_host.specs.Outputs.{leave_by_outputs, SendsByOutputs}
 
 counter_sends : (call : Call) (state : List ℤ) → IsTrue (leave_by_outputs Counter (counter call state).replies)
@@ -11,7 +11,7 @@ counter_sends (Receive (suc input) event) state = refl
 counter_sends (Receive zero event) (count ∷ step ∷ []) =
     elim (is_one (number_of event)) as (λ b. IsTrue (leave_by_outputs Counter (ticked b).replies)) [ true ↦ refl | false ↦ refl ]
   where
-    ticked : Bool → Answer
+    ticked : Bool → CallAnswer
     ticked b = if b then counted (next_count count step) step else keeps (count ∷ step ∷ [])
 counter_sends (Receive zero event) [] = refl
 counter_sends (Receive zero event) (count ∷ []) = refl
@@ -28,7 +28,7 @@ gate_sends (Receive zero event) (truth ∷ more ∷ rest) = refl
 gate_sends (Receive (suc zero) event) (truth ∷ []) =
     elim (is_one truth) as (λ b. IsTrue (leave_by_outputs Gate (passed b).replies)) [ true ↦ refl | false ↦ refl ]
   where
-    passed : Bool → Answer
+    passed : Bool → CallAnswer
     passed b = if b then record { state = truth ∷ []; replies = sends 1 (number_of event) ∷ [] } else keeps (truth ∷ [])
 gate_sends (Receive (suc zero) event) [] = refl
 gate_sends (Receive (suc zero) event) (truth ∷ more ∷ rest) = refl

@@ -6,46 +6,46 @@ use Rattle.script_host.specs.declared.fault.AttachFault.{AttachFault}
 use Rattle.script_host.specs.declared.fault.AttachFault.TheVariants.{UnknownScript, WrongCount, KindDiffers, InterfaceMismatch, StartMismatch, Memory}
 use Rattle.script_host.specs.declared.fault.ReplaceFault.{ReplaceFault}
 use Rattle.script_host.specs.declared.fault.ReplaceFault.TheVariants as replace
-use Rattle.script_host.specs.Hosting.{ScriptRecord}
+use Rattle.script_host.specs.Hosting.{SlotView}
 pub use Rattle.script_slots.specs.Asked.{KnownBelow}
 use Rattle.script_host.specs.Pairs.{PairAt, PairsBelow}
 
 -- a box is what its script asks for: of its kind, for an interface that fits, in the state in which
 -- it starts
-pub record Meets (s : ScriptSpec) (r : ScriptRecord) : Type 0 where
+pub record Meets (s : ScriptSpec) (r : SlotView) : Type 0 where
   pub kind : s.kind ≡ Some r.kind
   pub interface : s.fits ≡ true
   pub start : r.state ≡ s.start
 
 -- the boxes are those that the scripts ask for
-pub record Fits (specs : List ScriptSpec) (boxes : List ScriptRecord) : Type 0 where
+pub record Fits (specs : List ScriptSpec) (boxes : List SlotView) : Type 0 where
   pub known : KnownBelow specs (length specs)
   pub count : length specs ≡ length boxes
   pub meet : PairsBelow Meets specs boxes (length specs)
 
 -- all kinds are known, there are as many boxes as scripts, those before k meet, and P holds at k
-pub record FirstAt (P : ScriptSpec → ScriptRecord
-    → Type 0) (specs : List ScriptSpec) (boxes : List ScriptRecord) (k : ℕ) : Type 0 where
+pub record FirstAt (P : ScriptSpec → SlotView
+    → Type 0) (specs : List ScriptSpec) (boxes : List SlotView) (k : ℕ) : Type 0 where
   pub known : KnownBelow specs (length specs)
   pub count : length specs ≡ length boxes
   pub before : PairsBelow Meets specs boxes k
   pub here : PairAt P specs boxes k
 
 -- of another kind
-abbrev pub IsOther : ScriptSpec → ScriptRecord → Type 0
+abbrev pub IsOther : ScriptSpec → SlotView → Type 0
 IsOther s r = s.kind ≢ Some r.kind
 
 -- of the kind, but for an interface that doesn't fit
-abbrev pub IsUnfit : ScriptSpec → ScriptRecord → Type 0
+abbrev pub IsUnfit : ScriptSpec → SlotView → Type 0
 IsUnfit s r = (s.kind ≡ Some r.kind) × (s.fits ≡ false)
 
 -- of the kind, but in another state
-abbrev pub IsElsewhere : ScriptSpec → ScriptRecord → Type 0
+abbrev pub IsElsewhere : ScriptSpec → SlotView → Type 0
 IsElsewhere s r = (s.kind ≡ Some r.kind) × (s.fits ≡ true) × (r.state ≢ s.start)
 
 -- the fault that is answered: unknown kinds first, then the number of boxes, then the first box
 -- that doesn't meet
-abbrev pub Refuses : AttachFault → List ScriptSpec → List ScriptRecord → Type 0
+abbrev pub Refuses : AttachFault → List ScriptSpec → List SlotView → Type 0
 Refuses (UnknownScript k) specs boxes = KnownBelow specs k
     × IsSomeAnd (slice_get specs k) (λ s. s.kind ≡ None)
 Refuses WrongCount specs boxes = KnownBelow specs (length specs) × (length specs ≢ length boxes)
@@ -55,14 +55,14 @@ Refuses (StartMismatch k) specs boxes = FirstAt IsElsewhere specs boxes k
 Refuses Memory specs boxes = ⊤
 
 -- why one box, at place k, isn't what its script asks for
-abbrev pub IsMismatch : AttachFault → ℕ → ScriptSpec → ScriptRecord → Type 0
+abbrev pub IsMismatch : AttachFault → ℕ → ScriptSpec → SlotView → Type 0
 IsMismatch (KindDiffers j) k s r = (j ≡ k) × IsOther s r
 IsMismatch (InterfaceMismatch j) k s r = (j ≡ k) × IsUnfit s r
 IsMismatch (StartMismatch j) k s r = (j ≡ k) × IsElsewhere s r
 IsMismatch _ k s r = ⊥
 
 -- why a box of this kind doesn't take the place of a script
-abbrev pub RefusesPlace : ReplaceFault → Option ScriptRecord → Kind → Type 0
+abbrev pub RefusesPlace : ReplaceFault → Option SlotView → Kind → Type 0
 RefusesPlace replace.NoSuchScript place kind = place ≡ None
 RefusesPlace replace.KindDiffers place kind = IsSomeAnd place (λ r. kind ≢ r.kind)
 RefusesPlace replace.Memory place kind = IsSomeAnd place (λ r. kind ≡ r.kind)

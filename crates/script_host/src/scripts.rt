@@ -27,9 +27,9 @@ pub struct Scripts<B: Behaviour> {
 
 impl<B: Behaviour> Model for Scripts<B> {
     ghost use Rattle.std.specs.Prelude.{List};
-    ghost use Rattle.script_host.specs.Hosting.{ScriptRecord};
+    ghost use Rattle.script_host.specs.Hosting.{SlotView};
 
-    ghost Value = { List ScriptRecord };
+    ghost Value = { List SlotView };
 
     ghost view = { λ s. s.slots.items };
 }

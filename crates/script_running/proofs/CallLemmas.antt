@@ -3,22 +3,22 @@ use Rattle.std.proofs.Common.{◌≡◌, ◌<◌, ◌^◌, ◌-◌, ℕ, zero, s
 use Rattle.std.proofs.lemmas.Bool.{ltb-true, le-ltb}
 use Rattle.x3d_values.specs.declared.value.Value.TheVariants.{SFBool, SFInt32, SFFloat, SFTime, SFVec3f}
 use Rattle.script_host.specs.Behaviour.{Call}
-use Rattle.script_host.specs.Hosting.{CalledAt, ScriptRecord, after_call, answer_of}
+use Rattle.script_host.specs.Hosting.{CalledAt, SlotView, after_call, answer_of}
 use Rattle.script_slots.specs.declared.reply.Reply.{Reply}
 use Rattle.script_host.specs.States.{integer_fits}
 use Rattle.script_running.specs.Acting.{act, acting, kinds_of}
 use Rattle.script_running.specs.Laws.{KindsStand, ValuesReturn}
-use Rattle.script_running.specs.Ports.{Wiring}
+use Rattle.script_running.specs.Ports.{PortsView}
 use Rattle.script_running.specs.Values.{as_integer}
 
 -- a script is put in the place of one of its kind
-kinds-set : (scripts : List ScriptRecord) (k : ℕ) (r after : ScriptRecord) → slice_get scripts k ≡ Some r → after.kind ≡ r.kind →
+kinds-set : (scripts : List SlotView) (k : ℕ) (r after : SlotView) → slice_get scripts k ≡ Some r → after.kind ≡ r.kind →
     kinds_of (slice_set scripts k after) ≡ kinds_of scripts
 kinds-set [] k r after here same = refl
 kinds-set (x ∷ scripts) zero r after here same = cc
 kinds-set (x ∷ scripts) (suc k) r after here same = ap (λ kinds. x.kind ∷ kinds) (kinds-set scripts k r after here same)
 
-kinds-acting : (ports : Wiring) (call : Call) (k : ℕ) (scripts : List ScriptRecord) (place : Option ScriptRecord) → slice_get scripts k ≡ place →
+kinds-acting : (ports : PortsView) (call : Call) (k : ℕ) (scripts : List SlotView) (place : Option SlotView) → slice_get scripts k ≡ place →
     kinds_of (acting ports call k scripts place).scripts ≡ kinds_of scripts
 kinds-acting ports call k scripts None here = refl
 kinds-acting ports call k scripts (Some r) here = kinds-set scripts k r (after_call call r) here refl
@@ -28,11 +28,11 @@ unfolding act
 kinds_stand ports call k scripts = kinds-acting ports call k scripts (slice_get scripts k) refl
 
 -- a call on one of them
-pub kinds_kept : (call : Call) (k : ℕ) (old new : List ScriptRecord) (replies : List Reply) → CalledAt call k old new replies →
+pub kinds_kept : (call : Call) (k : ℕ) (old new : List SlotView) (replies : List Reply) → CalledAt call k old new replies →
     kinds_of new ≡ kinds_of old
 kinds_kept call k old new replies h = at (slice_get old k) refl h
   where
-    at : (place : Option ScriptRecord) → slice_get old k ≡ place →
+    at : (place : Option SlotView) → slice_get old k ≡ place →
         IsSomeAnd place (λ r. (new ≡ slice_set old k (after_call call r)) × (replies ≡ (answer_of call r).replies)) →
         kinds_of new ≡ kinds_of old
     at (Some r) here h = ap kinds_of h.0 ∙ kinds-set old k r (after_call call r) here refl

@@ -2,7 +2,7 @@
 use Rattle.std.proofs.Common.{◌≡◌, ℕ, List, [], ◌∷◌, ap, refl, suc, length}
 use Rattle.std.specs.Prelude.{ℤ}
 use Rattle.x3d_values.specs.declared.script.Kind.{Kind}
-use Rattle.script_host.specs.Hosting.{ScriptRecord}
+use Rattle.script_host.specs.Hosting.{SlotView}
 use Rattle.script_running.specs.Acting.{kinds_of}
 use Rattle.script_running.specs.Running.{running, states_of}
 
@@ -17,6 +17,6 @@ running-kinds (kind ∷ kinds) (state ∷ states) h =
     ap (λ (ks : List Kind). kind ∷ ks) (running-kinds kinds states (less-one (length states) (length kinds) h))
 
 -- there are as many states as kinds
-pub states-many : (scripts : List ScriptRecord) → length (states_of scripts) ≡ length (kinds_of scripts)
+pub states-many : (scripts : List SlotView) → length (states_of scripts) ≡ length (kinds_of scripts)
 states-many [] = refl
 states-many (s ∷ scripts) = ap suc (states-many scripts)

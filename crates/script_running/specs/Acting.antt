@@ -3,44 +3,44 @@ use Rattle.std.specs.Prelude.{ℕ, List, [], Option, Some, None, map, slice_get,
 use Rattle.std.specs.Option.{option_and_then}
 use Rattle.x3d_values.specs.declared.script.Kind.{Kind}
 use Rattle.x3d_values.specs.declared.value.Value.{Value}
-use Rattle.react_core.specs.declared.outbox.Reply as node
+use Rattle.react_core.specs.declared.outbox.SentEvent as node
 use Rattle.script_host.specs.Behaviour.{Call}
-use Rattle.script_host.specs.Hosting.{ScriptRecord, after_call, answer_of}
-use Rattle.script_running.specs.Ports.{Wiring, call_at, reply_of}
+use Rattle.script_host.specs.Hosting.{SlotView, after_call, answer_of}
+use Rattle.script_running.specs.Ports.{PortsView, call_at, reply_of}
 
 -- the scripts after a call, and what the node of the script that was called sends, in order
 pub record Acted : Type 0 where
-  pub scripts : List ScriptRecord
+  pub scripts : List SlotView
   pub replies : List node.Reply
 
-abbrev pub idle : List ScriptRecord → Acted
+abbrev pub idle : List SlotView → Acted
 idle scripts = record { scripts = scripts; replies = [] }
 
 -- the script of that number is called, if there is one
-abbrev pub acting : Wiring → Call → ℕ → List ScriptRecord → Option ScriptRecord → Acted
+abbrev pub acting : PortsView → Call → ℕ → List SlotView → Option SlotView → Acted
 acting ports call k scripts (Some r) = record {
   scripts = slice_set scripts k (after_call call r);
   replies = map (reply_of r.kind ports) (answer_of call r).replies;
 }
 acting ports call k scripts None = idle scripts
 
-unfoldable pub act : Wiring → Call → ℕ → List ScriptRecord → Acted
+unfoldable pub act : PortsView → Call → ℕ → List SlotView → Acted
 act ports call k scripts = acting ports call k scripts (slice_get scripts k)
 
 -- the call that an event at a field of its node is for the script of that number
-abbrev pub call_of : Wiring → ℕ → ℕ → Value → List ScriptRecord → Option Call
+abbrev pub call_of : PortsView → ℕ → ℕ → Value → List SlotView → Option Call
 call_of ports k field value scripts =
-    option_and_then (λ (r : ScriptRecord). call_at r.kind ports field value) (slice_get scripts k)
+    option_and_then (λ (r : SlotView). call_at r.kind ports field value) (slice_get scripts k)
 
-abbrev pub receiving : Wiring → ℕ → List ScriptRecord → Option Call → Acted
+abbrev pub receiving : PortsView → ℕ → List SlotView → Option Call → Acted
 receiving ports k scripts (Some call) = act ports call k scripts
 receiving ports k scripts None = idle scripts
 
 -- an event comes to a field of its node
-abbrev pub receive : Wiring → ℕ → ℕ → Value → List ScriptRecord → Acted
+abbrev pub receive : PortsView → ℕ → ℕ → Value → List SlotView → Acted
 receive ports k field value scripts =
     receiving ports k scripts (call_of ports k field value scripts)
 
 -- the kinds of the scripts, for good
-abbrev pub kinds_of : List ScriptRecord → List Kind
-kinds_of scripts = map (λ (r : ScriptRecord). r.kind) scripts
+abbrev pub kinds_of : List SlotView → List Kind
+kinds_of scripts = map (λ (r : SlotView). r.kind) scripts

@@ -6,7 +6,7 @@ use Rattle.std.specs.Option.{option_map_or}
 use Rattle.x3d_values.specs.declared.script.Kind.{Kind}
 use Rattle.x3d_values.specs.declared.script.ScriptSpec.{ScriptSpec}
 use Rattle.x3d_values.specs.Access.{sends}
-use Rattle.x3d_values.specs.Tables.{Entry}
+use Rattle.x3d_values.specs.Tables.{FieldRowView}
 use Rattle.scene_core.specs.Scene.{SceneView, rows_at}
 use Rattle.script_running.specs.Runs.{run_of}
 use Rattle.script_running.specs.Scripts.{script_list}
@@ -14,18 +14,18 @@ use Rattle.x3d_values.specs.declared.value.Value.{Value}
 use Rattle.x3d_values.specs.declared.value.Value.TheVariants.{SFBool, SFInt32, SFFloat, SFTime, SFVec3f}
 use Rattle.x3d_values.specs.Values.{type_of}
 use Rattle.script_host.specs.Behaviour.{Call}
-use Rattle.script_host.specs.Hosting.{ScriptRecord}
+use Rattle.script_host.specs.Hosting.{SlotView}
 use Rattle.script_host.specs.States.{integer_fits}
 use Rattle.script_running.specs.Acting.{act, kinds_of}
-use Rattle.script_running.specs.Ports.{Wiring}
+use Rattle.script_running.specs.Ports.{PortsView}
 use Rattle.script_running.specs.Values.{numbers_of, value_of}
 
 -- ---- by which fields the nodes of scripts send
 
 -- a node with these fields sends by that one
-abbrev pub is_sent_by : List Entry → ℕ → Bool
+abbrev pub is_sent_by : List FieldRowView → ℕ → Bool
 is_sent_by rows field =
-    option_map_or (λ (row : Entry). sends row.access) (slice_get rows field) false
+    option_map_or (λ (row : FieldRowView). sends row.access) (slice_get rows field) false
 
 -- a script of a known kind that declares what its kind has sends by outputs of its node
 abbrev pub SendByOutputs : Type 0
@@ -37,7 +37,7 @@ SendByOutputs = (s : SceneView) (k : ℕ) (asked : ScriptSpec) (kind : Kind)
 
 -- no call changes a kind, or the number of scripts
 abbrev pub KindsStand : Type 0
-KindsStand = (ports : Wiring) (call : Call) (k : ℕ) (scripts : List ScriptRecord)
+KindsStand = (ports : PortsView) (call : Call) (k : ℕ) (scripts : List SlotView)
     → kinds_of (act ports call k scripts).scripts ≡ kinds_of scripts
 
 -- a value of a type that scripts take or send, in the range of its type

@@ -7,9 +7,9 @@ use Rattle.x3d_values.specs.contracts.field_type.FieldType as types
 use Rattle.x3d_values.specs.declared.script.Kind.{Kind}
 use Rattle.x3d_values.specs.declared.value.Value.{Value}
 use Rattle.x3d_values.specs.declared.value.Value.TheVariants.{SFBool}
-use Rattle.x3d_values.specs.Tables.{Entry}
+use Rattle.x3d_values.specs.Tables.{FieldRowView}
 use Rattle.x3d_values.specs.Values.{type_of}
-use Rattle.react_core.specs.declared.outbox.Reply as node
+use Rattle.react_core.specs.declared.outbox.SentEvent as node
 use Rattle.script_slots.specs.declared.reply.Reply.{Reply}
 use Rattle.script_host.specs.Behaviour.{Call, Receive}
 use Rattle.script_host.specs.Events.{takes_event}
@@ -17,7 +17,7 @@ use Rattle.script_host.specs.Interface.{inputs, outputs}
 use Rattle.script_running.specs.Values.{numbers_of, value_of}
 
 -- the numbers of the fields that are a script's inputs and outputs, in the order of its kind's
-pub record Wiring : Type 0 where
+pub record PortsView : Type 0 where
   pub inputs : List ℕ
   pub outputs : List ℕ
 
@@ -30,12 +30,12 @@ place_from field n (other ∷ others) =
     if other == field then Some n else place_from field (n + 1) others
 
 -- the input that the field is
-abbrev pub input_at : Wiring → ℕ → Option ℕ
+abbrev pub input_at : PortsView → ℕ → Option ℕ
 input_at ports field = place_from field 0 ports.inputs
 
 abbrev pub is_of_type : Kind → ℕ → Value → Bool
 is_of_type kind input value =
-    option_map_or (λ (e : Entry). sameb types.the_type e.field_type (type_of value))
+    option_map_or (λ (e : FieldRowView). sameb types.the_type e.field_type (type_of value))
     (slice_get (inputs kind) input) false
 
 -- the value is of the type of that input, and in its range
@@ -48,18 +48,18 @@ call_by kind value input =
     if takes kind input value then Some (Receive input (numbers_of value)) else None
 
 -- the call that an event is: none where the field is no input of the script, or takes no such value
-abbrev pub call_at : Kind → Wiring → ℕ → Value → Option Call
+abbrev pub call_at : Kind → PortsView → ℕ → Value → Option Call
 call_at kind ports field value = option_and_then (call_by kind value) (input_at ports field)
 
 -- ---- a script sends
 
 -- the value that leaves by an output of the kind
-abbrev pub value_from : Option Entry → List ℤ → Value
+abbrev pub value_from : Option FieldRowView → List ℤ → Value
 value_from (Some e) numbers = value_of e.field_type numbers
 value_from None numbers = SFBool false
 
 -- what the node sends where its script sends this
-abbrev pub reply_of : Kind → Wiring → Reply → node.Reply
+abbrev pub reply_of : Kind → PortsView → Reply → node.Reply
 reply_of kind ports r = record {
   field = slice_index_or ports.outputs r.output 0;
   value = value_from (slice_get (outputs kind) r.output) r.numbers;

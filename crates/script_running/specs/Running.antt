@@ -3,19 +3,19 @@ use Rattle.std.specs.Prelude.{ℕ, ℤ, ◌+◌, ◌==◌, Bool, true, List, [],
 use Rattle.std.specs.List.{list_all}
 use Rattle.x3d_values.specs.declared.script.Kind.{Kind}
 use Rattle.script_running.specs.declared.run.Run.{Run}
-use Rattle.script_host.specs.Hosting.{ScriptRecord}
-use Rattle.script_running.specs.Ports.{Wiring}
+use Rattle.script_host.specs.Hosting.{SlotView}
+use Rattle.script_running.specs.Ports.{PortsView}
 
 -- the states of scripts
-abbrev pub states_of : List ScriptRecord → List (List ℤ)
-states_of scripts = map (λ (r : ScriptRecord). r.state) scripts
+abbrev pub states_of : List SlotView → List (List ℤ)
+states_of scripts = map (λ (r : SlotView). r.state) scripts
 
 -- all of them were initialized
-abbrev pub are_begun : List ScriptRecord → Bool
-are_begun scripts = list_all (λ (r : ScriptRecord). r.initialized) scripts
+abbrev pub are_begun : List SlotView → Bool
+are_begun scripts = list_all (λ (r : SlotView). r.initialized) scripts
 
 -- scripts of these kinds in these states, that were initialized
-abbrev pub running : List Kind → List (List ℤ) → List ScriptRecord
+abbrev pub running : List Kind → List (List ℤ) → List SlotView
 running [] states = []
 running (kind ∷ kinds) [] = []
 running (kind ∷ kinds) (state ∷ states) =
@@ -29,5 +29,5 @@ script_from k [] node = None
 script_from k (run ∷ runs) node =
     if run.node == node then Some k else script_from (k + 1) runs node
 
-abbrev pub no_ports : Wiring
+abbrev pub no_ports : PortsView
 no_ports = record { inputs = []; outputs = [] }

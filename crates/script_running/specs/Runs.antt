@@ -5,25 +5,25 @@ use Rattle.std.specs.Option.{option_map_or}
 use Rattle.x3d_values.specs.declared.script.Kind.{Kind}
 use Rattle.x3d_values.specs.declared.script.ScriptSpec.{ScriptSpec}
 use Rattle.x3d_values.specs.declared.table.FieldRow.{FieldRow}
-use Rattle.x3d_values.specs.Tables.{Entry, row_named}
+use Rattle.x3d_values.specs.Tables.{FieldRowView, row_named}
 use Rattle.script_host.specs.Interface.{inputs, outputs}
-use Rattle.script_running.specs.Ports.{Wiring}
+use Rattle.script_running.specs.Ports.{PortsView}
 use Rattle.scene_core.specs.Scene.{SceneView, rows_at}
 use Rattle.script_running.specs.declared.run.Run.{Run}
 use Rattle.script_running.specs.Scripts.{script_list}
 
 -- the number of the field of that name among these, 0 where there is none
-abbrev pub number_in : List Entry → Entry → ℕ
+abbrev pub number_in : List FieldRowView → FieldRowView → ℕ
 number_in rows e = option_map_or (λ (row : FieldRow). row.number) (row_named 0 e.name rows) 0
 
-abbrev pub ports_of : List Entry → Kind → Wiring
+abbrev pub ports_of : List FieldRowView → Kind → PortsView
 ports_of rows kind = record {
   inputs = map (number_in rows) (inputs kind);
   outputs = map (number_in rows) (outputs kind);
 }
 
 -- a script of no known kind has none
-abbrev pub ports_by : List Entry → Option Kind → Wiring
+abbrev pub ports_by : List FieldRowView → Option Kind → PortsView
 ports_by rows (Some kind) = ports_of rows kind
 ports_by rows None = record { inputs = []; outputs = [] }
 

@@ -14,7 +14,7 @@ use Rattle.x3d_values.specs.declared.script.Kind.TheVariants.{Counter, Gate, Add
 use Rattle.x3d_values.specs.declared.script.ScriptSpec.{ScriptSpec}
 use Rattle.x3d_values.specs.declared.value.Value.{Value}
 use Rattle.x3d_values.specs.declared.value.Value.TheVariants.{SFBool, SFInt32, SFVec3f, MFString}
-use Rattle.x3d_values.specs.Tables.{Entry, row_named}
+use Rattle.x3d_values.specs.Tables.{FieldRowView, row_named}
 use Rattle.script_host.specs.Interface.{interface, kind_named}
 use Rattle.scene_core.specs.declared.row.DeclaredField.{DeclaredField}
 use Rattle.scene_core.specs.Scene.{SceneView, declared_at, rows_at, type_at, value_at}
@@ -68,7 +68,7 @@ word_of s node = word_by s node (type_at s node)
 -- ---- what a Script that is run asks for
 
 -- a declared field has the name, the access and the type of a field of an interface
-abbrev pub is_field : Entry → DeclaredField → Bool
+abbrev pub is_field : FieldRowView → DeclaredField → Bool
 is_field e d =
     pointwise nat_eq d.name e.name
     && (sameb accesses.the_type d.access e.access && sameb types.the_type d.field_type e.field_type)

@@ -19,10 +19,10 @@ pub struct BegunScripts<B: Behaviour> {
 
 impl<B: Behaviour> Model for BegunScripts<B> {
     ghost use Rattle.std.specs.Prelude.{◌≡◌, List, true};
-    ghost use Rattle.script_host.specs.Hosting.{ScriptRecord};
+    ghost use Rattle.script_host.specs.Hosting.{SlotView};
     ghost use Rattle.script_running.specs.Running.{are_begun};
 
-    ghost Value = { List ScriptRecord };
+    ghost Value = { List SlotView };
 
     ghost view = { λ s. s.scripts };
 

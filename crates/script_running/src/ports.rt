@@ -9,7 +9,7 @@ ghost use Rattle.script_running.specs.Ports as spec;
 
 use crate::values::{numbers_of, value_of};
 use arrayvec::ArrayVec;
-use react_core::Reply;
+use react_core::SentEvent;
 use script_host::{inputs, outputs, takes_event};
 use std::marker::Model;
 use x3d_values::{Kind, Value};
@@ -26,9 +26,9 @@ pub struct Ports {
 }
 
 impl Model for Ports {
-    ghost use Rattle.script_running.specs.Ports.{Wiring};
+    ghost use Rattle.script_running.specs.Ports.{PortsView};
 
-    ghost Value = { Wiring };
+    ghost Value = { PortsView };
 
     ghost view = { λ p. record { inputs = p.inputs.items; outputs = p.outputs.items } };
 }
@@ -120,10 +120,10 @@ fn field_of(ports: &Ports, output: u32) -> u16
 }
 
 /// What the node sends where its script sends this.
-pub(crate) fn reply_of(kind: Kind, ports: &Ports, reply: script_host::Reply) -> Reply
+pub(crate) fn reply_of(kind: Kind, ports: &Ports, reply: script_host::Reply) -> SentEvent
     ensures { result ≡ spec.reply_of kind ports.now reply }
 {
-    Reply {
+    SentEvent {
         field: field_of(ports, reply.output),
         value: value_from(kind, reply.output, reply.numbers),
     }

@@ -9,7 +9,7 @@ use Rattle.std.proofs.lemmas.Bool.Decides.{nat_tests}
 use Rattle.std.proofs.lemmas.Bool.{cases_eq}
 use Rattle.std.proofs.lemmas.List.{drop_more, drop_all, get_or-set_other}
 use Rattle.std.proofs.lemmas.List.Folds.{list_any-append}
-use Rattle.script_slots.specs.Settling.{Settling, is_among, is_due, lowest_due}
+use Rattle.script_slots.specs.Settling.{DueScriptsView, is_among, is_due, lowest_due}
 use Rattle.script_slots.specs.Table.{AreFlags, IsTable}
 
 -- ---- numbers among others
@@ -91,7 +91,7 @@ received : (a b : Bool) → (a && b) ≡ true → a ≡ true
 received true b h = refl
 received false b h = h
 
-lowest : (flags : List Bool) (due : BTreeSet ℕ) (s : Settling) (k : ℕ) → IsTable flags due s → length flags ≡ s.count →
+lowest : (flags : List Bool) (due : BTreeSet ℕ) (s : DueScriptsView) (k : ℕ) → IsTable flags due s → length flags ≡ s.count →
     contains nat_cmp due k ≡ true → IsLowerBound nat_cmp due k → lowest_due s ≡ Some k
 unfolding lowest_due
 lowest flags due s k t many member least =
@@ -103,7 +103,7 @@ lowest flags due s k t many member least =
     below j less false e = e
     below j less true e = absurd (lower k j (least j (let there : contains nat_cmp due j ≡ true = t.held j ∙ e in there)) less)
 
-none-due : (flags : List Bool) (due : BTreeSet ℕ) (s : Settling) → IsTable flags due s → length due.keys ≡ 0 → lowest_due s ≡ None
+none-due : (flags : List Bool) (due : BTreeSet ℕ) (s : DueScriptsView) → IsTable flags due s → length due.keys ≡ 0 → lowest_due s ≡ None
 unfolding lowest_due
 none-due flags due s t none = find-none (is_due s) 0 s.count (λ j. (sym (t.held j) ∙ empty due.keys none j))
   where
@@ -111,7 +111,7 @@ none-due flags due s t none = find-none (is_due s) 0 s.count (λ j. (sym (t.held
     empty [] e j = refl
     empty (k ∷ ks) e j = absurd (omega arith)
 
-pub first_due : (flags : List Bool) (due : BTreeSet ℕ) (s : Settling) → IsTable flags due s → length flags ≡ s.count → (first : Option (Bor ℕ)) →
+pub first_due : (flags : List Bool) (due : BTreeSet ℕ) (s : DueScriptsView) → IsTable flags due s → length flags ≡ s.count → (first : Option (Bor ℕ)) →
     (0 < btree_set_len due → IsSome first) → IfSome first (λ k. IsTrue (contains nat_cmp due k.now)) → IfSome first (λ k. IsLowerBound nat_cmp due k.now) →
     option_copied first ≡ lowest_due s
 first_due flags due s t many (Some k) some member least = sym (lowest flags due s k.now t many member least)

@@ -13,7 +13,7 @@ pub data Call : Type 0 where
   Settle : Call
 
 -- the state after a call, and what the script sends
-pub record Answer : Type 0 where
+pub record CallAnswer : Type 0 where
   pub state : List ℤ
   pub replies : List Reply
 
@@ -24,7 +24,7 @@ abbrev pub sends : ℕ → ℤ → Reply
 sends output number = record { output = output; numbers = number ∷ pos 0 ∷ pos 0 ∷ [] }
 
 -- nothing is sent, and nothing changes
-abbrev pub keeps : List ℤ → Answer
+abbrev pub keeps : List ℤ → CallAnswer
 keeps state = record { state = state; replies = [] }
 
 -- the number of an event of one number
@@ -47,11 +47,11 @@ clamped z = int_max (neg_ℤ (pos (10 ^ 15))) (int_min z (pos (10 ^ 15)))
 abbrev pub next_count : ℤ → ℤ → ℤ
 next_count count step = saturate_signed w32 (count +ℤ step)
 
-abbrev pub counted : ℤ → ℤ → Answer
+abbrev pub counted : ℤ → ℤ → CallAnswer
 counted count step = record { state = count ∷ step ∷ []; replies = sends 0 count ∷ [] }
 
 -- `tick` TRUE adds the step, and sends `count`
-abbrev pub counter : Call → List ℤ → Answer
+abbrev pub counter : Call → List ℤ → CallAnswer
 counter (Receive zero event) (count ∷ step ∷ []) =
     if is_one (number_of event) then counted (next_count count step) step
     else keeps (count ∷ step ∷ [])
@@ -59,12 +59,12 @@ counter _ state = keeps state
 
 -- ---- gate: whether it is open
 
-abbrev pub opened : ℤ → Answer
+abbrev pub opened : ℤ → CallAnswer
 opened truth = record { state = truth ∷ []; replies = sends 0 truth ∷ [] }
 
 -- it sends `isOpen` when it is initialized and at `open`, and a `pulse` as `passed` where it is
 -- open
-abbrev pub gate : Call → List ℤ → Answer
+abbrev pub gate : Call → List ℤ → CallAnswer
 gate Initialize (truth ∷ []) = opened truth
 gate (Receive zero event) (truth ∷ []) = opened (number_of event)
 gate (Receive (suc zero) event) (truth ∷ []) =
@@ -74,11 +74,11 @@ gate _ state = keeps state
 
 -- ---- adder: its two terms
 
-abbrev pub added : ℤ → ℤ → Answer
+abbrev pub added : ℤ → ℤ → CallAnswer
 added a b = record { state = a ∷ b ∷ []; replies = sends 0 (clamped (a +ℤ b)) ∷ [] }
 
 -- `a` and `b` set a term each, and send `sum`
-abbrev pub adder : Call → List ℤ → Answer
+abbrev pub adder : Call → List ℤ → CallAnswer
 adder (Receive zero event) (a ∷ b ∷ []) = added (number_of event) b
 adder (Receive (suc zero) event) (a ∷ b ∷ []) = added a (number_of event)
 adder _ state = keeps state
@@ -90,7 +90,7 @@ abbrev pub one_more : ℤ → ℤ
 one_more pending = saturate_signed w32 (pending +ℤ pos 1)
 
 -- `item` adds one; when events were processed `many` and `any` are sent, and none is pending
-abbrev pub batch : Call → List ℤ → Answer
+abbrev pub batch : Call → List ℤ → CallAnswer
 batch (Receive zero event) (pending ∷ []) = keeps (one_more pending ∷ [])
 batch Settle (pending ∷ []) =
     record { state = pos 0 ∷ []; replies = sends 0 pending ∷ sends 1 (pos 1) ∷ [] }
@@ -104,7 +104,7 @@ part_way fraction from to =
     clamped (from +ℤ int_div_euclid (fraction *ℤ (to -ℤ from)) (pos (10 ^ 6)))
 
 -- `fraction` sends `position`
-abbrev pub mover : Call → List ℤ → Answer
+abbrev pub mover : Call → List ℤ → CallAnswer
 mover (Receive zero event) (x ∷ y ∷ z ∷ x' ∷ y' ∷ z' ∷ []) = let part =
     part_way (number_of event) in record {
       state = x ∷ y ∷ z ∷ x' ∷ y' ∷ z' ∷ [];
@@ -122,17 +122,17 @@ last_eight readings = drop (length readings - 8) readings
 abbrev pub mean : List ℤ → ℤ
 mean readings = int_div_euclid (fold ◌+ℤ◌ (pos 0) readings) (pos (length readings))
 
-abbrev pub metered : List ℤ → Answer
+abbrev pub metered : List ℤ → CallAnswer
 metered readings = record { state = readings; replies = sends 0 (mean readings) ∷ [] }
 
 -- `reading` is kept, and sends `mean`
-abbrev pub meter : Call → List ℤ → Answer
+abbrev pub meter : Call → List ℤ → CallAnswer
 meter (Receive zero event) readings = metered (last_eight (readings ++ number_of event ∷ []))
 meter _ state = keeps state
 
 -- ---- every kind
 
-abbrev pub behave : Kind → Call → List ℤ → Answer
+abbrev pub behave : Kind → Call → List ℤ → CallAnswer
 behave Counter = counter
 behave Gate = gate
 behave Adder = adder

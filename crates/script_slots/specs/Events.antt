@@ -5,7 +5,7 @@ use Rattle.x3d_values.specs.Ranges.{coordinate_fits}
 use Rattle.x3d_values.specs.declared.script.Kind.{Kind}
 use Rattle.x3d_values.specs.declared.field_type.FieldType.{FieldType}
 use Rattle.x3d_values.specs.declared.field_type.FieldType.TheVariants.{SFBool, SFFloat, SFTime}
-use Rattle.x3d_values.specs.Tables.{Entry}
+use Rattle.x3d_values.specs.Tables.{FieldRowView}
 use Rattle.script_slots.specs.Interface.{inputs}
 
 -- 0 for FALSE, 1 for TRUE
@@ -33,5 +33,5 @@ event_fits t _ = false
 -- the event is a value of the type of this input, where the kind has such an input
 abbrev pub takes_event : Kind → ℕ → List ℤ → Bool
 takes_event kind input event =
-    option_map_or (λ (e : Entry). event_fits e.field_type event)
+    option_map_or (λ (e : FieldRowView). event_fits e.field_type event)
     (slice_get (inputs kind) input) true

@@ -6,7 +6,7 @@ use Rattle.x3d_values.specs.declared.default.FieldDefault.TheVariants.{Empty}
 use Rattle.x3d_values.specs.declared.field_type.FieldType.TheVariants.{SFBool, SFInt32, SFFloat, SFTime, SFVec3f}
 use Rattle.x3d_values.specs.declared.script.Kind.{Kind}
 use Rattle.x3d_values.specs.declared.script.Kind.TheVariants.{Counter, Gate, Adder, Batch, Mover, Meter}
-use Rattle.x3d_values.specs.Tables.{Entry, initial, input, output}
+use Rattle.x3d_values.specs.Tables.{FieldRowView, initial, input, output}
 
 -- ---- the words
 
@@ -34,7 +34,7 @@ kind_named word = first_kind word all_kinds
 -- ---- the fields
 
 -- inputs are numbered from 0
-abbrev pub inputs : Kind → List Entry
+abbrev pub inputs : Kind → List FieldRowView
 inputs Counter = input (codes "tick") SFBool ∷ []
 inputs Gate = input (codes "open") SFBool ∷ input (codes "pulse") SFTime ∷ []
 inputs Adder = input (codes "a") SFFloat ∷ input (codes "b") SFFloat ∷ []
@@ -43,7 +43,7 @@ inputs Mover = input (codes "fraction") SFFloat ∷ []
 inputs Meter = input (codes "reading") SFFloat ∷ []
 
 -- what a scene gives to a script at its start
-abbrev pub settings : Kind → List Entry
+abbrev pub settings : Kind → List FieldRowView
 settings Counter =
     initial (codes "start") SFInt32 Empty ∷ initial (codes "step") SFInt32 Empty ∷ []
 settings Gate = initial (codes "startOpen") SFBool Empty ∷ []
@@ -53,7 +53,7 @@ settings Mover = initial (codes "from") SFVec3f Empty ∷ initial (codes "to") S
 settings Meter = []
 
 -- outputs are numbered from 0
-abbrev pub outputs : Kind → List Entry
+abbrev pub outputs : Kind → List FieldRowView
 outputs Counter = output (codes "count") SFInt32 ∷ []
 outputs Gate = output (codes "isOpen") SFBool ∷ output (codes "passed") SFTime ∷ []
 outputs Adder = output (codes "sum") SFFloat ∷ []
@@ -61,5 +61,5 @@ outputs Batch = output (codes "many") SFInt32 ∷ output (codes "any") SFBool �
 outputs Mover = output (codes "position") SFVec3f ∷ []
 outputs Meter = output (codes "mean") SFFloat ∷ []
 
-abbrev pub interface : Kind → List Entry
+abbrev pub interface : Kind → List FieldRowView
 interface kind = inputs kind ++ settings kind ++ outputs kind

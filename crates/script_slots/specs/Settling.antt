@@ -5,35 +5,35 @@ use Rattle.std.specs.List.{find, list_any, range_with_len}
 
 -- how many scripts there are, numbered from 0; those that have received an event in a timestamp,
 -- each once, and those that were settled
-pub record Settling : Type 0 where
+pub record DueScriptsView : Type 0 where
   pub count : ℕ
   pub received : List ℕ
   pub settled : List ℕ
 
 -- of so many scripts none has received
-abbrev pub unsettled : ℕ → Settling
+abbrev pub unsettled : ℕ → DueScriptsView
 unsettled count = record { count = count; received = []; settled = [] }
 
 abbrev pub is_among : List ℕ → ℕ → Bool
 is_among numbers k = list_any (λ n. n == k) numbers
 
 -- the script has received, and isn't settled
-abbrev pub is_due : Settling → ℕ → Bool
+abbrev pub is_due : DueScriptsView → ℕ → Bool
 is_due s k = is_among s.received k && not (is_among s.settled k)
 
 -- the lowest such script
-unfoldable pub lowest_due : Settling → Option ℕ
+unfoldable pub lowest_due : DueScriptsView → Option ℕ
 lowest_due s = find (is_due s) (range_with_len 0 s.count)
 
 -- a script receives an event
 abbrev pub noted : List ℕ → ℕ → List ℕ
 noted received k = if is_among received k then received else received ++ k ∷ []
 
-abbrev pub with_received : Settling → ℕ → Settling
+abbrev pub with_received : DueScriptsView → ℕ → DueScriptsView
 with_received s k = record s { received = noted s.received k }
 
 -- a script was settled
-abbrev pub with_settled : Settling → ℕ → Settling
+abbrev pub with_settled : DueScriptsView → ℕ → DueScriptsView
 with_settled s k = record s { settled = s.settled ++ k ∷ [] }
 
 -- the numbers are different from each other

@@ -24,10 +24,10 @@ pub struct DueScripts {
 
 impl Model for DueScripts {
     ghost use Rattle.std.specs.Prelude.{length};
-    ghost use Rattle.script_slots.specs.Settling.{Settling};
+    ghost use Rattle.script_slots.specs.Settling.{DueScriptsView};
     ghost use Rattle.script_slots.specs.Table.{IsTable};
 
-    ghost Value = { Settling };
+    ghost Value = { DueScriptsView };
 
     ghost view = { λ s.
         record {

@@ -35,9 +35,9 @@ pub struct Slot<B: Behaviour> {
 }
 
 impl<B: Behaviour> Model for Slot<B> {
-    ghost use Rattle.script_slots.specs.Hosting.{ScriptRecord};
+    ghost use Rattle.script_slots.specs.Hosting.{SlotView};
 
-    ghost Value = { ScriptRecord };
+    ghost Value = { SlotView };
 
     ghost view = { λ s. record {
       kind = B.kind_of s.script;

@@ -3,20 +3,20 @@
 use Rattle.std.specs.Prelude.{ℕ, ◌==◌, ℤ, pos, int_le, Bool, false, not, is_some, ◌&&◌, ◌||◌, List, [], ◌∷◌, Option, Some, None, if◌then◌else◌}
 use Rattle.x3d_values.specs.declared.value.Value.{Value}
 use Rattle.x3d_values.specs.declared.value.Value.TheVariants.{SFBool, SFTime}
-use Rattle.react_core.specs.declared.outbox.Reply.{Reply}
+use Rattle.react_core.specs.declared.outbox.SentEvent.{SentEvent}
 use Rattle.react_core.specs.Reaction.{reply}
 use Rattle.sensor_core.specs.declared.numbers.TheConstants.{CYCLE_INTERVAL, ENABLED, LOOP, PAUSE_TIME, RESUME_TIME, START_TIME, STOP_TIME, IS_ACTIVE}
-use Rattle.sensor_core.specs.Timing.{Timing, is_time}
+use Rattle.sensor_core.specs.Timing.{TimeFieldsView, is_time}
 
 -- the cycle that runs after an event, if one does, what the sensor keeps, and what it sends
-pub record Answer : Type 0 where
+pub record TimeAnswer : Type 0 where
   pub cycle : Option ℕ
-  pub timing : Timing
-  pub replies : List Reply
+  pub timing : TimeFieldsView
+  pub replies : List SentEvent
 
 -- `startTime` while active; `stopTime` at or below `startTime` while active; `cycleInterval` while
 -- active or not above 0
-abbrev pub is_refused : Bool → Timing → ℕ → ℤ → Bool
+abbrev pub is_refused : Bool → TimeFieldsView → ℕ → ℤ → Bool
 is_refused active timing input time =
     if input == START_TIME then active
     else (if input == STOP_TIME then active && int_le time timing.start_time
@@ -24,7 +24,7 @@ is_refused active timing input time =
     else false))
 
 -- a field that keeps a time
-abbrev pub with_time : Timing → ℕ → ℤ → Option Timing
+abbrev pub with_time : TimeFieldsView → ℕ → ℤ → Option TimeFieldsView
 with_time timing input time =
     if input == CYCLE_INTERVAL then Some (record timing { cycle_interval = time })
     else (if input == PAUSE_TIME then Some (record timing { pause_time = time })
@@ -34,14 +34,14 @@ with_time timing input time =
     else None))))
 
 -- a field that keeps a truth value
-abbrev pub with_truth : Timing → ℕ → Bool → Option Timing
+abbrev pub with_truth : TimeFieldsView → ℕ → Bool → Option TimeFieldsView
 with_truth timing input truth =
     if input == ENABLED then Some (record timing { enabled = truth })
     else (if input == LOOP then Some (record timing { looping = truth })
     else None)
 
 -- what the sensor keeps after an event that sets a field; none where the event does nothing
-unfoldable pub changed : Bool → Timing → ℕ → Value → Option Timing
+unfoldable pub changed : Bool → TimeFieldsView → ℕ → Value → Option TimeFieldsView
 changed active timing input (SFBool truth) = with_truth timing input truth
 changed active timing input (SFTime time) =
     if is_refused active timing input time || not (is_time time)
@@ -49,11 +49,11 @@ changed active timing input (SFTime time) =
 changed active timing input _ = None
 
 -- `enabled` FALSE ends
-abbrev pub is_disabled : Timing → ℕ → Bool
+abbrev pub is_disabled : TimeFieldsView → ℕ → Bool
 is_disabled timing input = (input == ENABLED) && not timing.enabled
 
 -- the field is sent, and an active sensor that is disabled sends `isActive` FALSE alone
-abbrev pub keeps : Option ℕ → ℕ → Value → Timing → Answer
+abbrev pub keeps : Option ℕ → ℕ → Value → TimeFieldsView → TimeAnswer
 keeps cycle input value timing =
     if is_disabled timing input
     then record {
@@ -65,10 +65,10 @@ keeps cycle input value timing =
     }
     else record { cycle = cycle; timing = timing; replies = reply input value ∷ [] }
 
-abbrev pub answer : Option ℕ → Timing → ℕ → Value → Option Timing → Answer
+abbrev pub answer : Option ℕ → TimeFieldsView → ℕ → Value → Option TimeFieldsView → TimeAnswer
 answer cycle timing input value None = record { cycle = cycle; timing = timing; replies = [] }
 answer cycle timing input value (Some new) = keeps cycle input value new
 
-unfoldable pub set : Option ℕ → Timing → ℕ → Value → Answer
+unfoldable pub set : Option ℕ → TimeFieldsView → ℕ → Value → TimeAnswer
 set cycle timing input value =
     answer cycle timing input value (changed (is_some cycle) timing input value)

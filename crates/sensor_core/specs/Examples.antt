@@ -2,14 +2,14 @@
 use Rattle.std.specs.Prelude.{◌≡◌, pos, true, false, List, [], ◌∷◌, Some, None}
 use Rattle.x3d_values.specs.declared.value.Value.TheVariants.{SFBool, SFVec3f}
 use Rattle.x3d_values.specs.declared.vector.Vec3.{Vec3}
-use Rattle.react_core.specs.declared.outbox.Reply.{Reply}
+use Rattle.react_core.specs.declared.outbox.SentEvent.{SentEvent}
 use Rattle.react_core.specs.Reaction.{reply}
 use Rattle.sensor_core.specs.declared.touch.Pointed.{Pointed}
 use Rattle.sensor_core.specs.declared.touch_numbers.TheConstants.{IS_OVER, HIT_POINT_CHANGED, IS_PRESSED}
-use Rattle.sensor_core.specs.Touches.{Touch, pointer, untouched, point}
+use Rattle.sensor_core.specs.Touches.{TouchStateView, pointer, untouched, point}
 
 -- what a sensor sends at each of these pointers, one after the other
-unfoldable pub replies_at_each : Touch → List Pointed → List (List Reply)
+unfoldable pub replies_at_each : TouchStateView → List Pointed → List (List SentEvent)
 replies_at_each touch [] = []
 replies_at_each touch (pointed ∷ others) =
     (point touch pointed (pos 1)).replies
@@ -18,7 +18,7 @@ replies_at_each touch (pointed ∷ others) =
 abbrev hit : Vec3
 hit = record { x = pos 0; y = pos 0; z = pos 1000000 }
 
-abbrev at_hit : List Reply
+abbrev at_hit : List SentEvent
 at_hit = reply HIT_POINT_CHANGED (SFVec3f hit) ∷ []
 
 -- both come; 0 presses, then 1, which changes nothing; 0 lets go outside, then 1 does
@@ -32,7 +32,7 @@ two_pointers =
     ∷ pointer 1 true false None
     ∷ []
 
-abbrev pub two_pointers_replies : List (List Reply)
+abbrev pub two_pointers_replies : List (List SentEvent)
 two_pointers_replies =
     (reply IS_OVER (SFBool true) ∷ at_hit)
     ∷ at_hit

@@ -7,7 +7,7 @@ use Rattle.x3d_values.specs.declared.ranges.TheConstants.{MAX_VIEWERS}
 use Rattle.x3d_values.specs.Ranges.{is_viewer}
 use Rattle.sensor_core.specs.declared.parts.TimeParts.{TimeParts}
 use Rattle.sensor_core.specs.declared.parts.TouchParts.{TouchParts}
-use Rattle.sensor_core.specs.Touches.{Touch}
+use Rattle.sensor_core.specs.Touches.{TouchStateView}
 
 -- ---- a TimeSensor: whether it is active, and its cycle, which is 0 where it isn't
 
@@ -32,14 +32,14 @@ abbrev pub number_of : List Bool → ℕ
 number_of [] = 0
 number_of (over ∷ others) = bit_of over + 2 * number_of others
 
-unfoldable pub parts_of_touch : Touch → TouchParts
+unfoldable pub parts_of_touch : TouchStateView → TouchParts
 parts_of_touch touch = record { over = number_of touch.over; presser = touch.presser }
 
 unfoldable pub over_of : ℕ → List Bool
 over_of number = map (λ viewer. bit_at number viewer == 1) (range_with_len 0 MAX_VIEWERS)
 
 -- none where the presser is no viewer
-unfoldable pub touch_of_parts : TouchParts → Option Touch
+unfoldable pub touch_of_parts : TouchParts → Option TouchStateView
 touch_of_parts parts =
     if option_map_or is_viewer parts.presser true
     then Some (record { over = over_of parts.over; presser = parts.presser })

@@ -2,48 +2,48 @@
 -- and the clamped elapsed time are our choice).
 use Rattle.std.specs.Prelude.{◌≡◌, IsTrue, ℕ, ℤ, pos, ◌+ℤ◌, int_lt, int_le, unsigned_abs, Bool, true, false, not, ◌&&◌, ◌||◌, List, [], ◌∷◌, ◌++◌, Option, Some, None, if◌then◌else◌}
 use Rattle.x3d_values.specs.declared.value.Value.TheVariants.{SFBool, SFFloat, SFTime}
-use Rattle.react_core.specs.declared.outbox.Reply.{Reply}
+use Rattle.react_core.specs.declared.outbox.SentEvent.{SentEvent}
 use Rattle.react_core.specs.Reaction.{reply}
 use Rattle.sensor_core.specs.declared.numbers.TheConstants.{IS_ACTIVE, CYCLE_TIME, FRACTION_CHANGED, ELAPSED_TIME, TIME}
 use Rattle.sensor_core.specs.Cycles.{cycle_at, cycle_time, cycle_end, fraction_at, elapsed_at}
-use Rattle.sensor_core.specs.Timing.{Timing}
+use Rattle.sensor_core.specs.Timing.{TimeFieldsView}
 
 -- the cycle that runs after a tick, if one does, and what is sent, in order
 pub record Tick : Type 0 where
   pub cycle : Option ℕ
-  pub replies : List Reply
+  pub replies : List SentEvent
 
 -- a stop counts where it is above the start
-abbrev pub is_stopped : Timing → ℤ → Bool
+abbrev pub is_stopped : TimeFieldsView → ℤ → Bool
 is_stopped timing t = int_lt timing.start_time timing.stop_time && int_le timing.stop_time t
 
 -- it starts from the start time on, where it loops or its one cycle isn't over
-abbrev pub is_started : Timing → ℤ → Bool
+abbrev pub is_started : TimeFieldsView → ℤ → Bool
 is_started timing t =
     timing.enabled && (int_le timing.start_time t
     && (not (is_stopped timing t)
     && (timing.looping || int_lt t (timing.start_time +ℤ timing.cycle_interval))))
 
 -- the cycle at a time, and when it began
-abbrev pub cycle_of : Timing → ℤ → ℤ
+abbrev pub cycle_of : TimeFieldsView → ℤ → ℤ
 cycle_of timing t = cycle_at timing.start_time timing.cycle_interval t
 
-abbrev pub begin_of : Timing → ℤ → ℤ
+abbrev pub begin_of : TimeFieldsView → ℤ → ℤ
 begin_of timing t = cycle_time timing.start_time timing.cycle_interval t
 
 -- when a cycle ends
-abbrev pub end_of : Timing → ℕ → ℤ
+abbrev pub end_of : TimeFieldsView → ℕ → ℤ
 end_of timing cycle = cycle_end timing.start_time timing.cycle_interval cycle
 
 -- the fraction and the elapsed time where the sensor stands at x
-abbrev pub fraction_of : Timing → ℤ → ℤ
+abbrev pub fraction_of : TimeFieldsView → ℤ → ℤ
 fraction_of timing x = fraction_at timing.start_time timing.cycle_interval x
 
-abbrev pub elapsed_of : Timing → ℤ → ℤ
+abbrev pub elapsed_of : TimeFieldsView → ℤ → ℤ
 elapsed_of timing x = elapsed_at timing.start_time x
 
 -- what each tick of an active sensor sends at t, where the sensor stands at x
-abbrev pub progress : Timing → ℤ → ℤ → List Reply
+abbrev pub progress : TimeFieldsView → ℤ → ℤ → List SentEvent
 progress timing x t =
     reply FRACTION_CHANGED (SFFloat (fraction_of timing x))
     ∷ reply ELAPSED_TIME (SFTime (elapsed_of timing x))
@@ -51,7 +51,7 @@ progress timing x t =
     ∷ []
 
 -- an inactive sensor
-abbrev pub tick_inactive : Timing → ℤ → Tick
+abbrev pub tick_inactive : TimeFieldsView → ℤ → Tick
 tick_inactive timing t =
     if is_started timing t
     then record {
@@ -64,25 +64,25 @@ tick_inactive timing t =
     else record { cycle = None; replies = [] }
 
 -- its one cycle is over
-abbrev pub is_over : Timing → ℕ → ℤ → Bool
+abbrev pub is_over : TimeFieldsView → ℕ → ℤ → Bool
 is_over timing cycle t = not timing.looping && int_le (end_of timing cycle) t
 
 -- where a sensor stands that ends: at the end of its cycle, or else at t where it is stopped; none
 -- where it goes on
-unfoldable pub last_place : Timing → ℕ → ℤ → Option ℤ
+unfoldable pub last_place : TimeFieldsView → ℕ → ℤ → Option ℤ
 last_place timing cycle t =
     if is_over timing cycle t then Some (end_of timing cycle)
     else (if is_stopped timing t then Some t else None)
 
 -- it ends
-abbrev pub ends : Timing → ℤ → ℤ → Tick
+abbrev pub ends : TimeFieldsView → ℤ → ℤ → Tick
 ends timing x t = record {
   cycle = None;
   replies = progress timing x t ++ reply IS_ACTIVE (SFBool false) ∷ [];
 }
 
 -- it goes on, in the same cycle or in a later one
-abbrev pub goes_on : Timing → ℕ → ℤ → Tick
+abbrev pub goes_on : TimeFieldsView → ℕ → ℤ → Tick
 goes_on timing cycle t =
     if int_lt (pos cycle) (cycle_of timing t)
     then record {
@@ -92,15 +92,15 @@ goes_on timing cycle t =
     else record { cycle = Some cycle; replies = progress timing t t }
 
 -- an active sensor
-abbrev pub tick_active : Timing → ℕ → ℤ → Option ℤ → Tick
+abbrev pub tick_active : TimeFieldsView → ℕ → ℤ → Option ℤ → Tick
 tick_active timing cycle t None = goes_on timing cycle t
 tick_active timing cycle t (Some x) = ends timing x t
 
-unfoldable pub tick : Option ℕ → Timing → ℤ → Tick
+unfoldable pub tick : Option ℕ → TimeFieldsView → ℤ → Tick
 tick None timing t = tick_inactive timing t
 tick (Some cycle) timing t = tick_active timing cycle t (last_place timing cycle t)
 
 -- a stop doesn't count before the end of the only cycle: the sensor then stands at that end
 abbrev pub EndWinsOverStop : Type 0
-EndWinsOverStop = (timing : Timing) (cycle : ℕ) (t : ℤ) → IsTrue (is_over timing cycle t)
+EndWinsOverStop = (timing : TimeFieldsView) (cycle : ℕ) (t : ℤ) → IsTrue (is_over timing cycle t)
     → last_place timing cycle t ≡ Some (end_of timing cycle)

@@ -10,8 +10,8 @@ use Rattle.sensor_core.specs.declared.timing.Times.{Times}
 use Rattle.sensor_core.specs.declared.numbers.TheConstants.{CYCLE_INTERVAL, ENABLED, LOOP, PAUSE_TIME, RESUME_TIME, START_TIME, STOP_TIME}
 
 -- the values of its inputOutput fields, times in microseconds
-abbrev pub Timing : Type 0
-Timing = Times
+abbrev pub TimeFieldsView : Type 0
+TimeFieldsView = Times
 
 -- a time is up to 10^18 microseconds from 0
 abbrev pub is_time : ℤ → Bool
@@ -24,7 +24,7 @@ is_interval time = int_lt (pos 0) time && is_time time
 abbrev pub are_times : ℤ → ℤ → Bool
 are_times one other = is_time one && is_time other
 
-abbrev pub is_timing : Timing → Bool
+abbrev pub is_timing : TimeFieldsView → Bool
 is_timing t =
     is_interval t.cycle_interval
     && (are_times t.pause_time t.resume_time && are_times t.start_time t.stop_time)
@@ -46,11 +46,11 @@ abbrev pub ◌>>=◌ : {A B : Type 0} → Option A → (A → Option B) → Opti
 o >>= f = option_and_then f o
 
 -- the values in their ranges
-unfoldable pub checked : Timing → Option Timing
+unfoldable pub checked : TimeFieldsView → Option TimeFieldsView
 checked t = if is_timing t then Some t else None
 
 -- what these fields keep of a TimeSensor, if they hold a value of its range for each field
-unfoldable pub timing_of : Fields → Option Timing
+unfoldable pub timing_of : Fields → Option TimeFieldsView
 timing_of fields = do
   interval ← time_at fields CYCLE_INTERVAL
   enabled ← truth_at fields ENABLED
@@ -70,7 +70,7 @@ timing_of fields = do
   })
 
 -- the fields with these values
-unfoldable pub with_timing : Fields → Timing → Fields
+unfoldable pub with_timing : Fields → TimeFieldsView → Fields
 with_timing fields t =
     let interval = with_value fields CYCLE_INTERVAL (SFTime t.cycle_interval) in
     let enabled = with_value interval ENABLED (SFBool t.enabled) in

@@ -6,14 +6,14 @@ use Rattle.std.specs.Option.{option_map_or}
 use Rattle.x3d_values.specs.declared.ranges.TheConstants.{MAX_VIEWERS}
 use Rattle.x3d_values.specs.declared.value.Value.TheVariants.{SFBool, SFTime, SFVec3f}
 use Rattle.x3d_values.specs.declared.vector.Vec3.{Vec3}
-use Rattle.react_core.specs.declared.outbox.Reply.{Reply}
+use Rattle.react_core.specs.declared.outbox.SentEvent.{SentEvent}
 use Rattle.react_core.specs.Reaction.{reply}
 use Rattle.sensor_core.specs.declared.touch.Pointed.{Pointed}
 use Rattle.sensor_core.specs.declared.touch_numbers.TheConstants.{IS_OVER, HIT_POINT_CHANGED, IS_PRESSED, TOUCH_TIME}
 
 -- whether each viewer's pointer is over the sensor, by the viewer's number, and the viewer that
 -- presses it, if one does
-pub record Touch : Type 0 where
+pub record TouchStateView : Type 0 where
   pub over : List Bool
   pub presser : Option ℕ
 
@@ -25,37 +25,37 @@ pointer who before down inside =
 
 -- what the sensor keeps, and what it sends, in order
 pub record Touched : Type 0 where
-  pub touch : Touch
-  pub replies : List Reply
+  pub touch : TouchStateView
+  pub replies : List SentEvent
 
 -- no pointer is over it, and nobody presses it
-abbrev pub untouched : Touch
+abbrev pub untouched : TouchStateView
 untouched = record { over = replicate MAX_VIEWERS false; presser = None }
 
-abbrev pub is_over : Touch → Bool
+abbrev pub is_over : TouchStateView → Bool
 is_over touch = list_any (λ over. over) touch.over
 
-abbrev pub is_pressed_by : Touch → ℕ → Bool
+abbrev pub is_pressed_by : TouchStateView → ℕ → Bool
 is_pressed_by touch who = option_map_or (λ presser. presser == who) touch.presser false
 
 -- ---- a pointer
 
 -- the pointer is over the sensor exactly where it is inside
-abbrev pub over_after : Touch → Pointed → List Bool
+abbrev pub over_after : TouchStateView → Pointed → List Bool
 over_after touch pointed = slice_set touch.over pointed.who (is_some pointed.inside)
 
 -- a field of a truth value, where the value changes
-abbrev pub change_replies : ℕ → Bool → Bool → List Reply
+abbrev pub change_replies : ℕ → Bool → Bool → List SentEvent
 change_replies field was is =
     if was then (if is then [] else reply field (SFBool false) ∷ [])
     else (if is then reply field (SFBool true) ∷ [] else [])
 
 -- `isOver` where the first pointer comes and where the last one goes
-abbrev pub over_replies : Bool → Bool → List Reply
+abbrev pub over_replies : Bool → Bool → List SentEvent
 over_replies was is = change_replies IS_OVER was is
 
 -- `hitPoint_changed` where it is inside and no other viewer presses
-abbrev pub hit_replies : Touch → Pointed → Option Vec3 → List Reply
+abbrev pub hit_replies : TouchStateView → Pointed → Option Vec3 → List SentEvent
 hit_replies touch pointed None = []
 hit_replies touch pointed (Some point) =
     if is_none touch.presser || is_pressed_by touch pointed.who
@@ -63,40 +63,40 @@ hit_replies touch pointed (Some point) =
     else []
 
 -- its button goes down inside, and nobody presses: it presses
-abbrev pub presses : Touch → Pointed → Bool
+abbrev pub presses : TouchStateView → Pointed → Bool
 presses touch pointed =
     (pointed.down && not pointed.before) && (is_some pointed.inside && is_none touch.presser)
 
 -- its button is up, and it presses: it lets go
-abbrev pub releases : Touch → Pointed → Bool
+abbrev pub releases : TouchStateView → Pointed → Bool
 releases touch pointed = not pointed.down && is_pressed_by touch pointed.who
 
-abbrev pub presser_after : Touch → Pointed → Option ℕ
+abbrev pub presser_after : TouchStateView → Pointed → Option ℕ
 presser_after touch pointed =
     if presses touch pointed then Some pointed.who
     else (if releases touch pointed then None else touch.presser)
 
 -- `touchTime` where it lets go inside
-abbrev pub time_replies : Option Vec3 → ℤ → List Reply
+abbrev pub time_replies : Option Vec3 → ℤ → List SentEvent
 time_replies None t = []
 time_replies (Some _) t = reply TOUCH_TIME (SFTime t) ∷ []
 
 -- `isActive`, then `touchTime`
-abbrev pub press_replies : Touch → Pointed → ℤ → List Reply
+abbrev pub press_replies : TouchStateView → Pointed → ℤ → List SentEvent
 press_replies touch pointed t =
     if presses touch pointed then reply IS_PRESSED (SFBool true) ∷ []
     else (if releases touch pointed
     then reply IS_PRESSED (SFBool false) ∷ time_replies pointed.inside t
     else [])
 
-abbrev pub touch_after : Touch → Pointed → Touch
+abbrev pub touch_after : TouchStateView → Pointed → TouchStateView
 touch_after touch pointed = record {
   over = over_after touch pointed;
   presser = presser_after touch pointed;
 }
 
 -- what an enabled sensor does with a pointer at time t
-unfoldable pub point : Touch → Pointed → ℤ → Touched
+unfoldable pub point : TouchStateView → Pointed → ℤ → Touched
 point touch pointed t =
     let after = touch_after touch pointed in
     record {
@@ -110,7 +110,7 @@ point touch pointed t =
 -- ---- `enabled` FALSE
 
 -- it forgets its pointers: `isOver` FALSE if one was over it, `isActive` FALSE if it was pressed
-unfoldable pub disable : Touch → Touched
+unfoldable pub disable : TouchStateView → Touched
 disable touch = record {
   touch = untouched;
   replies =
@@ -122,5 +122,5 @@ disable touch = record {
 
 -- a viewer that presses does so still after the pointer of any other
 abbrev pub OneReleases : Type 0
-OneReleases = (touch : Touch) (pointed : Pointed) (who : ℕ) → touch.presser ≡ Some who
+OneReleases = (touch : TouchStateView) (pointed : Pointed) (who : ℕ) → touch.presser ≡ Some who
     → IsFalse (who == pointed.who) → presser_after touch pointed ≡ Some who

@@ -9,7 +9,7 @@ use crate::numbers::{
 };
 use crate::state::TimeState;
 use crate::timing::{TimeFields, is_time};
-use react_core::{Outbox, Reply};
+use react_core::{Outbox, SentEvent};
 use x3d_values::Value;
 
 impl TimeState {
@@ -53,7 +53,7 @@ impl TimeState {
         ensures replies { out.new.items ≡ (keeps self.old input value fields.now).replies }
     {
         let active = self.is_active();
-        out.push(Reply {
+        out.push(SentEvent {
             field: input,
             value,
         });
@@ -62,7 +62,7 @@ impl TimeState {
         }
         *self = TimeState::inactive();
         if active {
-            out.push(Reply {
+            out.push(SentEvent {
                 field: IS_ACTIVE,
                 value: Value::SFBool(false),
             });

@@ -11,7 +11,7 @@ use crate::cycles::{cycle_at, cycle_time, elapsed_at, end_by, fraction_at};
 use crate::numbers::{CYCLE_TIME, ELAPSED_TIME, FRACTION_CHANGED, IS_ACTIVE, TIME};
 use crate::state::TimeState;
 use crate::timing::TimeFields;
-use react_core::{Outbox, Reply};
+use react_core::{Outbox, SentEvent};
 use x3d_values::Value;
 
 impl TimeState {
@@ -72,40 +72,40 @@ fn is_started(fields: &TimeFields, t: i64) -> bool
 }
 
 #[tactic(auto, using(crate::proofs::Passed::passed))]
-fn fraction_reply(fields: &TimeFields, x: i64) -> Reply
+fn fraction_reply(fields: &TimeFields, x: i64) -> SentEvent
     requires { IsNear x }
     ensures { result ≡ reply FRACTION_CHANGED (SFFloat (fraction_of fields.now x)) }
 {
-    Reply {
+    SentEvent {
         field: FRACTION_CHANGED,
         value: Value::SFFloat(fraction_at(fields.start_time(), fields.cycle_interval(), x)),
     }
 }
 
 #[tactic(auto, using(crate::proofs::Passed::passed))]
-fn elapsed_reply(fields: &TimeFields, x: i64) -> Reply
+fn elapsed_reply(fields: &TimeFields, x: i64) -> SentEvent
     requires { IsNear x }
     ensures { result ≡ reply ELAPSED_TIME (SFTime (elapsed_of fields.now x)) }
 {
-    Reply {
+    SentEvent {
         field: ELAPSED_TIME,
         value: Value::SFTime(elapsed_at(fields.start_time(), x)),
     }
 }
 
-fn time_reply(field: u16, time: i64) -> Reply
+fn time_reply(field: u16, time: i64) -> SentEvent
     ensures { result ≡ reply field (SFTime time) }
 {
-    Reply {
+    SentEvent {
         field,
         value: Value::SFTime(time),
     }
 }
 
-fn active_reply(active: bool) -> Reply
+fn active_reply(active: bool) -> SentEvent
     ensures { result ≡ reply IS_ACTIVE (SFBool active) }
 {
-    Reply {
+    SentEvent {
         field: IS_ACTIVE,
         value: Value::SFBool(active),
     }

@@ -32,9 +32,9 @@ pub struct TimeFields {
 
 impl Model for TimeFields {
     ghost use Rattle.std.specs.Prelude.{IsTrue};
-    ghost use Rattle.sensor_core.specs.Timing.{Timing, is_timing};
+    ghost use Rattle.sensor_core.specs.Timing.{TimeFieldsView, is_timing};
 
-    ghost Value = { Timing };
+    ghost Value = { TimeFieldsView };
 
     ghost view = { λ f. f.times };
 

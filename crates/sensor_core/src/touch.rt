@@ -8,7 +8,7 @@ ghost use Rattle.sensor_core.specs.Touches.{over_replies};
 
 use crate::parts::{TouchParts, VIEWERS, number_of, over_of};
 use crate::touch_numbers::{HIT_POINT_CHANGED, IS_OVER, IS_PRESSED, TOUCH_TIME};
-use react_core::{Outbox, Reply};
+use react_core::{Outbox, SentEvent};
 use std::marker::Model;
 use x3d_values::{MAX_VIEWERS, Value, Vec3};
 
@@ -23,9 +23,9 @@ impl Model for TouchState {
     ghost use Rattle.std.specs.Prelude.{IsTrue, true};
     ghost use Rattle.std.specs.Option.{option_map_or};
     ghost use Rattle.x3d_values.specs.Ranges.{is_viewer};
-    ghost use Rattle.sensor_core.specs.Touches.{Touch};
+    ghost use Rattle.sensor_core.specs.Touches.{TouchStateView};
 
-    ghost Value = { Touch };
+    ghost Value = { TouchStateView };
 
     ghost view = { λ s. record { over = s.over; presser = s.presser } };
 
@@ -271,5 +271,5 @@ fn send(field: u16, value: Value, out: &mut Outbox)
     ensures items { out.new.items ≡ out.old.items ++ reply field value ∷ [] }
     ensures len { array_vec_len out.new ≡ array_vec_len out.old + 1 }
 {
-    out.push(Reply { field, value });
+    out.push(SentEvent { field, value });
 }

@@ -9,16 +9,16 @@ use Rattle.x3d_values.specs.declared.fields.Fields.{Fields}
 use Rattle.x3d_values.specs.declared.value.Value.{Value}
 use Rattle.x3d_values.specs.declared.value.Value.TheVariants as value
 use Rattle.x3d_values.specs.declared.vector.Vec3.{Vec3}
-use Rattle.sensor_core.specs.Touches.{Touch as Touches, Touched, is_over as touch_over, point as touch_point, pointer, change_replies, over_replies}
+use Rattle.sensor_core.specs.Touches.{TouchStateView as Touches, Touched, is_over as touch_over, point as touch_point, pointer, change_replies, over_replies}
 use Rattle.sensor_plane.specs.declared.fields.PlaneFields.{PlaneFields}
 use Rattle.sensor_plane.specs.declared.meeting.SensorPointer.{SensorPointer}
 use Rattle.sensor_plane.specs.declared.numbers.TheConstants.{AUTO_OFFSET, IS_OVER, MAX_POSITION, MIN_POSITION, OFFSET}
 use Rattle.sensor_plane.specs.declared.pointer.PlanePointer.{PlanePointer}
 use Rattle.sensor_plane.specs.declared.pointing.PointingState.{PointingState}
 use Rattle.sensor_plane.specs.declared.pointing.PointingState.TheVariants.{NoSensor, Touch, Plane}
-use Rattle.sensor_plane.specs.Meeting.{Met, dragged_by, pointed, unmet}
+use Rattle.sensor_plane.specs.Meeting.{PlaneMet, dragged_by, pointed, unmet}
 use Rattle.sensor_plane.specs.PlaneFields.{pair_at, plane_fields_of, triple_at, triple_of, truth_at, with_offset}
-use Rattle.sensor_plane.specs.Planes.{Plane as Planes, Pointed, is_over as plane_over, point as plane_point}
+use Rattle.sensor_plane.specs.Planes.{Plane as Planes, PlanePointed, is_over as plane_over, point as plane_point}
 use Rattle.sensor_plane.specs.Pointing.{is_resting}
 
 -- ---- sets of viewers
@@ -77,7 +77,7 @@ free_plane over = record { over = over; drag = None }
 abbrev passes_by : ℕ → Bool → Bool → Option Vec3 → PlanePointer
 passes_by who before down tracked = record { who = who; before = before; down = down; contact = None; tracked = tracked }
 
-abbrev left : List Bool → Bool → PlaneFields → Pointed
+abbrev left : List Bool → Bool → PlaneFields → PlanePointed
 left over was values = record { plane = free_plane over; fields = values; replies = change_replies IS_OVER was (list_any (λ (o : Bool). o) over) ++ [] }
 
 plane-passes : (over : List Bool) (values : PlaneFields) (who : ℕ) (before down : Bool) (tracked : Option Vec3) →
@@ -98,8 +98,8 @@ plane-rests plane values who before down tracked alone = rest (plane_over plane)
         ap (λ (p : Planes). plane_point p values (passes_by who before down tracked)) shown
         ∙ plane-passes plane.over values who before down tracked
         ∙ ap (λ (o : List Bool). left o (list_any (λ (b : Bool). b) plane.over) values) (over-same plane.over who over)
-        ∙ ap (λ (b : Bool). let r : Pointed = record { plane = free_plane plane.over; fields = values; replies = change_replies IS_OVER b b ++ [] } in r) over
-        ∙ ap (λ (p : Planes). let r : Pointed = record { plane = p; fields = values; replies = [] } in r) (sym shown)
+        ∙ ap (λ (b : Bool). let r : PlanePointed = record { plane = free_plane plane.over; fields = values; replies = change_replies IS_OVER b b ++ [] } in r) over
+        ∙ ap (λ (p : Planes). let r : PlanePointed = record { plane = p; fields = values; replies = [] } in r) (sym shown)
 
 -- ---- the offset that is read is written back
 
@@ -150,7 +150,7 @@ dragged-rests : (plane : Planes) (fields : Fields) (who : ℕ) (before down : Bo
     (not (plane_over plane) && is_none plane.drag) ≡ true → dragged_by plane fields (passing_at who before down tracked) o ≡ unmet (Plane plane) fields
 dragged-rests plane fields who before down tracked None read alone = refl
 dragged-rests plane fields who before down tracked (Some values) read alone =
-    ap (λ (d : Pointed). let r : Met = record { state = Plane d.plane; fields = with_offset fields d.fields; replies = d.replies } in r) (plane-rests plane values who before down tracked alone)
+    ap (λ (d : PlanePointed). let r : PlaneMet = record { state = Plane d.plane; fields = with_offset fields d.fields; replies = d.replies } in r) (plane-rests plane values who before down tracked alone)
     ∙ ap (λ (f : Fields). unmet (Plane plane) f) (offset-back fields values read)
 
 pub rests : (state : PointingState) (fields : Fields) (who : ℕ) (before down : Bool) (tracked : Option Vec3) (t : ℤ) → is_resting state ≡ true →
@@ -158,5 +158,5 @@ pub rests : (state : PointingState) (fields : Fields) (who : ℕ) (before down :
 unfolding pointed
 rests NoSensor fields who before down tracked t h = refl
 rests (Touch touch) fields who before down tracked t h =
-    ap (λ (x : Touched). let r : Met = record { state = Touch x.touch; fields = fields; replies = x.replies } in r) (touch-rests touch who before down t h)
+    ap (λ (x : Touched). let r : PlaneMet = record { state = Touch x.touch; fields = fields; replies = x.replies } in r) (touch-rests touch who before down t h)
 rests (Plane plane) fields who before down tracked t h = dragged-rests plane fields who before down tracked (plane_fields_of fields) refl h

@@ -8,7 +8,7 @@ use Rattle.x3d_values.specs.declared.node_type.NodeType.TheVariants.{PlaneSensor
 use Rattle.x3d_values.specs.declared.value.Value.TheVariants.{SFBool, SFVec3f}
 use Rattle.x3d_values.specs.declared.vector.Vec3.{Vec3}
 use Rattle.x3d_values.specs.Ranges.{coordinates_fit}
-use Rattle.react_core.specs.declared.outbox.Reply.{Reply}
+use Rattle.react_core.specs.declared.outbox.SentEvent.{SentEvent}
 use Rattle.react_core.specs.Access.{is_output, leave_by_outputs}
 use Rattle.react_core.specs.Reaction.{reply}
 use Rattle.sensor_core.specs.Touches.{change_replies}
@@ -22,27 +22,27 @@ use Rattle.sensor_plane.specs.Planes.{Dragged, Plane, begun, disable, dragged, e
 use Rattle.sensor_plane.proofs.Fitting.{translation_fits}
 
 -- a test that passes what may be sent: truth values, and points for which `is_near` holds
-pub record Passes (is_near : Vec3 → Bool) (test : Reply → Bool) : Type 0 where
+pub record Passes (is_near : Vec3 → Bool) (test : SentEvent → Bool) : Type 0 where
   pub is_over : (b : Bool) → test (reply IS_OVER (SFBool b)) ≡ true
   pub is_active : (b : Bool) → test (reply IS_ACTIVE (SFBool b)) ≡ true
   pub track_point : (p : Vec3) → is_near p ≡ true → test (reply TRACK_POINT_CHANGED (SFVec3f p)) ≡ true
   pub translation : (p : Vec3) → is_near p ≡ true → test (reply TRANSLATION_CHANGED (SFVec3f p)) ≡ true
   pub offset : (p : Vec3) → is_near p ≡ true → test (reply OFFSET (SFVec3f p)) ≡ true
 
-all_append : (test : Reply → Bool) (xs ys : List Reply) → list_all test xs ≡ true → list_all test ys ≡ true → list_all test (xs ++ ys) ≡ true
+all_append : (test : SentEvent → Bool) (xs ys : List SentEvent) → list_all test xs ≡ true → list_all test ys ≡ true → list_all test (xs ++ ys) ≡ true
 all_append test [] ys f g = g
 all_append test (x ∷ xs) ys f g =
     let parts = and_parts (test x) (list_all test xs) f in
     and_from _ _ parts.0 (all_append test xs ys parts.1 g)
 
-all_if : (test : Reply → Bool) (b : Bool) (xs ys : List Reply) → list_all test xs ≡ true → list_all test ys ≡ true → list_all test (if b then xs else ys) ≡ true
+all_if : (test : SentEvent → Bool) (b : Bool) (xs ys : List SentEvent) → list_all test xs ≡ true → list_all test ys ≡ true → list_all test (if b then xs else ys) ≡ true
 all_if test true xs ys f g = f
 all_if test false xs ys f g = g
 
 -- ---- where the drag's last translation is near, each further one, and where the ray meets its plane
 
-module _ (is_near : Vec3 → Bool) (test : Reply → Bool) (passes : Passes is_near test) where
-  abbrev pub Sent : List Reply → Type 0
+module _ (is_near : Vec3 → Bool) (test : SentEvent → Bool) (passes : Passes is_near test) where
+  abbrev pub Sent : List SentEvent → Type 0
   Sent replies = list_all test replies ≡ true
 
   over_sent : (was is : Bool) → Sent (change_replies IS_OVER was is)
@@ -106,7 +106,7 @@ module _ (is_near : Vec3 → Bool) (test : Reply → Bool) (passes : Passes is_n
 abbrev any_point : Vec3 → Bool
 any_point p = true
 
-outputs : Passes any_point (λ (r : Reply). is_output PlaneSensor r.field)
+outputs : Passes any_point (λ (r : SentEvent). is_output PlaneSensor r.field)
 outputs = record {
   is_over = λ b. refl;
   is_active = λ b. refl;
@@ -115,20 +115,20 @@ outputs = record {
   offset = λ p h. refl;
 }
 
-any_last : (drag : Option Drag) → LastIsNear any_point (λ (r : Reply). is_output PlaneSensor r.field) outputs drag
+any_last : (drag : Option Drag) → LastIsNear any_point (λ (r : SentEvent). is_output PlaneSensor r.field) outputs drag
 any_last None = refl
 any_last (Some drag) = refl
 
-any_tracked : (tracked : Option Vec3) → TrackedIsNear any_point (λ (r : Reply). is_output PlaneSensor r.field) outputs tracked
+any_tracked : (tracked : Option Vec3) → TrackedIsNear any_point (λ (r : SentEvent). is_output PlaneSensor r.field) outputs tracked
 any_tracked None = refl
 any_tracked (Some at) = refl
 
 pub point_leaves : (plane : Plane) (fields : PlaneFields) (pointer : PlanePointer) → leave_by_outputs PlaneSensor (point plane fields pointer).replies ≡ true
 point_leaves plane fields pointer =
-    point_sent any_point (λ (r : Reply). is_output PlaneSensor r.field) outputs fields (λ start at. refl) plane pointer (any_last plane.drag) (any_tracked pointer.tracked)
+    point_sent any_point (λ (r : SentEvent). is_output PlaneSensor r.field) outputs fields (λ start at. refl) plane pointer (any_last plane.drag) (any_tracked pointer.tracked)
 
 pub disable_leaves : (plane : Plane) → leave_by_outputs PlaneSensor (disable plane).replies ≡ true
-disable_leaves plane = disable_sent any_point (λ (r : Reply). is_output PlaneSensor r.field) outputs plane
+disable_leaves plane = disable_sent any_point (λ (r : SentEvent). is_output PlaneSensor r.field) outputs plane
 
 -- ---- values are of their fields' types, and in their ranges
 
@@ -146,7 +146,7 @@ typed = record {
 }
 
 -- each test that passes points in their range
-pub point_passes : (test : Reply → Bool) → Passes coordinates_fit test → (plane : Plane) (fields : PlaneFields) (pointer : PlanePointer) → IsTrue (drag_fits plane.drag) → AreFitting fields
+pub point_passes : (test : SentEvent → Bool) → Passes coordinates_fit test → (plane : Plane) (fields : PlaneFields) (pointer : PlanePointer) → IsTrue (drag_fits plane.drag) → AreFitting fields
     → option_map_or coordinates_fit pointer.tracked true ≡ true → list_all test (point plane fields pointer).replies ≡ true
 point_passes test passes plane fields pointer drag f near =
     point_sent coordinates_fit test passes fields (λ start at. translation_fits fields start at f) plane pointer (last_fits plane.drag drag) near

@@ -3,16 +3,16 @@ use Rattle.std.specs.Prelude.{◌≡◌, ℕ, ℤ, pos, negsuc, Bool, true, fals
 use Rattle.x3d_values.specs.declared.value.Value.TheVariants.{SFBool, SFVec3f}
 use Rattle.x3d_values.specs.declared.vector.Vec3.{Vec3}
 use Rattle.x3d_values.specs.Vectors.{pair, vector as at}
-use Rattle.react_core.specs.declared.outbox.Reply.{Reply}
+use Rattle.react_core.specs.declared.outbox.SentEvent.{SentEvent}
 use Rattle.react_core.specs.Reaction.{reply}
 use Rattle.sensor_plane.specs.declared.fields.PlaneFields.{PlaneFields}
 use Rattle.sensor_plane.specs.declared.numbers.TheConstants.{IS_ACTIVE, IS_OVER, OFFSET, TRACK_POINT_CHANGED, TRANSLATION_CHANGED}
 use Rattle.sensor_plane.specs.declared.pointer.Contact.{Contact}
 use Rattle.sensor_plane.specs.declared.pointer.PlanePointer.{PlanePointer}
-use Rattle.sensor_plane.specs.Planes.{Plane, Pointed, untouched, point, disable}
+use Rattle.sensor_plane.specs.Planes.{Plane, PlanePointed, untouched, point, disable}
 
 -- what a sensor sends at each of these pointers, one after the other
-unfoldable pub sent_at_each : Plane → PlaneFields → List PlanePointer → List (List Reply)
+unfoldable pub sent_at_each : Plane → PlaneFields → List PlanePointer → List (List SentEvent)
 sent_at_each plane fields [] = []
 sent_at_each plane fields (pointer ∷ others) =
     (point plane fields pointer).replies
@@ -47,19 +47,19 @@ abbrev lets_go : ℕ → PlanePointer
 lets_go who =
     record { who = who; before = true; down = false; contact = None; tracked = None }
 
-abbrev over_is : Bool → Reply
+abbrev over_is : Bool → SentEvent
 over_is truth = reply IS_OVER (SFBool truth)
 
-abbrev active_is : Bool → Reply
+abbrev active_is : Bool → SentEvent
 active_is truth = reply IS_ACTIVE (SFBool truth)
 
-abbrev tracks : Vec3 → Vec3 → List Reply
+abbrev tracks : Vec3 → Vec3 → List SentEvent
 tracks point translation =
     reply TRACK_POINT_CHANGED (SFVec3f point)
     ∷ reply TRANSLATION_CHANGED (SFVec3f translation)
     ∷ []
 
-abbrev offset_is : Vec3 → Reply
+abbrev offset_is : Vec3 → SentEvent
 offset_is p = reply OFFSET (SFVec3f p)
 
 -- ---- pressed at 0 0 1, dragged to 2 2 1 and to 5 -2 1, up to 3 along x and y
@@ -178,7 +178,7 @@ LastViewer =
 
 -- ---- disabled in the middle of a drag: it is forgotten, and a button that is down doesn't press
 
-abbrev pressed : Pointed
+abbrev pressed : PlanePointed
 pressed = point untouched up_to_three (press 0 front)
 
 abbrev pub Forgotten : Type 0

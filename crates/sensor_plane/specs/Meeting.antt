@@ -2,8 +2,8 @@
 -- device sensor component): a TouchSensor by Touches, a PlaneSensor by Planes.
 use Rattle.std.specs.Prelude.{ℤ, List, [], Option, Some, None}
 use Rattle.x3d_values.specs.declared.fields.Fields.{Fields}
-use Rattle.react_core.specs.declared.outbox.Reply.{Reply}
-use Rattle.sensor_core.specs.Touches.{Touch as Touches, point as touch_point, pointer}
+use Rattle.react_core.specs.declared.outbox.SentEvent.{SentEvent}
+use Rattle.sensor_core.specs.Touches.{TouchStateView as Touches, point as touch_point, pointer}
 use Rattle.sensor_plane.specs.declared.fields.PlaneFields.{PlaneFields}
 use Rattle.sensor_plane.specs.declared.meeting.SensorPointer.{SensorPointer}
 use Rattle.sensor_plane.specs.declared.pointer.PlanePointer.{PlanePointer}
@@ -13,17 +13,17 @@ use Rattle.sensor_plane.specs.PlaneFields.{plane_fields_of, with_offset}
 use Rattle.sensor_plane.specs.Planes.{Plane as Planes, point as plane_point}
 
 -- what is kept of the sensor, its fields, and what it sends, in order
-pub record Met : Type 0 where
+pub record PlaneMet : Type 0 where
   pub state : PointingState
   pub fields : Fields
-  pub replies : List Reply
+  pub replies : List SentEvent
 
 -- nothing happens
-abbrev pub unmet : PointingState → Fields → Met
+abbrev pub unmet : PointingState → Fields → PlaneMet
 unmet state fields = record { state = state; fields = fields; replies = [] }
 
 -- a TouchSensor goes by where the pointer is, and the time
-abbrev pub touched : Touches → Fields → SensorPointer → ℤ → Met
+abbrev pub touched : Touches → Fields → SensorPointer → ℤ → PlaneMet
 touched touch fields p time =
     let t = touch_point touch (pointer p.who p.before p.down p.place) time in
     record { state = Touch t.touch; fields = fields; replies = t.replies }
@@ -39,13 +39,13 @@ to_plane p = record {
 }
 
 -- it has a value of its type in each of the fields that a drag goes by, or nothing happens
-abbrev pub dragged_by : Planes → Fields → SensorPointer → Option PlaneFields → Met
+abbrev pub dragged_by : Planes → Fields → SensorPointer → Option PlaneFields → PlaneMet
 dragged_by plane fields p None = unmet (Plane plane) fields
 dragged_by plane fields p (Some values) =
     let d = plane_point plane values (to_plane p) in
     record { state = Plane d.plane; fields = with_offset fields d.fields; replies = d.replies }
 
-unfoldable pub pointed : PointingState → Fields → SensorPointer → ℤ → Met
+unfoldable pub pointed : PointingState → Fields → SensorPointer → ℤ → PlaneMet
 pointed NoSensor fields p time = unmet NoSensor fields
 pointed (Touch touch) fields p time = touched touch fields p time
 pointed (Plane plane) fields p time = dragged_by plane fields p (plane_fields_of fields)

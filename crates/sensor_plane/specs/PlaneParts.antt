@@ -8,7 +8,7 @@ use Rattle.x3d_values.specs.declared.table.FieldRow.{FieldRow}
 use Rattle.x3d_values.specs.declared.vector.Vec2.{Vec2}
 use Rattle.x3d_values.specs.Ranges.{coordinate_fits, coordinates_fit, is_viewer}
 use Rattle.x3d_values.specs.Values.{type_of}
-use Rattle.react_core.specs.declared.outbox.Reply.{Reply}
+use Rattle.react_core.specs.declared.outbox.SentEvent.{SentEvent}
 use Rattle.react_core.specs.Access.{are_same, row_at}
 use Rattle.sensor_core.specs.Parts.{number_of, over_of}
 use Rattle.sensor_plane.specs.declared.drag.Drag.{Drag}
@@ -18,7 +18,7 @@ use Rattle.sensor_plane.specs.declared.pointer.Contact.{Contact}
 use Rattle.sensor_plane.specs.declared.pointer.PlanePointer.{PlanePointer}
 use Rattle.sensor_plane.specs.Paths.{path_fits}
 use Rattle.sensor_plane.specs.PlaneFields.{triple_of}
-use Rattle.sensor_plane.specs.Planes.{Plane, Pointed, point}
+use Rattle.sensor_plane.specs.Planes.{Plane, PlanePointed, point}
 
 -- a number whose bit v says whether viewer v's pointer is over the sensor
 unfoldable pub parts_of_plane : Plane → PlaneParts
@@ -69,7 +69,7 @@ pub record AreFitting (fields : PlaneFields) : Type 0 where
   pub offset : IsTrue (coordinates_fit fields.offset)
 
 -- what a pointer leaves, in its ranges
-pub record LeavesFitting (pointed : Pointed) : Type 0 where
+pub record LeavesFitting (pointed : PlanePointed) : Type 0 where
   pub plane : IsFitting pointed.plane
   pub fields : AreFitting pointed.fields
 
@@ -82,7 +82,7 @@ DraggedPlanesFit = (plane : Plane) (fields : PlaneFields) (pointer : PlanePointe
 -- ---- what is sent
 
 -- a value of the type of the field by which it leaves; a point lies within its range
-abbrev pub reply_fits : Reply → Bool
+abbrev pub reply_fits : SentEvent → Bool
 reply_fits reply =
     option_map_or (λ (row : FieldRow). are_same row.field_type (type_of reply.value))
     (row_at PlaneSensor reply.field)

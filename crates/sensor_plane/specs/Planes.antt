@@ -8,7 +8,7 @@ use Rattle.x3d_values.specs.declared.ranges.TheConstants.{MAX_VIEWERS}
 use Rattle.x3d_values.specs.declared.value.Value.TheVariants.{SFBool, SFVec3f}
 use Rattle.x3d_values.specs.declared.vector.Vec3.{Vec3}
 use Rattle.x3d_values.specs.Ranges.{is_viewer}
-use Rattle.react_core.specs.declared.outbox.Reply.{Reply}
+use Rattle.react_core.specs.declared.outbox.SentEvent.{SentEvent}
 use Rattle.react_core.specs.Reaction.{reply}
 use Rattle.sensor_core.specs.Touches.{change_replies}
 use Rattle.sensor_plane.specs.declared.drag.Drag.{Drag}
@@ -24,10 +24,10 @@ pub record Plane : Type 0 where
   pub drag : Option Drag
 
 -- what the sensor keeps, what its fields are, and what it sends, in order
-pub record Pointed : Type 0 where
+pub record PlanePointed : Type 0 where
   pub plane : Plane
   pub fields : PlaneFields
-  pub replies : List Reply
+  pub replies : List SentEvent
 
 -- a viewer presses
 abbrev pub is_drag : Option Drag → Bool
@@ -84,7 +84,7 @@ translation fields start at = within fields (shift fields start at)
 pub record Dragged : Type 0 where
   pub drag : Option Drag
   pub fields : PlaneFields
-  pub replies : List Reply
+  pub replies : List SentEvent
 
 -- its button goes down
 abbrev pub presses : PlanePointer → Bool
@@ -112,7 +112,7 @@ abbrev pub drag_at : PlaneFields → Drag → Option Vec3 → Drag
 drag_at fields drag None = drag
 drag_at fields drag (Some at) = record drag { last = translation fields drag.start at }
 
-abbrev pub track_replies : PlaneFields → Drag → Option Vec3 → List Reply
+abbrev pub track_replies : PlaneFields → Drag → Option Vec3 → List SentEvent
 track_replies fields drag None = []
 track_replies fields drag (Some at) =
     reply TRACK_POINT_CHANGED (SFVec3f at)
@@ -156,7 +156,7 @@ over_after plane pointer = slice_set plane.over pointer.who (is_some pointer.con
 
 -- what an enabled sensor does with a pointer: `isOver` is sent where the first pointer comes and
 -- where the last one goes
-unfoldable pub point : Plane → PlaneFields → PlanePointer → Pointed
+unfoldable pub point : Plane → PlaneFields → PlanePointer → PlanePointed
 point plane fields pointer =
     let over = over_after plane pointer in
     let after = dragged fields pointer plane.drag in
@@ -172,7 +172,7 @@ point plane fields pointer =
 -- what the sensor keeps, and what it sends, in order
 pub record Disabled : Type 0 where
   pub plane : Plane
-  pub replies : List Reply
+  pub replies : List SentEvent
 
 -- it forgets its pointers: `isOver` FALSE if one was over it, `isActive` FALSE if it was pressed;
 -- the offset stays

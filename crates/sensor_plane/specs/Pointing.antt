@@ -6,7 +6,7 @@ use Rattle.x3d_values.specs.declared.node_type.NodeType.{NodeType}
 use Rattle.x3d_values.specs.declared.node_type.NodeType.TheVariants.{PlaneSensor, TouchSensor}
 use Rattle.x3d_values.specs.declared.ranges.TheConstants.{MAX_VIEWERS}
 use Rattle.x3d_values.specs.Ranges.{is_viewer}
-use Rattle.react_core.specs.declared.outbox.Reply.{Reply}
+use Rattle.react_core.specs.declared.outbox.SentEvent.{SentEvent}
 use Rattle.sensor_core.specs.Touches as touches
 use Rattle.sensor_plane.specs.declared.drag.Drag.{Drag}
 use Rattle.sensor_plane.specs.declared.pointing.PointingState.{PointingState}
@@ -55,7 +55,7 @@ is_pressed_by (Plane plane) who = planes.is_pressed_by plane who
 -- what is kept, and what is sent, in order
 pub record Forgotten : Type 0 where
   pub state : PointingState
-  pub replies : List Reply
+  pub replies : List SentEvent
 
 -- a sensor forgets its pointers
 abbrev pub forgotten : PointingState → Forgotten

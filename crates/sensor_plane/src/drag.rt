@@ -12,7 +12,7 @@ use crate::fields::PlaneFields;
 use crate::numbers::{IS_ACTIVE, OFFSET, TRACK_POINT_CHANGED, TRANSLATION_CHANGED};
 use crate::path::ListPath;
 use crate::pointer::{Contact, PlanePointer};
-use react_core::{Outbox, Reply};
+use react_core::{Outbox, SentEvent};
 use x3d_values::{Value, Vec3};
 
 /// The largest size of a coordinate, in millionths.
@@ -84,7 +84,7 @@ pub(crate) fn send(field: u16, value: Value, out: &mut Outbox)
     ensures items { out.new.items ≡ out.old.items ++ reply field value ∷ [] }
     ensures len { array_vec_len out.new ≡ array_vec_len out.old + 1 }
 {
-    out.push(Reply { field, value });
+    out.push(SentEvent { field, value });
 }
 
 fn drag_from(contact: &Contact, who: u8, fields: &PlaneFields) -> Drag

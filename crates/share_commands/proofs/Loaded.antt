@@ -26,7 +26,7 @@ use Rattle.share_jobs.specs.declared.fault.JobFault.{JobFault}
 use Rattle.share_jobs.specs.declared.fault.JobFault.TheVariants.{Attach}
 use Rattle.share_jobs.specs.Faults.{of_read, of_expand, of_scene, of_route}
 use Rattle.share_program.specs.Opening.{next, same, good, built, routed, with_routes, flattened, opened}
-use Rattle.share_program.specs.declared.open.Opened.{Opened}
+use Rattle.share_program.specs.declared.open.OpenedScene.{OpenedScene}
 use Rattle.laws_networks.specs.Opened.{IsOpened}
 use Rattle.share_rehearsal.specs.Rehearsed.{AreLoaded}
 use Rattle.share_stages.specs.Stages.{staged_scene}
@@ -64,15 +64,15 @@ runs_all s e =
 
 -- ---- what a text was opened as
 
-found_routes : (f : Flat) (s : SceneView) (r : Result (List Route) RouteFault) (o : Opened) → resolved f s ≡ r
+found_routes : (f : Flat) (s : SceneView) (r : Result (List Route) RouteFault) (o : OpenedScene) → resolved f s ≡ r
     → next of_route r (with_routes s) ≡ Ok o → (s ≡ o.scene) × (resolved f s ≡ Ok o.routes)
 found_routes f s (Ok routes) o is e =
-    let made : Opened = record { scene = s; routes = routes } in
+    let made : OpenedScene = record { scene = s; routes = routes } in
     let whole : made ≡ o = same_ok {E = JobFault} made o e in
-    (ap (λ (z : Opened). z.scene) whole, is ∙ ap (λ (z : Opened). let r : Result (List Route) RouteFault = Ok z.routes in r) whole)
+    (ap (λ (z : OpenedScene). z.scene) whole, is ∙ ap (λ (z : OpenedScene). let r : Result (List Route) RouteFault = Ok z.routes in r) whole)
 found_routes f s (Err fault) o is e = absurd cc
 
-found_scene : (f : Flat) (r : Result SceneView SceneFault) (o : Opened) → scene_of f ≡ r
+found_scene : (f : Flat) (r : Result SceneView SceneFault) (o : OpenedScene) → scene_of f ≡ r
     → next of_scene r (routed f) ≡ Ok o → (scene_of f ≡ Ok o.scene) × (resolved f o.scene ≡ Ok o.routes)
 found_scene f (Ok s) o is e =
     let g = found_routes f s (resolved f s) o refl e in (
@@ -81,42 +81,42 @@ found_scene f (Ok s) o is e =
     )
 found_scene f (Err fault) o is e = absurd cc
 
-found_flat : (text : List ℕ) (d : Document) (r : Result Flat ExpandFault) (o : Opened) → read_text text ≡ Ok d → flat d ≡ r
+found_flat : (text : List ℕ) (d : Document) (r : Result Flat ExpandFault) (o : OpenedScene) → read_text text ≡ Ok d → flat d ≡ r
     → next same (next of_expand r good) built ≡ Ok o → (f : Flat) × IsOpened text f o.scene o.routes
 found_flat text d (Ok f) o read is e =
     let g = found_scene f (scene_of f) o refl e in
     (f, record { document = d; read = read; put_in = is; is_scene = g.0; are_routes = g.1 })
 found_flat text d (Err fault) o read is e = absurd cc
 
-found : (text : List ℕ) (r : Result Document ReadFault) (o : Opened) → read_text text ≡ r
+found : (text : List ℕ) (r : Result Document ReadFault) (o : OpenedScene) → read_text text ≡ r
     → next same (next of_read r (λ d. next of_expand (flat d) good)) built ≡ Ok o → (f : Flat) × IsOpened text f o.scene o.routes
 found text (Ok d) o read e = found_flat text d (flat d) o read refl e
 found text (Err fault) o read e = absurd cc
 
-is_opened : (text : List ℕ) (o : Opened) → opened text ≡ Ok o → (f : Flat) × IsOpened text f o.scene o.routes
+is_opened : (text : List ℕ) (o : OpenedScene) → opened text ≡ Ok o → (f : Flat) × IsOpened text f o.scene o.routes
 unfolding opened flattened
 is_opened text o e = found text (read_text text) o refl e
 
 -- ---- what a text was staged as
 
-taken : (p o : Opened) (f : Option AttachFault) → unless_refused p (option_map (λ (fault : AttachFault). Attach fault) f) ≡ Ok o → (p ≡ o) × (f ≡ None)
+taken : (p o : OpenedScene) (f : Option AttachFault) → unless_refused p (option_map (λ (fault : AttachFault). Attach fault) f) ≡ Ok o → (p ≡ o) × (f ≡ None)
 taken p o None e = (same_ok {E = JobFault} p o e, refl)
 taken p o (Some f) e = absurd cc
 
-opened_as : (text : List ℕ) (r : Result Opened JobFault) (o : Opened) → opened text ≡ r → next same r scripted ≡ Ok o
+opened_as : (text : List ℕ) (r : Result OpenedScene JobFault) (o : OpenedScene) → opened text ≡ r → next same r scripted ≡ Ok o
     → (opened text ≡ Ok o) × (scripts_fault (script_list o.scene) ≡ None)
 opened_as text (Ok p) o is e =
     let t = taken p o (scripts_fault (script_list p.scene)) e in (
-      is ∙ ap (λ (z : Opened). let r : Result Opened JobFault = Ok z in r) t.0,
-      subst (λ (z : Opened). scripts_fault (script_list z.scene) ≡ None) t.0 t.1,
+      is ∙ ap (λ (z : OpenedScene). let r : Result OpenedScene JobFault = Ok z in r) t.0,
+      subst (λ (z : OpenedScene). scripts_fault (script_list z.scene) ≡ None) t.0 t.1,
     )
 opened_as text (Err fault) o is e = absurd cc
 
-was_opened : (text : List ℕ) (o : Opened) → staged_scene text ≡ Ok o → (opened text ≡ Ok o) × (scripts_fault (script_list o.scene) ≡ None)
+was_opened : (text : List ℕ) (o : OpenedScene) → staged_scene text ≡ Ok o → (opened text ≡ Ok o) × (scripts_fault (script_list o.scene) ≡ None)
 unfolding staged_scene
 was_opened text o e = opened_as text (opened text) o refl e
 
-pub are_loaded : (n : ℕ) (text : List ℕ) (o : Opened) → staged_scene text ≡ Ok o → AreLoaded text o.scene o.routes (replicate n (fresh o))
+pub are_loaded : (n : ℕ) (text : List ℕ) (o : OpenedScene) → staged_scene text ≡ Ok o → AreLoaded text o.scene o.routes (replicate n (fresh o))
 are_loaded n text o e =
     let was = was_opened text o e in
     let own = is_opened text o was.0 in

@@ -6,7 +6,7 @@ use Rattle.cascade_core.specs.Held.{StageView}
 use Rattle.share_jobs.specs.declared.fault.JobFault.{JobFault}
 use Rattle.share_jobs.specs.declared.fault.JobFault.TheVariants.{Memory}
 use Rattle.share_program.specs.Opening.{next, opened, same}
-use Rattle.share_program.specs.declared.open.Opened.{Opened}
+use Rattle.share_program.specs.declared.open.OpenedScene.{OpenedScene}
 use Rattle.share_rehearsal.specs.Calls.{viewers_from}
 use Rattle.share_rehearsal.specs.Rehearsed.{AreFresh, AreOf}
 use Rattle.share_stages.specs.Stages.{staged_scene}
@@ -16,14 +16,14 @@ pub same_ok : {A E : Type 0} (x y : A) → ◌≡◌ {A = Result A E} (Ok x) (Ok
 same_ok x y e = cc
 
 -- a scene whose scripts are taken is that of its text
-pub is_staged_scene : (text : List ℕ) (o : Opened) → opened text ≡ Ok o → scripts_refusal o.scene ≡ None → staged_scene text ≡ Ok o
+pub is_staged_scene : (text : List ℕ) (o : OpenedScene) → opened text ≡ Ok o → scripts_refusal o.scene ≡ None → staged_scene text ≡ Ok o
 unfolding staged_scene
 is_staged_scene text o is taken =
-    ap (λ (r : Result Opened JobFault). next same r scripted) is
+    ap (λ (r : Result OpenedScene JobFault). next same r scripted) is
     ∙ ap (λ (f : Option JobFault). unless_refused o f) taken
 
 -- the first stage
-pub is_stage : (text : List ℕ) (o : Opened) (stage : StageView) → opened text ≡ Ok o → scripts_refusal o.scene ≡ None
+pub is_stage : (text : List ℕ) (o : OpenedScene) (stage : StageView) → opened text ≡ Ok o → scripts_refusal o.scene ≡ None
     → stage ≡ fresh o → IsStage text stage
 is_stage text o stage is taken made = record { scene = o; is_scene = is_staged_scene text o is taken; is = made }
 
@@ -46,11 +46,11 @@ one_more text n first next before after p q are more =
     more ∙ ap (λ (l : List StageView). l ++ next ∷ []) are
     ∙ ap (λ (s : StageView). replicate n first ++ s ∷ []) (same_stage text next first q p) ∙ replicate_more n first
 
-are_fresh : (n : ℕ) (o : Opened) → AreFresh (replicate n (fresh o))
+are_fresh : (n : ℕ) (o : OpenedScene) → AreFresh (replicate n (fresh o))
 are_fresh zero o = tt
 are_fresh (suc n) o = (refl, are_fresh n o)
 
-pub are_of : (n : ℕ) (o : Opened) → AreOf o.scene o.routes (replicate n (fresh o))
+pub are_of : (n : ℕ) (o : OpenedScene) → AreOf o.scene o.routes (replicate n (fresh o))
 are_of zero o = tt
 are_of (suc n) o = (refl, refl, are_of n o)
 

@@ -2,44 +2,44 @@
 use Rattle.std.specs.Prelude.{ℕ, ◌==◌, nat_lt, not, Bool, true, false, List}
 use Rattle.std.specs.Prelude.{Option, Some, None, Result, Ok, Err}
 use Rattle.std.specs.List.{find}
-use Rattle.x3d_values.specs.Stamp.{Stamp}
-use Rattle.x3d_values.specs.declared.stamped.Event.{Event}
-use Rattle.x3d_values.specs.declared.stamped.Event.TheVariants.{Clock, Pointer}
+use Rattle.x3d_values.specs.Stamp.{StampedView}
+use Rattle.x3d_values.specs.declared.stamped.Cause.{Cause}
+use Rattle.x3d_values.specs.declared.stamped.Cause.TheVariants.{Clock, Pointer}
 use Rattle.share_jobs.specs.declared.fault.JobFault.{JobFault}
 use Rattle.share_jobs.specs.declared.fault.JobFault.TheVariants.{BadJob}
 use Rattle.share_words.specs.declared.order.Order.{Order}
 use Rattle.share_words.specs.declared.order.Order.TheVariants.{Agree, Host, View}
 
-abbrev pub is_point : Event → Bool
+abbrev pub is_point : Cause → Bool
 is_point Clock = false
 is_point (Pointer p) = true
 
 -- a clock, or a point of another viewer
-abbrev pub is_foreign : (who : ℕ) → Event → Bool
+abbrev pub is_foreign : (who : ℕ) → Cause → Bool
 is_foreign who Clock = true
 is_foreign who (Pointer p) = not (p.who == who)
 
 -- a point of a viewer that isn't below so many
-abbrev pub is_beyond : (viewers : ℕ) → Event → Bool
+abbrev pub is_beyond : (viewers : ℕ) → Cause → Bool
 is_beyond viewers Clock = false
 is_beyond viewers (Pointer p) = not (nat_lt p.who viewers)
 
 -- `agree` takes clocks and points of its viewers, `host` clocks alone, `view` points of its viewer
 -- alone, another command every step
-abbrev pub refuses : Order → Stamp → Bool
-refuses (Agree viewers turns) input = is_beyond viewers input.event
-refuses (Host asked) input = is_point input.event
-refuses (View asked) input = is_foreign asked.who input.event
+abbrev pub refuses : Order → StampedView → Bool
+refuses (Agree viewers turns) input = is_beyond viewers input.cause
+refuses (Host asked) input = is_point input.cause
+refuses (View asked) input = is_foreign asked.who input.cause
 refuses _ input = false
 
-abbrev pub first_refused : Order → List Stamp → Option Stamp
+abbrev pub first_refused : Order → List StampedView → Option StampedView
 first_refused order inputs = find (refuses order) inputs
 
 -- an input has the number of its line
-abbrev pub answer : Option Stamp → Result (Unit {0}) JobFault
+abbrev pub answer : Option StampedView → Result (Unit {0}) JobFault
 answer None = Ok tt
 answer (Some input) = Err (BadJob input.number)
 
 -- all steps are taken, or the line of the first that isn't
-abbrev pub fits : Order → List Stamp → Result (Unit {0}) JobFault
+abbrev pub fits : Order → List StampedView → Result (Unit {0}) JobFault
 fits order inputs = answer (first_refused order inputs)

@@ -1,6 +1,6 @@
 -- What a host does with a job.
 use Rattle.std.specs.Prelude.{◌≡◌, ◌⊎◌, ℕ, ℤ, List, map, Option, Result, Err}
-use Rattle.x3d_values.specs.Stamp.{Stamp}
+use Rattle.x3d_values.specs.Stamp.{StampedView}
 use Rattle.share_law.specs.Parts.{HostPart, new_part}
 use Rattle.share_port.specs.declared.traffic.Traffic.{Traffic}
 use Rattle.share_port.specs.Told.{one_more}
@@ -16,7 +16,7 @@ use Rattle.share_program.specs.declared.fault.ShareFault.{ShareFault}
 use Rattle.share_program.specs.declared.fault.ShareFault.TheVariants as share
 use Rattle.share_commands.specs.declared.job.SharedJob.{SharedJob}
 
-abbrev pub times : List Stamp → List ℤ
+abbrev pub times : List StampedView → List ℤ
 times inputs = map (λ input. input.time) inputs
 
 abbrev pub share_fault : TurnFault → ShareFault

@@ -4,14 +4,14 @@ use Rattle.sha2.specs.Sha256.{sha256}
 use Rattle.share_jobs.specs.Job.{Lined, job_lines}
 use Rattle.share_jobs.specs.declared.fault.JobFault.{JobFault}
 use Rattle.share_program.specs.Opening.{next, same, opened}
-use Rattle.share_program.specs.declared.open.Opened.{Opened}
+use Rattle.share_program.specs.declared.open.OpenedScene.{OpenedScene}
 use Rattle.share_words.specs.declared.order.Order.{Order}
 use Rattle.share_commands.specs.Fits.{fits}
 use Rattle.share_commands.specs.Stages.{scripts_refusal, unless_refused}
 use Rattle.share_commands.specs.declared.job.SharedJob.{SharedJob}
 
 -- the mark is that of the scene's bytes
-abbrev pub with_mark : Lined → Opened → Result SharedJob JobFault
+abbrev pub with_mark : Lined → OpenedScene → Result SharedJob JobFault
 with_mark l o =
     Ok (record {
       inputs = l.inputs;

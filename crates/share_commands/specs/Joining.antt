@@ -1,6 +1,6 @@
 -- What a host and its viewers, each at a port, do with a job.
 use Rattle.std.specs.Prelude.{◌≡◌, ℕ, List, [], length, Ok, replicate}
-use Rattle.x3d_values.specs.Stamp.{Stamp}
+use Rattle.x3d_values.specs.Stamp.{StampedView}
 use Rattle.cascade_core.specs.Held.{StageView}
 use Rattle.share_law.specs.Parts.{new_part}
 use Rattle.share_core.specs.Viewer.{ViewerView}
@@ -16,7 +16,7 @@ use Rattle.share_commands.specs.declared.job.SharedJob.{SharedJob}
 
 -- the inputs and the mark of a job, and its viewers
 pub record Joint : Type 0 where
-  pub inputs : List Stamp
+  pub inputs : List StampedView
   pub mark : List ℕ
   pub viewers : List ViewerView
 
@@ -30,7 +30,7 @@ joint_of job viewers = record {
 }
 
 -- a stage for each viewer of the job of bytes
-abbrev pub IsStaged : Order → (viewers : ℕ) → (bytes : List ℕ) → List Stamp → (mark : List ℕ)
+abbrev pub IsStaged : Order → (viewers : ℕ) → (bytes : List ℕ) → List StampedView → (mark : List ℕ)
     → List StageView → Type 0
 IsStaged order viewers bytes inputs mark stages =
     (job : SharedJob) × (staffed order bytes ≡ Ok job) × (inputs ≡ job.inputs) × (mark ≡ job.mark)

@@ -9,7 +9,7 @@ use Rattle.share_jobs.specs.Schedule.{schedule_lines}
 use Rattle.share_jobs.specs.declared.fault.JobFault.{JobFault}
 use Rattle.share_jobs.specs.declared.schedule.Schedule.{Schedule}
 use Rattle.share_program.specs.Opening.{next, same}
-use Rattle.share_program.specs.declared.open.Opened.{Opened}
+use Rattle.share_program.specs.declared.open.OpenedScene.{OpenedScene}
 use Rattle.share_rehearsal.specs.declared.answer.Answer.{Answer}
 use Rattle.share_rehearsal.specs.Calls.{Seen, AreCalls, begun_with}
 use Rattle.share_rehearsal.specs.Log.{log_text}
@@ -19,7 +19,7 @@ use Rattle.share_commands.specs.Stages.{fresh}
 
 -- the scene of a schedule, or the first fault of its lines, then of its scene, then of
 -- its scripts
-abbrev pub schedule_scene : List ℕ → Result Opened JobFault
+abbrev pub schedule_scene : List ℕ → Result OpenedScene JobFault
 schedule_scene bytes = next same (schedule_lines bytes) (λ s. staged_scene s.scene)
 
 -- the log of steps that viewers with these stages and their host went through
@@ -33,7 +33,7 @@ pub record IsLogOf (mark : List ℕ) (stages : List StageView) (steps : List Ste
 -- it has the answers of the calls, and these are those of the law's network, which stands for what
 -- is left
 pub record IsScheduleLog (viewers : ℕ) (schedule : Schedule) (text : List ℕ) : Type 0 where
-  pub scene : Opened
+  pub scene : OpenedScene
   pub is_scene : staged_scene schedule.scene ≡ Ok scene
   pub answers : List Answer
   pub left : Seen

@@ -2,12 +2,12 @@
 -- scripts.
 use Rattle.std.specs.Prelude.{◌≡◌, ℕ, List, replicate, Ok}
 use Rattle.cascade_core.specs.Held.{StageView}
-use Rattle.share_program.specs.declared.open.Opened.{Opened}
+use Rattle.share_program.specs.declared.open.OpenedScene.{OpenedScene}
 use Rattle.share_stages.specs.Stages.{staged_scene}
 pub use Rattle.share_stages.specs.Stages.{IsStage, fresh, scripted, scripts_refusal, unless_refused}
 
 -- so many stages of the text's scene before any input
 pub record AreStages (count : ℕ) (text : List ℕ) (stages : List StageView) : Type 0 where
-  pub scene : Opened
+  pub scene : OpenedScene
   pub is_scene : staged_scene text ≡ Ok scene
   pub are : stages ≡ replicate count (fresh scene)

@@ -2,9 +2,9 @@
 use Rattle.std.specs.Prelude.{◌≡◌, ℕ, ◌-◌, max, Bool, if◌then◌else◌, List, [], ◌∷◌, Option, None, Ok}
 use Rattle.std.specs.List.{flat_map}
 use Rattle.x3d_values.specs.declared.pointing.Point.{Point}
-use Rattle.x3d_values.specs.Stamp.{Stamp}
-use Rattle.x3d_values.specs.declared.stamped.Event.{Event}
-use Rattle.x3d_values.specs.declared.stamped.Event.TheVariants.{Clock, Pointer}
+use Rattle.x3d_values.specs.Stamp.{StampedView}
+use Rattle.x3d_values.specs.declared.stamped.Cause.{Cause}
+use Rattle.x3d_values.specs.declared.stamped.Cause.TheVariants.{Clock, Pointer}
 use Rattle.cascade_core.specs.Apply.{opening}
 use Rattle.share_law.specs.Viewer.{begun, point_of}
 use Rattle.share_core.specs.Viewer.{ViewerView}
@@ -19,12 +19,12 @@ use Rattle.share_words.specs.declared.order.Order.{Order}
 use Rattle.share_program.specs.declared.fault.ShareFault.{ShareFault}
 
 -- what a viewer is asked to point by an input
-abbrev pub pointed : Event → List Point
+abbrev pub pointed : Cause → List Point
 pointed Clock = []
 pointed (Pointer p) = point_of p ∷ []
 
-abbrev pub points : List Stamp → List Point
-points inputs = flat_map (λ input. pointed input.event) inputs
+abbrev pub points : List StampedView → List Point
+points inputs = flat_map (λ input. pointed input.cause) inputs
 
 -- a viewer of the job's scene, as this boot, before any input
 abbrev pub viewer_of : SharedJob → (who boot : ℕ) → ViewerView

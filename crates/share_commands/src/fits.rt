@@ -5,36 +5,36 @@ ghost use Rattle.std.specs.Option.{option_copied};
 ghost use Rattle.share_commands.specs.Fits.{is_beyond, is_point, is_foreign};
 ghost use Rattle.share_commands.specs.Fits.{refuses, first_refused, fits};
 
-use share_jobs::{Inputs, JobFault};
+use share_jobs::{JobFault, JobInputs};
 use share_words::Order;
-use x3d_values::{Event, Stamped};
+use x3d_values::{Cause, Stamped};
 
-fn is_point(event: Event) -> bool
-    ensures { result ≡ is_point event }
+fn is_point(cause: Cause) -> bool
+    ensures { result ≡ is_point cause }
 {
-    match event {
-        Event::Clock => false,
-        Event::Pointer(_) => true,
+    match cause {
+        Cause::Clock => false,
+        Cause::Pointer(_) => true,
     }
 }
 
 /// Whether it is something else than a point of this viewer.
-fn is_foreign(who: u8, event: Event) -> bool
-    ensures { result ≡ is_foreign who event }
+fn is_foreign(who: u8, cause: Cause) -> bool
+    ensures { result ≡ is_foreign who cause }
 {
-    match event {
-        Event::Clock => true,
-        Event::Pointer(pointer) => pointer.who() != who,
+    match cause {
+        Cause::Clock => true,
+        Cause::Pointer(pointer) => pointer.who() != who,
     }
 }
 
 /// Whether it is a point of a viewer that isn't below so many.
-fn is_beyond(viewers: u8, event: Event) -> bool
-    ensures { result ≡ is_beyond viewers event }
+fn is_beyond(viewers: u8, cause: Cause) -> bool
+    ensures { result ≡ is_beyond viewers cause }
 {
-    match event {
-        Event::Clock => false,
-        Event::Pointer(pointer) => pointer.who() >= viewers,
+    match cause {
+        Cause::Clock => false,
+        Cause::Pointer(pointer) => pointer.who() >= viewers,
     }
 }
 
@@ -43,9 +43,9 @@ fn refuses(order: &Order, input: &Stamped) -> bool
     ensures { result ≡ refuses order.now input.now }
 {
     match order {
-        Order::Agree { viewers, .. } => is_beyond(*viewers, input.event()),
-        Order::Host(_) => is_point(input.event()),
-        Order::View(asked) => is_foreign(asked.who, input.event()),
+        Order::Agree { viewers, .. } => is_beyond(*viewers, input.cause()),
+        Order::Host(_) => is_point(input.cause()),
+        Order::View(asked) => is_foreign(asked.who, input.cause()),
         _ => false,
     }
 }
@@ -59,7 +59,7 @@ fn first_refused<'a>(order: &Order, inputs: &'a [Stamped]) -> Option<&'a Stamped
 /// Whether a command's job may have these steps: one of `agree` has clocks and points of its
 /// viewers, one of `host` clocks alone, one of `view` points of its viewer alone. `BadJob` tells
 /// the line of the first that it may not have. Takes no memory.
-pub fn job_fits(inputs: &Inputs, order: &Order) -> Result<(), JobFault>
+pub fn job_fits(inputs: &JobInputs, order: &Order) -> Result<(), JobFault>
     ensures { result ≡ fits order.now inputs.now }
 {
     match first_refused(order, inputs.as_slice()) {

@@ -8,7 +8,7 @@ ghost use Rattle.share_jobs.specs.declared.fault.JobFault.TheVariants.{Memory};
 use crate::fits::job_fits;
 use route_core::Routes;
 use scene_core::Scene;
-use share_jobs::{Inputs, JobFault, job_of};
+use share_jobs::{JobFault, JobInputs, job_of};
 use share_program::open_scene;
 use share_words::Order;
 use snapshot_codec::scene_mark;
@@ -17,7 +17,7 @@ use std::alloc::Global;
 /// A scene with its routes and its mark, and the steps that several nodes take.
 #[derive(Drop)]
 pub struct SharedJob {
-    pub inputs: Inputs,
+    pub inputs: JobInputs,
     /// The SHA-256 of the scene's bytes.
     pub mark: [u8; 32],
     pub scene: Scene,

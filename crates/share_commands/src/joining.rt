@@ -15,7 +15,7 @@ use crate::stages::with_others;
 use cascade_core::Stage;
 use script_boxes::StockScript;
 use share_core::{Host, Viewer};
-use share_jobs::{Inputs, JobFault, job_of};
+use share_jobs::{JobFault, JobInputs, job_of};
 use share_port::Port;
 use share_program::{ShareFault, open_scene};
 use share_rehearsal::viewers_of;
@@ -28,7 +28,7 @@ use std::alloc::{AllocError, Global};
 /// The steps of a job, and its viewers.
 #[derive(Drop)]
 pub struct JointJob {
-    pub inputs: Inputs,
+    pub inputs: JobInputs,
     /// The SHA-256 of the scene's bytes.
     pub mark: [u8; 32],
     /// Numbered from 0.
@@ -45,7 +45,7 @@ impl JointJob {
 /// The steps of a job, and a stage of its scene for each viewer.
 #[derive(Drop)]
 struct StagedJob {
-    inputs: Inputs,
+    inputs: JobInputs,
     mark: [u8; 32],
     stages: Vec<Stage<StockScript>>,
 }

@@ -17,19 +17,19 @@ use share_core::Viewer;
 use share_jobs::JobFault;
 use share_law::point_of;
 use share_port::Port;
-use share_program::{Opened, ShareFault};
+use share_program::{OpenedScene, ShareFault};
 use share_stages::fresh_stage;
 use share_turns::{ViewPlan, view_run};
 use share_words::Order;
 use std::alloc::{AllocError, Global};
-use x3d_values::{Event, Point, Stamped};
+use x3d_values::{Cause, Point, Stamped};
 
-fn push_pointed(event: Event, points: &mut Vec<Point>) -> Result<(), AllocError>
-    ensures { OnOk result (points.new.items ≡ points.old.items ++ pointed event) }
+fn push_pointed(cause: Cause, points: &mut Vec<Point>) -> Result<(), AllocError>
+    ensures { OnOk result (points.new.items ≡ points.old.items ++ pointed cause) }
 {
-    match event {
-        Event::Clock => Ok(()),
-        Event::Pointer(pointer) => Ok(points.push(point_of(pointer))?),
+    match cause {
+        Cause::Clock => Ok(()),
+        Cause::Pointer(pointer) => Ok(points.push(point_of(pointer))?),
     }
 }
 
@@ -39,7 +39,7 @@ fn points_of(alloc: Global, inputs: &[Stamped]) -> Result<Vec<Point>, AllocError
 {
     let mut points = Vec::new(alloc);
     for input in inputs {
-        push_pointed(input.event(), &mut points)?;
+        push_pointed(input.cause(), &mut points)?;
     }
     Ok(points)
 }
@@ -63,7 +63,7 @@ fn viewer_of(
         scene,
         routes,
     } = job;
-    let stage = fresh_stage(alloc, Opened { scene, routes })?;
+    let stage = fresh_stage(alloc, OpenedScene { scene, routes })?;
     Ok(Viewer::start(stage, mark, who, boot))
 }
 

@@ -2,8 +2,8 @@
 use Rattle.std.proofs.Common.{◌≡◌, ℕ, ◌≤◌, take, replicate, ap, ◌∙◌}
 use Rattle.std.proofs.lemmas.List.{take-replicate}
 use Rattle.x3d_values.specs.Ranges.{max_viewers}
-use Rattle.share_law.specs.declared.kept.Kept.{Kept}
+use Rattle.share_law.specs.declared.kept.SeatCount.{SeatCount}
 
-pub fresh : (d : Kept) (n : ℕ) → n ≤ max_viewers → d.boot ≡ 0 → d.count ≡ 0 → take n (replicate max_viewers d) ≡ replicate n (record { boot = 0; count = 0 })
+pub fresh : (d : SeatCount) (n : ℕ) → n ≤ max_viewers → d.boot ≡ 0 → d.count ≡ 0 → take n (replicate max_viewers d) ≡ replicate n (record { boot = 0; count = 0 })
 fresh d n few boot count =
-    take-replicate n max_viewers d few ∙ ap (λ (k : Kept). replicate n k) (ap (λ b. let z : Kept = record { boot = b; count = d.count } in z) boot ∙ ap (λ c. let z : Kept = record { boot = 0; count = c } in z) count)
+    take-replicate n max_viewers d few ∙ ap (λ (k : SeatCount). replicate n k) (ap (λ b. let z : SeatCount = record { boot = b; count = d.count } in z) boot ∙ ap (λ c. let z : SeatCount = record { boot = 0; count = c } in z) count)

@@ -3,7 +3,7 @@ use Rattle.std.proofs.Common.{◌≡◌, ℕ, ◌+◌, true, false, cond, List, 
 use Rattle.std.specs.Prelude.{nat_lt, is_ok, Option, None, Some, Result, Ok, Err, if◌then◌else◌}
 use Rattle.std.proofs.lemmas.Bool.{cases_Bool, cond-true, cond-false, false≢true}
 use Rattle.std.proofs.lemmas.Option.{same_Some, none-some}
-use Rattle.x3d_values.specs.Stamp.{Stamp}
+use Rattle.x3d_values.specs.Stamp.{StampedView}
 use Rattle.scene_core.specs.declared.scene.Route.{Route}
 use Rattle.scene_core.specs.Scene.{SceneView}
 use Rattle.cascade_core.specs.Course.{Scripted}
@@ -21,7 +21,7 @@ use Rattle.share_law.specs.Cascade.{cascade}
 use Rattle.share_law.specs.Machine.{Machine}
 use Rattle.share_law.specs.Network.{join_result}
 use Rattle.share_law.specs.Pieces.{Gathering, all_there, joined, whole_of}
-use Rattle.share_law.specs.Viewer.{View, Running, Spoiled, ViewerState, applied_in, take_in}
+use Rattle.share_law.specs.Viewer.{ViewerWorld, Running, Spoiled, ViewerState, applied_in, take_in}
 use Rattle.share_core.specs.Rewinds.{IsBegunFrom, IsJoined, IsLawfulJoin, IsRewound}
 use Rattle.share_core.specs.Viewer.{ViewerView, is_spoiled, view_of, with_gathering}
 use Rattle.share_core.proofs.Rewinds.{rewind-step}
@@ -107,11 +107,11 @@ join_lawful v boot result new held long j g whole from small has is =
 
 -- ---- a floor
 
-pub applied_same : (mark : List ℕ) (scene : SceneView) (routes : List Route) (h : Held) (window : List (Option Stamp)) → applied_of h ≡ applied_in (cascade mark scene routes) (view_of h window)
+pub applied_same : (mark : List ℕ) (scene : SceneView) (routes : List Route) (h : Held) (window : List (Option StampedView)) → applied_of h ≡ applied_in (cascade mark scene routes) (view_of h window)
 applied_same mark scene routes (held.Running w) window = refl
 applied_same mark scene routes (held.Spoiled n) window = refl
 
-floor_in : (m : Machine Scripted) (who f : ℕ) (x : ViewerState Scripted) (view : View Scripted) → is_spoiled view ≡ false
+floor_in : (m : Machine Scripted) (who f : ℕ) (x : ViewerState Scripted) (view : ViewerWorld Scripted) → is_spoiled view ≡ false
     → (let r : Result Taken TakeFault × ViewerState Scripted = (Ok (if nat_lt (applied_in m view + 1) f then Behind else Noted), x) in take_in m who x (Floor f) view ≡ r)
 floor_in m who f x (Running w window) runs = refl
 floor_in m who f x (Spoiled count) runs = absurd (false≢true (sym runs))

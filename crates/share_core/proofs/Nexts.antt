@@ -3,7 +3,7 @@ use Rattle.std.proofs.Common.{◌≡◌, suc, ◌+◌, ◌^◌, ◌≤◌, ◌�
 use Rattle.std.specs.Prelude.{Bool, slice_get, slice_set, IfSome, Option, Some, None, Result, Err, not, int_lt, ◌==◌}
 use Rattle.std.proofs.lemmas.Bool.{false≢true, cond-false, eq-eqb}
 use Rattle.std.proofs.lemmas.Option.{same_Some, none-some}
-use Rattle.x3d_values.specs.Stamp.{Stamp}
+use Rattle.x3d_values.specs.Stamp.{StampedView}
 use Rattle.scene_core.specs.declared.scene.Route.{Route}
 use Rattle.scene_core.specs.Scene.{SceneView}
 use Rattle.cascade_core.specs.Apply.{untold}
@@ -25,11 +25,11 @@ pub running : (scene : SceneView) (h : Held) → is_spoiled h ≡ false → h �
 running scene (Running w) e = refl
 running scene (Spoiled n) e = absurd (false≢true (sym e))
 
-applied-after : (scene : SceneView) (routes : List Route) (h : Held) (x : Stamp) → is_spoiled h ≡ false → applied_of (after_held scene routes h x) ≡ applied_of h + 1
+applied-after : (scene : SceneView) (routes : List Route) (h : Held) (x : StampedView) → is_spoiled h ≡ false → applied_of (after_held scene routes h x) ≡ applied_of h + 1
 applied-after scene routes (Running w) x e = (apply-at scene routes w x).0
 applied-after scene routes (Spoiled n) x e = absurd (false≢true (sym e))
 
-module _ (old new : StageView) (window rest : List (Option Stamp)) (x : Stamp)
+module _ (old new : StageView) (window rest : List (Option StampedView)) (x : StampedView)
     (place : InPlace (applied_of old.held + 1) window) (front : slice_get window 0 ≡ Some (Some x)) where
   -- it was applied
   pub advanced : is_spoiled old.held ≡ false → new ≡ after old x → rest ≡ drop 1 window ++ None ∷ [] → (applied_of new.held ≤ 2 ^ 20) × InPlace (applied_of new.held + 1) rest
@@ -42,14 +42,14 @@ module _ (old new : StageView) (window rest : List (Option Stamp)) (x : Stamp)
       )
 
 -- a stage refuses an input, and is as it was
-kept : (old new : StageView) (x : Stamp) (result : Result Work ApplyFault) (fault : ApplyFault) → refusal_of old.held x ≡ Some fault
+kept : (old new : StageView) (x : StampedView) (result : Result Work ApplyFault) (fault : ApplyFault) → refusal_of old.held x ≡ Some fault
     → IfSome (refusal_of old.held x) (λ f. (result ≡ Err f) × (new ≡ old)) → new ≡ old
 kept old new x result fault is h =
     let P : Option ApplyFault → Type 0 = λ o. IfSome o (λ f. (result ≡ Err f) × (new ≡ old)) in
     (subst P is h).1
 
 -- a stage that runs refuses its next input for its time alone
-late_alone : (h : Held) (x : Stamp) (fault : ApplyFault) → is_spoiled h ≡ false → x.number ≡ applied_of h + 1 → refusal_of h x ≡ Some fault → fault ≡ apply_fault.TimeNotLater
+late_alone : (h : Held) (x : StampedView) (fault : ApplyFault) → is_spoiled h ≡ false → x.number ≡ applied_of h + 1 → refusal_of h x ≡ Some fault → fault ≡ apply_fault.TimeNotLater
 late_alone (Spoiled n) x fault runs number is = absurd (false≢true (sym runs))
 late_alone (Running w) x fault runs number is =
     let next : not (x.number == w.world.applied + 1) ≡ false = ap not (eq-eqb x.number (w.world.applied + 1) number) in
@@ -58,7 +58,7 @@ late_alone (Running w) x fault runs number is =
       by_time true e = absurd (none-some fault e)
       by_time false e = sym (same_Some apply_fault.TimeNotLater fault e)
 
-module _ (h : Held) (window : List (Option Stamp)) (x : Stamp) (fault : ApplyFault)
+module _ (h : Held) (window : List (Option StampedView)) (x : StampedView) (fault : ApplyFault)
     (runs : is_spoiled h ≡ false) (place : InPlace (applied_of h + 1) window) (front : slice_get window 0 ≡ Some (Some x)) where
   answers : (fault ≡ apply_fault.Memory) ⊎ (refusal_of h x ≡ Some fault) → (fault ≡ apply_fault.Memory) ⊎ (fault ≡ apply_fault.TimeNotLater)
   answers (inl e) = inl e
@@ -71,7 +71,7 @@ module _ (h : Held) (window : List (Option Stamp)) (x : Stamp) (fault : ApplyFau
   never-NotNext e is = elim (answers e) [ inl m ↦ cc | inr t ↦ cc ]
 
 -- an input that isn't later leaves the window
-pub left : (old new : StageView) (window rest : List (Option Stamp)) (x : Stamp) (result : Result Work ApplyFault) (fault : ApplyFault) → InPlace (applied_of old.held + 1) window
+pub left : (old new : StageView) (window rest : List (Option StampedView)) (x : StampedView) (result : Result Work ApplyFault) (fault : ApplyFault) → InPlace (applied_of old.held + 1) window
     → (fault ≡ apply_fault.Memory) ⊎ (refusal_of old.held x ≡ Some fault) → fault ≡ apply_fault.TimeNotLater
     → IfSome (refusal_of old.held x) (λ f. (result ≡ Err f) × (new ≡ old)) → rest ≡ slice_set window 0 None → InPlace (applied_of new.held + 1) rest
 left old new window rest x result fault place (inl m) is h set = absurd (let no : apply_fault.Memory ≡ apply_fault.TimeNotLater = sym m ∙ is in cc)

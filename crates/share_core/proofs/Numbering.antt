@@ -6,9 +6,9 @@ use Rattle.std.proofs.lemmas.Bool.Decides.{nat_tests}
 use Rattle.std.proofs.lemmas.Int.{ints}
 use Rattle.std.proofs.lemmas.List.{drop-drop}
 use Rattle.x3d_values.specs.Ranges.{is_input_number, is_input_time}
-use Rattle.x3d_values.specs.Stamp.{Stamp}
+use Rattle.x3d_values.specs.Stamp.{StampedView}
 use Rattle.share_law.specs.Parts.{fault_behind}
-use Rattle.share_core.specs.Host.{Entries, entry}
+use Rattle.share_core.specs.Host.{HostInputsView, entry}
 
 pub fault_behind_none : (count : ℕ) (last t : ℤ) → fault_behind count last t ≡ None → (count < 2 ^ 20) × (last <ℤ t) × (t ≤ℤ pos (10 ^ 18))
 unfolding fault_behind
@@ -28,21 +28,21 @@ time_ok count last t from free =
 
 -- ---- an input is looked up
 
-pub entry_below : (e : Entries) (n : ℕ) → n < e.floor → None ≡ entry e n
+pub entry_below : (e : HostInputsView) (n : ℕ) → n < e.floor → None ≡ entry e n
 entry_below e zero low = refl
 entry_below e (suc n) low =
-    let none : Option Stamp = None in
+    let none : Option StampedView = None in
     sym (cond-true (nat_lt (suc n) e.floor) none (slice_get e.rest (suc n - e.floor)) (lt-ltb (suc n) e.floor low))
 
-pub entry_from : (e : Entries) (n : ℕ) → 1 ≤ e.floor → e.floor ≤ n → slice_get e.rest (n - e.floor) ≡ entry e n
+pub entry_from : (e : HostInputsView) (n : ℕ) → 1 ≤ e.floor → e.floor ≤ n → slice_get e.rest (n - e.floor) ≡ entry e n
 entry_from e zero one from = absurd (omega (arith, one, from))
 entry_from e (suc n) one from =
-    let none : Option Stamp = None in
+    let none : Option StampedView = None in
     sym (cond-false (nat_lt (suc n) e.floor) none (slice_get e.rest (suc n - e.floor)) (le-ltb (suc n) e.floor from))
 
 -- ---- inputs leave
 
 -- the first so many have left, and then one more
-pub one_less : (n : ℕ) (whole left now : List Stamp) → left ≡ drop n whole → now ≡ drop 1 left → now ≡ drop (n + 1) whole
+pub one_less : (n : ℕ) (whole left now : List StampedView) → left ≡ drop n whole → now ≡ drop 1 left → now ≡ drop (n + 1) whole
 one_less n whole left now so_far one =
     one ∙ ap (drop 1) so_far ∙ drop-drop 1 n whole

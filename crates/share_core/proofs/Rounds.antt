@@ -2,7 +2,7 @@
 use Rattle.std.proofs.Common.{◌≡◌, ℕ, ◌+◌, ◌<◌, Bool, true, false, cond, List, length, ap, sym, subst, inl, inr}
 use Rattle.std.specs.Prelude.{◌==◌, Option, Result, Ok, Err}
 use Rattle.std.proofs.lemmas.Bool.{false≢true}
-use Rattle.x3d_values.specs.Stamp.{Stamp}
+use Rattle.x3d_values.specs.Stamp.{StampedView}
 use Rattle.share_rules.specs.Window.{window_places}
 use Rattle.scene_core.specs.declared.scene.Route.{Route}
 use Rattle.scene_core.specs.Scene.{SceneView}
@@ -18,7 +18,7 @@ use Rattle.share_core.specs.Ahead.{IsNext, IsDrained}
 use Rattle.share_core.proofs.Drains.{Goes, Goes-next, Goes-smaller, drained-gap, drained-late, drained-refused}
 use Rattle.share_core.proofs.Nexts.{world_in, running}
 
-module _ (mark : List ℕ) (scene : SceneView) (routes : List Route) (first h new : Held) (ws now rest : List (Option Stamp)) (count : ℕ) where
+module _ (mark : List ℕ) (scene : SceneView) (routes : List Route) (first h new : Held) (ws now rest : List (Option StampedView)) (count : ℕ) where
   -- what was done to the stage at hand, in the terms of the stage at the start
   pub stepped : (s : SceneView) (r : List Route) (result : Result Bool TakeFault) → s ≡ scene → r ≡ routes → is_spoiled h ≡ false
       → ((w : Scripted) → h ≡ Running w → IsNext (cascade mark s r) w now result new rest) → IsNext (cascade mark scene routes) (world_in scene h) now result new rest
@@ -26,7 +26,7 @@ module _ (mark : List ℕ) (scene : SceneView) (routes : List Route) (first h ne
       subst (λ z. IsNext (cascade mark z routes) (world_in scene h) now result new rest) same_scene
       (subst (λ z. IsNext (cascade mark s z) (world_in scene h) now result new rest) same_routes (step (world_in scene h) (running scene h runs)))
 
-  abbrev pub GoesTo : Held → List (Option Stamp) → ℕ → Type 0
+  abbrev pub GoesTo : Held → List (Option StampedView) → ℕ → Type 0
   GoesTo held window n = Goes (cascade mark scene routes) (world_in scene first) ws (world_in scene held) window n
 
   -- the input was applied
@@ -46,7 +46,7 @@ module _ (mark : List ℕ) (scene : SceneView) (routes : List Route) (first h ne
   fewer go e room step goes = Goes-smaller (cascade mark scene routes) (world_in scene first) ws (world_in scene h) (world_in scene new) now rest count goes (gone_on go e room step goes).1
 
   -- the next input did not come
-  pub ended : (go : Bool) (result : Result Taken TakeFault) → go ≡ false → cond (count == 0) (Ok taken.Kept) (Ok (taken.Applied count)) ≡ result → length now ≡ window_places
+  pub ended : (go : Bool) (result : Result Taken TakeFault) → go ≡ false → cond (count == 0) (Ok taken.Held) (Ok (taken.Applied count)) ≡ result → length now ≡ window_places
       → IsNext (cascade mark scene routes) (world_in scene h) now (Ok go) new rest → GoesTo h now count
       → (w : Scripted) → first ≡ Running w → IsDrained (cascade mark scene routes) w ws result new rest
   ended true result e answer room step goes w is = absurd (false≢true (sym e))

@@ -1,8 +1,8 @@
 -- A host as its contracts see it.
 use Rattle.std.specs.Prelude.{ℕ, zero, suc, ◌+◌, ◌-◌, ◌≤◌, ℤ, nat_lt, if◌then◌else◌, List, drop}
 use Rattle.std.specs.Prelude.{slice_get, Option, None}
-use Rattle.x3d_values.specs.Stamp.{Stamp}
-use Rattle.share_law.specs.declared.kept.Kept.{Kept}
+use Rattle.x3d_values.specs.Stamp.{StampedView}
+use Rattle.share_law.specs.declared.kept.SeatCount.{SeatCount}
 use Rattle.share_law.specs.declared.reply.HostReply.{HostReply}
 use Rattle.share_law.specs.declared.reply.HostReply.TheVariants.{Asked}
 use Rattle.share_law.specs.Parts.{HostPart}
@@ -14,24 +14,24 @@ pub record HostView : Type 0 where
   pub part : HostPart
 
 -- the inputs of a part: those from the floor on, how many there were in all, when the last was
-pub record Entries : Type 0 where
+pub record HostInputsView : Type 0 where
   pub floor : ℕ
-  pub rest : List Stamp
+  pub rest : List StampedView
   pub count : ℕ
   pub last : ℤ
 
 -- with what is kept of each viewer
-abbrev pub part_with : Entries → List Kept → HostPart
+abbrev pub part_with : HostInputsView → List SeatCount → HostPart
 part_with e kept =
     record { floor = e.floor; rest = e.rest; count = e.count; last = e.last; kept = kept }
 
 -- input n, where it isn't below the floor
-abbrev pub entry : Entries → (n : ℕ) → Option Stamp
+abbrev pub entry : HostInputsView → (n : ℕ) → Option StampedView
 entry e zero = None
 entry e (suc n) = if nat_lt (suc n) e.floor then None else slice_get e.rest (suc n - e.floor)
 
 -- with another floor, which isn't below the old one
-abbrev pub dropped : Entries → (f : ℕ) → Entries
+abbrev pub dropped : HostInputsView → (f : ℕ) → HostInputsView
 dropped e f = record e { floor = f; rest = drop (f - e.floor) e.rest }
 
 -- the inputs that an answer says were asked for are numbered

@@ -1,6 +1,6 @@
 -- A viewer as its contracts see it.
 use Rattle.std.specs.Prelude.{ℕ, Bool, true, false, List, Option}
-use Rattle.x3d_values.specs.Stamp.{Stamp}
+use Rattle.x3d_values.specs.Stamp.{StampedView}
 use Rattle.scene_core.specs.declared.scene.Route.{Route}
 use Rattle.scene_core.specs.Scene.{SceneView}
 use Rattle.cascade_core.specs.Course.{Scripted}
@@ -9,7 +9,7 @@ use Rattle.cascade_core.specs.Held as held
 use Rattle.share_law.specs.Cascade.{cascade}
 use Rattle.share_law.specs.Machine.{Machine}
 use Rattle.share_law.specs.Pieces.{Gathering}
-use Rattle.share_law.specs.Viewer.{View, Spoiled, Running, ViewerState}
+use Rattle.share_law.specs.Viewer.{ViewerWorld, Spoiled, Running, ViewerState}
 
 -- the mark of its scene, its number, its scene with the routes, what the law knows of a viewer, and
 -- what it gathers of a snapshot
@@ -34,12 +34,12 @@ abbrev pub with_gathering : ViewerView → Option Gathering → ViewerView
 with_gathering v held = record v { gathering = held }
 
 -- what is held by a stage and a window
-abbrev pub view_of : Held → List (Option Stamp) → View Scripted
+abbrev pub view_of : Held → List (Option StampedView) → ViewerWorld Scripted
 view_of (held.Running w) window = Running w window
 view_of (held.Spoiled count) window = Spoiled count
 
 -- what the stage of a viewer holds
-abbrev pub held_in : View Scripted → Held
+abbrev pub held_in : ViewerWorld Scripted → Held
 held_in (Running w window) = held.Running w
 held_in (Spoiled count) = held.Spoiled count
 
@@ -47,16 +47,16 @@ held_in (Spoiled count) = held.Spoiled count
 abbrev pub stage_in : ViewerView → StageView
 stage_in v = record { scene = v.scene; routes = v.routes; held = held_in v.state.view }
 
-abbrev pub is_spoiled : View Scripted → Bool
+abbrev pub is_spoiled : ViewerWorld Scripted → Bool
 is_spoiled (Running w window) = false
 is_spoiled (Spoiled count) = true
 
 -- a fact about the world of a viewer that runs
-abbrev pub IfRunning : View Scripted → (Scripted → Type 0) → Type 0
+abbrev pub IfRunning : ViewerWorld Scripted → (Scripted → Type 0) → Type 0
 IfRunning (Running w window) P = P w
 IfRunning (Spoiled count) P = Unit {0}
 
 -- a fact about a viewer that is spoiled
-abbrev pub IfSpoiled : View Scripted → Type 0 → Type 0
+abbrev pub IfSpoiled : ViewerWorld Scripted → Type 0 → Type 0
 IfSpoiled (Running w window) P = Unit {0}
 IfSpoiled (Spoiled count) P = P

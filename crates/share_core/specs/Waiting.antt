@@ -1,7 +1,7 @@
 -- The offers of a viewer, as their contracts see them.
 use Rattle.std.specs.Prelude.{ℕ, List}
 use Rattle.x3d_values.specs.declared.pointing.Point.{Point}
-use Rattle.share_law.specs.Viewer.{View, ViewerState}
+use Rattle.share_law.specs.Viewer.{ViewerWorld, ViewerState}
 
 -- a viewer's number and boot, how many offers were made in this boot, and the last of these, which
 -- wait
@@ -12,5 +12,5 @@ pub record Offers : Type 0 where
   pub waiting : List Point
 
 -- the viewer with these offers
-abbrev pub with_offers : {W : Type 0} → Offers → View W → ViewerState W
+abbrev pub with_offers : {W : Type 0} → Offers → ViewerWorld W → ViewerState W
 with_offers o view = record { boot = o.boot; made = o.made; waiting = o.waiting; view = view }

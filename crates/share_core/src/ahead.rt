@@ -67,7 +67,7 @@ fn apply_ready<B: Behaviour>(stage: &mut Stage<B>, window: &mut Window) -> Resul
         count += 1;
     }
     if count == 0 {
-        Ok(Taken::Kept)
+        Ok(Taken::Held)
     } else {
         Ok(Taken::Applied(count))
     }

@@ -6,14 +6,14 @@ ghost use Rattle.share_law.specs.Host.{count_for, input_packet, reply_before};
 ghost use Rattle.share_wire.specs.Datagram.{datagram};
 ghost use Rattle.share_wire.specs.Decoding.{decoded};
 
-use crate::inputs::Inputs;
+use crate::inputs::HostInputs;
 use arrayvec::ArrayVec;
-use share_law::{FloorFault, HostFault, HostReply, Kept, NumberFault};
-use share_rules::{Turn, span_of, turn_of};
+use share_law::{FloorFault, HostFault, HostReply, NumberFault, SeatCount};
+use share_rules::{Standing, span_of, standing_of};
 use share_wire::{Ack, Ask, Body, Floor, Message, Offer, Packet, decode, encode};
 use std::alloc::Global;
 use std::marker::Model;
-use x3d_values::{Event, MAX_VIEWERS, Stamped};
+use x3d_values::{Cause, MAX_VIEWERS, Stamped};
 
 /// How many viewers a host may have.
 const SEATS: usize = MAX_VIEWERS as usize;
@@ -23,8 +23,8 @@ const SEATS: usize = MAX_VIEWERS as usize;
 #[derive(Drop)]
 pub struct Host {
     mark: [u8; 32],
-    inputs: Inputs,
-    kept: ArrayVec<Kept, SEATS>,
+    inputs: HostInputs,
+    kept: ArrayVec<SeatCount, SEATS>,
 }
 
 impl Model for Host {
@@ -40,33 +40,33 @@ impl Model for Host {
 }
 
 /// How many offers of a boot are numbered: none of a boot above the one that is kept.
-fn count_for(kept: Kept, boot: u32) -> u32
+fn count_for(kept: SeatCount, boot: u32) -> u32
     ensures { result ≡ count_for kept boot }
 {
     if kept.boot == boot { kept.count } else { 0 }
 }
 
 /// What is answered to an offer that is not the next of its viewer.
-fn reply_before(kept: Kept, offer: Offer) -> Option<HostReply>
+fn reply_before(kept: SeatCount, offer: Offer) -> Option<HostReply>
     ensures { result ≡ reply_before kept offer }
 {
     let count = count_for(kept, offer.boot());
-    match turn_of(kept.boot, count, offer.boot(), offer.number()) {
-        Turn::OldBoot => Some(HostReply::OldBoot),
-        Turn::Repeat => Some(HostReply::Repeat),
-        Turn::Ahead => Some(HostReply::Ahead),
-        Turn::Next => None,
+    match standing_of(kept.boot, count, offer.boot(), offer.number()) {
+        Standing::OldBoot => Some(HostReply::OldBoot),
+        Standing::Repeat => Some(HostReply::Repeat),
+        Standing::Ahead => Some(HostReply::Ahead),
+        Standing::Next => None,
     }
 }
 
 /// What is kept of a viewer, if there is one with this number.
-fn kept_of(kept: &ArrayVec<Kept, SEATS>, who: u8) -> Option<Kept>
+fn kept_of(kept: &ArrayVec<SeatCount, SEATS>, who: u8) -> Option<SeatCount>
     ensures { result ≡ slice_get kept.now.items who }
 {
     kept.as_slice().get(who as usize).copied()
 }
 
-fn set_kept(kept: &mut ArrayVec<Kept, SEATS>, who: u8, now: Kept)
+fn set_kept(kept: &mut ArrayVec<SeatCount, SEATS>, who: u8, now: SeatCount)
     requires { who < length kept.old.items }
     ensures { kept.new.items ≡ slice_set kept.old.items who now }
 {
@@ -110,11 +110,11 @@ impl Host {
         requires most { viewers ≤ max_viewers }
         ensures { result ≡ record { mark = mark; part = new_part viewers } }
     {
-        let mut kept = ArrayVec::from_array_in((), [Kept::default(); SEATS]);
+        let mut kept = ArrayVec::from_array_in((), [SeatCount::default(); SEATS]);
         kept.truncate(viewers as usize);
         Host {
             mark,
-            inputs: Inputs::new(alloc),
+            inputs: HostInputs::new(alloc),
             kept,
         }
     }
@@ -128,7 +128,7 @@ impl Host {
         ensures mark { self.new.mark ≡ self.old.mark }
         ensures step { IsPartClocked self.old.part time result self.new.part }
     {
-        self.inputs.add(time, Event::Clock)
+        self.inputs.add(time, Cause::Clock)
     }
 
     /// The packet of the input of this number, from the floor on, if there is one. Takes no memory.
@@ -234,7 +234,7 @@ impl Host {
     /// where that one is below it; and with `NothingToDo` where it isn't numbered yet. The next
     /// offer of a viewer is numbered 1 microsecond after the last input; an earlier one is a
     /// `Repeat`, a later one is `Ahead`, and one of an earlier boot is of an `OldBoot`. Of a higher
-    /// boot no offer is numbered yet. Inputs, acks, floors and pieces are `NothingToDo`.
+    /// boot no offer is numbered yet. HostInputs, acks, floors and pieces are `NothingToDo`.
     ///
     /// Refused in this order: `Wire`, where the bytes are no datagram; `WrongScene`, where it has
     /// another mark; `BadViewer`, an ask or an offer of a viewer that there isn't; `Number`, where
@@ -306,9 +306,9 @@ impl Host {
         if let Some(reply) = reply_before(kept, offer) {
             return Ok(reply);
         }
-        match self.inputs.add_next(Event::Pointer(offer.pointer())) {
+        match self.inputs.add_next(Cause::Pointer(offer.pointer())) {
             Ok(number) => {
-                let now = Kept {
+                let now = SeatCount {
                     boot: offer.boot(),
                     count: offer.number(),
                 };

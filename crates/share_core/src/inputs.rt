@@ -9,23 +9,23 @@ use share_law::NumberFault;
 use std::alloc::Global;
 use std::collections::VecDeque;
 use std::marker::Model;
-use x3d_values::{Event, MAX_INPUTS, MAX_TIME, Stamped};
+use x3d_values::{Cause, MAX_INPUTS, MAX_TIME, Stamped};
 
 /// The inputs of a world from its floor on, in the order of their numbers, how many there were in
 /// all, and when the last was, in microseconds.
 #[derive(Drop)]
-pub(crate) struct Inputs {
+pub(crate) struct HostInputs {
     rest: VecDeque<Stamped>,
     floor: u32,
     count: u32,
     last: i64,
 }
 
-impl Model for Inputs {
+impl Model for HostInputs {
     ghost use Rattle.std.specs.Prelude.{◌≤◌, ◌+◌, ◌^◌, pos, ◌≤ℤ◌};
-    ghost use Rattle.share_core.specs.Host.{Entries};
+    ghost use Rattle.share_core.specs.Host.{HostInputsView};
 
-    ghost Value = { Entries };
+    ghost Value = { HostInputsView };
 
     ghost view = { λ i. record {
       floor = i.floor;
@@ -57,12 +57,12 @@ fn free_most(list: &mut VecDeque<Stamped>)
     }
 }
 
-impl Inputs {
+impl HostInputs {
     /// No inputs. Takes no memory.
-    pub(crate) fn new(alloc: Global) -> Inputs
+    pub(crate) fn new(alloc: Global) -> HostInputs
         ensures { result ≡ record { floor = 1; rest = []; count = 0; last = pos 0 } }
     {
-        Inputs {
+        HostInputs {
             rest: VecDeque::new(alloc),
             floor: 1,
             count: 0,
@@ -114,14 +114,14 @@ impl Inputs {
     }
 
     /// Numbers an input at a time in microseconds.
-    pub(crate) fn add(&mut self, time: i64, event: Event) -> Result<u32, NumberFault>
-        ensures { IsListed self.old time event result self.new }
+    pub(crate) fn add(&mut self, time: i64, cause: Cause) -> Result<u32, NumberFault>
+        ensures { IsListed self.old time cause result self.new }
     {
         if let Some(fault) = self.fault_at(time) {
             return Err(fault);
         }
         let number = self.count + 1;
-        match self.rest.push_back(Stamped::new(number, time, event)) {
+        match self.rest.push_back(Stamped::new(number, time, cause)) {
             Ok(()) => {
                 self.count = number;
                 self.last = time;
@@ -132,11 +132,11 @@ impl Inputs {
     }
 
     /// Numbers an input 1 microsecond after the last one.
-    pub(crate) fn add_next(&mut self, event: Event) -> Result<u32, NumberFault>
-        ensures { IsListed self.old (self.old.last +ℤ pos 1) event result self.new }
+    pub(crate) fn add_next(&mut self, cause: Cause) -> Result<u32, NumberFault>
+        ensures { IsListed self.old (self.old.last +ℤ pos 1) cause result self.new }
     {
         let time = self.last + 1;
-        self.add(time, event)
+        self.add(time, cause)
     }
 
     /// Those below this number leave. Takes no memory.

@@ -173,7 +173,7 @@ impl<B: Behaviour> Viewer<B> {
     ///
     /// An input that was applied is `Old`, and one behind the window `Beyond`. Another is
     /// kept, unless there is one of its number; then, while the next input is there, it is applied:
-    /// `Applied` says how many were, and `Kept` that none was. An ack of this viewer is `Noted`: of
+    /// `Applied` says how many were, and `Held` that none was. An ack of this viewer is `Noted`: of
     /// this boot, it lets go the waiting offers up to its count. A floor is `Behind` where the host
     /// has the next input no more, and else `Noted`.
     ///

@@ -5,17 +5,17 @@ ghost use Rattle.std.specs.Prelude.{length, if◌then◌else◌, IsTrue};
 ghost use Rattle.std.specs.Option.{option_map};
 ghost use Rattle.x3d_values.specs.Pointing.{is_ray};
 ghost use Rattle.x3d_values.specs.Ranges.{is_viewer};
-ghost use Rattle.x3d_values.specs.Stamp.{Stamp};
+ghost use Rattle.x3d_values.specs.Stamp.{StampedView};
 ghost use Rattle.share_wire.specs.Messages.{is_ordinal};
 ghost use Rattle.share_wire.specs.declared.message.Body.TheVariants as body;
 ghost use Rattle.cascade_core.specs.Course.{Scripted};
-ghost use Rattle.share_law.specs.Viewer.{View, Running, offer_refusal, settled_by, viewer_offer};
+ghost use Rattle.share_law.specs.Viewer.{ViewerWorld, Running, offer_refusal, covered_by, viewer_offer};
 ghost use Rattle.share_law.specs.Viewer.{viewer_resend};
 ghost use Rattle.share_core.specs.Steps.{point_aimed};
 ghost use Rattle.share_core.specs.Waiting.{with_offers};
 
 use share_law::OfferFault;
-use share_rules::{MOST_WAITING, Tally, settled_after};
+use share_rules::{MOST_WAITING, Tally, covered_after};
 use share_wire::{Ack, Offer};
 use std::marker::Model;
 use x3d_values::{Point, Pointer, Ray, Vec3};
@@ -25,7 +25,7 @@ const PLACES: usize = MOST_WAITING as usize;
 
 /// A point that was looked at.
 #[derive(Clone, Copy)]
-struct Aim {
+struct OfferedPoint {
     down: bool,
     ray: Ray,
 }
@@ -37,10 +37,10 @@ pub(crate) struct Waiting {
     who: u8,
     boot: u32,
     /// How many offers wait no more.
-    settled: u32,
+    covered: u32,
     made: u32,
     /// Offer n at place (n - 1) % `MOST_WAITING`.
-    places: [Aim; PLACES],
+    places: [OfferedPoint; PLACES],
 }
 
 impl Model for Waiting {
@@ -48,7 +48,7 @@ impl Model for Waiting {
     ghost use Rattle.x3d_values.specs.Ranges.{is_viewer};
     ghost use Rattle.share_wire.specs.Messages.{is_ordinal};
     ghost use Rattle.share_rules.specs.Offers.{most_waiting};
-    ghost use Rattle.share_rules.specs.Rings.{in_turn};
+    ghost use Rattle.share_rules.specs.Rings.{in_order};
     ghost use Rattle.share_core.specs.Steps.{point_aimed};
     ghost use Rattle.share_core.specs.Waiting.{Offers};
 
@@ -58,21 +58,21 @@ impl Model for Waiting {
       who = w.who;
       boot = w.boot;
       made = w.made;
-      waiting = take (w.made - w.settled)
-          (in_turn (w.settled % most_waiting) (map point_aimed w.places));
+      waiting = take (w.made - w.covered)
+          (in_order (w.covered % most_waiting) (map point_aimed w.places));
     } };
 
     ghost invariant = { λ w. IsTrue (is_viewer w.who && is_ordinal w.boot)
-        × (w.settled ≤ w.made) × (w.made ≤ w.settled + most_waiting)
+        × (w.covered ≤ w.made) × (w.made ≤ w.covered + most_waiting)
         × (length w.places ≡ most_waiting) };
 }
 
 /// A point that may be offered.
-fn aim_of(point: Point) -> Aim
+fn aim_of(point: Point) -> OfferedPoint
     requires { IsTrue (is_ray (record { origin = point.origin; dir = point.dir })) }
     ensures { point_aimed result ≡ point }
 {
-    Aim {
+    OfferedPoint {
         down: point.down,
         ray: Ray::new(point.origin, point.dir),
     }
@@ -89,14 +89,14 @@ impl Waiting {
     {
         let origin = Vec3 { x: 0, y: 0, z: 0 };
         let dir = Vec3 { x: 0, y: 0, z: 1 };
-        let aim = Aim {
+        let aim = OfferedPoint {
             down: false,
             ray: Ray::new(origin, dir),
         };
         Waiting {
             who,
             boot,
-            settled: 0,
+            covered: 0,
             made: 0,
             places: [aim; PLACES],
         }
@@ -122,7 +122,7 @@ impl Waiting {
         ensures value { result ≡ length self.now.waiting }
         ensures most { result ≤ most_waiting }
     {
-        self.made - self.settled
+        self.made - self.covered
     }
 
     /// Why a viewer that runs offers no point.
@@ -142,7 +142,7 @@ impl Waiting {
         }
     }
 
-    fn push(&mut self, aim: Aim)
+    fn push(&mut self, aim: OfferedPoint)
         requires room { length self.old.waiting < most_waiting }
         requires numbers { self.old.made + 1 < 2 ^ 32 }
         ensures { self.new ≡ record {
@@ -163,7 +163,7 @@ impl Waiting {
     /// 2^32 - 1 offers of this boot. A refusal changes nothing.
     pub(crate) fn offer(&mut self, point: Point) -> Result<u32, OfferFault>
         ensures who { self.new.who ≡ self.old.who }
-        ensures step { (world : Scripted) (window : List (Option Stamp))
+        ensures step { (world : Scripted) (window : List (Option StampedView))
             → viewer_offer (with_offers self.old (Running world window)) point
             ≡ (result, with_offers self.new (Running world window)) }
     {
@@ -176,30 +176,30 @@ impl Waiting {
 
     /// The waiting offer at a place from 0, if there is one.
     pub(crate) fn resend(&self, place: u32) -> Option<Offer>
-        ensures { (view : View Scripted) → option_map (λ o. body.Offer o) result
+        ensures { (view : ViewerWorld Scripted) → option_map (λ o. body.Offer o) result
             ≡ viewer_resend self.now.who (with_offers self.now view) place }
     {
-        if place >= self.made - self.settled {
+        if place >= self.made - self.covered {
             return None;
         }
-        let aim = self.places[((self.settled + place) % MOST_WAITING) as usize];
+        let aim = self.places[((self.covered + place) % MOST_WAITING) as usize];
         let pointer = Pointer::new(self.who, aim.down, aim.ray);
-        Some(Offer::new(self.boot, self.settled + place + 1, pointer))
+        Some(Offer::new(self.boot, self.covered + place + 1, pointer))
     }
 
     /// The host tells how many offers of a boot it has numbered: so many of this boot wait no more.
     pub(crate) fn heed(&mut self, ack: Ack)
         ensures who { self.new.who ≡ self.old.who }
-        ensures step { (view : View Scripted) → with_offers self.new view
+        ensures step { (view : ViewerWorld Scripted) → with_offers self.new view
             ≡ (if ack.boot == self.old.boot
-            then settled_by (with_offers self.old view) ack.count
+            then covered_by (with_offers self.old view) ack.count
             else with_offers self.old view) }
     {
         let tally = Tally {
             boot: self.boot,
             made: self.made,
-            settled: self.settled,
+            covered: self.covered,
         };
-        self.settled = settled_after(tally, ack.boot(), ack.count());
+        self.covered = covered_after(tally, ack.boot(), ack.count());
     }
 }

@@ -11,10 +11,10 @@ use Rattle.std.proofs.lemmas.List.{length-append}
 use Rattle.x3d_numerals.specs.Numeral.{IsNumeral}
 use Rattle.x3d_numerals.specs.Reading.{numeral}
 use Rattle.x3d_numerals.proofs.Numerals.{value_iff}
-use Rattle.x3d_values.specs.Pointing.{Pointing}
-use Rattle.x3d_values.specs.Stamp.{Stamp}
-use Rattle.x3d_values.specs.declared.stamped.Event.{Event}
-use Rattle.x3d_values.specs.declared.stamped.Event.TheVariants.{Clock, Pointer}
+use Rattle.x3d_values.specs.Pointing.{PointerView}
+use Rattle.x3d_values.specs.Stamp.{StampedView}
+use Rattle.x3d_values.specs.declared.stamped.Cause.{Cause}
+use Rattle.x3d_values.specs.declared.stamped.Cause.TheVariants.{Clock, Pointer}
 use Rattle.share_jobs.specs.declared.fault.JobFault.{JobFault}
 use Rattle.share_jobs.specs.declared.fault.JobFault.TheVariants.{BadJob}
 use Rattle.share_jobs.specs.Job.{AreSteps, Lined, IsJob, IsJobStep, IsNumbered, asked, clock_time, last_time, next_input, with_line, with_scene, is_scene, job_lines}
@@ -39,42 +39,42 @@ clock_from line t e = elim (cases_Bool (bytes_eq (take 6 line) (codes "clock "))
   | inr fails ↦ let none = rw fails at e in absurd (cc)
 ]
 
-numbered_by : (given : List Stamp) (t : ℤ) (event : Event) (input : Stamp) → IsTaken given t event input → IsNumbered (length given) (last_time given) input
-numbered_by given t event input h = record { number = h.next.number; few = h.next.few; later = h.next.later; in_range = h.in_range }
+numbered_by : (given : List StampedView) (t : ℤ) (cause : Cause) (input : StampedView) → IsTaken given t cause input → IsNumbered (length given) (last_time given) input
+numbered_by given t cause input h = record { number = h.next.number; few = h.next.few; later = h.next.later; in_range = h.in_range }
 
-abbrev IsStep : List Stamp → List ℕ → Stamp → Type 0
+abbrev IsStep : List StampedView → List ℕ → StampedView → Type 0
 IsStep given line input = IsJobStep (length given) (last_time given) line input
 
-step_from : (given : List Stamp) (line : List ℕ) (input : Stamp) (time : Option ℤ) (p : Option Pointing) → clock_time line ≡ time → pointed line ≡ p
+step_from : (given : List StampedView) (line : List ℕ) (input : StampedView) (time : Option ℤ) (p : Option PointerView) → clock_time line ≡ time → pointed line ≡ p
     → asked given time p ≡ Some input → IsStep given line input
 step_from given line input None None at_time at_point e = absurd (cc)
 step_from given line input (Some t) p at_time at_point e =
     let taken = taken_from given t Clock input e in
     let (text, whole, number) = clock_from line t at_time in
     record {
-      says = inl (record { text = text; is = whole; time = rw taken.time number; event = taken.event_is });
+      says = inl (record { text = text; is = whole; time = rw taken.time number; cause = taken.event_is });
       numbered = numbered_by given t Clock input taken;
     }
 step_from given line input None (Some p) at_time at_point e =
     let time : ℤ = last_time given +ℤ pos 1 in
     let taken = taken_from given time (Pointer p) input e in
     record {
-      says = inr (record { pointing = p; words = point_from line p at_point; time = taken.time; event = taken.event_is });
+      says = inr (record { pointing = p; words = point_from line p at_point; time = taken.time; cause = taken.event_is });
       numbered = numbered_by given time (Pointer p) input taken;
     }
 
-step_is : (given : List Stamp) (line : List ℕ) (input : Stamp) → next_input given line ≡ Some input → IsStep given line input
+step_is : (given : List StampedView) (line : List ℕ) (input : StampedView) → next_input given line ≡ Some input → IsStep given line input
 unfolding next_input
 step_is given line input e = step_from given line input (clock_time line) (pointed line) refl refl e
 
 -- ---- the steps
 
-record Grown (given : List Stamp) (steps : List (List ℕ)) (inputs : List Stamp) : Type 0 where
-  more : List Stamp
+record Grown (given : List StampedView) (steps : List (List ℕ)) (inputs : List StampedView) : Type 0 where
+  more : List StampedView
   is : inputs ≡ given ++ more
   each : AreSteps (length given) (last_time given) steps more
 
-grown_by : (given : List Stamp) (line : List ℕ) (steps : List (List ℕ)) (inputs : List Stamp) (input : Stamp) → IsStep given line input
+grown_by : (given : List StampedView) (line : List ℕ) (steps : List (List ℕ)) (inputs : List StampedView) (input : StampedView) → IsStep given line input
     → Grown (given ++ input ∷ []) steps inputs → Grown given (line ∷ steps) inputs
 grown_by given line steps inputs input step g = record {
   more = input ∷ g.more;
@@ -82,8 +82,8 @@ grown_by given line steps inputs input step g = record {
   each = (step, (rw (last_time-push given input, length-append given (input ∷ [])) at g.each));
 }
 
-grown_with : (given : List Stamp) (line : List ℕ) (steps : List (List ℕ)) (inputs : List Stamp) (next : Option Stamp) → next ≡ next_input given line
-    → ((other : List Stamp) → fold with_line (Ok other) steps ≡ Ok inputs → Grown other steps inputs)
+grown_with : (given : List StampedView) (line : List ℕ) (steps : List (List ℕ)) (inputs : List StampedView) (next : Option StampedView) → next ≡ next_input given line
+    → ((other : List StampedView) → fold with_line (Ok other) steps ≡ Ok inputs → Grown other steps inputs)
     → fold with_line (with_line (Ok given) line) steps ≡ Ok inputs → Grown given (line ∷ steps) inputs
 grown_with given line steps inputs None same go e =
     let bad = rw (← same) at e in
@@ -93,7 +93,7 @@ grown_with given line steps inputs (Some input) same go e =
     let more = rw (← same) at e in
     grown_by given line steps inputs input (step_is given line input (sym same)) (go (given ++ input ∷ []) more)
 
-grown : (given : List Stamp) (steps : List (List ℕ)) (inputs : List Stamp) → fold with_line (Ok given) steps ≡ Ok inputs → Grown given steps inputs
+grown : (given : List StampedView) (steps : List (List ℕ)) (inputs : List StampedView) → fold with_line (Ok given) steps ≡ Ok inputs → Grown given steps inputs
 grown given [] inputs e = let same : given ≡ inputs = cc in record { more = []; is = sym same ∙ sym (append-nil given); each = tt }
 grown given (line ∷ steps) inputs e = grown_with given line steps inputs (next_input given line) refl (λ other h. grown other steps inputs h) e
 
@@ -120,12 +120,12 @@ split_first p (x ∷ xs) h = elim (cases_Bool (p x)) [
       }
 ]
 
-record Scened (there : Bool) (scene : List ℕ) (r : Result (List Stamp) JobFault) (job : Lined) : Type 0 where
+record Scened (there : Bool) (scene : List ℕ) (r : Result (List StampedView) JobFault) (job : Lined) : Type 0 where
   is_there : there ≡ true
   inputs : r ≡ Ok job.inputs
   scene_is : job.scene ≡ scene
 
-scened_from : (line : ℕ) (there : Bool) (scene : List ℕ) (r : Result (List Stamp) JobFault) (job : Lined) → with_scene line there scene r ≡ Ok job
+scened_from : (line : ℕ) (there : Bool) (scene : List ℕ) (r : Result (List StampedView) JobFault) (job : Lined) → with_scene line there scene r ≡ Ok job
     → Scened there scene r job
 scened_from line there scene (Err f) job e = absurd (cc)
 scened_from line false scene (Ok inputs) job e = absurd (cc)

@@ -7,16 +7,16 @@ use Rattle.std.specs.Str.Lines.{lines}
 use Rattle.std.proofs.lemmas.Bool.{cases_Bool, ltb-true, and_parts}
 use Rattle.std.proofs.lemmas.Float.{T_from_true}
 use Rattle.std.proofs.lemmas.List.{length-append}
-use Rattle.x3d_values.specs.Pointing.{Pointing}
+use Rattle.x3d_values.specs.Pointing.{PointerView}
 use Rattle.x3d_values.specs.Ranges.{is_input_time}
-use Rattle.x3d_values.specs.Stamp.{Stamp}
-use Rattle.x3d_values.specs.declared.stamped.Event.{Event}
-use Rattle.x3d_values.specs.declared.stamped.Event.TheVariants.{Clock, Pointer}
+use Rattle.x3d_values.specs.Stamp.{StampedView}
+use Rattle.x3d_values.specs.declared.stamped.Cause.{Cause}
+use Rattle.x3d_values.specs.declared.stamped.Cause.TheVariants.{Clock, Pointer}
 use Rattle.share_jobs.specs.Points.{pointed}
 use Rattle.share_jobs.specs.declared.fault.JobFault.{JobFault}
 use Rattle.share_jobs.specs.declared.fault.JobFault.TheVariants.{BadJob}
 use Rattle.share_rules.specs.Lines.{first_line, behind_line}
-use Rattle.cascade_core.specs.InTurn.{Follow, AreInTurn}
+use Rattle.cascade_core.specs.InOrder.{Follow, AreInOrder}
 use Rattle.share_jobs.specs.Job.{Lined, asked, input_at, last_time, is_taken, clock_time, next_input, with_line, with_scene}
 use Rattle.share_jobs.specs.Job.{is_scene, behind_lines, job_lines}
 use Rattle.share_jobs.proofs.LineLemmas.{cut}
@@ -40,18 +40,18 @@ any-cons_yes p x xs e = rw e refl
 
 -- ---- what is left
 
-scened : ℕ → Bool → (ℕ → List ℕ) → List (List ℕ) → List Stamp → Result Lined JobFault
+scened : ℕ → Bool → (ℕ → List ℕ) → List (List ℕ) → List StampedView → Result Lined JobFault
 scened number there behind steps given = with_scene (number + (length steps + 1)) there (behind (length steps + 1)) (fold with_line (Ok given) steps)
 
 -- the answer where these inputs were read and these lines are left
-pub left : List Stamp → List (List ℕ) → (ℕ → List ℕ) → Result Lined JobFault
+pub left : List StampedView → List (List ℕ) → (ℕ → List ℕ) → Result Lined JobFault
 left given all behind = scened (length given) (list_any is_scene all) behind (before_first is_scene all) given
 
 pub fold-err : (fault : JobFault) (all : List (List ℕ)) → fold with_line (Err fault) all ≡ Err fault
 fold-err fault [] = refl
 fold-err fault (line ∷ all) = fold-err fault all
 
-scened-step : (given : List Stamp) (there : Bool) (line : List ℕ) (steps : List (List ℕ)) (behind more : ℕ → List ℕ) (input : Stamp)
+scened-step : (given : List StampedView) (there : Bool) (line : List ℕ) (steps : List (List ℕ)) (behind more : ℕ → List ℕ) (input : StampedView)
     → next_input given line ≡ Some input
     → ((k : ℕ) → behind (suc k) ≡ more k)
     → scened (length given) there behind (line ∷ steps) given ≡ scened (length (given ++ input ∷ [])) there more steps (given ++ input ∷ [])
@@ -62,12 +62,12 @@ scened-step given there line steps behind more input e same =
     let scene : behind (length (line ∷ steps) + 1) ≡ more (length steps + 1) = ap behind (omega arith) ∙ same (length steps + 1) in
     rw (number, scene, e) refl
 
-scened-bad : (given : List Stamp) (there : Bool) (line : List ℕ) (steps : List (List ℕ)) (behind : ℕ → List ℕ) → next_input given line ≡ None
+scened-bad : (given : List StampedView) (there : Bool) (line : List ℕ) (steps : List (List ℕ)) (behind : ℕ → List ℕ) → next_input given line ≡ None
     → scened (length given) there behind (line ∷ steps) given ≡ Err (BadJob (length given + 1))
 unfolding scened
 scened-bad given there line steps behind e = rw (e, fold-err (BadJob (length given + 1)) steps) refl
 
-left-step : (given : List Stamp) (line : List ℕ) (all : List (List ℕ)) (behind more : ℕ → List ℕ) (input : Stamp) → is_scene line ≡ false
+left-step : (given : List StampedView) (line : List ℕ) (all : List (List ℕ)) (behind more : ℕ → List ℕ) (input : StampedView) → is_scene line ≡ false
     → next_input given line ≡ Some input
     → ((k : ℕ) → behind (suc k) ≡ more k) → left given (line ∷ all) behind ≡ left (given ++ input ∷ []) all more
 unfolding left
@@ -76,14 +76,14 @@ left-step given line all behind more input fails e same =
     ∙ ap (λ steps. scened (length given) (list_any is_scene all) behind steps given) (before-cons_no is_scene line all fails)
     ∙ scened-step given (list_any is_scene all) line (before_first is_scene all) behind more input e same
 
-left-bad : (given : List Stamp) (line : List ℕ) (all : List (List ℕ)) (behind : ℕ → List ℕ) → is_scene line ≡ false → next_input given line ≡ None
+left-bad : (given : List StampedView) (line : List ℕ) (all : List (List ℕ)) (behind : ℕ → List ℕ) → is_scene line ≡ false → next_input given line ≡ None
     → left given (line ∷ all) behind ≡ Err (BadJob (length given + 1))
 unfolding left
 left-bad given line all behind fails e =
     ap (λ steps. scened (length given) (list_any is_scene (line ∷ all)) behind steps given) (before-cons_no is_scene line all fails)
     ∙ scened-bad given (list_any is_scene (line ∷ all)) line (before_first is_scene all) behind e
 
-left-scene : (given : List Stamp) (line : List ℕ) (all : List (List ℕ)) (behind : ℕ → List ℕ) → is_scene line ≡ true
+left-scene : (given : List StampedView) (line : List ℕ) (all : List (List ℕ)) (behind : ℕ → List ℕ) → is_scene line ≡ true
     → left given (line ∷ all) behind ≡ Ok (record { inputs = given; scene = behind 1 })
 unfolding left scened
 left-scene given line all behind passes =
@@ -92,7 +92,7 @@ left-scene given line all behind passes =
 
 -- ---- the same of a text
 
-abbrev pub left_of : List Stamp → List ℕ → Result Lined JobFault
+abbrev pub left_of : List StampedView → List ℕ → Result Lined JobFault
 left_of given text = left given (lines text) (λ n. behind_lines n text)
 
 pub at_start : (bytes : List ℕ) → job_lines bytes ≡ left_of [] bytes
@@ -101,12 +101,12 @@ at_start bytes = let steps : List (List ℕ) = before_first is_scene (lines byte
     ap (λ n. with_scene n (list_any is_scene (lines bytes)) (behind_lines (length steps + 1) bytes) (fold with_line (Ok []) steps))
     (sym (zero-add (length steps + 1)))
 
-pub at_end : (given : List Stamp) (text : List ℕ) → length text ≡ 0 → left_of given text ≡ Err (BadJob (length given + 1))
+pub at_end : (given : List StampedView) (text : List ℕ) → length text ≡ 0 → left_of given text ≡ Err (BadJob (length given + 1))
 unfolding left scened
 at_end given [] h = refl
 at_end given (b ∷ text) h = absurd (omega arith)
 
-pub at_step : (given : List Stamp) (text : List ℕ) (input : Stamp) → 0 < length text → is_scene (first_line text) ≡ false
+pub at_step : (given : List StampedView) (text : List ℕ) (input : StampedView) → 0 < length text → is_scene (first_line text) ≡ false
     → next_input given (first_line text) ≡ Some input
     → left_of given text ≡ left_of (given ++ input ∷ []) (behind_line text)
 at_step given text input some fails e =
@@ -115,14 +115,14 @@ at_step given text input some fails e =
     ∙ left-step given (first_line text) (lines (behind_line text)) (λ n. behind_lines n text) (λ n. behind_lines n (behind_line text))
     input fails e c.behind
 
-pub at_bad : (given : List Stamp) (text : List ℕ) → 0 < length text → is_scene (first_line text) ≡ false → next_input given (first_line text) ≡ None
+pub at_bad : (given : List StampedView) (text : List ℕ) → 0 < length text → is_scene (first_line text) ≡ false → next_input given (first_line text) ≡ None
     → left_of given text ≡ Err (BadJob (length given + 1))
 at_bad given text some fails e =
     let c = cut text some in
     ap (λ all. left given all (λ n. behind_lines n text)) c.lines
     ∙ left-bad given (first_line text) (lines (behind_line text)) (λ n. behind_lines n text) fails e
 
-pub at_scene : (given : List Stamp) (text : List ℕ) → 0 < length text → is_scene (first_line text) ≡ true
+pub at_scene : (given : List StampedView) (text : List ℕ) → 0 < length text → is_scene (first_line text) ≡ true
     → left_of given text ≡ Ok (record { inputs = given; scene = behind_line text })
 at_scene given text some passes =
     let c = cut text some in
@@ -133,25 +133,25 @@ at_scene given text some passes =
 -- ---- inputs in turn
 
 -- the time of the last, or this time where there is none
-last_from : ℤ → List Stamp → ℤ
+last_from : ℤ → List StampedView → ℤ
 last_from t [] = t
 last_from t (x ∷ xs) = last_from x.time xs
 
-last_from-get : (t : ℤ) (x : Stamp) (xs : List Stamp) (other : ℤ)
+last_from-get : (t : ℤ) (x : StampedView) (xs : List StampedView) (other : ℤ)
     → option_map_or (λ s. s.time) (slice_get (x ∷ xs) (length xs)) other ≡ last_from t (x ∷ xs)
 unfolding last_from
 last_from-get t x [] other = refl
 last_from-get t x (y ∷ ys) other = last_from-get x.time y ys other
 
-front_len : (x : Stamp) (xs : List Stamp) → length (x ∷ xs) - 1 ≡ length xs
+front_len : (x : StampedView) (xs : List StampedView) → length (x ∷ xs) - 1 ≡ length xs
 front_len x xs = omega arith
 
-last_from-last : (given : List Stamp) → last_time given ≡ last_from (pos 0) given
+last_from-last : (given : List StampedView) → last_time given ≡ last_from (pos 0) given
 unfolding last_time last_from
 last_from-last [] = refl
 last_from-last (x ∷ xs) = ap (λ k. option_map_or (λ s. s.time) (slice_get (x ∷ xs) k) (pos 0)) (front_len x xs) ∙ last_from-get (pos 0) x xs (pos 0)
 
-follow_more : (n : ℕ) (t : ℤ) (xs : List Stamp) (s : Stamp) → Follow n t xs → s.number ≡ n + length xs + 1 → last_from t xs <ℤ s.time
+follow_more : (n : ℕ) (t : ℤ) (xs : List StampedView) (s : StampedView) → Follow n t xs → s.number ≡ n + length xs + 1 → last_from t xs <ℤ s.time
     → Follow n t (xs ++ s ∷ [])
 unfolding last_from
 follow_more n t [] s h e later = (omega arith, later, tt)
@@ -161,79 +161,79 @@ follow_more n t (x ∷ xs) s h e later =
     (h.0, h.1, follow_more x.number x.time xs s h.2 number later)
 
 -- a host numbers the input behind these
-pub record IsNext (given : List Stamp) (input : Stamp) : Type 0 where
+pub record IsNext (given : List StampedView) (input : StampedView) : Type 0 where
   pub number : input.number ≡ length given + 1
   pub few : length given < 2 ^ 20
   pub later : last_time given <ℤ input.time
 
-pub record IsTaken (given : List Stamp) (t : ℤ) (event : Event) (input : Stamp) : Type 0 where
+pub record IsTaken (given : List StampedView) (t : ℤ) (cause : Cause) (input : StampedView) : Type 0 where
   pub next : IsNext given input
   pub time : input.time ≡ t
-  pub event_is : input.event ≡ event
+  pub event_is : input.cause ≡ cause
   pub in_range : is_input_time input.time ≡ true
 
-pub taken_from : (given : List Stamp) (t : ℤ) (event : Event) (input : Stamp) → input_at given t event ≡ Some input → IsTaken given t event input
-taken_from given t event input e = elim (cases_Bool (is_taken given t)) [
+pub taken_from : (given : List StampedView) (t : ℤ) (cause : Cause) (input : StampedView) → input_at given t cause ≡ Some input → IsTaken given t cause input
+taken_from given t cause input e = elim (cases_Bool (is_taken given t)) [
   | inl passes ↦
       let some = rw passes at e in
-      let same : record { number = length given + 1; time = t; event = event } ≡ input = cc in
-      let time : t ≡ input.time = ap (λ (s : Stamp). s.time) same in
+      let same : record { number = length given + 1; time = t; cause = cause } ≡ input = cc in
+      let time : t ≡ input.time = ap (λ (s : StampedView). s.time) same in
       let tests = and_parts _ _ passes in
       let later = and_parts _ _ tests.1 in
       record {
         next = record {
-          number = sym (ap (λ (s : Stamp). s.number) same);
+          number = sym (ap (λ (s : StampedView). s.number) same);
           few = ltb-true (length given) (2 ^ 20) tests.0;
           later = record { lt = T_from_true _ (rw (← time) later.0) };
         };
         time = sym time;
-        event_is = sym (ap (λ (s : Stamp). s.event) same);
+        event_is = sym (ap (λ (s : StampedView). s.cause) same);
         in_range = rw (← time) later.1;
       }
   | inr fails ↦ let none = rw fails at e in absurd (cc)
 ]
 
-next_from : (given : List Stamp) (time : Option ℤ) (p : Option Pointing) (input : Stamp) → asked given time p ≡ Some input → IsNext given input
+next_from : (given : List StampedView) (time : Option ℤ) (p : Option PointerView) (input : StampedView) → asked given time p ≡ Some input → IsNext given input
 next_from given None None input e = absurd (cc)
 next_from given None (Some p) input e = (taken_from given (last_time given +ℤ pos 1) (Pointer p) input e).next
 next_from given (Some t) p input e = (taken_from given t Clock input e).next
 
-pub next_is : (given : List Stamp) (line : List ℕ) (input : Stamp) → next_input given line ≡ Some input → IsNext given input
+pub next_is : (given : List StampedView) (line : List ℕ) (input : StampedView) → next_input given line ≡ Some input → IsNext given input
 unfolding next_input
 next_is given line input e = next_from given (clock_time line) (pointed line) input e
 
 -- the time of the last is that of the one behind
-last_from-push : (t : ℤ) (given : List Stamp) (input : Stamp) → last_from t (given ++ input ∷ []) ≡ input.time
+last_from-push : (t : ℤ) (given : List StampedView) (input : StampedView) → last_from t (given ++ input ∷ []) ≡ input.time
 unfolding last_from
 last_from-push t [] input = refl
 last_from-push t (x ∷ xs) input = last_from-push x.time xs input
 
-pub last_time-push : (given : List Stamp) (input : Stamp) → last_time (given ++ input ∷ []) ≡ input.time
+pub last_time-push : (given : List StampedView) (input : StampedView) → last_time (given ++ input ∷ []) ≡ input.time
 last_time-push given input = last_from-last (given ++ input ∷ []) ∙ last_from-push (pos 0) given input
 
-pub in_turn_more : (given : List Stamp) (input : Stamp) → AreInTurn given → IsNext given input → AreInTurn (given ++ input ∷ [])
-in_turn_more given input h next =
+pub in_order_more : (given : List StampedView) (input : StampedView) → AreInOrder given → IsNext given input → AreInOrder (given ++ input ∷ [])
+in_order_more given input h next =
     let number : input.number ≡ 0 + length given + 1 = omega (arith, next.number) in
     let later : last_from (pos 0) given <ℤ input.time = rw (last_from-last given) at next.later in
     follow_more 0 (pos 0) given input h number later
 
 -- ---- a turn of the loop, by the line that was cut off
 
-pub scene_found : (bytes : List ℕ) (given : List Stamp) (text line behind : List ℕ) → job_lines bytes ≡ left_of given text → 0 < length text
+pub scene_found : (bytes : List ℕ) (given : List StampedView) (text line behind : List ℕ) → job_lines bytes ≡ left_of given text → 0 < length text
     → line ≡ first_line text → behind ≡ behind_line text → is_scene line ≡ true → job_lines bytes ≡ Ok (record { inputs = given; scene = behind })
 scene_found bytes given text line behind answer some at_line at_behind passes =
     answer ∙ at_scene given text some (rw at_line at passes) ∙ ap (λ scene. Ok (record { inputs = given; scene = scene })) (sym at_behind)
 
-pub step_refused : (bytes : List ℕ) (given : List Stamp) (text line : List ℕ) → job_lines bytes ≡ left_of given text → 0 < length text
+pub step_refused : (bytes : List ℕ) (given : List StampedView) (text line : List ℕ) → job_lines bytes ≡ left_of given text → 0 < length text
     → line ≡ first_line text → is_scene line ≡ false → next_input given line ≡ None → job_lines bytes ≡ Err (BadJob (length given + 1))
 step_refused bytes given text line answer some at_line fails e = answer ∙ at_bad given text some (rw at_line at fails) (rw at_line at e)
 
-pub step_taken : (bytes : List ℕ) (given : List Stamp) (text line behind : List ℕ) (input : Stamp) → job_lines bytes ≡ left_of given text
+pub step_taken : (bytes : List ℕ) (given : List StampedView) (text line behind : List ℕ) (input : StampedView) → job_lines bytes ≡ left_of given text
     → 0 < length text
     → line ≡ first_line text → behind ≡ behind_line text → is_scene line ≡ false → next_input given line ≡ Some input
     → job_lines bytes ≡ left_of (given ++ input ∷ []) behind
 step_taken bytes given text line behind input answer some at_line at_behind fails e =
     answer ∙ at_step given text input some (rw at_line at fails) (rw at_line at e) ∙ ap (λ t. left_of (given ++ input ∷ []) t) (sym at_behind)
 
-pub few_more : (given : List Stamp) (input : Stamp) → IsNext given input → length (given ++ input ∷ []) ≤ 2 ^ 20
+pub few_more : (given : List StampedView) (input : StampedView) → IsNext given input → length (given ++ input ∷ []) ≤ 2 ^ 20
 few_more given input next = omega (arith, length-append given (input ∷ []), next.few)

@@ -11,11 +11,11 @@ use Rattle.std.proofs.lemmas.Int.{ints}
 use Rattle.std.proofs.lemmas.List.{length-append}
 use Rattle.x3d_numerals.specs.Reading.{numeral}
 use Rattle.x3d_numerals.proofs.Numerals.{numeral_complete}
-use Rattle.x3d_values.specs.Pointing.{Pointing, Sight, is_ray}
+use Rattle.x3d_values.specs.Pointing.{PointerView, RayView, is_ray}
 use Rattle.x3d_values.specs.Ranges.{max_viewers}
-use Rattle.x3d_values.specs.Stamp.{Stamp}
-use Rattle.x3d_values.specs.declared.stamped.Event.{Event}
-use Rattle.x3d_values.specs.declared.stamped.Event.TheVariants.{Clock, Pointer}
+use Rattle.x3d_values.specs.Stamp.{StampedView}
+use Rattle.x3d_values.specs.declared.stamped.Cause.{Cause}
+use Rattle.x3d_values.specs.declared.stamped.Cause.TheVariants.{Clock, Pointer}
 use Rattle.share_jobs.specs.Job.{AreSteps, IsClock, IsJob, IsJobStep, IsNumbered, IsPointed, Lined, asked, behind_lines, clock_time, input_at, is_scene, is_taken, job_lines, last_time, next_input, with_line, with_next}
 use Rattle.share_jobs.specs.Points.{word, behind, number_below, vector_of, sight_of, pointing_of, pointed, IsPoint}
 use Rattle.share_jobs.proofs.JobLemmas.{before-cons_no, before-cons_yes, any-cons_no, any-cons_yes, last_time-push}
@@ -25,13 +25,13 @@ use Rattle.share_jobs.proofs.OnlyLemmas.{bit_low, bit_is}
 
 -- ---- a line by which a viewer points
 
-sight_at : (text y z d dy dz : List ℕ) (s : Sight) → behind text ≡ y → behind y ≡ z → behind z ≡ d → behind d ≡ dy → behind dy ≡ dz
+sight_at : (text y z d dy dz : List ℕ) (s : RayView) → behind text ≡ y → behind y ≡ z → behind z ≡ d → behind d ≡ dy → behind dy ≡ dz
     → vector_of (word text) (word y) (word z) ≡ Some s.origin → vector_of (word d) (word dy) dz ≡ Some s.dir → is_ray s ≡ true
     → sight_of text ≡ Some s
 unfolding sight_of
 sight_at text y z d dy dz s at_y at_z at_d at_dy at_dz o_is v_is ray = rw (at_y, at_z, at_d, at_dy, at_dz, o_is, v_is, ray) refl
 
-pointing_at : (text a b : List ℕ) (p : Pointing) (n : ℕ) → behind text ≡ a → behind a ≡ b → number_below max_viewers (word text) ≡ Some p.who
+pointing_at : (text a b : List ℕ) (p : PointerView) (n : ℕ) → behind text ≡ a → behind a ≡ b → number_below max_viewers (word text) ≡ Some p.who
     → number_below 2 (word a) ≡ Some n → (n == 1) ≡ p.down → sight_of b ≡ Some p.ray → pointing_of text ≡ Some p
 unfolding pointing_of
 pointing_at text a b p n at_a at_b who down button ray = rw (at_a, at_b, who, down, ray, button) refl
@@ -44,7 +44,7 @@ no_clock : (line text : List ℕ) → line ≡ codes "point " ++ text → clock_
 unfolding clock_time
 no_clock line text is = rw is refl
 
-pointed_only : (line : List ℕ) (p : Pointing) → IsPoint line p → pointed line ≡ Some p
+pointed_only : (line : List ℕ) (p : PointerView) → IsPoint line p → pointed line ≡ Some p
 pointed_only line p h =
     let dy : List ℕ = h.dy ++ (32 ∷ h.dz) in
     let d : List ℕ = h.dx ++ (32 ∷ dy) in
@@ -84,19 +84,19 @@ clock_only : (line text : List ℕ) (t : ℤ) → line ≡ codes "clock " ++ tex
 unfolding clock_time
 clock_only line text t is e = rw is (ap (λ r. result_ok r) e)
 
-clock_is : (line : List ℕ) (input : Stamp) → IsClock line input → clock_time line ≡ Some input.time
+clock_is : (line : List ℕ) (input : StampedView) → IsClock line input → clock_time line ≡ Some input.time
 clock_is line input h = clock_only line h.text input.time h.is (numeral_complete h.text input.time h.time)
 
-stamp_is : (a b : Stamp) → a.number ≡ b.number → a.time ≡ b.time → a.event ≡ b.event → a ≡ b
-stamp_is a b number time event = rw (number, time, event) refl
+stamp_is : (a b : StampedView) → a.number ≡ b.number → a.time ≡ b.time → a.cause ≡ b.cause → a ≡ b
+stamp_is a b number time cause = rw (number, time, cause) refl
 
 -- a clock is no pointer
-not_both : (line : List ℕ) (a b : Stamp) (before : ℤ) → IsClock line a → IsPointed before line b → ⊥
+not_both : (line : List ℕ) (a b : StampedView) (before : ℤ) → IsClock line a → IsPointed before line b → ⊥
 not_both line a b before h k =
     let both : Some a.time ≡ None = sym (clock_is line a h) ∙ no_clock line _ k.words.words in
     absurd (cc)
 
-pub one_step : (given : ℕ) (before : ℤ) (line : List ℕ) (a b : Stamp) → IsJobStep given before line a → IsJobStep given before line b → a ≡ b
+pub one_step : (given : ℕ) (before : ℤ) (line : List ℕ) (a b : StampedView) → IsJobStep given before line a → IsJobStep given before line b → a ≡ b
 one_step given before line a b h k =
     let number : a.number ≡ b.number = h.numbered.number ∙ sym k.numbered.number in
     elim h.says [
@@ -104,7 +104,7 @@ one_step given before line a b h k =
         | inl d ↦
             let both : Some a.time ≡ Some b.time = sym (clock_is line a c) ∙ clock_is line b d in
             let time : a.time ≡ b.time = cc in
-            stamp_is a b number time (c.event ∙ sym d.event)
+            stamp_is a b number time (c.cause ∙ sym d.cause)
         | inr d ↦ absurd (not_both line a b before c d)
       ]
       | inr c ↦ elim k.says [
@@ -112,7 +112,7 @@ one_step given before line a b h k =
         | inr d ↦
             let both : Some c.pointing ≡ Some d.pointing = sym (pointed_only line c.pointing c.words) ∙ pointed_only line d.pointing d.words in
             let same : c.pointing ≡ d.pointing = cc in
-            stamp_is a b number (c.time ∙ sym d.time) (c.event ∙ ap Pointer same ∙ sym d.event)
+            stamp_is a b number (c.time ∙ sym d.time) (c.cause ∙ ap Pointer same ∙ sym d.cause)
       ]
     ]
 
@@ -121,25 +121,25 @@ one_step given before line a b h k =
 later_is : (a b : ℤ) → a <ℤ b → int_lt a b ≡ true
 later_is a b h = grind (arith, ints)
 
-taken_by : (given : List Stamp) (input : Stamp) → IsNumbered (length given) (last_time given) input → is_taken given input.time ≡ true
+taken_by : (given : List StampedView) (input : StampedView) → IsNumbered (length given) (last_time given) input → is_taken given input.time ≡ true
 taken_by given input h = rw (lt-ltb (length given) (2 ^ 20) h.few, later_is (last_time given) input.time h.later, h.in_range) refl
 
-input_is : (given : List Stamp) (input : Stamp) (event : Event) → IsNumbered (length given) (last_time given) input → input.event ≡ event
-    → input_at given input.time event ≡ Some input
-input_is given input event h is =
-    rw (taken_by given input h) (ap Some (stamp_is (record { number = length given + 1; time = input.time; event = event }) input (sym h.number) refl (sym is)))
+input_is : (given : List StampedView) (input : StampedView) (cause : Cause) → IsNumbered (length given) (last_time given) input → input.cause ≡ cause
+    → input_at given input.time cause ≡ Some input
+input_is given input cause h is =
+    rw (taken_by given input h) (ap Some (stamp_is (record { number = length given + 1; time = input.time; cause = cause }) input (sym h.number) refl (sym is)))
 
-asks_for : (given : List Stamp) (line : List ℕ) (time : Option ℤ) (p : Option Pointing) → clock_time line ≡ time → pointed line ≡ p
+asks_for : (given : List StampedView) (line : List ℕ) (time : Option ℤ) (p : Option PointerView) → clock_time line ≡ time → pointed line ≡ p
     → next_input given line ≡ asked given time p
 unfolding next_input
 asks_for given line time p at_time at_point = rw (at_time, at_point) refl
 
-next_only : (given : List Stamp) (line : List ℕ) (input : Stamp) → IsJobStep (length given) (last_time given) line input → next_input given line ≡ Some input
+next_only : (given : List StampedView) (line : List ℕ) (input : StampedView) → IsJobStep (length given) (last_time given) line input → next_input given line ≡ Some input
 next_only given line input h = elim h.says [
-  | inl c ↦ asks_for given line (Some input.time) (pointed line) (clock_is line input c) refl ∙ input_is given input Clock h.numbered c.event
+  | inl c ↦ asks_for given line (Some input.time) (pointed line) (clock_is line input c) refl ∙ input_is given input Clock h.numbered c.cause
   | inr p ↦
       asks_for given line None (Some p.pointing) (no_clock line _ p.words.words) (pointed_only line p.pointing p.words)
-      ∙ ap (λ t. input_at given t (Pointer p.pointing)) (sym p.time) ∙ input_is given input (Pointer p.pointing) h.numbered p.event
+      ∙ ap (λ t. input_at given t (Pointer p.pointing)) (sym p.time) ∙ input_is given input (Pointer p.pointing) h.numbered p.cause
 ]
 
 -- ---- the steps
@@ -153,7 +153,7 @@ scene_points_none : pointed (codes "scene") ≡ None
 unfolding pointed
 scene_points_none = refl
 
-no_scene : (given : ℕ) (before : ℤ) (line : List ℕ) (input : Stamp) → IsJobStep given before line input → is_scene line ≡ false
+no_scene : (given : ℕ) (before : ℤ) (line : List ℕ) (input : StampedView) → IsJobStep given before line input → is_scene line ≡ false
 no_scene given before line input h = elim (cases_Bool (is_scene line)) [
   | inl scene ↦
       let is : line ≡ codes "scene" = same_text line (codes "scene") (sym scene) in
@@ -173,7 +173,7 @@ record AreBefore (all steps : List (List ℕ)) : Type 0 where
   before : before_first is_scene all ≡ steps
   there : list_any is_scene all ≡ true
 
-before_scene : (given : ℕ) (before : ℤ) (steps rest : List (List ℕ)) (inputs : List Stamp) → AreSteps given before steps inputs
+before_scene : (given : ℕ) (before : ℤ) (steps rest : List (List ℕ)) (inputs : List StampedView) → AreSteps given before steps inputs
     → AreBefore (steps ++ codes "scene" ∷ rest) steps
 before_scene given before [] rest inputs h = record {
   before = before-cons_yes is_scene (codes "scene") rest refl;
@@ -189,7 +189,7 @@ before_scene given before (line ∷ steps) rest (input ∷ inputs) h =
       there = any-cons_no is_scene line all other ∙ more.there;
     }
 
-inputs_only : (given : List Stamp) (steps : List (List ℕ)) (inputs : List Stamp) → AreSteps (length given) (last_time given) steps inputs
+inputs_only : (given : List StampedView) (steps : List (List ℕ)) (inputs : List StampedView) → AreSteps (length given) (last_time given) steps inputs
     → fold with_line (Ok given) steps ≡ Ok (given ++ inputs)
 inputs_only given [] [] h = ap Ok (sym (append-nil given))
 inputs_only given [] (input ∷ inputs) h = absurd h
@@ -201,7 +201,7 @@ inputs_only given (line ∷ steps) (input ∷ inputs) h =
     ap (λ o. fold with_line (with_next given o) steps) next
     ∙ inputs_only (given ++ input ∷ []) steps inputs more ∙ ap Ok (append_assoc given (input ∷ []) inputs)
 
-begins : (steps : List (List ℕ)) (inputs : List Stamp) → AreSteps 0 (pos 0) steps inputs → AreSteps (length {A = Stamp} []) (last_time []) steps inputs
+begins : (steps : List (List ℕ)) (inputs : List StampedView) → AreSteps 0 (pos 0) steps inputs → AreSteps (length {A = StampedView} []) (last_time []) steps inputs
 unfolding last_time
 begins steps inputs h = h
 
@@ -215,5 +215,5 @@ answered bytes all steps job are b inputs scene = rw (are, b.before, b.there, in
 pub only : (bytes : List ℕ) (job : Lined) → IsJob bytes job → job_lines bytes ≡ Ok job
 only bytes job h =
     let all : List (List ℕ) = h.steps ++ codes "scene" ∷ h.rest in
-    let start : AreSteps (length {A = Stamp} []) (last_time []) h.steps job.inputs = begins h.steps job.inputs h.each in
+    let start : AreSteps (length {A = StampedView} []) (last_time []) h.steps job.inputs = begins h.steps job.inputs h.each in
     answered bytes all h.steps job h.lines (before_scene 0 (pos 0) h.steps h.rest job.inputs h.each) (inputs_only [] h.steps job.inputs start) h.scene

@@ -23,7 +23,7 @@ use Rattle.share_jobs.specs.declared.schedule.Schedule.{Schedule}
 use Rattle.share_jobs.specs.Job.{is_scene, behind_lines}
 use Rattle.share_jobs.specs.Points.{word, behind, number_below, vector_of}
 use Rattle.share_jobs.specs.Schedule.{number, clock_step, given, give_step, paired, two_numbers, rewound, rewind_step, point_of, offered, offer_step}
-use Rattle.share_jobs.specs.Schedule.{host_step, viewer_step, piece_step, step_of, steps_of, with_step, with_bytes, schedule_lines, spaced, IsCall, IsClockAt, IsGivenHost, IsOffer, IsStep, EachIsStep, IsSchedule}
+use Rattle.share_jobs.specs.Schedule.{host_step, viewer_step, piece_step, step_of, steps_of, with_step, with_bytes, schedule_lines, spaced, IsCall, IsClockAt, IsGivenHost, IsOffer, IsStepLine, EachIsStep, IsSchedule}
 use Rattle.share_jobs.proofs.ScheduleLemmas.{of_line}
 use Rattle.share_jobs.proofs.SpaceLemmas.{Spaceless, word_is, behind_is, numeral_is}
 use Rattle.share_jobs.proofs.OnlyNumbers.{number_is, vector_is, one_is, first_of, last_of, two_of}
@@ -217,7 +217,7 @@ notice_at : step_of (codes "notice") ≡ Some HostFloorPacket
 unfolding step_of
 notice_at = refl
 
-step_only : (line : List ℕ) (s : Step) → IsStep line s → step_of line ≡ Some s
+step_only : (line : List ℕ) (s : Step) → IsStepLine line s → step_of line ≡ Some s
 step_only line (HostClock t) h = clock_only line t h
 step_only line (HostPacket n) h = by_one line (codes "packet") n (HostPacket n) (λ text e. packet_at text n e) h
 step_only line (HostAck v) h = by_one line (codes "ack") v (HostAck v) (λ text e. ack_at text v e) h
@@ -235,7 +235,7 @@ step_only line (ViewerGather v p) h = by_two line (codes "gather") p v (ViewerGa
 step_only line (ViewerJoin v b) h = by_two line (codes "join") v b (ViewerJoin v b) (λ text e. join_at text v b e) h
 step_only line (ViewerForget v) h = by_one line (codes "forget") v (ViewerForget v) (λ text e. forget_at text v e) h
 
-pub one_step : (line : List ℕ) (a b : Step) → IsStep line a → IsStep line b → a ≡ b
+pub one_step : (line : List ℕ) (a b : Step) → IsStepLine line a → IsStepLine line b → a ≡ b
 one_step line a b h k = let both : Some a ≡ Some b = sym (step_only line a h) ∙ step_only line b k in cc
 
 -- ---- the whole

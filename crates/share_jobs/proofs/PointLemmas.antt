@@ -9,7 +9,7 @@ use Rattle.std.specs.Cmp.Lexicographic.{same_text}
 use Rattle.std.proofs.lemmas.Bool.{cases_Bool, ltb-true}
 use Rattle.x3d_numerals.specs.Reading.{is_digits, numeral, answered, parts_of, unsigned_of, hexadecimal_of, decimal_of, decimal_behind, decimal_with, exponent_of, behind_fraction, fraction_of, behind_sign, sign_of}
 use Rattle.x3d_numerals.proofs.Numerals.{numeral_sound}
-use Rattle.x3d_values.specs.Pointing.{Pointing, Sight, is_ray}
+use Rattle.x3d_values.specs.Pointing.{PointerView, RayView, is_ray}
 use Rattle.x3d_values.specs.Ranges.{max_viewers}
 use Rattle.x3d_values.specs.declared.vector.Vec3.{Vec3}
 use Rattle.share_jobs.specs.Points.{is_space, word, behind, units_below, number_below, vector, vector_of, sight, pointing, sight_of, pointing_of, pointed, IsNumber, AreNumerals, IsPoint}
@@ -122,7 +122,7 @@ vector_from x y z v e = vector_by x y z v (result_ok (numeral x)) (result_ok (nu
 -- ---- the ray
 
 -- six words, which spaces part
-record IsSight (text : List ℕ) (s : Sight) : Type 0 where
+record IsSight (text : List ℕ) (s : RayView) : Type 0 where
   ox : List ℕ
   oy : List ℕ
   oz : List ℕ
@@ -135,12 +135,12 @@ record IsSight (text : List ℕ) (s : Sight) : Type 0 where
   ray : is_ray s ≡ true
   filled : 0 < length text
 
-record IsSeen (origin dir : Option Vec3) (s : Sight) : Type 0 where
+record IsSeen (origin dir : Option Vec3) (s : RayView) : Type 0 where
   origin_is : origin ≡ Some s.origin
   dir_is : dir ≡ Some s.dir
   ray : is_ray s ≡ true
 
-seen_from : (origin dir : Option Vec3) (s : Sight) → sight origin dir ≡ Some s → IsSeen origin dir s
+seen_from : (origin dir : Option Vec3) (s : RayView) → sight origin dir ≡ Some s → IsSeen origin dir s
 seen_from None dir s e = absurd (cc)
 seen_from (Some o) None s e = absurd (cc)
 seen_from (Some o) (Some d) s e = elim (cases_Bool (is_ray (record { origin = o; dir = d }))) [
@@ -148,14 +148,14 @@ seen_from (Some o) (Some d) s e = elim (cases_Bool (is_ray (record { origin = o;
       let some = rw is at e in
       let same : record { origin = o; dir = d } ≡ s = cc in
       record {
-        origin_is = ap (λ (u : Sight). Some u.origin) same;
-        dir_is = ap (λ (u : Sight). Some u.dir) same;
-        ray = ap (λ (u : Sight). is_ray u) (sym same) ∙ is;
+        origin_is = ap (λ (u : RayView). Some u.origin) same;
+        dir_is = ap (λ (u : RayView). Some u.dir) same;
+        ray = ap (λ (u : RayView). is_ray u) (sym same) ∙ is;
       }
   | inr other ↦ let none = rw other at e in absurd (cc)
 ]
 
-sight_from : (text : List ℕ) (s : Sight) → sight_of text ≡ Some s → IsSight text s
+sight_from : (text : List ℕ) (s : RayView) → sight_of text ≡ Some s → IsSight text s
 unfolding sight_of
 sight_from text s e =
     let y : List ℕ = behind text in
@@ -192,14 +192,14 @@ sight_from text s e =
 
 -- ---- the line
 
-record IsPointing (who down : Option ℕ) (ray : Option Sight) (p : Pointing) : Type 0 where
+record IsPointing (who down : Option ℕ) (ray : Option RayView) (p : PointerView) : Type 0 where
   n : ℕ
   who_is : who ≡ Some p.who
   down_is : down ≡ Some n
   button : p.down ≡ (n == 1)
   ray_is : ray ≡ Some p.ray
 
-pointing_by : (who down : Option ℕ) (ray : Option Sight) (p : Pointing) → pointing who down ray ≡ Some p → IsPointing who down ray p
+pointing_by : (who down : Option ℕ) (ray : Option RayView) (p : PointerView) → pointing who down ray ≡ Some p → IsPointing who down ray p
 pointing_by None down ray p e = absurd (cc)
 pointing_by (Some w) None ray p e = absurd (cc)
 pointing_by (Some w) (Some d) None p e = absurd (cc)
@@ -207,10 +207,10 @@ pointing_by (Some w) (Some d) (Some r) p e =
     let same : record { who = w; down = d == 1; ray = r } ≡ p = cc in
     record {
       n = d;
-      who_is = ap (λ (u : Pointing). Some u.who) same;
+      who_is = ap (λ (u : PointerView). Some u.who) same;
       down_is = refl;
-      button = sym (ap (λ (u : Pointing). u.down) same);
-      ray_is = ap (λ (u : Pointing). Some u.ray) same;
+      button = sym (ap (λ (u : PointerView). u.down) same);
+      ray_is = ap (λ (u : PointerView). Some u.ray) same;
     }
 
 -- 0 or 1
@@ -219,7 +219,7 @@ bit zero h = refl
 bit (suc zero) h = refl
 bit (suc (suc n)) h = absurd (omega (arith, ltb-true (suc (suc n)) 2 h))
 
-words_from : (text line : List ℕ) (p : Pointing) → line ≡ codes "point " ++ text → pointing_of text ≡ Some p → IsPoint line p
+words_from : (text line : List ℕ) (p : PointerView) → line ≡ codes "point " ++ text → pointing_of text ≡ Some p → IsPoint line p
 unfolding pointing_of
 words_from text line p whole e =
     let a : List ℕ = behind text in
@@ -249,7 +249,7 @@ words_from text line p whole e =
       is_ray = s.ray;
     }
 
-pub point_from : (line : List ℕ) (p : Pointing) → pointed line ≡ Some p → IsPoint line p
+pub point_from : (line : List ℕ) (p : PointerView) → pointed line ≡ Some p → IsPoint line p
 unfolding pointed
 point_from line p e = elim (cases_Bool (bytes_eq (take 6 line) (codes "point "))) [
   | inl passes ↦

@@ -19,13 +19,13 @@ use Rattle.share_law.specs.declared.step.Step.TheVariants.{HostDropBelow, HostFl
 use Rattle.share_law.specs.declared.step.Step.TheVariants.{PiecePacket, ViewerGather, ViewerJoin, ViewerForget}
 use Rattle.share_jobs.specs.Points.{word, behind, number_below, vector_of, IsNumber, AreNumerals}
 use Rattle.share_jobs.specs.Schedule.{number, clock_step, given, give_step, paired, two_numbers, rewound, rewind_step, point, point_of, offered, offer_step}
-use Rattle.share_jobs.specs.Schedule.{host_step, viewer_step, piece_step, named_step, step_of, spaced, IsCall, IsClockAt, IsGivenHost, IsOffer, IsStep}
+use Rattle.share_jobs.specs.Schedule.{host_step, viewer_step, piece_step, named_step, step_of, spaced, IsCall, IsClockAt, IsGivenHost, IsOffer, IsStepLine}
 use Rattle.share_jobs.proofs.PointLemmas.{cut_word, word_filled, ok_from, numeral_filled, number_from, vector_from, bit}
 use Rattle.share_jobs.proofs.WrittenNumbers.{mapped, AreWritten, one_from, written_one, written_more, named, called, called_by}
 
 -- ---- steps of the host
 
-clock_from : (line : List ℕ) (s : Step) → bytes_eq (word line) (codes "clock") ≡ true → clock_step (behind line) ≡ Some s → IsStep line s
+clock_from : (line : List ℕ) (s : Step) → bytes_eq (word line) (codes "clock") ≡ true → clock_step (behind line) ≡ Some s → IsStepLine line s
 unfolding clock_step
 clock_from line s is e =
     let m = mapped (λ t. HostClock t) (result_ok (numeral (behind line))) s e in
@@ -33,10 +33,10 @@ clock_from line s is e =
     let filled : 0 < length (behind line) = numeral_filled (behind line) m.value read in
     let clock : IsClockAt line m.value =
     record { text = behind line; words = named line (codes "clock") (behind line) is filled refl; time = numeral_sound (behind line) m.value read } in
-    subst (λ s. IsStep line s) m.same clock
+    subst (λ s. IsStepLine line s) m.same clock
 
 given_from : (line text : List ℕ) (p : Option ℕ) (s : Step) → bytes_eq (word line) (codes "give") ≡ true → text ≡ behind line
-    → number (word text) ≡ p → given p (behind text) ≡ Some s → IsStep line s
+    → number (word text) ≡ p → given p (behind text) ≡ Some s → IsStepLine line s
 given_from line text None s is at_text number_is e = absurd (cc)
 given_from line text (Some p) s is at_text number_is e = elim (cases_Bool (bytes_eq (behind text) (codes "host"))) [
   | inl host ↦
@@ -49,19 +49,19 @@ given_from line text (Some p) s is at_text number_is e = elim (cases_Bool (bytes
       let filled : 0 < length (behind line) = rw (← at_text) (word_filled text one.filled) in
       let host : IsGivenHost line p =
       record { text = word text; words = named line (codes "give") (word text ++ (32 ∷ codes "host")) is filled (sym at_text ∙ words); number = one.numbers } in
-      subst (λ s. IsStep line s) same host
+      subst (λ s. IsStepLine line s) same host
   | inr other ↦
       let rest = rw other at e in
       let m = mapped (λ viewer. ViewerTake viewer p) (number (behind text)) s rest in
       let w : AreWritten text (p ∷ m.value ∷ []) = written_more text p (m.value ∷ []) number_is (written_one (behind text) m.value m.is) in
-      subst (λ s. IsStep line s) m.same (called_by line text (codes "give") (p ∷ m.value ∷ []) is at_text w)
+      subst (λ s. IsStepLine line s) m.same (called_by line text (codes "give") (p ∷ m.value ∷ []) is at_text w)
 ]
 
-give_from : (line : List ℕ) (s : Step) → bytes_eq (word line) (codes "give") ≡ true → give_step (behind line) ≡ Some s → IsStep line s
+give_from : (line : List ℕ) (s : Step) → bytes_eq (word line) (codes "give") ≡ true → give_step (behind line) ≡ Some s → IsStepLine line s
 unfolding give_step
 give_from line s is e = given_from line (behind line) (number (word (behind line))) s is refl refl e
 
-host_from : (line : List ℕ) (s : Step) → host_step (word line) (behind line) ≡ Some s → IsStep line s
+host_from : (line : List ℕ) (s : Step) → host_step (word line) (behind line) ≡ Some s → IsStepLine line s
 unfolding host_step
 host_from line s e = elim (cases_Bool (bytes_eq (word line) (codes "clock"))) [
   | inl clock ↦ clock_from line s clock (rw clock at e)
@@ -70,13 +70,13 @@ host_from line s e = elim (cases_Bool (bytes_eq (word line) (codes "clock"))) [
       elim (cases_Bool (bytes_eq (word line) (codes "packet"))) [
         | inl packet ↦
             let m = mapped (λ n. HostPacket n) (number (behind line)) s (rw packet at e) in
-            subst (λ s. IsStep line s) m.same (called line (codes "packet") (m.value ∷ []) packet (written_one (behind line) m.value m.is))
+            subst (λ s. IsStepLine line s) m.same (called line (codes "packet") (m.value ∷ []) packet (written_one (behind line) m.value m.is))
         | inr no_packet ↦
             let e = rw no_packet at e in
             elim (cases_Bool (bytes_eq (word line) (codes "ack"))) [
               | inl ack ↦
                   let m = mapped (λ v. HostAck v) (number (behind line)) s (rw ack at e) in
-                  subst (λ s. IsStep line s) m.same (called line (codes "ack") (m.value ∷ []) ack (written_one (behind line) m.value m.is))
+                  subst (λ s. IsStepLine line s) m.same (called line (codes "ack") (m.value ∷ []) ack (written_one (behind line) m.value m.is))
               | inr no_ack ↦
                   let e = rw no_ack at e in
                   elim (cases_Bool (bytes_eq (word line) (codes "give"))) [
@@ -86,7 +86,7 @@ host_from line s e = elim (cases_Bool (bytes_eq (word line) (codes "clock"))) [
                         elim (cases_Bool (bytes_eq (word line) (codes "floor"))) [
                           | inl floor ↦
                               let m = mapped (λ f. HostDropBelow f) (number (behind line)) s (rw floor at e) in
-                              subst (λ s. IsStep line s) m.same (called line (codes "floor") (m.value ∷ []) floor (written_one (behind line) m.value m.is))
+                              subst (λ s. IsStepLine line s) m.same (called line (codes "floor") (m.value ∷ []) floor (written_one (behind line) m.value m.is))
                           | inr no_floor ↦ let none = rw no_floor at e in absurd (cc)
                         ]
                   ]
@@ -108,14 +108,14 @@ unfolding two_numbers
 written_two text p e = paired_from text (number (word text)) (number (behind text)) p refl refl e
 
 -- the step that two numbers behind a name make
-two_from : (line name : List ℕ) (make : ℕ × ℕ → Step) (s : Step) → ((p : ℕ × ℕ) → IsCall line name (p.0 ∷ p.1 ∷ []) → IsStep line (make p))
-    → bytes_eq (word line) name ≡ true → option_map make (two_numbers (behind line)) ≡ Some s → IsStep line s
+two_from : (line name : List ℕ) (make : ℕ × ℕ → Step) (s : Step) → ((p : ℕ × ℕ) → IsCall line name (p.0 ∷ p.1 ∷ []) → IsStepLine line (make p))
+    → bytes_eq (word line) name ≡ true → option_map make (two_numbers (behind line)) ≡ Some s → IsStepLine line s
 two_from line name make s is_step is e =
     let m = mapped make (two_numbers (behind line)) s e in
-    subst (λ s. IsStep line s) m.same (is_step m.value (called line name (m.value.0 ∷ m.value.1 ∷ []) is (written_two (behind line) m.value m.is)))
+    subst (λ s. IsStepLine line s) m.same (is_step m.value (called line name (m.value.0 ∷ m.value.1 ∷ []) is (written_two (behind line) m.value m.is)))
 
 rewound_from : (line text rest : List ℕ) (v n b : Option ℕ) (s : Step) → bytes_eq (word line) (codes "rewind") ≡ true → text ≡ behind line
-    → rest ≡ behind text → number (word text) ≡ v → number (word rest) ≡ n → number (behind rest) ≡ b → rewound v n b ≡ Some s → IsStep line s
+    → rest ≡ behind text → number (word text) ≡ v → number (word rest) ≡ n → number (behind rest) ≡ b → rewound v n b ≡ Some s → IsStepLine line s
 rewound_from line text rest None n b s is at_text at_rest v_is n_is b_is e = absurd (cc)
 rewound_from line text rest (Some v) None b s is at_text at_rest v_is n_is b_is e = absurd (cc)
 rewound_from line text rest (Some v) (Some n) None s is at_text at_rest v_is n_is b_is e = absurd (cc)
@@ -123,9 +123,9 @@ rewound_from line text rest (Some v) (Some n) (Some b) s is at_text at_rest v_is
     let same : ViewerRewind v n b ≡ s = cc in
     let two : AreWritten rest (n ∷ b ∷ []) = written_more rest n (b ∷ []) n_is (written_one (behind rest) b b_is) in
     let three : AreWritten text (v ∷ n ∷ b ∷ []) = written_more text v (n ∷ b ∷ []) v_is (rw at_rest at two) in
-    subst (λ s. IsStep line s) same (called_by line text (codes "rewind") (v ∷ n ∷ b ∷ []) is at_text three)
+    subst (λ s. IsStepLine line s) same (called_by line text (codes "rewind") (v ∷ n ∷ b ∷ []) is at_text three)
 
-rewind_from : (line : List ℕ) (s : Step) → bytes_eq (word line) (codes "rewind") ≡ true → rewind_step (behind line) ≡ Some s → IsStep line s
+rewind_from : (line : List ℕ) (s : Step) → bytes_eq (word line) (codes "rewind") ≡ true → rewind_step (behind line) ≡ Some s → IsStepLine line s
 unfolding rewind_step
 rewind_from line s is e =
     let text : List ℕ = behind line in
@@ -206,7 +206,7 @@ point_from text p e =
     }
 
 offered_from : (line text : List ℕ) (v : Option ℕ) (p : Option Point) (s : Step) → bytes_eq (word line) (codes "offer") ≡ true → text ≡ behind line
-    → number (word text) ≡ v → point_of (behind text) ≡ p → offered v p ≡ Some s → IsStep line s
+    → number (word text) ≡ v → point_of (behind text) ≡ p → offered v p ≡ Some s → IsStepLine line s
 offered_from line text None p s is at_text v_is p_is e = absurd (cc)
 offered_from line text (Some v) None s is at_text v_is p_is e = absurd (cc)
 offered_from line text (Some v) (Some p) s is at_text v_is p_is e =
@@ -231,13 +231,13 @@ offered_from line text (Some v) (Some p) s is at_text v_is p_is e =
       origin = w.origin;
       direction = w.direction;
     } in
-    subst (λ s. IsStep line s) same offer
+    subst (λ s. IsStepLine line s) same offer
 
-offer_from : (line : List ℕ) (s : Step) → bytes_eq (word line) (codes "offer") ≡ true → offer_step (behind line) ≡ Some s → IsStep line s
+offer_from : (line : List ℕ) (s : Step) → bytes_eq (word line) (codes "offer") ≡ true → offer_step (behind line) ≡ Some s → IsStepLine line s
 unfolding offer_step
 offer_from line s is e = offered_from line (behind line) (number (word (behind line))) (point_of (behind (behind line))) s is refl refl refl e
 
-viewer_from : (line : List ℕ) (s : Step) → viewer_step (word line) (behind line) ≡ Some s → IsStep line s
+viewer_from : (line : List ℕ) (s : Step) → viewer_step (word line) (behind line) ≡ Some s → IsStepLine line s
 unfolding viewer_step
 viewer_from line s e = elim (cases_Bool (bytes_eq (word line) (codes "offer"))) [
   | inl offer ↦ offer_from line s offer (rw offer at e)
@@ -250,13 +250,13 @@ viewer_from line s e = elim (cases_Bool (bytes_eq (word line) (codes "offer"))) 
             elim (cases_Bool (bytes_eq (word line) (codes "ask"))) [
               | inl ask ↦
                   let m = mapped (λ v. ViewerAsk v) (number (behind line)) s (rw ask at e) in
-                  subst (λ s. IsStep line s) m.same (called line (codes "ask") (m.value ∷ []) ask (written_one (behind line) m.value m.is))
+                  subst (λ s. IsStepLine line s) m.same (called line (codes "ask") (m.value ∷ []) ask (written_one (behind line) m.value m.is))
               | inr no_ask ↦
                   let e = rw no_ask at e in
                   elim (cases_Bool (bytes_eq (word line) (codes "save"))) [
                     | inl save ↦
                         let m = mapped (λ v. ViewerSave v) (number (behind line)) s (rw save at e) in
-                        subst (λ s. IsStep line s) m.same (called line (codes "save") (m.value ∷ []) save (written_one (behind line) m.value m.is))
+                        subst (λ s. IsStepLine line s) m.same (called line (codes "save") (m.value ∷ []) save (written_one (behind line) m.value m.is))
                     | inr no_save ↦
                         let e = rw no_save at e in
                         elim (cases_Bool (bytes_eq (word line) (codes "rewind"))) [
@@ -271,10 +271,10 @@ viewer_from line s e = elim (cases_Bool (bytes_eq (word line) (codes "offer"))) 
 -- ---- pieces
 
 -- of `gather P V` the packet stands first
-gather_from : (line : List ℕ) (s : Step) → bytes_eq (word line) (codes "gather") ≡ true → option_map (λ p. ViewerGather p.1 p.0) (two_numbers (behind line)) ≡ Some s → IsStep line s
+gather_from : (line : List ℕ) (s : Step) → bytes_eq (word line) (codes "gather") ≡ true → option_map (λ p. ViewerGather p.1 p.0) (two_numbers (behind line)) ≡ Some s → IsStepLine line s
 gather_from line s is e = two_from line (codes "gather") (λ p. ViewerGather p.1 p.0) s (λ p c. c) is e
 
-piece_from : (line : List ℕ) (s : Step) → piece_step (word line) (behind line) ≡ Some s → IsStep line s
+piece_from : (line : List ℕ) (s : Step) → piece_step (word line) (behind line) ≡ Some s → IsStepLine line s
 unfolding piece_step
 piece_from line s e = elim (cases_Bool (bytes_eq (word line) (codes "piece"))) [
   | inl piece ↦ two_from line (codes "piece") (λ p. PiecePacket p.0 p.1) s (λ p c. c) piece (rw piece at e)
@@ -291,7 +291,7 @@ piece_from line s e = elim (cases_Bool (bytes_eq (word line) (codes "piece"))) [
                   elim (cases_Bool (bytes_eq (word line) (codes "forget"))) [
                     | inl forget ↦
                         let m = mapped (λ v. ViewerForget v) (number (behind line)) s (rw forget at e) in
-                        subst (λ s. IsStep line s) m.same (called line (codes "forget") (m.value ∷ []) forget (written_one (behind line) m.value m.is))
+                        subst (λ s. IsStepLine line s) m.same (called line (codes "forget") (m.value ∷ []) forget (written_one (behind line) m.value m.is))
                     | inr no_forget ↦ let none = rw no_forget at e in absurd (cc)
                   ]
             ]
@@ -301,21 +301,21 @@ piece_from line s e = elim (cases_Bool (bytes_eq (word line) (codes "piece"))) [
 -- ---- the line
 
 step_by : (line : List ℕ) (s : Step) (host viewer piece : Option Step) → host_step (word line) (behind line) ≡ host → viewer_step (word line) (behind line) ≡ viewer
-    → piece_step (word line) (behind line) ≡ piece → option_or host (option_or viewer piece) ≡ Some s → IsStep line s
+    → piece_step (word line) (behind line) ≡ piece → option_or host (option_or viewer piece) ≡ Some s → IsStepLine line s
 step_by line s (Some h) viewer piece at_host at_viewer at_piece e = host_from line s (at_host ∙ e)
 step_by line s None (Some v) piece at_host at_viewer at_piece e = viewer_from line s (at_viewer ∙ e)
 step_by line s None None piece at_host at_viewer at_piece e = piece_from line s (at_piece ∙ e)
 
-named_from : (line : List ℕ) (s : Step) → named_step (word line) (behind line) ≡ Some s → IsStep line s
+named_from : (line : List ℕ) (s : Step) → named_step (word line) (behind line) ≡ Some s → IsStepLine line s
 named_from line s e = step_by line s (host_step (word line) (behind line)) (viewer_step (word line) (behind line)) (piece_step (word line) (behind line)) refl refl refl e
 
-pub step_is : (line : List ℕ) (s : Step) → step_of line ≡ Some s → IsStep line s
+pub step_is : (line : List ℕ) (s : Step) → step_of line ≡ Some s → IsStepLine line s
 unfolding step_of
 step_is line s e = elim (cases_Bool (bytes_eq line (codes "notice"))) [
   | inl notice ↦
       let some = rw notice at e in
       let same : HostFloorPacket ≡ s = cc in
-      let floor : IsStep line HostFloorPacket = same_text line (codes "notice") (sym notice) in
-      subst (λ s. IsStep line s) same floor
+      let floor : IsStepLine line HostFloorPacket = same_text line (codes "notice") (sym notice) in
+      subst (λ s. IsStepLine line s) same floor
   | inr named ↦ named_from line s (rw named at e)
 ]

@@ -9,10 +9,10 @@ use Rattle.std.specs.Str.Lines.{lines}
 use Rattle.x3d_numerals.specs.Numeral.{IsNumeral}
 use Rattle.x3d_numerals.specs.Reading.{numeral}
 use Rattle.x3d_values.specs.Ranges.{is_input_time}
-use Rattle.x3d_values.specs.Stamp.{Stamp}
-use Rattle.x3d_values.specs.Pointing.{Pointing}
-use Rattle.x3d_values.specs.declared.stamped.Event.{Event}
-use Rattle.x3d_values.specs.declared.stamped.Event.TheVariants.{Clock, Pointer}
+use Rattle.x3d_values.specs.Stamp.{StampedView}
+use Rattle.x3d_values.specs.Pointing.{PointerView}
+use Rattle.x3d_values.specs.declared.stamped.Cause.{Cause}
+use Rattle.x3d_values.specs.declared.stamped.Cause.TheVariants.{Clock, Pointer}
 use Rattle.share_jobs.specs.declared.fault.JobFault.{JobFault}
 use Rattle.share_jobs.specs.declared.fault.JobFault.TheVariants.{BadJob}
 use Rattle.share_rules.specs.Lines.{is_lf}
@@ -26,46 +26,47 @@ clock_time line = if bytes_eq (take 6 line) (codes "clock ") then result_ok (num
     else None
 
 -- the time of the last input, at first 0
-unfoldable pub last_time : List Stamp → ℤ
+unfoldable pub last_time : List StampedView → ℤ
 last_time inputs = option_map_or (λ s. s.time) (slice_get inputs (length inputs - 1)) (pos 0)
 
 -- a host numbers an input of this time behind these: there are less than 2^20, and the time is in
 -- range and later
-abbrev pub is_taken : List Stamp → ℤ → Bool
+abbrev pub is_taken : List StampedView → ℤ → Bool
 is_taken inputs t =
     nat_lt (length inputs) (2 ^ 20) && (int_lt (last_time inputs) t && is_input_time t)
 
 -- what happens at a time behind these, where a host numbers it
-abbrev pub input_at : List Stamp → ℤ → Event → Option Stamp
-input_at inputs t event =
+abbrev pub input_at : List StampedView → ℤ → Cause → Option StampedView
+input_at inputs t cause =
     if is_taken inputs t
-    then Some (record { number = length inputs + 1; time = t; event = event })
+    then Some (record { number = length inputs + 1; time = t; cause = cause })
     else None
 
 -- a clock has its own time; a viewer points one microsecond after the last input
-abbrev pub asked : List Stamp → Option ℤ → Option Pointing → Option Stamp
+abbrev pub asked : List StampedView → Option ℤ → Option PointerView → Option StampedView
 asked inputs (Some t) p = input_at inputs t Clock
 asked inputs None (Some p) = input_at inputs (last_time inputs +ℤ pos 1) (Pointer p)
 asked inputs None None = None
 
 -- the input that a line asks for behind these
-unfoldable pub next_input : List Stamp → List ℕ → Option Stamp
+unfoldable pub next_input : List StampedView → List ℕ → Option StampedView
 next_input inputs line = asked inputs (clock_time line) (pointed line)
 
 -- ---- the steps
 
 -- the inputs with the next one, or the line that isn't one: each line adds an input, so it is the
 -- line of the next number
-abbrev pub with_next : List Stamp → Option Stamp → Result (List Stamp) JobFault
+abbrev pub with_next : List StampedView → Option StampedView → Result (List StampedView) JobFault
 with_next inputs None = Err (BadJob (length inputs + 1))
 with_next inputs (Some input) = Ok (inputs ++ input ∷ [])
 
-abbrev pub with_line : Result (List Stamp) JobFault → List ℕ → Result (List Stamp) JobFault
+abbrev pub with_line : Result (List StampedView) JobFault → List ℕ
+    → Result (List StampedView) JobFault
 with_line (Ok inputs) line = with_next inputs (next_input inputs line)
 with_line (Err fault) line = Err fault
 
 -- the inputs of lines, or the first line that isn't one
-abbrev pub inputs_of : List (List ℕ) → Result (List Stamp) JobFault
+abbrev pub inputs_of : List (List ℕ) → Result (List StampedView) JobFault
 inputs_of all = fold with_line (Ok []) all
 
 -- ---- the job
@@ -75,12 +76,13 @@ is_scene line = bytes_eq line (codes "scene")
 
 -- the inputs of a job, and the bytes of its scene
 pub record Lined : Type 0 where
-  pub inputs : List Stamp
+  pub inputs : List StampedView
   pub scene : List ℕ
 
 -- the job of these inputs and this scene, where there is a line `scene`; else that is missing at
 -- this line
-abbrev pub with_scene : ℕ → Bool → List ℕ → Result (List Stamp) JobFault → Result Lined JobFault
+abbrev pub with_scene : ℕ → Bool → List ℕ → Result (List StampedView) JobFault
+    → Result Lined JobFault
 with_scene line there scene (Ok inputs) =
     if there then Ok (record { inputs = inputs; scene = scene }) else Err (BadJob line)
 with_scene line there scene (Err fault) = Err fault
@@ -100,33 +102,33 @@ job_lines bytes =
 -- ---- what holds of inputs
 
 -- the line is `clock T`, where T is a numeral of seconds that is the input's time in microseconds
-pub record IsClock (line : List ℕ) (input : Stamp) : Type 0 where
+pub record IsClock (line : List ℕ) (input : StampedView) : Type 0 where
   pub text : List ℕ
   pub is : line ≡ codes "clock " ++ text
   pub time : IsNumeral text input.time
-  pub event : input.event ≡ Clock
+  pub cause : input.cause ≡ Clock
 
 -- the line is one by which a viewer points, one microsecond after an input of this time
-pub record IsPointed (before : ℤ) (line : List ℕ) (input : Stamp) : Type 0 where
-  pub pointing : Pointing
+pub record IsPointed (before : ℤ) (line : List ℕ) (input : StampedView) : Type 0 where
+  pub pointing : PointerView
   pub words : IsPoint line pointing
   pub time : input.time ≡ before +ℤ pos 1
-  pub event : input.event ≡ Pointer pointing
+  pub cause : input.cause ≡ Pointer pointing
 
 -- a host numbers it as the input behind so many, of which the last has this time
-pub record IsNumbered (given : ℕ) (before : ℤ) (input : Stamp) : Type 0 where
+pub record IsNumbered (given : ℕ) (before : ℤ) (input : StampedView) : Type 0 where
   pub number : input.number ≡ given + 1
   pub few : given < 2 ^ 20
   pub later : before <ℤ input.time
   pub in_range : is_input_time input.time ≡ true
 
 -- the line is a step behind so many inputs, of which the last has this time, and gives this input
-pub record IsJobStep (given : ℕ) (before : ℤ) (line : List ℕ) (input : Stamp) : Type 0 where
+pub record IsJobStep (given : ℕ) (before : ℤ) (line : List ℕ) (input : StampedView) : Type 0 where
   pub says : IsClock line input ⊎ IsPointed before line input
   pub numbered : IsNumbered given before input
 
 -- each line is a step, and gives one input
-abbrev pub AreSteps : ℕ → ℤ → List (List ℕ) → List Stamp → Type 0
+abbrev pub AreSteps : ℕ → ℤ → List (List ℕ) → List StampedView → Type 0
 AreSteps given before [] [] = ⊤
 AreSteps given before (line ∷ lines) (input ∷ inputs) =
     IsJobStep given before line input × AreSteps (given + 1) input.time lines inputs

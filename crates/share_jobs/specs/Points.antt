@@ -5,7 +5,7 @@ use Rattle.std.specs.Result.{result_ok}
 use Rattle.std.specs.Str.{bytes_eq}
 use Rattle.x3d_numerals.specs.Numeral.{IsNumeral}
 use Rattle.x3d_numerals.specs.Reading.{is_digits, numeral}
-use Rattle.x3d_values.specs.Pointing.{Pointing, Sight, is_ray, ray_of}
+use Rattle.x3d_values.specs.Pointing.{PointerView, RayView, is_ray, ray_of}
 use Rattle.x3d_values.specs.Ranges.{is_viewer, max_viewers}
 use Rattle.x3d_values.specs.declared.vector.Vec3.{Vec3}
 pub use Rattle.share_rules.specs.Words.{is_space}
@@ -37,12 +37,12 @@ vector_of x y z = vector (result_ok (numeral x)) (result_ok (numeral y)) (result
 -- ---- the line
 
 -- a ray, where its coordinates are in their range and its direction isn't 0 0 0
-abbrev pub sight : Option Vec3 → Option Vec3 → Option Sight
+abbrev pub sight : Option Vec3 → Option Vec3 → Option RayView
 sight (Some origin) (Some dir) = ray_of origin dir
 sight (Some origin) None = None
 sight None dir = None
 
-abbrev pub pointing : Option ℕ → Option ℕ → Option Sight → Option Pointing
+abbrev pub pointing : Option ℕ → Option ℕ → Option RayView → Option PointerView
 pointing (Some who) (Some down) (Some ray) =
     Some (record { who = who; down = down == 1; ray = ray })
 pointing (Some who) (Some down) None = None
@@ -50,7 +50,7 @@ pointing (Some who) None ray = None
 pointing None down ray = None
 
 -- the origin is three words, and the direction three more, of which the last ends the text
-unfoldable pub sight_of : List ℕ → Option Sight
+unfoldable pub sight_of : List ℕ → Option RayView
 sight_of text =
     let y = behind text in
     let z = behind y in
@@ -60,13 +60,13 @@ sight_of text =
     (vector_of (word dir) (word dir_y) (behind dir_y))
 
 -- the words behind `point `
-unfoldable pub pointing_of : List ℕ → Option Pointing
+unfoldable pub pointing_of : List ℕ → Option PointerView
 pointing_of text =
     pointing (number_below max_viewers (word text)) (number_below 2 (word (behind text)))
     (sight_of (behind (behind text)))
 
 -- what a line points with, where it begins with `point `
-unfoldable pub pointed : List ℕ → Option Pointing
+unfoldable pub pointed : List ℕ → Option PointerView
 pointed line = if bytes_eq (take 6 line) (codes "point ") then pointing_of (drop 6 line) else None
 
 -- ---- what holds of a line
@@ -85,7 +85,7 @@ pub record AreNumerals (x y z : List ℕ) (v : Vec3) : Type 0 where
   pub z_is : IsNumeral z v.z
 
 -- the words of a line, which single spaces part, and what they stand for
-pub record IsPoint (line : List ℕ) (p : Pointing) : Type 0 where
+pub record IsPoint (line : List ℕ) (p : PointerView) : Type 0 where
   pub who : List ℕ
   pub down : List ℕ
   pub ox : List ℕ

@@ -213,29 +213,29 @@ pub record IsOffer (line : List ℕ) (viewer : ℕ) (p : Point) : Type 0 where
   pub direction : AreNumerals dx dy dz p.dir
 
 -- the line is the step
-abbrev pub IsStep : List ℕ → Step → Type 0
-IsStep line (HostClock t) = IsClockAt line t
-IsStep line (HostPacket input) = IsCall line (codes "packet") (input ∷ [])
-IsStep line (HostAck viewer) = IsCall line (codes "ack") (viewer ∷ [])
-IsStep line (HostTake packet) = IsGivenHost line packet
-IsStep line (HostDropBelow floor) = IsCall line (codes "floor") (floor ∷ [])
-IsStep line HostFloorPacket = line ≡ codes "notice"
-IsStep line (ViewerOffer viewer point) = IsOffer line viewer point
-IsStep line (ViewerResend viewer place) = IsCall line (codes "resend") (viewer ∷ place ∷ [])
-IsStep line (ViewerAsk viewer) = IsCall line (codes "ask") (viewer ∷ [])
-IsStep line (ViewerTake viewer packet) = IsCall line (codes "give") (packet ∷ viewer ∷ [])
-IsStep line (ViewerSave viewer) = IsCall line (codes "save") (viewer ∷ [])
-IsStep line (ViewerRewind viewer snapshot boot) =
+abbrev pub IsStepLine : List ℕ → Step → Type 0
+IsStepLine line (HostClock t) = IsClockAt line t
+IsStepLine line (HostPacket input) = IsCall line (codes "packet") (input ∷ [])
+IsStepLine line (HostAck viewer) = IsCall line (codes "ack") (viewer ∷ [])
+IsStepLine line (HostTake packet) = IsGivenHost line packet
+IsStepLine line (HostDropBelow floor) = IsCall line (codes "floor") (floor ∷ [])
+IsStepLine line HostFloorPacket = line ≡ codes "notice"
+IsStepLine line (ViewerOffer viewer point) = IsOffer line viewer point
+IsStepLine line (ViewerResend viewer place) = IsCall line (codes "resend") (viewer ∷ place ∷ [])
+IsStepLine line (ViewerAsk viewer) = IsCall line (codes "ask") (viewer ∷ [])
+IsStepLine line (ViewerTake viewer packet) = IsCall line (codes "give") (packet ∷ viewer ∷ [])
+IsStepLine line (ViewerSave viewer) = IsCall line (codes "save") (viewer ∷ [])
+IsStepLine line (ViewerRewind viewer snapshot boot) =
     IsCall line (codes "rewind") (viewer ∷ snapshot ∷ boot ∷ [])
-IsStep line (PiecePacket snapshot piece) = IsCall line (codes "piece") (snapshot ∷ piece ∷ [])
-IsStep line (ViewerGather viewer packet) = IsCall line (codes "gather") (packet ∷ viewer ∷ [])
-IsStep line (ViewerJoin viewer boot) = IsCall line (codes "join") (viewer ∷ boot ∷ [])
-IsStep line (ViewerForget viewer) = IsCall line (codes "forget") (viewer ∷ [])
+IsStepLine line (PiecePacket snapshot piece) = IsCall line (codes "piece") (snapshot ∷ piece ∷ [])
+IsStepLine line (ViewerGather viewer packet) = IsCall line (codes "gather") (packet ∷ viewer ∷ [])
+IsStepLine line (ViewerJoin viewer boot) = IsCall line (codes "join") (viewer ∷ boot ∷ [])
+IsStepLine line (ViewerForget viewer) = IsCall line (codes "forget") (viewer ∷ [])
 
 -- each line is a step
 abbrev pub EachIsStep : List (List ℕ) → List Step → Type 0
 EachIsStep [] [] = ⊤
-EachIsStep (line ∷ lines) (step ∷ steps) = IsStep line step × EachIsStep lines steps
+EachIsStep (line ∷ lines) (step ∷ steps) = IsStepLine line step × EachIsStep lines steps
 EachIsStep [] (step ∷ steps) = ⊥
 EachIsStep (line ∷ lines) [] = ⊥
 

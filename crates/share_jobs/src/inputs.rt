@@ -1,41 +1,41 @@
 //! The inputs of a job.
 
 ghost use Rattle.std.specs.Prelude.{◌≡◌};
-ghost use Rattle.cascade_core.specs.InTurn.{AreInTurn};
+ghost use Rattle.cascade_core.specs.InOrder.{AreInOrder};
 
 use std::marker::Model;
 use x3d_lists::Items;
 use x3d_values::Stamped;
 
-/// Inputs that a world takes from its start: numbered from 1, each later than the one before it.
+/// JobInputs that a world takes from its start: numbered from 1, each later than the one before it.
 #[derive(Drop)]
-pub struct Inputs {
+pub struct JobInputs {
     inputs: Items<Stamped>,
 }
 
-impl Model for Inputs {
+impl Model for JobInputs {
     ghost use Rattle.std.specs.Prelude.{List};
-    ghost use Rattle.x3d_values.specs.Stamp.{Stamp};
-    ghost use Rattle.cascade_core.specs.InTurn.{AreInTurn};
+    ghost use Rattle.x3d_values.specs.Stamp.{StampedView};
+    ghost use Rattle.cascade_core.specs.InOrder.{AreInOrder};
 
-    ghost Value = { List Stamp };
+    ghost Value = { List StampedView };
 
     ghost view = { λ i. i.inputs };
 
-    ghost invariant = { λ i. AreInTurn i.inputs };
+    ghost invariant = { λ i. AreInOrder i.inputs };
 }
 
-impl Inputs {
-    pub fn new(inputs: Items<Stamped>) -> Inputs
-        requires { AreInTurn inputs }
+impl JobInputs {
+    pub fn new(inputs: Items<Stamped>) -> JobInputs
+        requires { AreInOrder inputs }
         ensures { result ≡ inputs }
     {
-        Inputs { inputs }
+        JobInputs { inputs }
     }
 
     pub fn as_slice(&self) -> &[Stamped]
         ensures value { result.now ≡ self.now }
-        ensures in_turn { AreInTurn self.now }
+        ensures in_order { AreInOrder self.now }
     {
         self.inputs.as_slice()
     }

@@ -5,22 +5,22 @@ ghost use Rattle.x3d_lists.specs.Answers.{Gives};
 ghost use Rattle.std.specs.Prelude.{◌+ℤ◌, ◌≤ℤ◌, ◌^◌, pos};
 ghost use Rattle.share_jobs.specs.Job.{clock_time, last_time, is_taken, input_at, next_input};
 ghost use Rattle.share_jobs.specs.Job.{is_scene, job_lines, IsJob};
-ghost use Rattle.cascade_core.specs.InTurn.{AreInTurn};
+ghost use Rattle.cascade_core.specs.InOrder.{AreInOrder};
 ghost use Rattle.share_jobs.specs.declared.fault.JobFault.TheVariants.{Memory};
 
 use crate::fault::JobFault;
-use crate::inputs::Inputs;
+use crate::inputs::JobInputs;
 use crate::point::pointed;
 use share_rules::cut_line;
 use std::alloc::Global;
 use x3d_lists::Items;
 use x3d_numerals::millionths;
-use x3d_values::{Event, MAX_INPUTS, Stamped, is_input_time};
+use x3d_values::{Cause, MAX_INPUTS, Stamped, is_input_time};
 
 /// What the lines of a job ask for.
 #[derive(Drop)]
 pub struct Steps<'a> {
-    pub inputs: Inputs,
+    pub inputs: JobInputs,
     /// The bytes behind the line `scene`.
     pub scene: &'a [u8],
 }
@@ -58,14 +58,14 @@ fn is_taken(inputs: &[Stamped], time: i64) -> bool
 
 /// The input of this time behind these, if a host would number it.
 #[tactic(auto, using(crate::proofs::Passed::passed))]
-fn input_at(inputs: &[Stamped], time: i64, event: Event) -> Option<Stamped>
-    ensures { result ≡ input_at inputs.now time event }
+fn input_at(inputs: &[Stamped], time: i64, cause: Cause) -> Option<Stamped>
+    ensures { result ≡ input_at inputs.now time cause }
 {
     if !is_taken(inputs, time) {
         return None;
     }
     let number = inputs.len() as u32 + 1;
-    Some(Stamped::new(number, time, event))
+    Some(Stamped::new(number, time, cause))
 }
 
 /// One microsecond after the last input.
@@ -81,10 +81,10 @@ fn next_input(inputs: &[Stamped], line: &[u8]) -> Option<Stamped>
     ensures { result ≡ next_input inputs.now line.now }
 {
     if let Some(time) = clock_time(line) {
-        return input_at(inputs, time, Event::Clock);
+        return input_at(inputs, time, Cause::Clock);
     }
     match pointed(line) {
-        Some(pointer) => input_at(inputs, time_behind(inputs), Event::Pointer(pointer)),
+        Some(pointer) => input_at(inputs, time_behind(inputs), Cause::Pointer(pointer)),
         None => None,
     }
 }
@@ -103,7 +103,7 @@ pub fn job_of(alloc: Global, bytes: &[u8]) -> Result<Steps<'_>, JobFault>
     // Each line before `scene` is a step, and gives one input.
     ensures found { IfOk result
         (λ s. IsJob bytes.now (record { inputs = s.inputs; scene = s.scene.now })) }
-    ensures in_turn { IfOk result (λ s. AreInTurn s.inputs) }
+    ensures in_order { IfOk result (λ s. AreInOrder s.inputs) }
 {
     let mut inputs: Items<Stamped> = Items::new(alloc);
     let mut rest = bytes;
@@ -111,7 +111,7 @@ pub fn job_of(alloc: Global, bytes: &[u8]) -> Result<Steps<'_>, JobFault>
         let (line, behind) = cut_line(rest);
         if is_scene(line) {
             return Ok(Steps {
-                inputs: Inputs::new(inputs),
+                inputs: JobInputs::new(inputs),
                 scene: behind,
             });
         }

@@ -11,7 +11,7 @@ mod step;
 mod word;
 
 pub use fault::JobFault;
-pub use inputs::Inputs;
+pub use inputs::JobInputs;
 pub use job::{Steps, job_of};
 pub use laws::lines_are_one_step;
 pub use schedule::{Schedule, schedule_of};

@@ -7,7 +7,7 @@ use Rattle.script_running.specs.Scripts.{script_list}
 use Rattle.script_boxes.specs.Boxes.{stock_for}
 use Rattle.script_boxes.specs.Refused.{scripts_fault}
 use Rattle.script_boxes.proofs.Faults.{fault_of, no_fault}
-use Rattle.script_host.specs.Hosting.{ScriptRecord}
+use Rattle.script_host.specs.Hosting.{SlotView}
 use Rattle.script_host.specs.declared.fault.AttachFault.{AttachFault}
 use Rattle.script_host.specs.declared.fault.AttachFault.TheVariants.{UnknownScript, WrongCount, KindDiffers, InterfaceMismatch, StartMismatch, Memory}
 use Rattle.share_io.specs.declared.fault.RunFault.{RunFault}
@@ -25,7 +25,7 @@ other_than : {A : Type 0} (fault : AttachFault) → (fault ≡ Memory → ⊥) �
 other_than fault other (inl e) = absurd (other e)
 other_than fault other (inr a) = a
 
-told : (fault : AttachFault) (scene : SceneView) (boxes : List ScriptRecord) → boxes ≡ stock_for (script_list scene)
+told : (fault : AttachFault) (scene : SceneView) (boxes : List SlotView) → boxes ≡ stock_for (script_list scene)
     → RefusesBoxes fault scene boxes → scripts_fault (script_list scene) ≡ Some fault
 told (UnknownScript k) scene boxes made h =
     other_than (UnknownScript k) (λ e. cc) (fault_of (script_list scene) boxes (UnknownScript k) made h)
@@ -39,20 +39,20 @@ told (StartMismatch k) scene boxes made h =
     other_than (StartMismatch k) (λ e. cc) (fault_of (script_list scene) boxes (StartMismatch k) made h)
 told Memory scene boxes made h = absurd h
 
-unrun : (job : Job) (boxes : List ScriptRecord) (old new : Option (List ℕ)) (fault : RunFault) → boxes ≡ stock_for (script_list job.scene)
+unrun : (job : Job) (boxes : List SlotView) (old new : Option (List ℕ)) (fault : RunFault) → boxes ≡ stock_for (script_list job.scene)
     → IsUnrun job boxes old new fault → IsUnrunStock job old new fault
 unrun job boxes old new (run_fault.Attach fault) made h = (told fault job.scene boxes made h.0, h.1)
 unrun job boxes old new run_fault.Memory made h = h
 unrun job boxes old new run_fault.Device made h = no_fault (script_list job.scene) boxes made h
 
 -- a run that ended well has scripts without a fault
-pub taken_if : {A : Type 0} (result : Result A RunFault) (job : Job) (boxes : List ScriptRecord) → boxes ≡ stock_for (script_list job.scene)
+pub taken_if : {A : Type 0} (result : Result A RunFault) (job : Job) (boxes : List SlotView) → boxes ≡ stock_for (script_list job.scene)
     → OnOk result (FitsJob job boxes) → OnOk result (job_scripts_fault job ≡ None)
 taken_if (Ok x) job boxes made h = no_fault (script_list job.scene) boxes made h
 taken_if (Err fault) job boxes made h = tt
 
 -- why one ended early
-pub unrun_if : {A : Type 0} (result : Result A RunFault) (job : Job) (boxes : List ScriptRecord) (old new : Option (List ℕ))
+pub unrun_if : {A : Type 0} (result : Result A RunFault) (job : Job) (boxes : List SlotView) (old new : Option (List ℕ))
     → boxes ≡ stock_for (script_list job.scene) → IfErr result (IsUnrun job boxes old new) → IfErr result (IsUnrunStock job old new)
 unrun_if (Ok x) job boxes old new made h = tt
 unrun_if (Err fault) job boxes old new made h = unrun job boxes old new fault made h

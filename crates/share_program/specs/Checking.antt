@@ -5,19 +5,19 @@ use Rattle.std.specs.Io.KnownBytes.{Appends, Consumes, IsAtEnd, Keeps}
 use Rattle.share_program.specs.Opening.{opened}
 use Rattle.share_jobs.specs.declared.fault.JobFault.{JobFault}
 use Rattle.share_jobs.specs.declared.fault.JobFault.TheVariants.{Device}
-use Rattle.share_program.specs.declared.open.Opened.{Opened}
+use Rattle.share_program.specs.declared.open.OpenedScene.{OpenedScene}
 
 abbrev line_feed : ℕ
 line_feed = 10
 
 -- `good <nodes> nodes <routes> routes`
-unfoldable pub counts_text : Opened → List ℕ
+unfoldable pub counts_text : OpenedScene → List ℕ
 counts_text o =
     codes "good " ++ decimal (length o.scene.nodes) ++ codes " nodes "
     ++ decimal (length o.routes) ++ codes " routes" ++ line_feed ∷ []
 
 -- a reader, from the one state to the other, was read to its end, and what it had is this scene
-pub record IsOpened (old new : Option (List ℕ)) (o : Opened) : Type 0 where
+pub record IsSceneOpened (old new : Option (List ℕ)) (o : OpenedScene) : Type 0 where
   pub bytes : List ℕ
   pub consumed : Consumes old new bytes
   pub ended : IsAtEnd new
@@ -32,8 +32,8 @@ pub record IsNoScene (old new : Option (List ℕ)) (fault : JobFault) : Type 0 w
 
 -- what a reader had is a scene, and a writer took its counts
 pub record IsChecked (old_read new_read old_written new_written : Option (List ℕ)) : Type 0 where
-  pub scene : Opened
-  pub read : IsOpened old_read new_read scene
+  pub scene : OpenedScene
+  pub read : IsSceneOpened old_read new_read scene
   pub written : Appends old_written new_written (counts_text scene)
 
 -- nothing was written; or the writer failed, and then all that the reader had is a scene
@@ -41,4 +41,4 @@ abbrev pub IsUnchecked : Option (List ℕ) → Option (List ℕ) → Option (Lis
     → JobFault → Type 0
 IsUnchecked old_read new_read old_written new_written fault =
     Keeps old_written new_written
-    ⊎ ((fault ≡ Device) × ((o : Opened) × IsOpened old_read new_read o))
+    ⊎ ((fault ≡ Device) × ((o : OpenedScene) × IsSceneOpened old_read new_read o))

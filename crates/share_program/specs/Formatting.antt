@@ -17,7 +17,7 @@ document_of text = next of_read (read_text text) (λ d. Ok d)
 
 -- a reader, from the one state to the other, was read to its end, and what it had spells the
 -- document
-pub record IsRead (old new : Option (List ℕ)) (d : Document) : Type 0 where
+pub record IsDocumentRead (old new : Option (List ℕ)) (d : Document) : Type 0 where
   pub bytes : List ℕ
   pub consumed : Consumes old new bytes
   pub ended : IsAtEnd new
@@ -34,7 +34,7 @@ pub record IsNoText (old new : Option (List ℕ)) (fault : JobFault) : Type 0 wh
 -- again, whatever its length and but for the lines in it
 pub record IsFormatted (old_read new_read old_written new_written : Option (List ℕ)) : Type 0 where
   pub document : Document
-  pub read : IsRead old_read new_read document
+  pub read : IsDocumentRead old_read new_read document
   pub written : Appends old_written new_written (document_text document)
   pub again : SpellsAtAnyLength (document_text document) document
 
@@ -43,7 +43,7 @@ abbrev pub IsUnwritten : Option (List ℕ) → Option (List ℕ) → Option (Lis
     → JobFault → Type 0
 IsUnwritten old_read new_read old_written new_written fault =
     Keeps old_written new_written
-    ⊎ ((fault ≡ Device) × ((d : Document) × IsRead old_read new_read d))
+    ⊎ ((fault ≡ Device) × ((d : Document) × IsDocumentRead old_read new_read d))
 
 -- ---- what is written is read again
 

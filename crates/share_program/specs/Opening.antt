@@ -1,7 +1,7 @@
 -- The scene of a text, and the job of a byte list: what each layer makes of it, one after the
 -- other.
 use Rattle.std.specs.Prelude.{◌≡◌, ◌⊎◌, Option, ℕ, List, Result, Ok, Err}
-use Rattle.x3d_values.specs.Stamp.{Stamp}
+use Rattle.x3d_values.specs.Stamp.{StampedView}
 use Rattle.classic_text.specs.Reading.{read_text}
 use Rattle.proto_flat.specs.declared.flat.Flat.{Flat}
 use Rattle.proto_meaning.specs.Flat.{flat}
@@ -15,7 +15,7 @@ use Rattle.share_jobs.specs.Faults.{of_read, of_expand, of_scene, of_route}
 use Rattle.std.specs.Io.KnownBytes.{Consumes, IsAtEnd}
 use Rattle.share_jobs.specs.declared.fault.JobFault.{JobFault}
 use Rattle.share_jobs.specs.declared.fault.JobFault.TheVariants.{Device, Memory}
-use Rattle.share_program.specs.declared.open.Opened.{Opened}
+use Rattle.share_program.specs.declared.open.OpenedScene.{OpenedScene}
 use Rattle.share_program.specs.declared.open.Job.{Job}
 
 -- the answer of a layer, with its fault as one of the job; and then what the next layer answers
@@ -27,15 +27,15 @@ next fault (Err e) f = Err (fault e)
 abbrev pub same : JobFault → JobFault
 same fault = fault
 
-abbrev pub with_routes : SceneView → List Route → Result Opened JobFault
+abbrev pub with_routes : SceneView → List Route → Result OpenedScene JobFault
 with_routes scene routes = Ok (record { scene = scene; routes = routes })
 
 -- a scene with the routes of its document
-abbrev pub routed : Flat → SceneView → Result Opened JobFault
+abbrev pub routed : Flat → SceneView → Result OpenedScene JobFault
 routed f s = next of_route (resolved f s) (with_routes s)
 
 -- the scene of a document, and its routes
-abbrev pub built : Flat → Result Opened JobFault
+abbrev pub built : Flat → Result OpenedScene JobFault
 built f = next of_scene (scene_of f) (routed f)
 
 abbrev pub good : Flat → Result Flat JobFault
@@ -46,10 +46,10 @@ unfoldable pub flattened : List ℕ → Result Flat JobFault
 flattened text = next of_read (read_text text) (λ d. next of_expand (flat d) good)
 
 -- the scene of a text, and its routes
-unfoldable pub opened : List ℕ → Result Opened JobFault
+unfoldable pub opened : List ℕ → Result OpenedScene JobFault
 opened text = next same (flattened text) built
 
-abbrev pub with_inputs : List Stamp → Opened → Result Job JobFault
+abbrev pub with_inputs : List StampedView → OpenedScene → Result Job JobFault
 with_inputs inputs o = Ok (record { inputs = inputs; scene = o.scene; routes = o.routes })
 
 -- the steps of the lines before the first line `scene`, and the scene behind it

@@ -5,7 +5,7 @@ use Rattle.cascade_core.specs.Apply.{world}
 use Rattle.script_running.specs.Scripts.{script_list}
 use Rattle.script_boxes.specs.Refused.{scripts_fault}
 use Rattle.script_host.specs.Attaching.{Fits}
-use Rattle.script_host.specs.Hosting.{ScriptRecord}
+use Rattle.script_host.specs.Hosting.{SlotView}
 use Rattle.script_host.specs.declared.fault.AttachFault.{AttachFault}
 use Rattle.share_jobs.specs.declared.fault.JobFault.{JobFault}
 use Rattle.share_io.specs.declared.fault.RunFault.{RunFault}
@@ -24,12 +24,12 @@ run_text job = texts job.scene job.routes (world job.scene job.routes job.inputs
 -- ---- boxes
 
 -- the boxes are those that the scripts of the job's scene ask for
-abbrev pub FitsJob : Job → List ScriptRecord → Type 0
+abbrev pub FitsJob : Job → List SlotView → Type 0
 FitsJob job boxes = Fits (script_list job.scene) boxes
 
 -- why a run with these boxes ended early: they aren't those that the scene's scripts ask for, or
 -- memory was refused, and nothing was written; or they are, and the writer's device failed
-abbrev pub IsUnrun : Job → List ScriptRecord → (old new : Option (List ℕ)) → RunFault → Type 0
+abbrev pub IsUnrun : Job → List SlotView → (old new : Option (List ℕ)) → RunFault → Type 0
 IsUnrun job boxes old new (run_fault.Attach fault) =
     RefusesBoxes fault job.scene boxes × Keeps old new
 IsUnrun job boxes old new run_fault.Memory = Keeps old new

@@ -1,11 +1,11 @@
 //! Whether a text is a scene that can be run.
 
 ghost use Rattle.std.specs.Prelude.{◌≡◌, ◌⊎◌, [], IfOk, IfErr, OnOk};
-ghost use Rattle.share_program.specs.Checking.{IsOpened, IsNoScene, IsChecked, IsUnchecked, counts_text};
+ghost use Rattle.share_program.specs.Checking.{IsSceneOpened, IsNoScene, IsChecked, IsUnchecked, counts_text};
 ghost use Rattle.share_program.specs.Opening.{IsDeviceOrMemory};
-ghost use Rattle.share_program.specs.declared.open.Opened.{Opened as OpenedOf};
+ghost use Rattle.share_program.specs.declared.open.OpenedScene.{OpenedScene as OpenedOf};
 
-use crate::open::{Opened, open_scene};
+use crate::open::{OpenedScene, open_scene};
 use itoa::Buffer;
 use share_io::{read_whole, write_made};
 use share_jobs::JobFault;
@@ -32,7 +32,7 @@ pub fn check_text<R: Read, W: Write>(
 /// The line that tells of the scene that a reader has left.
 fn read_counts<R: Read>(alloc: Global, reader: &mut R) -> Result<Vec<u8>, JobFault>
     ensures line { IfOk result (λ v. (o : OpenedOf)
-        × IsOpened (R.remaining reader.old) (R.remaining reader.new) o
+        × IsSceneOpened (R.remaining reader.old) (R.remaining reader.new) o
         × (v.items ≡ counts_text o)) }
     ensures refused { IfErr result (λ f. IsDeviceOrMemory f
         ⊎ IsNoScene (R.remaining reader.old) (R.remaining reader.new) f) }
@@ -45,8 +45,8 @@ fn read_counts<R: Read>(alloc: Global, reader: &mut R) -> Result<Vec<u8>, JobFau
 }
 
 /// The scene that a reader has left, with its routes.
-fn read_scene<R: Read>(alloc: Global, reader: &mut R) -> Result<Opened, JobFault>
-    ensures read { IfOk result (IsOpened (R.remaining reader.old) (R.remaining reader.new)) }
+fn read_scene<R: Read>(alloc: Global, reader: &mut R) -> Result<OpenedScene, JobFault>
+    ensures read { IfOk result (IsSceneOpened (R.remaining reader.old) (R.remaining reader.new)) }
     ensures refused { IfErr result (λ f. IsDeviceOrMemory f
         ⊎ IsNoScene (R.remaining reader.old) (R.remaining reader.new) f) }
 {
@@ -55,7 +55,7 @@ fn read_scene<R: Read>(alloc: Global, reader: &mut R) -> Result<Opened, JobFault
 }
 
 /// The line that tells of a scene.
-fn counts_line(alloc: Global, opened: &Opened) -> Result<Vec<u8>, AllocError>
+fn counts_line(alloc: Global, opened: &OpenedScene) -> Result<Vec<u8>, AllocError>
     ensures { IfOk result (λ v. v.items ≡ counts_text opened.now) }
 {
     let mut line = Vec::new(alloc);
@@ -66,7 +66,7 @@ fn counts_line(alloc: Global, opened: &Opened) -> Result<Vec<u8>, AllocError>
 /// Writes that line into an empty buffer, which is lent: each exit of a function that owns it would
 /// have its drop proved.
 #[tactic(auto, unfolding(crate::specs::Checking::counts_text))]
-fn write_counts(opened: &Opened, line: &mut Vec<u8>) -> Result<(), AllocError>
+fn write_counts(opened: &OpenedScene, line: &mut Vec<u8>) -> Result<(), AllocError>
     requires { line.old.items ≡ [] }
     ensures { OnOk result (line.new.items ≡ counts_text opened.now) }
 {

@@ -5,7 +5,7 @@ ghost use Rattle.classic_tree.specs.Writing.{document_text};
 ghost use Rattle.classic_tree.specs.declared.tree.Document.{Document as DocumentOf};
 ghost use Rattle.classic_text.specs.Spells.{Spells};
 ghost use Rattle.classic_round_trip.specs.AnyLength.{SpellsAtAnyLength};
-ghost use Rattle.share_program.specs.Formatting.{IsRead, IsNoText, IsFormatted, IsUnwritten};
+ghost use Rattle.share_program.specs.Formatting.{IsDocumentRead, IsNoText, IsFormatted, IsUnwritten};
 ghost use Rattle.share_program.specs.Opening.{IsDeviceOrMemory};
 
 use classic_round_trip::{spellable_documents_are_written, spelled_documents_are_spellable, write};
@@ -36,7 +36,7 @@ pub fn format_text<R: Read, W: Write>(
 /// The text of the document that a reader has left.
 fn read_text<R: Read>(alloc: Global, reader: &mut R) -> Result<Vec<u8>, JobFault>
     ensures text { IfOk result (λ v. (d : DocumentOf)
-        × IsRead (R.remaining reader.old) (R.remaining reader.new) d
+        × IsDocumentRead (R.remaining reader.old) (R.remaining reader.new) d
         × (v.items ≡ document_text d)
         × SpellsAtAnyLength (document_text d) d) }
     ensures refused { IfErr result (λ f. IsDeviceOrMemory f
@@ -51,7 +51,7 @@ fn read_text<R: Read>(alloc: Global, reader: &mut R) -> Result<Vec<u8>, JobFault
 
 /// The document that a reader has left.
 fn read_document<R: Read>(alloc: Global, reader: &mut R) -> Result<Document, JobFault>
-    ensures read { IfOk result (IsRead (R.remaining reader.old) (R.remaining reader.new)) }
+    ensures read { IfOk result (IsDocumentRead (R.remaining reader.old) (R.remaining reader.new)) }
     ensures refused { IfErr result (λ f. IsDeviceOrMemory f
         ⊎ IsNoText (R.remaining reader.old) (R.remaining reader.new) f) }
 {

@@ -3,7 +3,7 @@
 ghost use Rattle.std.specs.Prelude.{◌≡◌, IfOk, IfErr, ◌⊎◌, List, ℕ};
 ghost use Rattle.std.specs.Io.KnownBytes.{Consumes, IsAtEnd};
 ghost use Rattle.x3d_lists.specs.Answers.{Gives};
-ghost use Rattle.cascade_core.specs.InTurn.{AreInTurn};
+ghost use Rattle.cascade_core.specs.InOrder.{AreInOrder};
 ghost use Rattle.share_jobs.specs.Schedule.{schedule_lines};
 ghost use Rattle.share_program.specs.Opening.{routed, built, flattened, opened, opened_job, IsDeviceOrMemory};
 ghost use Rattle.share_program.specs.Opening.{IsNoJob, IsNoSchedule};
@@ -15,13 +15,13 @@ use proto_flat::Flat;
 use route_core::Routes;
 use scene_core::Scene;
 use share_io::read_whole;
-use share_jobs::{Inputs, JobFault, Schedule, job_of, schedule_of};
+use share_jobs::{JobFault, JobInputs, Schedule, job_of, schedule_of};
 use std::alloc::Global;
 use std::io::Read;
 
 /// A scene with its routes.
 #[derive(Drop)]
-pub struct Opened {
+pub struct OpenedScene {
     pub scene: Scene,
     pub routes: Routes,
 }
@@ -29,17 +29,17 @@ pub struct Opened {
 /// A scene with its routes, and the inputs to apply to it.
 #[derive(Drop)]
 pub struct Job {
-    pub inputs: Inputs,
+    pub inputs: JobInputs,
     pub scene: Scene,
     pub routes: Routes,
 }
 
 /// A scene with the routes of its document.
-fn routed(alloc: Global, flat: &Flat, scene: Scene) -> Result<Opened, JobFault>
+fn routed(alloc: Global, flat: &Flat, scene: Scene) -> Result<OpenedScene, JobFault>
     ensures { Gives Memory (λ o. o) result (routed flat.now scene) }
 {
     match Routes::resolve(alloc, flat, &scene) {
-        Ok(routes) => Ok(Opened { scene, routes }),
+        Ok(routes) => Ok(OpenedScene { scene, routes }),
         // A scene is dropped by a call: left to an exit, its drop is proved in place.
         Err(fault) => {
             drop(scene);
@@ -49,7 +49,7 @@ fn routed(alloc: Global, flat: &Flat, scene: Scene) -> Result<Opened, JobFault>
 }
 
 /// The scene of a document, and its routes.
-fn built(alloc: Global, flat: &Flat) -> Result<Opened, JobFault>
+fn built(alloc: Global, flat: &Flat) -> Result<OpenedScene, JobFault>
     ensures { Gives Memory (λ o. o) result (built flat.now) }
 {
     let scene = Scene::build(alloc, flat)?;
@@ -67,7 +67,7 @@ fn flattened(alloc: Global, text: &[u8]) -> Result<Flat, JobFault>
 
 /// The scene of a text, and its routes.
 #[tactic(auto, unfolding(crate::specs::Opening::opened))]
-pub fn open_scene(alloc: Global, text: &[u8]) -> Result<Opened, JobFault>
+pub fn open_scene(alloc: Global, text: &[u8]) -> Result<OpenedScene, JobFault>
     ensures { Gives Memory (λ o. o) result (opened text.now) }
 {
     let flat = flattened(alloc, text)?;
@@ -81,7 +81,7 @@ pub fn open_scene(alloc: Global, text: &[u8]) -> Result<Opened, JobFault>
 #[tactic(auto, unfolding(crate::specs::Opening::opened_job))]
 pub fn open_job(alloc: Global, bytes: &[u8]) -> Result<Job, JobFault>
     ensures exact { Gives Memory (λ j. j) result (opened_job bytes.now) }
-    ensures in_turn { IfOk result (λ j. AreInTurn j.inputs) }
+    ensures in_order { IfOk result (λ j. AreInOrder j.inputs) }
 {
     let steps = job_of(alloc, bytes)?;
     let opened = open_scene(alloc, steps.scene)?;
@@ -97,7 +97,7 @@ pub fn read_job<R: Read>(alloc: Global, reader: &mut R) -> Result<Job, JobFault>
     ensures job { IfOk result (λ j. (bytes : List ℕ)
         × Consumes (R.remaining reader.old) (R.remaining reader.new) bytes
         × IsAtEnd (R.remaining reader.new) × (opened_job bytes ≡ Ok j)) }
-    ensures in_turn { IfOk result (λ j. AreInTurn j.inputs) }
+    ensures in_order { IfOk result (λ j. AreInOrder j.inputs) }
     ensures refused { IfErr result (λ f. IsDeviceOrMemory f
         ⊎ IsNoJob (R.remaining reader.old) (R.remaining reader.new) f) }
 {

@@ -24,7 +24,7 @@ use script_boxes::{StockScript, boxes_of};
 use script_host::{Behaviour, Scripts};
 use script_running::script_list;
 use share_io::{RunFault, attach, push_texts, write_whole};
-use share_jobs::Inputs;
+use share_jobs::JobInputs;
 use std::alloc::{AllocError, Global};
 use std::io::{Read, Write};
 
@@ -66,7 +66,7 @@ fn stage_of<B: Behaviour>(
     scene: Scene,
     routes: Routes,
     scripts: Scripts<B>,
-    inputs: &Inputs,
+    inputs: &JobInputs,
 ) -> Result<Stage<B>, RunFault>
     requires fits { Fits (script_list scene) scripts }
     requires fresh { scripts ≡ scripts_in scene }

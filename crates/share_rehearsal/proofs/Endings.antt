@@ -4,14 +4,14 @@ use Rattle.std.specs.Prelude.{codes, decimal, OnOk, Result, Ok, Err}
 use Rattle.std.proofs.lemmas.Bool.{false≢true}
 use Rattle.cascade_core.specs.Texts.{scene_text, trace_text}
 use Rattle.cascade_core.specs.Course.{Scripted}
-use Rattle.share_law.specs.Viewer.{View, Spoiled, Running, applied_in}
+use Rattle.share_law.specs.Viewer.{ViewerWorld, Spoiled, Running, applied_in}
 use Rattle.share_core.specs.Viewer.{ViewerView, IfRunning, is_spoiled, machine_of}
 use Rattle.share_rehearsal.specs.Log.{ending_in}
 
 in-a-row : (o a n b m c k t s : List ℕ) → o ++ a ++ n ++ b ++ m ++ c ++ k ++ 10 ∷ [] ++ t ++ s ≡ o ++ (a ++ n ++ b ++ m ++ c ++ k ++ 10 ∷ t ++ s)
 in-a-row o a n b m c k t s = simp (append_assoc) refl
 
-pub running-told : {T E : Type 0} (number : ℕ) (v : ViewerView) (view : View Scripted) (applied boot : ℕ) (a b c d : List ℕ) (q : Result T E) → is_spoiled view ≡ false → applied ≡ applied_in (machine_of v) view → boot ≡ v.state.boot
+pub running-told : {T E : Type 0} (number : ℕ) (v : ViewerView) (view : ViewerWorld Scripted) (applied boot : ℕ) (a b c d : List ℕ) (q : Result T E) → is_spoiled view ≡ false → applied ≡ applied_in (machine_of v) view → boot ≡ v.state.boot
     → b ≡ a ++ codes "viewer " ++ decimal number ++ codes " at " ++ decimal applied → c ≡ b ++ codes " boot " ++ decimal boot ++ 10 ∷ []
     → IfRunning view (λ w. OnOk q (d ≡ c ++ trace_text v.scene w ++ scene_text v.scene v.routes w)) → OnOk q (d ≡ a ++ ending_in number v view)
 running-told number v (Spoiled count) applied boot a b c d q running is own first second texts = absurd (false≢true (sym running))
@@ -25,7 +25,7 @@ running-told number v (Running w window) applied boot a b c d (Ok x) running is 
     ∙ ap (λ (n : ℕ). a ++ codes "viewer " ++ decimal number ++ codes " at " ++ decimal w.world.applied ++ codes " boot " ++ decimal n ++ 10 ∷ [] ++ t ++ s) own
     ∙ in-a-row a (codes "viewer ") (decimal number) (codes " at ") (decimal w.world.applied) (codes " boot ") (decimal v.state.boot) t s
 
-pub spoiled-told : {T E : Type 0} (number : ℕ) (v : ViewerView) (view : View Scripted) (a b : List ℕ) (q : Result T E) → is_spoiled view ≡ true
+pub spoiled-told : {T E : Type 0} (number : ℕ) (v : ViewerView) (view : ViewerWorld Scripted) (a b : List ℕ) (q : Result T E) → is_spoiled view ≡ true
     → OnOk q (b ≡ a ++ codes "viewer " ++ decimal number ++ codes " spoiled" ++ 10 ∷ []) → OnOk q (b ≡ a ++ ending_in number v view)
 spoiled-told number v (Running w window) a b q spoiled line = absurd (false≢true spoiled)
 spoiled-told number v (Spoiled count) a b (Err e) spoiled line = tt

@@ -3,7 +3,7 @@ use Rattle.std.proofs.Common.{◌≡◌, ℕ, ◌+◌, ◌-◌, ◌≤◌, List,
 use Rattle.std.specs.Prelude.{slice_get, Option, Some, None}
 use Rattle.std.specs.Option.{option_map}
 use Rattle.std.proofs.lemmas.Option.{same_Some, none-some}
-use Rattle.x3d_values.specs.Stamp.{Stamp}
+use Rattle.x3d_values.specs.Stamp.{StampedView}
 use Rattle.scene_core.specs.declared.scene.Route.{Route}
 use Rattle.scene_core.specs.Scene.{SceneView}
 use Rattle.cascade_core.specs.Course.{Scripted}
@@ -23,12 +23,12 @@ use Rattle.share_rehearsal.specs.Laws.{HostHolds, IsLeft, OfRehearsals, TimesRis
 use Rattle.share_rehearsal.specs.Rehearsed.{StandFor, viewer_at}
 
 -- the viewer of a seat that runs
-record Runs (scene : SceneView) (routes : List Route) (net : Network Scripted) (v : ℕ) (x : ViewerView) (held : Scripted) (window : List (Option Stamp)) : Type 0 where
+record Runs (scene : SceneView) (routes : List Route) (net : Network Scripted) (v : ℕ) (x : ViewerView) (held : Scripted) (window : List (Option StampedView)) : Type 0 where
   running : IsRunning net v held window
   own_scene : x.scene ≡ scene
   own_routes : x.routes ≡ routes
 
-seat_runs : (mark : List ℕ) (scene : SceneView) (routes : List Route) (net : Network Scripted) (v : ℕ) (x : ViewerView) (held : Scripted) (window : List (Option Stamp)) (seat : Option (Seat Scripted))
+seat_runs : (mark : List ℕ) (scene : SceneView) (routes : List Route) (net : Network Scripted) (v : ℕ) (x : ViewerView) (held : Scripted) (window : List (Option StampedView)) (seat : Option (Seat Scripted))
     → slice_get net.viewers v ≡ seat → Some x ≡ option_map (viewer_at mark scene routes v) seat → x.state.view ≡ Running held window → Runs scene routes net v x held window
 seat_runs mark scene routes net v x held window None at is runs = absurd (none-some x (sym is))
 seat_runs mark scene routes net v x held window (Some seat) at is runs =
@@ -39,7 +39,7 @@ seat_runs mark scene routes net v x held window (Some seat) at is runs =
       own_routes = ap (λ (z : ViewerView). z.routes) own;
     }
 
-left_runs : (mark : List ℕ) (scene : SceneView) (routes : List Route) (left : Seen) (net : Network Scripted) (v : ℕ) (x : ViewerView) (held : Scripted) (window : List (Option Stamp))
+left_runs : (mark : List ℕ) (scene : SceneView) (routes : List Route) (left : Seen) (net : Network Scripted) (v : ℕ) (x : ViewerView) (held : Scripted) (window : List (Option StampedView))
     → StandFor mark scene routes left net → IsLeft left v x held window → Runs scene routes net v x held window
 left_runs mark scene routes left net v x held window stand is =
     seat_runs mark scene routes net v x held window (slice_get net.viewers v) refl (sym is.is ∙ stand.viewers v) is.runs

@@ -104,7 +104,7 @@ hosted (Err (host.Number number.Memory)) = memory
 took : (r : Result Taken TakeFault) → Logs (take_text r) (says_memory (law.ViewerTook r))
 took (Ok taken.Old) = other _ refl
 took (Ok taken.Beyond) = other _ refl
-took (Ok taken.Kept) = other _ refl
+took (Ok taken.Held) = other _ refl
 took (Ok (taken.Applied n)) = other _ refl
 took (Ok taken.Noted) = other _ refl
 took (Ok taken.Behind) = other _ refl

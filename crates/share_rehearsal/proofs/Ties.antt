@@ -7,7 +7,7 @@ use Rattle.std.proofs.lemmas.Option.{same_Some, none-some, slice_get-map}
 use Rattle.std.proofs.lemmas.List.{map-append, length-map}
 use Rattle.x3d_values.specs.declared.pointing.Point.{Point}
 use Rattle.x3d_values.specs.Ranges.{max_viewers}
-use Rattle.x3d_values.specs.Stamp.{Stamp}
+use Rattle.x3d_values.specs.Stamp.{StampedView}
 use Rattle.scene_core.specs.declared.scene.Route.{Route}
 use Rattle.scene_core.specs.Scene.{SceneView}
 use Rattle.cascade_core.specs.Course.{Scripted}
@@ -25,7 +25,7 @@ use Rattle.snapshot_core.proofs.ShotHeads.{head_of_shot}
 use Rattle.share_law.specs.declared.fault.FloorFault.{FloorFault}
 use Rattle.share_law.specs.declared.fault.JoinFault.{JoinFault}
 use Rattle.share_law.specs.declared.fault.OfferFault.{OfferFault}
-use Rattle.share_law.specs.declared.kept.Kept.{Kept}
+use Rattle.share_law.specs.declared.kept.SeatCount.{SeatCount}
 use Rattle.share_law.specs.declared.step.Step.{Step}
 use Rattle.share_law.specs.declared.step.Step.TheVariants.{HostClock, HostPacket, HostAck, HostTake, HostDropBelow, HostFloorPacket, PiecePacket, ViewerOffer, ViewerResend, ViewerAsk, ViewerTake, ViewerSave, ViewerRewind, ViewerGather, ViewerJoin, ViewerForget}
 use Rattle.share_law.specs.Calls.{IsGatherOf, IsPartClocked, IsPartTakeOf, IsTakeOf}
@@ -37,7 +37,7 @@ use Rattle.share_law.specs.Machine.{Machine}
 use Rattle.share_law.specs.Network as law
 use Rattle.share_law.specs.Network.{Network, Seat, Run, IsStep, start, step, sends, with_host as net_host, with_seat, with_node, with_gathering as seat_gathering, with_packet, with_shot, host_acks, host_takes, piece_sent, viewer_step, viewer_takes, viewer_rewinds, viewer_gathers, offered_by, rewound_by}
 use Rattle.share_law.specs.Reached.{Reached, IsRunning}
-use Rattle.share_law.specs.Viewer.{View, Spoiled, Running, ViewerState, Shot as LawShot, viewer_offer, viewer_resend, viewer_ask}
+use Rattle.share_law.specs.Viewer.{ViewerWorld, Spoiled, Running, ViewerState, Shot as LawShot, viewer_offer, viewer_resend, viewer_ask}
 use Rattle.share_law.proofs.Calls.{IsClocked-step, IsGather-step, IsGatherOf-gather, IsJoin-step, IsNoJoin-step, forget-step, piece-step, seat_joined, IsHostTake-step, IsHostTakeOf-take, IsTake-step, IsTakeOf-take, ack-step, offer-step, resend-step, ask-step, save-step, save-refused-step, save-spoiled-step, IsRewind-step}
 use Rattle.share_law.proofs.Elements.{slice_get_push}
 use Rattle.share_law.proofs.Shots.{is_shot_of-parts, shot_with-at}
@@ -57,10 +57,10 @@ use Rattle.share_rehearsal.specs.Calls.{Seen, with_host, with_viewer, with_packe
 use Rattle.share_rehearsal.specs.Rehearsed.{law_answer, viewer_at, shot_at, StandFor}
 
 -- each world that a viewer runs with fits a snapshot, whatever happened before
-abbrev pub WorldsFit : (mark : List ℕ) → SceneView → List Route → Type 0
-WorldsFit mark scene routes =
+abbrev pub RunningWorldsFit : (mark : List ℕ) → SceneView → List Route → Type 0
+RunningWorldsFit mark scene routes =
     (net : Network Scripted) → Reached (cascade mark scene routes) net
-    → (v : ℕ) (w : Scripted) (window : List (Option Stamp)) → IsRunning net v w window
+    → (v : ℕ) (w : Scripted) (window : List (Option StampedView)) → IsRunning net v w window
     → HasSnapshot scene w
 
 -- ---- lists by their places
@@ -135,8 +135,8 @@ module _ (mark : List ℕ) (scene : SceneView) (routes : List Route) where
       let count : Sent (Some (length old.packets)) ≡ Sent (Some (length net.sent)) = ap (λ (n : ℕ). Sent (Some n)) (sent-count net old stand) in
       goes net (with_packet net body) s a (Sent (Some (length net.sent))) new _ (call.0 ∙ count) call.1 is (sent-more net old k body stand own call.2) fit
 
-  acked : (net : Network Scripted) (v : ℕ) (old : Seen) (a : Answer) (new : Seen) (kept : Option Kept) → StandFor mark scene routes old net → ShotsFit net → slice_get net.host.kept v ≡ kept → IsAcked old v kept a new → Goes net (HostAck v) a new
-  acked net v old a new None stand fit at call = unknown net (HostAck v) old a new stand fit (ap (λ (o : Option Kept). host_acks net v o) at) call
+  acked : (net : Network Scripted) (v : ℕ) (old : Seen) (a : Answer) (new : Seen) (kept : Option SeatCount) → StandFor mark scene routes old net → ShotsFit net → slice_get net.host.kept v ≡ kept → IsAcked old v kept a new → Goes net (HostAck v) a new
+  acked net v old a new None stand fit at call = unknown net (HostAck v) old a new stand fit (ap (λ (o : Option SeatCount). host_acks net v o) at) call
   acked net v old a new (Some kept) stand fit at call = made net (HostAck v) old old.host.mark a new (Some (ack_of v kept)) stand fit (ap (λ (h : HostView). h.mark) stand.host) (ack-step m net v kept at) call
 
   -- ---- packets that come
@@ -261,7 +261,7 @@ module _ (mark : List ℕ) (scene : SceneView) (routes : List Route) where
     | inr last ↦ subst (λ (z : LawShot Scripted). (z.boot < 2 ^ 32) × HasSnapshot scene z.state) last.1 new
   ]
 
-  saved-in : WorldsFit mark scene routes → (net : Network Scripted) (v : ℕ) (old : Seen) (a : Answer) (new : Seen) (x : Seat Scripted) (view : View Scripted) → Reached m net → StandFor mark scene routes old net → ShotsFit net
+  saved-in : RunningWorldsFit mark scene routes → (net : Network Scripted) (v : ℕ) (old : Seen) (a : Answer) (new : Seen) (x : Seat Scripted) (view : ViewerWorld Scripted) → Reached m net → StandFor mark scene routes old net → ShotsFit net
       → slice_get net.viewers v ≡ Some x → x.node.view ≡ view → new ≡ with_shots old new.shots → IsSaving v (viewer_at mark scene routes v x) old.shots view a new.shots → Goes net (ViewerSave v) a new
   saved-in worlds net v old a new x (Spoiled count) reached stand fit at view leaves call =
       goes net net (ViewerSave v) a (Saved (Err save_fault.Spoiled)) new old call.0 (leaves ∙ ap (with_shots old) call.1) (save-spoiled-step m net v x count at view) stand fit
@@ -279,7 +279,7 @@ module _ (mark : List ℕ) (scene : SceneView) (routes : List Route) where
   saved-in worlds net v old a new x (Running w window) reached stand fit at view leaves (inr call) =
       goes net net (ViewerSave v) a (Saved (Err save_fault.Memory)) new old call.0 (leaves ∙ ap (with_shots old) call.1) (save-refused-step m net v x w window at view) stand fit
 
-  saves : WorldsFit mark scene routes → (net : Network Scripted) (v : ℕ) (old : Seen) (a : Answer) (new : Seen) (seat : Option (Seat Scripted)) → Reached m net → StandFor mark scene routes old net → ShotsFit net → slice_get net.viewers v ≡ seat
+  saves : RunningWorldsFit mark scene routes → (net : Network Scripted) (v : ℕ) (old : Seen) (a : Answer) (new : Seen) (seat : Option (Seat Scripted)) → Reached m net → StandFor mark scene routes old net → ShotsFit net → slice_get net.viewers v ≡ seat
       → IsSaved old v (option_map (viewer_at mark scene routes v) seat) a new → Goes net (ViewerSave v) a new
   saves worlds net v old a new None reached stand fit at call =
       unknown net (ViewerSave v) old a new stand fit (ap (λ (o : Option (Seat Scripted)). viewer_step m net (ViewerSave v) v o) at) call
@@ -388,7 +388,7 @@ module _ (mark : List ℕ) (scene : SceneView) (routes : List Route) where
 
   -- ---- any step
 
-  tie : WorldsFit mark scene routes → (net : Network Scripted) (old : Seen) (s : Step) (a : Answer) (new : Seen) → Reached m net → StandFor mark scene routes old net → ShotsFit net → IsCall old s a new → Goes net s a new
+  tie : RunningWorldsFit mark scene routes → (net : Network Scripted) (old : Seen) (s : Step) (a : Answer) (new : Seen) → Reached m net → StandFor mark scene routes old net → ShotsFit net → IsCall old s a new → Goes net s a new
   tie worlds net old (HostClock t) a new reached stand fit call =
       let clocked = subst (λ (v : HostView). IsPartClocked v.part t call.0 call.1) stand.host call.4 in
       let of_host = IsPartClocked-host (part_of net.host) net.host t call.0 call.1 refl (low net reached).0 (low net reached).1 clocked in
@@ -433,7 +433,7 @@ module _ (mark : List ℕ) (scene : SceneView) (routes : List Route) where
 
   -- ---- all steps
 
-  pub tied : WorldsFit mark scene routes → (viewers : ℕ) → 1 ≤ viewers → viewers ≤ max_viewers → (before : List Step) (told : List law.Answer) (net : Network Scripted) → Run m (start m (replicate viewers 1)) before told net → (old : Seen) → StandFor mark scene routes old net → ShotsFit net
+  pub tied : RunningWorldsFit mark scene routes → (viewers : ℕ) → 1 ≤ viewers → viewers ≤ max_viewers → (before : List Step) (told : List law.Answer) (net : Network Scripted) → Run m (start m (replicate viewers 1)) before told net → (old : Seen) → StandFor mark scene routes old net → ShotsFit net
       → (steps : List Step) (answers : List Answer) (new : Seen) → AreCalls old steps answers new → (end : Network Scripted) × Run m net steps (map law_answer answers) end × StandFor mark scene routes new end
   tied worlds viewers some most before told net run old stand fit [] [] new calls = (net, refl, subst (λ (s : Seen). StandFor mark scene routes s net) (sym calls) stand)
   tied worlds viewers some most before told net run old stand fit (s ∷ steps) (a ∷ answers) new calls =

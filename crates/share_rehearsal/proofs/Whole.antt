@@ -17,12 +17,12 @@ use Rattle.share_rehearsal.specs.Calls.{Seen, AreCalls, begun_with}
 use Rattle.share_rehearsal.specs.Rehearsed.{AreLoaded, IsLogged, IsRehearsal, IsRehearsed, law_answer}
 use Rattle.share_rehearsal.proofs.Plays.{stand-begun}
 use Rattle.share_rehearsal.proofs.Telling.{told_run}
-use Rattle.share_rehearsal.proofs.Ties.{WorldsFit, tied}
+use Rattle.share_rehearsal.proofs.Ties.{RunningWorldsFit, tied}
 
 -- ---- all of it
 
 -- worlds fit snapshots where all loaded one text
-fits : (text mark : List ℕ) (scene : SceneView) (routes : List Route) (stages : List StageView) → AreLoaded text scene routes stages → WorldsFit mark scene routes
+fits : (text mark : List ℕ) (scene : SceneView) (routes : List Route) (stages : List StageView) → AreLoaded text scene routes stages → RunningWorldsFit mark scene routes
 fits text mark scene routes stages loaded net reached v w window at = running_have text loaded.flat scene routes mark net loaded.is_scene loaded.attached reached v w window at
 
 is-rehearsal : (mark : List ℕ) (stages : List StageView) (steps : List Step) (answers : List Answer) (new : Seen) → 1 ≤ length stages → length stages ≤ max_viewers → AreCalls (begun_with mark stages) steps answers new

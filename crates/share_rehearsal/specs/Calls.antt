@@ -18,7 +18,7 @@ use Rattle.share_law.specs.declared.fault.JoinFault.{JoinFault}
 use Rattle.share_law.specs.declared.fault.NumberFault.{NumberFault}
 use Rattle.share_law.specs.declared.fault.HostFault.{HostFault}
 use Rattle.share_law.specs.declared.fault.TakeFault.{TakeFault}
-use Rattle.share_law.specs.declared.kept.Kept.{Kept}
+use Rattle.share_law.specs.declared.kept.SeatCount.{SeatCount}
 use Rattle.share_law.specs.declared.reply.Gathered.{Gathered}
 use Rattle.share_law.specs.declared.reply.HostReply.{HostReply}
 use Rattle.share_law.specs.declared.reply.Taken.{Taken}
@@ -35,7 +35,7 @@ use Rattle.share_law.specs.Parts.{HostPart, new_part, part_drop_below, part_floo
 use Rattle.share_law.specs.Parts.{part_packet}
 use Rattle.share_law.specs.Pieces.{Gathering, whole_of}
 use Rattle.share_law.specs.Viewer as law
-use Rattle.share_law.specs.Viewer.{View, Spoiled, Running, viewer_offer, viewer_resend, viewer_ask}
+use Rattle.share_law.specs.Viewer.{ViewerWorld, Spoiled, Running, viewer_offer, viewer_resend, viewer_ask}
 use Rattle.share_core.specs.Host.{HostView}
 use Rattle.share_core.specs.Pieces.{piece_of}
 use Rattle.share_core.specs.Viewer.{ViewerView, machine_of, with_gathering, with_state}
@@ -121,7 +121,7 @@ IsMade s mark (Some body) a new =
     × (new ≡ with_packets s (s.packets ++ datagram (message mark body) ∷ []))
     × (decoded (datagram (message mark body)) ≡ Ok (message mark body))
 
-abbrev pub IsAcked : Seen → (v : ℕ) → Option Kept → Answer → Seen → Type 0
+abbrev pub IsAcked : Seen → (v : ℕ) → Option SeatCount → Answer → Seen → Type 0
 IsAcked s v None a new = IsUnknown s a new
 IsAcked s v (Some kept) a new = IsMade s s.host.mark (Some (ack_of v kept)) a new
 
@@ -145,7 +145,8 @@ IsGiven s v (Some x) (Some bytes) a new =
 -- ---- snapshots
 
 -- of a viewer that runs or is spoiled
-abbrev pub IsSaving : (number : ℕ) → ViewerView → List Shot → View Scripted → Answer → List Shot
+abbrev pub IsSaving : (number : ℕ) → ViewerView → List Shot → ViewerWorld Scripted → Answer
+    → List Shot
     → Type 0
 IsSaving number x old (Spoiled count) a new = (a ≡ Saved (Err save_fault.Spoiled)) × (new ≡ old)
 IsSaving number x old (Running w window) a new =

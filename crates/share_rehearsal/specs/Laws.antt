@@ -1,7 +1,7 @@
 -- What holds of the nodes that a rehearsal leaves, and of its log.
 use Rattle.std.specs.Prelude.{◌≡◌, ◌↔◌, ℕ, ◌+◌, ◌-◌, ◌≤◌, pos, true, List, [], ◌∷◌, ◌++◌, length}
 use Rattle.std.specs.Prelude.{take, drop, slice_get, codes, Option, None, Some, Ok}
-use Rattle.x3d_values.specs.Stamp.{Stamp}
+use Rattle.x3d_values.specs.Stamp.{StampedView}
 use Rattle.scene_core.specs.declared.scene.Route.{Route}
 use Rattle.scene_core.specs.Scene.{SceneView}
 use Rattle.cascade_core.specs.Apply.{world}
@@ -25,7 +25,7 @@ use Rattle.share_rehearsal.specs.Rehearsed.{IsRehearsal, law_answer, shot_at}
 
 -- of whatever a rehearsal of a scene leaves, whichever its steps, and of the list of all inputs
 -- that its host numbered, of which it holds a part
-abbrev pub OfRehearsals : (SceneView → List Route → List Stamp → Seen → Type 0) → Type 0
+abbrev pub OfRehearsals : (SceneView → List Route → List StampedView → Seen → Type 0) → Type 0
 OfRehearsals Law =
     (mark : List ℕ) (scene : SceneView) (routes : List Route) (viewers : ℕ) (steps : List Step)
     (answers : List Answer) (left : Seen)
@@ -34,23 +34,23 @@ OfRehearsals Law =
 
 -- viewer v is left running, with this world and this window
 pub record IsLeft (left : Seen) (v : ℕ) (x : ViewerView) (held : Scripted)
-    (window : List (Option Stamp)) : Type 0 where
+    (window : List (Option StampedView)) : Type 0 where
   pub is : slice_get left.viewers v ≡ Some x
   pub runs : x.state.view ≡ Running held window
 
 -- its world is that of the scene and of as many of all inputs, from the first, as it applied
-abbrev pub ViewersHold : SceneView → List Route → List Stamp → Seen → Type 0
+abbrev pub ViewersHold : SceneView → List Route → List StampedView → Seen → Type 0
 ViewersHold scene routes list left =
-    (v : ℕ) (x : ViewerView) (held : Scripted) (window : List (Option Stamp))
+    (v : ℕ) (x : ViewerView) (held : Scripted) (window : List (Option StampedView))
     → IsLeft left v x held window
     → (held.world.applied ≤ length list)
     × (held ≡ world scene routes (take held.world.applied list))
 
 -- two that applied as many hold the same world, and write the same texts
-abbrev pub ViewersAgree : SceneView → List Route → List Stamp → Seen → Type 0
+abbrev pub ViewersAgree : SceneView → List Route → List StampedView → Seen → Type 0
 ViewersAgree scene routes list left =
     (v other : ℕ) (x y : ViewerView) (held theirs : Scripted)
-    (window their_window : List (Option Stamp))
+    (window their_window : List (Option StampedView))
     → IsLeft left v x held window → IsLeft left other y theirs their_window
     → held.world.applied ≡ theirs.world.applied
     → (held ≡ theirs)
@@ -58,17 +58,17 @@ ViewersAgree scene routes list left =
     × (trace_text x.scene held ≡ trace_text y.scene theirs)
 
 -- its window lacks its next input, and has of the 63 behind that the numbered ones alone
-abbrev pub WindowsHold : SceneView → List Route → List Stamp → Seen → Type 0
+abbrev pub WindowsHold : SceneView → List Route → List StampedView → Seen → Type 0
 WindowsHold scene routes list left =
-    (v : ℕ) (x : ViewerView) (held : Scripted) (window : List (Option Stamp))
+    (v : ℕ) (x : ViewerView) (held : Scripted) (window : List (Option StampedView))
     → IsLeft left v x held window → IsAhead list held.world.applied window
 
 -- the times of all inputs rise
-abbrev pub TimesRise : SceneView → List Route → List Stamp → Seen → Type 0
+abbrev pub TimesRise : SceneView → List Route → List StampedView → Seen → Type 0
 TimesRise scene routes list left = Rises (pos 0) list
 
 -- the host holds the inputs from its floor on, and knows how many there are and when the last was
-abbrev pub HostHolds : SceneView → List Route → List Stamp → Seen → Type 0
+abbrev pub HostHolds : SceneView → List Route → List StampedView → Seen → Type 0
 HostHolds scene routes list left =
     (1 ≤ left.host.part.floor) × (left.host.part.floor ≤ length list + 1)
     × (left.host.part.rest ≡ drop (left.host.part.floor - 1) list)
@@ -82,7 +82,7 @@ IsTaken scene left s from = slice_get left.shots s ≡ Some (shot_at left.host.m
 
 -- what a viewer has gathered is of one snapshot that was taken, whichever snapshots its pieces were
 -- cut from; once none are missing it is the bytes of that
-abbrev pub PiecesHold : SceneView → List Route → List Stamp → Seen → Type 0
+abbrev pub PiecesHold : SceneView → List Route → List StampedView → Seen → Type 0
 PiecesHold scene routes list left =
     (v : ℕ) (x : ViewerView) (g : Gathering)
     → slice_get left.viewers v ≡ Some x → x.gathering ≡ Some g
@@ -92,7 +92,8 @@ PiecesHold scene routes list left =
 
 -- viewer v stands where the viewer of a snapshot stood as it was taken: in that world, which is
 -- that of the scene and of the first n of all inputs, as a new boot, with nothing gathered
-pub record StandsIn (scene : SceneView) (routes : List Route) (list : List Stamp) (left : Seen)
+pub record StandsIn
+    (scene : SceneView) (routes : List Route) (list : List StampedView) (left : Seen)
     (v boot n : ℕ) : Type 0 where
   pub s : ℕ
   pub from : Shot Scripted

@@ -11,7 +11,7 @@ use Rattle.share_law.specs.declared.reply.Taken.TheVariants as taken
 use Rattle.share_law.specs.declared.fault.GatherFault.{GatherFault}
 use Rattle.share_law.specs.declared.reply.Gathered.{Gathered}
 use Rattle.share_law.specs.declared.reply.Gathered.TheVariants as gathered
-use Rattle.share_law.specs.Viewer.{View, Spoiled, Running}
+use Rattle.share_law.specs.Viewer.{ViewerWorld, Spoiled, Running}
 use Rattle.cascade_core.specs.Texts.{scene_text, trace_text}
 use Rattle.cascade_core.specs.Course.{Scripted}
 use Rattle.share_core.specs.Viewer.{ViewerView}
@@ -32,7 +32,7 @@ reply_text NothingToDo = codes "NothingToDo"
 abbrev pub taken_text : Taken → List ℕ
 taken_text taken.Old = codes "Old"
 taken_text taken.Beyond = codes "Beyond"
-taken_text taken.Kept = codes "Kept"
+taken_text taken.Held = codes "Kept"
 taken_text (taken.Applied count) = codes "Applied " ++ decimal count
 taken_text taken.Noted = codes "Noted"
 taken_text taken.Behind = codes "Behind"
@@ -89,7 +89,7 @@ lines_from n (a ∷ answers) = line_text n a ++ lines_from (suc n) answers
 -- ---- the ending
 
 -- a viewer that runs, with its trace and its scene, or one that is spoiled
-abbrev pub ending_in : (number : ℕ) → ViewerView → View Scripted → List ℕ
+abbrev pub ending_in : (number : ℕ) → ViewerView → ViewerWorld Scripted → List ℕ
 ending_in number v (Running w window) =
     codes "viewer " ++ decimal number ++ codes " at " ++ decimal w.world.applied
     ++ codes " boot " ++ decimal v.state.boot ++ 10 ∷ trace_text v.scene w

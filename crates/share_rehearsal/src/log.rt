@@ -58,7 +58,7 @@ fn push_taken(taken: Taken, out: &mut Vec<u8>) -> Result<(), AllocError>
     match taken {
         Taken::Old => push_word("Old", out),
         Taken::Beyond => push_word("Beyond", out),
-        Taken::Kept => push_word("Kept", out),
+        Taken::Held => push_word("Kept", out),
         Taken::Applied(count) => push_number("Applied ", count as usize, out),
         Taken::Noted => push_word("Noted", out),
         Taken::Behind => push_word("Behind", out),

@@ -13,12 +13,12 @@ mod seats;
 mod window;
 mod words;
 
-pub use acks::{Tally, settled_after};
-pub use asks::{Span, span_of};
+pub use acks::{Tally, covered_after};
+pub use asks::{InputRun, span_of};
 pub use fields::all_of;
 pub use inputs::place_of;
 pub use lines::cut_line;
-pub use offers::{MOST_WAITING, Turn, turn_of};
+pub use offers::{MOST_WAITING, Standing, standing_of};
 pub use seats::seat_of;
 pub use window::Window;
 pub use words::cut_word;

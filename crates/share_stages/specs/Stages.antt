@@ -11,7 +11,7 @@ use Rattle.script_host.specs.declared.fault.AttachFault.{AttachFault}
 use Rattle.share_jobs.specs.declared.fault.JobFault.{JobFault}
 use Rattle.share_jobs.specs.declared.fault.JobFault.TheVariants.{Attach}
 use Rattle.share_program.specs.Opening.{next, opened, same}
-use Rattle.share_program.specs.declared.open.Opened.{Opened}
+use Rattle.share_program.specs.declared.open.OpenedScene.{OpenedScene}
 
 -- why the scripts of a scene are refused
 abbrev pub scripts_refusal : SceneView → Option JobFault
@@ -19,7 +19,7 @@ scripts_refusal scene =
     option_map (λ (fault : AttachFault). Attach fault) (scripts_fault (script_list scene))
 
 -- the stage of a scene before any input
-abbrev pub fresh : Opened → StageView
+abbrev pub fresh : OpenedScene → StageView
 fresh o = record { scene = o.scene; routes = o.routes; held = Running (opening o.scene o.routes) }
 
 -- the stage has had no input
@@ -31,20 +31,20 @@ unless_refused x None = Ok x
 unless_refused x (Some fault) = Err fault
 
 -- the stage of a scene, unless its scripts are refused
-abbrev pub staged : Opened → Result StageView JobFault
+abbrev pub staged : OpenedScene → Result StageView JobFault
 staged o = unless_refused (fresh o) (scripts_refusal o.scene)
 
 -- a scene whose scripts are taken, or why they aren't
-abbrev pub scripted : Opened → Result Opened JobFault
+abbrev pub scripted : OpenedScene → Result OpenedScene JobFault
 scripted o = unless_refused o (scripts_refusal o.scene)
 
 -- the scene of a text, and its routes, where its scripts are taken
-unfoldable pub staged_scene : List ℕ → Result Opened JobFault
+unfoldable pub staged_scene : List ℕ → Result OpenedScene JobFault
 staged_scene text = next same (opened text) scripted
 
 -- a stage of the text's scene before any input
 pub record IsStage (text : List ℕ) (stage : StageView) : Type 0 where
-  pub scene : Opened
+  pub scene : OpenedScene
   pub is_scene : staged_scene text ≡ Ok scene
   pub is : stage ≡ fresh scene
 

@@ -14,7 +14,7 @@ use script_boxes::{StockScript, attach_stock};
 use script_host::Scripts;
 use script_running::script_list;
 use share_jobs::JobFault;
-use share_program::{Opened, open_scene};
+use share_program::{OpenedScene, open_scene};
 use std::alloc::{AllocError, Global};
 
 /// Boxes of the stock for the scripts of a scene, none of which is initialized.
@@ -31,7 +31,7 @@ fn scripts_of(alloc: Global, scene: &Scene) -> Result<Scripts<StockScript>, JobF
 /// The stage of a scene with these scripts before any input.
 fn loaded(
     alloc: Global,
-    opened: Opened,
+    opened: OpenedScene,
     scripts: Scripts<StockScript>,
 ) -> Result<Stage<StockScript>, AllocError>
     requires fits { Fits (script_list opened.scene) scripts }
@@ -46,7 +46,7 @@ fn loaded(
 
 /// The stage of a scene before any input. It is refused for memory, or else for the first fault of
 /// its scripts.
-pub fn fresh_stage(alloc: Global, opened: Opened) -> Result<Stage<StockScript>, JobFault>
+pub fn fresh_stage(alloc: Global, opened: OpenedScene) -> Result<Stage<StockScript>, JobFault>
     ensures exact { Gives Memory (λ s. s) result (staged opened) }
     ensures ok { IfOk result (λ s. s ≡ fresh opened) }
     ensures taken { OnOk result (scripts_refusal opened.scene ≡ None) }

@@ -5,7 +5,7 @@ use Rattle.cascade_core.specs.Course.{Scripted}
 use Rattle.snapshot_core.specs.Shot.{shot}
 use Rattle.snapshot_core.specs.declared.fault.SaveFault.{SaveFault}
 use Rattle.snapshot_core.specs.declared.fault.SaveFault.TheVariants as save
-use Rattle.share_law.specs.Viewer.{View, Running, Spoiled}
+use Rattle.share_law.specs.Viewer.{ViewerWorld, Running, Spoiled}
 use Rattle.share_core.specs.Viewer.{IfRunning, IfSpoiled, ViewerView}
 use Rattle.share_port.specs.declared.traffic.Traffic.{Traffic}
 use Rattle.share_turns.specs.declared.fault.TurnFault.{TurnFault}
@@ -32,17 +32,17 @@ pub is_shot : (v : ViewerView) (before after : List ℕ) → IfSpoiled v.state.v
     → IfRunning v.state.view (λ w. after ≡ before ++ shot v.mark v.state.boot v.scene w) → IsShot v before (Ok tt) after
 is_shot v before after spoiled ok = go v.state.view spoiled ok
   where
-    go : (view : View Scripted) → IfSpoiled view ((shot_taken ≡ Err save.Spoiled) × (after ≡ before))
+    go : (view : ViewerWorld Scripted) → IfSpoiled view ((shot_taken ≡ Err save.Spoiled) × (after ≡ before))
         → IfRunning view (λ w. after ≡ before ++ shot v.mark v.state.boot v.scene w)
         → IfSpoiled view ⊥ × IfRunning view (λ w. after ≡ before ++ shot v.mark v.state.boot v.scene w)
     go (Running w window) spoiled ok = (tt, ok)
     go (Spoiled count) spoiled ok = absurd (cc)
 
-runs_still : (view : View Scripted) (same : Type 0) → IfSpoiled view ((shot_refused save.Memory ≡ Err save.Spoiled) × same) → IfSpoiled view ⊥
+runs_still : (view : ViewerWorld Scripted) (same : Type 0) → IfSpoiled view ((shot_refused save.Memory ≡ Err save.Spoiled) × same) → IfSpoiled view ⊥
 runs_still (Running w window) same s = tt
 runs_still (Spoiled count) same s = absurd (cc)
 
-is_over_with : (view : View Scripted) (same : Type 0) → IfRunning view (λ w. (shot_refused save.Spoiled ≡ Err save.Memory) × same) → IfRunning view (λ w. ⊥)
+is_over_with : (view : ViewerWorld Scripted) (same : Type 0) → IfRunning view (λ w. (shot_refused save.Spoiled ≡ Err save.Memory) × same) → IfRunning view (λ w. ⊥)
 is_over_with (Running w window) same s = absurd (cc)
 is_over_with (Spoiled count) same s = tt
 
@@ -63,7 +63,7 @@ none_sent v turn_fault.Port before after n m s e = absurd s
 none_sent v turn_fault.Spoiled before after n m s e = e
 none_sent v turn_fault.Memory before after n m s e = e
 
-if_runs : (view : View Scripted) (P Q : Scripted → Type 0) → ((w : Scripted) → P w → Q w) → IfRunning view P → IfRunning view Q
+if_runs : (view : ViewerWorld Scripted) (P Q : Scripted → Type 0) → ((w : Scripted) → P w → Q w) → IfRunning view P → IfRunning view Q
 if_runs (Running w window) P Q f p = f w p
 if_runs (Spoiled count) P Q f p = tt
 

@@ -8,7 +8,7 @@ use Rattle.std.proofs.lemmas.List.{map-append}
 use Rattle.std.proofs.lemmas.Option.{none-some, same_Some, slice_get_past}
 use Rattle.share_wire.specs.Datagram.{datagram}
 use Rattle.share_wire.specs.declared.message.Body.{Body}
-use Rattle.share_law.specs.declared.kept.Kept.{Kept}
+use Rattle.share_law.specs.declared.kept.SeatCount.{SeatCount}
 use Rattle.share_law.specs.Host.{ack_of}
 use Rattle.share_law.specs.Parts.{HostPart, part_packet}
 use Rattle.share_port.specs.declared.port.PortFault.{PortFault}
@@ -80,7 +80,7 @@ pub acks_one : (mark : List ℕ) (h : HostPart) (who : ℕ) (bytes : List ℕ)
     → option_map (λ kept. datagram (record { mark = mark; body = ack_of who kept })) (slice_get h.kept who) ≡ Some bytes
     → datagrams_of mark (acks_for h (Some who)) ≡ bytes ∷ []
 acks_one mark h who bytes = go (slice_get h.kept who) where
-  go : (k : Option Kept) → option_map (λ kept. datagram (record { mark = mark; body = ack_of who kept })) k ≡ Some bytes → datagrams_of mark (ack_to who k) ≡ bytes ∷ []
+  go : (k : Option SeatCount) → option_map (λ kept. datagram (record { mark = mark; body = ack_of who kept })) k ≡ Some bytes → datagrams_of mark (ack_to who k) ≡ bytes ∷ []
   go None e = absurd (none-some bytes e)
   go (Some k) e = ap (λ b. b ∷ []) (same_Some _ bytes e)
 

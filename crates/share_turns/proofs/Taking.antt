@@ -6,7 +6,7 @@ use Rattle.std.proofs.lemmas.Bool.{false≢true}
 use Rattle.std.proofs.lemmas.List.{map-append}
 use Rattle.cascade_core.specs.Course.{Scripted}
 use Rattle.share_law.specs.Machine.{Machine}
-use Rattle.share_law.specs.Viewer.{View, Running, Spoiled, ViewerState}
+use Rattle.share_law.specs.Viewer.{ViewerWorld, Running, Spoiled, ViewerState}
 use Rattle.share_core.specs.Viewer.{IfRunning, IfSpoiled, ViewerView, is_spoiled, machine_of, with_state}
 use Rattle.share_port.specs.declared.traffic.Datagram.{Datagram}
 use Rattle.share_port.specs.declared.traffic.Traffic.{Traffic}
@@ -126,19 +126,19 @@ turn_sent v begun taken host point offered a b c result same offers then takes s
       told = grows_then a b c (received t.takings ++ t.rest) (sent_to host s.sent) t.told s.told;
     }
 
-pub while_running : (view : View Scripted) (P : Type 0) → P → IfRunning view (λ w. P)
+pub while_running : (view : ViewerWorld Scripted) (P : Type 0) → P → IfRunning view (λ w. P)
 while_running (Running w window) P p = p
 while_running (Spoiled count) P p = tt
 
-pub while_spoiled : (view : View Scripted) (P : Type 0) → P → IfSpoiled view P
+pub while_spoiled : (view : ViewerWorld Scripted) (P : Type 0) → P → IfSpoiled view P
 while_spoiled (Running w window) P p = tt
 while_spoiled (Spoiled count) P p = p
 
-pub unless_spoiled : (view : View Scripted) (P : Type 0) → is_spoiled view ≡ false → IfSpoiled view P
+pub unless_spoiled : (view : ViewerWorld Scripted) (P : Type 0) → is_spoiled view ≡ false → IfSpoiled view P
 unless_spoiled (Running w window) P e = tt
 unless_spoiled (Spoiled count) P e = absurd (false≢true (sym e))
 
-pub unless_running : (view : View Scripted) (P : Scripted → Type 0) → is_spoiled view ≡ true → IfRunning view P
+pub unless_running : (view : ViewerWorld Scripted) (P : Scripted → Type 0) → is_spoiled view ≡ true → IfRunning view P
 unless_running (Running w window) P e = absurd (false≢true e)
 unless_running (Spoiled count) P e = tt
 

@@ -6,7 +6,7 @@ use Rattle.cascade_core.specs.declared.fault.TextFault.{TextFault}
 use Rattle.cascade_core.specs.declared.fault.TextFault.TheVariants as text_fault
 use Rattle.cascade_core.specs.Course.{Scripted}
 use Rattle.cascade_core.specs.Texts.{scene_text, trace_text}
-use Rattle.share_law.specs.Viewer.{View, Running, Spoiled}
+use Rattle.share_law.specs.Viewer.{ViewerWorld, Running, Spoiled}
 use Rattle.share_core.specs.Viewer.{IfRunning, IfSpoiled, ViewerView, machine_of, with_state}
 use Rattle.share_port.specs.declared.traffic.Traffic.{Traffic}
 use Rattle.share_turns.specs.declared.fault.TurnFault.{TurnFault}
@@ -14,7 +14,7 @@ use Rattle.share_turns.specs.declared.fault.TurnFault.TheVariants as turn_fault
 use Rattle.share_turns.specs.ViewerTurn.{IsViewerTurn}
 use Rattle.share_turns.specs.Views.{AreAppended, IsTextFault, IsTurnOf, ViewerTurns, applied_by, one_more_if, turn_fault_of}
 
-if_spoiled : (view : View Scripted) (P Q : Type 0) → (P → Q) → IfSpoiled view P → IfSpoiled view Q
+if_spoiled : (view : ViewerWorld Scripted) (P Q : Type 0) → (P → Q) → IfSpoiled view P → IfSpoiled view Q
 if_spoiled (Running w window) P Q f p = tt
 if_spoiled (Spoiled count) P Q f p = f p
 
@@ -59,7 +59,7 @@ pub both_appended : (v : ViewerView) (old mid new : List ℕ) → IfSpoiled v.st
     → IfRunning v.state.view (λ w. new ≡ mid ++ scene_text v.scene v.routes w) → AreAppended v old new
 both_appended v old mid new unless first second = shown v.state.view refl unless first second
   where
-    shown : (view : View Scripted) → v.state.view ≡ view → IfSpoiled view (written ≡ Err text_fault.Spoiled)
+    shown : (view : ViewerWorld Scripted) → v.state.view ≡ view → IfSpoiled view (written ≡ Err text_fault.Spoiled)
         → IfRunning view (λ w. mid ≡ old ++ trace_text v.scene w)
         → IfRunning view (λ w. new ≡ mid ++ scene_text v.scene v.routes w) → AreAppended v old new
     shown (Running w window) is unless first second = record {
@@ -71,7 +71,7 @@ both_appended v old mid new unless first second = shown v.state.view refl unless
     shown (Spoiled count) is unless first second = absurd (cc)
 
 -- a text was refused
-pub text_refused : (view : View Scripted) (fault : TextFault) → IfSpoiled view (refused fault ≡ Err text_fault.Spoiled)
+pub text_refused : (view : ViewerWorld Scripted) (fault : TextFault) → IfSpoiled view (refused fault ≡ Err text_fault.Spoiled)
     → IfRunning view (λ w. fault ≡ text_fault.Memory) → IsTextFault view (turn_fault_of fault)
 text_refused (Running w window) text_fault.Spoiled spoiled running = absurd (cc)
 text_refused (Running w window) text_fault.Memory spoiled running = tt

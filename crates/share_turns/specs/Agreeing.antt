@@ -4,9 +4,9 @@ use Rattle.std.specs.Prelude.{Bool, true, false, List, [], ◌∷◌, ◌++◌, 
 use Rattle.std.specs.Prelude.{slice_set, codes, decimal}
 use Rattle.std.specs.Prelude.{if◌then◌else◌, is_some, ℤ, Option, Some, None, Result, Ok, Err}
 use Rattle.x3d_values.specs.declared.pointing.Point.{Point}
-use Rattle.x3d_values.specs.declared.stamped.Event.{Event}
-use Rattle.x3d_values.specs.declared.stamped.Event.TheVariants.{Clock, Pointer}
-use Rattle.x3d_values.specs.Stamp.{Stamp}
+use Rattle.x3d_values.specs.declared.stamped.Cause.{Cause}
+use Rattle.x3d_values.specs.declared.stamped.Cause.TheVariants.{Clock, Pointer}
+use Rattle.x3d_values.specs.Stamp.{StampedView}
 use Rattle.cascade_core.specs.Course.{Scripted}
 use Rattle.share_law.specs.Parts.{HostPart}
 use Rattle.share_law.specs.Viewer.{ViewerState, point_of}
@@ -21,23 +21,23 @@ use Rattle.share_turns.specs.Views.{AreAppended, IsTextFault, IsTurnOf, applied_
 
 -- ---- steps
 
-abbrev pub clock_at : (time : ℤ) → Event → Option ℤ
+abbrev pub clock_at : (time : ℤ) → Cause → Option ℤ
 clock_at time Clock = Some time
 clock_at time (Pointer p) = None
 
 -- the host numbers a clock itself
-abbrev pub clock_of : Option Stamp → Option ℤ
+abbrev pub clock_of : Option StampedView → Option ℤ
 clock_of None = None
-clock_of (Some step) = clock_at step.time step.event
+clock_of (Some step) = clock_at step.time step.cause
 
-abbrev pub pointed_by : (who : ℕ) → Event → Option Point
+abbrev pub pointed_by : (who : ℕ) → Cause → Option Point
 pointed_by who Clock = None
 pointed_by who (Pointer p) = if p.who == who then Some (point_of p) else None
 
 -- a point is offered by its viewer
-abbrev pub offer_of : Option Stamp → (who : ℕ) → Option Point
+abbrev pub offer_of : Option StampedView → (who : ℕ) → Option Point
 offer_of None who = None
-offer_of (Some step) who = pointed_by who step.event
+offer_of (Some step) who = pointed_by who step.cause
 
 -- ---- turns of viewers
 
@@ -58,7 +58,7 @@ abbrev pub seats_of : {P : Type 0} → List ViewerView → List P → Seats P
 seats_of viewers ports = record { viewers = viewers; ports = ports }
 
 -- a turn of the viewer with this number, which changes it and its port alone
-pub record IsSeatTurn {P : Type 0} (ways : Ways P) (step : Option Stamp) (host who : ℕ)
+pub record IsSeatTurn {P : Type 0} (ways : Ways P) (step : Option StampedView) (host who : ℕ)
     (old : Seats P) (result : Result Bool TurnFault) (new : Seats P) : Type 0 where
   pub viewer : ViewerView
   pub port : P
@@ -73,7 +73,7 @@ pub record IsSeatTurn {P : Type 0} (ways : Ways P) (step : Option Stamp) (host w
   pub ports : new.ports ≡ slice_set old.ports who left_port
 
 -- turns of the first so many viewers, and whether one of them offered its point
-abbrev pub SeatTurns : {P : Type 0} → Ways P → Option Stamp → (host viewers : ℕ) → Seats P
+abbrev pub SeatTurns : {P : Type 0} → Ways P → Option StampedView → (host viewers : ℕ) → Seats P
     → (offered : Bool) → Seats P → Type 0
 SeatTurns ways step host zero old offered new = (offered ≡ false) × (new ≡ old)
 SeatTurns {P} ways step host (suc n) old offered new =
@@ -81,7 +81,7 @@ SeatTurns {P} ways step host (suc n) old offered new =
     × IsSeatTurn ways step host n mid (Ok did) new × (offered ≡ (before || did))
 
 -- the same, up to a turn that ended early
-pub record SeatTurnsEnd {P : Type 0} (ways : Ways P) (step : Option Stamp) (host : ℕ)
+pub record SeatTurnsEnd {P : Type 0} (ways : Ways P) (step : Option StampedView) (host : ℕ)
     (old : Seats P) (fault : TurnFault) (new : Seats P) : Type 0 where
   pub done : ℕ
   pub fewer : done < length old.viewers
@@ -106,18 +106,19 @@ meeting host port viewers ports = record {
 }
 
 -- a clock is issued by the host's turn, and a point where it was offered
-abbrev pub is_issued : Option Stamp → (offered : Bool) → Bool
+abbrev pub is_issued : Option StampedView → (offered : Bool) → Bool
 is_issued step offered = offered || is_some (clock_of step)
 
 -- the turn of the host, the first of a round
-pub record IsFirstTurn {P : Type 0} (ways : Ways P) (mark : List ℕ) (step : Option Stamp)
+pub record IsFirstTurn {P : Type 0} (ways : Ways P) (mark : List ℕ) (step : Option StampedView)
     (old : Meeting P) (result : Result (Unit {0}) TurnFault) (new : Meeting P) : Type 0 where
   pub turn : IsHostTurn result mark (clock_of step) (ways.told old.port) (ways.told new.port)
       old.host new.host
   pub failures : ways.failures new.port ≡ failures_after result (ways.failures old.port)
 
 -- a turn of the host and one of each viewer, and whether this step was issued in them
-pub record IsRoundOf {P : Type 0} (ways : Ways P) (mark : List ℕ) (step : Option Stamp) (own : ℕ)
+pub record IsRoundOf
+    {P : Type 0} (ways : Ways P) (mark : List ℕ) (step : Option StampedView) (own : ℕ)
     (old : Meeting P) (issued : Bool) (new : Meeting P) : Type 0 where
   pub first : IsFirstTurn ways mark step old (Ok tt) new
   pub offered : Bool
@@ -125,7 +126,7 @@ pub record IsRoundOf {P : Type 0} (ways : Ways P) (mark : List ℕ) (step : Opti
   pub is : issued ≡ is_issued step offered
 
 -- it ended early: in the host's turn, or in a viewer's
-abbrev pub IsRoundEnd : {P : Type 0} → Ways P → (mark : List ℕ) → Option Stamp → (own : ℕ)
+abbrev pub IsRoundEnd : {P : Type 0} → Ways P → (mark : List ℕ) → Option StampedView → (own : ℕ)
     → Meeting P → TurnFault → Meeting P → Type 0
 IsRoundEnd ways mark step own old fault new =
     (IsFirstTurn ways mark step old (Err fault) new × (new.seats ≡ old.seats))
@@ -138,19 +139,19 @@ are_at n [] = true
 are_at n (v ∷ vs) = (applied_by v v.state == n) && are_at n vs
 
 -- the host has numbered all that was issued, and every viewer has applied it
-abbrev pub is_settled : {P : Type 0} → (issued : ℕ) → Meeting P → Bool
-is_settled issued m = (m.host.count == issued) && are_at issued m.seats.viewers
+abbrev pub is_caught_up : {P : Type 0} → (issued : ℕ) → Meeting P → Bool
+is_caught_up issued m = (m.host.count == issued) && are_at issued m.seats.viewers
 
 -- the next step is issued then
-abbrev pub due : {P : Type 0} → List Stamp → (issued : ℕ) → Meeting P → Option Stamp
-due steps issued m = if is_settled issued m then slice_get steps issued else None
+abbrev pub due : {P : Type 0} → List StampedView → (issued : ℕ) → Meeting P → Option StampedView
+due steps issued m = if is_caught_up issued m then slice_get steps issued else None
 
 -- all steps are issued, and what came of them is settled
-abbrev pub is_over : {P : Type 0} → List Stamp → (issued : ℕ) → Meeting P → Bool
-is_over steps issued m = is_settled issued m && (issued == length steps)
+abbrev pub is_over : {P : Type 0} → List StampedView → (issued : ℕ) → Meeting P → Bool
+is_over steps issued m = is_caught_up issued m && (issued == length steps)
 
 -- so many rounds, each while it isn't over and with the step that is due; so many were issued
-abbrev pub Rounds : {P : Type 0} → Ways P → (mark : List ℕ) → List Stamp → (own rounds : ℕ)
+abbrev pub Rounds : {P : Type 0} → Ways P → (mark : List ℕ) → List StampedView → (own rounds : ℕ)
     → (old : Meeting P) → (issued : ℕ) → (new : Meeting P) → Type 0
 Rounds ways mark steps own zero old issued new = (issued ≡ 0) × (new ≡ old)
 Rounds {P} ways mark steps own (suc n) old issued new =
@@ -161,22 +162,22 @@ Rounds {P} ways mark steps own (suc n) old issued new =
     × (issued ≡ one_more_if did before)
 
 -- rounds, until it is over
-pub record AreAgreed {P : Type 0} (ways : Ways P) (mark : List ℕ) (steps : List Stamp)
+pub record AreAgreed {P : Type 0} (ways : Ways P) (mark : List ℕ) (steps : List StampedView)
     (own rounds : ℕ) (old new : Meeting P) : Type 0 where
   pub done : ℕ
   pub most : done ≤ rounds
   pub turned : Rounds ways mark steps own done old (length steps) new
-  pub settled : is_settled (length steps) new ≡ true
+  pub caught_up : is_caught_up (length steps) new ≡ true
 
 -- all the rounds, and it isn't over
-pub record AreUnsettled {P : Type 0} (ways : Ways P) (mark : List ℕ) (steps : List Stamp)
+pub record AreBehindYet {P : Type 0} (ways : Ways P) (mark : List ℕ) (steps : List StampedView)
     (own rounds : ℕ) (old new : Meeting P) : Type 0 where
   pub issued : ℕ
   pub turned : Rounds ways mark steps own rounds old issued new
   pub going : is_over steps issued new ≡ false
 
 -- rounds, up to one that ended early
-pub record AreCut {P : Type 0} (ways : Ways P) (mark : List ℕ) (steps : List Stamp)
+pub record AreCut {P : Type 0} (ways : Ways P) (mark : List ℕ) (steps : List StampedView)
     (own rounds : ℕ) (old : Meeting P) (fault : TurnFault) (new : Meeting P) : Type 0 where
   pub done : ℕ
   pub fewer : done < rounds
@@ -186,10 +187,11 @@ pub record AreCut {P : Type 0} (ways : Ways P) (mark : List ℕ) (steps : List S
   pub going : is_over steps issued mid ≡ false
   pub last : IsRoundEnd ways mark (due steps issued mid) own mid fault new
 
-abbrev pub IsAgreeEnd : {P : Type 0} → Ways P → (mark : List ℕ) → List Stamp → (own rounds : ℕ)
+abbrev pub IsAgreeEnd : {P : Type 0} → Ways P → (mark : List ℕ) → List StampedView
+    → (own rounds : ℕ)
     → Meeting P → SeriesFault → Meeting P → Type 0
 IsAgreeEnd ways mark steps own rounds old TurnsUsedUp new =
-    AreUnsettled ways mark steps own rounds old new
+    AreBehindYet ways mark steps own rounds old new
 IsAgreeEnd ways mark steps own rounds old (Turn fault) new =
     AreCut ways mark steps own rounds old fault new
 IsAgreeEnd ways mark steps own rounds old (Join fault) new = ⊥
@@ -212,10 +214,11 @@ IsAgreedTextFault viewers fault =
     × IsTextFault first.state.view fault)
 
 -- the rounds ended so, or they agreed and a text ended so
-abbrev pub IsAgreeRunEnd : {P : Type 0} → Ways P → (mark : List ℕ) → List Stamp → (own rounds : ℕ)
+abbrev pub IsAgreeRunEnd : {P : Type 0} → Ways P → (mark : List ℕ) → List StampedView
+    → (own rounds : ℕ)
     → Meeting P → SeriesFault → Meeting P → Type 0
 IsAgreeRunEnd ways mark steps own rounds old TurnsUsedUp new =
-    AreUnsettled ways mark steps own rounds old new
+    AreBehindYet ways mark steps own rounds old new
 IsAgreeRunEnd ways mark steps own rounds old (Turn fault) new =
     AreCut ways mark steps own rounds old fault new
     ⊎ (AreAgreed ways mark steps own rounds old new

@@ -5,7 +5,7 @@ use Rattle.std.specs.Prelude.{if◌then◌else◌}
 use Rattle.std.specs.Cmp.Lexicographic.{pointwise}
 use Rattle.std.specs.List.{flat_map, range_with_len}
 use Rattle.share_heard.specs.Heard.{hear}
-use Rattle.share_wire.specs.Messages.{Asking}
+use Rattle.share_wire.specs.Messages.{AskView}
 use Rattle.share_wire.specs.Datagram.{datagram}
 use Rattle.share_wire.specs.Decoding.{decoded}
 use Rattle.share_wire.specs.declared.fault.WireFault.{WireFault}
@@ -14,7 +14,7 @@ use Rattle.share_wire.specs.declared.message.Body.TheVariants.{Input, Offer, Ask
 use Rattle.share_wire.specs.declared.message.Message.{Message}
 use Rattle.share_law.specs.declared.fault.HostFault.{HostFault}
 use Rattle.share_law.specs.declared.fault.NumberFault.{NumberFault}
-use Rattle.share_law.specs.declared.kept.Kept.{Kept}
+use Rattle.share_law.specs.declared.kept.SeatCount.{SeatCount}
 use Rattle.share_law.specs.declared.reply.HostReply.{HostReply}
 use Rattle.share_law.specs.declared.reply.HostReply.TheVariants.{Asked, Below}
 use Rattle.share_law.specs.Host.{ack_of}
@@ -57,7 +57,7 @@ abbrev pub sender_of : Result Message WireFault → Option ℕ
 sender_of (Ok message) = sender_in message.body
 sender_of (Err fault) = None
 
-abbrev pub ack_to : (who : ℕ) → Option Kept → List Body
+abbrev pub ack_to : (who : ℕ) → Option SeatCount → List Body
 ack_to who None = []
 ack_to who (Some kept) = ack_of who kept ∷ []
 
@@ -81,7 +81,7 @@ datagrams_for mark h came (Err fault) = []
 
 -- ---- what it hears of its viewers
 
-abbrev pub ask_in : Body → Option Asking
+abbrev pub ask_in : Body → Option AskView
 ask_in (Input s) = None
 ask_in (Offer o) = None
 ask_in (Ask a) = Some a
@@ -90,13 +90,13 @@ ask_in (Floor f) = None
 ask_in (Piece p) = None
 
 -- the ask of this scene that came
-abbrev pub asked_of : (mark : List ℕ) → Result Message WireFault → Option Asking
+abbrev pub asked_of : (mark : List ℕ) → Result Message WireFault → Option AskView
 asked_of mark (Ok message) =
     if pointwise nat_eq message.mark mark then ask_in message.body else None
 asked_of mark (Err fault) = None
 
 -- an ask of one of its viewers is heard
-abbrev pub hear_from : (viewers : ℕ) → (heard : List ℕ) → Option Asking → List ℕ
+abbrev pub hear_from : (viewers : ℕ) → (heard : List ℕ) → Option AskView → List ℕ
 hear_from viewers heard None = heard
 hear_from viewers heard (Some a) =
     if nat_lt a.who viewers then hear heard a.who a.next else heard

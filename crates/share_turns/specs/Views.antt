@@ -2,12 +2,12 @@
 use Rattle.std.specs.Prelude.{◌≡◌, ℕ, zero, suc, ◌+◌, ◌-◌, ◌≤◌, ◌<◌, Bool, true, false, List}
 use Rattle.std.specs.Prelude.{◌⊎◌, ◌++◌, slice_get, Option, None, Some, Result, Ok, Err}
 use Rattle.x3d_values.specs.declared.pointing.Point.{Point}
-use Rattle.x3d_values.specs.Stamp.{Stamp}
+use Rattle.x3d_values.specs.Stamp.{StampedView}
 use Rattle.cascade_core.specs.declared.fault.TextFault.{TextFault}
 use Rattle.cascade_core.specs.declared.fault.TextFault.TheVariants as text_fault
 use Rattle.cascade_core.specs.Course.{Scripted}
 use Rattle.cascade_core.specs.Texts.{scene_text, trace_text}
-use Rattle.share_law.specs.Viewer.{View, Running, ViewerState, applied_in}
+use Rattle.share_law.specs.Viewer.{ViewerWorld, Running, ViewerState, applied_in}
 use Rattle.share_core.specs.Viewer.{IfRunning, IfSpoiled, ViewerView, machine_of, with_state}
 use Rattle.share_port.specs.declared.traffic.Traffic.{Traffic}
 use Rattle.share_turns.specs.declared.fault.SeriesFault.{SeriesFault}
@@ -101,7 +101,7 @@ failures_in result n = n
 -- the viewer runs, and its trace and then its scene are appended
 pub record AreAppended (v : ViewerView) (old new : List ℕ) : Type 0 where
   pub held : Scripted
-  pub window : List (Option Stamp)
+  pub window : List (Option StampedView)
   pub runs : v.state.view ≡ Running held window
   pub texts : new ≡ old ++ (trace_text v.scene held ++ scene_text v.scene v.routes held)
 
@@ -110,7 +110,7 @@ turn_fault_of text_fault.Spoiled = Spoiled
 turn_fault_of text_fault.Memory = Memory
 
 -- the viewer is spoiled, or memory was refused to a text
-abbrev pub IsTextFault : View Scripted → TurnFault → Type 0
+abbrev pub IsTextFault : ViewerWorld Scripted → TurnFault → Type 0
 IsTextFault view Spoiled = IfRunning view (λ w. ⊥)
 IsTextFault view Memory = IfSpoiled view ⊥
 IsTextFault view fault = ⊥

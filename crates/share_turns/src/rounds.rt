@@ -22,14 +22,14 @@ use share_core::{Host, Viewer};
 use share_law::point_of;
 use share_port::Port;
 use std::alloc::AllocError;
-use x3d_values::{Event, Point, Stamped};
+use x3d_values::{Cause, Point, Stamped};
 
-fn clock_at(time: i64, event: Event) -> Option<i64>
-    ensures { result ≡ clock_at time event }
+fn clock_at(time: i64, cause: Cause) -> Option<i64>
+    ensures { result ≡ clock_at time cause }
 {
-    match event {
-        Event::Clock => Some(time),
-        Event::Pointer(_) => None,
+    match cause {
+        Cause::Clock => Some(time),
+        Cause::Pointer(_) => None,
     }
 }
 
@@ -38,15 +38,15 @@ fn clock_of(step: &Option<Stamped>) -> Option<i64>
     ensures { result ≡ clock_of step.now }
 {
     match step {
-        Some(step) => clock_at(step.time(), step.event()),
+        Some(step) => clock_at(step.time(), step.cause()),
         None => None,
     }
 }
 
-fn pointed_by(who: usize, event: Event) -> Option<Point>
-    ensures { result ≡ pointed_by who event }
+fn pointed_by(who: usize, cause: Cause) -> Option<Point>
+    ensures { result ≡ pointed_by who cause }
 {
-    let Event::Pointer(pointer) = event else {
+    let Cause::Pointer(pointer) = cause else {
         return None;
     };
     if usize::from(pointer.who()) == who {
@@ -61,7 +61,7 @@ fn offer_of(step: &Option<Stamped>, who: usize) -> Option<Point>
     ensures { result ≡ offer_of step.now who }
 {
     match step {
-        Some(step) => pointed_by(who, step.event()),
+        Some(step) => pointed_by(who, step.cause()),
         None => None,
     }
 }
@@ -128,24 +128,24 @@ fn are_at<B: Behaviour>(count: u32, viewers: &[Viewer<B>]) -> bool
 }
 
 /// Whether the host has numbered all that was issued, and every viewer has applied it.
-fn is_settled<B: Behaviour>(host: &Host, viewers: &[Viewer<B>], issued: u32) -> bool
+fn is_caught_up<B: Behaviour>(host: &Host, viewers: &[Viewer<B>], issued: u32) -> bool
     ensures { result ≡ (host.now.part.count == issued) && are_at issued viewers.now }
 {
     host.len() == issued && are_at(issued, viewers)
 }
 
 /// Whether all steps are issued, and what came of them is settled.
-fn is_over(settled: bool, issued: u32, count: usize) -> bool
-    ensures { result ≡ (settled && (issued == count)) }
+fn is_over(caught_up: bool, issued: u32, count: usize) -> bool
+    ensures { result ≡ (caught_up && (issued == count)) }
 {
-    settled && issued as usize == count
+    caught_up && issued as usize == count
 }
 
 /// The step that is issued now.
-fn due(steps: &[Stamped], issued: u32, settled: bool) -> Option<Stamped>
-    ensures { result ≡ if settled then slice_get steps.now issued else None }
+fn due(steps: &[Stamped], issued: u32, caught_up: bool) -> Option<Stamped>
+    ensures { result ≡ if caught_up then slice_get steps.now issued else None }
 {
-    if settled {
+    if caught_up {
         item_at(steps, issued)
     } else {
         None
@@ -215,15 +215,15 @@ pub fn agree_until<B: Behaviour, P: Port>(
 {
     let mut issued = 0;
     for _round in 0..rounds {
-        let settled = is_settled(host, viewers, issued);
-        let over = is_over(settled, issued, steps.len());
+        let caught_up = is_caught_up(host, viewers, issued);
+        let over = is_over(caught_up, issued, steps.len());
         if over {
             return Ok(());
         }
-        let step = due(steps, issued, settled);
+        let step = due(steps, issued, caught_up);
         issued = one_more_if(round(host, viewers, &step, own, port, ports)?, issued);
     }
-    if is_over(is_settled(host, viewers, issued), issued, steps.len()) {
+    if is_over(is_caught_up(host, viewers, issued), issued, steps.len()) {
         Ok(())
     } else {
         Err(SeriesFault::TurnsUsedUp)

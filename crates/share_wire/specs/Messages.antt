@@ -1,27 +1,27 @@
 -- What is sent beside inputs, with its ranges (our choice).
 use Rattle.std.specs.Prelude.{ℕ, ◌+◌, ◌-◌, ◌*◌, ◌/◌, ◌^◌, ◌++◌, ◌&&◌, min, Bool, List, length, replicate, nat_le, nat_lt}
-use Rattle.x3d_values.specs.Pointing.{Pointing}
+use Rattle.x3d_values.specs.Pointing.{PointerView}
 
 -- a point that a viewer offers: the how many-th offer of which of its boots
-pub record Offering : Type 0 where
+pub record OfferView : Type 0 where
   pub boot : ℕ
   pub number : ℕ
-  pub pointer : Pointing
+  pub pointer : PointerView
 
 -- the number of the first input that a viewer lacks
-pub record Asking : Type 0 where
+pub record AskView : Type 0 where
   pub who : ℕ
   pub next : ℕ
 
 -- how many offers of which boot of a viewer the host has numbered
-pub record Acking : Type 0 where
+pub record AckView : Type 0 where
   pub who : ℕ
   pub boot : ℕ
   pub count : ℕ
 
 -- a piece of a snapshot: of which boot, how many inputs its world has had, how many bytes the
 -- whole has, which piece it is, counted from 0, and its bytes
-pub record Fragment : Type 0 where
+pub record PieceView : Type 0 where
   pub boot : ℕ
   pub applied : ℕ
   pub length : ℕ

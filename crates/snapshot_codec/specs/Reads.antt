@@ -10,9 +10,9 @@ Fails Memory read = Unit {0}
 Fails NotCanonical read = read ≡ None
 
 -- the call returned what is read there, seen by `view`, unless memory was refused
-abbrev pub Reads : {X Y : Type 0} → (X → Y) → Result X PartFault → Option Y → Type 0
-Reads view (Ok x) read = read ≡ Some (view x)
-Reads view (Err fault) read = Fails fault read
+abbrev pub ReadsPart : {X Y : Type 0} → (X → Y) → Result X PartFault → Option Y → Type 0
+ReadsPart view (Ok x) read = read ≡ Some (view x)
+ReadsPart view (Err fault) read = Fails fault read
 
 -- items that were there before, and those that are read behind them
 abbrev pub behind : {A : Type 0} → List A → Option (List A × List ℕ) → Option (List A × List ℕ)

@@ -5,7 +5,7 @@ ghost use Rattle.std.specs.Int.{w32, w64};
 ghost use Rattle.std.specs.List.{flat_map};
 ghost use Rattle.x3d_lists.specs.Extends.{Extends};
 ghost use Rattle.byte_codec.specs.Codec.{Codec, number, signed, truth, many_at};
-ghost use Rattle.snapshot_codec.specs.Reads.{Reads};
+ghost use Rattle.snapshot_codec.specs.Reads.{ReadsPart};
 ghost use Rattle.snapshot_codec.specs.Values.{text, vector2, vector3, color, list_of, within};
 
 use crate::fault::PartFault;
@@ -21,7 +21,7 @@ pub(crate) trait Coded: Drop {
 
     /// The value at the front of the bytes, and the bytes behind it.
     fn read(alloc: Global, bytes: &[u8]) -> Result<(Self, &[u8]), PartFault>
-        ensures { Reads (λ x. (x.0, x.1.now)) result (codec.read bytes.now) };
+        ensures { ReadsPart (λ x. (x.0, x.1.now)) result (codec.read bytes.now) };
 
     /// Appends the bytes; on a refusal perhaps a part of them.
     fn push_to(&self, out: &mut Vec<u8>) -> Result<(), AllocError>
@@ -35,7 +35,7 @@ pub(crate) fn many_of<T: Coded>(
     count: u32,
     bytes: &[u8],
 ) -> Result<(Items<T>, &[u8]), PartFault>
-    ensures { Reads (λ x. (x.0, x.1.now)) result (many_at T.codec count bytes.now) }
+    ensures { ReadsPart (λ x. (x.0, x.1.now)) result (many_at T.codec count bytes.now) }
 {
     let mut items = Items::new(alloc);
     let mut rest = bytes;
@@ -58,7 +58,7 @@ pub(crate) fn many_of<T: Coded>(
 
 /// A count, and that many values.
 pub(crate) fn list_of<T: Coded>(alloc: Global, bytes: &[u8]) -> Result<(Items<T>, &[u8]), PartFault>
-    ensures { Reads (λ x. (x.0, x.1.now)) result ((list_of T.codec).read bytes.now) }
+    ensures { ReadsPart (λ x. (x.0, x.1.now)) result ((list_of T.codec).read bytes.now) }
 {
     let Some((count, rest)) = u32_of(bytes) else {
         return Err(PartFault::NotCanonical);
@@ -73,7 +73,7 @@ pub(crate) fn many_within(
     count: u32,
     bytes: &[u8],
 ) -> Result<(Items<i64>, &[u8]), PartFault>
-    ensures { Reads (λ x. (x.0, x.1.now)) result (many_at (within limit) count bytes.now) }
+    ensures { ReadsPart (λ x. (x.0, x.1.now)) result (many_at (within limit) count bytes.now) }
 {
     let mut items = Items::new(alloc);
     let mut rest = bytes;
@@ -93,7 +93,7 @@ pub(crate) fn list_within(
     limit: u64,
     bytes: &[u8],
 ) -> Result<(Items<i64>, &[u8]), PartFault>
-    ensures { Reads (λ x. (x.0, x.1.now)) result ((list_of (within limit)).read bytes.now) }
+    ensures { ReadsPart (λ x. (x.0, x.1.now)) result ((list_of (within limit)).read bytes.now) }
 {
     let Some((count, rest)) = u32_of(bytes) else {
         return Err(PartFault::NotCanonical);

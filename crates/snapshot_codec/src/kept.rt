@@ -5,7 +5,7 @@ ghost use Rattle.std.specs.List.{flat_map};
 ghost use Rattle.x3d_lists.specs.Extends.{Extends};
 ghost use Rattle.byte_codec.specs.Codec.{rows_at};
 ghost use Rattle.snapshot_codec.specs.declared.kept.KeptField.TheVariants.{Interval};
-ghost use Rattle.snapshot_codec.specs.Reads.{Reads};
+ghost use Rattle.snapshot_codec.specs.Reads.{ReadsPart};
 ghost use Rattle.snapshot_codec.specs.Fields.{has_bytes, is_interval, kept_field, kept_text, kept_codec, fields_codec};
 
 use crate::fault::PartFault;
@@ -74,7 +74,7 @@ pub fn kept_field(
 /// A time above 0.
 #[tactic(auto, unfolding(crate::specs::Fields::kept_at, crate::specs::Values::value_at))]
 fn interval_of(bytes: &[u8]) -> Result<(Option<Value>, &[u8]), PartFault>
-    ensures { Reads (λ x. (x.0, x.1.now)) result ((kept_codec Interval).read bytes.now) }
+    ensures { ReadsPart (λ x. (x.0, x.1.now)) result ((kept_codec Interval).read bytes.now) }
 {
     let Some((time, rest)) = within_of(MAX_TIME, bytes) else {
         return Err(PartFault::NotCanonical);
@@ -93,7 +93,7 @@ fn kept_value_of(
     field: KeptField,
     bytes: &[u8],
 ) -> Result<(Option<Value>, &[u8]), PartFault>
-    ensures { Reads (λ x. (x.0, x.1.now)) result ((kept_codec field).read bytes.now) }
+    ensures { ReadsPart (λ x. (x.0, x.1.now)) result ((kept_codec field).read bytes.now) }
 {
     match field {
         KeptField::Absent => Ok((None, bytes)),
@@ -112,7 +112,7 @@ pub fn kept_fields_of<'a>(
     fields: &[KeptField],
     bytes: &'a [u8],
 ) -> Result<(Items<Option<Value>>, &'a [u8]), PartFault>
-    ensures { Reads (λ x. (x.0, x.1.now)) result ((fields_codec fields.now).read bytes.now) }
+    ensures { ReadsPart (λ x. (x.0, x.1.now)) result ((fields_codec fields.now).read bytes.now) }
 {
     let mut values = Items::new(alloc);
     let mut rest = bytes;

@@ -2,7 +2,7 @@
 
 ghost use Rattle.std.specs.Prelude.{◌≡◌, ◌++◌, ◌<◌, ◌^◌, IfSome, OnErr, OnOk};
 ghost use Rattle.std.specs.Option.{option_map};
-ghost use Rattle.snapshot_codec.specs.Reads.{Reads};
+ghost use Rattle.snapshot_codec.specs.Reads.{ReadsPart};
 ghost use Rattle.snapshot_codec.specs.Parts.{cycle_in, place_number, cycle_codec, position_codec, state_codec, states_codec};
 
 use crate::coded::{Coded, list_of, many_of, push_list};
@@ -113,7 +113,7 @@ pub fn states_of(
     scripts: u32,
     bytes: &[u8],
 ) -> Result<(Items<Items<i64>>, &[u8]), PartFault>
-    ensures { Reads (λ x. (x.0, x.1.now)) result ((states_codec scripts).read bytes.now) }
+    ensures { ReadsPart (λ x. (x.0, x.1.now)) result ((states_codec scripts).read bytes.now) }
 {
     many_of(alloc, scripts, bytes)
 }

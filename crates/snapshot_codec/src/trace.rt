@@ -6,7 +6,7 @@ ghost use Rattle.std.specs.Int.{w64};
 ghost use Rattle.byte_codec.specs.Codec.{number_text, many_at};
 ghost use Rattle.x3d_values.specs.declared.field_type.FieldType.{FieldType as AFieldType};
 ghost use Rattle.snapshot_codec.specs.declared.trace.TraceEntry.{TraceEntry as AnEntry};
-ghost use Rattle.snapshot_codec.specs.Reads.{Reads, behind};
+ghost use Rattle.snapshot_codec.specs.Reads.{ReadsPart, behind};
 ghost use Rattle.snapshot_codec.specs.Trace.{moment_codec, sent_at_codec, typed_codec, entry_codec, trace_codec, entry_text};
 
 use crate::fault::PartFault;
@@ -109,7 +109,7 @@ fn typed_of(
     field_type: Option<FieldType>,
     bytes: &[u8],
 ) -> Result<(Value, &[u8]), PartFault>
-    ensures { Reads (λ x. (x.0, x.1.now)) result ((typed_codec field_type).read bytes.now) }
+    ensures { ReadsPart (λ x. (x.0, x.1.now)) result ((typed_codec field_type).read bytes.now) }
 {
     match field_type {
         Some(field_type) => value_of(alloc, field_type, bytes),
@@ -125,7 +125,7 @@ pub fn entry_of<'a, O: Outputs>(
     outputs: &O,
     bytes: &'a [u8],
 ) -> Result<(TraceEntry, &'a [u8]), PartFault>
-    ensures { Reads (λ x. (x.0, x.1.now)) result
+    ensures { ReadsPart (λ x. (x.0, x.1.now)) result
         ((entry_codec (O.types outputs.now)).read bytes.now) }
 {
     let Some((sent, rest)) = sent_at_of(bytes) else {
@@ -143,7 +143,7 @@ fn entries_of<'a, O: Outputs, T: TakesEntries>(
     bytes: &'a [u8],
     taker: &mut T,
 ) -> Result<&'a [u8], PartFault>
-    ensures { Reads (λ rest. (T.entries taker.new, rest.now)) result
+    ensures { ReadsPart (λ rest. (T.entries taker.new, rest.now)) result
         (behind (T.entries taker.old)
         (many_at (entry_codec (O.types outputs.now)) count bytes.now)) }
 {
@@ -165,7 +165,7 @@ pub fn trace_of<'a, O: Outputs, T: TakesEntries>(
     bytes: &'a [u8],
     taker: &mut T,
 ) -> Result<&'a [u8], PartFault>
-    ensures { Reads (λ rest. (T.entries taker.new, rest.now)) result
+    ensures { ReadsPart (λ rest. (T.entries taker.new, rest.now)) result
         (behind (T.entries taker.old) ((trace_codec (O.types outputs.now)).read bytes.now)) }
 {
     let Some((count, rest)) = u64_of(bytes) else {

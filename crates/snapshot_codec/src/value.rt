@@ -2,7 +2,7 @@
 
 ghost use Rattle.std.specs.Prelude.{◌≡◌, ◌++◌, Err, IsOkAnd, MatchResult, OnErr, OnOk};
 ghost use Rattle.x3d_lists.specs.Extends.{Extends};
-ghost use Rattle.snapshot_codec.specs.Reads.{Reads};
+ghost use Rattle.snapshot_codec.specs.Reads.{ReadsPart};
 ghost use Rattle.snapshot_codec.specs.Values.{list_at, value_codec, value_text};
 
 use crate::coded::{Coded, list_of, list_within, push_list};
@@ -25,7 +25,7 @@ pub fn value_of(
     field_type: FieldType,
     bytes: &[u8],
 ) -> Result<(Value, &[u8]), PartFault>
-    ensures { Reads (λ x. (x.0, x.1.now)) result ((value_codec field_type).read bytes.now) }
+    ensures { ReadsPart (λ x. (x.0, x.1.now)) result ((value_codec field_type).read bytes.now) }
 {
     match field_type {
         FieldType::SFBool => valued(bool::read(alloc, bytes), Value::SFBool),
@@ -53,7 +53,7 @@ fn list_value_of(
     field_type: FieldType,
     bytes: &[u8],
 ) -> Result<(Value, &[u8]), PartFault>
-    ensures { Reads (λ x. (x.0, x.1.now)) result (list_at field_type bytes.now) }
+    ensures { ReadsPart (λ x. (x.0, x.1.now)) result (list_at field_type bytes.now) }
 {
     match field_type {
         FieldType::MFBool => valued(list_of(alloc, bytes), Value::MFBool),

@@ -3,7 +3,7 @@ use Rattle.std.proofs.Common.{◌≡◌, ℕ, ◌+◌, ◌≤◌, ◌<◌, List,
 use Rattle.std.specs.Prelude.{slice_get, slice_index_or}
 use Rattle.std.specs.Option.{option_map_or}
 use Rattle.std.proofs.lemmas.List.{append-nil, nil_from_length}
-use Rattle.x3d_values.specs.Tables.{Entry}
+use Rattle.x3d_values.specs.Tables.{FieldRowView}
 use Rattle.x3d_values.specs.declared.node_type.NodeType.{NodeType}
 use Rattle.scene_core.specs.Scene.{SceneView, rows_at, shape_of, shapes_of, types_of}
 use Rattle.scene_core.specs.Shape.{Shape, rows_of}
@@ -39,10 +39,10 @@ rows_in : (scene : SceneView) (node : ℕ) → node < length scene.nodes → row
 rows_in scene node lt = rows_found (slice_get (shapes_of scene) node) (shape_in scene node) (shape_in-is scene node lt)
 
 -- what a snapshot has of a field, if the node has it
-abbrev pub one_kept : NodeType → ℕ → Option Entry → List KeptField
+abbrev pub one_kept : NodeType → ℕ → Option FieldRowView → List KeptField
 one_kept t number field = option_map_or (λ row. kept_field t number row.access row.field_type ∷ []) field []
 
-kept-split : (t : NodeType) (rows : List Entry) (i n : ℕ) → kept_from t n (drop i rows) ≡ one_kept t n (slice_get rows i) ++ kept_from t (n + 1) (drop (suc i) rows)
+kept-split : (t : NodeType) (rows : List FieldRowView) (i n : ℕ) → kept_from t n (drop i rows) ≡ one_kept t n (slice_get rows i) ++ kept_from t (n + 1) (drop (suc i) rows)
 kept-split t [] zero n = refl
 kept-split t [] (suc i) n = refl
 kept-split t (row ∷ rows) zero n = refl
@@ -54,9 +54,9 @@ pub kept-more : (scene : SceneView) (node : ℕ) (t : NodeType) (number : ℕ) (
     old ++ kept_from t number (drop number (rows_of (shape_in scene node))) ≡ total →
     new ++ kept_from t (number + 1) (drop (number + 1) (rows_of (shape_in scene node))) ≡ total
 kept-more scene node t number old new total lt more so_far =
-    let rows : List Entry = rows_of (shape_in scene node) in
+    let rows : List FieldRowView = rows_of (shape_in scene node) in
     let one : List KeptField = one_kept t number (slice_get rows number) in
-    let is : new ≡ old ++ one = more ∙ ap (λ (rows : List Entry). old ++ one_kept t number (slice_get rows number)) (rows_in scene node lt) in
+    let is : new ≡ old ++ one = more ∙ ap (λ (rows : List FieldRowView). old ++ one_kept t number (slice_get rows number)) (rows_in scene node lt) in
     let next : suc number ≡ number + 1 = omega arith in
     let split : kept_from t number (drop number rows) ≡ one ++ kept_from t (number + 1) (drop (number + 1) rows) =
     kept-split t rows number number ∙ ap (λ (k : ℕ). one ++ kept_from t (number + 1) (drop k rows)) next in
@@ -71,9 +71,9 @@ pub kept-done : (scene : SceneView) (node : ℕ) (t : NodeType) (number count : 
     kept ≡ kept_fields (shape_in scene node)
 unfolding kept_fields
 kept-done scene node t number count kept lt h le all so_far =
-    let rows : List Entry = rows_of (shape_in scene node) in
+    let rows : List FieldRowView = rows_of (shape_in scene node) in
     let none : drop number rows ≡ [] = nil_from_length (drop number rows) (omega (arith, le, all, ap length (rows_in scene node lt), length-drop number rows)) in
-    let last : kept ++ kept_from t number (drop number rows) ≡ kept = ap (λ (z : List Entry). kept ++ kept_from t number z) none ∙ append-nil kept in
+    let last : kept ++ kept_from t number (drop number rows) ≡ kept = ap (λ (z : List FieldRowView). kept ++ kept_from t number z) none ∙ append-nil kept in
     sym last ∙ so_far ∙ ap (λ (k : NodeType). kept_from k 0 rows) (type_in scene node t lt h)
 
 -- the bytes of a node go by its type and those fields

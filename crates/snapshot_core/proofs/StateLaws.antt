@@ -5,7 +5,7 @@ use Rattle.std.proofs.lemmas.Bool.{and_right}
 use Rattle.byte_codec.proofs.Laws.{both, and_true}
 use Rattle.x3d_values.specs.declared.script.Kind.{Kind}
 use Rattle.scene_core.specs.Scene.{SceneView}
-use Rattle.script_host.specs.Hosting.{ScriptRecord}
+use Rattle.script_host.specs.Hosting.{SlotView}
 use Rattle.script_host.specs.Pairs.{PairAt, PairsBelow}
 use Rattle.script_host.specs.Restoring.{IsFirstFault, IsStateOf}
 use Rattle.script_host.specs.States.{state_fault}
@@ -22,15 +22,15 @@ use Rattle.snapshot_core.specs.declared.world.Found.{Found}
 use Rattle.snapshot_core.specs.Loading.{load_outcome, states_fit, with_states}
 use Rattle.snapshot_core.specs.WorldCodec.{booted}
 
-abbrev kinds : List ScriptRecord → List Kind
-kinds rs = map (λ (r : ScriptRecord). r.kind) rs
+abbrev kinds : List SlotView → List Kind
+kinds rs = map (λ (r : SlotView). r.kind) rs
 
 -- ---- there is a state for each script
 
 no_fault : (f : Option StateFault) → f ≡ None → is_none f ≡ true
 no_fault f e = rw e refl
 
-pairs_fit : (rs : List ScriptRecord) (states : List (List ℤ)) → length rs ≡ length states → PairsBelow IsStateOf rs states (length rs) → states_fit (kinds rs) states ≡ true
+pairs_fit : (rs : List SlotView) (states : List (List ℤ)) → length rs ≡ length states → PairsBelow IsStateOf rs states (length rs) → states_fit (kinds rs) states ≡ true
 pairs_fit [] [] n fit = refl
 pairs_fit [] (s ∷ states) n fit = absurd (omega (arith, n))
 pairs_fit (r ∷ rs) [] n fit = absurd (omega (arith, n))
@@ -46,13 +46,13 @@ pub is_nothing : (f : Option StateFault) → is_none f ≡ true → f ≡ None
 is_nothing None e = refl
 is_nothing (Some x) e = absurd cc
 
-counted : (rs : List ScriptRecord) (states : List (List ℤ)) → states_fit (kinds rs) states ≡ true → length rs ≡ length states
+counted : (rs : List SlotView) (states : List (List ℤ)) → states_fit (kinds rs) states ≡ true → length rs ≡ length states
 counted [] [] e = refl
 counted [] (s ∷ states) e = absurd cc
 counted (r ∷ rs) [] e = absurd cc
 counted (r ∷ rs) (s ∷ states) e = ap suc (counted rs states (both (is_none (state_fault r.kind s)) (states_fit (kinds rs) states) e).1)
 
-fitting : (rs : List ScriptRecord) (states : List (List ℤ)) → states_fit (kinds rs) states ≡ true → PairsBelow IsStateOf rs states (length rs)
+fitting : (rs : List SlotView) (states : List (List ℤ)) → states_fit (kinds rs) states ≡ true → PairsBelow IsStateOf rs states (length rs)
 fitting [] states e j below = absurd (omega (arith, below))
 fitting (r ∷ rs) [] e j below = absurd cc
 fitting (r ∷ rs) (s ∷ states) e zero below = is_nothing (state_fault r.kind s) (both (is_none (state_fault r.kind s)) (states_fit (kinds rs) states) e).0
@@ -63,13 +63,13 @@ fitting_all scene states e = record { count = counted (scripts_in scene) states 
 
 -- ---- there is none for some script
 
-by_length : (rs : List ScriptRecord) (states : List (List ℤ)) → length rs ≢ length states → states_fit (kinds rs) states ≡ false
+by_length : (rs : List SlotView) (states : List (List ℤ)) → length rs ≢ length states → states_fit (kinds rs) states ≡ false
 by_length [] [] n = absurd (n refl)
 by_length [] (s ∷ states) n = refl
 by_length (r ∷ rs) [] n = refl
 by_length (r ∷ rs) (s ∷ states) n = and_right (is_none (state_fault r.kind s)) _ (by_length rs states (λ e. n (ap suc e)))
 
-by_fault : (fault : StateFault) (rs : List ScriptRecord) (states : List (List ℤ)) (k : ℕ) → PairAt (λ (r : ScriptRecord) (s : List ℤ). state_fault r.kind s ≡ Some fault) rs states k → states_fit (kinds rs) states ≡ false
+by_fault : (fault : StateFault) (rs : List SlotView) (states : List (List ℤ)) (k : ℕ) → PairAt (λ (r : SlotView) (s : List ℤ). state_fault r.kind s ≡ Some fault) rs states k → states_fit (kinds rs) states ≡ false
 by_fault fault [] states k here = absurd here
 by_fault fault (r ∷ rs) [] k here = refl
 by_fault fault (r ∷ rs) (s ∷ states) zero here = rw here refl

@@ -6,7 +6,7 @@ use Rattle.x3d_values.specs.declared.fields.Fields.{Fields}
 use Rattle.x3d_values.specs.declared.node_type.NodeType.{NodeType}
 use Rattle.x3d_values.specs.declared.node_type.NodeType.TheVariants.{Group}
 use Rattle.x3d_values.specs.declared.value.Value.{Value}
-use Rattle.x3d_values.specs.Tables.{Entry}
+use Rattle.x3d_values.specs.Tables.{FieldRowView}
 use Rattle.scene_core.specs.Scene.{SceneView, shapes_of}
 use Rattle.scene_core.specs.Shape.{Shape, rows_of}
 use Rattle.snapshot_codec.specs.declared.kept.KeptField.{KeptField}
@@ -23,7 +23,7 @@ use Rattle.snapshot_core.specs.declared.nodes.NodeState.{NodeState}
 -- ---- the fields that stand in a snapshot
 
 -- of rows that are numbered from n on
-abbrev pub kept_from : NodeType → ℕ → List Entry → List KeptField
+abbrev pub kept_from : NodeType → ℕ → List FieldRowView → List KeptField
 kept_from node_type n [] = []
 kept_from node_type n (row ∷ others) =
     kept_field node_type n row.access row.field_type ∷ kept_from node_type (n + 1) others

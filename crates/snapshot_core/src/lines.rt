@@ -5,11 +5,11 @@ ghost use Rattle.std.specs.Option.{option_map};
 ghost use Rattle.x3d_lists.specs.Extends.{Extends};
 ghost use Rattle.scene_core.specs.Scene.{shapes_of};
 ghost use Rattle.scene_core.specs.Shape.{Shape, row_entry};
-ghost use Rattle.snapshot_codec.specs.Reads.{Reads};
+ghost use Rattle.snapshot_codec.specs.Reads.{ReadsPart};
 ghost use Rattle.snapshot_core.specs.WorldCodec.{sent_type, output_type, lines_codec};
 
 use cascade_core::{LineHead, Trace, WritesLines};
-use scene_core::{End, Row, Scene};
+use scene_core::{End, NodeField, Scene};
 use snapshot_codec::{
     Outputs, PartFault, SentAt, TakesEntries, TraceEntry, push_entry, push_entry_count, trace_of,
 };
@@ -17,7 +17,7 @@ use std::alloc::{AllocError, Global};
 use x3d_values::{FieldType, Value};
 
 /// The type of the events that leave by a field, if any do.
-fn sent_type(row: Row<'_>) -> Option<FieldType>
+fn sent_type(row: NodeField<'_>) -> Option<FieldType>
     ensures { result ≡ sent_type (row_entry row.entry) }
 {
     if row.access.sends() {
@@ -78,7 +78,7 @@ pub(crate) fn lines_of<'a>(
     scene: &Scene,
     bytes: &'a [u8],
 ) -> Result<(Trace, &'a [u8]), PartFault>
-    ensures { Reads (λ x. (x.0, x.1.now)) result
+    ensures { ReadsPart (λ x. (x.0, x.1.now)) result
         ((lines_codec (shapes_of scene.now)).read bytes.now) }
 {
     let outputs = SceneOutputs { scene };

@@ -4,7 +4,7 @@ ghost use Rattle.std.specs.Prelude.{◌≡◌, ◌<◌, ◌++◌, [], ◌∷◌,
 ghost use Rattle.std.specs.Option.{option_map};
 ghost use Rattle.x3d_lists.specs.Extends.{Extends};
 ghost use Rattle.scene_core.specs.Scene.{shapes_of};
-ghost use Rattle.snapshot_codec.specs.Reads.{Reads};
+ghost use Rattle.snapshot_codec.specs.Reads.{ReadsPart};
 ghost use Rattle.snapshot_codec.specs.declared.fault.PartFault.TheVariants.{NotCanonical};
 ghost use Rattle.cascade_world.specs.Fits.{all_lead};
 ghost use Rattle.snapshot_codec.specs.declared.kept.KeptField.{KeptField as Kept};
@@ -111,7 +111,7 @@ fn state_of<'a>(
     node_type: NodeType,
     bytes: &'a [u8],
 ) -> Result<(NodeState, &'a [u8]), PartFault>
-    ensures { Reads (λ x. (x.0, x.1.now)) result
+    ensures { ReadsPart (λ x. (x.0, x.1.now)) result
         ((state_codec version kept.now node_type).read bytes.now) }
 {
     let (values, rest) = kept_fields_of(alloc, kept, bytes)?;
@@ -132,7 +132,7 @@ fn node_of<'a>(
     bytes: &'a [u8],
 ) -> Result<(NodeState, &'a [u8]), PartFault>
     requires { node < length scene.now.nodes }
-    ensures { Reads (λ x. (x.0, x.1.now)) result
+    ensures { ReadsPart (λ x. (x.0, x.1.now)) result
         ((node_codec version (shape_in scene.now node)).read bytes.now) }
 {
     list_kept(scene, node, kept)?;
@@ -147,7 +147,7 @@ fn lists_of<'a>(
     scene: &Scene,
     bytes: &'a [u8],
 ) -> Result<(NodeLists, &'a [u8]), PartFault>
-    ensures { Reads (λ x. (x.0, x.1.now)) result
+    ensures { ReadsPart (λ x. (x.0, x.1.now)) result
         ((lists_codec version (shapes_of scene.now)).read bytes.now) }
 {
     let count = scene.count()?;
@@ -197,7 +197,7 @@ pub(crate) fn nodes_of<'a>(
     scene: &Scene,
     bytes: &'a [u8],
 ) -> Result<(NodeLists, &'a [u8]), PartFault>
-    ensures { Reads (λ x. (x.0, x.1.now)) result
+    ensures { ReadsPart (λ x. (x.0, x.1.now)) result
         ((nodes_codec version scene.now).read bytes.now) }
 {
     let (lists, rest) = lists_of(alloc, version, scene, bytes)?;

@@ -4,7 +4,7 @@ ghost use Rattle.std.specs.Prelude.{◌≡◌, ◌++◌, OnOk, length};
 ghost use Rattle.x3d_lists.specs.Extends.{Extends};
 ghost use Rattle.byte_codec.specs.Codec.{whole};
 ghost use Rattle.cascade_core.specs.Scripts.{kinds_in};
-ghost use Rattle.snapshot_codec.specs.Reads.{Reads};
+ghost use Rattle.snapshot_codec.specs.Reads.{ReadsPart};
 ghost use Rattle.snapshot_core.specs.Shot.{body_codec};
 ghost use Rattle.snapshot_core.specs.WorldCodec.{booted, parts_codec, world_with};
 
@@ -47,7 +47,8 @@ fn parts_of<'a>(
     bytes: &'a [u8],
 ) -> Result<(WorldParts, &'a [u8]), PartFault>
     requires { scripts ≡ length (kinds_in scene.now) }
-    ensures { Reads (λ x. (x.0, x.1.now)) result ((parts_codec version scene.now).read bytes.now) }
+    ensures { ReadsPart (λ x. (x.0, x.1.now)) result
+        ((parts_codec version scene.now).read bytes.now) }
 {
     let (nodes, rest) = nodes_of(alloc, version, scene, bytes)?;
     let Some(read) = buttons_of(version, rest) else {
@@ -114,7 +115,7 @@ fn world_of<'a>(
     bytes: &'a [u8],
 ) -> Result<(Found, &'a [u8]), PartFault>
     requires { scripts ≡ length (kinds_in scene.now) }
-    ensures { Reads (λ x. (booted x.0, x.1.now)) result
+    ensures { ReadsPart (λ x. (booted x.0, x.1.now)) result
         ((body_codec version scene.now).read bytes.now) }
 {
     let Some((progress, rest)) = progress_of(bytes) else {
@@ -134,7 +135,7 @@ pub(crate) fn body_of(
     bytes: &[u8],
 ) -> Result<Found, PartFault>
     requires { scripts ≡ length (kinds_in scene.now) }
-    ensures { Reads booted result (whole ((body_codec version scene.now).read bytes.now)) }
+    ensures { ReadsPart booted result (whole ((body_codec version scene.now).read bytes.now)) }
 {
     let (found, rest) = world_of(alloc, version, scene, scripts, bytes)?;
     if let Err(fault) = none_left(rest) {

@@ -22,7 +22,7 @@ use Rattle.snapshot_codec.specs.Values.{vector3}
 use Rattle.snapshot_codec.proofs.PartLaws.{cycle_exact, touch_exact, plane_exact, position_exact}
 use Rattle.sensor_core.specs.Parts.{number_of, over_of, touch_of_parts}
 use Rattle.sensor_core.specs.Touches as touches
-use Rattle.sensor_core.specs.Touches.{Touch}
+use Rattle.sensor_core.specs.Touches.{TouchStateView}
 use Rattle.sensor_plane.specs.declared.drag.Drag.{Drag}
 use Rattle.sensor_plane.specs.declared.pointing.PointingState.{PointingState}
 use Rattle.sensor_plane.specs.declared.pointing.PointingState.TheVariants as state
@@ -64,7 +64,7 @@ time_exact _ = always_exact None is_none refl is_nothing
 
 -- ---- a TouchSensor
 
-abbrev touched : List Bool → Option ℕ → Touch
+abbrev touched : List Bool → Option ℕ → TouchStateView
 touched over presser = record { over = over; presser = presser }
 
 -- a presser that a version has a number for is a viewer
@@ -87,7 +87,7 @@ unfolding n.pointers_codec
 pointers_exact version = refined_exact n.touch_in n.touch_bytes (n.touch_has_bytes version) (touch_codec (viewers_of version)) (record {
   back = λ a b fits e.
       let f = touch_parts version a fits in
-      let P : Touch → Type 0 = λ t. (n.touch_bytes t ≡ a) × (n.touch_has_bytes version t ≡ true) in
+      let P : TouchStateView → Type 0 = λ t. (n.touch_bytes t ≡ a) × (n.touch_has_bytes version t ≡ true) in
       let same : n.touch_bytes (touched (over_of a.over) a.presser) ≡ a = ap (λ k. let t : TouchBytes = record { over = k; presser = a.presser } in t) (number_back a.over f.0) in
       let whole : touch_fits (state.Touch (touched (over_of a.over) a.presser)) ≡ true = and_true _ _ (eq-eqb _ _ (over_length a.over)) f.1 in
       subst P (some_is (touched (over_of a.over) a.presser) b (sym (touch_in_is a f.1) ∙ e))
@@ -181,7 +181,7 @@ drags_exact = refined_exact n.plane_in n.plane_bytes (λ plane. plane_fits (stat
 
 -- ---- where viewers point
 
-abbrev touch_in_it : PointingState → Touch
+abbrev touch_in_it : PointingState → TouchStateView
 touch_in_it (state.Touch touch) = touch
 touch_in_it _ = touches.untouched
 
@@ -257,7 +257,7 @@ all_press : (presser : Option ℕ) → option_map_or is_viewer presser true ≡ 
 all_press None fits = refl
 all_press (Some viewer) fits = fits
 
-newest_touch : (touch : Touch) → touch_fits (state.Touch touch) ≡ true → n.touch_has_bytes newest touch ≡ true
+newest_touch : (touch : TouchStateView) → touch_fits (state.Touch touch) ≡ true → n.touch_has_bytes newest touch ≡ true
 unfolding touch_codec viewer_set_codec presser_codec
 newest_touch touch fits =
     let f = both (eqb (length touch.over) max_viewers) (option_map_or is_viewer touch.presser true) fits in

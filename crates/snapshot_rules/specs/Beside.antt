@@ -10,7 +10,7 @@ use Rattle.snapshot_codec.specs.declared.plane.Plane.{Plane as PlaneBytes}
 use Rattle.snapshot_codec.specs.declared.viewers.Touch.{Touch as TouchBytes}
 use Rattle.snapshot_codec.specs.Parts.{cycle_codec, touch_codec, plane_codec, position_codec}
 use Rattle.sensor_core.specs.Parts.{number_of, touch_of_parts}
-use Rattle.sensor_core.specs.Touches.{Touch}
+use Rattle.sensor_core.specs.Touches.{TouchStateView}
 use Rattle.sensor_plane.specs.declared.drag.Drag.{Drag}
 use Rattle.sensor_plane.specs.declared.pointing.PointingState.{PointingState}
 use Rattle.sensor_plane.specs.declared.pointing.PointingState.TheVariants as state
@@ -37,19 +37,19 @@ time_part _ = always None is_none
 
 -- ---- a TouchSensor
 
-abbrev pub touch_in : TouchBytes → Option Touch
+abbrev pub touch_in : TouchBytes → Option TouchStateView
 touch_in bytes = touch_of_parts (record { over = bytes.over; presser = bytes.presser })
 
-abbrev pub touch_bytes : Touch → TouchBytes
+abbrev pub touch_bytes : TouchStateView → TouchBytes
 touch_bytes touch = record { over = number_of touch.over; presser = touch.presser }
 
 -- in its ranges, and of viewers that a version has bits for
-abbrev pub touch_has_bytes : Version → Touch → Bool
+abbrev pub touch_has_bytes : Version → TouchStateView → Bool
 touch_has_bytes version touch =
     touch_fits (state.Touch touch) && (touch_codec (viewers_of version)).fits (touch_bytes touch)
 
 -- who is over a TouchSensor, and who presses it
-unfoldable pub pointers_codec : Version → Codec Touch
+unfoldable pub pointers_codec : Version → Codec TouchStateView
 pointers_codec version =
     refined touch_in touch_bytes (touch_has_bytes version) (touch_codec (viewers_of version))
 

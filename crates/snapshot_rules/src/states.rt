@@ -3,7 +3,7 @@
 ghost use Rattle.std.specs.Prelude.{◌≡◌, ◌++◌, OnOk, ℕ};
 ghost use Rattle.x3d_lists.specs.Extends.{Extends};
 ghost use Rattle.snapshot_codec.specs.Parts.{states_codec};
-ghost use Rattle.snapshot_codec.specs.Reads.{Reads};
+ghost use Rattle.snapshot_codec.specs.Reads.{ReadsPart};
 
 use snapshot_codec::{PartFault, push_state, states_of as some_states_of};
 use std::alloc::{AllocError, Global};
@@ -16,7 +16,7 @@ pub fn states_of(
     scripts: usize,
     bytes: &[u8],
 ) -> Result<(Items<Items<i64>>, &[u8]), PartFault>
-    ensures { Reads (λ x. (x.0, x.1.now)) result ((states_codec scripts).read bytes.now) }
+    ensures { ReadsPart (λ x. (x.0, x.1.now)) result ((states_codec scripts).read bytes.now) }
 {
     let Ok(count) = u32::try_from(scripts) else {
         return Err(PartFault::Memory);

@@ -14,7 +14,7 @@ use script_boxes::{StockScript, boxes_of};
 use script_host::Scripts;
 use script_running::script_list;
 use share_commands::{SharedJob, shared_job};
-use share_jobs::Inputs;
+use share_jobs::JobInputs;
 use share_program::{RunFault, attach};
 use share_words::Order;
 use snapshot_core::{Saved, SnapFault, load_into, save};
@@ -36,7 +36,7 @@ fn scripts_of(alloc: Global, scene: &Scene) -> Result<Scripts<StockScript>, RunF
 #[derive(Drop)]
 struct Begun {
     stage: Stage<StockScript>,
-    inputs: Inputs,
+    inputs: JobInputs,
     mark: [u8; 32],
 }
 
@@ -70,7 +70,7 @@ fn begin(alloc: Global, job: &str) -> Option<Begun> {
     }
 }
 
-fn applies_all(stage: &mut Stage<StockScript>, inputs: &Inputs) -> bool {
+fn applies_all(stage: &mut Stage<StockScript>, inputs: &JobInputs) -> bool {
     for input in inputs.as_slice() {
         if stage.apply(input).is_err() {
             return false;

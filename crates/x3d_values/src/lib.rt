@@ -42,7 +42,7 @@ pub use ranges::{
 pub use rows::{Field, fields_of};
 pub use script::{Kind, ScriptSpec};
 pub use show::{Show, push_joined, push_list, show_value};
-pub use stamped::{Event, Stamped};
+pub use stamped::{Cause, Stamped};
 pub use table::{FieldRow, field_at, field_of};
 pub use value::{Value, clone_value, empty_value};
 pub use vector::{Color, Vec2, Vec3};

@@ -10,7 +10,7 @@ use share_wire::{
 };
 use std::alloc::Global;
 use std::process::Abort;
-use x3d_values::{Event, Pointer, Ray, Stamped, Vec3};
+use x3d_values::{Cause, Pointer, Ray, Stamped, Vec3};
 
 const MARK: [u8; 32] = *b"abcdefghijklmnopqrstuvwxyzABCDEF";
 
@@ -101,9 +101,9 @@ fn is_piece_both_ways(index: u32, bytes: &[u8], datagram: &[u8]) -> bool {
 
 #[test]
 fn each_message_has_its_bytes(rt: HostRuntime) {
-    let clock = Stamped::new(1, 1_000_000, Event::Clock);
+    let clock = Stamped::new(1, 1_000_000, Cause::Clock);
     holds(&rt, is_both_ways(Body::Input(clock), CLOCK));
-    let pressed = Stamped::new(2, 1_000_001, Event::Pointer(Pointer::new(3, true, ray())));
+    let pressed = Stamped::new(2, 1_000_001, Cause::Pointer(Pointer::new(3, true, ray())));
     holds(&rt, is_both_ways(Body::Input(pressed), POINTER));
     let offer = Offer::new(258, 7, Pointer::new(3, false, ray()));
     holds(&rt, is_both_ways(Body::Offer(offer), OFFER));

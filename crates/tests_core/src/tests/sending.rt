@@ -1,6 +1,6 @@
 //! Values by one plain part, and what a node sends as text.
 
-use react_core::{Outbox, Reply};
+use react_core::{Outbox, SentEvent};
 use std::alloc::Global;
 use x3d_values::{Fields, Items, Position, Show, Value, show_value};
 
@@ -49,7 +49,7 @@ pub fn is_sent(alloc: Global, out: &Outbox, wanted: &str) -> bool {
 }
 
 /// Whether memory is given for the field and the value.
-fn push_reply(reply: &Reply, text: &mut Vec<u8>) -> bool {
+fn push_reply(reply: &SentEvent, text: &mut Vec<u8>) -> bool {
     let field = i32::from(reply.field).show(text).is_ok();
     let space = text.extend_from_slice(b" ").is_ok();
     let value = show_value(&reply.value, text).is_ok();

@@ -147,7 +147,7 @@ const TOUCH: Touch = Touch {
     presser: Some(15),
 };
 
-fn push_event(out: &mut Vec<u8>) -> bool {
+fn push_cause(out: &mut Vec<u8>) -> bool {
     let value = Value::SFBool(true);
     let pushed = push_entry(SENT, &value, out).is_ok();
     drop(value);
@@ -157,7 +157,7 @@ fn push_event(out: &mut Vec<u8>) -> bool {
 /// Whether memory is given for them.
 fn push_parts(out: &mut Vec<u8>) -> bool {
     let count = push_entry_count(1, out).is_ok();
-    let event = push_event(out);
+    let event = push_cause(out);
     let two = push_state(&[-1, 2], out).is_ok();
     let none = push_state(&[], out).is_ok();
     let cycle = push_cycle(Some(258), out).is_ok();

@@ -13,12 +13,12 @@ use cascade_core::{LoadFault, Stage};
 use script_host::Behaviour;
 use share_core::Viewer;
 use share_law::{Step, Taken};
-use share_program::{Job, Opened, attach, open_job, open_scene, run};
+use share_program::{Job, OpenedScene, attach, open_job, open_scene, run};
 use share_rehearsal::rehearse;
 use share_wire::{Body, Message, encode};
 use std::alloc::{AllocError, Global};
 use std::process::Abort;
-use x3d_values::{Event, Stamped, is_input_number, is_input_time};
+use x3d_values::{Cause, Stamped, is_input_number, is_input_time};
 
 /// A counter that a clock drives each two seconds, from the first second on.
 const COUNTED: &str = "#X3D V3.0 utf8
@@ -42,7 +42,7 @@ fn stage_of<'a>(alloc: Global, script: Counted<'a>) -> Result<Stage<Counted<'a>>
         drop(boxes);
         return Err(LoadFault::Memory);
     };
-    let Opened { scene, routes } = opened;
+    let OpenedScene { scene, routes } = opened;
     let Ok(scripts) = attach(alloc, &scene, boxes) else {
         drop(routes);
         drop(scene);
@@ -197,7 +197,7 @@ fn takes_clock<B: Behaviour>(viewer: &mut Viewer<B>, number: u32, seconds: u32) 
     if !is_input_time(time) {
         return false;
     }
-    let body = Body::Input(Stamped::new(number, time, Event::Clock));
+    let body = Body::Input(Stamped::new(number, time, Cause::Clock));
     viewer.take(encode(&Message { mark: MARK, body }).as_slice()) == Ok(Taken::Applied(1))
 }
 

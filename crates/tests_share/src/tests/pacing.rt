@@ -8,7 +8,7 @@ use std::cell::Cell;
 use std::io;
 use std::process::Abort;
 use std::time::{Clock, Duration};
-use x3d_values::{Event, Stamped};
+use x3d_values::{Cause, Stamped};
 
 const MARK: [u8; 32] = [7; 32];
 
@@ -139,8 +139,8 @@ fn a_port_holds_back_an_ask_whose_answer_is_under_way(rt: HostRuntime) {
 #[test]
 fn an_exact_port_passes_over_what_is_beyond(rt: HostRuntime) {
     let mut fake = FakePort::failing_at(rt.alloc(), 0);
-    let within = Body::Input(Stamped::new(5, 1, Event::Clock));
-    let beyond = Body::Input(Stamped::new(6, 2, Event::Clock));
+    let within = Body::Input(Stamped::new(5, 1, Cause::Clock));
+    let beyond = Body::Input(Stamped::new(6, 2, Cause::Clock));
     // The second piece of a snapshot of 193 bytes has one.
     let piece = Body::Piece(Piece::new(1, 5, 193, 1, &[0]));
     let late = Body::Piece(Piece::new(1, 6, 193, 1, &[0]));

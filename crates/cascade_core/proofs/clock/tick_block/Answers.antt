@@ -1,14 +1,14 @@
 use Rattle.std.proofs.Common.{◌+◌, ◌*◌, ◌∙◌, ap, refl, ℕ}
 use Rattle.scene_core.specs.Scene.{types_of}
 use Rattle.cascade_world.specs.Nodes.{is_clock}
-use Rattle.cascade_core.specs.Course.{plan_at, seen}
+use Rattle.cascade_core.specs.Course.{wiring_at, seen}
 use Rattle.cascade_core.proofs.Skipped.{idle-block}
 use Rattle.cascade_core.proofs.Walks.{block_is}
 use Rattle.cascade_core.proofs.clock.tick_block.Goals as goal
 
 pub returns-then-is_idle-clause-course : goal.returns-then-is_idle-clause-course
 returns-then-is_idle-clause-course g c =
-    idle-block (is_clock (types_of c.args.fixed.now.scene)) (plan_at c.args.fixed.now) c.args.input.now.time (seen c.args.course.now) c.args.block c.args.count
+    idle-block (is_clock (types_of c.args.fixed.now.scene)) (wiring_at c.args.fixed.now) c.args.input.now.time (seen c.args.course.now) c.args.block c.args.count
     (λ node within. c.is_idle.ensures node c.if-is_idle.true within)
 
 pub returns-clause-course : goal.returns-clause-course

@@ -8,8 +8,8 @@ send_replies-requires g c = record {
   empty = c.requires.empty;
   ready =
       rw c.tick.ensures.replies
-      (ticked-ready c.args.fixed.now.scene c.args.course.now.turn.world c.args.node c.args.input.now.time c.requires.clock);
-  boxes = rw (c.tick.ensures.world, ticked-fields c.args.course.now.turn.world c.args.node c.args.input.now.time) c.requires.boxes;
+      (ticked-ready c.args.fixed.now.scene c.args.course.now.live.world c.args.node c.args.input.now.time c.requires.clock);
+  boxes = rw (c.tick.ensures.world, ticked-fields c.args.course.now.live.world c.args.node c.args.input.now.time) c.requires.boxes;
   cast = record { sound = c.requires.cast.sound; counted = c.requires.cast.counted };
 }
 

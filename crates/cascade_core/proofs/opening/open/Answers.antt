@@ -1,34 +1,34 @@
 use Rattle.std.proofs.Common.{◌∙◌, ap, refl}
 use Rattle.std.specs.List.{list_all}
-use Rattle.script_slots.specs.Settling.{Settling}
+use Rattle.script_slots.specs.Settling.{DueScriptsView}
 use Rattle.scene_core.specs.Scene.{shapes_of}
 use Rattle.script_running.specs.Acting.{kinds_of}
-use Rattle.cascade_core.specs.Course.{plan_at}
+use Rattle.cascade_core.specs.Course.{wiring_at}
 use Rattle.cascade_core.specs.Scripts.{are_begun}
 use Rattle.cascade_core.specs.Sound.{are_sent}
 use Rattle.cascade_core.proofs.Openings.{opened_same, opening-cast, opening-count, started_begun, started_sent}
 use Rattle.cascade_core.proofs.opening.open.Goals as goal
 
 pub new-requires-2 : goal.new-requires-2
-new-requires-2 g c = ap are_begun c.in-Ok-initialize_all.ensures.scripts ∙ started_begun (plan_at c.args.fixed.now) c.args.scripts
+new-requires-2 g c = ap are_begun c.in-Ok-initialize_all.ensures.scripts ∙ started_begun (wiring_at c.args.fixed.now) c.args.scripts
 
 pub send_and_settle-requires-clause-outputs : goal.send_and_settle-requires-clause-outputs
 send_and_settle-requires-clause-outputs g c =
     ap (list_all (are_sent (shapes_of c.args.fixed.now.scene))) c.in-Ok-initialize_all.ensures.sendings
-    ∙ started_sent (plan_at c.args.fixed.now) c.args.scripts c.requires.sound
+    ∙ started_sent (wiring_at c.args.fixed.now) c.args.scripts c.requires.sound
 
 pub send_and_settle-requires-clause-fresh : goal.send_and_settle-requires-clause-fresh
-send_and_settle-requires-clause-fresh g c = ap (λ (s : Settling). s.settled) c.in-Ok.ensures
+send_and_settle-requires-clause-fresh g c = ap (λ (s : DueScriptsView). s.settled) c.in-Ok.ensures
 
 pub returns-clause-world : goal.returns-clause-world
 returns-clause-world g c =
-    opened_same c.args.fixed.now c.requires.fixed c.args.turn c.args.scripts _ c.in-Ok.settling c.len.result c.in-Ok-initialize_all.sendings.items _ _
+    opened_same c.args.fixed.now c.requires.fixed c.args.live c.args.scripts _ c.in-Ok.settling c.len.result c.in-Ok-initialize_all.sendings.items _ _
     c.requires.scripts c.requires.world c.requires.unsent (c.new-2.ensures ∙ c.in-Ok-initialize_all.ensures.scripts) c.in-Ok.ensures c.len.ensures c.in-Ok-initialize_all.ensures.sendings
     refl c.in-Ok-send_and_settle.ensures.course
 
 pub send_and_settle-requires-clause-cast : goal.send_and_settle-requires-clause-cast
 send_and_settle-requires-clause-cast g c =
-    opening-cast (plan_at c.args.fixed.now) c.args.scripts c.new-2.result c.args.turn c.in-Ok.settling c.len.result c.requires.sound
+    opening-cast (wiring_at c.args.fixed.now) c.args.scripts c.new-2.result c.args.live c.in-Ok.settling c.len.result c.requires.sound
     (ap kinds_of c.new-2.ensures ∙ c.initialize_all.ensures.kinds) c.in-Ok.ensures c.len.ensures
 
 pub returns-clause-kinds : goal.returns-clause-kinds

@@ -5,7 +5,7 @@ use Rattle.scene_core.specs.Scene.{shapes_of}
 use Rattle.pick_core.specs.Sites.{rows_of}
 use Rattle.script_running.specs.Acting.{kinds_of}
 use Rattle.cascade_core.specs.Apply.{sent_by_all}
-use Rattle.cascade_core.specs.Course.{plan_at, seen}
+use Rattle.cascade_core.specs.Course.{wiring_at, seen}
 use Rattle.cascade_core.specs.Sound.{are_sent}
 use Rattle.cascade_core.proofs.opening.send_all.Given as goal
 
@@ -13,11 +13,11 @@ use Rattle.cascade_core.proofs.opening.send_all.Given as goal
 abbrev pub invariant-loop-sending : goal.invariant-loop-sending
 invariant-loop-sending g l = record {
   empty : l.tasks.items ≡ [];
-  boxes : l.boxes ≡ rows_of l.fixed.scene l.course.turn.world.fields;
+  boxes : l.boxes ≡ rows_of l.fixed.scene l.course.live.world.fields;
   kinds : kinds_of l.course.scripts ≡ kinds_of l.fn.course.scripts;
   count : l.course.settling.count ≡ l.fn.course.settling.count;
   outputs : list_all (are_sent (shapes_of l.fixed.scene)) (into_iter_items l.sending-iterator) ≡ true;
   done :
-      sent_by_all (plan_at l.fixed) (seen l.course) (into_iter_items l.sending-iterator)
-      ≡ sent_by_all (plan_at l.fixed) (seen l.fn.course) l.fn.sendings.items;
+      sent_by_all (wiring_at l.fixed) (seen l.course) (into_iter_items l.sending-iterator)
+      ≡ sent_by_all (wiring_at l.fixed) (seen l.fn.course) l.fn.sendings.items;
 }

@@ -1,12 +1,12 @@
 use Rattle.std.proofs.Common.{◌∙◌, sym}
-use Rattle.cascade_core.specs.Course.{plan_at, seen}
+use Rattle.cascade_core.specs.Course.{wiring_at, seen}
 use Rattle.cascade_core.proofs.SoundLemmas.{cast_stands}
 use Rattle.cascade_core.proofs.Steps.{fold_ended, fold_next}
 use Rattle.cascade_core.proofs.pointer.point_all.Goals as goal
 
 pub point_node-requires-clause-cast : goal.point_node-requires-clause-cast
 point_node-requires-clause-cast g c =
-    cast_stands (plan_at c.args.fixed.now) (seen c.args.course.now) (seen c.loop-sensor.course) c.loop-sensor.invariant.kinds c.loop-sensor.invariant.count c.requires.cast
+    cast_stands (wiring_at c.args.fixed.now) (seen c.args.course.now) (seen c.loop-sensor.course) c.loop-sensor.invariant.kinds c.loop-sensor.invariant.count c.requires.cast
 
 pub loop-sensor-preserved : goal.loop-sensor-preserved
 loop-sensor-preserved g c = record {

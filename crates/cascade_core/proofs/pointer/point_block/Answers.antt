@@ -2,14 +2,14 @@ use Rattle.std.proofs.Common.{◌+◌, ◌*◌, ◌∙◌, ap, refl, ℕ}
 use Rattle.scene_core.specs.Scene.{types_of}
 use Rattle.cascade_world.specs.Insides.{seen as insides_seen}
 use Rattle.cascade_world.specs.Nodes.{is_sensor}
-use Rattle.cascade_core.specs.Course.{plan_at, seen}
+use Rattle.cascade_core.specs.Course.{wiring_at, seen}
 use Rattle.cascade_core.proofs.Skipped.{passed-block}
 use Rattle.cascade_core.proofs.Walks.{block_is}
 use Rattle.cascade_core.proofs.pointer.point_block.Goals as goal
 
 pub returns-then-passes_block-clause-course : goal.returns-then-passes_block-clause-course
 returns-then-passes_block-clause-course g c =
-    passed-block (is_sensor (types_of c.args.fixed.now.scene)) c.args.fixed.now.scene (plan_at c.args.fixed.now) c.args.aim.now.pointer c.args.aim.now.before (insides_seen c.args.aim.now.inside) (seen c.args.course.now) c.args.block c.args.count
+    passed-block (is_sensor (types_of c.args.fixed.now.scene)) c.args.fixed.now.scene (wiring_at c.args.fixed.now) c.args.aim.now.pointer c.args.aim.now.before (insides_seen c.args.aim.now.inside) (seen c.args.course.now) c.args.block c.args.count
     (λ sensor within. c.passes_block.ensures c.args.fixed.now.scene sensor c.if-passes_block.true within)
 
 pub returns-clause-course : goal.returns-clause-course

@@ -4,7 +4,7 @@ use Rattle.scene_core.specs.Scene.{types_of}
 use Rattle.cascade_world.specs.Insides.{seen as insides_seen}
 use Rattle.cascade_world.specs.Nodes.{pointing_sensors_of}
 use Rattle.cascade_core.specs.Apply.{point_node}
-use Rattle.cascade_core.specs.Course.{plan_at, seen}
+use Rattle.cascade_core.specs.Course.{wiring_at, seen}
 use Rattle.cascade_core.proofs.SoundLemmas.{cast_stands}
 use Rattle.cascade_core.specs.Walks.{untracked_by}
 use Rattle.cascade_core.proofs.Walks.{block_next, blocks_ended, by-type, untracked-all}
@@ -12,7 +12,7 @@ use Rattle.cascade_core.proofs.pointer.point_each.Goals as goal
 
 pub point_block-requires-clause-cast : goal.point_block-requires-clause-cast
 point_block-requires-clause-cast g c =
-    cast_stands (plan_at c.args.fixed.now) (seen c.args.course.now) (seen c.loop-block.course) c.loop-block.invariant.kinds c.loop-block.invariant.count c.requires.cast
+    cast_stands (wiring_at c.args.fixed.now) (seen c.args.course.now) (seen c.loop-block.course) c.loop-block.invariant.kinds c.loop-block.invariant.count c.requires.cast
 
 pub loop-block-preserved : goal.loop-block-preserved
 loop-block-preserved g c = record {
@@ -27,8 +27,8 @@ loop-block-preserved g c = record {
 pub returns-clause-course : goal.returns-clause-course
 returns-clause-course g c =
     blocks_ended _ _ c.loop-block.block _ c.loop-block-test.false ∙ c.loop-block.invariant.done
-    ∙ by-type is_pointing c.args.fixed.now.scene.nodes (untracked_by (point_node c.args.fixed.now.scene (plan_at c.args.fixed.now) c.args.aim.now.pointer c.args.aim.now.before (insides_seen c.args.aim.now.inside))) (seen c.args.course.now) _ c.in_ok-count.ensures.ok
-    ∙ untracked-all (point_node c.args.fixed.now.scene (plan_at c.args.fixed.now) c.args.aim.now.pointer c.args.aim.now.before (insides_seen c.args.aim.now.inside)) (seen c.args.course.now) (pointing_sensors_of (types_of c.args.fixed.now.scene))
+    ∙ by-type is_pointing c.args.fixed.now.scene.nodes (untracked_by (point_node c.args.fixed.now.scene (wiring_at c.args.fixed.now) c.args.aim.now.pointer c.args.aim.now.before (insides_seen c.args.aim.now.inside))) (seen c.args.course.now) _ c.in_ok-count.ensures.ok
+    ∙ untracked-all (point_node c.args.fixed.now.scene (wiring_at c.args.fixed.now) c.args.aim.now.pointer c.args.aim.now.before (insides_seen c.args.aim.now.inside)) (seen c.args.course.now) (pointing_sensors_of (types_of c.args.fixed.now.scene))
 
 pub returns-in_err-point_block-clause-kinds : goal.returns-in_err-point_block-clause-kinds
 returns-in_err-point_block-clause-kinds g c = c.point_block.ensures.kinds ∙ c.loop-block.invariant.kinds

@@ -4,19 +4,19 @@ use Rattle.cascade_world.specs.Insides.{seen as insides_seen}
 use Rattle.cascade_core.specs.Apply.{point_node}
 use Rattle.cascade_rules.proofs.Shown.{met-rows}
 use Rattle.cascade_core.proofs.Tasks.{met-ready}
-use Rattle.cascade_core.specs.Course.{plan_at, seen}
+use Rattle.cascade_core.specs.Course.{wiring_at, seen}
 use Rattle.cascade_core.proofs.Skipped.{passed-course}
 use Rattle.cascade_core.proofs.pointer.point_node.Goals as goal
 
 pub returns-then-passes-clause-course : goal.returns-then-passes-clause-course
 returns-then-passes-clause-course g c =
-    passed-course c.args.fixed.now.scene (plan_at c.args.fixed.now) c.args.aim.now.pointer c.args.aim.now.before (insides_seen c.args.aim.now.inside) (seen c.args.course.now) c.args.concerned
+    passed-course c.args.fixed.now.scene (wiring_at c.args.fixed.now) c.args.aim.now.pointer c.args.aim.now.before (insides_seen c.args.aim.now.inside) (seen c.args.course.now) c.args.concerned
     (c.passes.ensures c.args.fixed.now.scene c.if-passes.true)
 
 pub send_replies-requires : goal.send_replies-requires
 send_replies-requires g c =
     let scene = c.args.fixed.now.scene in
-    let w = c.args.course.now.turn.world in
+    let w = c.args.course.now.live.world in
     let x = c.args.concerned in
     let at = pointer_at c.args.aim.now.pointer c.args.aim.now.before (insides_seen c.args.aim.now.inside) x.tracked x.sensor in
     record {

@@ -1,5 +1,5 @@
 use Rattle.std.proofs.Common.{◌∙◌, sym}
-use Rattle.cascade_core.specs.Course.{plan_at, seen}
+use Rattle.cascade_core.specs.Course.{wiring_at, seen}
 use Rattle.cascade_core.proofs.SoundLemmas.{cast_stands}
 use Rattle.cascade_core.proofs.Steps.{range_ended}
 use Rattle.cascade_core.proofs.Walks.{range_next}
@@ -7,7 +7,7 @@ use Rattle.cascade_core.proofs.pointer.point_some.Goals as goal
 
 pub point_any-requires-clause-cast : goal.point_any-requires-clause-cast
 point_any-requires-clause-cast g c =
-    cast_stands (plan_at c.args.fixed.now) (seen c.args.course.now) (seen c.loop-node.course) c.loop-node.invariant.kinds c.loop-node.invariant.count c.requires.cast
+    cast_stands (wiring_at c.args.fixed.now) (seen c.args.course.now) (seen c.loop-node.course) c.loop-node.invariant.kinds c.loop-node.invariant.count c.requires.cast
 
 pub loop-node-preserved : goal.loop-node-preserved
 loop-node-preserved g c = record {

@@ -1,6 +1,6 @@
 use Rattle.std.proofs.Common.{rules, ◌≡◌, None}
 use Rattle.cascade_core.specs.Held.{after_all, refusal_in}
-use Rattle.cascade_core.proofs.RunFaults.{Stops, all-taken, ran, stopped, stopped_in_turn}
+use Rattle.cascade_core.proofs.RunFaults.{Stops, all-taken, ran, stopped, stopped_in_order}
 use Rattle.cascade_core.proofs.series.run.Goals as goal
 
 pub returns-in-Err-clause-err : goal.returns-in-Err-clause-err
@@ -8,10 +8,10 @@ returns-in-Err-clause-err g c =
     let stops : Stops c.in-Ok.stage c.args.inputs.now c.in-Err.fault = search rules in
     stopped c.in-Err.fault c.in-Ok.stage c.args.scene c.args.routes c.args.inputs.now c.in-Ok.ensures stops
 
-pub returns-in-Err-clause-in_turn : goal.returns-in-Err-clause-in_turn
-returns-in-Err-clause-in_turn g c =
+pub returns-in-Err-clause-in_order : goal.returns-in-Err-clause-in_order
+returns-in-Err-clause-in_order g c =
     let stops : Stops c.in-Ok.stage c.args.inputs.now c.in-Err.fault = search rules in
-    stopped_in_turn c.in-Err.fault c.in-Ok.stage c.args.scene c.args.routes c.args.inputs.now c.in-Ok.ensures stops
+    stopped_in_order c.in-Err.fault c.in-Ok.stage c.args.scene c.args.routes c.args.inputs.now c.in-Ok.ensures stops
 
 pub returns-clause-ok : goal.returns-clause-ok
 returns-clause-ok g c =

@@ -1,7 +1,7 @@
 use Rattle.std.proofs.Common.{ap}
-use Rattle.script_slots.specs.Settling.{Settling}
+use Rattle.script_slots.specs.Settling.{DueScriptsView}
 use Rattle.script_host.specs.Behaviour.{Settle}
-use Rattle.cascade_core.specs.Course.{plan_at, seen}
+use Rattle.cascade_core.specs.Course.{wiring_at, seen}
 use Rattle.cascade_core.specs.Settles.{settle_one}
 use Rattle.cascade_core.proofs.SoundLemmas.{cast_stands}
 use Rattle.cascade_core.proofs.Tasks.{act-ready}
@@ -10,11 +10,11 @@ use Rattle.cascade_core.proofs.settle.settle_one.Goals as goal
 pub send_replies-requires-clause-ready : goal.send_replies-requires-clause-ready
 send_replies-requires-clause-ready g c =
     rw (c.node.ensures, c.settle.ensures.replies, c.ports.ensures)
-    (act-ready (plan_at c.args.fixed.now) c.args.course.now.scripts c.requires.cast.sound c.args.k Settle)
+    (act-ready (wiring_at c.args.fixed.now) c.args.course.now.scripts c.requires.cast.sound c.args.k Settle)
 
 pub send_replies-requires-clause-cast : goal.send_replies-requires-clause-cast
 send_replies-requires-clause-cast g c =
-    cast_stands (plan_at c.args.fixed.now) (seen c.args.course.now) _ c.settle.ensures.kinds (ap (λ (s : Settling). s.count) c.in_ok-settle.ensures.ok) c.requires.cast
+    cast_stands (wiring_at c.args.fixed.now) (seen c.args.course.now) _ c.settle.ensures.kinds (ap (λ (s : DueScriptsView). s.count) c.in_ok-settle.ensures.ok) c.requires.cast
 
 pub returns-clause-course : goal.returns-clause-course
 unfolding settle_one

@@ -1,5 +1,5 @@
 use Rattle.std.proofs.Common.{◌+◌, ◌<◌, sym, ap, length}
-use Rattle.cascade_core.specs.Course.{Course, plan_at, seen}
+use Rattle.cascade_core.specs.Course.{Course, wiring_at, seen}
 use Rattle.cascade_core.specs.Stack.{finish}
 use Rattle.cascade_core.proofs.Tasks.{follow-none, follow-done, follow-fewer, follow-ready, last-done, last-fewer, reached-ready}
 use Rattle.cascade_trace.proofs.RoutePlaces.{target-few}
@@ -7,41 +7,41 @@ use Rattle.cascade_core.proofs.stack.follow.Goals as goal
 
 pub returns-in_default-clause-done : goal.returns-in_default-clause-done
 returns-in_default-clause-done g c =
-    ap (λ (t : Course). finish (plan_at c.args.fixed.now) t c.args.tasks.now.items)
-    (sym (follow-none (plan_at c.args.fixed.now) (seen c.args.course.now) c.args.source c.args.value c.args.next (rw c.in_default.is at c.hop_at.ensures.none)))
+    ap (λ (t : Course). finish (wiring_at c.args.fixed.now) t c.args.tasks.now.items)
+    (sym (follow-none (wiring_at c.args.fixed.now) (seen c.args.course.now) c.args.source c.args.value c.args.next (rw c.in_default.is at c.hop_at.ensures.none)))
 
 pub returns-clause-done : goal.returns-clause-done
 returns-clause-done g c =
     rw (c.in_ok-push_replies.ensures.tasks, c.in-Ok.ensures.replies, c.in-Ok.ensures.course)
-    (last-done (plan_at c.args.fixed.now) (seen c.args.course.now) c.args.source c.args.value c.args.next c.in-Some.hop.target c.args.tasks.now.items
+    (last-done (wiring_at c.args.fixed.now) (seen c.args.course.now) c.args.source c.args.value c.args.next c.in-Some.hop.target c.args.tasks.now.items
     c.in-Some.ensures.target (c.in-Some.ensures.last c.if-hop.false))
 
 pub returns-clause-ready : goal.returns-clause-ready
 returns-clause-ready g c =
     rw (c.in_ok-push_replies.ensures.tasks, c.in-Ok.ensures.replies)
-    (reached-ready (plan_at c.args.fixed.now) (seen c.args.course.now) c.in-Some.hop.target c.args.value c.args.tasks.now.items c.requires.cast.sound c.requires.tasks)
+    (reached-ready (wiring_at c.args.fixed.now) (seen c.args.course.now) c.in-Some.hop.target c.args.value c.args.tasks.now.items c.requires.cast.sound c.requires.tasks)
 
 pub returns-clause-fewer : goal.returns-clause-fewer
 returns-clause-fewer g c =
     let below : c.args.next < length c.args.fixed.now.routes = target-few c.args.fixed.now.routes c.args.source c.args.next c.in-Some.hop.target c.in-Some.ensures.target in
     rw (c.in_ok-push_replies.ensures.tasks, c.in-Ok.ensures.course)
-    (last-fewer (plan_at c.args.fixed.now) (seen c.args.course.now) c.in-Some.hop.target
+    (last-fewer (wiring_at c.args.fixed.now) (seen c.args.course.now) c.in-Some.hop.target
     c.args.source c.args.value c.args.next c.in-Some.hop.target.node _ c.args.tasks.now.items c.in_ok-push_replies.ensures.few below)
 
 pub returns-then-hop-clause-done : goal.returns-then-hop-clause-done
 returns-then-hop-clause-done g c =
     rw (c.in_ok-push_before.ensures.tasks, c.in-Ok.ensures.replies, c.in-Ok.ensures.course)
-    (follow-done (plan_at c.args.fixed.now) (seen c.args.course.now) c.args.source c.args.value c.args.next c.in-Some.hop.target c.args.tasks.now.items c.in-Some.ensures.target)
+    (follow-done (wiring_at c.args.fixed.now) (seen c.args.course.now) c.args.source c.args.value c.args.next c.in-Some.hop.target c.args.tasks.now.items c.in-Some.ensures.target)
 
 pub returns-then-hop-clause-ready : goal.returns-then-hop-clause-ready
 returns-then-hop-clause-ready g c =
     rw (c.in_ok-push_before.ensures.tasks, c.in-Ok.ensures.replies)
-    (reached-ready (plan_at c.args.fixed.now) (seen c.args.course.now) c.in-Some.hop.target c.args.value _ c.requires.cast.sound
-    (follow-ready (plan_at c.args.fixed.now).shapes c.args.source c.args.value (c.args.next + 1) c.args.tasks.now.items c.requires.tasks))
+    (reached-ready (wiring_at c.args.fixed.now) (seen c.args.course.now) c.in-Some.hop.target c.args.value _ c.requires.cast.sound
+    (follow-ready (wiring_at c.args.fixed.now).shapes c.args.source c.args.value (c.args.next + 1) c.args.tasks.now.items c.requires.tasks))
 
 pub returns-then-hop-clause-fewer : goal.returns-then-hop-clause-fewer
 returns-then-hop-clause-fewer g c =
     let below : c.args.next < length c.args.fixed.now.routes = target-few c.args.fixed.now.routes c.args.source c.args.next c.in-Some.hop.target c.in-Some.ensures.target in
     rw (c.in_ok-push_before.ensures.tasks, c.in-Ok.ensures.course)
-    (follow-fewer (plan_at c.args.fixed.now) (seen c.args.course.now) c.in-Some.hop.target
+    (follow-fewer (wiring_at c.args.fixed.now) (seen c.args.course.now) c.in-Some.hop.target
     c.args.source c.args.value c.args.next c.in-Some.hop.target.node _ c.args.tasks.now.items c.in_ok-push_before.ensures.few below)

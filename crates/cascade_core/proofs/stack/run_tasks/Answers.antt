@@ -1,7 +1,7 @@
 use Rattle.std.proofs.Common.{◌≡◌, ◌∙◌, sym, arith, [], ◌∷◌}
 use Rattle.std.proofs.lemmas.Grind.{common_steps}
 use Rattle.scene_core.specs.Scene.{shapes_of}
-use Rattle.cascade_core.specs.Course.{plan_at, seen}
+use Rattle.cascade_core.specs.Course.{wiring_at, seen}
 use Rattle.cascade_core.specs.Stack.{IsReady}
 use Rattle.cascade_core.proofs.SoundLemmas.{cast_stands}
 use Rattle.cascade_core.proofs.Tasks.{finish-push, finish-none, all-front, all-last, work-push}
@@ -17,12 +17,12 @@ step-requires-clause-tasks g c =
 
 pub step-requires-clause-cast : goal.step-requires-clause-cast
 step-requires-clause-cast g c =
-    cast_stands (plan_at c.args.fixed.now) (seen c.args.course.now) (seen c.loop-task.course) c.loop-task.invariant.kinds c.loop-task.invariant.count c.requires.cast
+    cast_stands (wiring_at c.args.fixed.now) (seen c.args.course.now) (seen c.loop-task.course) c.loop-task.invariant.kinds c.loop-task.invariant.count c.requires.cast
 
 pub loop-task-smaller : goal.loop-task-smaller
 loop-task-smaller g c =
     rw c.in-Some.ensures.items
-    (omega (arith, work-push (plan_at c.args.fixed.now) (seen c.loop-task.course) c.pop.new.self.items c.in-Some.task, c.in_ok-step.ensures.fewer))
+    (omega (arith, work-push (wiring_at c.args.fixed.now) (seen c.loop-task.course) c.pop.new.self.items c.in-Some.task, c.in_ok-step.ensures.fewer))
 
 pub loop-task-preserved : goal.loop-task-preserved
 loop-task-preserved g c = record {
@@ -33,11 +33,11 @@ loop-task-preserved g c = record {
   count = c.in_ok-step.ensures.count ∙ c.loop-task.invariant.count;
   done =
       c.in_ok-step.ensures.done
-      ∙ sym (finish-push (plan_at c.args.fixed.now) (seen c.loop-task.course) c.pop.new.self.items c.in-Some.task)
+      ∙ sym (finish-push (wiring_at c.args.fixed.now) (seen c.loop-task.course) c.pop.new.self.items c.in-Some.task)
       ∙ (rw c.in-Some.ensures.items at c.loop-task.invariant.done);
 }
 
 pub returns-clause-course : goal.returns-clause-course
 returns-clause-course g c =
     let none : c.loop-task.tasks.items ≡ [] = grind (arith, common_steps) in
-    sym (finish-none (plan_at c.args.fixed.now) (seen c.loop-task.course)) ∙ (rw none at c.loop-task.invariant.done)
+    sym (finish-none (wiring_at c.args.fixed.now) (seen c.loop-task.course)) ∙ (rw none at c.loop-task.invariant.done)

@@ -1,5 +1,5 @@
 use Rattle.std.proofs.Common.{◌∙◌}
-use Rattle.cascade_core.specs.Course.{plan_at, seen}
+use Rattle.cascade_core.specs.Course.{wiring_at, seen}
 use Rattle.cascade_core.proofs.Tasks.{finish-all}
 use Rattle.cascade_core.proofs.stack.send_replies.Goals as goal
 
@@ -10,4 +10,4 @@ pub returns-clause-course : goal.returns-clause-course
 returns-clause-course g c =
     c.in_ok-run_tasks.ensures.course
     ∙ rw (c.in_ok-push_replies.ensures.tasks, c.requires.empty)
-    (finish-all (plan_at c.args.fixed.now) c.args.node c.args.replies.now.items (seen c.args.course.now))
+    (finish-all (wiring_at c.args.fixed.now) c.args.node c.args.replies.now.items (seen c.args.course.now))

@@ -7,8 +7,8 @@ use Rattle.scene_core.specs.Scene.{SceneView}
 use Rattle.pick_core.specs.Looks.{kind_of, listed}
 use Rattle.pick_core.specs.Sites.{Site, row_of, row_at, site_under, site_layer, sites_in}
 use Rattle.pick_core.specs.Spread.{spread}
-use Rattle.pick_core.specs.declared.look.Kind.TheVariants.{Shape, Other}
-use Rattle.pick_core.specs.declared.row.Row.{Row}
+use Rattle.pick_core.specs.declared.look.Role.TheVariants.{Shape, Other}
+use Rattle.pick_core.specs.declared.row.BoxRow.{BoxRow}
 use Rattle.pick_core.specs.declared.trail.Place.{Place}
 use Rattle.pick_core.proofs.Trails.{sites_in-more, sites_in-none, spread-more, spread-nil, row_at-push}
 use Rattle.pick_core.proofs.gather.+gathering.Goals as goal
@@ -19,10 +19,10 @@ on_ok-same (Ok u) now old new h e = h ∙ e
 on_ok-same (Err f) now old new h e = h
 
 -- the rows of the same places are the same
-same_rows : (scene : SceneView) (state : List Fields) (trail : List Place) (old : List Row) (xs ys : List Site) → xs ≡ ys → old ++ map (row_at scene state trail) ys ≡ old ++ map (row_at scene state trail) xs
+same_rows : (scene : SceneView) (state : List Fields) (trail : List Place) (old : List BoxRow) (xs ys : List Site) → xs ≡ ys → old ++ map (row_at scene state trail) ys ≡ old ++ map (row_at scene state trail) xs
 same_rows scene state trail old xs ys e = ap (λ ss. old ++ map (row_at scene state trail) ss) (sym e)
 
-no_rows : (scene : SceneView) (state : List Fields) (trail : List Place) (old : List Row) (xs : List Site) → xs ≡ [] → old ≡ old ++ map (row_at scene state trail) xs
+no_rows : (scene : SceneView) (state : List Fields) (trail : List Place) (old : List BoxRow) (xs : List Site) → xs ≡ [] → old ≡ old ++ map (row_at scene state trail) xs
 no_rows scene state trail old xs e = sym (append-nil old) ∙ same_rows scene state trail old xs [] e
 
 one_row : (scene : SceneView) (state : List Fields) (trail : List Place) (size : Vec3) → map (row_at scene state trail) (record { trail = []; size = size } ∷ []) ≡ row_of scene state trail size ∷ []

@@ -4,7 +4,7 @@ use Rattle.std.proofs.lemmas.Bool.{cases_lt}
 use Rattle.std.proofs.lemmas.Option.{same_Some, slice_get_read, slice_get_within}
 use Rattle.pick_ranges.specs.Ranges.{HasRow}
 use Rattle.pick_core.specs.Sites.{touches}
-use Rattle.pick_core.specs.declared.row.Row.{Row}
+use Rattle.pick_core.specs.declared.row.BoxRow.{BoxRow}
 use Rattle.pick_core.proofs.renewal.ranges_of.Goals as goal
 
 pub loop-at-preserved : goal.loop-at-preserved
@@ -19,7 +19,7 @@ loop-at-preserved c n k r lt e t =
           let here : slice_get rows i ≡ Some r = ap (slice_get rows) (sym same) ∙ e in
           let read : slice_get rows i ≡ Some item = slice_get_read rows (length rows) i item refl c.loop-at-test.true (search rules) in
           let is : item ≡ r = same_Some item r (sym read ∙ here) in
-          subst (λ j. HasRow c.add_at.new.ranges n j) (sym same) (c.in_ok-add_at.ensures.added n (ap (λ (q : Row). touches n q.trail) is ∙ t))
+          subst (λ j. HasRow c.add_at.new.ranges n j) (sym same) (c.in_ok-add_at.ensures.added n (ap (λ (q : BoxRow). touches n q.trail) is ∙ t))
     ]
 
 pub returns : goal.returns

@@ -4,7 +4,7 @@ use Rattle.std.specs.Prelude.{slice_get}
 use Rattle.std.proofs.lemmas.List.{map-append}
 use Rattle.std.proofs.lemmas.List.Sums.{fold-append}
 use Rattle.x3d_values.specs.declared.fields.Fields.{Fields}
-use Rattle.x3d_values.specs.Pointing.{Sight}
+use Rattle.x3d_values.specs.Pointing.{RayView}
 use Rattle.scene_core.specs.Scene.{SceneView}
 use Rattle.pick_core.specs.Boxes.{Placed, inside, under, layer, shown, shown_child}
 use Rattle.pick_core.specs.Looks.{kind_of, listed, choice_of}
@@ -14,13 +14,13 @@ use Rattle.pick_core.specs.Spread.{spread}
 use Rattle.pick_core.specs.Trail.{carried, positions, raised}
 use Rattle.pick_rules.specs.declared.bounds.Bounds.{Bounds}
 use Rattle.pick_core.specs.declared.hit.Hit.{Hit}
-use Rattle.pick_core.specs.declared.look.Kind.TheVariants.{Switch, Shape, Other}
+use Rattle.pick_core.specs.declared.look.Role.TheVariants.{Switch, Shape, Other}
 use Rattle.pick_core.specs.declared.trail.Place.{Place}
 use Rattle.pick_core.proofs.Trails.{inside-more, inside-none, spread-more, spread-nil, raised-push}
 use Rattle.pick_core.proofs.walk.+walking.Goals as goal
 
 -- the best of the same boxes is the same
-same_boxes : (scene : SceneView) (state : List Fields) (ray : Sight) (trail : List Place) (old : Option Hit) (xs ys : List Placed) → xs ≡ ys → fold (nearer ray) old (map (raised scene state trail) ys) ≡ fold (nearer ray) old (map (raised scene state trail) xs)
+same_boxes : (scene : SceneView) (state : List Fields) (ray : RayView) (trail : List Place) (old : Option Hit) (xs ys : List Placed) → xs ≡ ys → fold (nearer ray) old (map (raised scene state trail) ys) ≡ fold (nearer ray) old (map (raised scene state trail) xs)
 same_boxes scene state ray trail old xs ys e = ap (λ bs. fold (nearer ray) old (map (raised scene state trail) bs)) (sym e)
 
 raised-one : (scene : SceneView) (state : List Fields) (trail : List Place) (b : Bounds) → map (raised scene state trail) (record { path = []; bounds = b } ∷ []) ≡ record { path = positions trail; bounds = carried scene state trail b } ∷ []

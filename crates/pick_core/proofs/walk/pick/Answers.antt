@@ -1,7 +1,7 @@
 use Rattle.std.proofs.Common.{◌≡◌, ◌∙◌, ℕ, List, [], Option, None, map, sym, subst, ap}
 use Rattle.std.specs.List.{fold}
 use Rattle.x3d_values.specs.declared.fields.Fields.{Fields}
-use Rattle.x3d_values.specs.Pointing.{Sight}
+use Rattle.x3d_values.specs.Pointing.{RayView}
 use Rattle.scene_core.specs.Scene.{SceneView}
 use Rattle.pick_core.specs.Boxes.{boxes, inside, under}
 use Rattle.pick_core.specs.Nearest.{IsPicked}
@@ -15,7 +15,7 @@ use Rattle.pick_core.proofs.Trails.{boxes-is}
 use Rattle.pick_core.proofs.walk.pick.Goals as goal
 
 -- a walk from the roots, from nothing
-walked : (scene : SceneView) (state : List Fields) (ray : Sight) (best : Option Hit) (trail : List Place) (roots : List ℕ) → best ≡ fold (nearer ray) None (map (raised scene state trail) (spread (under scene state) (inside scene state 64) 0 roots)) → trail ≡ [] → roots ≡ scene.roots → best ≡ picked ray (boxes scene state)
+walked : (scene : SceneView) (state : List Fields) (ray : RayView) (best : Option Hit) (trail : List Place) (roots : List ℕ) → best ≡ fold (nearer ray) None (map (raised scene state trail) (spread (under scene state) (inside scene state 64) 0 roots)) → trail ≡ [] → roots ≡ scene.roots → best ≡ picked ray (boxes scene state)
 walked scene state ray best trail roots h empty all =
     let from : List Place → List ℕ → Option Hit = λ ps ns. fold (nearer ray) None (map (raised scene state ps) (spread (under scene state) (inside scene state 64) 0 ns)) in
     h ∙ (ap (λ ps. from ps roots) empty ∙ (ap (λ ns. from [] ns) all ∙ ap (fold (nearer ray) None) (sym (boxes-is scene state))))

@@ -1,10 +1,10 @@
 use Rattle.std.proofs.Common.{◌≡◌, map, take}
 use Rattle.proto_meaning.specs.Flat.{field}
-use Rattle.proto_interface.specs.Fields.{Reads}
+use Rattle.proto_interface.specs.Fields.{HasFields}
 use Rattle.proto_interface.proofs.interface.read.Given as goal
 
 abbrev pub invariant-loop-declaration : goal.invariant-loop-declaration
 invariant-loop-declaration l = record {
   at : l.number ≡ l.declaration-index;
-  reads : Reads l.tables (map field (take l.declaration-index l.declarations));
+  reads : HasFields l.tables (map field (take l.declaration-index l.declarations));
 }

@@ -1,6 +1,6 @@
 use Rattle.std.proofs.Common.{◌≡◌, ◌+◌, ◌-◌, ◌/◌, sym, subst, arith}
 use Rattle.std.proofs.lemmas.Int.{ints, to_z-of_z}
-use Rattle.react_core.proofs.KeyLemmas.{IsPassedAt, IsStep-passed, passed-up, passed-down, reached-passed}
+use Rattle.react_core.proofs.KeyLemmas.{IsPassedAt, IsKeyAt-passed, passed-up, passed-down, reached-passed}
 use Rattle.react_core.proofs.keys.reached.Goals as goal
 
 pub loop-low-preserved-then-keys-middle : goal.loop-low-preserved-then-keys-middle
@@ -27,4 +27,4 @@ returns-clause-step c some =
     let invariant = simp to_z-of_z at c.loop-low.invariant in
     let order = invariant.in_order in
     let e : c.loop-low.high ≡ c.loop-low.low = omega arith in
-    IsStep-passed c.args.keys.now c.args.fraction c.loop-low.low some (subst (λ k. IsPassedAt c.args.keys.now c.args.fraction c.loop-low.low k) e invariant)
+    IsKeyAt-passed c.args.keys.now c.args.fraction c.loop-low.low some (subst (λ k. IsPassedAt c.args.keys.now c.args.fraction c.loop-low.low k) e invariant)

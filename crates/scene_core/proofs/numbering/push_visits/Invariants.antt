@@ -1,5 +1,5 @@
 use Rattle.std.proofs.Common.{◌≡◌, ◌++◌, map, reverse, take}
-use Rattle.scene_core.specs.declared.numbering.Task.TheVariants.{Visit}
+use Rattle.scene_core.specs.declared.numbering.NumberTask.TheVariants.{Visit}
 use Rattle.scene_core.proofs.numbering.push_visits.Given as goal
 
 -- the nodes that are left come on top of the tasks that are there

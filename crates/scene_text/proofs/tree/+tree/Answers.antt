@@ -5,7 +5,7 @@ use Rattle.classic_tree.specs.declared.tree.BodyItem.{BodyItem}
 use Rattle.classic_tree.specs.declared.tree.Given.TheVariants as given
 use Rattle.classic_tree.specs.declared.tree.RawValue.{RawValue}
 use Rattle.classic_tree.specs.declared.tree.NodeText.{NodeText}
-use Rattle.scene_text.specs.Tree.{Shown, Step, field_tree, node_tree}
+use Rattle.scene_text.specs.Tree.{Shown, Grows, field_tree, node_tree}
 use Rattle.scene_text.specs.Views.{plan_of, shown_of}
 use Rattle.scene_text.proofs.Trees.{step_of, each_more, node_tree_made, spent_made, again_made, plain_made, declared_made}
 use Rattle.scene_text.proofs.tree.+tree.Goals as goal
@@ -65,7 +65,7 @@ declared_tree-returns t c =
 
 pub given_tree-returns-in_ok-value_tree-in-Some : goal.given_tree-returns-in_ok-value_tree-in-Some
 given_tree-returns-in_ok-value_tree-in-Some t c =
-    rw c.in-Some.is (ap (λ (m : Step (RawValue NodeText)). step_of m.seen (given.Value m.made)) c.in_ok-value_tree-in-Some.ensures)
+    rw c.in-Some.is (ap (λ (m : Grows (RawValue NodeText)). step_of m.seen (given.Value m.made)) c.in_ok-value_tree-in-Some.ensures)
 
 pub given_tree-returns-in-None : goal.given_tree-returns-in-None
 given_tree-returns-in-None t c = rw c.in-None.is refl

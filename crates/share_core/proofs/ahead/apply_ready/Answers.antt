@@ -3,7 +3,7 @@ use Rattle.std.proofs.Common.{arith}
 use Rattle.std.proofs.Common.{◌≡◌, ◌∙◌, ℕ, List, [], Ok, Err, sym, subst, rules}
 use Rattle.std.specs.Prelude.{◌==◌}
 use Rattle.std.proofs.lemmas.Bool.{cond-true, cond-false, eq-eqb, ne_eqb}
-use Rattle.share_law.specs.declared.reply.Taken.TheVariants.{Kept, Applied}
+use Rattle.share_law.specs.declared.reply.Taken.TheVariants.{Held, Applied}
 use Rattle.share_law.specs.Cascade.{cascade}
 use Rattle.share_core.specs.Ahead.{IsDrained}
 use Rattle.share_core.proofs.Rounds.{stepped, gone_on, fewer, ended, failed}
@@ -39,8 +39,8 @@ returns-then-count-eq0-clause-step g c =
     let l = c.loop-count in
     let n = c.apply_next.new in
     let step = λ (mark : List ℕ). stepped mark c.args.stage.now.scene c.args.stage.now.routes c.args.stage.now.held l.stage.held n.stage.held c.args.window.now l.window n.window l.count l.stage.scene l.stage.routes (Ok c.in_ok-apply_next.field-0) i.0 i.1 i.2 (c.in_ok-apply_next.ensures.step mark) in
-    λ mark. ended mark c.args.stage.now.scene c.args.stage.now.routes c.args.stage.now.held l.stage.held n.stage.held c.args.window.now l.window n.window l.count c.in_ok-apply_next.field-0 (Ok Kept) c.if-branch.false
-    (cond-true (l.count == 0) (Ok Kept) (Ok (Applied l.count)) (eq-eqb l.count 0 c.if-count-eq0.true)) c.apply_next.ensures.places (step mark) (i.5 mark)
+    λ mark. ended mark c.args.stage.now.scene c.args.stage.now.routes c.args.stage.now.held l.stage.held n.stage.held c.args.window.now l.window n.window l.count c.in_ok-apply_next.field-0 (Ok Held) c.if-branch.false
+    (cond-true (l.count == 0) (Ok Held) (Ok (Applied l.count)) (eq-eqb l.count 0 c.if-count-eq0.true)) c.apply_next.ensures.places (step mark) (i.5 mark)
 
 pub returns-else-count-eq0-clause-step : goal.returns-else-count-eq0-clause-step
 returns-else-count-eq0-clause-step g c =
@@ -49,7 +49,7 @@ returns-else-count-eq0-clause-step g c =
     let n = c.apply_next.new in
     let step = λ (mark : List ℕ). stepped mark c.args.stage.now.scene c.args.stage.now.routes c.args.stage.now.held l.stage.held n.stage.held c.args.window.now l.window n.window l.count l.stage.scene l.stage.routes (Ok c.in_ok-apply_next.field-0) i.0 i.1 i.2 (c.in_ok-apply_next.ensures.step mark) in
     λ mark. ended mark c.args.stage.now.scene c.args.stage.now.routes c.args.stage.now.held l.stage.held n.stage.held c.args.window.now l.window n.window l.count c.in_ok-apply_next.field-0 (Ok (Applied l.count)) c.if-branch.false
-    (cond-false (l.count == 0) (Ok Kept) (Ok (Applied l.count)) (ne_eqb l.count 0 c.if-count-eq0.false)) c.apply_next.ensures.places (step mark) (i.5 mark)
+    (cond-false (l.count == 0) (Ok Held) (Ok (Applied l.count)) (ne_eqb l.count 0 c.if-count-eq0.false)) c.apply_next.ensures.places (step mark) (i.5 mark)
 
 pub returns-in_err-apply_next-clause-step : goal.returns-in_err-apply_next-clause-step
 returns-in_err-apply_next-clause-step g c =

@@ -1,7 +1,7 @@
 use Rattle.std.proofs.Common.{◌≡◌, ◌+◌, ◌≤◌, ◌^◌, List, sym, subst, arith}
 use Rattle.std.specs.Prelude.{Option}
 use Rattle.std.proofs.lemmas.Bool.Decides.{nat_tests}
-use Rattle.x3d_values.specs.Stamp.{Stamp}
+use Rattle.x3d_values.specs.Stamp.{StampedView}
 use Rattle.cascade_core.specs.Held.{applied_of}
 use Rattle.share_core.specs.Ahead.{InPlace}
 use Rattle.share_core.proofs.Places.{InPlace-keep}
@@ -13,4 +13,4 @@ apply_ready-requires-clause-place g c =
     let place = c.in-Some.place in
     let most : c.args.input.number ≤ 2 ^ 20 = grind (arith, nat_tests, c.number-number.ensures.value, c.number-number.ensures.fits) in
     let at : c.args.input.number ≡ next + place = omega (arith, c.number-number.ensures.value, c.applied-applied.ensures, c.in-Some.ensures.some.0) in
-    subst (λ (l : List (Option Stamp)). InPlace next l) (sym c.keep.ensures) (InPlace-keep c.args.window.now next place c.args.input at most c.requires.place)
+    subst (λ (l : List (Option StampedView)). InPlace next l) (sym c.keep.ensures) (InPlace-keep c.args.window.now next place c.args.input at most c.requires.place)

@@ -1,11 +1,11 @@
 use Rattle.std.proofs.Common.{rules, ◌≡◌, ◌<◌, ◌++◌, ◌∷◌, [], length, Some, None, ◌∙◌, inr, arith, false, true}
 use Rattle.share_jobs.specs.Job.{is_scene, next_input}
-use Rattle.share_jobs.proofs.JobLemmas.{at_start, at_end, scene_found, step_refused, step_taken, few_more, IsNext, next_is, in_turn_more}
+use Rattle.share_jobs.proofs.JobLemmas.{at_start, at_end, scene_found, step_refused, step_taken, few_more, IsNext, next_is, in_order_more}
 use Rattle.share_jobs.proofs.FoundLemmas.{found}
 use Rattle.share_jobs.proofs.job.job_of.Goals as goal
 
 pub loop-rest-init : goal.loop-rest-init
-loop-rest-init c = rw c.new-inputs.ensures (record { answer = at_start c.args.bytes.now; in_turn = tt; few = omega arith })
+loop-rest-init c = rw c.new-inputs.ensures (record { answer = at_start c.args.bytes.now; in_order = tt; few = omega arith })
 
 pub returns-then-is_scene-clause-exact : goal.returns-then-is_scene-clause-exact
 returns-then-is_scene-clause-exact c =
@@ -32,7 +32,7 @@ loop-rest-preserved c =
     let more : c.push.new.self ≡ c.loop-rest.inputs ++ c.in-Some.input ∷ [] = c.in_ok-push.ensures.ok in
     rw more (record {
       answer = step_taken _ _ _ _ _ _ c.loop-rest.invariant.answer some c.cut_line.ensures.line c.cut_line.ensures.behind fails good;
-      in_turn = in_turn_more _ _ c.loop-rest.invariant.in_turn next;
+      in_order = in_order_more _ _ c.loop-rest.invariant.in_order next;
       few = few_more _ _ next;
     })
 

@@ -1,5 +1,5 @@
 use Rattle.std.proofs.Common.{◌≡◌, ◌≤◌, ◌^◌, length}
-use Rattle.cascade_core.specs.InTurn.{AreInTurn}
+use Rattle.cascade_core.specs.InOrder.{AreInOrder}
 use Rattle.share_jobs.specs.Job.{job_lines}
 use Rattle.share_jobs.proofs.JobLemmas.{left_of}
 use Rattle.share_jobs.proofs.job.job_of.Given as goal
@@ -7,7 +7,7 @@ use Rattle.share_jobs.proofs.job.job_of.Given as goal
 abbrev pub invariant-loop-rest : goal.invariant-loop-rest
 invariant-loop-rest l = record {
   answer : job_lines l.bytes ≡ left_of l.inputs l.rest;
-  in_turn : AreInTurn l.inputs;
+  in_order : AreInOrder l.inputs;
   few : length l.inputs ≤ 2 ^ 20;
 }
 

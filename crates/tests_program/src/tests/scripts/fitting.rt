@@ -7,7 +7,7 @@ use cascade_core::{State, Watched, WorldData};
 use scene_core::{End, Scene};
 use sensor_core::{TimeState, TouchParts, TouchState};
 use sensor_plane::{Drag, ListPath, PlaneParts, PlaneState, PointingSlot, PointingState};
-use share_program::{Opened, open_scene};
+use share_program::{OpenedScene, open_scene};
 use std::alloc::Global;
 use x3d_values::{Items, Position, Value, Vec3};
 
@@ -218,7 +218,7 @@ impl Row for Changed {
         let Ok(opened) = open_scene(alloc, SCENE) else {
             return false;
         };
-        let Opened { scene, routes } = opened;
+        let OpenedScene { scene, routes } = opened;
         drop(routes);
         let Some(world) = world_with(alloc, &scene, self.0) else {
             drop(scene);

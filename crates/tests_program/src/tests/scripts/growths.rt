@@ -10,7 +10,7 @@ use cascade_core::{ApplyFault, LoadFault, PlaceFault, Stage, StatesFault, TextFa
 use script_boxes::boxes_of;
 use script_host::{Behaviour, StateFault};
 use script_running::script_list;
-use share_program::{Opened, attach, open_scene};
+use share_program::{OpenedScene, attach, open_scene};
 use snapshot_core::{SaveFault, SnapFault, load_into, save};
 use std::alloc::Global;
 use std::process::Abort;
@@ -30,7 +30,7 @@ fn load(alloc: Global, boxes: Vec<Probe<'_>>, memory: &mut UsedUp) -> Outcome {
         drop(boxes);
         return Outcome::Wrong;
     };
-    let Opened { scene, routes } = opened;
+    let OpenedScene { scene, routes } = opened;
     let Ok(scripts) = attach(alloc, &scene, boxes) else {
         drop(routes);
         drop(scene);
@@ -205,8 +205,8 @@ fn calls_of_a_stage_are_refused_until_there_is_enough(rt: HostRuntime) {
 /// The scripts of a scene are listed.
 struct Listing;
 
-impl Spared<Opened> for Listing {
-    fn work(&self, alloc: Global, opened: &mut Opened, memory: &mut UsedUp) -> Outcome {
+impl Spared<OpenedScene> for Listing {
+    fn work(&self, alloc: Global, opened: &mut OpenedScene, memory: &mut UsedUp) -> Outcome {
         memory.run_short();
         let fault = script_list(alloc, &opened.scene).err();
         memory.come_back();

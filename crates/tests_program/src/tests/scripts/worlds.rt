@@ -9,9 +9,9 @@ use cascade_core::{LoadFault, Stage, State, Trace, Watched, WorldData};
 use scene_core::Scene;
 use sensor_core::TimeState;
 use sensor_plane::PointingSlot;
-use share_program::{Opened, attach, open_scene};
+use share_program::{OpenedScene, attach, open_scene};
 use std::alloc::Global;
-use x3d_values::{Event, MAX_VIEWERS, Stamped, is_input_number, is_input_time};
+use x3d_values::{Cause, MAX_VIEWERS, Stamped, is_input_number, is_input_time};
 
 /// Two counters from 5 by steps of 2, which a clock drives each two seconds; and a box.
 pub(super) const COUNTERS: &str = "#X3D V3.0 utf8
@@ -38,7 +38,7 @@ pub(super) fn stage_of<'a>(
         drop(boxes);
         return Err(LoadFault::Memory);
     };
-    let Opened { scene, routes } = opened;
+    let OpenedScene { scene, routes } = opened;
     let Ok(scripts) = attach(alloc, &scene, boxes) else {
         drop(routes);
         drop(scene);
@@ -56,7 +56,7 @@ pub(super) fn clock(number: u32, seconds: u32) -> Option<Stamped> {
     if !is_input_time(time) {
         return None;
     }
-    Some(Stamped::new(number, time, Event::Clock))
+    Some(Stamped::new(number, time, Cause::Clock))
 }
 
 /// What is kept of each node where viewers point, before any does; none where memory is refused.

@@ -10,7 +10,7 @@ use share_wire::{Body, Message, Packet, encode};
 use snapshot_core::scene_mark;
 use std::alloc::{AllocError, Global};
 use std::process::Abort;
-use x3d_values::{Event, Pointer, Ray, Stamped, Vec3, is_input_number, is_input_time, is_viewer};
+use x3d_values::{Cause, Pointer, Ray, Stamped, Vec3, is_input_number, is_input_time, is_viewer};
 
 /// A PlaneSensor of a box in the first of two groups; it is node 0.
 const DRAGGED: &str = "#X3D V3.0 utf8
@@ -77,7 +77,7 @@ impl Aim {
             return None;
         }
         let pointer = Pointer::new(self.0, self.1, ray);
-        Some(Stamped::new(number, time, Event::Pointer(pointer)))
+        Some(Stamped::new(number, time, Cause::Pointer(pointer)))
     }
 
     fn packet(&self, number: u32) -> Option<Packet> {

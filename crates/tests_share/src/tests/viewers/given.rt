@@ -14,11 +14,11 @@ use script_host::Scripts;
 use script_running::script_list;
 use share_core::Viewer;
 use share_law::{SnapFault, TakeFault, Taken};
-use share_program::{Opened, RunFault, attach, open_scene};
+use share_program::{OpenedScene, RunFault, attach, open_scene};
 use share_wire::{Body, Message, Packet, encode};
 use std::alloc::Global;
 use std::process::Abort;
-use x3d_values::{Event, Point, Stamped, Vec3, is_input_number, is_input_time};
+use x3d_values::{Cause, Point, Stamped, Vec3, is_input_number, is_input_time};
 
 pub(super) const MARK: [u8; 32] = *b"abcdefghijklmnopqrstuvwxyzABCDEF";
 
@@ -49,7 +49,7 @@ fn stock_of(alloc: Global, scene: &Scene) -> Result<Scripts<StockScript>, RunFau
 }
 
 /// The stage of a scene after no input.
-fn stage_of(alloc: Global, opened: Opened) -> Result<Stage<StockScript>, LoadFault>
+fn stage_of(alloc: Global, opened: OpenedScene) -> Result<Stage<StockScript>, LoadFault>
     ensures { IfOk result (λ stage. stage.held ≡ Running (opening stage.scene stage.routes)) }
 {
     let Ok(scripts) = stock_of(alloc, &opened.scene) else {
@@ -77,7 +77,7 @@ pub(super) fn clock_at(number: u32) -> Option<Stamped> {
     if !is_input_time(time) {
         return None;
     }
-    Some(Stamped::new(number, time, Event::Clock))
+    Some(Stamped::new(number, time, Cause::Clock))
 }
 
 /// The datagram of that clock.

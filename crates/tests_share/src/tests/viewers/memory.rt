@@ -104,7 +104,7 @@ impl<'a> Spared<Viewer<StockScript>> for Takes<'a> {
     ) -> Outcome {
         let (before, first) = (self.1, self.1.saturating_add(1));
         let begun = go_back(viewer, self.0) == Ok(before);
-        let kept = take_clock(viewer, first.saturating_add(1)) == Some(Ok(Taken::Kept));
+        let kept = take_clock(viewer, first.saturating_add(1)) == Some(Ok(Taken::Held));
         memory.run_short();
         let answer = take_clock(viewer, first);
         memory.come_back();

@@ -6,7 +6,7 @@ use Rattle.std.specs.Option.{option_copied}
 use mir.Syntax.{w64}
 use Rattle.sensor_core.specs.Ticks.{tick}
 use Rattle.sensor_core.specs.Timing.{timing_of}
-use Rattle.cascade_world.specs.Answers.{Answer, answered}
+use Rattle.cascade_world.specs.Answers.{NodeAnswer, answered}
 use Rattle.cascade_world.proofs.Sensing.{tick-nowhere, tick-replies, tick-unlisted, tick-untimed, tick-world, timely}
 use Rattle.cascade_world.proofs.world.WorldData.tick.Goals as goal
 
@@ -18,7 +18,7 @@ returns-in_default-clause-world c =
 pub returns-in_default-clause-replies : goal.returns-in_default-clause-replies
 returns-in_default-clause-replies c =
     let none : slice_get c.args.self.now.fields c.args.node ≡ None = sym c.get.ensures ∙ ap option_copied c.in_default.is in
-    c.requires.empty ∙ ap (λ (a : Answer). a.replies) (tick-nowhere c.args.self.now c.args.node c.args.input.now.time none)
+    c.requires.empty ∙ ap (λ (a : NodeAnswer). a.replies) (tick-nowhere c.args.self.now c.args.node c.args.input.now.time none)
 
 pub returns-in_default-from_fields-clause-world : goal.returns-in_default-from_fields-clause-world
 returns-in_default-from_fields-clause-world c =
@@ -31,7 +31,7 @@ returns-in_default-from_fields-clause-replies c =
     let here : slice_get c.args.self.now.fields c.args.node ≡ Some c.in-Some.fields.now = sym c.get.ensures ∙ ap option_copied c.in-Some.is in
     let none : timing_of c.in-Some.fields.now ≡ None = sym c.from_fields.ensures ∙ c.in_default-from_fields.is in
     c.requires.empty
-    ∙ ap (λ (a : Answer). a.replies) (tick-untimed c.args.self.now c.args.node c.args.input.now.time c.in-Some.fields.now here none)
+    ∙ ap (λ (a : NodeAnswer). a.replies) (tick-untimed c.args.self.now c.args.node c.args.input.now.time c.in-Some.fields.now here none)
 
 pub returns-in_default-get-clause-world : goal.returns-in_default-get-clause-world
 returns-in_default-get-clause-world c =
@@ -47,7 +47,7 @@ returns-in_default-get-clause-replies c =
     let timed : timing_of c.in-Some.fields.now ≡ Some c.in-Some-from_fields.timing = sym c.from_fields.ensures ∙ c.in-Some-from_fields.is in
     let none : slice_get c.args.self.now.sensors c.args.node ≡ None = sym c.get-2.ensures ∙ ap option_copied c.in_default-get.is in
     c.requires.empty
-    ∙ ap (λ (a : Answer). a.replies)
+    ∙ ap (λ (a : NodeAnswer). a.replies)
     (tick-unlisted c.args.self.now c.args.node c.args.input.now.time c.in-Some.fields.now here c.in-Some-from_fields.timing timed none)
 
 pub tick-requires-clause-after : goal.tick-requires-clause-after

@@ -1,12 +1,12 @@
 use Rattle.std.proofs.Common.{ap, ◌∙◌, List, [], take, pos}
-use Rattle.share_law.specs.declared.kept.Kept.{Kept}
-use Rattle.share_core.specs.Host.{Entries, HostView, part_with}
+use Rattle.share_law.specs.declared.kept.SeatCount.{SeatCount}
+use Rattle.share_core.specs.Host.{HostInputsView, HostView, part_with}
 use Rattle.share_core.proofs.Fresh.{fresh}
 use Rattle.share_core.proofs.host.Host.new.Goals as goal
 
 pub returns : goal.returns
 returns c =
     let kept = c.truncate.ensures.items ∙ (ap (take c.args.viewers) c.from_array_in-kept.ensures.items ∙ fresh c.default.result c.args.viewers c.requires.most c.default.ensures.0 c.default.ensures.1) in
-    let empty : Entries = record { floor = 1; rest = []; count = 0; last = pos 0 } in
-    ap (λ (e : Entries). let z : HostView = record { mark = c.args.mark; part = part_with e c.truncate.new.self.items } in z) c.new.ensures
-    ∙ ap (λ (ks : List Kept). let z : HostView = record { mark = c.args.mark; part = part_with empty ks } in z) kept
+    let empty : HostInputsView = record { floor = 1; rest = []; count = 0; last = pos 0 } in
+    ap (λ (e : HostInputsView). let z : HostView = record { mark = c.args.mark; part = part_with e c.truncate.new.self.items } in z) c.new.ensures
+    ∙ ap (λ (ks : List SeatCount). let z : HostView = record { mark = c.args.mark; part = part_with empty ks } in z) kept

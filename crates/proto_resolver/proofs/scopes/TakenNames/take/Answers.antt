@@ -3,7 +3,7 @@ use Rattle.std.specs.Cmp.Lexicographic.{slice_cmp}
 use Rattle.std.proofs.Math.Path.{fun_ext}
 use Rattle.std.proofs.lemmas.Map.Text.{is_eq-slice_cmp}
 use Rattle.proto_resolver.specs.Held.{names_of}
-use Rattle.proto_resolver.proofs.scopes.Taken.take.Goals as goal
+use Rattle.proto_resolver.proofs.scopes.TakenNames.take.Goals as goal
 
 pub returns : goal.returns
 unfolding names_of
