@@ -1,4 +1,4 @@
--- Scripts of a sound plan send by outputs of the scene, and what an event comes to at its target.
+-- Scripts of a sound wiring send by outputs of the scene, and what an event comes to at its target.
 use Rattle.std.proofs.Common.{◌≡◌, ℕ, ◌+◌, ◌<◌, Bool, true, false, ◌&&◌, List, [], ◌∷◌, Option, Some, None, ◌∙◌, ap, sym, zero, suc, refl, arith, length, map, eqb-true}
 use Rattle.std.specs.Prelude.{◌==◌, nat_lt, slice_get, slice_index_or, if◌then◌else◌}
 use Rattle.std.specs.Option.{option_and_then, option_map, option_map_or}
@@ -141,7 +141,7 @@ module _ (wiring : PortsView) where
 
 -- ---- the scripts of a course
 
--- what keeps the kinds and the count keeps the cast
+-- what keeps the kinds and the count keeps the scripts that the wiring runs
 pub cast_stands : (wiring : PortsView) (old new : Course) → kinds_of new.scripts ≡ kinds_of old.scripts → new.settling.count ≡ old.settling.count → HasScriptsOf wiring old → HasScriptsOf wiring new
 cast_stands wiring old new kinds count cast = record {
   sound = rw kinds cast.sound;
