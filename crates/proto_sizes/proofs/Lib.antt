@@ -1,0 +1,7 @@
+pub mod SizeWalks
+pub mod SizeParts
+pub mod SizeNodes
+pub mod SizeProtos
+pub mod SizeWhole
+pub mod Bare
+pub mod InRows

@@ -1,0 +1,9 @@
+//! Laws of how much documents with prototypes come to.
+#![tactic(auto)]
+
+mod laws;
+
+pub use laws::{
+    bare_instances_come_alike, bare_instances_stand_in_rows, floods_are_too_large,
+    prototypes_are_sized, rows_are_sums, statements_come_alike,
+};
