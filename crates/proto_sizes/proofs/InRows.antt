@@ -21,7 +21,7 @@ use Rattle.proto_meaning.proofs.Trees.{node-full, statement-node}
 use Rattle.proto_sizes.specs.Sizes.{AreSized, IsSized}
 use Rattle.proto_sizes.specs.Rows.{AreInARow, Known, MetIn, add_node, add_root, bare, mets, node_of, stated_of, times}
 use Rattle.proto_sizes.specs.Laws.{BareInstancesStandInRows, FloodsAreTooLarge, RowsAreSums, bare_statement}
-use Rattle.proto_sizes.proofs.SizeWalks.{AsMany, DoAlike, GoesAlike, pure_alike, then_alike, through_alike}
+use Rattle.proto_sizes.proofs.SizeWalks.{AsMany, DoAlike, GoesAlike, none_sized, pure_alike, then_alike, through_alike}
 use Rattle.proto_sizes.proofs.SizeParts.{StatedSized}
 use Rattle.proto_sizes.proofs.SizeNodes.{OwnerSized, meant_sized}
 use Rattle.proto_sizes.proofs.SizeProtos.{begin_alike}
@@ -177,7 +177,7 @@ all_of parts = through add_root parts [] empty
 sized_behind : (first : List Statement) (met : List Met) (roots : List ℕ) (w : Walk) → all_of (map statement first) ≡ record { met = met; comes = Ok (roots, w) } → AreSized w.sight
 sized_behind first met roots w e =
     let nothing : Put = record { nodes = []; helpers = [] } in
-    let h = through_alike AsMany add_root (map statement first) (roots_alike (map statement first) (all_sized first)) [] [] refl empty empty (begin_alike [] nothing nothing tt) in
+    let h = through_alike AsMany add_root (map statement first) (roots_alike (map statement first) (all_sized first)) [] [] refl empty empty (begin_alike [] nothing nothing none_sized) in
     (subst (λ (o : Outcome (List ℕ × Walk)). GoesAlike AsMany o.comes o.comes) e h.goes).1.sized
 
 module _ (p : Prototype) (word : Name) (s : Sight) (means : meant word s ≡ Some (OfProto p)) (sized : IsSized p) (met : List Met) (m : MetIn p met) where

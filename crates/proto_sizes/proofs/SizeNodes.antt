@@ -15,7 +15,7 @@ use Rattle.proto_meaning.specs.Names.{Name, Field, Stands, Braces, Scope, has_na
 use Rattle.proto_meaning.specs.Sight.{Put, Instance, Prototype, Sight, Owner, OfType, OfProto, declared, meant, taken_by}
 use Rattle.proto_meaning.specs.Flat.{Walk, Does, ◌>>=◌, Node, Item, Proto, Inside, close, close_instance, close_node, fields_of, flat_node, full_node, inside, is_one, meet, node_step, note, note_route, pure, refuse, renamed, statement_step, through, unless_twice}
 use Rattle.proto_sizes.specs.Sizes.{Alike, AreSized, EndAlike, IsSized, mark, marks}
-use Rattle.proto_sizes.proofs.SizeWalks.{Any, AsMany, DoAlike, GoAlike, InsideAlike, SeesSized, all_append, each_sized, if_alike, meet_alike, pure_alike, refuse_alike, then_alike, through_alike}
+use Rattle.proto_sizes.proofs.SizeWalks.{Any, AsMany, DoAlike, GoAlike, FoundSized, InsideAlike, SeesSized, each_of_both, each_sized, if_alike, meet_alike, pure_alike, refuse_alike, then_alike, through_alike}
 use Rattle.proto_sizes.proofs.SizeParts.{ItemSized, NodeSized, ProtoSized, StatedSized, route_alike}
 
 -- ---- names
@@ -176,25 +176,13 @@ abbrev pub OwnerSized : Option Owner → Type 0
 OwnerSized (Some (OfProto p)) = IsSized p
 OwnerSized _ = Unit {0}
 
-abbrev FoundSized : Option Prototype → Type 0
-FoundSized None = Unit {0}
-FoundSized (Some p) = IsSized p
-
-found_sized : (b : Bool) (p : Prototype) (o : Option Prototype) → IsSized p → FoundSized o → FoundSized (if b then Some p else o)
-found_sized true p o h k = h
-found_sized false p o h k = k
-
-declared_sized : (word : Name) (ps : List Prototype) → AllByRecursion IsSized ps → FoundSized (declared word ps)
-declared_sized word [] h = tt
-declared_sized word (p ∷ ps) h = found_sized (bytes_eq word p.name) p (declared word ps) h.0 (declared_sized word ps h.1)
-
 owner_sized : (t : Option NodeType) (o : Option Prototype) → FoundSized o → OwnerSized (option_or (option_map OfType t) (option_map OfProto o))
 owner_sized (Some t) o h = tt
 owner_sized None None h = tt
 owner_sized None (Some p) h = h
 
 pub meant_sized : (word : Name) (s : Sight) → AreSized s → OwnerSized (meant word s)
-meant_sized word s h = owner_sized (node_type_named word) (declared word (s.here ++ s.outside)) (declared_sized word (s.here ++ s.outside) (all_append IsSized s.here s.outside h.here h.outside))
+meant_sized word s h = owner_sized (node_type_named word) (declared word (s.here ++ s.outside)) (each_of_both s.here s.outside h.here h.outside word)
 
 full_alike : (line : ℕ) (name : Option Name) (ms : List Item) → AllByRecursion ItemSized ms → (o : Option Owner) → OwnerSized o → DoAlike (Any {A = ℕ}) (full_node line name ms o) (full_node line name ms o)
 full_alike line name ms h None k = refuse_alike Any UnknownNode line

@@ -15,8 +15,8 @@ use Rattle.proto_meaning.specs.Limits.{Met, follow}
 use Rattle.proto_meaning.specs.Names.{Name, Filled, Scope, value_of}
 use Rattle.proto_meaning.specs.Sight.{Put, Prototype, Sight, Names, and_see, declared, no_names}
 use Rattle.proto_meaning.specs.Flat.{Walk, Does, ◌>>=◌, Item, Node, Stated, Proto, begin, body_finds, body_sees, declare, declare_body, default, field, in_body, leave_out, made, note, proto_step, prototype, pure, put_default, put_in, through}
-use Rattle.proto_sizes.specs.Sizes.{Alike, AreSized, ComeAlike, IsSized}
-use Rattle.proto_sizes.proofs.SizeWalks.{Any, AsLarge, AsMany, DoAlike, GoesAlike, SameSizes, SeenSized, SeesSized, all_append, if_alike, pure_alike, see_alike, then_alike, through_alike}
+use Rattle.proto_sizes.specs.Sizes.{Alike, AreSized, ComeAlike, EachSized, IsSized}
+use Rattle.proto_sizes.proofs.SizeWalks.{Any, AsLarge, AsMany, DoAlike, GoesAlike, SameSizes, SeenSized, SeesSized, each_of_both, if_alike, none_sized, one_sized, pure_alike, see_alike, then_alike, through_alike}
 use Rattle.proto_sizes.proofs.SizeParts.{GivenSized, ProtoSized, StatedSized, left_out, none_same, size_same, sizes_more, value_alike}
 
 -- ---- defaults
@@ -76,8 +76,8 @@ all_in_body : (ss : List Stated) → AllByRecursion StatedSized ss → AllByRecu
 all_in_body [] h = tt
 all_in_body (s ∷ ss) h = (in_body_alike s h.0, all_in_body ss h.1)
 
-pub begin_alike : (ps : List Prototype) (put other : Put) → AllByRecursion IsSized ps → Alike (begin ps put) (begin ps other)
-begin_alike ps put other h = record { sight = refl; sized = record { here = tt; outside = h }; braces = refl; interface = refl; given = refl }
+pub begin_alike : (ps : List Prototype) (put other : Put) → EachSized ps → Alike (begin ps put) (begin ps other)
+begin_alike ps put other h = record { sight = refl; sized = record { here = none_sized; outside = h }; braces = refl; interface = refl; given = refl }
 
 made_by : (line : ℕ) (ks ls : List ℕ) (w v : Walk) → AsMany ks ls → ComeAlike (made line ks w) (made line ls v)
 made_by line [] [] w v e = record { met = refl; ends = refl }
@@ -112,14 +112,15 @@ module _ (line : ℕ) (name : Name) (interface : List (Declaration Node)) (body 
       (λ a b i. then_alike Any AsMany (note (tt {0}) (found a)) (note (tt {0}) (found b)) (λ _. through in_body body []) (λ _. through in_body body []) (found_alike a b i)
       (λ _ _ _. through_alike AsMany in_body body (all_in_body body ss) [] [] refl))
 
-  prototype_sized : (outside : List Prototype) (takes : Names) → AllByRecursion IsSized outside → IsSized (prototype line name interface body outside takes)
+  prototype_sized : (outside : List Prototype) (takes : Names) → EachSized outside → IsSized (prototype line name interface body outside takes)
   prototype_sized outside takes h fs gs before behind e =
       let g = all_alike takes fs gs e (begin outside before) (begin outside behind) (begin_alike outside before behind h) in
       made_of line (all_does takes fs (begin outside before)).met (all_does takes gs (begin outside behind)).met (all_does takes fs (begin outside before)).comes (all_does takes gs (begin outside behind)).comes g.met g.goes
 
   with_prototype : (s : Sight) → AreSized s → (r : Result Sight ExpandFault) → SeenSized (and_see r (λ t. Ok (record s { here = s.here ++ prototype line name interface body (s.here ++ s.outside) t.taken ∷ [] })))
   with_prototype s h (Ok t) = record {
-    here = all_append IsSized s.here (prototype line name interface body (s.here ++ s.outside) t.taken ∷ []) h.here (prototype_sized (s.here ++ s.outside) t.taken (all_append IsSized s.here s.outside h.here h.outside), tt);
+    here = each_of_both s.here (prototype line name interface body (s.here ++ s.outside) t.taken ∷ []) h.here
+        (one_sized (prototype line name interface body (s.here ++ s.outside) t.taken) (prototype_sized (s.here ++ s.outside) t.taken (each_of_both s.here s.outside h.here h.outside)));
     outside = h.outside;
   }
   with_prototype s h (Err e) = tt

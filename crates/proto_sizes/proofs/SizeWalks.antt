@@ -1,14 +1,15 @@
 -- Walks that differ in numbers of nodes alone, and parts that go on alike from them.
-use Rattle.std.proofs.Common.{◌≡◌, ℕ, Bool, true, false, if◌then◌else◌, List, [], ◌∷◌, ◌++◌, length, Result, Ok, Err, refl, ap, sym, ◌∙◌, subst}
+use Rattle.std.proofs.Common.{◌≡◌, ℕ, Bool, true, false, if◌then◌else◌, List, [], ◌∷◌, ◌++◌, length, Option, Some, None, Result, Ok, Err, bytes_eq, refl, ap, sym, ◌∙◌, subst}
+use Rattle.std.specs.Prelude.{IfSome}
 use Rattle.std.specs.List.{AllByRecursion}
 use Rattle.classic_tree.specs.declared.tree.RawValue.{RawValue}
 use Rattle.proto_flat.specs.declared.fault.ExpandFault.{ExpandFault}
 use Rattle.proto_flat.specs.declared.fault.ExpandFaultKind.{ExpandFaultKind}
 use Rattle.proto_meaning.specs.Limits.{Met, Outcome, follow, item_count}
-use Rattle.proto_meaning.specs.Names.{Filled}
-use Rattle.proto_meaning.specs.Sight.{Sight, Step, and_see, aside, each, no_names}
+use Rattle.proto_meaning.specs.Names.{Name, Filled}
+use Rattle.proto_meaning.specs.Sight.{Prototype, Sight, Step, and_see, aside, declared, each, no_names}
 use Rattle.proto_meaning.specs.Flat.{Walk, Does, ◌>>=◌, Inside, comes, meet, pure, refuse, see, through}
-use Rattle.proto_sizes.specs.Sizes.{Alike, AreSized, ComeAlike, EndAlike, IsSized, sizes}
+use Rattle.proto_sizes.specs.Sizes.{Alike, AreSized, ComeAlike, EachSized, EndAlike, IsSized, sizes}
 
 -- ---- what parts give
 
@@ -76,18 +77,31 @@ module _ {A X : Type 0} (S : X → X → Type 0) (f : A → X → Does X) where
   through_alike [] h x y s = pure_alike S x y s
   through_alike (a ∷ as') h x y s = then_alike S S (f a x) (f a y) (through f as') (through f as') (h.0 x y s) (λ u v i. through_alike as' h.1 u v i)
 
--- ---- lists
-
-module _ {A : Type 0} (P : A → Type 0) where
-  pub all_append : (as' bs : List A) → AllByRecursion P as' → AllByRecursion P bs → AllByRecursion P (as' ++ bs)
-  all_append [] bs h k = k
-  all_append (a ∷ as') bs h k = (h.0, all_append as' bs h.1 k)
-
-  pub all_weaker : (Q : A → Type 0) → ((a : A) → P a → Q a) → (as' : List A) → AllByRecursion P as' → AllByRecursion Q as'
-  all_weaker Q f [] h = tt
-  all_weaker Q f (a ∷ as') h = (f a h.0, all_weaker Q f as' h.1)
-
 -- ---- what is in sight
+
+abbrev pub FoundSized : Option Prototype → Type 0
+FoundSized o = IfSome o IsSized
+
+found_if : (b : Bool) (p : Prototype) (o : Option Prototype) → IsSized p → FoundSized o → FoundSized (if b then Some p else o)
+found_if true p o h k = h
+found_if false p o h k = k
+
+first_if : (b : Bool) (p : Prototype) (o q : Option Prototype) → FoundSized (if b then Some p else o) → (FoundSized o → FoundSized q) → FoundSized (if b then Some p else q)
+first_if true p o q h k = h
+first_if false p o q h k = k h
+
+both_sized : (word : Name) (ps qs : List Prototype) → FoundSized (declared word ps) → FoundSized (declared word qs) → FoundSized (declared word (ps ++ qs))
+both_sized word [] qs h k = k
+both_sized word (p ∷ ps) qs h k = first_if (bytes_eq word p.name) p (declared word ps) (declared word (ps ++ qs)) h (λ i. both_sized word ps qs i k)
+
+pub each_of_both : (ps qs : List Prototype) → EachSized ps → EachSized qs → EachSized (ps ++ qs)
+each_of_both ps qs h k word = both_sized word ps qs (h word) (k word)
+
+pub one_sized : (p : Prototype) → IsSized p → EachSized (p ∷ [])
+one_sized p h word = found_if (bytes_eq word p.name) p None h tt
+
+pub none_sized : EachSized []
+none_sized word = tt
 
 abbrev pub Seen : Type 0
 Seen = Result Sight ExpandFault
@@ -101,7 +115,7 @@ abbrev pub SeesSized : Step → Type 0
 SeesSized p = (s : Sight) → AreSized s → SeenSized (p s)
 
 pub with_taken : (s : Sight) (t : Sight) → t.here ≡ s.here → t.outside ≡ s.outside → AreSized s → AreSized t
-with_taken s t e f h = record { here = subst (AllByRecursion IsSized) (sym e) h.here; outside = subst (AllByRecursion IsSized) (sym f) h.outside }
+with_taken s t e f h = record { here = subst EachSized (sym e) h.here; outside = subst EachSized (sym f) h.outside }
 
 pub sees_then : (r : Seen) (f : Step) → SeenSized r → SeesSized f → SeenSized (and_see r f)
 sees_then (Ok s) f h k = k s h

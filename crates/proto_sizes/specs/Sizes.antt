@@ -1,10 +1,9 @@
 -- What comes to the same but for the numbers of nodes.
-use Rattle.std.specs.Prelude.{◌≡◌, ℕ, Bool, List, map, Option, option_map, is_some, Result, Ok, Err}
-use Rattle.std.specs.List.{AllByRecursion}
+use Rattle.std.specs.Prelude.{◌≡◌, ℕ, Bool, List, map, Option, option_map, is_some, IfSome, Result, Ok, Err}
 use Rattle.proto_flat.specs.declared.fault.ExpandFault.{ExpandFault}
 use Rattle.proto_meaning.specs.Limits.{Outcome, item_count}
 use Rattle.proto_meaning.specs.Names.{Name, Filled, Braces}
-use Rattle.proto_meaning.specs.Sight.{Put, Prototype, Sight}
+use Rattle.proto_meaning.specs.Sight.{Put, Prototype, Sight, declared}
 use Rattle.proto_meaning.specs.Flat.{Walk}
 
 -- ---- outcomes
@@ -37,9 +36,13 @@ IsSized p =
     (given other : List Filled) (before behind : Put) → sizes other ≡ sizes given
     → ComeAlike (p.instance given before) (p.instance other behind)
 
+-- each that a name finds among these is
+abbrev pub EachSized : List Prototype → Type 0
+EachSized prototypes = (word : Name) → IfSome (declared word prototypes) IsSized
+
 pub record AreSized (s : Sight) : Type 0 where
-  pub here : AllByRecursion IsSized s.here
-  pub outside : AllByRecursion IsSized s.outside
+  pub here : EachSized s.here
+  pub outside : EachSized s.outside
 
 -- ---- walks
 
