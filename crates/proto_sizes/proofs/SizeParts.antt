@@ -15,10 +15,10 @@ use Rattle.classic_tree.specs.declared.tree.RouteText.{RouteText}
 use Rattle.proto_flat.specs.declared.fault.ExpandFaultKind.TheVariants.{UnknownField, BadIs, FieldTwice}
 use Rattle.proto_meaning.specs.Limits.{AField, AnItem, item_count}
 use Rattle.proto_meaning.specs.Names.{Name, Field, Filled, Scope, pairs, sources, stands_at, targets, value_of}
-use Rattle.proto_meaning.specs.Sight.{Names, aside, is_kept, nodes_in, taken_by, taking}
+use Rattle.proto_meaning.specs.Sight.{Names, Sight, aside, is_kept, nodes_in, taken_by, taking}
 use Rattle.proto_meaning.specs.Flat.{Does, ◌>>=◌, Node, Item, Stated, Proto, Inside, declare_field, field, fill, fits, give, give_is, give_value, given_sees, is_filled, is_node, is_script, item_step, join, leave_out, meet, met_field, note, note_route, numbered_from, pure, put_in, refuse, through}
-use Rattle.proto_sizes.specs.Sizes.{size, sizes}
-use Rattle.proto_sizes.proofs.SizeWalks.{Any, AsLarge, AsMany, DoAlike, GoAlike, InsideAlike, SeesSized, aside_sized, each_sized, if_alike, meet_alike, pure_alike, refuse_alike, see_alike, sees_if, then_alike, through_alike, with_filled, with_taken}
+use Rattle.proto_sizes.specs.Sizes.{AreSized, size, sizes}
+use Rattle.proto_sizes.proofs.SizeWalks.{Any, AsLarge, AsMany, DoAlike, GoAlike, InsideAlike, LastSized, SeesSized, aside_sized, each_sized, if_alike, meet_alike, pure_alike, refuse_alike, see_alike, sees_if, then_alike, through_alike, with_filled, with_taken}
 
 -- ---- parts that do alike, and declare what is sized
 
@@ -36,6 +36,7 @@ pub record StatedSized (s : Stated) : Type 0 where
 
 pub record ProtoSized (p : Proto) : Type 0 where
   pub sees : SeesSized p.sees
+  pub declares : (s : Sight) → AreSized s → LastSized s (p.sees s)
   pub does : DoAlike Any p.does p.does
 
 abbrev pub GivenSized : Given Node → Type 0

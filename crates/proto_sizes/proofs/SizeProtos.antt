@@ -16,7 +16,7 @@ use Rattle.proto_meaning.specs.Names.{Name, Filled, Scope, value_of}
 use Rattle.proto_meaning.specs.Sight.{Put, Prototype, Sight, Names, and_see, declared, no_names}
 use Rattle.proto_meaning.specs.Flat.{Walk, Does, ◌>>=◌, Item, Node, Stated, Proto, begin, body_finds, body_sees, declare, declare_body, default, field, in_body, leave_out, made, note, proto_step, prototype, pure, put_default, put_in, through}
 use Rattle.proto_sizes.specs.Sizes.{Alike, AreSized, ComeAlike, EachSized, IsSized}
-use Rattle.proto_sizes.proofs.SizeWalks.{Any, AsLarge, AsMany, DoAlike, GoesAlike, SameSizes, SeenSized, SeesSized, each_of_both, if_alike, none_sized, one_sized, pure_alike, see_alike, then_alike, through_alike}
+use Rattle.proto_sizes.proofs.SizeWalks.{Any, AsLarge, AsMany, DoAlike, GoesAlike, LastSized, SameSizes, SeenSized, SeesSized, each_of_both, if_alike, none_sized, one_sized, pure_alike, see_alike, then_alike, through_alike}
 use Rattle.proto_sizes.proofs.SizeParts.{GivenSized, ProtoSized, StatedSized, left_out, none_same, size_same, sizes_more, value_alike}
 
 -- ---- defaults
@@ -95,6 +95,17 @@ made_of line m n (Err x) (Ok q) e h = absurd h
 
 -- ---- prototypes
 
+abbrev last_or : Prototype → List Prototype → Prototype
+last_or p [] = p
+last_or p (q ∷ qs) = last_or q qs
+
+last_of : (p : Prototype) (qs : List Prototype) (q : Prototype) → last_or p (qs ++ q ∷ []) ≡ q
+last_of p [] q = refl
+last_of p (r ∷ qs) q = last_of r qs q
+
+same_last : (ps : List Prototype) (p q : Prototype) → ps ++ p ∷ [] ≡ ps ++ q ∷ [] → p ≡ q
+same_last ps p q e = sym (last_of p ps p) ∙ ap (last_or p) e ∙ last_of p ps q
+
 module _ (line : ℕ) (name : Name) (interface : List (Declaration Node)) (body : List Stated) (ds : AllByRecursion DeclarationSized interface) (ss : AllByRecursion StatedSized body) where
   abbrev found : List Filled → Scope → Scope
   found all s = record s { interface = map field interface; given = all }
@@ -117,10 +128,20 @@ module _ (line : ℕ) (name : Name) (interface : List (Declaration Node)) (body 
       let g = all_alike takes fs gs e (begin outside before) (begin outside behind) (begin_alike outside before behind h) in
       made_of line (all_does takes fs (begin outside before)).met (all_does takes gs (begin outside behind)).met (all_does takes fs (begin outside before)).comes (all_does takes gs (begin outside behind)).comes g.met g.goes
 
+  abbrev declared_here : Sight → Names → Prototype
+  declared_here s taken = prototype line name interface body (s.here ++ s.outside) taken
+
+  here_sized : (s : Sight) (taken : Names) → AreSized s → IsSized (declared_here s taken)
+  here_sized s taken h = prototype_sized (s.here ++ s.outside) taken (each_of_both s.here s.outside h.here h.outside)
+
+  last_prototype : (s : Sight) → AreSized s → (r : Result Sight ExpandFault) → LastSized s (and_see r (λ t. Ok (record s { here = s.here ++ declared_here s t.taken ∷ [] })))
+  last_prototype s h (Ok t) = λ p e. subst IsSized (same_last s.here (declared_here s t.taken) p e) (here_sized s t.taken h)
+  last_prototype s h (Err x) = tt
+
   with_prototype : (s : Sight) → AreSized s → (r : Result Sight ExpandFault) → SeenSized (and_see r (λ t. Ok (record s { here = s.here ++ prototype line name interface body (s.here ++ s.outside) t.taken ∷ [] })))
   with_prototype s h (Ok t) = record {
     here = each_of_both s.here (prototype line name interface body (s.here ++ s.outside) t.taken ∷ []) h.here
-        (one_sized (prototype line name interface body (s.here ++ s.outside) t.taken) (prototype_sized (s.here ++ s.outside) t.taken (each_of_both s.here s.outside h.here h.outside)));
+        (one_sized (declared_here s t.taken) (here_sized s t.taken h));
     outside = h.outside;
   }
   with_prototype s h (Err e) = tt
@@ -129,11 +150,27 @@ module _ (line : ℕ) (name : Name) (interface : List (Declaration Node)) (body 
   seen_if true r q h k = h
   seen_if false r q h k = k
 
+  last_if : (s : Sight) (b : Bool) (r q : Result Sight ExpandFault) → LastSized s r → LastSized s q → LastSized s (if b then r else q)
+  last_if s true r q h k = h
+  last_if s false r q h k = k
+
+  abbrev behind_body : Sight → Result Sight ExpandFault
+  behind_body s = body_sees line name interface body (record { here = []; outside = s.here ++ s.outside; taken = no_names })
+
+  last_declared : (found : Result Bool ℕ) (s : Sight) → AreSized s → LastSized s (declare_body line name interface body found s)
+  last_declared (Err itself) s h = tt
+  last_declared (Ok hidden) s h = last_if s (list_any (λ (x : Stated). x.0) body) _ (Err (fault EmptyBody line)) (last_prototype s h (behind_body s)) tt
+
+  declare_last : (s : Sight) → AreSized s → LastSized s (declare line name interface body s)
+  declare_last s h =
+      last_if s (is_some (node_type_named name) || is_some (declared name s.here)) (Err (fault ProtoTwice line)) _ tt
+      (last_declared (body_finds line name interface body name false) s h)
+
   body_declared : (found : Result Bool ℕ) (s : Sight) → AreSized s → SeenSized (declare_body line name interface body found s)
   body_declared (Err itself) s h = tt
   body_declared (Ok hidden) s h =
       seen_if (list_any (λ (x : Stated). x.0) body) _ (Err (fault EmptyBody line))
-      (with_prototype s h (body_sees line name interface body (record { here = []; outside = s.here ++ s.outside; taken = no_names }))) tt
+      (with_prototype s h (behind_body s)) tt
 
   declare_sized : SeesSized (declare line name interface body)
   declare_sized s h =
@@ -144,5 +181,6 @@ pub proto_sized : (p : ProtoText-F Item Node Stated Proto) → AllByRecursion De
 unfolding proto_step
 proto_sized p ds ss = record {
   sees = declare_sized p.line p.name p.interface p.body ds ss;
+  declares = declare_last p.line p.name p.interface p.body ds ss;
   does = see_alike (declare p.line p.name p.interface p.body) (declare_sized p.line p.name p.interface p.body ds ss);
 }

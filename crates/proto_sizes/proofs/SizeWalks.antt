@@ -110,6 +110,11 @@ abbrev pub SeenSized : Seen → Type 0
 SeenSized (Ok s) = AreSized s
 SeenSized (Err e) = Unit {0}
 
+-- the prototype that is in sight last is sized
+abbrev pub LastSized : Sight → Seen → Type 0
+LastSized s (Ok t) = (p : Prototype) → t.here ≡ s.here ++ p ∷ [] → IsSized p
+LastSized s (Err e) = Unit {0}
+
 -- the step declares sized prototypes alone
 abbrev pub SeesSized : Step → Type 0
 SeesSized p = (s : Sight) → AreSized s → SeenSized (p s)

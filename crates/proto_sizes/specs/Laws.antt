@@ -1,9 +1,10 @@
 -- What instances come to hangs on the sizes of what they are given; and so a document in which too
 -- many stand is TooLarge, whatever comes behind them.
-use Rattle.std.specs.Prelude.{◌≡◌, ℕ, ◌*◌, false, List, [], ◌++◌, length, map, Option, Some, Ok, Err}
+use Rattle.std.specs.Prelude.{◌≡◌, ℕ, ◌*◌, false, List, [], ◌∷◌, ◌++◌, length, map, Option, Some, Ok, Err}
 use Rattle.std.specs.List.{sum_by}
 use Rattle.classic_tree.specs.declared.tree.Document.{Document}
 use Rattle.classic_tree.specs.declared.tree.NodeText.TheVariants as node
+use Rattle.classic_tree.specs.declared.tree.ProtoText.{ProtoText}
 use Rattle.classic_tree.specs.declared.tree.Statement.{Statement}
 use Rattle.classic_tree.specs.declared.tree.Statement.TheVariants as statements
 use Rattle.proto_flat.specs.Fault.{fault}
@@ -11,7 +12,7 @@ use Rattle.proto_flat.specs.declared.fault.ExpandFaultKind.TheVariants.{TooLarge
 use Rattle.proto_meaning.specs.Limits.{Met, is_within}
 use Rattle.proto_meaning.specs.Names.{Name}
 use Rattle.proto_meaning.specs.Sight.{Prototype, Sight, OfProto, meant}
-use Rattle.proto_meaning.specs.Flat.{Walk, through, begin, statement, in_body, flat}
+use Rattle.proto_meaning.specs.Flat.{Walk, through, begin, proto, statement, in_body, flat}
 use Rattle.proto_sizes.specs.Sizes.{ComeAlike, IsSized, AreSized, Alike}
 use Rattle.proto_sizes.specs.Rows.{bare, MetIn, Known, node_of, stated_of, mets, times, add_node, add_root, AreInARow}
 
@@ -19,6 +20,12 @@ use Rattle.proto_sizes.specs.Rows.{bare, MetIn, Known, node_of, stated_of, mets,
 abbrev pub PrototypesAreSized : Type 0
 PrototypesAreSized =
     (text : Statement) (s t : Sight) → AreSized s → (statement text).1.sees s ≡ Ok t → AreSized t
+
+-- and so is the prototype that a declaration adds to them
+abbrev pub DeclaredPrototypesAreSized : Type 0
+DeclaredPrototypesAreSized =
+    (text : ProtoText) (s : Sight) (p : Prototype) → AreSized s
+    → (proto text).sees s ≡ Ok (record s { here = s.here ++ p ∷ [] }) → IsSized p
 
 -- a statement comes to the same from walks that differ in numbers of nodes alone
 abbrev pub StatementsComeAlike : Type 0

@@ -3,6 +3,7 @@
 ghost use Rattle.proto_sizes.specs.Laws.{
   BareInstancesComeAlike,
   BareInstancesStandInRows,
+  DeclaredPrototypesAreSized,
   FloodsAreTooLarge,
   PrototypesAreSized,
   RowsAreSums,
@@ -12,6 +13,11 @@ ghost use Rattle.proto_sizes.specs.Laws.{
 /// Prototypes that a statement declares are sized, where those in sight are.
 pub fn prototypes_are_sized()
     ensures { PrototypesAreSized }
+{}
+
+/// The prototype that a declaration adds to sized ones is sized.
+pub fn declared_prototypes_are_sized()
+    ensures { DeclaredPrototypesAreSized }
 {}
 
 /// A statement comes to the same from walks that differ in numbers of nodes alone.

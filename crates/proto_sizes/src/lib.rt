@@ -4,6 +4,6 @@
 mod laws;
 
 pub use laws::{
-    bare_instances_come_alike, bare_instances_stand_in_rows, floods_are_too_large,
-    prototypes_are_sized, rows_are_sums, statements_come_alike,
+    bare_instances_come_alike, bare_instances_stand_in_rows, declared_prototypes_are_sized,
+    floods_are_too_large, prototypes_are_sized, rows_are_sums, statements_come_alike,
 };
