@@ -184,7 +184,7 @@ owner_sized None (Some p) h = h
 pub meant_sized : (word : Name) (s : Sight) → AreSized s → OwnerSized (meant word s)
 meant_sized word s h = owner_sized (node_type_named word) (declared word (s.here ++ s.outside)) (each_of_both s.here s.outside h.here h.outside word)
 
-full_alike : (line : ℕ) (name : Option Name) (ms : List Item) → AllByRecursion ItemSized ms → (o : Option Owner) → OwnerSized o → DoAlike (Any {A = ℕ}) (full_node line name ms o) (full_node line name ms o)
+pub full_alike : (line : ℕ) (name : Option Name) (ms : List Item) → AllByRecursion ItemSized ms → (o : Option Owner) → OwnerSized o → DoAlike (Any {A = ℕ}) (full_node line name ms o) (full_node line name ms o)
 full_alike line name ms h None k = refuse_alike Any UnknownNode line
 full_alike line name ms h (Some (OfType t)) k =
     then_alike Any Any (meet ANode) (meet ANode) (λ _. inside name (OfType t) (fields_of t) ms >>= node_of line name t) (λ _. inside name (OfType t) (fields_of t) ms >>= node_of line name t) (meet_alike ANode ANode refl)

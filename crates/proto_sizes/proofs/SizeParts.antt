@@ -135,7 +135,7 @@ any_size : (name : Name) (fs : List Filled) → list_any (λ (f : Filled). bytes
 any_size name [] = refl
 any_size name (f ∷ fs) = ap (λ b. bytes_eq f.name name || b) (any_size name fs)
 
-filled_same : (name : Name) (fs gs : List Filled) → sizes gs ≡ sizes fs → list_any (λ (f : Filled). bytes_eq f.name name) gs ≡ list_any (λ (f : Filled). bytes_eq f.name name) fs
+pub filled_same : (name : Name) (fs gs : List Filled) → sizes gs ≡ sizes fs → list_any (λ (f : Filled). bytes_eq f.name name) gs ≡ list_any (λ (f : Filled). bytes_eq f.name name) fs
 filled_same name fs gs e = any_size name gs ∙ ap (is_named name) e ∙ sym (any_size name fs)
 
 pub sizes_more : (fs gs : List Filled) (f g : Filled) → sizes gs ≡ sizes fs → size g ≡ size f → sizes (gs ++ g ∷ []) ≡ sizes (fs ++ f ∷ [])
@@ -144,23 +144,23 @@ sizes_more fs gs f g e h = map-append size gs (g ∷ []) ∙ ap (λ ss. ss ++ si
 -- ---- fields
 
 module _ (line : ℕ) (f : ℕ × Field) (i : Inside) (gs : List Filled) (e : sizes gs ≡ sizes i.filled) where
-  abbrev j : Inside
+  abbrev pub j : Inside
   j = with_filled i gs
 
-  abbrev one : Option (RawValue ℕ) → Filled
+  abbrev pub one : Option (RawValue ℕ) → Filled
   one v = record { line = line; name = f.1.name; number = f.0; value = v }
 
-  fill_alike : (v u : Option (RawValue ℕ)) → option_map item_count u ≡ option_map item_count v → DoAlike InsideAlike (pure (fill line f i v)) (pure (fill line f j u))
+  pub fill_alike : (v u : Option (RawValue ℕ)) → option_map item_count u ≡ option_map item_count v → DoAlike InsideAlike (pure (fill line f i v)) (pure (fill line f j u))
   fill_alike v u h = pure_alike InsideAlike (fill line f i v) (fill line f j u) (record {
     filled = gs ++ one u ∷ [];
     same = sizes_more i.filled gs (one v) (one u) e (ap (λ (o : Option ℕ). (f.1.name, o)) h);
     is = refl;
   })
 
-  twice_alike : (twice : Bool) (m n : Does Inside) → DoAlike InsideAlike m n → DoAlike InsideAlike (if twice then refuse FieldTwice line else m) (if twice then refuse FieldTwice line else n)
+  pub twice_alike : (twice : Bool) (m n : Does Inside) → DoAlike InsideAlike m n → DoAlike InsideAlike (if twice then refuse FieldTwice line else m) (if twice then refuse FieldTwice line else n)
   twice_alike twice m n h = if_alike InsideAlike twice (refuse FieldTwice line) m (refuse FieldTwice line) n (refuse_alike InsideAlike FieldTwice line) h
 
-  met_alike : (m n : ℕ) → n ≡ m → DoAlike (Any {A = Unit {0}}) (met_field i.owner f.0 m) (met_field i.owner f.0 n)
+  pub met_alike : (m n : ℕ) → n ≡ m → DoAlike (Any {A = Unit {0}}) (met_field i.owner f.0 m) (met_field i.owner f.0 n)
   met_alike m n h = meet_alike (if is_node i.owner then AField f.0 m else AnItem) (if is_node i.owner then AField f.0 n else AnItem) (ap (λ k. if is_node i.owner then AField f.0 k else AnItem) h)
 
   nothing_alike : DoAlike InsideAlike (met_field i.owner f.0 0 >>= λ _. pure (fill line f i None)) (met_field i.owner f.0 0 >>= λ _. pure (fill line f j None))

@@ -21,10 +21,10 @@ use Rattle.proto_sizes.proofs.SizeParts.{GivenSized, ProtoSized, StatedSized, le
 
 -- ---- defaults
 
-abbrev filled_with : Declaration Node → List Filled → RawValue ℕ → List Filled
+abbrev pub filled_with : Declaration Node → List Filled → RawValue ℕ → List Filled
 filled_with d all v = all ++ record { line = d.line; name = d.name; number = 0; value = Some v } ∷ []
 
-put_alike : (d : Declaration Node) (fs gs : List Filled) → SameSizes fs gs → (g : Given Node) → GivenSized g → DoAlike SameSizes (put_default d fs g) (put_default d gs g)
+pub put_alike : (d : Declaration Node) (fs gs : List Filled) → SameSizes fs gs → (g : Given Node) → GivenSized g → DoAlike SameSizes (put_default d fs g) (put_default d gs g)
 put_alike d fs gs e given.Nothing h = pure_alike SameSizes fs gs e
 put_alike d fs gs e (given.Is name) h = pure_alike SameSizes fs gs e
 put_alike d fs gs e (given.Value v) h =
@@ -65,7 +65,7 @@ empty_as_many (k ∷ ks) e = absurd (by_zero (length ks) e) where
   by_zero : (n : ℕ) → suc n ≡ 0 → ⊥
   by_zero n e = omega (arith, e)
 
-in_body_alike : (s : Stated) → StatedSized s → (ks ls : List ℕ) → AsMany ks ls → DoAlike AsMany (in_body s ks) (in_body s ls)
+pub in_body_alike : (s : Stated) → StatedSized s → (ks ls : List ℕ) → AsMany ks ls → DoAlike AsMany (in_body s ks) (in_body s ls)
 unfolding helped
 in_body_alike s h [] [] e = h.does
 in_body_alike s h [] (l ∷ ls) e = absurd (empty_as_many (l ∷ ls) e)
