@@ -1,6 +1,8 @@
 -- Instances that are given nothing one behind the other, and documents with too many of them.
-use Rattle.std.proofs.Common.{◌≡◌, ℕ, zero, suc, ◌+◌, ◌*◌, false, List, [], ◌∷◌, ◌++◌, length, Option, Some, Result, Ok, Err, map, refl, ap, sym, ◌∙◌, subst, arith}
-use Rattle.std.specs.List.{AllByRecursion, fold, sum_by}
+use Rattle.std.proofs.Common.{◌≡◌, ℕ, zero, suc, ◌+◌, ◌*◌, ◌<◌, Bool, true, false, not, inl, inr, List, [], ◌∷◌, ◌++◌, length, Option, Some, Result, Ok, Err, map, refl, ap, sym, ◌∙◌, subst, arith}
+use Rattle.std.specs.Prelude.{◌&&◌, nat_lt}
+use Rattle.std.specs.List.{list_all, AllByRecursion, fold, sum_by}
+use Rattle.std.proofs.lemmas.Bool.{lt-ltb}
 use Rattle.std.proofs.lemmas.List.{append-nil, append_assoc, length-append, map-append}
 use Rattle.classic_tree.specs.declared.tree.BodyItem.TheOpen.{NodeText-F, Statement-F}
 use Rattle.classic_tree.specs.declared.tree.Document.{Document}
@@ -11,7 +13,7 @@ use Rattle.proto_flat.specs.Fault.{fault}
 use Rattle.proto_flat.specs.declared.fault.ExpandFault.{ExpandFault}
 use Rattle.proto_flat.specs.declared.fault.ExpandFaultKind.TheVariants.{TooLarge}
 use Rattle.proto_flat.specs.declared.flat.Flat.{Flat}
-use Rattle.proto_meaning.specs.Limits.{Met, Outcome, and_then, behind, follow, is_within, limited}
+use Rattle.proto_meaning.specs.Limits.{Met, Outcome, all_met, and_then, behind, follow, has_room, instances_met, is_within, items_met, limited, nodes_met}
 use Rattle.proto_meaning.specs.Names.{Name}
 use Rattle.proto_meaning.specs.Sight.{Prototype, Sight, Owner, OfProto, Put, meant}
 use Rattle.proto_meaning.specs.Flat.{Walk, Does, Node, Stated, begin, comes, flat, full_node, header_of, in_body, node_step, pure, stand_together, statement, statement_step, through}
@@ -20,7 +22,7 @@ use Rattle.proto_meaning.proofs.LimitLaws.{limits_stay_passed}
 use Rattle.proto_meaning.proofs.Trees.{node-full, statement-node}
 use Rattle.proto_sizes.specs.Sizes.{AreSized, IsSized}
 use Rattle.proto_sizes.specs.Rows.{AreInARow, Known, MetIn, add_node, add_root, bare, mets, node_of, stated_of, times}
-use Rattle.proto_sizes.specs.Laws.{BareInstancesStandInRows, FloodsAreTooLarge, RowsAreSums, bare_statement}
+use Rattle.proto_sizes.specs.Laws.{BareInstancesStandInRows, FloodsAreTooLarge, IsOver, RepeatsPassLimits, RowsAreSums, bare_statement}
 use Rattle.proto_sizes.proofs.SizeWalks.{AsMany, DoAlike, GoesAlike, none_sized, pure_alike, then_alike, through_alike}
 use Rattle.proto_sizes.proofs.SizeParts.{StatedSized}
 use Rattle.proto_sizes.proofs.SizeNodes.{OwnerSized, meant_sized}
@@ -138,6 +140,46 @@ sum_of_each f s (k ∷ known) = omega (arith, sum_append f k.met (mets known), s
 
 pub rows_are_sums : RowsAreSums
 rows_are_sums amount s known k met = (sum_of_each amount s known, multiple amount k met)
+
+few_not : (n a : ℕ) → n < a → not (nat_lt n a) ≡ false
+few_not n a h = ap not (lt-ltb n a h)
+
+first_off : (a b c d e : Bool) → a ≡ false → a && b && c && d && e ≡ false
+first_off a b c d e h = ap (λ x. x && b && c && d && e) h
+
+second_off : (a b c d e : Bool) → b ≡ false → a && b && c && d && e ≡ false
+second_off true b c d e h = ap (λ x. x && c && d && e) h
+second_off false b c d e h = refl
+
+third_off : (a b c d e : Bool) → c ≡ false → a && b && c && d && e ≡ false
+third_off true true c d e h = ap (λ x. x && d && e) h
+third_off true false c d e h = refl
+third_off false b c d e h = refl
+
+fourth_off : (a b c d e : Bool) → d ≡ false → a && b && c && d && e ≡ false
+fourth_off true true true d e h = ap (λ x. x && e) h
+fourth_off true true false d e h = refl
+fourth_off true false c d e h = refl
+fourth_off false b c d e h = refl
+
+module _ (before met : List Met) (k : ℕ) where
+  abbrev all_together : List Met
+  all_together = before ++ times k met
+
+  counted : (f : Met → ℕ) (n : ℕ) → n < sum_by f before + k * sum_by f met → not (nat_lt n (sum_by f all_together)) ≡ false
+  counted f n h = few_not n (sum_by f all_together) (subst (λ c. n < c) (sym (sum_append f before (times k met) ∙ ap (λ c. sum_by f before + c) (multiple f k met))) h)
+
+  abbrev few : (Met → ℕ) → ℕ → Bool
+  few f n = not (nat_lt n (sum_by f all_together))
+
+  pass : IsOver (λ amount. sum_by amount before + k * sum_by amount met) → is_within all_together ≡ false
+  pass (inl h) = first_off (few nodes_met 65536) (few instances_met 8388608) (few items_met 8388608) (few all_met 134217728) (list_all has_room all_together) (counted nodes_met 65536 h)
+  pass (inr (inl h)) = second_off (few nodes_met 65536) (few instances_met 8388608) (few items_met 8388608) (few all_met 134217728) (list_all has_room all_together) (counted instances_met 8388608 h)
+  pass (inr (inr (inl h))) = third_off (few nodes_met 65536) (few instances_met 8388608) (few items_met 8388608) (few all_met 134217728) (list_all has_room all_together) (counted items_met 8388608 h)
+  pass (inr (inr (inr h))) = fourth_off (few nodes_met 65536) (few instances_met 8388608) (few items_met 8388608) (few all_met 134217728) (list_all has_room all_together) (counted all_met 134217728 h)
+
+pub repeats_pass_limits : RepeatsPassLimits
+repeats_pass_limits before met k h = pass before met k h
 
 -- ---- a document
 

@@ -5,3 +5,4 @@ pub mod SizeProtos
 pub mod SizeWhole
 pub mod Bare
 pub mod InRows
+pub mod Worked

@@ -1,6 +1,6 @@
 -- What instances come to hangs on the sizes of what they are given; and so a document in which too
 -- many stand is TooLarge, whatever comes behind them.
-use Rattle.std.specs.Prelude.{◌≡◌, ℕ, ◌*◌, false, List, [], ◌∷◌, ◌++◌, length, map, Option, Some, Ok, Err}
+use Rattle.std.specs.Prelude.{◌≡◌, ◌⊎◌, ℕ, ◌+◌, ◌*◌, ◌<◌, false, List, [], ◌∷◌, ◌++◌, length, map, Option, Some, Ok, Err}
 use Rattle.std.specs.List.{sum_by}
 use Rattle.classic_tree.specs.declared.tree.Document.{Document}
 use Rattle.classic_tree.specs.declared.tree.NodeText.TheVariants as node
@@ -9,7 +9,7 @@ use Rattle.classic_tree.specs.declared.tree.Statement.{Statement}
 use Rattle.classic_tree.specs.declared.tree.Statement.TheVariants as statements
 use Rattle.proto_flat.specs.Fault.{fault}
 use Rattle.proto_flat.specs.declared.fault.ExpandFaultKind.TheVariants.{TooLarge}
-use Rattle.proto_meaning.specs.Limits.{Met, is_within}
+use Rattle.proto_meaning.specs.Limits.{Met, nodes_met, instances_met, items_met, all_met, is_within}
 use Rattle.proto_meaning.specs.Names.{Name}
 use Rattle.proto_meaning.specs.Sight.{Prototype, Sight, OfProto, meant}
 use Rattle.proto_meaning.specs.Flat.{Walk, through, begin, proto, statement, in_body, flat}
@@ -54,6 +54,19 @@ RowsAreSums =
     (amount : Met → ℕ) (s : Sight) (known : List (Known s)) (k : ℕ) (met : List Met)
     → (sum_by amount (mets known) ≡ sum_by (λ (i : Known s). sum_by amount i.met) known)
     × (sum_by amount (times k met) ≡ k * sum_by amount met)
+
+-- one of these counts is over its limit
+abbrev pub IsOver : ((Met → ℕ) → ℕ) → Type 0
+IsOver count =
+    (65536 < count nodes_met) ⊎ (8388608 < count instances_met) ⊎ (8388608 < count items_met)
+    ⊎ (134217728 < count all_met)
+
+-- what is met so often behind what was met before is over a limit where the counts are
+abbrev pub RepeatsPassLimits : Type 0
+RepeatsPassLimits =
+    (before met : List Met) (k : ℕ)
+    → IsOver (λ amount. sum_by amount before + k * sum_by amount met)
+    → is_within (before ++ times k met) ≡ false
 
 -- ---- of a document
 

@@ -6,6 +6,7 @@ ghost use Rattle.proto_sizes.specs.Laws.{
   DeclaredPrototypesAreSized,
   FloodsAreTooLarge,
   PrototypesAreSized,
+  RepeatsPassLimits,
   RowsAreSums,
   StatementsComeAlike,
 };
@@ -38,6 +39,11 @@ pub fn bare_instances_stand_in_rows()
 /// What a row of them comes to is the sum of what each comes to.
 pub fn rows_are_sums()
     ensures { RowsAreSums }
+{}
+
+/// What is met so often is over a limit where the counts are.
+pub fn repeats_pass_limits()
+    ensures { RepeatsPassLimits }
 {}
 
 /// A document with too many of them in a row is TooLarge, whatever stands behind them.
