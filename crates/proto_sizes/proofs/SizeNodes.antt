@@ -92,10 +92,10 @@ opened_alike name w v k = record {
   );
 }
 
-item_alike : (m : Item) → ItemSized m → (i j : Inside) → InsideAlike i j → DoAlike InsideAlike (m.does i) (m.does j)
+pub item_alike : (m : Item) → ItemSized m → (i j : Inside) → InsideAlike i j → DoAlike InsideAlike (m.does i) (m.does j)
 item_alike m h i j k = subst (λ (x : Inside). DoAlike InsideAlike (m.does i) (m.does x)) (sym k.is) (h.does i k.filled k.same)
 
-items_alike : (ms : List Item) → AllByRecursion ItemSized ms → AllByRecursion (λ (m : Item). (i j : Inside) → InsideAlike i j → DoAlike InsideAlike (m.does i) (m.does j)) ms
+pub items_alike : (ms : List Item) → AllByRecursion ItemSized ms → AllByRecursion (λ (m : Item). (i j : Inside) → InsideAlike i j → DoAlike InsideAlike (m.does i) (m.does j)) ms
 items_alike [] h = tt
 items_alike (m ∷ ms) h = (item_alike m h.0, items_alike ms h.1)
 
@@ -113,7 +113,7 @@ inside_alike name owner fields ms h =
 
 -- ---- braces that close
 
-close_alike : (name : Option Name) (at : ℕ) (what new : Stands) (p q : Put) (w v : Walk) → Alike w v → GoAlike (Any {A = ℕ}) (close name at what p w) (close name at new q v)
+pub close_alike : (name : Option Name) (at : ℕ) (what new : Stands) (p q : Put) (w v : Walk) → Alike w v → GoAlike (Any {A = ℕ}) (close name at what p w) (close name at new q v)
 close_alike name at what new p q w v k = record {
   met = refl;
   goes = (
@@ -131,10 +131,10 @@ close_alike name at what new p q w v k = record {
   );
 }
 
-abbrev node_of : ℕ → Option Name → NodeType → Inside → Does ℕ
+abbrev pub node_of : ℕ → Option Name → NodeType → Inside → Does ℕ
 node_of line name t i = close_node name i.at (flat_node line name t i)
 
-closed_alike : (line : ℕ) (name : Option Name) (t : NodeType) (i j : Inside) → InsideAlike i j → DoAlike (Any {A = ℕ}) (node_of line name t i) (node_of line name t j)
+pub closed_alike : (line : ℕ) (name : Option Name) (t : NodeType) (i j : Inside) → InsideAlike i j → DoAlike (Any {A = ℕ}) (node_of line name t i) (node_of line name t j)
 closed_alike line name t i j h w v k =
     subst (λ (x : Inside). GoAlike Any (node_of line name t i w) (node_of line name t x v)) (sym h.is)
     (close_alike name i.at _ _ _ _ w v k)
@@ -160,7 +160,7 @@ made_alike name at interface w v k m n (Err x) (Err y) e h = record { met = e; g
 made_alike name at interface w v k m n (Ok a) (Err y) e h = absurd h
 made_alike name at interface w v k m n (Err x) (Ok b) e h = absurd h
 
-instance_alike : (name : Option Name) (p : Prototype) → IsSized p → (i j : Inside) → InsideAlike i j → DoAlike (Any {A = ℕ}) (close_instance name p i) (close_instance name p j)
+pub instance_alike : (name : Option Name) (p : Prototype) → IsSized p → (i j : Inside) → InsideAlike i j → DoAlike (Any {A = ℕ}) (close_instance name p i) (close_instance name p j)
 instance_alike name p h i j g w v k =
     let c = h i.filled g.filled w.put v.put g.same in
     subst (λ (x : Inside). GoAlike Any (close_instance name p i w) (close_instance name p x v)) (sym g.is)
